@@ -1,0 +1,2 @@
+mod Touches
+mod Scripts

@@ -1,0 +1,6 @@
+pub mod Tests
+pub mod RowLists
+pub mod Found
+pub mod Last
+pub mod Ranges
+pub mod Kept

@@ -1,0 +1,5 @@
+pub mod Answer
+pub mod Front
+pub mod Report
+pub mod Value
+pub mod Words

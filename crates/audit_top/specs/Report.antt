@@ -1,0 +1,72 @@
+-- The report of an answer, and its status.
+use Rattle.std.specs.Prelude.{◌≡◌, ◌⊎◌, ℕ, List, ◌++◌, codes, decimal, Option}
+use Rattle.ub_base.specs.Causes.{Rose}
+use Rattle.ub_base.specs.Clause.{clause_text}
+use Rattle.ub_base.specs.declared.clause.Clause.{Clause}
+use Rattle.ub_base.specs.Sink.{Gains, GainsPart}
+use Rattle.audit_top.specs.declared.answer.Answer.{Answer}
+use Rattle.audit_top.specs.declared.answer.Answer.TheVariants.{Clean, Undefined, Found, Usage, SourceTooLong, Refused, ReadFault, NoMemory}
+use Rattle.audit_top.specs.declared.answer.Refusal.{Refusal}
+use Rattle.audit_top.specs.declared.answer.Refusal.TheVariants.{Stray, OpenLiteral, BadNumber, TooDeep, TooHigh, Syntax, NotTyped}
+
+-- a line of words and a number
+abbrev pub numbered : List ℕ → ℕ → List ℕ
+numbered words number = words ++ decimal number ++ codes "\n"
+
+abbrev pub syntax_report : ℕ → ℕ → List ℕ
+syntax_report token line = codes "syntax token " ++ (decimal token ++ (codes " line " ++ (decimal line ++ codes "\n")))
+
+abbrev pub refusal_report : Refusal → List ℕ
+refusal_report (Stray at) = numbered (codes "lex stray ") at
+refusal_report (OpenLiteral at) = numbered (codes "lex open literal ") at
+refusal_report (BadNumber at) = numbered (codes "lex bad number ") at
+refusal_report (TooDeep count) = numbered (codes "too deep ") count
+refusal_report (TooHigh count) = numbered (codes "too deep ") count
+refusal_report (Syntax token line) = syntax_report token line
+refusal_report (NotTyped line) = numbered (codes "not typed line ") line
+
+abbrev pub refusal_status : Refusal → ℕ
+refusal_status (Stray at) = 11
+refusal_status (OpenLiteral at) = 11
+refusal_status (BadNumber at) = 11
+refusal_status (TooDeep count) = 15
+refusal_status (TooHigh count) = 15
+refusal_status (Syntax token line) = 12
+refusal_status (NotTyped line) = 13
+
+abbrev pub clean_report : ℕ → List ℕ
+clean_report status = codes "clean\nexit " ++ (decimal status ++ codes "\noutput 0\n")
+
+abbrev pub undefined_report : Clause → ℕ → List ℕ
+undefined_report clause line =
+    codes "undefined " ++ (clause_text clause ++ (codes "\nevent main 2 0 val line " ++ (decimal line ++ codes "\norder canonical 3\n")))
+
+abbrev pub report : Answer → List ℕ
+report (Clean status) = clean_report status
+report (Undefined clause line) = undefined_report clause line
+report (Found status bytes) = bytes
+report Usage = codes "usage\n"
+report SourceTooLong = codes "too long source 1048576\n"
+report (Refused refusal) = refusal_report refusal
+report ReadFault = codes "read fault\n"
+report NoMemory = codes "no memory\n"
+
+abbrev pub status : Answer → ℕ
+status (Clean s) = 0
+status (Undefined clause line) = 1
+status (Found s bytes) = s
+status Usage = 10
+status SourceTooLong = 14
+status (Refused refusal) = refusal_status refusal
+status ReadFault = 20
+status NoMemory = 30
+
+-- The report was put whole, and the call ends with its status. Or a put failed after a part of it.
+abbrev pub Ends : Option (List ℕ) → Option (List ℕ) → ℕ → ℕ → ℕ → Answer → Type 0
+Ends old new before now result answer =
+    ((result ≡ status answer) × Gains old new (report answer))
+    ⊎ ((result ≡ 21) × GainsPart old new (report answer) × Rose before now)
+
+-- the report of this answer is put whole, and the call ends with its status, unless memory ran out
+abbrev pub EndsWith : Option (List ℕ) → Option (List ℕ) → ℕ → Answer → Type 0
+EndsWith old new result answer = (result ≡ 30) ⊎ ((result ≡ status answer) × Gains old new (report answer))

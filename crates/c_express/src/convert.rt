@@ -1,0 +1,239 @@
+// Conversions (6.3, 6.5.4, 6.5.16.1).
+
+use crate::Refused;
+use crate::constant::integer_constant;
+use crate::operand::{
+    Form, Operand, discarded, kind_of, leaf, object_of, value, value_of, with_child,
+};
+use crate::same::same_type;
+use c_typed::{Conversion, Node, Typed};
+use c_types::{IntKind, Qual, Tags, Ty, compatible, copied, promote, usual};
+use std::alloc::Global;
+
+/// Whether the type is an integer or a pointer type (6.2.5p21).
+pub fn is_scalar(ty: &Ty) -> bool {
+    matches!(ty, Ty::Int(_) | Ty::Enum(_) | Ty::Pointer(_))
+}
+
+/// The value as an integer of this kind.
+pub fn to_kind(alloc: Global, tree: Typed, kind: IntKind) -> Result<Typed, Refused> {
+    match &tree.ty {
+        Ty::Int(own) if *own == kind => Ok(tree),
+        Ty::Int(_) | Ty::Enum(_) => {
+            let line = tree.line;
+            let node = Node::Conv(Conversion::Integer(kind));
+            with_child(alloc, node, Ty::Int(kind), line, tree)
+        }
+        _ => Err(Refused::Constraint),
+    }
+}
+
+/// An integer value after the integer promotions, with its kind (6.3.1.1p2).
+pub fn promoted(alloc: Global, tree: Typed) -> Result<(Typed, IntKind), Refused> {
+    match kind_of(&tree.ty) {
+        None => Err(Refused::Constraint),
+        Some(kind) => {
+            let kind = promote(kind);
+            Ok((to_kind(alloc, tree, kind)?, kind))
+        }
+    }
+}
+
+/// The kind that the usual arithmetic conversions give (6.3.1.8p1).
+pub fn usual_kind(a: &Ty, b: &Ty) -> Option<IntKind> {
+    Some(usual(kind_of(a)?, kind_of(b)?))
+}
+
+/// An argument after the default argument promotions (6.5.2.2p6).
+pub fn promoted_argument(alloc: Global, tags: &Tags, operand: Operand) -> Result<Typed, Refused> {
+    let tree = value_of(alloc, tags, operand)?;
+    match &tree.ty {
+        Ty::Int(_) | Ty::Enum(_) => {
+            let (tree, _kind) = promoted(alloc, tree)?;
+            Ok(tree)
+        }
+        Ty::Pointer(_) | Ty::Struct(_) | Ty::Union(_) => Ok(tree),
+        Ty::Void | Ty::Array(_, _) | Ty::Function(_) => Err(Refused::Constraint),
+    }
+}
+
+/// A value that is tested against zero: of scalar type (6.5.13p2, 6.8.4.1p1, 6.8.5p2).
+pub fn truth(alloc: Global, tags: &Tags, operand: Operand) -> Result<Typed, Refused> {
+    let tree = value_of(alloc, tags, operand)?;
+    if is_scalar(&tree.ty) {
+        Ok(tree)
+    } else {
+        Err(Refused::Constraint)
+    }
+}
+
+fn alignment(tags: &Tags, target: &Ty) -> u64 {
+    match tags.extent(target) {
+        Some(e) => e.align,
+        None => 1,
+    }
+}
+
+fn pointer_conversion(tags: &Tags, from: &Qual, to: &Qual) -> Option<Conversion> {
+    match (&from.ty, &to.ty) {
+        (Ty::Function(_), Ty::Function(_)) => Some(Conversion::Function),
+        (Ty::Function(_), _) => None,
+        (_, Ty::Function(_)) => None,
+        (_, target) => Some(Conversion::Pointer {
+            align: alignment(tags, target),
+        }),
+    }
+}
+
+fn address_conversion(from: &Qual, kind: IntKind) -> Option<Conversion> {
+    match (&from.ty, kind) {
+        (Ty::Function(_), _) => None,
+        (_, IntKind::Bool) => Some(Conversion::NotNull),
+        (_, kind) => Some(Conversion::Address(kind)),
+    }
+}
+
+fn lookup_conversion(to: &Qual) -> Option<Conversion> {
+    match &to.ty {
+        Ty::Function(_) => None,
+        _ => Some(Conversion::Lookup),
+    }
+}
+
+/// The conversion from one scalar type to another; none between a function pointer and an integer or an object pointer.
+fn conversion(tags: &Tags, from: &Ty, to: &Ty) -> Option<Conversion> {
+    match (object_of(from), object_of(to)) {
+        (Some(from), Some(to)) => pointer_conversion(tags, from, to),
+        (Some(from), None) => address_conversion(from, kind_of(to)?),
+        (None, Some(to)) => {
+            let _from = kind_of(from)?;
+            lookup_conversion(to)
+        }
+        (None, None) => {
+            let _from = kind_of(from)?;
+            Some(Conversion::Integer(kind_of(to)?))
+        }
+    }
+}
+
+/// The value in another scalar type. No node stands between equal types.
+pub fn converted(alloc: Global, tags: &Tags, tree: Typed, to: &Ty) -> Result<Typed, Refused> {
+    if same_type(&tree.ty, to) {
+        return Ok(tree);
+    }
+    match conversion(tags, &tree.ty, to) {
+        None => Err(Refused::Constraint),
+        Some(conversion) => {
+            let line = tree.line;
+            let ty = copied(alloc, to)?;
+            with_child(alloc, Node::Conv(conversion), ty, line, tree)
+        }
+    }
+}
+
+/// Whether the operand is a null pointer constant: an integer constant expression of value 0, or one cast to `void *`
+/// (6.3.2.3p3).
+pub fn is_null_constant(operand: &Operand) -> bool {
+    match operand.form {
+        Form::NullPointer => true,
+        Form::Value => match kind_of(&operand.tree.ty) {
+            None => false,
+            Some(_) => integer_constant(&operand.tree) == Some(0),
+        },
+        Form::Place { register: _ } | Form::Designator | Form::Void => false,
+    }
+}
+
+/// A null pointer of this type.
+pub fn null_pointer(alloc: Global, ty: &Ty, line: u32) -> Result<Typed, Refused> {
+    Ok(leaf(alloc, Node::Const(0), copied(alloc, ty)?, line))
+}
+
+// Whether a pointer may be assigned: compatible targets or one of them void, with no qualifier lost (6.5.16.1p1).
+fn may_point(from: &Qual, to: &Qual) -> bool {
+    if from.constant && !to.constant {
+        return false;
+    }
+    match (&from.ty, &to.ty) {
+        (Ty::Void, Ty::Function(_)) | (Ty::Function(_), Ty::Void) => false,
+        (Ty::Void, _) | (_, Ty::Void) => true,
+        (from, to) => compatible(from, to),
+    }
+}
+
+// Whether a value of the first type may be assigned to an object of the second (6.5.16.1p1).
+fn may_assign(from: &Ty, to: &Ty) -> bool {
+    match to {
+        Ty::Int(IntKind::Bool) => is_scalar(from),
+        Ty::Int(_) | Ty::Enum(_) => kind_of(from).is_some(),
+        Ty::Pointer(to) => match from {
+            Ty::Pointer(from) => may_point(from.get(), to.get()),
+            _ => false,
+        },
+        Ty::Struct(_) | Ty::Union(_) => compatible(from, to),
+        Ty::Void | Ty::Array(_, _) | Ty::Function(_) => false,
+    }
+}
+
+/// The operand converted as if by assignment to an object of this type (6.5.16.1p2).
+pub fn as_if_assigned(
+    alloc: Global,
+    tags: &Tags,
+    operand: Operand,
+    to: &Ty,
+) -> Result<Typed, Refused> {
+    if matches!(to, Ty::Pointer(_))
+        && !same_type(&operand.tree.ty, to)
+        && is_null_constant(&operand)
+    {
+        return null_pointer(alloc, to, operand.tree.line);
+    }
+    let tree = value_of(alloc, tags, operand)?;
+    if !may_assign(&tree.ty, to) {
+        return Err(Refused::Constraint);
+    }
+    match to {
+        Ty::Struct(_) | Ty::Union(_) => Ok(tree),
+        to => converted(alloc, tags, tree, to),
+    }
+}
+
+fn is_void_pointer(ty: &Ty) -> bool {
+    match object_of(ty) {
+        Some(target) => matches!(target.ty, Ty::Void) && !target.constant,
+        None => false,
+    }
+}
+
+/// The operand cast to the type: to `void`, or between scalar types (6.5.4p2, 6.5.4p3).
+pub fn cast(alloc: Global, tags: &Tags, operand: Operand, to: &Ty) -> Result<Operand, Refused> {
+    if matches!(to, Ty::Void) {
+        return Ok(Operand {
+            tree: discarded(alloc, tags, operand)?,
+            form: Form::Void,
+        });
+    }
+    if matches!(to, Ty::Pointer(_)) && is_null_constant(&operand) {
+        return null_cast(alloc, operand, to);
+    }
+    let tree = value_of(alloc, tags, operand)?;
+    if !is_scalar(&tree.ty) || !is_scalar(to) {
+        return Err(Refused::Constraint);
+    }
+    Ok(value(converted(alloc, tags, tree, to)?))
+}
+
+// Of an integer constant expression of value 0, a cast to `void *` is a null pointer constant again; of `(void *)0` it
+// is none.
+fn null_cast(alloc: Global, operand: Operand, to: &Ty) -> Result<Operand, Refused> {
+    let again = operand.form == Form::Value && is_void_pointer(to);
+    let tree = null_pointer(alloc, to, operand.tree.line)?;
+    Ok(Operand {
+        tree,
+        form: if again {
+            Form::NullPointer
+        } else {
+            Form::Value
+        },
+    })
+}

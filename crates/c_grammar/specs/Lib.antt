@@ -1,0 +1,5 @@
+pub mod Grammar
+pub mod Names
+pub mod Operators
+pub mod Rules
+pub mod Sentences

@@ -1,0 +1,4 @@
+pub mod LexedPieces
+pub mod Literals
+pub mod Spans
+pub mod Tables

@@ -1,0 +1,2 @@
+pub mod CharacterList
+pub mod Numbers

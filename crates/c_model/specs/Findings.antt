@@ -1,0 +1,127 @@
+-- Races and quarrels of a trace, and the first finding.
+use Rattle.std.specs.Prelude.{◌≡◌, ℕ, ◌+◌, Bool, true, false, not, ◌&&◌, ◌||◌, ◌==◌, nat_lt, List, [], ◌∷◌, ◌++◌, Option, Some, None, if◌then◌else◌, IsTrue}
+use Rattle.ub_base.specs.declared.clause.Clause.{Clause}
+use Rattle.ub_base.specs.declared.clause.Clause.TheVariants.{Unsequenced}
+use Rattle.ub_base.specs.declared.names.ObjName.{ObjName}
+use Rattle.ub_base.specs.declared.names.Item.{Item}
+use Rattle.ub_base.specs.declared.names.Item.TheVariants.{Read, Write, Born, Dies, Alive, Expose, Lookup, Narrow, Input, Output, Ending}
+use Rattle.ub_base.specs.Names.{same_event, same_object}
+use Rattle.ub_base.specs.Frames.{Path}
+use Rattle.c_typed.specs.declared.tree.Place.{Place}
+use Rattle.c_typed.specs.Tree.{Tree}
+use Rattle.c_typed.specs.Order.{Taken, is_body, IsApart}
+use Rattle.addr_map.specs.declared.map.Row.{Row}
+use Rattle.addr_map.specs.Rows.{contains, is_past}
+use Rattle.c_model.specs.Runs.{Entry, Outcome, Raises}
+
+-- two ranges of one object have a byte in common
+abbrev pub share : ObjName → ℕ → ℕ → ObjName → ℕ → ℕ → Bool
+share x a m y b n = same_object x y && ((nat_lt a (b + n) && nat_lt b (a + m)) && (nat_lt 0 m && nat_lt 0 n))
+
+-- the object contains the address or has it one past
+abbrev pub meets : List Row → ObjName → ℕ → Bool
+meets [] x a = false
+meets (r ∷ rs) x a = (same_object r.name x && (contains r a || is_past r a)) || meets rs x a
+
+-- the pairs of items that conflict, one way round (own)
+abbrev pub against : List Row → Item → Item → Bool
+against rows (Read x a m) (Write y b n) = share x a m y b n
+against rows (Write x a m) (Write y b n) = share x a m y b n
+against rows (Born x) (Alive y) = same_object x y
+against rows (Born x) (Expose y) = same_object x y
+against rows (Dies x) (Alive y) = same_object x y
+against rows (Dies x) (Born y) = same_object x y
+against rows (Dies x) (Dies y) = same_object x y
+against rows (Expose x) (Lookup a) = meets rows x a
+against rows (Dies x) (Lookup a) = meets rows x a
+against rows (Narrow d x) (Narrow e y) = same_event d e && not (same_object x y)
+against rows Input Input = true
+against rows Output Output = true
+against rows Ending i = true
+against rows _ _ = false
+
+abbrev pub clash : List Row → Item → Item → Bool
+clash rows i j = against rows i j || against rows j i
+
+abbrev pub clash_one : List Row → Item → List Item → Bool
+clash_one rows i [] = false
+clash_one rows i (j ∷ js) = clash rows i j || clash_one rows i js
+
+-- two lists of items have a conflicting pair
+abbrev pub conflict : List Row → List Item → List Item → Bool
+conflict rows [] js = false
+conflict rows (i ∷ is) js = clash_one rows i js || conflict rows is js
+
+-- read with write, or write with write (6.5p2)
+abbrev pub is_access : Item → Bool
+is_access (Read x a n) = true
+is_access (Write x a n) = true
+is_access _ = false
+
+abbrev pub accesses : List Item → List Item
+accesses [] = []
+accesses (i ∷ is) = if is_access i then i ∷ accesses is else accesses is
+
+abbrev pub same_path : Path → Path → Bool
+same_path [] [] = true
+same_path (a ∷ f) (b ∷ g) = (a.0 == b.0) && ((a.1 == b.1) && same_path f g)
+same_path _ _ = false
+
+-- the frame is this one or was started from it
+abbrev pub is_under : Path → Path → Bool
+is_under [] g = same_path [] g
+is_under (a ∷ f) g = same_path (a ∷ f) g || is_under f g
+
+abbrev pub items_under : Path → List Entry → List Item
+items_under g [] = []
+items_under g (e ∷ es) = (if is_under e.path g then e.items else []) ++ items_under g es
+
+-- an event's own items, and for a body those of all frames that it started, so far
+abbrev pub items_of : List Entry → Entry → Place → List Item
+items_of trace e u = e.items ++ (if is_body u.kind then items_under ((e.turn, u.node) ∷ e.path) trace else [])
+
+abbrev pub has_ending : List Item → Bool
+has_ending [] = false
+has_ending (Ending ∷ is) = true
+has_ending (i ∷ is) = has_ending is
+
+-- an event of the trace
+pub data Has : List Entry → Entry → Place → Type 0 where
+  first : (e : Entry) (es : List Entry) (u : Place) → e.place ≡ Some u → Has (e ∷ es) e u
+  later : (d e : Entry) (es : List Entry) (u : Place) → Has es e u → Has (d ∷ es) e u
+
+-- two events of one full expression, the newer one first
+pub data Both : List Entry → Entry → Place → Entry → Place → Type 0 where
+  newest : (d e : Entry) (es : List Entry) (u v : Place) → d.place ≡ Some u → Has es e v
+      → IsTrue (same_path d.path e.path) → d.turn ≡ e.turn → Both (d ∷ es) d u e v
+  older : (c d e : Entry) (es : List Entry) (u v : Place) → Both es d u e v → Both (c ∷ es) d u e v
+
+-- neither is sequenced before the other, under the choices that stood as the newer one was picked
+abbrev pub AreApart : Option (Tree × Taken) → Place → Place → Type 0
+AreApart None u v = ⊥
+AreApart (Some e) u v = IsApart e.0 e.1 u v
+
+-- two unsequenced accesses of one byte, one of them a write (6.5p2); a body is only indeterminately sequenced (6.5.2.2p10)
+pub record Race (rows : List Row) (trace : List Entry) (d : Entry) (u : Place) (e : Entry) (v : Place) : Type 0 where
+  pub both : Both trace d u e v
+  pub apart : AreApart d.begun u v
+  pub bodiless : (is_body u.kind || is_body v.kind) ≡ false
+  pub clash : IsTrue (conflict rows (accesses d.items) (accesses e.items))
+
+-- a trace meets a clause where its last pick raises it, or where it is 6.5p2 and the trace holds a race
+pub data Meets (rows : List Row) : Outcome → List Entry → Clause → Type 0 where
+  raised : (c : Clause) (trace : List Entry) → Meets rows (Raises c trace) trace c
+  raced : (o : Outcome) (trace : List Entry) (d e : Entry) (u v : Place) → Race rows trace d u e v → Meets rows o trace Unsequenced
+
+-- two evaluations that may come in either order and whose items conflict, without being a race (own)
+pub record Quarrel (rows : List Row) (trace : List Entry) (d : Entry) (u : Place) (e : Entry) (v : Place) : Type 0 where
+  pub both : Both trace d u e v
+  pub apart : AreApart d.begun u v
+  pub clash : IsTrue (conflict rows (items_of trace d u) (items_of trace e v))
+  pub no_race : Race rows trace d u e v → ⊥
+
+-- beside an evaluation that ends the run, each event of its full expression that is due and neither before nor after it (own)
+pub record EndQuarrel (trace : List Entry) (d : Entry) (u v : Place) : Type 0 where
+  pub here : Has trace d u
+  pub ends : IsTrue (has_ending (items_of trace d u))
+  pub apart : AreApart d.begun u v

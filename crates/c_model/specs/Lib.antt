@@ -1,0 +1,10 @@
+pub mod Program
+pub mod Values
+pub mod Nodes
+pub mod Control
+pub mod Moves
+pub mod Steps
+pub mod Runs
+pub mod Findings
+pub mod Examples
+pub mod Laws

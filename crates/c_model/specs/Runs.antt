@@ -1,0 +1,167 @@
+-- Orders of picks, their traces, and the canonical order.
+use Rattle.std.specs.Prelude.{◌≡◌, ℕ, zero, suc, ◌+◌, Bool, true, false, nat_lt, List, [], ◌∷◌, length, Option, Some, None, is_some, if◌then◌else◌, pos, unsigned_abs}
+use Rattle.std.specs.Int.{int_rem_euclid}
+use Rattle.ub_base.specs.declared.clause.Clause.{Clause}
+use Rattle.ub_base.specs.declared.clause.Cause.{Cause}
+use Rattle.ub_base.specs.declared.clause.Cause.TheVariants as cause
+use Rattle.ub_base.specs.declared.names.Event.{Event}
+use Rattle.ub_base.specs.declared.names.Item.{Item}
+use Rattle.ub_base.specs.Frames.{Path}
+use Rattle.c_types.specs.declared.library.LibFunc.{LibFunc}
+use Rattle.c_types.specs.Types.{CType}
+use Rattle.c_typed.specs.declared.tree.Place.{Place}
+use Rattle.c_typed.specs.Tree.{Tree}
+use Rattle.c_typed.specs.Order.{Taken}
+use Rattle.c_typed.specs.Decide.{canonical}
+use Rattle.addr_map.specs.declared.map.Row.{Row}
+use Rattle.prov_memory.specs.Store.{Store, fresh}
+use Rattle.prov_memory.specs.Script.{Script, Give, Act, Done, Raised, Ended, Outside, Unplaced, run, ◌>>=◌, ◌>>◌}
+use Rattle.prov_memory.specs.Acts.{create, store, bytes}
+use Rattle.exposure.specs.declared.prov.Prov.TheVariants as prov
+use Rattle.c_model.specs.Program.{Program, Standing, Stmt, tree_of}
+use Rattle.c_model.specs.Values.{Value, Int, Nothing}
+use Rattle.c_model.specs.Control.{opened}
+use Rattle.c_model.specs.Moves.{Move, Stay, Start, End}
+use Rattle.c_model.specs.Steps.{Local, Begun, Pick, Control, Ev, MayPick, move, does, next, taken_by, is_done, body_of}
+
+-- one pick of an order: its frame, turn and place, none for a control step; the tree that it is of; its items
+pub record Entry : Type 0 where
+  pub path : Path
+  pub turn : ℕ
+  pub place : Option Place
+  pub begun : Option (Tree × Taken)  -- with what was chosen before this pick
+  pub items : List Item
+
+-- the top frame, the frames below with the body that waits in each, and the store
+pub record State : Type 0 where
+  pub top : Local
+  pub held : List (Local × Place)
+  pub store : Store
+  pub trace : List Entry  -- the newest first
+
+pub data Outcome : Type 0 where
+  Refused : Outcome  -- a pick isn't permitted, or follows the end
+  Raises : Clause → List Entry → Outcome
+  Over : Cause → (number : ℕ) → Outcome
+  No_row : Outcome
+  Ends : (status : ℕ) → (output : List ℕ) → List Entry → Outcome
+  Running : State → Outcome
+
+abbrev pub on_running : Outcome → (State → Outcome) → Outcome
+on_running (Running st) k = k st
+on_running o k = o
+
+-- the exit status for the result of `main` (5.1.2.2.3; modulo 256, own)
+abbrev pub status_of : Value → ℕ
+status_of (Int z) = unsigned_abs (int_rem_euclid z (pos 256))
+status_of _ = 0
+
+-- open frames of defined functions
+abbrev pub depth_of : Local → List (Local × Place) → ℕ
+depth_of f [] = if is_some f.function then 1 else 0
+depth_of f (h ∷ hs) = (if is_some f.function then 1 else 0) + depth_of h.0 hs
+
+abbrev pub place_of : Pick → Option Place
+place_of Control = None
+place_of (Ev u) = Some u
+
+-- the limits on depth, created bytes and output, in the order in which they count (own)
+abbrev pub limit_passed : ℕ → Store → Option (Cause × ℕ)
+limit_passed depth s =
+    if nat_lt 100000 depth then Some (cause.Depth, depth)
+    else (if nat_lt 67108864 s.created then Some (cause.Created, s.created)
+    else (if nat_lt 16777216 (length s.output) then Some (cause.Output, length s.output) else None))
+
+abbrev pub within : Option (Cause × ℕ) → Outcome → Outcome
+within None o = o
+within (Some c) o = Over c.0 c.1
+
+abbrev pub limited : Outcome → Outcome
+limited (Running st) = within (limit_passed (depth_of st.top st.held) st.store) (Running st)
+limited o = o
+
+module _ (program : Program) (rows : List Row) (agree : CType → CType → Bool) (library : LibFunc → Event → List Value → Script Value) where
+  abbrev pub begun_of : Local → Option Begun → Option (Tree × Taken)
+  begun_of f None = None
+  begun_of f (Some e) = Some (tree_of e.root, taken_by program rows agree library f.scene e)
+
+  abbrev pub entry_of : Local → Pick → List Item → Entry
+  entry_of f p is = record { path = f.scene.path; turn = f.scene.turn; place = place_of p; begun = begun_of f f.begun; items = is }
+
+  -- the frame below goes on with what the body gave, and without one the run ends
+  abbrev pub back : List (Local × Place) → Value → Store → List Entry → Outcome
+  back [] v s trace = Ends (status_of v) s.output trace
+  back (h ∷ hs) v s trace =
+      Running (record { top = next program rows agree library h.0 h.0.begun (Ev h.1) v; held = hs; store = s; trace = trace })
+
+  abbrev pub moved : State → Pick → Move Local → Value → Store → List Entry → Outcome
+  moved st p Stay v s trace = Running (record { top = next program rows agree library st.top st.top.begun p v; held = st.held; store = s; trace = trace })
+  moved st (Ev u) (Start g) v s trace = Running (record { top = g; held = (st.top, u) ∷ st.held; store = s; trace = trace })
+  moved st Control (Start g) v s trace = Refused
+  moved st p End v s trace = back st.held v s trace
+
+  abbrev pub acted : State → Pick → Act Value → Outcome
+  acted st p (Done v is s) = limited (moved st p (move program rows agree library st.top st.top.begun p) v s (entry_of st.top p is ∷ st.trace))
+  acted st p (Raised c) = Raises c (entry_of st.top p [] ∷ st.trace)
+  acted st p (Ended n is s) = Ends n s.output (entry_of st.top p is ∷ st.trace)
+  acted st p (Outside c n) = Over c n
+  acted st p Unplaced = No_row
+
+  -- what one pick does, whether or not it is permitted
+  abbrev pub step : State → Pick → Outcome
+  step st p = acted st p (run rows (does program rows agree library st.top st.top.begun p) st.store)
+
+  -- the outcome of an order, from a state
+  pub data After : State → List Pick → Outcome → Type 0 where
+    here : (st : State) → After st [] (Running st)
+    refused : (st : State) (p : Pick) (ps : List Pick) → (MayPick program rows agree library st.top st.top.begun p → ⊥) → After st (p ∷ ps) Refused
+    last : (st : State) (p : Pick) → MayPick program rows agree library st.top st.top.begun p → After st (p ∷ []) (step st p)
+    more : (st next' : State) (p q : Pick) (ps : List Pick) (o : Outcome) → MayPick program rows agree library st.top st.top.begun p
+        → step st p ≡ Running next' → After next' (q ∷ ps) o → After st (p ∷ q ∷ ps) o
+
+  abbrev pub chosen_pick : Option Place → Pick
+  chosen_pick None = Control
+  chosen_pick (Some u) = Ev u
+
+  -- always the control step, or the first permitted event of the tree in post-order (own)
+  abbrev pub canonical_pick : Local → Option Begun → Pick
+  canonical_pick f None = Control
+  canonical_pick f (Some e) = chosen_pick (canonical (tree_of e.root) (taken_by program rows agree library f.scene e) (is_done e))
+
+  -- after n picks of the canonical order, or where it ends before
+  abbrev pub canonical_after : ℕ → State → Outcome
+  canonical_after zero st = Running st
+  canonical_after (suc n) st = on_running (step st (canonical_pick st.top st.top.begun)) (canonical_after n)
+
+  -- the objects that stand before the first pick are created, and get their bytes
+  abbrev pub stand : List Standing → Script Value
+  stand [] = Give Nothing
+  stand (o ∷ os) =
+      (create rows o.name o.decl.size o.decl.align (record { heap = false; literal = o.literal; constant = o.decl.constant }) o.decl.form
+      >>= (λ a. store rows true bytes 1 a (prov.Whole o.name) o.bytes))
+      >> stand os
+
+  abbrev pub nothing_stands : List ℕ → Store
+  nothing_stands input = record {
+    life = λ x. None;
+    exposed = λ x. false;
+    bytes = λ x b. fresh;
+    kept = λ e. None;
+    input = input;
+    position = 0;
+    output = [];
+    created = 0;
+  }
+
+  abbrev pub main_frame : Option Stmt → List Value → Local
+  main_frame None vs = record { scene = record { path = []; turn = 0; blocks = [] }; function = Some program.main; arguments = vs; todo = []; begun = None; result = None }
+  main_frame (Some s) vs = record { scene = record { path = []; turn = 0; blocks = [] }; function = Some program.main; arguments = vs; todo = opened s []; begun = None; result = None }
+
+  abbrev pub started_run : Act Value → List Value → Outcome
+  started_run (Done v is s) vs = limited (Running (record { top = main_frame (body_of program rows agree library (Some program.main)) vs; held = []; store = s; trace = [] }))
+  started_run (Outside c n) vs = Over c n
+  started_run _ vs = No_row
+
+  -- the state before the first pick, with the input and the arguments of `main`
+  abbrev pub start : List ℕ → List Value → Outcome
+  start input vs = started_run (run rows (stand program.standing) (nothing_stands input)) vs

@@ -1,0 +1,357 @@
+-- The state of a frame, and what a pick does in it.
+use Rattle.std.specs.Prelude.{◌≡◌, ℕ, suc, ◌+◌, ◌*◌, ◌/◌, Bool, true, false, not, ◌&&◌, ◌||◌, ◌==◌, nat_lt, List, [], ◌∷◌, Option, Some, None, is_some, is_none, if◌then◌else◌, ℤ, pos, slice_get}
+use Rattle.ub_base.specs.declared.clause.Kind.{Kind}
+use Rattle.ub_base.specs.declared.clause.Kind.TheVariants.{Val, Eff, Body}
+use Rattle.ub_base.specs.declared.clause.Clause.TheVariants.{InvalidPointer, IncompatibleCall}
+use Rattle.ub_base.specs.declared.names.Event.{Event}
+use Rattle.ub_base.specs.declared.names.ObjName.{ObjName}
+use Rattle.ub_base.specs.declared.names.ObjName.TheVariants as object
+use Rattle.ub_base.specs.Frames.{Path}
+use Rattle.c_types.specs.declared.library.LibFunc.{LibFunc}
+use Rattle.c_types.specs.Types.{CType}
+use Rattle.c_typed.specs.declared.tree.Place.{Place}
+use Rattle.c_typed.specs.declared.tree.Slot.{Slot}
+use Rattle.c_typed.specs.declared.tree.Slot.TheVariants as slot
+use Rattle.c_typed.specs.Tree.{size, is_quiet}
+use Rattle.c_typed.specs.Order.{Taken, place, same_place, is_body, events, IsPermitted}
+use Rattle.c_typed.specs.Decide.{first_place}
+use Rattle.addr_map.specs.declared.map.Row.{Row}
+use Rattle.addr_map.specs.Rows.{row_of}
+use Rattle.exposure.specs.declared.prov.Prov.TheVariants as prov
+use Rattle.prov_memory.specs.declared.object.ObjKind.{ObjKind}
+use Rattle.prov_memory.specs.Script.{Script, Give, Raise, require, ◌>>=◌, ◌>>◌}
+use Rattle.prov_memory.specs.Acts.{base_in, create, kill, unwrite}
+use Rattle.c_model.specs.Program.{Head, Number, Null, Obj, Func, Str, Member, Conv, And, Or, Cond, Call, Listed, Isolated, Expr, expr, Exprs, none, more, tree_of, Decl, Stmt, Function, Program}
+use Rattle.c_model.specs.Values.{Value, Int, Ptr, Fun, Missing, Nothing, or_nothing, truth}
+use Rattle.c_model.specs.Nodes.{act_of, convert, put}
+use Rattle.c_model.specs.Control.{Use, Unused, To_branch, To_enter, To_select, To_go_round, To_go_again, Result, Break_here, Continue_here, Again, Enter, Leave, Unwrite, Begin, Go_to, Go_out, Go_on, Go_back, Todo, opened, round, ready_work, out_of, on_with, leaves, to_label, Found, find, selected, gone_to}
+use Rattle.c_model.specs.Moves.{Move, Stay, Start, End}
+
+-- a number for each pair of numbers
+abbrev pub pair_number : ℕ → ℕ → ℕ
+pair_number a b = (a + b) * (a + b + 1) / 2 + b
+
+-- a number for each path, 0 for `main`: in the model a frame is known by how it was reached, whatever the order
+abbrev pub frame_number : Path → ℕ
+frame_number [] = 0
+frame_number (s ∷ f) = suc (pair_number (pair_number s.0 s.1) (frame_number f))
+
+-- a full expression that has begun, and what its picks gave
+pub record Begun : Type 0 where
+  pub root : Expr
+  pub given : Place → Option Value
+  pub what : Use
+
+-- what the events of a full expression know of their frame
+pub record Scene : Type 0 where
+  pub path : Path
+  pub turn : ℕ
+  pub blocks : List (ℕ × ℕ)  -- the open blocks, each with its turn, the innermost first
+
+pub record Local : Type 0 where
+  pub scene : Scene
+  pub function : Option ℕ  -- None for an isolated initializer
+  pub arguments : List Value  -- until the body block is entered
+  pub todo : Todo
+  pub begun : Option Begun
+  pub result : Option Value
+
+-- a pick: the control step, or an event of the full expression that has begun (own)
+pub data Pick : Type 0 where
+  Control : Pick
+  Ev : Place → Pick
+
+abbrev pub turn_of : List (ℕ × ℕ) → ℕ → ℕ
+turn_of [] block = 0
+turn_of (b ∷ bs) block = if b.0 == block then b.1 else turn_of bs block
+
+abbrev mutual
+  -- the expression whose number is m in the one whose root has the number k
+  pub at_node : ℕ → Expr → ℕ → Option Expr
+  at_node k (expr h ty es) m = if k == m then Some (expr h ty es) else at_node_among (suc k) es m
+
+  pub at_node_among : ℕ → Exprs → ℕ → Option Expr
+  at_node_among k none m = None
+  at_node_among k (more e es) m = if nat_lt m (k + size (tree_of e)) then at_node k e m else at_node_among (k + size (tree_of e)) es m
+
+-- the operand that a node has chosen, where its first operand has a value (6.5.13 to 6.5.15)
+abbrev pub choice_by : Head → List Value → Bool → Option ℕ
+choice_by And (v ∷ vs) true = if truth v then Some 1 else None
+choice_by Or (v ∷ vs) true = if truth v then None else Some 1
+choice_by Cond (v ∷ vs) true = if truth v then Some 1 else Some 2
+choice_by _ vs known = None
+
+abbrev pub first_known : (Place → Option Value) → ℕ → Exprs → Bool
+first_known given k none = false
+first_known given k (more e es) = is_quiet (tree_of e) || is_some (given (place k Val))
+
+abbrev pub is_done : Begun → Place → Bool
+is_done e u = is_some (e.given u)
+
+-- of which earlier event of its node an event knows what it gave
+abbrev pub own_kind : Kind → Kind
+own_kind Eff = Val
+own_kind _ = Body
+
+abbrev pub event_of : Scene → Place → Event
+event_of f u = record { frame = record { 0 = frame_number f.path }; turn = f.turn; node = u.node; kind = u.kind }
+
+abbrev pub auto_name : Scene → ℕ → ℕ → ObjName
+auto_name f turn k = object.Auto (record { 0 = frame_number f.path }) turn k
+
+abbrev pub name_of : Scene → Slot → ObjName
+name_of f (slot.Static k) = object.Static k
+name_of f (slot.Auto block decl) = auto_name f (turn_of f.blocks block) decl
+
+abbrev pub object_kind : Bool → ObjKind
+object_kind constant = record { heap = false; literal = false; constant = constant }
+
+abbrev pub with_given : Begun → Place → Value → Begun
+with_given e u v = record e { given = λ w. if same_place u w then Some v else e.given w }
+
+abbrev pub begin : Local → Expr → Use → Todo → Local
+begin f e what rest =
+    record f { scene = record f.scene { turn = suc f.scene.turn }; todo = rest; begun = Some (record { root = e; given = λ u. None; what = what }) }
+
+abbrev pub without_block : List (ℕ × ℕ) → ℕ → List (ℕ × ℕ)
+without_block [] b = []
+without_block (o ∷ os) b = if o.0 == b then os else o ∷ without_block os b
+
+-- the address of a function of this number (own)
+abbrev pub function_address : ℕ → ℕ
+function_address n = 4096 + 16 * n
+
+abbrev pub function_of : List Function → ℕ → ℕ → Option (ℕ × Function)
+function_of [] n a = None
+function_of (f ∷ fs) n a = if function_address n == a then Some (n, f) else function_of fs (suc n) a
+
+-- the program, its address map, which function types are compatible, and what the library does
+module _ (program : Program) (rows : List Row) (agree : CType → CType → Bool) (library : LibFunc → Event → List Value → Script Value) where
+  abbrev pub pointer_to : ObjName → Value
+  pointer_to x = Ptr (base_in (row_of rows x)) (prov.Whole x)
+
+  -- the value that a move of a quiet place gives
+  abbrev pub moved_place : ℕ → Value → Value
+  moved_place offset (Ptr a p) = Ptr (a + offset) p
+  moved_place offset v = v
+
+  abbrev pub given_value : Script Value → Value
+  given_value (Give v) = v
+  given_value _ = Nothing
+
+  abbrev mutual
+    -- the value of a quiet node, which no event gives
+    pub quiet_value : Scene → Expr → Value
+    quiet_value f (expr (Number z) ty es) = Int z
+    quiet_value f (expr Null ty es) = Ptr 0 prov.Empty
+    quiet_value f (expr (Obj s) ty es) = pointer_to (name_of f s)
+    quiet_value f (expr (Func n) ty es) = Fun (function_address n)
+    quiet_value f (expr (Str k) ty es) = pointer_to (object.Lit k)
+    quiet_value f (expr (Member offset) ty es) = moved_place offset (first_quiet f es)
+    quiet_value f (expr (Conv c) ty es) = given_value (convert (event_of f (place 0 Val)) c (first_quiet f es))
+    quiet_value f _ = Nothing
+
+    pub first_quiet : Scene → Exprs → Value
+    first_quiet f none = Nothing
+    first_quiet f (more e es) = quiet_value f e
+
+  -- the values of a node's operands, the first of which has the number k
+  abbrev pub values_of : Scene → (Place → Option Value) → ℕ → Exprs → List Value
+  values_of f given k none = []
+  values_of f given k (more e es) =
+      (if is_quiet (tree_of e) then quiet_value f e else or_nothing (given (place k Val))) ∷ values_of f given (k + size (tree_of e)) es
+
+  abbrev pub operand_values : Scene → (Place → Option Value) → ℕ → Head → Exprs → List Value
+  operand_values f given k (Listed s bytes) es = pointer_to (name_of f s) ∷ []
+  operand_values f given k h es = values_of f given k es
+
+  abbrev pub choice_in : Scene → (Place → Option Value) → ℕ → Option Expr → Option ℕ
+  choice_in f given k None = None
+  choice_in f given k (Some (expr h ty es)) = choice_by h (values_of f given (suc k) es) (first_known given (suc k) es)
+
+  abbrev pub taken_by : Scene → Begun → Taken
+  taken_by f e k = choice_in f e.given k (at_node 0 e.root k)
+
+  -- all due events are done
+  abbrev pub is_settled : Local → Begun → Bool
+  is_settled f e = is_none (first_place (λ u. not (is_done e u)) (events (taken_by f.scene e) 0 (tree_of e.root)))
+
+  -- in the top frame: an event that is permitted, or where all due events are done the control step (own)
+  abbrev pub MayPick : Local → Option Begun → Pick → Type 0
+  MayPick f None Control = Unit {0}
+  MayPick f None (Ev u) = ⊥
+  MayPick f (Some e) Control = is_settled f e ≡ true
+  MayPick f (Some e) (Ev u) = IsPermitted (tree_of e.root) (taken_by f.scene e) (is_done e) u
+
+  abbrev pub body_frame : Scene → ℕ → ℕ → List Value → Option Stmt → Move Local
+  body_frame f k n vs None = Stay
+  body_frame f k n vs (Some s) = Start (record {
+    scene = record { path = (f.turn, k) ∷ f.path; turn = 0; blocks = [] };
+    function = Some n;
+    arguments = vs;
+    todo = opened s [];
+    begun = None;
+    result = None;
+  })
+
+  abbrev pub start_call : Scene → ℕ → List Value → Option (ℕ × Function) → Move Local
+  start_call f k vs None = Stay
+  start_call f k vs (Some c) = body_frame f k c.0 vs c.1.body
+
+  -- the body of a call starts the function's frame, and that of an isolated initializer one of its own (6.7.9p23)
+  abbrev pub started : Scene → ℕ → Head → List Value → Move Local
+  started f k (Call discarded) (Fun a ∷ vs) = start_call f k vs (function_of program.functions 0 a)
+  started f k (Isolated e) vs = Start (record {
+    scene = record { path = (f.turn, k) ∷ f.path; turn = 0; blocks = f.blocks };
+    function = None;
+    arguments = [];
+    todo = Begin e Unused ∷ [];
+    begun = None;
+    result = Some Nothing;
+  })
+  started f k h vs = Stay
+
+  abbrev pub move_of : Scene → Begun → Place → Option Expr → Move Local
+  move_of f e u None = Stay
+  move_of f e u (Some (expr h ty es)) = if is_body u.kind then started f u.node h (values_of f e.given (suc u.node) es) else Stay
+
+  abbrev pub library_act : Event → List Value → Option LibFunc → Script Value
+  library_act who vs None = Give Nothing
+  library_act who vs (Some g) = library g who vs
+
+  -- what the body of a call does by itself: that of a library function; a call of none raises (6.5.3.2p4, 6.5.2.2p9)
+  abbrev pub call_by : Event → CType → List Value → Option (ℕ × Function) → Script Value
+  call_by who ty vs None = Raise InvalidPointer
+  call_by who ty vs (Some c) =
+      require (is_some c.1.body || is_some c.1.library) InvalidPointer >> (require (agree c.1.ty ty) IncompatibleCall >> library_act who vs c.1.library)
+
+  abbrev pub type_of_first : Exprs → CType → CType
+  type_of_first none ty = ty
+  type_of_first (more (expr h ty es) rest) other = ty
+
+  abbrev pub call_act : Event → Head → CType → List Value → Script Value
+  call_act who (Call discarded) ty (Fun a ∷ vs) = call_by who ty vs (function_of program.functions 0 a)
+  call_act who (Call discarded) ty vs = Raise InvalidPointer
+  call_act who h ty vs = Give Nothing
+
+  -- what an event does to the store
+  abbrev pub event_act : Scene → Begun → Place → Option Expr → Script Value
+  event_act f e u None = Give Nothing
+  event_act f e u (Some (expr h ty es)) =
+      if is_body u.kind then call_act (event_of f u) h (type_of_first es ty) (values_of f e.given (suc u.node) es)
+      else act_of rows (event_of f u) h ty u.kind (operand_values f e.given (suc u.node) h es) (or_nothing (e.given (place u.node (own_kind u.kind))))
+
+  -- objects are created in order, those of a function's parameters with the arguments (6.5.2.2p4, 6.9.1p9)
+  abbrev pub bear_all : Scene → ℕ → ℕ → List Decl → List Value → Script Value
+  bear_all f turn k [] vs = Give Nothing
+  bear_all f turn k (d ∷ ds) [] =
+      create rows (auto_name f turn k) d.size d.align (object_kind d.constant) d.form >> bear_all f turn (suc k) ds []
+  bear_all f turn k (d ∷ ds) (v ∷ vs) =
+      (create rows (auto_name f turn k) d.size d.align (object_kind d.constant) d.form
+      >>= (λ a. put rows true d.access d.ty (Ptr a (prov.Whole (auto_name f turn k))) v))
+      >> bear_all f turn (suc k) ds vs
+
+  abbrev pub kill_all : Scene → ℕ → ℕ → List Decl → Script Value → Script Value
+  kill_all f turn k [] rest = rest
+  kill_all f turn k (d ∷ ds) rest = kill (auto_name f turn k) >> kill_all f turn (suc k) ds rest
+
+  -- what a function's body leaves that gives no result (6.9.1p12): 0 for `main` (5.1.2.2.3)
+  abbrev pub left_by : Option Function → Bool → Value
+  left_by None is_main = Nothing
+  left_by (Some fun) is_main = if is_main then Int (pos 0) else (if fun.void then Nothing else Missing)
+
+  abbrev pub result_of : Local → Value
+  result_of f = result_in f.function f.result
+    where
+      result_in : Option ℕ → Option Value → Value
+      result_in n (Some v) = v
+      result_in None None = Nothing
+      result_in (Some n) None = left_by (slice_get program.functions n) (n == program.main)
+
+  -- what the control step at this work does to the store
+  abbrev pub control_act : Local → Todo → Script Value
+  control_act f (Enter b ds ∷ rest) = bear_all f.scene (suc f.scene.turn) 0 ds f.arguments
+  control_act f (Leave b ds ∷ rest) = kill_all f.scene (turn_of f.scene.blocks b) 0 ds (Give (result_of f))
+  control_act f (Unwrite d ∷ rest) = unwrite rows (innermost f.scene f.scene.blocks d) >> Give Nothing
+    where
+      innermost : Scene → List (ℕ × ℕ) → ℕ → ObjName
+      innermost f [] d = auto_name f 0 d
+      innermost f (o ∷ os) d = auto_name f o.1 d
+  control_act f _ = Give Nothing
+
+  abbrev pub does : Local → Option Begun → Pick → Script Value
+  does f None Control = control_act f (ready_work f.todo)
+  does f None (Ev u) = Give Nothing
+  does f (Some e) Control = Give (result_of f)
+  does f (Some e) (Ev u) = event_act f.scene e u (at_node 0 e.root u.node)
+
+  abbrev pub ends_with : Todo → Bool
+  ends_with [] = true
+  ends_with (w ∷ ws) = false
+
+  -- the frame ends with the leave of its last block, and that of an isolated initializer as its expression settles
+  abbrev pub control_move : Todo → Move Local
+  control_move (Leave b ds ∷ rest) = if ends_with (ready_work rest) then End else Stay
+  control_move _ = Stay
+
+  abbrev pub move : Local → Option Begun → Pick → Move Local
+  move f None Control = control_move (ready_work f.todo)
+  move f None (Ev u) = Stay
+  move f (Some e) Control = if is_none f.function && ends_with (ready_work f.todo) then End else Stay
+  move f (Some e) (Ev u) = move_of f.scene e u (at_node 0 e.root u.node)
+
+  abbrev pub int_of : Value → ℤ
+  int_of (Int z) = z
+  int_of _ = pos 0
+
+  -- what is left to do after a full expression that had this value (6.8.4 to 6.8.6)
+  abbrev pub work_after : Value → Use → Todo → Todo
+  work_after v Unused rest = rest
+  work_after v (To_branch s t) rest = if truth v then opened s rest else opened t rest
+  work_after v (To_enter s) rest = if truth v then opened s rest else rest
+  work_after v (To_select s) rest = selected (int_of v) s (Break_here ∷ rest)
+  work_after v (To_go_round test step s) rest = if truth v then round test step s rest else rest
+  work_after v (To_go_again e s) rest = if truth v then opened s (Continue_here ∷ Again e s ∷ rest) else rest
+  work_after v Result rest = leaves rest
+
+  abbrev pub is_result : Use → Bool
+  is_result Result = true
+  is_result _ = false
+
+  -- the value of a full expression is used (6.8p4)
+  abbrev pub settled : Local → Value → Use → Local
+  settled f v what = record f { begun = None; todo = work_after v what f.todo; result = if is_result what then Some v else f.result }
+
+  abbrev pub root_value : Local → Begun → Value
+  root_value f e = if is_quiet (tree_of e.root) then quiet_value f.scene e.root else or_nothing (e.given (place 0 Val))
+
+  abbrev pub body_of : Option ℕ → Option Stmt
+  body_of None = None
+  body_of (Some n) = stmt_of (slice_get program.functions n)
+    where
+      stmt_of : Option Function → Option Stmt
+      stmt_of None = None
+      stmt_of (Some fun) = fun.body
+
+  abbrev pub found_label : ℕ → Option Stmt → Option Found
+  found_label k None = None
+  found_label k (Some s) = find (to_label k) s []
+
+  abbrev pub control_next : Local → Todo → Local
+  control_next f [] = f
+  control_next f (Enter b ds ∷ rest) =
+      record f { scene = record f.scene { turn = suc f.scene.turn; blocks = (b, suc f.scene.turn) ∷ f.scene.blocks }; arguments = []; todo = rest }
+  control_next f (Leave b ds ∷ rest) = record f { scene = record f.scene { blocks = without_block f.scene.blocks b }; todo = rest }
+  control_next f (Begin e what ∷ rest) = begin f e what rest
+  control_next f (Go_to k ∷ rest) = record f { todo = gone_to f.scene.blocks rest (found_label k (body_of f.function)) }
+  control_next f (Go_out ∷ rest) = record f { todo = out_of rest }
+  control_next f (Go_on ∷ rest) = record f { todo = on_with rest }
+  control_next f (Go_back ∷ rest) = record f { todo = leaves rest }
+  control_next f (w ∷ rest) = record f { todo = rest }
+
+  -- the frame after a pick that gave the value
+  abbrev pub next : Local → Option Begun → Pick → Value → Local
+  next f None Control v = control_next f (ready_work f.todo)
+  next f None (Ev u) v = f
+  next f (Some e) Control v = settled f (root_value f e) e.what
+  next f (Some e) (Ev u) v = record f { begun = Some (with_given e u v) }

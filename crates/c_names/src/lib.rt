@@ -1,0 +1,12 @@
+//! The texts of events and objects, in reports and certificates, and their order.
+#![tactic(auto)]
+
+mod order;
+mod path;
+mod read;
+mod words;
+mod write;
+
+pub use order::{cmp_events, cmp_objects};
+pub use read::{read_event, read_object};
+pub use write::{write_event, write_object};

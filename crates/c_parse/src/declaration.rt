@@ -1,0 +1,115 @@
+//! Declarations (6.7).
+
+use crate::cursor::Cursor;
+use crate::declarator::declare_named;
+use crate::error::ParseFault;
+use crate::initializer::initializer;
+use crate::knot::{Grammar, Mode, Place, declarator, expr, specs};
+use crate::tokens::declares_typedef;
+use c_ast::{Declaration, Declarator, Expr, Init, Part, Specs};
+use c_lex::Mark;
+use std::alloc::Global;
+use ub_base::Items;
+
+/// A static assertion (6.7.10): its condition, and the first string literal of its message.
+pub fn assertion(alloc: Global, tokens: &mut Cursor<'_>) -> Result<(Expr, u32), ParseFault> {
+    let depth = tokens.turns();
+    Grammar {
+        alloc,
+        depth,
+        expr,
+        declarator,
+        specs,
+    }
+    .assertion(tokens)
+}
+
+pub fn declaration_specs(alloc: Global, tokens: &mut Cursor<'_>) -> Result<Specs, ParseFault> {
+    let turns = tokens.turns();
+    specs(alloc, tokens, turns, Place::Declaration)
+}
+
+/// A declarator with its name, which is in scope from its end on (6.2.1p7).
+pub fn named_declarator(
+    alloc: Global,
+    tokens: &mut Cursor<'_>,
+    typedef: bool,
+) -> Result<Declarator, ParseFault> {
+    let turns = tokens.turns();
+    let found = declarator(alloc, tokens, turns, Mode::Named)?;
+    declare_named(tokens, &found, typedef)?;
+    Ok(found)
+}
+
+fn maybe_init(alloc: Global, tokens: &mut Cursor<'_>) -> Result<Option<Init>, ParseFault> {
+    if !tokens.eat(Mark::Equal) {
+        return Ok(None);
+    }
+    let turns = tokens.turns();
+    Ok(Some(initializer(alloc, tokens, turns)?))
+}
+
+fn part(alloc: Global, tokens: &mut Cursor<'_>, typedef: bool) -> Result<Part, ParseFault> {
+    let declarator = named_declarator(alloc, tokens, typedef)?;
+    let init = maybe_init(alloc, tokens)?;
+    Ok(Part { declarator, init })
+}
+
+fn first_part(
+    alloc: Global,
+    tokens: &mut Cursor<'_>,
+    declarator: Declarator,
+) -> Result<Part, ParseFault> {
+    let init = maybe_init(alloc, tokens)?;
+    Ok(Part { declarator, init })
+}
+
+/// The parts behind the first one, and the semicolon.
+fn rest_parts(
+    alloc: Global,
+    tokens: &mut Cursor<'_>,
+    typedef: bool,
+    first: Part,
+) -> Result<Items<Part>, ParseFault> {
+    let mut found = Items::new(alloc);
+    found.push(first)?;
+    for _turn in 0..tokens.turns() {
+        if !tokens.eat(Mark::Comma) {
+            tokens.expect(Mark::Semicolon)?;
+            return Ok(found);
+        }
+        found.push(part(alloc, tokens, typedef)?)?;
+    }
+    Err(tokens.refuse())
+}
+
+/// The rest of a declaration behind its first declarator, and the semicolon.
+pub fn more_parts(
+    alloc: Global,
+    tokens: &mut Cursor<'_>,
+    typedef: bool,
+    first: Declarator,
+) -> Result<Items<Part>, ParseFault> {
+    let first = first_part(alloc, tokens, first)?;
+    rest_parts(alloc, tokens, typedef, first)
+}
+
+/// The parts of a declaration, or none, and the semicolon.
+fn maybe_parts(
+    alloc: Global,
+    tokens: &mut Cursor<'_>,
+    typedef: bool,
+) -> Result<Items<Part>, ParseFault> {
+    if tokens.eat(Mark::Semicolon) {
+        return Ok(Items::new(alloc));
+    }
+    let first = named_declarator(alloc, tokens, typedef)?;
+    more_parts(alloc, tokens, typedef, first)
+}
+
+/// A declaration that is no static assertion.
+pub fn declaration(alloc: Global, tokens: &mut Cursor<'_>) -> Result<Declaration, ParseFault> {
+    let specs = declaration_specs(alloc, tokens)?;
+    let parts = maybe_parts(alloc, tokens, declares_typedef(&specs))?;
+    Ok(Declaration { specs, parts })
+}

@@ -1,0 +1,260 @@
+//! Specifiers, and the structures, unions and enumerations among them (6.7.2).
+
+ghost use Rattle.c_parse.specs.Nests.{NestsExpr, NestsDeclarator, NestsSpecs};
+
+use crate::cursor::Cursor;
+use crate::error::ParseFault;
+use crate::knot::{Grammar, Mode, Place};
+use crate::operators::CONDITIONAL;
+use crate::tokens::{has_type_word, identifier, maybe_identifier, specifier_words, strings};
+use c_ast::{Base, Declarator, Enumerator, Expr, MemberEntry, Specs};
+use c_lex::{Mark, TokenKind, Word};
+use std::alloc::Global;
+use ub_base::Items;
+
+/// The message of a static assertion, the parenthesis and the semicolon.
+fn message(tokens: &mut Cursor<'_>) -> Result<u32, ParseFault> {
+    let message = tokens.at();
+    strings(tokens)?;
+    tokens.expect(Mark::CloseParen)?;
+    tokens.expect(Mark::Semicolon)?;
+    Ok(message)
+}
+
+/// The keywords that follow, behind what was read.
+fn specs_behind(
+    alloc: Global,
+    tokens: &mut Cursor<'_>,
+    place: Place,
+    mut words: Items<Word>,
+    base: Base,
+) -> Result<Specs, ParseFault> {
+    let more = specifier_words(alloc, tokens, place)?;
+    words.append(more)?;
+    Ok(Specs { words, base })
+}
+
+impl<
+    F: Fn(Global, &mut Cursor<'_>, usize, u8) -> Result<Expr, ParseFault>,
+    G: Fn(Global, &mut Cursor<'_>, usize, Mode) -> Result<Declarator, ParseFault>,
+    H: Fn(Global, &mut Cursor<'_>, usize, Place) -> Result<Specs, ParseFault>,
+> Grammar<F, G, H> {
+    /// The condition of a static assertion, up to the comma.
+    fn condition(&self, tokens: &mut Cursor<'_>) -> Result<Expr, ParseFault>
+        requires { NestsExpr self.now.depth (F.pre self.now.expr) (F.post self.now.expr) }
+    {
+        tokens.expect_word(Word::StaticAssert)?;
+        tokens.expect(Mark::OpenParen)?;
+        let condition = self.expr(tokens, CONDITIONAL)?;
+        tokens.expect(Mark::Comma)?;
+        Ok(condition)
+    }
+
+    /// A static assertion (6.7.10): its condition, and the first string literal of its message.
+    pub fn assertion(&self, tokens: &mut Cursor<'_>) -> Result<(Expr, u32), ParseFault>
+        requires { NestsExpr self.now.depth (F.pre self.now.expr) (F.post self.now.expr) }
+    {
+        let condition = self.condition(tokens)?;
+        let message = message(tokens)?;
+        Ok((condition, message))
+    }
+
+    fn member_assertion(&self, tokens: &mut Cursor<'_>) -> Result<MemberEntry, ParseFault>
+        requires { NestsExpr self.now.depth (F.pre self.now.expr) (F.post self.now.expr) }
+    {
+        let (condition, message) = self.assertion(tokens)?;
+        Ok(MemberEntry::Assertion(condition, message))
+    }
+
+    fn member_names(&self, tokens: &mut Cursor<'_>) -> Result<Items<Declarator>, ParseFault>
+        requires { NestsDeclarator self.now.depth (G.pre self.now.declarator) (G.post self.now.declarator) }
+    {
+        let mut found = Items::new(self.alloc);
+        for _turn in 0..tokens.turns() {
+            found.push(self.declarator(tokens, Mode::Named)?)?;
+            if !tokens.eat(Mark::Comma) {
+                return Ok(found);
+            }
+        }
+        Err(tokens.refuse())
+    }
+
+    /// The declarators of members, or none, and the semicolon.
+    fn maybe_names(&self, tokens: &mut Cursor<'_>) -> Result<Items<Declarator>, ParseFault>
+        requires { NestsDeclarator self.now.depth (G.pre self.now.declarator) (G.post self.now.declarator) }
+    {
+        if tokens.eat(Mark::Semicolon) {
+            return Ok(Items::new(self.alloc));
+        }
+        let names = self.member_names(tokens)?;
+        tokens.expect(Mark::Semicolon)?;
+        Ok(names)
+    }
+
+    fn fields(&self, tokens: &mut Cursor<'_>) -> Result<MemberEntry, ParseFault>
+        requires declarator { NestsDeclarator self.now.depth (G.pre self.now.declarator) (G.post self.now.declarator) }
+        requires specs { NestsSpecs self.now.depth (H.pre self.now.specs) (H.post self.now.specs) }
+    {
+        let specs = self.specs(tokens, Place::Qualified)?;
+        let names = self.maybe_names(tokens)?;
+        Ok(MemberEntry::Fields(specs, names))
+    }
+
+    fn member(&self, tokens: &mut Cursor<'_>) -> Result<MemberEntry, ParseFault>
+        requires expr { NestsExpr self.now.depth (F.pre self.now.expr) (F.post self.now.expr) }
+        requires declarator { NestsDeclarator self.now.depth (G.pre self.now.declarator) (G.post self.now.declarator) }
+        requires specs { NestsSpecs self.now.depth (H.pre self.now.specs) (H.post self.now.specs) }
+    {
+        if tokens.sees_word(Word::StaticAssert) {
+            self.member_assertion(tokens)
+        } else {
+            self.fields(tokens)
+        }
+    }
+
+    /// After the opening brace: at least one, and the closing brace.
+    fn members(&self, tokens: &mut Cursor<'_>) -> Result<Items<MemberEntry>, ParseFault>
+        requires expr { NestsExpr self.now.depth (F.pre self.now.expr) (F.post self.now.expr) }
+        requires declarator { NestsDeclarator self.now.depth (G.pre self.now.declarator) (G.post self.now.declarator) }
+        requires specs { NestsSpecs self.now.depth (H.pre self.now.specs) (H.post self.now.specs) }
+    {
+        let mut found = Items::new(self.alloc);
+        for _turn in 0..tokens.turns() {
+            found.push(self.member(tokens)?)?;
+            if tokens.eat(Mark::CloseBrace) {
+                return Ok(found);
+            }
+        }
+        Err(tokens.refuse())
+    }
+
+    /// After `struct` or `union`.
+    fn tagged(&self, tokens: &mut Cursor<'_>, union: bool) -> Result<Base, ParseFault>
+        requires expr { NestsExpr self.now.depth (F.pre self.now.expr) (F.post self.now.expr) }
+        requires declarator { NestsDeclarator self.now.depth (G.pre self.now.declarator) (G.post self.now.declarator) }
+        requires specs { NestsSpecs self.now.depth (H.pre self.now.specs) (H.post self.now.specs) }
+    {
+        let tag = maybe_identifier(tokens);
+        if tokens.eat(Mark::OpenBrace) {
+            let members = Some(self.members(tokens)?);
+            return Ok(Base::Tagged {
+                union,
+                tag,
+                members,
+            });
+        }
+        match tag {
+            Some(_) => {
+                let members = None;
+                Ok(Base::Tagged {
+                    union,
+                    tag,
+                    members,
+                })
+            }
+            None => Err(tokens.refuse()),
+        }
+    }
+
+    fn enumerator_value(&self, tokens: &mut Cursor<'_>) -> Result<Option<Expr>, ParseFault>
+        requires { NestsExpr self.now.depth (F.pre self.now.expr) (F.post self.now.expr) }
+    {
+        if tokens.eat(Mark::Equal) {
+            Ok(Some(self.expr(tokens, CONDITIONAL)?))
+        } else {
+            Ok(None)
+        }
+    }
+
+    /// An enumeration constant is in scope behind its enumerator (6.2.1p7).
+    fn enumerator(&self, tokens: &mut Cursor<'_>) -> Result<Enumerator, ParseFault>
+        requires { NestsExpr self.now.depth (F.pre self.now.expr) (F.post self.now.expr) }
+    {
+        let name = identifier(tokens)?;
+        let value = self.enumerator_value(tokens)?;
+        tokens.declare(name, false)?;
+        Ok(Enumerator { name, value })
+    }
+
+    /// After the opening brace: at least one, and the closing brace.
+    fn enumerators(&self, tokens: &mut Cursor<'_>) -> Result<Items<Enumerator>, ParseFault>
+        requires { NestsExpr self.now.depth (F.pre self.now.expr) (F.post self.now.expr) }
+    {
+        let mut found = Items::new(self.alloc);
+        for _turn in 0..tokens.turns() {
+            found.push(self.enumerator(tokens)?)?;
+            if !tokens.eat(Mark::Comma) {
+                tokens.expect(Mark::CloseBrace)?;
+                return Ok(found);
+            }
+            if tokens.eat(Mark::CloseBrace) {
+                return Ok(found);
+            }
+        }
+        Err(tokens.refuse())
+    }
+
+    /// After `enum`.
+    fn enumerated(&self, tokens: &mut Cursor<'_>) -> Result<Base, ParseFault>
+        requires { NestsExpr self.now.depth (F.pre self.now.expr) (F.post self.now.expr) }
+    {
+        let tag = maybe_identifier(tokens);
+        if tokens.eat(Mark::OpenBrace) {
+            let enumerators = Some(self.enumerators(tokens)?);
+            return Ok(Base::Enumerated { tag, enumerators });
+        }
+        match tag {
+            Some(_) => {
+                let enumerators = None;
+                Ok(Base::Enumerated { tag, enumerators })
+            }
+            None => Err(tokens.refuse()),
+        }
+    }
+
+    /// The specifier that is no keyword, if one comes next. Behind a type specifier no name is a typedef name (6.7.8p3).
+    fn specifier_base(&self, tokens: &mut Cursor<'_>, typed: bool) -> Result<Base, ParseFault>
+        requires expr { NestsExpr self.now.depth (F.pre self.now.expr) (F.post self.now.expr) }
+        requires declarator { NestsDeclarator self.now.depth (G.pre self.now.declarator) (G.post self.now.declarator) }
+        requires specs { NestsSpecs self.now.depth (H.pre self.now.specs) (H.post self.now.specs) }
+    {
+        match tokens.peek() {
+            Some(TokenKind::Keyword(Word::Struct)) => {
+                tokens.take();
+                self.tagged(tokens, false)
+            }
+            Some(TokenKind::Keyword(Word::Union)) => {
+                tokens.take();
+                self.tagged(tokens, true)
+            }
+            Some(TokenKind::Keyword(Word::Enum)) => {
+                tokens.take();
+                self.enumerated(tokens)
+            }
+            Some(TokenKind::Name) => {
+                if typed || !tokens.is_typedef() {
+                    return Ok(Base::Plain);
+                }
+                let at = tokens.at();
+                tokens.take();
+                Ok(Base::Typedef(at))
+            }
+            _ => Ok(Base::Plain),
+        }
+    }
+
+    /// At least one specifier.
+    pub fn specifiers(&self, tokens: &mut Cursor<'_>, place: Place) -> Result<Specs, ParseFault>
+        requires expr { NestsExpr self.now.depth (F.pre self.now.expr) (F.post self.now.expr) }
+        requires declarator { NestsDeclarator self.now.depth (G.pre self.now.declarator) (G.post self.now.declarator) }
+        requires specs { NestsSpecs self.now.depth (H.pre self.now.specs) (H.post self.now.specs) }
+    {
+        let first = tokens.at();
+        let words = specifier_words(self.alloc, tokens, place)?;
+        let base = self.specifier_base(tokens, has_type_word(words.as_slice()))?;
+        if tokens.at() == first {
+            return Err(tokens.refuse());
+        }
+        specs_behind(self.alloc, tokens, place, words, base)
+    }
+}

@@ -1,0 +1,124 @@
+//! Translation units (6.9).
+
+ghost use Rattle.std.specs.Prelude.{◌≡◌, ◌<◌, ◌⊎◌, Err};
+ghost use Rattle.c_ast.specs.Nest.{nest_of};
+
+use crate::cursor::Cursor;
+use crate::declaration::{assertion, declaration_specs, more_parts, named_declarator};
+use crate::error::ParseFault;
+use crate::spelling::spelled_by;
+use crate::statement::body;
+use crate::tokens::declares_typedef;
+use c_ast::{Declaration, Declarator, Entry, Specs, Unit, UnitEntry, nest};
+use c_lex::{Mark, Tokens, Word};
+use std::alloc::Global;
+use ub_base::Items;
+
+/// How large `nest` may be.
+pub const NEST_LIMIT: u32 = 2000;
+
+/// A function's body, after the opening brace. What its parameters declare is in scope there (6.2.1p4).
+fn function_body(alloc: Global, tokens: &mut Cursor<'_>) -> Result<Items<Entry>, ParseFault> {
+    let outer = tokens.open();
+    tokens.open_prototype()?;
+    let found = body(alloc, tokens)?;
+    tokens.close(outer);
+    Ok(found)
+}
+
+/// After the declarator of a function definition and the opening brace.
+fn definition(
+    alloc: Global,
+    tokens: &mut Cursor<'_>,
+    specs: Specs,
+    declarator: Declarator,
+) -> Result<UnitEntry, ParseFault> {
+    let body = function_body(alloc, tokens)?;
+    Ok(UnitEntry::Function {
+        specs,
+        declarator,
+        body,
+    })
+}
+
+/// The rest of a declaration behind its first declarator.
+fn declaration_behind(
+    alloc: Global,
+    tokens: &mut Cursor<'_>,
+    specs: Specs,
+    first: Declarator,
+) -> Result<UnitEntry, ParseFault> {
+    let parts = more_parts(alloc, tokens, declares_typedef(&specs), first)?;
+    Ok(UnitEntry::Declaration(Declaration { specs, parts }))
+}
+
+/// The rest of a declaration or a function definition behind its specifiers.
+fn declared_as(
+    alloc: Global,
+    tokens: &mut Cursor<'_>,
+    specs: Specs,
+) -> Result<UnitEntry, ParseFault> {
+    tokens.set_prototype(Vec::new(alloc));
+    let first = named_declarator(alloc, tokens, declares_typedef(&specs))?;
+    if tokens.eat(Mark::OpenBrace) {
+        definition(alloc, tokens, specs, first)
+    } else {
+        declaration_behind(alloc, tokens, specs, first)
+    }
+}
+
+/// A declaration or a function definition.
+fn declared(alloc: Global, tokens: &mut Cursor<'_>) -> Result<UnitEntry, ParseFault> {
+    let specs = declaration_specs(alloc, tokens)?;
+    if tokens.eat(Mark::Semicolon) {
+        let parts = Items::new(alloc);
+        Ok(UnitEntry::Declaration(Declaration { specs, parts }))
+    } else {
+        declared_as(alloc, tokens, specs)
+    }
+}
+
+fn assertion_entry(alloc: Global, tokens: &mut Cursor<'_>) -> Result<UnitEntry, ParseFault> {
+    let (condition, message) = assertion(alloc, tokens)?;
+    Ok(UnitEntry::Assertion(condition, message))
+}
+
+fn unit_entry(alloc: Global, tokens: &mut Cursor<'_>) -> Result<UnitEntry, ParseFault> {
+    if tokens.eat(Mark::Semicolon) {
+        Ok(UnitEntry::Empty)
+    } else if tokens.sees_word(Word::StaticAssert) {
+        assertion_entry(alloc, tokens)
+    } else {
+        declared(alloc, tokens)
+    }
+}
+
+fn unit(alloc: Global, tokens: &mut Cursor<'_>) -> Result<Unit, ParseFault> {
+    let mut entries = Items::new(alloc);
+    for _turn in 0..tokens.turns() {
+        match tokens.peek() {
+            Some(_) => entries.push(unit_entry(alloc, tokens)?)?,
+            None => return Ok(Unit { entries }),
+        }
+    }
+    Err(tokens.refuse())
+}
+
+/// The syntax tree that the tokens spell, by Annex A without what the profile leaves out.
+///
+/// # Errors
+///
+/// `TooDeep` where `nest` passes the limit, before all else; `Syntax` with the first token with which no sentence goes on;
+/// `NoMemory`.
+pub fn parse(alloc: Global, tokens: &Tokens<'_>) -> Result<Unit, ParseFault>
+    // Where the rules nest too deep, this is said before all else.
+    ensures { NEST_LIMIT < nest_of tokens.now.list → (result ≡ Err (ParseFault.TooDeep (nest_of tokens.now.list))) ⊎ (result ≡ Err ParseFault.NoMemory) }
+{
+    let nest = nest(alloc, tokens)?;
+    if nest > NEST_LIMIT {
+        return Err(ParseFault::TooDeep(nest));
+    }
+    let spelled = spelled_by(alloc, tokens)?;
+    let mut cursor = Cursor::new(alloc, tokens, spelled)?;
+    unit(alloc, &mut cursor)
+}

@@ -1,0 +1,326 @@
+// Expressions, and the declarations inside them: type names, specifiers and declarators (6.5, 6.7.2 to 6.7.7).
+
+use crate::declarator::Declared;
+use crate::tag::MemberList;
+use crate::words::{Storage, Words, read_words};
+use crate::{apply, declarator, literal, tag};
+use c_ast::{Base, Declarator, Enumerator, Expr, ExprNode, MemberEntry, Param, Specs, TypeName};
+use c_express::{Operand, integer_constant};
+use c_scope::{Meaning, Source, State, TypeFault};
+use c_types::Qual;
+use ub_base::Items;
+
+/// An expression (6.5).
+#[cycle(expression)]
+pub fn expression(source: &Source<'_>, state: &mut State, e: &Expr) -> Result<Operand, TypeFault> {
+    let line = source.line(e.at);
+    match &e.node {
+        ExprNode::Name(at) => apply::named(source, state, *at),
+        ExprNode::Number(at) => literal::number(state.alloc, source, *at),
+        ExprNode::CharLit(at) => literal::character(state.alloc, source, *at),
+        ExprNode::Strings(first, count) => literal::strings(source, state, *first, *count),
+        ExprNode::Unary(op, a) => {
+            let a = expression(source, state, a.get())?;
+            apply::unary(state, *op, a, line)
+        }
+        ExprNode::Postfix(op, a) => {
+            let a = expression(source, state, a.get())?;
+            apply::postfix(state, *op, a, line)
+        }
+        ExprNode::Binary(op, a, b) => {
+            let a = expression(source, state, a.get())?;
+            let b = expression(source, state, b.get())?;
+            apply::binary(state, *op, a, b, line)
+        }
+        ExprNode::Assign(op, a, b) => {
+            let a = expression(source, state, a.get())?;
+            let b = expression(source, state, b.get())?;
+            apply::assignment(state, *op, a, b, line)
+        }
+        ExprNode::Cond(a, b, c) => {
+            let a = expression(source, state, a.get())?;
+            let b = expression(source, state, b.get())?;
+            let c = expression(source, state, c.get())?;
+            apply::conditional(state, a, b, c, line)
+        }
+        ExprNode::Comma(operands) => {
+            let operands = expressions(source, state, operands.as_slice())?;
+            apply::sequence(state, operands, line)
+        }
+        ExprNode::Call(f, arguments) => {
+            let f = expression(source, state, f.get())?;
+            let arguments = expressions(source, state, arguments.as_slice())?;
+            apply::call(state, f, arguments, line)
+        }
+        ExprNode::Index(a, b) => {
+            let a = expression(source, state, a.get())?;
+            let b = expression(source, state, b.get())?;
+            apply::subscript(state, a, b, line)
+        }
+        ExprNode::Dot(a, name) => {
+            let a = expression(source, state, a.get())?;
+            apply::member(source, state, false, a, *name, line)
+        }
+        ExprNode::Arrow(a, name) => {
+            let a = expression(source, state, a.get())?;
+            apply::member(source, state, true, a, *name, line)
+        }
+        ExprNode::Cast(to, a) => {
+            let to = type_name(source, state, to.get(), e.at)?;
+            let a = expression(source, state, a.get())?;
+            apply::cast(state, a, &to.ty, line)
+        }
+        ExprNode::SizeofExpr(a) => {
+            let mark = state.suspend();
+            let a = expression(source, state, a.get())?;
+            state.resume(mark);
+            apply::size_of_operand(state, a, line)
+        }
+        ExprNode::SizeofType(ty) => {
+            let qual = type_name(source, state, ty.get(), e.at)?;
+            apply::size_of_type(state, &qual.ty, line)
+        }
+        ExprNode::AlignofType(ty) => {
+            let qual = type_name(source, state, ty.get(), e.at)?;
+            apply::alignment_of_type(state, &qual.ty, line)
+        }
+    }
+}
+
+#[cycle(expression)]
+fn expressions(
+    source: &Source<'_>,
+    state: &mut State,
+    all: &[Expr],
+) -> Result<Vec<Operand>, TypeFault> {
+    let mut operands = Vec::new(state.alloc);
+    for e in all {
+        let operand = expression(source, state, e)?;
+        operands.push(operand)?;
+    }
+    Ok(operands)
+}
+
+/// The value of an integer constant expression (6.6p6).
+#[cycle(expression)]
+pub fn constant(source: &Source<'_>, state: &mut State, e: &Expr) -> Result<i128, TypeFault> {
+    let mark = state.mark();
+    let operand = expression(source, state, e)?;
+    state.forget_literals(mark);
+    match integer_constant(&operand.tree) {
+        Some(number) if declarator::is_value(&operand) => Ok(number),
+        _ => Err(source.fault(e.at)),
+    }
+}
+
+/// A type name; `at` is a token near it (6.7.7).
+#[cycle(expression)]
+pub fn type_name(
+    source: &Source<'_>,
+    state: &mut State,
+    name: &TypeName,
+    at: u32,
+) -> Result<Qual, TypeFault> {
+    let (words, base) = specified(source, state, &name.specs, at, false)?;
+    if words.storage != Storage::None || words.function {
+        return Err(source.fault(at));
+    }
+    let Declared { name: _, qual } = declared(source, state, &name.declarator, base, at, false)?;
+    Ok(qual)
+}
+
+/// What specifiers say and the type that they give; `at` is a token near them, and `alone` says that no declarator follows.
+#[cycle(expression)]
+pub fn specified(
+    source: &Source<'_>,
+    state: &mut State,
+    specs: &Specs,
+    at: u32,
+    alone: bool,
+) -> Result<(Words, Qual), TypeFault> {
+    let words = read_words(specs.words.as_slice());
+    let qual = match &specs.base {
+        Base::Plain => declarator::plain_type(source, &words, at)?,
+        Base::Typedef(name) => declarator::typedef_type(source, state, *name)?,
+        Base::Tagged {
+            union,
+            tag,
+            members,
+        } => {
+            let kind = tag::kind_of(*union);
+            let ty = match members {
+                None => tag::reference(source, state, kind, *tag, at, alone)?,
+                Some(entries) => {
+                    let number = tag::open(source, state, kind, *tag)?;
+                    let list = structure(source, state, entries.as_slice(), at)?;
+                    tag::close(source, state, kind, number, list, at)?
+                }
+            };
+            declarator::unqualified(ty)
+        }
+        Base::Enumerated { tag, enumerators } => {
+            let ty = match enumerators {
+                None => tag::enumeration(source, state, *tag, at)?,
+                Some(list) => {
+                    let number = tag::open_enumeration(source, state, *tag)?;
+                    enumerated(source, state, list.as_slice())?;
+                    tag::close_enumeration(state, number)
+                }
+            };
+            declarator::unqualified(ty)
+        }
+    };
+    let qual = declarator::with_words(source, state.alloc, qual, &words, &specs.base, at)?;
+    Ok((words, qual))
+}
+
+// The members of a structure or union (6.7.2.1).
+#[cycle(expression)]
+fn structure(
+    source: &Source<'_>,
+    state: &mut State,
+    entries: &[MemberEntry],
+    at: u32,
+) -> Result<MemberList, TypeFault> {
+    let mut list = MemberList::new(state.alloc);
+    for entry in entries {
+        list = fields(source, state, entry, list, at)?;
+    }
+    Ok(list)
+}
+
+#[cycle(expression)]
+fn fields(
+    source: &Source<'_>,
+    state: &mut State,
+    entry: &MemberEntry,
+    list: MemberList,
+    at: u32,
+) -> Result<MemberList, TypeFault> {
+    match entry {
+        MemberEntry::Assertion(condition, message) => {
+            let number = constant(source, state, condition)?;
+            declarator::assertion(source, state.alloc, number, condition.at, *message)?;
+            Ok(list)
+        }
+        MemberEntry::Fields(specs, declarators) => {
+            let (words, base) = specified(source, state, specs, at, declarators.is_empty())?;
+            tag::check_member_words(source, &words, at)?;
+            if declarators.is_empty() {
+                return tag::add_unnamed(source, state, specs, base, list, at);
+            }
+            members(source, state, declarators.as_slice(), base, list, at)
+        }
+    }
+}
+
+#[cycle(expression)]
+fn members(
+    source: &Source<'_>,
+    state: &mut State,
+    declarators: &[Declarator],
+    base: Qual,
+    list: MemberList,
+    at: u32,
+) -> Result<MemberList, TypeFault> {
+    let mut list = list;
+    for d in declarators {
+        let base = declarator::copy(state, &base)?;
+        let member = declared(source, state, d, base, at, false)?;
+        list = tag::add_member(source, state, member, list, at)?;
+    }
+    Ok(list)
+}
+
+// The constants of an enumeration: each in scope behind itself (6.7.2.2).
+#[cycle(expression)]
+fn enumerated(
+    source: &Source<'_>,
+    state: &mut State,
+    list: &[Enumerator],
+) -> Result<(), TypeFault> {
+    let mut next: i128 = 0;
+    for e in list {
+        let number = match &e.value {
+            None => next,
+            Some(value) => constant(source, state, value)?,
+        };
+        let number = tag::enumerator_value(source, e.name, number)?;
+        state.declare(source, e.name, Meaning::Constant(number))?;
+        next = number.saturating_add(1);
+    }
+    Ok(())
+}
+
+/// What a declarator declares, from the type in front of it; `at` is a token near it. Where `keep` is true, the scope of the
+/// parameters of the function that it declares stays open (6.7.6).
+#[cycle(expression)]
+pub fn declared(
+    source: &Source<'_>,
+    state: &mut State,
+    d: &Declarator,
+    base: Qual,
+    at: u32,
+    keep: bool,
+) -> Result<Declared, TypeFault> {
+    match d {
+        Declarator::Ident(name) => Ok(Declared {
+            name: *name,
+            qual: base,
+        }),
+        Declarator::Pointer(words, d) => {
+            let base = declarator::pointer(source, state.alloc, words.as_slice(), base, at)?;
+            declared(source, state, d.get(), base, at, keep)
+        }
+        Declarator::Array(d, None) => {
+            let base = declarator::array(source, state, base, None, at)?;
+            declared(source, state, d.get(), base, at, keep)
+        }
+        Declarator::Array(d, Some(count)) => {
+            let number = constant(source, state, count.get())?;
+            let base = declarator::array(source, state, base, Some(number), at)?;
+            declared(source, state, d.get(), base, at, keep)
+        }
+        Declarator::Function(d, params, variadic) => {
+            state.enter_scope();
+            let params = parameters(source, state, params.as_slice(), at)?;
+            if !(keep && declarator::is_name(d.get())) {
+                state.leave_scope();
+            }
+            let base = declarator::function(source, state.alloc, base, params, *variadic, at)?;
+            declared(source, state, d.get(), base, at, keep)
+        }
+    }
+}
+
+// The types of the parameters, each in scope behind itself (6.7.6.3).
+#[cycle(expression)]
+fn parameters(
+    source: &Source<'_>,
+    state: &mut State,
+    params: &[Param],
+    at: u32,
+) -> Result<Items<Qual>, TypeFault> {
+    let mut quals = Items::new(state.alloc);
+    for p in params {
+        let (words, param) = parameter(source, state, p, at)?;
+        if declarator::is_lone_void(params.len(), &words, &param) {
+            return Ok(quals);
+        }
+        let qual = declarator::parameter(source, state, &words, param, quals.len(), at)?;
+        quals.push(qual)?;
+    }
+    Ok(quals)
+}
+
+#[cycle(expression)]
+fn parameter(
+    source: &Source<'_>,
+    state: &mut State,
+    param: &Param,
+    at: u32,
+) -> Result<(Words, Declared), TypeFault> {
+    let (words, base) = specified(source, state, &param.specs, at, false)?;
+    let found = declared(source, state, &param.declarator, base, at, false)?;
+    Ok((words, found))
+}

@@ -1,0 +1,332 @@
+// External definitions (6.9).
+
+use crate::block::{begun, function_type, named_part, near, no_initializer};
+use crate::declarator::{Declared, assertion, is_name};
+use crate::define::initialize;
+use crate::expression::{constant, declared, specified};
+use crate::finish::{final_order, finished};
+use crate::statement::block_items;
+use crate::words::{Storage, Words};
+use c_ast::{Declaration, Declarator, Entry as SyntaxEntry, Param, Part, Specs, Unit, UnitEntry};
+use c_lex::Tokens;
+use c_scope::{Linkage, Source, State, Task, TypeFault, copied_function};
+use c_typed::{Block, Body, Program};
+use c_types::{FuncTy, Qual, Ty, copied, copied_qual};
+use std::alloc::Global;
+use ub_base::Items;
+
+fn linkage_of(storage: Storage) -> Option<Linkage> {
+    match storage {
+        Storage::None => Some(Linkage::Plain),
+        Storage::Static => Some(Linkage::Internal),
+        Storage::Extern => Some(Linkage::Extern),
+        Storage::Typedef | Storage::Auto | Storage::Register => None,
+    }
+}
+
+// A function without storage class is declared as with `extern` (6.2.2p5).
+fn function_linkage(storage: Storage) -> Option<Linkage> {
+    match linkage_of(storage)? {
+        Linkage::Plain => Some(Linkage::Extern),
+        linkage => Some(linkage),
+    }
+}
+
+// An object of file scope; without initializer and `extern` its definition is tentative (6.9.2).
+fn global_object(
+    source: &Source<'_>,
+    state: &mut State,
+    words: &Words,
+    part: &Part,
+    name: u32,
+    qual: Qual,
+) -> Result<(), TypeFault> {
+    let Some(linkage) = linkage_of(words.storage) else {
+        return Err(source.fault(name));
+    };
+    if words.function || matches!(qual.ty, Ty::Void) {
+        return Err(source.fault(name));
+    }
+    let copy = copied_qual(state.alloc, &qual)?;
+    let number = state.declare_object(source, name, copy, linkage)?;
+    if part.init.is_some() || words.storage != Storage::Extern {
+        state.define_object(number, source.line(name));
+    }
+    if let Some(init) = &part.init {
+        let qual = joined_type(state, number, qual)?;
+        let qual = initialize(source, state, number, qual, init, name)?;
+        state.complete_object(source.symbol(name), number, &qual)?;
+    }
+    Ok(())
+}
+
+// The type of the object by all its declarations so far.
+fn joined_type(state: &State, number: u32, qual: Qual) -> Result<Qual, TypeFault> {
+    match state.objects.get(number as usize) {
+        Some(row) => Ok(copied_qual(state.alloc, &row.qual)?),
+        None => Ok(qual),
+    }
+}
+
+fn is_int(ty: &Ty) -> bool {
+    matches!(ty, Ty::Int(c_types::IntKind::Int))
+}
+
+// A pointer to a pointer to `char`.
+fn is_argument_vector(ty: &Ty) -> bool {
+    match ty {
+        Ty::Pointer(outer) => match &outer.get().ty {
+            Ty::Pointer(inner) => {
+                !outer.get().constant
+                    && !inner.get().constant
+                    && matches!(inner.get().ty, Ty::Int(c_types::IntKind::Char))
+            }
+            _ => false,
+        },
+        _ => false,
+    }
+}
+
+/// Whether it is one of the two types of `main` (5.1.2.2.1p1).
+pub fn is_main_type(ty: &FuncTy) -> bool {
+    if ty.variadic || !is_int(&ty.result) {
+        return false;
+    }
+    match ty.params.as_slice() {
+        [] => true,
+        [count, vector] => is_int(&count.ty) && is_argument_vector(&vector.ty),
+        _ => false,
+    }
+}
+
+// A function declared at file scope; the answer is its number.
+fn global_function(
+    source: &Source<'_>,
+    state: &mut State,
+    words: &Words,
+    name: u32,
+    ty: FuncTy,
+) -> Result<u32, TypeFault> {
+    let Some(linkage) = function_linkage(words.storage) else {
+        return Err(source.fault(name));
+    };
+    let main = source.spelling(name) == b"main".as_slice();
+    if main && (words.function || !is_main_type(&ty)) {
+        return Err(source.fault(name));
+    }
+    let number = state.declare_function(source, name, ty, linkage)?;
+    if main {
+        state.main = Some(number);
+    }
+    Ok(number)
+}
+
+fn global_part(
+    source: &Source<'_>,
+    state: &mut State,
+    words: &Words,
+    part: &Part,
+    base: &Qual,
+    at: u32,
+) -> Result<(), TypeFault> {
+    let (name, qual) = named_part(source, state, part, base, at)?;
+    if words.storage == Storage::Typedef {
+        no_initializer(source, part, name)?;
+        if words.function {
+            return Err(source.fault(name));
+        }
+        return state.declare_typedef(source, name, qual);
+    }
+    match function_type(qual) {
+        Ok(ty) => {
+            no_initializer(source, part, name)?;
+            let _number = global_function(source, state, words, name, ty)?;
+            Ok(())
+        }
+        Err(qual) => global_object(source, state, words, part, name, qual),
+    }
+}
+
+fn global_declaration(
+    source: &Source<'_>,
+    state: &mut State,
+    d: &Declaration,
+) -> Result<(), TypeFault> {
+    let (words, base, at) = begun(source, state, d)?;
+    if matches!(words.storage, Storage::Auto | Storage::Register) {
+        return Err(source.fault(at));
+    }
+    for part in d.parts.as_slice() {
+        global_part(source, state, &words, part, &base, at)?;
+    }
+    Ok(())
+}
+
+// The parameters of the function that the declarator declares, where it declares one itself (6.9.1p2).
+fn own_params(d: &Declarator) -> Option<&[Param]> {
+    match d {
+        Declarator::Ident(_) => None,
+        Declarator::Pointer(_, d) => own_params(d.get()),
+        Declarator::Array(d, _) => own_params(d.get()),
+        Declarator::Function(d, params, _) => {
+            if is_name(d.get()) {
+                Some(params.as_slice())
+            } else {
+                own_params(d.get())
+            }
+        }
+    }
+}
+
+fn are_named(params: &[Param]) -> bool {
+    for param in params {
+        if crate::declarator::name_of(&param.declarator).is_none() {
+            return false;
+        }
+    }
+    true
+}
+
+// Whether a function of this type may be defined: with complete types, names for its parameters, and no ellipsis (6.9.1p3,
+// 6.9.1p5, 6.7.6.3p4; the ellipsis is own).
+fn may_be_defined(state: &State, ty: &FuncTy, params: &[Param]) -> bool {
+    if ty.variadic || !(ty.params.is_empty() || are_named(params)) {
+        return false;
+    }
+    for param in ty.params.as_slice() {
+        if state.tags.extent(&param.ty).is_none() {
+            return false;
+        }
+    }
+    matches!(ty.result, Ty::Void) || state.tags.extent(&ty.result).is_some()
+}
+
+// Declares the function in the scope around its parameters, which stay in scope; the answer is its number.
+fn declare_around(
+    source: &Source<'_>,
+    state: &mut State,
+    words: &Words,
+    name: u32,
+    ty: &FuncTy,
+) -> Result<u32, TypeFault> {
+    let lifted = state.lift_scope()?;
+    let ty = copied_function(state.alloc, ty)?;
+    let number = global_function(source, state, words, name, ty)?;
+    state.lower_scope(lifted)?;
+    Ok(number)
+}
+
+// Whether the function has no body yet, and is no library function.
+fn is_open(state: &State, number: u32) -> bool {
+    match state.functions.get(number as usize) {
+        Some(row) => row.own.is_none() && row.library.is_none(),
+        None => false,
+    }
+}
+
+fn begin_body(state: &mut State, number: u32, ty: &FuncTy) -> Result<(), TypeFault> {
+    let alloc = state.alloc;
+    state.task = Task::new(alloc, copied(alloc, &ty.result)?);
+    let _block = state.task.enter(alloc)?;
+    for param in ty.params.as_slice() {
+        let _place = state.task.add(copied_qual(alloc, param)?)?;
+    }
+    let own = copied_function(alloc, ty)?;
+    if let Some(row) = state.functions.get_mut(number as usize) {
+        row.own = Some(own);
+    }
+    Ok(())
+}
+
+fn end_body(
+    state: &mut State,
+    number: u32,
+    entries: Items<c_typed::Entry>,
+) -> Result<(), TypeFault> {
+    if let Some(line) = state.task.undefined_label() {
+        return Err(TypeFault::NotTyped(line));
+    }
+    let (block, objects) = state.task.leave(state.alloc);
+    if let Some(row) = state.functions.get_mut(number as usize) {
+        row.body = Some(Body::Block(Block {
+            number: block,
+            objects,
+            entries,
+        }));
+    }
+    Ok(())
+}
+
+// A function definition (6.9.1).
+fn function_definition(
+    source: &Source<'_>,
+    state: &mut State,
+    specs: &Specs,
+    declarator: &Declarator,
+    body: &[SyntaxEntry],
+) -> Result<(), TypeFault> {
+    let at = near(specs, Some(declarator));
+    let (words, base) = specified(source, state, specs, at, false)?;
+    let Declared { name, qual } = declared(source, state, declarator, base, at, true)?;
+    let (Some(name), Some(params), Ok(ty)) = (name, own_params(declarator), function_type(qual))
+    else {
+        return Err(source.fault(at));
+    };
+    if !may_be_defined(state, &ty, params) {
+        return Err(source.fault(name));
+    }
+    let number = declare_around(source, state, &words, name, &ty)?;
+    if !is_open(state, number) {
+        return Err(source.fault(name));
+    }
+    begin_body(state, number, &ty)?;
+    let entries = block_items(source, state, body)?;
+    end_body(state, number, entries)?;
+    state.leave_scope();
+    Ok(())
+}
+
+fn external(source: &Source<'_>, state: &mut State, entry: &UnitEntry) -> Result<(), TypeFault> {
+    match entry {
+        UnitEntry::Empty => Ok(()),
+        UnitEntry::Assertion(e, message) => {
+            let number = constant(source, state, e)?;
+            assertion(source, state.alloc, number, e.at, *message)
+        }
+        UnitEntry::Declaration(d) => global_declaration(source, state, d),
+        UnitEntry::Function {
+            specs,
+            declarator,
+            body,
+        } => function_definition(source, state, specs, declarator, body.as_slice()),
+    }
+}
+
+// All that the unit declares, objects standing as `order` says.
+fn all_declared(
+    alloc: Global,
+    source: &Source<'_>,
+    unit: &Unit,
+    order: Vec<u32>,
+) -> Result<State, TypeFault> {
+    let mut state = State::new(alloc, source, order)?;
+    for entry in unit.entries.as_slice() {
+        external(source, &mut state, entry)?;
+    }
+    Ok(state)
+}
+
+/// The typed program of the unit, whose tokens these are; or the line on which it breaks a constraint or a rule of the
+/// profile. Objects with static storage are numbered in the order of their first definitions: where one is named before an
+/// object that is defined earlier, the unit is read again with the order known.
+pub fn resolve(alloc: Global, tokens: &Tokens<'_>, unit: &Unit) -> Result<Program, TypeFault> {
+    let source = Source::new(alloc, tokens)?;
+    let state = all_declared(alloc, &source, unit, Vec::new(alloc))?;
+    match final_order(alloc, &state)? {
+        None => finished(alloc, &source, state),
+        Some(order) => {
+            let state = all_declared(alloc, &source, unit, order)?;
+            finished(alloc, &source, state)
+        }
+    }
+}

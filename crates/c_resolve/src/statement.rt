@@ -1,0 +1,341 @@
+// Statements (6.8).
+
+use crate::block::{local_declaration, loop_declaration};
+use crate::declarator::assertion;
+use crate::expression::{constant, expression};
+use c_arith::convert;
+use c_ast::{Entry as SyntaxEntry, Expr, ForInit, Stmt};
+use c_express::{as_if_assigned, discarded, promoted, truth, value_of};
+use c_scope::{OpenSwitch, Source, State, TypeFault, placed};
+use c_typed::{Block, Body, Entry, ForStart, Typed};
+use c_types::{IntKind, Ty};
+use std::collections::BTreeSet;
+use ub_base::{Boxed, Items};
+
+// A full expression whose value isn't used (6.8.3p2).
+fn unused(source: &Source<'_>, state: &mut State, e: &Expr) -> Result<Typed, TypeFault> {
+    let operand = expression(source, state, e)?;
+    placed(
+        source.line(e.at),
+        discarded(state.alloc, &state.tags, operand),
+    )
+}
+
+fn unused_part(
+    source: &Source<'_>,
+    state: &mut State,
+    e: &Option<Expr>,
+) -> Result<Option<Typed>, TypeFault> {
+    match e {
+        None => Ok(None),
+        Some(e) => Ok(Some(unused(source, state, e)?)),
+    }
+}
+
+// A controlling expression of scalar type (6.8.4.1p1, 6.8.5p2).
+fn condition(source: &Source<'_>, state: &mut State, e: &Expr) -> Result<Typed, TypeFault> {
+    let operand = expression(source, state, e)?;
+    placed(source.line(e.at), truth(state.alloc, &state.tags, operand))
+}
+
+// The controlling expression of a `switch`, promoted, with its kind (6.8.4.2p1, 6.8.4.2p5).
+fn selector(
+    source: &Source<'_>,
+    state: &mut State,
+    e: &Expr,
+) -> Result<(Typed, IntKind), TypeFault> {
+    let line = source.line(e.at);
+    let operand = expression(source, state, e)?;
+    let tree = placed(line, value_of(state.alloc, &state.tags, operand))?;
+    placed(line, promoted(state.alloc, tree))
+}
+
+// What `return` gives: nothing in a function that returns `void`, otherwise a value of its type (6.8.6.4p1, 6.8.6.4p3).
+fn returned(
+    source: &Source<'_>,
+    state: &mut State,
+    at: u32,
+    e: &Option<Expr>,
+) -> Result<Body, TypeFault> {
+    let void = matches!(state.task.result, Ty::Void);
+    match e {
+        None if void => Ok(Body::Return(None)),
+        Some(e) if !void => {
+            let operand = expression(source, state, e)?;
+            let result_type = &state.task.result;
+            let made = as_if_assigned(state.alloc, &state.tags, operand, result_type);
+            Ok(Body::Return(Some(placed(source.line(e.at), made)?)))
+        }
+        _ => Err(source.fault(at)),
+    }
+}
+
+fn jump(source: &Source<'_>, at: u32, allowed: bool, body: Body) -> Result<Body, TypeFault> {
+    if allowed {
+        Ok(body)
+    } else {
+        Err(source.fault(at))
+    }
+}
+
+fn to_label(source: &Source<'_>, state: &mut State, at: u32) -> Result<Body, TypeFault> {
+    let number = state.task.label(source.symbol(at), source.line(at))?;
+    Ok(Body::Goto(number))
+}
+
+fn define_label(source: &Source<'_>, state: &mut State, at: u32) -> Result<u32, TypeFault> {
+    match state.task.define_label(source.symbol(at), source.line(at))? {
+        Some(number) => Ok(number),
+        None => Err(source.fault(at)),
+    }
+}
+
+// The value of a case label in the promoted type of its `switch`, where no other label has it (6.8.4.2p3, 6.8.4.2p5).
+fn case_value(
+    source: &Source<'_>,
+    state: &mut State,
+    at: u32,
+    e: &Expr,
+) -> Result<i128, TypeFault> {
+    let number = constant(source, state, e)?;
+    let Some(switch) = state.task.switches.last_mut() else {
+        return Err(source.fault(at));
+    };
+    let number = convert(switch.kind, number);
+    let bits = u64::try_from(convert(IntKind::ULong, number)).unwrap_or(0);
+    if switch.values.insert(bits)? {
+        Ok(number)
+    } else {
+        Err(source.fault(at))
+    }
+}
+
+// At most one `default` in a `switch` (6.8.4.2p3).
+fn default_label(source: &Source<'_>, state: &mut State, at: u32) -> Result<(), TypeFault> {
+    match state.task.switches.last_mut() {
+        Some(switch) if !switch.has_default => {
+            switch.has_default = true;
+            Ok(())
+        }
+        _ => Err(source.fault(at)),
+    }
+}
+
+fn open_switch(state: &mut State, kind: IntKind) -> Result<(), TypeFault> {
+    let values = BTreeSet::new(state.alloc);
+    state.task.switches.push(OpenSwitch {
+        kind,
+        values,
+        has_default: false,
+    })?;
+    state.task.breakable = state.task.breakable.saturating_add(1);
+    Ok(())
+}
+
+fn close_switch(state: &mut State) {
+    let _switch = state.task.switches.pop();
+    state.task.breakable = state.task.breakable.saturating_sub(1);
+}
+
+fn open_loop(state: &mut State) {
+    state.task.loops = state.task.loops.saturating_add(1);
+    state.task.breakable = state.task.breakable.saturating_add(1);
+}
+
+fn close_loop(state: &mut State) {
+    state.task.loops = state.task.loops.saturating_sub(1);
+    state.task.breakable = state.task.breakable.saturating_sub(1);
+}
+
+// The first part of a `for`, before its end; a declaration has begun a block.
+#[derive(Drop)]
+enum LoopStart {
+    Empty,
+    Value(Typed),
+    Declared(Items<Entry>),
+}
+
+// The first part of a `for`; a declaration begins a block (6.8.5.3).
+fn loop_start(
+    source: &Source<'_>,
+    state: &mut State,
+    init: &ForInit,
+) -> Result<LoopStart, TypeFault> {
+    match init {
+        ForInit::Empty => Ok(LoopStart::Empty),
+        ForInit::Value(e) => Ok(LoopStart::Value(unused(source, state, e)?)),
+        ForInit::Declared(d) => {
+            let _number = state.task.enter(state.alloc)?;
+            let mut entries = Items::new(state.alloc);
+            loop_declaration(source, state, d, &mut entries)?;
+            Ok(LoopStart::Declared(entries))
+        }
+    }
+}
+
+// The innermost block, which ends, with these entries.
+fn ended_block(state: &mut State, entries: Items<Entry>) -> Block {
+    let (number, objects) = state.task.leave(state.alloc);
+    Block {
+        number,
+        objects,
+        entries,
+    }
+}
+
+// The first part at the end of the `for`.
+fn ended_start(state: &mut State, start: LoopStart) -> ForStart {
+    match start {
+        LoopStart::Empty => ForStart::Empty,
+        LoopStart::Value(tree) => ForStart::Value(tree),
+        LoopStart::Declared(entries) => ForStart::Declared(ended_block(state, entries)),
+    }
+}
+
+/// A statement (6.8).
+#[cycle(statement)]
+pub fn statement(source: &Source<'_>, state: &mut State, s: &Stmt) -> Result<Body, TypeFault> {
+    match s {
+        Stmt::Simple(e) => Ok(Body::Simple(unused_part(source, state, e)?)),
+        Stmt::Block(entries) => compound(source, state, entries.as_slice()),
+        Stmt::If(e, yes, no) => {
+            state.enter_scope();
+            let test = condition(source, state, e)?;
+            let yes = inner(source, state, yes.get())?;
+            let no = match no {
+                None => None,
+                Some(no) => Some(inner(source, state, no.get())?),
+            };
+            state.leave_scope();
+            Ok(Body::If(test, yes, no))
+        }
+        Stmt::Switch(e, s) => {
+            state.enter_scope();
+            let (test, kind) = selector(source, state, e)?;
+            open_switch(state, kind)?;
+            let body = inner(source, state, s.get())?;
+            close_switch(state);
+            state.leave_scope();
+            Ok(Body::Switch(test, body))
+        }
+        Stmt::While(e, s) => {
+            state.enter_scope();
+            let test = condition(source, state, e)?;
+            let body = repeated(source, state, s.get())?;
+            state.leave_scope();
+            Ok(Body::While(test, body))
+        }
+        Stmt::Do(s, e) => {
+            state.enter_scope();
+            let body = repeated(source, state, s.get())?;
+            let test = condition(source, state, e)?;
+            state.leave_scope();
+            Ok(Body::Do(body, test))
+        }
+        Stmt::For(init, test, step, s) => {
+            state.enter_scope();
+            let start = loop_start(source, state, init.get())?;
+            let test = match test {
+                None => None,
+                Some(e) => Some(condition(source, state, e)?),
+            };
+            let step = unused_part(source, state, step)?;
+            let body = repeated(source, state, s.get())?;
+            let start = ended_start(state, start);
+            state.leave_scope();
+            Ok(Body::For {
+                start,
+                test,
+                step,
+                body,
+            })
+        }
+        Stmt::Goto(at) => to_label(source, state, *at),
+        Stmt::Continue(at) => jump(source, *at, state.task.loops > 0, Body::Continue),
+        Stmt::Break(at) => jump(source, *at, state.task.breakable > 0, Body::Break),
+        Stmt::Return(at, e) => returned(source, state, *at, e),
+        Stmt::Label(at, s) => {
+            let number = define_label(source, state, *at)?;
+            let body = statement(source, state, s.get())?;
+            Ok(Body::Label(number, Boxed::new(state.alloc, body)?))
+        }
+        Stmt::Case(at, e, s) => {
+            let number = case_value(source, state, *at, e)?;
+            let body = statement(source, state, s.get())?;
+            Ok(Body::Case(number, Boxed::new(state.alloc, body)?))
+        }
+        Stmt::Default(at, s) => {
+            default_label(source, state, *at)?;
+            let body = statement(source, state, s.get())?;
+            Ok(Body::Default(Boxed::new(state.alloc, body)?))
+        }
+    }
+}
+
+// A statement inside another one, a scope of its own (6.8.4p3, 6.8.5p5).
+#[cycle(statement)]
+fn inner(source: &Source<'_>, state: &mut State, s: &Stmt) -> Result<Boxed<Body>, TypeFault> {
+    state.enter_scope();
+    let body = statement(source, state, s)?;
+    state.leave_scope();
+    Ok(Boxed::new(state.alloc, body)?)
+}
+
+// The body of a loop.
+#[cycle(statement)]
+fn repeated(source: &Source<'_>, state: &mut State, s: &Stmt) -> Result<Boxed<Body>, TypeFault> {
+    open_loop(state);
+    let body = inner(source, state, s)?;
+    close_loop(state);
+    Ok(body)
+}
+
+// A compound statement: a scope and a block (6.8.2).
+#[cycle(statement)]
+fn compound(
+    source: &Source<'_>,
+    state: &mut State,
+    entries: &[SyntaxEntry],
+) -> Result<Body, TypeFault> {
+    state.enter_scope();
+    let _number = state.task.enter(state.alloc)?;
+    let entries = block_items(source, state, entries)?;
+    let block = ended_block(state, entries);
+    state.leave_scope();
+    Ok(Body::Block(block))
+}
+
+/// The items of a block (6.8.2).
+#[cycle(statement)]
+pub fn block_items(
+    source: &Source<'_>,
+    state: &mut State,
+    items: &[SyntaxEntry],
+) -> Result<Items<Entry>, TypeFault> {
+    let mut entries = Items::new(state.alloc);
+    for item in items {
+        block_item(source, state, item, &mut entries)?;
+    }
+    Ok(entries)
+}
+
+#[cycle(statement)]
+fn block_item(
+    source: &Source<'_>,
+    state: &mut State,
+    item: &SyntaxEntry,
+    entries: &mut Items<Entry>,
+) -> Result<(), TypeFault> {
+    match item {
+        SyntaxEntry::Declaration(d) => local_declaration(source, state, d, entries),
+        SyntaxEntry::Assertion(e, message) => {
+            let number = constant(source, state, e)?;
+            assertion(source, state.alloc, number, e.at, *message)
+        }
+        SyntaxEntry::Statement(s) => {
+            let body = statement(source, state, s)?;
+            entries.push(Entry::Statement(body))?;
+            Ok(())
+        }
+    }
+}

@@ -1,0 +1,147 @@
+// The function definition that is being resolved.
+
+use c_types::{IntKind, Qual, Ty};
+use indexmap::IndexMap;
+use std::alloc::Global;
+use std::collections::BTreeSet;
+use ub_base::{Items, NoMemory};
+
+/// A label of the function: its number, the line where it is first named, and whether it is defined.
+#[derive(Clone, Copy, Debug, PartialEq, Eq)]
+pub struct Label {
+    pub number: u32,
+    pub line: u32,
+    pub defined: bool,
+}
+
+/// A `switch` that is open: the promoted type of its controlling expression, and its labels so far (6.8.4.2p3).
+#[derive(Drop)]
+pub struct OpenSwitch {
+    pub kind: IntKind,
+    pub values: BTreeSet<u64>,
+    pub has_default: bool,
+}
+
+/// A block that is open: its number in the function, and its objects so far.
+#[derive(Drop)]
+pub struct OpenBlock {
+    number: u32,
+    objects: Items<Qual>,
+}
+
+impl OpenBlock {
+    // Adds an object; the answer is the number of the block and that of the object in it.
+    fn add(&mut self, qual: Qual) -> Result<(u32, u32), NoMemory> {
+        let decl = u32::try_from(self.objects.len()).unwrap_or(u32::MAX);
+        self.objects.push(qual)?;
+        Ok((self.number, decl))
+    }
+
+    fn complete(&mut self, decl: u32, qual: Qual) {
+        if (decl as usize) < self.objects.len() {
+            self.objects.set(decl as usize, qual);
+        }
+    }
+}
+
+/// What is known of the function whose body is read. Outside bodies it is that of no function.
+#[derive(Drop)]
+pub struct Task {
+    /// What it returns.
+    pub result: Ty,
+    pub labels: IndexMap<u32, Label>,
+    /// How many blocks have begun.
+    pub blocks: u32,
+    /// The blocks that are open, outermost first.
+    pub open: Vec<OpenBlock>,
+    /// How many loops, and how many loops and `switch` statements, are open.
+    pub loops: u32,
+    pub breakable: u32,
+    pub switches: Vec<OpenSwitch>,
+}
+
+impl Task {
+    /// A function that returns this type.
+    pub fn new(alloc: Global, returned: Ty) -> Task {
+        Task {
+            result: returned,
+            labels: IndexMap::new(alloc),
+            blocks: 0,
+            open: Vec::new(alloc),
+            loops: 0,
+            breakable: 0,
+            switches: Vec::new(alloc),
+        }
+    }
+
+    /// Begins a block, which has the next number.
+    pub fn enter(&mut self, alloc: Global) -> Result<u32, NoMemory> {
+        let number = self.blocks;
+        self.open.push(OpenBlock {
+            number,
+            objects: Items::new(alloc),
+        })?;
+        self.blocks = number.saturating_add(1);
+        Ok(number)
+    }
+
+    /// Ends the innermost block; the answer is its number and its objects.
+    pub fn leave(&mut self, alloc: Global) -> (u32, Items<Qual>) {
+        match self.open.pop() {
+            Some(OpenBlock { number, objects }) => (number, objects),
+            None => (0, Items::new(alloc)),
+        }
+    }
+
+    /// Adds an object to the innermost block; the answer is the number of the block and its number in it.
+    pub fn add(&mut self, qual: Qual) -> Result<(u32, u32), NoMemory> {
+        match self.open.last_mut() {
+            Some(block) => block.add(qual),
+            None => Ok((0, 0)),
+        }
+    }
+
+    /// Gives an object of the innermost block its type.
+    pub fn complete(&mut self, decl: u32, qual: Qual) {
+        if let Some(block) = self.open.last_mut() {
+            block.complete(decl, qual);
+        }
+    }
+
+    /// The number of a label, which is first named here where it is new.
+    pub fn label(&mut self, symbol: u32, line: u32) -> Result<u32, NoMemory> {
+        if let Some(label) = self.labels.get(&symbol) {
+            return Ok(label.number);
+        }
+        let number = u32::try_from(self.labels.len()).unwrap_or(u32::MAX);
+        let label = Label {
+            number,
+            line,
+            defined: false,
+        };
+        self.labels.insert(symbol, label)?;
+        Ok(number)
+    }
+
+    /// Defines a label; `None` where it is defined already (6.8.1p3).
+    pub fn define_label(&mut self, symbol: u32, line: u32) -> Result<Option<u32>, NoMemory> {
+        let number = self.label(symbol, line)?;
+        match self.labels.get_mut(&symbol) {
+            Some(label) if !label.defined => {
+                label.defined = true;
+                Ok(Some(number))
+            }
+            _ => Ok(None),
+        }
+    }
+
+    /// The line of a label that is named and not defined (6.8.6.1p1).
+    pub fn undefined_label(&self) -> Option<u32> {
+        for label in self.labels.values() {
+            if !label.defined {
+                return Some(label.line);
+            }
+        }
+        None
+    }
+}

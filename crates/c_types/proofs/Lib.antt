@@ -1,0 +1,6 @@
+pub mod Completed
+pub mod Extents
+pub mod Forms
+pub mod Laid
+pub mod Nodes
+pub mod Rows

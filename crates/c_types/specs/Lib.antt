@@ -1,0 +1,6 @@
+pub mod Kinds
+pub mod Layout
+pub mod Leaves
+pub mod Shapes
+pub mod Table
+pub mod Types

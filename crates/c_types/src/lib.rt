@@ -1,0 +1,22 @@
+//! The types of the profile: integer kinds with their ranks and ranges, the conversions between them, and the types built on them.
+#![tactic(auto)]
+
+mod agree;
+mod copies;
+mod kind;
+mod library;
+mod members;
+mod shape;
+mod sizes;
+mod table;
+mod tags;
+mod ty;
+
+pub use agree::{agrees, compatible};
+pub use copies::{composite, copied, copied_qual};
+pub use kind::{BinOp, IntKind, promote, usual};
+pub use library::LibFunc;
+pub use shape::{Placed, Shape};
+pub use table::Tags;
+pub use tags::{Extent, Member, Tag, TagKind};
+pub use ty::{FuncTy, Qual, Ty};

@@ -1,0 +1,106 @@
+// Rows that follow one another at even steps.
+use addr_map::Row;
+use ub_base::ObjName;
+
+/// The end of the numbers of a certificate (own).
+pub const NUMBER_END: u64 = 1 << 63;
+
+/// The most rows that a map may stand for (own).
+pub const MAX_ROWS: usize = 4_194_304;
+
+fn raised(number: u32, by: u64) -> Option<u32> {
+    u32::try_from(u64::from(number).checked_add(by)?).ok()
+}
+
+fn raised_turn(turn: u64, by: u64) -> Option<u64> {
+    turn.checked_add(by).filter(|turn| *turn < NUMBER_END)
+}
+
+// The name with its moving number raised: the number of a static, a literal or an argument, and the turn of the others.
+fn moved_name(name: ObjName, by: u64) -> Option<ObjName> {
+    match name {
+        ObjName::Static(k) => Some(ObjName::Static(raised(k, by)?)),
+        ObjName::Lit(k) => Some(ObjName::Lit(raised(k, by)?)),
+        ObjName::Argv => None,
+        ObjName::Arg(k) => Some(ObjName::Arg(raised(k, by)?)),
+        ObjName::Auto { frame, turn, decl } => Some(ObjName::Auto {
+            frame,
+            turn: raised_turn(turn, by)?,
+            decl,
+        }),
+        ObjName::Heap { frame, turn, node } => Some(ObjName::Heap {
+            frame,
+            turn: raised_turn(turn, by)?,
+            node,
+        }),
+    }
+}
+
+/// How far the rows of a run stand apart: the bases, and the moving numbers of the names.
+#[derive(Clone, Copy, Debug, PartialEq, Eq)]
+pub struct Stride {
+    pub step: u64,
+    pub raise: u64,
+}
+
+/// The row of this number in a run that begins with `first`, counted from 0; none where a number of it would pass its
+/// bound.
+pub fn row_at(first: Row, stride: Stride, at: u64) -> Option<Row> {
+    let base = first.base.checked_add(at.checked_mul(stride.step)?)?;
+    if base >= NUMBER_END {
+        return None;
+    }
+    Some(Row {
+        name: moved_name(first.name, at.checked_mul(stride.raise)?)?,
+        base,
+        size: first.size,
+        align: first.align,
+    })
+}
+
+// The moving number of a name.
+fn moving(name: ObjName) -> u64 {
+    match name {
+        ObjName::Static(k) | ObjName::Lit(k) | ObjName::Arg(k) => u64::from(k),
+        ObjName::Argv => 0,
+        ObjName::Auto { turn, .. } | ObjName::Heap { turn, .. } => turn,
+    }
+}
+
+// The stride of a run that begins with these two rows.
+fn stride_of(first: Row, second: Row) -> Option<Stride> {
+    let step = second.base.checked_sub(first.base)?;
+    let raise = moving(second.name).checked_sub(moving(first.name))?;
+    if step == 0 {
+        return None;
+    }
+    Some(Stride { step, raise })
+}
+
+/// A run of rows: how many there are, and their stride.
+#[derive(Clone, Copy, Debug, PartialEq, Eq)]
+pub struct Run {
+    pub count: usize,
+    pub stride: Stride,
+}
+
+/// The longest run with which these rows begin, where it has at least 3.
+pub fn longest_run(rows: &[Row]) -> Option<Run> {
+    let first = *rows.first()?;
+    let stride = stride_of(first, *rows.get(1)?)?;
+    let count = run_len(first, stride, rows);
+    if count < 3 {
+        return None;
+    }
+    Some(Run { count, stride })
+}
+
+// How many rows stand in the run that begins with `first`.
+fn run_len(first: Row, stride: Stride, rows: &[Row]) -> usize {
+    for (at, row) in rows.iter().enumerate() {
+        if row_at(first, stride, at as u64) != Some(*row) {
+            return at;
+        }
+    }
+    rows.len()
+}

@@ -1,0 +1,8 @@
+use Rattle.command.proofs.Apps.{with_rule_same}
+use Rattle.command.proofs.app.self_command.Goals as goal
+
+pub returns-clause-app : goal.returns-clause-app
+returns-clause-app c =
+    with_rule_same _ _ _ _ _ c.in_ok-command-2.ensures.app
+    (with_rule_same _ _ _ _ _ c.in_ok-command.ensures.app c.new-command.ensures.app c.seed_arg.ensures.rule)
+    c.lines_arg.ensures.rule

@@ -1,0 +1,147 @@
+// From words to a request.
+ghost use Rattle.std.specs.Prelude.{◌≡◌, ◌≢◌, true, map, string_bytes, IfOk, IsErrOf, option_copied, unwrap_or, codes, []};
+ghost use Rattle.clap.specs.Matches.{found_of};
+ghost use Rattle.clap.specs.Simple.{HasMatchesOf};
+ghost use Rattle.clap.specs.Takes.{takes};
+ghost use Rattle.clap.specs.Walk.{rows_of, first_of, one_of, all_of};
+ghost use Rattle.command.specs.App.{cub_app};
+ghost use Rattle.command.specs.Asked.{named, text_given, args_given, is_set, Spells, IsAudit, IsCheck, IsSelf, IsRequest};
+
+use crate::app::cub_command;
+use crate::request::{AuditRequest, CheckRequest, Request, SelfRequest, WordFault};
+use clap::ArgMatches;
+use clap::error::ErrorKind;
+use std::alloc::{AllocError, Global};
+
+const MAX_STEPS: u64 = 100000000;
+
+const MAX_SEED: u64 = 65536;
+
+const MAX_LINES: u64 = 20000;
+
+fn matches_of<'a>(alloc: Global, words: &'a [String]) -> Result<ArgMatches<'a>, WordFault>
+    ensures usage { IsErrOf result WordFault.Usage → takes cub_app (map string_bytes words.now) ≢ true }
+    ensures matches { IfOk result (HasMatchesOf cub_app (map string_bytes words.now)) }
+{
+    let Ok(command) = cub_command(alloc) else {
+        return Err(WordFault::NoMemory);
+    };
+    match command.try_get_matches_from(words) {
+        Ok(matches) => Ok(matches),
+        Err(error) => match error.kind() {
+            ErrorKind::OutOfMemory => Err(WordFault::NoMemory),
+            _ => Err(WordFault::Usage),
+        },
+    }
+}
+
+fn text_of<'a>(matches: &ArgMatches<'a>, id: &str) -> Option<&'a str>
+    ensures { option_copied result ≡ first_of id.now (rows_of (found_of matches.now)) }
+{
+    matches.get_str(id)
+}
+
+fn text_given<'a>(matches: &ArgMatches<'a>, id: &str) -> &'a str
+    ensures { result.now ≡ text_given id.now (rows_of (found_of matches.now)) }
+{
+    match text_of(matches, id) {
+        Some(text) => text,
+        None => "",
+    }
+}
+
+fn is_set(matches: &ArgMatches<'_>, id: &str) -> bool
+    ensures { result ≡ is_set (first_of id.now (rows_of (found_of matches.now))) }
+{
+    match text_of(matches, id) {
+        Some(text) => text == "true",
+        None => false,
+    }
+}
+
+fn number_of(matches: &ArgMatches<'_>, id: &str, most: u64) -> u64
+    ensures { Spells most (one_of id.now (rows_of (found_of matches.now))) result }
+{
+    matches.get_one::<u64>(id).unwrap_or(0).min(most)
+}
+
+fn copies(alloc: Global, texts: &[&str]) -> Result<Vec<String>, AllocError>
+    ensures { IfOk result (λ copies. map string_bytes copies.items ≡ map (λ text. text.now) texts.now) }
+{
+    let mut copies = Vec::new(alloc);
+    for text in texts {
+        copies.push(String::from_str(alloc, text)?)?;
+    }
+    Ok(copies)
+}
+
+fn args_of(alloc: Global, matches: &ArgMatches<'_>) -> Result<Vec<String>, AllocError>
+    ensures { IfOk result (λ args. map string_bytes args.items ≡ args_given (rows_of (found_of matches.now))) }
+{
+    match matches.get_strs("ARGS") {
+        Some(texts) => copies(alloc, texts),
+        None => Ok(Vec::new(alloc)),
+    }
+}
+
+fn audit_request<'a>(alloc: Global, given: &ArgMatches<'a>) -> Result<AuditRequest<'a>, AllocError>
+    ensures { IfOk result (IsAudit (rows_of (found_of given.now))) }
+{
+    Ok(AuditRequest {
+        file: text_given(given, "FILE"),
+        input: text_of(given, "input"),
+        steps: number_of(given, "steps", MAX_STEPS),
+        is_tight: is_set(given, "tight"),
+        cert: text_of(given, "cert"),
+        args: args_of(alloc, given)?,
+    })
+}
+
+fn check_request<'a>(alloc: Global, given: &ArgMatches<'a>) -> Result<CheckRequest<'a>, AllocError>
+    ensures { IfOk result (IsCheck (rows_of (found_of given.now))) }
+{
+    Ok(CheckRequest {
+        file: text_given(given, "FILE"),
+        cert: text_given(given, "CERT"),
+        input: text_of(given, "input"),
+        args: args_of(alloc, given)?,
+    })
+}
+
+fn self_request(given: &ArgMatches<'_>) -> SelfRequest
+    ensures { IsSelf (rows_of (found_of given.now)) result }
+{
+    SelfRequest {
+        seed: number_of(given, "SEED", MAX_SEED),
+        lines: number_of(given, "N", MAX_LINES),
+    }
+}
+
+fn request_of<'a>(
+    alloc: Global,
+    name: &str,
+    given: &ArgMatches<'a>,
+) -> Result<Request<'a>, AllocError>
+    ensures { IfOk result (IsRequest (name.now, rows_of (found_of given.now))) }
+{
+    if name == "audit" {
+        return Ok(Request::Audit(audit_request(alloc, given)?));
+    }
+    if name == "check" {
+        return Ok(Request::Check(check_request(alloc, given)?));
+    }
+    Ok(Request::SelfAudit(self_request(given)))
+}
+
+/// What the words ask for.
+pub fn read_words<'a>(alloc: Global, words: &'a [String]) -> Result<Request<'a>, WordFault>
+    ensures asked { IfOk result (IsRequest (named (map string_bytes words.now))) }
+    ensures usage { IsErrOf result WordFault.Usage → takes cub_app (map string_bytes words.now) ≢ true }
+{
+    let matches = matches_of(alloc, words)?;
+    let request = match matches.subcommand() {
+        Some((name, given)) => request_of(alloc, name, given)?,
+        None => request_of(alloc, "", &matches)?,
+    };
+    Ok(request)
+}

@@ -1,0 +1,103 @@
+// The terms of all full expressions, in the order of the text.
+
+use crate::expression::term;
+use c_typed::{Block, Body, Entry, ForStart, Node, Program, Typed};
+use core_ir::{Core, CoreProgram, Cores};
+use std::alloc::Global;
+use ub_base::{Items, NoMemory};
+
+/// The program with its terms.
+pub fn elaborate(alloc: Global, p: &Program) -> Result<CoreProgram, NoMemory> {
+    let mut terms = Items::new(alloc);
+    for function in p.functions.as_slice() {
+        if let Some(body) = &function.body {
+            statement(alloc, body, &mut terms)?;
+        }
+    }
+    Ok(CoreProgram {
+        program: p,
+        terms: Cores { items: terms },
+    })
+}
+
+// A full expression, and then the trees of the isolated initializers in it.
+fn full(alloc: Global, root: &Typed, terms: &mut Items<Core>) -> Result<(), NoMemory> {
+    let whole = term(alloc, root, 0)?;
+    terms.push(whole.core)?;
+    isolated(alloc, root, terms)
+}
+
+fn isolated(alloc: Global, root: &Typed, terms: &mut Items<Core>) -> Result<(), NoMemory> {
+    if let Node::Isolated(tree) = &root.node {
+        let tree = tree.get();
+        let whole = term(alloc, tree, 0)?;
+        terms.push(whole.core)?;
+        isolated(alloc, tree, terms)?;
+    }
+    for operand in root.children.as_slice() {
+        isolated(alloc, operand, terms)?;
+    }
+    Ok(())
+}
+
+fn optional(alloc: Global, root: &Option<Typed>, terms: &mut Items<Core>) -> Result<(), NoMemory> {
+    match root {
+        Some(root) => full(alloc, root, terms),
+        None => Ok(()),
+    }
+}
+
+#[cycle(statement)]
+fn statement(alloc: Global, body: &Body, terms: &mut Items<Core>) -> Result<(), NoMemory> {
+    match body {
+        Body::Simple(root) | Body::Return(root) => optional(alloc, root, terms),
+        Body::Block(inner) => block(alloc, inner, terms),
+        Body::If(test, yes, no) => {
+            full(alloc, test, terms)?;
+            statement(alloc, yes.get(), terms)?;
+            match no {
+                Some(no) => statement(alloc, no.get(), terms),
+                None => Ok(()),
+            }
+        }
+        Body::Switch(test, inner) | Body::While(test, inner) => {
+            full(alloc, test, terms)?;
+            statement(alloc, inner.get(), terms)
+        }
+        Body::Do(inner, test) => {
+            statement(alloc, inner.get(), terms)?;
+            full(alloc, test, terms)
+        }
+        Body::For {
+            start,
+            test,
+            step,
+            body,
+        } => {
+            match start {
+                ForStart::Empty => {}
+                ForStart::Value(root) => full(alloc, root, terms)?,
+                ForStart::Declared(inner) => block(alloc, inner, terms)?,
+            }
+            optional(alloc, test, terms)?;
+            optional(alloc, step, terms)?;
+            statement(alloc, body.get(), terms)
+        }
+        Body::Goto(_) | Body::Continue | Body::Break => Ok(()),
+        Body::Label(_, inner) | Body::Case(_, inner) | Body::Default(inner) => {
+            statement(alloc, inner.get(), terms)
+        }
+    }
+}
+
+#[cycle(statement)]
+fn block(alloc: Global, block: &Block, terms: &mut Items<Core>) -> Result<(), NoMemory> {
+    for entry in block.entries.as_slice() {
+        match entry {
+            Entry::Statement(inner) => statement(alloc, inner, terms)?,
+            Entry::Initializer(root) => full(alloc, root, terms)?,
+            Entry::Declare(_) => {}
+        }
+    }
+    Ok(())
+}

@@ -1,0 +1,12 @@
+//! What evaluations touch, and when two of them conflict.
+#![tactic(auto)]
+
+mod foot;
+mod least;
+mod meeting;
+mod spans;
+mod state;
+
+pub use foot::Foot;
+pub use least::{access_pair, conflict};
+pub use meeting::{conflicts, items_conflict, races};

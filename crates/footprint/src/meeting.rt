@@ -1,0 +1,156 @@
+// Whether two footprints conflict.
+
+use crate::Foot;
+use crate::foot::range;
+use crate::spans::Span;
+use crate::state::State;
+use addr_map::AddrMap;
+use std::collections::{BTreeMap, BTreeSet};
+use ub_base::{Event, Item, ObjName};
+
+/// Whether an item of one set conflicts with one of the other: it looks at the entries of the smaller one.
+pub fn conflicts(a: &Foot, b: &Foot, map: &AddrMap) -> bool {
+    races(a, b)
+        || (states_conflict(&a.states, &b.states)
+            || (lookups_conflict(a, b, map) || lookups_conflict(b, a, map)))
+        || (narrows_conflict(&a.narrows, &b.narrows)
+            || ((a.input && b.input) || (a.output && b.output)))
+        || ((a.ending && b.any) || (a.any && b.ending))
+}
+
+/// Whether both have a byte that one of them writes.
+pub fn races(a: &Foot, b: &Foot) -> bool {
+    a.writes.meets(&b.writes) || (a.writes.meets(&b.reads) || a.reads.meets(&b.writes))
+}
+
+fn states_conflict(a: &BTreeMap<ObjName, State>, b: &BTreeMap<ObjName, State>) -> bool {
+    if a.len() <= b.len() {
+        some_state_conflicts(a, b)
+    } else {
+        some_state_conflicts(b, a)
+    }
+}
+
+fn some_state_conflicts(few: &BTreeMap<ObjName, State>, many: &BTreeMap<ObjName, State>) -> bool {
+    for (object, state) in few.iter() {
+        if let Some(other) = many.get(object) {
+            if state.conflicts(*other) {
+                return true;
+            }
+        }
+    }
+    false
+}
+
+fn lookups_conflict(a: &Foot, b: &Foot, map: &AddrMap) -> bool {
+    if b.states.is_empty() {
+        return false;
+    }
+    for addr in a.lookups.iter() {
+        let (inside, past) = map.covering(*addr);
+        if meets_lookup(b, inside) || meets_lookup(b, past) {
+            return true;
+        }
+    }
+    false
+}
+
+fn meets_lookup(foot: &Foot, object: Option<ObjName>) -> bool {
+    match object {
+        Some(object) => foot.state(object).meets_lookup(),
+        None => false,
+    }
+}
+
+fn narrows_conflict(a: &BTreeSet<(Event, ObjName)>, b: &BTreeSet<(Event, ObjName)>) -> bool {
+    if a.len() <= b.len() {
+        some_narrow_conflicts(a, b)
+    } else {
+        some_narrow_conflicts(b, a)
+    }
+}
+
+fn some_narrow_conflicts(
+    few: &BTreeSet<(Event, ObjName)>,
+    many: &BTreeSet<(Event, ObjName)>,
+) -> bool {
+    for narrow in few.iter() {
+        if is_narrowed_otherwise(many, narrow.0, narrow.1) {
+            return true;
+        }
+    }
+    false
+}
+
+/// Whether the ambiguity is settled to another object there.
+pub fn is_narrowed_otherwise(
+    narrows: &BTreeSet<(Event, ObjName)>,
+    id: Event,
+    keep: ObjName,
+) -> bool {
+    for other in narrows.range((id, ObjName::Static(0))..) {
+        if other.0 != id {
+            return false;
+        }
+        if other.1 != keep {
+            return true;
+        }
+    }
+    false
+}
+
+/// Whether two items conflict, of ranges a byte of each.
+pub fn items_conflict(a: &Item, b: &Item, map: &AddrMap) -> bool {
+    one_conflicts(a, b, map) || one_conflicts(b, a, map)
+}
+
+fn one_conflicts(a: &Item, b: &Item, map: &AddrMap) -> bool {
+    match *a {
+        Item::Write { object, from, len } => meets_access(range(object, from, len), b),
+        Item::Born(x) => match *b {
+            Item::Alive(y) => x == y,
+            Item::Expose(y) => x == y,
+            _ => false,
+        },
+        Item::Dies(x) => match *b {
+            Item::Alive(y) => x == y,
+            Item::Born(y) => x == y,
+            Item::Dies(y) => x == y,
+            _ => false,
+        },
+        Item::Lookup(addr) => match *b {
+            Item::Expose(object) => is_at(map, object, addr),
+            Item::Dies(object) => is_at(map, object, addr),
+            _ => false,
+        },
+        Item::Narrow { id, keep } => match *b {
+            Item::Narrow {
+                id: other_id,
+                keep: other_keep,
+            } => id == other_id && keep != other_keep,
+            _ => false,
+        },
+        Item::Input => *b == Item::Input,
+        Item::Output => *b == Item::Output,
+        Item::Ending => *b == Item::Any,
+        _ => false,
+    }
+}
+
+fn meets_access(written: Span, b: &Item) -> bool {
+    match *b {
+        Item::Read { object, from, len } => overlap(written, range(object, from, len)),
+        Item::Write { object, from, len } => overlap(written, range(object, from, len)),
+        _ => false,
+    }
+}
+
+fn overlap(a: Span, b: Span) -> bool {
+    a.object == b.object && a.from.max(b.from) < a.end.min(b.end)
+}
+
+// Whether the object contains the address or has it one past.
+pub fn is_at(map: &AddrMap, object: ObjName, addr: u64) -> bool {
+    let (inside, past) = map.covering(addr);
+    inside == Some(object) || past == Some(object)
+}

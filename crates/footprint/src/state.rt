@@ -1,0 +1,53 @@
+// What was done to objects as wholes.
+
+/// What was done to an object as a whole.
+#[derive(Clone, Copy, Debug, PartialEq, Eq)]
+pub struct State {
+    pub born: bool,
+    pub dies: bool,
+    pub alive: bool,
+    pub expose: bool,
+}
+
+impl State {
+    pub const NONE: State = State {
+        born: false,
+        dies: false,
+        alive: false,
+        expose: false,
+    };
+
+    /// What either says.
+    pub fn or(self, other: State) -> State {
+        State {
+            born: self.born || other.born,
+            dies: self.dies || other.dies,
+            alive: self.alive || other.alive,
+            expose: self.expose || other.expose,
+        }
+    }
+
+    /// Without `alive`.
+    pub fn without_alive(self) -> State {
+        State {
+            alive: false,
+            ..self
+        }
+    }
+
+    /// Whether something done to one object here conflicts with something there: born with alive or expose, dies with
+    /// alive, born or dies.
+    pub fn conflicts(self, other: State) -> bool {
+        self.meets(other) || other.meets(self)
+    }
+
+    fn meets(self, other: State) -> bool {
+        (self.born && (other.alive || other.expose))
+            || (self.dies && (other.alive || (other.born || other.dies)))
+    }
+
+    /// Whether a lookup of an address of the object conflicts with what was done to it.
+    pub fn meets_lookup(self) -> bool {
+        self.dies || self.expose
+    }
+}

@@ -1,0 +1,9 @@
+//! The audit of one run in canonical order: its first finding.
+#![tactic(auto)]
+
+mod audit;
+mod finding;
+mod watcher;
+
+pub use audit::audit_run;
+pub use finding::{Audit, Finding, Race};

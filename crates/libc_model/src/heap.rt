@@ -1,0 +1,235 @@
+// Allocation (7.22.3).
+
+use crate::arguments::{Pointer, Range, pointer_at, size_at};
+use crate::bytes::{filled, put, settle};
+use crate::ranges::answer_of;
+use exposure::Prov;
+use prov_memory::{Block, CreateFault, LibAnswer, Memory, ObjKind, Touched, Value, Via};
+use std::alloc::Global;
+use ub_base::{Cause, Clause, Event, Item, NoMemory, ObjName};
+
+/// How many bytes a single allocation gives at most (own).
+const MOST: u64 = 1 << 20;
+
+/// The limit on the sum of created bytes (own).
+const CREATED: u64 = 1 << 26;
+
+// The name of the object that an event allocates.
+fn name_of(who: Event) -> ObjName {
+    ObjName::Heap {
+        frame: who.frame,
+        turn: who.turn,
+        node: who.node,
+    }
+}
+
+// Whether an object of this size passes the limit on created bytes.
+fn check_created(m: &Memory, size: u64) -> Result<(), LibAnswer> {
+    let sum = m.created().saturating_add(size.max(16)).min(1 << 62);
+    if sum > CREATED {
+        Err(LibAnswer::Outside(Cause::Created, sum))
+    } else {
+        Ok(())
+    }
+}
+
+// A new heap object, unwritten.
+fn created(
+    m: &mut Memory,
+    name: ObjName,
+    size: u64,
+    scratch: &mut Touched,
+) -> Result<Pointer, LibAnswer> {
+    let kind = ObjKind {
+        heap: true,
+        literal: false,
+        constant: false,
+    };
+    match m.create(name, size, 16, kind, None, scratch) {
+        Ok(addr) => Ok(Pointer {
+            addr,
+            prov: Prov::Whole(name),
+        }),
+        Err(CreateFault::Unplaced) => Err(LibAnswer::Unplaced),
+        Err(CreateFault::NoMemory) => Err(LibAnswer::NoMemory),
+    }
+}
+
+/// malloc: null for 0 bytes and for more than 2^20 (own).
+pub fn allocate(
+    alloc: Global,
+    size: u64,
+    who: Event,
+    m: &mut Memory,
+    t: &mut Touched,
+) -> Result<Value, LibAnswer> {
+    if size == 0 || size > MOST {
+        return Ok(Pointer::NULL.value());
+    }
+    check_created(m, size)?;
+    let mut scratch = Touched::new(alloc)?;
+    t.add(Item::Born(name_of(who)))?;
+    Ok(created(m, name_of(who), size, &mut scratch)?.value())
+}
+
+/// calloc: the same with the exact product, and zeros.
+pub fn allocate_zeros(
+    alloc: Global,
+    args: &[Value],
+    who: Event,
+    m: &mut Memory,
+    t: &mut Touched,
+) -> Result<Value, LibAnswer> {
+    let product = u128::from(size_at(args, 0)) * u128::from(size_at(args, 1));
+    if product == 0 || product > u128::from(MOST) {
+        return Ok(Pointer::NULL.value());
+    }
+    let size = u64::try_from(product).unwrap_or(0);
+    check_created(m, size)?;
+    let name = name_of(who);
+    let mut scratch = Touched::new(alloc)?;
+    let zeros = filled(alloc, 0, size)?;
+    t.add(Item::Born(name))?;
+    t.add(Item::Alive(name))?;
+    t.add(Item::Write {
+        object: name,
+        from: 0,
+        len: size,
+    })?;
+    let new = created(m, name, size, &mut scratch)?;
+    put(m, name, 0, Via::Bytes, &zeros, &mut scratch)?;
+    Ok(new.value())
+}
+
+// Whether the object is a live one of the heap that begins at the address; its size then.
+fn size_from(m: &Memory, object: ObjName, addr: u64) -> Option<u64> {
+    let state = m.object(object)?;
+    let row = m.map().row(object)?;
+    if state.live && state.kind.heap && row.base == addr {
+        Some(row.size)
+    } else {
+        None
+    }
+}
+
+// The live heap object that begins at the pointer, and its size.
+fn heap_start(
+    m: &Memory,
+    pointer: Pointer,
+    clause: Clause,
+    t: &mut Touched,
+) -> Result<Range, LibAnswer> {
+    let object = match pointer.prov {
+        Prov::Empty => return Err(LibAnswer::Raise(clause)),
+        Prov::Whole(object) => object,
+        Prov::Either { id, start, .. } => {
+            if let Some(other) = m.kept(id)
+                && other != start
+            {
+                return Err(LibAnswer::Raise(clause));
+            }
+            t.add(Item::Narrow { id, keep: start })?;
+            start
+        }
+    };
+    match size_from(m, object, pointer.addr) {
+        Some(len) => Ok(Range {
+            object,
+            from: 0,
+            len,
+        }),
+        None => Err(LibAnswer::Raise(clause)),
+    }
+}
+
+/// free: nothing for null; 7.22.3.3p2 for what isn't the start of a live heap object, which otherwise dies.
+pub fn free(
+    alloc: Global,
+    pointer: Pointer,
+    clause: Clause,
+    m: &mut Memory,
+    t: &mut Touched,
+) -> Result<(), LibAnswer> {
+    if pointer.addr == 0 {
+        return Ok(());
+    }
+    let old = heap_start(m, pointer, clause, t)?;
+    let mut scratch = Touched::new(alloc)?;
+    t.add(Item::Dies(old.object))?;
+    m.kill(old.object, &mut scratch);
+    settle(m, t, &mut scratch);
+    Ok(())
+}
+
+/// realloc: as malloc for null; 7.22.3.5p3 for what isn't the start of a live heap object; as free for 0 bytes; null, with
+/// the object as it was, for more than 2^20; else a new object with the bytes that both have, and the old one dies.
+pub fn reallocate(
+    alloc: Global,
+    args: &[Value],
+    who: Event,
+    m: &mut Memory,
+    t: &mut Touched,
+) -> Result<Value, LibAnswer> {
+    let pointer = pointer_at(args, 0);
+    let size = size_at(args, 1);
+    if pointer.addr == 0 {
+        return allocate(alloc, size, who, m, t);
+    }
+    if size == 0 {
+        free(alloc, pointer, Clause::Realloc, m, t)?;
+        return Ok(Pointer::NULL.value());
+    }
+    let old = heap_start(m, pointer, Clause::Realloc, t)?;
+    t.add(Item::Alive(old.object))?;
+    let mut scratch = Touched::new(alloc)?;
+    if size > MOST {
+        settle(m, t, &mut scratch);
+        return Ok(Pointer::NULL.value());
+    }
+    check_created(m, size)?;
+    let common = Range {
+        object: old.object,
+        from: 0,
+        len: old.len.min(size),
+    };
+    add_moved(common, name_of(who), t)?;
+    let new = moved(m, pointer.addr, common, name_of(who), size, &mut scratch)?;
+    m.kill(old.object, &mut scratch);
+    settle(m, t, &mut scratch);
+    Ok(new.value())
+}
+
+// The items of bytes that move to a new object.
+fn add_moved(common: Range, name: ObjName, t: &mut Touched) -> Result<(), NoMemory> {
+    t.add(Item::Read {
+        object: common.object,
+        from: common.from,
+        len: common.len,
+    })?;
+    t.add(Item::Born(name))?;
+    t.add(Item::Alive(name))?;
+    t.add(Item::Write {
+        object: name,
+        from: 0,
+        len: common.len,
+    })?;
+    t.add(Item::Dies(common.object))
+}
+
+// A new object that begins with these bytes of the old one, pieces and tags among them.
+fn moved(
+    m: &mut Memory,
+    addr: u64,
+    common: Range,
+    name: ObjName,
+    size: u64,
+    scratch: &mut Touched,
+) -> Result<Pointer, LibAnswer> {
+    let block = match m.load_block(common.len, 1, addr, Prov::Whole(common.object), scratch) {
+        Ok(block) => block,
+        Err(fault) => return Err(answer_of(fault)),
+    };
+    let new = created(m, name, size, scratch)?;
+    put(m, name, 0, Via::Whole, &block, scratch)?;
+    Ok(new)
+}

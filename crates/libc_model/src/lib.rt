@@ -1,0 +1,14 @@
+//! The library functions of the profile, but for printf, as acts on memory and the standard streams (7.21, 7.22, 7.24).
+#![tactic(auto)]
+
+mod arguments;
+mod bytes;
+mod calls;
+mod heap;
+mod ranges;
+mod strings;
+
+pub use arguments::{Pointer, Range, bounded_length, check, check_string, int_at, pointer_at};
+pub use bytes::{expose, read, settle};
+pub use calls::{OUTPUT, call};
+pub use ranges::low_byte;

@@ -1,0 +1,160 @@
+// Functions on ranges of bytes (7.24.2.1, 7.24.2.2, 7.24.4.1, 7.24.6.1).
+
+use crate::arguments::{Pointer, Range, check, int_at, pointer_at, size_at};
+use crate::bytes::{add_write, check_writable, filled, put, read, settle};
+use exposure::Prov;
+use prov_memory::{Block, LibAnswer, Memory, Touched, Value, Via};
+use std::alloc::Global;
+use std::cmp::Ordering;
+use ub_base::{Clause, Item, NoMemory};
+
+/// A number modulo 256.
+pub fn low_byte(number: i128) -> u8 {
+    let low = number.rem_euclid(256);
+    u8::try_from(low).unwrap_or(0)
+}
+
+/// The value of a comparison of bytes (own): -1, 0 or 1.
+pub fn sign_of(order: Ordering) -> Value {
+    match order {
+        Ordering::Less => Value::Int(-1),
+        Ordering::Equal => Value::Int(0),
+        Ordering::Greater => Value::Int(1),
+    }
+}
+
+// Whether two ranges of this many bytes overlap.
+fn overlap(a: u64, b: u64, len: u64) -> bool {
+    if a <= b { b - a < len } else { a - b < len }
+}
+
+fn check_target(m: &Memory, target: Option<Range>) -> Result<(), Clause> {
+    match target {
+        Some(range) if range.len != 0 => check_writable(m, range.object),
+        _ => Ok(()),
+    }
+}
+
+// The bytes of a range as they stand, with pieces and tags.
+fn copied(m: &mut Memory, range: Range, scratch: &mut Touched) -> Result<Option<Block>, LibAnswer> {
+    let Some(row) = m.map().row(range.object) else {
+        return Ok(None);
+    };
+    let addr = row.base.saturating_add(range.from);
+    match m.load_block(range.len, 1, addr, Prov::Whole(range.object), scratch) {
+        Ok(block) => Ok(Some(block)),
+        Err(fault) => Err(answer_of(fault)),
+    }
+}
+
+/// Why memory gave nothing, as the answer of a library function.
+pub fn answer_of(fault: prov_memory::MemFault) -> LibAnswer {
+    match fault {
+        prov_memory::MemFault::Raise(clause) => LibAnswer::Raise(clause),
+        prov_memory::MemFault::NoMemory => LibAnswer::NoMemory,
+    }
+}
+
+/// memcpy, and memmove, which takes an overlap.
+pub fn copy(
+    alloc: Global,
+    may_overlap: bool,
+    args: &[Value],
+    m: &mut Memory,
+    t: &mut Touched,
+) -> Result<Value, LibAnswer> {
+    let to = pointer_at(args, 0);
+    let from = pointer_at(args, 1);
+    let len = size_at(args, 2);
+    let target = check(m, to, len, t)?;
+    let source = check(m, from, len, t)?;
+    check_target(m, target)?;
+    if !may_overlap && len != 0 && overlap(to.addr, from.addr, len) {
+        return Err(LibAnswer::Raise(Clause::MemcpyOverlap));
+    }
+    let mut scratch = Touched::new(alloc)?;
+    if let (Some(target), Some(source)) = (target, source)
+        && len != 0
+    {
+        move_bytes(m, target, source, t, &mut scratch)?;
+    }
+    settle(m, t, &mut scratch);
+    Ok(to.value())
+}
+
+fn move_bytes(
+    m: &mut Memory,
+    target: Range,
+    source: Range,
+    t: &mut Touched,
+    scratch: &mut Touched,
+) -> Result<(), LibAnswer> {
+    t.add(Item::Read {
+        object: source.object,
+        from: source.from,
+        len: source.len,
+    })?;
+    add_write(target, t)?;
+    if let Some(block) = copied(m, source, scratch)? {
+        put(m, target.object, target.from, Via::Whole, &block, scratch)?;
+    }
+    Ok(())
+}
+
+/// memset.
+pub fn fill(
+    alloc: Global,
+    args: &[Value],
+    m: &mut Memory,
+    t: &mut Touched,
+) -> Result<Value, LibAnswer> {
+    let to = pointer_at(args, 0);
+    let number = low_byte(int_at(args, 1));
+    let target = check(m, to, size_at(args, 2), t)?;
+    check_target(m, target)?;
+    let mut scratch = Touched::new(alloc)?;
+    if let Some(range) = target {
+        add_write(range, t)?;
+        let block = filled(alloc, number, range.len)?;
+        put(
+            m,
+            range.object,
+            range.from,
+            Via::Bytes,
+            &block,
+            &mut scratch,
+        )?;
+    }
+    settle(m, t, &mut scratch);
+    Ok(to.value())
+}
+
+// The bytes of a range, none where it leaves an ambiguity open.
+fn read_if(
+    alloc: Global,
+    m: &Memory,
+    range: Option<Range>,
+    t: &mut Touched,
+) -> Result<Vec<u8>, LibAnswer> {
+    match range {
+        Some(range) => read(alloc, m, range, t),
+        None => Ok(Vec::new(alloc)),
+    }
+}
+
+/// memcmp: reads all bytes of both ranges.
+pub fn compare(
+    alloc: Global,
+    args: &[Value],
+    m: &mut Memory,
+    t: &mut Touched,
+) -> Result<Value, LibAnswer> {
+    let len = size_at(args, 2);
+    let a = check(m, pointer_at(args, 0), len, t)?;
+    let b = check(m, pointer_at(args, 1), len, t)?;
+    let first = read_if(alloc, m, a, t)?;
+    let second = read_if(alloc, m, b, t)?;
+    let mut scratch = Touched::new(alloc)?;
+    settle(m, t, &mut scratch);
+    Ok(sign_of(first.as_slice().cmp(second.as_slice())))
+}

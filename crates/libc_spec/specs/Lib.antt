@@ -1,0 +1,5 @@
+pub mod Directives
+pub mod Library
+pub mod Print
+pub mod PrintSamples
+pub mod Samples

@@ -1,0 +1,18 @@
+//! What the events of a node do to memory, from the values of its operands; and the objects that stand before a run.
+#![tactic(auto)]
+
+mod calls;
+mod initial;
+mod numbers;
+mod pointers;
+mod storage;
+mod values;
+
+pub use calls::{answer, callee, exit_status, left};
+pub use initial::{
+    Places, Started, arguments, counted, extent, is_constant, shape_of, start, start_bytes, total,
+};
+pub use numbers::{binary, convert, equal, unary};
+pub use pointers::{changed, distance, member, moved, related};
+pub use storage::{Filling, fill, fillings, function_address, load, part, pointer_to, store};
+pub use values::{Pointer, as_function, as_integer, as_pointer, chosen, truth};

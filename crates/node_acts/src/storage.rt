@@ -1,0 +1,255 @@
+// Loads, stores, members of values, and constant bytes.
+
+use crate::initial::Places;
+use crate::values::{Pointer, as_function, as_integer, as_pointer};
+use c_typed::{Access, Constant, Content, Target};
+use c_types::{IntKind, Ty};
+use exposure::Prov;
+use prov_memory::{Block, MemByte, MemFault, Memory, Touched, Value, Via};
+use std::alloc::Global;
+use ub_base::{Clause, Event, Items, NoMemory, ObjName};
+
+/// The value at a place (6.3.2.1p2). `ty` is its type where it is a pointer or a function pointer.
+pub fn load(
+    m: &mut Memory,
+    access: Access,
+    ty: &Ty,
+    who: Event,
+    place: Pointer,
+    t: &mut Touched,
+) -> Result<Value, MemFault> {
+    match access {
+        Access::Integer(kind) => {
+            let number = m.load_int(kind, place.addr, place.prov, t)?;
+            Ok(Value::Int(number))
+        }
+        Access::Pointer => m.load_ptr(ty, who, 8, place.addr, place.prov, t),
+        Access::Function => {
+            let addr = m.load_func(ty, place.addr, place.prov, t)?;
+            Ok(Value::Func(addr))
+        }
+        Access::Whole { size, align } => {
+            let block = m.load_block(size, align, place.addr, place.prov, t)?;
+            Ok(Value::Block(block))
+        }
+    }
+}
+
+/// The member at this offset of a structure or union value (6.5.2.3p3), as a load reads its bytes.
+pub fn part(
+    alloc: Global,
+    m: &mut Memory,
+    access: Access,
+    who: Event,
+    whole: &Value,
+    offset: u64,
+    t: &mut Touched,
+) -> Result<Value, MemFault> {
+    let Value::Block(block) = whole else {
+        return Ok(Value::Nothing);
+    };
+    match access {
+        Access::Integer(kind) => {
+            let number = m.part_int(kind, block, offset, t)?;
+            Ok(Value::Int(number))
+        }
+        Access::Pointer => m.part_ptr(who, block, offset, t),
+        Access::Function => {
+            let addr = m.part_func(block, offset, t)?;
+            Ok(Value::Func(addr))
+        }
+        Access::Whole { size, align: _ } => {
+            let part = block.part(alloc, offset, size)?;
+            Ok(Value::Block(part))
+        }
+    }
+}
+
+/// Stores a value at a place (6.5.16). `via` is the type of the access. A structure or union value that was loaded from a
+/// place which overlaps this one inexactly raises 6.5.16.1p3 after the checks of the store; the bytes are then replaced.
+pub fn store(
+    m: &mut Memory,
+    access: Access,
+    via: Via,
+    initializing: bool,
+    place: Pointer,
+    value: &Value,
+    t: &mut Touched,
+) -> Result<(), Clause> {
+    match access {
+        Access::Integer(kind) => m.store_int(
+            initializing,
+            via,
+            kind,
+            as_integer(value),
+            kind.bytes(),
+            place.addr,
+            place.prov,
+            t,
+        ),
+        Access::Pointer => {
+            let pointer = as_pointer(value);
+            m.store_ptr(
+                initializing,
+                via,
+                8,
+                place.addr,
+                place.prov,
+                pointer.addr,
+                pointer.prov,
+                t,
+            )
+        }
+        Access::Function => m.store_int(
+            initializing,
+            via,
+            IntKind::ULong,
+            i128::from(as_function(value)),
+            8,
+            place.addr,
+            place.prov,
+            t,
+        ),
+        Access::Whole { size, align } => {
+            let Value::Block(block) = value else {
+                return Ok(());
+            };
+            m.store(
+                initializing,
+                Via::Whole,
+                align,
+                place.addr,
+                place.prov,
+                block,
+                t,
+            )?;
+            if overlaps(block.source(), place.addr, size) {
+                return Err(Clause::OverlappingAssignment);
+            }
+            Ok(())
+        }
+    }
+}
+
+// Two ranges of so many bytes overlap and aren't the same.
+fn overlaps(source: Option<u64>, addr: u64, size: u64) -> bool {
+    match source {
+        Some(from) => {
+            from != addr && from < addr.saturating_add(size) && addr < from.saturating_add(size)
+        }
+        None => false,
+    }
+}
+
+/// Bytes at an offset of an object.
+#[derive(Drop)]
+pub struct Filling {
+    pub at: u64,
+    pub bytes: Block,
+}
+
+/// The bytes of constants, addresses as pieces of pointers to the objects that they name.
+pub fn fillings(
+    alloc: Global,
+    m: &mut Memory,
+    places: &Places,
+    constants: &[Constant],
+) -> Result<Items<Filling>, NoMemory> {
+    let mut all = Items::new(alloc);
+    for constant in constants {
+        let bytes = content(alloc, m, places, &constant.content)?;
+        all.push(Filling {
+            at: constant.at,
+            bytes,
+        })?;
+    }
+    Ok(all)
+}
+
+fn content(
+    alloc: Global,
+    m: &mut Memory,
+    places: &Places,
+    content: &Content,
+) -> Result<Block, NoMemory> {
+    match content {
+        Content::Zeros(count) => zeros(alloc, *count),
+        Content::Bytes(bytes) => written(alloc, bytes.as_slice()),
+        Content::Address { target, offset } => {
+            let value = address(places, *target, *offset);
+            m.bytes_of(alloc, &value, 8)
+        }
+    }
+}
+
+fn plain(number: u8) -> MemByte {
+    MemByte::Written {
+        number,
+        piece: None,
+    }
+}
+
+/// So many zero bytes.
+pub fn zeros(alloc: Global, count: u64) -> Result<Block, NoMemory> {
+    let mut block = Block::new(alloc);
+    for _ in 0..count {
+        block.push(plain(0))?;
+    }
+    Ok(block)
+}
+
+/// These bytes, which are pieces of no pointer.
+pub fn written(alloc: Global, bytes: &[u8]) -> Result<Block, NoMemory> {
+    let mut block = Block::new(alloc);
+    for byte in bytes {
+        block.push(plain(*byte))?;
+    }
+    Ok(block)
+}
+
+// The value of an address constant (6.6p9).
+fn address(places: &Places, target: Target, offset: u64) -> Value {
+    match target {
+        Target::Static(object) => places.object(object, offset).value(),
+        Target::Literal(literal) => places.literal(literal, offset).value(),
+        Target::Function(function) => Value::Int(i128::from(function_address(function))),
+    }
+}
+
+/// The address of a function by its number (own).
+pub fn function_address(function: u32) -> u64 {
+    u64::from(function).saturating_mul(16).saturating_add(4096)
+}
+
+/// Stores the bytes in an object as its initialization (6.7.9). `spare` is overwritten.
+pub fn fill(
+    m: &mut Memory,
+    fillings: &[Filling],
+    object: Pointer,
+    t: &mut Touched,
+    spare: &mut Touched,
+) -> Result<(), MemFault> {
+    t.clear();
+    for filling in fillings {
+        let addr = object.addr.saturating_add(filling.at);
+        m.store(
+            true,
+            Via::Bytes,
+            1,
+            addr,
+            object.prov,
+            &filling.bytes,
+            spare,
+        )?;
+        t.join(spare)?;
+    }
+    Ok(())
+}
+
+/// A pointer to an object that is known by its name and its address.
+pub fn pointer_to(name: ObjName, addr: u64, offset: u64) -> Pointer {
+    Pointer {
+        addr: addr.saturating_add(offset),
+        prov: Prov::Whole(name),
+    }
+}

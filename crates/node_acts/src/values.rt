@@ -1,0 +1,76 @@
+// What a value is where its kind follows from its type, with what it counts as elsewhere.
+
+use c_typed::Node;
+use exposure::Prov;
+use prov_memory::Value;
+
+/// A pointer value: an address with its provenance.
+#[derive(Clone, Copy, Debug)]
+pub struct Pointer {
+    pub addr: u64,
+    pub prov: Prov,
+}
+
+impl Pointer {
+    /// The null pointer.
+    pub fn null() -> Self {
+        Pointer {
+            addr: 0,
+            prov: Prov::Empty,
+        }
+    }
+
+    pub fn value(self) -> Value {
+        Value::Ptr {
+            addr: self.addr,
+            prov: self.prov,
+        }
+    }
+}
+
+/// The number of an integer value, 0 elsewhere.
+pub fn as_integer(value: &Value) -> i128 {
+    match value {
+        Value::Int(number) => *number,
+        _ => 0,
+    }
+}
+
+/// A pointer value, null elsewhere.
+pub fn as_pointer(value: &Value) -> Pointer {
+    match value {
+        Value::Ptr { addr, prov } => Pointer {
+            addr: *addr,
+            prov: *prov,
+        },
+        _ => Pointer::null(),
+    }
+}
+
+/// The address of a function pointer, 0 elsewhere.
+pub fn as_function(value: &Value) -> u64 {
+    match value {
+        Value::Func(addr) => *addr,
+        _ => 0,
+    }
+}
+
+/// Whether a scalar value is unequal to 0 (6.5.3.3p5, 6.5.13p3); anything else is.
+pub fn truth(value: &Value) -> bool {
+    match value {
+        Value::Int(number) => *number != 0,
+        Value::Ptr { addr, prov: _ } | Value::Func(addr) => *addr != 0,
+        _ => true,
+    }
+}
+
+/// The operand that an And, Or or Cond evaluates after its first one, which is true or false, where it evaluates another
+/// (6.5.13p4, 6.5.14p4, 6.5.15p4).
+pub fn chosen(node: &Node, test: bool) -> Option<u32> {
+    match node {
+        Node::And => { if test { Some(1) } else { None } }
+        Node::Or => { if test { None } else { Some(1) } }
+        Node::Cond => { if test { Some(1) } else { Some(2) } }
+        _ => None,
+    }
+}

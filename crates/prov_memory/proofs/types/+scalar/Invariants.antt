@@ -1,0 +1,10 @@
+use Rattle.std.proofs.Common.{map}
+use Rattle.c_types.specs.Shapes.{form_of, put_of, forms_of}
+use Rattle.c_types.proofs.Forms.{nodes, all_nodes}
+use Rattle.prov_memory.proofs.types.+scalar.Given as goal
+
+abbrev pub decreases-scalar_at : goal.decreases-scalar_at
+decreases-scalar_at l = nodes (form_of l.shape.now)
+
+abbrev pub decreases-part_at : goal.decreases-part_at
+decreases-part_at l = all_nodes (forms_of (map put_of l.parts.now))

@@ -1,0 +1,4 @@
+pub mod Agreement
+pub mod Store
+pub mod Script
+pub mod Acts

@@ -1,0 +1,232 @@
+// Bytes as they stand in memory: 12 bytes of the host for each.
+
+use c_types::IntKind;
+
+/// A provenance by its number in a memory. Number 0 is the empty provenance of every memory.
+#[derive(Clone, Copy, Debug, PartialEq, Eq)]
+pub struct Origin {
+    pub number: u32,
+}
+
+impl Origin {
+    /// The empty provenance.
+    pub const EMPTY: Origin = Origin { number: 0 };
+}
+
+/// A scalar type by its number in a memory: 0 is none, 1 to 12 are the integer types, and from 13 on come those that the
+/// memory was told of.
+#[derive(Clone, Copy, Debug, PartialEq, Eq)]
+pub struct TypeId {
+    pub number: u32,
+}
+
+impl TypeId {
+    /// No type.
+    pub const NONE: TypeId = TypeId { number: 0 };
+
+    /// The integer type.
+    pub fn of_kind(kind: IntKind) -> TypeId {
+        let number = match kind {
+            IntKind::Bool => 1,
+            IntKind::Char => 2,
+            IntKind::SChar => 3,
+            IntKind::UChar => 4,
+            IntKind::Short => 5,
+            IntKind::UShort => 6,
+            IntKind::Int => 7,
+            IntKind::UInt => 8,
+            IntKind::Long => 9,
+            IntKind::ULong => 10,
+            IntKind::LLong => 11,
+            IntKind::ULLong => 12,
+        };
+        TypeId { number }
+    }
+
+    /// The integer type that it is.
+    pub fn kind(self) -> Option<IntKind> {
+        match self.number {
+            1 => Some(IntKind::Bool),
+            2 => Some(IntKind::Char),
+            3 => Some(IntKind::SChar),
+            4 => Some(IntKind::UChar),
+            5 => Some(IntKind::Short),
+            6 => Some(IntKind::UShort),
+            7 => Some(IntKind::Int),
+            8 => Some(IntKind::UInt),
+            9 => Some(IntKind::Long),
+            10 => Some(IntKind::ULong),
+            11 => Some(IntKind::LLong),
+            12 => Some(IntKind::ULLong),
+            _ => None,
+        }
+    }
+
+    /// Whether it is one of the three character types (6.2.5p15).
+    pub fn is_character(self) -> bool {
+        matches!(self.number, 2..=4)
+    }
+}
+
+/// How an access sees its bytes (own): as a scalar of a type, as a whole structure or union, or as bytes.
+#[derive(Clone, Copy, Debug, PartialEq, Eq)]
+pub enum Via {
+    Scalar(TypeId),
+    Whole,
+    Bytes,
+}
+
+/// A byte of an object (own): not written yet, or a number that may be the piece of this index, 0 to 7, of a pointer with this
+/// provenance.
+#[derive(Clone, Copy, Debug, PartialEq, Eq)]
+pub enum MemByte {
+    Unwritten,
+    Written {
+        number: u8,
+        piece: Option<(Origin, u8)>,
+    },
+}
+
+/// What a cell holds.
+#[derive(Clone, Copy, Debug, PartialEq, Eq)]
+pub(crate) enum State {
+    Unwritten,
+    Plain,
+    Piece,
+}
+
+/// A byte with its tag: the scalar type that wrote it, and which byte of that scalar it is.
+#[derive(Clone, Copy, Debug, PartialEq, Eq)]
+pub(crate) struct Cell {
+    pub number: u8,
+    pub state: State,
+    pub piece_index: u8,
+    pub tag_index: u8,
+    pub origin: Origin,
+    pub tag: TypeId,
+}
+
+impl Cell {
+    /// An unwritten byte.
+    pub const UNWRITTEN: Cell = Cell {
+        number: 0,
+        state: State::Unwritten,
+        piece_index: 0,
+        tag_index: 0,
+        origin: Origin { number: 0 },
+        tag: TypeId { number: 0 },
+    };
+
+    /// A number.
+    pub fn plain(number: u8) -> Cell {
+        Cell {
+            number,
+            state: State::Plain,
+            piece_index: 0,
+            tag_index: 0,
+            origin: Origin { number: 0 },
+            tag: TypeId { number: 0 },
+        }
+    }
+
+    /// A piece of a pointer.
+    pub fn piece(number: u8, origin: Origin, index: u8) -> Cell {
+        Cell {
+            number,
+            state: State::Piece,
+            piece_index: index,
+            tag_index: 0,
+            origin,
+            tag: TypeId { number: 0 },
+        }
+    }
+
+    /// The byte without a tag.
+    pub fn of(byte: MemByte) -> Cell {
+        match byte {
+            MemByte::Unwritten => Cell::UNWRITTEN,
+            MemByte::Written {
+                number,
+                piece: None,
+            } => Cell::plain(number),
+            MemByte::Written {
+                number,
+                piece: Some((origin, index)),
+            } => Cell::piece(number, origin, index),
+        }
+    }
+
+    /// The byte without its tag.
+    pub fn byte(self) -> MemByte {
+        let piece = match self.state {
+            State::Unwritten => return MemByte::Unwritten,
+            State::Plain => None,
+            State::Piece => Some((self.origin, self.piece_index)),
+        };
+        MemByte::Written {
+            number: self.number,
+            piece,
+        }
+    }
+
+    /// The same byte with this tag.
+    pub fn tagged(self, tag: TypeId, index: u8) -> Cell {
+        Cell {
+            number: self.number,
+            state: self.state,
+            piece_index: self.piece_index,
+            tag_index: index,
+            origin: self.origin,
+            tag,
+        }
+    }
+}
+
+/// The little-endian number of at most eight bytes, None where one is unwritten.
+pub(crate) fn number_of(cells: &[Cell]) -> Option<u64> {
+    let mut number: u64 = 0;
+    for cell in cells.iter().rev() {
+        if cell.state == State::Unwritten {
+            return None;
+        }
+        number = number
+            .wrapping_mul(256)
+            .wrapping_add(u64::from(cell.number));
+    }
+    Some(number)
+}
+
+/// The provenance of eight bytes that are the pieces 0 to 7 of one pointer.
+pub(crate) fn pointer_in(cells: &[Cell]) -> Option<Origin> {
+    let first = cells.first()?;
+    let mut index: u8 = 0;
+    for cell in cells {
+        if cell.state != State::Piece || cell.piece_index != index || cell.origin != first.origin {
+            return None;
+        }
+        index = index.wrapping_add(1);
+    }
+    Some(first.origin)
+}
+
+/// The value of the integer type with these bytes (own: two's complement).
+pub(crate) fn value_of(kind: IntKind, number: u64) -> i128 {
+    let value = i128::from(number);
+    if value <= kind.greatest() {
+        value
+    } else {
+        value.wrapping_sub(1i128.wrapping_shl(kind.width()))
+    }
+}
+
+/// The lowest `index`th byte of an address.
+pub(crate) fn byte_at(addr: u64, index: u8) -> u8 {
+    let shifted = addr.wrapping_shr(u32::from(index).wrapping_mul(8));
+    (shifted & 0xff) as u8
+}
+
+/// The number modulo 2^64.
+pub(crate) fn low_bits(value: i128) -> u64 {
+    let low = value.rem_euclid(0x1_0000_0000_0000_0000);
+    u64::try_from(low).unwrap_or(0)
+}

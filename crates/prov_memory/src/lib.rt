@@ -1,0 +1,22 @@
+//! Objects with bytes, life and exposure at mapped addresses, pointers with provenance in the manner of PNVI-ae-udi, and
+//! the acts that loads, stores, casts, arithmetic and comparison of pointers are made of.
+#![tactic(auto)]
+
+mod answer;
+mod block;
+mod cell;
+mod memory;
+mod object;
+mod streams;
+mod touched;
+mod types;
+mod value;
+
+pub use answer::{CreateFault, LibAnswer, MemFault};
+pub use block::Block;
+pub use cell::{MemByte, Origin, TypeId, Via};
+pub use memory::Memory;
+pub use object::{ObjKind, ObjState};
+pub use streams::Streams;
+pub use touched::Touched;
+pub use value::{Value, Values};

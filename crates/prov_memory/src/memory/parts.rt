@@ -1,0 +1,108 @@
+// Values from bytes and bytes of values.
+
+use super::*;
+use crate::cell::{State, byte_at, low_bits, number_of, pointer_in, value_of};
+use crate::{Block, MemFault, Value};
+use c_types::IntKind;
+use ub_base::Clause;
+
+impl Memory {
+    // Exposes what the pieces of pointers among the cells were made from.
+    fn show_cells(&mut self, cells: &[Cell], t: &mut Touched) {
+        for cell in cells {
+            if cell.state == State::Piece {
+                let prov = self.prov(cell.origin);
+                self.show_each(prov, t);
+            }
+        }
+    }
+
+    fn part_number(
+        &mut self,
+        bytes: &Block,
+        from: u64,
+        len: u64,
+        is_bool: bool,
+        t: &mut Touched,
+    ) -> Result<u64, Clause> {
+        t.clear();
+        let cells = bytes.range(from, len);
+        let Some(number) = number_of(cells) else {
+            return Err(Clause::Indeterminate);
+        };
+        if is_bool && number > 1 {
+            return Err(Clause::TrapRepresentation);
+        }
+        self.show_cells(cells, t);
+        Ok(number)
+    }
+
+    /// The integer member at the offset of a structure or union value, as a load reads it.
+    pub fn part_int(
+        &mut self,
+        kind: IntKind,
+        bytes: &Block,
+        from: u64,
+        t: &mut Touched,
+    ) -> Result<i128, Clause> {
+        let number = self.part_number(bytes, from, kind.bytes(), kind == IntKind::Bool, t)?;
+        Ok(value_of(kind, number))
+    }
+
+    /// The member at the offset that is a pointer to a function, as a load reads it.
+    pub fn part_func(&mut self, bytes: &Block, from: u64, t: &mut Touched) -> Result<u64, Clause> {
+        self.part_number(bytes, from, 8, false, t)
+    }
+
+    /// The member at the offset that is a pointer to an object, as a load reads it, but for the check of a dead target.
+    pub fn part_ptr(
+        &mut self,
+        who: Event,
+        bytes: &Block,
+        from: u64,
+        t: &mut Touched,
+    ) -> Result<Value, MemFault> {
+        t.clear();
+        let cells = bytes.range(from, 8);
+        let Some(number) = number_of(cells) else {
+            return Err(MemFault::Raise(Clause::Indeterminate));
+        };
+        let prov = match pointer_in(cells) {
+            Some(origin) => self.prov(origin),
+            None => self.look_up(who, number, t)?,
+        };
+        Ok(Value::Ptr { addr: number, prov })
+    }
+
+    /// The bytes of a value: `size` bytes of an integer, eight of a pointer, those of a structure or union.
+    pub fn bytes_of(&self, alloc: Global, v: &Value, size: u64) -> Result<Block, NoMemory> {
+        match v {
+            Value::Int(number) => plain_bytes(alloc, low_bits(*number), size.min(8)),
+            Value::Ptr { addr, prov } => self.pieces_of(alloc, *addr, *prov),
+            Value::Func(addr) => plain_bytes(alloc, *addr, 8),
+            Value::Block(block) => block.copied(alloc),
+            Value::Missing | Value::Nothing => Ok(Block::new(alloc)),
+        }
+    }
+
+    // The eight pieces of a pointer.
+    fn pieces_of(&self, alloc: Global, addr: u64, prov: Prov) -> Result<Block, NoMemory> {
+        let origin = self.origin_of(prov);
+        let mut cells = Vec::with_capacity(alloc, 8)?;
+        for index in 0..8u8 {
+            cells.push(Cell::piece(byte_at(addr, index), origin, index))?;
+        }
+        Ok(Block::of_cells(cells, None))
+    }
+}
+
+// The little-endian bytes of a number.
+fn plain_bytes(alloc: Global, number: u64, size: u64) -> Result<Block, NoMemory> {
+    let mut cells = Vec::with_capacity(alloc, 8)?;
+    for index in 0..8u8 {
+        if u64::from(index) < size {
+            cells.push(Cell::plain(byte_at(number, index)))?;
+        }
+    }
+    Ok(Block::of_cells(cells, None))
+}

@@ -1,0 +1,14 @@
+//! Sequenced before, decided; which events are ready; and the canonical next event of a full expression.
+#![tactic(auto)]
+
+mod done;
+mod next;
+mod relations;
+mod sequence;
+mod taken;
+
+pub use done::{Done, Marks};
+pub use next::{canonical_next, permitted};
+pub use relations::Relation;
+pub use sequence::{before, relation};
+pub use taken::Taken;

@@ -1,0 +1,5 @@
+pub mod Clauses
+pub mod Puts
+pub mod FrameLemmas
+pub mod NameLemmas
+pub mod Paths

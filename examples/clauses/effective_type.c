@@ -1,0 +1,4 @@
+int main(void) {
+  int i = 1;
+  return *(short *)&i;
+}

@@ -1,0 +1,4 @@
+int main(void) {
+  "ab"[0] = 'c';
+  return 0;
+}

@@ -1,0 +1,1 @@
+const int c=1;int main(void){*(int*)&c=2;return 0;}

@@ -1,0 +1,1 @@
+void *malloc(unsigned long);int main(void){for(;;)malloc(1048576);}

@@ -1,0 +1,1 @@
+int printf(const char*,...);int main(void){int k;printf("%n",&k);return 0;}

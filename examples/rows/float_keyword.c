@@ -1,0 +1,1 @@
+float f;int main(void){return 0;}

@@ -1,0 +1,1 @@
+int main(void){"ab"[0]='c';return 0;}

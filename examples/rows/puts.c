@@ -1,0 +1,1 @@
+int puts(const char*);int main(void){puts("hi");return 0;}

@@ -1,0 +1,1 @@
+int main(void){int T;{x=T;}return 0;}

@@ -1,0 +1,2 @@
+int main(void){{int y;}
+y=1;return 0;}

@@ -1,0 +1,1 @@
+int main(void){int a,b;a[b];return 0;}

@@ -1,0 +1,1 @@
+int main(void){int *p,*q;p[q];return 0;}

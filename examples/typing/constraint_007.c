@@ -1,0 +1,1 @@
+int main(void){struct s *p;p[1];return 0;}

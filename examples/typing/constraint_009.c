@@ -1,0 +1,1 @@
+int f(int a){return a;}int main(void){f();return 0;}

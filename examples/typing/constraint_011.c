@@ -1,0 +1,1 @@
+int f(int *a){return 0;}int main(void){f(1);return 0;}

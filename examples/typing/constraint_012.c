@@ -1,0 +1,1 @@
+int f(char *a){return 0;}int main(void){int i;f(&i);return 0;}

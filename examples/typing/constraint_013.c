@@ -1,0 +1,1 @@
+int main(void){int x;x();return 0;}

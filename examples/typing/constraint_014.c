@@ -1,0 +1,1 @@
+struct s;struct s f(void);int main(void){f();return 0;}

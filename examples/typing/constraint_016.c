@@ -1,0 +1,1 @@
+void v(void){}int main(void){int x=v();return 0;}

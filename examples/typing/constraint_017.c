@@ -1,0 +1,1 @@
+void v(void){}int f(int a){return a;}int main(void){f(v());return 0;}

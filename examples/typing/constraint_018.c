@@ -1,0 +1,1 @@
+struct s{int a;};struct t{int a;};int f(struct s x){return x.a;}int main(void){struct t y;f(y);return 0;}

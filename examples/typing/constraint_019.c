@@ -1,0 +1,1 @@
+int f(int a){return a;}int main(void){struct s{int a;}y;f(y);return 0;}

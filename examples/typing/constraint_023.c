@@ -1,0 +1,1 @@
+struct s{int a;};int main(void){struct s x;x->a=1;return 0;}

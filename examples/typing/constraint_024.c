@@ -1,0 +1,1 @@
+struct s;int main(void){struct s *p=0;p->a;return 0;}

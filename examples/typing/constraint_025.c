@@ -1,0 +1,1 @@
+struct s{int a;};struct s f(void){struct s x;x.a=1;return x;}int main(void){f().a=2;return 0;}

@@ -1,0 +1,1 @@
+struct s{int a[2];};struct s f(void){struct s x;return x;}int main(void){f().a[0];return 0;}

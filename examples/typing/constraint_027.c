@@ -1,0 +1,1 @@
+const struct{int a;}x={1};int main(void){x.a=2;return 0;}

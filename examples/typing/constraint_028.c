@@ -1,0 +1,1 @@
+struct s{const int a;};int main(void){struct s x,y;x=y;return 0;}

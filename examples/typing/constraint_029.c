@@ -1,0 +1,1 @@
+struct t{struct{const int a;}m[2];};int main(void){struct t x,y;x=y;return 0;}

@@ -1,0 +1,1 @@
+int main(void){const int a=1;a++;return 0;}

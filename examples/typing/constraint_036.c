@@ -1,0 +1,1 @@
+int f(void){return 1;}int main(void){f++;return 0;}

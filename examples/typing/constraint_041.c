@@ -1,0 +1,1 @@
+int main(void){register int a;&a;return 0;}

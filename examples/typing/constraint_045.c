@@ -1,0 +1,1 @@
+int main(void){register struct{int m;}a;&a.m;return 0;}

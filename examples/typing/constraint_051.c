@@ -1,0 +1,1 @@
+struct s;int main(void){sizeof(struct s);return 0;}

@@ -1,0 +1,1 @@
+int main(void){sizeof(void);return 0;}

@@ -1,0 +1,1 @@
+int main(void){sizeof(int(void));return 0;}

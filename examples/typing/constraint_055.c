@@ -1,0 +1,1 @@
+int main(void){_Alignof(void);return 0;}

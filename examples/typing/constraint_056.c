@@ -1,0 +1,1 @@
+extern int a[];int main(void){sizeof a;return 0;}

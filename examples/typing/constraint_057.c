@@ -1,0 +1,1 @@
+int main(void){sizeof(int[]);return 0;}

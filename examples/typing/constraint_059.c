@@ -1,0 +1,1 @@
+int main(void){struct s{int a;}x;(struct s)x;return 0;}

@@ -1,0 +1,1 @@
+void v(void){}int main(void){(int)v();return 0;}

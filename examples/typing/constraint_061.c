@@ -1,0 +1,1 @@
+int main(void){(int[2])0;return 0;}

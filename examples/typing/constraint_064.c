@@ -1,0 +1,1 @@
+int main(void){int(*p)(void)=(int(*)(void))5;return 0;}

@@ -1,0 +1,1 @@
+int main(void){void *p=0,*q=0;p-q;return 0;}

@@ -1,0 +1,1 @@
+int main(void){int *p=0;char *q=0;p==q;return 0;}

@@ -1,0 +1,1 @@
+void v(void){}int main(void){v()==v();return 0;}

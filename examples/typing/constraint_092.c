@@ -1,0 +1,1 @@
+int main(void){int *p=0;p==(void*)(void*)0-0;return 0;}

@@ -1,0 +1,1 @@
+void v(void){}int main(void){1||v();return 0;}

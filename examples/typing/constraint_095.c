@@ -1,0 +1,1 @@
+int main(void){int a=1,*p=0;a?p:1;return 0;}

@@ -1,0 +1,1 @@
+int main(void){int a=1,*p=0;char *q=0;a?p:q;return 0;}

@@ -1,0 +1,1 @@
+int main(void){struct s{int a;}x;x?1:2;return 0;}

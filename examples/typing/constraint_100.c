@@ -1,0 +1,1 @@
+int main(void){struct s{int a;}x,y;(1?x:y).a=1;return 0;}

@@ -1,0 +1,1 @@
+int main(void){int a[2],b[2];a=b;return 0;}

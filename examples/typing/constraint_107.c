@@ -1,0 +1,1 @@
+int main(void){const int *p=0;int *q=p;return 0;}

@@ -1,0 +1,1 @@
+int main(void){char *p;int a;p=&a;return 0;}

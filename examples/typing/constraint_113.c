@@ -1,0 +1,1 @@
+int main(void){struct s{int a;}x,y;x+=y;return 0;}

@@ -1,0 +1,1 @@
+int f(void){return 1;}int main(void){_Bool b=f;return 0;}

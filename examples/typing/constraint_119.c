@@ -1,0 +1,1 @@
+void v(void){}int main(void){int a;a=v();return 0;}

@@ -1,0 +1,1 @@
+int f(void){return 1;}int main(void){void *p=f;return 0;}

@@ -1,0 +1,1 @@
+int f(int a){return 1;}int main(void){int(*p)(void)=f;return 0;}

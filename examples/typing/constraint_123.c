@@ -1,0 +1,1 @@
+void v(void){}int main(void){int a=(1,v());return 0;}

@@ -1,0 +1,1 @@
+enum{A=1/0};int main(void){return 0;}

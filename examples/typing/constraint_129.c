@@ -1,0 +1,1 @@
+int f(void);enum{A=1?2:f()};int main(void){return 0;}

@@ -1,0 +1,1 @@
+enum{A=(int)(long)&main};int main(void){return 0;}

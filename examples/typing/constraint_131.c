@@ -1,0 +1,1 @@
+int x;enum{A=sizeof(x=1),B=x};int main(void){return 0;}

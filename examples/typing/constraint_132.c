@@ -1,0 +1,1 @@
+enum{A=-1};int a[A];int main(void){return 0;}

@@ -1,0 +1,1 @@
+enum{A=(int*)0==0};int main(void){return 0;}

@@ -1,0 +1,1 @@
+int;int main(void){return 0;}

@@ -1,0 +1,1 @@
+struct{int a;};int main(void){return 0;}

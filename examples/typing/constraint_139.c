@@ -1,0 +1,1 @@
+typedef int;int main(void){return 0;}

@@ -1,0 +1,1 @@
+int a;char a;int main(void){return 0;}

@@ -1,0 +1,1 @@
+static int a;int a;int main(void){return 0;}

@@ -1,0 +1,1 @@
+extern int a;static int a;int main(void){return 0;}

@@ -1,0 +1,1 @@
+typedef int T;typedef long T;int main(void){return 0;}

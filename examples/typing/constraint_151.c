@@ -1,0 +1,1 @@
+int f(int);int f(char);int main(void){return 0;}

@@ -1,0 +1,1 @@
+auto int a;int main(void){return 0;}

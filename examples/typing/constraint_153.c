@@ -1,0 +1,1 @@
+register int a;int main(void){return 0;}

@@ -1,0 +1,1 @@
+int main(void){static extern int a;return 0;}

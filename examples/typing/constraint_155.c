@@ -1,0 +1,1 @@
+int main(void){extern int a=1;return 0;}

@@ -1,0 +1,1 @@
+typedef int T=1;int main(void){return 0;}

@@ -1,0 +1,1 @@
+int f(void);void x;int main(void){return 0;}

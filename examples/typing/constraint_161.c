@@ -1,0 +1,1 @@
+inline int a;int main(void){return 0;}

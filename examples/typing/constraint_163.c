@@ -1,0 +1,1 @@
+int const const_;long char a;int main(void){return 0;}

@@ -1,0 +1,1 @@
+short long a;int main(void){return 0;}

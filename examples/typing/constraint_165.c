@@ -1,0 +1,1 @@
+unsigned signed a;int main(void){return 0;}

@@ -1,0 +1,1 @@
+long long long a;int main(void){return 0;}

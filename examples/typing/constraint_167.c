@@ -1,0 +1,1 @@
+unsigned _Bool a;int main(void){return 0;}

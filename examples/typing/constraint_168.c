@@ -1,0 +1,1 @@
+int restrict a;int main(void){return 0;}

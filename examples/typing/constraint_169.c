@@ -1,0 +1,1 @@
+int (*restrict p)(void);int main(void){return 0;}

@@ -1,0 +1,1 @@
+struct s{void a;};int main(void){return 0;}

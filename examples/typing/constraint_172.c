@@ -1,0 +1,1 @@
+struct s{int f(void);};int main(void){return 0;}

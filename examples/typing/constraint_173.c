@@ -1,0 +1,1 @@
+struct s{struct s a;};int main(void){return 0;}

@@ -1,0 +1,1 @@
+struct s{int a;};union s x;int main(void){return 0;}

@@ -1,0 +1,1 @@
+struct s{int a;};enum s{A};int main(void){return 0;}

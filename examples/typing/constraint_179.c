@@ -1,0 +1,1 @@
+enum e;int main(void){return 0;}

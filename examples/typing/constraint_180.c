@@ -1,0 +1,1 @@
+enum e x;int main(void){return 0;}

@@ -1,0 +1,1 @@
+enum{A,A};int main(void){return 0;}

@@ -1,0 +1,1 @@
+enum{A=2147483648};int main(void){return 0;}

@@ -1,0 +1,1 @@
+enum{A};int A;int main(void){return 0;}

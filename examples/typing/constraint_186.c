@@ -1,0 +1,1 @@
+struct s{int;};int main(void){return 0;}

@@ -1,0 +1,1 @@
+struct s{struct t{int a;};};int main(void){return 0;}

@@ -1,0 +1,1 @@
+struct s *p;int main(void){struct s{int a;};struct s x;p=&x;return 0;}

@@ -1,0 +1,1 @@
+struct s{char a[1099511627776];char b;};int main(void){return 0;}

@@ -1,0 +1,1 @@
+typedef char T[1099511627777];int main(void){return 0;}

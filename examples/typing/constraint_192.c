@@ -1,0 +1,1 @@
+int f(void)[2];int main(void){return 0;}

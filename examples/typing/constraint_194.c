@@ -1,0 +1,1 @@
+int a[2](void);int main(void){return 0;}

@@ -1,0 +1,1 @@
+void a[2];int main(void){return 0;}

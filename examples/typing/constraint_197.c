@@ -1,0 +1,1 @@
+struct s;struct s a[2];int main(void){return 0;}

@@ -1,0 +1,1 @@
+int f(void,int);int main(void){return 0;}

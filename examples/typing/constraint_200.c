@@ -1,0 +1,1 @@
+int f(void a);int main(void){return 0;}

@@ -1,0 +1,1 @@
+int f(static int a);int main(void){return 0;}

@@ -1,0 +1,1 @@
+int f(const void);int main(void){return 0;}

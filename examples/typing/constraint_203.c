@@ -1,0 +1,1 @@
+struct s;int f(struct s x){return 0;}int main(void){return 0;}

@@ -1,0 +1,1 @@
+typedef int F(void);F f{return 0;}int main(void){return 0;}

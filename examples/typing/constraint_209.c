@@ -1,0 +1,1 @@
+typedef int F(void);const F f;int main(void){return 0;}

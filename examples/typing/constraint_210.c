@@ -1,0 +1,1 @@
+typedef int A[2];const A c={1,2};int main(void){c[0]=1;return 0;}

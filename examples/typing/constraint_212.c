@@ -1,0 +1,1 @@
+int main(void){char s[2]="abc";return 0;}

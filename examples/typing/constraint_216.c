@@ -1,0 +1,1 @@
+int main(void){int b[2]={1,2};int a[2]=b;return 0;}

@@ -1,0 +1,1 @@
+int main(void){struct{int x;}v={[0]=1};return 0;}

@@ -1,0 +1,1 @@
+int main(void){int a[2]={[0]=1,[0]=2};return 0;}

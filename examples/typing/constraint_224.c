@@ -1,0 +1,1 @@
+int main(void){union{int a;long b;}u={.a=1,.b=2};return 0;}

@@ -1,0 +1,1 @@
+extern int a[];int main(void){extern int b[]={1};return 0;}

@@ -1,0 +1,1 @@
+int main(void){struct s{int a;}x={1};struct t{int b;}y=x;return 0;}

@@ -1,0 +1,1 @@
+int main(void){int w[2]="x";return 0;}

@@ -1,0 +1,1 @@
+int main(void){int f(void);void *p={1,2};return 0;}

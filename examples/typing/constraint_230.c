@@ -1,0 +1,1 @@
+int main(void){char a[2][2]={"abc"};return 0;}

@@ -1,0 +1,1 @@
+int main(void){static int n=1;static int a=n;return 0;}

@@ -1,0 +1,1 @@
+int a;int b=a;int main(void){return 0;}

@@ -1,0 +1,1 @@
+int f(void);int a=f();int main(void){return 0;}

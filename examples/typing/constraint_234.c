@@ -1,0 +1,1 @@
+int a;int *p=&a+2;int main(void){return 0;}

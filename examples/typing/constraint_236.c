@@ -1,0 +1,1 @@
+int a[2];int *p=&a[3];int main(void){return 0;}

@@ -1,0 +1,1 @@
+int x=1/0;int main(void){return 0;}

@@ -1,0 +1,1 @@
+int a;long x=(long)&a;int main(void){return 0;}

@@ -1,0 +1,1 @@
+struct s{int a,b;};int *p=&((struct s*)0)->b;int main(void){return 0;}

@@ -1,0 +1,1 @@
+char c;int *p=(int*)&c;int main(void){return 0;}

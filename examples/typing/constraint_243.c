@@ -1,0 +1,1 @@
+int main(void){int a;static int *p=&a;return 0;}

@@ -1,0 +1,1 @@
+extern int e;int *p=&e;int main(void){return 0;}

@@ -1,0 +1,1 @@
+struct s{int a;};struct s x={1};struct s y=x;int main(void){return 0;}

@@ -1,0 +1,1 @@
+_Static_assert(0,"x");int main(void){return 0;}

@@ -1,0 +1,1 @@
+int main(void){_Static_assert(1==2,"x");return 0;}

@@ -1,0 +1,1 @@
+int n;_Static_assert(n,"x");int main(void){return 0;}

@@ -1,0 +1,1 @@
+_Static_assert(1,"\q");int main(void){return 0;}

@@ -1,0 +1,1 @@
+void v(void){}int main(void){while(v());return 0;}

@@ -1,0 +1,1 @@
+int main(void){switch((void)0){}return 0;}

@@ -1,0 +1,1 @@
+int main(void){int n=1;switch(1){case n:;}return 0;}

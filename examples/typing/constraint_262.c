@@ -1,0 +1,1 @@
+int main(void){switch('a'){case 97:case 'a':;}return 0;}

@@ -1,0 +1,1 @@
+int main(void){l:;l:;return 0;}

@@ -1,0 +1,1 @@
+int main(void){l:;return 0;}int f(void){goto l;}

@@ -1,0 +1,1 @@
+int f(void){return;}int main(void){return 0;}

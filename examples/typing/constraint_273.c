@@ -1,0 +1,1 @@
+struct s{int a;};struct s f(void){return 1;}int main(void){return 0;}

@@ -1,0 +1,1 @@
+int main(void){for(extern int i;;);return 0;}

@@ -1,0 +1,1 @@
+int main(void){for(struct s{int a;}x;;);return 0;}

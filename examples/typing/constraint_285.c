@@ -1,0 +1,1 @@
+int main(int a,const char **b){return 0;}

@@ -1,0 +1,1 @@
+extern int e;int main(void){e=1;return 0;}

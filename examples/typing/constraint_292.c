@@ -1,0 +1,1 @@
+int main(void){extern int q;q=1;return 0;}char q;

@@ -1,0 +1,1 @@
+int q;int main(void){extern char q;return 0;}

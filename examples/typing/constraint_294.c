@@ -1,0 +1,1 @@
+extern int a;auto int b;int main(void){return 0;}

@@ -1,0 +1,1 @@
+register int f(void){return 0;}int main(void){return 0;}

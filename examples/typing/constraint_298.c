@@ -1,0 +1,1 @@
+int malloc(int);int main(void){return 0;}

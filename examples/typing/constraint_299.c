@@ -1,0 +1,1 @@
+void *malloc(unsigned long n){return 0;}int main(void){return 0;}

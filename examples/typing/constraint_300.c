@@ -1,0 +1,1 @@
+int printf(char*,...);int main(void){return 0;}

@@ -1,0 +1,1 @@
+int exit(int);int main(void){return 0;}

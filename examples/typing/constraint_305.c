@@ -1,0 +1,3 @@
+
+
+int f(void){return z;}int main(void){return 0;}

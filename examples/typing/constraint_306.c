@@ -1,0 +1,1 @@
+enum{A};int main(void){A=1;return 0;}
