@@ -1,0 +1,1 @@
+void abort(void);int main(void){abort();return 0;}

@@ -1,0 +1,1 @@
+int i=1;int main(void){i+=i++;return i;}

@@ -1,0 +1,1 @@
+int x;int main(void){unsigned char *p=(unsigned char*)&x;return p[1]++ +p[2]++;}

@@ -1,0 +1,1 @@
+int putchar(int);int main(void){return (putchar('a'),putchar('b'))-98;}

@@ -1,0 +1,1 @@
+int getchar(void);int putchar(int);int main(void){return getchar()+putchar('a');}

@@ -1,0 +1,5 @@
+int i;
+int main(void) {
+  return i +
+    i++;
+}

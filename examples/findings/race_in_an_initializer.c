@@ -1,0 +1,1 @@
+int i;int main(void){int a[1]={i++ +i};return 0;}

@@ -1,0 +1,1 @@
+int x=1;int f(void){x=5;return 2;}int main(void){x=x+f();return x;}

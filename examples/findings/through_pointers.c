@@ -1,0 +1,1 @@
+int main(void){int x=1;int *p=&x;int *q=&x;return *p+(*q)++;}

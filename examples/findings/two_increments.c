@@ -1,0 +1,1 @@
+int i;int main(void){return i++ +i++;}

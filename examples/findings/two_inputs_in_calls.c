@@ -1,0 +1,1 @@
+int getchar(void);int digit(void){return getchar()-'0';}int main(void){return digit()+digit();}

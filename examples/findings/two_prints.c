@@ -1,0 +1,1 @@
+int printf(const char*,...);int main(void){return printf("a")+printf("b");}

@@ -1,0 +1,1 @@
+int main(void){int x;return x+(x=1);}
