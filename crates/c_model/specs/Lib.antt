@@ -6,5 +6,9 @@ pub mod Moves
 pub mod Steps
 pub mod Runs
 pub mod Findings
+pub mod Keys
+pub mod Moments
+pub mod FirstFinding
+pub mod Placement
 pub mod Examples
 pub mod Laws
