@@ -1,2 +1,4 @@
 mod Ranks
 mod Reach
+mod MachineRuns
+mod MachineOrders

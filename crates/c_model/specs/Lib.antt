@@ -3,6 +3,8 @@ pub mod Values
 pub mod Nodes
 pub mod Control
 pub mod Moves
+pub mod Machine
+pub mod MachineLaws
 pub mod Steps
 pub mod Runs
 pub mod Findings

@@ -12,6 +12,7 @@ ghost use Rattle.c_typed.specs.Order.{place};
 ghost use Rattle.c_model.specs.Findings.{Meets};
 ghost use Rattle.c_model.specs.FirstFinding.{Clean, Undefined, Raced, Order_dependent, Out_of_steps};
 ghost use Rattle.c_model.specs.Laws.{IsIrreflexive, IsAsymmetric, IsTransitive};
+ghost use Rattle.c_model.specs.MachineLaws.{OrdersEndAlike};
 ghost use Rattle.c_model.specs.Examples.{canonical_run, audit, pair_of, picks_of, NeedsRows, HoldsRace, HoldsQuarrel, HoldsEndQuarrel, trace_of, enter, leave, begin, settle, event, main_local, local_rows, global_rows, both_rows, list_rows, return_zero, add_one, self_increment, divide_by_zero, print_both, list_both, pass_both, increment_and_call, comma_between, and_beside, loop_forever, quit_beside};
 
 /// The first finding of small programs, as the definitions give it, with the picks that lead to it.
@@ -74,4 +75,9 @@ pub fn law_sequenced_before()
     ensures irreflexive { IsIrreflexive }
     ensures asymmetric { IsAsymmetric }
     ensures transitive { IsTransitive }
+{}
+
+/// Where the picks of a machine of frames keep these laws, every permitted order ends as one run without conflicts does.
+pub fn law_orders_end_alike<F, P, V, S, I, Part, Seen, Fact>()
+    ensures { OrdersEndAlike F P V S I Part Seen Fact }
 {}
