@@ -1,1 +1,4 @@
-pub mod Ranks
+mod Ranks
+mod Reach
+mod MachineRuns
+mod MachineOrders

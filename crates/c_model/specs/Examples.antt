@@ -1,6 +1,5 @@
 -- Small programs, and what the definitions give for them.
-use Rattle.std.specs.Prelude.{ℕ, ◌==◌, ◌&&◌, if◌then◌else◌, Bool, true, false, List, [], ◌∷◌, length, Option, Some, None, pos}
-use Rattle.ub_base.specs.declared.clause.Clause.{Clause}
+use Rattle.std.specs.Prelude.{◌≡◌, ℕ, zero, suc, Bool, true, false, List, [], ◌∷◌, Option, Some, None, pos}
 use Rattle.ub_base.specs.declared.names.Event.{Event}
 use Rattle.ub_base.specs.declared.names.ObjName.{ObjName}
 use Rattle.ub_base.specs.declared.names.ObjName.TheVariants.{Static, Auto}
@@ -11,19 +10,23 @@ use Rattle.c_types.specs.declared.library.LibFunc.{LibFunc}
 use Rattle.c_types.specs.declared.library.LibFunc.TheVariants as lib
 use Rattle.c_types.specs.Types as types
 use Rattle.c_types.specs.Types.{CType}
-use Rattle.c_types.specs.Shapes.{leaf}
+use Rattle.c_types.specs.Shapes.{leaf, repeat}
 use Rattle.c_typed.specs.declared.tree.Slot.TheVariants as slot
 use Rattle.c_typed.specs.declared.tree.Access.TheVariants as access
 use Rattle.c_typed.specs.declared.tree.Change.TheVariants as change
 use Rattle.c_typed.specs.declared.tree.Place.{Place}
-use Rattle.c_typed.specs.Order.{same_place}
 use Rattle.addr_map.specs.declared.map.Row.{Row}
+use Rattle.addr_map.specs.declared.map.Mode.TheVariants.{Spaced}
 use Rattle.prov_memory.specs.Script.{Script, Give, Finish, Print, touch, ◌>>◌}
-use Rattle.c_model.specs.Program.{Head, Number, Obj, Func, Load, Bin, Assign, Update, Call, Expr, expr, Exprs, none, more, Decl, Stmt, Value, Empty, Block, For, Return, Stmts, end, and_then, Function, Standing, Program}
+use Rattle.c_model.specs.Program.{Head, Number, Obj, Func, Load, Member, Bin, Assign, Update, And, Comma, Call, Listed, Isolated, Expr, expr, Exprs, none, more, Decl, Stmt, Value, Empty, Block, For, Return, Stmts, end, and_then, Function, Standing, Program}
 use Rattle.c_model.specs.Values as values
 use Rattle.c_model.specs.Values.{int_bytes}
-use Rattle.c_model.specs.Runs.{Entry, Outcome, Raises, Ends, Running, start, canonical_after, on_running}
-use Rattle.c_model.specs.Findings.{conflict, items_of}
+use Rattle.c_model.specs.Control.{Todo, Enter, Leave, Unwrite, Begin, ready_work}
+use Rattle.c_model.specs.Steps.{Local, Begun, Pick, Control, Ev}
+use Rattle.c_model.specs.Runs.{Entry, Outcome, Raises, Ends, Running, start, step, canonical_pick, canonical_after, on_running}
+use Rattle.c_model.specs.Findings.{Race, Quarrel, EndQuarrel}
+use Rattle.c_model.specs.FirstFinding.{Finding, Pair, first_finding}
+use Rattle.c_model.specs.Placement.{IsPlacement}
 
 abbrev pub int_type : CType
 int_type = types.int kind.Int
@@ -82,8 +85,15 @@ global_int = record { name = Static 0; decl = int_decl; literal = false; bytes =
 abbrev pub main_local : ObjName
 main_local = Auto (record { 0 = 0 }) 1 0
 
-abbrev pub rows : List Row
-rows = record { name = Static 0; base = 16777232; size = 4; align = 4 } ∷ record { name = main_local; base = 16777264; size = 4; align = 4 } ∷ []
+abbrev pub row_of : ObjName → (base size : ℕ) → Row
+row_of x base size = record { name = x; base = base; size = size; align = 4 }
+
+-- the rows of a program with one object, of `main` or at file level
+abbrev pub local_rows : List Row
+local_rows = row_of main_local 16777232 4 ∷ []
+
+abbrev pub global_rows : List Row
+global_rows = row_of (Static 0) 16777232 4 ∷ []
 
 -- `putchar` and `exit` alone; every call here has the type of its function
 abbrev pub library : LibFunc → Event → List values.Value → Script values.Value
@@ -98,21 +108,53 @@ abbrev pub program_of : List Function → List Standing → Program
 program_of fs os = record { functions = fs; main = 0; standing = os }
 
 -- after so many canonical picks from the start
-abbrev pub canonical_run : Program → ℕ → Outcome
-canonical_run p n = on_running (start p rows any_type library [] []) (canonical_after p rows any_type library n)
+abbrev pub canonical_run : Program → List Row → ℕ → Outcome
+canonical_run p rows n = on_running (start p rows any_type library [] []) (canonical_after p rows any_type library n)
 
--- what a run came to: the kind of its end, the status, and the picks that it took
-pub data Came : Type 0 where
-  ended : (status picks : ℕ) → (output : List ℕ) → Came
-  raised : Clause → (picks : ℕ) → Came
-  running : (picks : ℕ) → Came
-  other : Came
+-- the first finding within a budget, without input and arguments
+abbrev pub audit : Program → List Row → ℕ → Finding
+audit p rows budget = first_finding p rows any_type library budget [] []
 
-abbrev pub came_to : Outcome → Came
-came_to (Ends n out trace) = ended n (length trace) out
-came_to (Raises c trace) = raised c (length trace)
-came_to (Running st) = running (length st.trace)
-came_to _ = other
+-- so many picks of the canonical order need these rows
+abbrev pub NeedsRows : Program → List Row → ℕ → Type 0
+NeedsRows p rows n = IsPlacement Spaced p rows any_type library [] [] n
+
+-- two evaluations of `main`, with their least conflicting items
+abbrev pub pair_of : (turn : ℕ) → Place → Place → Item → Item → Pair
+pair_of turn u v i j = record { path = []; turn = turn; event = u; other = v; items = Some (i, j) }
+
+-- what a pick is called
+pub data Called : Type 0 where
+  enter : Called
+  leave : Called
+  declare : Called
+  begin : Called
+  settle : Called
+  jump : Called
+  event : Place → Called
+
+abbrev pub step_called : Todo → Called
+step_called (Enter b ds ∷ rest) = enter
+step_called (Leave b ds ∷ rest) = leave
+step_called (Unwrite d ∷ rest) = declare
+step_called (Begin e what ∷ rest) = begin
+step_called _ = jump
+
+abbrev pub called : Local → Option Begun → Pick → Called
+called f begun (Ev u) = event u
+called f None Control = step_called (ready_work f.todo)
+called f (Some e) Control = settle
+
+-- the picks of the canonical order, at most so many
+abbrev pub picks_from : Program → List Row → ℕ → Outcome → List Called
+picks_from p rows zero o = []
+picks_from p rows (suc n) (Running st) =
+    called st.top st.top.begun (canonical_pick p rows any_type library st.top st.top.begun)
+    ∷ picks_from p rows n (step p rows any_type library st (canonical_pick p rows any_type library st.top st.top.begun))
+picks_from p rows (suc n) o = []
+
+abbrev pub picks_of : Program → List Row → ℕ → List Called
+picks_of p rows n = picks_from p rows n (start p rows any_type library [] [])
 
 abbrev pub trace_of : Outcome → List Entry
 trace_of (Ends n out trace) = trace
@@ -120,18 +162,27 @@ trace_of (Raises c trace) = trace
 trace_of (Running st) = st.trace
 trace_of _ = []
 
--- the items of an event of `main` that the trace has, where it is of this turn
-abbrev pub is_at : ℕ → Place → Option Place → ℕ → Bool
-is_at turn u None t = false
-is_at turn u (Some v) t = (turn == t) && same_place u v
+-- the trace holds a race of these two events of a turn of `main`, the newer one first (6.5p2)
+pub record HoldsRace (rows : List Row) (o : Outcome) (turn : ℕ) (u v : Place) : Type 0 where
+  pub newer : Entry
+  pub older : Entry
+  pub of_main : newer.path ≡ []
+  pub of_turn : newer.turn ≡ turn
+  pub race : Race rows (trace_of o) newer u older v
 
-abbrev pub items_at : List Entry → List Entry → ℕ → Place → List Item
-items_at trace [] turn u = []
-items_at trace (e ∷ es) turn u = if is_at turn u e.place e.turn then items_of trace e u else items_at trace es turn u
+pub record HoldsQuarrel (rows : List Row) (o : Outcome) (turn : ℕ) (u v : Place) : Type 0 where
+  pub newer : Entry
+  pub older : Entry
+  pub of_main : newer.path ≡ []
+  pub of_turn : newer.turn ≡ turn
+  pub quarrel : Quarrel rows (trace_of o) newer u older v
 
--- two events of a turn of `main` have conflicting items
-abbrev pub conflict_at : Outcome → ℕ → Place → Place → Bool
-conflict_at o turn u v = conflict rows (items_at (trace_of o) (trace_of o) turn u) (items_at (trace_of o) (trace_of o) turn v)
+-- the first of the events ends the run, and the other is due beside it
+pub record HoldsEndQuarrel (o : Outcome) (turn : ℕ) (u v : Place) : Type 0 where
+  pub entry : Entry
+  pub of_main : entry.path ≡ []
+  pub of_turn : entry.turn ≡ turn
+  pub quarrel : EndQuarrel (trace_of o) entry u v
 
 -- int main(void){return 0;}
 abbrev pub return_zero : Program
@@ -170,3 +221,39 @@ abbrev pub quit_beside : Program
 quit_beside = program_of (defined [] (Return (add (load global) (call 1 none)) ∷ [])
     ∷ defined [] (Value (call 2 (more (number 3) none)) ∷ Return (number 0) ∷ [])
     ∷ library_function int_function lib.Exit ∷ []) (global_int ∷ [])
+
+-- int i;int h(int a,int b){return a+b;}int main(void){return h(i++,i);}
+abbrev pub pass_both : Program
+pass_both = program_of (defined [] (Return (call 1 (more (increment global) (more (load global) none))) ∷ [])
+    ∷ defined (int_decl ∷ int_decl ∷ []) (Return (add (load local) (load (expr (Obj (slot.Auto 0 1)) int_type none))) ∷ []) ∷ []) (global_int ∷ [])
+
+-- int main(void){int i=1;return (i++,i)+1;}
+abbrev pub comma_between : Program
+comma_between = program_of (defined (int_decl ∷ [])
+    (Value (assign true local (number 1)) ∷ Return (add (two Comma (increment local) (load local)) (number 1)) ∷ []) ∷ []) []
+
+-- int main(void){int x=0,y=1;x=x++&&y;return x;}, and with another first value
+abbrev pub and_beside : ℕ → Program
+and_beside first = program_of (defined (int_decl ∷ int_decl ∷ [])
+    (Value (assign true local (number first)) ∷ Value (assign true (expr (Obj (slot.Auto 0 1)) int_type none) (number 1))
+    ∷ Value (assign false local (two And (increment local) (load (expr (Obj (slot.Auto 0 1)) int_type none)))) ∷ Return (load local) ∷ []) ∷ []) []
+
+abbrev pub both_rows : List Row
+both_rows = row_of main_local 16777232 4 ∷ row_of (Auto (record { 0 = 0 }) 1 1) 16777264 4 ∷ []
+
+-- int main(void){int i=0;int a[2]={i++,i};return a[0];}
+abbrev pub array_decl : Decl
+array_decl = record { size = 8; align = 4; constant = false; form = Some (repeat 2 4 (leaf int_type)); access = access.Whole 8 4; ty = types.array false int_type (Some 2) }
+
+abbrev pub element : ℕ → Expr → Expr
+element offset e =
+    expr (Isolated (assign true (one (Member offset) (expr (Obj (slot.Auto 0 1)) int_type none)) e)) int_type none
+
+abbrev pub list_both : Program
+list_both = program_of (defined (int_decl ∷ array_decl ∷ [])
+    (Value (assign true local (number 0))
+    ∷ Value (expr (Listed (slot.Auto 0 1) []) int_type (more (element 0 (increment local)) (more (element 4 (load local)) none)))
+    ∷ Return (load (one (Member 0) (expr (Obj (slot.Auto 0 1)) int_type none))) ∷ []) ∷ []) []
+
+abbrev pub list_rows : List Row
+list_rows = row_of main_local 16777232 4 ∷ row_of (Auto (record { 0 = 0 }) 1 1) 16777264 8 ∷ []

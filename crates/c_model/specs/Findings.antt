@@ -1,15 +1,15 @@
--- Races and quarrels of a trace, and the first finding.
+-- Races and quarrels of a trace, and which clauses it meets.
 use Rattle.std.specs.Prelude.{◌≡◌, ℕ, ◌+◌, Bool, true, false, not, ◌&&◌, ◌||◌, ◌==◌, nat_lt, List, [], ◌∷◌, ◌++◌, Option, Some, None, if◌then◌else◌, IsTrue}
 use Rattle.ub_base.specs.declared.clause.Clause.{Clause}
 use Rattle.ub_base.specs.declared.clause.Clause.TheVariants.{Unsequenced}
 use Rattle.ub_base.specs.declared.names.ObjName.{ObjName}
 use Rattle.ub_base.specs.declared.names.Item.{Item}
-use Rattle.ub_base.specs.declared.names.Item.TheVariants.{Read, Write, Born, Dies, Alive, Expose, Lookup, Narrow, Input, Output, Ending}
+use Rattle.ub_base.specs.declared.names.Item.TheVariants.{Read, Write, Born, Dies, Alive, Expose, Lookup, Narrow, Input, Output, Ending, Any}
 use Rattle.ub_base.specs.Names.{same_event, same_object}
 use Rattle.ub_base.specs.Frames.{Path}
 use Rattle.c_typed.specs.declared.tree.Place.{Place}
 use Rattle.c_typed.specs.Tree.{Tree}
-use Rattle.c_typed.specs.Order.{Taken, is_body, IsApart}
+use Rattle.c_typed.specs.Order.{Taken, same_place, is_body, is_due, IsApart}
 use Rattle.addr_map.specs.declared.map.Row.{Row}
 use Rattle.addr_map.specs.Rows.{contains, is_past}
 use Rattle.c_model.specs.Runs.{Entry, Outcome, Raises}
@@ -37,7 +37,7 @@ against rows (Dies x) (Lookup a) = meets rows x a
 against rows (Narrow d x) (Narrow e y) = same_event d e && not (same_object x y)
 against rows Input Input = true
 against rows Output Output = true
-against rows Ending i = true
+against rows Ending Any = true
 against rows _ _ = false
 
 abbrev pub clash : List Row → Item → Item → Bool
@@ -120,8 +120,15 @@ pub record Quarrel (rows : List Row) (trace : List Entry) (d : Entry) (u : Place
   pub clash : IsTrue (conflict rows (items_of trace d u) (items_of trace e v))
   pub no_race : Race rows trace d u e v → ⊥
 
--- beside an evaluation that ends the run, each event of its full expression that is due and neither before nor after it (own)
+abbrev pub is_due_in : Option (Tree × Taken) → Place → Bool
+is_due_in None v = false
+is_due_in (Some e) v = is_due e.0 e.1 v
+
+-- beside an evaluation that ends the run, another event of its full expression that is due, done or pending, and neither before nor
+-- after it: the end has the item `end` and the other event the item `any` (own)
 pub record EndQuarrel (trace : List Entry) (d : Entry) (u v : Place) : Type 0 where
   pub here : Has trace d u
   pub ends : IsTrue (has_ending (items_of trace d u))
+  pub due : IsTrue (is_due_in d.begun v)
+  pub other : same_place u v ≡ false
   pub apart : AreApart d.begun u v

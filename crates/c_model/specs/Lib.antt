@@ -3,8 +3,14 @@ pub mod Values
 pub mod Nodes
 pub mod Control
 pub mod Moves
+pub mod Machine
+pub mod MachineLaws
 pub mod Steps
 pub mod Runs
 pub mod Findings
+pub mod Keys
+pub mod Moments
+pub mod FirstFinding
+pub mod Placement
 pub mod Examples
 pub mod Laws

@@ -154,8 +154,8 @@ module _ (program : Program) (rows : List Row) (agree : CType → CType → Bool
   }
 
   abbrev pub main_frame : Option Stmt → List Value → Local
-  main_frame None vs = record { scene = record { path = []; turn = 0; blocks = [] }; function = Some program.main; arguments = vs; todo = []; begun = None; result = None }
-  main_frame (Some s) vs = record { scene = record { path = []; turn = 0; blocks = [] }; function = Some program.main; arguments = vs; todo = opened s []; begun = None; result = None }
+  main_frame None vs = record { scene = record { path = []; home = []; turn = 0; blocks = [] }; function = Some program.main; arguments = vs; todo = []; begun = None; result = None }
+  main_frame (Some s) vs = record { scene = record { path = []; home = []; turn = 0; blocks = [] }; function = Some program.main; arguments = vs; todo = opened s []; begun = None; result = None }
 
   abbrev pub started_run : Act Value → List Value → Outcome
   started_run (Done v is s) vs = limited (Running (record { top = main_frame (body_of program rows agree library (Some program.main)) vs; held = []; store = s; trace = [] }))

@@ -45,6 +45,7 @@ pub record Begun : Type 0 where
 -- what the events of a full expression know of their frame
 pub record Scene : Type 0 where
   pub path : Path
+  pub home : Path  -- the frame of the function whose blocks are open: for an isolated initializer not its own
   pub turn : ℕ
   pub blocks : List (ℕ × ℕ)  -- the open blocks, each with its turn, the innermost first
 
@@ -97,7 +98,7 @@ abbrev pub event_of : Scene → Place → Event
 event_of f u = record { frame = record { 0 = frame_number f.path }; turn = f.turn; node = u.node; kind = u.kind }
 
 abbrev pub auto_name : Scene → ℕ → ℕ → ObjName
-auto_name f turn k = object.Auto (record { 0 = frame_number f.path }) turn k
+auto_name f turn k = object.Auto (record { 0 = frame_number f.home }) turn k
 
 abbrev pub name_of : Scene → Slot → ObjName
 name_of f (slot.Static k) = object.Static k
@@ -186,7 +187,7 @@ module _ (program : Program) (rows : List Row) (agree : CType → CType → Bool
   abbrev pub body_frame : Scene → ℕ → ℕ → List Value → Option Stmt → Move Local
   body_frame f k n vs None = Stay
   body_frame f k n vs (Some s) = Start (record {
-    scene = record { path = (f.turn, k) ∷ f.path; turn = 0; blocks = [] };
+    scene = record { path = (f.turn, k) ∷ f.path; home = (f.turn, k) ∷ f.path; turn = 0; blocks = [] };
     function = Some n;
     arguments = vs;
     todo = opened s [];
@@ -202,7 +203,7 @@ module _ (program : Program) (rows : List Row) (agree : CType → CType → Bool
   abbrev pub started : Scene → ℕ → Head → List Value → Move Local
   started f k (Call discarded) (Fun a ∷ vs) = start_call f k vs (function_of program.functions 0 a)
   started f k (Isolated e) vs = Start (record {
-    scene = record { path = (f.turn, k) ∷ f.path; turn = 0; blocks = f.blocks };
+    scene = record { path = (f.turn, k) ∷ f.path; home = f.home; turn = 0; blocks = f.blocks };
     function = None;
     arguments = [];
     todo = Begin e Unused ∷ [];

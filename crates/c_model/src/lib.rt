@@ -3,28 +3,71 @@
 //! A law function takes nothing and answers nothing: its contract is a law about the definitions.
 #![tactic(auto)]
 
-ghost use Rattle.std.specs.Prelude.{◌≡◌, [], ◌∷◌, true};
+ghost use Rattle.std.specs.Prelude.{◌≡◌, [], ◌∷◌, Some};
 ghost use Rattle.ub_base.specs.declared.clause.Kind.TheVariants.{Val, Eff, Body};
-ghost use Rattle.ub_base.specs.declared.clause.Clause.TheVariants.{DivideByZero};
+ghost use Rattle.ub_base.specs.declared.clause.Clause.TheVariants.{DivideByZero, Unsequenced};
+ghost use Rattle.ub_base.specs.declared.names.ObjName.TheVariants.{Static};
+ghost use Rattle.ub_base.specs.declared.names.Item.TheVariants.{Read, Write, Output, Ending, Any};
 ghost use Rattle.c_typed.specs.Order.{place};
-ghost use Rattle.c_model.specs.Findings.{Race, Quarrel, EndQuarrel, Meets};
+ghost use Rattle.c_model.specs.Findings.{Meets};
+ghost use Rattle.c_model.specs.FirstFinding.{Clean, Undefined, Raced, Order_dependent, Out_of_steps};
 ghost use Rattle.c_model.specs.Laws.{IsIrreflexive, IsAsymmetric, IsTransitive};
-ghost use Rattle.c_model.specs.Examples.{canonical_run, came_to, ended, raised, running, conflict_at, return_zero, add_one, self_increment, divide_by_zero, print_both, increment_and_call, loop_forever, quit_beside};
+ghost use Rattle.c_model.specs.MachineLaws.{OrdersEndAlike};
+ghost use Rattle.c_model.specs.Examples.{canonical_run, audit, pair_of, picks_of, NeedsRows, HoldsRace, HoldsQuarrel, HoldsEndQuarrel, trace_of, enter, leave, begin, settle, event, main_local, local_rows, global_rows, both_rows, list_rows, return_zero, add_one, self_increment, divide_by_zero, print_both, list_both, pass_both, increment_and_call, comma_between, and_beside, loop_forever, quit_beside};
 
-/// The canonical runs of small programs, as the definitions give them: how each ends, its status, picks and output.
-pub fn law_example_runs()
-    ensures return_zero { came_to (canonical_run return_zero 10) ≡ ended 0 4 [] }
-    ensures add_one { came_to (canonical_run add_one 20) ≡ ended 2 15 [] }
-    ensures divide_by_zero { came_to (canonical_run divide_by_zero 10) ≡ raised DivideByZero 3 }
-    ensures loop_forever { came_to (canonical_run loop_forever 20) ≡ running 20 }
-    ensures quit_beside { came_to (canonical_run quit_beside 20) ≡ ended 3 7 [] }
+/// The first finding of small programs, as the definitions give it, with the picks that lead to it.
+pub fn law_example_findings()
+    ensures return_zero { audit return_zero [] 4 ≡ Clean 0 [] 4 }
+    ensures short_budget { audit return_zero [] 3 ≡ Out_of_steps 3 }
+    ensures add_one { audit add_one local_rows 20 ≡ Clean 2 [] 15 }
+    ensures self_increment { audit self_increment local_rows 20 ≡ Raced (pair_of 3 (place 0 Eff) (place 2 Eff) (Write main_local 0 1) (Write main_local 0 1)) 10 }
+    ensures divide_by_zero { audit divide_by_zero [] 20 ≡ Undefined DivideByZero [] 2 (Some (place 0 Val)) 3 }
+    ensures print_both { audit print_both [] 20 ≡ Order_dependent (pair_of 2 (place 1 Body) (place 4 Body) Output Output) 6 }
+    ensures list_both { audit list_both list_rows 30 ≡ Order_dependent (pair_of 3 (place 1 Body) (place 2 Body) (Write main_local 0 1) (Read main_local 0 1)) 21 }
+    ensures pass_both { audit pass_both global_rows 20 ≡ Raced (pair_of 2 (place 2 Eff) (place 4 Val) (Write (Static 0) 0 1) (Read (Static 0) 0 1)) 5 }
+    ensures increment_and_call { audit increment_and_call global_rows 20 ≡ Order_dependent (pair_of 3 (place 1 Eff) (place 3 Body) (Write (Static 0) 0 1) (Read (Static 0) 0 1)) 15 }
+    ensures comma_between { audit comma_between local_rows 20 ≡ Clean 3 [] 13 }
+    ensures and_skips { audit (and_beside 0) both_rows 20 ≡ Raced (pair_of 4 (place 0 Eff) (place 3 Eff) (Write main_local 0 1) (Write main_local 0 1)) 15 }
+    ensures loop_forever { audit loop_forever [] 20 ≡ Out_of_steps 20 }
+    ensures quit_beside { audit quit_beside global_rows 20 ≡ Order_dependent (pair_of 2 (place 1 Val) (place 3 Body) Any Ending) 7 }
 {}
 
-/// The items of events that conflict in these runs: of `i = i++`, of two calls that print, of `i++ + f()` where f reads i.
-pub fn law_example_conflicts()
-    ensures self_increment { conflict_at (canonical_run self_increment 10) 3 (place 0 Eff) (place 2 Eff) ≡ true }
-    ensures print_both { conflict_at (canonical_run print_both 6) 2 (place 1 Body) (place 4 Body) ≡ true }
-    ensures increment_and_call { conflict_at (canonical_run increment_and_call 15) 3 (place 1 Eff) (place 3 Body) ≡ true }
+/// The picks of small programs in canonical order.
+pub fn law_example_picks()
+    ensures return_zero { picks_of return_zero [] 10 ≡ enter ∷ begin ∷ settle ∷ leave ∷ [] }
+    ensures add_one { picks_of add_one local_rows 20 ≡ enter
+        ∷ begin ∷ event (place 0 Val) ∷ event (place 0 Eff) ∷ settle
+        ∷ begin ∷ event (place 3 Val) ∷ event (place 2 Val) ∷ event (place 0 Val) ∷ event (place 0 Eff) ∷ settle
+        ∷ begin ∷ event (place 0 Val) ∷ settle ∷ leave ∷ [] }
+    ensures self_increment { picks_of self_increment local_rows 10 ≡ enter
+        ∷ begin ∷ event (place 0 Val) ∷ event (place 0 Eff) ∷ settle
+        ∷ begin ∷ event (place 2 Val) ∷ event (place 2 Eff) ∷ event (place 0 Val) ∷ event (place 0 Eff) ∷ [] }
+    ensures list_both { picks_of list_both list_rows 21 ≡ enter
+        ∷ begin ∷ event (place 0 Val) ∷ event (place 0 Eff) ∷ settle ∷ begin
+        ∷ event (place 1 Body) ∷ begin ∷ event (place 3 Val) ∷ event (place 3 Eff) ∷ event (place 0 Val) ∷ event (place 0 Eff) ∷ settle ∷ event (place 1 Val)
+        ∷ event (place 2 Body) ∷ begin ∷ event (place 3 Val) ∷ event (place 0 Val) ∷ event (place 0 Eff) ∷ settle ∷ event (place 2 Val) ∷ [] }
+    ensures increment_and_call { picks_of increment_and_call global_rows 15 ≡ enter
+        ∷ begin ∷ event (place 0 Val) ∷ event (place 0 Eff) ∷ settle
+        ∷ begin ∷ event (place 1 Val) ∷ event (place 1 Eff) ∷ event (place 3 Body)
+        ∷ enter ∷ begin ∷ event (place 0 Val) ∷ settle ∷ leave ∷ event (place 3 Val) ∷ [] }
+{}
+
+/// What the traces of these runs hold: the race of `i = i++`, whose trace meets 6.5p2; the quarrels of two calls that print, and of
+/// `i++ + f()` where f reads i; and beside a call that exits, an operand that was evaluated before it.
+pub fn law_example_traces()
+    ensures self_increment { HoldsRace local_rows (canonical_run self_increment local_rows 10) 3 (place 0 Eff) (place 2 Eff) }
+    ensures meets { Meets local_rows (canonical_run self_increment local_rows 10) (trace_of (canonical_run self_increment local_rows 10)) Unsequenced }
+    ensures print_both { HoldsQuarrel [] (canonical_run print_both [] 6) 2 (place 4 Body) (place 1 Body) }
+    ensures increment_and_call { HoldsQuarrel global_rows (canonical_run increment_and_call global_rows 15) 3 (place 3 Body) (place 1 Eff) }
+    ensures quit_beside { HoldsEndQuarrel (canonical_run quit_beside global_rows 7) 2 (place 3 Body) (place 1 Val) }
+    ensures divide_by_zero { Meets [] (canonical_run divide_by_zero [] 3) (trace_of (canonical_run divide_by_zero [] 3)) DivideByZero }
+{}
+
+/// The rows that these runs need, where objects are spaced.
+pub fn law_example_rows()
+    ensures add_one { NeedsRows add_one local_rows 15 }
+    ensures list_both { NeedsRows list_both list_rows 21 }
+    ensures increment_and_call { NeedsRows increment_and_call global_rows 15 }
 {}
 
 /// Sequenced before is a strict partial order on the events of a full expression, whatever was chosen (5.1.2.3p3).
@@ -32,4 +75,9 @@ pub fn law_sequenced_before()
     ensures irreflexive { IsIrreflexive }
     ensures asymmetric { IsAsymmetric }
     ensures transitive { IsTransitive }
+{}
+
+/// Where the picks of a machine of frames keep these laws, every permitted order ends as one run without conflicts does.
+pub fn law_orders_end_alike<F, P, V, S, I, Part, Seen, Fact>()
+    ensures { OrdersEndAlike F P V S I Part Seen Fact }
 {}
