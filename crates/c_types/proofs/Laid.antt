@@ -11,7 +11,7 @@ use Rattle.c_types.specs.declared.tags.Row.{Row}
 use Rattle.c_types.specs.declared.tags.Extent.{Extent}
 use Rattle.c_types.specs.Types.{CType}
 use Rattle.c_types.specs.Layout.{extent, tag_extent, offset_of, offset_in, known_by, extents, completed, IsSound}
-use Rattle.c_types.specs.Table.{completions, look, extent_in, tag_of, IsSoundRow, IsLaid}
+use Rattle.c_types.specs.Table.{completions, look, extent_in, tag_of, IsSoundRow, IsLaid, IsSettled}
 use Rattle.c_types.proofs.Extents.{known_by-more, completions-more, completions-le}
 use Rattle.c_types.proofs.Completed.{Completes, settles, upper, get-completed_other, completions-completed}
 
@@ -239,3 +239,9 @@ pub row_offset :
 row_offset rows now i member r seen laid at =
     subst (λ ts. offset_of (look rows) r.tag member ≡ offset_in (extents ts) (slice_get ts i) member) seen
     (sym (offset_of-look rows laid r.tag member) ∙ ap (λ o. offset_in (extents (map tag_of rows)) o member) (sym (row_tag rows i r at)))
+
+pub settled_rows : (rows : List Row) (now : List Tag) → map tag_of rows ≡ now → IsLaid rows → IsSettled now
+settled_rows rows now seen laid = subst IsSettled seen (record {
+  known = λ tag. extents-look rows laid tag ∙ sym (laid.settled (suc (length (map tag_of rows))) (let le = completions-le (map tag_of rows) in omega arith) tag);
+  filled = λ tag t g h. laid.filled tag t g (sym (extents-look rows laid tag) ∙ h);
+})

@@ -5,7 +5,7 @@ use Rattle.c_types.specs.declared.tags.Tag.{Tag}
 use Rattle.c_types.specs.declared.tags.Member.{Member}
 use Rattle.c_types.specs.declared.tags.Row.{Row}
 use Rattle.c_types.specs.declared.tags.Extent.{Extent}
-use Rattle.c_types.specs.Layout.{Known, known_by, IsSoundWhere}
+use Rattle.c_types.specs.Layout.{Known, known_by, extent_of_tag, extents, IsSoundWhere}
 
 abbrev pub tag_of : Row → Tag
 tag_of row = row.tag
@@ -38,3 +38,8 @@ pub record IsLaid (rows : List Row) : Type 0 where
   pub sound : IsTable rows
   pub settled : (n : ℕ) → completions (map tag_of rows) ≤ n → (tag : ℕ) → known_by n (map tag_of rows) tag ≡ look rows tag
   pub filled : (tag : ℕ) (t : Tag) → slice_get (map tag_of rows) tag ≡ Some t → look rows tag ≡ None → t.members ≡ []
+
+-- each tag's extent is that of its members, and a tag without one has no members
+pub record IsSettled (tags : List Tag) : Type 0 where
+  pub known : (tag : ℕ) → extents tags tag ≡ extent_of_tag (extents tags) (slice_get tags tag)
+  pub filled : (tag : ℕ) (t : Tag) → slice_get tags tag ≡ Some t → extents tags tag ≡ None → t.members ≡ []

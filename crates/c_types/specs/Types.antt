@@ -163,3 +163,8 @@ composite_qualified p q = record { constant = p.constant; ty = composite p.ty q.
 abbrev pub composite_signature : Signature → Signature → Signature
 composite_signature f g =
     record { result = composite f.result g.result; params = composites f.params g.params; variadic = f.variadic }
+
+-- a parameter and the one at the same place, where there is one
+abbrev pub composite_param : Qualified → Option Qualified → Qualified
+composite_param p None = p
+composite_param p (Some q) = composite_qualified p q

@@ -1,6 +1,6 @@
-// Composite types (6.2.7p3).
+// Copies of types.
 ghost use Rattle.std.specs.Prelude.{◌≡◌, IfOk, map, List, ◌++◌};
-ghost use Rattle.c_types.specs.Types.{type_of, qualified_of, signature_of, params_of, known_count};
+ghost use Rattle.c_types.specs.Types.{type_of, qualified_of, signature_of};
 
 use crate::{FuncTy, Qual, Ty};
 use std::alloc::Global;
@@ -66,76 +66,4 @@ fn copied_params(alloc: Global, params: &[Qual]) -> Result<Items<Qual>, NoMemory
         copies.push(copied_qual(alloc, param)?)?;
     }
     Ok(copies)
-}
-
-fn known_count(m: Option<u64>, n: Option<u64>) -> Option<u64>
-    ensures { result ≡ known_count m n }
-{
-    match m {
-        Some(count) => Some(count),
-        None => n,
-    }
-}
-
-/// The composite of two compatible types (6.2.7p3).
-#[cycle(composite)]
-pub fn composite(alloc: Global, a: &Ty, b: &Ty) -> Result<Ty, NoMemory> {
-    match a {
-        Ty::Pointer(x) => match b {
-            Ty::Pointer(y) => {
-                let target = composite_qual(alloc, x.get(), y.get())?;
-                Ok(Ty::Pointer(Boxed::new(alloc, target)?))
-            }
-            _ => copied(alloc, a),
-        },
-        Ty::Array(x, m) => match b {
-            Ty::Array(y, n) => {
-                let element = composite_qual(alloc, x.get(), y.get())?;
-                Ok(Ty::Array(Boxed::new(alloc, element)?, known_count(*m, *n)))
-            }
-            _ => copied(alloc, a),
-        },
-        Ty::Function(f) => match b {
-            Ty::Function(g) => {
-                let function = composite_function(alloc, f.get(), g.get())?;
-                Ok(Ty::Function(Boxed::new(alloc, function)?))
-            }
-            _ => copied(alloc, a),
-        },
-        _ => copied(alloc, a),
-    }
-}
-
-#[cycle(composite)]
-fn composite_qual(alloc: Global, a: &Qual, b: &Qual) -> Result<Qual, NoMemory> {
-    let ty = composite(alloc, &a.ty, &b.ty)?;
-    Ok(Qual {
-        ty,
-        constant: a.constant,
-    })
-}
-
-#[cycle(composite)]
-fn composite_function(alloc: Global, f: &FuncTy, g: &FuncTy) -> Result<FuncTy, NoMemory> {
-    let result = composite(alloc, &f.result, &g.result)?;
-    let params = composite_params(alloc, f.params.as_slice(), g.params.as_slice())?;
-    Ok(FuncTy {
-        result,
-        params,
-        variadic: f.variadic,
-    })
-}
-
-// The composites of the parameters, pair by pair.
-#[cycle(composite)]
-fn composite_params(alloc: Global, a: &[Qual], b: &[Qual]) -> Result<Items<Qual>, NoMemory> {
-    let mut params = Items::new(alloc);
-    for (i, x) in a.iter().enumerate() {
-        let param = match b.get(i) {
-            Some(y) => composite_qual(alloc, x, y)?,
-            None => copied_qual(alloc, x)?,
-        };
-        params.push(param)?;
-    }
-    Ok(params)
 }

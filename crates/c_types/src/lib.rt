@@ -2,6 +2,7 @@
 #![tactic(auto)]
 
 mod agree;
+mod composites;
 mod copies;
 mod kind;
 mod library;
@@ -13,7 +14,8 @@ mod tags;
 mod ty;
 
 pub use agree::{agrees, compatible};
-pub use copies::{composite, copied, copied_qual};
+pub use composites::{composite, law_composites};
+pub use copies::{copied, copied_qual};
 pub use kind::{BinOp, IntKind, promote, usual};
 pub use library::LibFunc;
 pub use shape::{Placed, Shape};

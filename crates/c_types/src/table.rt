@@ -37,6 +37,7 @@ impl Tags {
     ghost use Rattle.c_types.specs.Types.{type_of};
     ghost use Rattle.c_types.specs.Layout.{IsSound, extents, completed, offset_in};
     ghost use Rattle.c_types.specs.Layout as layout;
+    ghost use Rattle.c_types.specs.Table.{IsSettled};
 
     /// No structure or union.
     pub fn new(alloc: Global) -> Tags
@@ -154,5 +155,12 @@ impl Tags {
             Some(row) => member_offset(self.rows.as_slice(), &row.tag, member),
             None => None,
         }
+    }
+
+    /// The extent of each structure or union is that of its members, and one that is incomplete has none.
+    pub fn law_extents(&self)
+        ensures { IsSettled self.now }
+    {
+        let _rows = self.rows.len();
     }
 }

@@ -1,11 +1,11 @@
 -- The scalars of arrays of arrays, and of one part more.
-use Rattle.std.proofs.Common.{◌≡◌, ℕ, zero, suc, ◌+◌, ◌<◌, List, [], ◌∷◌, ◌++◌, length, get_or, drop, drop-cons, add-one, map, Option, Some, None, refl, sym, ap, ◌∙◌, append_assoc, append-nil, rules}
+use Rattle.std.proofs.Common.{◌≡◌, ℕ, suc, ◌+◌, ◌<◌, List, [], ◌∷◌, ◌++◌, length, get_or, drop, drop-cons, add-one, map, Some, None, refl, sym, ap, ◌∙◌, append_assoc, append-nil, rules}
 use Rattle.c_types.specs.Types.{type_of, CType, void, int, enumeration, pointer, array, struct, union, function}
-use Rattle.c_types.specs.Layout.{size_of, number_in, member_offset, type_of_member}
-use Rattle.c_types.specs.Shapes.{Form, Forms, Put, form_of, forms_of, put_of}
+use Rattle.c_types.specs.Layout.{size_of, member_offset, type_of_member}
+use Rattle.c_types.specs.Shapes.{Put, form_of, forms_of, put_of}
 use Rattle.c_types.specs.declared.shape.Shape.{Shape}
 use Rattle.c_types.specs.declared.ty.Qual as qual
-use Rattle.c_types.specs.Leaves.{Scalar, one_scalar, shifted, repeated_scalars, scalars_with, member_scalars, leaves, all_leaves}
+use Rattle.c_types.specs.Leaves.{Scalar, shifted, repeated_scalars, scalars_with, member_scalars, leaves, all_leaves}
 use Rattle.c_types.specs.declared.tags.Member.{Member}
 use Rattle.c_types.specs.declared.tags.Tag.{Tag}
 use Rattle.c_types.specs.declared.shape.Placed.{Placed, roll-Placed, the_lemmas}

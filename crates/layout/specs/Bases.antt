@@ -1,6 +1,6 @@
 -- An array of arrays by what it is made of.
-use Rattle.std.specs.Prelude.{ℕ, List, [], Option, Some, None}
-use Rattle.c_types.specs.Types.{CType, void, int, enumeration, pointer, array, struct, union, function}
+use Rattle.std.specs.Prelude.{ℕ, List, []}
+use Rattle.c_types.specs.Types.{CType, int, enumeration, pointer, array, struct, union}
 use Rattle.c_types.specs.Layout.{size_of, number_in}
 use Rattle.c_types.specs.Leaves.{Scalar, one_scalar, repeated_scalars}
 use Rattle.c_types.specs.declared.tags.Tag.{Tag}

@@ -1,5 +1,10 @@
 // Members by name (6.5.2.3), those of unnamed structures and unions among them (6.7.2.1p13).
 
+ghost use Rattle.std.specs.Prelude.{◌≡◌, ◌<◌, ◌∷◌, [], length};
+ghost use Rattle.std.specs.Option.{option_map};
+ghost use Rattle.layout.specs.Listed.{place_of, nearer};
+ghost use Rattle.layout.specs.Names.{itself, brought, named, names, names_by};
+
 use crate::offset_of;
 use c_types::{Member, Qual, Tags, Ty};
 
@@ -11,17 +16,25 @@ pub struct Found<'t> {
 }
 
 /// The member of this name, itself or through unnamed structures and unions; `None` exactly where there is none.
-pub fn find<'t>(tags: &'t Tags, tag: u32, name: &[u8]) -> Option<Found<'t>> {
+pub fn find<'t>(tags: &'t Tags, tag: u32, name: &[u8]) -> Option<Found<'t>>
+    ensures { option_map place_of result ≡ named name.now (names tags.now tag) }
+{
+    tags.law_extents();
     find_within(tags, tags.len(), tag, name)
 }
 
-// The same, with at most so many unnamed structures and unions one inside the other.
+// The same, with fewer than so many structures and unions one inside the other.
 #[cycle(within)]
-fn find_within<'t>(tags: &'t Tags, depth: usize, tag: u32, name: &[u8]) -> Option<Found<'t>> {
+fn find_within<'t>(tags: &'t Tags, depth: usize, tag: u32, name: &[u8]) -> Option<Found<'t>>
+    ensures { option_map place_of result ≡ option_map nearer (named name.now (names_by depth tags.now tag)) }
+{
+    if depth == 0 {
+        return None;
+    }
     let members = tags.get(tag)?.members.as_slice();
     for (i, member) in members.iter().enumerate() {
-        if let Some(found) = found_at(tags, depth, member, name) {
-            let offset = found.offset.saturating_add(offset_of(tags, tag, i));
+        if let Some(found) = found_at(tags, depth - 1, member, name) {
+            let offset = offset_of(tags, tag, i).saturating_add(found.offset);
             return Some(Found {
                 offset,
                 qual: found.qual,
@@ -33,24 +46,29 @@ fn find_within<'t>(tags: &'t Tags, depth: usize, tag: u32, name: &[u8]) -> Optio
 
 // The member itself, or one inside it, from where it begins.
 #[cycle(within)]
-fn found_at<'t>(
-    tags: &'t Tags,
-    depth: usize,
-    member: &'t Member,
-    name: &[u8],
-) -> Option<Found<'t>> {
+fn found_at<'t>(tags: &'t Tags, depth: usize, member: &'t Member, name: &[u8]) -> Option<Found<'t>>
+    ensures { option_map place_of result ≡ option_map nearer (named name.now (brought (names_by depth tags.now) member.now)) }
+{
     if member.name.len() != 0 {
-        let is_named = member.name.as_slice() == name;
-        return is_named.then_some(Found {
-            offset: 0,
-            qual: &member.qual,
-        });
-    }
-    if depth == 0 {
-        return None;
+        return own(member, name);
     }
     match member.qual.ty {
-        Ty::Struct(inner) | Ty::Union(inner) => find_within(tags, depth - 1, inner, name),
+        Ty::Struct(inner) | Ty::Union(inner) => find_within(tags, depth, inner, name),
         _ => None,
+    }
+}
+
+// A member that has a name, if it is this one.
+fn own<'t>(member: &'t Member, name: &[u8]) -> Option<Found<'t>>
+    requires { 0 < length member.now.name }
+    ensures { option_map place_of result ≡ named name.now (itself member.now ∷ []) }
+{
+    if member.name.as_slice() == name {
+        Some(Found {
+            offset: 0,
+            qual: &member.qual,
+        })
+    } else {
+        None
     }
 }

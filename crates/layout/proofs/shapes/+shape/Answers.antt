@@ -1,8 +1,6 @@
-use Rattle.std.proofs.Common.{◌≡◌, ◌∙◌, sym, ap, List}
 use Rattle.c_types.specs.Types.{type_of}
-use Rattle.c_types.specs.Shapes.{form_of, forms_of, put_of}
-use Rattle.c_types.specs.Leaves.{Scalar, scalars, scalars_with, scalars_by, tag_scalars, leaves, all_leaves}
-use Rattle.layout.specs.Bases.{base_of, base_scalars, again}
+use Rattle.c_types.specs.Shapes.{form_of}
+use Rattle.c_types.specs.Leaves.{scalars_by, leaves}
 use Rattle.layout.proofs.Scalars.{parts_step, shape_steps}
 use Rattle.layout.proofs.shapes.+shape.Goals as goal
 
