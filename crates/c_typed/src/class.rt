@@ -1,7 +1,7 @@
 //! What of a node matters to the order of evaluation.
 
 ghost use Rattle.std.specs.Prelude.{Some, ◌≡◌, ◌-◌, ◌^◌, min};
-ghost use Rattle.c_typed.specs.Tree.{tree_of, size as nodes_of, class_of, is_quiet_class, class_over as class_over', member_class as member_class'};
+ghost use Rattle.c_typed.specs.Tree.{tree_of, size as nodes_of, class_of, is_quiet_class, conversion_class, class_over, member_class};
 
 use crate::{Conversion, Node, Typed};
 
@@ -37,12 +37,14 @@ impl Class {
 }
 
 /// The class of the root.
-pub fn class_of(root: &Typed) -> Class {
+pub fn class_of(root: &Typed) -> Class
+    ensures { result ≡ class_of (tree_of root.now) }
+{
     match &root.node {
         Node::Obj(_) => Class::Object,
         Node::Const(_) | Node::Func(_) | Node::Str(_) => Class::Constant,
-        Node::Conv(Conversion::Integer(_)) => match root.children.get(0) {
-            Some(operand) => class_over(class_of(operand)),
+        Node::Conv(conversion) => match root.children.get(0) {
+            Some(operand) => conversion_class(*conversion, class_of(operand)),
             None => Class::Plain,
         },
         Node::Member { .. } => match root.children.get(0) {
@@ -55,13 +57,26 @@ pub fn class_of(root: &Typed) -> Class {
         Node::Comma => Class::Comma,
         Node::Call { .. } => Class::Call,
         Node::Isolated(_) => Class::Isolated,
-        _ => Class::Plain,
+        Node::Load(_) | Node::Un(_) | Node::Bin(..) => Class::Plain,
+        Node::PtrAdd { .. } | Node::PtrDiff { .. } => Class::Plain,
+        Node::Rel { .. } | Node::Eq(_) | Node::Part { .. } => Class::Plain,
+    }
+}
+
+/// The class of a conversion of such an operand.
+fn conversion_class(conversion: Conversion, operand: Class) -> Class
+    ensures { result ≡ conversion_class conversion (Some operand) }
+{
+    match conversion {
+        Conversion::Integer(_) => class_over(operand),
+        Conversion::Address(_) | Conversion::NotNull | Conversion::Lookup => Class::Plain,
+        Conversion::Pointer { .. } | Conversion::Function => Class::Plain,
     }
 }
 
 /// The class of an integer conversion of such an operand.
 fn class_over(operand: Class) -> Class
-    ensures { result ≡ class_over' (Some operand) }
+    ensures { result ≡ class_over (Some operand) }
 {
     if operand.is_quiet() {
         Class::Constant
@@ -72,7 +87,7 @@ fn class_over(operand: Class) -> Class
 
 /// The class of a member of such an operand.
 fn member_class(operand: Class) -> Class
-    ensures { result ≡ member_class' (Some operand) }
+    ensures { result ≡ member_class (Some operand) }
 {
     match operand {
         Class::Object => Class::Object,
@@ -81,7 +96,9 @@ fn member_class(operand: Class) -> Class
 }
 
 /// How many nodes the tree has; the greatest number of the type stands for more.
-pub fn size(root: &Typed) -> u32 {
+pub fn size(root: &Typed) -> u32
+    ensures { result ≡ min (nodes_of (tree_of root.now)) (2 ^ 32 - 1) }
+{
     let mut sum = 1u32;
     for t in root.children.as_slice() {
         sum = sum.saturating_add(size(t));
