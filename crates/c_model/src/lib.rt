@@ -12,6 +12,8 @@ ghost use Rattle.c_typed.specs.Order.{place};
 ghost use Rattle.c_model.specs.Findings.{Meets};
 ghost use Rattle.c_model.specs.FirstFinding.{Clean, Undefined, Raced, Order_dependent, Out_of_steps};
 ghost use Rattle.c_model.specs.Laws.{IsIrreflexive, IsAsymmetric, IsTransitive};
+ghost use Rattle.c_model.specs.ChoiceLaws.{ReachedStays, NothingNewBefore, EitherNext, EitherOrder};
+ghost use Rattle.c_model.specs.EventLaws.{SameAct, SameMove, SameFrame};
 ghost use Rattle.c_model.specs.MachineLaws.{OrdersEndAlike};
 ghost use Rattle.c_model.specs.Examples.{canonical_run, audit, pair_of, picks_of, NeedsRows, HoldsRace, HoldsQuarrel, HoldsEndQuarrel, trace_of, enter, leave, begin, settle, event, main_local, local_rows, global_rows, both_rows, list_rows, return_zero, add_one, self_increment, divide_by_zero, print_both, list_both, pass_both, increment_and_call, comma_between, and_beside, loop_forever, quit_beside};
 
@@ -75,6 +77,24 @@ pub fn law_sequenced_before()
     ensures irreflexive { IsIrreflexive }
     ensures asymmetric { IsAsymmetric }
     ensures transitive { IsTransitive }
+{}
+
+/// What a pick of a full expression keeps of its other events, whatever operand is chosen by it, by the recursive decision of
+/// sequenced before: what was reached stays reached, nothing new comes before it, and two picks that may come next leave each other so
+/// and may come in either order.
+pub fn law_later_choices()
+    ensures reached { ReachedStays }
+    ensures before { NothingNewBefore }
+    ensures either { EitherNext }
+    ensures order { EitherOrder }
+{}
+
+/// Of two events of one frame that may both come next, the second does what it does without the first, to the store and to the frames,
+/// and the frame is the same after both in either order.
+pub fn law_two_events()
+    ensures act { SameAct }
+    ensures moves { SameMove }
+    ensures frame { SameFrame }
 {}
 
 /// Where the picks of a machine of frames keep these laws, every permitted order ends as one run without conflicts does.
