@@ -1,13 +1,13 @@
 -- What a choice keeps in the tree of a full expression: which events are due, and which come before which.
-use Rattle.std.proofs.Common.{◌≡◌, ◌≢◌, ℕ, zero, suc, ◌+◌, Bool, true, false, not, ◌&&◌, ◌||◌, ◌==◌, nat_lt, ◌<◌, ◌≤◌, if◌then◌else◌, true≢false, List, [], ◌∷◌, Option, Some, None, cond, refl, sym, ap, ◌∙◌, subst, ◌⊎◌, inl, inr, arith}
+use Rattle.std.proofs.Common.{◌≡◌, ◌≢◌, ℕ, suc, ◌+◌, Bool, true, false, not, ◌&&◌, ◌||◌, ◌==◌, nat_lt, ◌<◌, ◌≤◌, if◌then◌else◌, true≢false, Option, Some, None, cond, refl, sym, ◌∙◌, subst, ◌⊎◌, inl, inr, arith}
 use Rattle.std.proofs.lemmas.Bool.Decides.{nat_tests}
 use Rattle.ub_base.specs.declared.clause.Kind.{Kind}
 use Rattle.ub_base.specs.declared.clause.Kind.TheVariants.{Val, Eff, Body}
 use Rattle.c_typed.specs.declared.tree.Place.{Place}
 use Rattle.c_typed.specs.declared.class.Class.{Class}
-use Rattle.c_typed.specs.declared.class.Class.TheVariants.{Object, Constant, Plain, Store, Update, Choice, Comma, Call, Isolated}
+use Rattle.c_typed.specs.declared.class.Class.TheVariants.{Object, Constant, Choice}
 use Rattle.c_typed.specs.Tree.{Tree, node, Trees, none, more, size, sizes, is_quiet, kinds_of}
-use Rattle.c_typed.specs.Order.{Taken, goes, across, upward, own_rule, is_val, is_body, is_last, is_choice, is_number}
+use Rattle.c_typed.specs.Order.{Taken, goes, own_rule, is_val, is_body, is_last, is_choice, is_number}
 use Rattle.c_typed.specs.Decide.{due_in, due_among, has_kind, is_before, rises, to_val, between, crosses, lifts}
 
 module _ (taken taken' : Taken) (kept : (k j : ℕ) → taken k ≡ Some j → taken' k ≡ Some j) where

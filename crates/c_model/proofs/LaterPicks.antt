@@ -1,5 +1,5 @@
 -- What two picks of one full expression owe each other.
-use Rattle.std.proofs.Common.{◌≡◌, ◌≢◌, ℕ, zero, suc, ◌+◌, ◌<◌, ◌≤◌, Bool, true, false, not, ◌&&◌, ◌||◌, ◌==◌, nat_lt, if◌then◌else◌, true≢false, List, [], ◌∷◌, Option, Some, None, is_some, cond, refl, sym, ap, ap₂, ◌∙◌, subst, ◌⊎◌, inl, inr, arith}
+use Rattle.std.proofs.Common.{◌≡◌, ◌≢◌, ℕ, zero, suc, ◌+◌, Bool, true, false, not, ◌&&◌, ◌||◌, ◌==◌, nat_lt, if◌then◌else◌, true≢false, List, [], ◌∷◌, Option, Some, None, is_some, refl, sym, ap, ap₂, ◌∙◌, subst, ◌⊎◌, inl, inr, arith}
 use Rattle.std.proofs.lemmas.Bool.Decides.{nat_tests}
 use Rattle.ub_base.specs.declared.clause.Kind.{Kind}
 use Rattle.ub_base.specs.declared.clause.Kind.TheVariants.{Val, Eff, Body}
@@ -14,9 +14,9 @@ use Rattle.c_typed.specs.Order.{Taken, place, same_place, is_choice, is_last}
 use Rattle.c_typed.specs.Decide.{due_in, is_before}
 use Rattle.prov_memory.specs.Script.{Script}
 use Rattle.c_model.specs.Program.{Program, Head, And, Or, Cond, Expr, expr, Exprs, none, more, tree_of, trees_of, head_class}
-use Rattle.c_model.specs.Values.{Value, or_nothing, truth}
-use Rattle.c_model.specs.Steps.{Scene, Begun, with_given, taken_by, choice_in, choice_by, first_known, values_of, at_node, at_node_among, is_done, quiet_value}
-use Rattle.c_model.specs.ChoiceLaws.{IsNext, IsReached, due_now, before_now}
+use Rattle.c_model.specs.Values.{Value, or_nothing}
+use Rattle.c_model.specs.Steps.{Scene, Begun, with_given, taken_by, choice_in, choice_by, values_of, at_node, at_node_among, quiet_value}
+use Rattle.c_model.specs.ChoiceLaws.{IsNext, IsReached}
 use Rattle.c_model.proofs.LaterChoices.{due_kept, x, chooses, chooses_among, Held, old_before}
 
 abbrev val_at : ℕ → Place

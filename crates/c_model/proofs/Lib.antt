@@ -6,3 +6,5 @@ mod LaterChoices
 mod LaterPicks
 mod Operands
 mod TwoEvents
+mod Updates
+mod Halves

@@ -1,14 +1,13 @@
 -- What an event that may come next reads of its full expression no other such event gives.
-use Rattle.std.proofs.Common.{◌≡◌, ◌≢◌, ℕ, zero, suc, ◌+◌, ◌<◌, ◌≤◌, Bool, true, false, not, ◌&&◌, ◌||◌, ◌==◌, nat_lt, if◌then◌else◌, true≢false, List, [], ◌∷◌, Option, Some, None, is_some, refl, sym, ap, ap₂, ◌∙◌, subst, ◌⊎◌, inl, inr, arith}
+use Rattle.std.proofs.Common.{◌≡◌, ◌≢◌, ℕ, suc, ◌+◌, ◌<◌, ◌≤◌, Bool, true, false, not, ◌&&◌, ◌||◌, ◌==◌, nat_lt, if◌then◌else◌, true≢false, Option, Some, refl, sym, ap, ◌∙◌, subst, ◌⊎◌, inl, inr, arith}
 use Rattle.std.proofs.lemmas.Bool.Decides.{nat_tests}
 use Rattle.ub_base.specs.declared.clause.Kind.{Kind}
 use Rattle.ub_base.specs.declared.clause.Kind.TheVariants.{Val, Eff, Body}
 use Rattle.c_types.specs.Types.{CType}
-use Rattle.c_typed.specs.declared.tree.Place.{Place}
 use Rattle.c_typed.specs.declared.class.Class.{Class}
-use Rattle.c_typed.specs.declared.class.Class.TheVariants.{Call, Update}
-use Rattle.c_typed.specs.Tree.{Tree, Trees, size, sizes, is_quiet}
-use Rattle.c_typed.specs.Order.{Taken, place, own_rule, is_val, is_body, is_last}
+use Rattle.c_typed.specs.declared.class.Class.TheVariants.{Call}
+use Rattle.c_typed.specs.Tree.{size, sizes, is_quiet}
+use Rattle.c_typed.specs.Order.{Taken, place, own_rule, is_body, is_last}
 use Rattle.c_typed.specs.Decide.{is_before, rises, to_val, between, lifts}
 use Rattle.c_model.specs.Program.{Head, Expr, expr, Exprs, none, more, tree_of, trees_of, head_class}
 use Rattle.c_model.specs.Steps.{at_node, at_node_among}
@@ -16,10 +15,6 @@ use Rattle.c_model.specs.Steps.{at_node, at_node_among}
 abbrev pub is_call : Class → Bool
 is_call Call = true
 is_call _ = false
-
-abbrev pub is_update : Class → Bool
-is_update Update = true
-is_update _ = false
 
 -- the number of an operand that isn't quiet
 abbrev pub is_operand : ℕ → Exprs → ℕ → Bool

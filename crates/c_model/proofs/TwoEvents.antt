@@ -1,5 +1,5 @@
 -- Of two events that may come next neither gives what the other one reads.
-use Rattle.std.proofs.Common.{◌≡◌, ◌≢◌, ℕ, zero, suc, ◌+◌, Bool, true, false, not, ◌&&◌, ◌||◌, ◌==◌, if◌then◌else◌, true≢false, List, [], ◌∷◌, Option, Some, None, is_some, refl, sym, ap, ap₂, ◌∙◌, subst, arith}
+use Rattle.std.proofs.Common.{◌≡◌, ◌≢◌, ℕ, suc, ◌+◌, Bool, true, false, not, ◌&&◌, ◌||◌, ◌==◌, if◌then◌else◌, true≢false, List, [], ◌∷◌, Option, Some, None, refl, sym, ap, ap₂, ◌∙◌, subst, arith}
 use Rattle.std.proofs.lemmas.Bool.Decides.{nat_tests}
 use Rattle.ub_base.specs.declared.clause.Kind.{Kind}
 use Rattle.ub_base.specs.declared.clause.Kind.TheVariants.{Val, Eff, Body}
@@ -15,13 +15,13 @@ use Rattle.c_typed.specs.Order.{Taken, place, own_rule, is_body}
 use Rattle.c_typed.specs.Decide.{is_before}
 use Rattle.prov_memory.specs.Script.{Script}
 use Rattle.c_model.specs.Program.{Program, Head, Assign, Update, Call, Listed, Isolated, Expr, expr, Exprs, none, more, tree_of, trees_of, head_class}
-use Rattle.c_model.specs.Values.{Value, Fun, or_nothing}
+use Rattle.c_model.specs.Values.{Value, or_nothing}
 use Rattle.c_model.specs.Nodes.{act_of}
-use Rattle.c_model.specs.Moves.{Move, Stay}
-use Rattle.c_model.specs.Steps.{Local, Scene, Begun, Ev, with_given, taken_by, quiet_value, values_of, operand_values, at_node, own_kind, event_of, call_act, event_act, started, move_of, type_of_first, does, move, next}
-use Rattle.c_model.specs.ChoiceLaws.{IsNext}
+use Rattle.c_model.specs.Moves.{Stay}
+use Rattle.c_model.specs.Steps.{Local, Scene, Begun, with_given, taken_by, quiet_value, values_of, operand_values, at_node, own_kind, event_of, call_act, event_act, started, move_of, type_of_first}
+use Rattle.c_model.specs.ChoiceLaws.{IsNext, is_update}
 use Rattle.c_model.proofs.LaterPicks.{given_other, given_swap, not_before}
-use Rattle.c_model.proofs.Operands.{is_call, is_update, is_operand, operand_before, own_before}
+use Rattle.c_model.proofs.Operands.{is_call, is_operand, operand_before, own_before}
 
 body_rule : (n : Class) → own_rule n Body Val ≡ true
 body_rule class.Update = refl

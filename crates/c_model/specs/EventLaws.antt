@@ -1,5 +1,5 @@
 -- Two events of one frame that may both come next (own).
-use Rattle.std.specs.Prelude.{◌≡◌, ◌≢◌, Bool, List, Option, Some}
+use Rattle.std.specs.Prelude.{◌≡◌, ◌≢◌, Bool, List, Some}
 use Rattle.ub_base.specs.declared.names.Event.{Event}
 use Rattle.addr_map.specs.declared.map.Row.{Row}
 use Rattle.c_types.specs.declared.library.LibFunc.{LibFunc}
