@@ -14,7 +14,7 @@ use Rattle.prov_memory.specs.Script.{Script}
 use Rattle.c_model.specs.Program.{Program, tree_of}
 use Rattle.c_model.specs.Values.{Value}
 use Rattle.c_model.specs.Steps.{Scene, Begun, with_given, taken_by}
-use Rattle.c_model.specs.ChoiceLaws.{IsNext, IsReached, IsClosed, update_at}
+use Rattle.c_model.specs.ChoiceLaws.{IsNext, IsReached, update_at}
 use Rattle.c_model.proofs.LaterChoices.{due_kept}
 use Rattle.c_model.proofs.LaterPicks.{given_other, still_given, reached_next, reached_made, choices_kept, old_or_u, none_some, same_place-eq}
 use Rattle.c_model.proofs.Updates.{halves, due_halves, halves_back}
@@ -28,10 +28,10 @@ refl_kind Val = refl
 refl_kind Eff = refl
 refl_kind Body = refl
 
-refl_place : (p : Place) → same_place p p ≡ true
+pub refl_place : (p : Place) → same_place p p ≡ true
 refl_place p = both_true _ _ (grind (arith, nat_tests)) (refl_kind p.kind)
 
-given_at : (e : Begun) (u v : Place) (w : Value) → u ≡ v → is_some ((with_given e u w).given v) ≡ true
+pub given_at : (e : Begun) (u v : Place) (w : Value) → u ≡ v → is_some ((with_given e u w).given v) ≡ true
 given_at e u v w q = go (same_place u v) refl
   where
     go : (b : Bool) → same_place u v ≡ b → is_some (if b then Some w else e.given v) ≡ true
@@ -39,15 +39,17 @@ given_at e u v w q = go (same_place u v) refl
     go false s = absurd (true≢false (sym (subst (λ z. same_place u z ≡ true) q (refl_place u)) ∙ s))
 
 module _ (program : Program) (rows : List Row) (agree : CType → CType → Bool) (library : LibFunc → Event → List Value → Script Value) where
-  pub closed_next : (sc : Scene) (e : Begun) (u : Place) (w : Value) → IsNext program rows agree library sc e u → IsClosed program rows agree library sc e
-      → (v : Place) → is_some ((with_given e u w).given v) ≡ true → IsReached program rows agree library sc (with_given e u w) v
-  closed_next sc e u w n closed v h = go (same_place u v) refl
+  pub closed_at : (sc : Scene) (e : Begun) (u : Place) (w : Value) → IsNext program rows agree library sc e u → (v : Place)
+      → (is_some (e.given v) ≡ true → IsReached program rows agree library sc e v)
+      → is_some ((with_given e u w).given v) ≡ true
+      → IsReached program rows agree library sc (with_given e u w) v
+  closed_at sc e u w n v closed h = go (same_place u v) refl
     where
       go : (b : Bool) → same_place u v ≡ b → IsReached program rows agree library sc (with_given e u w) v
       go true eq = subst (λ z. IsReached program rows agree library sc (with_given e u w) z) (same_place-eq u v eq) (reached_made program rows agree library sc e u w n)
-      go false eq = reached_next program rows agree library sc e u v w n (closed v (subst (λ b. is_some (if b then Some w else e.given v) ≡ true) eq h))
+      go false eq = reached_next program rows agree library sc e u v w n (closed (subst (λ b. is_some (if b then Some w else e.given v) ≡ true) eq h))
 
-  module _ (sc : Scene) (e : Begun) (m : ℕ) (w : Value) (up : update_at 0 (tree_of e.root) m ≡ true) (n : IsNext program rows agree library sc e (place m Val)) (closed : IsClosed program rows agree library sc e) where
+  module _ (sc : Scene) (e : Begun) (m : ℕ) (w : Value) (up : update_at 0 (tree_of e.root) m ≡ true) (n : IsNext program rows agree library sc e (place m Val)) (closed : is_some (e.given (place m Eff)) ≡ true → IsReached program rows agree library sc e (place m Eff)) where
     abbrev T : Taken
     T = taken_by program rows agree library sc e
 
@@ -61,7 +63,7 @@ module _ (program : Program) (rows : List Row) (agree : CType → CType → Bool
         go : (o : Option Value) → e.given (place m Eff) ≡ o → e.given (place m Eff) ≡ None
         go None q = q
         go (Some v) q =
-            let reached = closed (place m Eff) (ap is_some q) in
+            let reached = closed (ap is_some q) in
             absurd (none_some (e.given (place m Val)) n.left (reached.earlier (place m Val) n.due (halves T m (tree_of e.root) 0 up)))
 
     val_not_eff : place m Val ≢ place m Eff

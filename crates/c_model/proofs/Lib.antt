@@ -8,3 +8,4 @@ mod Operands
 mod TwoEvents
 mod Updates
 mod Halves
+mod FramesKeep

@@ -15,4 +15,5 @@ pub mod Placement
 pub mod Examples
 pub mod ChoiceLaws
 pub mod EventLaws
+pub mod ModelMachine
 pub mod Laws

@@ -15,6 +15,7 @@ ghost use Rattle.c_model.specs.Laws.{IsIrreflexive, IsAsymmetric, IsTransitive};
 ghost use Rattle.c_model.specs.ChoiceLaws.{ReachedStays, NothingNewBefore, EitherNext, EitherOrder, StaysClosed, MoreChoices, EffectComesNext, ValueThenEffect};
 ghost use Rattle.c_model.specs.EventLaws.{SameAct, SameMove, SameFrame};
 ghost use Rattle.c_model.specs.MachineLaws.{OrdersEndAlike};
+ghost use Rattle.c_model.specs.ModelMachine.{FramesKeepLaws, FramesEndAlike};
 ghost use Rattle.c_model.specs.Examples.{canonical_run, audit, pair_of, picks_of, NeedsRows, HoldsRace, HoldsQuarrel, HoldsEndQuarrel, trace_of, enter, leave, begin, settle, event, main_local, local_rows, global_rows, both_rows, list_rows, return_zero, add_one, self_increment, divide_by_zero, print_both, list_both, pass_both, increment_and_call, comma_between, and_beside, loop_forever, quit_beside};
 
 /// The first finding of small programs, as the definitions give it, with the picks that lead to it.
@@ -109,4 +110,11 @@ pub fn law_two_events()
 /// Where the picks of a machine of frames keep these laws, every permitted order ends as one run without conflicts does.
 pub fn law_orders_end_alike<F, P, V, S, I, Part, Seen, Fact>()
     ensures { OrdersEndAlike F P V S I Part Seen Fact }
+{}
+
+/// The frames of every program keep the laws of the frame, of the order and of updates, whatever is looked at in the store; so where its
+/// acts keep those of the store, every permitted order ends as one run without conflicts does.
+pub fn law_frames_keep<Part, Seen, Fact>()
+    ensures keep { FramesKeepLaws Part Seen Fact }
+    ensures ends { FramesEndAlike Part Seen Fact }
 {}
