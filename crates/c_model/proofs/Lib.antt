@@ -2,3 +2,10 @@ mod Ranks
 mod Reach
 mod MachineRuns
 mod MachineOrders
+mod LaterChoices
+mod LaterPicks
+mod Operands
+mod TwoEvents
+mod Updates
+mod Halves
+mod FramesKeep

@@ -13,4 +13,7 @@ pub mod Moments
 pub mod FirstFinding
 pub mod Placement
 pub mod Examples
+pub mod ChoiceLaws
+pub mod EventLaws
+pub mod ModelMachine
 pub mod Laws

@@ -12,7 +12,10 @@ ghost use Rattle.c_typed.specs.Order.{place};
 ghost use Rattle.c_model.specs.Findings.{Meets};
 ghost use Rattle.c_model.specs.FirstFinding.{Clean, Undefined, Raced, Order_dependent, Out_of_steps};
 ghost use Rattle.c_model.specs.Laws.{IsIrreflexive, IsAsymmetric, IsTransitive};
+ghost use Rattle.c_model.specs.ChoiceLaws.{ReachedStays, NothingNewBefore, EitherNext, EitherOrder, StaysClosed, MoreChoices, EffectComesNext, ValueThenEffect};
+ghost use Rattle.c_model.specs.EventLaws.{SameAct, SameMove, SameFrame};
 ghost use Rattle.c_model.specs.MachineLaws.{OrdersEndAlike};
+ghost use Rattle.c_model.specs.ModelMachine.{FramesKeepLaws, FramesEndAlike};
 ghost use Rattle.c_model.specs.Examples.{canonical_run, audit, pair_of, picks_of, NeedsRows, HoldsRace, HoldsQuarrel, HoldsEndQuarrel, trace_of, enter, leave, begin, settle, event, main_local, local_rows, global_rows, both_rows, list_rows, return_zero, add_one, self_increment, divide_by_zero, print_both, list_both, pass_both, increment_and_call, comma_between, and_beside, loop_forever, quit_beside};
 
 /// The first finding of small programs, as the definitions give it, with the picks that lead to it.
@@ -77,7 +80,41 @@ pub fn law_sequenced_before()
     ensures transitive { IsTransitive }
 {}
 
+/// What a pick of a full expression keeps of its other events, whatever operand is chosen by it, by the recursive decision of
+/// sequenced before: what was reached stays reached, nothing new comes before it, and two picks that may come next leave each other so
+/// and may come in either order.
+pub fn law_later_choices()
+    ensures reached { ReachedStays }
+    ensures before { NothingNewBefore }
+    ensures either { EitherNext }
+    ensures order { EitherOrder }
+{}
+
+/// By that decision the value of an update comes before its effect and whatever else does before the value (6.5.2.4p2, 6.5.16.2p3); so once
+/// the value is taken the effect may come next, where all that is done was reached, which picks keep. More choices order more.
+pub fn law_update_halves()
+    ensures closed { StaysClosed }
+    ensures choices { MoreChoices }
+    ensures effect { EffectComesNext }
+    ensures halves { ValueThenEffect }
+{}
+
+/// Of two events of one frame that may both come next, the second does what it does without the first, to the store and to the frames,
+/// and the frame is the same after both in either order.
+pub fn law_two_events()
+    ensures act { SameAct }
+    ensures moves { SameMove }
+    ensures frame { SameFrame }
+{}
+
 /// Where the picks of a machine of frames keep these laws, every permitted order ends as one run without conflicts does.
 pub fn law_orders_end_alike<F, P, V, S, I, Part, Seen, Fact>()
     ensures { OrdersEndAlike F P V S I Part Seen Fact }
+{}
+
+/// The frames of every program keep the laws of the frame, of the order and of updates, whatever is looked at in the store; so where its
+/// acts keep those of the store, every permitted order ends as one run without conflicts does.
+pub fn law_frames_keep<Part, Seen, Fact>()
+    ensures keep { FramesKeepLaws Part Seen Fact }
+    ensures ends { FramesEndAlike Part Seen Fact }
 {}
