@@ -1,0 +1,9 @@
+//! The programs that `cub self` audits: straight lines of unsigned arithmetic, drawn from a seed.
+#![tactic(auto)]
+
+mod text;
+
+pub use text::generated;
+
+#[cfg(test)]
+mod tests;

@@ -1,0 +1,10 @@
+//! The files that a command names: fetched in turn, each within its limit, and a certificate kept.
+#![tactic(auto)]
+
+mod fetch;
+mod keep;
+mod role;
+
+pub use fetch::{FetchFault, Sources, fetch_file, fetch_sources};
+pub use keep::{KeepFault, keep_certificate};
+pub use role::Role;
