@@ -348,3 +348,14 @@ jump_in = program_of (defined [] (Goto 0 ∷ Block 1 (int_decl ∷ []) (statemen
 
 abbrev pub inner_rows : List Row
 inner_rows = row_of (Auto (record { 0 = 0 }) 2 0) 16777232 4 ∷ []
+
+abbrev pub large_decl : Decl
+large_decl = record array_decl { size = 400000000 }
+
+-- int main(void){int a[100000000];return 0;}
+abbrev pub large_block : Program
+large_block = program_of (defined (large_decl ∷ []) (Declare 0 ∷ Return (number 0) ∷ []) ∷ []) []
+
+-- int a[100000000];int main(void){return 0;}
+abbrev pub large_static : Program
+large_static = program_of (defined [] (Return (number 0) ∷ []) ∷ []) (record { name = Static 0; decl = large_decl; literal = false; bytes = [] } ∷ [])
