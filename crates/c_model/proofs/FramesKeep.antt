@@ -1,11 +1,10 @@
 -- The frames of a program keep the laws of the frame, of the order and of updates.
-use Rattle.std.proofs.Common.{◌≡◌, ◌≢◌, ℕ, zero, suc, ◌+◌, ◌<◌, ◌≤◌, Bool, true, false, not, ◌&&◌, ◌||◌, ◌==◌, nat_lt, if◌then◌else◌, true≢false, List, [], ◌∷◌, Option, Some, None, is_some, refl, sym, ap, ap₂, ◌∙◌, subst, ◌⊎◌, inl, inr, arith}
+use Rattle.std.proofs.Common.{◌≡◌, ◌≢◌, ℕ, zero, suc, ◌+◌, ◌<◌, ◌≤◌, Bool, true, false, not, ◌&&◌, ◌||◌, ◌==◌, nat_lt, if◌then◌else◌, true≢false, List, ◌∷◌, Option, Some, None, is_some, refl, sym, ap, ap₂, ◌∙◌, subst, ◌⊎◌, inl, inr, arith}
 use Rattle.std.proofs.lemmas.Bool.Decides.{nat_tests}
 use Rattle.std.specs.List.{list_all}
 use Rattle.ub_base.specs.declared.clause.Kind.{Kind}
 use Rattle.ub_base.specs.declared.clause.Kind.TheVariants.{Val, Eff, Body}
 use Rattle.ub_base.specs.declared.names.Event.{Event}
-use Rattle.ub_base.specs.Names.{same_kind}
 use Rattle.addr_map.specs.declared.map.Row.{Row}
 use Rattle.c_types.specs.declared.library.LibFunc.{LibFunc}
 use Rattle.c_types.specs.Types.{CType}
@@ -13,7 +12,7 @@ use Rattle.c_typed.specs.declared.tree.Place.{Place}
 use Rattle.c_typed.specs.declared.class.Class.{Class}
 use Rattle.c_typed.specs.Tree.{Tree, node, Trees, none, more, size, sizes}
 use Rattle.c_typed.specs.Order.{Taken, place, same_place, is_val, is_body}
-use Rattle.c_typed.specs.Decide.{due_in, due_among, is_before}
+use Rattle.c_typed.specs.Decide.{due_in, due_among}
 use Rattle.prov_memory.specs.Script.{Script, run}
 use Rattle.c_model.specs.Program.{Program, Head, Call, Isolated, Expr, expr, tree_of, Stmt, Function}
 use Rattle.c_model.specs.Values.{Value, Fun}
@@ -22,8 +21,8 @@ use Rattle.c_model.specs.Steps.{Scene, Local, Begun, Pick, Control, Ev, with_giv
 use Rattle.c_model.specs.Moments.{places_from}
 use Rattle.c_model.specs.MachineLaws.{FrameLaws, OrderLaws, UpdateLaws}
 use Rattle.c_model.specs.ChoiceLaws.{IsNext, IsReached, due_now, before_now, update_at}
-use Rattle.c_model.specs.ModelMachine.{StorePart, done_by, gives, start_where, every, nodes, none_open, may_start_in, is_control, opens_in, half, done_in, is_reached, is_closed, ready_in, beside_in, level_in, frame_machine}
-use Rattle.c_model.proofs.LaterPicks.{given_other, still_given, reached_next, keeps_ready, not_before, before_stays, choices_kept, none_some, same_place-eq}
+use Rattle.c_model.specs.ModelMachine.{StorePart, done_by, gives, start_where, every, nodes, none_open, may_start_in, is_control, opens_in, half, done_in, is_reached, ready_in, beside_in, level_in, frame_machine}
+use Rattle.c_model.proofs.LaterPicks.{reached_next, keeps_ready, not_before, before_stays, choices_kept, none_some, same_place-eq}
 use Rattle.c_model.proofs.TwoEvents.{event_same, frames_same, frame_swap}
 use Rattle.c_model.proofs.Updates.{before_kept, halves}
 use Rattle.c_model.proofs.Halves.{given_at, refl_place, closed_at, effect_next}

@@ -1,5 +1,5 @@
 -- Small programs, and what the definitions give for them.
-use Rattle.std.specs.Prelude.{◌≡◌, ℕ, zero, suc, Bool, true, false, List, [], ◌∷◌, Option, Some, None, pos}
+use Rattle.std.specs.Prelude.{◌≡◌, ℕ, zero, suc, Bool, true, false, List, [], ◌∷◌, Option, Some, None, pos, negsuc}
 use Rattle.ub_base.specs.declared.names.Event.{Event}
 use Rattle.ub_base.specs.declared.names.ObjName.{ObjName}
 use Rattle.ub_base.specs.declared.names.ObjName.TheVariants.{Static, Auto}
@@ -14,11 +14,14 @@ use Rattle.c_types.specs.Shapes.{leaf, repeat}
 use Rattle.c_typed.specs.declared.tree.Slot.TheVariants as slot
 use Rattle.c_typed.specs.declared.tree.Access.TheVariants as access
 use Rattle.c_typed.specs.declared.tree.Change.TheVariants as change
+use Rattle.c_typed.specs.declared.tree.Conversion.TheVariants as conversion
+use Rattle.c_typed.specs.declared.tree.RelOp.TheVariants as relation
+use Rattle.c_typed.specs.declared.tree.EqOp.TheVariants as equality
 use Rattle.c_typed.specs.declared.tree.Place.{Place}
 use Rattle.addr_map.specs.declared.map.Row.{Row}
 use Rattle.addr_map.specs.declared.map.Mode.TheVariants.{Spaced}
-use Rattle.prov_memory.specs.Script.{Script, Give, Finish, Print, touch, ◌>>◌}
-use Rattle.c_model.specs.Program.{Head, Number, Obj, Func, Load, Member, Bin, Assign, Update, And, Comma, Call, Listed, Isolated, Expr, expr, Exprs, none, more, Decl, Stmt, Value, Empty, Block, For, Return, Stmts, end, and_then, Function, Standing, Program}
+use Rattle.prov_memory.specs.Script.{Script, Give, Finish, Take, Print, touch, ◌>>=◌, ◌>>◌}
+use Rattle.c_model.specs.Program.{Head, Number, Obj, Func, Load, Conv, Rel, Eq, Member, Bin, Assign, Update, And, Comma, Call, Listed, Isolated, Expr, expr, Exprs, none, more, Decl, Stmt, Value, Empty, Declare, Block, If_only, Switch, While, For, Goto, Continue, Break, Return, Label, Case, Default, Stmts, end, and_then, Function, Standing, Program}
 use Rattle.c_model.specs.Values as values
 use Rattle.c_model.specs.Values.{int_bytes}
 use Rattle.c_model.specs.Control.{Todo, Enter, Leave, Unwrite, Begin, ready_work}
@@ -95,9 +98,15 @@ local_rows = row_of main_local 16777232 4 ∷ []
 abbrev pub global_rows : List Row
 global_rows = row_of (Static 0) 16777232 4 ∷ []
 
--- `putchar` and `exit` alone; every call here has the type of its function
+-- what `getchar` gives for a byte, or at the end of the input
+abbrev pub read_value : Option ℕ → values.Value
+read_value None = values.Int (negsuc 0)
+read_value (Some n) = values.Int (pos n)
+
+-- `putchar`, `getchar` and `exit` alone; every call here has the type of its function
 abbrev pub library : LibFunc → Event → List values.Value → Script values.Value
 library lib.Putchar who (values.Int (pos n) ∷ vs) = touch (Print (n ∷ [])) >> Give (values.Int (pos n))
+library lib.Getchar who vs = touch Take >>= (λ b. Give (read_value b))
 library lib.Exit who (values.Int (pos n) ∷ vs) = Finish n
 library f who vs = Give values.Nothing
 
@@ -111,9 +120,12 @@ program_of fs os = record { functions = fs; main = 0; standing = os }
 abbrev pub canonical_run : Program → List Row → ℕ → Outcome
 canonical_run p rows n = on_running (start p rows any_type library [] []) (canonical_after p rows any_type library n)
 
--- the first finding within a budget, without input and arguments
+-- the first finding within a budget, on this input, without arguments
+abbrev pub audit_on : List ℕ → Program → List Row → ℕ → Finding
+audit_on input p rows budget = first_finding p rows any_type library budget input []
+
 abbrev pub audit : Program → List Row → ℕ → Finding
-audit p rows budget = first_finding p rows any_type library budget [] []
+audit p rows budget = audit_on [] p rows budget
 
 -- so many picks of the canonical order need these rows
 abbrev pub NeedsRows : Program → List Row → ℕ → Type 0
@@ -257,3 +269,93 @@ list_both = program_of (defined (int_decl ∷ array_decl ∷ [])
 
 abbrev pub list_rows : List Row
 list_rows = row_of main_local 16777232 4 ∷ row_of (Auto (record { 0 = 0 }) 1 1) 16777264 8 ∷ []
+
+-- int main(void){return E;}
+abbrev pub return_of : Expr → Program
+return_of e = program_of (defined [] (Return e ∷ []) ∷ []) []
+
+abbrev pub subtract : Expr → Expr → Expr
+subtract a b = two (Bin op.Sub kind.Int) a b
+
+-- 2147483647+1
+abbrev pub past_the_greatest : Program
+past_the_greatest = return_of (add (number 2147483647) (number 1))
+
+-- 1<<31
+abbrev pub shift_too_far : Program
+shift_too_far = return_of (two (Bin op.Shl kind.Int) (number 1) (number 31))
+
+-- 7/2
+abbrev pub divide : Program
+divide = return_of (two (Bin op.Div kind.Int) (number 7) (number 2))
+
+-- int main(void){int x;return x;}
+abbrev pub unwritten_load : Program
+unwritten_load = program_of (defined (int_decl ∷ []) (Declare 0 ∷ Return (load local) ∷ []) ∷ []) []
+
+-- const int c=1;int main(void){*(int*)&c=2;return 0;}
+abbrev pub store_to_const : Program
+store_to_const = program_of (defined [] (Value (assign false (one (Conv (conversion.Pointer 4)) global) (number 2)) ∷ Return (number 0) ∷ []) ∷ [])
+    (record { name = Static 0; decl = record int_decl { constant = true }; literal = false; bytes = int_bytes kind.Int (pos 1) } ∷ [])
+
+-- int f(void){}int main(void){return f();}
+abbrev pub missing_value : Program
+missing_value = program_of (defined [] (Return (call 1 none) ∷ []) ∷ defined [] [] ∷ []) []
+
+-- int f(void){}int main(void){f();return 0;}
+abbrev pub value_unused : Program
+value_unused = program_of (defined [] (Value (expr (Call true) int_type (more (expr (Func 1) int_function none) none)) ∷ Return (number 0) ∷ []) ∷ defined [] [] ∷ []) []
+
+-- int getchar(void);int main(void){return getchar()-getchar();}
+abbrev pub read_both : Program
+read_both = program_of (defined [] (Return (subtract (call 1 none) (call 1 none)) ∷ []) ∷ library_function int_function lib.Getchar ∷ []) []
+
+abbrev pub second_local : Expr
+second_local = expr (Obj (slot.Auto 0 1)) int_type none
+
+-- int getchar(void);int main(void){int c=getchar();int d=getchar();return d-c;}
+abbrev pub read_in_turn : Program
+read_in_turn = program_of (defined (int_decl ∷ int_decl ∷ [])
+    (Value (assign true local (call 1 none)) ∷ Value (assign true second_local (call 1 none)) ∷ Return (subtract (load second_local) (load local)) ∷ [])
+    ∷ library_function int_function lib.Getchar ∷ []) []
+
+-- void exit(int);int quit(void){exit(3);return 0;}int main(void){int p;p=quit();return p;}
+abbrev pub quit_alone : Program
+quit_alone = program_of (defined (int_decl ∷ []) (Declare 0 ∷ Value (assign false local (call 1 none)) ∷ Return (load local) ∷ [])
+    ∷ defined [] (Value (call 2 (more (number 3) none)) ∷ Return (number 0) ∷ [])
+    ∷ library_function int_function lib.Exit ∷ []) []
+
+abbrev pub decrement : Expr → Expr
+decrement p = one (Update (change.Integer op.Sub kind.Int kind.Int) true) p
+
+abbrev pub is_equal : Expr → Expr → Expr
+is_equal a b = two (Eq equality.Equal) a b
+
+-- int main(void){int i=0;again:i++;if(i<3)goto again;switch(i){case 3:i=7;break;default:i=9;}while(i>5){i--;if(i==6)continue;break;}return i;}
+abbrev pub jump_about : Program
+jump_about = program_of (defined (int_decl ∷ [])
+    (Value (assign true local (number 0))
+    ∷ Label 0 (Value (increment local))
+    ∷ If_only (two (Rel relation.Less false) (load local) (number 3)) (Goto 0)
+    ∷ Switch (load local) (Block 1 [] (statements (Case (pos 3) (Value (assign false local (number 7))) ∷ Break ∷ Default (Value (assign false local (number 9))) ∷ [])))
+    ∷ While (two (Rel relation.Greater false) (load local) (number 5))
+    (Block 2 [] (statements (Value (decrement local) ∷ If_only (is_equal (load local) (number 6)) Continue ∷ Break ∷ [])))
+    ∷ Return (load local) ∷ []) ∷ []) []
+
+-- int main(void){goto in;{int k;in:return 0;}}
+abbrev pub jump_in : Program
+jump_in = program_of (defined [] (Goto 0 ∷ Block 1 (int_decl ∷ []) (statements (Declare 0 ∷ Label 0 (Return (number 0)) ∷ [])) ∷ []) ∷ []) []
+
+abbrev pub inner_rows : List Row
+inner_rows = row_of (Auto (record { 0 = 0 }) 2 0) 16777232 4 ∷ []
+
+abbrev pub large_decl : Decl
+large_decl = record array_decl { size = 400000000 }
+
+-- int main(void){int a[100000000];return 0;}
+abbrev pub large_block : Program
+large_block = program_of (defined (large_decl ∷ []) (Declare 0 ∷ Return (number 0) ∷ []) ∷ []) []
+
+-- int a[100000000];int main(void){return 0;}
+abbrev pub large_static : Program
+large_static = program_of (defined [] (Return (number 0) ∷ []) ∷ []) (record { name = Static 0; decl = large_decl; literal = false; bytes = [] } ∷ [])

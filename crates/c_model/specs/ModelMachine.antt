@@ -14,7 +14,7 @@ use Rattle.prov_memory.specs.Store.{Store}
 use Rattle.prov_memory.specs.Script.{Script, Give, Act, Done, run}
 use Rattle.c_model.specs.Program.{Program, tree_of}
 use Rattle.c_model.specs.Values.{Value}
-use Rattle.c_model.specs.Moves.{Move, Stay, Start, End}
+use Rattle.c_model.specs.Moves.{Move, Stay, Start}
 use Rattle.c_model.specs.Steps.{Scene, Local, Begun, Pick, Control, Ev, move, does, next}
 use Rattle.c_model.specs.Moments.{places_from}
 use Rattle.c_model.specs.Machine.{Did, Machine, Rest, State, Order, RemainsAt, all_picks}

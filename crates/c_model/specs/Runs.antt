@@ -1,5 +1,5 @@
 -- Orders of picks, their traces, and the canonical order.
-use Rattle.std.specs.Prelude.{◌≡◌, ℕ, zero, suc, ◌+◌, Bool, true, false, nat_lt, List, [], ◌∷◌, length, Option, Some, None, is_some, if◌then◌else◌, pos, unsigned_abs}
+use Rattle.std.specs.Prelude.{◌≡◌, ℕ, zero, suc, ◌+◌, ◌^◌, min, max, Bool, true, false, nat_lt, List, [], ◌∷◌, length, map, Option, Some, None, is_some, if◌then◌else◌, pos, unsigned_abs}
 use Rattle.std.specs.Int.{int_rem_euclid}
 use Rattle.ub_base.specs.declared.clause.Clause.{Clause}
 use Rattle.ub_base.specs.declared.clause.Cause.{Cause}
@@ -18,9 +18,9 @@ use Rattle.prov_memory.specs.Store.{Store, fresh}
 use Rattle.prov_memory.specs.Script.{Script, Give, Act, Done, Raised, Ended, Outside, Unplaced, run, ◌>>=◌, ◌>>◌}
 use Rattle.prov_memory.specs.Acts.{create, store, bytes}
 use Rattle.exposure.specs.declared.prov.Prov.TheVariants as prov
-use Rattle.c_model.specs.Program.{Program, Standing, Stmt, tree_of}
+use Rattle.c_model.specs.Program.{Program, Decl, Standing, Stmt, tree_of}
 use Rattle.c_model.specs.Values.{Value, Int, Nothing}
-use Rattle.c_model.specs.Control.{opened}
+use Rattle.c_model.specs.Control.{Todo, Enter, ready_work, opened}
 use Rattle.c_model.specs.Moves.{Move, Stay, Start, End}
 use Rattle.c_model.specs.Steps.{Local, Begun, Pick, Control, Ev, MayPick, move, does, next, taken_by, is_done, body_of}
 
@@ -76,6 +76,23 @@ abbrev pub within : Option (Cause × ℕ) → Outcome → Outcome
 within None o = o
 within (Some c) o = Over c.0 c.1
 
+-- the sum of created bytes after these objects, each counted as at least 16 (own)
+abbrev pub created_after : ℕ → List Decl → ℕ
+created_after n [] = n
+created_after n (d ∷ ds) = created_after (min (n + max d.size 16) (2 ^ 62)) ds
+
+abbrev pub too_many : ℕ → Option (Cause × ℕ)
+too_many n = if nat_lt 67108864 n then Some (cause.Created, n) else None
+
+-- a block whose objects would pass the limit: it goes before whether they have rows, and nothing of it is created (own)
+abbrev pub block_passes : Store → Todo → Option (Cause × ℕ)
+block_passes s (Enter b ds ∷ rest) = too_many (created_after s.created ds)
+block_passes s _ = None
+
+abbrev pub enter_passes : State → Pick → Option (Cause × ℕ)
+enter_passes st (Ev u) = None
+enter_passes st Control = if is_some st.top.begun then None else block_passes st.store (ready_work st.top.todo)
+
 abbrev pub limited : Outcome → Outcome
 limited (Running st) = within (limit_passed (depth_of st.top st.held) st.store) (Running st)
 limited o = o
@@ -109,7 +126,7 @@ module _ (program : Program) (rows : List Row) (agree : CType → CType → Bool
 
   -- what one pick does, whether or not it is permitted
   abbrev pub step : State → Pick → Outcome
-  step st p = acted st p (run rows (does program rows agree library st.top st.top.begun p) st.store)
+  step st p = within (enter_passes st p) (acted st p (run rows (does program rows agree library st.top st.top.begun p) st.store))
 
   -- the outcome of an order, from a state
   pub data After : State → List Pick → Outcome → Type 0 where
@@ -164,4 +181,4 @@ module _ (program : Program) (rows : List Row) (agree : CType → CType → Bool
 
   -- the state before the first pick, with the input and the arguments of `main`
   abbrev pub start : List ℕ → List Value → Outcome
-  start input vs = started_run (run rows (stand program.standing) (nothing_stands input)) vs
+  start input vs = within (too_many (created_after 0 (map (λ o. o.decl) program.standing))) (started_run (run rows (stand program.standing) (nothing_stands input)) vs)

@@ -5,18 +5,19 @@
 
 ghost use Rattle.std.specs.Prelude.{◌≡◌, [], ◌∷◌, Some};
 ghost use Rattle.ub_base.specs.declared.clause.Kind.TheVariants.{Val, Eff, Body};
-ghost use Rattle.ub_base.specs.declared.clause.Clause.TheVariants.{DivideByZero, Unsequenced};
+ghost use Rattle.ub_base.specs.declared.clause.Clause.TheVariants.{DivideByZero, Exceptional, Indeterminate, LeftShift, MissingValue, StoreToConst, Unsequenced};
+ghost use Rattle.ub_base.specs.declared.clause.Cause.TheVariants.{Created};
 ghost use Rattle.ub_base.specs.declared.names.ObjName.TheVariants.{Static};
-ghost use Rattle.ub_base.specs.declared.names.Item.TheVariants.{Read, Write, Output, Ending, Any};
+ghost use Rattle.ub_base.specs.declared.names.Item.TheVariants.{Read, Write, Input, Output, Ending, Any};
 ghost use Rattle.c_typed.specs.Order.{place};
 ghost use Rattle.c_model.specs.Findings.{Meets};
-ghost use Rattle.c_model.specs.FirstFinding.{Clean, Undefined, Raced, Order_dependent, Out_of_steps};
+ghost use Rattle.c_model.specs.FirstFinding.{Clean, Undefined, Raced, Order_dependent, Out_of_steps, Outside};
 ghost use Rattle.c_model.specs.Laws.{IsIrreflexive, IsAsymmetric, IsTransitive};
 ghost use Rattle.c_model.specs.ChoiceLaws.{ReachedStays, NothingNewBefore, EitherNext, EitherOrder, StaysClosed, MoreChoices, EffectComesNext, ValueThenEffect};
 ghost use Rattle.c_model.specs.EventLaws.{SameAct, SameMove, SameFrame};
 ghost use Rattle.c_model.specs.MachineLaws.{OrdersEndAlike};
 ghost use Rattle.c_model.specs.ModelMachine.{FramesKeepLaws, FramesEndAlike};
-ghost use Rattle.c_model.specs.Examples.{canonical_run, audit, pair_of, picks_of, NeedsRows, HoldsRace, HoldsQuarrel, HoldsEndQuarrel, trace_of, enter, leave, begin, settle, event, main_local, local_rows, global_rows, both_rows, list_rows, return_zero, add_one, self_increment, divide_by_zero, print_both, list_both, pass_both, increment_and_call, comma_between, and_beside, loop_forever, quit_beside};
+ghost use Rattle.c_model.specs.Examples.{canonical_run, audit, audit_on, pair_of, picks_of, NeedsRows, HoldsRace, HoldsQuarrel, HoldsEndQuarrel, trace_of, enter, leave, begin, settle, event, main_local, local_rows, global_rows, both_rows, list_rows, return_zero, add_one, self_increment, divide_by_zero, print_both, list_both, pass_both, increment_and_call, comma_between, and_beside, loop_forever, quit_beside, past_the_greatest, shift_too_far, divide, unwritten_load, store_to_const, missing_value, value_unused, read_both, read_in_turn, quit_alone, jump_about, jump_in, inner_rows, large_block, large_static};
 
 /// The first finding of small programs, as the definitions give it, with the picks that lead to it.
 pub fn law_example_findings()
@@ -33,6 +34,26 @@ pub fn law_example_findings()
     ensures and_skips { audit (and_beside 0) both_rows 20 ≡ Raced (pair_of 4 (place 0 Eff) (place 3 Eff) (Write main_local 0 1) (Write main_local 0 1)) 15 }
     ensures loop_forever { audit loop_forever [] 20 ≡ Out_of_steps 20 }
     ensures quit_beside { audit quit_beside global_rows 20 ≡ Order_dependent (pair_of 2 (place 1 Val) (place 3 Body) Any Ending) 7 }
+{}
+
+/// And of further ones: operators, a load of what wasn't written, a store to a const object, a missing result, input, an end of the run
+/// with nothing beside it, objects that are too large, and jumps.
+pub fn law_further_findings()
+    ensures past_the_greatest { audit past_the_greatest [] 20 ≡ Undefined Exceptional [] 2 (Some (place 0 Val)) 3 }
+    ensures shift_too_far { audit shift_too_far [] 20 ≡ Undefined LeftShift [] 2 (Some (place 0 Val)) 3 }
+    ensures divide { audit divide [] 20 ≡ Clean 3 [] 5 }
+    ensures and_goes_on { audit (and_beside 1) both_rows 30 ≡ Clean 1 [] 21 }
+    ensures unwritten_load { audit unwritten_load local_rows 20 ≡ Undefined Indeterminate [] 2 (Some (place 0 Val)) 4 }
+    ensures store_to_const { audit store_to_const global_rows 20 ≡ Undefined StoreToConst [] 2 (Some (place 0 Eff)) 5 }
+    ensures missing_value { audit missing_value [] 20 ≡ Undefined MissingValue [] 2 (Some (place 0 Val)) 6 }
+    ensures value_unused { audit value_unused [] 20 ≡ Clean 0 [] 10 }
+    ensures read_both { audit_on (97 ∷ 98 ∷ []) read_both [] 20 ≡ Order_dependent (pair_of 2 (place 1 Body) (place 3 Body) Input Input) 6 }
+    ensures read_in_turn { audit_on (97 ∷ 98 ∷ []) read_in_turn both_rows 30 ≡ Clean 1 [] 19 }
+    ensures quit_alone { audit quit_alone local_rows 20 ≡ Clean 3 [] 7 }
+    ensures large_block { audit large_block [] 20 ≡ Outside Created 400000000 0 }
+    ensures large_static { audit large_static [] 20 ≡ Outside Created 400000000 0 }
+    ensures jump_about { audit jump_about local_rows 100 ≡ Clean 5 [] 75 }
+    ensures jump_in { audit jump_in inner_rows 20 ≡ Clean 0 [] 7 }
 {}
 
 /// The picks of small programs in canonical order.
