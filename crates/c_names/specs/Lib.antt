@@ -1,1 +1,6 @@
+pub mod Names
+pub mod Orders
+pub mod Parts
 pub mod Texts
+pub mod Ways
+pub mod Words

@@ -1,15 +1,18 @@
 // Texts read as names.
-ghost use Rattle.std.specs.Prelude.{◌≡◌, ◌<◌, ◌≤◌, ◌-◌, ◌+◌, ◌^◌, length, IfOk, IfSome, ◌++◌};
+ghost use Rattle.std.specs.Prelude.{◌≡◌, ◌≢◌, ◌<◌, ◌^◌, ◌++◌, length, codes, IfOk, IfSome, OnErr, MatchOption};
+ghost use Rattle.ub_base.specs.Frames.{path_of};
+ghost use Rattle.c_names.specs.Names.{IsEvent, IsObject, IsPlace, event_name, object_name};
+ghost use Rattle.c_names.specs.Texts.{event_text, object_text, frame_text, numbers_text, IsNoEventText, IsNoObjectText};
+ghost use Rattle.c_names.specs.Parts.{IsNoPlaceText};
+ghost use Rattle.c_names.specs.Ways.{Extends, Reaches, ReachesObject};
+ghost use Rattle.c_names.specs.Words.{sort_text, IsNoSort};
 
-use crate::path::Step;
-use crate::words::{ObjectWords, cut, event_words, number, object_words, small_number};
+use crate::ways::read_frame;
+use crate::words::{cut, event_words, place_words, small_number};
 use std::alloc::Global;
 use ub_base::{Event, Frame, Frames, NoMemory, ObjName};
 
-/// One more than the most steps of a frame's path.
-const STEPS_END: usize = 0x8000_0000;
-
-/// The event that has this text, None where no event has. Appends the frames of its path that are missing; where None
+/// The event that has this text, None where no event has. Starts the frames of its path that are missing; where None
 /// is answered `frames` stays, and after NoMemory it may have gained rows.
 pub fn read_event(
     alloc: Global,
@@ -17,6 +20,10 @@ pub fn read_event(
     text: &[u8],
 ) -> Result<Option<Event>, NoMemory>
     requires { length frames.old < 2 ^ 31 }
+    ensures answer { IfOk result (λ found. MatchOption found (IsNoEventText text.now) (λ e. event_text frames.new e ≡ text.now)) }
+    ensures bounds { IfOk result (λ found. IfSome found (λ e. IsEvent (event_name frames.new e))) }
+    ensures frames { IfOk result (λ found. MatchOption found (frames.new ≡ frames.old) (λ e. Reaches frames.old frames.new e.frame.0)) }
+    ensures err { OnErr result (Extends frames.old frames.new) }
 {
     let Some(words) = event_words(text) else {
         return Ok(None);
@@ -32,7 +39,7 @@ pub fn read_event(
     }))
 }
 
-/// The object that has this text, None where no object has. Appends the frames of its path that are missing; where None
+/// The object that has this text, None where no object has. Starts the frames of its path that are missing; where None
 /// is answered `frames` stays, and after NoMemory it may have gained rows.
 pub fn read_object(
     alloc: Global,
@@ -40,102 +47,143 @@ pub fn read_object(
     text: &[u8],
 ) -> Result<Option<ObjName>, NoMemory>
     requires { length frames.old < 2 ^ 31 }
+    ensures answer { IfOk result (λ found. MatchOption found (IsNoObjectText text.now) (λ o. object_text frames.new o ≡ text.now)) }
+    ensures bounds { IfOk result (λ found. IfSome found (λ o. IsObject (object_name frames.new o))) }
+    ensures frames { IfOk result (λ found. MatchOption found (frames.new ≡ frames.old) (λ o. ReachesObject frames.old frames.new o)) }
+    ensures err { OnErr result (Extends frames.old frames.new) }
 {
-    match object_words(text) {
-        None => Ok(None),
-        Some(ObjectWords::Whole(name)) => Ok(Some(name)),
-        Some(ObjectWords::Auto(frame, turn, decl)) => match read_frame(alloc, frames, frame)? {
-            Some(frame) => Ok(Some(ObjName::Auto { frame, turn, decl })),
-            None => Ok(None),
-        },
-        Some(ObjectWords::Heap(frame, turn, node)) => match read_frame(alloc, frames, frame)? {
-            Some(frame) => Ok(Some(ObjName::Heap { frame, turn, node })),
-            None => Ok(None),
-        },
+    if text == b"argv".as_slice() {
+        return Ok(Some(ObjName::Argv));
     }
-}
-
-/// The frame that has this text.
-fn read_frame(alloc: Global, frames: &mut Frames, text: &[u8]) -> Result<Option<Frame>, NoMemory>
-    requires { length frames.old < 2 ^ 31 }
-{
-    match read_steps(alloc, text)? {
-        Some(steps) => {
-            if steps.len() >= STEPS_END {
-                return Ok(None);
-            }
-            Ok(Some(entered(frames, &steps)?))
-        }
-        None => Ok(None),
-    }
-}
-
-/// The steps of the frame that has this text, the oldest first.
-fn read_steps(alloc: Global, text: &[u8]) -> Result<Option<Vec<Step>>, NoMemory> {
-    let mut steps = Vec::new(alloc);
-    let Some(mut rest) = after_main(text) else {
+    let Some((word, rest)) = cut(text, b' ') else {
         return Ok(None);
     };
-    while rest.len() > 0 {
-        let Some((step, more)) = first_step(rest) else {
-            return Ok(None);
-        };
-        steps.push(step)?;
-        rest = more;
-    }
-    Ok(Some(steps))
+    let Some(sort) = sort_of(word) else {
+        return Ok(None);
+    };
+    sorted_object(alloc, frames, sort, rest)
 }
 
-fn after_main(text: &[u8]) -> Option<&[u8]> {
-    match text {
-        [b'm', b'a', b'i', b'n', rest @ ..] => Some(rest),
-        _ => None,
-    }
+/// The sorts of objects whose text says more than a word.
+#[derive(Clone, Copy)]
+enum Sort {
+    Static,
+    Lit,
+    Arg,
+    Auto,
+    Heap,
 }
 
-/// The step at the front, which begins with a slash, and the text after it.
-fn first_step(text: &[u8]) -> Option<(Step, &[u8])>
-    ensures { IfSome result (λ r. length r.1.now < length text.now) }
+fn sort_of(word: &[u8]) -> Option<Sort>
+    ensures { MatchOption result (IsNoSort word.now) (λ s. sort_text s ≡ word.now) }
 {
-    let (before, rest) = cut(text, b'/')?;
-    if before.len() > 0 {
-        return None;
-    }
-    let (step, more) = until_slash(rest);
-    let (turn, node) = cut(step, b':')?;
-    Some(((number(turn)?, small_number(node)?), more))
-}
-
-/// What stands before the next slash, and the text from it on.
-fn until_slash(text: &[u8]) -> (&[u8], &[u8])
-    ensures { text.now ≡ result.0.now ++ result.1.now }
-{
-    match text.iter().position(|b| *b == b'/') {
-        Some(at) => (&text[..at], &text[at..]),
-        None => (text, &text[text.len()..]),
+    if word == b"static".as_slice() {
+        Some(Sort::Static)
+    } else if word == b"lit".as_slice() {
+        Some(Sort::Lit)
+    } else if word == b"arg".as_slice() {
+        Some(Sort::Arg)
+    } else if word == b"auto".as_slice() {
+        Some(Sort::Auto)
+    } else if word == b"heap".as_slice() {
+        Some(Sort::Heap)
+    } else {
+        None
     }
 }
 
-/// The frame to which these steps lead from `main`; appends what is missing of the way.
-fn entered(frames: &mut Frames, steps: &[Step]) -> Result<Frame, NoMemory>
-    requires few { length steps.now < 2 ^ 31 }
-    requires room { length frames.old < 2 ^ 31 }
+/// The object of this sort of which this is the text behind the word and a space.
+fn sorted_object(
+    alloc: Global,
+    frames: &mut Frames,
+    sort: Sort,
+    text: &[u8],
+) -> Result<Option<ObjName>, NoMemory>
+    requires { length frames.old < 2 ^ 31 }
+    ensures answer { IfOk result (λ found. MatchOption found (IsNoObjectText (sort_text sort ++ (codes " " ++ text.now))) (λ o. object_text frames.new o ≡ sort_text sort ++ (codes " " ++ text.now))) }
+    ensures bounds { IfOk result (λ found. IfSome found (λ o. IsObject (object_name frames.new o))) }
+    ensures frames { IfOk result (λ found. MatchOption found (frames.new ≡ frames.old) (λ o. ReachesObject frames.old frames.new o)) }
+    ensures err { OnErr result (Extends frames.old frames.new) }
 {
-    let mut frame = Frame(0);
-    for step in steps {
-        frame = next_frame(frames, frame, *step)?;
+    match sort {
+        Sort::Static => match small_number(text) {
+            Some(number) => Ok(Some(ObjName::Static(number))),
+            None => Ok(None),
+        },
+        Sort::Lit => match small_number(text) {
+            Some(number) => Ok(Some(ObjName::Lit(number))),
+            None => Ok(None),
+        },
+        Sort::Arg => match small_number(text) {
+            Some(number) => Ok(Some(ObjName::Arg(number))),
+            None => Ok(None),
+        },
+        Sort::Auto => auto_object(alloc, frames, text),
+        Sort::Heap => heap_object(alloc, frames, text),
     }
-    Ok(frame)
 }
 
-fn next_frame(frames: &mut Frames, frame: Frame, step: Step) -> Result<Frame, NoMemory>
-    requires there { frame.0 ≤ length frames.old }
-    requires room { length frames.old < 2 ^ 32 - 1 }
-    ensures there { IfOk result (λ f. f.0 ≤ length frames.new) }
-    ensures few { length frames.new ≤ length frames.old + 1 }
+/// The automatic object of this place.
+fn auto_object(alloc: Global, frames: &mut Frames, text: &[u8]) -> Result<Option<ObjName>, NoMemory>
+    requires { length frames.old < 2 ^ 31 }
+    ensures answer { IfOk result (λ found. MatchOption found (IsNoObjectText (codes "auto " ++ text.now)) (λ o. object_text frames.new o ≡ codes "auto " ++ text.now)) }
+    ensures bounds { IfOk result (λ found. IfSome found (λ o. IsObject (object_name frames.new o))) }
+    ensures frames { IfOk result (λ found. MatchOption found (frames.new ≡ frames.old) (λ o. ReachesObject frames.old frames.new o)) }
+    ensures err { OnErr result (Extends frames.old frames.new) }
 {
-    match frames.find(frame, step.0, step.1) {
-        Some(found) => Ok(found),
-        None => frames.call(frame, step.0, step.1),
-    }
+    let Some(place) = read_place(alloc, frames, text)? else {
+        return Ok(None);
+    };
+    Ok(Some(ObjName::Auto {
+        frame: place.frame,
+        turn: place.turn,
+        decl: place.number,
+    }))
+}
+
+/// The allocated object of this place.
+fn heap_object(alloc: Global, frames: &mut Frames, text: &[u8]) -> Result<Option<ObjName>, NoMemory>
+    requires { length frames.old < 2 ^ 31 }
+    ensures answer { IfOk result (λ found. MatchOption found (IsNoObjectText (codes "heap " ++ text.now)) (λ o. object_text frames.new o ≡ codes "heap " ++ text.now)) }
+    ensures bounds { IfOk result (λ found. IfSome found (λ o. IsObject (object_name frames.new o))) }
+    ensures frames { IfOk result (λ found. MatchOption found (frames.new ≡ frames.old) (λ o. ReachesObject frames.old frames.new o)) }
+    ensures err { OnErr result (Extends frames.old frames.new) }
+{
+    let Some(place) = read_place(alloc, frames, text)? else {
+        return Ok(None);
+    };
+    Ok(Some(ObjName::Heap {
+        frame: place.frame,
+        turn: place.turn,
+        node: place.number,
+    }))
+}
+
+/// A frame, a turn and a number that tells apart what that turn has.
+#[derive(Clone, Copy)]
+struct Place {
+    frame: Frame,
+    turn: u64,
+    number: u32,
+}
+
+/// The place that has this text.
+fn read_place(alloc: Global, frames: &mut Frames, text: &[u8]) -> Result<Option<Place>, NoMemory>
+    requires { length frames.old < 2 ^ 31 }
+    ensures answer { IfOk result (λ found. MatchOption found (IsNoPlaceText text.now) (λ p. frame_text (path_of frames.new p.frame.0) ++ numbers_text p.turn p.number ≡ text.now)) }
+    ensures bounds { IfOk result (λ found. IfSome found (λ p. IsPlace (path_of frames.new p.frame.0) p.turn p.number)) }
+    ensures frames { IfOk result (λ found. MatchOption found (frames.new ≡ frames.old) (λ p. Reaches frames.old frames.new p.frame.0)) }
+    ensures err { OnErr result (Extends frames.old frames.new) }
+{
+    let Some(words) = place_words(text) else {
+        return Ok(None);
+    };
+    let Some(frame) = read_frame(alloc, frames, words.frame)? else {
+        return Ok(None);
+    };
+    Ok(Some(Place {
+        frame,
+        turn: words.turn,
+        number: words.number,
+    }))
 }
