@@ -1,1 +1,4 @@
 pub mod Ranks
+pub mod Decided
+pub mod Closed
+pub mod Listed

@@ -8,3 +8,4 @@ pub mod Runs
 pub mod Findings
 pub mod Examples
 pub mod Laws
+pub mod OrderLaws

@@ -11,6 +11,10 @@ ghost use Rattle.c_model.specs.Findings.{Race, Quarrel, EndQuarrel, Meets};
 ghost use Rattle.c_model.specs.Laws.{IsIrreflexive, IsAsymmetric, IsTransitive};
 ghost use Rattle.c_model.specs.Examples.{canonical_run, came_to, ended, raised, running, conflict_at, return_zero, add_one, self_increment, divide_by_zero, print_both, increment_and_call, loop_forever, quit_beside};
 
+mod order;
+
+pub use order::{law_canonical_order, law_order_decided};
+
 /// The canonical runs of small programs, as the definitions give them: how each ends, its status, picks and output.
 pub fn law_example_runs()
     ensures return_zero { came_to (canonical_run return_zero 10) ≡ ended 0 4 [] }
