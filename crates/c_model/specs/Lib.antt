@@ -9,3 +9,4 @@ pub mod Findings
 pub mod Examples
 pub mod Laws
 pub mod OrderLaws
+pub mod OrderExamples
