@@ -13,7 +13,7 @@ ghost use Rattle.c_model.specs.Examples.{canonical_run, came_to, ended, raised, 
 
 mod order;
 
-pub use order::{law_canonical_order, law_order_decided, law_order_examples};
+pub use order::{law_canonical_order, law_later_choice, law_order_decided, law_order_examples};
 
 /// The canonical runs of small programs, as the definitions give them: how each ends, its status, picks and output.
 pub fn law_example_runs()

@@ -1,7 +1,7 @@
 //! Laws of the order within a full expression.
 ghost use Rattle.std.specs.Prelude.{◌≡◌, [], ◌∷◌};
 ghost use Rattle.c_model.specs.OrderExamples.{Earlier, Unsequenced, Indeterminate, all_stands, nothing, at_root, own_increment, two_arguments, both_hold, one_of_two, comma_and_one, two_calls, nested_calls, comma_argument};
-ghost use Rattle.c_model.specs.OrderLaws.{IsDecided, ListsOnce, RespectsOrder, GoesAlong, EndsWithDue};
+ghost use Rattle.c_model.specs.OrderLaws.{IsDecided, ListsOnce, RespectsOrder, GoesAlong, EndsWithDue, AddsNothing};
 
 /// Sequenced before, decided by going down the tree, is the transitive closure of its rules over due events (5.1.2.3p3).
 pub fn law_order_decided()
@@ -14,6 +14,12 @@ pub fn law_canonical_order()
     ensures respects { RespectsOrder }
     ensures along { GoesAlong }
     ensures ends { EndsWithDue }
+{}
+
+/// A later choice of an operand puts nothing new before an event that was reached, so whether two such events are sequenced
+/// is settled (5.1.2.3p3).
+pub fn law_later_choice()
+    ensures { AddsNothing }
 {}
 
 /// How all pairs of events stand in the trees of some full expressions, worked out from 6.5 and 5.1.2.3 by hand, for each
