@@ -1,4 +1,8 @@
-mod Ranks
+pub mod Ranks
+pub mod Decided
+pub mod Closed
+pub mod Listed
+pub mod Later
 mod Reach
 mod MachineRuns
 mod MachineOrders

@@ -9,32 +9,32 @@ use Rattle.c_typed.specs.declared.class.Class.TheVariants.{Update}
 use Rattle.c_typed.specs.Tree.{Tree, node, Trees, none, more, size, sizes, is_quiet, kinds_of}
 use Rattle.c_typed.specs.Order.{Taken, goes, place, same_place, events, operand_events, has, is_val, is_body, across, upward, is_last, own_rule, in_later, comes, operand_rules, Before, rule, chain}
 
-eq_of : (a b : ℕ) → (a == b) ≡ true → a ≡ b
+pub eq_of : (a b : ℕ) → (a == b) ≡ true → a ≡ b
 eq_of a b h = grind (arith, nat_tests, h)
 
-lt_lt : (a b : ℕ) → a < b → nat_lt a b ≡ true
+pub lt_lt : (a b : ℕ) → a < b → nat_lt a b ≡ true
 lt_lt a b h = grind (arith, nat_tests, h)
 
-ge_lt : (a b : ℕ) → b ≤ a → nat_lt a b ≡ false
+pub ge_lt : (a b : ℕ) → b ≤ a → nat_lt a b ≡ false
 ge_lt a b h = grind (arith, nat_tests, h)
 
-if_true : {A : Type 0} (b : Bool) (p q : A) → b ≡ true → (if b then p else q) ≡ p
+pub if_true : {A : Type 0} (b : Bool) (p q : A) → b ≡ true → (if b then p else q) ≡ p
 if_true true p q h = refl
 if_true false p q h = absurd (cc)
 
-if_false : {A : Type 0} (b : Bool) (p q : A) → b ≡ false → (if b then p else q) ≡ q
+pub if_false : {A : Type 0} (b : Bool) (p q : A) → b ≡ false → (if b then p else q) ≡ q
 if_false false p q h = refl
 if_false true p q h = absurd (cc)
 
-or_cases : (a b : Bool) → (a || b) ≡ true → (a ≡ true) ⊎ (b ≡ true)
+pub or_cases : (a b : Bool) → (a || b) ≡ true → (a ≡ true) ⊎ (b ≡ true)
 or_cases true b h = inl refl
 or_cases false b h = inr h
 
-and_l : (a b : Bool) → (a && b) ≡ true → a ≡ true
+pub and_l : (a b : Bool) → (a && b) ≡ true → a ≡ true
 and_l true b h = refl
 and_l false b h = h
 
-and_r : (a b : Bool) → (a && b) ≡ true → b ≡ true
+pub and_r : (a b : Bool) → (a && b) ≡ true → b ≡ true
 and_r true b h = h
 and_r false b h = absurd (cc)
 
@@ -43,14 +43,14 @@ true_of b h = h
 
 abbrev mutual
   -- how many nodes of the whole come before this one in post-order, where b come before the tree
-  post_in : (k b : ℕ) → Tree → ℕ → ℕ
+  pub post_in : (k b : ℕ) → Tree → ℕ → ℕ
   post_in k b (node class ts) n = if n == k then b + sizes ts else post_among (suc k) b ts n
 
-  post_among : (m b : ℕ) → Trees → ℕ → ℕ
+  pub post_among : (m b : ℕ) → Trees → ℕ → ℕ
   post_among m b none n = b
   post_among m b (more t ts) n = if nat_lt n (m + size t) then post_in m b t n else post_among (m + size t) (b + size t) ts n
 
-abbrev kind_rank : Kind → ℕ
+abbrev pub kind_rank : Kind → ℕ
 kind_rank Body = 0
 kind_rank Val = 1
 kind_rank Eff = 2
@@ -60,7 +60,7 @@ kind_small Body = omega arith
 kind_small Val = omega arith
 kind_small Eff = omega arith
 
-abbrev In : ℕ → ℕ → ℕ → Type 0
+abbrev pub In : ℕ → ℕ → ℕ → Type 0
 In m count n = (m ≤ n) × (n < m + count)
 
 root_range : (c : Bool) (k b n : ℕ) (ts : Trees) → (n == k) ≡ c → In k (suc (sizes ts)) n
@@ -114,27 +114,27 @@ if_has false xs u h = absurd (cc)
 
 mutual
   -- the events of a tree are of its nodes
-  events_in : (taken : Taken) (t : Tree) (k : ℕ) (u : Place) → has (events taken k t) u ≡ true → In k (size t) u.node
+  pub events_in : (taken : Taken) (t : Tree) (k : ℕ) (u : Place) → has (events taken k t) u ≡ true → In k (size t) u.node
   events_in taken (node class ts) k u h = elim (has_append (operand_events taken class (taken k) 0 (suc k) ts) _ u h) [
     | inl a ↦ (let r = operands_in taken class (taken k) ts 0 (suc k) u a in (omega (arith, r.0), omega (arith, r.1)))
     | inr a ↦ (let e = own_node (kinds_of class) k u a in (omega (arith, e), omega (arith, e)))
   ]
 
-  operands_in : (taken : Taken) (class : Class) (choice : Option ℕ) (ts : Trees) (i m : ℕ) (u : Place) → has (operand_events taken class choice i m ts) u ≡ true → In m (sizes ts) u.node
+  pub operands_in : (taken : Taken) (class : Class) (choice : Option ℕ) (ts : Trees) (i m : ℕ) (u : Place) → has (operand_events taken class choice i m ts) u ≡ true → In m (sizes ts) u.node
   operands_in taken class choice none i m u h = absurd (cc)
   operands_in taken class choice (more t ts) i m u h = elim (has_append (if goes class choice i then events taken m t else []) _ u h) [
     | inl a ↦ (let r = events_in taken t m u (if_has (goes class choice i) _ u a) in (r.0, omega (arith, r.1)))
     | inr a ↦ (let r = operands_in taken class choice ts (suc i) (m + size t) u a in (omega (arith, r.0), omega (arith, r.1)))
   ]
 
-later_in : (taken : Taken) (class : Class) (choice : Option ℕ) (i : ℕ) (ts : Trees) (j m : ℕ) (v : Place) → in_later taken class choice i j m ts v ≡ true → In m (sizes ts) v.node
+pub later_in : (taken : Taken) (class : Class) (choice : Option ℕ) (i : ℕ) (ts : Trees) (j m : ℕ) (v : Place) → in_later taken class choice i j m ts v ≡ true → In m (sizes ts) v.node
 later_in taken class choice i none j m v h = absurd (cc)
 later_in taken class choice i (more t ts) j m v h = elim (or_cases (across class choice i j && has (events taken m t) v) _ h) [
   | inl a ↦ (let r = events_in taken t m v (and_r (across class choice i j) _ a) in (r.0, omega (arith, r.1)))
   | inr a ↦ (let r = later_in taken class choice i ts (suc j) (m + size t) v a in (omega (arith, r.0), omega (arith, r.1)))
 ]
 
-abbrev rank_in : ℕ → ℕ → Tree → Place → ℕ
+abbrev pub rank_in : ℕ → ℕ → Tree → Place → ℕ
 rank_in k b t u = 3 * post_in k b t u.node + kind_rank u.kind
 
 abbrev rank_among : ℕ → ℕ → Trees → Place → ℕ
@@ -150,25 +150,25 @@ own_rank Update Val Eff h = omega arith
 own_rank class Body Val h = omega arith
 own_rank _ _ _ h = absurd (cc)
 
-size_pos : (t : Tree) → 1 ≤ size t
+pub size_pos : (t : Tree) → 1 ≤ size t
 size_pos (node class ts) = omega arith
 
-eq_eq : (a b : ℕ) → a ≡ b → (a == b) ≡ true
+pub eq_eq : (a b : ℕ) → a ≡ b → (a == b) ≡ true
 eq_eq a b h = grind (arith, nat_tests, h)
 
 ne_ne : (a b : ℕ) → b < a → (a == b) ≡ false
 ne_ne a b h = grind (arith, nat_tests, h)
 
-post_first : (m b : ℕ) (t : Tree) (ts : Trees) (n : ℕ) → n < m + size t → post_among m b (more t ts) n ≡ post_in m b t n
+pub post_first : (m b : ℕ) (t : Tree) (ts : Trees) (n : ℕ) → n < m + size t → post_among m b (more t ts) n ≡ post_in m b t n
 post_first m b t ts n h = if_true _ _ _ (lt_lt n (m + size t) h)
 
-post_rest : (m b : ℕ) (t : Tree) (ts : Trees) (n : ℕ) → m + size t ≤ n → post_among m b (more t ts) n ≡ post_among (m + size t) (b + size t) ts n
+pub post_rest : (m b : ℕ) (t : Tree) (ts : Trees) (n : ℕ) → m + size t ≤ n → post_among m b (more t ts) n ≡ post_among (m + size t) (b + size t) ts n
 post_rest m b t ts n h = if_false _ _ _ (ge_lt n (m + size t) h)
 
-post_root : (k b : ℕ) (class : Class) (ts : Trees) (n : ℕ) → n ≡ k → post_in k b (node class ts) n ≡ b + sizes ts
+pub post_root : (k b : ℕ) (class : Class) (ts : Trees) (n : ℕ) → n ≡ k → post_in k b (node class ts) n ≡ b + sizes ts
 post_root k b class ts n h = if_true _ _ _ (eq_eq n k h)
 
-post_below : (k b : ℕ) (class : Class) (ts : Trees) (n : ℕ) → k < n → post_in k b (node class ts) n ≡ post_among (suc k) b ts n
+pub post_below : (k b : ℕ) (class : Class) (ts : Trees) (n : ℕ) → k < n → post_in k b (node class ts) n ≡ post_among (suc k) b ts n
 post_below k b class ts n h = if_false _ _ _ (ne_ne n k h)
 
 -- an event of the first operand before one of its node

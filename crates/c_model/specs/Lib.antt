@@ -17,3 +17,5 @@ pub mod ChoiceLaws
 pub mod EventLaws
 pub mod ModelMachine
 pub mod Laws
+pub mod OrderLaws
+pub mod OrderExamples

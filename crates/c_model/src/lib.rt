@@ -19,6 +19,10 @@ ghost use Rattle.c_model.specs.MachineLaws.{OrdersEndAlike};
 ghost use Rattle.c_model.specs.ModelMachine.{FramesKeepLaws, FramesEndAlike};
 ghost use Rattle.c_model.specs.Examples.{canonical_run, audit, audit_on, pair_of, picks_of, NeedsRows, HoldsRace, HoldsQuarrel, HoldsEndQuarrel, trace_of, enter, leave, begin, settle, event, main_local, local_rows, global_rows, both_rows, list_rows, return_zero, add_one, self_increment, divide_by_zero, print_both, list_both, pass_both, increment_and_call, comma_between, and_beside, loop_forever, quit_beside, past_the_greatest, shift_too_far, divide, unwritten_load, store_to_const, missing_value, value_unused, read_both, read_in_turn, quit_alone, jump_about, jump_in, inner_rows, large_block, large_static};
 
+mod order;
+
+pub use order::{law_canonical_order, law_later_choice, law_order_decided, law_order_examples};
+
 /// The first finding of small programs, as the definitions give it, with the picks that lead to it.
 pub fn law_example_findings()
     ensures return_zero { audit return_zero [] 4 ≡ Clean 0 [] 4 }

@@ -1,1 +1,4 @@
 pub mod Marked
+pub mod Spots
+pub mod Relations
+pub mod Kinds

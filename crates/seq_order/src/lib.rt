@@ -4,7 +4,9 @@
 mod done;
 mod next;
 mod relations;
+mod rules;
 mod sequence;
+mod spot;
 mod taken;
 
 pub use done::{Done, Marks};

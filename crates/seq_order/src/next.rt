@@ -1,5 +1,12 @@
 // Which events may come next.
-use crate::sequence::{before, goes};
+ghost use Rattle.std.specs.Prelude.{◌≡◌, ◌+◌, ◌<◌, ◌^◌};
+ghost use Rattle.c_typed.specs.Tree.{tree_of, size as nodes_of};
+ghost use Rattle.c_typed.specs.Decide.{due_in};
+ghost use Rattle.seq_order.specs.Marked.{taken_in};
+
+use crate::rules::{goes, has_kind, is_body};
+use crate::sequence::before;
+use crate::spot::locate;
 use crate::{Done, Taken};
 use c_typed::{Class, Place, Typed, class_of, size};
 use ub_base::Kind;
@@ -15,7 +22,7 @@ pub fn permitted(root: &Typed, p: Place, taken: &Taken, done: &Done) -> bool {
 /// update open, one over the whole tree.
 pub fn canonical_next(root: &Typed, taken: &Taken, done: &Done) -> Option<Place> {
     let first = passed(root, 0, taken, done).err()?;
-    if first.kind == Kind::Body && update_is_open(root, 0, taken, done) {
+    if is_body(first.kind) && update_is_open(root, 0, taken, done) {
         first_beside_bodies(root, root, 0, taken, done).err()
     } else {
         Some(first)
@@ -112,7 +119,7 @@ fn first_beside_bodies(
         };
     }
     match first_left(class, k, done) {
-        Some(p) if p.kind != Kind::Body && is_ready(root, p, taken, done) => Err(p),
+        Some(p) if !is_body(p.kind) && is_ready(root, p, taken, done) => Err(p),
         _ => Ok(number),
     }
 }
@@ -160,20 +167,15 @@ fn is_no_hindrance(
 }
 
 /// The event is one of those that are evaluated.
-fn is_due(tree: &Typed, k: u32, p: Place, taken: &Taken) -> bool {
-    let class = class_of(tree);
+fn is_due(tree: &Typed, k: u32, p: Place, taken: &Taken) -> bool
+    ensures { k + nodes_of (tree_of tree.now) < 2 ^ 32 → result ≡ due_in (taken_in taken.now) k (tree_of tree.now) p }
+{
     if p.node == k {
-        let (first, second) = own_kinds(class);
-        return first == Some(p.kind) || second == Some(p.kind);
+        return has_kind(class_of(tree), p.kind);
     }
-    let choice = taken.chosen(k);
-    let mut number = k.saturating_add(1);
-    for (i, operand) in tree.children.as_slice().iter().enumerate() {
-        let next = number.saturating_add(size(operand));
-        if p.node < next {
-            return goes(class, choice, i) && is_due(operand, number, p, taken);
-        }
-        number = next;
-    }
-    false
+    let Some(a) = locate(tree, k, p.node) else {
+        return false;
+    };
+    goes(class_of(tree), taken.chosen(k), a.index)
+        && is_due(&tree.children.as_slice()[a.index], a.number, p, taken)
 }

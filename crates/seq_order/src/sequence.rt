@@ -1,19 +1,31 @@
 // Sequenced before, by going down to the operand that holds an event.
+ghost use Rattle.std.specs.Prelude.{◌≡◌, suc, ◌+◌, ◌<◌, ◌^◌};
+ghost use Rattle.c_typed.specs.Tree.{tree_of, operands, size, class_of as class_in};
+ghost use Rattle.c_typed.specs.Decide.{is_before, rises, to_val};
+ghost use Rattle.seq_order.specs.Marked.{taken_in};
+ghost use Rattle.seq_order.specs.Relations.{relation_in};
+
 use crate::Taken;
 use crate::relations::Relation;
-use c_typed::{Class, Place, Typed, class_of, size};
+use crate::rules::{across, is_body, is_val, lifts, own_rule, value_leads};
+use crate::spot::locate;
+use c_typed::{Place, Typed, class_of};
 use ub_base::Kind;
 
 /// Whether u is sequenced before v. Both are due. It costs a walk over the nodes before them on each level.
-pub fn before(root: &Typed, u: Place, v: Place, taken: &Taken) -> bool {
+pub fn before(root: &Typed, u: Place, v: Place, taken: &Taken) -> bool
+    ensures { size (tree_of root.now) < 2 ^ 32 → result ≡ is_before (taken_in taken.now) 0 (tree_of root.now) u v }
+{
     is_before(root, 0, u, v, taken)
 }
 
 /// How two different due events stand to one another.
-pub fn relation(root: &Typed, u: Place, v: Place, taken: &Taken) -> Relation {
+pub fn relation(root: &Typed, u: Place, v: Place, taken: &Taken) -> Relation
+    ensures { size (tree_of root.now) < 2 ^ 32 → result ≡ relation_in (taken_in taken.now) (tree_of root.now) u v }
+{
     if before(root, u, v, taken) || before(root, v, u, taken) {
         Relation::Sequenced
-    } else if u.kind == Kind::Body || v.kind == Kind::Body {
+    } else if is_body(u.kind) || is_body(v.kind) {
         Relation::Indeterminate
     } else {
         Relation::Unsequenced
@@ -21,125 +33,50 @@ pub fn relation(root: &Typed, u: Place, v: Place, taken: &Taken) -> Relation {
 }
 
 /// u comes before v in the tree whose root has the number k.
-fn is_before(tree: &Typed, k: u32, u: Place, v: Place, taken: &Taken) -> bool {
-    let class = class_of(tree);
+fn is_before(tree: &Typed, k: u32, u: Place, v: Place, taken: &Taken) -> bool
+    ensures { k + size (tree_of tree.now) < 2 ^ 32 → result ≡ is_before (taken_in taken.now) k (tree_of tree.now) u v }
+{
     if u.node == k {
-        return v.node == k && own_rule(class, u.kind, v.kind);
+        return v.node == k && own_rule(class_of(tree), u.kind, v.kind);
     }
     if v.node == k {
         return rises(tree, k, u, v.kind, taken);
     }
-    let choice = taken.chosen(k);
-    let mut number = k.saturating_add(1);
-    for (i, operand) in tree.children.as_slice().iter().enumerate() {
-        let next = number.saturating_add(size(operand));
-        if u.node < next {
-            if v.node < next {
-                return is_before(operand, number, u, v, taken);
-            }
-            return crosses(tree, class, choice, i, i + 1, next, v.node);
-        }
-        if v.node < next {
-            return false;
-        }
-        number = next;
+    let Some(a) = locate(tree, k, u.node) else {
+        return false;
+    };
+    let Some(b) = locate(tree, k, v.node) else {
+        return false;
+    };
+    if a.index == b.index {
+        is_before(&tree.children.as_slice()[a.index], a.number, u, v, taken)
+    } else {
+        a.index < b.index && across(class_of(tree), taken.chosen(k), a.index, b.index)
     }
-    false
 }
 
 /// u in an operand comes before the event of this kind of the root.
 #[cycle(value)]
-fn rises(tree: &Typed, k: u32, u: Place, kind: Kind, taken: &Taken) -> bool {
-    let class = class_of(tree);
-    let choice = taken.chosen(k);
-    let mut number = k.saturating_add(1);
-    for (i, operand) in tree.children.as_slice().iter().enumerate() {
-        let next = number.saturating_add(size(operand));
-        if u.node < next {
-            let last = i + 1 == tree.children.len();
-            return lifts(class, choice, i, last, kind)
-                || kind != Kind::Body
-                    && !class_of(operand).is_quiet()
-                    && to_value(operand, number, u, taken);
-        }
-        number = next;
-    }
-    false
+fn rises(tree: &Typed, k: u32, u: Place, kind: Kind, taken: &Taken) -> bool
+    ensures { k + size (tree_of tree.now) < 2 ^ 32 → result ≡ rises (taken_in taken.now) (class_in (tree_of tree.now)) (taken_in taken.now k) 0 (suc k) (operands (tree_of tree.now)) u kind }
+{
+    let Some(a) = locate(tree, k, u.node) else {
+        return false;
+    };
+    let operand = &tree.children.as_slice()[a.index];
+    let last = a.index + 1 == tree.children.len();
+    lifts(class_of(tree), taken.chosen(k), a.index, last, kind)
+        || value_leads(class_of(operand), kind) && to_value(operand, a.number, u, taken)
 }
 
 /// u is the value of the tree or comes before it.
 #[cycle(value)]
-fn to_value(tree: &Typed, k: u32, u: Place, taken: &Taken) -> bool {
+fn to_value(tree: &Typed, k: u32, u: Place, taken: &Taken) -> bool
+    ensures { k + size (tree_of tree.now) < 2 ^ 32 → result ≡ to_val (taken_in taken.now) k (tree_of tree.now) u }
+{
     if u.node == k {
-        u.kind == Kind::Val || own_rule(class_of(tree), u.kind, Kind::Val)
+        is_val(u.kind) || own_rule(class_of(tree), u.kind, Kind::Val)
     } else {
         rises(tree, k, u, Kind::Val, taken)
     }
-}
-
-/// The node stands in an operand, from operand j on, which all of operand i comes before; operand j has this number.
-fn crosses(
-    tree: &Typed,
-    class: Class,
-    choice: Option<u32>,
-    i: usize,
-    j: usize,
-    number: u32,
-    node: u32,
-) -> bool {
-    let mut number = number;
-    for at in j..tree.children.len() {
-        let next = number.saturating_add(size(&tree.children.as_slice()[at]));
-        if node < next {
-            return across(class, choice, i, at);
-        }
-        number = next;
-    }
-    false
-}
-
-/// Between two events of one node (6.5.2.4p2, 6.5.16.2p3, 6.5.2.2p10).
-fn own_rule(class: Class, u: Kind, v: Kind) -> bool {
-    match (class, u, v) {
-        (Class::Update, Kind::Val, Kind::Eff) => true,
-        (_, Kind::Body, Kind::Val) => true,
-        _ => false,
-    }
-}
-
-/// All of operand i comes before all of operand j (6.5.13p4, 6.5.14p4, 6.5.15p4, 6.5.17p2).
-fn across(class: Class, choice: Option<u32>, i: usize, j: usize) -> bool {
-    match class {
-        Class::Comma => i < j,
-        Class::Choice => i == 0 && is_number(choice, j),
-        _ => false,
-    }
-}
-
-/// All of operand i comes before the event of this kind of its node.
-fn upward(class: Class, choice: Option<u32>, i: usize, last: bool, kind: Kind) -> bool {
-    match (class, kind) {
-        (Class::Comma, Kind::Val) => !last,
-        (Class::Choice, Kind::Val) => i == 0 && choice.is_some(),
-        (Class::Call, Kind::Body) => true,
-        _ => false,
-    }
-}
-
-/// The same, also by way of the body.
-fn lifts(class: Class, choice: Option<u32>, i: usize, last: bool, kind: Kind) -> bool {
-    upward(class, choice, i, last, kind)
-        || kind == Kind::Val && upward(class, choice, i, last, Kind::Body)
-}
-
-fn is_number(choice: Option<u32>, i: usize) -> bool {
-    match choice {
-        Some(j) => j as usize == i,
-        None => false,
-    }
-}
-
-/// Operand i is evaluated.
-pub(crate) fn goes(class: Class, choice: Option<u32>, i: usize) -> bool {
-    class != Class::Choice || i == 0 || is_number(choice, i)
 }

@@ -1,0 +1,4 @@
+pub mod Located
+pub mod Descend
+pub mod Children
+pub mod Halves

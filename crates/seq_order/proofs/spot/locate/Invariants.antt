@@ -1,0 +1,9 @@
+use Rattle.std.proofs.Common.{◌≡◌, ◌+◌, ◌-◌, ◌^◌, min, drop}
+use Rattle.c_typed.specs.Tree.{tree_of, trees_of, operands}
+use Rattle.seq_order.specs.Spots.{spot_among}
+use Rattle.seq_order.proofs.spot.locate.Given as goal
+
+-- what is found among the operands that are left is what is found
+abbrev pub invariant-loop-index : goal.invariant-loop-index
+invariant-loop-index l =
+    spot_among l.index l.number (trees_of (drop l.index l.operand-items)) l.node ≡ spot_among 0 (min (l.k + 1) (2 ^ 32 - 1)) (operands (tree_of l.tree)) l.node
