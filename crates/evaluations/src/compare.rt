@@ -4,7 +4,7 @@ ghost use Rattle.evaluations.specs.FoundItems.{ItemsConflict};
 
 use crate::found::Found;
 use crate::log::Logged;
-use crate::open::{Evaluations, LARGE};
+use crate::open::{Evaluations, LARGE, add_all};
 use crate::rules::Rule;
 use crate::search::Under;
 use addr_map::AddrMap;
@@ -13,6 +13,9 @@ use ub_base::{Frames, Item, Kind, NoMemory};
 
 /// Operands of at most so many items together are compared item by item.
 const FEW: usize = 32;
+
+/// At most so many events that come after no value below are compared one by one.
+const FEW_LOOSE: usize = 16;
 
 impl Evaluations {
     /// The operands of this node of the top frame's full expression are complete. Gives the first conflict between two of
@@ -41,14 +44,14 @@ impl Evaluations {
         Ok(None)
     }
 
-    fn take_foot(&mut self, at: usize) -> Option<Foot> {
+    fn take_foot(&mut self, at: usize) -> Option<Box<Foot>> {
         match self.segments.get_mut(at) {
             Some(segment) => segment.foot.take(),
             None => None,
         }
     }
 
-    fn put_foot(&mut self, at: usize, foot: Option<Foot>) {
+    fn put_foot(&mut self, at: usize, foot: Option<Box<Foot>>) {
         if let Some(segment) = self.segments.get_mut(at) {
             segment.foot = foot;
         }
@@ -66,10 +69,10 @@ impl Evaluations {
     }
 
     fn all_harmless(&self, at: usize) -> bool {
-        self.segments
-            .iter()
-            .skip(at)
-            .all(|segment| segment.harmless)
+        match self.segments.get(at..) {
+            Some(segments) => segments.iter().all(|segment| segment.harmless),
+            None => true,
+        }
     }
 
     // Whether no body of a frame stands among the operands' events, and few items.
@@ -80,7 +83,10 @@ impl Evaluations {
         if self.items.len().saturating_sub(segment.items) > FEW {
             return false;
         }
-        self.events.iter().skip(segment.first).all(has_items_alone)
+        match self.events.get(segment.first..) {
+            Some(events) => events.iter().all(has_items_alone),
+            None => true,
+        }
     }
 
     fn some_items_conflict(&self, map: &AddrMap, at: usize) -> bool {
@@ -110,10 +116,10 @@ impl Evaluations {
         let Some(item) = self.items.get(i) else {
             return false;
         };
-        self.items
-            .iter()
-            .skip(from)
-            .any(|other| items_conflict(item, other, map))
+        match self.items.get(from..) {
+            Some(others) => others.iter().any(|other| items_conflict(item, other, map)),
+            None => false,
+        }
     }
 
     // The same for many items, by sets. Where no two conflict, the first segment keeps the set of them all.
@@ -126,6 +132,7 @@ impl Evaluations {
             }
             all.absorb(foot)?;
         }
+        let all = Box::new(self.alloc, all)?;
         self.put_foot(at, Some(all));
         Ok(false)
     }
@@ -133,7 +140,7 @@ impl Evaluations {
     // The set of the items and small bodies of a segment's events.
     fn segment_foot(&mut self, group: usize) -> Result<Foot, NoMemory> {
         if let Some(foot) = self.take_foot(group) {
-            return Ok(foot);
+            return Ok(Box::into_inner(foot));
         }
         let mut foot = Foot::new(self.alloc);
         for at in self.event_range(group).0..self.event_range(group).1 {
@@ -209,8 +216,10 @@ impl Evaluations {
     // The set of a large body, by its place in the list of those.
     fn large_foot(&self, i: usize) -> Option<&Foot> {
         let at = *self.large.get(i)?;
-        let event = self.events.get(at)?;
-        event.foot.as_ref()
+        match &self.events.get(at)?.foot {
+            Some(foot) => Some(foot),
+            None => None,
+        }
     }
 
     /// This node of the top frame's full expression is complete. Gives the first conflict between one of its own events
@@ -227,10 +236,14 @@ impl Evaluations {
             Some(segment) => segment.loose,
             None => self.loose.len(),
         };
-        let mut found = None;
         let count = self.events.len();
-        for at in self.own_events(node)..count {
-            if self.meets_loose(map, at, loose) {
+        let own = self.own_events(node);
+        if self.has_items_from(own) {
+            self.gather_loose(loose)?;
+        }
+        let mut found = None;
+        for at in own..count {
+            if self.meets_loose(map, at, loose)? {
                 found = self.found_among(Under { frames, map }, at, loose, found)?;
             }
         }
@@ -257,14 +270,58 @@ impl Evaluations {
         }
     }
 
+    // Whether this event or one behind it has items.
+    fn has_items_from(&self, at: usize) -> bool {
+        match self.events.get(at) {
+            Some(event) => event.from < self.items.len(),
+            None => false,
+        }
+    }
+
+    // Where many events are in the list from there on, the top segment keeps the set of their items.
+    fn gather_loose(&mut self, loose: usize) -> Result<(), NoMemory> {
+        if self.loose.len().saturating_sub(loose) <= FEW_LOOSE || self.loose_foot().is_some() {
+            return Ok(());
+        }
+        let mut foot = Foot::new(self.alloc);
+        for i in loose..self.loose.len() {
+            if let Some(at) = self.loose.get(i) {
+                self.add_event(&mut foot, *at)?;
+            }
+        }
+        let foot = Box::new(self.alloc, foot)?;
+        if let Some(segment) = self.segments.last_mut() {
+            segment.loose_foot = Some(foot);
+        }
+        Ok(())
+    }
+
+    fn loose_foot(&self) -> Option<&Foot> {
+        match &self.segments.last()?.loose_foot {
+            Some(foot) => Some(foot),
+            None => None,
+        }
+    }
+
     // Whether an item of the event conflicts with one of the events of the list.
-    fn meets_loose(&self, map: &AddrMap, at: usize, loose: usize) -> bool {
+    fn meets_loose(&self, map: &AddrMap, at: usize, loose: usize) -> Result<bool, NoMemory> {
+        let Some(below) = self.loose_foot() else {
+            return Ok(self.meets_few(map, at, loose));
+        };
+        let foot = self.event_foot(at)?;
+        Ok(conflicts(&foot, below, map))
+    }
+
+    fn meets_few(&self, map: &AddrMap, at: usize, loose: usize) -> bool {
         let Some(event) = self.events.get(at) else {
+            return false;
+        };
+        let Some(below) = self.loose.get(loose..) else {
             return false;
         };
         for i in event.from..event.to {
             if let Some(item) = self.items.get(i) {
-                for other in self.loose.iter().skip(loose) {
+                for other in below {
                     if self.item_meets_event(map, item, *other) {
                         return true;
                     }
@@ -291,15 +348,19 @@ impl Evaluations {
     // The node's side effect comes before no value of a parent.
     fn add_loose(&mut self, node: u32) -> Result<(), NoMemory> {
         let at = self.events.len().saturating_sub(1);
-        match self.events.last() {
-            Some(event) => {
-                if event.kind != Kind::Eff || event.node != node {
-                    return Ok(());
-                }
-            }
-            None => return Ok(()),
+        let Some(event) = self.events.last() else {
+            return Ok(());
+        };
+        if event.kind != Kind::Eff || event.node != node {
+            return Ok(());
         }
         self.loose.push(at)?;
+        if let (Some(segment), Some(items)) = (
+            self.segments.last_mut(),
+            self.items.get(event.from..event.to),
+        ) {
+            return add_all(&mut segment.loose_foot, items);
+        }
         Ok(())
     }
 }

@@ -1,7 +1,7 @@
 // The frames that are open.
 
+use crate::known::Known;
 use footprint::Foot;
-use std::alloc::Global;
 use ub_base::{Frame, Item, NoMemory};
 
 /// An open frame with what it and the frames that it started touched, and its open full expression: its turn, and where
@@ -18,22 +18,19 @@ pub struct Level {
     pub large: usize,
 }
 
-/// Adds an item; of an object that was born and has died among the items, the accesses are forgotten.
-pub fn add_item(foot: &mut Foot, item: Item) -> Result<(), NoMemory> {
-    foot.add(item)?;
-    if let Item::Dies(object) = item {
-        if foot.has_born(object) {
-            foot.forget(object);
+impl Level {
+    /// The frame touched these items. Of an object that was born and has died in it, the accesses are forgotten.
+    pub fn touch(&mut self, known: &mut Known, items: &[Item]) -> Result<(), NoMemory> {
+        for item in items {
+            if known.note(self.frame, *item) {
+                self.foot.add(*item)?;
+            }
+            if let Item::Dies(object) = *item {
+                if self.foot.has_born(object) {
+                    self.foot.forget(object);
+                }
+            }
         }
+        Ok(())
     }
-    Ok(())
-}
-
-/// The set of these items.
-pub fn foot_of(alloc: Global, items: &[Item]) -> Result<Foot, NoMemory> {
-    let mut foot = Foot::new(alloc);
-    for item in items {
-        foot.add(*item)?;
-    }
-    Ok(foot)
 }

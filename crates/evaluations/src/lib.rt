@@ -4,6 +4,7 @@
 mod compare;
 mod ends;
 mod found;
+mod known;
 mod level;
 mod log;
 mod open;

@@ -10,7 +10,7 @@ pub struct Logged {
     pub kind: Kind,
     pub from: usize,
     pub to: usize,
-    pub foot: Option<Foot>,
+    pub foot: Option<Box<Foot>>,
 }
 
 /// The events so far of a node and of all below it, which stand together: the first of them, and where its items, its
@@ -25,7 +25,9 @@ pub struct Segment {
     /// Its items conflict with none of their own kind: reads, and uses of living objects.
     pub harmless: bool,
     /// The items and the small bodies of all its events, where they were gathered.
-    pub foot: Option<Foot>,
+    pub foot: Option<Box<Foot>>,
+    /// The items of those of its events that come after its value in no order, where they were gathered.
+    pub loose_foot: Option<Box<Foot>>,
 }
 
 /// Whether the item conflicts with no read and with no other use of a living object.

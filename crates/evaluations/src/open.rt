@@ -1,7 +1,8 @@
 // The open evaluations of a run.
 ghost use Rattle.std.specs.Prelude.{◌≡◌, ◌<◌, vec_len};
 
-use crate::level::{Level, add_item};
+use crate::known::Known;
+use crate::level::Level;
 use crate::log::{Logged, Segment, is_harmless};
 use crate::rules::Rule;
 use footprint::Foot;
@@ -22,6 +23,7 @@ pub struct Evaluations {
     pub(crate) segments: Vec<Segment>,
     pub(crate) loose: Vec<usize>,
     pub(crate) large: Vec<usize>,
+    known: Known,
 }
 
 impl Evaluations {
@@ -35,6 +37,7 @@ impl Evaluations {
             segments: Vec::new(alloc),
             loose: Vec::new(alloc),
             large: Vec::new(alloc),
+            known: Known::new(alloc)?,
         };
         open.enter(Frame(0))?;
         Ok(open)
@@ -81,13 +84,10 @@ impl Evaluations {
         if self.levels.len() < 2 {
             return Ok(());
         }
-        let Some(level) = self.levels.last_mut() else {
-            return Ok(());
-        };
-        for item in items {
-            add_item(&mut level.foot, *item)?;
+        match self.levels.last_mut() {
+            Some(level) => level.touch(&mut self.known, items),
+            None => Ok(()),
         }
-        Ok(())
     }
 
     /// An event of the top frame's full expression touched these items. The rule is that of its node, and `chosen` says
@@ -124,6 +124,7 @@ impl Evaluations {
             large: self.large.len(),
             harmless,
             foot: None,
+            loose_foot: None,
         })?;
         Ok(())
     }
@@ -177,12 +178,34 @@ impl Evaluations {
         for segment in &self.segments[at..] {
             harmless = harmless && segment.harmless;
         }
-        if at + 1 < self.segments.len() {
-            self.segments.truncate(at + 1);
-            self.segments[at].foot = None;
+        let behind = at + 1;
+        let several = behind < self.segments.len();
+        let loose_foot = if rule == Rule::Open {
+            self.only_loose_foot(at)
+        } else {
+            None
+        };
+        self.segments.truncate(behind);
+        if let Some(segment) = self.segments.get_mut(at) {
+            segment.node = node;
+            segment.harmless = harmless;
+            segment.loose_foot = loose_foot;
+            if several {
+                segment.foot = None;
+            }
         }
-        self.segments[at].node = node;
-        self.segments[at].harmless = harmless;
+    }
+
+    // The set of the loose events of the segments from there on, where the first or the last of them has them all.
+    fn only_loose_foot(&mut self, at: usize) -> Option<Box<Foot>> {
+        let first = self.segments.get(at)?.loose;
+        if self.segments.last()?.loose == first {
+            return self.segments.last_mut()?.loose_foot.take();
+        }
+        if self.segments.get(at.saturating_add(1))?.loose == self.loose.len() {
+            return self.segments.get_mut(at)?.loose_foot.take();
+        }
+        None
     }
 
     // Leaves those loose events of the operands that no rule of the node sequences before its value.
@@ -216,29 +239,35 @@ impl Evaluations {
 
     /// The top frame's full expression is settled: the frame keeps what it touched, `main` nothing.
     pub fn settle(&mut self) -> Result<(), NoMemory> {
-        let inner = self.levels.len() > 1;
-        let Some(mut level) = self.levels.pop() else {
+        if self.levels.len() > 1 {
+            self.keep_touched()?;
+        }
+        if let Some(level) = self.levels.last() {
+            self.events.truncate(level.events);
+            self.items.truncate(level.items);
+            self.segments.truncate(level.segments);
+            self.loose.truncate(level.loose);
+            self.large.truncate(level.large);
+        }
+        Ok(())
+    }
+
+    // The top frame keeps what its full expression touched.
+    fn keep_touched(&mut self) -> Result<(), NoMemory> {
+        let Some(level) = self.levels.last_mut() else {
             return Ok(());
         };
-        if inner {
-            for item in self.items.iter().skip(level.items) {
-                add_item(&mut level.foot, *item)?;
-            }
-            for _ in level.events..self.events.len() {
-                if let Some(event) = self.events.pop() {
-                    let Logged { foot, .. } = event;
-                    if let Some(foot) = foot {
-                        level.foot.absorb(foot)?;
-                    }
+        if let Some(items) = self.items.get(level.items..) {
+            level.touch(&mut self.known, items)?;
+        }
+        for _ in level.events..self.events.len() {
+            if let Some(event) = self.events.pop() {
+                let Logged { foot, .. } = event;
+                if let Some(foot) = foot {
+                    level.foot.absorb(Box::into_inner(foot))?;
                 }
             }
         }
-        self.events.truncate(level.events);
-        self.items.truncate(level.items);
-        self.segments.truncate(level.segments);
-        self.loose.truncate(level.loose);
-        self.large.truncate(level.large);
-        self.levels.push(level)?;
         Ok(())
     }
 
@@ -255,7 +284,7 @@ impl Evaluations {
         let is_large = foot.size() > LARGE;
         let at = self.events.len().saturating_sub(1);
         match self.events.last_mut() {
-            Some(event) => event.foot = Some(foot),
+            Some(event) => event.foot = Some(Box::new(self.alloc, foot)?),
             None => return Ok(()),
         }
         if is_large {
@@ -288,7 +317,7 @@ impl Evaluations {
 }
 
 // Adds the items to the set, if it is kept.
-fn add_all(foot: &mut Option<Foot>, items: &[Item]) -> Result<(), NoMemory> {
+pub(crate) fn add_all(foot: &mut Option<Box<Foot>>, items: &[Item]) -> Result<(), NoMemory> {
     if let Some(foot) = foot {
         for item in items {
             foot.add(*item)?;

@@ -4,7 +4,6 @@ ghost use Rattle.footprint.specs.Conflicts.{MayConflict};
 ghost use Rattle.evaluations.specs.FoundItems.{ItemsConflict};
 
 use crate::found::{Found, first_of};
-use crate::level::foot_of;
 use crate::open::Evaluations;
 use addr_map::AddrMap;
 use footprint::{Foot, access_pair, conflict, conflicts, races};
