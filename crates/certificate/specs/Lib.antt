@@ -1,1 +1,4 @@
 pub mod Field
+pub mod Form
+pub mod Reading
+pub mod Words

@@ -5,8 +5,11 @@ mod cert;
 mod make;
 mod read;
 mod read_claim;
+mod read_frames;
 mod read_map;
+mod read_order;
 mod row;
+mod values;
 mod words;
 mod write;
 

@@ -1,20 +1,20 @@
 // The map of a certificate from its text.
+ghost use Rattle.std.specs.Prelude.{◌≡◌, false, true, IfErr, map, codes, option_and_then};
+ghost use Rattle.serde_json.specs.View.{view};
+ghost use Rattle.certificate.specs.Reading.{counted_name, framed_name, counted_in, framed_in, argv_in, placed, row_in, row_of, run_words, run_in, rows_of, entry_in, has_few_rows, map_in, list_at, need, Answers, Adds, IsTooMuch};
+
 use crate::cert::{CertFault, Field, Rows};
-use crate::read::{Version, number, small_number};
 use crate::row::{MAX_ROWS, Stride, row_at};
+use crate::values::{frame, items, list_member, number, small_number};
+use crate::words::Version;
 use addr_map::Row;
 use serde_json::Value;
 use std::alloc::Global;
 use ub_base::{Frame, Items, ObjName};
 
-// A frame that is there, `count` being how many there are beside `main`.
-fn frame(value: &Value, count: u32) -> Option<Frame> {
-    small_number(value)
-        .filter(|frame| *frame <= count)
-        .map(Frame)
-}
-
-fn counted_name(word: &str, k: u32) -> Option<ObjName> {
+fn counted_name(word: &str, k: u32) -> Option<ObjName>
+    ensures { result ≡ counted_name word.now k }
+{
     if word == "static" {
         Some(ObjName::Static(k))
     } else if word == "lit" {
@@ -26,7 +26,9 @@ fn counted_name(word: &str, k: u32) -> Option<ObjName> {
     }
 }
 
-fn framed_name(word: &str, frame: Frame, turn: u64, last: u32) -> Option<ObjName> {
+fn framed_name(word: &str, frame: Frame, turn: u64, last: u32) -> Option<ObjName>
+    ensures { result ≡ framed_name word.now frame turn last }
+{
     if word == "auto" {
         Some(ObjName::Auto {
             frame,
@@ -44,7 +46,9 @@ fn framed_name(word: &str, frame: Frame, turn: u64, last: u32) -> Option<ObjName
     }
 }
 
-fn placed(name: ObjName, base: &Value, size: &Value, align: &Value) -> Option<Row> {
+fn placed(name: ObjName, base: &Value, size: &Value, align: &Value) -> Option<Row>
+    ensures { result ≡ placed name (view base.now) (view size.now) (view align.now) }
+{
     Some(Row {
         name,
         base: number(base)?,
@@ -53,23 +57,41 @@ fn placed(name: ObjName, base: &Value, size: &Value, align: &Value) -> Option<Ro
     })
 }
 
+// The name of a row of a static object, a literal or an argument.
+fn counted(word: &Value, k: &Value) -> Option<ObjName>
+    ensures { result ≡ counted_in (view word.now) (view k.now) }
+{
+    counted_name(word.as_str()?, small_number(k)?)
+}
+
+// The name of a row of an object of a block or of the heap.
+fn framed(word: &Value, at: &Value, turn: &Value, last: &Value, count: u32) -> Option<ObjName>
+    ensures { result ≡ framed_in count (view word.now) (view at.now) (view turn.now) (view last.now) }
+{
+    let at = frame(at, count)?;
+    framed_name(word.as_str()?, at, number(turn)?, small_number(last)?)
+}
+
+// The name `argv`, where this is the word.
+fn argv(word: &Value) -> Option<ObjName>
+    ensures { result ≡ argv_in (view word.now) }
+{
+    if word.as_str()? == "argv" {
+        Some(ObjName::Argv)
+    } else {
+        None
+    }
+}
+
 // A row alone.
-fn row(items: &[Value], frames: u32) -> Option<Row> {
+fn row(items: &[Value], frames: u32) -> Option<Row>
+    ensures { result ≡ row_in frames (map view items.now) }
+{
     match items {
-        [word, base, size, align] => {
-            if word.as_str()? != "argv" {
-                return None;
-            }
-            placed(ObjName::Argv, base, size, align)
-        }
-        [word, k, base, size, align] => {
-            let name = counted_name(word.as_str()?, small_number(k)?)?;
-            placed(name, base, size, align)
-        }
+        [word, base, size, align] => placed(argv(word)?, base, size, align),
+        [word, k, base, size, align] => placed(counted(word, k)?, base, size, align),
         [word, at, turn, last, base, size, align] => {
-            let at = frame(at, frames)?;
-            let name = framed_name(word.as_str()?, at, number(turn)?, small_number(last)?)?;
-            placed(name, base, size, align)
+            placed(framed(word, at, turn, last, frames)?, base, size, align)
         }
         _ => None,
     }
@@ -83,29 +105,55 @@ struct RunWords {
     first: Row,
 }
 
-fn run(items: &[Value], frames: u32) -> Option<RunWords> {
+// The row of an entry, if it is one.
+fn row_of(value: &Value, frames: u32) -> Option<Row>
+    ensures { result ≡ row_of frames (view value.now) }
+{
+    row(items(value)?, frames)
+}
+
+// The words of a run of at least two rows that stand apart.
+fn run_words(
+    count: &Value,
+    step: &Value,
+    raise: &Value,
+    first: &Value,
+    frames: u32,
+) -> Option<RunWords>
+    ensures { result ≡ run_words frames (view count.now) (view step.now) (view raise.now) (view first.now) }
+{
+    let count = number(count)?;
+    let step = number(step)?;
+    let raise = number(raise)?;
+    let first = row_of(first, frames)?;
+    if count < 2 || step == 0 {
+        return None;
+    }
+    Some(RunWords {
+        count,
+        stride: Stride { step, raise },
+        first,
+    })
+}
+
+fn run(items: &[Value], frames: u32) -> Option<RunWords>
+    ensures { result ≡ run_in frames (map view items.now) }
+{
     let [word, count, step, raise, first] = items else {
         return None;
     };
     if word.as_str()? != "run" {
         return None;
     }
-    let words = RunWords {
-        count: number(count)?,
-        stride: Stride {
-            step: number(step)?,
-            raise: number(raise)?,
-        },
-        first: row(first.as_array()?.as_slice(), frames)?,
-    };
-    if words.count < 2 || words.stride.step == 0 {
-        return None;
-    }
-    Some(words)
+    run_words(count, step, raise, first, frames)
 }
 
 // Adds the rows of a run, unless one has a number past its bound or they are too many.
-fn add_run(rows: &mut Rows, words: &RunWords) -> Result<bool, CertFault> {
+fn add_run(rows: &mut Rows, words: &RunWords) -> Result<bool, CertFault>
+    ensures added { result ≡ Ok true → Adds rows.old rows.new (rows_of words.now) }
+    ensures refused { result ≡ Ok false → IsTooMuch Version.Two rows.old (rows_of words.now) }
+    ensures memory { IfErr result (λ e. e ≡ CertFault.NoMemory) }
+{
     for at in 0..words.count {
         if rows.len() >= MAX_ROWS {
             return Ok(false);
@@ -124,34 +172,37 @@ fn add_entry(
     value: &Value,
     version: Version,
     frames: u32,
-) -> Result<bool, CertFault> {
-    let Some(items) = value.as_array() else {
+) -> Result<bool, CertFault>
+    ensures added { result ≡ Ok true → Adds rows.old rows.new (entry_in version frames (view value.now)) }
+    ensures few { result ≡ Ok true → has_few_rows version rows.new ≡ true }
+    ensures refused { result ≡ Ok false → IsTooMuch version rows.old (entry_in version frames (view value.now)) }
+    ensures memory { IfErr result (λ e. e ≡ CertFault.NoMemory) }
+{
+    let Some(items) = items(value) else {
         return Ok(false);
     };
-    if let Some(row) = row(items.as_slice(), frames) {
+    if let Some(row) = row(items, frames) {
         rows.push(row)?;
         return Ok(version == Version::One || rows.len() <= MAX_ROWS);
     }
     if version == Version::One {
         return Ok(false);
     }
-    match run(items.as_slice(), frames) {
-        Some(words) => add_run(rows, &words),
+    match run(items, frames) {
+        Some(words) => Ok(add_run(rows, &words)? && rows.len() <= MAX_ROWS),
         None => Ok(false),
     }
 }
 
-/// The rows of the map, `frames` being how many frames the certificate has beside `main`.
-pub fn read_map(
+fn all_rows(
     alloc: Global,
-    value: Option<&Value>,
+    entries: &[Value],
     version: Version,
     frames: u32,
-) -> Result<Rows, CertFault> {
+) -> Result<Rows, CertFault>
+    ensures value { Answers (need Field.Map (map_in version frames (map view entries.now)) Ok) result }
+{
     let wrong = CertFault::BadShape(Field::Map);
-    let Some(entries) = value.and_then(Value::as_array) else {
-        return Err(wrong);
-    };
     let mut rows = Items::new(alloc);
     for entry in entries {
         if !add_entry(&mut rows, entry, version, frames)? {
@@ -159,4 +210,19 @@ pub fn read_map(
         }
     }
     Ok(rows)
+}
+
+/// The rows of the map, `frames` being how many frames the certificate has beside `main`.
+pub fn read_map(
+    alloc: Global,
+    value: &Value,
+    version: Version,
+    frames: u32,
+) -> Result<Rows, CertFault>
+    ensures { Answers (need Field.Map (option_and_then (map_in version frames) (list_at (codes "map") (view value.now))) Ok) result }
+{
+    match list_member(value, "map") {
+        Some(entries) => all_rows(alloc, entries, version, frames),
+        None => Err(CertFault::BadShape(Field::Map)),
+    }
 }

@@ -1,4 +1,7 @@
 // Rows that follow one another at even steps.
+ghost use Rattle.std.specs.Prelude.{◌≡◌, ◌+◌, ◌*◌, ◌^◌, nat_lt};
+ghost use Rattle.certificate.specs.Reading.{kept, moved_name, row_at};
+
 use addr_map::Row;
 use ub_base::ObjName;
 
@@ -8,16 +11,28 @@ pub const NUMBER_END: u64 = 1 << 63;
 /// The most rows that a map may stand for (own).
 pub const MAX_ROWS: usize = 4_194_304;
 
-fn raised(number: u32, by: u64) -> Option<u32> {
-    u32::try_from(u64::from(number).checked_add(by)?).ok()
+fn raised(number: u32, by: u64) -> Option<u32>
+    ensures { result ≡ kept (λ n. nat_lt n (2 ^ 32)) (number + by) }
+{
+    let sum = u64::from(number).checked_add(by)?;
+    if sum < 1 << 32 {
+        Some(sum as u32)
+    } else {
+        None
+    }
 }
 
-fn raised_turn(turn: u64, by: u64) -> Option<u64> {
-    turn.checked_add(by).filter(|turn| *turn < NUMBER_END)
+fn raised_turn(turn: u64, by: u64) -> Option<u64>
+    ensures { result ≡ kept (λ n. nat_lt n (2 ^ 63)) (turn + by) }
+{
+    let sum = turn.checked_add(by)?;
+    if sum < NUMBER_END { Some(sum) } else { None }
 }
 
 // The name with its moving number raised: the number of a static, a literal or an argument, and the turn of the others.
-fn moved_name(name: ObjName, by: u64) -> Option<ObjName> {
+fn moved_name(name: ObjName, by: u64) -> Option<ObjName>
+    ensures { result ≡ moved_name name by }
+{
     match name {
         ObjName::Static(k) => Some(ObjName::Static(raised(k, by)?)),
         ObjName::Lit(k) => Some(ObjName::Lit(raised(k, by)?)),
@@ -43,15 +58,33 @@ pub struct Stride {
     pub raise: u64,
 }
 
+// The base of the row of this number in a run.
+fn moved_base(base: u64, step: u64, at: u64) -> Option<u64>
+    ensures { result ≡ kept (λ n. nat_lt n (2 ^ 63)) (base + at * step) }
+{
+    let base = base.checked_add(at.checked_mul(step)?)?;
+    if base < NUMBER_END { Some(base) } else { None }
+}
+
+// The name of the row of this number in a run.
+fn name_at(name: ObjName, raise: u64, at: u64) -> Option<ObjName>
+    ensures { result ≡ moved_name name (at * raise) }
+{
+    match at.checked_mul(raise) {
+        Some(by) => moved_name(name, by),
+        None => None,
+    }
+}
+
 /// The row of this number in a run that begins with `first`, counted from 0; none where a number of it would pass its
 /// bound.
-pub fn row_at(first: Row, stride: Stride, at: u64) -> Option<Row> {
-    let base = first.base.checked_add(at.checked_mul(stride.step)?)?;
-    if base >= NUMBER_END {
-        return None;
-    }
+pub fn row_at(first: Row, stride: Stride, at: u64) -> Option<Row>
+    ensures { result ≡ row_at first stride at }
+{
+    let base = moved_base(first.base, stride.step, at)?;
+    let name = name_at(first.name, stride.raise, at)?;
     Some(Row {
-        name: moved_name(first.name, at.checked_mul(stride.raise)?)?,
+        name,
         base,
         size: first.size,
         align: first.align,

@@ -1,5 +1,16 @@
 // The words of a certificate's text.
+ghost use Rattle.std.specs.Prelude.{◌≡◌};
+ghost use Rattle.certificate.specs.Reading.{verdict_named, kind_named, cause_named, is_member, is_further, is_common, is_of_clean, is_of_undefined, is_of_outside};
+ghost use Rattle.certificate.specs.Words.{kind_text, cause_text};
+
 use ub_base::{Cause, Kind};
+
+/// The version of a certificate.
+#[derive(Clone, Copy, Debug, PartialEq, Eq)]
+pub enum Version {
+    One,
+    Two,
+}
 
 /// The verdict that a certificate claims.
 #[derive(Clone, Copy, Debug, PartialEq, Eq)]
@@ -11,7 +22,9 @@ pub enum Verdict {
     Outside,
 }
 
-pub fn verdict_of(text: &str) -> Option<Verdict> {
+pub fn verdict_of(text: &str) -> Option<Verdict>
+    ensures { result ≡ verdict_named text.now }
+{
     if text == "clean" {
         Some(Verdict::Clean)
     } else if text == "undefined" {
@@ -28,10 +41,15 @@ pub fn verdict_of(text: &str) -> Option<Verdict> {
 }
 
 /// Whether a certificate of this verdict has a member of this name; of an unknown verdict, whether any has.
-pub fn is_member(verdict: Option<Verdict>, name: &str) -> bool {
-    if is_common(name) {
-        return true;
-    }
+pub fn is_member(verdict: Option<Verdict>, name: &str) -> bool
+    ensures { result ≡ is_member verdict name.now }
+{
+    is_common(name) || is_further(verdict, name)
+}
+
+fn is_further(verdict: Option<Verdict>, name: &str) -> bool
+    ensures { result ≡ is_further verdict name.now }
+{
     match verdict {
         Some(Verdict::Clean) => is_of_clean(name),
         Some(Verdict::Undefined) => is_of_undefined(name),
@@ -42,23 +60,33 @@ pub fn is_member(verdict: Option<Verdict>, name: &str) -> bool {
     }
 }
 
-fn is_common(name: &str) -> bool {
+fn is_common(name: &str) -> bool
+    ensures { result ≡ is_common name.now }
+{
     name == "version" || name == "verdict" || name == "frames" || name == "map" || name == "order"
 }
 
-fn is_of_clean(name: &str) -> bool {
+fn is_of_clean(name: &str) -> bool
+    ensures { result ≡ is_of_clean name.now }
+{
     name == "output" || name == "status"
 }
 
-fn is_of_undefined(name: &str) -> bool {
+fn is_of_undefined(name: &str) -> bool
+    ensures { result ≡ is_of_undefined name.now }
+{
     name == "clause" || name == "pair"
 }
 
-fn is_of_outside(name: &str) -> bool {
+fn is_of_outside(name: &str) -> bool
+    ensures { result ≡ is_of_outside name.now }
+{
     name == "cause" || name == "number"
 }
 
-pub fn kind_text(kind: Kind) -> &'static str {
+pub fn kind_text(kind: Kind) -> &'static str
+    ensures { result.now ≡ kind_text kind }
+{
     match kind {
         Kind::Val => "val",
         Kind::Eff => "eff",
@@ -66,7 +94,9 @@ pub fn kind_text(kind: Kind) -> &'static str {
     }
 }
 
-pub fn kind_of(text: &str) -> Option<Kind> {
+pub fn kind_of(text: &str) -> Option<Kind>
+    ensures { result ≡ kind_named text.now }
+{
     if text == "val" {
         Some(Kind::Val)
     } else if text == "eff" {
@@ -78,7 +108,9 @@ pub fn kind_of(text: &str) -> Option<Kind> {
     }
 }
 
-pub fn cause_text(cause: Cause) -> &'static str {
+pub fn cause_text(cause: Cause) -> &'static str
+    ensures { result.now ≡ cause_text cause }
+{
     match cause {
         Cause::Output => "output",
         Cause::Created => "created",
@@ -88,7 +120,9 @@ pub fn cause_text(cause: Cause) -> &'static str {
     }
 }
 
-pub fn cause_of(text: &str) -> Option<Cause> {
+pub fn cause_of(text: &str) -> Option<Cause>
+    ensures { result ≡ cause_named text.now }
+{
     if text == "output" {
         Some(Cause::Output)
     } else if text == "created" {
