@@ -1,0 +1,114 @@
+// What a certificate says of its order.
+ghost use Rattle.std.specs.Prelude.{◌≡◌, true, IfOk};
+ghost use Rattle.cert_check.specs.Parts.{NamesRace};
+
+use crate::answer::Halt;
+use crate::findings::Findings;
+use crate::machine::{Machine, Told};
+use crate::pair::{Pair, Sought};
+use certificate::Claim;
+use std::alloc::Global;
+use ub_base::{Cause, Clause, NoMemory};
+
+// How far an order has led: it can go on, its last pick ended the run or raised a clause, or it breaks a rule.
+#[derive(Clone, Copy, Debug, PartialEq, Eq)]
+pub enum Course {
+    Going,
+    Ended(u8),
+    Raised(Clause),
+    Broken,
+}
+
+// What of the picks the claim needs.
+#[derive(Drop)]
+pub enum Witness {
+    Nothing,
+    Pair(Pair),
+    Findings(Findings),
+}
+
+impl Witness {
+    pub fn of(alloc: Global, claim: &Claim) -> Result<Witness, NoMemory> {
+        match claim {
+            Claim::Undefined {
+                clause: _,
+                pair: None,
+            } => Ok(Witness::Nothing),
+            Claim::Undefined {
+                clause: _,
+                pair: Some(pair),
+            } => Ok(Witness::Pair(Pair::new(alloc, Sought::Race, *pair))),
+            Claim::OrderDependent { event, against } => {
+                let pair = (*event, *against);
+                Ok(Witness::Pair(Pair::new(alloc, Sought::Quarrel, pair)))
+            }
+            _ => Ok(Witness::Findings(Findings::new(alloc)?)),
+        }
+    }
+
+    pub fn tell(&mut self, machine: &Machine, told: Told) -> Result<(), NoMemory> {
+        match self {
+            Witness::Nothing => Ok(()),
+            Witness::Pair(pair) => pair.tell(machine, told),
+            Witness::Findings(findings) => findings.tell(machine, told),
+        }
+    }
+
+    fn holds(&self, machine: &Machine) -> bool {
+        match self {
+            Witness::Pair(pair) => pair.holds(machine),
+            _ => false,
+        }
+    }
+
+    fn finds_nothing(&self) -> bool {
+        match self {
+            Witness::Findings(findings) => !findings.found(),
+            _ => false,
+        }
+    }
+}
+
+// Whether the claim holds of an order that led so far.
+pub fn claim_holds(
+    machine: Machine,
+    witness: &Witness,
+    course: Course,
+    claim: &Claim,
+) -> Result<bool, NoMemory>
+    ensures { IfOk result (λ holds. holds ≡ true → NamesRace claim.now) }
+{
+    match claim {
+        Claim::Clean { status, output } => {
+            let Machine { streams, .. } = machine;
+            let written = streams.into_output();
+            Ok(
+                course == Course::Ended(*status)
+                    && (witness.finds_nothing() && written.as_slice() == output.as_slice()),
+            )
+        }
+        Claim::Undefined { clause, pair } => Ok(match pair {
+            None => course == Course::Raised(*clause),
+            Some(_) => *clause == Clause::Unsequenced && witness.holds(&machine),
+        }),
+        Claim::OrderDependent { .. } => Ok(witness.holds(&machine)),
+        Claim::OutOfSteps => Ok(course == Course::Going && witness.finds_nothing()),
+        Claim::Outside { cause, number } => {
+            if course == Course::Going && witness.finds_nothing() {
+                passes_next(machine, *cause, *number)
+            } else {
+                Ok(false)
+            }
+        }
+    }
+}
+
+// Whether the next canonical pick would pass this limit with this number.
+fn passes_next(machine: Machine, cause: Cause, number: u64) -> Result<bool, NoMemory> {
+    let mut machine = machine;
+    match machine.canonical() {
+        Err(Halt::Over(passed, reached)) => Ok(passed == cause && reached == number),
+        Err(Halt::NoMemory) => Err(NoMemory),
+        _ => Ok(false),
+    }
+}
