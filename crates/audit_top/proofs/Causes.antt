@@ -1,21 +1,32 @@
 -- Why an answer comes.
-use Rattle.std.proofs.Common.{◌≡◌, ℕ, List, Option, Some, None, Result, Err, sym, subst, ◌∙◌}
+use Rattle.std.proofs.Common.{◌≡◌, ◌⊎◌, ℕ, ℤ, List, [], length, Option, Some, None, Result, Ok, Err, refl, sym, subst, ◌∙◌, inl, inr, option_copied}
+use Rattle.c_lex.specs.Tokens.{lexed}
 use Rattle.c_lex.specs.declared.token.Token.{Token}
 use Rattle.c_lex.specs.declared.token.LexFault.{LexFault}
 use Rattle.c_lex.specs.declared.token.LexFault.TheVariants as LexFault
-use Rattle.audit_top.specs.declared.answer.Refusal.{Refusal}
-use Rattle.audit_top.specs.declared.answer.Refusal.TheVariants as Refusal
-use Rattle.ub_base.specs.Held.{Held}
+use Rattle.ub_base.specs.Held.{Held, IsKept, OthersStay, WhereTold}
+use Rattle.ub_base.specs.declared.clause.Clause.{Clause}
 use Rattle.first_form.specs.Form.{IsFirstForm}
 use Rattle.first_form.specs.declared.fault.FormFault.{FormFault}
 use Rattle.first_form.specs.declared.fault.FormFault.TheVariants as FormFault
 use Rattle.first_form.specs.declared.tree.ReturnUnit.{ReturnUnit}
-use Rattle.ub_base.specs.Held.{Fetches}
-use Rattle.ub_base.specs.declared.files.Fetched.TheVariants.{Whole}
-use Rattle.c_lex.specs.Tokens.{lexed}
-use Rattle.audit_top.specs.Answer.{Asks, FileCause, HasCause, HasNoForm, Refuses, TokenCause, lex_refusal, max_source}
+use Rattle.sources.specs.declared.fetch.FetchFault.{FetchFault}
+use Rattle.sources.specs.declared.fetch.FetchFault.TheVariants as Fault
+use Rattle.command.specs.declared.request.AuditRequest.{AuditRequest}
+use Rattle.generator.specs.Text.{text as generated_text}
+use Rattle.command.specs.declared.request.SelfRequest.{SelfRequest}
+use Rattle.command.specs.declared.request.Request.{Request}
+use Rattle.command.specs.declared.request.Request.TheVariants.{Audit, Check, SelfAudit}
+use Rattle.audit_top.specs.Answer.{HasTokens, HasVerdict, Refuses, judged, lex_refusal, verdict}
+use Rattle.audit_top.specs.Value.{value}
+use Rattle.audit_top.specs.Finding.{IsFound}
+use Rattle.audit_top.specs.Words.{TakesWords}
+use Rattle.audit_top.specs.Cause.{AuditCause, Certifies, Disk, GeneratedCause, HasCause, IsCertified, IsJudged, IsRun, IsStopped, KeptCause, Leaves, RequestCause, Spares, SparesOthers, SelfCause, TextCause, UsesForm, WordsCause, stopped, summary_of}
 use Rattle.audit_top.specs.declared.answer.Answer.{Answer}
-use Rattle.audit_top.specs.declared.answer.Answer.TheVariants.{Clean, Undefined, Found, Usage, SourceTooLong, Refused, ReadFault, NoMemory}
+use Rattle.audit_top.specs.declared.answer.Answer.TheVariants.{Clean, Undefined, Found, Generated, GeneratedRefused, Usage, TooLong, Refused, CertificateTooLong, NotKept, ReadFault, NoMemory}
+use Rattle.audit_top.specs.declared.answer.Refusal.{Refusal}
+use Rattle.audit_top.specs.declared.answer.Refusal.TheVariants as Refusal
+use Rattle.audit_top.specs.declared.answer.Summary.{Summary}
 
 form_is_not_memory : FormFault.NotFirstForm ≡ FormFault.NoMemory → ⊥
 form_is_not_memory e = cc
@@ -24,18 +35,6 @@ form_is_not_memory e = cc
 pub no_form : (text : List ℕ) (fault : FormFault) → fault ≡ FormFault.NotFirstForm
     → ((unit : ReturnUnit) → IsFirstForm text unit → fault ≡ FormFault.NoMemory) → (unit : ReturnUnit) → IsFirstForm text unit → ⊥
 no_form text fault is only unit form = form_is_not_memory (sym is ∙ only unit form)
-
--- the cause of a file's answer is that of the words
-pub cause_of_words : (words : List (List ℕ)) (held : Option Held) (before now : ℕ) (name : List ℕ) (answer : Answer)
-    → Asks words name → FileCause held before now name answer → HasCause words held before now answer
-cause_of_words words held before now name (Clean status) asks cause = (name, asks, cause)
-cause_of_words words held before now name (Undefined clause line) asks cause = (name, asks, cause)
-cause_of_words words held before now name Usage asks cause = absurd cause
-cause_of_words words held before now name SourceTooLong asks cause = (name, asks, cause)
-cause_of_words words held before now name (Refused refusal) asks cause = (name, asks, cause)
-cause_of_words words held before now name (Found s report) asks cause = (name, asks, cause)
-cause_of_words words held before now name ReadFault asks cause = (name, asks, cause)
-cause_of_words words held before now name NoMemory asks cause = tt
 
 no_memory_refuses_nothing : (refusal : Refusal) → Some refusal ≡ None → ⊥
 no_memory_refuses_nothing refusal e = cc
@@ -63,14 +62,127 @@ lex_refuses tokens (LexFault.BadNumber at) refusal is why =
     subst (Refuses tokens) (sym (same_refusal refusal (Refusal.BadNumber at) is)) (why (bad_number_is_not_memory at))
 lex_refuses tokens LexFault.NoMemory refusal is why = absurd (no_memory_refuses_nothing refusal is)
 
--- the answer to a file whose text isn't of the first form
-pub judged_cause : (held : Option Held) (before now : ℕ) (name text : List ℕ) (answer : Answer) → Fetches held name max_source (Whole text)
-    → HasNoForm text → TokenCause (lexed text) answer → FileCause held before now name answer
-judged_cause held before now name text (Clean s) fetched none why = absurd why
-judged_cause held before now name text (Undefined c l) fetched none why = absurd why
-judged_cause held before now name text (Found s b) fetched none why = record { text = text; fetched = fetched; no_form = none; why = why }
-judged_cause held before now name text Usage fetched none why = absurd why
-judged_cause held before now name text SourceTooLong fetched none why = absurd why
-judged_cause held before now name text (Refused r) fetched none why = record { text = text; fetched = fetched; no_form = none; why = why }
-judged_cause held before now name text ReadFault fetched none why = absurd why
-judged_cause held before now name text NoMemory fetched none why = tt
+-- the verdict on a unit is the answer to its text
+by_value : (request : AuditRequest) (before now : ℕ) (text : List ℕ) (line : ℕ) (answer : Answer) (found : Result ℤ Clause) → UsesForm request
+    → answer ≡ judged line found → HasVerdict text answer → TextCause request before now text answer
+by_value request before now text line answer (Ok z) uses is has =
+    subst (λ a. HasVerdict text a → TextCause request before now text a) (sym is) (λ v. (uses, v)) has
+by_value request before now text line answer (Err clause) uses is has =
+    subst (λ a. HasVerdict text a → TextCause request before now text a) (sym is) (λ v. (uses, v)) has
+
+pub form_cause : (request : AuditRequest) (before now : ℕ) (text : List ℕ) (answer : Answer) → UsesForm request → HasVerdict text answer
+    → TextCause request before now text answer
+form_cause request before now text answer uses has = by_value request before now text has.unit.line answer (value has.unit) uses has.is has
+
+-- the verdict on a unit leaves the files
+by_value_leaves : (cert : Option (List ℕ)) (old new : Option Held) (line : ℕ) (answer : Answer) (found : Result ℤ Clause) → answer ≡ judged line found
+    → new ≡ old → Leaves cert old new answer
+by_value_leaves cert old new line answer (Ok z) is same = subst (λ a. Leaves cert old new a) (sym is) same
+by_value_leaves cert old new line answer (Err clause) is same = subst (λ a. Leaves cert old new a) (sym is) same
+
+pub form_leaves : (cert : Option (List ℕ)) (old new : Option Held) (text : List ℕ) (answer : Answer) → HasVerdict text answer → new ≡ old
+    → Leaves cert old new answer
+form_leaves cert old new text answer has same = by_value_leaves cert old new has.unit.line answer (value has.unit) has.is same
+
+-- files that stay are spared
+spares_self : (name : List ℕ) (held : Option Held) → Spares name held held
+spares_self name None = tt
+spares_self name (Some files) = λ other differs. refl
+
+pub spares_same : (name : List ℕ) (old new : Option Held) → new ≡ old → Spares name old new
+spares_same name old new same = subst (λ h. Spares name old h) (sym same) (spares_self name old)
+
+pub spares_others : (cert : Option (List ℕ)) (old new : Option Held) → new ≡ old → SparesOthers cert old new
+spares_others None old new same = same
+spares_others (Some name) old new same = spares_same name old new same
+
+-- a kept certificate spares the other files
+kept_spares : (name bytes : List ℕ) (old new : Option Held) → WhereTold old new (λ before after. IsKept before after name bytes) → Spares name old new
+kept_spares name bytes None None kept = tt
+kept_spares name bytes None (Some new) kept = kept
+kept_spares name bytes (Some old) None kept = kept
+kept_spares name bytes (Some old) (Some new) kept = kept.others
+
+certified_spares : (cert : Option (List ℕ)) (old new : Option Held) → Certifies cert old new → SparesOthers cert old new
+certified_spares None old new same = same
+certified_spares (Some name) old new certified = kept_spares name certified.bytes old new certified.kept
+
+-- what an answer leaves, want of memory may leave
+leaves_memory : (cert : Option (List ℕ)) (old new : Option Held) (answer : Answer) → Leaves cert old new answer → SparesOthers cert old new
+leaves_memory cert old new (Clean s) leaves = spares_others cert old new leaves
+leaves_memory cert old new (Undefined c l) leaves = spares_others cert old new leaves
+leaves_memory cert old new (Found s b) leaves = certified_spares cert old new leaves
+leaves_memory cert old new (Generated m s b) leaves = spares_others cert old new leaves
+leaves_memory cert old new (GeneratedRefused m r) leaves = spares_others cert old new leaves
+leaves_memory cert old new Usage leaves = spares_others cert old new leaves
+leaves_memory cert old new (TooLong role) leaves = spares_others cert old new leaves
+leaves_memory cert old new (Refused r) leaves = spares_others cert old new leaves
+leaves_memory cert old new CertificateTooLong leaves = spares_others cert old new leaves
+leaves_memory cert old new NotKept leaves = leaves
+leaves_memory cert old new ReadFault leaves = spares_others cert old new leaves
+leaves_memory cert old new NoMemory leaves = leaves
+
+memory_request : (old new : Disk) (request : Request) (answer : Answer) → RequestCause old new request answer → RequestCause old new request NoMemory
+memory_request old new (Audit request) answer why = (tt, leaves_memory (option_copied request.cert) old.held new.held answer why.1)
+memory_request old new (Check request) answer why = (inr refl, why.1)
+memory_request old new (SelfAudit request) answer why = (tt, why.1)
+
+-- memory may run out in place of any answer
+pub memory_cause : (words : List (List ℕ)) (old new : Disk) (answer : Answer) → HasCause words old new answer → HasCause words old new NoMemory
+memory_cause words old new answer (inl w) = inl (tt, w.1)
+memory_cause words old new answer (inr h) =
+    inr (record { request = h.request; asked = h.asked; why = memory_request old new h.request answer h.why })
+
+-- what is kept of a finding is the answer to its text
+pub kept_text : (request : AuditRequest) (before now : ℕ) (text : List ℕ) (s : ℕ) (bytes : List ℕ) (answer : Answer) → IsRun request text
+    → HasTokens (lexed text) → IsFound request.steps s bytes → KeptCause s bytes before now answer → TextCause request before now text answer
+kept_text request before now text n bytes (Clean s) run tokens found why = absurd why
+kept_text request before now text n bytes (Undefined c l) run tokens found why = absurd why
+kept_text request before now text n bytes (Found s b) run tokens found why =
+    (record { run = run; tokens = tokens }, subst (λ m. IsFound request.steps m b) (sym why.0) (subst (λ r. IsFound request.steps n r) (sym why.1) found))
+kept_text request before now text n bytes (Generated m s b) run tokens found why = absurd why
+kept_text request before now text n bytes (GeneratedRefused m r) run tokens found why = absurd why
+kept_text request before now text n bytes Usage run tokens found why = absurd why
+kept_text request before now text n bytes (TooLong role) run tokens found why = absurd why
+kept_text request before now text n bytes (Refused r) run tokens found why = absurd why
+kept_text request before now text n bytes CertificateTooLong run tokens found why = record { run = run; tokens = tokens }
+kept_text request before now text n bytes NotKept run tokens found why = (record { run = run; tokens = tokens }, why)
+kept_text request before now text n bytes ReadFault run tokens found why = absurd why
+kept_text request before now text n bytes NoMemory run tokens found why = tt
+
+-- a text that was judged has the cause of its audit
+pub judged_audit : (old new : Disk) (request : AuditRequest) (answer : Answer) → IsJudged old new request answer → AuditCause old new request answer
+judged_audit old new request (Clean s) j = j
+judged_audit old new request (Undefined c l) j = j
+judged_audit old new request (Found s b) j = j
+judged_audit old new request (Generated m s b) j = j
+judged_audit old new request (GeneratedRefused m r) j = j
+judged_audit old new request Usage j = j
+judged_audit old new request (TooLong role) j = absurd j.why
+judged_audit old new request (Refused r) j = j
+judged_audit old new request CertificateTooLong j = j
+judged_audit old new request NotKept j = j
+judged_audit old new request ReadFault j = absurd j.why
+judged_audit old new request NoMemory j = tt
+
+-- a file that stops an audit is its cause
+pub stopped_audit : (old new : Disk) (request : AuditRequest) (fault : FetchFault) (answer : Answer) → answer ≡ stopped fault → IsStopped old new request fault
+    → AuditCause old new request answer
+stopped_audit old new request Fault.ReadFault answer is stops = subst (AuditCause old new request) (sym is) stops
+stopped_audit old new request (Fault.TooLong role) answer is stops = subst (AuditCause old new request) (sym is) stops
+stopped_audit old new request Fault.NoMemory answer is stops = subst (AuditCause old new request) (sym is) tt
+
+pub stopped_leaves : (cert : Option (List ℕ)) (old new : Option Held) (fault : FetchFault) (answer : Answer) → answer ≡ stopped fault → new ≡ old
+    → Leaves cert old new answer
+stopped_leaves cert old new Fault.ReadFault answer is same = subst (Leaves cert old new) (sym is) same
+stopped_leaves cert old new (Fault.TooLong role) answer is same = subst (Leaves cert old new) (sym is) same
+stopped_leaves cert old new Fault.NoMemory answer is same = subst (Leaves cert old new) (sym is) (spares_others cert old new same)
+
+-- what is said of a generated text is said of its request
+pub generated_self : (request : SelfRequest) (source slice : List ℕ) (size : ℕ) (answer : Answer) → size ≡ length source → slice ≡ source
+    → source ≡ generated_text request.seed request.lines
+    → GeneratedCause (record { seed = request.seed; lines = request.lines; size = size }) slice answer → SelfCause request answer
+generated_self request source slice size answer sizes same is why =
+    let sized = subst (λ n. GeneratedCause (record { seed = request.seed; lines = request.lines; size = n }) slice answer) sizes why in
+    let whole = subst (λ t. GeneratedCause (summary_of request source) t answer) same sized in
+    subst (λ s. GeneratedCause (summary_of request s) s answer) is whole

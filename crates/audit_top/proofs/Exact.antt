@@ -1,160 +1,46 @@
--- What a held file without faults is answered.
-use Rattle.std.proofs.Common.{◌≡◌, ℕ, ◌≤◌, List, length, Option, Some, None, Result, Ok, Err, arith, true, false, ◌<◌, refl, ap, sym, subst, ◌∙◌, inl, inr, le-leb}
-use Rattle.std.proofs.lemmas.Bool.{lt-leb}
-use Rattle.std.specs.Prelude.{nat_le}
+-- What a told file without faults is answered.
+use Rattle.std.proofs.Common.{◌≡◌, ◌⊎◌, ℕ, ◌<◌, ◌≤◌, List, length, Option, Some, None, Result, Ok, Err, arith, refl, ap, sym, subst, ◌∙◌, inl, inr, option_copied}
 use Rattle.ub_base.specs.Causes.{Rose}
-use Rattle.ub_base.specs.Held.{Held, bytes_under, fetched, Fetches}
+use Rattle.ub_base.specs.Held.{Held, bytes_under}
 use Rattle.ub_base.specs.Sink.{Gains}
-use Rattle.ub_base.specs.declared.files.Fetched.{Fetched}
-use Rattle.ub_base.specs.declared.files.Fetched.TheVariants.{Whole, TooLong, Absent}
 use Rattle.first_form.proofs.ReadTokens.{lexes_unique}
 use Rattle.first_form.proofs.Sentences.{unit_unique}
 use Rattle.first_form.specs.Grammar.{Spells}
 use Rattle.first_form.specs.declared.tree.ReturnUnit.{ReturnUnit}
 use Rattle.first_form.specs.Form.{IsFirstForm}
-use Rattle.audit_top.specs.Answer.{Asks, HasCause, HasVerdict, IsAbsent, HasNoForm, IsHeld, IsJudged, IsOnly, IsTold, IsUnread, HasTokens, Refuses, RefusesEarly, TokenCause, verdict, max_source}
-use Rattle.audit_top.specs.declared.answer.Refusal.{Refusal}
-use Rattle.audit_top.specs.declared.answer.Refusal.TheVariants.{Stray, OpenLiteral, BadNumber, TooDeep, TooHigh, Syntax, NotTyped}
+use Rattle.sources.proofs.Told.{absent_stops, absent_whole, not_stopped, too_long_stops, too_long_whole, whole_is}
+use Rattle.sources.specs.Fetching.{AreHeld, IsWhole, Stops, input_wanted, wanted}
+use Rattle.sources.specs.Role.{most}
+use Rattle.sources.specs.declared.fetch.FetchFault.{FetchFault}
+use Rattle.sources.specs.declared.fetch.FetchFault.TheVariants as Fault
+use Rattle.sources.specs.declared.role.Role.TheVariants.{Source}
+use Rattle.command.specs.declared.request.AuditRequest.{AuditRequest}
+use Rattle.command.specs.declared.request.Request.{Request}
+use Rattle.command.specs.declared.request.Request.TheVariants.{Audit, Check, SelfAudit}
 use Rattle.c_ast.specs.Nest.{nest_of}
 use Rattle.c_lex.specs.Tokens.{lexed}
 use Rattle.c_lex.specs.declared.token.Token.{Token}
 use Rattle.c_lex.specs.declared.token.LexFault.{LexFault}
-use Rattle.audit_top.specs.Words.{file_asked}
+use Rattle.audit_top.specs.Answer.{HasNoForm, HasTokens, HasVerdict, Refuses, RefusesEarly, verdict}
+use Rattle.audit_top.specs.Cause.{AuditCause, Disk, HasCause, IsJudged, IsStopped, Leaves, RequestCause, TextCause, UsesForm, WordsCause, stopped}
 use Rattle.audit_top.specs.Report.{Ends, EndsWith, report, status}
+use Rattle.audit_top.specs.Told.{IsAsked, IsGiven}
+use Rattle.audit_top.specs.Words.{Asks, TakesWords}
 use Rattle.audit_top.specs.declared.answer.Answer.{Answer}
-use Rattle.audit_top.specs.declared.answer.Answer.TheVariants.{Clean, Undefined, Found, Usage, SourceTooLong, Refused, ReadFault, NoMemory}
+use Rattle.audit_top.specs.declared.answer.Answer.TheVariants.{Clean, Undefined, Found, Generated, GeneratedRefused, Usage, TooLong, Refused, CertificateTooLong, NotKept, ReadFault, NoMemory}
+use Rattle.audit_top.specs.declared.answer.Refusal.{Refusal}
+use Rattle.audit_top.specs.declared.answer.Refusal.TheVariants.{Stray, OpenLiteral, BadNumber, TooDeep, TooHigh, Syntax, NotTyped}
+use Rattle.audit_top.proofs.Requests.{SameAudit, one_audit}
+
+-- this is the answer, unless memory ran out
+abbrev pub IsOnly : Answer → Answer → Type 0
+IsOnly answer wanted = (answer ≡ NoMemory) ⊎ (answer ≡ wanted)
 
 -- a text has one tree
 form_unique : (text : List ℕ) (u v : ReturnUnit) → IsFirstForm text u → IsFirstForm text v → u ≡ v
 form_unique text u v a b =
     let same = lexes_unique text a.0 b.0 a.1 b.1 in
     unit_unique text b.0 u v (subst (λ tokens. Spells text tokens u) same a.2) b.2
-
-one_name : (words : List (List ℕ)) (name other : List ℕ) → Asks words name → Asks words other → other ≡ name
-one_name words name other a b = let e = sym b ∙ a in cc
-
-same_files : (a b : Held) → Some a ≡ Some b → a ≡ b
-same_files a b e = cc
-
--- what is told decides what is fetched
-fetched_is : (words : List (List ℕ)) (held : Option Held) (name other : List ℕ) (text : Option (List ℕ)) (got : Fetched) → IsTold words held name text
-    → Asks words other → Fetches held other max_source got → got ≡ fetched text max_source
-fetched_is words held name other text got h asks fetches =
-    let same = one_name words name other h.asks asks in
-    let told : Fetches (Some h.files) name max_source got =
-    subst (λ n. Fetches (Some h.files) n max_source got) same (subst (λ o. Fetches o other max_source got) h.told fetches) in
-    told ∙ ap (λ o. fetched o max_source) h.there
-
-is_whole : (text : List ℕ) → length text ≤ max_source → fetched (Some text) max_source ≡ Whole text
-is_whole text within = let fits : nat_le (length text) max_source ≡ true = le-leb _ _ within in rw fits refl
-
-is_too_long : (text : List ℕ) → max_source < length text → fetched (Some text) max_source ≡ TooLong
-is_too_long text beyond = let fits : nat_le (length text) max_source ≡ false = lt-leb _ _ beyond in rw fits refl
-
-same_text : (a b : List ℕ) → Whole a ≡ Whole b → a ≡ b
-same_text a b e = cc
-
-too_long_is_not_whole : (text : List ℕ) → TooLong ≡ Whole text → ⊥
-too_long_is_not_whole text e = cc
-
-absent_is_not_whole : (text : List ℕ) → Whole text ≡ Absent → ⊥
-absent_is_not_whole text e = cc
-
-absent_is_not_too_long : TooLong ≡ Absent → ⊥
-absent_is_not_too_long e = cc
-
-none_is_not_some : (text : List ℕ) (o : Option (List ℕ)) → o ≡ None → o ≡ Some text → ⊥
-none_is_not_some text o none some = cc
-
--- the text that was fetched is the one that is held
-text_is : (words : List (List ℕ)) (held : Option Held) (name other text got : List ℕ) → IsHeld words held name text → length text ≤ max_source
-    → Asks words other → Fetches held other max_source (Whole got) → got ≡ text
-text_is words held name other text got h within asks fetches =
-    same_text got text (fetched_is words held name other (Some text) (Whole got) h asks fetches ∙ is_whole text within)
-
-not_too_long : (words : List (List ℕ)) (held : Option Held) (name other text : List ℕ) → IsHeld words held name text → length text ≤ max_source
-    → Asks words other → Fetches held other max_source TooLong → ⊥
-not_too_long words held name other text h within asks fetches =
-    too_long_is_not_whole text (fetched_is words held name other (Some text) TooLong h asks fetches ∙ is_whole text within)
-
-not_whole : (words : List (List ℕ)) (held : Option Held) (name other text got : List ℕ) → IsHeld words held name text → max_source < length text
-    → Asks words other → Fetches held other max_source (Whole got) → ⊥
-not_whole words held name other text got h beyond asks fetches =
-    too_long_is_not_whole got (sym (fetched_is words held name other (Some text) (Whole got) h asks fetches ∙ is_too_long text beyond))
-
--- a held file was read
-not_unread : (words : List (List ℕ)) (held : Option Held) (before now : ℕ) (name text other : List ℕ) → IsHeld words held name text → Asks words other
-    → (Rose before now → ⊥) → IsUnread held other before now → ⊥
-not_unread words held before now name text other h asks calm (inr rose) = calm rose
-not_unread words held before now name text other h asks calm (inl lacks) =
-    let files : lacks.0 ≡ h.files = same_files lacks.0 h.files (sym lacks.1 ∙ h.told) in
-    let same = one_name words name other h.asks asks in
-    none_is_not_some text (bytes_under h.files name) (subst (λ fs. bytes_under fs name ≡ None) files (subst (λ n. bytes_under lacks.0 n ≡ None) same lacks.2)) h.there
-
--- usage is the only answer to words that ask for no file
-pub only_usage : (words : List (List ℕ)) (held : Option Held) (before now : ℕ) (answer : Answer) → HasCause words held before now answer
-    → file_asked words ≡ None → IsOnly answer Usage
-only_usage words held before now (Clean s) cause none = absurd (none_is_not_some cause.0 (file_asked words) none cause.1)
-only_usage words held before now (Undefined c l) cause none = absurd (none_is_not_some cause.0 (file_asked words) none cause.1)
-only_usage words held before now Usage cause none = inr refl
-only_usage words held before now SourceTooLong cause none = absurd (none_is_not_some cause.0 (file_asked words) none cause.1)
-only_usage words held before now (Found s b) cause none = absurd (none_is_not_some cause.0 (file_asked words) none cause.1)
-only_usage words held before now (Refused r) cause none = absurd (none_is_not_some cause.0 (file_asked words) none cause.1)
-only_usage words held before now ReadFault cause none = absurd (none_is_not_some cause.0 (file_asked words) none cause.1)
-only_usage words held before now NoMemory cause none = inl refl
-
--- a read fault is the only answer to a file that isn't there
-pub only_absent : (words : List (List ℕ)) (held : Option Held) (before now : ℕ) (name : List ℕ) (answer : Answer) → IsAbsent words held name
-    → HasCause words held before now answer → IsOnly answer ReadFault
-only_absent words held before now name (Clean s) h cause = absurd (absent_is_not_whole _ (fetched_is words held name cause.0 None _ h cause.1 cause.2.fetched))
-only_absent words held before now name (Undefined c l) h cause = absurd (absent_is_not_whole _ (fetched_is words held name cause.0 None _ h cause.1 cause.2.fetched))
-only_absent words held before now name Usage h cause = absurd (none_is_not_some name (file_asked words) cause h.asks)
-only_absent words held before now name SourceTooLong h cause = absurd (absent_is_not_too_long (fetched_is words held name cause.0 None _ h cause.1 cause.2))
-only_absent words held before now name (Found s b) h cause = absurd (absent_is_not_whole _ (fetched_is words held name cause.0 None _ h cause.1 cause.2.fetched))
-only_absent words held before now name (Refused r) h cause = absurd (absent_is_not_whole _ (fetched_is words held name cause.0 None _ h cause.1 cause.2.fetched))
-only_absent words held before now name ReadFault h cause = inr refl
-only_absent words held before now name NoMemory h cause = inl refl
-
--- a file above the limit is only too long
-pub only_too_long : (words : List (List ℕ)) (held : Option Held) (before now : ℕ) (name text : List ℕ) (answer : Answer) → IsHeld words held name text
-    → max_source < length text → HasCause words held before now answer → (Rose before now → ⊥) → IsOnly answer SourceTooLong
-only_too_long words held before now name text (Clean s) h beyond cause calm = absurd (not_whole words held name cause.0 text _ h beyond cause.1 cause.2.fetched)
-only_too_long words held before now name text (Undefined c l) h beyond cause calm = absurd (not_whole words held name cause.0 text _ h beyond cause.1 cause.2.fetched)
-only_too_long words held before now name text Usage h beyond cause calm = absurd (none_is_not_some name (file_asked words) cause h.asks)
-only_too_long words held before now name text SourceTooLong h beyond cause calm = inr refl
-only_too_long words held before now name text (Found s b) h beyond cause calm = absurd (not_whole words held name cause.0 text _ h beyond cause.1 cause.2.fetched)
-only_too_long words held before now name text (Refused r) h beyond cause calm = absurd (not_whole words held name cause.0 text _ h beyond cause.1 cause.2.fetched)
-only_too_long words held before now name text ReadFault h beyond cause calm = absurd (not_unread words held before now name text cause.0 h cause.1 calm cause.2)
-only_too_long words held before now name text NoMemory h beyond cause calm = inl refl
-
-verdict_is : (words : List (List ℕ)) (held : Option Held) (name text other : List ℕ) (answer : Answer) (unit : ReturnUnit) → IsHeld words held name text
-    → length text ≤ max_source → Asks words other → HasVerdict held other answer → IsFirstForm text unit → answer ≡ verdict unit
-verdict_is words held name text other answer unit h within asks v form =
-    let same = text_is words held name other text v.text h within asks v.fetched in
-    v.is ∙ ap verdict (form_unique text v.unit unit (subst (λ t. IsFirstForm t v.unit) same v.form) form)
-
-has_form : (words : List (List ℕ)) (held : Option Held) (name text other : List ℕ) (unit : ReturnUnit) (answer : Answer) → IsHeld words held name text
-    → length text ≤ max_source → Asks words other → IsJudged held other answer → IsFirstForm text unit → ⊥
-has_form words held name text other unit answer h within asks v form =
-    v.no_form unit (subst (λ t. IsFirstForm t unit) (sym (text_is words held name other text v.text h within asks v.fetched)) form)
-
--- the verdict on its unit is the only answer to a text of the first form
-pub only_verdict : (words : List (List ℕ)) (held : Option Held) (before now : ℕ) (name text : List ℕ) (answer : Answer) (unit : ReturnUnit)
-    → IsHeld words held name text → length text ≤ max_source → HasCause words held before now answer → (Rose before now → ⊥)
-    → IsFirstForm text unit → IsOnly answer (verdict unit)
-only_verdict words held before now name text (Clean s) unit h within cause calm form = inr (verdict_is words held name text cause.0 (Clean s) unit h within cause.1 cause.2 form)
-only_verdict words held before now name text (Undefined c l) unit h within cause calm form = inr (verdict_is words held name text cause.0 (Undefined c l) unit h within cause.1 cause.2 form)
-only_verdict words held before now name text Usage unit h within cause calm form = absurd (none_is_not_some name (file_asked words) cause h.asks)
-only_verdict words held before now name text SourceTooLong unit h within cause calm form = absurd (not_too_long words held name cause.0 text h within cause.1 cause.2)
-only_verdict words held before now name text (Found s b) unit h within cause calm form = absurd (has_form words held name text cause.0 unit (Found s b) h within cause.1 cause.2 form)
-only_verdict words held before now name text (Refused r) unit h within cause calm form = absurd (has_form words held name text cause.0 unit (Refused r) h within cause.1 cause.2 form)
-only_verdict words held before now name text ReadFault unit h within cause calm form = absurd (not_unread words held before now name text cause.0 h cause.1 calm cause.2)
-only_verdict words held before now name text NoMemory unit h within cause calm form = inl refl
-
-no_verdict : (words : List (List ℕ)) (held : Option Held) (name text other : List ℕ) (answer : Answer) → IsHeld words held name text
-    → length text ≤ max_source → Asks words other → HasVerdict held other answer → ((unit : ReturnUnit) → IsFirstForm text unit → ⊥) → ⊥
-no_verdict words held name text other answer h within asks v none =
-    none v.unit (subst (λ t. IsFirstForm t v.unit) (text_is words held name other text v.text h within asks v.fetched) v.form)
 
 same_list : (a b : List Token) → ◌≡◌ {A = Result (List Token) LexFault} (Ok a) (Ok b) → a ≡ b
 same_list a b e = cc
@@ -226,25 +112,188 @@ early_unique tokens (NotTyped l) (TooHigh b) p q = absurd q
 early_unique tokens (NotTyped l) (Syntax u m) p q = absurd q
 early_unique tokens (NotTyped l) (NotTyped m) p q = absurd q
 
-judged_text : (words : List (List ℕ)) (held : Option Held) (name text other : List ℕ) (answer : Answer) → IsHeld words held name text
-    → length text ≤ max_source → Asks words other → IsJudged held other answer → TokenCause (lexed text) answer
-judged_text words held name text other answer h within asks v =
-    subst (λ t. TokenCause (lexed t) answer) (text_is words held name other text v.text h within asks v.fetched) v.why
+words_only : (words : List (List ℕ)) (answer wanted : Answer) → TakesWords words → WordsCause words answer → IsOnly answer wanted
+words_only words (Clean s) wanted taken why = absurd why
+words_only words (Undefined c l) wanted taken why = absurd why
+words_only words (Found s b) wanted taken why = absurd why
+words_only words (Generated m s b) wanted taken why = absurd why
+words_only words (GeneratedRefused m r) wanted taken why = absurd why
+words_only words Usage wanted taken why = absurd (why taken)
+words_only words (TooLong role) wanted taken why = absurd why
+words_only words (Refused r) wanted taken why = absurd why
+words_only words CertificateTooLong wanted taken why = absurd why
+words_only words NotKept wanted taken why = absurd why
+words_only words ReadFault wanted taken why = absurd why
+words_only words NoMemory wanted taken why = inl refl
+
+-- memory ran out, a file stopped the audit, or its text was judged
+abbrev Ways : Disk → Disk → AuditRequest → Answer → Type 0
+Ways old new request answer =
+    (answer ≡ NoMemory) ⊎ (((fault : FetchFault) × (answer ≡ stopped fault) × IsStopped old new request fault) ⊎ IsJudged old new request answer)
+
+audit_stops : (old new : Disk) (request : AuditRequest) (answer : Answer) → AuditCause old new request answer → Ways old new request answer
+audit_stops old new request (Clean s) cause = inr (inr cause)
+audit_stops old new request (Undefined c l) cause = inr (inr cause)
+audit_stops old new request (Found s b) cause = inr (inr cause)
+audit_stops old new request (Generated m s b) cause = inr (inr cause)
+audit_stops old new request (GeneratedRefused m r) cause = inr (inr cause)
+audit_stops old new request Usage cause = inr (inr cause)
+audit_stops old new request (TooLong role) cause = inr (inl (Fault.TooLong role, refl, cause))
+audit_stops old new request (Refused r) cause = inr (inr cause)
+audit_stops old new request CertificateTooLong cause = inr (inr cause)
+audit_stops old new request NotKept cause = inr (inr cause)
+audit_stops old new request ReadFault cause = inr (inl (Fault.ReadFault, refl, cause))
+audit_stops old new request NoMemory cause = inl refl
+
+-- the verdict is the only answer to a text of the first form that decides
+text_verdict : (request : AuditRequest) (before now : ℕ) (text : List ℕ) (unit : ReturnUnit) (answer : Answer) → UsesForm request → IsFirstForm text unit
+    → TextCause request before now text answer → IsOnly answer (verdict unit)
+text_verdict request before now text unit (Clean s) uses form why = inr (why.1.is ∙ ap verdict (form_unique text why.1.unit unit why.1.form form))
+text_verdict request before now text unit (Undefined c l) uses form why = inr (why.1.is ∙ ap verdict (form_unique text why.1.unit unit why.1.form form))
+text_verdict request before now text unit (Found s b) uses form why = absurd (why.0.run uses unit form)
+text_verdict request before now text unit (Generated m s b) uses form why = absurd why
+text_verdict request before now text unit (GeneratedRefused m r) uses form why = absurd why
+text_verdict request before now text unit Usage uses form why = absurd why
+text_verdict request before now text unit (TooLong role) uses form why = absurd why
+text_verdict request before now text unit (Refused r) uses form why = absurd (why.0 uses unit form)
+text_verdict request before now text unit CertificateTooLong uses form why = absurd (why.run uses unit form)
+text_verdict request before now text unit NotKept uses form why = absurd (why.0.run uses unit form)
+text_verdict request before now text unit ReadFault uses form why = absurd why
+text_verdict request before now text unit NoMemory uses form why = inl refl
 
 -- its refusal is the only answer to a text that its tokens refuse
-pub only_refused : (words : List (List ℕ)) (held : Option Held) (before now : ℕ) (name text : List ℕ) (answer : Answer) (refusal : Refusal)
-    → IsHeld words held name text → length text ≤ max_source → HasCause words held before now answer → (Rose before now → ⊥)
-    → HasNoForm text → RefusesEarly (lexed text) refusal → IsOnly answer (Refused refusal)
-only_refused words held before now name text (Clean s) refusal h within cause calm none why = absurd (no_verdict words held name text cause.0 (Clean s) h within cause.1 cause.2 none)
-only_refused words held before now name text (Undefined c l) refusal h within cause calm none why = absurd (no_verdict words held name text cause.0 (Undefined c l) h within cause.1 cause.2 none)
-only_refused words held before now name text (Found s b) refusal h within cause calm none why =
-    absurd (not_read_on (lexed text) refusal (judged_text words held name text cause.0 (Found s b) h within cause.1 cause.2) why)
-only_refused words held before now name text Usage refusal h within cause calm none why = absurd (none_is_not_some name (file_asked words) cause h.asks)
-only_refused words held before now name text SourceTooLong refusal h within cause calm none why = absurd (not_too_long words held name cause.0 text h within cause.1 cause.2)
-only_refused words held before now name text (Refused r) refusal h within cause calm none why =
-    inr (ap Refused (early_unique (lexed text) r refusal (judged_text words held name text cause.0 (Refused r) h within cause.1 cause.2) why))
-only_refused words held before now name text ReadFault refusal h within cause calm none why = absurd (not_unread words held before now name text cause.0 h cause.1 calm cause.2)
-only_refused words held before now name text NoMemory refusal h within cause calm none why = inl refl
+text_refused : (request : AuditRequest) (before now : ℕ) (text : List ℕ) (refusal : Refusal) (answer : Answer) → HasNoForm text
+    → RefusesEarly (lexed text) refusal → TextCause request before now text answer → IsOnly answer (Refused refusal)
+text_refused request before now text refusal (Clean s) none early why = absurd (none why.1.unit why.1.form)
+text_refused request before now text refusal (Undefined c l) none early why = absurd (none why.1.unit why.1.form)
+text_refused request before now text refusal (Found s b) none early why = absurd (not_read_on (lexed text) refusal why.0.tokens early)
+text_refused request before now text refusal (Generated m s b) none early why = absurd why
+text_refused request before now text refusal (GeneratedRefused m r) none early why = absurd why
+text_refused request before now text refusal Usage none early why = absurd why
+text_refused request before now text refusal (TooLong role) none early why = absurd why
+text_refused request before now text refusal (Refused r) none early why = inr (ap Refused (early_unique (lexed text) r refusal why.1 early))
+text_refused request before now text refusal CertificateTooLong none early why = absurd (not_read_on (lexed text) refusal why.tokens early)
+text_refused request before now text refusal NotKept none early why = absurd (not_read_on (lexed text) refusal why.0.tokens early)
+text_refused request before now text refusal ReadFault none early why = absurd why
+text_refused request before now text refusal NoMemory none early why = inl refl
+
+is_stopped : (answer wanted : Answer) (fault : FetchFault) → answer ≡ stopped fault → (fault ≡ Fault.NoMemory) ⊎ (stopped fault ≡ wanted) → IsOnly answer wanted
+is_stopped answer wanted fault is (inl memory) = inl (is ∙ ap stopped memory)
+is_stopped answer wanted fault is (inr same) = inr (is ∙ same)
+
+by_fault : (fault wanted : FetchFault) → (fault ≡ Fault.NoMemory) ⊎ (fault ≡ wanted) → (fault ≡ Fault.NoMemory) ⊎ (stopped fault ≡ stopped wanted)
+by_fault fault wanted (inl memory) = inl memory
+by_fault fault wanted (inr same) = inr (ap stopped same)
+
+absent_way : (old new : Disk) (request : AuditRequest) (files : Held) (answer : Answer) → old.held ≡ Some files → bytes_under files request.file.now ≡ None
+    → Ways old new request answer → IsOnly answer ReadFault
+absent_way old new request files answer told none (inl memory) = inl memory
+absent_way old new request files answer told none (inr (inl f)) =
+    is_stopped answer ReadFault f.0 f.1 (by_fault f.0 Fault.ReadFault (absent_stops files old.reads new.reads (Source, request.file.now) (input_wanted (option_copied request.input)) f.0 none
+    (subst (λ h. Stops h old.reads new.reads (wanted request.file.now (option_copied request.input)) f.0) told f.2)))
+absent_way old new request files answer told none (inr (inr j)) =
+    absurd (absent_whole files (Source, request.file.now) j.text none (subst (λ h. IsWhole h (Source, request.file.now) j.text) told j.source))
+
+too_long_way : (old new : Disk) (request : AuditRequest) (files : Held) (text : List ℕ) (answer : Answer) → old.held ≡ Some files
+    → bytes_under files request.file.now ≡ Some text → most Source < length text → (Rose old.reads new.reads → ⊥) → Ways old new request answer
+    → IsOnly answer (TooLong Source)
+too_long_way old new request files text answer told there beyond calm (inl memory) = inl memory
+too_long_way old new request files text answer told there beyond calm (inr (inl f)) =
+    is_stopped answer (TooLong Source) f.0 f.1 (by_fault f.0 (Fault.TooLong Source) (too_long_stops files old.reads new.reads (Source, request.file.now) (input_wanted (option_copied request.input)) text f.0 there beyond calm
+    (subst (λ h. Stops h old.reads new.reads (wanted request.file.now (option_copied request.input)) f.0) told f.2)))
+too_long_way old new request files text answer told there beyond calm (inr (inr j)) =
+    absurd (too_long_whole files (Source, request.file.now) text j.text there beyond (subst (λ h. IsWhole h (Source, request.file.now) j.text) told j.source))
+
+-- the text that is judged is the one that is held
+judged_why : (old new : Disk) (request : AuditRequest) (files : Held) (text : List ℕ) (answer : Answer) → old.held ≡ Some files
+    → bytes_under files request.file.now ≡ Some text → IsJudged old new request answer → TextCause request old.writes new.writes text answer
+judged_why old new request files text answer told there j =
+    subst (λ t. TextCause request old.writes new.writes t answer)
+    (whole_is files (Source, request.file.now) text j.text there (subst (λ h. IsWhole h (Source, request.file.now) j.text) told j.source)) j.why
+
+given_way : (old new : Disk) (request : AuditRequest) (files : Held) (text : List ℕ) (answer wanted_answer : Answer) → old.held ≡ Some files
+    → AreHeld files (wanted request.file.now (option_copied request.input)) → bytes_under files request.file.now ≡ Some text
+    → (Rose old.reads new.reads → ⊥) → (TextCause request old.writes new.writes text answer → IsOnly answer wanted_answer)
+    → Ways old new request answer → IsOnly answer wanted_answer
+given_way old new request files text answer wanted_answer told all there calm only (inl memory) = inl memory
+given_way old new request files text answer wanted_answer told all there calm only (inr (inl f)) =
+    inl (f.1 ∙ ap stopped (not_stopped files old.reads new.reads (wanted request.file.now (option_copied request.input)) f.0 all calm
+    (subst (λ h. Stops h old.reads new.reads (wanted request.file.now (option_copied request.input)) f.0) told f.2)))
+given_way old new request files text answer wanted_answer told all there calm only (inr (inr j)) =
+    only (judged_why old new request files text answer told there j)
+
+-- The cause of the words is that of their audit, or memory ran out.
+pub audit_of : (words : List (List ℕ)) (old new : Disk) (request : AuditRequest) (answer wanted_answer : Answer) → TakesWords words
+    → Asks words (Audit request) → HasCause words old new answer
+    → ((own : AuditRequest) → SameAudit request own → AuditCause old new own answer → IsOnly answer wanted_answer) → IsOnly answer wanted_answer
+audit_of words old new request answer wanted_answer taken asks (inl w) only = words_only words answer wanted_answer taken w.0
+audit_of words old new request answer wanted_answer taken asks (inr h) only =
+    let one = one_audit words request h.request asks h.asked in
+    let why : RequestCause old new (Audit one.0) answer = subst (λ r. RequestCause old new r answer) one.1 h.why in
+    only one.0 one.2 why.0
+
+pub only_absent : (words : List (List ℕ)) (old new : Disk) (request : AuditRequest) (files : Held) (answer : Answer) → IsAsked words old.held request files
+    → bytes_under files request.file.now ≡ None → HasCause words old new answer → IsOnly answer ReadFault
+only_absent words old new request files answer h none cause =
+    audit_of words old new request answer ReadFault h.taken h.asked cause
+    (λ own same why. absent_way old new own files answer h.told (subst (λ n. bytes_under files n ≡ None) same.file none) (audit_stops old new own answer why))
+
+pub only_too_long : (words : List (List ℕ)) (old new : Disk) (request : AuditRequest) (files : Held) (text : List ℕ) (answer : Answer)
+    → IsAsked words old.held request files → bytes_under files request.file.now ≡ Some text → most Source < length text
+    → (Rose old.reads new.reads → ⊥) → HasCause words old new answer → IsOnly answer (TooLong Source)
+only_too_long words old new request files text answer h there beyond calm cause =
+    audit_of words old new request answer (TooLong Source) h.taken h.asked cause
+    (λ own same why. too_long_way old new own files text answer h.told (subst (λ n. bytes_under files n ≡ Some text) same.file there) beyond calm (audit_stops old new own answer why))
+
+only_given : (words : List (List ℕ)) (old new : Disk) (request : AuditRequest) (files : Held) (text : List ℕ) (answer wanted_answer : Answer)
+    → IsGiven words old.held request files text → (Rose old.reads new.reads → ⊥) → HasCause words old new answer
+    → ((own : AuditRequest) → SameAudit request own → TextCause own old.writes new.writes text answer → IsOnly answer wanted_answer)
+    → IsOnly answer wanted_answer
+only_given words old new request files text answer wanted_answer h calm cause only =
+    audit_of words old new request answer wanted_answer h.call.taken h.call.asked cause
+    (λ own same why. given_way old new own files text answer wanted_answer h.call.told
+    (subst (λ i. AreHeld files (wanted own.file.now i)) same.input (subst (λ n. AreHeld files (wanted n (option_copied request.input))) same.file h.all))
+    (subst (λ n. bytes_under files n ≡ Some text) same.file h.source) calm (only own same) (audit_stops old new own answer why))
+
+uses_same : (a b : AuditRequest) → SameAudit a b → UsesForm a → UsesForm b
+uses_same a b same uses = (subst (λ n. 5 ≤ n) same.steps uses.0, subst (λ c. c ≡ None) same.cert uses.1)
+
+pub only_verdict : (words : List (List ℕ)) (old new : Disk) (request : AuditRequest) (files : Held) (text : List ℕ) (unit : ReturnUnit) (answer : Answer)
+    → IsGiven words old.held request files text → (Rose old.reads new.reads → ⊥) → UsesForm request → IsFirstForm text unit
+    → HasCause words old new answer → IsOnly answer (verdict unit)
+only_verdict words old new request files text unit answer h calm uses form cause =
+    only_given words old new request files text answer (verdict unit) h calm cause
+    (λ own same why. text_verdict own old.writes new.writes text unit answer (uses_same request own same uses) form why)
+
+pub only_refused : (words : List (List ℕ)) (old new : Disk) (request : AuditRequest) (files : Held) (text : List ℕ) (refusal : Refusal) (answer : Answer)
+    → IsGiven words old.held request files text → (Rose old.reads new.reads → ⊥) → HasNoForm text → RefusesEarly (lexed text) refusal
+    → HasCause words old new answer → IsOnly answer (Refused refusal)
+only_refused words old new request files text refusal answer h calm none early cause =
+    only_given words old new request files text answer (Refused refusal) h calm cause
+    (λ own same why. text_refused own old.writes new.writes text refusal answer none early why)
+
+-- what an audit without certificate leaves
+leaves_all : (old new : Option Held) (answer : Answer) → Leaves None old new answer → new ≡ old
+leaves_all old new (Clean s) leaves = leaves
+leaves_all old new (Undefined c l) leaves = leaves
+leaves_all old new (Found s b) leaves = leaves
+leaves_all old new (Generated m s b) leaves = leaves
+leaves_all old new (GeneratedRefused m r) leaves = leaves
+leaves_all old new Usage leaves = leaves
+leaves_all old new (TooLong role) leaves = leaves
+leaves_all old new (Refused r) leaves = leaves
+leaves_all old new CertificateTooLong leaves = leaves
+leaves_all old new NotKept leaves = leaves
+leaves_all old new ReadFault leaves = leaves
+leaves_all old new NoMemory leaves = leaves
+
+pub stays : (words : List (List ℕ)) (old new : Disk) (request : AuditRequest) (answer : Answer) → Asks words (Audit request)
+    → option_copied request.cert ≡ None → HasCause words old new answer → new.held ≡ old.held
+stays words old new request answer asks none (inl w) = w.1
+stays words old new request answer asks none (inr h) =
+    let one = one_audit words request h.request asks h.asked in
+    let why : RequestCause old new (Audit one.0) answer = subst (λ r. RequestCause old new r answer) one.1 h.why in
+    leaves_all old.held new.held answer (subst (λ c. Leaves c old.held new.held answer) (sym one.2.cert ∙ none) why.1)
 
 -- so the call ends with it
 pub ends_with : (old new : Option (List ℕ)) (before now result : ℕ) (answer wanted : Answer) → Ends old new before now result answer

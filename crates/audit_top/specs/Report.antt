@@ -1,11 +1,14 @@
 -- The report of an answer, and its status.
-use Rattle.std.specs.Prelude.{◌≡◌, ◌⊎◌, ℕ, List, ◌++◌, codes, decimal, Option}
+use Rattle.std.specs.Prelude.{◌≡◌, ◌⊎◌, ℕ, List, [], ◌++◌, codes, decimal, Option}
+use Rattle.sources.specs.declared.role.Role.{Role}
+use Rattle.sources.specs.declared.role.Role.TheVariants.{Source, Certificate, Input}
 use Rattle.ub_base.specs.Causes.{Rose}
 use Rattle.ub_base.specs.Clause.{clause_text}
 use Rattle.ub_base.specs.declared.clause.Clause.{Clause}
 use Rattle.ub_base.specs.Sink.{Gains, GainsPart}
 use Rattle.audit_top.specs.declared.answer.Answer.{Answer}
-use Rattle.audit_top.specs.declared.answer.Answer.TheVariants.{Clean, Undefined, Found, Usage, SourceTooLong, Refused, ReadFault, NoMemory}
+use Rattle.audit_top.specs.declared.answer.Summary.{Summary}
+use Rattle.audit_top.specs.declared.answer.Answer.TheVariants.{Clean, Undefined, Found, Generated, GeneratedRefused, Usage, TooLong, Refused, CertificateTooLong, NotKept, ReadFault, NoMemory}
 use Rattle.audit_top.specs.declared.answer.Refusal.{Refusal}
 use Rattle.audit_top.specs.declared.answer.Refusal.TheVariants.{Stray, OpenLiteral, BadNumber, TooDeep, TooHigh, Syntax, NotTyped}
 
@@ -41,13 +44,27 @@ abbrev pub undefined_report : Clause → ℕ → List ℕ
 undefined_report clause line =
     codes "undefined " ++ (clause_text clause ++ (codes "\nevent main 2 0 val line " ++ (decimal line ++ codes "\norder canonical 3\n")))
 
+abbrev pub too_long_report : Role → List ℕ
+too_long_report Source = codes "too long source 1048576\n"
+too_long_report Certificate = codes "too long certificate 67108864\n"
+too_long_report Input = codes "too long input 16777216\n"
+
+-- what a program was generated from, and its size
+abbrev pub summary_report : Summary → List ℕ
+summary_report summary =
+    codes "self " ++ (decimal summary.seed ++ (codes " " ++ (decimal summary.lines ++ (codes "\nsource " ++ (decimal summary.size ++ codes "\n")))))
+
 abbrev pub report : Answer → List ℕ
 report (Clean status) = clean_report status
 report (Undefined clause line) = undefined_report clause line
 report (Found status bytes) = bytes
+report (Generated summary status bytes) = summary_report summary ++ bytes
+report (GeneratedRefused summary refusal) = summary_report summary ++ refusal_report refusal
 report Usage = codes "usage\n"
-report SourceTooLong = codes "too long source 1048576\n"
+report (TooLong role) = too_long_report role
 report (Refused refusal) = refusal_report refusal
+report CertificateTooLong = too_long_report Certificate
+report NotKept = []
 report ReadFault = codes "read fault\n"
 report NoMemory = codes "no memory\n"
 
@@ -55,9 +72,13 @@ abbrev pub status : Answer → ℕ
 status (Clean s) = 0
 status (Undefined clause line) = 1
 status (Found s bytes) = s
+status (Generated summary s bytes) = s
+status (GeneratedRefused summary refusal) = refusal_status refusal
 status Usage = 10
-status SourceTooLong = 14
+status (TooLong role) = 14
 status (Refused refusal) = refusal_status refusal
+status CertificateTooLong = 14
+status NotKept = 21
 status ReadFault = 20
 status NoMemory = 30
 

@@ -1,15 +1,21 @@
 -- What the words of a command line ask for (own).
-use Rattle.std.specs.Prelude.{ℕ, List, [], ◌∷◌, Bool, true, ◌&&◌, ◌==◌, codes, Option, Some, None, if◌then◌else◌}
-use Rattle.std.specs.Str.{bytes_eq}
+use Rattle.std.specs.Prelude.{◌≡◌, ◌≤◌, ℕ, List, Bool, true, ⊤}
+use Rattle.clap.specs.Takes.{takes}
+use Rattle.command.specs.App.{cub_app}
+use Rattle.command.specs.Asked.{IsRequest, named}
+use Rattle.command.specs.declared.request.Request.{Request}
+use Rattle.command.specs.declared.request.Request.TheVariants.{Audit, Check, SelfAudit}
 
--- a word names a file: it is `-`, or doesn't begin with `-`
-abbrev pub is_file_word : List ℕ → Bool
-is_file_word [] = true
-is_file_word (first ∷ rest) = if first == 45 then bytes_eq rest [] else true
+-- the command takes the words
+unfoldable pub TakesWords : List (List ℕ) → Type 0
+TakesWords words = takes cub_app words ≡ true
 
--- the file whose audit the words ask for: they are `audit FILE`
-abbrev pub file_asked : List (List ℕ) → Option (List ℕ)
-file_asked [] = None
-file_asked (command ∷ []) = None
-file_asked (command ∷ file ∷ []) = if bytes_eq command (codes "audit") && is_file_word file then Some file else None
-file_asked (command ∷ file ∷ more ∷ words) = None
+-- the words ask for this
+unfoldable pub Asks : List (List ℕ) → Request → Type 0
+Asks words request = IsRequest (named words) request
+
+-- the numbers of a request keep their bounds
+abbrev pub IsBounded : Request → Type 0
+IsBounded (Audit request) = request.steps ≤ 100000000
+IsBounded (Check request) = ⊤
+IsBounded (SelfAudit request) = (request.seed ≤ 65536) × (request.lines ≤ 20000)

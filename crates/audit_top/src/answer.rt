@@ -1,13 +1,14 @@
 // What the command answers, as the report says it.
-ghost use Rattle.std.specs.Prelude.{◌≡◌, IfOk};
-ghost use Rattle.audit_top.specs.Report.{numbered, syntax_report, clean_report, undefined_report};
+ghost use Rattle.std.specs.Prelude.{◌≡◌, ◌++◌, IfOk};
+ghost use Rattle.audit_top.specs.Report.{numbered, syntax_report, clean_report, undefined_report, refusal_report, too_long_report, summary_report};
 
 use itoa::Buffer;
+use sources::Role;
 use std::alloc::Global;
 use ub_base::{Bytes, Clause, NoMemory};
 
 /// Why a source isn't run.
-#[derive(Clone, Copy, Debug)]
+#[derive(Clone, Copy)]
 pub enum Refusal {
     /// The bytes at this offset begin no token.
     Stray(u32),
@@ -25,17 +26,49 @@ pub enum Refusal {
     NotTyped(u32),
 }
 
+/// What a program was generated from, and how many bytes it has.
+#[derive(Clone, Copy)]
+pub struct Summary {
+    pub seed: u64,
+    pub lines: u64,
+    pub size: usize,
+}
+
 /// What the command answers.
-#[derive(Debug, Drop)]
+#[derive(Drop)]
 pub enum Answer {
     /// The verdicts on a unit of the first form.
-    Clean { status: u8 },
-    Undefined { clause: Clause, line: u32 },
+    Clean {
+        status: u8,
+    },
+    Undefined {
+        clause: Clause,
+        line: u32,
+    },
     /// The verdict on a run, with its report.
-    Found { status: u8, report: Bytes },
+    Found {
+        status: u8,
+        report: Bytes,
+    },
+    /// The verdict on the run of a generated program.
+    Generated {
+        summary: Summary,
+        status: u8,
+        report: Bytes,
+    },
+    /// A generated program isn't run.
+    GeneratedRefused {
+        summary: Summary,
+        refusal: Refusal,
+    },
     Usage,
-    SourceTooLong,
+    /// A file that is read has too many bytes.
+    TooLong(Role),
     Refused(Refusal),
+    /// The certificate that was made has too many bytes.
+    CertificateTooLong,
+    /// The certificate can't be written.
+    NotKept,
     ReadFault,
     NoMemory,
 }
@@ -117,6 +150,47 @@ fn undefined(alloc: Global, clause: Clause, line: u32) -> Result<Bytes, NoMemory
     Ok(bytes)
 }
 
+fn too_long(role: Role) -> &'static [u8]
+    ensures { result.now ≡ too_long_report role }
+{
+    match role {
+        Role::Source => b"too long source 1048576\n",
+        Role::Certificate => b"too long certificate 67108864\n",
+        Role::Input => b"too long input 16777216\n",
+    }
+}
+
+fn summary_text(alloc: Global, summary: Summary) -> Result<Bytes, NoMemory>
+    ensures { IfOk result (λ bytes. bytes ≡ summary_report summary) }
+{
+    let mut digits = Buffer::new();
+    let mut bytes = Bytes::from_slice(alloc, b"self ")?;
+    bytes.append(digits.format(summary.seed).as_bytes())?;
+    bytes.append(b" ")?;
+    bytes.append(digits.format(summary.lines).as_bytes())?;
+    bytes.append(b"\nsource ")?;
+    bytes.append(digits.format(summary.size).as_bytes())?;
+    bytes.append(b"\n")?;
+    Ok(bytes)
+}
+
+// The summary of a generated program, and then the report of its audit.
+fn generated(alloc: Global, of: Summary, report: &[u8]) -> Result<Bytes, NoMemory>
+    ensures { IfOk result (λ bytes. bytes ≡ summary_report of ++ report.now) }
+{
+    let mut bytes = summary_text(alloc, of)?;
+    bytes.append(report)?;
+    Ok(bytes)
+}
+
+// The summary of a generated program, and then why it isn't run.
+fn generated_refused(alloc: Global, of: Summary, refusal: Refusal) -> Result<Bytes, NoMemory>
+    ensures { IfOk result (λ bytes. bytes ≡ summary_report of ++ refusal_report refusal) }
+{
+    let report = refusal.report(alloc)?;
+    generated(alloc, of, report.as_slice())
+}
+
 impl Answer {
     ghost use Rattle.audit_top.specs.Report.{status, report};
 
@@ -127,9 +201,13 @@ impl Answer {
             Answer::Clean { .. } => 0,
             Answer::Undefined { .. } => 1,
             Answer::Found { status, .. } => *status,
+            Answer::Generated { status, .. } => *status,
+            Answer::GeneratedRefused { refusal, .. } => refusal.status(),
             Answer::Usage => 10,
-            Answer::SourceTooLong => 14,
+            Answer::TooLong(_) => 14,
             Answer::Refused(refusal) => refusal.status(),
+            Answer::CertificateTooLong => 14,
+            Answer::NotKept => 21,
             Answer::ReadFault => 20,
             Answer::NoMemory => 30,
         }
@@ -142,9 +220,19 @@ impl Answer {
             Answer::Clean { status } => clean(alloc, *status),
             Answer::Undefined { clause, line } => undefined(alloc, *clause, *line),
             Answer::Found { report, .. } => Bytes::from_slice(alloc, report.as_slice()),
+            Answer::Generated {
+                summary,
+                report,
+                ..
+            } => generated(alloc, *summary, report.as_slice()),
+            Answer::GeneratedRefused { summary, refusal } => {
+                generated_refused(alloc, *summary, *refusal)
+            }
             Answer::Usage => Bytes::from_slice(alloc, b"usage\n"),
-            Answer::SourceTooLong => Bytes::from_slice(alloc, b"too long source 1048576\n"),
+            Answer::TooLong(role) => Bytes::from_slice(alloc, too_long(*role)),
             Answer::Refused(refusal) => refusal.report(alloc),
+            Answer::CertificateTooLong => Bytes::from_slice(alloc, too_long(Role::Certificate)),
+            Answer::NotKept => Bytes::from_slice(alloc, b""),
             Answer::ReadFault => Bytes::from_slice(alloc, b"read fault\n"),
             Answer::NoMemory => Bytes::from_slice(alloc, b"no memory\n"),
         }

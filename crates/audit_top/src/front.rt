@@ -18,7 +18,7 @@ const MAX_NEST: u32 = 2000;
 const MAX_HEIGHT: u32 = 1000;
 
 /// Why a text has no program.
-#[derive(Clone, Copy, Debug)]
+#[derive(Clone, Copy)]
 pub enum FrontFault {
     Refused(Refusal),
     NoMemory,

@@ -2,8 +2,10 @@
 #![tactic(auto)]
 
 mod answer;
+mod certify;
 mod finding;
 mod front;
+mod judge;
 mod run;
 mod top;
 mod value;

@@ -1,11 +1,9 @@
-// The answer to the audit of a text.
-ghost use Rattle.std.specs.Prelude.{◌≤◌, ◌^◌, length};
-ghost use Rattle.audit_top.specs.Answer.{TokenCause};
-ghost use Rattle.c_lex.specs.Tokens.{lexed};
+// The run of a program, and its report.
+ghost use Rattle.std.specs.Prelude.{◌≡◌, ◌≤◌, IfOk};
+ghost use Rattle.audit_top.specs.Finding.{IsFound};
+ghost use Rattle.footprint_run.specs.Findings.{picks_of, IsOutOfSteps, ItemsConflict};
 
-use crate::answer::Answer;
 use crate::finding::{report_of, status_of};
-use crate::front::{FrontFault, program_of};
 use addr_map::Mode;
 use c_typed::Program;
 use elaborate::elaborate;
@@ -13,32 +11,51 @@ use footprint_run::{Audit, audit_run};
 use std::alloc::Global;
 use ub_base::{Bytes, NoMemory};
 
-const STEPS: u64 = 1_000_000;
-
-// The first finding of the run of a program, with no input and no arguments, its objects spaced.
-fn audit_of(alloc: Global, program: &Program) -> Result<Audit, NoMemory> {
-    let core = elaborate(alloc, program)?;
-    audit_run(alloc, &core, &[], &[], Mode::Spaced, STEPS)
+/// What a run is given: the input, the words behind the program's name, where its objects stand, and its most steps.
+#[derive(Clone, Copy)]
+pub struct Setting<'a> {
+    pub input: &'a [u8],
+    pub args: &'a [String],
+    pub mode: Mode,
+    pub steps: u64,
 }
 
-fn found(alloc: Global, program: &Program) -> Result<(u8, Bytes), NoMemory> {
-    let audit = audit_of(alloc, program)?;
-    let report = report_of(alloc, &audit, STEPS)?;
-    Ok((status_of(&audit.finding), report))
+/// The finding of a run, with its status and its report.
+#[derive(Drop)]
+pub struct Found {
+    pub audit: Audit,
+    pub status: u8,
+    pub report: Bytes,
 }
 
-/// The answer to the audit of a text that isn't of the first form.
-pub fn judged(alloc: Global, text: &[u8]) -> Answer
-    requires { length text.now ≤ 2 ^ 20 }
-    ensures { TokenCause (lexed text.now) result }
+// The first finding of the run of a program.
+fn audit_of(alloc: Global, program: &Program, setting: &Setting<'_>) -> Result<Audit, NoMemory>
+    requires { setting.now.steps ≤ 100000000 }
+    ensures within { IfOk result (λ a. picks_of a.finding ≤ setting.now.steps) }
+    ensures out_of_steps { IfOk result (λ a. IsOutOfSteps a.finding → picks_of a.finding ≡ setting.now.steps) }
+    ensures items { IfOk result (λ a. ItemsConflict a.finding) }
 {
-    let program = match program_of(alloc, text) {
-        Ok(program) => program,
-        Err(FrontFault::Refused(refusal)) => return Answer::Refused(refusal),
-        Err(FrontFault::NoMemory) => return Answer::NoMemory,
-    };
-    match found(alloc, &program) {
-        Ok((status, report)) => Answer::Found { status, report },
-        Err(NoMemory) => Answer::NoMemory,
-    }
+    let core = elaborate(alloc, program)?;
+    audit_run(
+        alloc,
+        &core,
+        setting.input,
+        setting.args,
+        setting.mode,
+        setting.steps,
+    )
+}
+
+/// Audits the run of a program, and says what was found.
+pub fn audited(alloc: Global, program: &Program, setting: &Setting<'_>) -> Result<Found, NoMemory>
+    requires { setting.now.steps ≤ 100000000 }
+    ensures { IfOk result (λ found. IsFound setting.now.steps found.status found.report) }
+{
+    let audit = audit_of(alloc, program, setting)?;
+    let report = report_of(alloc, &audit, setting.steps)?;
+    Ok(Found {
+        status: status_of(&audit.finding),
+        report,
+        audit,
+    })
 }

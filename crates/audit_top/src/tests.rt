@@ -2,7 +2,7 @@
 use crate::audit_main;
 use std::alloc::{AllocError, Global};
 use std::test::Fail;
-use ub_base::{MemFiles, MemSink};
+use ub_base::{Fetched, Files, MemFiles, MemSink, NoMemory};
 
 // A source under the name `f.c`, and the status and the report of its audit.
 const SOURCES: [(&str, u8, &str); 31] = [
@@ -119,17 +119,45 @@ const SOURCES: [(&str, u8, &str); 31] = [
     (" @", 11, "lex stray 1\n"),
 ];
 
-// Words, and the status and the report of the call.
-const COMMANDS: [(&[&str], u8, &str); 8] = [
+// Words, and the status and the report of the call. The file `zero.c` returns 0, and `f.c` the number of its arguments.
+const COMMANDS: [(&[&str], u8, &str); 16] = [
     (&[], 10, "usage\n"),
     (&["audit"], 10, "usage\n"),
-    (&["check", "f.c"], 10, "usage\n"),
     (&["audit", "-f.c"], 10, "usage\n"),
-    (&["audit", "f.c", "x"], 10, "usage\n"),
+    (&["audit", "f.c", "--steps", "0"], 10, "usage\n"),
+    (&["--help"], 10, "usage\n"),
+    (&["self", "1", "0"], 10, "usage\n"),
     (&["audit", "absent.c"], 20, "read fault\n"),
+    (&["audit", "f.c", "--input", "absent"], 20, "read fault\n"),
     (&["audit", "long.c"], 14, "too long source 1048576\n"),
     (&["audit", "-"], 0, "clean\nexit 7\noutput 0\n"),
+    (&["audit", "f.c", "x", "y"], 0, "clean\nexit 3\noutput 0\n"),
+    (
+        &["audit", "zero.c", "--steps", "4"],
+        0,
+        "clean\nexit 0\noutput 0\n",
+    ),
+    (&["audit", "zero.c", "--steps", "3"], 3, "out of steps 3\n"),
+    (
+        &["audit", "zero.c", "--cert", "c"],
+        0,
+        "clean\nexit 0\noutput 0\n",
+    ),
+    (
+        &["self", "1", "1"],
+        0,
+        "self 1 1\nsource 91\nclean\nexit 1\noutput 0\n",
+    ),
+    (
+        &["self", "1", "2"],
+        0,
+        "self 1 2\nsource 120\nclean\nexit 1\noutput 0\n",
+    ),
 ];
+
+// What the audit of `zero.c` keeps as its certificate.
+const CERTIFICATE: &str =
+    "{\"frames\":[],\"map\":[],\"order\":[4],\"output\":\"\",\"status\":0,\"verdict\":\"clean\",\"version\":2}";
 
 fn words(alloc: Global, texts: &[&str]) -> Result<Vec<String>, AllocError> {
     let mut words = Vec::new(alloc);
@@ -140,7 +168,7 @@ fn words(alloc: Global, texts: &[&str]) -> Result<Vec<String>, AllocError> {
 }
 
 #[test]
-fn calls_have_their_reports(rt: HostRuntime) -> Result<(), Fail> {
+fn sources_have_their_reports(rt: HostRuntime) -> Result<(), Fail> {
     let alloc = rt.alloc();
     let mut files = MemFiles::new(alloc);
     let audit = words(alloc, &["audit", "f.c"])?;
@@ -155,7 +183,16 @@ fn calls_have_their_reports(rt: HostRuntime) -> Result<(), Fail> {
         );
         assert_eq!(rt; out.bytes(), report.as_bytes(), "{source}");
     }
+    Ok(())
+}
+
+#[test]
+fn commands_have_their_reports(rt: HostRuntime) -> Result<(), Fail> {
+    let alloc = rt.alloc();
+    let mut files = MemFiles::new(alloc);
     files.add("-", b"int main(void){return 7;}")?;
+    files.add("zero.c", b"int main(void){return 0;}")?;
+    files.add("f.c", b"int main(int argc,char**argv){return argc;}")?;
     files.add("long.c", vec![in alloc; b' '; 1048577]?.as_slice())?;
     for (texts, status, report) in COMMANDS {
         let mut out = MemSink::new(alloc);
@@ -168,38 +205,101 @@ fn calls_have_their_reports(rt: HostRuntime) -> Result<(), Fail> {
         );
         assert_eq!(rt; out.bytes(), report.as_bytes(), "{texts:?}");
     }
+    assert!(rt; holds(alloc, &mut files, "c", CERTIFICATE));
     Ok(())
 }
 
-// The device of the files fails at the first call, or that of the report does, or its room ends early.
+// Whether a file holds this text.
+fn holds(alloc: Global, files: &mut MemFiles, name: &str, text: &str) -> bool {
+    match files.fetch(alloc, name, 1000) {
+        Ok(Fetched::Whole(bytes)) => bytes.as_slice() == text.as_bytes(),
+        _ => false,
+    }
+}
+
+// A program that adds the numbers of its input, and the report on it with the input `10 20 30`.
+const SUM: &str = "typedef unsigned long size_t;
+void *malloc(size_t); void free(void *); int getchar(void); int printf(const char *, ...);
+struct node { int v; struct node *next; };
+int main(void) {
+  struct node *head = 0; int c = getchar();
+  while (c != -1) {
+    if (c >= '0' && c <= '9') {
+      int v = 0;
+      while (c >= '0' && c <= '9') { v = v * 10 + (c - '0'); c = getchar(); }
+      struct node *n = malloc(sizeof(struct node));
+      if (!n) return 1;
+      n->v = v; n->next = head; head = n;
+    } else c = getchar();
+  }
+  long sum = 0; int k = 0;
+  while (head) { struct node *n = head; sum += n->v; k++; head = n->next; free(n); }
+  printf(\"%d numbers, sum %ld\\n\", k, sum);
+  return 0;
+}
+";
+
+const SUM_REPORT: &str = "clean\nexit 0\noutput 18\n3 numbers, sum 60\n";
+
+// Calls of the files and of the sink that fail, the room of the sink, and the status, what is put, and whether the
+// certificate is kept. The files are called for the source (0), the input (1) and the certificate (2).
+const DEVICES: [(&[u64], &[u64], usize, u8, &str, bool); 8] = [
+    (&[], &[], 100, 0, SUM_REPORT, true),
+    (&[0], &[], 100, 20, "read fault\n", false),
+    (&[1], &[], 100, 20, "read fault\n", false),
+    (&[2], &[], 100, 21, "", false),
+    (&[], &[0], 100, 21, "", true),
+    (&[], &[], 0, 21, "", true),
+    (&[], &[], 6, 21, "clean\n", true),
+    (&[0], &[0], 100, 21, "", false),
+];
+
+// The files with the program and its input, of whose calls these fail.
+fn failing_files(alloc: Global, calls: &[u64]) -> Result<MemFiles, NoMemory> {
+    let mut files = MemFiles::new(alloc);
+    files.add("f.c", SUM.as_bytes())?;
+    files.add("i", b"10 20 30\n")?;
+    for call in calls {
+        files.fail_call(*call)?;
+    }
+    Ok(files)
+}
+
+fn failing_sink(alloc: Global, calls: &[u64], room: usize) -> Result<MemSink, NoMemory> {
+    let mut out = MemSink::new(alloc);
+    out.reserve(room)?;
+    for call in calls {
+        out.fail_call(*call)?;
+    }
+    Ok(out)
+}
+
+// Devices fail at one call or at two, and the room of the sink ends at each byte of the report.
 #[test]
 fn devices_fail(rt: HostRuntime) -> Result<(), Fail> {
     let alloc = rt.alloc();
-    let words = words(alloc, &["audit", "f.c"])?;
-    let report = b"clean\nexit 0\noutput 0\n";
-    let mut files = MemFiles::new(alloc);
-    files.add("f.c", b"int main(void){return 0;}")?;
-    for room in 0..report.len() {
-        let mut out = MemSink::new(alloc);
-        out.reserve(room)?;
+    let words = words(alloc, &["audit", "f.c", "--input", "i", "--cert", "c"])?;
+    for (reads, puts, room, status, report, is_kept) in DEVICES {
+        let mut files = failing_files(alloc, reads)?;
+        let mut out = failing_sink(alloc, puts, room)?;
+        assert_eq!(rt;
+            audit_main(alloc, &words, &mut files, &mut out),
+            status,
+            "{room}"
+        );
+        assert_eq!(rt; out.bytes(), report.as_bytes(), "{room}");
+        let kept = files.fetch(alloc, "c", 100_000);
+        assert_eq!(rt; matches!(kept, Ok(Fetched::Whole(_))), is_kept, "{room}");
+    }
+    for room in 0..SUM_REPORT.len() {
+        let mut files = failing_files(alloc, &[])?;
+        let mut out = failing_sink(alloc, &[], room)?;
         assert_eq!(rt;
             audit_main(alloc, &words, &mut files, &mut out),
             21,
             "{room}"
         );
-        assert_eq!(rt; out.bytes(), &report[..room], "{room}");
+        assert_eq!(rt; out.bytes(), &SUM_REPORT.as_bytes()[..room], "{room}");
     }
-    let mut failing = MemSink::new(alloc);
-    failing.reserve(200)?;
-    failing.fail_call(0)?;
-    assert_eq!(rt; audit_main(alloc, &words, &mut files, &mut failing), 21);
-    assert_eq!(rt; failing.bytes(), b"".as_slice());
-    let mut unread = MemFiles::new(alloc);
-    unread.fail_call(0)?;
-    unread.add("f.c", b"int main(void){return 0;}")?;
-    let mut out = MemSink::new(alloc);
-    out.reserve(300)?;
-    assert_eq!(rt; audit_main(alloc, &words, &mut unread, &mut out), 20);
-    assert_eq!(rt; out.bytes(), b"read fault\n".as_slice());
     Ok(())
 }

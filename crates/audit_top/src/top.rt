@@ -1,56 +1,64 @@
 // The top call.
-ghost use Rattle.std.specs.Prelude.{◌≡◌, ◌<◌, ◌≤◌, ℕ, List, None, length, map, string_bytes};
+ghost use Rattle.std.specs.Prelude.{◌≡◌, ◌≤◌, map, string_bytes, option_copied};
 ghost use Rattle.ub_base.specs.Causes.{Rose};
-ghost use Rattle.first_form.specs.declared.tree.ReturnUnit.{ReturnUnit};
-ghost use Rattle.first_form.specs.Form.{IsFirstForm};
-ghost use Rattle.audit_top.specs.Answer.{FileCause, HasCause, HasNoForm, IsAbsent, IsHeld, RefusesEarly, max_source, verdict};
-ghost use Rattle.audit_top.specs.declared.answer.Refusal.{Refusal};
-ghost use Rattle.c_lex.specs.Tokens.{lexed};
+ghost use Rattle.audit_top.specs.Cause.{AuditCause, HasCause, Leaves, RequestCause, disk, stopped};
 ghost use Rattle.audit_top.specs.Report.{Ends, EndsWith, report};
-ghost use Rattle.audit_top.specs.Words.{file_asked};
+ghost use Rattle.audit_top.specs.Told.{OnAbsent, OnTooLong, OnFirstForm, OnRefused, StaysUncertified};
+ghost use Rattle.audit_top.specs.Words.{IsBounded};
 
 use crate::answer::Answer;
-use crate::run::judged;
-use crate::value::verdict;
-use crate::words::file_asked;
-use first_form::{FormFault, read_unit};
+use crate::judge::{judged, self_audit};
+use crate::words::asked;
+use command::{AuditRequest, Request, WordFault};
+use sources::{FetchFault, fetch_sources};
 use std::alloc::Global;
-use ub_base::{Failed, Fetched, FileFault, Files, Sink, put_all};
-
-const MAX_SOURCE: usize = 1 << 20;
+use ub_base::{Failed, Files, Sink, put_all};
 
 const WRITE_FAULT: u8 = 21;
 
-// The answer to the audit of a file.
-fn audit<F: Files>(alloc: Global, name: &str, files: &mut F) -> Answer
-    ensures cause { FileCause (F.held files.old) (F.read_faults files.old) (F.read_faults files.new) name.now result }
-    ensures held { F.held files.new ≡ F.held files.old }
-    ensures writes { F.write_faults files.new ≡ F.write_faults files.old }
+// The answer where a file isn't fetched.
+fn stopped(fault: FetchFault) -> Answer
+    ensures { result ≡ stopped fault }
 {
-    let text = match files.fetch(alloc, name, MAX_SOURCE) {
-        Ok(Fetched::Whole(text)) => text,
-        Ok(Fetched::TooLong) => return Answer::SourceTooLong,
-        Ok(Fetched::Absent) => return Answer::ReadFault,
-        Err(FileFault::Failed) => return Answer::ReadFault,
-        Err(FileFault::NoMemory) => return Answer::NoMemory,
-    };
-    let bytes = text.as_slice();
-    match read_unit(alloc, bytes) {
-        Ok(unit) => verdict(unit),
-        Err(FormFault::NotFirstForm) => judged(alloc, bytes),
-        Err(FormFault::NoMemory) => Answer::NoMemory,
+    match fault {
+        FetchFault::ReadFault => Answer::ReadFault,
+        FetchFault::TooLong(role) => Answer::TooLong(role),
+        FetchFault::NoMemory => Answer::NoMemory,
+    }
+}
+
+// The answer to an audit.
+fn audit<F: Files>(alloc: Global, request: &AuditRequest<'_>, files: &mut F) -> Answer
+    requires { request.now.steps ≤ 100000000 }
+    ensures why { AuditCause (disk (F.held files.old) (F.read_faults files.old) (F.write_faults files.old)) (disk (F.held files.new) (F.read_faults files.new) (F.write_faults files.new)) request.now result }
+    ensures files { Leaves (option_copied request.now.cert) (F.held files.old) (F.held files.new) result }
+{
+    match fetch_sources(alloc, request.file, request.input, files) {
+        Ok(sources) => judged(alloc, request, &sources, files),
+        Err(fault) => stopped(fault),
+    }
+}
+
+// The answer to a request.
+fn answer_to<F: Files>(alloc: Global, request: &Request<'_>, files: &mut F) -> Answer
+    requires { IsBounded request.now }
+    ensures { RequestCause (disk (F.held files.old) (F.read_faults files.old) (F.write_faults files.old)) (disk (F.held files.new) (F.read_faults files.new) (F.write_faults files.new)) request.now result }
+{
+    match request {
+        Request::Audit(request) => audit(alloc, request, files),
+        Request::Check(_) => Answer::Usage,
+        Request::SelfAudit(request) => self_audit(alloc, *request),
     }
 }
 
 // The answer to the words.
 fn answer<F: Files>(alloc: Global, words: &[String], files: &mut F) -> Answer
-    ensures cause { HasCause (map string_bytes words.now) (F.held files.old) (F.read_faults files.old) (F.read_faults files.new) result }
-    ensures held { F.held files.new ≡ F.held files.old }
-    ensures writes { F.write_faults files.new ≡ F.write_faults files.old }
+    ensures { HasCause (map string_bytes words.now) (disk (F.held files.old) (F.read_faults files.old) (F.write_faults files.old)) (disk (F.held files.new) (F.read_faults files.new) (F.write_faults files.new)) result }
 {
-    match file_asked(words) {
-        Some(name) => audit(alloc, name, files),
-        None => Answer::Usage,
+    match asked(alloc, words) {
+        Ok(request) => answer_to(alloc, &request, files),
+        Err(WordFault::Usage) => Answer::Usage,
+        Err(WordFault::NoMemory) => Answer::NoMemory,
     }
 }
 
@@ -67,11 +75,9 @@ fn finish<O: Sink>(out: &mut O, answer: &Answer, text: &[u8]) -> u8
 
 // Puts the report of an answer that has its cause.
 fn run<F: Files, O: Sink>(alloc: Global, words: &[String], files: &mut F, out: &mut O) -> u8
-    ensures answer { (answer : _)
-        × HasCause (map string_bytes words.now) (F.held files.old) (F.read_faults files.old) (F.read_faults files.new) answer
+    ensures { (answer : _)
+        × HasCause (map string_bytes words.now) (disk (F.held files.old) (F.read_faults files.old) (F.write_faults files.old)) (disk (F.held files.new) (F.read_faults files.new) (F.write_faults files.new)) answer
         × Ends (O.told out.old) (O.told out.new) (O.faults out.old) (O.faults out.new) result answer }
-    ensures held { F.held files.new ≡ F.held files.old }
-    ensures writes { F.write_faults files.new ≡ F.write_faults files.old }
 {
     let answer = answer(alloc, words, files);
     match answer.report(alloc) {
@@ -87,35 +93,23 @@ pub fn audit_main<F: Files, O: Sink>(
     files: &mut F,
     out: &mut O,
 ) -> u8
+    // One answer has its cause, and its report is put whole, or a proper front of it before a write that failed.
     ensures answer { (answer : _)
-        × HasCause (map string_bytes words.now) (F.held files.old) (F.read_faults files.old) (F.read_faults files.new) answer
+        × HasCause (map string_bytes words.now) (disk (F.held files.old) (F.read_faults files.old) (F.write_faults files.old)) (disk (F.held files.new) (F.read_faults files.new) (F.write_faults files.new)) answer
         × Ends (O.told out.old) (O.told out.new) (O.faults out.old) (O.faults out.new) result answer }
 
-    // Words that ask for no file are answered usage.
-    ensures usage { file_asked (map string_bytes words.now) ≡ None → ¬ Rose (O.faults out.old) (O.faults out.new)
-        → EndsWith (O.told out.old) (O.told out.new) result Answer.Usage }
+    // Where files are told and no fault is counted, the files decide what is put.
+    ensures absent { ¬ Rose (F.read_faults files.old) (F.read_faults files.new) → ¬ Rose (O.faults out.old) (O.faults out.new)
+        → OnAbsent (map string_bytes words.now) (F.held files.old) (EndsWith (O.told out.old) (O.told out.new) result) }
+    ensures too_long { ¬ Rose (F.read_faults files.old) (F.read_faults files.new) → ¬ Rose (O.faults out.old) (O.faults out.new)
+        → OnTooLong (map string_bytes words.now) (F.held files.old) (EndsWith (O.told out.old) (O.told out.new) result) }
+    ensures verdict { ¬ Rose (F.read_faults files.old) (F.read_faults files.new) → ¬ Rose (O.faults out.old) (O.faults out.new)
+        → OnFirstForm (map string_bytes words.now) (F.held files.old) (EndsWith (O.told out.old) (O.told out.new) result) }
+    ensures refused { ¬ Rose (F.read_faults files.old) (F.read_faults files.new) → ¬ Rose (O.faults out.old) (O.faults out.new)
+        → OnRefused (map string_bytes words.now) (F.held files.old) (EndsWith (O.told out.old) (O.told out.new) result) }
 
-    // Where files are told and no fault is counted, the named file decides what is put.
-    ensures absent { (name : List ℕ) → IsAbsent (map string_bytes words.now) (F.held files.old) name
-        → ¬ Rose (F.read_faults files.old) (F.read_faults files.new) → ¬ Rose (O.faults out.old) (O.faults out.new)
-        → EndsWith (O.told out.old) (O.told out.new) result Answer.ReadFault }
-    ensures too_long { (name text : List ℕ) → IsHeld (map string_bytes words.now) (F.held files.old) name text
-        → max_source < length text
-        → ¬ Rose (F.read_faults files.old) (F.read_faults files.new) → ¬ Rose (O.faults out.old) (O.faults out.new)
-        → EndsWith (O.told out.old) (O.told out.new) result Answer.SourceTooLong }
-    ensures verdict { (name text : List ℕ) (unit : ReturnUnit)
-        → IsHeld (map string_bytes words.now) (F.held files.old) name text → length text ≤ max_source
-        → ¬ Rose (F.read_faults files.old) (F.read_faults files.new) → ¬ Rose (O.faults out.old) (O.faults out.new)
-        → IsFirstForm text unit → EndsWith (O.told out.old) (O.told out.new) result (verdict unit) }
-    ensures refused { (name text : List ℕ) (refusal : Refusal)
-        → IsHeld (map string_bytes words.now) (F.held files.old) name text → length text ≤ max_source
-        → ¬ Rose (F.read_faults files.old) (F.read_faults files.new) → ¬ Rose (O.faults out.old) (O.faults out.new)
-        → HasNoForm text → RefusesEarly (lexed text) refusal
-        → EndsWith (O.told out.old) (O.told out.new) result (Answer.Refused refusal) }
-
-    // The files stay.
-    ensures held { F.held files.new ≡ F.held files.old }
-    ensures writes { F.write_faults files.new ≡ F.write_faults files.old }
+    // Without `--cert` the files stay.
+    ensures held { StaysUncertified (map string_bytes words.now) (F.held files.old) (F.held files.new) }
 {
     run(alloc, words, files, out)
 }

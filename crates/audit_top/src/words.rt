@@ -1,27 +1,16 @@
 // What the words ask for.
-ghost use Rattle.std.specs.Prelude.{◌≡◌, map, string_bytes, option_copied};
-ghost use Rattle.audit_top.specs.Words.{file_asked, is_file_word};
+ghost use Rattle.std.specs.Prelude.{map, string_bytes, IfOk, IsErrOf};
+ghost use Rattle.audit_top.specs.Words.{Asks, IsBounded, TakesWords};
 
-// Whether a word names a file.
-fn is_file_word(word: &str) -> bool
-    ensures { result ≡ is_file_word word.now }
-{
-    match word.as_bytes() {
-        [b'-', rest @ ..] => rest.is_empty(),
-        _ => true,
-    }
-}
+use command::{Request, WordFault, read_words};
+use std::alloc::Global;
 
-/// The file whose audit the words ask for.
-pub fn file_asked(words: &[String]) -> Option<&str>
-    ensures { option_copied result ≡ file_asked (map string_bytes words.now) }
+/// What the words ask for.
+#[tactic(auto, unfolding(crate::specs::Words::Asks, crate::specs::Words::TakesWords))]
+pub fn asked<'a>(alloc: Global, words: &'a [String]) -> Result<Request<'a>, WordFault>
+    ensures asked { IfOk result (Asks (map string_bytes words.now)) }
+    ensures bounded { IfOk result IsBounded }
+    ensures usage { IsErrOf result WordFault.Usage → ¬ TakesWords (map string_bytes words.now) }
 {
-    let [command, file] = words else {
-        return None;
-    };
-    if command.as_str() == "audit" && is_file_word(file.as_str()) {
-        Some(file.as_str())
-    } else {
-        None
-    }
+    read_words(alloc, words)
 }

@@ -1,28 +1,48 @@
 use Rattle.std.proofs.Common.{map, string_bytes}
-use Rattle.audit_top.proofs.Exact.{only_usage, only_absent, only_too_long, only_verdict, only_refused, ends_with}
+use Rattle.audit_top.specs.Cause.{disk}
+use Rattle.audit_top.proofs.Exact.{ends_with, only_absent, only_refused, only_too_long, only_verdict, stays}
 use Rattle.audit_top.proofs.top.audit_main.Goals as goal
 
-pub returns-clause-usage : goal.returns-clause-usage
-returns-clause-usage g c = λ none puts_calm.
-    let a = c.run.ensures.answer in
-    ends_with _ _ _ _ _ a.0 _ a.2 puts_calm (only_usage (map string_bytes c.args.words.now) (g.F.Files.held c.args.files.now) (g.F.Files.read_faults c.args.files.now) (g.F.Files.read_faults c.run.new.files) a.0 a.1 none)
-
 pub returns-clause-absent : goal.returns-clause-absent
-returns-clause-absent g c = λ name held reads_calm puts_calm.
-    let a = c.run.ensures.answer in
-    ends_with _ _ _ _ _ a.0 _ a.2 puts_calm (only_absent _ _ _ _ name a.0 held a.1)
+returns-clause-absent g c = λ reads_calm puts_calm request files asked none.
+    let a = c.run.ensures in
+    ends_with _ _ _ _ _ a.0 _ a.2 puts_calm
+    (only_absent (map string_bytes c.args.words.now)
+    (disk (g.F.Files.held c.args.files.now) (g.F.Files.read_faults c.args.files.now) (g.F.Files.write_faults c.args.files.now))
+    (disk (g.F.Files.held c.run.new.files) (g.F.Files.read_faults c.run.new.files) (g.F.Files.write_faults c.run.new.files))
+    request files a.0 asked none a.1)
 
 pub returns-clause-too_long : goal.returns-clause-too_long
-returns-clause-too_long g c = λ name text held beyond reads_calm puts_calm.
-    let a = c.run.ensures.answer in
-    ends_with _ _ _ _ _ a.0 _ a.2 puts_calm (only_too_long _ _ _ _ name text a.0 held beyond a.1 reads_calm)
+returns-clause-too_long g c = λ reads_calm puts_calm request files text asked there beyond.
+    let a = c.run.ensures in
+    ends_with _ _ _ _ _ a.0 _ a.2 puts_calm
+    (only_too_long (map string_bytes c.args.words.now)
+    (disk (g.F.Files.held c.args.files.now) (g.F.Files.read_faults c.args.files.now) (g.F.Files.write_faults c.args.files.now))
+    (disk (g.F.Files.held c.run.new.files) (g.F.Files.read_faults c.run.new.files) (g.F.Files.write_faults c.run.new.files))
+    request files text a.0 asked there beyond reads_calm a.1)
 
 pub returns-clause-verdict : goal.returns-clause-verdict
-returns-clause-verdict g c = λ name text unit held within reads_calm puts_calm form.
-    let a = c.run.ensures.answer in
-    ends_with _ _ _ _ _ a.0 _ a.2 puts_calm (only_verdict _ _ _ _ name text a.0 unit held within a.1 reads_calm form)
+returns-clause-verdict g c = λ reads_calm puts_calm request files text unit given uses form.
+    let a = c.run.ensures in
+    ends_with _ _ _ _ _ a.0 _ a.2 puts_calm
+    (only_verdict (map string_bytes c.args.words.now)
+    (disk (g.F.Files.held c.args.files.now) (g.F.Files.read_faults c.args.files.now) (g.F.Files.write_faults c.args.files.now))
+    (disk (g.F.Files.held c.run.new.files) (g.F.Files.read_faults c.run.new.files) (g.F.Files.write_faults c.run.new.files))
+    request files text unit a.0 given reads_calm uses form a.1)
 
 pub returns-clause-refused : goal.returns-clause-refused
-returns-clause-refused g c = λ name text refusal held within reads_calm puts_calm none why.
-    let a = c.run.ensures.answer in
-    ends_with _ _ _ _ _ a.0 _ a.2 puts_calm (only_refused _ _ _ _ name text a.0 refusal held within a.1 reads_calm none why)
+returns-clause-refused g c = λ reads_calm puts_calm request files text refusal given none early.
+    let a = c.run.ensures in
+    ends_with _ _ _ _ _ a.0 _ a.2 puts_calm
+    (only_refused (map string_bytes c.args.words.now)
+    (disk (g.F.Files.held c.args.files.now) (g.F.Files.read_faults c.args.files.now) (g.F.Files.write_faults c.args.files.now))
+    (disk (g.F.Files.held c.run.new.files) (g.F.Files.read_faults c.run.new.files) (g.F.Files.write_faults c.run.new.files))
+    request files text refusal a.0 given reads_calm none early a.1)
+
+pub returns-clause-held : goal.returns-clause-held
+returns-clause-held g c = λ request taken asked none.
+    let a = c.run.ensures in
+    stays (map string_bytes c.args.words.now)
+    (disk (g.F.Files.held c.args.files.now) (g.F.Files.read_faults c.args.files.now) (g.F.Files.write_faults c.args.files.now))
+    (disk (g.F.Files.held c.run.new.files) (g.F.Files.read_faults c.run.new.files) (g.F.Files.write_faults c.run.new.files))
+    request a.0 asked none a.1

@@ -1,0 +1,1 @@
+int main(void){int a=1,b=2;int *p=(int*)16777220;return *p;}

@@ -1,0 +1,1 @@
+typedef unsigned long uintptr_t;int main(void){int a=1,b=2;uintptr_t u=(uintptr_t)(&a+1),v=(uintptr_t)&b;int *p=(int*)u;*p;return p[-1];}

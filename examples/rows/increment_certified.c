@@ -1,0 +1,1 @@
+int main(void){int i=1;i=i++;return i;}

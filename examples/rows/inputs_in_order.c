@@ -1,0 +1,1 @@
+int getchar(void);int main(void){int c=getchar();int d=getchar();return d-c;}

@@ -1,0 +1,1 @@
+int getchar(void);int main(void){return getchar()-getchar();}
