@@ -2,3 +2,4 @@ pub mod Marked
 pub mod Spots
 pub mod Relations
 pub mod Kinds
+pub mod Walks

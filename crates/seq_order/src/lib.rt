@@ -3,6 +3,8 @@
 
 mod done;
 mod next;
+mod own;
+mod ready;
 mod relations;
 mod rules;
 mod sequence;
@@ -10,7 +12,8 @@ mod spot;
 mod taken;
 
 pub use done::{Done, Marks};
-pub use next::{canonical_next, permitted};
+pub use next::canonical_next;
+pub use ready::permitted;
 pub use relations::Relation;
 pub use sequence::{before, relation};
 pub use taken::Taken;
