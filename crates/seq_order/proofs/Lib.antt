@@ -6,3 +6,4 @@ pub mod Walks
 pub mod Listing
 pub mod Canonical
 pub mod Openings
+pub mod Stuck

@@ -3,3 +3,4 @@ pub mod Spots
 pub mod Relations
 pub mod Kinds
 pub mod Walks
+pub mod Closed

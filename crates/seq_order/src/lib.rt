@@ -2,6 +2,7 @@
 #![tactic(auto)]
 
 mod done;
+mod laws;
 mod next;
 mod own;
 mod ready;
@@ -12,6 +13,7 @@ mod spot;
 mod taken;
 
 pub use done::{Done, Marks};
+pub use laws::law_canonical_end;
 pub use next::canonical_next;
 pub use ready::permitted;
 pub use relations::Relation;
