@@ -11,6 +11,8 @@ mod rules;
 mod sequence;
 mod spot;
 mod taken;
+#[cfg(test)]
+mod tests;
 
 pub use done::{Done, Marks};
 pub use laws::law_canonical_end;
