@@ -1,5 +1,5 @@
 -- The operands of a typed tree are its children, seen as trees.
-use Rattle.std.proofs.Common.{◌≡◌, ℕ, zero, suc, ◌<◌, List, [], ◌∷◌, length, get_or, Option, Some, refl, sym, ap, ◌∙◌, arith}
+use Rattle.std.proofs.Common.{◌≡◌, ℕ, zero, suc, ◌<◌, List, [], ◌∷◌, length, get_or, Some, refl, sym, ap, ◌∙◌, arith}
 use Rattle.c_typed.specs.declared.tree.Typed.{Typed, out-Typed, fold_out-Typed}
 use Rattle.c_typed.specs.declared.class.Class.{Class}
 use Rattle.c_typed.specs.Tree.{Tree, Trees, none, more, tree_of, trees_of, operands, node_class, typed_tree}

@@ -1,12 +1,11 @@
 -- The definitions at the root of a tree and at the operand that holds a node.
-use Rattle.std.proofs.Common.{◌≡◌, ℕ, zero, suc, ◌+◌, ◌-◌, ◌^◌, ◌<◌, ◌≤◌, min, Bool, true, false, not, ◌&&◌, ◌||◌, ◌==◌, nat_lt, if◌then◌else◌, Option, Some, None, refl, sym, ap, ◌∙◌, arith}
+use Rattle.std.proofs.Common.{◌≡◌, ℕ, suc, ◌+◌, ◌-◌, ◌^◌, ◌<◌, min, false, not, ◌&&◌, ◌||◌, ◌==◌, nat_lt, Option, Some, None, sym, ap, ◌∙◌, arith}
 use Rattle.ub_base.specs.declared.clause.Kind.{Kind}
 use Rattle.ub_base.specs.declared.clause.Kind.TheVariants.{Val}
 use Rattle.c_typed.specs.declared.tree.Place.{Place}
-use Rattle.c_typed.specs.declared.class.Class.{Class}
 use Rattle.c_typed.specs.Tree.{Tree, node, Trees, size, sizes, class_of, operands, is_quiet, kinds_of}
 use Rattle.c_typed.specs.Order.{Taken, goes, across, is_body, is_val, own_rule}
-use Rattle.c_typed.specs.Decide.{has_kind, due_in, lifts, is_before, rises, to_val, between}
+use Rattle.c_typed.specs.Decide.{has_kind, due_in, lifts, is_before, rises, to_val}
 use Rattle.seq_order.specs.declared.spot.Spot.{Spot}
 use Rattle.seq_order.specs.Spots.{spot_among}
 use Rattle.seq_order.proofs.Located.{nth, count, plain_among, plain, walk_of, walk_room, walk_due, lost_due, walk_rise, lost_rise, lost_left, lost_right, walk_same, walk_apart, eq_eq, ne_eq, if_true, if_false}

@@ -1,5 +1,5 @@
 -- Both halves of a test.
-use Rattle.std.proofs.Common.{◌≡◌, Bool, true, false, ◌&&◌, ◌||◌, refl, sym, ap, ◌∙◌, true≢false}
+use Rattle.std.proofs.Common.{◌≡◌, Bool, true, false, ◌&&◌, ◌||◌, refl, sym, ◌∙◌, true≢false}
 
 pub both : (g d r : Bool) → g ≡ true → r ≡ d → r ≡ (g && d)
 both true d r h e = e

@@ -1,12 +1,12 @@
 -- What the definitions that go down to the operand that holds a node find there.
-use Rattle.std.proofs.Common.{◌≡◌, ℕ, zero, suc, ◌+◌, ◌-◌, ◌^◌, ◌<◌, ◌≤◌, min, Bool, true, false, not, ◌&&◌, ◌||◌, ◌==◌, nat_lt, if◌then◌else◌, List, [], ◌∷◌, map, length, get_or, Option, Some, None, refl, sym, ap, subst, ◌∙◌, true≢false, arith}
+use Rattle.std.proofs.Common.{◌≡◌, ℕ, zero, suc, ◌+◌, ◌^◌, ◌<◌, ◌≤◌, Bool, true, false, not, ◌&&◌, ◌||◌, ◌==◌, nat_lt, if◌then◌else◌, Option, Some, None, refl, sym, ap, ◌∙◌, arith}
 use Rattle.std.proofs.lemmas.Bool.Decides.{nat_tests}
 use Rattle.ub_base.specs.declared.clause.Kind.{Kind}
 use Rattle.c_typed.specs.declared.tree.Place.{Place}
 use Rattle.c_typed.specs.declared.class.Class.{Class}
-use Rattle.c_typed.specs.Tree.{Tree, node, Trees, none, more, size, sizes, class_of, operands, is_quiet, kinds_of}
-use Rattle.c_typed.specs.Order.{Taken, goes, across, is_body, is_val, is_last, own_rule}
-use Rattle.c_typed.specs.Decide.{has_kind, due_in, due_among, lifts, crosses, is_before, rises, to_val, between}
+use Rattle.c_typed.specs.Tree.{Tree, Trees, none, more, size, sizes, is_quiet}
+use Rattle.c_typed.specs.Order.{Taken, goes, across, is_body, is_last}
+use Rattle.c_typed.specs.Decide.{due_in, due_among, lifts, crosses, is_before, rises, to_val, between}
 use Rattle.seq_order.specs.declared.spot.Spot.{Spot}
 use Rattle.seq_order.specs.Spots.{spot_among, next_number}
 

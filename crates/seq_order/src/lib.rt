@@ -2,15 +2,22 @@
 #![tactic(auto)]
 
 mod done;
+mod laws;
 mod next;
+mod own;
+mod ready;
 mod relations;
 mod rules;
 mod sequence;
 mod spot;
 mod taken;
+#[cfg(test)]
+mod tests;
 
 pub use done::{Done, Marks};
-pub use next::{canonical_next, permitted};
+pub use laws::law_canonical_end;
+pub use next::canonical_next;
+pub use ready::permitted;
 pub use relations::Relation;
 pub use sequence::{before, relation};
 pub use taken::Taken;

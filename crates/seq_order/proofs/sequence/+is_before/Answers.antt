@@ -1,4 +1,4 @@
-use Rattle.std.proofs.Common.{◌≡◌, true, false, Some, sym, ap, refl, ◌∙◌}
+use Rattle.std.proofs.Common.{◌≡◌, Some, sym, ap, ◌∙◌}
 use Rattle.c_typed.specs.Tree.{tree_of, operands, class_of}
 use Rattle.c_typed.specs.Order.{across}
 use Rattle.seq_order.specs.Marked.{taken_in}

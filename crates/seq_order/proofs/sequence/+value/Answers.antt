@@ -1,9 +1,9 @@
-use Rattle.std.proofs.Common.{◌≡◌, ℕ, suc, ◌+◌, ◌==◌, ◌&&◌, not, Bool, true, false, Some, sym, ap, refl, ◌∙◌, arith}
-use Rattle.c_typed.specs.Tree.{Tree, tree_of, operands, class_of, is_quiet_class}
+use Rattle.std.proofs.Common.{◌≡◌, ℕ, suc, ◌+◌, ◌==◌, ◌&&◌, not, sym, ap, ◌∙◌, arith}
+use Rattle.c_typed.specs.Tree.{tree_of, operands, class_of, is_quiet_class}
 use Rattle.c_typed.specs.Order.{is_body}
 use Rattle.c_typed.specs.Decide.{lifts}
 use Rattle.seq_order.specs.Marked.{taken_in}
-use Rattle.seq_order.proofs.Located.{nth, count}
+use Rattle.seq_order.proofs.Located.{count}
 use Rattle.seq_order.proofs.Descend.{below_room, no_rise, below_rise}
 use Rattle.seq_order.proofs.Children.{child_of, counted}
 use Rattle.seq_order.proofs.Halves.{both, first_holds, second, third, fst_of, snd_of}

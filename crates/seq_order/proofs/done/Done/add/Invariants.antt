@@ -1,4 +1,4 @@
-use Rattle.std.proofs.Common.{◌≡◌, ℕ, vec_len}
+use Rattle.std.proofs.Common.{◌≡◌, vec_len}
 use Rattle.c_typed.specs.declared.tree.Place.{Place}
 use Rattle.seq_order.specs.Marked.{done_in}
 use Rattle.seq_order.proofs.done.Done.add.Given as goal

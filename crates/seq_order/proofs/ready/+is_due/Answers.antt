@@ -1,12 +1,12 @@
-use Rattle.std.proofs.Common.{◌≡◌, ◌<◌, ◌^◌, ◌+◌, true, Bool, Some, sym, ap, ◌∙◌}
-use Rattle.c_typed.specs.Tree.{Tree, tree_of, operands, class_of}
+use Rattle.std.proofs.Common.{◌≡◌, Some, sym, ap, ◌∙◌}
+use Rattle.c_typed.specs.Tree.{tree_of, operands, class_of}
 use Rattle.c_typed.specs.Order.{goes}
 use Rattle.seq_order.specs.Marked.{taken_in}
 use Rattle.seq_order.proofs.Located.{nth}
 use Rattle.seq_order.proofs.Descend.{below_room, below_due, no_due}
 use Rattle.seq_order.proofs.Children.{child_of, child_there}
 use Rattle.seq_order.proofs.Halves.{both, first_fails}
-use Rattle.seq_order.proofs.next.+is_due.Goals as goal
+use Rattle.seq_order.proofs.ready.+is_due.Goals as goal
 
 pub returns-in_default : goal.returns-in_default
 returns-in_default t c = λ h. sym (no_due c.args.k (taken_in c.args.taken.now) (tree_of c.args.tree.now) c.args.p h c.if-p-k.false (sym c.in_default.ensures.value))
