@@ -192,7 +192,7 @@ if_never : (b : Bool) (mv : Move Local) → (mv ≡ End → ⊥) → (if b then 
 if_never true mv f h = f h
 if_never false mv f h = cc
 
-module _ (program : Program) (rows : List Row) (agree : CType → CType → Bool) (library : LibFunc → Event → List Value → Script Value) where
+module _ (program : Program) (rows : List Row) (agree : CType → CType → Bool) (library : LibFunc → Event → List CType → List Value → Script Value) where
   abbrev due : Scene → Begun → Place → Bool
   due = due_now program rows agree library
 

@@ -38,7 +38,7 @@ given_at e u v w q = go (same_place u v) refl
     go true s = refl
     go false s = absurd (true≢false (sym (subst (λ z. same_place u z ≡ true) q (refl_place u)) ∙ s))
 
-module _ (program : Program) (rows : List Row) (agree : CType → CType → Bool) (library : LibFunc → Event → List Value → Script Value) where
+module _ (program : Program) (rows : List Row) (agree : CType → CType → Bool) (library : LibFunc → Event → List CType → List Value → Script Value) where
   pub closed_at : (sc : Scene) (e : Begun) (u : Place) (w : Value) → IsNext program rows agree library sc e u → (v : Place)
       → (is_some (e.given v) ≡ true → IsReached program rows agree library sc e v)
       → is_some ((with_given e u w).given v) ≡ true

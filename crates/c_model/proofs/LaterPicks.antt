@@ -113,7 +113,7 @@ root_case : (b : Bool) (e0 : Expr) (o : Option Expr) (d : Bool) (h : Head) (ty :
 root_case true e0 o d h ty t1 ts1 g q c = subst (λ z. is_first (tree_of z) ≡ true) (sym (some_inj q)) (and_true _ c)
 root_case false e0 o d h ty t1 ts1 g q c = g q
 
-module _ (program : Program) (rows : List Row) (agree : CType → CType → Bool) (library : LibFunc → Event → List Value → Script Value) (f : Scene) (e : Begun) (u : Place) (w : Value) where
+module _ (program : Program) (rows : List Row) (agree : CType → CType → Bool) (library : LibFunc → Event → List CType → List Value → Script Value) (f : Scene) (e : Begun) (u : Place) (w : Value) where
   abbrev e' : Begun
   e' = with_given e u w
 
@@ -248,7 +248,7 @@ pub none_some : {A : Type 0} (o : Option A) → o ≡ None → is_some o ≡ tru
 none_some None e h = true≢false (sym h)
 none_some (Some a) e h = absurd (cc)
 
-module _ (program : Program) (rows : List Row) (agree : CType → CType → Bool) (library : LibFunc → Event → List Value → Script Value) (f : Scene) (e : Begun) where
+module _ (program : Program) (rows : List Row) (agree : CType → CType → Bool) (library : LibFunc → Event → List CType → List Value → Script Value) (f : Scene) (e : Begun) where
   abbrev pub before : Place → Place → Bool
   before u v = is_before (taken_by program rows agree library f e) 0 (tree_of e.root) u v
 

@@ -18,7 +18,7 @@ use Rattle.c_model.specs.Program.{Program, Head, Assign, Update, Call, Listed, I
 use Rattle.c_model.specs.Values.{Value, or_nothing}
 use Rattle.c_model.specs.Nodes.{act_of}
 use Rattle.c_model.specs.Moves.{Stay}
-use Rattle.c_model.specs.Steps.{Local, Scene, Begun, with_given, taken_by, quiet_value, values_of, operand_values, at_node, own_kind, event_of, call_act, event_act, started, move_of, type_of_first}
+use Rattle.c_model.specs.Steps.{Local, Scene, Begun, with_given, taken_by, quiet_value, values_of, operand_values, at_node, own_kind, event_of, call_act, event_act, started, move_of, type_of_first, argument_types}
 use Rattle.c_model.specs.ChoiceLaws.{IsNext, is_update}
 use Rattle.c_model.proofs.LaterPicks.{given_other, given_swap, not_before}
 use Rattle.c_model.proofs.Operands.{is_call, is_operand, operand_before, own_before}
@@ -47,7 +47,7 @@ here_is m false h = both (m == m) (grind (arith, nat_tests))
     both false h = h
 here_is m true h = absurd (cc)
 
-module _ (program : Program) (rows : List Row) (agree : CType → CType → Bool) (library : LibFunc → Event → List Value → Script Value) where
+module _ (program : Program) (rows : List Row) (agree : CType → CType → Bool) (library : LibFunc → Event → List CType → List Value → Script Value) where
   -- the values of operands that aren't u's are the same after u
   values_same : (sc : Scene) (e : Begun) (u : Place) (w : Value) (ts : Exprs) (m : ℕ) → ((c : ℕ) → is_operand m ts c ≡ true → u ≢ place c Val)
       → values_of program rows agree library sc (with_given e u w).given m ts ≡ values_of program rows agree library sc e.given m ts
@@ -67,10 +67,10 @@ module _ (program : Program) (rows : List Row) (agree : CType → CType → Bool
   operands_of sc given given' k _ es q = q
 
   -- only a call looks at its operands when its body starts
-  call_same : (who : Event) (h : Head) (ts : Trees) (ty : CType) (vs ws : List Value) → (is_call (head_class h ts) ≡ true → vs ≡ ws)
-      → call_act program rows agree library who h ty vs ≡ call_act program rows agree library who h ty ws
-  call_same who (Call d) ts ty vs ws g = ap (λ z. call_act program rows agree library who (Call d) ty z) (g refl)
-  call_same who _ ts ty vs ws g = refl
+  call_same : (who : Event) (h : Head) (ts : Trees) (ty : CType) (ps : List CType) (vs ws : List Value) → (is_call (head_class h ts) ≡ true → vs ≡ ws)
+      → call_act program rows agree library who h ty ps vs ≡ call_act program rows agree library who h ty ps ws
+  call_same who (Call d) ts ty ps vs ws g = ap (λ z. call_act program rows agree library who (Call d) ty ps z) (g refl)
+  call_same who _ ts ty ps vs ws g = refl
 
   start_same : (sc : Scene) (k : ℕ) (h : Head) (ts : Trees) (vs ws : List Value) → (is_call (head_class h ts) ≡ true → vs ≡ ws)
       → started program rows agree library sc k h vs ≡ started program rows agree library sc k h ws
@@ -119,11 +119,11 @@ module _ (program : Program) (rows : List Row) (agree : CType → CType → Bool
     -- what the event does, with its kind told
     abbrev act_by : Begun → Head → CType → Exprs → Kind → Script Value
     act_by b h ty ts k =
-        if is_body k then call_act program rows agree library (event_of sc v) h (type_of_first program rows agree library ts ty) (values_of program rows agree library sc b.given (suc v.node) ts)
+        if is_body k then call_act program rows agree library (event_of sc v) h (type_of_first program rows agree library ts ty) (argument_types ts) (values_of program rows agree library sc b.given (suc v.node) ts)
         else act_of rows (event_of sc v) h ty k (operand_values program rows agree library sc b.given (suc v.node) h ts) (or_nothing (b.given (place v.node (own_kind k))))
 
     by_kind : (k : Kind) (h : Head) (ty : CType) (ts : Exprs) → v.kind ≡ k → at_node 0 e.root v.node ≡ Some (expr h ty ts) → act_by after' h ty ts k ≡ act_by e h ty ts k
-    by_kind Body h ty ts ek at = call_same (event_of sc v) h (trees_of ts) (type_of_first program rows agree library ts ty) (vs ts) (ws ts) (λ c. operands_same h ty ts at (λ b. c))
+    by_kind Body h ty ts ek at = call_same (event_of sc v) h (trees_of ts) (type_of_first program rows agree library ts ty) (argument_types ts) (vs ts) (ws ts) (λ c. operands_same h ty ts at (λ b. c))
     by_kind Val h ty ts ek at =
         ap₂ (λ z o. act_of rows (event_of sc v) h ty Val z o)
         (operands_of sc after'.given e.given (suc v.node) h ts (operands_same h ty ts at (λ b. absurd (cc (b, ek)))))

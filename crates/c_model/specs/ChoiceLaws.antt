@@ -16,7 +16,7 @@ use Rattle.c_model.specs.Program.{Program, tree_of}
 use Rattle.c_model.specs.Values.{Value}
 use Rattle.c_model.specs.Steps.{Scene, Begun, with_given, taken_by}
 
-module _ (program : Program) (rows : List Row) (agree : CType → CType → Bool) (library : LibFunc → Event → List Value → Script Value) where
+module _ (program : Program) (rows : List Row) (agree : CType → CType → Bool) (library : LibFunc → Event → List CType → List Value → Script Value) where
   abbrev pub due_now : Scene → Begun → Place → Bool
   due_now f e u = due_in (taken_by program rows agree library f e) 0 (tree_of e.root) u
 
@@ -37,14 +37,14 @@ module _ (program : Program) (rows : List Row) (agree : CType → CType → Bool
 -- a pick that may come next leaves reached what was reached
 abbrev pub ReachedStays : Type 0
 ReachedStays =
-    (program : Program) (rows : List Row) (agree : CType → CType → Bool) (library : LibFunc → Event → List Value → Script Value)
+    (program : Program) (rows : List Row) (agree : CType → CType → Bool) (library : LibFunc → Event → List CType → List Value → Script Value)
     (f : Scene) (e : Begun) (u p : Place) (w : Value) → IsNext program rows agree library f e u → IsReached program rows agree library f e p
     → IsReached program rows agree library f (with_given e u w) p
 
 -- it puts nothing new before what was reached, whatever operand is chosen by it
 abbrev pub NothingNewBefore : Type 0
 NothingNewBefore =
-    (program : Program) (rows : List Row) (agree : CType → CType → Bool) (library : LibFunc → Event → List Value → Script Value)
+    (program : Program) (rows : List Row) (agree : CType → CType → Bool) (library : LibFunc → Event → List CType → List Value → Script Value)
     (f : Scene) (e : Begun) (u p q : Place) (w : Value) → IsNext program rows agree library f e u
     → IsReached program rows agree library f e p → IsReached program rows agree library f e q
     → before_now program rows agree library f e p q ≡ false → before_now program rows agree library f (with_given e u w) p q ≡ false
@@ -52,7 +52,7 @@ NothingNewBefore =
 -- of two picks that may come next either leaves the other so, and neither comes before the other
 abbrev pub EitherNext : Type 0
 EitherNext =
-    (program : Program) (rows : List Row) (agree : CType → CType → Bool) (library : LibFunc → Event → List Value → Script Value)
+    (program : Program) (rows : List Row) (agree : CType → CType → Bool) (library : LibFunc → Event → List CType → List Value → Script Value)
     (f : Scene) (e : Begun) (u q : Place) (w : Value) → IsNext program rows agree library f e u → IsNext program rows agree library f e q → u ≢ q
     → IsNext program rows agree library f (with_given e u w) q × (before_now program rows agree library f e u q ≡ false)
 
@@ -75,20 +75,20 @@ abbrev mutual
   update_among k (more t ts) m = if nat_lt m (k + size t) then update_at k t m else update_among (k + size t) ts m
 
 -- all that is done was reached, as after each list of picks that come next one after the other
-abbrev pub IsClosed : (program : Program) (rows : List Row) (agree : CType → CType → Bool) (library : LibFunc → Event → List Value → Script Value) → Scene → Begun → Type 0
+abbrev pub IsClosed : (program : Program) (rows : List Row) (agree : CType → CType → Bool) (library : LibFunc → Event → List CType → List Value → Script Value) → Scene → Begun → Type 0
 IsClosed program rows agree library f e = (v : Place) → is_some (e.given v) ≡ true → IsReached program rows agree library f e v
 
 -- which each pick that may come next keeps
 abbrev pub StaysClosed : Type 0
 StaysClosed =
-    (program : Program) (rows : List Row) (agree : CType → CType → Bool) (library : LibFunc → Event → List Value → Script Value)
+    (program : Program) (rows : List Row) (agree : CType → CType → Bool) (library : LibFunc → Event → List CType → List Value → Script Value)
     (f : Scene) (e : Begun) (u : Place) (w : Value) → IsNext program rows agree library f e u → IsClosed program rows agree library f e
     → IsClosed program rows agree library f (with_given e u w)
 
 -- once the value of an update is taken, its effect may come next
 abbrev pub EffectComesNext : Type 0
 EffectComesNext =
-    (program : Program) (rows : List Row) (agree : CType → CType → Bool) (library : LibFunc → Event → List Value → Script Value)
+    (program : Program) (rows : List Row) (agree : CType → CType → Bool) (library : LibFunc → Event → List CType → List Value → Script Value)
     (f : Scene) (e : Begun) (m : ℕ) (w : Value) → update_at 0 (tree_of e.root) m ≡ true → IsNext program rows agree library f e (place m Val)
     → IsClosed program rows agree library f e → IsNext program rows agree library f (with_given e (place m Val) w) (place m Eff)
 

@@ -14,21 +14,21 @@ use Rattle.c_model.specs.ChoiceLaws.{IsNext}
 -- the acts of the second are those that it has without the first
 abbrev pub SameAct : Type 0
 SameAct =
-    (program : Program) (rows : List Row) (agree : CType → CType → Bool) (library : LibFunc → Event → List Value → Script Value)
+    (program : Program) (rows : List Row) (agree : CType → CType → Bool) (library : LibFunc → Event → List CType → List Value → Script Value)
     (f : Local) (e : Begun) (u v : Place) (w : Value) → IsNext program rows agree library f.scene e u → IsNext program rows agree library f.scene e v
     → u ≢ v → does program rows agree library f (Some (with_given e u w)) (Ev v) ≡ does program rows agree library f (Some e) (Ev v)
 
 -- and so is what it does to the frames
 abbrev pub SameMove : Type 0
 SameMove =
-    (program : Program) (rows : List Row) (agree : CType → CType → Bool) (library : LibFunc → Event → List Value → Script Value)
+    (program : Program) (rows : List Row) (agree : CType → CType → Bool) (library : LibFunc → Event → List CType → List Value → Script Value)
     (f : Local) (e : Begun) (u v : Place) (w : Value) → IsNext program rows agree library f.scene e u → IsNext program rows agree library f.scene e v
     → u ≢ v → move program rows agree library f (Some (with_given e u w)) (Ev v) ≡ move program rows agree library f (Some e) (Ev v)
 
 -- and the frame is the same after both, whichever comes first
 abbrev pub SameFrame : Type 0
 SameFrame =
-    (program : Program) (rows : List Row) (agree : CType → CType → Bool) (library : LibFunc → Event → List Value → Script Value)
+    (program : Program) (rows : List Row) (agree : CType → CType → Bool) (library : LibFunc → Event → List CType → List Value → Script Value)
     (f : Local) (e : Begun) (u v : Place) (w x : Value) → u ≢ v
     → next program rows agree library (next program rows agree library f (Some e) (Ev u) w) (Some (with_given e u w)) (Ev v) x
     ≡ next program rows agree library (next program rows agree library f (Some e) (Ev v) x) (Some (with_given e v x)) (Ev u) w

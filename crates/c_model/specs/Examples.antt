@@ -1,8 +1,7 @@
 -- Small programs, and what the definitions give for them.
-use Rattle.std.specs.Prelude.{◌≡◌, ℕ, zero, suc, Bool, true, false, List, [], ◌∷◌, Option, Some, None, pos, negsuc}
-use Rattle.ub_base.specs.declared.names.Event.{Event}
+use Rattle.std.specs.Prelude.{◌≡◌, ℕ, zero, suc, ◌+◌, Bool, true, false, List, [], ◌∷◌, ◌++◌, length, map, Option, Some, None, pos}
 use Rattle.ub_base.specs.declared.names.ObjName.{ObjName}
-use Rattle.ub_base.specs.declared.names.ObjName.TheVariants.{Static, Auto}
+use Rattle.ub_base.specs.declared.names.ObjName.TheVariants.{Static, Auto, Heap, Lit}
 use Rattle.ub_base.specs.declared.names.Item.{Item}
 use Rattle.c_types.specs.declared.kind.IntKind.TheVariants as kind
 use Rattle.c_types.specs.declared.kind.BinOp.TheVariants as op
@@ -20,9 +19,7 @@ use Rattle.c_typed.specs.declared.tree.EqOp.TheVariants as equality
 use Rattle.c_typed.specs.declared.tree.Place.{Place}
 use Rattle.addr_map.specs.declared.map.Row.{Row}
 use Rattle.addr_map.specs.declared.map.Mode.TheVariants.{Spaced}
-use Rattle.prov_memory.specs.Script.{Script, Give, Finish, Take, Print, touch, ◌>>=◌, ◌>>◌}
-use Rattle.c_model.specs.Program.{Head, Number, Obj, Func, Load, Conv, Rel, Eq, Member, Bin, Assign, Update, And, Comma, Call, Listed, Isolated, Expr, expr, Exprs, none, more, Decl, Stmt, Value, Empty, Declare, Block, If_only, Switch, While, For, Goto, Continue, Break, Return, Label, Case, Default, Stmts, end, and_then, Function, Standing, Program}
-use Rattle.c_model.specs.Values as values
+use Rattle.c_model.specs.Program.{Head, Number, Obj, Func, Str, Load, Conv, Rel, Eq, Member, Bin, Assign, Update, And, Comma, Call, Listed, Isolated, Expr, expr, Exprs, none, more, Decl, Stmt, Value, Empty, Declare, Block, If_only, Switch, While, For, Goto, Continue, Break, Return, Label, Case, Default, Stmts, end, and_then, Function, Standing, Program}
 use Rattle.c_model.specs.Values.{int_bytes}
 use Rattle.c_model.specs.Control.{Todo, Enter, Leave, Unwrite, Begin, ready_work}
 use Rattle.c_model.specs.Steps.{Local, Begun, Pick, Control, Ev}
@@ -30,6 +27,8 @@ use Rattle.c_model.specs.Runs.{Entry, Outcome, Raises, Ends, Running, start, ste
 use Rattle.c_model.specs.Findings.{Race, Quarrel, EndQuarrel}
 use Rattle.c_model.specs.FirstFinding.{Finding, Pair, first_finding}
 use Rattle.c_model.specs.Placement.{IsPlacement}
+use Rattle.c_model.specs.Libraries.{library}
+use Rattle.libc_spec.specs.Library.{plain}
 
 abbrev pub int_type : CType
 int_type = types.int kind.Int
@@ -98,18 +97,6 @@ local_rows = row_of main_local 16777232 4 ∷ []
 abbrev pub global_rows : List Row
 global_rows = row_of (Static 0) 16777232 4 ∷ []
 
--- what `getchar` gives for a byte, or at the end of the input
-abbrev pub read_value : Option ℕ → values.Value
-read_value None = values.Int (negsuc 0)
-read_value (Some n) = values.Int (pos n)
-
--- `putchar`, `getchar` and `exit` alone; every call here has the type of its function
-abbrev pub library : LibFunc → Event → List values.Value → Script values.Value
-library lib.Putchar who (values.Int (pos n) ∷ vs) = touch (Print (n ∷ [])) >> Give (values.Int (pos n))
-library lib.Getchar who vs = touch Take >>= (λ b. Give (read_value b))
-library lib.Exit who (values.Int (pos n) ∷ vs) = Finish n
-library f who vs = Give values.Nothing
-
 abbrev pub any_type : CType → CType → Bool
 any_type a b = true
 
@@ -118,18 +105,18 @@ program_of fs os = record { functions = fs; main = 0; standing = os }
 
 -- after so many canonical picks from the start
 abbrev pub canonical_run : Program → List Row → ℕ → Outcome
-canonical_run p rows n = on_running (start p rows any_type library [] []) (canonical_after p rows any_type library n)
+canonical_run p rows n = on_running (start p rows any_type (library rows) [] []) (canonical_after p rows any_type (library rows) n)
 
 -- the first finding within a budget, on this input, without arguments
 abbrev pub audit_on : List ℕ → Program → List Row → ℕ → Finding
-audit_on input p rows budget = first_finding p rows any_type library budget input []
+audit_on input p rows budget = first_finding p rows any_type (library rows) budget input []
 
 abbrev pub audit : Program → List Row → ℕ → Finding
 audit p rows budget = audit_on [] p rows budget
 
 -- so many picks of the canonical order need these rows
 abbrev pub NeedsRows : Program → List Row → ℕ → Type 0
-NeedsRows p rows n = IsPlacement Spaced p rows any_type library [] [] n
+NeedsRows p rows n = IsPlacement Spaced p rows any_type (library rows) [] [] n
 
 -- two evaluations of `main`, with their least conflicting items
 abbrev pub pair_of : (turn : ℕ) → Place → Place → Item → Item → Pair
@@ -161,12 +148,12 @@ called f (Some e) Control = settle
 abbrev pub picks_from : Program → List Row → ℕ → Outcome → List Called
 picks_from p rows zero o = []
 picks_from p rows (suc n) (Running st) =
-    called st.top st.top.begun (canonical_pick p rows any_type library st.top st.top.begun)
-    ∷ picks_from p rows n (step p rows any_type library st (canonical_pick p rows any_type library st.top st.top.begun))
+    called st.top st.top.begun (canonical_pick p rows any_type (library rows) st.top st.top.begun)
+    ∷ picks_from p rows n (step p rows any_type (library rows) st (canonical_pick p rows any_type (library rows) st.top st.top.begun))
 picks_from p rows (suc n) o = []
 
 abbrev pub picks_of : Program → List Row → ℕ → List Called
-picks_of p rows n = picks_from p rows n (start p rows any_type library [] [])
+picks_of p rows n = picks_from p rows n (start p rows any_type (library rows) [] [])
 
 abbrev pub trace_of : Outcome → List Entry
 trace_of (Ends n out trace) = trace
@@ -359,3 +346,74 @@ large_block = program_of (defined (large_decl ∷ []) (Declare 0 ∷ Return (num
 -- int a[100000000];int main(void){return 0;}
 abbrev pub large_static : Program
 large_static = program_of (defined [] (Return (number 0) ∷ []) ∷ []) (record { name = Static 0; decl = large_decl; literal = false; bytes = [] } ∷ [])
+
+abbrev pub discarded_call : ℕ → Exprs → Expr
+discarded_call f es = expr (Call true) types.void (more (expr (Func f) int_function none) es)
+
+-- int putchar(int);int main(void){return putchar(353);}
+abbrev pub print_low : Program
+print_low = program_of (defined [] (Return (call 1 (more (number 353) none)) ∷ []) ∷ library_function int_function lib.Putchar ∷ []) []
+
+abbrev pub char_type : CType
+char_type = types.int kind.Char
+
+-- the literal of this number, with its bytes and the zero behind them
+abbrev pub literal_text : ℕ → List ℕ → Standing
+literal_text k cs = record {
+  name = Lit k;
+  decl = record { size = length cs + 1; align = 1; constant = false; form = Some (repeat (length cs + 1) 1 (leaf char_type)); access = access.Whole (length cs + 1) 1; ty = types.array false char_type (Some (length cs + 1)) };
+  literal = true;
+  bytes = map plain (cs ++ 0 ∷ []);
+}
+
+abbrev pub text_row : Row
+text_row = record { name = Lit 0; base = 16777232; size = 4; align = 1 }
+
+-- int printf(const char*,...);int main(void){return printf("%d\n",E);}
+abbrev pub print_as_int : Expr → Program
+print_as_int e = program_of (defined [] (Return (call 1 (more (expr (Str 0) (types.pointer false char_type) none) (more e none))) ∷ [])
+    ∷ library_function int_function lib.Printf ∷ []) (literal_text 0 (37 ∷ 100 ∷ 10 ∷ []) ∷ [])
+
+abbrev pub long_number : ℕ → Expr
+long_number n = expr (Number (pos n)) (types.int kind.Long) none
+
+abbrev pub int_pointer : CType
+int_pointer = types.pointer false int_type
+
+abbrev pub pointer_decl : Decl
+pointer_decl = record { size = 8; align = 8; constant = false; form = Some (leaf int_pointer); access = access.Pointer; ty = int_pointer }
+
+abbrev pub local_pointer : Expr
+local_pointer = expr (Load access.Pointer) int_pointer (more local none)
+
+-- p=malloc(4), for a declared p
+abbrev pub allocate : Stmt
+allocate = Value (expr (Assign true access.Pointer) int_pointer (more local
+    (more (expr (Conv (conversion.Pointer 4)) int_pointer
+    (more (expr (Call false) (types.pointer false types.void) (more (expr (Func 1) int_function none) (more (expr (Number (pos 4)) (types.int kind.ULong) none) none))) none)) none)))
+
+-- free(E)
+abbrev pub release : Expr → Stmt
+release e = Value (discarded_call 2 (more (expr (Conv (conversion.Pointer 1)) (types.pointer false types.void) (more e none)) none))
+
+-- void*malloc(unsigned long);void free(void*);
+abbrev pub with_heap : Function → Program
+with_heap f = program_of (f ∷ library_function int_function lib.Malloc ∷ library_function int_function lib.Free ∷ []) []
+
+-- int main(void){int*p=malloc(4);*p=7;int i=*p;free(p);return i;}
+abbrev pub allocate_once : Program
+allocate_once = with_heap (defined (pointer_decl ∷ int_decl ∷ [])
+    (allocate ∷ Value (assign false local_pointer (number 7)) ∷ Value (assign true second_local (load local_pointer)) ∷ release local_pointer ∷ Return (load second_local) ∷ []))
+
+-- int main(void){int*p=malloc(4);free(p);free(p);return 0;}
+abbrev pub release_twice : Program
+release_twice = with_heap (defined (pointer_decl ∷ int_decl ∷ []) (allocate ∷ release local_pointer ∷ release local_pointer ∷ Return (number 0) ∷ []))
+
+-- int main(void){int i;free(&i);return 0;}
+abbrev pub release_local : Program
+release_local = with_heap (defined (int_decl ∷ []) (Declare 0 ∷ release local ∷ Return (number 0) ∷ []))
+
+-- `p`, an int, and what the fourth node of the first full expression allocates
+abbrev pub heap_rows : List Row
+heap_rows = record { name = main_local; base = 16777232; size = 8; align = 8 } ∷ row_of (Auto (record { 0 = 0 }) 1 1) 16777264 4
+    ∷ record { name = Heap (record { 0 = 0 }) 2 3; base = 16777296; size = 4; align = 16 } ∷ []

@@ -39,7 +39,7 @@ pub data Finding : Type 0 where
   Order_dependent : Pair → (picks : ℕ) → Finding
   Out_of_steps : (picks : ℕ) → Finding
   Outside : Cause → (number picks : ℕ) → Finding
-  -- an object has no row: never under the rows of a placement
+  -- an object has no row: under the rows of a placement only where an allocation by a library function would pass the limit on created bytes
   Not_placed : (picks : ℕ) → Finding
 
 -- neither is sequenced before the other (5.1.2.3p3)
@@ -101,7 +101,7 @@ abbrev pub raised_at : Clause → List Entry → Finding
 raised_at c [] = Undefined c [] 0 None 0
 raised_at c (e ∷ es) = Undefined c e.path e.turn e.place (length (e ∷ es))
 
-module _ (program : Program) (rows : List Row) (agree : CType → CType → Bool) (library : LibFunc → Event → List Value → Script Value) where
+module _ (program : Program) (rows : List Row) (agree : CType → CType → Bool) (library : LibFunc → Event → List CType → List Value → Script Value) where
   -- the full expression of the top frame, after a pick that goes on
   abbrev pub open_on_top : List Entry → Local → Option Begun → List Open
   open_on_top trace f None = []

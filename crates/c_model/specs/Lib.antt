@@ -12,6 +12,7 @@ pub mod Keys
 pub mod Moments
 pub mod FirstFinding
 pub mod Placement
+pub mod Libraries
 pub mod Examples
 pub mod ChoiceLaws
 pub mod EventLaws

@@ -77,7 +77,7 @@ abbrev pub done_in : Option Begun → Pick → Bool
 done_in (Some e) (Ev u) = is_some (e.given u) && nat_lt u.node (nodes e)
 done_in _ _ = true
 
-module _ (program : Program) (rows : List Row) (agree : CType → CType → Bool) (library : LibFunc → Event → List Value → Script Value) where
+module _ (program : Program) (rows : List Row) (agree : CType → CType → Bool) (library : LibFunc → Event → List CType → List Value → Script Value) where
   -- due, and all that comes before it done
   abbrev pub is_reached : Scene → Begun → Place → Bool
   is_reached f e u =
@@ -127,7 +127,7 @@ module _ (program : Program) (rows : List Row) (agree : CType → CType → Bool
 -- the frames of every program keep the laws of the frame, of the order and of updates
 abbrev pub FramesKeepLaws : (Part Seen Fact : Type 0) → Type 0
 FramesKeepLaws Part Seen Fact =
-    (program : Program) (rows : List Row) (agree : CType → CType → Bool) (library : LibFunc → Event → List Value → Script Value)
+    (program : Program) (rows : List Row) (agree : CType → CType → Bool) (library : LibFunc → Event → List CType → List Value → Script Value)
     (parts : StorePart Part Seen Fact)
     → FrameLaws (frame_machine program rows agree library parts) × OrderLaws (frame_machine program rows agree library parts)
     × UpdateLaws (frame_machine program rows agree library parts)
@@ -136,7 +136,7 @@ FramesKeepLaws Part Seen Fact =
 -- conflicts to its end, every permitted order has at most as many picks, goes on until the run is over, and ends with that value and store.
 abbrev pub FramesEndAlike : (Part Seen Fact : Type 0) → Type 0
 FramesEndAlike Part Seen Fact =
-    (program : Program) (rows : List Row) (agree : CType → CType → Bool) (library : LibFunc → Event → List Value → Script Value)
+    (program : Program) (rows : List Row) (agree : CType → CType → Bool) (library : LibFunc → Event → List CType → List Value → Script Value)
     (parts : StorePart Part Seen Fact) → StoreLaws (frame_machine program rows agree library parts)
     → (a b : State Local Pick Value Store) (ps : List Pick) (gs : List (Rest Pick Value Item)) (v : Value) (s : Store)
     → RemainsAt (frame_machine program rows agree library parts) a gs v s → Order (frame_machine program rows agree library parts) a ps b

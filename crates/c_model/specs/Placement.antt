@@ -43,6 +43,6 @@ follow mode before (r ∷ rs) = (r.base == base_of mode before r.align) && follo
 -- mode puts it. A creation asks for a row of its size and alignment, so these are right as well. A row whose object isn't created yet
 -- changes no act, so the run under all rows is the run under a map that grows.
 pub record IsPlacement (mode : Mode) (program : Program) (rows : List Row) (agree : CType → CType → Bool)
-    (library : LibFunc → Event → List Value → Script Value) (input : List ℕ) (vs : List Value) (picks : ℕ) : Type 0 where
+    (library : LibFunc → Event → List CType → List Value → Script Value) (input : List ℕ) (vs : List Value) (picks : ℕ) : Type 0 where
   pub placed : follow mode [] rows ≡ true
   pub created : map (λ r. r.name) rows ≡ objects_of program (on_running (start program rows agree library input vs) (canonical_after program rows agree library picks))

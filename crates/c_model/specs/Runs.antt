@@ -97,7 +97,7 @@ abbrev pub limited : Outcome → Outcome
 limited (Running st) = within (limit_passed (depth_of st.top st.held) st.store) (Running st)
 limited o = o
 
-module _ (program : Program) (rows : List Row) (agree : CType → CType → Bool) (library : LibFunc → Event → List Value → Script Value) where
+module _ (program : Program) (rows : List Row) (agree : CType → CType → Bool) (library : LibFunc → Event → List CType → List Value → Script Value) where
   abbrev pub begun_of : Local → Option Begun → Option (Tree × Taken)
   begun_of f None = None
   begun_of f (Some e) = Some (tree_of e.root, taken_by program rows agree library f.scene e)

@@ -126,8 +126,17 @@ abbrev pub function_of : List Function → ℕ → ℕ → Option (ℕ × Functi
 function_of [] n a = None
 function_of (f ∷ fs) n a = if function_address n == a then Some (n, f) else function_of fs (suc n) a
 
--- the program, its address map, which function types are compatible, and what the library does
-module _ (program : Program) (rows : List Row) (agree : CType → CType → Bool) (library : LibFunc → Event → List Value → Script Value) where
+abbrev pub types_of : Exprs → List CType
+types_of none = []
+types_of (more (expr h ty es) rest) = ty ∷ types_of rest
+
+-- of a call's operands, those behind its designator
+abbrev pub argument_types : Exprs → List CType
+argument_types none = []
+argument_types (more e rest) = types_of rest
+
+-- the program, its address map, which function types are compatible, and what the library does for a call's arguments with their types
+module _ (program : Program) (rows : List Row) (agree : CType → CType → Bool) (library : LibFunc → Event → List CType → List Value → Script Value) where
   abbrev pub pointer_to : ObjName → Value
   pointer_to x = Ptr (base_in (row_of rows x)) (prov.Whole x)
 
@@ -216,30 +225,30 @@ module _ (program : Program) (rows : List Row) (agree : CType → CType → Bool
   move_of f e u None = Stay
   move_of f e u (Some (expr h ty es)) = if is_body u.kind then started f u.node h (values_of f e.given (suc u.node) es) else Stay
 
-  abbrev pub library_act : Event → List Value → Option LibFunc → Script Value
-  library_act who vs None = Give Nothing
-  library_act who vs (Some g) = library g who vs
+  abbrev pub library_act : Event → List CType → List Value → Option LibFunc → Script Value
+  library_act who ts vs None = Give Nothing
+  library_act who ts vs (Some g) = library g who ts vs
 
   -- what the body of a call does by itself: that of a library function; a call of none raises (6.5.3.2p4, 6.5.2.2p9)
-  abbrev pub call_by : Event → CType → List Value → Option (ℕ × Function) → Script Value
-  call_by who ty vs None = Raise InvalidPointer
-  call_by who ty vs (Some c) =
-      require (is_some c.1.body || is_some c.1.library) InvalidPointer >> (require (agree c.1.ty ty) IncompatibleCall >> library_act who vs c.1.library)
+  abbrev pub call_by : Event → CType → List CType → List Value → Option (ℕ × Function) → Script Value
+  call_by who ty ts vs None = Raise InvalidPointer
+  call_by who ty ts vs (Some c) =
+      require (is_some c.1.body || is_some c.1.library) InvalidPointer >> (require (agree c.1.ty ty) IncompatibleCall >> library_act who ts vs c.1.library)
 
   abbrev pub type_of_first : Exprs → CType → CType
   type_of_first none ty = ty
   type_of_first (more (expr h ty es) rest) other = ty
 
-  abbrev pub call_act : Event → Head → CType → List Value → Script Value
-  call_act who (Call discarded) ty (Fun a ∷ vs) = call_by who ty vs (function_of program.functions 0 a)
-  call_act who (Call discarded) ty vs = Raise InvalidPointer
-  call_act who h ty vs = Give Nothing
+  abbrev pub call_act : Event → Head → CType → List CType → List Value → Script Value
+  call_act who (Call discarded) ty ts (Fun a ∷ vs) = call_by who ty ts vs (function_of program.functions 0 a)
+  call_act who (Call discarded) ty ts vs = Raise InvalidPointer
+  call_act who h ty ts vs = Give Nothing
 
   -- what an event does to the store
   abbrev pub event_act : Scene → Begun → Place → Option Expr → Script Value
   event_act f e u None = Give Nothing
   event_act f e u (Some (expr h ty es)) =
-      if is_body u.kind then call_act (event_of f u) h (type_of_first es ty) (values_of f e.given (suc u.node) es)
+      if is_body u.kind then call_act (event_of f u) h (type_of_first es ty) (argument_types es) (values_of f e.given (suc u.node) es)
       else act_of rows (event_of f u) h ty u.kind (operand_values f e.given (suc u.node) h es) (or_nothing (e.given (place u.node (own_kind u.kind))))
 
   -- objects are created in order, those of a function's parameters with the arguments (6.5.2.2p4, 6.9.1p9)

@@ -5,7 +5,7 @@
 
 ghost use Rattle.std.specs.Prelude.{◌≡◌, [], ◌∷◌, Some};
 ghost use Rattle.ub_base.specs.declared.clause.Kind.TheVariants.{Val, Eff, Body};
-ghost use Rattle.ub_base.specs.declared.clause.Clause.TheVariants.{DivideByZero, Exceptional, Indeterminate, LeftShift, MissingValue, StoreToConst, Unsequenced};
+ghost use Rattle.ub_base.specs.declared.clause.Clause.TheVariants.{Conversion, DeadObject, DivideByZero, Exceptional, Free, Indeterminate, LeftShift, MissingValue, StoreToConst, Unsequenced};
 ghost use Rattle.ub_base.specs.declared.clause.Cause.TheVariants.{Created};
 ghost use Rattle.ub_base.specs.declared.names.ObjName.TheVariants.{Static};
 ghost use Rattle.ub_base.specs.declared.names.Item.TheVariants.{Read, Write, Input, Output, Ending, Any};
@@ -17,7 +17,7 @@ ghost use Rattle.c_model.specs.ChoiceLaws.{ReachedStays, NothingNewBefore, Eithe
 ghost use Rattle.c_model.specs.EventLaws.{SameAct, SameMove, SameFrame};
 ghost use Rattle.c_model.specs.MachineLaws.{OrdersEndAlike};
 ghost use Rattle.c_model.specs.ModelMachine.{FramesKeepLaws, FramesEndAlike};
-ghost use Rattle.c_model.specs.Examples.{canonical_run, audit, audit_on, pair_of, picks_of, NeedsRows, HoldsRace, HoldsQuarrel, HoldsEndQuarrel, trace_of, enter, leave, begin, settle, event, main_local, local_rows, global_rows, both_rows, list_rows, return_zero, add_one, self_increment, divide_by_zero, print_both, list_both, pass_both, increment_and_call, comma_between, and_beside, loop_forever, quit_beside, past_the_greatest, shift_too_far, divide, unwritten_load, store_to_const, missing_value, value_unused, read_both, read_in_turn, quit_alone, jump_about, jump_in, inner_rows, large_block, large_static};
+ghost use Rattle.c_model.specs.Examples.{canonical_run, audit, audit_on, pair_of, picks_of, NeedsRows, HoldsRace, HoldsQuarrel, HoldsEndQuarrel, trace_of, enter, leave, begin, settle, event, main_local, local_rows, global_rows, both_rows, list_rows, return_zero, add_one, self_increment, divide_by_zero, print_both, list_both, pass_both, increment_and_call, comma_between, and_beside, loop_forever, quit_beside, past_the_greatest, shift_too_far, divide, unwritten_load, store_to_const, missing_value, value_unused, read_both, read_in_turn, quit_alone, jump_about, jump_in, inner_rows, large_block, large_static, print_low, text_row, print_as_int, number, long_number, allocate_once, release_twice, release_local, heap_rows};
 
 mod order;
 
@@ -60,6 +60,18 @@ pub fn law_further_findings()
     ensures jump_in { audit jump_in inner_rows 20 ≡ Clean 0 [] 7 }
 {}
 
+/// And of calls of the library, each of which does what libc_spec's scripts say: the byte that is printed of a number, a number printed
+/// by its type and by another one, an object on the heap, a pointer to one that was freed (6.2.4p2), and an object of a block that is
+/// freed (7.22.3.3p2).
+pub fn law_library_findings()
+    ensures print_low { audit print_low [] 20 ≡ Clean 97 (97 ∷ []) 6 }
+    ensures print_int { audit (print_as_int (number 42)) (text_row ∷ []) 20 ≡ Clean 3 (52 ∷ 50 ∷ 10 ∷ []) 6 }
+    ensures print_long { audit (print_as_int (long_number 42)) (text_row ∷ []) 20 ≡ Undefined Conversion [] 2 (Some (place 0 Body)) 3 }
+    ensures allocate_once { audit allocate_once heap_rows 40 ≡ Clean 7 [] 29 }
+    ensures release_twice { audit release_twice heap_rows 40 ≡ Undefined DeadObject [] 4 (Some (place 3 Val)) 16 }
+    ensures release_local { audit release_local local_rows 20 ≡ Undefined Free [] 2 (Some (place 0 Body)) 5 }
+{}
+
 /// The picks of small programs in canonical order.
 pub fn law_example_picks()
     ensures return_zero { picks_of return_zero [] 10 ≡ enter ∷ begin ∷ settle ∷ leave ∷ [] }
@@ -96,6 +108,8 @@ pub fn law_example_rows()
     ensures add_one { NeedsRows add_one local_rows 15 }
     ensures list_both { NeedsRows list_both list_rows 21 }
     ensures increment_and_call { NeedsRows increment_and_call global_rows 15 }
+    ensures print_int { NeedsRows (print_as_int (number 42)) (text_row ∷ []) 6 }
+    ensures allocate_once { NeedsRows allocate_once heap_rows 29 }
 {}
 
 /// Sequenced before is a strict partial order on the events of a full expression, whatever was chosen (5.1.2.3p3).

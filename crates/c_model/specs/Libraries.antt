@@ -1,0 +1,37 @@
+-- What the calls of library functions do in a run: the scripts of crate libc_spec, for the values of the run.
+-- The limits on created bytes and on the output aren't in the scripts. A run looks at them behind each pick (`limited` of Runs), so an
+-- allocation that would pass the first one is `Over` where its object has a row, and `No_row` where it has none, as in a placement.
+use Rattle.std.specs.Prelude.{List, [], ◌∷◌, map, drop}
+use Rattle.ub_base.specs.declared.names.Event.{Event}
+use Rattle.c_types.specs.declared.library.LibFunc.{LibFunc}
+use Rattle.c_types.specs.declared.library.LibFunc.TheVariants.{Printf}
+use Rattle.c_types.specs.Types.{CType}
+use Rattle.addr_map.specs.declared.map.Row.{Row}
+use Rattle.prov_memory.specs.Script.{Script, Give, ◌>>=◌}
+use Rattle.libc_spec.specs.Library as scripts
+use Rattle.libc_spec.specs.Library.{LibValue, number, pointer, nothing, argument_at}
+use Rattle.libc_spec.specs.Print.{Argument, printf}
+use Rattle.c_model.specs.Values.{Value, Int, Ptr, Nothing}
+
+-- the arguments of library functions are integers and pointers to objects; of a function pointer behind a format printf uses the type alone
+abbrev pub passed : Value → LibValue
+passed (Int z) = number z
+passed (Ptr a prov) = pointer a prov
+passed _ = nothing
+
+abbrev pub result : LibValue → Value
+result (number n) = Int n
+result (pointer a prov) = Ptr a prov
+result nothing = Nothing
+
+abbrev pub typed : List CType → List LibValue → List Argument
+typed (t ∷ ts) (v ∷ vs) = record { value = v; ty = t } ∷ typed ts vs
+typed _ _ = []
+
+-- printf alone asks for the types of its arguments (7.21.6.1p9)
+abbrev pub script : List Row → LibFunc → Event → List CType → List LibValue → Script LibValue
+script rows Printf who ts vs = printf rows (argument_at vs 0) (drop 1 (typed ts vs))
+script rows f who ts vs = scripts.library rows f vs who
+
+abbrev pub library : List Row → LibFunc → Event → List CType → List Value → Script Value
+library rows f who ts vs = script rows f who ts (map passed vs) >>= (λ v. Give (result v))
