@@ -4,17 +4,13 @@ use crate::declarator::Declared;
 use crate::tag::MemberList;
 use crate::words::{Storage, Words, read_words};
 use crate::{apply, declarator, literal, tag};
-use c_ast::{
-    AssignOp, Base, BinaryOp, Declarator, Enumerator, Expr, ExprNode, MemberEntry, Param, PostOp,
-    Specs, TypeName, UnaryOp,
-};
+use c_ast::{Base, Declarator, Enumerator, Expr, ExprNode, MemberEntry, Param, Specs, TypeName};
 use c_express::{Operand, integer_constant};
 use c_scope::{Meaning, Source, State, TypeFault};
 use c_types::Qual;
 use ub_base::Items;
 
-/// An expression (6.5). Each form with operands is read by a function of its own that isn't inlined, so that a level of nesting
-/// costs the host's stack the operands of one form alone.
+/// An expression (6.5).
 #[cycle(expression)]
 pub fn expression(source: &Source<'_>, state: &mut State, e: &Expr) -> Result<Operand, TypeFault> {
     let line = source.line(e.at);
@@ -23,212 +19,72 @@ pub fn expression(source: &Source<'_>, state: &mut State, e: &Expr) -> Result<Op
         ExprNode::Number(at) => literal::number(state.alloc, source, *at),
         ExprNode::CharLit(at) => literal::character(state.alloc, source, *at),
         ExprNode::Strings(first, count) => literal::strings(source, state, *first, *count),
-        ExprNode::Unary(op, a) => unary(source, state, *op, a.get(), line),
-        ExprNode::Postfix(op, a) => postfix(source, state, *op, a.get(), line),
-        ExprNode::Binary(op, a, b) => binary(source, state, *op, a.get(), b.get(), line),
-        ExprNode::Assign(op, a, b) => assignment(source, state, *op, a.get(), b.get(), line),
-        ExprNode::Cond(a, b, c) => conditional(source, state, a.get(), b.get(), c.get(), line),
-        ExprNode::Comma(operands) => sequence(source, state, operands.as_slice(), line),
-        ExprNode::Call(f, arguments) => call(source, state, f.get(), arguments.as_slice(), line),
-        ExprNode::Index(a, b) => subscript(source, state, a.get(), b.get(), line),
-        ExprNode::Dot(a, name) => member(source, state, false, a.get(), *name, line),
-        ExprNode::Arrow(a, name) => member(source, state, true, a.get(), *name, line),
-        ExprNode::Cast(to, a) => cast(source, state, to.get(), a.get(), e.at),
-        ExprNode::SizeofExpr(a) => size_of_operand(source, state, a.get(), line),
-        ExprNode::SizeofType(ty) => size_of_type(source, state, ty.get(), e.at),
-        ExprNode::AlignofType(ty) => alignment_of_type(source, state, ty.get(), e.at),
+        ExprNode::Unary(op, a) => {
+            let a = expression(source, state, a.get())?;
+            apply::unary(state, *op, a, line)
+        }
+        ExprNode::Postfix(op, a) => {
+            let a = expression(source, state, a.get())?;
+            apply::postfix(state, *op, a, line)
+        }
+        ExprNode::Binary(op, a, b) => {
+            let a = expression(source, state, a.get())?;
+            let b = expression(source, state, b.get())?;
+            apply::binary(state, *op, a, b, line)
+        }
+        ExprNode::Assign(op, a, b) => {
+            let a = expression(source, state, a.get())?;
+            let b = expression(source, state, b.get())?;
+            apply::assignment(state, *op, a, b, line)
+        }
+        ExprNode::Cond(a, b, c) => {
+            let a = expression(source, state, a.get())?;
+            let b = expression(source, state, b.get())?;
+            let c = expression(source, state, c.get())?;
+            apply::conditional(state, a, b, c, line)
+        }
+        ExprNode::Comma(operands) => {
+            let operands = expressions(source, state, operands.as_slice())?;
+            apply::sequence(state, operands, line)
+        }
+        ExprNode::Call(f, arguments) => {
+            let f = expression(source, state, f.get())?;
+            let arguments = expressions(source, state, arguments.as_slice())?;
+            apply::call(state, f, arguments, line)
+        }
+        ExprNode::Index(a, b) => {
+            let a = expression(source, state, a.get())?;
+            let b = expression(source, state, b.get())?;
+            apply::subscript(state, a, b, line)
+        }
+        ExprNode::Dot(a, name) => {
+            let a = expression(source, state, a.get())?;
+            apply::member(source, state, false, a, *name, line)
+        }
+        ExprNode::Arrow(a, name) => {
+            let a = expression(source, state, a.get())?;
+            apply::member(source, state, true, a, *name, line)
+        }
+        ExprNode::Cast(to, a) => {
+            let to = type_name(source, state, to.get(), e.at)?;
+            let a = expression(source, state, a.get())?;
+            apply::cast(state, a, &to.ty, line)
+        }
+        ExprNode::SizeofExpr(a) => {
+            let mark = state.suspend();
+            let a = expression(source, state, a.get())?;
+            state.resume(mark);
+            apply::size_of_operand(state, a, line)
+        }
+        ExprNode::SizeofType(ty) => {
+            let qual = type_name(source, state, ty.get(), e.at)?;
+            apply::size_of_type(state, &qual.ty, line)
+        }
+        ExprNode::AlignofType(ty) => {
+            let qual = type_name(source, state, ty.get(), e.at)?;
+            apply::alignment_of_type(state, &qual.ty, line)
+        }
     }
-}
-
-// A unary operator and its operand (6.5.3).
-#[cycle(expression)]
-#[inline(never)]
-fn unary(
-    source: &Source<'_>,
-    state: &mut State,
-    op: UnaryOp,
-    a: &Expr,
-    line: u32,
-) -> Result<Operand, TypeFault> {
-    let a = expression(source, state, a)?;
-    apply::unary(state, op, a, line)
-}
-
-// An operand with `++` or `--` behind it (6.5.2.4).
-#[cycle(expression)]
-#[inline(never)]
-fn postfix(
-    source: &Source<'_>,
-    state: &mut State,
-    op: PostOp,
-    a: &Expr,
-    line: u32,
-) -> Result<Operand, TypeFault> {
-    let a = expression(source, state, a)?;
-    apply::postfix(state, op, a, line)
-}
-
-// A binary operator between its operands (6.5.5 to 6.5.14).
-#[cycle(expression)]
-#[inline(never)]
-fn binary(
-    source: &Source<'_>,
-    state: &mut State,
-    op: BinaryOp,
-    a: &Expr,
-    b: &Expr,
-    line: u32,
-) -> Result<Operand, TypeFault> {
-    let a = expression(source, state, a)?;
-    let b = expression(source, state, b)?;
-    apply::binary(state, op, a, b, line)
-}
-
-// An assignment (6.5.16).
-#[cycle(expression)]
-#[inline(never)]
-fn assignment(
-    source: &Source<'_>,
-    state: &mut State,
-    op: AssignOp,
-    a: &Expr,
-    b: &Expr,
-    line: u32,
-) -> Result<Operand, TypeFault> {
-    let a = expression(source, state, a)?;
-    let b = expression(source, state, b)?;
-    apply::assignment(state, op, a, b, line)
-}
-
-// A conditional expression (6.5.15).
-#[cycle(expression)]
-#[inline(never)]
-fn conditional(
-    source: &Source<'_>,
-    state: &mut State,
-    a: &Expr,
-    b: &Expr,
-    c: &Expr,
-    line: u32,
-) -> Result<Operand, TypeFault> {
-    let a = expression(source, state, a)?;
-    let b = expression(source, state, b)?;
-    let c = expression(source, state, c)?;
-    apply::conditional(state, a, b, c, line)
-}
-
-// Operands with commas between them (6.5.17).
-#[cycle(expression)]
-#[inline(never)]
-fn sequence(
-    source: &Source<'_>,
-    state: &mut State,
-    operands: &[Expr],
-    line: u32,
-) -> Result<Operand, TypeFault> {
-    let operands = expressions(source, state, operands)?;
-    apply::sequence(state, operands, line)
-}
-
-// A call (6.5.2.2).
-#[cycle(expression)]
-#[inline(never)]
-fn call(
-    source: &Source<'_>,
-    state: &mut State,
-    f: &Expr,
-    arguments: &[Expr],
-    line: u32,
-) -> Result<Operand, TypeFault> {
-    let f = expression(source, state, f)?;
-    let arguments = expressions(source, state, arguments)?;
-    apply::call(state, f, arguments, line)
-}
-
-// A subscript (6.5.2.1).
-#[cycle(expression)]
-#[inline(never)]
-fn subscript(
-    source: &Source<'_>,
-    state: &mut State,
-    a: &Expr,
-    b: &Expr,
-    line: u32,
-) -> Result<Operand, TypeFault> {
-    let a = expression(source, state, a)?;
-    let b = expression(source, state, b)?;
-    apply::subscript(state, a, b, line)
-}
-
-// A member of a structure or union, or of what a pointer points to (6.5.2.3).
-#[cycle(expression)]
-#[inline(never)]
-fn member(
-    source: &Source<'_>,
-    state: &mut State,
-    arrow: bool,
-    a: &Expr,
-    name: u32,
-    line: u32,
-) -> Result<Operand, TypeFault> {
-    let a = expression(source, state, a)?;
-    apply::member(source, state, arrow, a, name, line)
-}
-
-// A cast; `at` is its first token (6.5.4).
-#[cycle(expression)]
-#[inline(never)]
-fn cast(
-    source: &Source<'_>,
-    state: &mut State,
-    to: &TypeName,
-    a: &Expr,
-    at: u32,
-) -> Result<Operand, TypeFault> {
-    let to = type_name(source, state, to, at)?;
-    let a = expression(source, state, a)?;
-    apply::cast(state, a, &to.ty, source.line(at))
-}
-
-// `sizeof` before an expression, which isn't evaluated (6.5.3.4p2).
-#[cycle(expression)]
-#[inline(never)]
-fn size_of_operand(
-    source: &Source<'_>,
-    state: &mut State,
-    a: &Expr,
-    line: u32,
-) -> Result<Operand, TypeFault> {
-    let mark = state.suspend();
-    let a = expression(source, state, a)?;
-    state.resume(mark);
-    apply::size_of_operand(state, a, line)
-}
-
-// `sizeof` before a type name; `at` is its first token (6.5.3.4).
-#[cycle(expression)]
-#[inline(never)]
-fn size_of_type(
-    source: &Source<'_>,
-    state: &mut State,
-    ty: &TypeName,
-    at: u32,
-) -> Result<Operand, TypeFault> {
-    let qual = type_name(source, state, ty, at)?;
-    apply::size_of_type(state, &qual.ty, source.line(at))
-}
-
-// `_Alignof`; `at` is its first token (6.5.3.4p3).
-#[cycle(expression)]
-#[inline(never)]
-fn alignment_of_type(
-    source: &Source<'_>,
-    state: &mut State,
-    ty: &TypeName,
-    at: u32,
-) -> Result<Operand, TypeFault> {
-    let qual = type_name(source, state, ty, at)?;
-    apply::alignment_of_type(state, &qual.ty, source.line(at))
 }
 
 #[cycle(expression)]
