@@ -417,3 +417,15 @@ release_local = with_heap (defined (int_decl ∷ []) (Declare 0 ∷ release loca
 abbrev pub heap_rows : List Row
 heap_rows = record { name = main_local; base = 16777232; size = 8; align = 8 } ∷ row_of (Auto (record { 0 = 0 }) 1 1) 16777264 4
     ∷ record { name = Heap (record { 0 = 0 }) 2 3; base = 16777296; size = 4; align = 16 } ∷ []
+
+abbrev pub wide_decl : Decl
+wide_decl = record array_decl { size = 67108848; form = Some (repeat 16777212 4 (leaf int_type)); access = access.Whole 67108848 4; ty = types.array false int_type (Some 16777212) }
+
+-- int main(void){int a[16777212];malloc(N);return 0;}
+abbrev pub allocate_beside : ℕ → Program
+allocate_beside n = with_heap (defined (wide_decl ∷ [])
+    (Declare 0 ∷ Value (discarded_call 1 (more (expr (Number (pos n)) (types.int kind.ULong) none) none)) ∷ Return (number 0) ∷ []))
+
+-- the array alone has a row
+abbrev pub wide_rows : List Row
+wide_rows = record { name = main_local; base = 16777232; size = 67108848; align = 4 } ∷ []

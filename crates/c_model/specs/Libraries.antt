@@ -1,7 +1,7 @@
 -- What the calls of library functions do in a run: the scripts of crate libc_spec, for the values of the run.
--- The limits on created bytes and on the output aren't in the scripts. A run looks at them behind each pick (`limited` of Runs), so an
--- allocation that would pass the first one is `Over` where its object has a row, and `No_row` where it has none, as in a placement.
-use Rattle.std.specs.Prelude.{List, [], ◌∷◌, map, drop}
+-- The limits on created bytes and on the output aren't in the scripts. A run looks at them behind each pick (`limited` of Runs), and at
+-- the first one also where the object of an allocation has no row (`without_row` of Runs).
+use Rattle.std.specs.Prelude.{ℕ, List, [], ◌∷◌, map, drop, Option, Some, None, if◌then◌else◌}
 use Rattle.ub_base.specs.declared.names.Event.{Event}
 use Rattle.c_types.specs.declared.library.LibFunc.{LibFunc}
 use Rattle.c_types.specs.declared.library.LibFunc.TheVariants.{Printf}
@@ -9,7 +9,7 @@ use Rattle.c_types.specs.Types.{CType}
 use Rattle.addr_map.specs.declared.map.Row.{Row}
 use Rattle.prov_memory.specs.Script.{Script, Give, ◌>>=◌}
 use Rattle.libc_spec.specs.Library as scripts
-use Rattle.libc_spec.specs.Library.{LibValue, number, pointer, nothing, argument_at}
+use Rattle.libc_spec.specs.Library.{LibValue, number, pointer, nothing, argument_at, asked, is_given}
 use Rattle.libc_spec.specs.Print.{Argument, printf}
 use Rattle.c_model.specs.Values.{Value, Int, Ptr, Nothing}
 
@@ -35,3 +35,8 @@ script rows f who ts vs = scripts.library rows f vs who
 
 abbrev pub library : List Row → LibFunc → Event → List CType → List Value → Script Value
 library rows f who ts vs = script rows f who ts (map passed vs) >>= (λ v. Give (result v))
+
+-- the bytes of the object that a call of the library allocates, 0 where it allocates none
+abbrev pub allocated : Option LibFunc → List Value → ℕ
+allocated None vs = 0
+allocated (Some f) vs = if is_given (asked f (map passed vs)) then asked f (map passed vs) else 0

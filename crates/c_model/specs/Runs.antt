@@ -18,11 +18,12 @@ use Rattle.prov_memory.specs.Store.{Store, fresh}
 use Rattle.prov_memory.specs.Script.{Script, Give, Act, Done, Raised, Ended, Outside, Unplaced, run, ◌>>=◌, ◌>>◌}
 use Rattle.prov_memory.specs.Acts.{create, store, bytes}
 use Rattle.exposure.specs.declared.prov.Prov.TheVariants as prov
-use Rattle.c_model.specs.Program.{Program, Decl, Standing, Stmt, tree_of}
-use Rattle.c_model.specs.Values.{Value, Int, Nothing}
+use Rattle.c_model.specs.Program.{Program, Decl, Standing, Stmt, Function, Head, Call, Expr, expr, tree_of}
+use Rattle.c_model.specs.Values.{Value, Int, Fun, Nothing}
 use Rattle.c_model.specs.Control.{Todo, Enter, ready_work, opened}
 use Rattle.c_model.specs.Moves.{Move, Stay, Start, End}
-use Rattle.c_model.specs.Steps.{Local, Begun, Pick, Control, Ev, MayPick, move, does, next, taken_by, is_done, body_of}
+use Rattle.c_model.specs.Steps.{Scene, Local, Begun, Pick, Control, Ev, MayPick, move, does, next, taken_by, is_done, body_of, at_node, function_of, values_of}
+use Rattle.c_model.specs.Libraries.{allocated}
 
 -- one pick of an order: its frame, turn and place, none for a control step; the tree that it is of; its items
 pub record Entry : Type 0 where
@@ -93,6 +94,15 @@ abbrev pub enter_passes : State → Pick → Option (Cause × ℕ)
 enter_passes st (Ev u) = None
 enter_passes st Control = if is_some st.top.begun then None else block_passes st.store (ready_work st.top.todo)
 
+-- an allocation that would pass the limit
+abbrev pub allocation_passes : Store → ℕ → Option (Cause × ℕ)
+allocation_passes s zero = None
+allocation_passes s (suc n) = too_many (min (s.created + max (suc n) 16) (2 ^ 62))
+
+abbrev pub library_of : Option (ℕ × Function) → Option LibFunc
+library_of None = None
+library_of (Some c) = c.1.library
+
 abbrev pub limited : Outcome → Outcome
 limited (Running st) = within (limit_passed (depth_of st.top st.held) st.store) (Running st)
 limited o = o
@@ -117,12 +127,29 @@ module _ (program : Program) (rows : List Row) (agree : CType → CType → Bool
   moved st Control (Start g) v s trace = Refused
   moved st p End v s trace = back st.held v s trace
 
+  abbrev pub call_allocates : Head → List Value → ℕ
+  call_allocates (Call discarded) (Fun a ∷ vs) = allocated (library_of (function_of program.functions 0 a)) vs
+  call_allocates h vs = 0
+
+  abbrev pub node_allocates : Scene → Begun → Place → Option Expr → ℕ
+  node_allocates f e u None = 0
+  node_allocates f e u (Some (expr h ty es)) = call_allocates h (values_of program rows agree library f e.given (suc u.node) es)
+
+  -- the bytes of the object that a pick allocates by a call of the library
+  abbrev pub pick_allocates : Local → Option Begun → Pick → ℕ
+  pick_allocates f (Some e) (Ev u) = node_allocates f.scene e u (at_node 0 e.root u.node)
+  pick_allocates f e p = 0
+
+  -- the limit on created bytes goes before a missing row (own)
+  abbrev pub without_row : State → Pick → Outcome
+  without_row st p = within (allocation_passes st.store (pick_allocates st.top st.top.begun p)) No_row
+
   abbrev pub acted : State → Pick → Act Value → Outcome
   acted st p (Done v is s) = limited (moved st p (move program rows agree library st.top st.top.begun p) v s (entry_of st.top p is ∷ st.trace))
   acted st p (Raised c) = Raises c (entry_of st.top p [] ∷ st.trace)
   acted st p (Ended n is s) = Ends n s.output (entry_of st.top p is ∷ st.trace)
   acted st p (Outside c n) = Over c n
-  acted st p Unplaced = No_row
+  acted st p Unplaced = without_row st p
 
   -- what one pick does, whether or not it is permitted
   abbrev pub step : State → Pick → Outcome

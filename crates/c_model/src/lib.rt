@@ -11,13 +11,13 @@ ghost use Rattle.ub_base.specs.declared.names.ObjName.TheVariants.{Static};
 ghost use Rattle.ub_base.specs.declared.names.Item.TheVariants.{Read, Write, Input, Output, Ending, Any};
 ghost use Rattle.c_typed.specs.Order.{place};
 ghost use Rattle.c_model.specs.Findings.{Meets};
-ghost use Rattle.c_model.specs.FirstFinding.{Clean, Undefined, Raced, Order_dependent, Out_of_steps, Outside};
+ghost use Rattle.c_model.specs.FirstFinding.{Clean, Undefined, Raced, Order_dependent, Out_of_steps, Outside, Not_placed};
 ghost use Rattle.c_model.specs.Laws.{IsIrreflexive, IsAsymmetric, IsTransitive};
 ghost use Rattle.c_model.specs.ChoiceLaws.{ReachedStays, NothingNewBefore, EitherNext, EitherOrder, StaysClosed, MoreChoices, EffectComesNext, ValueThenEffect};
 ghost use Rattle.c_model.specs.EventLaws.{SameAct, SameMove, SameFrame};
 ghost use Rattle.c_model.specs.MachineLaws.{OrdersEndAlike};
 ghost use Rattle.c_model.specs.ModelMachine.{FramesKeepLaws, FramesEndAlike};
-ghost use Rattle.c_model.specs.Examples.{canonical_run, audit, audit_on, pair_of, picks_of, NeedsRows, HoldsRace, HoldsQuarrel, HoldsEndQuarrel, trace_of, enter, leave, begin, settle, event, main_local, local_rows, global_rows, both_rows, list_rows, return_zero, add_one, self_increment, divide_by_zero, print_both, list_both, pass_both, increment_and_call, comma_between, and_beside, loop_forever, quit_beside, past_the_greatest, shift_too_far, divide, unwritten_load, store_to_const, missing_value, value_unused, read_both, read_in_turn, quit_alone, jump_about, jump_in, inner_rows, large_block, large_static, print_low, text_row, print_as_int, number, long_number, allocate_once, release_twice, release_local, heap_rows};
+ghost use Rattle.c_model.specs.Examples.{canonical_run, audit, audit_on, pair_of, picks_of, NeedsRows, HoldsRace, HoldsQuarrel, HoldsEndQuarrel, trace_of, enter, leave, begin, settle, event, main_local, local_rows, global_rows, both_rows, list_rows, return_zero, add_one, self_increment, divide_by_zero, print_both, list_both, pass_both, increment_and_call, comma_between, and_beside, loop_forever, quit_beside, past_the_greatest, shift_too_far, divide, unwritten_load, store_to_const, missing_value, value_unused, read_both, read_in_turn, quit_alone, jump_about, jump_in, inner_rows, large_block, large_static, print_low, text_row, print_as_int, number, long_number, allocate_once, release_twice, release_local, heap_rows, allocate_beside, wide_rows};
 
 mod order;
 
@@ -61,8 +61,9 @@ pub fn law_further_findings()
 {}
 
 /// And of calls of the library, each of which does what libc_spec's scripts say: the byte that is printed of a number, a number printed
-/// by its type and by another one, an object on the heap, a pointer to one that was freed (6.2.4p2), and an object of a block that is
-/// freed (7.22.3.3p2).
+/// by its type and by another one, an object on the heap, a pointer to one that was freed (6.2.4p2), an object of a block that is
+/// freed (7.22.3.3p2), and allocations beside an array of 67,108,848 bytes that alone has a row: one passes the limit on created bytes,
+/// one stays within it and lacks a row, and one is too large to be given an object.
 pub fn law_library_findings()
     ensures print_low { audit print_low [] 20 ≡ Clean 97 (97 ∷ []) 6 }
     ensures print_int { audit (print_as_int (number 42)) (text_row ∷ []) 20 ≡ Clean 3 (52 ∷ 50 ∷ 10 ∷ []) 6 }
@@ -70,6 +71,9 @@ pub fn law_library_findings()
     ensures allocate_once { audit allocate_once heap_rows 40 ≡ Clean 7 [] 29 }
     ensures release_twice { audit release_twice heap_rows 40 ≡ Undefined DeadObject [] 4 (Some (place 3 Val)) 16 }
     ensures release_local { audit release_local local_rows 20 ≡ Undefined Free [] 2 (Some (place 0 Body)) 5 }
+    ensures past_the_limit { audit (allocate_beside 32) wide_rows 20 ≡ Outside Created 67108880 3 }
+    ensures no_row { audit (allocate_beside 16) wide_rows 20 ≡ Not_placed 3 }
+    ensures null { audit (allocate_beside 1048577) wide_rows 20 ≡ Clean 0 [] 9 }
 {}
 
 /// The picks of small programs in canonical order.
