@@ -5,9 +5,9 @@ use crate::binary::{balanced, matched};
 use crate::convert::{as_if_assigned, converted, promoted_argument, truth};
 use crate::operand::{Form, Operand, discarded, object_of, tree_of, value, value_of};
 use c_typed::{Node, Typed};
-use c_types::{FuncTy, Qual, Tags, Ty, compatible, composite, copied};
+use c_types::{FuncTy, Qual, Shared, Tags, Ty, compatible, composite, copied};
 use std::alloc::Global;
-use ub_base::{Boxed, Items};
+use ub_base::Items;
 
 // Whether a call may give a value of this type: `void`, or a complete object type that is no array (6.5.2.2p1).
 fn may_return(tags: &Tags, ty: &Ty) -> bool {
@@ -59,7 +59,7 @@ fn with_arguments(
     Ok(children)
 }
 
-fn copied_target(alloc: Global, ty: &Ty) -> Result<Boxed<FuncTy>, Refused> {
+fn copied_target(alloc: Global, ty: &Ty) -> Result<Shared<FuncTy>, Refused> {
     match object_of(ty) {
         Some(target) => match copied(alloc, &target.ty)? {
             Ty::Function(f) => Ok(f),
@@ -148,7 +148,7 @@ fn joint_target(alloc: Global, a: &Qual, b: &Qual) -> Result<Qual, Refused> {
 
 fn joint_pointer(alloc: Global, a: &Ty, b: &Ty) -> Result<Ty, Refused> {
     match (object_of(a), object_of(b)) {
-        (Some(x), Some(y)) => Ok(Ty::Pointer(Boxed::new(alloc, joint_target(alloc, x, y)?)?)),
+        (Some(x), Some(y)) => Ok(Ty::Pointer(Shared::new(alloc, joint_target(alloc, x, y)?)?)),
         _ => Err(Refused::Constraint),
     }
 }

@@ -3,10 +3,9 @@
 use crate::Refused;
 use crate::operand::{Form, Operand, access_of, object_of, place, value, value_of, with_child};
 use c_typed::{Node, Typed};
-use c_types::{Qual, Tags, Ty, copied};
+use c_types::{Qual, Shared, Tags, Ty, copied};
 use layout::find;
 use std::alloc::Global;
-use ub_base::Boxed;
 
 fn tag_of(ty: &Ty) -> Option<u32> {
     match ty {
@@ -29,7 +28,7 @@ pub fn qualified(alloc: Global, ty: &Ty, constant: bool) -> Result<Qual, Refused
             let element = element.get();
             let qual = qualified(alloc, &element.ty, element.constant || constant)?;
             Ok(Qual {
-                ty: Ty::Array(Boxed::new(alloc, qual)?, *count),
+                ty: Ty::Array(Shared::new(alloc, qual)?, *count),
                 constant: false,
             })
         }
@@ -75,7 +74,7 @@ fn member_place(
 ) -> Result<Operand, Refused> {
     let Found { offset, qual } = member_behind(alloc, tags, &tree.ty, name)?;
     let node = Node::Member { offset };
-    let ty = Ty::Pointer(Boxed::new(alloc, qual)?);
+    let ty = Ty::Pointer(Shared::new(alloc, qual)?);
     Ok(place(with_child(alloc, node, ty, line, tree)?, register))
 }
 

@@ -2,9 +2,9 @@
 
 use crate::Refused;
 use c_typed::{Access, Node, Typed};
-use c_types::{FuncTy, IntKind, Qual, Tags, Ty, copied};
+use c_types::{FuncTy, IntKind, Qual, Shared, Tags, Ty, copied};
 use std::alloc::Global;
-use ub_base::{Boxed, Items};
+use ub_base::Items;
 
 /// What an operand is before its use decides on a conversion.
 #[derive(Clone, Copy, Debug, PartialEq, Eq)]
@@ -158,7 +158,7 @@ fn use_of(alloc: Global, tags: &Tags, object: &Qual) -> Result<Used, Refused> {
                 ty: copied(alloc, &element.get().ty)?,
                 constant: element.get().constant,
             };
-            Ok(Used::Decayed(Ty::Pointer(Boxed::new(alloc, target)?)))
+            Ok(Used::Decayed(Ty::Pointer(Shared::new(alloc, target)?)))
         }
         ty => match access_of(tags, ty) {
             None => Err(Refused::Constraint),

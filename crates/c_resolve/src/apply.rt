@@ -5,9 +5,9 @@ use c_express as express;
 use c_express::{Form, Operand, integer, leaf, object_of, place, value};
 use c_scope::{Meaning, Source, State, TypeFault, placed};
 use c_typed::{EqOp, Node, RelOp, Slot};
-use c_types::{BinOp, IntKind, Qual, Ty, copied, copied_qual};
+use c_types::{BinOp, IntKind, Qual, Shared, Ty, copied, copied_qual};
 use std::alloc::Global;
-use ub_base::{Boxed, NoMemory};
+use ub_base::NoMemory;
 
 fn object_operand(
     state: &mut State,
@@ -19,7 +19,7 @@ fn object_operand(
     if let Slot::Static(number) = slot {
         state.use_object(number, line);
     }
-    let ty = Ty::Pointer(Boxed::new(state.alloc, qual)?);
+    let ty = Ty::Pointer(Shared::new(state.alloc, qual)?);
     Ok(place(leaf(state.alloc, Node::Obj(slot), ty, line), register))
 }
 
@@ -34,7 +34,7 @@ fn function_operand(
         ty,
         constant: false,
     };
-    let ty = Ty::Pointer(Boxed::new(state.alloc, target)?);
+    let ty = Ty::Pointer(Shared::new(state.alloc, target)?);
     Ok(Operand {
         tree: leaf(state.alloc, Node::Func(number), ty, line),
         form: Form::Designator,

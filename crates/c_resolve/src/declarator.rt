@@ -7,9 +7,9 @@ use c_express::{Form, Operand, qualified};
 use c_lex::Word;
 use c_scope::{Meaning, Source, State, TypeFault, placed};
 use c_typed::Slot;
-use c_types::{FuncTy, Qual, Ty, copied_qual};
+use c_types::{FuncTy, Qual, Shared, Ty, copied_qual};
 use std::alloc::Global;
-use ub_base::{Boxed, Items};
+use ub_base::Items;
 
 /// A name, where there is one, and its type.
 #[derive(Drop)]
@@ -99,7 +99,7 @@ pub fn pointer(
     match pointer_words(words) {
         Some((constant, restricted)) if !restricted || !matches!(target.ty, Ty::Function(_)) => {
             Ok(Qual {
-                ty: Ty::Pointer(Boxed::new(alloc, target)?),
+                ty: Ty::Pointer(Shared::new(alloc, target)?),
                 constant,
             })
         }
@@ -127,7 +127,7 @@ pub fn array(
     if state.tags.extent(&element.ty).is_none() {
         return Err(source.fault(at));
     }
-    let element = Boxed::new(state.alloc, element)?;
+    let element = Shared::new(state.alloc, element)?;
     let Some(number) = count else {
         return Ok(unqualified(Ty::Array(element, None)));
     };
@@ -159,7 +159,7 @@ pub fn function(
         params,
         variadic,
     };
-    Ok(unqualified(Ty::Function(Boxed::new(alloc, f)?)))
+    Ok(unqualified(Ty::Function(Shared::new(alloc, f)?)))
 }
 
 /// Whether the declarator is a name alone.
@@ -193,7 +193,7 @@ fn adjusted(alloc: Global, qual: Qual) -> Result<Qual, TypeFault> {
         Ty::Array(element, _) => Ok(unqualified(Ty::Pointer(element))),
         Ty::Function(f) => {
             let target = unqualified(Ty::Function(f));
-            Ok(unqualified(Ty::Pointer(Boxed::new(alloc, target)?)))
+            Ok(unqualified(Ty::Pointer(Shared::new(alloc, target)?)))
         }
         ty => Ok(Qual { ty, constant }),
     }

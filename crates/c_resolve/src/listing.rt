@@ -5,7 +5,7 @@ use crate::zeros::{DEEPEST, MOST_PARTS, Zeros, add_zeros, push_runs};
 use c_express::{Operand, leaf, stored, with_child};
 use c_scope::{State, TypeFault, placed};
 use c_typed::{Constant, Node, Slot, Typed};
-use c_types::{Qual, Ty, copied, copied_qual};
+use c_types::{Qual, Shared, Ty, copied, copied_qual};
 use std::alloc::Global;
 use ub_base::{Boxed, Items, NoMemory};
 
@@ -57,7 +57,7 @@ pub fn taken_ranges(
 
 /// A pointer to an object of this type.
 pub fn pointer_to(alloc: Global, qual: Qual) -> Result<Ty, NoMemory> {
-    Ok(Ty::Pointer(Boxed::new(alloc, qual)?))
+    Ok(Ty::Pointer(Shared::new(alloc, qual)?))
 }
 
 /// The place of an object.

@@ -4,9 +4,9 @@ use c_express::{Operand, integer, leaf, place, value};
 use c_lit::{LitFault, char_value, int_value, string_bytes};
 use c_scope::{Source, State, TypeFault};
 use c_typed::Node;
-use c_types::{IntKind, Qual, Ty};
+use c_types::{IntKind, Qual, Shared, Ty};
 use std::alloc::Global;
-use ub_base::{Boxed, Bytes};
+use ub_base::Bytes;
 
 fn literal_fault(source: &Source<'_>, at: u32, fault: LitFault) -> TypeFault {
     match fault {
@@ -60,7 +60,7 @@ fn array_of_char(alloc: Global, count: u64) -> Result<Ty, TypeFault> {
         ty: Ty::Int(IntKind::Char),
         constant: false,
     };
-    Ok(Ty::Array(Boxed::new(alloc, element)?, Some(count)))
+    Ok(Ty::Array(Shared::new(alloc, element)?, Some(count)))
 }
 
 /// String literals as an expression: an array of `char` with static storage (6.4.5p6).
@@ -77,7 +77,7 @@ pub fn strings(
         constant: false,
     };
     let number = state.add_literal(bytes)?;
-    let ty = Ty::Pointer(Boxed::new(alloc, array)?);
+    let ty = Ty::Pointer(Shared::new(alloc, array)?);
     let tree = leaf(alloc, Node::Str(number), ty, source.line(first));
     Ok(place(tree, false))
 }

@@ -1,8 +1,8 @@
 // The library functions of the profile and their types (7.21, 7.22, 7.24).
 
-use c_types::{FuncTy, IntKind, LibFunc, Qual, Ty};
+use c_types::{FuncTy, IntKind, LibFunc, Qual, Shared, Ty};
 use std::alloc::Global;
-use ub_base::{Boxed, Items, NoMemory};
+use ub_base::{Items, NoMemory};
 
 const NAMES: [(&[u8], LibFunc); 18] = [
     (b"malloc", LibFunc::Malloc),
@@ -52,7 +52,7 @@ enum Simple {
 }
 
 fn pointer(alloc: Global, ty: Ty, constant: bool) -> Result<Ty, NoMemory> {
-    Ok(Ty::Pointer(Boxed::new(alloc, Qual { ty, constant })?))
+    Ok(Ty::Pointer(Shared::new(alloc, Qual { ty, constant })?))
 }
 
 fn made(alloc: Global, simple: Simple) -> Result<Ty, NoMemory> {

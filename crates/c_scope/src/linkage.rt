@@ -5,9 +5,9 @@ use crate::rows::{FunctionRow, Meaning, ObjectRow};
 use crate::{Source, State, TypeFault};
 use c_express::same_type;
 use c_typed::{Slot, Target};
-use c_types::{FuncTy, LibFunc, Qual, Ty, compatible, composite, copied, copied_qual};
+use c_types::{FuncTy, LibFunc, Qual, Shared, Ty, compatible, composite, copied, copied_qual};
 use std::alloc::Global;
-use ub_base::{Boxed, Items, NoMemory};
+use ub_base::{Items, NoMemory};
 
 /// How a declaration gives linkage: `static` at file scope; nothing at file scope; `extern`.
 #[derive(Clone, Copy, Debug, PartialEq, Eq)]
@@ -29,7 +29,7 @@ fn joined_quals(alloc: Global, old: &Qual, new: &Qual) -> Result<Option<Qual>, N
 }
 
 fn function_type(alloc: Global, ty: FuncTy) -> Result<Ty, NoMemory> {
-    Ok(Ty::Function(Boxed::new(alloc, ty)?))
+    Ok(Ty::Function(Shared::new(alloc, ty)?))
 }
 
 /// A copy of the function type.

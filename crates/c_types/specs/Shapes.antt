@@ -53,3 +53,7 @@ abbrev mutual
 -- a scalar type suits a declared object at an offset
 abbrev pub Suits : CType → Form → ℕ → Type 0
 Suits a form at = IsTrue (is_character a) ⊎ LeafAgrees a form at
+
+-- the same of one part at its offset
+abbrev pub PlacedAgrees : CType → Put → ℕ → Type 0
+PlacedAgrees a p at = (p.offset ≤ at) × LeafAgrees a p.part (at - p.offset)

@@ -2,9 +2,9 @@
 ghost use Rattle.std.specs.Prelude.{◌≡◌, IfOk, map, slice_get};
 ghost use Rattle.c_types.specs.Types.{CType, Compatible, type_of, qualified_of, signature_of, params_of, known_count, composite, composites, composite_qualified, composite_signature, composite_param};
 
-use crate::{FuncTy, Qual, Ty, copied, copied_qual};
+use crate::{FuncTy, Qual, Shared, Ty, copied, copied_qual};
 use std::alloc::Global;
-use ub_base::{Boxed, Items, NoMemory};
+use ub_base::{Items, NoMemory};
 
 fn known_count(m: Option<u64>, n: Option<u64>) -> Option<u64>
     ensures { result ≡ known_count m n }
@@ -24,21 +24,21 @@ pub fn composite(alloc: Global, a: &Ty, b: &Ty) -> Result<Ty, NoMemory>
         Ty::Pointer(x) => match b {
             Ty::Pointer(y) => {
                 let target = composite_qual(alloc, x.get(), y.get())?;
-                Ok(Ty::Pointer(Boxed::new(alloc, target)?))
+                Ok(Ty::Pointer(Shared::new(alloc, target)?))
             }
             _ => copied(alloc, a),
         },
         Ty::Array(x, m) => match b {
             Ty::Array(y, n) => {
                 let element = composite_qual(alloc, x.get(), y.get())?;
-                Ok(Ty::Array(Boxed::new(alloc, element)?, known_count(*m, *n)))
+                Ok(Ty::Array(Shared::new(alloc, element)?, known_count(*m, *n)))
             }
             _ => copied(alloc, a),
         },
         Ty::Function(f) => match b {
             Ty::Function(g) => {
                 let function = composite_function(alloc, f.get(), g.get())?;
-                Ok(Ty::Function(Boxed::new(alloc, function)?))
+                Ok(Ty::Function(Shared::new(alloc, function)?))
             }
             _ => copied(alloc, a),
         },

@@ -41,7 +41,7 @@ impl Shape {
     }
 }
 
-ghost use Rattle.c_types.specs.Shapes.{form_of, put_of, forms_of, LeafAgrees, SomeAgrees};
+ghost use Rattle.c_types.specs.Shapes.{form_of, put_of, forms_of, LeafAgrees, SomeAgrees, PlacedAgrees};
 
 // Whether some scalar that begins at the offset agrees with the type.
 #[cycle(leaf)]
@@ -61,9 +61,18 @@ fn leaf_agrees(ty: &Ty, shape: &Shape, at: u64) -> bool
 fn some_agrees(ty: &Ty, parts: &[Placed], at: u64) -> bool
     ensures { IsTrue result ↔ SomeAgrees (type_of ty.now) (forms_of (map put_of parts.now)) at }
 {
-    let Some((first, rest)) = parts.split_first() else {
-        return false;
-    };
-    let here = first.offset <= at && leaf_agrees(ty, &first.part, at - first.offset);
-    here || some_agrees(ty, rest, at)
+    for placed in parts {
+        if placed_agrees(ty, placed, at) {
+            return true;
+        }
+    }
+    false
+}
+
+// The same of one part.
+#[cycle(leaf)]
+fn placed_agrees(ty: &Ty, placed: &Placed, at: u64) -> bool
+    ensures { IsTrue result ↔ PlacedAgrees (type_of ty.now) (put_of placed.now) at }
+{
+    placed.offset <= at && leaf_agrees(ty, &placed.part, at - placed.offset)
 }

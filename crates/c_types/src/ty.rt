@@ -1,21 +1,21 @@
 // The types of the profile (6.2.5, 6.7).
 
-use crate::IntKind;
-use ub_base::{Boxed, Items};
+use crate::{IntKind, Shared};
+use ub_base::Items;
 
-/// A type without its top qualifiers. A `u32` is the number of a tag, or of an enumeration.
+/// A type without its top qualifiers. Copies share their parts. A `u32` is the number of a tag, or of an enumeration.
 #[cycle(ty)]
 #[derive(Drop)]
 pub enum Ty {
     Void,
     Int(IntKind),
     Enum(u32),
-    Pointer(Boxed<Qual>),
+    Pointer(Shared<Qual>),
     /// Its element and, where it is known, the count of them.
-    Array(Boxed<Qual>, Option<u64>),
+    Array(Shared<Qual>, Option<u64>),
     Struct(u32),
     Union(u32),
-    Function(Boxed<FuncTy>),
+    Function(Shared<FuncTy>),
 }
 
 /// A type with its top qualifier.

@@ -3,7 +3,7 @@
 use crate::storage::{fillings, pointer_to, written, zeros};
 use crate::values::Pointer;
 use c_typed::{Program, Static};
-use c_types::{Extent, IntKind, Qual, Shape, Tags, Ty};
+use c_types::{Extent, IntKind, Qual, Shape, Shared, Tags, Ty};
 use layout::shape;
 use prov_memory::{Block, CreateFault, Memory, ObjKind, Touched, Value, Via};
 use std::alloc::Global;
@@ -306,12 +306,12 @@ pub fn arguments(
     Ok(vector)
 }
 
-fn any_character(alloc: Global) -> Result<Boxed<Qual>, NoMemory> {
+fn any_character(alloc: Global) -> Result<Shared<Qual>, NoMemory> {
     let qual = Qual {
         ty: Ty::Int(IntKind::Char),
         constant: false,
     };
-    Ok(Boxed::new(alloc, qual)?)
+    Ok(Shared::new(alloc, qual)?)
 }
 
 fn create_argument(

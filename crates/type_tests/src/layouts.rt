@@ -1,9 +1,9 @@
 // Sizes, alignments and offsets as gcc gives them on x86-64 (`sizeof`, `_Alignof`, `offsetof`), members by name, and scalars.
 use c_types::IntKind::*;
-use c_types::{IntKind, Member, Qual, TagKind, Tags, Ty};
+use c_types::{IntKind, Member, Qual, Shared, TagKind, Tags, Ty};
 use layout::{align, find, offset_of, scalars_at, size};
 use std::alloc::{AllocError, Global};
-use ub_base::{Boxed, Bytes, Items, NoMemory};
+use ub_base::{Bytes, Items, NoMemory};
 
 /// The type of a member; a structure or union is the number of its row.
 #[derive(Clone, Copy)]
@@ -227,11 +227,11 @@ fn plain(ty: Ty) -> Qual {
 }
 
 fn array(alloc: Global, element: Ty, count: u64) -> Result<Ty, NoMemory> {
-    Ok(Ty::Array(Boxed::new(alloc, plain(element))?, Some(count)))
+    Ok(Ty::Array(Shared::new(alloc, plain(element))?, Some(count)))
 }
 
 fn pointer(alloc: Global, target: Ty) -> Result<Ty, NoMemory> {
-    Ok(Ty::Pointer(Boxed::new(alloc, plain(target))?))
+    Ok(Ty::Pointer(Shared::new(alloc, plain(target))?))
 }
 
 fn inner(row: u32) -> Ty {

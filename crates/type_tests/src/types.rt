@@ -1,8 +1,8 @@
 // Compatible, agreeing and composite types. The expected answers are those of ISO/IEC 9899:2011: the examples of 6.2.7p5, 6.7.3p10,
 // 6.7.6.1p2 and 6.7.6.2p6 in the profile, and the paragraphs that rows name.
-use c_types::{FuncTy, IntKind, Qual, Ty, agrees, compatible, composite};
+use c_types::{FuncTy, IntKind, Qual, Shared, Ty, agrees, compatible, composite};
 use std::alloc::Global;
-use ub_base::{Boxed, Items, NoMemory};
+use ub_base::{Items, NoMemory};
 
 // A type is written from the inside out: `i` int, `u` unsigned int, `l` long, `s` short, `c` char, `C` unsigned char, `v` void,
 // `e` and `f` two enumerations, `S` and `T` two structures, `U` a union; `k` makes const; `*` a pointer, `3` and `4` an array of so many,
@@ -39,7 +39,7 @@ fn function(
         params.push(last)?;
         popped(stack).ty
     };
-    Ok(Ty::Function(Boxed::new(
+    Ok(Ty::Function(Shared::new(
         alloc,
         FuncTy {
             result,
@@ -72,10 +72,10 @@ fn step(alloc: Global, stack: &mut Items<Qual>, letter: u8) -> Result<(), NoMemo
             ty: popped(stack).ty,
             constant: true,
         },
-        b'*' => plain(Ty::Pointer(Boxed::new(alloc, popped(stack))?)),
-        b'3' => plain(Ty::Array(Boxed::new(alloc, popped(stack))?, Some(3))),
-        b'4' => plain(Ty::Array(Boxed::new(alloc, popped(stack))?, Some(4))),
-        b'?' => plain(Ty::Array(Boxed::new(alloc, popped(stack))?, None)),
+        b'*' => plain(Ty::Pointer(Shared::new(alloc, popped(stack))?)),
+        b'3' => plain(Ty::Array(Shared::new(alloc, popped(stack))?, Some(3))),
+        b'4' => plain(Ty::Array(Shared::new(alloc, popped(stack))?, Some(4))),
+        b'?' => plain(Ty::Array(Shared::new(alloc, popped(stack))?, None)),
         b'0' => plain(function(alloc, stack, 0, false)?),
         b'1' => plain(function(alloc, stack, 1, false)?),
         b'2' => plain(function(alloc, stack, 2, false)?),
