@@ -1,5 +1,10 @@
 // The terms of all full expressions, in the order of the text.
 
+ghost use Rattle.std.specs.Prelude.{◌≡◌, ◌++◌, map, IfOk, OnOk};
+ghost use Rattle.core_ir.specs.Term.{term_of};
+ghost use Rattle.elaborate.specs.Terms.{capped_for};
+ghost use Rattle.elaborate.specs.Expressions.{own_trees, full_trees, option_trees, body_trees, block_trees, program_trees};
+
 use crate::expression::term;
 use c_typed::{Block, Body, Entry, ForStart, Node, Program, Typed};
 use core_ir::{Core, CoreProgram, Cores};
@@ -21,13 +26,17 @@ pub fn elaborate(alloc: Global, p: &Program) -> Result<CoreProgram, NoMemory> {
 }
 
 // A full expression, and then the trees of the isolated initializers in it.
-fn full(alloc: Global, root: &Typed, terms: &mut Items<Core>) -> Result<(), NoMemory> {
+fn full(alloc: Global, root: &Typed, terms: &mut Items<Core>) -> Result<(), NoMemory>
+    ensures { OnOk result (map term_of terms.new ≡ map term_of terms.old ++ map (capped_for 0) (full_trees root.now)) }
+{
     let whole = term(alloc, root, 0)?;
     terms.push(whole.core)?;
     isolated(alloc, root, terms)
 }
 
-fn isolated(alloc: Global, root: &Typed, terms: &mut Items<Core>) -> Result<(), NoMemory> {
+fn isolated(alloc: Global, root: &Typed, terms: &mut Items<Core>) -> Result<(), NoMemory>
+    ensures { OnOk result (map term_of terms.new ≡ map term_of terms.old ++ map (capped_for 0) (own_trees root.now)) }
+{
     if let Node::Isolated(tree) = &root.node {
         let tree = tree.get();
         let whole = term(alloc, tree, 0)?;
@@ -40,7 +49,9 @@ fn isolated(alloc: Global, root: &Typed, terms: &mut Items<Core>) -> Result<(), 
     Ok(())
 }
 
-fn optional(alloc: Global, root: &Option<Typed>, terms: &mut Items<Core>) -> Result<(), NoMemory> {
+fn optional(alloc: Global, root: &Option<Typed>, terms: &mut Items<Core>) -> Result<(), NoMemory>
+    ensures { OnOk result (map term_of terms.new ≡ map term_of terms.old ++ map (capped_for 0) (option_trees root.now)) }
+{
     match root {
         Some(root) => full(alloc, root, terms),
         None => Ok(()),
@@ -48,7 +59,9 @@ fn optional(alloc: Global, root: &Option<Typed>, terms: &mut Items<Core>) -> Res
 }
 
 #[cycle(statement)]
-fn statement(alloc: Global, body: &Body, terms: &mut Items<Core>) -> Result<(), NoMemory> {
+fn statement(alloc: Global, body: &Body, terms: &mut Items<Core>) -> Result<(), NoMemory>
+    ensures { OnOk result (map term_of terms.new ≡ map term_of terms.old ++ map (capped_for 0) (body_trees body.now)) }
+{
     match body {
         Body::Simple(root) | Body::Return(root) => optional(alloc, root, terms),
         Body::Block(inner) => block(alloc, inner, terms),
@@ -91,7 +104,9 @@ fn statement(alloc: Global, body: &Body, terms: &mut Items<Core>) -> Result<(), 
 }
 
 #[cycle(statement)]
-fn block(alloc: Global, block: &Block, terms: &mut Items<Core>) -> Result<(), NoMemory> {
+fn block(alloc: Global, block: &Block, terms: &mut Items<Core>) -> Result<(), NoMemory>
+    ensures { OnOk result (map term_of terms.new ≡ map term_of terms.old ++ map (capped_for 0) (block_trees block.now)) }
+{
     for entry in block.entries.as_slice() {
         match entry {
             Entry::Statement(inner) => statement(alloc, inner, terms)?,
