@@ -5,6 +5,7 @@ use Rattle.ub_base.specs.declared.clause.Kind.TheVariants.{Val, Eff, Body}
 use Rattle.c_typed.specs.declared.tree.Place.{Place}
 use Rattle.c_typed.specs.Order.{Taken, place, same_place, has, is_number}
 use Rattle.core_ir.specs.declared.term.Core.{Core, fold-Core}
+use Rattle.core_ir.specs.declared.term.Cores.{Cores, fold-Cores}
 use Rattle.core_ir.specs.declared.term.Core.TheOpen.{Core-F, Cores-F}
 
 mutual
@@ -100,3 +101,7 @@ abbrev mutual
 pub data Ordered (term : Term) (taken : Taken) : Place → Place → Type 0 where
   rule : (u v : Place) → IsTrue (has (listing taken term) u) → IsTrue (has (listing taken term) v) → IsTrue (orders taken term u v) → Ordered term taken u v
   chain : (u v w : Place) → Ordered term taken u v → Ordered term taken v w → Ordered term taken u w
+
+-- the terms that code holds
+abbrev pub terms_of : Cores → Terms
+terms_of = fold-Cores Term Terms core_step cores_step

@@ -1,9 +1,8 @@
 -- What lists of terms gain.
-use Rattle.std.proofs.Common.{◌≡◌, ℕ, suc, ◌+◌, ◌<◌, List, [], ◌∷◌, ◌++◌, map, length, get_or, drop, drop-cons, add-one, Option, Some, None, refl, sym, ap, ◌∙◌, append_assoc, append-nil}
+use Rattle.std.proofs.Common.{◌≡◌, List, [], ◌∷◌, ◌++◌, map, sym, ap, ◌∙◌, append_assoc, append-nil}
 use Rattle.std.proofs.lemmas.List.{map-append}
-use Rattle.std.proofs.lemmas.Result.{IfOk-equal}
 use Rattle.core_ir.specs.declared.term.Core.{Core}
-use Rattle.core_ir.specs.Term.{Term, term_of}
+use Rattle.core_ir.specs.Term.{term_of}
 use Rattle.c_typed.specs.Tree.{Tree}
 use Rattle.elaborate.specs.Terms.{capped_for}
 use Rattle.elaborate.specs.Expressions.{joined}

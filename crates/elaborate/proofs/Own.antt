@@ -5,7 +5,7 @@ use Rattle.c_typed.specs.declared.tree.Node.{Node, para-Node, para-roll-Node, ma
 use Rattle.c_typed.specs.declared.tree.Node.TheOpen as shape
 use Rattle.c_typed.specs.declared.tree.Node.TheOpen.{Node-F}
 use Rattle.c_typed.specs.declared.tree.Node.TheVariants as nodes
-use Rattle.c_typed.specs.declared.tree.Typed.{Typed, out-Typed, roll-out-Typed, para-Typed, para-roll-Typed}
+use Rattle.c_typed.specs.declared.tree.Typed.{Typed, out-Typed, roll-out-Typed, para-roll-Typed}
 use Rattle.c_typed.specs.Tree.{Tree, tree_of}
 use Rattle.core_ir.specs.declared.term.Core.{Core}
 use Rattle.core_ir.specs.Term.{term_of}

@@ -1,6 +1,6 @@
 -- The full expressions of a program in the order of the text, the own tree of each listed initializer after the expression
 -- that holds it (6.8p4, 6.7.9p23).
-use Rattle.std.specs.Prelude.{ℕ, List, [], ◌∷◌, ◌++◌, map, Option, Some, None}
+use Rattle.std.specs.Prelude.{List, [], ◌∷◌, ◌++◌, map, Option, Some, None}
 use Rattle.c_typed.specs.declared.tree.Node.{Node}
 use Rattle.c_typed.specs.declared.tree.Node.TheOpen as shape
 use Rattle.c_typed.specs.declared.tree.Node.TheOpen.{Node-F, Typed-F}

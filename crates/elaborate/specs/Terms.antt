@@ -4,7 +4,6 @@ use Rattle.ub_base.specs.declared.clause.Kind.TheVariants.{Val, Eff}
 use Rattle.c_typed.specs.declared.class.Class.{Class}
 use Rattle.c_typed.specs.declared.class.Class.TheVariants.{Object, Constant, Plain, Store, Update, Choice, Comma, Call, Isolated}
 use Rattle.c_typed.specs.Tree.{Tree, node, Trees, none, more, size}
-use Rattle.core_ir.specs.Term as term
 use Rattle.core_ir.specs.Term.{Term, pure, act, unseq, weak, strong, choose, atomic, indet, invoke, terms_from}
 
 abbrev pub value : ℕ → Term

@@ -33,12 +33,7 @@ pub fn term(alloc: Global, root: &Typed, number: u32) -> Result<Numbered, NoMemo
 }
 
 // The term of a node from those of its operands.
-fn joined(
-    alloc: Global,
-    class: Class,
-    number: u32,
-    parts: Items<Core>,
-) -> Result<Core, NoMemory>
+fn joined(alloc: Global, class: Class, number: u32, parts: Items<Core>) -> Result<Core, NoMemory>
     ensures { IfOk result (λ core. term_of core ≡ node_term number class (map term_of parts)) }
 {
     match class {

@@ -1,4 +1,4 @@
-use Rattle.std.proofs.Common.{◌≡◌, [], ◌∷◌, ◌++◌, length, ap, sym, ◌∙◌, arith}
+use Rattle.std.proofs.Common.{[], ◌∷◌, ◌++◌, length, ap, sym, ◌∙◌, arith}
 use Rattle.core_ir.specs.Term.{term_of}
 use Rattle.elaborate.proofs.Operands.{comma_none, comma_first, comma_next}
 use Rattle.elaborate.proofs.expression.comma.Goals as goal
