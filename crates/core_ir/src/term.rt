@@ -24,8 +24,9 @@ pub enum Core {
     Weak(Boxed<Core>, Boxed<Core>),
     /// All of the first part, its effects too, comes before all of the second.
     Strong(Boxed<Core>, Boxed<Core>),
-    /// The first operand of an And, Or or Cond, then the first continuation where the second operand is evaluated, and
-    /// the other one elsewhere (6.5.13 to 6.5.15).
+    /// The first operand of an And, Or or Cond, and a continuation for each operand that may be evaluated next: the second,
+    /// and the third of a Cond. All of the first operand comes before the continuation that is taken and before the value of
+    /// the node (6.5.13p4, 6.5.14p4, 6.5.15p4); where none is taken it orders nothing.
     Choose(u32, Boxed<Core>, Boxed<Core>, Boxed<Core>),
     /// An update, whose halves no body may come between (6.5.2.4p2, 6.5.16.2p3).
     Atomic(Boxed<Core>),

@@ -1,0 +1,3 @@
+pub mod Expressions
+pub mod Formed
+pub mod Terms

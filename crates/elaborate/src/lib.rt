@@ -2,6 +2,8 @@
 #![tactic(auto)]
 
 mod expression;
+mod laws;
 mod program;
 
+pub use laws::law_listing;
 pub use program::elaborate;

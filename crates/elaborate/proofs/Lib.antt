@@ -1,0 +1,5 @@
+pub mod Capped
+pub mod Grown
+pub mod Listed
+pub mod Operands
+pub mod Own
