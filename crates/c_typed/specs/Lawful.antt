@@ -396,9 +396,13 @@ library_type libc.Printf = record { result = int Int; params = taking (const_tex
 library_type libc.Exit = fixed void (int Int ∷ [])
 library_type libc.Abort = fixed void []
 
--- a library function isn't defined, and has a type compatible with the library's
+-- a library function isn't defined (7.1.3p2)
+abbrev pub IsExternal : Function → Type 0
+IsExternal f = Where (λ l. f.body ≡ None) f.library
+
+-- its type is compatible with the library's (7.1.4p2)
 abbrev pub LibraryFits : Function → LibFunc → Type 0
-LibraryFits f l = (f.body ≡ None) × SameSignature false (library_type l) (signature_of f.ty)
+LibraryFits f l = SameSignature false (library_type l) (signature_of f.ty)
 
 -- the body block begins with the parameters
 abbrev pub StartsWith : Params → List Qualified → Type 0
@@ -454,6 +458,10 @@ SuitsType p t _ = Unit {0}
 abbrev pub ContentSuits : Program → Scalar → Constant → Type 0
 ContentSuits p scalar c = scalar.offset ≡ c.at → SuitsType p scalar.ty c.content
 
+-- the object's type is complete (6.9.2p3)
+abbrev pub IsComplete : List Tag → Static → Type 0
+IsComplete tags s = IsSome (extent (extents tags) (qualified_of s.qual).ty)
+
 pub record StaticIsLawful (p : Program) (s : Static) : Type 0 where
   pub sized : IsSized p.tags (qualified_of s.qual).ty
   pub fits : PartsFit (size_of p.tags (qualified_of s.qual).ty) s.constants
@@ -471,23 +479,45 @@ abbrev pub IsMainType : Signature → Type 0
 IsMainType f =
     (f ≡ fixed (int Int) []) ⊎ ((f.result ≡ int Int) × (f.variadic ≡ false) × HasArguments f.params)
 
--- `main` is there, has a body, and one of its two types (5.1.2.2.1p1)
-abbrev pub MainIsLawful : Program → Type 0
-MainIsLawful p = There (slice_get p.functions p.main) (λ f. HasBody f × IsMainType (signature_of f.ty))
+-- `main` is there and has a body (5.1.2.2.1p1)
+abbrev pub HasMain : Program → Type 0
+HasMain p = There (slice_get p.functions p.main) HasBody
+
+-- it has one of its two types (5.1.2.2.1p1)
+abbrev pub MainHasType : Program → Type 0
+MainHasType p = There (slice_get p.functions p.main) (λ f. IsMainType (signature_of f.ty))
+
+-- no library function is defined
+abbrev pub LibraryIsExternal : Program → Type 0
+LibraryIsExternal p = All IsExternal p.functions
 
 -- a string literal has its closing zero at least (6.4.5p6)
 abbrev pub HasBytes : List ℕ → Type 0
 HasBytes bytes = 0 < length bytes
 
+abbrev pub LiteralsHaveBytes : Program → Type 0
+LiteralsHaveBytes p = All HasBytes p.literals
+
+-- each object with static storage has a complete type
+abbrev pub StaticsAreComplete : Program → Type 0
+StaticsAreComplete p = All (IsComplete p.tags) p.statics
+
+-- what a u32 numbers is fewer than 2^32 (own)
+pub record IsNumbered (p : Program) : Type 0 where
+  pub functions : length p.functions < 2 ^ 32
+  pub statics : length p.statics < 2 ^ 32
+  pub literals : length p.literals < 2 ^ 32
+  pub tags : length p.tags < 2 ^ 32
+
 pub record IsLawful (p : Program) : Type 0 where
+  pub main : HasMain p
+  pub main_type : MainHasType p
   pub functions : All (FunctionIsLawful p) p.functions
+  pub library : LibraryIsExternal p
+  pub literals : LiteralsHaveBytes p
+  pub complete : StaticsAreComplete p
   pub statics : All (StaticIsLawful p) p.statics
-  pub literals : All HasBytes p.literals
-  pub main : MainIsLawful p
-  pub few_functions : length p.functions < 2 ^ 32
-  pub few_statics : length p.statics < 2 ^ 32
-  pub few_literals : length p.literals < 2 ^ 32
-  pub few_tags : length p.tags ≤ 2 ^ 32
+  pub numbered : IsNumbered p
 
 -- a program without functions has no `main`
 abbrev pub NoMainIsUnlawful : Type 0
