@@ -2,3 +2,5 @@ pub mod Tree
 pub mod Order
 pub mod Decide
 pub mod Height
+pub mod Sites
+pub mod Lawful

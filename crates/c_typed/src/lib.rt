@@ -3,11 +3,13 @@
 
 mod class;
 mod heights;
+mod laws;
 mod program;
 mod statement;
 mod tree;
 
 pub use class::{Class, class_of, size};
+pub use laws::law_no_main;
 pub use heights::{body_height, height, height_of, tree_height};
 pub use program::{Constant, Content, Function, Program, Static};
 pub use statement::{Block, Body, Entry, ForStart};

@@ -1,0 +1,524 @@
+-- Which programs are lawful: what all that runs may rely on (5.1.2.2.1, 6.2 to 6.9; the parts that say so are own).
+use Rattle.std.specs.Prelude.{◌≡◌, ◌≢◌, ℕ, ◌+◌, ◌*◌, ◌%◌, ◌^◌, ◌<◌, ◌≤◌, ℤ, pos, Bool, true, false, ◌⊎◌, IsTrue, IsSome, List, [], ◌∷◌, ◌++◌, map, length, slice_get, Option, Some, None, if◌then◌else◌, nat_le, ◌==◌}
+use Rattle.std.specs.List.{All, AllPairs, Contains, sum}
+use Rattle.c_types.specs.Kinds.{holds, promoted}
+use Rattle.c_types.specs.Types.{CType, void, int, enumeration, pointer, array, struct, union, function, Params, none, more, Qualified, Signature, type_of, qualified_of, signature_of, kind_of, Compatible, SameSignature}
+use Rattle.c_types.specs.Layout.{extent, extents, size_of, align_of}
+use Rattle.c_types.specs.Leaves.{Scalar, scalars}
+use Rattle.c_types.specs.declared.kind.IntKind.{IntKind}
+use Rattle.c_types.specs.declared.kind.IntKind.TheVariants.{Bool as Boolean, Char, Int, Long, ULong}
+use Rattle.c_types.specs.declared.kind.BinOp.{BinOp}
+use Rattle.c_types.specs.declared.kind.BinOp.TheVariants.{Shl, Shr}
+use Rattle.c_types.specs.declared.library.LibFunc.{LibFunc}
+use Rattle.c_types.specs.declared.library.LibFunc.TheVariants as libc
+use Rattle.c_types.specs.declared.tags.Extent.{Extent}
+use Rattle.c_types.specs.declared.tags.Tag.{Tag}
+use Rattle.c_types.specs.declared.tags.Member.{Member}
+use Rattle.c_typed.specs.declared.tree.Slot.{Slot}
+use Rattle.c_typed.specs.declared.tree.Slot.TheVariants as slot
+use Rattle.c_typed.specs.declared.tree.Target.{Target}
+use Rattle.c_typed.specs.declared.tree.Target.TheVariants as target
+use Rattle.c_typed.specs.declared.tree.Access.{Access}
+use Rattle.c_typed.specs.declared.tree.Access.TheVariants as access
+use Rattle.c_typed.specs.declared.tree.Conversion.{Conversion}
+use Rattle.c_typed.specs.declared.tree.Conversion.TheVariants as conversion
+use Rattle.c_typed.specs.declared.tree.UnOp.{UnOp}
+use Rattle.c_typed.specs.declared.tree.UnOp.TheVariants as unary
+use Rattle.c_typed.specs.declared.tree.Change.{Change}
+use Rattle.c_typed.specs.declared.tree.Change.TheVariants as change
+use Rattle.c_typed.specs.declared.tree.Node.TheOpen as shape
+use Rattle.c_typed.specs.declared.statement.Body.{Body}
+use Rattle.c_typed.specs.declared.statement.Body.TheVariants as body
+use Rattle.c_typed.specs.declared.program.Content.{Content}
+use Rattle.c_typed.specs.declared.program.Content.TheVariants as content
+use Rattle.c_typed.specs.declared.program.Constant.{Constant}
+use Rattle.c_typed.specs.declared.program.Static.{Static}
+use Rattle.c_typed.specs.declared.program.Function.{Function}
+use Rattle.c_typed.specs.declared.program.Program.{Program}
+use Rattle.c_typed.specs.Height.{function_height}
+use Rattle.c_typed.specs.Sites.{Head, Site, sites, type_at, Use, unused, tested, selects, returned, initializes, Blocks, Expression, expressions, BlockRow, SwitchRow, Summary, summary}
+
+-- what holds of each value that may be left out, where it is there
+abbrev pub Where : {A : Type 0} → (A → Type 0) → Option A → Type 0
+Where P None = Unit {0}
+Where P (Some x) = P x
+
+-- it is there, and this holds of it
+abbrev pub There : {A : Type 0} → Option A → (A → Type 0) → Type 0
+There None P = ⊥
+There (Some x) P = P x
+
+abbrev pub object_of_static : Option Static → Option Qualified
+object_of_static None = None
+object_of_static (Some s) = Some (qualified_of s.qual)
+
+abbrev pub object_of_block : Option (List Qualified) → ℕ → Option Qualified
+object_of_block None decl = None
+object_of_block (Some objects) decl = slice_get objects decl
+
+-- an object that the text names: with static storage, or of a block round the place (6.2.1, 6.2.4)
+abbrev pub object_at : Program → Blocks → Slot → Option Qualified
+object_at p blocks (slot.Static number) = object_of_static (slice_get p.statics number)
+object_at p blocks (slot.Auto block decl) = object_of_block (blocks block) decl
+
+-- 1. What a node names is there.
+
+abbrev pub HasBody : Function → Type 0
+HasBody f = IsSome f.body
+
+-- a function that something names is defined, or the library's (6.9p3, 6.9p5)
+abbrev pub CanBeCalled : Function → Type 0
+CanBeCalled f = HasBody f ⊎ IsSome f.library
+
+abbrev pub NamesThere : Program → Blocks → Head → Type 0
+NamesThere p blocks (shape.Obj slot) = IsSome (object_at p blocks slot)
+NamesThere p blocks (shape.Func number) = There (slice_get p.functions number) CanBeCalled
+NamesThere p blocks (shape.Str number) = number < length p.literals
+NamesThere p blocks (shape.List slot bytes) = IsSome (object_at p blocks slot)
+NamesThere p blocks _ = Unit {0}
+
+-- 2. The number of operands that each kind of node has.
+
+abbrev pub CountIs : Head → ℕ → Type 0
+CountIs (shape.Const z) n = n ≡ 0
+CountIs (shape.Obj slot) n = n ≡ 0
+CountIs (shape.Func number) n = n ≡ 0
+CountIs (shape.Str number) n = n ≡ 0
+CountIs (shape.Load access) n = n ≡ 1
+CountIs (shape.Conv c) n = n ≡ 1
+CountIs (shape.Un op) n = n ≡ 1
+CountIs (shape.Bin op kind) n = n ≡ 2
+CountIs (shape.PtrAdd size subtract) n = n ≡ 2
+CountIs (shape.PtrDiff size) n = n ≡ 2
+CountIs (shape.Rel op pointers) n = n ≡ 2
+CountIs (shape.Eq op) n = n ≡ 2
+CountIs (shape.Member offset) n = n ≡ 1
+CountIs (shape.Part offset access) n = n ≡ 1
+CountIs (shape.Assign initializing access) n = n ≡ 2
+-- `++` and `--` behind their operand have no second one
+CountIs (shape.Update change old) n = n ≡ (if old then 1 else 2)
+CountIs shape.And n = n ≡ 2
+CountIs shape.Or n = n ≡ 2
+CountIs shape.Cond n = n ≡ 3
+CountIs shape.Comma n = 2 ≤ n
+-- the designator stands before the arguments
+CountIs (shape.Call discarded) n = 1 ≤ n
+-- one for each listed expression
+CountIs (shape.List slot bytes) n = Unit {0}
+CountIs (shape.Isolated tree) n = n ≡ 0
+
+-- 3. The types of a node's value and of its operands (6.3, 6.5), and the values that it holds.
+
+-- a type whose values have bytes: complete, with 1 to 2^40 of them (own; no extent has more)
+abbrev pub IsSized : List Tag → CType → Type 0
+IsSized tags t = There (extent (extents tags) t) (λ e. 0 < e.size)
+
+abbrev pub IsScalar : CType → Type 0
+IsScalar (int kind) = Unit {0}
+IsScalar (enumeration tag) = Unit {0}
+IsScalar (pointer constant target) = Unit {0}
+IsScalar _ = ⊥
+
+abbrev pub IsInteger : CType → Type 0
+IsInteger t = IsSome (kind_of t)
+
+-- how a value of the type lies in memory
+abbrev pub AccessIs : List Tag → CType → Access → Type 0
+AccessIs tags (int kind) a = a ≡ access.Integer kind
+AccessIs tags (enumeration tag) a = a ≡ access.Integer Int
+AccessIs tags (pointer c (function r ps v)) a = a ≡ access.Function
+AccessIs tags (pointer c target) a = a ≡ access.Pointer
+AccessIs tags (struct tag) a = There (extent (extents tags) (struct tag)) (λ e. (0 < e.size) × (a ≡ access.Whole e.size e.align))
+AccessIs tags (union tag) a = There (extent (extents tags) (union tag)) (λ e. (0 < e.size) × (a ≡ access.Whole e.size e.align))
+AccessIs tags _ a = ⊥
+
+-- a pointer to an object of this type, or to the first element of one that is an array (6.3.2.1p3)
+abbrev pub PointsTo : CType → CType → Type 0
+PointsTo (pointer c t) (array d element count) = Compatible t (array d element count) ⊎ ((c ≡ d) × Compatible t element)
+PointsTo (pointer c t) object = Compatible t object
+PointsTo _ object = ⊥
+
+-- an integer that its type holds, or a null pointer (6.3.2.3p3)
+abbrev pub IsConstant : CType → ℤ → Type 0
+IsConstant (int kind) z = IsTrue (holds kind z)
+IsConstant (enumeration tag) z = IsTrue (holds Int z)
+IsConstant (pointer c t) z = z ≡ pos 0
+IsConstant _ z = ⊥
+
+-- the elements that a pointer steps over have so many bytes (6.5.6p8)
+abbrev pub StepsOver : List Tag → CType → ℕ → Type 0
+StepsOver tags (pointer c t) size = There (extent (extents tags) t) (λ e. (0 < e.size) × (e.size ≡ size))
+StepsOver tags _ size = ⊥
+
+-- a part of these many bytes at the offset lies in the other
+abbrev pub LiesIn : List Tag → ℕ → CType → CType → Type 0
+LiesIn tags offset part whole = IsSized tags part × (offset + size_of tags part ≤ size_of tags whole)
+
+abbrev pub IsTagged : CType → Type 0
+IsTagged (struct tag) = Unit {0}
+IsTagged (union tag) = Unit {0}
+IsTagged _ = ⊥
+
+-- a member of what the pointer points to: it lies in it, and what the value points to is that part, or its first element
+abbrev pub MemberOf : List Tag → ℕ → CType → CType → Type 0
+MemberOf tags offset (pointer c part) (pointer d whole) = LiesIn tags offset part whole
+MemberOf tags offset _ _ = ⊥
+
+abbrev pub IsFunctionType : CType → Type 0
+IsFunctionType (function r ps v) = Unit {0}
+IsFunctionType _ = ⊥
+
+abbrev pub NoFunction : CType → Type 0
+NoFunction t = IsFunctionType t → ⊥
+
+-- a conversion between scalar types that aren't equal (6.3.1, 6.3.2.3)
+abbrev pub Converts : List Tag → Conversion → CType → CType → Type 0
+Converts tags (conversion.Integer kind) from to = IsInteger from × (kind_of to ≡ Some kind)
+Converts tags (conversion.Address kind) (pointer c t) to = NoFunction t × (kind_of to ≡ Some kind) × (kind ≢ Boolean)
+Converts tags conversion.NotNull (pointer c t) to = NoFunction t × (to ≡ int Boolean)
+Converts tags conversion.Lookup from (pointer c t) = IsInteger from × NoFunction t
+Converts tags (conversion.Pointer align) (pointer c s) (pointer d t) = NoFunction s × NoFunction t
+Converts tags conversion.Function (pointer c s) (pointer d t) = IsFunctionType s × IsFunctionType t
+Converts tags _ from to = ⊥
+
+abbrev pub is_shift : BinOp → Bool
+is_shift Shl = true
+is_shift Shr = true
+is_shift _ = false
+
+-- of a shift the right operand keeps its own promoted type (6.5.7p3)
+abbrev pub RightIs : (shift : Bool) → IntKind → CType → Type 0
+RightIs true kind right = IsInteger right
+RightIs false kind right = right ≡ int kind
+
+-- no operand that is worked with has a type below `int` (6.3.1.1p2)
+abbrev pub IsPromoted : IntKind → Type 0
+IsPromoted kind = promoted kind ≡ kind
+
+abbrev pub UnaryTypes : UnOp → CType → CType → Type 0
+UnaryTypes (unary.Minus kind) own t = IsPromoted kind × (t ≡ int kind) × (own ≡ int kind)
+UnaryTypes (unary.Complement kind) own t = IsPromoted kind × (t ≡ int kind) × (own ≡ int kind)
+UnaryTypes unary.Not own t = IsScalar t × (own ≡ int Int)
+
+-- two pointers to compatible types, or one to `void` (6.5.8p2, 6.5.9p2)
+abbrev pub Comparable : CType → CType → Type 0
+Comparable (pointer c s) (pointer d t) = Compatible s t ⊎ ((s ≡ void) ⊎ (t ≡ void))
+Comparable _ _ = ⊥
+
+abbrev pub OneKind : CType → CType → Type 0
+OneKind a b = (a ≡ b) × IsInteger a
+
+abbrev pub Related : (pointers : Bool) → CType → CType → Type 0
+Related true a b = Comparable a b
+Related false a b = OneKind a b
+
+-- the operands of an update behind its place, whose type this is (6.5.2.4, 6.5.3.1, 6.5.16.2)
+abbrev pub UpdateTypes : List Tag → Change → CType → List CType → Type 0
+UpdateTypes tags (change.Integer op kind work) t [] = kind_of t ≡ Some kind
+UpdateTypes tags (change.Integer op kind work) t (right ∷ []) = (kind_of t ≡ Some kind) × RightIs (is_shift op) work right
+UpdateTypes tags (change.Pointer size subtract) t [] = StepsOver tags t size
+UpdateTypes tags (change.Pointer size subtract) t (index ∷ []) = StepsOver tags t size × IsInteger index
+UpdateTypes tags _ t _ = ⊥
+
+-- the arguments have the types of the parameters; those behind an ellipsis are scalars or objects (6.5.2.2p4, 6.5.2.2p6)
+abbrev pub Passed : Params → Bool → List CType → Type 0
+Passed none variadic [] = Unit {0}
+Passed none variadic (a ∷ arguments) = IsTrue variadic
+Passed (more c param ps) variadic [] = ⊥
+Passed (more c param ps) variadic (a ∷ arguments) = (a ≡ param) × Passed ps variadic arguments
+
+abbrev pub CallTypes : CType → CType → List CType → Type 0
+CallTypes own (pointer c (function result params variadic)) arguments = (own ≡ result) × Passed params variadic arguments
+CallTypes own _ arguments = ⊥
+
+-- a branch of `?:` has the type of the whole, where that isn't `void` (6.5.15p5)
+abbrev pub BranchIs : CType → CType → Type 0
+BranchIs void branch = Unit {0}
+BranchIs own branch = branch ≡ own
+
+abbrev pub LastIs : CType → List CType → Type 0
+LastIs own [] = ⊥
+LastIs own (t ∷ []) = own ≡ t
+LastIs own (t ∷ ts) = LastIs own ts
+
+-- the parts of an object of so many bytes: inside it, and none over another
+abbrev pub length_of : Content → ℕ
+length_of (content.Zeros count) = count
+length_of (content.Bytes bytes) = length bytes
+length_of (content.Address target offset) = 8
+
+abbrev pub end_of : Constant → ℕ
+end_of c = c.at + length_of c.content
+
+abbrev pub Apart : Constant → Constant → Type 0
+Apart a b = (end_of a ≤ b.at) ⊎ (end_of b ≤ a.at)
+
+pub record PartsFit (size : ℕ) (constants : List Constant) : Type 0 where
+  pub inside : All (λ c. end_of c ≤ size) constants
+  pub apart : AllPairs Apart constants
+
+abbrev pub FunctionIs : Option Function → CType → Type 0
+FunctionIs None own = ⊥
+FunctionIs (Some f) (pointer c (function r ps v)) = SameSignature false (record { result = r; params = ps; variadic = v }) (signature_of f.ty)
+FunctionIs (Some f) _ = ⊥
+
+-- an array of `char` (6.4.5p6)
+abbrev pub literal_type : ℕ → CType
+literal_type count = array false (int Char) (Some count)
+
+abbrev pub TypesAre : Program → Blocks → Head → CType → List CType → Type 0
+TypesAre p blocks (shape.Const z) own [] = IsConstant own z
+TypesAre p blocks (shape.Obj slot) own [] = There (object_at p blocks slot) (λ object. PointsTo own object.ty)
+TypesAre p blocks (shape.Func number) own [] = FunctionIs (slice_get p.functions number) own
+TypesAre p blocks (shape.Str number) own [] = There (slice_get p.literals number) (λ bytes. PointsTo own (literal_type (length bytes)))
+TypesAre p blocks (shape.Load a) own (pointer c t ∷ []) = (own ≡ t) × AccessIs p.tags t a
+TypesAre p blocks (shape.Conv c) own (from ∷ []) = Converts p.tags c from own × (from ≢ own)
+TypesAre p blocks (shape.Un op) own (t ∷ []) = UnaryTypes op own t
+TypesAre p blocks (shape.Bin op kind) own (left ∷ right ∷ []) =
+    IsPromoted kind × (left ≡ int kind) × RightIs (is_shift op) kind right × (own ≡ int kind)
+TypesAre p blocks (shape.PtrAdd size subtract) own (pointer c t ∷ index ∷ []) =
+    StepsOver p.tags (pointer c t) size × IsInteger index × PointsTo own t
+TypesAre p blocks (shape.PtrDiff size) own (a ∷ b ∷ []) =
+    StepsOver p.tags a size × StepsOver p.tags b size × Comparable a b × (own ≡ int Long)
+TypesAre p blocks (shape.Rel op pointers) own (a ∷ b ∷ []) =
+    (own ≡ int Int) × Related pointers a b
+TypesAre p blocks (shape.Eq op) own (a ∷ b ∷ []) = (own ≡ int Int) × (OneKind a b ⊎ Comparable a b)
+TypesAre p blocks (shape.Member offset) own (t ∷ []) = MemberOf p.tags offset own t
+TypesAre p blocks (shape.Part offset a) own (t ∷ []) = IsTagged t × LiesIn p.tags offset own t × AccessIs p.tags own a
+-- only an initialization stores to what is const (6.5.16p2)
+TypesAre p blocks (shape.Assign initializing a) own (pointer c t ∷ value ∷ []) =
+    (own ≡ t) × (value ≡ t) × AccessIs p.tags t a × (IsTrue c → IsTrue initializing)
+TypesAre p blocks (shape.Update change old) own (pointer c t ∷ rest) = (own ≡ t) × (c ≡ false) × UpdateTypes p.tags change t rest
+TypesAre p blocks shape.And own (a ∷ b ∷ []) = (own ≡ int Int) × IsScalar a × IsScalar b
+TypesAre p blocks shape.Or own (a ∷ b ∷ []) = (own ≡ int Int) × IsScalar a × IsScalar b
+TypesAre p blocks shape.Cond own (test ∷ a ∷ b ∷ []) = IsScalar test × BranchIs own a × BranchIs own b
+TypesAre p blocks shape.Comma own ts = LastIs own ts
+TypesAre p blocks (shape.Call discarded) own (f ∷ arguments) = CallTypes own f arguments
+TypesAre p blocks (shape.List slot bytes) own ts =
+    (own ≡ void) × All (λ t. t ≡ void) ts × There (object_at p blocks slot) (λ object. PartsFit (size_of p.tags object.ty) bytes)
+TypesAre p blocks (shape.Isolated tree) own [] = own ≡ void
+TypesAre p blocks _ own ts = ⊥
+
+-- 4. Full expressions, by what they are for (6.8.3 to 6.8.6).
+
+abbrev pub UseFits : Program → Signature → Use → CType → Type 0
+UseFits p f unused t = Unit {0}
+UseFits p f tested t = IsScalar t
+UseFits p f selects t = There (kind_of t) IsPromoted
+UseFits p f returned t = (t ≡ f.result) × (f.result ≢ void)
+UseFits p f initializes t = Unit {0}
+
+pub record SiteIsLawful (p : Program) (blocks : Blocks) (s : Site) : Type 0 where
+  pub names : NamesThere p blocks s.head
+  pub operands : CountIs s.head (length s.operands)
+  pub types : TypesAre p blocks s.head s.ty s.operands
+
+pub record ExpressionIsLawful (p : Program) (f : Signature) (e : Expression) : Type 0 where
+  pub nodes : All (SiteIsLawful p e.blocks) (sites e.tree)
+  pub fits : UseFits p f e.for_use (type_at e.tree)
+  -- so that a u32 numbers its nodes
+  pub few : length (sites e.tree) < 2 ^ 32
+
+-- 5. Statements (6.8.1 to 6.8.6).
+
+-- one label of a value in a `switch`, and at most one `default` (6.8.4.2p3)
+pub record SwitchIsLawful (s : SwitchRow) : Type 0 where
+  pub distinct : AllPairs ◌≢◌ s.cases
+  pub one_default : s.defaults ≤ 1
+
+-- blocks are numbered in preorder; their objects are complete, and those that are declared are there (6.7p7)
+abbrev pub NumberedFrom : ℕ → List BlockRow → Type 0
+NumberedFrom n [] = Unit {0}
+NumberedFrom n (b ∷ bs) = (b.number ≡ n) × NumberedFrom (1 + n) bs
+
+pub record BlockIsLawful (tags : List Tag) (b : BlockRow) : Type 0 where
+  pub objects : All (λ q. IsSized tags q.ty) b.objects
+  pub declared : All (λ decl. decl < length b.objects) b.declares
+  pub few : length b.objects < 2 ^ 32
+
+pub record StatementsAreLawful (tags : List Tag) (s : Summary) : Type 0 where
+  pub numbered : NumberedFrom 0 s.blocks
+  pub blocks : All (BlockIsLawful tags) s.blocks
+  pub few_blocks : length s.blocks < 2 ^ 32
+  pub switches : All SwitchIsLawful s.switches
+  -- a label of a `switch` stands in one (6.8.1p2)
+  pub no_case : s.cases ≡ []
+  pub no_default : s.defaults ≡ 0
+  -- a jump out of a loop or `switch` stands in one (6.8.6.2p1, 6.8.6.3p1)
+  pub no_break : s.breaks ≡ 0
+  pub no_continue : s.continues ≡ 0
+  -- labels are defined once, and where a `goto` names them (6.8.1p3, 6.8.6.1p1)
+  pub distinct : AllPairs ◌≢◌ s.labels
+  pub defined : All (Contains s.labels) s.jumps
+
+-- 6. Functions (6.9.1, 7.1.3).
+
+abbrev pub size_type : CType
+size_type = int ULong
+
+abbrev pub memory : CType
+memory = pointer false void
+
+abbrev pub const_memory : CType
+const_memory = pointer true void
+
+abbrev pub text : CType
+text = pointer false (int Char)
+
+abbrev pub const_text : CType
+const_text = pointer true (int Char)
+
+abbrev pub taking : List CType → Params
+taking [] = none
+taking (t ∷ ts) = more false t (taking ts)
+
+abbrev pub fixed : CType → List CType → Signature
+fixed r ts = record { result = r; params = taking ts; variadic = false }
+
+-- the types of the library functions (7.21.6.3, 7.21.7, 7.22.3, 7.22.4, 7.24)
+abbrev pub library_type : LibFunc → Signature
+library_type libc.Malloc = fixed memory (size_type ∷ [])
+library_type libc.Calloc = fixed memory (size_type ∷ size_type ∷ [])
+library_type libc.Realloc = fixed memory (memory ∷ size_type ∷ [])
+library_type libc.Free = fixed void (memory ∷ [])
+library_type libc.Memcpy = fixed memory (memory ∷ const_memory ∷ size_type ∷ [])
+library_type libc.Memmove = fixed memory (memory ∷ const_memory ∷ size_type ∷ [])
+library_type libc.Memset = fixed memory (memory ∷ int Int ∷ size_type ∷ [])
+library_type libc.Memcmp = fixed (int Int) (const_memory ∷ const_memory ∷ size_type ∷ [])
+library_type libc.Strlen = fixed size_type (const_text ∷ [])
+library_type libc.Strcpy = fixed text (text ∷ const_text ∷ [])
+library_type libc.Strcmp = fixed (int Int) (const_text ∷ const_text ∷ [])
+library_type libc.Strchr = fixed text (const_text ∷ int Int ∷ [])
+library_type libc.Getchar = fixed (int Int) []
+library_type libc.Putchar = fixed (int Int) (int Int ∷ [])
+library_type libc.Puts = fixed (int Int) (const_text ∷ [])
+library_type libc.Printf = record { result = int Int; params = taking (const_text ∷ []); variadic = true }
+library_type libc.Exit = fixed void (int Int ∷ [])
+library_type libc.Abort = fixed void []
+
+-- a library function isn't defined (7.1.3p2)
+abbrev pub IsExternal : Function → Type 0
+IsExternal f = Where (λ l. f.body ≡ None) f.library
+
+-- its type is compatible with the library's (7.1.4p2)
+abbrev pub LibraryFits : Function → LibFunc → Type 0
+LibraryFits f l = SameSignature false (library_type l) (signature_of f.ty)
+
+-- the body block begins with the parameters
+abbrev pub StartsWith : Params → List Qualified → Type 0
+StartsWith none objects = Unit {0}
+StartsWith (more c t ps) [] = ⊥
+StartsWith (more c t ps) (q ∷ objects) = (q.constant ≡ c) × (q.ty ≡ t) × StartsWith ps objects
+
+abbrev pub BeginsWith : Params → List BlockRow → Type 0
+BeginsWith params [] = ⊥
+BeginsWith params (b ∷ bs) = StartsWith params b.objects
+
+pub record BodyIsLawful (p : Program) (f : Signature) (b : Body) : Type 0 where
+  pub begins : BeginsWith f.params (summary b).blocks
+  pub not_variadic : f.variadic ≡ false
+  pub statements : StatementsAreLawful p.tags (summary b)
+  pub full : All (ExpressionIsLawful p f) (expressions b)
+  pub few : length (expressions b) < 2 ^ 32
+
+pub record FunctionIsLawful (p : Program) (f : Function) : Type 0 where
+  pub body : Where (BodyIsLawful p (signature_of f.ty)) f.body
+  pub library : Where (LibraryFits f) f.library
+  pub height : function_height f < 2 ^ 32
+
+-- 7. Objects with static storage (6.7.9, 6.9.2).
+
+-- an address lies in its object or one past it (6.5.6p8), is one of a function where its offset is 0
+abbrev pub AddressIsLawful : Program → Target → ℕ → Type 0
+AddressIsLawful p (target.Static number) offset =
+    There (slice_get p.statics number) (λ s. offset ≤ size_of p.tags (qualified_of s.qual).ty)
+AddressIsLawful p (target.Literal number) offset = There (slice_get p.literals number) (λ bytes. offset ≤ length bytes)
+AddressIsLawful p (target.Function number) offset = There (slice_get p.functions number) (λ f. CanBeCalled f × (offset ≡ 0))
+
+abbrev pub Divides : ℕ → ℕ → Type 0
+Divides align n = n % align ≡ 0
+
+-- the address is a multiple of the alignment, wherever its object begins (6.3.2.3p7)
+abbrev pub AddressSuits : Program → ℕ → Target → ℕ → Type 0
+AddressSuits p align (target.Static number) offset =
+    There (slice_get p.statics number) (λ s. Divides align (align_of p.tags (qualified_of s.qual).ty) × Divides align offset)
+AddressSuits p align (target.Literal number) offset = align ≡ 1
+AddressSuits p align (target.Function number) offset = Unit {0}
+
+abbrev pub ContentIsLawful : Program → Content → Type 0
+ContentIsLawful p (content.Address target offset) = AddressIsLawful p target offset
+ContentIsLawful p _ = Unit {0}
+
+-- what stands where the object has this scalar: an address only in a pointer, and aligned for what it points to
+abbrev pub SuitsType : Program → CType → Content → Type 0
+SuitsType p (pointer constant t) (content.Address target offset) = AddressSuits p (align_of p.tags t) target offset
+SuitsType p t (content.Address target offset) = ⊥
+SuitsType p t _ = Unit {0}
+
+abbrev pub ContentSuits : Program → Scalar → Constant → Type 0
+ContentSuits p scalar c = scalar.offset ≡ c.at → SuitsType p scalar.ty c.content
+
+-- the object's type is complete (6.9.2p3)
+abbrev pub IsComplete : List Tag → Static → Type 0
+IsComplete tags s = IsSome (extent (extents tags) (qualified_of s.qual).ty)
+
+pub record StaticIsLawful (p : Program) (s : Static) : Type 0 where
+  pub sized : IsSized p.tags (qualified_of s.qual).ty
+  pub fits : PartsFit (size_of p.tags (qualified_of s.qual).ty) s.constants
+  pub contents : All (λ c. ContentIsLawful p c.content) s.constants
+  pub aligned : All (λ c. All (λ scalar. ContentSuits p scalar c) (scalars p.tags (qualified_of s.qual).ty)) s.constants
+
+-- 8. The whole program.
+
+-- `int argc, char **argv`, each with or without a const of its own
+abbrev pub HasArguments : Params → Type 0
+HasArguments (more c count (more d vector none)) = (count ≡ int Int) × (vector ≡ pointer false (pointer false (int Char)))
+HasArguments _ = ⊥
+
+abbrev pub IsMainType : Signature → Type 0
+IsMainType f =
+    (f ≡ fixed (int Int) []) ⊎ ((f.result ≡ int Int) × (f.variadic ≡ false) × HasArguments f.params)
+
+-- `main` is there and has a body (5.1.2.2.1p1)
+abbrev pub HasMain : Program → Type 0
+HasMain p = There (slice_get p.functions p.main) HasBody
+
+-- it has one of its two types (5.1.2.2.1p1)
+abbrev pub MainHasType : Program → Type 0
+MainHasType p = There (slice_get p.functions p.main) (λ f. IsMainType (signature_of f.ty))
+
+-- no library function is defined
+abbrev pub LibraryIsExternal : Program → Type 0
+LibraryIsExternal p = All IsExternal p.functions
+
+-- a string literal has its closing zero at least (6.4.5p6)
+abbrev pub HasBytes : List ℕ → Type 0
+HasBytes bytes = 0 < length bytes
+
+abbrev pub LiteralsHaveBytes : Program → Type 0
+LiteralsHaveBytes p = All HasBytes p.literals
+
+-- each object with static storage has a complete type
+abbrev pub StaticsAreComplete : Program → Type 0
+StaticsAreComplete p = All (IsComplete p.tags) p.statics
+
+-- what a u32 numbers is fewer than 2^32 (own)
+pub record IsNumbered (p : Program) : Type 0 where
+  pub functions : length p.functions < 2 ^ 32
+  pub statics : length p.statics < 2 ^ 32
+  pub literals : length p.literals < 2 ^ 32
+  pub tags : length p.tags < 2 ^ 32
+
+pub record IsLawful (p : Program) : Type 0 where
+  pub main : HasMain p
+  pub main_type : MainHasType p
+  pub functions : All (FunctionIsLawful p) p.functions
+  pub library : LibraryIsExternal p
+  pub literals : LiteralsHaveBytes p
+  pub complete : StaticsAreComplete p
+  pub statics : All (StaticIsLawful p) p.statics
+  pub numbered : IsNumbered p
+
+-- a program without functions has no `main`
+abbrev pub NoMainIsUnlawful : Type 0
+NoMainIsUnlawful = (p : Program) → p.functions ≡ [] → IsLawful p → ⊥
