@@ -1,4 +1,9 @@
 // The arguments of library functions and their checks (7.1.4p1).
+ghost use Rattle.std.specs.Prelude.{◌≡◌, IsTrue};
+ghost use Rattle.c_types.specs.declared.kind.IntKind.TheVariants.{ULong};
+ghost use Rattle.c_types.specs.Kinds.{holds};
+ghost use Rattle.libc_spec.specs.Library.{argument_at, pointer_in, integer_in, size_of_value};
+ghost use Rattle.libc_model.specs.Seen.{value_seen, values_seen, pointer_seen};
 
 use exposure::Prov;
 use prov_memory::{LibAnswer, MemByte, Memory, Touched, Value};
@@ -19,7 +24,9 @@ impl Pointer {
     };
 
     /// As a value.
-    pub fn value(self) -> Value {
+    pub fn value(self) -> Value
+        ensures { value_seen result ≡ pointer_seen self }
+    {
         Value::Ptr {
             addr: self.addr,
             prov: self.prov,
@@ -35,10 +42,11 @@ pub struct Range {
     pub len: u64,
 }
 
-/// The pointer among the arguments at the place; null where there is none.
-pub fn pointer_at(args: &[Value], at: usize) -> Pointer {
-    match args.get(at) {
-        Some(Value::Ptr { addr, prov }) => Pointer {
+fn pointer_of(value: &Value) -> Pointer
+    ensures { pointer_seen result ≡ pointer_in (value_seen value.now) }
+{
+    match value {
+        Value::Ptr { addr, prov } => Pointer {
             addr: *addr,
             prov: *prov,
         },
@@ -46,16 +54,39 @@ pub fn pointer_at(args: &[Value], at: usize) -> Pointer {
     }
 }
 
-/// The integer among the arguments at the place; 0 where there is none.
-pub fn int_at(args: &[Value], at: usize) -> i128 {
-    match args.get(at) {
-        Some(Value::Int(number)) => *number,
+fn int_of(value: &Value) -> i128
+    ensures { result ≡ integer_in (value_seen value.now) }
+{
+    match value {
+        Value::Int(number) => *number,
         _ => 0,
     }
 }
 
+/// The pointer among the arguments at the place; null where there is none.
+pub fn pointer_at(args: &[Value], at: usize) -> Pointer
+    ensures { pointer_seen result ≡ pointer_in (argument_at (values_seen args.now) at) }
+{
+    match args.get(at) {
+        Some(value) => pointer_of(value),
+        None => Pointer::NULL,
+    }
+}
+
+/// The integer among the arguments at the place; 0 where there is none.
+pub fn int_at(args: &[Value], at: usize) -> i128
+    ensures { result ≡ integer_in (argument_at (values_seen args.now) at) }
+{
+    match args.get(at) {
+        Some(value) => int_of(value),
+        None => 0,
+    }
+}
+
 /// The number of bytes among the arguments at the place; 0 where there is none.
-pub fn size_at(args: &[Value], at: usize) -> u64 {
+pub fn size_at(args: &[Value], at: usize) -> u64
+    ensures { IsTrue (holds ULong (integer_in (argument_at (values_seen args.now) at))) → result ≡ size_of_value (argument_at (values_seen args.now) at) }
+{
     u64::try_from(int_at(args, at)).unwrap_or(0)
 }
 

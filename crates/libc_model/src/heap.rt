@@ -1,5 +1,8 @@
 // Allocation (7.22.3).
 
+ghost use Rattle.std.specs.Prelude.{◌≡◌, ◌+◌, ◌*◌, ◌^◌, min, max, Some, None, if◌then◌else◌};
+ghost use Rattle.libc_spec.specs.Library.{is_given, heap_name};
+
 use crate::arguments::{Pointer, Range, pointer_at, size_at};
 use crate::bytes::{filled, put, settle};
 use crate::ranges::answer_of;
@@ -14,8 +17,28 @@ const MOST: u64 = 1 << 20;
 /// The limit on the sum of created bytes (own).
 const CREATED: u64 = 1 << 26;
 
+// The bytes of an allocation that gives an object.
+fn given(size: u128) -> Option<u64>
+    ensures { result ≡ (if is_given size then Some size else None) }
+{
+    if size == 0 || size > u128::from(MOST) {
+        None
+    } else {
+        Some(size as u64)
+    }
+}
+
+// The exact product of calloc.
+fn product(count: u64, size: u64) -> u128
+    ensures { result ≡ count * size }
+{
+    u128::from(count) * u128::from(size)
+}
+
 // The name of the object that an event allocates.
-fn name_of(who: Event) -> ObjName {
+fn name_of(who: Event) -> ObjName
+    ensures { result ≡ heap_name who }
+{
     ObjName::Heap {
         frame: who.frame,
         turn: who.turn,
@@ -23,9 +46,16 @@ fn name_of(who: Event) -> ObjName {
     }
 }
 
+// The sum of created bytes with one more object, at most 2^62.
+fn sum_with(created: u64, size: u64) -> u64
+    ensures { result ≡ min (created + max size 16) (2 ^ 62) }
+{
+    created.saturating_add(size.max(16)).min(1 << 62)
+}
+
 // Whether an object of this size passes the limit on created bytes.
 fn check_created(m: &Memory, size: u64) -> Result<(), LibAnswer> {
-    let sum = m.created().saturating_add(size.max(16)).min(1 << 62);
+    let sum = sum_with(m.created(), size);
     if sum > CREATED {
         Err(LibAnswer::Outside(Cause::Created, sum))
     } else {
@@ -63,9 +93,9 @@ pub fn allocate(
     m: &mut Memory,
     t: &mut Touched,
 ) -> Result<Value, LibAnswer> {
-    if size == 0 || size > MOST {
+    let Some(size) = given(u128::from(size)) else {
         return Ok(Pointer::NULL.value());
-    }
+    };
     check_created(m, size)?;
     let mut scratch = Touched::new(alloc)?;
     t.add(Item::Born(name_of(who)))?;
@@ -80,11 +110,9 @@ pub fn allocate_zeros(
     m: &mut Memory,
     t: &mut Touched,
 ) -> Result<Value, LibAnswer> {
-    let product = u128::from(size_at(args, 0)) * u128::from(size_at(args, 1));
-    if product == 0 || product > u128::from(MOST) {
+    let Some(size) = given(product(size_at(args, 0), size_at(args, 1))) else {
         return Ok(Pointer::NULL.value());
-    }
-    let size = u64::try_from(product).unwrap_or(0);
+    };
     check_created(m, size)?;
     let name = name_of(who);
     let mut scratch = Touched::new(alloc)?;

@@ -1,5 +1,8 @@
 // Functions on ranges of bytes (7.24.2.1, 7.24.2.2, 7.24.4.1, 7.24.6.1).
 
+ghost use Rattle.std.specs.Prelude.{◌≡◌};
+ghost use Rattle.libc_spec.specs.Library.{low_byte, order_of, overlap};
+
 use crate::arguments::{Pointer, Range, check, int_at, pointer_at, size_at};
 use crate::bytes::{add_write, check_writable, filled, put, read, settle};
 use exposure::Prov;
@@ -9,22 +12,27 @@ use std::cmp::Ordering;
 use ub_base::{Clause, Item, NoMemory};
 
 /// A number modulo 256.
-pub fn low_byte(number: i128) -> u8 {
-    let low = number.rem_euclid(256);
-    u8::try_from(low).unwrap_or(0)
+pub fn low_byte(number: i128) -> u8
+    ensures { result ≡ low_byte number }
+{
+    number.rem_euclid(256) as u8
 }
 
-/// The value of a comparison of bytes (own): -1, 0 or 1.
-pub fn sign_of(order: Ordering) -> Value {
-    match order {
-        Ordering::Less => Value::Int(-1),
-        Ordering::Equal => Value::Int(0),
-        Ordering::Greater => Value::Int(1),
+/// The order of two lists of unsigned bytes, by the first difference: -1, 0 or 1 (own).
+pub fn order_of(first: &[u8], second: &[u8]) -> i128
+    ensures { result ≡ order_of first.now second.now }
+{
+    match first.cmp(second) {
+        Ordering::Less => -1,
+        Ordering::Equal => 0,
+        Ordering::Greater => 1,
     }
 }
 
-// Whether two ranges of this many bytes overlap.
-fn overlap(a: u64, b: u64, len: u64) -> bool {
+/// Whether two ranges of this many bytes overlap.
+pub fn overlap(len: u64, a: u64, b: u64) -> bool
+    ensures { result ≡ overlap len a b }
+{
     if a <= b { b - a < len } else { a - b < len }
 }
 
@@ -69,7 +77,7 @@ pub fn copy(
     let target = check(m, to, len, t)?;
     let source = check(m, from, len, t)?;
     check_target(m, target)?;
-    if !may_overlap && len != 0 && overlap(to.addr, from.addr, len) {
+    if !may_overlap && len != 0 && overlap(len, to.addr, from.addr) {
         return Err(LibAnswer::Raise(Clause::MemcpyOverlap));
     }
     let mut scratch = Touched::new(alloc)?;
@@ -156,5 +164,5 @@ pub fn compare(
     let second = read_if(alloc, m, b, t)?;
     let mut scratch = Touched::new(alloc)?;
     settle(m, t, &mut scratch);
-    Ok(sign_of(first.as_slice().cmp(second.as_slice())))
+    Ok(Value::Int(order_of(first.as_slice(), second.as_slice())))
 }

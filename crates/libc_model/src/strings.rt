@@ -1,8 +1,11 @@
 // Functions on strings (7.24.2.3, 7.24.4.2, 7.24.5.2, 7.24.6.3).
 
+ghost use Rattle.std.specs.Prelude.{◌≡◌, ◌==◌};
+ghost use Rattle.std.specs.List.{position};
+
 use crate::arguments::{Pointer, Range, check, check_string, int_at, pointer_at};
 use crate::bytes::{add_write, block_of, check_writable, put, read, settle};
-use crate::ranges::{low_byte, sign_of};
+use crate::ranges::{low_byte, order_of, overlap};
 use prov_memory::{LibAnswer, Memory, Touched, Value, Via};
 use std::alloc::Global;
 use ub_base::Clause;
@@ -21,13 +24,11 @@ pub fn length(
     Ok(Value::Int(i128::from(text.len.saturating_sub(1))))
 }
 
-// Whether a range and the range of the same length at the address overlap.
-fn overlaps(source: u64, target: u64, len: u64) -> bool {
-    if source <= target {
-        target - source < len
-    } else {
-        source - target < len
-    }
+// Where the byte first stands.
+fn place_of(wanted: u8, numbers: &[u8]) -> Option<usize>
+    ensures { result ≡ position (λ number. number == wanted) numbers.now }
+{
+    numbers.iter().position(|number| *number == wanted)
 }
 
 /// strcpy: the string with its zero. The source is checked before the target.
@@ -45,7 +46,7 @@ pub fn copy_string(
     if let Some(range) = target {
         check_writable(m, range.object)?;
     }
-    if overlaps(from.addr, to.addr, source.len) {
+    if overlap(source.len, to.addr, from.addr) {
         return Err(LibAnswer::Raise(Clause::StrcpyOverlap));
     }
     let mut scratch = Touched::new(alloc)?;
@@ -78,7 +79,7 @@ pub fn compare_strings(
     let second = read(alloc, m, b, t)?;
     let mut scratch = Touched::new(alloc)?;
     settle(m, t, &mut scratch);
-    Ok(sign_of(first.as_slice().cmp(second.as_slice())))
+    Ok(Value::Int(order_of(first.as_slice(), second.as_slice())))
 }
 
 /// strchr: the first byte equal to the number modulo 256, the zero included, or null; reads the whole string.
@@ -94,7 +95,7 @@ pub fn find_byte(
     let numbers = read(alloc, m, range, t)?;
     let mut scratch = Touched::new(alloc)?;
     settle(m, t, &mut scratch);
-    match numbers.iter().position(|number| *number == wanted) {
+    match place_of(wanted, numbers.as_slice()) {
         Some(at) => Ok(Value::Ptr {
             addr: text.addr.saturating_add(at as u64),
             prov: text.prov,

@@ -42,6 +42,10 @@ abbrev pub prov_in : LibValue → Prov
 prov_in (pointer a p) = p
 prov_in _ = Empty
 
+-- one that is no pointer reads as null
+abbrev pub pointer_in : LibValue → LibValue
+pointer_in v = pointer (address_in v) (prov_in v)
+
 abbrev pub integer_in : LibValue → ℤ
 integer_in (number n) = n
 integer_in _ = pos 0

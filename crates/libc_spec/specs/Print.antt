@@ -13,7 +13,7 @@ use Rattle.addr_map.specs.Rows.{row_of}
 use Rattle.prov_memory.specs.Store.{TaggedByte, Store}
 use Rattle.prov_memory.specs.Script.{Get, Print, Script, Give, Raise, Exceed, touch, require, ◌>>=◌, ◌>>◌, Act, run}
 use Rattle.prov_memory.specs.Acts.{Accessed, argument, expose, size_in}
-use Rattle.libc_spec.specs.Library.{LibValue, number, address_in, prov_in, integer_in, low_byte, read_numbers, without_zero, text, ends_in_zero, output_within}
+use Rattle.libc_spec.specs.Library.{LibValue, number, pointer_in, address_in, prov_in, integer_in, low_byte, read_numbers, without_zero, text, ends_in_zero, output_within}
 use Rattle.libc_spec.specs.Directives.{Flags, Count, absent, count, Length, hh, h, l, ll, j, z, t, Directive, most, directive_of, Form, taken, left_out, invalid, form, is_in}
 use Rattle.libc_spec.specs.Directives as directives
 
@@ -46,16 +46,20 @@ pub record Width : Type 0 where
   pub size : ℕ
   pub is_left : Bool
 
+-- a number above 2 ^ 62 counts as 2 ^ 62 (own)
+abbrev pub counted : ℕ → ℕ
+counted n = min n most
+
 -- a negative width is the flag `-` with its absolute value (7.21.6.1p5)
 abbrev pub width_taken : Count → List Argument → Script (Taken Width)
 width_taken absent as' = Give (record { item = record { size = 0; is_left = false }; rest = as' })
 width_taken (count n) as' = Give (record { item = record { size = n; is_left = false }; rest = as' })
 width_taken directives.argument as' = do
   n ← next_int as'
-  Give (record { item = record { size = unsigned_abs n.item; is_left = int_lt n.item (pos 0) }; rest = n.rest })
+  Give (record { item = record { size = counted (unsigned_abs n.item); is_left = int_lt n.item (pos 0) }; rest = n.rest })
 
 abbrev pub not_negative : ℤ → Option ℕ
-not_negative (pos n) = Some n
+not_negative (pos n) = Some (counted n)
 not_negative (negsuc n) = None
 
 -- a negative precision is none
@@ -114,7 +118,7 @@ abbrev pub next_pointer : Bool → List Argument → Script (Taken LibValue)
 next_pointer may_be_void as' = do
   a ← next as'
   require (is_target may_be_void a.item.ty) Conversion
-  Give (record { item = a.item.value; rest = a.rest })
+  Give (record { item = pointer_in a.item.value; rest = a.rest })
 
 -- the digits of a number, the highest first; none for 0
 abbrev pub digit : Bool → ℕ → ℕ
