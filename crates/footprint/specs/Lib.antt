@@ -1,1 +1,5 @@
 pub mod Conflicts
+pub mod Holds
+pub mod Ranges
+pub mod Searches
+pub mod States

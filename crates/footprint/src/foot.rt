@@ -1,6 +1,13 @@
 // Footprints: sets of items.
+ghost use Rattle.std.specs.Prelude.{◌≡◌, ◌+◌, ◌-◌, ◌^◌, ◌&&◌, ◌||◌, not, min, false, OnOk, OnErr};
+ghost use Rattle.ub_base.specs.declared.names.Item.{Item};
+ghost use Rattle.ub_base.specs.declared.names.Item.TheVariants.{Born, Ending};
+ghost use Rattle.footprint.specs.States.{state_in};
+ghost use Rattle.footprint.specs.Holds.{holds, stands_for, is_forgotten};
 
-use crate::spans::{Span, Spans};
+use crate::sets::{forget_alive, mark, merge_lookups, merge_narrows, merge_states, state_of};
+use crate::span::Span;
+use crate::spans::Spans;
 use crate::state::State;
 use std::alloc::Global;
 use std::collections::{BTreeMap, BTreeSet};
@@ -22,7 +29,9 @@ pub struct Foot {
 
 impl Foot {
     /// The empty set.
-    pub fn new(alloc: Global) -> Self {
+    pub fn new(alloc: Global) -> Self
+        ensures { (i : Item) → holds result i ≡ false }
+    {
         Foot {
             reads: Spans::new(alloc),
             writes: Spans::new(alloc),
@@ -47,7 +56,9 @@ impl Foot {
     }
 
     /// Takes all items away.
-    pub fn clear(&mut self) {
+    pub fn clear(&mut self)
+        ensures { (i : Item) → holds self.new i ≡ false }
+    {
         self.reads.clear();
         self.writes.clear();
         self.states.clear();
@@ -60,32 +71,39 @@ impl Foot {
     }
 
     /// Adds an item, of a range all its bytes.
-    pub fn add(&mut self, item: Item) -> Result<(), NoMemory> {
+    pub fn add(&mut self, item: Item) -> Result<(), NoMemory>
+        ensures added { OnOk result ((i : Item) → holds self.new i ≡ (holds self.old i || stands_for item i)) }
+        ensures err { OnErr result ((i : Item) → holds self.new i ≡ holds self.old i) }
+    {
         match item {
             Item::Read { object, from, len } => self.reads.add(range(object, from, len))?,
             Item::Write { object, from, len } => self.writes.add(range(object, from, len))?,
-            Item::Born(object) => self.mark(
+            Item::Born(object) => mark(
+                &mut self.states,
                 object,
                 State {
                     born: true,
                     ..State::NONE
                 },
             )?,
-            Item::Dies(object) => self.mark(
+            Item::Dies(object) => mark(
+                &mut self.states,
                 object,
                 State {
                     dies: true,
                     ..State::NONE
                 },
             )?,
-            Item::Alive(object) => self.mark(
+            Item::Alive(object) => mark(
+                &mut self.states,
                 object,
                 State {
                     alive: true,
                     ..State::NONE
                 },
             )?,
-            Item::Expose(object) => self.mark(
+            Item::Expose(object) => mark(
+                &mut self.states,
                 object,
                 State {
                     expose: true,
@@ -106,55 +124,47 @@ impl Foot {
         Ok(())
     }
 
-    fn mark(&mut self, object: ObjName, state: State) -> Result<(), NoMemory> {
-        let old = self.state(object);
-        let new = old.or(state);
-        if new != old {
-            self.states.insert(object, new)?;
-        }
-        Ok(())
-    }
-
     /// What was done to an object as a whole.
-    pub(crate) fn state(&self, object: ObjName) -> State {
-        match self.states.get(&object) {
-            Some(state) => *state,
-            None => State::NONE,
-        }
+    pub(crate) fn state(&self, object: ObjName) -> State
+        ensures { result ≡ state_in self.now.states object }
+    {
+        state_of(&self.states, object)
     }
 
     /// Whether the birth of this object is among the items.
-    pub fn has_born(&self, object: ObjName) -> bool {
+    pub fn has_born(&self, object: ObjName) -> bool
+        ensures { result ≡ holds self.now (Born object) }
+    {
         self.state(object).born
     }
 
     /// Whether an end of the run is among the items.
-    pub fn has_ending(&self) -> bool {
+    pub fn has_ending(&self) -> bool
+        ensures { result ≡ holds self.now Ending }
+    {
         self.ending
     }
 
     /// Adds the items of another set, at the cost of that set's size. After NoMemory some of them may have been added.
-    pub fn merge(&mut self, other: &Foot) -> Result<(), NoMemory> {
+    pub fn merge(&mut self, other: &Foot) -> Result<(), NoMemory>
+        ensures { OnOk result ((i : Item) → holds self.new i ≡ (holds self.old i || holds other.now i)) }
+    {
         self.reads.merge(&other.reads)?;
         self.writes.merge(&other.writes)?;
-        for (object, state) in other.states.iter() {
-            self.mark(*object, *state)?;
-        }
-        for addr in other.lookups.iter() {
-            self.lookups.insert(*addr)?;
-        }
-        for narrow in other.narrows.iter() {
-            self.narrows.insert(*narrow)?;
-        }
-        self.input = self.input || other.input;
-        self.output = self.output || other.output;
-        self.ending = self.ending || other.ending;
-        self.any = self.any || other.any;
+        merge_states(&mut self.states, &other.states)?;
+        merge_lookups(&mut self.lookups, &other.lookups)?;
+        merge_narrows(&mut self.narrows, &other.narrows)?;
+        self.input |= other.input;
+        self.output |= other.output;
+        self.ending |= other.ending;
+        self.any |= other.any;
         Ok(())
     }
 
-    /// Adds the items of another set, at the cost of the smaller one.
-    pub fn absorb(&mut self, other: Foot) -> Result<(), NoMemory> {
+    /// Adds the items of another set, at the cost of the smaller one. After NoMemory some of them may be lost.
+    pub fn absorb(&mut self, other: Foot) -> Result<(), NoMemory>
+        ensures { OnOk result ((i : Item) → holds self.new i ≡ (holds self.old i || holds other i)) }
+    {
         let mut other = other;
         if self.size() < other.size() {
             std::mem::swap(self, &mut other);
@@ -163,18 +173,21 @@ impl Foot {
     }
 
     /// Takes the Read, Write and Alive items of an object away.
-    pub fn forget(&mut self, object: ObjName) {
+    pub fn forget(&mut self, object: ObjName)
+        ensures { (i : Item) → holds self.new i ≡ (holds self.old i && not (is_forgotten object i)) }
+    {
         self.reads.forget(object);
         self.writes.forget(object);
-        let state = self.state(object);
-        if let Some(kept) = self.states.get_mut(&object) {
-            *kept = state.without_alive();
-        }
+        forget_alive(&mut self.states, object);
     }
 }
 
 /// The bytes that a Read or a Write stands for.
-pub fn range(object: ObjName, from: u64, len: u64) -> Span {
+pub fn range(object: ObjName, from: u64, len: u64) -> Span
+    ensures object { result.object ≡ object }
+    ensures from { result.from ≡ from }
+    ensures end { result.end ≡ min (from + len) (2 ^ 64 - 1) }
+{
     Span {
         object,
         from,

@@ -5,7 +5,8 @@ ghost use Rattle.footprint.specs.Conflicts.{MayConflict};
 
 use crate::Foot;
 use crate::meeting::is_at;
-use crate::spans::{Span, Spans};
+use crate::span::Span;
+use crate::spans::Spans;
 use crate::state::State;
 use addr_map::AddrMap;
 use c_names::{cmp_events, cmp_objects};

@@ -4,7 +4,10 @@
 mod foot;
 mod least;
 mod meeting;
+mod sets;
+mod span;
 mod spans;
+mod starts;
 mod state;
 
 pub use foot::Foot;

@@ -2,7 +2,7 @@
 
 use crate::Foot;
 use crate::foot::range;
-use crate::spans::Span;
+use crate::span::Span;
 use crate::state::State;
 use addr_map::AddrMap;
 use std::collections::{BTreeMap, BTreeSet};

@@ -1,4 +1,6 @@
 // What was done to objects as wholes.
+ghost use Rattle.std.specs.Prelude.{◌≡◌};
+ghost use Rattle.footprint.specs.States.{either, not_alive};
 
 /// What was done to an object as a whole.
 #[derive(Clone, Copy, Debug, PartialEq, Eq)]
@@ -18,7 +20,9 @@ impl State {
     };
 
     /// What either says.
-    pub fn or(self, other: State) -> State {
+    pub fn or(self, other: State) -> State
+        ensures { result ≡ either self other }
+    {
         State {
             born: self.born || other.born,
             dies: self.dies || other.dies,
@@ -28,7 +32,9 @@ impl State {
     }
 
     /// Without `alive`.
-    pub fn without_alive(self) -> State {
+    pub fn without_alive(self) -> State
+        ensures { result ≡ not_alive self }
+    {
         State {
             alive: false,
             ..self
