@@ -17,6 +17,7 @@ use Rattle.c_ast.specs.declared.declaration.Designator.{Designator}
 use Rattle.c_ast.specs.declared.declaration.Designator.TheVariants.{Member, Element}
 use Rattle.c_ast.specs.declared.declaration.Init.{Init}
 use Rattle.c_ast.specs.declared.declaration.Init.TheBlock.{Single, Braced', Row_of-InitEntry, end_of-InitEntry, more_of-InitEntry}
+use Rattle.c_ast.specs.declared.declaration.InitEntry.{InitEntry}
 use Rattle.c_ast.specs.declared.declaration.Part.{Part}
 use Rattle.c_ast.specs.declared.declaration.Declaration.{Declaration}
 use Rattle.c_ast.specs.declared.statement.ForInit.{ForInit}
@@ -130,6 +131,12 @@ ExprNames t e = NodeNames t e.node
 abbrev pub SpecsName : TokenText → Specs → Type 0
 SpecsName t s = BaseNames t s.base
 
+abbrev pub TypeNameNames : TokenText → TypeName → Type 0
+TypeNameNames t n = SpecsName t n.specs × DeclaratorNames t n.declarator
+
+abbrev pub ParamNames : TokenText → Param → Type 0
+ParamNames t p = SpecsName t p.specs × DeclaratorNames t p.declarator
+
 abbrev pub MaybeExprNames : TokenText → Option Expr → Type 0
 MaybeExprNames t None = Unit {0}
 MaybeExprNames t (Some e) = ExprNames t e
@@ -146,6 +153,9 @@ abbrev mutual
   pub InitsName : {n : _} → TokenText → Row_of-InitEntry n → Type 0
   InitsName t end_of-InitEntry = Unit {0}
   InitsName t (more_of-InitEntry designators i rest) = All (DesignatorNames t) designators × InitNames t i × InitsName t rest
+
+abbrev pub InitEntryNames : TokenText → InitEntry → Type 0
+InitEntryNames t e = All (DesignatorNames t) e.designators × InitNames t e.init
 
 abbrev pub MaybeInitNames : TokenText → Option Init → Type 0
 MaybeInitNames t None = Unit {0}
@@ -198,6 +208,10 @@ abbrev mutual
   EntryNames t (s.Statement a) = StmtNames t a
   EntryNames t (s.Declaration d) = DeclarationNames t d
   EntryNames t (s.Assertion e message) = ExprNames t e × IsToken t token.StringLit message
+
+abbrev pub MaybeStmtNames : TokenText → Option Stmt → Type 0
+MaybeStmtNames t None = Unit {0}
+MaybeStmtNames t (Some a) = StmtNames t a
 
 abbrev pub UnitEntryNames : TokenText → UnitEntry → Type 0
 UnitEntryNames t (entry.Function specs d body) = SpecsName t specs × DeclaratorNames t d × All (EntryNames t) body
