@@ -21,7 +21,7 @@ use Rattle.certificate.specs.declared.cert.Field.{Field}
 use Rattle.certificate.specs.declared.cert.Segment.{Segment}
 use Rattle.certificate.specs.declared.cert.Segment.TheVariants.{Canonical, Pick}
 use Rattle.certificate.specs.declared.row.Stride.{Stride}
-use Rattle.certificate.specs.declared.read_map.RunWords.{RunWords}
+use Rattle.certificate.specs.declared.row.Run.{Run}
 use Rattle.certificate.specs.declared.words.Verdict.{Verdict}
 use Rattle.certificate.specs.declared.words.Verdict.TheVariants.{Clean, Undefined, OrderDependent, OutOfSteps, Outside}
 use Rattle.certificate.specs.declared.words.Version.{Version}
@@ -205,11 +205,11 @@ run_form first stride at (suc n) count rows has h =
     subst (All (IsRowOf count)) same
     (All-cons (IsRowOf count) r.0 m.0 (row_at_form first stride at count r.0 has r.1) (run_form first stride (at + 1) n count m.0 has m.1))
 
-words_by : (b : Bool) (made words : RunWords) (count : ℕ) → IsRowOf count made.first → cond b None (Some made) ≡ Some words → IsRowOf count words.first
+words_by : (b : Bool) (made words : Run) (count : ℕ) → IsRowOf count made.first → cond b None (Some made) ≡ Some words → IsRowOf count words.first
 words_by true made words count has h = absurd (cc)
 words_by false made words count has h = let same : made ≡ words = cc in subst (λ w. IsRowOf count w.first) same has
 
-words_form : (count : ℕ) (n s r f : Data) (words : RunWords) → run_words count n s r f ≡ Some words → IsRowOf count words.first
+words_form : (count : ℕ) (n s r f : Data) (words : Run) → run_words count n s r f ≡ Some words → IsRowOf count words.first
 words_form count n s r f words h =
     let a = then_some _ (number_in n) words h in
     let b = then_some _ (number_in s) words a.2 in
@@ -218,11 +218,11 @@ words_form count n s r f words h =
     let parts = then_some (row_in count) (list_in f) d.0 d.1 in
     words_by _ _ words count (row_form count parts.0 d.0 parts.2) d.2
 
-run_by : (b : Bool) (count : ℕ) (n s r f : Data) (words : RunWords) → cond b (run_words count n s r f) None ≡ Some words → IsRowOf count words.first
+run_by : (b : Bool) (count : ℕ) (n s r f : Data) (words : Run) → cond b (run_words count n s r f) None ≡ Some words → IsRowOf count words.first
 run_by true count n s r f words h = words_form count n s r f words h
 run_by false count n s r f words h = absurd (cc)
 
-run_in_form : (count : ℕ) (ds : List Data) (words : RunWords) → run_in count ds ≡ Some words → IsRowOf count words.first
+run_in_form : (count : ℕ) (ds : List Data) (words : Run) → run_in count ds ≡ Some words → IsRowOf count words.first
 run_in_form count [] words h = absurd (cc)
 run_in_form count (a ∷ []) words h = absurd (cc)
 run_in_form count (a ∷ b ∷ []) words h = absurd (cc)
@@ -232,8 +232,8 @@ run_in_form count (a ∷ b ∷ c ∷ d ∷ e ∷ []) words h =
     let t = then_some _ (as_str a) words h in run_by (bytes_eq t.0 (codes "run")) count b c d e words t.2
 run_in_form count (a ∷ b ∷ c ∷ d ∷ e ∷ f ∷ ds) words h = absurd (cc)
 
-entry_by : (version : Version) (count : ℕ) (one : Option Row) (run : Option RunWords) (rows : List Row)
-    → ((row : Row) → one ≡ Some row → IsRowOf count row) → ((words : RunWords) → run ≡ Some words → IsRowOf count words.first)
+entry_by : (version : Version) (count : ℕ) (one : Option Row) (run : Option Run) (rows : List Row)
+    → ((row : Row) → one ≡ Some row → IsRowOf count row) → ((words : Run) → run ≡ Some words → IsRowOf count words.first)
     → row_or_run version one run ≡ Some rows → All (IsRowOf count) rows
 entry_by version count (Some row) run rows has first h =
     let same : row ∷ [] ≡ rows = cc in

@@ -1,3 +1,5 @@
+pub mod Entries
+pub mod Runs
 pub mod Clauses
 pub mod Steps
 pub mod Forms

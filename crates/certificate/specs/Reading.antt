@@ -29,7 +29,7 @@ use Rattle.certificate.specs.declared.cert.Field.{Field}
 use Rattle.certificate.specs.declared.cert.Field.TheVariants as field
 use Rattle.certificate.specs.declared.cert.Segment.{Segment}
 use Rattle.certificate.specs.declared.cert.Segment.TheVariants.{Canonical, Pick}
-use Rattle.certificate.specs.declared.read_map.RunWords.{RunWords}
+use Rattle.certificate.specs.declared.row.Run.{Run}
 use Rattle.certificate.specs.declared.row.Stride.{Stride}
 use Rattle.certificate.specs.declared.words.Verdict.{Verdict}
 use Rattle.certificate.specs.declared.words.Verdict.TheVariants.{Clean, Undefined, OrderDependent, OutOfSteps, Outside}
@@ -232,7 +232,7 @@ run_rows first stride at (suc count) = do
   Some (row ∷ rows)
 
 -- the words of a run: at least two rows, whose bases differ
-abbrev pub run_words : ℕ → Data → Data → Data → Data → Option RunWords
+abbrev pub run_words : ℕ → Data → Data → Data → Data → Option Run
 run_words count rows step raise first = do
   n ← number_in rows
   s ← number_in step
@@ -240,18 +240,18 @@ run_words count rows step raise first = do
   row ← row_of count first
   if nat_lt n 2 || s == 0 then None else Some (record { count = n; stride = record { step = s; raise = r }; first = row })
 
-abbrev pub run_in : ℕ → List Data → Option RunWords
+abbrev pub run_in : ℕ → List Data → Option Run
 run_in count (word ∷ rows ∷ step ∷ raise ∷ first ∷ []) = do
   text ← as_str word
   if bytes_eq text (codes "run") then run_words count rows step raise first else None
 run_in count _ = None
 
 -- the rows for which a run stands
-abbrev pub rows_of : RunWords → Option (List Row)
+abbrev pub rows_of : Run → Option (List Row)
 rows_of run = run_rows run.first run.stride 0 run.count
 
 -- what an entry of the map stands for: a row, or in version 2 the rows of a run
-abbrev pub row_or_run : Version → Option Row → Option RunWords → Option (List Row)
+abbrev pub row_or_run : Version → Option Row → Option Run → Option (List Row)
 row_or_run version (Some row) run = Some (row ∷ [])
 row_or_run One None run = None
 row_or_run Two None run = run >>= rows_of

@@ -4,7 +4,7 @@ ghost use Rattle.serde_json.specs.View.{view};
 ghost use Rattle.certificate.specs.Reading.{counted_name, framed_name, counted_in, framed_in, argv_in, placed, row_in, row_of, run_words, run_in, rows_of, entry_in, has_few_rows, map_in, list_at, need, Answers, Adds, IsTooMuch};
 
 use crate::cert::{CertFault, Field, Rows};
-use crate::row::{MAX_ROWS, Stride, row_at};
+use crate::row::{MAX_ROWS, Run, Stride, row_at};
 use crate::values::{frame, items, list_member, number, small_number};
 use crate::words::Version;
 use addr_map::Row;
@@ -97,14 +97,6 @@ fn row(items: &[Value], frames: u32) -> Option<Row>
     }
 }
 
-// A run of rows: how many, their stride, and the first.
-#[derive(Clone, Copy)]
-struct RunWords {
-    count: u64,
-    stride: Stride,
-    first: Row,
-}
-
 // The row of an entry, if it is one.
 fn row_of(value: &Value, frames: u32) -> Option<Row>
     ensures { result ≡ row_of frames (view value.now) }
@@ -113,13 +105,7 @@ fn row_of(value: &Value, frames: u32) -> Option<Row>
 }
 
 // The words of a run of at least two rows that stand apart.
-fn run_words(
-    count: &Value,
-    step: &Value,
-    raise: &Value,
-    first: &Value,
-    frames: u32,
-) -> Option<RunWords>
+fn run_words(count: &Value, step: &Value, raise: &Value, first: &Value, frames: u32) -> Option<Run>
     ensures { result ≡ run_words frames (view count.now) (view step.now) (view raise.now) (view first.now) }
 {
     let count = number(count)?;
@@ -129,14 +115,14 @@ fn run_words(
     if count < 2 || step == 0 {
         return None;
     }
-    Some(RunWords {
+    Some(Run {
         count,
         stride: Stride { step, raise },
         first,
     })
 }
 
-fn run(items: &[Value], frames: u32) -> Option<RunWords>
+fn run(items: &[Value], frames: u32) -> Option<Run>
     ensures { result ≡ run_in frames (map view items.now) }
 {
     let [word, count, step, raise, first] = items else {
@@ -149,7 +135,7 @@ fn run(items: &[Value], frames: u32) -> Option<RunWords>
 }
 
 // Adds the rows of a run, unless one has a number past its bound or they are too many.
-fn add_run(rows: &mut Rows, words: &RunWords) -> Result<bool, CertFault>
+fn add_run(rows: &mut Rows, words: &Run) -> Result<bool, CertFault>
     ensures added { result ≡ Ok true → Adds rows.old rows.new (rows_of words.now) }
     ensures refused { result ≡ Ok false → IsTooMuch Version.Two rows.old (rows_of words.now) }
     ensures memory { IfErr result (λ e. e ≡ CertFault.NoMemory) }

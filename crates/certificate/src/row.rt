@@ -1,6 +1,9 @@
 // Rows that follow one another at even steps.
-ghost use Rattle.std.specs.Prelude.{◌≡◌, ◌+◌, ◌*◌, ◌^◌, nat_lt};
-ghost use Rattle.certificate.specs.Reading.{kept, moved_name, row_at};
+ghost use Rattle.std.specs.Prelude.{◌≡◌, ◌↔◌, ◌≤◌, ◌<◌, ◌+◌, ◌*◌, ◌^◌, ℕ, nat_lt, length, take, Some, None, IfSome, IsTrue};
+ghost use Rattle.certificate.specs.Reading.{kept, moved_name, row_at, run_rows};
+ghost use Rattle.certificate.specs.Writing.{moving, BeginsWith, IsLongest};
+ghost use Rattle.certificate.specs.declared.row.Run.{Run};
+ghost use Rattle.certificate.specs.declared.row.Stride.{Stride};
 
 use addr_map::Row;
 use ub_base::ObjName;
@@ -92,7 +95,9 @@ pub fn row_at(first: Row, stride: Stride, at: u64) -> Option<Row>
 }
 
 // The moving number of a name.
-fn moving(name: ObjName) -> u64 {
+fn moving(name: ObjName) -> u64
+    ensures { result ≡ moving name }
+{
     match name {
         ObjName::Static(k) | ObjName::Lit(k) | ObjName::Arg(k) => u64::from(k),
         ObjName::Argv => 0,
@@ -100,8 +105,11 @@ fn moving(name: ObjName) -> u64 {
     }
 }
 
-// The stride of a run that begins with these two rows.
-fn stride_of(first: Row, second: Row) -> Option<Stride> {
+// The stride of a run whose first two rows are these.
+fn stride_of(first: Row, second: Row) -> Option<Stride>
+    ensures apart { IfSome result (λ stride. 0 < stride.step) }
+    ensures only { (stride : Stride) → 0 < stride.step → row_at first stride 1 ≡ Some second → result ≡ Some stride }
+{
     let step = second.base.checked_sub(first.base)?;
     let raise = moving(second.name).checked_sub(moving(first.name))?;
     if step == 0 {
@@ -110,28 +118,51 @@ fn stride_of(first: Row, second: Row) -> Option<Stride> {
     Some(Stride { step, raise })
 }
 
-/// A run of rows: how many there are, and their stride.
+/// A run of rows: how many, their stride, and the first.
 #[derive(Clone, Copy, Debug, PartialEq, Eq)]
 pub struct Run {
-    pub count: usize,
+    pub count: u64,
     pub stride: Stride,
+    pub first: Row,
 }
 
 /// The longest run with which these rows begin, where it has at least 3.
-pub fn longest_run(rows: &[Row]) -> Option<Run> {
-    let first = *rows.first()?;
-    let stride = stride_of(first, *rows.get(1)?)?;
+pub fn longest_run(rows: &[Row]) -> Option<Run>
+    ensures found { IfSome result (IsLongest rows.now) }
+    ensures three { IfSome result (λ run. 3 ≤ run.count) }
+    ensures within { IfSome result (λ run. run.count ≤ length rows.now) }
+    ensures short { result ≡ None → (run : Run) → BeginsWith rows.now run → run.count < 3 }
+{
+    if rows.len() < 3 {
+        return None;
+    }
+    let first = rows[0];
+    let stride = stride_of(first, rows[1])?;
     let count = run_len(first, stride, rows);
     if count < 3 {
         return None;
     }
-    Some(Run { count, stride })
+    Some(Run {
+        count: count as u64,
+        stride,
+        first,
+    })
+}
+
+fn is_row(made: Option<Row>, row: Row) -> bool
+    ensures { IsTrue result ↔ (made ≡ Some row) }
+{
+    made == Some(row)
 }
 
 // How many rows stand in the run that begins with `first`.
-fn run_len(first: Row, stride: Stride, rows: &[Row]) -> usize {
-    for (at, row) in rows.iter().enumerate() {
-        if row_at(first, stride, at as u64) != Some(*row) {
+fn run_len(first: Row, stride: Stride, rows: &[Row]) -> usize
+    ensures stands { run_rows first stride 0 result ≡ Some (take result rows.now) }
+    ensures within { result ≤ length rows.now }
+    ensures longest { (count : ℕ) → run_rows first stride 0 count ≡ Some (take count rows.now) → count ≤ result }
+{
+    for at in 0..rows.len() {
+        if !is_row(row_at(first, stride, at as u64), rows[at]) {
             return at;
         }
     }

@@ -7,7 +7,7 @@ use Rattle.sources.specs.Role.{most}
 use Rattle.sources.specs.declared.fetch.FetchFault.{FetchFault}
 use Rattle.sources.specs.declared.fetch.FetchFault.TheVariants as Fault
 use Rattle.sources.specs.declared.role.Role.{Role}
-use Rattle.sources.specs.declared.role.Role.TheVariants.{Source, Input}
+use Rattle.sources.specs.declared.role.Role.TheVariants.{Source, Certificate, Input}
 
 -- the bytes of a file, within its limit
 abbrev pub IsWhole : Option Held → Role × List ℕ → List ℕ → Type 0
@@ -37,6 +37,13 @@ input_wanted (Some name) = (Input, name) ∷ []
 -- the files of an audit, in the order in which they are fetched
 abbrev pub wanted : List ℕ → Option (List ℕ) → List (Role × List ℕ)
 wanted source input = (Source, source) ∷ input_wanted input
+
+-- the files of a check behind the source, and all of them, in the order in which they are fetched
+abbrev pub certificate_wanted : List ℕ → Option (List ℕ) → List (Role × List ℕ)
+certificate_wanted certificate input = (Certificate, certificate) ∷ input_wanted input
+
+abbrev pub check_wanted : List ℕ → List ℕ → Option (List ℕ) → List (Role × List ℕ)
+check_wanted source certificate input = (Source, source) ∷ certificate_wanted certificate input
 
 -- the input of the program: none, or that of the named file
 abbrev pub HasInput : Option Held → Option (List ℕ) → List ℕ → Type 0

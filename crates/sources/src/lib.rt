@@ -5,6 +5,8 @@ mod fetch;
 mod keep;
 mod role;
 
-pub use fetch::{FetchFault, Sources, fetch_file, fetch_sources};
+pub use fetch::{
+    CheckSources, FetchFault, Sources, fetch_check_sources, fetch_file, fetch_sources,
+};
 pub use keep::{KeepFault, keep_certificate};
 pub use role::Role;
