@@ -77,7 +77,7 @@ own_node (x ∷ xs) k u h = elim (or_cases (same_place u (place k x)) _ h) [
   | inr a ↦ own_node xs k u a
 ]
 
-if_has : (c : Bool) (xs : List Place) (u : Place) → has (if c then xs else []) u ≡ true → has xs u ≡ true
+pub if_has : (c : Bool) (xs : List Place) (u : Place) → has (if c then xs else []) u ≡ true → has xs u ≡ true
 if_has true xs u h = h
 if_has false xs u h = absurd (true≢false (sym h))
 

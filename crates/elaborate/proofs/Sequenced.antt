@@ -13,7 +13,6 @@ use Rattle.elaborate.specs.Formed.{is_formed, are_formed, takes, all_quiet, afte
 use Rattle.elaborate.proofs.Listed.{and_l, and_r, listed, listed_all, listed_comma, listed_choice, listed_next, silent_all}
 use Rattle.elaborate.proofs.Ranges.{or_cases, or_a, or_b, and_b, eq_of, has_left, has_right, has_cases, has_itself, same_itself, same_kind_eq, own_node, In, size_pos, FirstRules, rules_cases, comes_in, rules_in, later_in, events_in, operands_in, first_of, rest_of as later_of, own_of, operands_of}
 
-
 val_acts : (kind : Kind) → is_val kind ≡ true → not (is_effect kind) ≡ true
 val_acts Val h = refl
 val_acts Eff h = absurd (true≢false (sym h))
@@ -132,7 +131,7 @@ first_later taken (more t ts) choice j m v h = elim (or_cases (across Choice cho
       (let n = and_l (is_number choice j) _ a in (
         number_some choice j n,
         has_left (if goes Choice choice j then events taken m t else []) (operand_events taken Choice choice (suc j) (m + size t) ts) v
-        (if_from (goes Choice choice j) (events taken m t) v (or_b (j == 0) _ n) (and_r (is_number choice j) _ a)),
+            (if_from (goes Choice choice j) (events taken m t) v (or_b (j == 0) _ n) (and_r (is_number choice j) _ a)),
       ))
   | inr a ↦
       (let r = first_later taken ts choice (suc j) (m + size t) v a in
@@ -357,9 +356,6 @@ mutual
             (comma_rest taken choice k i m t (more t2 us) v l (comma_at taken choice k i m (more t (more t2 us)) v dv) dv r.1) a)))
       ]
 
-
-
-
   choice_steps : (taken : Taken) (ts : Trees) (k : ℕ) (u v : Place) → is_last (after (after (after ts))) ≡ true → are_formed ts ≡ true → has (operand_events taken Choice (taken k) 0 (suc k) ts) u ≡ true
       → has (operand_events taken Choice (taken k) 0 (suc k) ts ++ place k Val ∷ []) v ≡ true → operand_rules taken Choice (taken k) k 0 (suc k) ts u v ≡ true → orders taken (node_term k Choice (terms_for (suc k) ts)) u v ≡ true
   choice_steps taken none k u v s f du dv h = absurd (true≢false (sym h))
@@ -395,7 +391,6 @@ mutual
     where
       lone : (v : Place) → has (place k Val ∷ []) v ≡ true → same_place v (place k Val) ≡ true
       lone v h = elim (or_cases (same_place v (place k Val)) false h) [ inl a ↦ a | inr a ↦ absurd (true≢false (sym a)) ]
-
 
   -- from an event of the operands after a choice's first
   next_steps : (taken : Taken) (ts : Trees) (k m : ℕ) (u v : Place) → k < m → is_last (after (after ts)) ≡ true → are_formed ts ≡ true → has (operand_events taken Choice (taken k) 1 m ts) u ≡ true
