@@ -4,7 +4,7 @@ use Rattle.ub_base.specs.declared.clause.Kind.TheVariants.{Val, Eff}
 use Rattle.c_typed.specs.declared.tree.Place.{Place}
 use Rattle.c_typed.specs.Tree.{Tree}
 use Rattle.c_typed.specs.Order.{Taken, place, has, events, is_due, Before}
-use Rattle.core_ir.specs.Term.{Term, listing, Ordered}
+use Rattle.core_ir.specs.Term.{Term, Terms, none, more, listing, Ordered}
 
 -- whatever operands are chosen, the term lists exactly the due events, each once, each effect straight after the value of
 -- its node, and it orders all that is sequenced
@@ -19,3 +19,9 @@ pub record IsFaithful (root : Tree) (term : Term) : Type 0 where
   pub strict : IsStrict root term
   pub nothing_more : (taken : Taken) (u v : Place) → Ordered term taken u v → Before root taken u v
   pub canonical : (taken : Taken) → listing taken term ≡ events taken 0 root
+
+-- one term for each tree, in their order
+abbrev pub AreStrict : List Tree → Terms → Type 0
+AreStrict [] none = Unit {0}
+AreStrict (t ∷ ts) (more m ms) = IsStrict t m × AreStrict ts ms
+AreStrict _ _ = ⊥

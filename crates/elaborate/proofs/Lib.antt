@@ -1,5 +1,9 @@
 pub mod Capped
 pub mod Grown
 pub mod Listed
+pub mod Once
 pub mod Operands
 pub mod Own
+pub mod Ranges
+pub mod Sequenced
+pub mod Strict

@@ -8,7 +8,7 @@ use Rattle.c_typed.specs.declared.class.Class.TheVariants.{Object, Constant, Pla
 use Rattle.c_typed.specs.Tree.{Tree, node, Trees, none, more, size, is_quiet}
 use Rattle.c_typed.specs.Order.{Taken, place, is_choice, is_number, goes, events, operand_events, is_last}
 use Rattle.core_ir.specs.Term.{listing, listings, continued, terms_from}
-use Rattle.elaborate.specs.Terms.{term_for, terms_for, choice_of, comma_of}
+use Rattle.elaborate.specs.Terms.{term_for, terms_for, choice_of, comma_of, head_of, rest_of}
 use Rattle.elaborate.specs.Formed.{is_formed, are_formed, all_quiet, after}
 
 pub and_l : (a b : Bool) → (a && b) ≡ true → a ≡ true
@@ -96,7 +96,7 @@ mutual
       ap (λ z. z ++ listings taken (terms_from (terms_for (m + size t) ts))) (listed taken t m (and_l (is_formed t) _ h) ∙ sym (taken_if (goes class choice i) (events taken m t) (all_go class choice i c)))
       ∙ ap (λ z. (if goes class choice i then events taken m t else []) ++ z) (listed_all taken ts class choice (suc i) (m + size t) c (and_r (is_formed t) _ h))
 
-  listed_comma : (taken : Taken) (ts : Trees) (choice : Option ℕ) (k i m : ℕ) → are_formed ts ≡ true → listing taken (comma_of k (terms_for m ts)) ≡ operand_events taken Comma choice i m ts ++ place k Val ∷ []
+  pub listed_comma : (taken : Taken) (ts : Trees) (choice : Option ℕ) (k i m : ℕ) → are_formed ts ≡ true → listing taken (comma_of k (terms_for m ts)) ≡ operand_events taken Comma choice i m ts ++ place k Val ∷ []
   listed_comma taken none choice k i m h = refl
   listed_comma taken (more t none) choice k i m h = ap (λ z. z ++ place k Val ∷ []) (listed taken t m (and_l (is_formed t) _ h) ∙ sym (append-nil (events taken m t)))
   listed_comma taken (more t (more u us)) choice k i m h =
@@ -104,21 +104,21 @@ mutual
       ∙ (ap (λ z. events taken m t ++ z) (listed_comma taken (more u us) choice k (suc i) (m + size t) (and_r (is_formed t) _ h))
       ∙ sym (append_assoc (events taken m t) (operand_events taken Comma choice (suc i) (m + size t) (more u us)) (place k Val ∷ [])))
 
-  listed_choice : (taken : Taken) (ts : Trees) (k m : ℕ) → is_last (after (after (after ts))) ≡ true → are_formed ts ≡ true → listing taken (choice_of k (terms_for m ts)) ≡ operand_events taken Choice (taken k) 0 m ts
+  -- the operands after the first of a choice
+  pub listed_next : (taken : Taken) (ts : Trees) (k m : ℕ) → is_last (after (after ts)) ≡ true → are_formed ts ≡ true
+      → continued (taken k) (listing taken (head_of k (terms_for m ts))) (listing taken (head_of k (rest_of (terms_for m ts)))) ≡ operand_events taken Choice (taken k) 1 m ts
+  listed_next taken none k m s h = continued_none (taken k)
+  listed_next taken (more b none) k m s h = ap (λ z. continued (taken k) z []) (listed taken b m (and_l (is_formed b) _ h)) ∙ continued_two (taken k) (events taken m b)
+  listed_next taken (more b (more d none)) k m s h =
+      let hb = and_l (is_formed b) _ h in
+      let hd = and_l (is_formed d) _ (and_r (is_formed b) _ h) in
+      ap (λ z. continued (taken k) z (listing taken (term_for (m + size b) d))) (listed taken b m hb)
+      ∙ (ap (λ z. continued (taken k) (events taken m b) z) (listed taken d (m + size b) hd)
+      ∙ continued_three (taken k) (events taken m b) (events taken (m + size b) d))
+  listed_next taken (more b (more d (more e es))) k m s h = absurd (true≢false (sym s))
+
+  pub listed_choice : (taken : Taken) (ts : Trees) (k m : ℕ) → is_last (after (after (after ts))) ≡ true → are_formed ts ≡ true → listing taken (choice_of k (terms_for m ts)) ≡ operand_events taken Choice (taken k) 0 m ts
   listed_choice taken none k m s h = continued_none (taken k)
-  listed_choice taken (more a none) k m s h = ap (λ z. z ++ continued (taken k) [] []) (listed taken a m (and_l (is_formed a) _ h)) ∙ ap (λ z. events taken m a ++ z) (continued_none (taken k))
-  listed_choice taken (more a (more b none)) k m s h =
-      let ha = and_l (is_formed a) _ h in
-      let hb = and_l (is_formed b) _ (and_r (is_formed a) _ h) in
-      ap (λ z. z ++ continued (taken k) (listing taken (term_for (m + size a) b)) []) (listed taken a m ha)
-      ∙ (ap (λ z. events taken m a ++ continued (taken k) z []) (listed taken b (m + size a) hb)
-      ∙ ap (λ z. events taken m a ++ z) (continued_two (taken k) (events taken (m + size a) b)))
-  listed_choice taken (more a (more b (more d none))) k m s h =
-      let ha = and_l (is_formed a) _ h in
-      let hb = and_l (is_formed b) _ (and_r (is_formed a) _ h) in
-      let hd = and_l (is_formed d) _ (and_r (is_formed b) _ (and_r (is_formed a) _ h)) in
-      ap (λ z. z ++ continued (taken k) (listing taken (term_for (m + size a) b)) (listing taken (term_for (m + size a + size b) d))) (listed taken a m ha)
-      ∙ (ap (λ z. events taken m a ++ continued (taken k) z (listing taken (term_for (m + size a + size b) d))) (listed taken b (m + size a) hb)
-      ∙ (ap (λ z. events taken m a ++ continued (taken k) (events taken (m + size a) b) z) (listed taken d (m + size a + size b) hd)
-      ∙ ap (λ z. events taken m a ++ z) (continued_three (taken k) (events taken (m + size a) b) (events taken (m + size a + size b) d))))
-  listed_choice taken (more a (more b (more d (more e es)))) k m s h = absurd (true≢false (sym s))
+  listed_choice taken (more a ts) k m s h =
+      ap (λ z. z ++ continued (taken k) (listing taken (head_of k (terms_for (m + size a) ts))) (listing taken (head_of k (rest_of (terms_for (m + size a) ts))))) (listed taken a m (and_l (is_formed a) _ h))
+      ∙ ap (λ z. events taken m a ++ z) (listed_next taken ts k (m + size a) s (and_r (is_formed a) _ h))

@@ -3,7 +3,8 @@
 ghost use Rattle.std.specs.Prelude.{◌≡◌, ◌++◌, map, IfOk, OnOk};
 ghost use Rattle.core_ir.specs.Term.{term_of, terms_of, terms_from};
 ghost use Rattle.elaborate.specs.Terms.{term_for, capped_for};
-ghost use Rattle.elaborate.specs.Formed.{EachCounts};
+ghost use Rattle.elaborate.specs.Formed.{EachCounts, EachFormed};
+ghost use Rattle.core_ir.specs.Faithful.{AreStrict};
 ghost use Rattle.elaborate.specs.Expressions.{own_trees, full_trees, option_trees, body_trees, block_trees, function_trees, program_trees};
 
 use crate::expression::term;
@@ -16,6 +17,9 @@ use ub_base::{Items, NoMemory};
 pub fn elaborate(alloc: Global, p: &Program) -> Result<CoreProgram, NoMemory>
     ensures program { IfOk result (λ c. c.program.now ≡ p.now) }
     ensures terms { EachCounts (program_trees p.now) → IfOk result (λ c. terms_of c.terms ≡ terms_from (map (term_for 0) (program_trees p.now))) }
+
+    // Strict for every program whose nodes have the operands that their operators take, as in each that typing gives.
+    ensures strict { EachCounts (program_trees p.now) → EachFormed (program_trees p.now) → IfOk result (λ c. AreStrict (program_trees p.now) (terms_of c.terms)) }
 {
     let terms = all(alloc, p)?;
     Ok(CoreProgram { program: p, terms })

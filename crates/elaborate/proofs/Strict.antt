@@ -1,0 +1,33 @@
+-- The term of a tree is strict.
+use Rattle.std.proofs.Common.{◌≡◌, ℕ, true, IsTrue, List, [], ◌∷◌, ◌++◌, map, refl, sym, ap, subst, ◌∙◌}
+use Rattle.ub_base.specs.declared.clause.Kind.TheVariants.{Val, Eff}
+use Rattle.c_typed.specs.declared.tree.Place.{Place}
+use Rattle.c_typed.specs.Tree.{Tree}
+use Rattle.c_typed.specs.Order.{Taken, place, has, events, is_due, Before}
+use Rattle.c_typed.specs.Order as order
+use Rattle.core_ir.specs.Term.{Term, Terms, terms_from, listing, Ordered, rule, chain}
+use Rattle.core_ir.specs.Faithful.{IsStrict, AreStrict}
+use Rattle.elaborate.specs.Terms.{term_for}
+use Rattle.elaborate.specs.Formed.{is_formed, EachFormed}
+use Rattle.elaborate.proofs.Listed.{listed}
+use Rattle.elaborate.proofs.Once.{unique, unique_once, effect_next, Unique}
+use Rattle.elaborate.proofs.Sequenced.{steps}
+
+has_listed : (root : Tree) (taken : Taken) (u : Place) → is_formed root ≡ true → has (events taken 0 root) u ≡ true → has (listing taken (term_for 0 root)) u ≡ true
+has_listed root taken u f h = ap (λ z. has z u) (listed taken root 0 f) ∙ h
+
+ordered : (root : Tree) (taken : Taken) (u v : Place) → is_formed root ≡ true → Before root taken u v → Ordered (term_for 0 root) taken u v
+ordered root taken _ _ f (order.rule u v du dv h) = rule u v (has_listed root taken u f du) (has_listed root taken v f dv) (steps taken root 0 u v f du dv h)
+ordered root taken _ _ f (order.chain u v w a b) = chain u v w (ordered root taken u v f a) (ordered root taken v w f b)
+
+pub strict : (root : Tree) → is_formed root ≡ true → IsStrict root (term_for 0 root)
+strict root f = record {
+  due = λ taken u. (λ h. ap (λ z. has z u) (sym (listed taken root 0 f)) ∙ h, λ h. has_listed root taken u f h);
+  once = λ taken us vs v e. unique_once us vs v (subst Unique (sym (listed taken root 0 f) ∙ e) (unique taken root 0));
+  effects = λ taken us vs n e. effect_next taken root us vs n (sym (listed taken root 0 f) ∙ e);
+  sequenced = λ taken u v h. ordered root taken u v f h;
+}
+
+pub all_strict : (ts : List Tree) → EachFormed ts → AreStrict ts (terms_from (map (term_for 0) ts))
+all_strict [] f = tt
+all_strict (t ∷ ts) f = (strict t f.0, all_strict ts f.1)
