@@ -53,7 +53,7 @@ fn joined_functions(alloc: Global, old: &FuncTy, new: &FuncTy) -> Result<Option<
         return Ok(None);
     }
     match composite(alloc, &old, &new)? {
-        Ty::Function(ty) => Ok(Some(ty.into_inner())),
+        Ty::Function(ty) => Ok(Some(copied_function(alloc, ty.get())?)),
         _ => Ok(None),
     }
 }

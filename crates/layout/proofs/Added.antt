@@ -77,7 +77,7 @@ part_placed ps i p o at now new total h e sum is before =
     ∙ (ap (λ (ys : List Scalar). now ++ map capped (shifted o ys)) (sym (next_part ps i p h e))
     ∙ before))))
 
-shifted_none : (xs : List Scalar) → shifted 0 xs ≡ xs
+pub shifted_none : (xs : List Scalar) → shifted 0 xs ≡ xs
 shifted_none [] = refl
 shifted_none (x ∷ xs) =
     let f : ℕ → List Scalar → List Scalar = λ n ys. (record { offset = n; ty = x.ty }) ∷ ys in

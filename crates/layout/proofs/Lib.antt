@@ -1,5 +1,7 @@
 pub mod Added
 pub mod FirstNamed
+pub mod Opened
+pub mod Placing
 pub mod Scalars
 pub mod Slots
 pub mod Within

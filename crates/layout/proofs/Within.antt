@@ -98,7 +98,7 @@ module _ (tags : List Tag) (settled : IsSettled tags) where
   under_tag zero tag e h = tt
   under_tag (suc n) tag e h = under_content tags settled (scalars_by n tags) (under_tag n) tag (slice_get tags tag) e refl h
 
-  tag_le : (tag : ℕ) (e : Extent) → extents tags tag ≡ Some e → (o : Option Tag) → slice_get tags tag ≡ o → e.size ≤ 2 ^ 40
+  pub tag_le : (tag : ℕ) (e : Extent) → extents tags tag ≡ Some e → (o : Option Tag) → slice_get tags tag ≡ o → e.size ≤ 2 ^ 40
   tag_le tag e h None g = let none : extents tags tag ≡ None = settled.known tag ∙ ap (extent_of_tag (extents tags)) g in absurd (cc)
   tag_le tag e h (Some t) g = tag_small tags settled tag t e g h
 

@@ -1,3 +1,3 @@
-pub mod Bases
 pub mod Listed
 pub mod Names
+pub mod Opened

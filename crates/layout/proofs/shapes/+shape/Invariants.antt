@@ -1,22 +1,27 @@
-use Rattle.std.proofs.Common.{◌≡◌, ◌+◌, ◌*◌, ◌++◌, map, drop}
+use Rattle.std.proofs.Common.{◌≡◌, ◌+◌, ◌*◌, ◌≤◌, ◌++◌, map}
+use Rattle.c_types.specs.Types.{type_of}
 use Rattle.c_types.specs.Shapes.{forms_of, put_of}
-use Rattle.c_types.specs.Leaves.{scalars_by, member_scalars, all_leaves}
+use Rattle.c_types.specs.Leaves.{scalars_by, all_leaves}
+use Rattle.layout.specs.Opened.{remaining, AreRoomy, weight_with, weight_by, open_work, work}
 use Rattle.layout.proofs.shapes.+shape.Given as goal
 
 abbrev pub decreases-shape_within : goal.decreases-shape_within
-decreases-shape_within l = 4 * l.depth + 3
+decreases-shape_within l = 2 * weight_with (weight_by l.depth l.tags.now) (type_of l.ty.now) + 3
 
-abbrev pub decreases-base_shape : goal.decreases-base_shape
-decreases-base_shape l = 4 * l.depth + 2
+abbrev pub decreases-single_shape : goal.decreases-single_shape
+decreases-single_shape l = 2 * weight_with (weight_by l.depth l.tags.now) (type_of l.ty.now) + 2
 
-abbrev pub decreases-tag_shape : goal.decreases-tag_shape
-decreases-tag_shape l = 4 * l.depth + 1
+abbrev pub decreases-parts_within : goal.decreases-parts_within
+decreases-parts_within l = 2 * (1 + weight_by l.depth l.tags.now l.tag) + 1
 
-abbrev pub decreases-parts : goal.decreases-parts
-decreases-parts l = 4 * l.depth + 4
+abbrev pub decreases-place_member : goal.decreases-place_member
+decreases-place_member l = 2 * open_work l.tags.now l.current
 
 -- what is placed, and what is left
-abbrev pub invariant-parts-loop-i : goal.invariant-parts-loop-i
-invariant-parts-loop-i l =
-    all_leaves (forms_of (map put_of l.parts)) ++ member_scalars (scalars_by l.depth l.tags) l.tags l.tag l.i (drop l.i l.member-items)
-    ≡ member_scalars (scalars_by l.depth l.tags) l.tags l.tag 0 l.member-items
+abbrev pub invariant-parts_within-loop-current : goal.invariant-parts_within-loop-current
+invariant-parts_within-loop-current l =
+    (all_leaves (forms_of (map put_of l.parts)) ++ remaining l.tags l.opened ≡ scalars_by l.depth l.tags l.tag)
+    × (AreRoomy l.tags l.opened × (work l.tags l.opened ≤ 1 + weight_by l.depth l.tags l.tag))
+
+abbrev pub decreases-parts_within-loop-current : goal.decreases-parts_within-loop-current
+decreases-parts_within-loop-current l = work l.tags l.opened
