@@ -89,7 +89,8 @@ impl AddrMap {
 
     /// The row of the name.
     pub fn row(&self, name: ObjName) -> Option<Row>
-        ensures { result ≡ row_of self.now name }
+        ensures row { result ≡ row_of self.now name }
+        ensures end { free_of self.now ≤ 2 ^ 47 }
     {
         let base = self.bases.get(&name).copied()?;
         let row = self.rows.get(&base).copied()?;
@@ -179,6 +180,7 @@ impl AddrMap {
         requires some { 0 < size }
         requires power { is_power align ≡ true }
         ensures base { IfOk result (λ base. base ≡ base_of mode self.old align) }
+        ensures end { IfOk result (λ base. base + size ≤ 2 ^ 47) }
         ensures row { IfOk result (λ base. self.new ≡ insert_row (row_at name base size align) self.old) }
         ensures err { OnErr result (self.new ≡ self.old) }
     {

@@ -1,4 +1,5 @@
 // Bytes as they stand in memory: 12 bytes of the host for each.
+ghost use Rattle.std.specs.Prelude.{◌≡◌};
 
 use c_types::IntKind;
 
@@ -21,6 +22,8 @@ pub struct TypeId {
 }
 
 impl TypeId {
+    ghost use Rattle.prov_memory.specs.Cells.{kind_numbered, is_character_numbered};
+
     /// No type.
     pub const NONE: TypeId = TypeId { number: 0 };
 
@@ -44,7 +47,9 @@ impl TypeId {
     }
 
     /// The integer type that it is.
-    pub fn kind(self) -> Option<IntKind> {
+    pub fn kind(self) -> Option<IntKind>
+        ensures { result ≡ kind_numbered self.number }
+    {
         match self.number {
             1 => Some(IntKind::Bool),
             2 => Some(IntKind::Char),
@@ -63,7 +68,9 @@ impl TypeId {
     }
 
     /// Whether it is one of the three character types (6.2.5p15).
-    pub fn is_character(self) -> bool {
+    pub fn is_character(self) -> bool
+        ensures { result ≡ is_character_numbered self.number }
+    {
         matches!(self.number, 2..=4)
     }
 }
@@ -107,6 +114,8 @@ pub(crate) struct Cell {
 }
 
 impl Cell {
+    ghost use Rattle.prov_memory.specs.Cells.{plain_cell, piece_cell, cell_of, byte_of};
+
     /// An unwritten byte.
     pub const UNWRITTEN: Cell = Cell {
         number: 0,
@@ -118,7 +127,9 @@ impl Cell {
     };
 
     /// A number.
-    pub fn plain(number: u8) -> Cell {
+    pub fn plain(number: u8) -> Cell
+        ensures { result ≡ plain_cell number }
+    {
         Cell {
             number,
             state: State::Plain,
@@ -130,7 +141,9 @@ impl Cell {
     }
 
     /// A piece of a pointer.
-    pub fn piece(number: u8, origin: Origin, index: u8) -> Cell {
+    pub fn piece(number: u8, origin: Origin, index: u8) -> Cell
+        ensures { result ≡ piece_cell number origin index }
+    {
         Cell {
             number,
             state: State::Piece,
@@ -142,7 +155,9 @@ impl Cell {
     }
 
     /// The byte without a tag.
-    pub fn of(byte: MemByte) -> Cell {
+    pub fn of(byte: MemByte) -> Cell
+        ensures { result ≡ cell_of byte }
+    {
         match byte {
             MemByte::Unwritten => Cell::UNWRITTEN,
             MemByte::Written {
@@ -157,20 +172,26 @@ impl Cell {
     }
 
     /// The byte without its tag.
-    pub fn byte(self) -> MemByte {
-        let piece = match self.state {
-            State::Unwritten => return MemByte::Unwritten,
-            State::Plain => None,
-            State::Piece => Some((self.origin, self.piece_index)),
-        };
-        MemByte::Written {
-            number: self.number,
-            piece,
+    pub fn byte(self) -> MemByte
+        ensures { result ≡ byte_of self }
+    {
+        match self.state {
+            State::Unwritten => MemByte::Unwritten,
+            State::Plain => MemByte::Written {
+                number: self.number,
+                piece: None,
+            },
+            State::Piece => MemByte::Written {
+                number: self.number,
+                piece: Some((self.origin, self.piece_index)),
+            },
         }
     }
 
     /// The same byte with this tag.
-    pub fn tagged(self, tag: TypeId, index: u8) -> Cell {
+    pub fn tagged(self, tag: TypeId, index: u8) -> Cell
+        ensures { result ≡ record self { tag = tag; tag_index = index } }
+    {
         Cell {
             number: self.number,
             state: self.state,

@@ -7,6 +7,7 @@ mod block;
 mod cell;
 mod memory;
 mod object;
+mod objects;
 mod streams;
 mod touched;
 mod types;

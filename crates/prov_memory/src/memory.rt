@@ -1,5 +1,11 @@
 // The memory.
-ghost use Rattle.std.specs.Prelude.{◌<◌};
+ghost use Rattle.std.specs.Prelude.{◌≡◌, [], Some, not, IfSome};
+ghost use Rattle.std.specs.Option.{option_copied};
+ghost use Rattle.std.specs.Bool.{OnTrue, OnFalse};
+ghost use Rattle.exposure.specs.Cells.{kept_in, is_other, Settles};
+ghost use Rattle.prov_memory.specs.Cells.{prov_numbered};
+ghost use Rattle.prov_memory.specs.Held.{Fits, held_of};
+ghost use Rattle.prov_memory.specs.Memory.{Kept, empty, store_of, state_in, byte_in_object};
 
 mod access;
 mod arith;
@@ -10,6 +16,7 @@ mod store;
 
 use crate::cell::Cell;
 use crate::object::Object;
+use crate::objects::Objects;
 use crate::types::{self, kind_id};
 use crate::{CreateFault, MemByte, ObjKind, ObjState, Origin, Touched, TypeId};
 use addr_map::{AddrMap, Mode};
@@ -17,20 +24,18 @@ use c_types::{Shape, Ty, copied};
 use exposure::{Narrowed, Prov};
 use std::alloc::Global;
 use std::collections::BTreeMap;
+use std::marker::Model;
 use std::rc::Rc;
 use ub_base::{Event, Item, NoMemory, ObjName};
 
-/// The objects of a run, with their address map. A scalar access costs a look-up in `recent`, and where that fails one in
-/// `indices`.
+/// The objects of a run, with their address map. A scalar access costs a look-up of its object.
 #[derive(Drop)]
 pub struct Memory {
     alloc: Global,
     // how objects without a row are placed
     mode: Option<Mode>,
     map: AddrMap,
-    objects: Vec<Object>,
-    indices: BTreeMap<ObjName, usize>,
-    recent: [usize; 32],
+    objects: Objects,
     // the provenances of numbers 1, 2 ..
     origins: Vec<Prov>,
     ambiguities: BTreeMap<Prov, u32>,
@@ -40,45 +45,52 @@ pub struct Memory {
     created: u64,
 }
 
-/// Where a name is looked for first.
-fn slot_of(name: ObjName) -> usize
-    ensures { result < 32 }
-{
-    let mixed = match name {
-        ObjName::Static(k) => k,
-        ObjName::Lit(k) => k.wrapping_add(5),
-        ObjName::Argv => 11,
-        ObjName::Arg(k) => k.wrapping_add(13),
-        ObjName::Auto { frame, turn, decl } => decl
-            .wrapping_add((turn & 0xff) as u32)
-            .wrapping_add(frame.0.wrapping_mul(7)),
-        ObjName::Heap { frame, turn, node } => node
-            .wrapping_add((turn & 0xff) as u32)
-            .wrapping_add(frame.0.wrapping_mul(7))
-            .wrapping_add(17),
-    };
-    (mixed % 32) as usize
+impl Model for Memory {
+    ghost use Rattle.std.specs.Coded.{codes};
+    ghost use Rattle.c_types.specs.contracts.ty.Ty as ty;
+    ghost use Rattle.c_types.specs.contracts.shape.Shape as shape;
+    ghost use Rattle.prov_memory.specs.Memory.{Kept, HaveRows};
+
+    ghost Value = { Kept };
+
+    ghost coded = { Prim.hlevel (codes, ty.the_row.coded, shape.the_row.coded) };
+
+    ghost view = { λ m. record {
+      objects = m.objects;
+      rows = m.map;
+      origins = m.origins.items;
+      cells = m.narrowed;
+      types = m.types.items;
+      created = m.created;
+      mode = m.mode;
+    } };
+
+    ghost invariant = { λ m. HaveRows m.map m.objects };
 }
 
 impl Memory {
     /// Without objects; each new one is placed by the mode.
-    pub fn new(alloc: Global, mode: Mode) -> Memory {
+    pub fn new(alloc: Global, mode: Mode) -> Memory
+        ensures { result ≡ empty [] (Some mode) }
+    {
         Memory::with(alloc, AddrMap::new(alloc), Some(mode))
     }
 
     /// Without objects; each new one stands at its row, and one without a row is placed where `rest` has a mode.
-    pub fn with_map(alloc: Global, map: AddrMap, rest: Option<Mode>) -> Memory {
+    pub fn with_map(alloc: Global, map: AddrMap, rest: Option<Mode>) -> Memory
+        ensures { result ≡ empty map rest }
+    {
         Memory::with(alloc, map, rest)
     }
 
-    fn with(alloc: Global, map: AddrMap, mode: Option<Mode>) -> Memory {
+    fn with(alloc: Global, map: AddrMap, mode: Option<Mode>) -> Memory
+        ensures { result ≡ empty map mode }
+    {
         Memory {
             alloc,
             mode,
             map,
-            objects: Vec::new(alloc),
-            indices: BTreeMap::new(alloc),
-            recent: [0; 32],
+            objects: Objects::new(alloc),
             origins: Vec::new(alloc),
             ambiguities: BTreeMap::new(alloc),
             narrowed: Narrowed::new(alloc),
@@ -88,46 +100,34 @@ impl Memory {
     }
 
     // The object's place in `objects`.
-    fn find(&mut self, name: ObjName) -> Option<usize> {
-        let slot = slot_of(name);
-        let guess = self.recent[slot];
-        if self.is_at(guess, name) {
-            return Some(guess);
-        }
-        let at = self.indices.get(&name).copied()?;
-        self.recent[slot] = at;
-        Some(at)
+    fn find(&mut self, name: ObjName) -> Option<usize>
+        ensures same { self.new ≡ self.old }
+    {
+        self.objects.find(name)
     }
 
-    fn is_at(&self, at: usize, name: ObjName) -> bool {
-        match self.objects.get(at) {
-            None => false,
-            Some(object) => object.name == name,
-        }
-    }
-
-    fn seek(&self, name: ObjName) -> Option<&Object> {
-        let guess = self.recent[slot_of(name)];
-        if self.is_at(guess, name) {
-            return self.objects.get(guess);
-        }
-        let at = self.indices.get(&name).copied()?;
-        self.objects.get(at)
+    fn seek(&self, name: ObjName) -> Option<&Object>
+        ensures object { option_copied result ≡ held_of self.now.objects name }
+        ensures fit { IfSome result (λ object. Fits object.now) }
+    {
+        self.objects.seek(name)
     }
 
     /// The map with the rows of all objects.
-    pub fn map(&self) -> &AddrMap {
+    pub fn map(&self) -> &AddrMap
+        ensures { result.now ≡ self.now.rows }
+    {
         &self.map
     }
 
-    pub fn into_map(self) -> AddrMap {
+    pub fn into_map(self) -> AddrMap
+        ensures { result ≡ self.rows }
+    {
         let Memory {
             alloc: _,
             mode: _,
             map,
             objects: _,
-            indices: _,
-            recent: _,
             origins: _,
             ambiguities: _,
             narrowed: _,
@@ -138,18 +138,24 @@ impl Memory {
     }
 
     /// The sum of the sizes of all objects that were created, each counted as at least 16, and at most 2^62.
-    pub fn created(&self) -> u64 {
+    pub fn created(&self) -> u64
+        ensures { result ≡ self.now.created }
+    {
         self.created
     }
 
     /// None where the object wasn't created.
-    pub fn object(&self, name: ObjName) -> Option<ObjState> {
+    pub fn object(&self, name: ObjName) -> Option<ObjState>
+        ensures { result ≡ state_in (held_of self.now.objects name) }
+    {
         let object = self.seek(name)?;
         Some(object.state)
     }
 
     /// A byte of an object, unwritten past its end and where it wasn't created.
-    pub fn byte(&self, name: ObjName, at: u64) -> MemByte {
+    pub fn byte(&self, name: ObjName, at: u64) -> MemByte
+        ensures { result ≡ byte_in_object (held_of self.now.objects name) at }
+    {
         match self.seek(name) {
             None => MemByte::Unwritten,
             Some(object) => object.byte(at),
@@ -157,17 +163,26 @@ impl Memory {
     }
 
     /// The object to which the ambiguity was settled.
-    pub fn kept(&self, id: Event) -> Option<ObjName> {
+    pub fn kept(&self, id: Event) -> Option<ObjName>
+        ensures { result ≡ kept_in self.now.cells id }
+    {
         self.narrowed.kept(id)
     }
 
     /// Settles an ambiguity without an access: false, unchanged, where it was settled to another object.
-    pub fn narrow(&mut self, id: Event, keep: ObjName) -> bool {
+    pub fn narrow(&mut self, id: Event, keep: ObjName) -> bool
+        ensures answer { result ≡ not (is_other (kept_in self.old.cells id) keep) }
+        ensures settled { OnTrue result (Settles self.old.cells self.new.cells id keep) }
+        ensures unchanged { OnFalse result (self.new ≡ self.old) }
+        ensures rest { record self.new { cells = [] } ≡ record self.old { cells = [] } }
+    {
         self.narrowed.narrow(id, keep)
     }
 
     /// The provenance of this number, the empty one where there is none.
-    pub fn prov(&self, origin: Origin) -> Prov {
+    pub fn prov(&self, origin: Origin) -> Prov
+        ensures { result ≡ prov_numbered self.now.origins origin.number }
+    {
         if origin.number == 0 {
             return Prov::Empty;
         }
@@ -194,7 +209,9 @@ impl Memory {
         Some(types::id_at(at))
     }
 
-    fn add_type(&mut self, ty: Ty) -> Result<TypeId, NoMemory> {
+    fn add_type(&mut self, ty: Ty) -> Result<TypeId, NoMemory>
+        ensures { record self.new { types = [] } ≡ record self.old { types = [] } }
+    {
         let id = types::id_at(self.types.len());
         self.types.push(ty)?;
         Ok(id)

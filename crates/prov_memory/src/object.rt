@@ -1,9 +1,12 @@
 // Objects.
+ghost use Rattle.std.specs.Prelude.{◌≡◌, ℕ, ◌+◌, ◌≤◌, max, length, true, vec_len, vec_capacity};
+ghost use Rattle.prov_memory.specs.Cells.{byte_of, cell_at, cell_left, cell_put};
 
 use crate::cell::Cell;
 use crate::{MemByte, Origin, TypeId, Via};
 use c_types::Shape;
 use std::alloc::Global;
+use std::marker::Model;
 use std::rc::Rc;
 use ub_base::ObjName;
 
@@ -37,9 +40,36 @@ pub(crate) struct Object {
     pub cells: Vec<Cell>,
 }
 
+impl Model for Object {
+    ghost use Rattle.std.specs.Coded.{codes};
+    ghost use Rattle.c_types.specs.contracts.shape.Shape as shape;
+    ghost use Rattle.std.specs.Prelude.{◌≡◌, ◌≤◌, ◌+◌, ◌^◌, true, option_map, vec_len, vec_capacity};
+    ghost use Rattle.prov_memory.specs.Held.{Held};
+
+    ghost Value = { Held };
+
+    ghost coded = { Prim.hlevel (codes, shape.the_row.coded) };
+
+    ghost view = { λ o. record {
+      name = o.name;
+      base = o.base;
+      size = o.size;
+      state = o.state;
+      declared = option_map (λ shape. shape.value) o.declared;
+      origin = o.origin;
+      cells = o.cells.items;
+    } };
+
+    ghost invariant = { λ o. (o.base + o.size ≤ 2 ^ 47) × (vec_len o.cells ≤ o.size) × (o.state.live ≡ true → o.size ≤ vec_capacity o.cells) };
+}
+
 impl Object {
+    ghost use Rattle.prov_memory.specs.Held.{Fits, IsWritten, has_range, is_near, emptied, killed, uncovered};
+
     /// The byte at the place.
-    pub fn byte(&self, at: u64) -> MemByte {
+    pub fn byte(&self, at: u64) -> MemByte
+        ensures { result ≡ byte_of (cell_at self.now.cells at) }
+    {
         match self.cells.get(at as usize) {
             None => MemByte::Unwritten,
             Some(cell) => cell.byte(),
@@ -47,7 +77,9 @@ impl Object {
     }
 
     /// The byte at the place with its tag.
-    pub fn cell(&self, at: u64) -> Cell {
+    pub fn cell(&self, at: u64) -> Cell
+        ensures { result ≡ cell_at self.now.cells at }
+    {
         match self.cells.get(at as usize) {
             None => Cell::UNWRITTEN,
             Some(cell) => *cell,
@@ -55,12 +87,16 @@ impl Object {
     }
 
     /// Whether the range lies in the object.
-    pub fn has_range(&self, addr: u64, len: u64) -> bool {
+    pub fn has_range(&self, addr: u64, len: u64) -> bool
+        ensures { result ≡ has_range self.now addr len }
+    {
         self.base <= addr && len <= self.size && addr - self.base <= self.size - len
     }
 
     /// Whether the address lies in the object or one past it.
-    pub fn is_near(&self, addr: i128) -> bool {
+    pub fn is_near(&self, addr: i128) -> bool
+        ensures { result ≡ is_near self.now addr }
+    {
         let start = i128::from(self.base);
         start <= addr && addr <= start + i128::from(self.size)
     }
@@ -73,61 +109,82 @@ impl Object {
     }
 
     /// All bytes become unwritten.
-    pub fn unwrite(&mut self) {
+    pub fn unwrite(&mut self)
+        ensures { self.new ≡ emptied self.old }
+    {
         self.cells.clear();
     }
 
     /// The object dies, and its bytes are dropped.
-    pub fn die(&mut self, alloc: Global) {
+    pub fn die(&mut self, alloc: Global)
+        ensures { self.new ≡ killed self.old }
+    {
         self.state.live = false;
         self.cells = Vec::new(alloc);
     }
 
-    // Bytes that were never reached before `end` count as unwritten ones from now on.
-    fn reach(&mut self, end: usize) {
-        for _ in self.cells.len()..end {
-            let _ = self.cells.push(Cell::UNWRITTEN);
-        }
+    /// The object becomes exposed.
+    pub fn expose(&mut self)
+        ensures { self.new ≡ uncovered self.old }
+    {
+        self.state.exposed = true;
     }
 
-    /// Writes one byte.
-    pub fn put(&mut self, at: usize, cell: Cell) {
-        if at < self.cells.len() {
-            self.cells[at] = cell;
-        } else {
-            self.reach(at);
-            let _ = self.cells.push(cell);
-        }
+    /// Writes a range of a live object.
+    pub fn write(&mut self, from: u64, via: Via, cells: &[Cell])
+        requires live { self.old.state.live ≡ true }
+        requires range { from + length cells.now ≤ self.old.size }
+        ensures fits { Fits self.new }
+        ensures written { IsWritten self.old self.new from via cells.now }
+    {
+        let is_declared = self.declared.is_some();
+        let start = from as usize;
+        reach(&mut self.cells, start + cells.len());
+        put_cells(&mut self.cells, start, is_declared, via, cells);
     }
+}
 
-    /// The cell that a store by `via` leaves: in an object without declared type a scalar that is no character leaves its
-    /// tag, a whole keeps its tags, and all else leaves none.
-    pub fn kept_cell(&self, via: Via, cell: Cell, index: u8) -> Cell {
-        if self.declared.is_some() {
-            return cell.tagged(TypeId::NONE, 0);
-        }
-        match via {
-            Via::Whole => cell,
-            Via::Scalar(ty) => {
-                if ty.is_character() {
-                    cell.tagged(TypeId::NONE, 0)
-                } else {
-                    cell.tagged(ty, index)
-                }
+/// Bytes that were never reached before `end` count as unwritten ones from now on.
+fn reach(cells: &mut Vec<Cell>, end: usize)
+    requires { end ≤ vec_capacity cells.old }
+    ensures len { vec_len cells.new ≡ max (vec_len cells.old) end }
+    ensures capacity { vec_capacity cells.old ≤ vec_capacity cells.new }
+    ensures bytes { (at : ℕ) → cell_at cells.new.items at ≡ cell_at cells.old.items at }
+{
+    if cells.len() < end {
+        let _ = cells.resize(end, Cell::UNWRITTEN);
+    }
+}
+
+/// The cell that a store by `via` leaves: in an object without declared type a scalar that is no character leaves its
+/// tag, a whole keeps its tags, and all else leaves none.
+fn kept_cell(is_declared: bool, via: Via, cell: Cell, index: u8) -> Cell
+    ensures { result ≡ cell_left is_declared via index cell }
+{
+    if is_declared {
+        return cell.tagged(TypeId::NONE, 0);
+    }
+    match via {
+        Via::Whole => cell,
+        Via::Scalar(ty) => {
+            if ty.is_character() {
+                cell.tagged(TypeId::NONE, 0)
+            } else {
+                cell.tagged(ty, index)
             }
-            Via::Bytes => cell.tagged(TypeId::NONE, 0),
         }
+        Via::Bytes => cell.tagged(TypeId::NONE, 0),
     }
+}
 
-    /// Writes a range.
-    pub fn write(&mut self, from: u64, via: Via, cells: &[Cell]) {
-        let mut at = from as usize;
-        let mut index: u8 = 0;
-        for cell in cells {
-            let kept = self.kept_cell(via, *cell, index);
-            self.put(at, kept);
-            at = at.saturating_add(1);
-            index = index.saturating_add(1);
-        }
+/// Puts the cells that a store leaves.
+fn put_cells(to: &mut Vec<Cell>, start: usize, is_declared: bool, via: Via, cells: &[Cell])
+    requires { start + length cells.now ≤ vec_len to.old }
+    ensures len { vec_len to.new ≡ vec_len to.old }
+    ensures capacity { vec_capacity to.old ≤ vec_capacity to.new }
+    ensures bytes { (at : ℕ) → cell_at to.new.items at ≡ cell_put to.old.items start (length cells.now) is_declared via cells.now at }
+{
+    for at in 0..cells.len() {
+        to[start + at] = kept_cell(is_declared, via, cells[at], (at % 256) as u8);
     }
 }

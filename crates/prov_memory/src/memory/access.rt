@@ -1,4 +1,6 @@
 // The checks of an access.
+ghost use Rattle.std.specs.Prelude.{◌≡◌, IfOk};
+ghost use Rattle.prov_memory.specs.Held.{FallsIn};
 
 use super::*;
 use addr_map::Row;
@@ -74,7 +76,10 @@ impl Memory {
         addr: u64,
         prov: Prov,
         t: &mut Touched,
-    ) -> Result<Accessed, Clause> {
+    ) -> Result<Accessed, Clause>
+        ensures same { self.new ≡ self.old }
+        ensures range { IfOk result (λ found. FallsIn self.old.objects found.object found.from len) }
+    {
         if addr == 0 {
             return Err(Clause::InvalidPointer);
         }

@@ -1,4 +1,6 @@
 // Pointer arithmetic, comparison and casts.
+ghost use Rattle.std.specs.Prelude.{◌≡◌, IfOk, IfSome};
+ghost use Rattle.prov_memory.specs.Held.{FallsIn};
 
 use super::access::Accessed;
 use super::*;
@@ -222,7 +224,10 @@ impl Memory {
         len: u64,
         pending: Option<(Event, ObjName)>,
         t: &mut Touched,
-    ) -> Result<Option<Accessed>, Clause> {
+    ) -> Result<Option<Accessed>, Clause>
+        ensures same { self.new ≡ self.old }
+        ensures range { IfOk result (λ found. IfSome found (λ place. FallsIn self.old.objects place.object place.from len)) }
+    {
         if addr == 0 {
             return Err(Clause::LibraryArgument);
         }

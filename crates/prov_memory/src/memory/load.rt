@@ -1,4 +1,5 @@
 // Loads.
+ghost use Rattle.std.specs.Prelude.{◌≡◌, length, IfOk};
 
 use super::access::{Accessed, Asks};
 use super::*;
@@ -171,12 +172,10 @@ impl Memory {
     }
 
     // The bytes of a range with their tags, those of an object with declared type by its scalars.
-    pub(super) fn cells_of(
-        &mut self,
-        at: usize,
-        from: u64,
-        len: u64,
-    ) -> Result<Vec<Cell>, NoMemory> {
+    pub(super) fn cells_of(&mut self, at: usize, from: u64, len: u64) -> Result<Vec<Cell>, NoMemory>
+        ensures objects { self.new.objects ≡ self.old.objects }
+        ensures len { IfOk result (λ cells. length cells.items ≡ len) }
+    {
         let mut cells = Vec::with_capacity(self.alloc, len as usize)?;
         for offset in 0..len {
             let place = from.saturating_add(offset);
@@ -186,7 +185,9 @@ impl Memory {
         Ok(cells)
     }
 
-    fn tagged_cell(&mut self, at: usize, place: u64) -> Result<Cell, NoMemory> {
+    fn tagged_cell(&mut self, at: usize, place: u64) -> Result<Cell, NoMemory>
+        ensures { self.new.objects ≡ self.old.objects }
+    {
         let cell = match self.objects.get(at) {
             None => Cell::UNWRITTEN,
             Some(object) => object.cell(place),

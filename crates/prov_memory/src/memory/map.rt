@@ -1,4 +1,14 @@
 // Birth and death of objects.
+ghost use Rattle.std.specs.Prelude.{◌≡◌, ◌+◌, ◌<◌, ◌≤◌, ◌^◌, ◌∷◌, ◌++◌, [], Some, length, map, IfOk, OnErr};
+ghost use Rattle.addr_map.specs.Rows.{row_of, row_at};
+ghost use Rattle.ub_base.specs.declared.names.Item.TheVariants.{Expose};
+ghost use Rattle.exposure.specs.declared.prov.Prov.{Prov};
+ghost use Rattle.prov_memory.specs.Acts as acts;
+ghost use Rattle.prov_memory.specs.Acts.{candidates};
+ghost use Rattle.prov_memory.specs.Script.{run, Done};
+ghost use Rattle.prov_memory.specs.Streams.{Io};
+ghost use Rattle.prov_memory.specs.Held.{changed, uncovered};
+ghost use Rattle.prov_memory.specs.Memory.{store_of, uncovered_each};
 
 use super::*;
 
@@ -26,14 +36,7 @@ impl Memory {
             return Err(CreateFault::NoMemory);
         };
         let cells = Vec::with_capacity(self.alloc, room).map_err(NoMemory::from)?;
-        self.objects.reserve(1).map_err(NoMemory::from)?;
-        self.origins.reserve(1).map_err(NoMemory::from)?;
-        let at = self.objects.len();
         let base = self.base_for(name, size, align)?;
-        self.indices.insert(name, at).map_err(NoMemory::from)?;
-        self.origins
-            .push(Prov::Whole(name))
-            .map_err(NoMemory::from)?;
         let object = Object {
             name,
             base,
@@ -47,14 +50,21 @@ impl Memory {
             origin: Origin { number },
             cells,
         };
-        self.objects.push(object).map_err(NoMemory::from)?;
+        self.origins.reserve(1).map_err(NoMemory::from)?;
+        self.objects.add(object)?;
+        self.origins.push_reserved(Prov::Whole(name));
         self.created = counted(self.created, size);
         t.note(Item::Born(name));
         Ok(base)
     }
 
     // The base of a new object, whose row is then there.
-    fn base_for(&mut self, name: ObjName, size: u64, align: u64) -> Result<u64, CreateFault> {
+    fn base_for(&mut self, name: ObjName, size: u64, align: u64) -> Result<u64, CreateFault>
+        ensures rest { record self.new { rows = [] } ≡ record self.old { rows = [] } }
+        ensures row { IfOk result (λ base. row_of self.new.rows name ≡ Some (row_at name base size align)) }
+        ensures end { IfOk result (λ base. base + size ≤ 2 ^ 47) }
+        ensures err { OnErr result (self.new ≡ self.old) }
+    {
         if let Some(row) = self.map.row(name) {
             if row.size == size && row.align == align {
                 return Ok(row.base);
@@ -71,57 +81,53 @@ impl Memory {
     }
 
     /// The object dies, where it was created. Its bytes count as unwritten from now on.
-    pub fn kill(&mut self, name: ObjName, t: &mut Touched) {
+    pub fn kill(&mut self, name: ObjName, t: &mut Touched)
+        ensures { (io : Io) → run self.new.rows (acts.kill name) (store_of self.old io) ≡ Done tt t.new (store_of self.new io) }
+    {
         t.clear();
         t.note(Item::Dies(name));
-        let Some(at) = self.find(name) else {
-            return;
-        };
-        if at < self.objects.len() {
-            let alloc = self.alloc;
-            let object = &mut self.objects[at];
-            object.die(alloc);
-        }
+        self.objects.kill(name, self.alloc);
     }
 
     /// Makes all bytes of the object unwritten, where it was created.
-    pub fn unwrite(&mut self, name: ObjName, t: &mut Touched) {
+    pub fn unwrite(&mut self, name: ObjName, t: &mut Touched)
+        ensures { (io : Io) → run self.new.rows (acts.unwrite self.new.rows name) (store_of self.old io) ≡ Done tt t.new (store_of self.new io) }
+    {
         t.clear();
         t.note(Item::Alive(name));
-        let Some(at) = self.find(name) else {
+        let Some(object) = self.objects.seek(name) else {
             return;
         };
-        if at < self.objects.len() {
-            let object = &mut self.objects[at];
-            let size = object.size;
-            object.unwrite();
-            t.note(Item::Write {
-                object: name,
-                from: 0,
-                len: size,
-            });
-        }
+        let len = object.size;
+        self.objects.unwrite(name);
+        t.note(Item::Write {
+            object: name,
+            from: 0,
+            len,
+        });
     }
 
     // The object becomes exposed.
-    fn show(&mut self, name: ObjName, t: &mut Touched) {
+    fn show(&mut self, name: ObjName, t: &mut Touched)
+        ensures shown { self.new ≡ record self.old { objects = changed uncovered name self.old.objects } }
+        ensures items { length t.old < 32 → t.new ≡ t.old ++ Expose name ∷ [] }
+    {
         t.note(Item::Expose(name));
-        let Some(at) = self.find(name) else {
-            return;
-        };
-        if at < self.objects.len() {
-            let object = &mut self.objects[at];
-            object.state.exposed = true;
-        }
+        self.objects.expose(name);
     }
 
     /// Exposes each object of the provenance.
-    pub fn expose(&mut self, prov: Prov, t: &mut Touched) {
+    pub fn expose(&mut self, prov: Prov, t: &mut Touched)
+        ensures { (io : Io) → run self.new.rows (acts.expose prov) (store_of self.old io) ≡ Done tt t.new (store_of self.new io) }
+    {
         t.clear();
         self.show_each(prov, t);
     }
 
-    pub(super) fn show_each(&mut self, prov: Prov, t: &mut Touched) {
+    pub(super) fn show_each(&mut self, prov: Prov, t: &mut Touched)
+        ensures shown { self.new ≡ record self.old { objects = uncovered_each (candidates prov) self.old.objects } }
+        ensures items { length t.old + 1 < 32 → t.new ≡ t.old ++ map Expose (candidates prov) }
+    {
         match prov {
             Prov::Empty => {}
             Prov::Whole(name) => self.show(name, t),

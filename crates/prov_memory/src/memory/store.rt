@@ -1,4 +1,6 @@
 // Stores.
+ghost use Rattle.std.specs.Prelude.{◌≡◌, length, IfOk};
+ghost use Rattle.prov_memory.specs.Held.{FallsIn};
 
 use super::access::{Accessed, Asks};
 use super::*;
@@ -91,7 +93,9 @@ impl Memory {
         addr: u64,
         prov: Prov,
         t: &mut Touched,
-    ) -> Result<Accessed, Clause> {
+    ) -> Result<Accessed, Clause>
+        ensures { IfOk result (λ found. FallsIn self.new.objects found.object found.from len) }
+    {
         let found = self.access(len, align, Asks::Nothing, addr, prov, t)?;
         let Via::Scalar(id) = via else {
             return Ok(found);
@@ -139,13 +143,12 @@ impl Memory {
     }
 
     /// Writes the bytes where an access falls.
-    fn write(&mut self, found: Accessed, via: Via, cells: &[Cell], t: &mut Touched) {
-        let at = found.object;
-        if at < self.objects.len() {
-            let object = &mut self.objects[at];
-            object.write(found.from, via, cells);
+    fn write(&mut self, found: Accessed, via: Via, cells: &[Cell], t: &mut Touched)
+        requires { FallsIn self.old.objects found.object found.from (length cells.now) }
+    {
+        if let Some(name) = self.objects.write(found.object, found.from, via, cells) {
             t.note(Item::Write {
-                object: object.name,
+                object: name,
                 from: found.from,
                 len: cells.len() as u64,
             });

@@ -1,0 +1,4 @@
+pub mod HeldLemmas
+pub mod StoreLemmas
+pub mod ActLemmas
+pub mod CellLemmas

@@ -1,0 +1,15 @@
+use Rattle.std.proofs.Common.{sym, subst, List}
+use Rattle.prov_memory.specs.Held.{Held}
+use Rattle.prov_memory.specs.Memory.{HaveRows}
+use Rattle.prov_memory.specs.contracts.memory.Memory.{the_view}
+use Rattle.prov_memory.proofs.StoreLemmas.{rows_killed}
+use Rattle.prov_memory.proofs.ActLemmas.{first_noted, killed_act}
+use Rattle.prov_memory.proofs.memory.Memory.kill.Goals as goal
+
+pub invariant_of-self : goal.invariant_of-self
+invariant_of-self c =
+    subst (λ (hs : List Held). HaveRows c.self.inside.map hs) (sym c.kill.ensures) (rows_killed c.self.inside.map c.args.name c.self.inside.objects c.self.invariant)
+
+pub returns : goal.returns
+returns c = λ io.
+    rw (← c.self.view_is, c.kill.ensures) (killed_act (the_view c.self.inside) c.args.name c.note.new.self c.self.inside.map (first_noted c.clear.new.self c.note.new.self _ c.clear.ensures c.note.ensures) io)

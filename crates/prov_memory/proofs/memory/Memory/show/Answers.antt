@@ -1,0 +1,9 @@
+use Rattle.std.proofs.Common.{◌≡◌, ◌∙◌, refl, sym, ap, ap₂, subst, List}
+use Rattle.prov_memory.specs.Held.{Held, changed, uncovered}
+use Rattle.prov_memory.specs.Memory.{HaveRows}
+use Rattle.prov_memory.proofs.StoreLemmas.{rows_uncovered}
+use Rattle.prov_memory.proofs.memory.Memory.show.Goals as goal
+
+pub invariant_of-self : goal.invariant_of-self
+invariant_of-self c =
+    subst (λ (hs : List Held). HaveRows c.self.inside.map hs) (sym c.expose.ensures) (rows_uncovered c.self.inside.map c.args.name c.self.inside.objects c.self.invariant)

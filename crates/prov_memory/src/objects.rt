@@ -1,0 +1,184 @@
+// Objects by their names.
+ghost use Rattle.std.specs.Prelude.{◌≡◌, ◌<◌, ◌++◌, ◌∷◌, [], None, Some, List, true, length, slice_get, slice_set, IfSome, OnOk, OnErr};
+ghost use Rattle.std.specs.Option.{option_and_then, option_copied};
+ghost use Rattle.addr_map.specs.declared.map.Row.{Row};
+ghost use Rattle.prov_memory.specs.Memory.{HaveRows};
+ghost use Rattle.prov_memory.specs.Held.{Held, Fits, FallsIn, IsWritten, held_of, changed, name_at, emptied, killed, uncovered};
+
+use crate::Via;
+use crate::cell::Cell;
+use crate::object::Object;
+use std::alloc::Global;
+use std::collections::BTreeMap;
+use std::marker::Model;
+use ub_base::{NoMemory, ObjName};
+
+/// The objects of a memory in the order of their creation. A look-up costs one of `recent`, and where that fails one in
+/// `indices`.
+#[derive(Drop)]
+pub(crate) struct Objects {
+    list: Vec<Object>,
+    indices: BTreeMap<ObjName, usize>,
+    recent: [usize; 32],
+}
+
+impl Model for Objects {
+    ghost use Rattle.std.specs.Coded.{codes};
+    ghost use Rattle.c_types.specs.contracts.shape.Shape as shape;
+    ghost use Rattle.std.specs.Prelude.{List};
+    ghost use Rattle.prov_memory.specs.Held.{Held, IsIndexed};
+
+    ghost Value = { List Held };
+
+    ghost coded = { Prim.hlevel (codes, shape.the_row.coded) };
+
+    ghost view = { λ o. o.list.items };
+
+    ghost invariant = { λ o. IsIndexed o.indices o.list.items };
+}
+
+/// Where a name is looked for first.
+fn slot_of(name: ObjName) -> usize
+    ensures { result < 32 }
+{
+    let mixed = match name {
+        ObjName::Static(k) => k,
+        ObjName::Lit(k) => k.wrapping_add(5),
+        ObjName::Argv => 11,
+        ObjName::Arg(k) => k.wrapping_add(13),
+        ObjName::Auto { frame, turn, decl } => decl
+            .wrapping_add((turn & 0xff) as u32)
+            .wrapping_add(frame.0.wrapping_mul(7)),
+        ObjName::Heap { frame, turn, node } => node
+            .wrapping_add((turn & 0xff) as u32)
+            .wrapping_add(frame.0.wrapping_mul(7))
+            .wrapping_add(17),
+    };
+    (mixed % 32) as usize
+}
+
+impl Objects {
+    /// Without objects.
+    pub fn new(alloc: Global) -> Objects
+        ensures { result ≡ [] }
+    {
+        Objects {
+            list: Vec::new(alloc),
+            indices: BTreeMap::new(alloc),
+            recent: [0; 32],
+        }
+    }
+
+    /// The object at the place.
+    pub fn get(&self, at: usize) -> Option<&Object>
+        ensures object { option_copied result ≡ slice_get self.now at }
+        ensures fit { IfSome result (λ object. Fits object.now) }
+    {
+        let _invariant = &self.indices;
+        self.item(at)
+    }
+
+    fn item(&self, at: usize) -> Option<&Object>
+        ensures { option_copied result ≡ slice_get self.now at }
+    {
+        self.list.get(at)
+    }
+
+    fn is_at(&self, at: usize, name: ObjName) -> bool
+        ensures { result ≡ true → name_at self.now at ≡ Some name }
+    {
+        match self.list.get(at) {
+            None => false,
+            Some(object) => object.name == name,
+        }
+    }
+
+    /// The place of the object of that name.
+    pub fn find(&mut self, name: ObjName) -> Option<usize>
+        ensures same { self.new ≡ self.old }
+        ensures some { IfSome result (λ at. name_at self.old at ≡ Some name) }
+        ensures object { held_of self.old name ≡ option_and_then (λ at. slice_get self.old at) result }
+    {
+        let slot = slot_of(name);
+        let guess = self.recent[slot];
+        if self.is_at(guess, name) {
+            return Some(guess);
+        }
+        let at = self.indices.get(&name).copied()?;
+        self.recent[slot] = at;
+        Some(at)
+    }
+
+    /// The object of that name.
+    pub fn seek(&self, name: ObjName) -> Option<&Object>
+        ensures object { option_copied result ≡ held_of self.now name }
+        ensures fit { IfSome result (λ object. Fits object.now) }
+    {
+        let guess = self.recent[slot_of(name)];
+        if self.is_at(guess, name) {
+            return self.get(guess);
+        }
+        match self.indices.get(&name).copied() {
+            None => None,
+            Some(at) => self.get(at),
+        }
+    }
+
+    /// Adds an object of a new name.
+    pub fn add(&mut self, object: Object) -> Result<(), NoMemory>
+        requires { held_of self.old object.name ≡ None }
+        ensures ok { OnOk result (self.new ≡ self.old ++ object ∷ []) }
+        ensures err { OnErr result (self.new ≡ self.old) }
+    {
+        self.list.reserve(1)?;
+        self.indices.insert(object.name, self.list.len())?;
+        self.list.push_reserved(object);
+        Ok(())
+    }
+
+    /// The bytes of the object become unwritten, where it is there.
+    pub fn unwrite(&mut self, name: ObjName)
+        ensures { self.new ≡ changed emptied name self.old }
+    {
+        if let Some(at) = self.find(name) {
+            let object = &mut self.list[at];
+            object.unwrite();
+        }
+    }
+
+    /// The object dies, where it is there.
+    pub fn kill(&mut self, name: ObjName, alloc: Global)
+        ensures { self.new ≡ changed killed name self.old }
+    {
+        if let Some(at) = self.find(name) {
+            let object = &mut self.list[at];
+            object.die(alloc);
+        }
+    }
+
+    /// The object becomes exposed, where it is there.
+    pub fn expose(&mut self, name: ObjName)
+        ensures { self.new ≡ changed uncovered name self.old }
+    {
+        if let Some(at) = self.find(name) {
+            let object = &mut self.list[at];
+            object.expose();
+        }
+    }
+
+    /// Writes bytes into a range of the object at the place, and gives its name.
+    pub fn write(&mut self, at: usize, from: u64, via: Via, cells: &[Cell]) -> Option<ObjName>
+        requires { FallsIn self.old at from (length cells.now) }
+        ensures rows { (rows : List Row) → HaveRows rows self.old → HaveRows rows self.new }
+        ensures name { result ≡ name_at self.old at }
+        ensures written { (h : Held) → slice_get self.old at ≡ Some h → (g : Held) × (self.new ≡ slice_set self.old at g) × IsWritten h g from via cells.now }
+    {
+        if at < self.list.len() {
+            let object = &mut self.list[at];
+            object.write(from, via, cells);
+            Some(object.name)
+        } else {
+            None
+        }
+    }
+}
