@@ -2,24 +2,20 @@
 ghost use Rattle.std.specs.Prelude.{◌≡◌, ◌⊎◌, true, not, Some, IfSome};
 ghost use Rattle.ub_base.specs.Names.{same_object};
 ghost use Rattle.footprint.specs.Conflicts.{MayConflict};
+ghost use Rattle.footprint.specs.Found.{RaceIn};
+ghost use Rattle.footprint.specs.Least.{IsLeast, read_at, write_at, paired};
 
 use crate::Foot;
 use crate::meeting::is_at;
-use crate::span::Span;
-use crate::spans::Spans;
+use crate::order::lesser;
+use crate::shared::least_common;
+use crate::span::Byte;
 use crate::state::State;
 use addr_map::AddrMap;
 use c_names::{cmp_events, cmp_objects};
 use std::cmp::Ordering;
 use std::collections::BTreeMap;
 use ub_base::{Event, Frames, Item, ObjName};
-
-/// A byte of an object.
-#[derive(Clone, Copy, Debug)]
-struct Byte {
-    object: ObjName,
-    at: u64,
-}
 
 /// The least pair of an item of `a` and an item of `b` that conflict, each Read and Write being of one byte: by the first
 /// item and then the second, items by kind in the order of `Item` and then by their parts.
@@ -43,124 +39,54 @@ pub fn conflict(frames: &Frames, a: &Foot, b: &Foot, map: &AddrMap) -> Option<(I
 
 /// The least pair of accesses of one byte, of which one is a Write.
 pub fn access_pair(frames: &Frames, a: &Foot, b: &Foot) -> Option<(Item, Item)>
-    ensures { IfSome result (λ p. MayConflict p.0 p.1) }
+    ensures may { IfSome result (λ p. MayConflict p.0 p.1) }
+    ensures least { IsLeast frames.now (RaceIn a.now b.now) result }
 {
-    if let Some(byte) = least_common(frames, &a.reads, &b.writes) {
-        return Some(read_written(byte));
-    }
-    let with_read = least_common(frames, &a.writes, &b.reads);
-    let with_write = least_common(frames, &a.writes, &b.writes);
-    match (with_read, with_write) {
-        (None, None) => None,
-        (Some(byte), None) => Some(written_read(byte)),
-        (None, Some(byte)) => Some(written_twice(byte)),
-        (Some(read_byte), Some(write_byte)) => {
-            if by_byte(frames, write_byte, read_byte) == Ordering::Less {
-                Some(written_twice(write_byte))
-            } else {
-                Some(written_read(read_byte))
-            }
-        }
-    }
+    let read = read_written(least_common(frames, &a.reads, &b.writes));
+    let written = written_read(least_common(frames, &a.writes, &b.reads));
+    let twice = written_twice(least_common(frames, &a.writes, &b.writes));
+    lesser(frames, lesser(frames, read, written), twice)
 }
 
-#[tactic(auto, using(crate::proofs::Pairs::pairs))]
-fn read_written(byte: Byte) -> (Item, Item)
-    ensures { MayConflict result.0 result.1 }
+fn read_written(byte: Option<Byte>) -> Option<(Item, Item)>
+    ensures { result ≡ paired read_at write_at byte }
 {
-    (
-        Item::Read {
-            object: byte.object,
-            from: byte.at,
-            len: 1,
-        },
-        Item::Write {
-            object: byte.object,
-            from: byte.at,
-            len: 1,
-        },
-    )
+    let byte = byte?;
+    Some((read_at(byte), write_at(byte)))
 }
 
-#[tactic(auto, using(crate::proofs::Pairs::pairs))]
-fn written_read(byte: Byte) -> (Item, Item)
-    ensures { MayConflict result.0 result.1 }
+fn written_read(byte: Option<Byte>) -> Option<(Item, Item)>
+    ensures { result ≡ paired write_at read_at byte }
 {
-    (
-        Item::Write {
-            object: byte.object,
-            from: byte.at,
-            len: 1,
-        },
-        Item::Read {
-            object: byte.object,
-            from: byte.at,
-            len: 1,
-        },
-    )
+    let byte = byte?;
+    Some((write_at(byte), read_at(byte)))
 }
 
-#[tactic(auto, using(crate::proofs::Pairs::pairs))]
-fn written_twice(byte: Byte) -> (Item, Item)
-    ensures { MayConflict result.0 result.1 }
+fn written_twice(byte: Option<Byte>) -> Option<(Item, Item)>
+    ensures { result ≡ paired write_at write_at byte }
 {
-    (
-        Item::Write {
-            object: byte.object,
-            from: byte.at,
-            len: 1,
-        },
-        Item::Write {
-            object: byte.object,
-            from: byte.at,
-            len: 1,
-        },
-    )
+    let byte = byte?;
+    Some((write_at(byte), write_at(byte)))
 }
 
-fn by_byte(frames: &Frames, a: Byte, b: Byte) -> Ordering {
-    cmp_objects(frames, &a.object, &b.object).then(a.at.cmp(&b.at))
-}
-
-fn lesser_byte(frames: &Frames, best: Option<Byte>, byte: Byte) -> Option<Byte> {
-    match best {
-        Some(old) => {
-            if by_byte(frames, byte, old) == Ordering::Less {
-                Some(byte)
-            } else {
-                best
-            }
-        }
-        None => Some(byte),
+fn read_at(byte: Byte) -> Item
+    ensures { result ≡ read_at byte.object byte.at }
+{
+    Item::Read {
+        object: byte.object,
+        from: byte.at,
+        len: 1,
     }
 }
 
-// The least byte that is in both sets.
-fn least_common(frames: &Frames, a: &Spans, b: &Spans) -> Option<Byte> {
-    if a.len() <= b.len() {
-        least_of(frames, a, b)
-    } else {
-        least_of(frames, b, a)
+fn write_at(byte: Byte) -> Item
+    ensures { result ≡ write_at byte.object byte.at }
+{
+    Item::Write {
+        object: byte.object,
+        from: byte.at,
+        len: 1,
     }
-}
-
-fn least_of(frames: &Frames, few: &Spans, many: &Spans) -> Option<Byte> {
-    let mut best = None;
-    for (key, end) in few.iter() {
-        let span = Span {
-            object: key.0,
-            from: key.1,
-            end: *end,
-        };
-        if let Some(at) = many.overlap(span) {
-            let byte = Byte {
-                object: span.object,
-                at,
-            };
-            best = lesser_byte(frames, best, byte);
-        }
-    }
-    best
 }
 
 fn lesser_object(frames: &Frames, best: Option<ObjName>, object: ObjName) -> Option<ObjName>

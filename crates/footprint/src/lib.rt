@@ -4,7 +4,9 @@
 mod foot;
 mod least;
 mod meeting;
+mod order;
 mod sets;
+mod shared;
 mod span;
 mod spans;
 mod starts;

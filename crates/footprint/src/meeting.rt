@@ -1,8 +1,10 @@
 // Whether two footprints conflict.
+ghost use Rattle.std.specs.Prelude.{◌≡◌, ◌↔◌, IsTrue};
+ghost use Rattle.ub_base.specs.declared.names.Item.{Item};
+ghost use Rattle.footprint.specs.Conflicts.{conflicts_one, items_conflict, stands_at, overlap, meets_access};
+ghost use Rattle.footprint.specs.Found.{SomeRace};
 
 use crate::Foot;
-use crate::foot::range;
-use crate::span::Span;
 use crate::state::State;
 use addr_map::AddrMap;
 use std::collections::{BTreeMap, BTreeSet};
@@ -19,7 +21,9 @@ pub fn conflicts(a: &Foot, b: &Foot, map: &AddrMap) -> bool {
 }
 
 /// Whether both have a byte that one of them writes.
-pub fn races(a: &Foot, b: &Foot) -> bool {
+pub fn races(a: &Foot, b: &Foot) -> bool
+    ensures { IsTrue result ↔ SomeRace a.now b.now }
+{
     a.writes.meets(&b.writes) || (a.writes.meets(&b.reads) || a.reads.meets(&b.writes))
 }
 
@@ -100,13 +104,17 @@ pub fn is_narrowed_otherwise(
 }
 
 /// Whether two items conflict, of ranges a byte of each.
-pub fn items_conflict(a: &Item, b: &Item, map: &AddrMap) -> bool {
+pub fn items_conflict(a: &Item, b: &Item, map: &AddrMap) -> bool
+    ensures { result ≡ items_conflict (stands_at map.now) a.now b.now }
+{
     one_conflicts(a, b, map) || one_conflicts(b, a, map)
 }
 
-fn one_conflicts(a: &Item, b: &Item, map: &AddrMap) -> bool {
+fn one_conflicts(a: &Item, b: &Item, map: &AddrMap) -> bool
+    ensures { result ≡ conflicts_one (stands_at map.now) a.now b.now }
+{
     match *a {
-        Item::Write { object, from, len } => meets_access(range(object, from, len), b),
+        Item::Write { object, from, len } => meets_access(object, from, len, b),
         Item::Born(x) => match *b {
             Item::Alive(y) => x == y,
             Item::Expose(y) => x == y,
@@ -137,20 +145,39 @@ fn one_conflicts(a: &Item, b: &Item, map: &AddrMap) -> bool {
     }
 }
 
-fn meets_access(written: Span, b: &Item) -> bool {
+fn meets_access(object: ObjName, from: u64, len: u64, b: &Item) -> bool
+    ensures { result ≡ meets_access object from len b.now }
+{
     match *b {
-        Item::Read { object, from, len } => overlap(written, range(object, from, len)),
-        Item::Write { object, from, len } => overlap(written, range(object, from, len)),
+        Item::Read {
+            object: other,
+            from: start,
+            len: size,
+        } => object == other && overlap(from, len, start, size),
+        Item::Write {
+            object: other,
+            from: start,
+            len: size,
+        } => object == other && overlap(from, len, start, size),
         _ => false,
     }
 }
 
-fn overlap(a: Span, b: Span) -> bool {
-    a.object == b.object && a.from.max(b.from) < a.end.min(b.end)
+/// Whether the bytes that begin at `a` share one with those that begin at `b`.
+fn overlap(a: u64, a_len: u64, b: u64, b_len: u64) -> bool
+    ensures { result ≡ overlap a a_len b b_len }
+{
+    if a <= b {
+        b_len > 0 && b - a < a_len
+    } else {
+        a_len > 0 && a - b < b_len
+    }
 }
 
 // Whether the object contains the address or has it one past.
-pub fn is_at(map: &AddrMap, object: ObjName, addr: u64) -> bool {
+pub fn is_at(map: &AddrMap, object: ObjName, addr: u64) -> bool
+    ensures { result ≡ stands_at map.now object addr }
+{
     let (inside, past) = map.covering(addr);
     inside == Some(object) || past == Some(object)
 }

@@ -1,6 +1,13 @@
-// One range of bytes.
+// One byte, and one range of bytes.
 
 use ub_base::ObjName;
+
+/// A byte of an object.
+#[derive(Clone, Copy, Debug)]
+pub struct Byte {
+    pub object: ObjName,
+    pub at: u64,
+}
 
 /// The bytes of an object from one up to but without another.
 #[derive(Clone, Copy, Debug, PartialEq, Eq)]
