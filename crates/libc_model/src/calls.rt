@@ -1,5 +1,5 @@
 // The functions of the library, each with its act.
-ghost use Rattle.std.specs.Prelude.{◌≢◌};
+ghost use Rattle.std.specs.Prelude.{◌≡◌, ◌≢◌, ◌<◌, ◌+◌, ◌^◌, nat_lt, Some, None, if◌then◌else◌};
 ghost use Rattle.c_types.specs.declared.library.LibFunc.TheVariants.{Printf};
 
 use crate::arguments::{check_string, int_at, pointer_at, size_at};
@@ -11,7 +11,7 @@ use std::alloc::Global;
 use ub_base::{Cause, Clause, Event, Item, NoMemory};
 
 /// The limit on the length of the output (own).
-pub const OUTPUT: u64 = 1 << 24;
+const OUTPUT: u64 = 1 << 24;
 
 /// The status of a program that aborts (own).
 const ABORTED: u8 = 134;
@@ -88,13 +88,19 @@ fn getchar(io: &mut Streams, t: &mut Touched) -> Result<Value, LibAnswer> {
     }
 }
 
-/// Whether so many more bytes of output pass the limit.
+/// The length that the output would reach with so many more bytes, where that passes the limit.
+pub fn output_past(written: u64, more: u64) -> Option<u64>
+    ensures { written + more < 2 ^ 64 → result ≡ (if nat_lt (2 ^ 24) (written + more) then Some (written + more) else None) }
+{
+    let total = written.saturating_add(more);
+    if total > OUTPUT { Some(total) } else { None }
+}
+
+// Whether so many more bytes of output pass the limit.
 fn check_output(io: &Streams, more: u64) -> Result<(), LibAnswer> {
-    let total = io.written().saturating_add(more);
-    if total > OUTPUT {
-        Err(LibAnswer::Outside(Cause::Output, total))
-    } else {
-        Ok(())
+    match output_past(io.written(), more) {
+        Some(total) => Err(LibAnswer::Outside(Cause::Output, total)),
+        None => Ok(()),
     }
 }
 

@@ -1,6 +1,6 @@
 // Functions on ranges of bytes (7.24.2.1, 7.24.2.2, 7.24.4.1, 7.24.6.1).
 
-ghost use Rattle.std.specs.Prelude.{◌≡◌};
+ghost use Rattle.std.specs.Prelude.{◌≡◌, Ok, Err, if◌then◌else◌};
 ghost use Rattle.libc_spec.specs.Library.{low_byte, order_of, overlap};
 
 use crate::arguments::{Pointer, Range, check, int_at, pointer_at, size_at};
@@ -30,10 +30,21 @@ pub fn order_of(first: &[u8], second: &[u8]) -> i128
 }
 
 /// Whether two ranges of this many bytes overlap.
-pub fn overlap(len: u64, a: u64, b: u64) -> bool
+fn overlap(len: u64, a: u64, b: u64) -> bool
     ensures { result ≡ overlap len a b }
 {
     if a <= b { b - a < len } else { a - b < len }
+}
+
+/// Whether two ranges of this many bytes may both be used: the clause where they overlap.
+pub fn check_apart(len: u64, to: u64, from: u64, clause: Clause) -> Result<(), Clause>
+    ensures { result ≡ (if overlap len to from then Err clause else Ok tt) }
+{
+    if overlap(len, to, from) {
+        Err(clause)
+    } else {
+        Ok(())
+    }
 }
 
 fn check_target(m: &Memory, target: Option<Range>) -> Result<(), Clause> {
@@ -77,8 +88,8 @@ pub fn copy(
     let target = check(m, to, len, t)?;
     let source = check(m, from, len, t)?;
     check_target(m, target)?;
-    if !may_overlap && len != 0 && overlap(len, to.addr, from.addr) {
-        return Err(LibAnswer::Raise(Clause::MemcpyOverlap));
+    if !may_overlap {
+        check_apart(len, to.addr, from.addr, Clause::MemcpyOverlap)?;
     }
     let mut scratch = Touched::new(alloc)?;
     if let (Some(target), Some(source)) = (target, source)

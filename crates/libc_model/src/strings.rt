@@ -5,7 +5,7 @@ ghost use Rattle.std.specs.List.{position};
 
 use crate::arguments::{Pointer, Range, check, check_string, int_at, pointer_at};
 use crate::bytes::{add_write, block_of, check_writable, put, read, settle};
-use crate::ranges::{low_byte, order_of, overlap};
+use crate::ranges::{check_apart, low_byte, order_of};
 use prov_memory::{LibAnswer, Memory, Touched, Value, Via};
 use std::alloc::Global;
 use ub_base::Clause;
@@ -46,9 +46,7 @@ pub fn copy_string(
     if let Some(range) = target {
         check_writable(m, range.object)?;
     }
-    if overlap(source.len, to.addr, from.addr) {
-        return Err(LibAnswer::Raise(Clause::StrcpyOverlap));
-    }
+    check_apart(source.len, to.addr, from.addr, Clause::StrcpyOverlap)?;
     let mut scratch = Touched::new(alloc)?;
     if let Some(range) = target {
         add_write(range, t)?;

@@ -4,6 +4,7 @@
 mod directive;
 mod number;
 mod printf;
+mod refusal;
 mod values;
 
 pub use printf::format;

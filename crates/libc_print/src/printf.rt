@@ -1,11 +1,16 @@
 // printf.
 
-use crate::directive::{Directive, Flags, Form, behind, directive_of};
-use crate::number::{Base, Field, Integer, Parts, digits, put_field, put_integer};
-use crate::values::{Arguments, Sizes, take_int, take_integer, take_pointer, take_sizes};
+ghost use Rattle.libc_spec.specs.Print.{put_byte, put_integer};
+ghost use Rattle.libc_print.specs.Seen.{directive_seen, width_seen, left};
+ghost use Rattle.libc_print.specs.Answers.{Puts};
+
+use crate::directive::{Directive, Form, behind, directive_of};
+use crate::number::{Width, is_signed, put_address, put_integer, put_text};
+use crate::refusal::Refusal;
+use crate::values::{Arguments, take_int, take_integer, take_pointer, take_precision, take_width};
 use c_types::Qual;
 use libc_model::{
-    OUTPUT, Pointer, Range, check, check_string, expose, low_byte, pointer_at, read, settle,
+    Pointer, Range, check, check_string, expose, low_byte, output_past, pointer_at, read, settle,
 };
 use prov_memory::{LibAnswer, Memory, Streams, Touched, Value, Values};
 use std::alloc::Global;
@@ -42,8 +47,7 @@ fn printed(
     let _ = format.pop();
     let out = text_of(alloc, format.as_slice(), args, types, m, t)?;
     let count = out.len() as u64;
-    let total = io.written().saturating_add(count);
-    if total > OUTPUT {
+    if let Some(total) = output_past(io.written(), count) {
         return Err(LibAnswer::Outside(Cause::Output, total));
     }
     t.add(Item::Output)?;
@@ -109,56 +113,61 @@ fn put_directive(
         out.push(b'%').map_err(NoMemory::from)?;
         return Ok(());
     }
-    let sizes = take_sizes(directive, args)?;
-    let flags = directive.flags;
+    let width = take_width(directive.width, args)?;
+    let precision = take_precision(directive.precision, args)?;
     match directive.conversion {
-        b'c' => put_byte(out, flags, sizes, args),
-        b's' => put_string(alloc, out, flags, sizes, args, m, t),
-        b'p' => put_address(alloc, out, flags, sizes, args, t),
-        _ => put_number(alloc, out, directive, sizes, args),
+        b'c' => put_byte(out, directive, width, args).map_err(Refusal::answer),
+        b's' => {
+            let pointer = take_pointer(false, args)?;
+            let text = string_of(alloc, pointer, precision, m, t)?;
+            put_text(out, text.as_slice(), directive.flags, width).map_err(Refusal::answer)
+        }
+        b'p' => {
+            let pointer = take_pointer(true, args)?;
+            expose(pointer.prov, t)?;
+            put_address(alloc, out, pointer.addr, directive.flags, width).map_err(Refusal::answer)
+        }
+        _ => put_number(alloc, out, directive, width, precision, args).map_err(Refusal::answer),
     }
-}
-
-// A field that is padded by spaces alone.
-fn spaced(flags: Flags, sizes: Sizes) -> Field {
-    Field {
-        width: sizes.width,
-        is_left: flags.minus || sizes.is_left,
-        has_zeros: false,
-    }
-}
-
-fn put_text(out: &mut Vec<u8>, body: &[u8], field: Field) -> Result<(), LibAnswer> {
-    let parts = Parts {
-        prefix: b"",
-        zeros: 0,
-        body,
-    };
-    put_field(out, &parts, field)
 }
 
 fn put_byte(
     out: &mut Vec<u8>,
-    flags: Flags,
-    sizes: Sizes,
+    directive: Directive,
+    width: Width,
     args: &mut Arguments<'_>,
-) -> Result<(), LibAnswer> {
-    let byte = low_byte(take_int(args)?);
-    put_text(out, &[byte], spaced(flags, sizes))
+) -> Result<(), Refusal>
+    ensures { Puts result out.old.items out.new.items (left args.new) (put_byte (directive_seen directive) (width_seen width) (left args.old)) }
+{
+    match take_int(args) {
+        Ok(number) => put_text(out, &[low_byte(number)], directive.flags, width),
+        Err(clause) => Err(Refusal::Raise(clause)),
+    }
 }
 
-fn put_string(
+fn put_number(
     alloc: Global,
     out: &mut Vec<u8>,
-    flags: Flags,
-    sizes: Sizes,
+    directive: Directive,
+    width: Width,
+    precision: Option<u64>,
     args: &mut Arguments<'_>,
-    m: &Memory,
-    t: &mut Touched,
-) -> Result<(), LibAnswer> {
-    let pointer = take_pointer(false, args)?;
-    let text = string_of(alloc, pointer, sizes.precision, m, t)?;
-    put_text(out, text.as_slice(), spaced(flags, sizes))
+) -> Result<(), Refusal>
+    ensures { Puts result out.old.items out.new.items (left args.new) (put_integer (directive_seen directive) (width_seen width) precision (left args.old)) }
+{
+    let conversion = directive.conversion;
+    match take_integer(directive.length, is_signed(conversion), args) {
+        Ok(number) => put_integer(
+            alloc,
+            out,
+            directive.flags,
+            conversion,
+            width,
+            precision,
+            number,
+        ),
+        Err(clause) => Err(Refusal::Raise(clause)),
+    }
 }
 
 // The bytes of a string before its zero, at most as many as the precision.
@@ -201,58 +210,4 @@ fn bounded_string(
         })),
         None => Err(LibAnswer::Raise(Clause::LibraryArgument)),
     }
-}
-
-// The address in hexadecimal digits; that of null is 0x0 (own).
-fn put_address(
-    alloc: Global,
-    out: &mut Vec<u8>,
-    flags: Flags,
-    sizes: Sizes,
-    args: &mut Arguments<'_>,
-    t: &mut Touched,
-) -> Result<(), LibAnswer> {
-    let pointer = take_pointer(true, args)?;
-    expose(pointer.prov, t)?;
-    let digits = digits(alloc, pointer.addr, Base::Lower)?;
-    let parts = Parts {
-        prefix: b"0x",
-        zeros: u64::from(digits.is_empty()),
-        body: digits.as_slice(),
-    };
-    put_field(out, &parts, spaced(flags, sizes))
-}
-
-fn base_of(conversion: u8) -> Base {
-    match conversion {
-        b'o' => Base::Octal,
-        b'x' => Base::Lower,
-        b'X' => Base::Upper,
-        _ => Base::Decimal,
-    }
-}
-
-fn put_number(
-    alloc: Global,
-    out: &mut Vec<u8>,
-    directive: Directive,
-    sizes: Sizes,
-    args: &mut Arguments<'_>,
-) -> Result<(), LibAnswer> {
-    let is_signed = matches!(directive.conversion, b'd' | b'i');
-    let number = take_integer(directive.length, is_signed, args)?;
-    let integer = Integer {
-        is_signed,
-        is_negative: number < 0,
-        magnitude: u64::try_from(number.unsigned_abs()).unwrap_or(0),
-        base: base_of(directive.conversion),
-    };
-    let flags = Flags {
-        minus: directive.flags.minus || sizes.is_left,
-        plus: directive.flags.plus,
-        space: directive.flags.space,
-        hash: directive.flags.hash,
-        zero: directive.flags.zero,
-    };
-    put_integer(alloc, out, integer, flags, sizes.width, sizes.precision)
 }

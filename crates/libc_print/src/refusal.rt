@@ -1,0 +1,45 @@
+// Why a directive prints nothing.
+
+use prov_memory::LibAnswer;
+use ub_base::{Cause, Clause, NoMemory};
+
+/// Undefined behaviour, a limit that would be passed or a directive that is left out (own), or want of memory.
+#[derive(Clone, Copy, Debug, PartialEq, Eq)]
+pub enum Refusal {
+    Raise(Clause),
+    Outside(Cause, u64),
+    NoMemory,
+}
+
+impl Refusal {
+    /// As an answer of a library function.
+    pub fn answer(self) -> LibAnswer {
+        match self {
+            Refusal::Raise(clause) => LibAnswer::Raise(clause),
+            Refusal::Outside(cause, number) => LibAnswer::Outside(cause, number),
+            Refusal::NoMemory => LibAnswer::NoMemory,
+        }
+    }
+}
+
+impl From<Clause> for Refusal {
+    ghost use Rattle.std.specs.Prelude.{◌≡◌};
+    ghost use Rattle.libc_print.specs.declared.refusal.Refusal.TheVariants.{Raise};
+
+    ghost from_gives = { λ c e. e ≡ Raise c };
+
+    fn from(clause: Clause) -> Refusal {
+        Refusal::Raise(clause)
+    }
+}
+
+impl From<NoMemory> for Refusal {
+    ghost use Rattle.std.specs.Prelude.{◌≡◌};
+    ghost use Rattle.libc_print.specs.declared.refusal.Refusal.TheVariants.{NoMemory};
+
+    ghost from_gives = { λ _ e. e ≡ NoMemory };
+
+    fn from(_e: NoMemory) -> Refusal {
+        Refusal::NoMemory
+    }
+}
