@@ -154,7 +154,15 @@ fn run_of(
     };
     let input = given.input.as_bytes();
     let budget = given.budget.min(100000000);
-    let state = run(alloc, &core, input, words.as_slice(), mode, budget, &mut watch)?;
+    let state = run(
+        alloc,
+        &core,
+        input,
+        words.as_slice(),
+        mode,
+        budget,
+        &mut watch,
+    )?;
     let Recorder { picks, .. } = watch;
     Ok(Some((state, picks)))
 }
@@ -197,14 +205,57 @@ fn runs_end_as_the_standard_says(rt: HostRuntime) {
 }
 
 #[test]
-fn long_runs_end_as_the_standard_says(rt: HostRuntime) {
-    for (text, given, end, picks, output) in LONG_RUNS {
-        let Ok(wrong) = differs(rt.alloc(), text, given, end, picks, output) else {
-            panic!(rt; "no memory")
-        };
-        if let Some(wrong) = wrong {
-            panic!(rt; "{wrong} at {text}")
-        }
+fn long_run_0(rt: HostRuntime) {
+    let (text, given, end, picks, output) = LONG_RUNS[0];
+    let Ok(wrong) = differs(rt.alloc(), text, given, end, picks, output) else {
+        panic!(rt; "no memory")
+    };
+    if let Some(wrong) = wrong {
+        panic!(rt; "{wrong} at {text}")
+    }
+}
+
+#[test]
+fn long_run_1(rt: HostRuntime) {
+    let (text, given, end, picks, output) = LONG_RUNS[1];
+    let Ok(wrong) = differs(rt.alloc(), text, given, end, picks, output) else {
+        panic!(rt; "no memory")
+    };
+    if let Some(wrong) = wrong {
+        panic!(rt; "{wrong} at {text}")
+    }
+}
+
+#[test]
+fn long_run_2(rt: HostRuntime) {
+    let (text, given, end, picks, output) = LONG_RUNS[2];
+    let Ok(wrong) = differs(rt.alloc(), text, given, end, picks, output) else {
+        panic!(rt; "no memory")
+    };
+    if let Some(wrong) = wrong {
+        panic!(rt; "{wrong} at {text}")
+    }
+}
+
+#[test]
+fn long_run_3(rt: HostRuntime) {
+    let (text, given, end, picks, output) = LONG_RUNS[3];
+    let Ok(wrong) = differs(rt.alloc(), text, given, end, picks, output) else {
+        panic!(rt; "no memory")
+    };
+    if let Some(wrong) = wrong {
+        panic!(rt; "{wrong} at {text}")
+    }
+}
+
+#[test]
+fn long_run_4(rt: HostRuntime) {
+    let (text, given, end, picks, output) = LONG_RUNS[4];
+    let Ok(wrong) = differs(rt.alloc(), text, given, end, picks, output) else {
+        panic!(rt; "no memory")
+    };
+    if let Some(wrong) = wrong {
+        panic!(rt; "{wrong} at {text}")
     }
 }
 
