@@ -50,9 +50,18 @@ int main(void) {
 }
 ";
 
-// The text, what the run is given, its end, its picks and its output. An end names the status, the clause with turn, node and kind of the
+// A text, what the run is given, its end, its picks and its output. An end names the status, the clause with turn, node and kind of the
 // event and the line, or the limit with the number that would be reached. The picks are 0 where they weren't counted by hand.
-pub const RUNS: [(&str, Given, &str, u64, &str); 36] = [
+pub type Row = (&'static str, Given, &'static str, u64, &'static str);
+
+pub const RUNS: [Row; 37] = [
+    (
+        "int f(int n){if(n==0)return 0;return f(n-1)+1;}int main(void){return f(5)%256;}",
+        PLAIN,
+        "exit 5",
+        80,
+        "",
+    ),
     ("int main(void){return 0;}", PLAIN, "exit 0", 4, ""),
     (
         "int main(void){return 0;}",
@@ -302,8 +311,8 @@ pub const RUNS: [(&str, Given, &str, u64, &str); 36] = [
     ),
 ];
 
-// The same, of runs that are long or large.
-pub const LONG_RUNS: [(&str, Given, &str, u64, &str); 5] = [
+// Runs that pass a limit.
+pub const LIMITS: [Row; 3] = [
     (
         "int printf(const char*,...);int main(void){for(;;)printf(\"%4095d\",1);}",
         PLAIN,
@@ -319,6 +328,17 @@ pub const LONG_RUNS: [(&str, Given, &str, u64, &str); 5] = [
         "",
     ),
     (
+        "void *malloc(unsigned long);int main(void){for(;;)malloc(1048576);}",
+        PLAIN,
+        "created 68157440",
+        258,
+        "",
+    ),
+];
+
+// Long runs and large objects.
+pub const LARGE: [Row; 2] = [
+    (
         "int f(int n){if(n==0)return 0;return f(n-1)+1;}int main(void){return f(50000)%256;}",
         PLAIN,
         "exit 80",
@@ -330,13 +350,6 @@ pub const LONG_RUNS: [(&str, Given, &str, u64, &str); 5] = [
         PLAIN,
         "exit 0",
         0,
-        "",
-    ),
-    (
-        "void *malloc(unsigned long);int main(void){for(;;)malloc(1048576);}",
-        PLAIN,
-        "created 68157440",
-        258,
         "",
     ),
 ];
