@@ -21,7 +21,7 @@ pub record IsFaithful (root : Tree) (term : Term) : Type 0 where
   pub canonical : (taken : Taken) → listing taken term ≡ events taken 0 root
 
 -- one term for each tree, in their order
-abbrev pub AreStrict : List Tree → Terms → Type 0
-AreStrict [] none = Unit {0}
-AreStrict (t ∷ ts) (more m ms) = IsStrict t m × AreStrict ts ms
-AreStrict _ _ = ⊥
+abbrev pub AreFaithful : List Tree → Terms → Type 0
+AreFaithful [] none = Unit {0}
+AreFaithful (t ∷ ts) (more m ms) = IsFaithful t m × AreFaithful ts ms
+AreFaithful _ _ = ⊥

@@ -1,9 +1,10 @@
 pub mod Capped
+pub mod Faithful
 pub mod Grown
 pub mod Listed
+pub mod Nothing
 pub mod Once
 pub mod Operands
 pub mod Own
 pub mod Ranges
 pub mod Sequenced
-pub mod Strict

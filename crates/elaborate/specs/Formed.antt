@@ -6,7 +6,7 @@ use Rattle.c_typed.specs.Tree.{Tree, node, Trees, none, more, size, is_quiet}
 use Rattle.c_typed.specs.Order.{Taken, is_last, events}
 use Rattle.core_ir.specs.Term.{listing}
 use Rattle.elaborate.specs.Terms.{term_for}
-use Rattle.core_ir.specs.Faithful.{IsStrict}
+use Rattle.core_ir.specs.Faithful.{IsFaithful}
 
 abbrev pub all_quiet : Trees → Bool
 all_quiet none = true
@@ -42,9 +42,6 @@ abbrev pub EachFormed : List Tree → Type 0
 EachFormed [] = Unit {0}
 EachFormed (t ∷ ts) = IsTrue (is_formed t) × EachFormed ts
 
--- whatever operands are chosen, the term lists the due events in the canonical order, post-order
-abbrev pub ListsCanonically : Type 0
-ListsCanonically = (root : Tree) → IsTrue (is_formed root) → (taken : Taken) → listing taken (term_for 0 root) ≡ events taken 0 root
-
-abbrev pub OrdersStrictly : Type 0
-OrdersStrictly = (root : Tree) → IsTrue (is_formed root) → IsStrict root (term_for 0 root)
+-- the term of every such tree is faithful to it
+abbrev pub TermsAreFaithful : Type 0
+TermsAreFaithful = (root : Tree) → IsTrue (is_formed root) → IsFaithful root (term_for 0 root)

@@ -5,5 +5,5 @@ mod expression;
 mod laws;
 mod program;
 
-pub use laws::{law_listing, law_strict};
+pub use laws::law_faithful;
 pub use program::elaborate;

@@ -4,7 +4,7 @@ ghost use Rattle.std.specs.Prelude.{◌≡◌, ◌++◌, map, IfOk, OnOk};
 ghost use Rattle.core_ir.specs.Term.{term_of, terms_of, terms_from};
 ghost use Rattle.elaborate.specs.Terms.{term_for, capped_for};
 ghost use Rattle.elaborate.specs.Formed.{EachCounts, EachFormed};
-ghost use Rattle.core_ir.specs.Faithful.{AreStrict};
+ghost use Rattle.core_ir.specs.Faithful.{AreFaithful};
 ghost use Rattle.elaborate.specs.Expressions.{own_trees, full_trees, option_trees, body_trees, block_trees, function_trees, program_trees};
 
 use crate::expression::term;
@@ -18,8 +18,8 @@ pub fn elaborate(alloc: Global, p: &Program) -> Result<CoreProgram, NoMemory>
     ensures program { IfOk result (λ c. c.program.now ≡ p.now) }
     ensures terms { EachCounts (program_trees p.now) → IfOk result (λ c. terms_of c.terms ≡ terms_from (map (term_for 0) (program_trees p.now))) }
 
-    // Strict for every program whose nodes have the operands that their operators take, as in each that typing gives.
-    ensures strict { EachCounts (program_trees p.now) → EachFormed (program_trees p.now) → IfOk result (λ c. AreStrict (program_trees p.now) (terms_of c.terms)) }
+    // Each term is faithful, where the nodes have the operands that their operators take.
+    ensures faithful { EachCounts (program_trees p.now) → EachFormed (program_trees p.now) → IfOk result (λ c. AreFaithful (program_trees p.now) (terms_of c.terms)) }
 {
     let terms = all(alloc, p)?;
     Ok(CoreProgram { program: p, terms })

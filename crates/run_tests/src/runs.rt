@@ -1,5 +1,5 @@
 // Texts run from their bytes to the end of the run.
-use crate::programs::{Given, LONG, LONG_RUNS, PICKS, PLAIN, RUNS};
+use crate::programs::{Given, LARGE, LIMITS, LONG, PICKS, PLAIN, RUNS, Row};
 use addr_map::Mode;
 use c_lex::lex;
 use c_parse::parse;
@@ -154,7 +154,15 @@ fn run_of(
     };
     let input = given.input.as_bytes();
     let budget = given.budget.min(100000000);
-    let state = run(alloc, &core, input, words.as_slice(), mode, budget, &mut watch)?;
+    let state = run(
+        alloc,
+        &core,
+        input,
+        words.as_slice(),
+        mode,
+        budget,
+        &mut watch,
+    )?;
     let Recorder { picks, .. } = watch;
     Ok(Some((state, picks)))
 }
@@ -184,27 +192,40 @@ fn differs(
     Ok(None)
 }
 
+// The first row whose run ends otherwise, and how.
+fn first_wrong(alloc: Global, rows: &[Row]) -> Result<Option<String>, NoMemory> {
+    for (text, given, end, picks, output) in rows {
+        if let Some(wrong) = differs(alloc, text, *given, end, *picks, output)? {
+            return Ok(Some(format!(in alloc; "{wrong} at {text}")?));
+        }
+    }
+    Ok(None)
+}
+
 #[test]
 fn runs_end_as_the_standard_says(rt: HostRuntime) {
-    for (text, given, end, picks, output) in RUNS {
-        let Ok(wrong) = differs(rt.alloc(), text, given, end, picks, output) else {
-            panic!(rt; "no memory")
-        };
-        if let Some(wrong) = wrong {
-            panic!(rt; "{wrong} at {text}")
-        }
+    match first_wrong(rt.alloc(), &RUNS) {
+        Ok(None) => {}
+        Ok(Some(wrong)) => panic!(rt; "{wrong}"),
+        Err(_) => panic!(rt; "no memory"),
     }
 }
 
 #[test]
-fn long_runs_end_as_the_standard_says(rt: HostRuntime) {
-    for (text, given, end, picks, output) in LONG_RUNS {
-        let Ok(wrong) = differs(rt.alloc(), text, given, end, picks, output) else {
-            panic!(rt; "no memory")
-        };
-        if let Some(wrong) = wrong {
-            panic!(rt; "{wrong} at {text}")
-        }
+fn runs_end_at_their_limits(rt: HostRuntime) {
+    match first_wrong(rt.alloc(), &LIMITS) {
+        Ok(None) => {}
+        Ok(Some(wrong)) => panic!(rt; "{wrong}"),
+        Err(_) => panic!(rt; "no memory"),
+    }
+}
+
+#[test]
+fn large_runs_end_as_the_standard_says(rt: HostRuntime) {
+    match first_wrong(rt.alloc(), &LARGE) {
+        Ok(None) => {}
+        Ok(Some(wrong)) => panic!(rt; "{wrong}"),
+        Err(_) => panic!(rt; "no memory"),
     }
 }
 
