@@ -19,10 +19,12 @@ use Rattle.prov_memory.specs.declared.object.ObjKind.{ObjKind}
 use Rattle.prov_memory.specs.declared.cell.Origin.{Origin}
 use Rattle.prov_memory.specs.declared.cell.State.{State}
 use Rattle.prov_memory.specs.declared.cell.State.TheVariants as states
-use Rattle.exposure.specs.Cells.{kept_in}
+use Rattle.exposure.specs.Cells.{Cells, kept_in, has_cell, Settles}
+use Rattle.std.specs.Bool.{OnTrue}
+use Rattle.ub_base.specs.declared.names.Event.{Event}
 use Rattle.c_types.specs.declared.ty.Ty.{Ty}
 use Rattle.prov_memory.specs.declared.cell.Cell.{Cell}
-use Rattle.prov_memory.specs.Store.{Store, Byte, written, TaggedByte, fresh, with_bytes, born}
+use Rattle.prov_memory.specs.Store.{Store, Byte, written, TaggedByte, fresh, with_bytes, born, settled}
 use Rattle.prov_memory.specs.Script.{Act, Done, run, touched}
 use Rattle.prov_memory.specs.Acts.{candidates, expose, show_each, kill, unwrite, size_in, create, has_place, base_in}
 use Rattle.prov_memory.specs.Streams.{Io}
@@ -278,3 +280,24 @@ known_emptied n x hs known = known_changed n emptied x hs (λ h k. tt) known
 pub known_uncovered : (n : ℕ) (xs : List ObjName) (hs : List Held) → ObjectsKnown n hs → ObjectsKnown n (uncovered_each xs hs)
 known_uncovered n [] hs known = known
 known_uncovered n (x ∷ xs) hs known = known_uncovered n xs (changed uncovered x hs) (known_changed n uncovered x hs (λ h k. k) known)
+
+-- ---- settling
+and_true : {A : Type 0} (b c : Bool) (x y : A) → c ≡ true → cond (b && c) x y ≡ cond b x y
+and_true true c x y e = rw e refl
+and_true false c x y e = refl
+
+pub settled_is : (old : Kept) (new : Cells) (id : Event) (keep : ObjName) (io : Io) → Settles old.cells new id keep → has_cell old.cells id ≡ true → store_of (record old { cells = new }) io ≡ settled (store_of old io) id keep
+settled_is old new id keep io s has = λ i. record {
+  life = λ x. life_in (held_of old.objects x);
+  exposed = λ x. is_shown (held_of old.objects x);
+  bytes = λ x at. tagged_in_object old.origins old.types (held_of old.objects x) at;
+  kept = λ e. (s.kept e ∙ and_true (same_event id e) (has_cell old.cells id) (Some keep) (kept_in old.cells e) has) i;
+  input = io.input;
+  position = io.position;
+  output = io.output;
+  created = old.created;
+}
+
+pub settled_all : (b : Bool) (old : Kept) (new : Cells) (id : Event) (keep : ObjName) → OnTrue b (Settles old.cells new id keep) → has_cell old.cells id ≡ true → OnTrue b ((io : Io) → store_of (record old { cells = new }) io ≡ settled (store_of old io) id keep)
+settled_all true old new id keep s has = λ io. settled_is old new id keep io s has
+settled_all false old new id keep s has = tt

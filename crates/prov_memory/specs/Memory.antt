@@ -6,7 +6,7 @@ use Rattle.ub_base.specs.declared.names.Item.{Item}
 use Rattle.ub_base.specs.declared.names.ObjName.{ObjName}
 use Rattle.addr_map.specs.declared.map.Mode.{Mode}
 use Rattle.addr_map.specs.declared.map.Row.{Row}
-use Rattle.addr_map.specs.Rows.{row_of, row_at, free_of, is_power}
+use Rattle.addr_map.specs.Rows.{row_of, row_at, free_of, is_power, base_of, insert_row}
 use Rattle.exposure.specs.declared.prov.Prov.{Prov}
 use Rattle.exposure.specs.declared.prov.Prov.TheVariants.{Empty, Whole, Either}
 use Rattle.exposure.specs.Cells.{Cells, kept_in, has_cell}
@@ -144,3 +144,14 @@ no_place m None (Some mode) size align = not (has_room m.rows size align)
 -- an object of that name, size and alignment can't be created
 abbrev pub cannot_create : Kept → ObjName → ℕ → ℕ → Bool
 cannot_create m x size align = is_some (held_of m.objects x) || no_place m (row_of m.rows x) m.mode size align
+
+-- where a new object goes: to its row, or to where the mode places it
+abbrev pub base_by : Option Row → Option Mode → List Row → ℕ → ℕ
+base_by (Some r) mode rows align = r.base
+base_by None (Some mode) rows align = base_of mode rows align
+base_by None None rows align = 0
+
+-- the rows with that of a new object
+abbrev pub rows_with : Option Row → Row → List Row → List Row
+rows_with (Some r) new rows = rows
+rows_with None new rows = insert_row new rows

@@ -10,7 +10,7 @@ ghost use Rattle.prov_memory.specs.Acts.{candidates};
 ghost use Rattle.prov_memory.specs.Script.{run, Done};
 ghost use Rattle.prov_memory.specs.Streams.{Io};
 ghost use Rattle.prov_memory.specs.Held.{changed, uncovered};
-ghost use Rattle.prov_memory.specs.Memory.{store_of, uncovered_each, AreKnown, IsBorn, cannot_create, no_place};
+ghost use Rattle.prov_memory.specs.Memory.{store_of, uncovered_each, AreKnown, IsBorn, cannot_create, no_place, base_by, rows_with};
 
 use super::*;
 
@@ -30,6 +30,8 @@ impl Memory {
         ensures exact { IfOk result (λ base. AreKnown self.old → (io : Io) → run self.new.rows (acts.create self.new.rows name size align kind (option_map (λ shape. form_of shape.value) declared)) (store_of self.old io) ≡ Done base t.new (store_of self.new io)) }
         ensures known { AreKnown self.old → OnOk result (AreKnown self.new) }
         ensures created { OnOk result (self.new.created ≡ min (self.old.created + max size 16) (2 ^ 62)) }
+        ensures base { IfOk result (λ base. base ≡ base_by (row_of self.old.rows name) self.old.mode self.old.rows align) }
+        ensures rows { IfOk result (λ base. self.new.rows ≡ rows_with (row_of self.old.rows name) (row_at name base size align) self.old.rows) }
         ensures able { OnOk result (cannot_create self.old name size align ≡ false) }
         ensures unplaced { result ≡ Err Unplaced → cannot_create self.old name size align ≡ true }
         ensures same { result ≡ Err Unplaced → self.new ≡ self.old }
@@ -48,6 +50,8 @@ impl Memory {
     ) -> Result<u64, CreateFault>
         ensures born { IfOk result (λ base. IsBorn self.old self.new name base size align kind (option_map (λ shape. shape.value) declared)) }
         ensures items { OnOk result (t.new ≡ Born name ∷ []) }
+        ensures base { IfOk result (λ base. base ≡ base_by (row_of self.old.rows name) self.old.mode self.old.rows align) }
+        ensures rows { IfOk result (λ base. self.new.rows ≡ rows_with (row_of self.old.rows name) (row_at name base size align) self.old.rows) }
         ensures able { OnOk result (cannot_create self.old name size align ≡ false) }
         ensures unplaced { result ≡ Err Unplaced → cannot_create self.old name size align ≡ true }
         ensures same { result ≡ Err Unplaced → self.new ≡ self.old }
@@ -91,6 +95,8 @@ impl Memory {
         ensures row { IfOk result (λ base. row_of self.new.rows name ≡ Some (row_at name base size align)) }
         ensures end { IfOk result (λ base. base + size ≤ 2 ^ 47) }
         ensures err { OnErr result (self.new ≡ self.old) }
+        ensures base { IfOk result (λ base. base ≡ base_by (row_of self.old.rows name) self.old.mode self.old.rows align) }
+        ensures rows { IfOk result (λ base. self.new.rows ≡ rows_with (row_of self.old.rows name) (row_at name base size align) self.old.rows) }
         ensures able { OnOk result (no_place self.old (row_of self.old.rows name) self.old.mode size align ≡ false) }
         ensures unplaced { result ≡ Err Unplaced → no_place self.old (row_of self.old.rows name) self.old.mode size align ≡ true }
     {
