@@ -1,25 +1,36 @@
 -- What acts do to the store of a memory.
-use Rattle.std.proofs.Common.{◌≡◌, ℕ, zero, suc, ◌+◌, ◌-◌, ◌<◌, ◌≤◌, Bool, true, false, ◌&&◌, cond, refl, sym, ap, ap₂, ◌∙◌, subst, arith, List, [], ◌∷◌, ◌++◌, length, get_or, replicate, map, slice_get, Option, Some, None}
-use Rattle.std.specs.Prelude.{nat_lt, nat_le, is_some, option_map, slice_index_or, ◌==◌}
+use Rattle.std.proofs.Common.{min, max, ◌≡◌, ℕ, zero, suc, ◌+◌, ◌-◌, ◌<◌, ◌≤◌, Bool, true, false, ◌&&◌, cond, refl, sym, ap, ap₂, ◌∙◌, subst, arith, List, [], ◌∷◌, ◌++◌, length, get_or, replicate, map, slice_get, Option, Some, None}
+use Rattle.c_types.specs.Shapes.{Form}
+use Rattle.std.specs.Prelude.{Result, Ok, Err, IfOk, OnOk, nat_lt, nat_le, is_some, option_map, slice_index_or, ◌==◌, ◌^◌}
 use Rattle.std.proofs.lemmas.Bool.Decides.{nat_tests}
 use Rattle.ub_base.specs.declared.names.Item.{Item}
-use Rattle.ub_base.specs.declared.names.Item.TheVariants.{Expose, Write, Alive, Dies}
+use Rattle.ub_base.specs.declared.names.Item.TheVariants.{Expose, Write, Alive, Dies, Born}
 use Rattle.ub_base.specs.declared.names.ObjName.{ObjName}
 use Rattle.ub_base.specs.Names.{same_object, same_event}
 use Rattle.ub_base.proofs.NameLemmas.{same_object_is, same_object_refl}
 use Rattle.addr_map.specs.declared.map.Row.{Row}
-use Rattle.addr_map.specs.Rows.{row_of}
+use Rattle.addr_map.specs.Rows.{row_of, row_at}
 use Rattle.exposure.specs.declared.prov.Prov.{Prov}
-use Rattle.exposure.specs.Cells.{kept_in}
+use Rattle.exposure.specs.declared.prov.Prov.TheVariants.{Empty, Whole}
+use Rattle.c_types.specs.Types.{type_of}
+use Rattle.c_types.specs.Shapes.{form_of}
+use Rattle.c_types.specs.declared.shape.Shape.{Shape}
+use Rattle.prov_memory.specs.declared.object.ObjKind.{ObjKind}
+use Rattle.prov_memory.specs.declared.cell.Origin.{Origin}
+use Rattle.prov_memory.specs.declared.cell.State.{State}
+use Rattle.prov_memory.specs.declared.cell.State.TheVariants as states
+use Rattle.exposure.specs.Cells.{Cells, kept_in, has_cell, Settles}
+use Rattle.std.specs.Bool.{OnTrue}
+use Rattle.ub_base.specs.declared.names.Event.{Event}
 use Rattle.c_types.specs.declared.ty.Ty.{Ty}
 use Rattle.prov_memory.specs.declared.cell.Cell.{Cell}
-use Rattle.prov_memory.specs.Store.{Store, TaggedByte, fresh, with_bytes}
+use Rattle.prov_memory.specs.Store.{Store, Byte, written, TaggedByte, fresh, with_bytes, born, settled}
 use Rattle.prov_memory.specs.Script.{Act, Done, run, touched}
-use Rattle.prov_memory.specs.Acts.{candidates, expose, show_each, kill, unwrite, size_in}
+use Rattle.prov_memory.specs.Acts.{candidates, expose, show_each, kill, unwrite, size_in, create, has_place, base_in}
 use Rattle.prov_memory.specs.Streams.{Io}
-use Rattle.prov_memory.specs.Cells.{no_cell, cell_at}
-use Rattle.prov_memory.specs.Held.{Held, held_of, changed, emptied, killed, Fits}
-use Rattle.prov_memory.specs.Memory.{Kept, store_of, life_in, is_shown, tagged_in_object, IsRowOf, HaveRows, uncovered_each}
+use Rattle.prov_memory.specs.Cells.{no_cell, cell_at, byte_in_state, tag_in, tagged_in, prov_numbered}
+use Rattle.prov_memory.specs.Held.{Held, held_of, changed, emptied, killed, uncovered, Fits}
+use Rattle.prov_memory.specs.Memory.{Kept, store_of, life_in, is_shown, tagged_in_object, IsRowOf, HaveRows, uncovered_each, CellsKnown, ObjectsKnown, AreKnown, newborn, IsBorn}
 use Rattle.prov_memory.proofs.StoreLemmas.{buried_is, shows_each, held_same, held_other, part_kept}
 
 some_is : {X : Type 0} (a b : X) → Some a ≡ Some b → a ≡ b
@@ -119,3 +130,174 @@ unwritten_act old x h items e fits have noted io =
 
 pub not_unwritten_act : (old : Kept) (x : ObjName) (items : List Item) (rows : List Row) → held_of old.objects x ≡ None → items ≡ Alive x ∷ [] → (io : Io) → run rows (unwrite rows x) (store_of old io) ≡ Done tt items (store_of old io)
 not_unwritten_act old x items rows e noted io = rw (noted, e) refl
+
+-- ---- birth
+added_split : (b c : Bool) (g h : Held) (rest : Option Held) → (b ≡ true → c ≡ true → ⊥) → cond b (Some g) (cond c (Some h) rest) ≡ cond c (Some h) (cond b (Some g) rest)
+added_split true true g h rest never = absurd (never refl refl)
+added_split true false g h rest never = refl
+added_split false true g h rest never = refl
+added_split false false g h rest never = refl
+
+head_other : (b : Bool) (g : Held) (rest : Option Held) → cond b (Some g) rest ≡ None → b ≡ true → ⊥
+head_other true g rest e t = absurd (cc)
+head_other false g rest e t = cc
+
+tail_none : (b : Bool) (g : Held) (rest : Option Held) → cond b (Some g) rest ≡ None → rest ≡ None
+tail_none true g rest e = absurd (cc)
+tail_none false g rest e = e
+
+both_same : (x z y : ObjName) → same_object x y ≡ true → same_object z y ≡ true → same_object x z ≡ true
+both_same x z y e f = subst (λ (w : ObjName). same_object x w ≡ true) (sym (same_object_is z y f)) e
+
+-- the object of a name once a new one is there
+pub held_added : (hs : List Held) (h : Held) (y : ObjName) → held_of hs h.name ≡ None → held_of (hs ++ h ∷ []) y ≡ cond (same_object h.name y) (Some h) (held_of hs y)
+held_added [] h y none = refl
+held_added (g ∷ hs) h y none =
+    ap (λ (o : Option Held). cond (same_object g.name y) (Some g) o) (held_added hs h y (tail_none (same_object g.name h.name) g (held_of hs h.name) none))
+    ∙ added_split (same_object g.name y) (same_object h.name y) g h (held_of hs y) (λ s t. head_other (same_object g.name h.name) g (held_of hs h.name) none (both_same g.name h.name y s t))
+
+part_added_split : {A : Type 0} (b : Bool) (part : Option Held → A) (h : Held) (o : Option Held) → part (cond b (Some h) o) ≡ cond b (part (Some h)) (part o)
+part_added_split true part h o = refl
+part_added_split false part h o = refl
+
+pub part_added : {A : Type 0} (part : Option Held → A) (hs : List Held) (h : Held) (y : ObjName) → held_of hs h.name ≡ None → part (held_of (hs ++ h ∷ []) y) ≡ cond (same_object h.name y) (part (Some h)) (part (held_of hs y))
+part_added part hs h y none = ap part (held_added hs h y none) ∙ part_added_split (same_object h.name y) part h (held_of hs y)
+
+nth_longer : (ps : List Prov) (p : Prov) (n : ℕ) → n < length ps → slice_index_or (ps ++ p ∷ []) n Empty ≡ slice_index_or ps n Empty
+nth_longer [] p n e = absurd (omega arith)
+nth_longer (q ∷ ps) p zero e = refl
+nth_longer (q ∷ ps) p (suc n) e = nth_longer ps p n (omega arith)
+
+prov_longer : (ps : List Prov) (p : Prov) (n : ℕ) → n ≤ length ps → prov_numbered (ps ++ p ∷ []) n ≡ prov_numbered ps n
+prov_longer ps p zero e = refl
+prov_longer ps p (suc n) e = nth_longer ps p n (omega arith)
+
+byte_longer : (s : State) (ps : List Prov) (p : Prov) (c : Cell) → c.origin.number ≤ length ps → byte_in_state (ps ++ p ∷ []) s c ≡ byte_in_state ps s c
+byte_longer states.Unwritten ps p c e = refl
+byte_longer states.Plain ps p c e = refl
+byte_longer states.Piece ps p c e = ap (λ (q : Prov). written c.number (Some (q, c.piece_index))) (prov_longer ps p c.origin.number e)
+
+known_at : (n : ℕ) (cs : List Cell) (at : ℕ) → CellsKnown n cs → (cell_at cs at).origin.number ≤ n
+known_at n [] at known = omega arith
+known_at n (c ∷ cs) zero known = known.0
+known_at n (c ∷ cs) (suc at) known = known_at n cs at known.1
+
+abbrev pub KnownIn : ℕ → Option Held → Type 0
+KnownIn n None = Unit {0}
+KnownIn n (Some h) = CellsKnown n h.cells
+
+known_split : (n : ℕ) (b : Bool) (h : Held) (o : Option Held) → CellsKnown n h.cells → KnownIn n o → KnownIn n (cond b (Some h) o)
+known_split n true h o here there = here
+known_split n false h o here there = there
+
+known_held : (n : ℕ) (hs : List Held) (y : ObjName) → ObjectsKnown n hs → KnownIn n (held_of hs y)
+known_held n [] y known = tt
+known_held n (h ∷ hs) y known = known_split n (same_object h.name y) h (held_of hs y) known.0 (known_held n hs y known.1)
+
+tagged_longer : (ps : List Prov) (p : Prov) (ts : List Ty) (o : Option Held) (at : ℕ) → KnownIn (length ps) o → tagged_in_object (ps ++ p ∷ []) ts o at ≡ tagged_in_object ps ts o at
+tagged_longer ps p ts None at known = refl
+tagged_longer ps p ts (Some h) at known =
+    ap (λ (b : Byte). record { byte = b; tag = tag_in (map type_of ts) (cell_at h.cells at) }) (byte_longer (cell_at h.cells at).state ps p (cell_at h.cells at) (known_at (length ps) h.cells at known))
+
+bytes_added : (ps : List Prov) (p : Prov) (ts : List Ty) (hs : List Held) (h : Held) (y : ObjName) (at : ℕ) → held_of hs h.name ≡ None → ObjectsKnown (length ps) hs → h.cells ≡ [] → tagged_in_object (ps ++ p ∷ []) ts (held_of (hs ++ h ∷ []) y) at ≡ cond (same_object h.name y) fresh (tagged_in_object ps ts (held_of hs y) at)
+bytes_added ps p ts hs h y at none known e =
+    part_added (λ (o : Option Held). tagged_in_object (ps ++ p ∷ []) ts o at) hs h y none
+    ∙ ap₂ (λ (a b : TaggedByte). cond (same_object h.name y) a b) (ap (λ (cs : List Cell). tagged_in (ps ++ p ∷ []) (map type_of ts) (cell_at cs at)) e) (tagged_longer ps p ts (held_of hs y) at (known_held (length ps) hs y known))
+
+pub born_is : (old new : Kept) (x : ObjName) (base size : ℕ) (kind : ObjKind) (declared : Option Shape) (origin : Origin) (io : Io) → held_of old.objects x ≡ None → AreKnown old → new.objects ≡ old.objects ++ newborn x base size kind declared origin ∷ [] → new.origins ≡ old.origins ++ Whole x ∷ [] → new.cells ≡ old.cells → new.types ≡ old.types → new.created ≡ min (old.created + max size 16) (2 ^ 62) → store_of new io ≡ born (store_of old io) x size kind (option_map form_of declared)
+born_is old new x base size kind declared origin io none known objects origins cells types created =
+    rw (objects, origins, cells, types, created) (λ i. record {
+      life = λ y. part_added life_in old.objects (newborn x base size kind declared origin) y none i;
+      exposed = λ y. part_added is_shown old.objects (newborn x base size kind declared origin) y none i;
+      bytes = λ y at. bytes_added old.origins (Whole x) old.types old.objects (newborn x base size kind declared origin) y at none known refl i;
+      kept = λ e. kept_in old.cells e;
+      input = io.input;
+      position = io.position;
+      output = io.output;
+      created = min (old.created + max size 16) (2 ^ 62);
+    })
+
+self_equal : (n : ℕ) → (n == n) ≡ true
+self_equal n = grind (arith, nat_tests)
+
+placed_is : (o : Option Row) (x : ObjName) (base size align : ℕ) → o ≡ Some (row_at x base size align) → (has_place o size align ≡ true) × (base_in o ≡ base)
+placed_is o x base size align e = (rw (e, self_equal size, self_equal align) refl, rw e refl)
+
+pub created_act : (old new : Kept) (x : ObjName) (base size align : ℕ) (kind : ObjKind) (declared : Option Shape) (items : List Item) → IsBorn old new x base size align kind declared → AreKnown old → items ≡ Born x ∷ [] → (io : Io) → run new.rows (create new.rows x size align kind (option_map form_of declared)) (store_of old io) ≡ Done base items (store_of new io)
+created_act old new x base size align kind declared items b known noted io =
+    let s = born_is old new x base size kind declared b.objects.0 io b.absent known b.objects.1 b.origins b.cells b.types b.created in
+    let p = placed_is (row_of new.rows x) x base size align b.row in
+    rw (p.0, p.1, b.absent, noted, s) refl
+
+map_twice : {X Y Z : Type 0} (f : Y → Z) (g : X → Y) (o : Option X) → option_map f (option_map g o) ≡ option_map (λ x. f (g x)) o
+map_twice f g None = refl
+map_twice f g (Some x) = refl
+
+pub created_all : {X E : Type 0} (r : Result ℕ E) (old new : Kept) (x : ObjName) (size align : ℕ) (kind : ObjKind) (g : X → Shape) (declared : Option X) (items : List Item) → IfOk r (λ base. IsBorn old new x base size align kind (option_map g declared)) → OnOk r (items ≡ Born x ∷ []) → IfOk r (λ base. AreKnown old → (io : Io) → run new.rows (create new.rows x size align kind (option_map (λ s. form_of (g s)) declared)) (store_of old io) ≡ Done base items (store_of new io))
+created_all {X} (Ok base) old new x size align kind g declared items b noted = λ known io.
+    ap (λ (form : Option Form). run new.rows (create new.rows x size align kind form) (store_of old io)) (sym (map_twice form_of g declared)) ∙ created_act old new x base size align kind (option_map g declared) items b known noted io
+created_all (Err e) old new x size align kind g declared items b noted = tt
+
+-- ---- pieces stay known
+cells_more : (n m : ℕ) (cs : List Cell) → n ≤ m → CellsKnown n cs → CellsKnown m cs
+cells_more n m [] le known = tt
+cells_more n m (c ∷ cs) le known = (omega (arith, le, known.0), cells_more n m cs le known.1)
+
+objects_more : (n m : ℕ) (hs : List Held) → n ≤ m → ObjectsKnown n hs → ObjectsKnown m hs
+objects_more n m [] le known = tt
+objects_more n m (h ∷ hs) le known = (cells_more n m h.cells le known.0, objects_more n m hs le known.1)
+
+objects_added : (n : ℕ) (hs : List Held) (h : Held) → CellsKnown n h.cells → ObjectsKnown n hs → ObjectsKnown n (hs ++ h ∷ [])
+objects_added n [] h here known = (here, tt)
+objects_added n (g ∷ hs) h here known = (known.0, objects_added n hs h here known.1)
+
+one_more : (ps : List Prov) (p : Prov) → length ps ≤ length (ps ++ p ∷ [])
+one_more [] p = omega arith
+one_more (q ∷ ps) p = omega (arith, one_more ps p)
+
+pub born_known : (old new : Kept) (x : ObjName) (base size align : ℕ) (kind : ObjKind) (declared : Option Shape) → IsBorn old new x base size align kind declared → AreKnown old → AreKnown new
+born_known old new x base size align kind declared b known =
+    rw (b.objects.1, b.origins) (objects_added (length (old.origins ++ Whole x ∷ [])) old.objects (newborn x base size kind declared b.objects.0) tt (objects_more (length old.origins) (length (old.origins ++ Whole x ∷ [])) old.objects (one_more old.origins (Whole x)) known))
+
+pub created_known : {X E : Type 0} (r : Result ℕ E) (old new : Kept) (x : ObjName) (size align : ℕ) (kind : ObjKind) (g : X → Shape) (declared : Option X) → IfOk r (λ base. IsBorn old new x base size align kind (option_map g declared)) → AreKnown old → OnOk r (AreKnown new)
+created_known (Ok base) old new x size align kind g declared b known = born_known old new x base size align kind (option_map g declared) b known
+created_known (Err e) old new x size align kind g declared b known = tt
+
+known_split_by : (b : Bool) (n : ℕ) (f : Held → Held) (h : Held) → CellsKnown n h.cells → CellsKnown n (f h).cells → CellsKnown n (cond b (f h) h).cells
+known_split_by true n f h old new = new
+known_split_by false n f h old new = old
+
+known_changed : (n : ℕ) (f : Held → Held) (x : ObjName) (hs : List Held) → ((h : Held) → CellsKnown n h.cells → CellsKnown n (f h).cells) → ObjectsKnown n hs → ObjectsKnown n (changed f x hs)
+known_changed n f x [] keeps known = tt
+known_changed n f x (h ∷ hs) keeps known = (known_split_by (same_object h.name x) n f h known.0 (keeps h known.0), known_changed n f x hs keeps known.1)
+
+pub known_killed : (n : ℕ) (x : ObjName) (hs : List Held) → ObjectsKnown n hs → ObjectsKnown n (changed killed x hs)
+known_killed n x hs known = known_changed n killed x hs (λ h k. tt) known
+
+pub known_emptied : (n : ℕ) (x : ObjName) (hs : List Held) → ObjectsKnown n hs → ObjectsKnown n (changed emptied x hs)
+known_emptied n x hs known = known_changed n emptied x hs (λ h k. tt) known
+
+pub known_uncovered : (n : ℕ) (xs : List ObjName) (hs : List Held) → ObjectsKnown n hs → ObjectsKnown n (uncovered_each xs hs)
+known_uncovered n [] hs known = known
+known_uncovered n (x ∷ xs) hs known = known_uncovered n xs (changed uncovered x hs) (known_changed n uncovered x hs (λ h k. k) known)
+
+-- ---- settling
+and_true : {A : Type 0} (b c : Bool) (x y : A) → c ≡ true → cond (b && c) x y ≡ cond b x y
+and_true true c x y e = rw e refl
+and_true false c x y e = refl
+
+pub settled_is : (old : Kept) (new : Cells) (id : Event) (keep : ObjName) (io : Io) → Settles old.cells new id keep → has_cell old.cells id ≡ true → store_of (record old { cells = new }) io ≡ settled (store_of old io) id keep
+settled_is old new id keep io s has = λ i. record {
+  life = λ x. life_in (held_of old.objects x);
+  exposed = λ x. is_shown (held_of old.objects x);
+  bytes = λ x at. tagged_in_object old.origins old.types (held_of old.objects x) at;
+  kept = λ e. (s.kept e ∙ and_true (same_event id e) (has_cell old.cells id) (Some keep) (kept_in old.cells e) has) i;
+  input = io.input;
+  position = io.position;
+  output = io.output;
+  created = old.created;
+}
+
+pub settled_all : (b : Bool) (old : Kept) (new : Cells) (id : Event) (keep : ObjName) → OnTrue b (Settles old.cells new id keep) → has_cell old.cells id ≡ true → OnTrue b ((io : Io) → store_of (record old { cells = new }) io ≡ settled (store_of old io) id keep)
+settled_all true old new id keep s has = λ io. settled_is old new id keep io s has
+settled_all false old new id keep s has = tt

@@ -1,8 +1,10 @@
 // The memory.
-ghost use Rattle.std.specs.Prelude.{◌≡◌, [], Some, not, IfSome};
+ghost use Rattle.std.specs.Prelude.{◌≡◌, [], Some, true, not, IfSome};
 ghost use Rattle.std.specs.Option.{option_copied};
 ghost use Rattle.std.specs.Bool.{OnTrue, OnFalse};
-ghost use Rattle.exposure.specs.Cells.{kept_in, is_other, Settles};
+ghost use Rattle.exposure.specs.Cells.{kept_in, has_cell, is_other, Settles};
+ghost use Rattle.prov_memory.specs.Store.{settled};
+ghost use Rattle.prov_memory.specs.Streams.{Io};
 ghost use Rattle.prov_memory.specs.Cells.{prov_numbered};
 ghost use Rattle.prov_memory.specs.Held.{Fits, held_of};
 ghost use Rattle.prov_memory.specs.Memory.{Kept, empty, store_of, state_in, byte_in_object};
@@ -174,6 +176,7 @@ impl Memory {
         ensures answer { result ≡ not (is_other (kept_in self.old.cells id) keep) }
         ensures settled { OnTrue result (Settles self.old.cells self.new.cells id keep) }
         ensures unchanged { OnFalse result (self.new ≡ self.old) }
+        ensures store { has_cell self.old.cells id ≡ true → OnTrue result ((io : Io) → store_of self.new io ≡ settled (store_of self.old io) id keep) }
         ensures rest { record self.new { cells = [] } ≡ record self.old { cells = [] } }
     {
         self.narrowed.narrow(id, keep)

@@ -1,14 +1,16 @@
 // Birth and death of objects.
-ghost use Rattle.std.specs.Prelude.{◌≡◌, ◌+◌, ◌<◌, ◌≤◌, ◌^◌, ◌∷◌, ◌++◌, [], Some, length, map, IfOk, OnErr};
+ghost use Rattle.std.specs.Prelude.{◌≡◌, ◌+◌, ◌<◌, ◌≤◌, ◌^◌, ◌∷◌, ◌++◌, [], Some, Err, true, false, length, map, min, max, option_map, IfOk, OnOk, OnErr};
 ghost use Rattle.addr_map.specs.Rows.{row_of, row_at};
-ghost use Rattle.ub_base.specs.declared.names.Item.TheVariants.{Expose};
+ghost use Rattle.ub_base.specs.declared.names.Item.TheVariants.{Expose, Born};
+ghost use Rattle.prov_memory.specs.declared.answer.CreateFault.TheVariants.{Unplaced};
+ghost use Rattle.c_types.specs.Shapes.{form_of};
 ghost use Rattle.exposure.specs.declared.prov.Prov.{Prov};
 ghost use Rattle.prov_memory.specs.Acts as acts;
 ghost use Rattle.prov_memory.specs.Acts.{candidates};
 ghost use Rattle.prov_memory.specs.Script.{run, Done};
 ghost use Rattle.prov_memory.specs.Streams.{Io};
 ghost use Rattle.prov_memory.specs.Held.{changed, uncovered};
-ghost use Rattle.prov_memory.specs.Memory.{store_of, uncovered_each};
+ghost use Rattle.prov_memory.specs.Memory.{store_of, uncovered_each, AreKnown, IsBorn, cannot_create, no_place, base_by, rows_with};
 
 use super::*;
 
@@ -24,7 +26,36 @@ impl Memory {
         kind: ObjKind,
         declared: Option<Rc<Shape>>,
         t: &mut Touched,
-    ) -> Result<u64, CreateFault> {
+    ) -> Result<u64, CreateFault>
+        ensures exact { IfOk result (λ base. AreKnown self.old → (io : Io) → run self.new.rows (acts.create self.new.rows name size align kind (option_map (λ shape. form_of shape.value) declared)) (store_of self.old io) ≡ Done base t.new (store_of self.new io)) }
+        ensures known { AreKnown self.old → OnOk result (AreKnown self.new) }
+        ensures created { OnOk result (self.new.created ≡ min (self.old.created + max size 16) (2 ^ 62)) }
+        ensures base { IfOk result (λ base. base ≡ base_by (row_of self.old.rows name) self.old.mode self.old.rows align) }
+        ensures rows { IfOk result (λ base. self.new.rows ≡ rows_with (row_of self.old.rows name) (row_at name base size align) self.old.rows) }
+        ensures able { OnOk result (cannot_create self.old name size align ≡ false) }
+        ensures unplaced { result ≡ Err Unplaced → cannot_create self.old name size align ≡ true }
+        ensures same { result ≡ Err Unplaced → self.new ≡ self.old }
+    {
+        self.bear(name, size, align, kind, declared, t)
+    }
+
+    fn bear(
+        &mut self,
+        name: ObjName,
+        size: u64,
+        align: u64,
+        kind: ObjKind,
+        declared: Option<Rc<Shape>>,
+        t: &mut Touched,
+    ) -> Result<u64, CreateFault>
+        ensures born { IfOk result (λ base. IsBorn self.old self.new name base size align kind (option_map (λ shape. shape.value) declared)) }
+        ensures items { OnOk result (t.new ≡ Born name ∷ []) }
+        ensures base { IfOk result (λ base. base ≡ base_by (row_of self.old.rows name) self.old.mode self.old.rows align) }
+        ensures rows { IfOk result (λ base. self.new.rows ≡ rows_with (row_of self.old.rows name) (row_at name base size align) self.old.rows) }
+        ensures able { OnOk result (cannot_create self.old name size align ≡ false) }
+        ensures unplaced { result ≡ Err Unplaced → cannot_create self.old name size align ≡ true }
+        ensures same { result ≡ Err Unplaced → self.new ≡ self.old }
+    {
         t.clear();
         if self.seek(name).is_some() {
             return Err(CreateFault::Unplaced);
@@ -64,6 +95,10 @@ impl Memory {
         ensures row { IfOk result (λ base. row_of self.new.rows name ≡ Some (row_at name base size align)) }
         ensures end { IfOk result (λ base. base + size ≤ 2 ^ 47) }
         ensures err { OnErr result (self.new ≡ self.old) }
+        ensures base { IfOk result (λ base. base ≡ base_by (row_of self.old.rows name) self.old.mode self.old.rows align) }
+        ensures rows { IfOk result (λ base. self.new.rows ≡ rows_with (row_of self.old.rows name) (row_at name base size align) self.old.rows) }
+        ensures able { OnOk result (no_place self.old (row_of self.old.rows name) self.old.mode size align ≡ false) }
+        ensures unplaced { result ≡ Err Unplaced → no_place self.old (row_of self.old.rows name) self.old.mode size align ≡ true }
     {
         if let Some(row) = self.map.row(name) {
             if row.size == size && row.align == align {
@@ -82,7 +117,8 @@ impl Memory {
 
     /// The object dies, where it was created. Its bytes count as unwritten from now on.
     pub fn kill(&mut self, name: ObjName, t: &mut Touched)
-        ensures { (io : Io) → run self.new.rows (acts.kill name) (store_of self.old io) ≡ Done tt t.new (store_of self.new io) }
+        ensures known { AreKnown self.old → AreKnown self.new }
+        ensures exact { (io : Io) → run self.new.rows (acts.kill name) (store_of self.old io) ≡ Done tt t.new (store_of self.new io) }
     {
         t.clear();
         t.note(Item::Dies(name));
@@ -91,7 +127,8 @@ impl Memory {
 
     /// Makes all bytes of the object unwritten, where it was created.
     pub fn unwrite(&mut self, name: ObjName, t: &mut Touched)
-        ensures { (io : Io) → run self.new.rows (acts.unwrite self.new.rows name) (store_of self.old io) ≡ Done tt t.new (store_of self.new io) }
+        ensures known { AreKnown self.old → AreKnown self.new }
+        ensures exact { (io : Io) → run self.new.rows (acts.unwrite self.new.rows name) (store_of self.old io) ≡ Done tt t.new (store_of self.new io) }
     {
         t.clear();
         t.note(Item::Alive(name));
@@ -118,7 +155,8 @@ impl Memory {
 
     /// Exposes each object of the provenance.
     pub fn expose(&mut self, prov: Prov, t: &mut Touched)
-        ensures { (io : Io) → run self.new.rows (acts.expose prov) (store_of self.old io) ≡ Done tt t.new (store_of self.new io) }
+        ensures known { AreKnown self.old → AreKnown self.new }
+        ensures exact { (io : Io) → run self.new.rows (acts.expose prov) (store_of self.old io) ≡ Done tt t.new (store_of self.new io) }
     {
         t.clear();
         self.show_each(prov, t);
@@ -140,7 +178,9 @@ impl Memory {
 }
 
 /// The sum of created bytes with one more object.
-fn counted(created: u64, size: u64) -> u64 {
+fn counted(created: u64, size: u64) -> u64
+    ensures { result ≡ min (created + max size 16) (2 ^ 62) }
+{
     const MOST: u64 = 1 << 62;
     created.saturating_add(size.max(16)).min(MOST)
 }

@@ -1,11 +1,10 @@
-use Rattle.std.proofs.Common.{◌≡◌, ◌∙◌, sym, ap, subst, arith, List, Some, None}
-use Rattle.addr_map.specs.Rows.{row_of, row_at}
-use Rattle.prov_memory.specs.Held.{Held}
-use Rattle.prov_memory.specs.Memory.{Kept, HaveRows}
-use Rattle.prov_memory.proofs.StoreLemmas.{rows_created}
+use Rattle.prov_memory.proofs.ActLemmas.{created_all, created_known}
 use Rattle.prov_memory.proofs.memory.Memory.create.Goals as goal
 
-pub invariant_of-self-2 : goal.invariant_of-self-2
-invariant_of-self-2 c =
-    let row : row_of c.self-2.inside.map c.args.name ≡ Some (row_at c.args.name c.in_ok-base.base c.args.size c.args.align) = subst (λ (m : Kept). row_of m.rows c.args.name ≡ Some (row_at c.args.name c.in_ok-base.base c.args.size c.args.align)) (sym c.self-2.view_is) c.in_ok-base.ensures.row in
-    subst (λ (hs : List Held). HaveRows c.self-2.inside.map hs) (sym c.in_ok-add.ensures.ok) (rows_created c.self-2.inside.map c.self-2.inside.objects _ c.args.align c.self-2.invariant row)
+pub returns-clause-exact : goal.returns-clause-exact
+returns-clause-exact c =
+    created_all c.bear.result c.args.self.now c.bear.new.self c.args.name c.args.size c.args.align c.args.kind (λ shape. shape.value) c.args.declared c.bear.new.t c.bear.ensures.born c.bear.ensures.items
+
+pub returns-clause-known : goal.returns-clause-known
+returns-clause-known c =
+    created_known c.bear.result c.args.self.now c.bear.new.self c.args.name c.args.size c.args.align c.args.kind (λ shape. shape.value) c.args.declared c.bear.ensures.born

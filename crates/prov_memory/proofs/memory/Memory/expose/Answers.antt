@@ -1,6 +1,12 @@
-use Rattle.prov_memory.proofs.ActLemmas.{first_noted_all, exposed_act}
+use Rattle.std.proofs.Common.{length}
+use Rattle.prov_memory.specs.Acts.{candidates}
+use Rattle.prov_memory.proofs.ActLemmas.{first_noted_all, exposed_act, known_uncovered}
 use Rattle.prov_memory.proofs.memory.Memory.expose.Goals as goal
 
-pub returns : goal.returns
-returns c =
+pub returns-clause-exact : goal.returns-clause-exact
+returns-clause-exact c =
     exposed_act c.args.self.now c.show_each.new.self c.args.prov c.show_each.new.t _ c.show_each.ensures.shown (first_noted_all c.clear.new.self c.show_each.new.t _ c.clear.ensures c.show_each.ensures.items)
+
+pub returns-clause-known : goal.returns-clause-known
+returns-clause-known c = λ known.
+    rw c.show_each.ensures.shown (known_uncovered (length c.args.self.now.origins) (candidates c.args.prov) c.args.self.now.objects known)

@@ -1,15 +1,20 @@
-use Rattle.std.proofs.Common.{sym, subst, List}
+use Rattle.std.proofs.Common.{sym, subst, List, length}
 use Rattle.prov_memory.specs.Held.{Held}
-use Rattle.prov_memory.specs.Memory.{HaveRows}
+use Rattle.prov_memory.specs.Memory.{HaveRows, ObjectsKnown, AreKnown, Kept}
 use Rattle.prov_memory.specs.contracts.memory.Memory.{the_view}
 use Rattle.prov_memory.proofs.StoreLemmas.{rows_killed}
-use Rattle.prov_memory.proofs.ActLemmas.{first_noted, killed_act}
+use Rattle.prov_memory.proofs.ActLemmas.{first_noted, killed_act, known_killed}
 use Rattle.prov_memory.proofs.memory.Memory.kill.Goals as goal
 
 pub invariant_of-self : goal.invariant_of-self
 invariant_of-self c =
     subst (λ (hs : List Held). HaveRows c.self.inside.map hs) (sym c.kill.ensures) (rows_killed c.self.inside.map c.args.name c.self.inside.objects c.self.invariant)
 
-pub returns : goal.returns
-returns c = λ io.
+pub returns-clause-exact : goal.returns-clause-exact
+returns-clause-exact c = λ io.
     rw (← c.self.view_is, c.kill.ensures) (killed_act (the_view c.self.inside) c.args.name c.note.new.self c.self.inside.map (first_noted c.clear.new.self c.note.new.self _ c.clear.ensures c.note.ensures) io)
+
+pub returns-clause-known : goal.returns-clause-known
+returns-clause-known c = λ known.
+    let before : AreKnown (the_view c.self.inside) = subst (λ (m : Kept). AreKnown m) (sym c.self.view_is) known in
+    rw c.kill.ensures (known_killed (length c.self.inside.origins.items) c.args.name c.self.inside.objects before)

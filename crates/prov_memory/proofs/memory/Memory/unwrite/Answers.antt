@@ -1,21 +1,26 @@
-use Rattle.std.proofs.Common.{sym, subst, List, []}
+use Rattle.std.proofs.Common.{sym, subst, List, [], length}
 use Rattle.std.proofs.Common.{◌≡◌, ◌∷◌, ◌∙◌, ap, arith}
 use Rattle.ub_base.specs.declared.names.Item.{Item}
 use Rattle.ub_base.specs.declared.names.Item.TheVariants.{Alive, Write}
 use Rattle.prov_memory.specs.Held.{Held}
-use Rattle.prov_memory.specs.Memory.{HaveRows}
+use Rattle.prov_memory.specs.Memory.{HaveRows, ObjectsKnown, AreKnown, Kept}
 use Rattle.prov_memory.specs.contracts.memory.Memory.{the_view}
 use Rattle.prov_memory.proofs.StoreLemmas.{rows_emptied}
-use Rattle.prov_memory.proofs.ActLemmas.{first_noted, noted_after, unwritten_act}
+use Rattle.prov_memory.proofs.ActLemmas.{first_noted, noted_after, unwritten_act, known_emptied}
 use Rattle.prov_memory.proofs.memory.Memory.unwrite.Goals as goal
 
 pub invariant_of-self : goal.invariant_of-self
 invariant_of-self c =
     subst (λ (hs : List Held). HaveRows c.self.inside.map hs) (sym c.unwrite.ensures) (rows_emptied c.self.inside.map c.args.name c.self.inside.objects c.self.invariant)
 
-pub returns : goal.returns
-returns c = λ io.
+pub returns-clause-exact : goal.returns-clause-exact
+returns-clause-exact c = λ io.
     let first : c.note.new.self ≡ Alive c.args.name ∷ [] = first_noted c.clear.new.self c.note.new.self _ c.clear.ensures c.note.ensures in
     let second : c.note-2.new.self ≡ Alive c.args.name ∷ Write c.args.name 0 c.object.inside.size ∷ [] = noted_after c.note.new.self c.note-2.new.self (Alive c.args.name ∷ []) _ first (omega arith) c.note-2.ensures in
     let size : c.object.inside.size ≡ c.in-Some.object.now.size = ap (λ (h : Held). h.size) c.object.view_is in
     rw (← c.self.view_is, c.unwrite.ensures) (unwritten_act (the_view c.self.inside) c.args.name c.in-Some.object.now c.note-2.new.self (sym c.in-Some.ensures.object) c.in-Some.ensures.fit c.self.invariant (second ∙ ap (λ n. Alive c.args.name ∷ Write c.args.name 0 n ∷ []) size) io)
+
+pub returns-clause-known : goal.returns-clause-known
+returns-clause-known c = λ known.
+    let before : AreKnown (the_view c.self.inside) = subst (λ (m : Kept). AreKnown m) (sym c.self.view_is) known in
+    rw c.unwrite.ensures (known_emptied (length c.self.inside.origins.items) c.args.name c.self.inside.objects before)
