@@ -1,1 +1,2 @@
 pub mod Classes
+mod Least

@@ -4,3 +4,4 @@ pub mod Decide
 pub mod Height
 pub mod Sites
 pub mod Lawful
+pub mod Least

@@ -73,7 +73,8 @@ all_sites (s ∷ ss) = s.sites ++ all_sites ss
 abbrev pub seen_tree : Typed-F SeenNode Seen → Seen
 seen_tree t = record {
   ty = type_of t.ty;
-  sites = record { head = t.node.head; ty = type_of t.ty; operands = map type_seen t.children } ∷ t.node.inner ++ all_sites t.children }
+  sites = record { head = t.node.head; ty = type_of t.ty; operands = map type_seen t.children } ∷ t.node.inner ++ all_sites t.children;
+}
 
 abbrev pub seen : Typed → Seen
 seen = fold-Typed SeenNode Seen seen_node seen_tree
@@ -205,7 +206,8 @@ and a b = record {
   labels = a.labels ++ b.labels;
   jumps = a.jumps ++ b.jumps;
   breaks = a.breaks + b.breaks;
-  continues = a.continues + b.continues }
+  continues = a.continues + b.continues;
+}
 
 abbrev pub and_option : Summary → Option Summary → Summary
 and_option a None = a
@@ -217,7 +219,8 @@ switched s = record s {
   switches = record { cases = s.cases; defaults = s.defaults } ∷ s.switches;
   cases = [];
   defaults = 0;
-  breaks = 0 }
+  breaks = 0;
+}
 
 -- a loop takes the breaks and continues inside it (6.8.6.2p2, 6.8.6.3p2)
 abbrev pub looped : Summary → Summary
@@ -260,7 +263,8 @@ abbrev pub block_summary : Block-F Summary (Summary × List ℕ) Summary Summary
 block_summary b =
     let inner = entries_summary b.entries
     in record inner {
-      blocks = record { number = b.number; objects = map qualified_of b.objects; declares = declared_in b.entries } ∷ inner.blocks }
+      blocks = record { number = b.number; objects = map qualified_of b.objects; declares = declared_in b.entries } ∷ inner.blocks;
+    }
 
 abbrev pub summary : Body → Summary
 summary = fold-Body Summary (Summary × List ℕ) Summary Summary summary_step entry_summary start_summary block_summary
