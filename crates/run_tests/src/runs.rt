@@ -118,7 +118,11 @@ fn words(alloc: Global, count: usize) -> Result<Vec<String>, NoMemory> {
 
 // The program of a text, or none where it is refused.
 fn program_of(alloc: Global, text: &str) -> Result<Option<Program>, NoMemory> {
-    let Ok(tokens) = lex(alloc, text.as_bytes()) else {
+    let text = text.as_bytes();
+    if text.len() > 1048576 {
+        return Ok(None);
+    }
+    let Ok(tokens) = lex(alloc, text) else {
         return Ok(None);
     };
     let Ok(unit) = parse(alloc, &tokens) else {
