@@ -1,5 +1,5 @@
 -- When a term is true to the tree of its full expression.
-use Rattle.std.specs.Prelude.{◌≡◌, ◌↔◌, ℕ, List, [], ◌∷◌, ◌++◌, Bool, false, IsTrue}
+use Rattle.std.specs.Prelude.{◌≡◌, ◌↔◌, ℕ, List, [], ◌∷◌, ◌++◌, false, IsTrue}
 use Rattle.ub_base.specs.declared.clause.Kind.TheVariants.{Val, Eff}
 use Rattle.c_typed.specs.declared.tree.Place.{Place}
 use Rattle.c_typed.specs.Tree.{Tree}

@@ -1,11 +1,10 @@
 -- The term of a tree is faithful to it.
-use Rattle.std.proofs.Common.{◌≡◌, ℕ, true, IsTrue, List, [], ◌∷◌, ◌++◌, map, refl, sym, ap, subst, ◌∙◌}
-use Rattle.ub_base.specs.declared.clause.Kind.TheVariants.{Val, Eff}
+use Rattle.std.proofs.Common.{◌≡◌, true, List, [], ◌∷◌, map, sym, ap, subst, ◌∙◌}
 use Rattle.c_typed.specs.declared.tree.Place.{Place}
 use Rattle.c_typed.specs.Tree.{Tree}
 use Rattle.c_typed.specs.Order.{Taken, place, has, events, is_due, Before}
 use Rattle.c_typed.specs.Order as order
-use Rattle.core_ir.specs.Term.{Term, Terms, terms_from, listing, Ordered, rule, chain}
+use Rattle.core_ir.specs.Term.{terms_from, listing, Ordered, rule, chain}
 use Rattle.core_ir.specs.Faithful.{IsStrict, IsFaithful, AreFaithful}
 use Rattle.elaborate.specs.Terms.{term_for}
 use Rattle.elaborate.specs.Formed.{is_formed, EachFormed}

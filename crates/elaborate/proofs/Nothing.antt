@@ -1,5 +1,5 @@
 -- A tree's term orders nothing but what is sequenced before.
-use Rattle.std.proofs.Common.{◌≡◌, ℕ, suc, ◌+◌, ◌<◌, ◌≤◌, Bool, true, false, not, ◌&&◌, ◌||◌, ◌==◌, nat_lt, if◌then◌else◌, List, [], ◌∷◌, ◌++◌, map, Option, Some, None, is_some, refl, sym, ap, subst, ◌∙◌, ◌⊎◌, inl, inr, true≢false, arith}
+use Rattle.std.proofs.Common.{◌≡◌, ℕ, suc, ◌+◌, ◌<◌, ◌≤◌, Bool, true, false, not, ◌&&◌, ◌||◌, ◌==◌, nat_lt, if◌then◌else◌, List, [], ◌∷◌, ◌++◌, Option, is_some, refl, sym, ap, subst, ◌∙◌, ◌⊎◌, inl, inr, true≢false, arith}
 use Rattle.std.proofs.lemmas.Bool.Decides.{nat_tests}
 use Rattle.ub_base.specs.declared.clause.Kind.{Kind}
 use Rattle.ub_base.specs.declared.clause.Kind.TheVariants.{Val, Eff, Body}
@@ -7,10 +7,10 @@ use Rattle.c_typed.specs.declared.tree.Place.{Place}
 use Rattle.c_typed.specs.declared.class.Class.{Class}
 use Rattle.c_typed.specs.declared.class.Class.TheVariants.{Object, Constant, Plain, Store, Update, Choice, Comma, Call, Isolated}
 use Rattle.c_typed.specs.Tree.{Tree, node, Trees, none, more, size, is_quiet, kinds_of}
-use Rattle.c_typed.specs.Order.{Taken, goes, is_choice, place, same_place, own_events, events, operand_events, has, is_val, is_body, is_number, across, upward, is_last, own_rule, in_later, comes, operand_rules}
-use Rattle.core_ir.specs.Term.{Term, unseq, strong, terms_from, listing, listings, continued, is_effect, after_test, orders, orders_among}
+use Rattle.c_typed.specs.Order.{Taken, goes, is_choice, place, same_place, own_events, events, operand_events, has, is_val, is_body, is_number, upward, is_last, own_rule, in_later, comes, operand_rules}
+use Rattle.core_ir.specs.Term.{unseq, strong, terms_from, listing, listings, is_effect, after_test, orders, orders_among}
 use Rattle.elaborate.specs.Terms.{term_for, terms_for, node_term, choice_of, comma_of, head_of, rest_of, body}
-use Rattle.elaborate.specs.Formed.{is_formed, are_formed, takes, all_quiet, after}
+use Rattle.elaborate.specs.Formed.{is_formed, are_formed, takes, after}
 use Rattle.elaborate.proofs.Listed.{and_l, and_r, all_go, listed, listed_all, listed_comma, listed_choice, listed_next, silent}
 use Rattle.elaborate.proofs.Ranges.{or_cases, or_a, or_b, and_b, eq_of, eq_eq, has_left, has_right, has_cases, has_itself, same_kind_eq, own_node, if_has}
 

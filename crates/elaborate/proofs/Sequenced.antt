@@ -1,17 +1,17 @@
 -- What one rule of sequenced before orders, one construct of the tree's term orders too.
-use Rattle.std.proofs.Common.{◌≡◌, ℕ, suc, ◌+◌, ◌<◌, ◌≤◌, Bool, true, false, not, ◌&&◌, ◌||◌, ◌==◌, if◌then◌else◌, List, [], ◌∷◌, ◌++◌, map, Option, Some, None, is_some, refl, sym, ap, subst, ◌∙◌, ◌⊎◌, inl, inr, true≢false, append-nil, arith}
+use Rattle.std.proofs.Common.{◌≡◌, ℕ, suc, ◌+◌, ◌<◌, Bool, true, false, not, ◌&&◌, ◌||◌, ◌==◌, if◌then◌else◌, List, [], ◌∷◌, ◌++◌, map, Option, Some, None, is_some, refl, sym, ap, subst, ◌∙◌, ◌⊎◌, inl, inr, true≢false, arith}
 use Rattle.ub_base.specs.declared.clause.Kind.{Kind}
 use Rattle.ub_base.specs.declared.clause.Kind.TheVariants.{Val, Eff, Body}
 use Rattle.c_typed.specs.declared.tree.Place.{Place}
 use Rattle.c_typed.specs.declared.class.Class.{Class}
 use Rattle.c_typed.specs.declared.class.Class.TheVariants.{Object, Constant, Plain, Store, Update, Choice, Comma, Call, Isolated}
-use Rattle.c_typed.specs.Tree.{Tree, node, Trees, none, more, size, sizes, is_quiet, kinds_of}
+use Rattle.c_typed.specs.Tree.{Tree, node, Trees, none, more, size, sizes, kinds_of}
 use Rattle.c_typed.specs.Order.{Taken, goes, is_choice, place, same_place, own_events, events, operand_events, has, is_val, is_body, is_number, across, upward, is_last, own_rule, in_later, comes, operand_rules}
-use Rattle.core_ir.specs.Term.{Term, terms_from, listing, listings, continued, is_effect, after_test, orders, orders_among}
-use Rattle.elaborate.specs.Terms.{term_for, terms_for, node_term, choice_of, comma_of, head_of, rest_of}
-use Rattle.elaborate.specs.Formed.{is_formed, are_formed, takes, all_quiet, after}
+use Rattle.core_ir.specs.Term.{Term, terms_from, listing, listings, is_effect, orders, orders_among}
+use Rattle.elaborate.specs.Terms.{term_for, terms_for, node_term, comma_of, head_of, rest_of}
+use Rattle.elaborate.specs.Formed.{is_formed, are_formed, takes, after}
 use Rattle.elaborate.proofs.Listed.{and_l, and_r, listed, listed_all, listed_comma, listed_choice, listed_next, silent_all}
-use Rattle.elaborate.proofs.Ranges.{or_cases, or_a, or_b, and_b, eq_of, has_left, has_right, has_cases, has_itself, same_itself, same_kind_eq, own_node, In, size_pos, FirstRules, rules_cases, comes_in, rules_in, later_in, events_in, operands_in, first_of, rest_of as later_of, own_of, operands_of}
+use Rattle.elaborate.proofs.Ranges.{or_cases, or_a, or_b, and_b, eq_of, has_left, has_right, has_cases, has_itself, same_kind_eq, own_node, In, size_pos, rules_cases, comes_in, rules_in, first_of, rest_of as later_of, own_of, operands_of}
 
 val_acts : (kind : Kind) → is_val kind ≡ true → not (is_effect kind) ≡ true
 val_acts Val h = refl

@@ -1,10 +1,9 @@
 -- Trees whose nodes have the operands that their operators take.
-use Rattle.std.specs.Prelude.{◌≡◌, ◌<◌, ◌^◌, Bool, true, ◌&&◌, List, [], ◌∷◌, IsTrue}
+use Rattle.std.specs.Prelude.{◌<◌, ◌^◌, Bool, true, ◌&&◌, List, [], ◌∷◌, IsTrue}
 use Rattle.c_typed.specs.declared.class.Class.{Class}
 use Rattle.c_typed.specs.declared.class.Class.TheVariants.{Object, Constant, Choice, Isolated}
 use Rattle.c_typed.specs.Tree.{Tree, node, Trees, none, more, size, is_quiet}
-use Rattle.c_typed.specs.Order.{Taken, is_last, events}
-use Rattle.core_ir.specs.Term.{listing}
+use Rattle.c_typed.specs.Order.{is_last}
 use Rattle.elaborate.specs.Terms.{term_for}
 use Rattle.core_ir.specs.Faithful.{IsFaithful}
 
