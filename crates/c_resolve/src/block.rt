@@ -5,10 +5,11 @@ use crate::define::{automatic, initialize};
 use crate::expression::{declared, specified};
 use crate::words::{Storage, Words};
 use c_ast::{Base, Declaration, Declarator, Init, Part, Specs};
-use c_scope::{Linkage, Meaning, Source, State, TypeFault};
+use c_scope::{Linkage, Meaning, Source, State, TypeFault, copied_function};
 use c_typed::{Entry, Slot};
 use c_types::{FuncTy, Qual, Ty, copied_qual};
-use ub_base::Items;
+use std::alloc::Global;
+use ub_base::{Items, NoMemory};
 
 /// A token near a declaration: the first name that it declares, or a tag or typedef name in its specifiers.
 pub fn near(specs: &Specs, first: Option<&Declarator>) -> u32 {
@@ -98,11 +99,10 @@ pub fn no_initializer(source: &Source<'_>, part: &Part, at: u32) -> Result<(), T
 }
 
 /// The function type, where the type is one.
-pub fn function_type(qual: Qual) -> Result<FuncTy, Qual> {
-    let Qual { ty, constant } = qual;
-    match ty {
-        Ty::Function(f) => Ok(f.into_inner()),
-        ty => Err(Qual { ty, constant }),
+pub fn function_type(alloc: Global, qual: &Qual) -> Result<Option<FuncTy>, NoMemory> {
+    match &qual.ty {
+        Ty::Function(f) => Ok(Some(copied_function(alloc, f.get())?)),
+        _ => Ok(None),
     }
 }
 
@@ -196,14 +196,11 @@ fn local_part(
         state.declare_typedef(source, name, qual)?;
         return Ok(None);
     }
-    let qual = match function_type(qual) {
-        Ok(ty) => {
-            no_initializer(source, part, name)?;
-            local_function(source, state, words, name, ty)?;
-            return Ok(None);
-        }
-        Err(qual) => qual,
-    };
+    if let Some(ty) = function_type(state.alloc, &qual)? {
+        no_initializer(source, part, name)?;
+        local_function(source, state, words, name, ty)?;
+        return Ok(None);
+    }
     if words.function {
         return Err(source.fault(name));
     }

@@ -137,13 +137,13 @@ fn global_part(
         }
         return state.declare_typedef(source, name, qual);
     }
-    match function_type(qual) {
-        Ok(ty) => {
+    match function_type(state.alloc, &qual)? {
+        Some(ty) => {
             no_initializer(source, part, name)?;
             let _number = global_function(source, state, words, name, ty)?;
             Ok(())
         }
-        Err(qual) => global_object(source, state, words, part, name, qual),
+        None => global_object(source, state, words, part, name, qual),
     }
 }
 
@@ -268,8 +268,8 @@ fn function_definition(
     let at = near(specs, Some(declarator));
     let (words, base) = specified(source, state, specs, at, false)?;
     let Declared { name, qual } = declared(source, state, declarator, base, at, true)?;
-    let (Some(name), Some(params), Ok(ty)) = (name, own_params(declarator), function_type(qual))
-    else {
+    let ty = function_type(state.alloc, &qual)?;
+    let (Some(name), Some(params), Some(ty)) = (name, own_params(declarator), ty) else {
         return Err(source.fault(at));
     };
     if !may_be_defined(state, &ty, params) {
