@@ -160,3 +160,7 @@ module _ (a b : Foot) where
       either)
       (λ one. let t : p ≡ true = hp.1 (one.0, one.1, one.2, one.3) in absurd (cc))
       (race_is a b s.0 s.1 s.2)
+
+pub race_accesses : (a b : Foot) (rows : List Row) (o : Option (Item × Item)) → IsLeast rows (RaceIn a b) o → IfSome o (λ p. (is_access p.0 ≡ true) × (is_access p.1 ≡ true))
+race_accesses a b rows None h = tt
+race_accesses a b rows (Some p) h = (h.0.2, h.0.3)

@@ -1,3 +1,4 @@
+pub mod Candidates
 pub mod Conflicts
 pub mod Found
 pub mod Holds

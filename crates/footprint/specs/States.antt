@@ -2,6 +2,8 @@
 use Rattle.std.specs.Prelude.{◌≡◌, Bool, true, false, ◌||◌, List, [], ◌∷◌, Option, Some, None, if◌then◌else◌}
 use Rattle.std.specs.BTreeMap.{BTreeMap, get}
 use Rattle.ub_base.specs.declared.names.ObjName.{ObjName}
+use Rattle.ub_base.specs.declared.names.Item.{Item}
+use Rattle.ub_base.specs.declared.names.Item.TheVariants.{Born, Dies, Alive, Expose}
 use Rattle.ub_base.specs.Names.{same_object}
 use Rattle.ub_base.specs.NameOrders.{object_cmp}
 use Rattle.footprint.specs.declared.state.State.{State}
@@ -31,3 +33,11 @@ not_alive s = record { born = s.born; dies = s.dies; alive = false; expose = s.e
 abbrev pub listed : List (ObjName × State) → ObjName → State
 listed [] x = nothing
 listed (e ∷ es) x = either (only_at e.0 e.1 x) (listed es x)
+
+-- whether that was done to the object of the item
+abbrev pub said_by : (ObjName → State) → Item → Bool
+said_by f (Born x) = (f x).born
+said_by f (Dies x) = (f x).dies
+said_by f (Alive x) = (f x).alive
+said_by f (Expose x) = (f x).expose
+said_by f _ = false

@@ -1,11 +1,13 @@
 //! What evaluations touch, and when two of them conflict.
 #![tactic(auto)]
 
+mod addresses;
 mod foot;
 mod least;
 mod meeting;
 mod order;
 mod sets;
+mod settled;
 mod shared;
 mod span;
 mod spans;

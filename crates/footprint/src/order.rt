@@ -1,5 +1,6 @@
 // The order of items and of pairs of items.
 ghost use Rattle.std.specs.Prelude.{◌≡◌};
+ghost use Rattle.footprint.specs.Candidates.{least_of_three, when};
 ghost use Rattle.footprint.specs.Least.{item_rank, item_event, item_object, item_number, item_cmp, pair_cmp, lesser};
 
 use c_names::{cmp_events, cmp_objects};
@@ -33,6 +34,25 @@ pub fn lesser(
             }
         }
     }
+}
+
+/// The least of three pairs.
+pub fn least_of_three(
+    frames: &Frames,
+    first: Option<(Item, Item)>,
+    second: Option<(Item, Item)>,
+    third: Option<(Item, Item)>,
+) -> Option<(Item, Item)>
+    ensures { result ≡ least_of_three frames.now first second third }
+{
+    lesser(frames, lesser(frames, first, second), third)
+}
+
+/// The pair, where it is one.
+pub fn when(holds: bool, first: Item, second: Item) -> Option<(Item, Item)>
+    ensures { result ≡ when holds first second }
+{
+    if holds { Some((first, second)) } else { None }
 }
 
 fn cmp_pairs(frames: &Frames, a: &(Item, Item), b: &(Item, Item)) -> Ordering
