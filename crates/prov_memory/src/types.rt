@@ -137,15 +137,21 @@ pub(crate) fn scalar_at<'a>(shape: &'a Shape, at: u64) -> Spanned<'a> {
     }
 }
 
+// A part that begins behind the byte doesn't span it.
 #[cycle(scalar)]
 fn part_at<'a>(parts: &'a [Placed], at: u64) -> Spanned<'a> {
-    let Some((first, rest)) = parts.split_first() else {
-        return Spanned::None;
-    };
-    let here = if first.offset <= at {
-        scalar_at(&first.part, at - first.offset)
+    let mut found = Spanned::None;
+    for placed in parts {
+        found = found.and(placed_at(placed, at));
+    }
+    found
+}
+
+#[cycle(scalar)]
+fn placed_at<'a>(placed: &'a Placed, at: u64) -> Spanned<'a> {
+    if placed.offset <= at {
+        scalar_at(&placed.part, at - placed.offset)
     } else {
         Spanned::None
-    };
-    here.and(part_at(rest, at))
+    }
 }

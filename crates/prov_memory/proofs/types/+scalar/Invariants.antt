@@ -1,4 +1,4 @@
-use Rattle.std.proofs.Common.{map}
+use Rattle.std.proofs.Common.{◌+◌, map}
 use Rattle.c_types.specs.Shapes.{form_of, put_of, forms_of}
 use Rattle.c_types.proofs.Forms.{nodes, all_nodes}
 use Rattle.prov_memory.proofs.types.+scalar.Given as goal
@@ -8,3 +8,6 @@ decreases-scalar_at l = nodes (form_of l.shape.now)
 
 abbrev pub decreases-part_at : goal.decreases-part_at
 decreases-part_at l = all_nodes (forms_of (map put_of l.parts.now))
+
+abbrev pub decreases-placed_at : goal.decreases-placed_at
+decreases-placed_at l = 1 + nodes (put_of l.placed.now).part
