@@ -1,14 +1,12 @@
 // All that is declared so far.
-ghost use Rattle.c_typed.specs.Lawful.{HasBytes};
 
-use crate::literals::Literal;
 use crate::rows::{FunctionRow, Meaning, ObjectRow, TagMeaning, TagRow};
 use crate::{Binding, Source, Space, Task};
 use c_express::{Constants, Objects};
 use c_typed::Target;
 use c_types::{Extent, Qual, TagKind, Tags, Ty};
 use std::alloc::Global;
-use ub_base::{Bytes, NoMemory};
+use ub_base::{Bytes, Items, NoMemory};
 
 /// The declarations of a unit so far.
 #[derive(Drop)]
@@ -31,7 +29,7 @@ pub struct State {
     pub functions: Vec<FunctionRow>,
     /// The object or function that a name with linkage stands for, by symbol.
     pub linked: Vec<Option<Target>>,
-    pub literals: Vec<Literal>,
+    pub literals: Items<Bytes>,
     /// How many operands that aren't evaluated are open.
     pub unevaluated: u32,
     /// The function that is called at program startup (5.1.2.2.1).
@@ -76,7 +74,7 @@ impl State {
             order,
             functions: Vec::new(alloc),
             linked,
-            literals: Vec::new(alloc),
+            literals: Items::new(alloc),
             unevaluated: 0,
             main: None,
             task: Task::new(alloc, Ty::Void),
@@ -148,20 +146,14 @@ impl State {
         }
         let kept = self.literals.remove(number as usize);
         self.forget_literals(mark);
-        self.push_literal(kept)
-    }
-
-    fn push_literal(&mut self, literal: Literal) -> Result<u32, NoMemory> {
-        let number = u32::try_from(self.literals.len()).unwrap_or(u32::MAX);
-        self.literals.push(literal)?;
-        Ok(number)
+        self.add_literal(kept)
     }
 
     /// A further string literal; the answer is its number.
-    pub fn add_literal(&mut self, bytes: Bytes) -> Result<u32, NoMemory>
-        requires { HasBytes bytes }
-    {
-        self.push_literal(Literal { bytes })
+    pub fn add_literal(&mut self, bytes: Bytes) -> Result<u32, NoMemory> {
+        let number = u32::try_from(self.literals.len()).unwrap_or(u32::MAX);
+        self.literals.push(bytes)?;
+        Ok(number)
     }
 
     /// A further object with static storage; the answer is its number.
@@ -275,9 +267,9 @@ impl Objects for State {
         match target {
             Target::Static(number) => self.static_extent(number),
             Target::Literal(number) => {
-                let literal = self.literals.get(number as usize)?;
+                let bytes = self.literals.get(number as usize)?;
                 Some(Extent {
-                    size: literal.bytes.len() as u64,
+                    size: bytes.len() as u64,
                     align: 1,
                 })
             }
