@@ -14,6 +14,7 @@ use Rattle.sources.specs.declared.fetch.FetchFault.{FetchFault}
 use Rattle.sources.specs.declared.fetch.FetchFault.TheVariants as Fault
 use Rattle.command.specs.declared.request.AuditRequest.{AuditRequest}
 use Rattle.generator.specs.Text.{text as generated_text}
+use Rattle.command.specs.declared.request.CheckRequest.{CheckRequest}
 use Rattle.command.specs.declared.request.SelfRequest.{SelfRequest}
 use Rattle.command.specs.declared.request.Request.{Request}
 use Rattle.command.specs.declared.request.Request.TheVariants.{Audit, Check, SelfAudit}
@@ -21,9 +22,9 @@ use Rattle.audit_top.specs.Answer.{HasTokens, HasVerdict, Refuses, judged, lex_r
 use Rattle.audit_top.specs.Value.{value}
 use Rattle.audit_top.specs.Finding.{IsFound}
 use Rattle.audit_top.specs.Words.{TakesWords}
-use Rattle.audit_top.specs.Cause.{AuditCause, Certifies, Disk, GeneratedCause, HasCause, IsCertified, IsJudged, IsRun, IsStopped, KeptCause, Leaves, RequestCause, Spares, SparesOthers, SelfCause, TextCause, UsesForm, WordsCause, stopped, summary_of}
+use Rattle.audit_top.specs.Cause.{AuditCause, CheckCause, StopsCheck, Certifies, Disk, GeneratedCause, HasCause, IsCertified, IsJudged, IsRun, IsStopped, KeptCause, Leaves, RequestCause, Spares, SparesOthers, SelfCause, TextCause, UsesForm, WordsCause, stopped, summary_of}
 use Rattle.audit_top.specs.declared.answer.Answer.{Answer}
-use Rattle.audit_top.specs.declared.answer.Answer.TheVariants.{Clean, Undefined, Found, Generated, GeneratedRefused, Usage, TooLong, Refused, CertificateTooLong, NotKept, ReadFault, NoMemory}
+use Rattle.audit_top.specs.declared.answer.Answer.TheVariants.{Clean, Undefined, Found, Generated, GeneratedRefused, Checked, Bad, Usage, TooLong, Refused, CertificateTooLong, NotKept, ReadFault, NoMemory}
 use Rattle.audit_top.specs.declared.answer.Refusal.{Refusal}
 use Rattle.audit_top.specs.declared.answer.Refusal.TheVariants as Refusal
 use Rattle.audit_top.specs.declared.answer.Summary.{Summary}
@@ -114,6 +115,8 @@ leaves_memory cert old new (Undefined c l) leaves = spares_others cert old new l
 leaves_memory cert old new (Found s b) leaves = certified_spares cert old new leaves
 leaves_memory cert old new (Generated m s b) leaves = spares_others cert old new leaves
 leaves_memory cert old new (GeneratedRefused m r) leaves = spares_others cert old new leaves
+leaves_memory cert old new (Checked v) leaves = spares_others cert old new leaves
+leaves_memory cert old new (Bad b) leaves = spares_others cert old new leaves
 leaves_memory cert old new Usage leaves = spares_others cert old new leaves
 leaves_memory cert old new (TooLong role) leaves = spares_others cert old new leaves
 leaves_memory cert old new (Refused r) leaves = spares_others cert old new leaves
@@ -124,7 +127,7 @@ leaves_memory cert old new NoMemory leaves = leaves
 
 memory_request : (old new : Disk) (request : Request) (answer : Answer) → RequestCause old new request answer → RequestCause old new request NoMemory
 memory_request old new (Audit request) answer why = (tt, leaves_memory (option_copied request.cert) old.held new.held answer why.1)
-memory_request old new (Check request) answer why = (inr refl, why.1)
+memory_request old new (Check request) answer why = (tt, why.1)
 memory_request old new (SelfAudit request) answer why = (tt, why.1)
 
 -- memory may run out in place of any answer
@@ -142,6 +145,8 @@ kept_text request before now text n bytes (Found s b) run tokens found why =
     (record { run = run; tokens = tokens }, subst (λ m. IsFound request.steps m b) (sym why.0) (subst (λ r. IsFound request.steps n r) (sym why.1) found))
 kept_text request before now text n bytes (Generated m s b) run tokens found why = absurd why
 kept_text request before now text n bytes (GeneratedRefused m r) run tokens found why = absurd why
+kept_text request before now text n bytes (Checked v) run tokens found why = absurd why
+kept_text request before now text n bytes (Bad b) run tokens found why = absurd why
 kept_text request before now text n bytes Usage run tokens found why = absurd why
 kept_text request before now text n bytes (TooLong role) run tokens found why = absurd why
 kept_text request before now text n bytes (Refused r) run tokens found why = absurd why
@@ -157,6 +162,8 @@ judged_audit old new request (Undefined c l) j = j
 judged_audit old new request (Found s b) j = j
 judged_audit old new request (Generated m s b) j = j
 judged_audit old new request (GeneratedRefused m r) j = j
+judged_audit old new request (Checked v) j = j
+judged_audit old new request (Bad b) j = j
 judged_audit old new request Usage j = j
 judged_audit old new request (TooLong role) j = absurd j.why
 judged_audit old new request (Refused r) j = j
@@ -186,3 +193,10 @@ generated_self request source slice size answer sizes same is why =
     let sized = subst (λ n. GeneratedCause (record { seed = request.seed; lines = request.lines; size = n }) slice answer) sizes why in
     let whole = subst (λ t. GeneratedCause (summary_of request source) t answer) same sized in
     subst (λ s. GeneratedCause (summary_of request s) s answer) is whole
+
+-- a file that stops a check is its cause
+pub stopped_check : (old new : Disk) (request : CheckRequest) (fault : FetchFault) (answer : Answer) → answer ≡ stopped fault → StopsCheck old new request fault
+    → CheckCause old new request answer
+stopped_check old new request Fault.ReadFault answer is stops = subst (CheckCause old new request) (sym is) stops
+stopped_check old new request (Fault.TooLong role) answer is stops = subst (CheckCause old new request) (sym is) stops
+stopped_check old new request Fault.NoMemory answer is stops = subst (CheckCause old new request) (sym is) tt

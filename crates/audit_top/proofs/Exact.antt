@@ -27,7 +27,7 @@ use Rattle.audit_top.specs.Report.{Ends, EndsWith, report, status}
 use Rattle.audit_top.specs.Told.{IsAsked, IsGiven}
 use Rattle.audit_top.specs.Words.{Asks, TakesWords}
 use Rattle.audit_top.specs.declared.answer.Answer.{Answer}
-use Rattle.audit_top.specs.declared.answer.Answer.TheVariants.{Clean, Undefined, Found, Generated, GeneratedRefused, Usage, TooLong, Refused, CertificateTooLong, NotKept, ReadFault, NoMemory}
+use Rattle.audit_top.specs.declared.answer.Answer.TheVariants.{Clean, Undefined, Found, Generated, GeneratedRefused, Checked, Bad, Usage, TooLong, Refused, CertificateTooLong, NotKept, ReadFault, NoMemory}
 use Rattle.audit_top.specs.declared.answer.Refusal.{Refusal}
 use Rattle.audit_top.specs.declared.answer.Refusal.TheVariants.{Stray, OpenLiteral, BadNumber, TooDeep, TooHigh, Syntax, NotTyped}
 use Rattle.audit_top.proofs.Requests.{SameAudit, one_audit}
@@ -118,6 +118,8 @@ words_only words (Undefined c l) wanted taken why = absurd why
 words_only words (Found s b) wanted taken why = absurd why
 words_only words (Generated m s b) wanted taken why = absurd why
 words_only words (GeneratedRefused m r) wanted taken why = absurd why
+words_only words (Checked v) wanted taken why = absurd why
+words_only words (Bad b) wanted taken why = absurd why
 words_only words Usage wanted taken why = absurd (why taken)
 words_only words (TooLong role) wanted taken why = absurd why
 words_only words (Refused r) wanted taken why = absurd why
@@ -137,6 +139,8 @@ audit_stops old new request (Undefined c l) cause = inr (inr cause)
 audit_stops old new request (Found s b) cause = inr (inr cause)
 audit_stops old new request (Generated m s b) cause = inr (inr cause)
 audit_stops old new request (GeneratedRefused m r) cause = inr (inr cause)
+audit_stops old new request (Checked v) cause = inr (inr cause)
+audit_stops old new request (Bad b) cause = inr (inr cause)
 audit_stops old new request Usage cause = inr (inr cause)
 audit_stops old new request (TooLong role) cause = inr (inl (Fault.TooLong role, refl, cause))
 audit_stops old new request (Refused r) cause = inr (inr cause)
@@ -153,6 +157,8 @@ text_verdict request before now text unit (Undefined c l) uses form why = inr (w
 text_verdict request before now text unit (Found s b) uses form why = absurd (why.0.run uses unit form)
 text_verdict request before now text unit (Generated m s b) uses form why = absurd why
 text_verdict request before now text unit (GeneratedRefused m r) uses form why = absurd why
+text_verdict request before now text unit (Checked v) uses form why = absurd why
+text_verdict request before now text unit (Bad b) uses form why = absurd why
 text_verdict request before now text unit Usage uses form why = absurd why
 text_verdict request before now text unit (TooLong role) uses form why = absurd why
 text_verdict request before now text unit (Refused r) uses form why = absurd (why.0 uses unit form)
@@ -169,6 +175,8 @@ text_refused request before now text refusal (Undefined c l) none early why = ab
 text_refused request before now text refusal (Found s b) none early why = absurd (not_read_on (lexed text) refusal why.0.tokens early)
 text_refused request before now text refusal (Generated m s b) none early why = absurd why
 text_refused request before now text refusal (GeneratedRefused m r) none early why = absurd why
+text_refused request before now text refusal (Checked v) none early why = absurd why
+text_refused request before now text refusal (Bad b) none early why = absurd why
 text_refused request before now text refusal Usage none early why = absurd why
 text_refused request before now text refusal (TooLong role) none early why = absurd why
 text_refused request before now text refusal (Refused r) none early why = inr (ap Refused (early_unique (lexed text) r refusal why.1 early))
@@ -279,6 +287,8 @@ leaves_all old new (Undefined c l) leaves = leaves
 leaves_all old new (Found s b) leaves = leaves
 leaves_all old new (Generated m s b) leaves = leaves
 leaves_all old new (GeneratedRefused m r) leaves = leaves
+leaves_all old new (Checked v) leaves = leaves
+leaves_all old new (Bad b) leaves = leaves
 leaves_all old new Usage leaves = leaves
 leaves_all old new (TooLong role) leaves = leaves
 leaves_all old new (Refused r) leaves = leaves

@@ -1,8 +1,8 @@
 -- Why a call has its answer, and what it leaves in the files.
-use Rattle.std.specs.Prelude.{◌≡◌, ◌⊎◌, ℕ, ◌≤◌, List, length, Option, Some, None, option_copied, ⊤}
+use Rattle.std.specs.Prelude.{◌≡◌, ◌⊎◌, ◌↔◌, ℕ, ◌≤◌, List, [], length, true, Option, Some, None, option_copied, ⊤}
 use Rattle.ub_base.specs.Causes.{Rose}
 use Rattle.ub_base.specs.Held.{Held, IsKept, OthersStay, WhereTold}
-use Rattle.sources.specs.Fetching.{HasInput, IsWhole, Stops, wanted}
+use Rattle.sources.specs.Fetching.{HasInput, IsWhole, Stops, check_wanted, wanted}
 use Rattle.sources.specs.Role.{most}
 use Rattle.sources.specs.declared.fetch.FetchFault.{FetchFault}
 use Rattle.sources.specs.declared.fetch.FetchFault.TheVariants as Fault
@@ -10,14 +10,26 @@ use Rattle.sources.specs.declared.role.Role.TheVariants.{Source, Certificate}
 use Rattle.generator.specs.Text.{text as generated_text}
 use Rattle.c_lex.specs.Tokens.{lexed}
 use Rattle.command.specs.declared.request.AuditRequest.{AuditRequest}
+use Rattle.command.specs.declared.request.CheckRequest.{CheckRequest}
 use Rattle.command.specs.declared.request.SelfRequest.{SelfRequest}
 use Rattle.command.specs.declared.request.Request.{Request}
 use Rattle.command.specs.declared.request.Request.TheVariants.{Audit, Check, SelfAudit}
+use Rattle.certificate.specs.Reading.{IsRefused, States}
+use Rattle.certificate.specs.declared.cert.Cert.{Cert}
+use Rattle.certificate.specs.declared.cert.CertFault.TheVariants as cert_fault
+use Rattle.cert_check.specs.Parts.{NamesRace, added, is_formed}
+use Rattle.cert_check.specs.declared.answer.Answer.{Answer as Verdict}
+use Rattle.cert_check.specs.declared.answer.Answer.TheVariants.{Yes, No}
+use Rattle.cert_check.specs.declared.answer.Part.TheVariants.{Map}
+use Rattle.audit_top.specs.declared.weigh.CertificateFault.{CertificateFault}
+use Rattle.audit_top.specs.declared.weigh.CertificateFault.TheVariants as fault
+use Rattle.audit_top.specs.declared.answer.BadCertificate.{BadCertificate}
+use Rattle.audit_top.specs.declared.answer.BadCertificate.TheVariants.{NotJson, Wrong}
 use Rattle.audit_top.specs.Answer.{HasNoForm, HasTokens, HasVerdict, Refuses}
 use Rattle.audit_top.specs.Finding.{IsFound}
 use Rattle.audit_top.specs.Words.{Asks, TakesWords}
 use Rattle.audit_top.specs.declared.answer.Answer.{Answer}
-use Rattle.audit_top.specs.declared.answer.Answer.TheVariants.{Clean, Undefined, Found, Generated, GeneratedRefused, Usage, TooLong, Refused, CertificateTooLong, NotKept, ReadFault, NoMemory}
+use Rattle.audit_top.specs.declared.answer.Answer.TheVariants.{Clean, Undefined, Found, Generated, GeneratedRefused, Checked, Bad, Usage, TooLong, Refused, CertificateTooLong, NotKept, ReadFault, NoMemory}
 use Rattle.audit_top.specs.declared.answer.Summary.{Summary}
 
 -- the files at one moment: what they hold, and how often a read and a write failed
@@ -58,6 +70,8 @@ TextCause request before now text (Undefined clause line) = UsesForm request × 
 TextCause request before now text (Found s report) = RunsWell request text × IsFound request.steps s report
 TextCause request before now text (Generated summary s report) = ⊥
 TextCause request before now text (GeneratedRefused summary refusal) = ⊥
+TextCause request before now text (Checked verdict) = ⊥
+TextCause request before now text (Bad bad) = ⊥
 TextCause request before now text Usage = ⊥
 TextCause request before now text (TooLong role) = ⊥
 TextCause request before now text (Refused refusal) = IsRun request text × Refuses (lexed text) refusal
@@ -147,10 +161,64 @@ SelfCause request answer =
     let source = generated_text request.seed request.lines in
     GeneratedCause (summary_of request source) source answer
 
+-- The text states a certificate that has this answer: its rows break a rule of the map exactly where the map is refused,
+-- and one that holds has an order of the form that its claim asks for, a pair of undefined behaviour being a race.
+pub record IsChecked (text : List ℕ) (verdict : Verdict) : Type 0 where
+  pub cert : Cert
+  pub states : States text cert
+  pub map : (verdict ≡ No Map) ↔ (added [] cert.map ≡ None)
+  pub form : verdict ≡ Yes → is_formed cert.claim cert.order ≡ true
+  pub race : verdict ≡ Yes → NamesRace cert.claim
+
+-- why a text is no certificate
+abbrev pub BadCause : List ℕ → BadCertificate → Type 0
+BadCause text NotJson = IsRefused text cert_fault.NotJson
+BadCause text (Wrong field) = IsRefused text (cert_fault.BadShape field)
+
+-- why the text has no certificate
+abbrev pub WhyBad : List ℕ → CertificateFault → Type 0
+WhyBad text (fault.Bad bad) = BadCause text bad
+WhyBad text fault.NoMemory = ⊤
+
+-- why the text of a certificate has this answer
+abbrev pub WeighedCause : List ℕ → Answer → Type 0
+WeighedCause text (Checked verdict) = IsChecked text verdict
+WeighedCause text (Bad bad) = BadCause text bad
+WeighedCause text NoMemory = ⊤
+WeighedCause text answer = ⊥
+
+-- why a source and the text of a certificate have this answer
+abbrev pub CertificateCause : List ℕ → List ℕ → Answer → Type 0
+CertificateCause source text (Refused refusal) = Refuses (lexed source) refusal
+CertificateCause source text NoMemory = ⊤
+CertificateCause source text answer = HasTokens (lexed source) × WeighedCause text answer
+
+-- the source, the certificate and the input are fetched, and the first two have this answer
+pub record IsWeighed (old : Disk) (request : CheckRequest) (answer : Answer) : Type 0 where
+  pub text : List ℕ
+  pub certificate : List ℕ
+  pub bytes : List ℕ
+  pub source : IsWhole old.held (Source, request.file.now) text
+  pub given : IsWhole old.held (Certificate, request.cert.now) certificate
+  pub input : HasInput old.held (option_copied request.input) bytes
+  pub why : CertificateCause text certificate answer
+
+-- a file of a check isn't fetched
+abbrev pub StopsCheck : Disk → Disk → CheckRequest → FetchFault → Type 0
+StopsCheck old new request fault =
+    Stops old.held old.reads new.reads (check_wanted request.file.now request.cert.now (option_copied request.input)) fault
+
+-- why a check has this answer
+abbrev pub CheckCause : Disk → Disk → CheckRequest → Answer → Type 0
+CheckCause old new request (TooLong role) = StopsCheck old new request (Fault.TooLong role)
+CheckCause old new request ReadFault = StopsCheck old new request Fault.ReadFault
+CheckCause old new request NoMemory = ⊤
+CheckCause old new request answer = IsWeighed old request answer
+
 -- why a request has this answer
 abbrev pub RequestCause : Disk → Disk → Request → Answer → Type 0
 RequestCause old new (Audit request) answer = AuditCause old new request answer × Leaves (option_copied request.cert) old.held new.held answer
-RequestCause old new (Check request) answer = ((answer ≡ Usage) ⊎ (answer ≡ NoMemory)) × (new.held ≡ old.held)
+RequestCause old new (Check request) answer = CheckCause old new request answer × (new.held ≡ old.held)
 RequestCause old new (SelfAudit request) answer = SelfCause request answer × (new.held ≡ old.held)
 
 -- the words ask for something that has this answer

@@ -2,13 +2,19 @@
 use Rattle.std.specs.Prelude.{◌≡◌, ◌⊎◌, ℕ, List, [], ◌++◌, codes, decimal, Option}
 use Rattle.sources.specs.declared.role.Role.{Role}
 use Rattle.sources.specs.declared.role.Role.TheVariants.{Source, Certificate, Input}
+use Rattle.cert_check.specs.declared.answer.Answer.{Answer as Verdict}
+use Rattle.cert_check.specs.declared.answer.Answer.TheVariants.{Yes, No}
+use Rattle.cert_check.specs.declared.answer.Part.TheVariants.{Map, Order, Claim}
+use Rattle.certificate.specs.Field.{field_text}
 use Rattle.ub_base.specs.Causes.{Rose}
 use Rattle.ub_base.specs.Clause.{clause_text}
 use Rattle.ub_base.specs.declared.clause.Clause.{Clause}
 use Rattle.ub_base.specs.Sink.{Gains, GainsPart}
+use Rattle.audit_top.specs.declared.answer.BadCertificate.{BadCertificate}
+use Rattle.audit_top.specs.declared.answer.BadCertificate.TheVariants.{NotJson, Wrong}
 use Rattle.audit_top.specs.declared.answer.Answer.{Answer}
 use Rattle.audit_top.specs.declared.answer.Summary.{Summary}
-use Rattle.audit_top.specs.declared.answer.Answer.TheVariants.{Clean, Undefined, Found, Generated, GeneratedRefused, Usage, TooLong, Refused, CertificateTooLong, NotKept, ReadFault, NoMemory}
+use Rattle.audit_top.specs.declared.answer.Answer.TheVariants.{Clean, Undefined, Found, Generated, GeneratedRefused, Checked, Bad, Usage, TooLong, Refused, CertificateTooLong, NotKept, ReadFault, NoMemory}
 use Rattle.audit_top.specs.declared.answer.Refusal.{Refusal}
 use Rattle.audit_top.specs.declared.answer.Refusal.TheVariants.{Stray, OpenLiteral, BadNumber, TooDeep, TooHigh, Syntax, NotTyped}
 
@@ -49,6 +55,25 @@ too_long_report Source = codes "too long source 1048576\n"
 too_long_report Certificate = codes "too long certificate 67108864\n"
 too_long_report Input = codes "too long input 16777216\n"
 
+-- whether a certificate holds
+abbrev pub verdict_report : Verdict → List ℕ
+verdict_report Yes = codes "yes\n"
+verdict_report (No Map) = codes "no map\n"
+verdict_report (No Order) = codes "no order\n"
+verdict_report (No Claim) = codes "no claim\n"
+
+abbrev pub verdict_status : Verdict → ℕ
+verdict_status Yes = 0
+verdict_status (No part) = 5
+
+-- what is wrong with a text that is no certificate
+abbrev pub bad_word : BadCertificate → List ℕ
+bad_word NotJson = codes "json"
+bad_word (Wrong field) = field_text field
+
+abbrev pub bad_report : BadCertificate → List ℕ
+bad_report bad = codes "bad certificate " ++ (bad_word bad ++ codes "\n")
+
 -- what a program was generated from, and its size
 abbrev pub summary_report : Summary → List ℕ
 summary_report summary =
@@ -60,6 +85,8 @@ report (Undefined clause line) = undefined_report clause line
 report (Found status bytes) = bytes
 report (Generated summary status bytes) = summary_report summary ++ bytes
 report (GeneratedRefused summary refusal) = summary_report summary ++ refusal_report refusal
+report (Checked verdict) = verdict_report verdict
+report (Bad bad) = bad_report bad
 report Usage = codes "usage\n"
 report (TooLong role) = too_long_report role
 report (Refused refusal) = refusal_report refusal
@@ -74,6 +101,8 @@ status (Undefined clause line) = 1
 status (Found s bytes) = s
 status (Generated summary s bytes) = s
 status (GeneratedRefused summary refusal) = refusal_status refusal
+status (Checked verdict) = verdict_status verdict
+status (Bad bad) = 16
 status Usage = 10
 status (TooLong role) = 14
 status (Refused refusal) = refusal_status refusal

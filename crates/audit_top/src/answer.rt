@@ -1,7 +1,9 @@
 // What the command answers, as the report says it.
 ghost use Rattle.std.specs.Prelude.{◌≡◌, ◌++◌, IfOk};
-ghost use Rattle.audit_top.specs.Report.{numbered, syntax_report, clean_report, undefined_report, refusal_report, too_long_report, summary_report};
+ghost use Rattle.audit_top.specs.Report.{numbered, syntax_report, clean_report, undefined_report, refusal_report, too_long_report, summary_report, verdict_report, verdict_status, bad_word, bad_report};
 
+use cert_check::{Answer as Verdict, Part};
+use certificate::Field;
 use itoa::Buffer;
 use sources::Role;
 use std::alloc::Global;
@@ -24,6 +26,15 @@ pub enum Refusal {
     Syntax { token: u32, line: u32 },
     /// A constraint is broken, or the profile is left, in this line.
     NotTyped(u32),
+}
+
+/// Why a text is no certificate.
+#[derive(Clone, Copy)]
+pub enum BadCertificate {
+    /// It is no JSON.
+    NotJson,
+    /// This is the first wrong member of its value.
+    Wrong(Field),
 }
 
 /// What a program was generated from, and how many bytes it has.
@@ -61,6 +72,10 @@ pub enum Answer {
         summary: Summary,
         refusal: Refusal,
     },
+    /// Whether the certificate that was given holds.
+    Checked(Verdict),
+    /// The text that was given is no certificate.
+    Bad(BadCertificate),
     Usage,
     /// A file that is read has too many bytes.
     TooLong(Role),
@@ -160,6 +175,45 @@ fn too_long(role: Role) -> &'static [u8]
     }
 }
 
+fn verdict_report(verdict: Verdict) -> &'static [u8]
+    ensures { result.now ≡ verdict_report verdict }
+{
+    match verdict {
+        Verdict::Yes => b"yes\n",
+        Verdict::No(Part::Map) => b"no map\n",
+        Verdict::No(Part::Order) => b"no order\n",
+        Verdict::No(Part::Claim) => b"no claim\n",
+    }
+}
+
+fn verdict_status(verdict: Verdict) -> u8
+    ensures { result ≡ verdict_status verdict }
+{
+    match verdict {
+        Verdict::Yes => 0,
+        Verdict::No(_) => 5,
+    }
+}
+
+// The word for what is wrong.
+fn bad_word(bad: BadCertificate) -> &'static str
+    ensures { result.now ≡ bad_word bad }
+{
+    match bad {
+        BadCertificate::NotJson => "json",
+        BadCertificate::Wrong(field) => field.text(),
+    }
+}
+
+fn bad_certificate(alloc: Global, bad: BadCertificate) -> Result<Bytes, NoMemory>
+    ensures { IfOk result (λ bytes. bytes ≡ bad_report bad) }
+{
+    let mut bytes = Bytes::from_slice(alloc, b"bad certificate ")?;
+    bytes.append(bad_word(bad).as_bytes())?;
+    bytes.append(b"\n")?;
+    Ok(bytes)
+}
+
 fn summary_text(alloc: Global, summary: Summary) -> Result<Bytes, NoMemory>
     ensures { IfOk result (λ bytes. bytes ≡ summary_report summary) }
 {
@@ -203,6 +257,8 @@ impl Answer {
             Answer::Found { status, .. } => *status,
             Answer::Generated { status, .. } => *status,
             Answer::GeneratedRefused { refusal, .. } => refusal.status(),
+            Answer::Checked(verdict) => verdict_status(*verdict),
+            Answer::Bad(_) => 16,
             Answer::Usage => 10,
             Answer::TooLong(_) => 14,
             Answer::Refused(refusal) => refusal.status(),
@@ -228,6 +284,8 @@ impl Answer {
             Answer::GeneratedRefused { summary, refusal } => {
                 generated_refused(alloc, *summary, *refusal)
             }
+            Answer::Checked(verdict) => Bytes::from_slice(alloc, verdict_report(*verdict)),
+            Answer::Bad(bad) => bad_certificate(alloc, *bad),
             Answer::Usage => Bytes::from_slice(alloc, b"usage\n"),
             Answer::TooLong(role) => Bytes::from_slice(alloc, too_long(*role)),
             Answer::Refused(refusal) => refusal.report(alloc),

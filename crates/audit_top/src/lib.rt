@@ -9,6 +9,7 @@ mod judge;
 mod run;
 mod top;
 mod value;
+mod weigh;
 mod words;
 
 pub use top::audit_main;

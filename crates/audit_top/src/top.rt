@@ -1,16 +1,17 @@
 // The top call.
 ghost use Rattle.std.specs.Prelude.{◌≡◌, ◌≤◌, map, string_bytes, option_copied};
 ghost use Rattle.ub_base.specs.Causes.{Rose};
-ghost use Rattle.audit_top.specs.Cause.{AuditCause, HasCause, Leaves, RequestCause, disk, stopped};
+ghost use Rattle.audit_top.specs.Cause.{AuditCause, CheckCause, HasCause, Leaves, RequestCause, disk, stopped};
 ghost use Rattle.audit_top.specs.Report.{Ends, EndsWith, report};
 ghost use Rattle.audit_top.specs.Told.{OnAbsent, OnTooLong, OnFirstForm, OnRefused, StaysUncertified};
 ghost use Rattle.audit_top.specs.Words.{IsBounded};
 
 use crate::answer::Answer;
 use crate::judge::{judged, self_audit};
+use crate::weigh::weighed;
 use crate::words::asked;
-use command::{AuditRequest, Request, WordFault};
-use sources::{FetchFault, fetch_sources};
+use command::{AuditRequest, CheckRequest, Request, WordFault};
+use sources::{FetchFault, fetch_check_sources, fetch_sources};
 use std::alloc::Global;
 use ub_base::{Failed, Files, Sink, put_all};
 
@@ -39,6 +40,17 @@ fn audit<F: Files>(alloc: Global, request: &AuditRequest<'_>, files: &mut F) -> 
     }
 }
 
+// The answer to a check of a certificate.
+fn check<F: Files>(alloc: Global, request: &CheckRequest<'_>, files: &mut F) -> Answer
+    ensures why { CheckCause (disk (F.held files.old) (F.read_faults files.old) (F.write_faults files.old)) (disk (F.held files.new) (F.read_faults files.new) (F.write_faults files.new)) request.now result }
+    ensures files { F.held files.new ≡ F.held files.old }
+{
+    match fetch_check_sources(alloc, request.file, request.cert, request.input, files) {
+        Ok(sources) => weighed(alloc, &request.args, &sources),
+        Err(fault) => stopped(fault),
+    }
+}
+
 // The answer to a request.
 fn answer_to<F: Files>(alloc: Global, request: &Request<'_>, files: &mut F) -> Answer
     requires { IsBounded request.now }
@@ -46,7 +58,7 @@ fn answer_to<F: Files>(alloc: Global, request: &Request<'_>, files: &mut F) -> A
 {
     match request {
         Request::Audit(request) => audit(alloc, request, files),
-        Request::Check(_) => Answer::Usage,
+        Request::Check(request) => check(alloc, request, files),
         Request::SelfAudit(request) => self_audit(alloc, *request),
     }
 }

@@ -1,0 +1,5 @@
+//! Certificates of whole programs, checked.
+#![tactic(auto)]
+
+#[cfg(test)]
+mod tests;
