@@ -1,5 +1,0 @@
-//! Certificates of whole programs, checked.
-#![tactic(auto)]
-
-#[cfg(test)]
-mod tests;
