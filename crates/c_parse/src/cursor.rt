@@ -1,6 +1,10 @@
 //! A cursor over tokens, with the names that are in scope.
 
-use crate::error::ParseFault;
+ghost use Rattle.std.specs.Prelude.{◌≡◌, ◌≤◌, IfSome, IfOk, IsTrue};
+ghost use Rattle.c_lex.specs.declared.token.TokenKind.TheVariants as token;
+ghost use Rattle.c_ast.specs.Input.{kind, next};
+
+use crate::error::Refusal;
 use crate::operators::tight;
 use crate::scope::{Named, Scope};
 use c_lex::{Mark, TokenKind, Tokens, Word};
@@ -35,7 +39,9 @@ impl<'a> Cursor<'a> {
         alloc: Global,
         tokens: &'a Tokens<'a>,
         spelled: Vec<u32>,
-    ) -> Result<Cursor<'a>, ParseFault> {
+    ) -> Result<Cursor<'a>, Refusal>
+        ensures { IfOk result (λ c. c.tokens ≡ tokens.now) }
+    {
         Ok(Cursor {
             tokens,
             at: 0,
@@ -46,12 +52,17 @@ impl<'a> Cursor<'a> {
     }
 
     /// The number of the next token.
-    pub fn at(&self) -> u32 {
+    pub fn at(&self) -> u32
+        ensures { result ≡ self.now.at }
+    {
         self.at
     }
 
     /// The kind of the next token.
-    pub fn peek(&self) -> Option<TokenKind> {
+    #[tactic(auto, unfolding(c_ast::specs::Input::kind))]
+    pub fn peek(&self) -> Option<TokenKind>
+        ensures { result ≡ kind self.now }
+    {
         self.tokens.kind(self.at)
     }
 
@@ -61,7 +72,9 @@ impl<'a> Cursor<'a> {
     }
 
     /// The punctuator that comes next.
-    pub fn mark(&self) -> Option<Mark> {
+    pub fn mark(&self) -> Option<Mark>
+        ensures { IfSome result (λ mark. kind self.now ≡ Some (token.Punct mark)) }
+    {
         match self.peek() {
             Some(TokenKind::Punct(mark)) => Some(mark),
             _ => None,
@@ -69,7 +82,9 @@ impl<'a> Cursor<'a> {
     }
 
     /// The keyword that comes next.
-    pub fn word(&self) -> Option<Word> {
+    pub fn word(&self) -> Option<Word>
+        ensures { IfSome result (λ word. kind self.now ≡ Some (token.Keyword word)) }
+    {
         match self.peek() {
             Some(TokenKind::Keyword(word)) => Some(word),
             _ => None,
@@ -90,7 +105,11 @@ impl<'a> Cursor<'a> {
     }
 
     /// Goes past the next token.
-    pub fn take(&mut self) {
+    #[tactic(auto, unfolding(c_ast::specs::Input::next))]
+    pub fn take(&mut self)
+        ensures next { self.new ≡ next self.old }
+        ensures same { self.new.tokens ≡ self.old.tokens }
+    {
         if self.at < self.tokens.len() {
             self.at += 1;
         }
@@ -111,7 +130,9 @@ impl<'a> Cursor<'a> {
     }
 
     /// Takes the punctuator, if it comes next.
-    pub fn eat(&mut self, mark: Mark) -> bool {
+    pub fn eat(&mut self, mark: Mark) -> bool
+        ensures same { self.new.tokens ≡ self.old.tokens }
+    {
         let found = self.sees(mark);
         if found {
             self.take();
@@ -120,7 +141,9 @@ impl<'a> Cursor<'a> {
     }
 
     /// Takes the keyword, if it comes next.
-    pub fn eat_word(&mut self, word: Word) -> bool {
+    pub fn eat_word(&mut self, word: Word) -> bool
+        ensures same { self.new.tokens ≡ self.old.tokens }
+    {
         let found = self.sees_word(word);
         if found {
             self.take();
@@ -128,7 +151,9 @@ impl<'a> Cursor<'a> {
         found
     }
 
-    pub fn expect(&mut self, mark: Mark) -> Result<(), ParseFault> {
+    pub fn expect(&mut self, mark: Mark) -> Result<(), Refusal>
+        ensures same { self.new.tokens ≡ self.old.tokens }
+    {
         if self.eat(mark) {
             Ok(())
         } else {
@@ -136,7 +161,9 @@ impl<'a> Cursor<'a> {
         }
     }
 
-    pub fn expect_word(&mut self, word: Word) -> Result<(), ParseFault> {
+    pub fn expect_word(&mut self, word: Word) -> Result<(), Refusal>
+        ensures same { self.new.tokens ≡ self.old.tokens }
+    {
         if self.eat_word(word) {
             Ok(())
         } else {
@@ -145,13 +172,13 @@ impl<'a> Cursor<'a> {
     }
 
     /// Nothing goes on with the next token.
-    pub fn refuse(&self) -> ParseFault {
-        ParseFault::Syntax(self.at)
+    pub fn refuse(&self) -> Refusal {
+        Refusal::Syntax(self.at)
     }
 
     /// Nothing goes on with the token after the next.
-    pub fn refuse_after(&self) -> ParseFault {
-        ParseFault::Syntax(self.at.saturating_add(1))
+    pub fn refuse_after(&self) -> Refusal {
+        Refusal::Syntax(self.at.saturating_add(1))
     }
 
     /// The number of the first token with the text of this one.
@@ -177,7 +204,9 @@ impl<'a> Cursor<'a> {
     }
 
     /// Brings the name that the token of this number spells into scope.
-    pub fn declare(&mut self, at: u32, typedef: bool) -> Result<(), ParseFault> {
+    pub fn declare(&mut self, at: u32, typedef: bool) -> Result<(), Refusal>
+        ensures same { self.new.tokens ≡ self.old.tokens }
+    {
         let name = self.name_at(at);
         self.scope.declare(at, name, typedef)
     }
@@ -188,21 +217,29 @@ impl<'a> Cursor<'a> {
     }
 
     /// Ends the scope of all but the first `count` declarations.
-    pub fn close(&mut self, count: usize) {
+    pub fn close(&mut self, count: usize)
+        ensures same { self.new.tokens ≡ self.old.tokens }
+    {
         self.scope.truncate(count);
     }
 
     /// What the last prototype declares, which is then none.
-    pub fn take_prototype(&mut self, alloc: Global) -> Vec<Named> {
+    pub fn take_prototype(&mut self, alloc: Global) -> Vec<Named>
+        ensures same { self.new.tokens ≡ self.old.tokens }
+    {
         std::mem::replace(&mut self.prototype, Vec::new(alloc))
     }
 
-    pub fn set_prototype(&mut self, names: Vec<Named>) {
+    pub fn set_prototype(&mut self, names: Vec<Named>)
+        ensures same { self.new.tokens ≡ self.old.tokens }
+    {
         self.prototype = names;
     }
 
     /// The declarations behind the first `count` are those of the last prototype.
-    pub fn keep_prototype(&mut self, alloc: Global, count: usize) -> Result<(), ParseFault> {
+    pub fn keep_prototype(&mut self, alloc: Global, count: usize) -> Result<(), Refusal>
+        ensures same { self.new.tokens ≡ self.old.tokens }
+    {
         self.prototype = Vec::from_slice(alloc, self.scope.since(count))?;
         Ok(())
     }
@@ -215,7 +252,9 @@ impl<'a> Cursor<'a> {
         count: usize,
         own: bool,
         saved: Vec<Named>,
-    ) -> Result<(), ParseFault> {
+    ) -> Result<(), Refusal>
+        ensures same { self.new.tokens ≡ self.old.tokens }
+    {
         if own {
             self.keep_prototype(alloc, count)?;
         } else {
@@ -226,7 +265,9 @@ impl<'a> Cursor<'a> {
     }
 
     /// Brings what the last prototype declares into scope again.
-    pub fn open_prototype(&mut self) -> Result<(), ParseFault> {
+    pub fn open_prototype(&mut self) -> Result<(), Refusal>
+        ensures same { self.new.tokens ≡ self.old.tokens }
+    {
         for x in &self.prototype {
             self.scope.declare(x.at, x.name, x.typedef)?;
         }

@@ -1,9 +1,13 @@
 //! Declarators (6.7.6) and abstract declarators (6.7.7).
 
+ghost use Rattle.std.specs.Prelude.{◌≡◌, All, IfOk, Some};
+ghost use Rattle.c_lex.specs.declared.token.TokenKind.TheVariants as token;
+ghost use Rattle.c_ast.specs.Input.{kind};
+ghost use Rattle.c_ast.specs.Names.{ExprNames, DeclaratorNames, ParamNames};
 ghost use Rattle.c_parse.specs.Nests.{NestsExpr, NestsDeclarator, NestsSpecs};
 
 use crate::cursor::Cursor;
-use crate::error::ParseFault;
+use crate::error::Refusal;
 use crate::knot::{Grammar, Mode, Place};
 use crate::make;
 use crate::operators::ASSIGNMENT;
@@ -28,7 +32,9 @@ pub fn declare_named(
     tokens: &mut Cursor<'_>,
     declarator: &Declarator,
     typedef: bool,
-) -> Result<(), ParseFault> {
+) -> Result<(), Refusal>
+    ensures same { tokens.new.tokens ≡ tokens.old.tokens }
+{
     match name_of(declarator) {
         Some(at) => tokens.declare(at, typedef),
         None => Ok(()),
@@ -50,14 +56,21 @@ fn is_own_name(declarator: &Declarator) -> bool {
     }
 }
 
-fn no_name(mode: Mode, tokens: &Cursor<'_>) -> Result<Declarator, ParseFault> {
+fn no_name(mode: Mode, tokens: &Cursor<'_>) -> Result<Declarator, Refusal>
+    ensures { IfOk result (DeclaratorNames tokens.now.tokens) }
+{
     match mode {
         Mode::Named => Err(tokens.refuse()),
         _ => Ok(Declarator::Ident(None)),
     }
 }
 
-fn name(mode: Mode, tokens: &mut Cursor<'_>) -> Result<Declarator, ParseFault> {
+#[tactic(auto, unfolding(c_ast::specs::Input::kind))]
+fn name(mode: Mode, tokens: &mut Cursor<'_>) -> Result<Declarator, Refusal>
+    requires { kind tokens.old ≡ Some token.Name }
+    ensures same { tokens.new.tokens ≡ tokens.old.tokens }
+    ensures names { IfOk result (DeclaratorNames tokens.old.tokens) }
+{
     match mode {
         Mode::Abstract => Ok(Declarator::Ident(None)),
         _ => {
@@ -69,21 +82,25 @@ fn name(mode: Mode, tokens: &mut Cursor<'_>) -> Result<Declarator, ParseFault> {
 }
 
 impl<
-    F: Fn(Global, &mut Cursor<'_>, usize, u8) -> Result<Expr, ParseFault>,
-    G: Fn(Global, &mut Cursor<'_>, usize, Mode) -> Result<Declarator, ParseFault>,
-    H: Fn(Global, &mut Cursor<'_>, usize, Place) -> Result<Specs, ParseFault>,
+    F: Fn(Global, &mut Cursor<'_>, usize, u8) -> Result<Expr, Refusal>,
+    G: Fn(Global, &mut Cursor<'_>, usize, Mode) -> Result<Declarator, Refusal>,
+    H: Fn(Global, &mut Cursor<'_>, usize, Place) -> Result<Specs, Refusal>,
 > Grammar<F, G, H> {
-    fn parameter_declarator(&self, tokens: &mut Cursor<'_>) -> Result<Declarator, ParseFault>
+    fn parameter_declarator(&self, tokens: &mut Cursor<'_>) -> Result<Declarator, Refusal>
         requires { NestsDeclarator self.now.depth (G.pre self.now.declarator) (G.post self.now.declarator) }
+        ensures same { tokens.new.tokens ≡ tokens.old.tokens }
+        ensures names { IfOk result (DeclaratorNames tokens.old.tokens) }
     {
         let found = self.declarator(tokens, Mode::Either)?;
         declare_named(tokens, &found, false)?;
         Ok(found)
     }
 
-    fn parameter(&self, tokens: &mut Cursor<'_>) -> Result<Param, ParseFault>
+    fn parameter(&self, tokens: &mut Cursor<'_>) -> Result<Param, Refusal>
         requires declarator { NestsDeclarator self.now.depth (G.pre self.now.declarator) (G.post self.now.declarator) }
         requires specs { NestsSpecs self.now.depth (H.pre self.now.specs) (H.post self.now.specs) }
+        ensures same { tokens.new.tokens ≡ tokens.old.tokens }
+        ensures names { IfOk result (ParamNames tokens.old.tokens) }
     {
         let specs = self.specs(tokens, Place::Declaration)?;
         let declarator = self.parameter_declarator(tokens)?;
@@ -91,9 +108,11 @@ impl<
     }
 
     /// The parameters, and whether an ellipsis follows them.
-    fn parameter_list(&self, tokens: &mut Cursor<'_>) -> Result<(Items<Param>, bool), ParseFault>
+    fn parameter_list(&self, tokens: &mut Cursor<'_>) -> Result<(Items<Param>, bool), Refusal>
         requires declarator { NestsDeclarator self.now.depth (G.pre self.now.declarator) (G.post self.now.declarator) }
         requires specs { NestsSpecs self.now.depth (H.pre self.now.specs) (H.post self.now.specs) }
+        ensures same { tokens.new.tokens ≡ tokens.old.tokens }
+        ensures names { IfOk result (λ p. All (ParamNames tokens.old.tokens) p.0) }
     {
         let mut found = Items::new(self.alloc);
         for _turn in 0..tokens.turns() {
@@ -108,9 +127,11 @@ impl<
         Err(tokens.refuse())
     }
 
-    fn parameters(&self, tokens: &mut Cursor<'_>) -> Result<(Items<Param>, bool), ParseFault>
+    fn parameters(&self, tokens: &mut Cursor<'_>) -> Result<(Items<Param>, bool), Refusal>
         requires declarator { NestsDeclarator self.now.depth (G.pre self.now.declarator) (G.post self.now.declarator) }
         requires specs { NestsSpecs self.now.depth (H.pre self.now.specs) (H.post self.now.specs) }
+        ensures same { tokens.new.tokens ≡ tokens.old.tokens }
+        ensures names { IfOk result (λ p. All (ParamNames tokens.old.tokens) p.0) }
     {
         if tokens.sees(Mark::CloseParen) {
             Ok((Items::new(self.alloc), false))
@@ -119,8 +140,10 @@ impl<
         }
     }
 
-    fn array_size(&self, tokens: &mut Cursor<'_>) -> Result<Expr, ParseFault>
+    fn array_size(&self, tokens: &mut Cursor<'_>) -> Result<Expr, Refusal>
         requires { NestsExpr self.now.depth (F.pre self.now.expr) (F.post self.now.expr) }
+        ensures same { tokens.new.tokens ≡ tokens.old.tokens }
+        ensures names { IfOk result (ExprNames tokens.old.tokens) }
     {
         let prototype = tokens.take_prototype(self.alloc);
         let size = self.expr(tokens, ASSIGNMENT)?;
@@ -129,8 +152,11 @@ impl<
         Ok(size)
     }
 
-    fn sized(&self, tokens: &mut Cursor<'_>, inner: Declarator) -> Result<Declarator, ParseFault>
-        requires { NestsExpr self.now.depth (F.pre self.now.expr) (F.post self.now.expr) }
+    fn sized(&self, tokens: &mut Cursor<'_>, inner: Declarator) -> Result<Declarator, Refusal>
+        requires expr { NestsExpr self.now.depth (F.pre self.now.expr) (F.post self.now.expr) }
+        requires inner { DeclaratorNames tokens.old.tokens inner }
+        ensures same { tokens.new.tokens ≡ tokens.old.tokens }
+        ensures names { IfOk result (DeclaratorNames tokens.old.tokens) }
     {
         let size = self.array_size(tokens)?;
         Ok(make::array_of(self.alloc, inner, size)?)
@@ -141,8 +167,11 @@ impl<
         &self,
         tokens: &mut Cursor<'_>,
         inner: Declarator,
-    ) -> Result<Declarator, ParseFault>
-        requires { NestsExpr self.now.depth (F.pre self.now.expr) (F.post self.now.expr) }
+    ) -> Result<Declarator, Refusal>
+        requires expr { NestsExpr self.now.depth (F.pre self.now.expr) (F.post self.now.expr) }
+        requires inner { DeclaratorNames tokens.old.tokens inner }
+        ensures same { tokens.new.tokens ≡ tokens.old.tokens }
+        ensures names { IfOk result (DeclaratorNames tokens.old.tokens) }
     {
         if tokens.eat(Mark::CloseBracket) {
             Ok(make::array(self.alloc, inner)?)
@@ -152,13 +181,11 @@ impl<
     }
 
     /// The parameters and the closing parenthesis. What the parameters declare ends with them (6.2.1p4).
-    fn prototype(
-        &self,
-        tokens: &mut Cursor<'_>,
-        own: bool,
-    ) -> Result<(Items<Param>, bool), ParseFault>
+    fn prototype(&self, tokens: &mut Cursor<'_>, own: bool) -> Result<(Items<Param>, bool), Refusal>
         requires declarator { NestsDeclarator self.now.depth (G.pre self.now.declarator) (G.post self.now.declarator) }
         requires specs { NestsSpecs self.now.depth (H.pre self.now.specs) (H.post self.now.specs) }
+        ensures same { tokens.new.tokens ≡ tokens.old.tokens }
+        ensures names { IfOk result (λ p. All (ParamNames tokens.old.tokens) p.0) }
     {
         let outer = tokens.open();
         let saved = tokens.take_prototype(self.alloc);
@@ -173,18 +200,24 @@ impl<
         &self,
         tokens: &mut Cursor<'_>,
         inner: Declarator,
-    ) -> Result<Declarator, ParseFault>
+    ) -> Result<Declarator, Refusal>
         requires declarator { NestsDeclarator self.now.depth (G.pre self.now.declarator) (G.post self.now.declarator) }
         requires specs { NestsSpecs self.now.depth (H.pre self.now.specs) (H.post self.now.specs) }
+        requires inner { DeclaratorNames tokens.old.tokens inner }
+        ensures same { tokens.new.tokens ≡ tokens.old.tokens }
+        ensures names { IfOk result (DeclaratorNames tokens.old.tokens) }
     {
         let (params, ellipsis) = self.prototype(tokens, is_own_name(&inner))?;
         Ok(make::function(self.alloc, inner, params, ellipsis)?)
     }
 
-    fn suffix(&self, tokens: &mut Cursor<'_>, inner: Declarator) -> Result<Declarator, ParseFault>
+    fn suffix(&self, tokens: &mut Cursor<'_>, inner: Declarator) -> Result<Declarator, Refusal>
         requires expr { NestsExpr self.now.depth (F.pre self.now.expr) (F.post self.now.expr) }
         requires declarator { NestsDeclarator self.now.depth (G.pre self.now.declarator) (G.post self.now.declarator) }
         requires specs { NestsSpecs self.now.depth (H.pre self.now.specs) (H.post self.now.specs) }
+        requires inner { DeclaratorNames tokens.old.tokens inner }
+        ensures same { tokens.new.tokens ≡ tokens.old.tokens }
+        ensures names { IfOk result (DeclaratorNames tokens.old.tokens) }
     {
         if tokens.eat(Mark::OpenBracket) {
             self.array_suffix(tokens, inner)
@@ -198,10 +231,13 @@ impl<
         &self,
         tokens: &mut Cursor<'_>,
         mut inner: Declarator,
-    ) -> Result<Declarator, ParseFault>
+    ) -> Result<Declarator, Refusal>
         requires expr { NestsExpr self.now.depth (F.pre self.now.expr) (F.post self.now.expr) }
         requires declarator { NestsDeclarator self.now.depth (G.pre self.now.declarator) (G.post self.now.declarator) }
         requires specs { NestsSpecs self.now.depth (H.pre self.now.specs) (H.post self.now.specs) }
+        requires inner { DeclaratorNames tokens.old.tokens inner }
+        ensures same { tokens.new.tokens ≡ tokens.old.tokens }
+        ensures names { IfOk result (DeclaratorNames tokens.old.tokens) }
     {
         for _turn in 0..tokens.turns() {
             if !is_suffix(tokens.mark()) {
@@ -213,16 +249,20 @@ impl<
     }
 
     /// After the opening parenthesis.
-    fn nested(&self, tokens: &mut Cursor<'_>, mode: Mode) -> Result<Declarator, ParseFault>
+    fn nested(&self, tokens: &mut Cursor<'_>, mode: Mode) -> Result<Declarator, Refusal>
         requires { NestsDeclarator self.now.depth (G.pre self.now.declarator) (G.post self.now.declarator) }
+        ensures same { tokens.new.tokens ≡ tokens.old.tokens }
+        ensures names { IfOk result (DeclaratorNames tokens.old.tokens) }
     {
         let inner = self.declarator(tokens, mode)?;
         tokens.expect(Mark::CloseParen)?;
         Ok(inner)
     }
 
-    fn base(&self, tokens: &mut Cursor<'_>, mode: Mode) -> Result<Declarator, ParseFault>
+    fn base(&self, tokens: &mut Cursor<'_>, mode: Mode) -> Result<Declarator, Refusal>
         requires { NestsDeclarator self.now.depth (G.pre self.now.declarator) (G.post self.now.declarator) }
+        ensures same { tokens.new.tokens ≡ tokens.old.tokens }
+        ensures names { IfOk result (DeclaratorNames tokens.old.tokens) }
     {
         match tokens.peek() {
             Some(TokenKind::Name) => name(mode, tokens),
@@ -238,22 +278,22 @@ impl<
     }
 
     /// After the star.
-    fn pointed(&self, tokens: &mut Cursor<'_>, mode: Mode) -> Result<Declarator, ParseFault>
+    fn pointed(&self, tokens: &mut Cursor<'_>, mode: Mode) -> Result<Declarator, Refusal>
         requires { NestsDeclarator self.now.depth (G.pre self.now.declarator) (G.post self.now.declarator) }
+        ensures same { tokens.new.tokens ≡ tokens.old.tokens }
+        ensures names { IfOk result (DeclaratorNames tokens.old.tokens) }
     {
         let words = qualifiers(self.alloc, tokens)?;
         let inner = self.declarator(tokens, mode)?;
         Ok(make::pointer(self.alloc, words, inner)?)
     }
 
-    pub fn one_declarator(
-        &self,
-        tokens: &mut Cursor<'_>,
-        mode: Mode,
-    ) -> Result<Declarator, ParseFault>
+    pub fn one_declarator(&self, tokens: &mut Cursor<'_>, mode: Mode) -> Result<Declarator, Refusal>
         requires expr { NestsExpr self.now.depth (F.pre self.now.expr) (F.post self.now.expr) }
         requires declarator { NestsDeclarator self.now.depth (G.pre self.now.declarator) (G.post self.now.declarator) }
         requires specs { NestsSpecs self.now.depth (H.pre self.now.specs) (H.post self.now.specs) }
+        ensures same { tokens.new.tokens ≡ tokens.old.tokens }
+        ensures names { IfOk result (DeclaratorNames tokens.old.tokens) }
     {
         if tokens.eat(Mark::Star) {
             self.pointed(tokens, mode)

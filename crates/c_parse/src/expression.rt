@@ -1,9 +1,14 @@
 //! Expressions (6.5).
 
+ghost use Rattle.std.specs.Prelude.{◌≡◌, All, IfOk, Some};
+ghost use Rattle.c_lex.specs.TokenText.{TokenText};
+ghost use Rattle.c_lex.specs.declared.token.TokenKind.TheVariants as token;
+ghost use Rattle.c_ast.specs.Input.{kind, next};
+ghost use Rattle.c_ast.specs.Names.{NodeNames, ExprNames, TypeNameNames};
 ghost use Rattle.c_parse.specs.Nests.{NestsExpr, NestsDeclarator, NestsSpecs};
 
 use crate::cursor::Cursor;
-use crate::error::ParseFault;
+use crate::error::Refusal;
 use crate::knot::{Grammar, Mode, Place};
 use crate::make;
 use crate::operators::{
@@ -33,13 +38,22 @@ fn binary_sign(tokens: &Cursor<'_>) -> Option<BinaryOp> {
 }
 
 /// The expression that the next token is alone.
-fn leaf(tokens: &mut Cursor<'_>, node: ExprNode) -> Expr {
+fn leaf(tokens: &mut Cursor<'_>, node: ExprNode) -> Expr
+    requires { NodeNames tokens.old.tokens node }
+    ensures same { tokens.new.tokens ≡ tokens.old.tokens }
+    ensures names { ExprNames tokens.old.tokens result }
+{
     let at = tokens.at();
     tokens.take();
     Expr { at, node }
 }
 
-fn name_expr(tokens: &mut Cursor<'_>) -> Result<Expr, ParseFault> {
+#[tactic(auto, unfolding(c_ast::specs::Input::kind))]
+fn name_expr(tokens: &mut Cursor<'_>) -> Result<Expr, Refusal>
+    requires { kind tokens.old ≡ Some token.Name }
+    ensures same { tokens.new.tokens ≡ tokens.old.tokens }
+    ensures names { IfOk result (ExprNames tokens.old.tokens) }
+{
     if tokens.is_typedef() {
         return Err(tokens.refuse());
     }
@@ -47,7 +61,10 @@ fn name_expr(tokens: &mut Cursor<'_>) -> Result<Expr, ParseFault> {
     Ok(leaf(tokens, ExprNode::Name(at)))
 }
 
-fn string_expr(tokens: &mut Cursor<'_>) -> Result<Expr, ParseFault> {
+fn string_expr(tokens: &mut Cursor<'_>) -> Result<Expr, Refusal>
+    ensures same { tokens.new.tokens ≡ tokens.old.tokens }
+    ensures names { IfOk result (ExprNames tokens.old.tokens) }
+{
     let at = tokens.at();
     let node = ExprNode::Strings(at, strings(tokens)?);
     Ok(Expr { at, node })
@@ -59,21 +76,26 @@ fn begins_cast(tokens: &Cursor<'_>) -> bool {
 }
 
 impl<
-    F: Fn(Global, &mut Cursor<'_>, usize, u8) -> Result<Expr, ParseFault>,
-    G: Fn(Global, &mut Cursor<'_>, usize, Mode) -> Result<Declarator, ParseFault>,
-    H: Fn(Global, &mut Cursor<'_>, usize, Place) -> Result<Specs, ParseFault>,
+    F: Fn(Global, &mut Cursor<'_>, usize, u8) -> Result<Expr, Refusal>,
+    G: Fn(Global, &mut Cursor<'_>, usize, Mode) -> Result<Declarator, Refusal>,
+    H: Fn(Global, &mut Cursor<'_>, usize, Place) -> Result<Specs, Refusal>,
 > Grammar<F, G, H> {
     /// After the opening parenthesis.
-    fn inside(&self, tokens: &mut Cursor<'_>) -> Result<Expr, ParseFault>
+    fn inside(&self, tokens: &mut Cursor<'_>) -> Result<Expr, Refusal>
         requires { NestsExpr self.now.depth (F.pre self.now.expr) (F.post self.now.expr) }
+        ensures same { tokens.new.tokens ≡ tokens.old.tokens }
+        ensures names { IfOk result (ExprNames tokens.old.tokens) }
     {
         let inner = self.expr(tokens, COMMA)?;
         tokens.expect(Mark::CloseParen)?;
         Ok(inner)
     }
 
-    fn primary(&self, tokens: &mut Cursor<'_>) -> Result<Expr, ParseFault>
+    #[tactic(auto, unfolding(c_ast::specs::Input::kind))]
+    fn primary(&self, tokens: &mut Cursor<'_>) -> Result<Expr, Refusal>
         requires { NestsExpr self.now.depth (F.pre self.now.expr) (F.post self.now.expr) }
+        ensures same { tokens.new.tokens ≡ tokens.old.tokens }
+        ensures names { IfOk result (ExprNames tokens.old.tokens) }
     {
         let at = tokens.at();
         match tokens.peek() {
@@ -89,8 +111,10 @@ impl<
         }
     }
 
-    fn argument_list(&self, tokens: &mut Cursor<'_>) -> Result<Items<Expr>, ParseFault>
+    fn argument_list(&self, tokens: &mut Cursor<'_>) -> Result<Items<Expr>, Refusal>
         requires { NestsExpr self.now.depth (F.pre self.now.expr) (F.post self.now.expr) }
+        ensures same { tokens.new.tokens ≡ tokens.old.tokens }
+        ensures names { IfOk result (All (ExprNames tokens.old.tokens)) }
     {
         let mut found = Items::new(self.alloc);
         for _turn in 0..tokens.turns() {
@@ -102,8 +126,10 @@ impl<
         Err(tokens.refuse())
     }
 
-    fn arguments(&self, tokens: &mut Cursor<'_>) -> Result<Items<Expr>, ParseFault>
+    fn arguments(&self, tokens: &mut Cursor<'_>) -> Result<Items<Expr>, Refusal>
         requires { NestsExpr self.now.depth (F.pre self.now.expr) (F.post self.now.expr) }
+        ensures same { tokens.new.tokens ≡ tokens.old.tokens }
+        ensures names { IfOk result (All (ExprNames tokens.old.tokens)) }
     {
         if tokens.eat(Mark::CloseParen) {
             return Ok(Items::new(self.alloc));
@@ -114,48 +140,69 @@ impl<
     }
 
     /// After the opening parenthesis of a call.
-    fn call_of(&self, tokens: &mut Cursor<'_>, at: u32, left: Expr) -> Result<Expr, ParseFault>
-        requires { NestsExpr self.now.depth (F.pre self.now.expr) (F.post self.now.expr) }
+    fn call_of(&self, tokens: &mut Cursor<'_>, at: u32, left: Expr) -> Result<Expr, Refusal>
+        requires expr { NestsExpr self.now.depth (F.pre self.now.expr) (F.post self.now.expr) }
+        requires left { ExprNames tokens.old.tokens left }
+        ensures same { tokens.new.tokens ≡ tokens.old.tokens }
+        ensures names { IfOk result (ExprNames tokens.old.tokens) }
     {
         let found = self.arguments(tokens)?;
         Ok(make::call(self.alloc, at, left, found)?)
     }
 
     /// After the opening bracket of a subscript.
-    fn subscript(&self, tokens: &mut Cursor<'_>) -> Result<Expr, ParseFault>
+    fn subscript(&self, tokens: &mut Cursor<'_>) -> Result<Expr, Refusal>
         requires { NestsExpr self.now.depth (F.pre self.now.expr) (F.post self.now.expr) }
+        ensures same { tokens.new.tokens ≡ tokens.old.tokens }
+        ensures names { IfOk result (ExprNames tokens.old.tokens) }
     {
         let inner = self.expr(tokens, COMMA)?;
         tokens.expect(Mark::CloseBracket)?;
         Ok(inner)
     }
 
-    fn index_of(&self, tokens: &mut Cursor<'_>, at: u32, left: Expr) -> Result<Expr, ParseFault>
-        requires { NestsExpr self.now.depth (F.pre self.now.expr) (F.post self.now.expr) }
+    fn index_of(&self, tokens: &mut Cursor<'_>, at: u32, left: Expr) -> Result<Expr, Refusal>
+        requires expr { NestsExpr self.now.depth (F.pre self.now.expr) (F.post self.now.expr) }
+        requires left { ExprNames tokens.old.tokens left }
+        ensures same { tokens.new.tokens ≡ tokens.old.tokens }
+        ensures names { IfOk result (ExprNames tokens.old.tokens) }
     {
         let inner = self.subscript(tokens)?;
         Ok(make::index(self.alloc, at, left, inner)?)
     }
 
     /// After the dot.
-    fn dot_of(&self, tokens: &mut Cursor<'_>, at: u32, left: Expr) -> Result<Expr, ParseFault> {
+    fn dot_of(&self, tokens: &mut Cursor<'_>, at: u32, left: Expr) -> Result<Expr, Refusal>
+        requires left { ExprNames tokens.old.tokens left }
+        ensures same { tokens.new.tokens ≡ tokens.old.tokens }
+        ensures names { IfOk result (ExprNames tokens.old.tokens) }
+    {
         let member = identifier(tokens)?;
         Ok(make::dot(self.alloc, at, left, member)?)
     }
 
     /// After the arrow.
-    fn arrow_of(&self, tokens: &mut Cursor<'_>, at: u32, left: Expr) -> Result<Expr, ParseFault> {
+    fn arrow_of(&self, tokens: &mut Cursor<'_>, at: u32, left: Expr) -> Result<Expr, Refusal>
+        requires left { ExprNames tokens.old.tokens left }
+        ensures same { tokens.new.tokens ≡ tokens.old.tokens }
+        ensures names { IfOk result (ExprNames tokens.old.tokens) }
+    {
         let member = identifier(tokens)?;
         Ok(make::arrow(self.alloc, at, left, member)?)
     }
 
-    fn stepped(&self, at: u32, op: PostOp, left: Expr) -> Result<Expr, ParseFault> {
+    fn stepped(&self, at: u32, op: PostOp, left: Expr) -> Result<Expr, Refusal>
+        ensures { (t : TokenText) → ExprNames t left → IfOk result (ExprNames t) }
+    {
         Ok(make::postfix(self.alloc, at, op, left)?)
     }
 
     /// One more postfix operator.
-    fn post(&self, tokens: &mut Cursor<'_>, at: u32, left: Expr) -> Result<Expr, ParseFault>
-        requires { NestsExpr self.now.depth (F.pre self.now.expr) (F.post self.now.expr) }
+    fn post(&self, tokens: &mut Cursor<'_>, at: u32, left: Expr) -> Result<Expr, Refusal>
+        requires expr { NestsExpr self.now.depth (F.pre self.now.expr) (F.post self.now.expr) }
+        requires left { ExprNames tokens.old.tokens left }
+        ensures same { tokens.new.tokens ≡ tokens.old.tokens }
+        ensures names { IfOk result (ExprNames tokens.old.tokens) }
     {
         let mark = tokens.mark();
         tokens.take();
@@ -169,8 +216,11 @@ impl<
         }
     }
 
-    fn posts(&self, tokens: &mut Cursor<'_>, at: u32, mut left: Expr) -> Result<Expr, ParseFault>
-        requires { NestsExpr self.now.depth (F.pre self.now.expr) (F.post self.now.expr) }
+    fn posts(&self, tokens: &mut Cursor<'_>, at: u32, mut left: Expr) -> Result<Expr, Refusal>
+        requires expr { NestsExpr self.now.depth (F.pre self.now.expr) (F.post self.now.expr) }
+        requires left { ExprNames tokens.old.tokens left }
+        ensures same { tokens.new.tokens ≡ tokens.old.tokens }
+        ensures names { IfOk result (ExprNames tokens.old.tokens) }
     {
         for _turn in 0..tokens.turns() {
             if tokens.tight() <= POSTFIX {
@@ -182,9 +232,11 @@ impl<
     }
 
     /// A type name in parentheses.
-    fn type_name(&self, tokens: &mut Cursor<'_>) -> Result<TypeName, ParseFault>
+    fn type_name(&self, tokens: &mut Cursor<'_>) -> Result<TypeName, Refusal>
         requires declarator { NestsDeclarator self.now.depth (G.pre self.now.declarator) (G.post self.now.declarator) }
         requires specs { NestsSpecs self.now.depth (H.pre self.now.specs) (H.post self.now.specs) }
+        ensures same { tokens.new.tokens ≡ tokens.old.tokens }
+        ensures names { IfOk result (TypeNameNames tokens.old.tokens) }
     {
         tokens.expect(Mark::OpenParen)?;
         let specs = self.specs(tokens, Place::Qualified)?;
@@ -193,10 +245,12 @@ impl<
         Ok(TypeName { specs, declarator })
     }
 
-    fn casted(&self, tokens: &mut Cursor<'_>, at: u32) -> Result<Expr, ParseFault>
+    fn casted(&self, tokens: &mut Cursor<'_>, at: u32) -> Result<Expr, Refusal>
         requires expr { NestsExpr self.now.depth (F.pre self.now.expr) (F.post self.now.expr) }
         requires declarator { NestsDeclarator self.now.depth (G.pre self.now.declarator) (G.post self.now.declarator) }
         requires specs { NestsSpecs self.now.depth (H.pre self.now.specs) (H.post self.now.specs) }
+        ensures same { tokens.new.tokens ≡ tokens.old.tokens }
+        ensures names { IfOk result (ExprNames tokens.old.tokens) }
     {
         let to = self.type_name(tokens)?;
         let value = self.expr(tokens, CAST)?;
@@ -204,10 +258,12 @@ impl<
     }
 
     /// After `sizeof`.
-    fn size(&self, tokens: &mut Cursor<'_>, at: u32) -> Result<Expr, ParseFault>
+    fn size(&self, tokens: &mut Cursor<'_>, at: u32) -> Result<Expr, Refusal>
         requires expr { NestsExpr self.now.depth (F.pre self.now.expr) (F.post self.now.expr) }
         requires declarator { NestsDeclarator self.now.depth (G.pre self.now.declarator) (G.post self.now.declarator) }
         requires specs { NestsSpecs self.now.depth (H.pre self.now.specs) (H.post self.now.specs) }
+        ensures same { tokens.new.tokens ≡ tokens.old.tokens }
+        ensures names { IfOk result (ExprNames tokens.old.tokens) }
     {
         if tokens.sees(Mark::OpenParen) && begins_type_after(tokens) {
             let of = self.type_name(tokens)?;
@@ -218,27 +274,33 @@ impl<
         }
     }
 
-    fn chained(&self, tokens: &mut Cursor<'_>, at: u32) -> Result<Expr, ParseFault>
+    fn chained(&self, tokens: &mut Cursor<'_>, at: u32) -> Result<Expr, Refusal>
         requires { NestsExpr self.now.depth (F.pre self.now.expr) (F.post self.now.expr) }
+        ensures same { tokens.new.tokens ≡ tokens.old.tokens }
+        ensures names { IfOk result (ExprNames tokens.old.tokens) }
     {
         let first = self.primary(tokens)?;
         self.posts(tokens, at, first)
     }
 
     /// After `_Alignof`.
-    fn alignment(&self, tokens: &mut Cursor<'_>, at: u32) -> Result<Expr, ParseFault>
+    fn alignment(&self, tokens: &mut Cursor<'_>, at: u32) -> Result<Expr, Refusal>
         requires declarator { NestsDeclarator self.now.depth (G.pre self.now.declarator) (G.post self.now.declarator) }
         requires specs { NestsSpecs self.now.depth (H.pre self.now.specs) (H.post self.now.specs) }
+        ensures same { tokens.new.tokens ≡ tokens.old.tokens }
+        ensures names { IfOk result (ExprNames tokens.old.tokens) }
     {
         let of = self.type_name(tokens)?;
         Ok(make::alignof_type(self.alloc, at, of)?)
     }
 
     /// At an opening parenthesis. A cast is no unary expression.
-    fn bracketed(&self, tokens: &mut Cursor<'_>, at: u32, least: u8) -> Result<Expr, ParseFault>
+    fn bracketed(&self, tokens: &mut Cursor<'_>, at: u32, least: u8) -> Result<Expr, Refusal>
         requires expr { NestsExpr self.now.depth (F.pre self.now.expr) (F.post self.now.expr) }
         requires declarator { NestsDeclarator self.now.depth (G.pre self.now.declarator) (G.post self.now.declarator) }
         requires specs { NestsSpecs self.now.depth (H.pre self.now.specs) (H.post self.now.specs) }
+        ensures same { tokens.new.tokens ≡ tokens.old.tokens }
+        ensures names { IfOk result (ExprNames tokens.old.tokens) }
     {
         if !begins_type_after(tokens) {
             return self.chained(tokens, at);
@@ -250,8 +312,10 @@ impl<
     }
 
     /// At a unary operator.
-    fn operated(&self, tokens: &mut Cursor<'_>, at: u32, op: UnaryOp) -> Result<Expr, ParseFault>
+    fn operated(&self, tokens: &mut Cursor<'_>, at: u32, op: UnaryOp) -> Result<Expr, Refusal>
         requires { NestsExpr self.now.depth (F.pre self.now.expr) (F.post self.now.expr) }
+        ensures same { tokens.new.tokens ≡ tokens.old.tokens }
+        ensures names { IfOk result (ExprNames tokens.old.tokens) }
     {
         tokens.take();
         let operand = self.expr(tokens, operand_level(op))?;
@@ -259,10 +323,12 @@ impl<
     }
 
     /// A cast expression, and a unary expression where `least` asks for one.
-    fn prefix(&self, tokens: &mut Cursor<'_>, least: u8) -> Result<Expr, ParseFault>
+    fn prefix(&self, tokens: &mut Cursor<'_>, least: u8) -> Result<Expr, Refusal>
         requires expr { NestsExpr self.now.depth (F.pre self.now.expr) (F.post self.now.expr) }
         requires declarator { NestsDeclarator self.now.depth (G.pre self.now.declarator) (G.post self.now.declarator) }
         requires specs { NestsSpecs self.now.depth (H.pre self.now.specs) (H.post self.now.specs) }
+        ensures same { tokens.new.tokens ≡ tokens.old.tokens }
+        ensures names { IfOk result (ExprNames tokens.old.tokens) }
     {
         let at = tokens.at();
         match tokens.peek() {
@@ -283,16 +349,20 @@ impl<
         }
     }
 
-    fn yes_branch(&self, tokens: &mut Cursor<'_>) -> Result<Expr, ParseFault>
+    fn yes_branch(&self, tokens: &mut Cursor<'_>) -> Result<Expr, Refusal>
         requires { NestsExpr self.now.depth (F.pre self.now.expr) (F.post self.now.expr) }
+        ensures same { tokens.new.tokens ≡ tokens.old.tokens }
+        ensures names { IfOk result (ExprNames tokens.old.tokens) }
     {
         let yes = self.expr(tokens, COMMA)?;
         tokens.expect(Mark::Colon)?;
         Ok(yes)
     }
 
-    fn branches(&self, tokens: &mut Cursor<'_>) -> Result<(Expr, Expr), ParseFault>
+    fn branches(&self, tokens: &mut Cursor<'_>) -> Result<(Expr, Expr), Refusal>
         requires { NestsExpr self.now.depth (F.pre self.now.expr) (F.post self.now.expr) }
+        ensures same { tokens.new.tokens ≡ tokens.old.tokens }
+        ensures names { IfOk result (λ p. ExprNames tokens.old.tokens p.0 × ExprNames tokens.old.tokens p.1) }
     {
         let yes = self.yes_branch(tokens)?;
         let no = self.expr(tokens, CONDITIONAL)?;
@@ -300,8 +370,11 @@ impl<
     }
 
     /// After the `?`.
-    fn choice(&self, tokens: &mut Cursor<'_>, at: u32, test: Expr) -> Result<Expr, ParseFault>
-        requires { NestsExpr self.now.depth (F.pre self.now.expr) (F.post self.now.expr) }
+    fn choice(&self, tokens: &mut Cursor<'_>, at: u32, test: Expr) -> Result<Expr, Refusal>
+        requires expr { NestsExpr self.now.depth (F.pre self.now.expr) (F.post self.now.expr) }
+        requires test { ExprNames tokens.old.tokens test }
+        ensures same { tokens.new.tokens ≡ tokens.old.tokens }
+        ensures names { IfOk result (ExprNames tokens.old.tokens) }
     {
         let (yes, no) = self.branches(tokens)?;
         Ok(make::cond(self.alloc, at, test, yes, no)?)
@@ -313,8 +386,11 @@ impl<
         at: u32,
         op: AssignOp,
         left: Expr,
-    ) -> Result<Expr, ParseFault>
-        requires { NestsExpr self.now.depth (F.pre self.now.expr) (F.post self.now.expr) }
+    ) -> Result<Expr, Refusal>
+        requires expr { NestsExpr self.now.depth (F.pre self.now.expr) (F.post self.now.expr) }
+        requires left { ExprNames tokens.old.tokens left }
+        ensures same { tokens.new.tokens ≡ tokens.old.tokens }
+        ensures names { IfOk result (ExprNames tokens.old.tokens) }
     {
         tokens.take();
         let value = self.expr(tokens, ASSIGNMENT)?;
@@ -328,8 +404,11 @@ impl<
         at: u32,
         lone: bool,
         left: Expr,
-    ) -> Result<Expr, ParseFault>
-        requires { NestsExpr self.now.depth (F.pre self.now.expr) (F.post self.now.expr) }
+    ) -> Result<Expr, Refusal>
+        requires expr { NestsExpr self.now.depth (F.pre self.now.expr) (F.post self.now.expr) }
+        requires left { ExprNames tokens.old.tokens left }
+        ensures same { tokens.new.tokens ≡ tokens.old.tokens }
+        ensures names { IfOk result (ExprNames tokens.old.tokens) }
     {
         match assignment_sign(tokens, lone) {
             Some(op) => self.assign_of(tokens, at, op, left),
@@ -343,8 +422,11 @@ impl<
         at: u32,
         op: BinaryOp,
         left: Expr,
-    ) -> Result<Expr, ParseFault>
-        requires { NestsExpr self.now.depth (F.pre self.now.expr) (F.post self.now.expr) }
+    ) -> Result<Expr, Refusal>
+        requires expr { NestsExpr self.now.depth (F.pre self.now.expr) (F.post self.now.expr) }
+        requires left { ExprNames tokens.old.tokens left }
+        ensures same { tokens.new.tokens ≡ tokens.old.tokens }
+        ensures names { IfOk result (ExprNames tokens.old.tokens) }
     {
         tokens.take();
         let right = self.expr(tokens, level_of(op) + 1)?;
@@ -358,8 +440,11 @@ impl<
         at: u32,
         lone: bool,
         left: Expr,
-    ) -> Result<Expr, ParseFault>
-        requires { NestsExpr self.now.depth (F.pre self.now.expr) (F.post self.now.expr) }
+    ) -> Result<Expr, Refusal>
+        requires expr { NestsExpr self.now.depth (F.pre self.now.expr) (F.post self.now.expr) }
+        requires left { ExprNames tokens.old.tokens left }
+        ensures same { tokens.new.tokens ≡ tokens.old.tokens }
+        ensures names { IfOk result (ExprNames tokens.old.tokens) }
     {
         match binary_sign(tokens) {
             Some(op) => self.binary_of(tokens, at, op, left),
@@ -374,8 +459,11 @@ impl<
         at: u32,
         lone: bool,
         left: Expr,
-    ) -> Result<Expr, ParseFault>
-        requires { NestsExpr self.now.depth (F.pre self.now.expr) (F.post self.now.expr) }
+    ) -> Result<Expr, Refusal>
+        requires expr { NestsExpr self.now.depth (F.pre self.now.expr) (F.post self.now.expr) }
+        requires left { ExprNames tokens.old.tokens left }
+        ensures same { tokens.new.tokens ≡ tokens.old.tokens }
+        ensures names { IfOk result (ExprNames tokens.old.tokens) }
     {
         if tokens.eat(Mark::Question) {
             self.choice(tokens, at, left)
@@ -391,8 +479,11 @@ impl<
         at: u32,
         mut lone: bool,
         mut left: Expr,
-    ) -> Result<Expr, ParseFault>
-        requires { NestsExpr self.now.depth (F.pre self.now.expr) (F.post self.now.expr) }
+    ) -> Result<Expr, Refusal>
+        requires expr { NestsExpr self.now.depth (F.pre self.now.expr) (F.post self.now.expr) }
+        requires left { ExprNames tokens.old.tokens left }
+        ensures same { tokens.new.tokens ≡ tokens.old.tokens }
+        ensures names { IfOk result (ExprNames tokens.old.tokens) }
     {
         for _turn in 0..tokens.turns() {
             if tokens.tight() <= least {
@@ -404,10 +495,12 @@ impl<
         Err(tokens.refuse())
     }
 
-    fn operators(&self, tokens: &mut Cursor<'_>, least: u8) -> Result<Expr, ParseFault>
+    fn operators(&self, tokens: &mut Cursor<'_>, least: u8) -> Result<Expr, Refusal>
         requires expr { NestsExpr self.now.depth (F.pre self.now.expr) (F.post self.now.expr) }
         requires declarator { NestsDeclarator self.now.depth (G.pre self.now.declarator) (G.post self.now.declarator) }
         requires specs { NestsSpecs self.now.depth (H.pre self.now.specs) (H.post self.now.specs) }
+        ensures same { tokens.new.tokens ≡ tokens.old.tokens }
+        ensures names { IfOk result (ExprNames tokens.old.tokens) }
     {
         let at = tokens.at();
         let lone = !begins_cast(tokens);
@@ -415,10 +508,13 @@ impl<
         self.climb(tokens, least, at, lone, first)
     }
 
-    fn commas(&self, tokens: &mut Cursor<'_>, at: u32, first: Expr) -> Result<Expr, ParseFault>
+    fn commas(&self, tokens: &mut Cursor<'_>, at: u32, first: Expr) -> Result<Expr, Refusal>
         requires expr { NestsExpr self.now.depth (F.pre self.now.expr) (F.post self.now.expr) }
         requires declarator { NestsDeclarator self.now.depth (G.pre self.now.declarator) (G.post self.now.declarator) }
         requires specs { NestsSpecs self.now.depth (H.pre self.now.specs) (H.post self.now.specs) }
+        requires first { ExprNames tokens.old.tokens first }
+        ensures same { tokens.new.tokens ≡ tokens.old.tokens }
+        ensures names { IfOk result (ExprNames tokens.old.tokens) }
     {
         let mut found = Items::new(self.alloc);
         found.push(first)?;
@@ -432,10 +528,12 @@ impl<
         Err(tokens.refuse())
     }
 
-    fn whole(&self, tokens: &mut Cursor<'_>) -> Result<Expr, ParseFault>
+    fn whole(&self, tokens: &mut Cursor<'_>) -> Result<Expr, Refusal>
         requires expr { NestsExpr self.now.depth (F.pre self.now.expr) (F.post self.now.expr) }
         requires declarator { NestsDeclarator self.now.depth (G.pre self.now.declarator) (G.post self.now.declarator) }
         requires specs { NestsSpecs self.now.depth (H.pre self.now.specs) (H.post self.now.specs) }
+        ensures same { tokens.new.tokens ≡ tokens.old.tokens }
+        ensures names { IfOk result (ExprNames tokens.old.tokens) }
     {
         let at = tokens.at();
         let first = self.operators(tokens, ASSIGNMENT)?;
@@ -447,10 +545,12 @@ impl<
     }
 
     /// An expression of this level or a tighter one.
-    pub fn level(&self, tokens: &mut Cursor<'_>, least: u8) -> Result<Expr, ParseFault>
+    pub fn level(&self, tokens: &mut Cursor<'_>, least: u8) -> Result<Expr, Refusal>
         requires expr { NestsExpr self.now.depth (F.pre self.now.expr) (F.post self.now.expr) }
         requires declarator { NestsDeclarator self.now.depth (G.pre self.now.declarator) (G.post self.now.declarator) }
         requires specs { NestsSpecs self.now.depth (H.pre self.now.specs) (H.post self.now.specs) }
+        ensures same { tokens.new.tokens ≡ tokens.old.tokens }
+        ensures names { IfOk result (ExprNames tokens.old.tokens) }
     {
         if least == COMMA {
             self.whole(tokens)

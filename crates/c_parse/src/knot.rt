@@ -1,9 +1,11 @@
 //! The rules that need each other: expressions, declarators and specifiers.
 
+ghost use Rattle.std.specs.Prelude.{◌≡◌, IfOk};
+ghost use Rattle.c_ast.specs.Names.{ExprNames, DeclaratorNames, SpecsName};
 ghost use Rattle.c_parse.specs.Nests.{NestsExpr, NestsDeclarator, NestsSpecs};
 
 use crate::cursor::Cursor;
-use crate::error::ParseFault;
+use crate::error::Refusal;
 use c_ast::{Declarator, Expr, Specs};
 use std::alloc::Global;
 
@@ -35,24 +37,30 @@ pub struct Grammar<F, G, H> {
 }
 
 impl<
-    F: Fn(Global, &mut Cursor<'_>, usize, u8) -> Result<Expr, ParseFault>,
-    G: Fn(Global, &mut Cursor<'_>, usize, Mode) -> Result<Declarator, ParseFault>,
-    H: Fn(Global, &mut Cursor<'_>, usize, Place) -> Result<Specs, ParseFault>,
+    F: Fn(Global, &mut Cursor<'_>, usize, u8) -> Result<Expr, Refusal>,
+    G: Fn(Global, &mut Cursor<'_>, usize, Mode) -> Result<Declarator, Refusal>,
+    H: Fn(Global, &mut Cursor<'_>, usize, Place) -> Result<Specs, Refusal>,
 > Grammar<F, G, H> {
-    pub fn expr(&self, tokens: &mut Cursor<'_>, least: u8) -> Result<Expr, ParseFault>
+    pub fn expr(&self, tokens: &mut Cursor<'_>, least: u8) -> Result<Expr, Refusal>
         requires { NestsExpr self.now.depth (F.pre self.now.expr) (F.post self.now.expr) }
+        ensures same { tokens.new.tokens ≡ tokens.old.tokens }
+        ensures names { IfOk result (ExprNames tokens.old.tokens) }
     {
         (self.expr)(self.alloc, tokens, self.depth, least)
     }
 
-    pub fn declarator(&self, tokens: &mut Cursor<'_>, mode: Mode) -> Result<Declarator, ParseFault>
+    pub fn declarator(&self, tokens: &mut Cursor<'_>, mode: Mode) -> Result<Declarator, Refusal>
         requires { NestsDeclarator self.now.depth (G.pre self.now.declarator) (G.post self.now.declarator) }
+        ensures same { tokens.new.tokens ≡ tokens.old.tokens }
+        ensures names { IfOk result (DeclaratorNames tokens.old.tokens) }
     {
         (self.declarator)(self.alloc, tokens, self.depth, mode)
     }
 
-    pub fn specs(&self, tokens: &mut Cursor<'_>, place: Place) -> Result<Specs, ParseFault>
+    pub fn specs(&self, tokens: &mut Cursor<'_>, place: Place) -> Result<Specs, Refusal>
         requires { NestsSpecs self.now.depth (H.pre self.now.specs) (H.post self.now.specs) }
+        ensures same { tokens.new.tokens ≡ tokens.old.tokens }
+        ensures names { IfOk result (SpecsName tokens.old.tokens) }
     {
         (self.specs)(self.alloc, tokens, self.depth, place)
     }
@@ -65,7 +73,10 @@ pub fn expr(
     tokens: &mut Cursor<'_>,
     depth: usize,
     least: u8,
-) -> Result<Expr, ParseFault> {
+) -> Result<Expr, Refusal>
+    ensures same { tokens.new.tokens ≡ tokens.old.tokens }
+    ensures names { IfOk result (ExprNames tokens.old.tokens) }
+{
     if depth == 0 {
         return Err(tokens.refuse());
     }
@@ -86,7 +97,10 @@ pub fn declarator(
     tokens: &mut Cursor<'_>,
     depth: usize,
     mode: Mode,
-) -> Result<Declarator, ParseFault> {
+) -> Result<Declarator, Refusal>
+    ensures same { tokens.new.tokens ≡ tokens.old.tokens }
+    ensures names { IfOk result (DeclaratorNames tokens.old.tokens) }
+{
     if depth == 0 {
         return Err(tokens.refuse());
     }
@@ -107,7 +121,10 @@ pub fn specs(
     tokens: &mut Cursor<'_>,
     depth: usize,
     place: Place,
-) -> Result<Specs, ParseFault> {
+) -> Result<Specs, Refusal>
+    ensures same { tokens.new.tokens ≡ tokens.old.tokens }
+    ensures names { IfOk result (SpecsName tokens.old.tokens) }
+{
     if depth == 0 {
         return Err(tokens.refuse());
     }

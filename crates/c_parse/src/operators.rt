@@ -1,6 +1,7 @@
 //! The operators by their punctuators, and how tightly each binds (6.5).
 
-ghost use Rattle.std.specs.Prelude.{◌≤◌};
+ghost use Rattle.std.specs.Prelude.{◌≡◌, ◌≤◌, IfSome};
+ghost use Rattle.c_grammar.specs.Operators as spec;
 
 use c_ast::{AssignOp, BinaryOp, UnaryOp};
 use c_lex::Mark;
@@ -23,7 +24,9 @@ pub const UNARY: u8 = 14;
 /// A postfix expression (6.5.2).
 pub const POSTFIX: u8 = 15;
 
-pub fn binary_op(mark: Mark) -> Option<BinaryOp> {
+pub fn binary_op(mark: Mark) -> Option<BinaryOp>
+    ensures { IfSome result (λ op. spec.binary_mark op ≡ mark) }
+{
     match mark {
         Mark::OrOr => Some(BinaryOp::Or),
         Mark::AndAnd => Some(BinaryOp::And),
@@ -49,7 +52,8 @@ pub fn binary_op(mark: Mark) -> Option<BinaryOp> {
 
 /// The level of what the operator makes; its right operand is one level tighter (6.5.5 to 6.5.14).
 pub fn level_of(op: BinaryOp) -> u8
-    ensures { result ≤ 12 }
+    ensures level { result ≡ spec.level_of op }
+    ensures most { result ≤ 12 }
 {
     match op {
         BinaryOp::Or => 3,
@@ -65,7 +69,9 @@ pub fn level_of(op: BinaryOp) -> u8
     }
 }
 
-pub fn assign_op(mark: Mark) -> Option<AssignOp> {
+pub fn assign_op(mark: Mark) -> Option<AssignOp>
+    ensures { IfSome result (λ op. spec.assign_mark op ≡ mark) }
+{
     match mark {
         Mark::Equal => Some(AssignOp::Plain),
         Mark::StarEqual => Some(AssignOp::Mul),
@@ -82,7 +88,9 @@ pub fn assign_op(mark: Mark) -> Option<AssignOp> {
     }
 }
 
-pub fn unary_op(mark: Mark) -> Option<UnaryOp> {
+pub fn unary_op(mark: Mark) -> Option<UnaryOp>
+    ensures { IfSome result (λ op. spec.unary_mark op ≡ mark) }
+{
     match mark {
         Mark::Ampersand => Some(UnaryOp::Address),
         Mark::Star => Some(UnaryOp::Deref),
@@ -97,7 +105,9 @@ pub fn unary_op(mark: Mark) -> Option<UnaryOp> {
 }
 
 /// `++` and `--` stand before a unary expression, the others before a cast expression (6.5.3).
-pub fn operand_level(op: UnaryOp) -> u8 {
+pub fn operand_level(op: UnaryOp) -> u8
+    ensures { result ≡ spec.operand_level op }
+{
     match op {
         UnaryOp::Increment | UnaryOp::Decrement => UNARY,
         _ => CAST,

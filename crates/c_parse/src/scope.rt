@@ -1,6 +1,6 @@
 //! Which names are typedef names (6.2.1, 6.2.3).
 
-use crate::error::ParseFault;
+use crate::error::Refusal;
 use std::alloc::Global;
 
 /// A declaration of an ordinary identifier.
@@ -24,7 +24,7 @@ pub struct Scope {
 
 impl Scope {
     /// No declaration yet, where names are numbers below `count`.
-    pub fn new(alloc: Global, count: u32) -> Result<Scope, ParseFault> {
+    pub fn new(alloc: Global, count: u32) -> Result<Scope, Refusal> {
         let mut typedefs = Vec::new(alloc);
         for _name in 0..count {
             typedefs.push(false)?;
@@ -48,7 +48,7 @@ impl Scope {
         }
     }
 
-    pub fn declare(&mut self, at: u32, name: u32, typedef: bool) -> Result<(), ParseFault> {
+    pub fn declare(&mut self, at: u32, name: u32, typedef: bool) -> Result<(), Refusal> {
         let hidden = self.is_typedef(name);
         self.names.push(Named {
             at,

@@ -1,9 +1,12 @@
 //! Specifiers, and the structures, unions and enumerations among them (6.7.2).
 
+ghost use Rattle.std.specs.Prelude.{◌≡◌, All, IfOk};
+ghost use Rattle.c_lex.specs.declared.token.TokenKind.TheVariants as token;
+ghost use Rattle.c_ast.specs.Names.{ExprNames, MaybeExprNames, DeclaratorNames, SpecsName, BaseNames, MemberNames, EnumeratorNames, IsToken};
 ghost use Rattle.c_parse.specs.Nests.{NestsExpr, NestsDeclarator, NestsSpecs};
 
 use crate::cursor::Cursor;
-use crate::error::ParseFault;
+use crate::error::Refusal;
 use crate::knot::{Grammar, Mode, Place};
 use crate::operators::CONDITIONAL;
 use crate::tokens::{has_type_word, identifier, maybe_identifier, specifier_words, strings};
@@ -13,7 +16,11 @@ use std::alloc::Global;
 use ub_base::Items;
 
 /// The message of a static assertion, the parenthesis and the semicolon.
-fn message(tokens: &mut Cursor<'_>) -> Result<u32, ParseFault> {
+#[tactic(auto, unfolding(c_ast::specs::Input::kind))]
+fn message(tokens: &mut Cursor<'_>) -> Result<u32, Refusal>
+    ensures same { tokens.new.tokens ≡ tokens.old.tokens }
+    ensures names { IfOk result (IsToken tokens.old.tokens token.StringLit) }
+{
     let message = tokens.at();
     strings(tokens)?;
     tokens.expect(Mark::CloseParen)?;
@@ -28,20 +35,26 @@ fn specs_behind(
     place: Place,
     mut words: Items<Word>,
     base: Base,
-) -> Result<Specs, ParseFault> {
+) -> Result<Specs, Refusal>
+    requires base { BaseNames tokens.old.tokens base }
+    ensures same { tokens.new.tokens ≡ tokens.old.tokens }
+    ensures names { IfOk result (SpecsName tokens.old.tokens) }
+{
     let more = specifier_words(alloc, tokens, place)?;
     words.append(more)?;
     Ok(Specs { words, base })
 }
 
 impl<
-    F: Fn(Global, &mut Cursor<'_>, usize, u8) -> Result<Expr, ParseFault>,
-    G: Fn(Global, &mut Cursor<'_>, usize, Mode) -> Result<Declarator, ParseFault>,
-    H: Fn(Global, &mut Cursor<'_>, usize, Place) -> Result<Specs, ParseFault>,
+    F: Fn(Global, &mut Cursor<'_>, usize, u8) -> Result<Expr, Refusal>,
+    G: Fn(Global, &mut Cursor<'_>, usize, Mode) -> Result<Declarator, Refusal>,
+    H: Fn(Global, &mut Cursor<'_>, usize, Place) -> Result<Specs, Refusal>,
 > Grammar<F, G, H> {
     /// The condition of a static assertion, up to the comma.
-    fn condition(&self, tokens: &mut Cursor<'_>) -> Result<Expr, ParseFault>
+    fn condition(&self, tokens: &mut Cursor<'_>) -> Result<Expr, Refusal>
         requires { NestsExpr self.now.depth (F.pre self.now.expr) (F.post self.now.expr) }
+        ensures same { tokens.new.tokens ≡ tokens.old.tokens }
+        ensures names { IfOk result (ExprNames tokens.old.tokens) }
     {
         tokens.expect_word(Word::StaticAssert)?;
         tokens.expect(Mark::OpenParen)?;
@@ -51,23 +64,30 @@ impl<
     }
 
     /// A static assertion (6.7.10): its condition, and the first string literal of its message.
-    pub fn assertion(&self, tokens: &mut Cursor<'_>) -> Result<(Expr, u32), ParseFault>
+    pub fn assertion(&self, tokens: &mut Cursor<'_>) -> Result<(Expr, u32), Refusal>
         requires { NestsExpr self.now.depth (F.pre self.now.expr) (F.post self.now.expr) }
+        ensures same { tokens.new.tokens ≡ tokens.old.tokens }
+        ensures names { IfOk result (λ p. ExprNames tokens.old.tokens p.0 × IsToken tokens.old.tokens token.StringLit p.1) }
     {
         let condition = self.condition(tokens)?;
         let message = message(tokens)?;
         Ok((condition, message))
     }
 
-    fn member_assertion(&self, tokens: &mut Cursor<'_>) -> Result<MemberEntry, ParseFault>
+    #[tactic(auto, using(c_ast::proofs::Trees::member_assertion_names))]
+    fn member_assertion(&self, tokens: &mut Cursor<'_>) -> Result<MemberEntry, Refusal>
         requires { NestsExpr self.now.depth (F.pre self.now.expr) (F.post self.now.expr) }
+        ensures same { tokens.new.tokens ≡ tokens.old.tokens }
+        ensures names { IfOk result (MemberNames tokens.old.tokens) }
     {
         let (condition, message) = self.assertion(tokens)?;
         Ok(MemberEntry::Assertion(condition, message))
     }
 
-    fn member_names(&self, tokens: &mut Cursor<'_>) -> Result<Items<Declarator>, ParseFault>
+    fn member_names(&self, tokens: &mut Cursor<'_>) -> Result<Items<Declarator>, Refusal>
         requires { NestsDeclarator self.now.depth (G.pre self.now.declarator) (G.post self.now.declarator) }
+        ensures same { tokens.new.tokens ≡ tokens.old.tokens }
+        ensures names { IfOk result (All (DeclaratorNames tokens.old.tokens)) }
     {
         let mut found = Items::new(self.alloc);
         for _turn in 0..tokens.turns() {
@@ -80,8 +100,10 @@ impl<
     }
 
     /// The declarators of members, or none, and the semicolon.
-    fn maybe_names(&self, tokens: &mut Cursor<'_>) -> Result<Items<Declarator>, ParseFault>
+    fn maybe_names(&self, tokens: &mut Cursor<'_>) -> Result<Items<Declarator>, Refusal>
         requires { NestsDeclarator self.now.depth (G.pre self.now.declarator) (G.post self.now.declarator) }
+        ensures same { tokens.new.tokens ≡ tokens.old.tokens }
+        ensures names { IfOk result (All (DeclaratorNames tokens.old.tokens)) }
     {
         if tokens.eat(Mark::Semicolon) {
             return Ok(Items::new(self.alloc));
@@ -91,19 +113,24 @@ impl<
         Ok(names)
     }
 
-    fn fields(&self, tokens: &mut Cursor<'_>) -> Result<MemberEntry, ParseFault>
+    #[tactic(auto, using(c_ast::proofs::Trees::fields_names))]
+    fn fields(&self, tokens: &mut Cursor<'_>) -> Result<MemberEntry, Refusal>
         requires declarator { NestsDeclarator self.now.depth (G.pre self.now.declarator) (G.post self.now.declarator) }
         requires specs { NestsSpecs self.now.depth (H.pre self.now.specs) (H.post self.now.specs) }
+        ensures same { tokens.new.tokens ≡ tokens.old.tokens }
+        ensures names { IfOk result (MemberNames tokens.old.tokens) }
     {
         let specs = self.specs(tokens, Place::Qualified)?;
         let names = self.maybe_names(tokens)?;
         Ok(MemberEntry::Fields(specs, names))
     }
 
-    fn member(&self, tokens: &mut Cursor<'_>) -> Result<MemberEntry, ParseFault>
+    fn member(&self, tokens: &mut Cursor<'_>) -> Result<MemberEntry, Refusal>
         requires expr { NestsExpr self.now.depth (F.pre self.now.expr) (F.post self.now.expr) }
         requires declarator { NestsDeclarator self.now.depth (G.pre self.now.declarator) (G.post self.now.declarator) }
         requires specs { NestsSpecs self.now.depth (H.pre self.now.specs) (H.post self.now.specs) }
+        ensures same { tokens.new.tokens ≡ tokens.old.tokens }
+        ensures names { IfOk result (MemberNames tokens.old.tokens) }
     {
         if tokens.sees_word(Word::StaticAssert) {
             self.member_assertion(tokens)
@@ -113,10 +140,12 @@ impl<
     }
 
     /// After the opening brace: at least one, and the closing brace.
-    fn members(&self, tokens: &mut Cursor<'_>) -> Result<Items<MemberEntry>, ParseFault>
+    fn members(&self, tokens: &mut Cursor<'_>) -> Result<Items<MemberEntry>, Refusal>
         requires expr { NestsExpr self.now.depth (F.pre self.now.expr) (F.post self.now.expr) }
         requires declarator { NestsDeclarator self.now.depth (G.pre self.now.declarator) (G.post self.now.declarator) }
         requires specs { NestsSpecs self.now.depth (H.pre self.now.specs) (H.post self.now.specs) }
+        ensures same { tokens.new.tokens ≡ tokens.old.tokens }
+        ensures names { IfOk result (All (MemberNames tokens.old.tokens)) }
     {
         let mut found = Items::new(self.alloc);
         for _turn in 0..tokens.turns() {
@@ -129,10 +158,13 @@ impl<
     }
 
     /// After `struct` or `union`.
-    fn tagged(&self, tokens: &mut Cursor<'_>, union: bool) -> Result<Base, ParseFault>
+    #[tactic(auto, using(c_ast::proofs::Trees::members_names))]
+    fn tagged(&self, tokens: &mut Cursor<'_>, union: bool) -> Result<Base, Refusal>
         requires expr { NestsExpr self.now.depth (F.pre self.now.expr) (F.post self.now.expr) }
         requires declarator { NestsDeclarator self.now.depth (G.pre self.now.declarator) (G.post self.now.declarator) }
         requires specs { NestsSpecs self.now.depth (H.pre self.now.specs) (H.post self.now.specs) }
+        ensures same { tokens.new.tokens ≡ tokens.old.tokens }
+        ensures names { IfOk result (BaseNames tokens.old.tokens) }
     {
         let tag = maybe_identifier(tokens);
         if tokens.eat(Mark::OpenBrace) {
@@ -156,8 +188,10 @@ impl<
         }
     }
 
-    fn enumerator_value(&self, tokens: &mut Cursor<'_>) -> Result<Option<Expr>, ParseFault>
+    fn enumerator_value(&self, tokens: &mut Cursor<'_>) -> Result<Option<Expr>, Refusal>
         requires { NestsExpr self.now.depth (F.pre self.now.expr) (F.post self.now.expr) }
+        ensures same { tokens.new.tokens ≡ tokens.old.tokens }
+        ensures names { IfOk result (MaybeExprNames tokens.old.tokens) }
     {
         if tokens.eat(Mark::Equal) {
             Ok(Some(self.expr(tokens, CONDITIONAL)?))
@@ -167,8 +201,10 @@ impl<
     }
 
     /// An enumeration constant is in scope behind its enumerator (6.2.1p7).
-    fn enumerator(&self, tokens: &mut Cursor<'_>) -> Result<Enumerator, ParseFault>
+    fn enumerator(&self, tokens: &mut Cursor<'_>) -> Result<Enumerator, Refusal>
         requires { NestsExpr self.now.depth (F.pre self.now.expr) (F.post self.now.expr) }
+        ensures same { tokens.new.tokens ≡ tokens.old.tokens }
+        ensures names { IfOk result (EnumeratorNames tokens.old.tokens) }
     {
         let name = identifier(tokens)?;
         let value = self.enumerator_value(tokens)?;
@@ -177,8 +213,10 @@ impl<
     }
 
     /// After the opening brace: at least one, and the closing brace.
-    fn enumerators(&self, tokens: &mut Cursor<'_>) -> Result<Items<Enumerator>, ParseFault>
+    fn enumerators(&self, tokens: &mut Cursor<'_>) -> Result<Items<Enumerator>, Refusal>
         requires { NestsExpr self.now.depth (F.pre self.now.expr) (F.post self.now.expr) }
+        ensures same { tokens.new.tokens ≡ tokens.old.tokens }
+        ensures names { IfOk result (All (EnumeratorNames tokens.old.tokens)) }
     {
         let mut found = Items::new(self.alloc);
         for _turn in 0..tokens.turns() {
@@ -195,8 +233,11 @@ impl<
     }
 
     /// After `enum`.
-    fn enumerated(&self, tokens: &mut Cursor<'_>) -> Result<Base, ParseFault>
+    #[tactic(auto, using(c_ast::proofs::Trees::enumerators_names))]
+    fn enumerated(&self, tokens: &mut Cursor<'_>) -> Result<Base, Refusal>
         requires { NestsExpr self.now.depth (F.pre self.now.expr) (F.post self.now.expr) }
+        ensures same { tokens.new.tokens ≡ tokens.old.tokens }
+        ensures names { IfOk result (BaseNames tokens.old.tokens) }
     {
         let tag = maybe_identifier(tokens);
         if tokens.eat(Mark::OpenBrace) {
@@ -213,10 +254,13 @@ impl<
     }
 
     /// The specifier that is no keyword, if one comes next. Behind a type specifier no name is a typedef name (6.7.8p3).
-    fn specifier_base(&self, tokens: &mut Cursor<'_>, typed: bool) -> Result<Base, ParseFault>
+    #[tactic(auto, unfolding(c_ast::specs::Input::kind))]
+    fn specifier_base(&self, tokens: &mut Cursor<'_>, typed: bool) -> Result<Base, Refusal>
         requires expr { NestsExpr self.now.depth (F.pre self.now.expr) (F.post self.now.expr) }
         requires declarator { NestsDeclarator self.now.depth (G.pre self.now.declarator) (G.post self.now.declarator) }
         requires specs { NestsSpecs self.now.depth (H.pre self.now.specs) (H.post self.now.specs) }
+        ensures same { tokens.new.tokens ≡ tokens.old.tokens }
+        ensures names { IfOk result (BaseNames tokens.old.tokens) }
     {
         match tokens.peek() {
             Some(TokenKind::Keyword(Word::Struct)) => {
@@ -244,10 +288,12 @@ impl<
     }
 
     /// At least one specifier.
-    pub fn specifiers(&self, tokens: &mut Cursor<'_>, place: Place) -> Result<Specs, ParseFault>
+    pub fn specifiers(&self, tokens: &mut Cursor<'_>, place: Place) -> Result<Specs, Refusal>
         requires expr { NestsExpr self.now.depth (F.pre self.now.expr) (F.post self.now.expr) }
         requires declarator { NestsDeclarator self.now.depth (G.pre self.now.declarator) (G.post self.now.declarator) }
         requires specs { NestsSpecs self.now.depth (H.pre self.now.specs) (H.post self.now.specs) }
+        ensures same { tokens.new.tokens ≡ tokens.old.tokens }
+        ensures names { IfOk result (SpecsName tokens.old.tokens) }
     {
         let first = tokens.at();
         let words = specifier_words(self.alloc, tokens, place)?;

@@ -1,12 +1,12 @@
 //! Which tokens spell the same name.
 
-use crate::error::ParseFault;
+use crate::error::Refusal;
 use c_lex::{TokenKind, Tokens};
 use std::alloc::Global;
 use std::collections::HashMap;
 
 /// For each token, the number of the first token with its text; of a token that is no name, its own.
-pub fn spelled_by(alloc: Global, tokens: &Tokens<'_>) -> Result<Vec<u32>, ParseFault> {
+pub fn spelled_by(alloc: Global, tokens: &Tokens<'_>) -> Result<Vec<u32>, Refusal> {
     let mut spelled = Vec::new(alloc);
     let mut first: HashMap<&[u8], u32> = HashMap::new(alloc);
     for at in 0..tokens.len() {

@@ -1,7 +1,12 @@
 //! What single tokens begin, and the rules that take tokens alone.
 
+ghost use Rattle.std.specs.Prelude.{◌≡◌, IfOk};
+ghost use Rattle.c_lex.specs.declared.token.TokenKind.TheVariants as token;
+ghost use Rattle.c_ast.specs.Input.{kind};
+ghost use Rattle.c_ast.specs.Names.{IsName, MaybeName, AreStrings};
+
 use crate::cursor::Cursor;
-use crate::error::ParseFault;
+use crate::error::Refusal;
 use crate::knot::{Mode, Place};
 use c_ast::Specs;
 use c_lex::{Mark, TokenKind, Word};
@@ -95,7 +100,11 @@ pub fn opens_parameters(mode: Mode, tokens: &Cursor<'_>) -> bool {
 }
 
 /// The number of an identifier, whatever it is declared as.
-pub fn identifier(tokens: &mut Cursor<'_>) -> Result<u32, ParseFault> {
+#[tactic(auto, unfolding(c_ast::specs::Input::kind))]
+pub fn identifier(tokens: &mut Cursor<'_>) -> Result<u32, Refusal>
+    ensures same { tokens.new.tokens ≡ tokens.old.tokens }
+    ensures names { IfOk result (IsName tokens.old.tokens) }
+{
     match tokens.peek() {
         Some(TokenKind::Name) => {
             let at = tokens.at();
@@ -107,7 +116,11 @@ pub fn identifier(tokens: &mut Cursor<'_>) -> Result<u32, ParseFault> {
 }
 
 /// The number of an identifier, if one comes next.
-pub fn maybe_identifier(tokens: &mut Cursor<'_>) -> Option<u32> {
+#[tactic(auto, unfolding(c_ast::specs::Input::kind))]
+pub fn maybe_identifier(tokens: &mut Cursor<'_>) -> Option<u32>
+    ensures same { tokens.new.tokens ≡ tokens.old.tokens }
+    ensures names { MaybeName tokens.old.tokens result }
+{
     match tokens.peek() {
         Some(TokenKind::Name) => {
             let at = tokens.at();
@@ -119,7 +132,12 @@ pub fn maybe_identifier(tokens: &mut Cursor<'_>) -> Option<u32> {
 }
 
 /// How many string literals come next; at least one (6.4.5p5).
-pub fn strings(tokens: &mut Cursor<'_>) -> Result<u32, ParseFault> {
+#[tactic(auto, unfolding(c_ast::specs::Input::kind, c_ast::specs::Input::next))]
+pub fn strings(tokens: &mut Cursor<'_>) -> Result<u32, Refusal>
+    ensures same { tokens.new.tokens ≡ tokens.old.tokens }
+    ensures names { IfOk result (AreStrings tokens.old.tokens tokens.old.at) }
+    ensures first { IfOk result (λ _. kind tokens.old ≡ Some token.StringLit) }
+{
     let first = tokens.at();
     for _turn in 0..tokens.turns() {
         match tokens.peek() {
@@ -139,7 +157,9 @@ pub fn specifier_words(
     alloc: Global,
     tokens: &mut Cursor<'_>,
     place: Place,
-) -> Result<Items<Word>, ParseFault> {
+) -> Result<Items<Word>, Refusal>
+    ensures same { tokens.new.tokens ≡ tokens.old.tokens }
+{
     let mut found = Items::new(alloc);
     for _turn in 0..tokens.turns() {
         match tokens.word() {
@@ -157,7 +177,9 @@ pub fn specifier_words(
 }
 
 /// The qualifiers behind a star (6.7.6).
-pub fn qualifiers(alloc: Global, tokens: &mut Cursor<'_>) -> Result<Items<Word>, ParseFault> {
+pub fn qualifiers(alloc: Global, tokens: &mut Cursor<'_>) -> Result<Items<Word>, Refusal>
+    ensures same { tokens.new.tokens ≡ tokens.old.tokens }
+{
     let mut found = Items::new(alloc);
     for _turn in 0..tokens.turns() {
         match tokens.word() {
