@@ -56,6 +56,7 @@ fn is_own_name(declarator: &Declarator) -> bool {
     }
 }
 
+#[tactic(auto, unfolding(c_ast::specs::Names::DeclaratorNames))]
 fn no_name(mode: Mode, tokens: &Cursor<'_>) -> Result<Declarator, Refusal>
     ensures { IfOk result (DeclaratorNames tokens.now.tokens) }
 {
@@ -65,7 +66,7 @@ fn no_name(mode: Mode, tokens: &Cursor<'_>) -> Result<Declarator, Refusal>
     }
 }
 
-#[tactic(auto, unfolding(c_ast::specs::Input::kind))]
+#[tactic(auto, unfolding(c_ast::specs::Input::kind, c_ast::specs::Names::DeclaratorNames))]
 fn name(mode: Mode, tokens: &mut Cursor<'_>) -> Result<Declarator, Refusal>
     requires { kind tokens.old ≡ Some token.Name }
     ensures same { tokens.new.tokens ≡ tokens.old.tokens }

@@ -48,7 +48,7 @@ fn leaf(tokens: &mut Cursor<'_>, node: ExprNode) -> Expr
     Expr { at, node }
 }
 
-#[tactic(auto, unfolding(c_ast::specs::Input::kind))]
+#[tactic(auto, unfolding(c_ast::specs::Input::kind, c_ast::specs::Names::NodeNames))]
 fn name_expr(tokens: &mut Cursor<'_>) -> Result<Expr, Refusal>
     requires { kind tokens.old ≡ Some token.Name }
     ensures same { tokens.new.tokens ≡ tokens.old.tokens }
@@ -61,6 +61,7 @@ fn name_expr(tokens: &mut Cursor<'_>) -> Result<Expr, Refusal>
     Ok(leaf(tokens, ExprNode::Name(at)))
 }
 
+#[tactic(auto, unfolding(c_ast::specs::Names::NodeNames))]
 fn string_expr(tokens: &mut Cursor<'_>) -> Result<Expr, Refusal>
     ensures same { tokens.new.tokens ≡ tokens.old.tokens }
     ensures names { IfOk result (ExprNames tokens.old.tokens) }
@@ -91,7 +92,7 @@ impl<
         Ok(inner)
     }
 
-    #[tactic(auto, unfolding(c_ast::specs::Input::kind))]
+    #[tactic(auto, unfolding(c_ast::specs::Input::kind, c_ast::specs::Names::NodeNames))]
     fn primary(&self, tokens: &mut Cursor<'_>) -> Result<Expr, Refusal>
         requires { NestsExpr self.now.depth (F.pre self.now.expr) (F.post self.now.expr) }
         ensures same { tokens.new.tokens ≡ tokens.old.tokens }
@@ -508,6 +509,7 @@ impl<
         self.climb(tokens, least, at, lone, first)
     }
 
+    #[tactic(auto, using(c_ast::proofs::Trees::comma_names))]
     fn commas(&self, tokens: &mut Cursor<'_>, at: u32, first: Expr) -> Result<Expr, Refusal>
         requires expr { NestsExpr self.now.depth (F.pre self.now.expr) (F.post self.now.expr) }
         requires declarator { NestsDeclarator self.now.depth (G.pre self.now.declarator) (G.post self.now.declarator) }

@@ -98,7 +98,7 @@ fn init_entries(
 
 /// An initializer, in which others nest no deeper than `depth`.
 #[cycle(init)]
-#[tactic(auto, using(c_ast::proofs::Trees::braced_names))]
+#[tactic(auto, using(c_ast::proofs::Trees::braced_names, c_ast::proofs::Trees::single_names))]
 pub fn initializer(alloc: Global, tokens: &mut Cursor<'_>, depth: usize) -> Result<Init, Refusal>
     ensures same { tokens.new.tokens ≡ tokens.old.tokens }
     ensures names { IfOk result (InitNames tokens.old.tokens) }

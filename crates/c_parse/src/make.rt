@@ -32,7 +32,7 @@ pub fn index(alloc: Global, at: u32, a: Expr, b: Expr) -> Result<Expr, AllocErro
     Ok(Expr { at, node })
 }
 
-#[tactic(auto, using(c_ast::proofs::Trees::tree_names))]
+#[tactic(auto, using(c_ast::proofs::Trees::dot_names))]
 pub fn dot(alloc: Global, at: u32, a: Expr, member: u32) -> Result<Expr, AllocError>
     ensures { (t : TokenText) → ExprNames t a → IsName t member → IfOk result (ExprNames t) }
 {
@@ -40,7 +40,7 @@ pub fn dot(alloc: Global, at: u32, a: Expr, member: u32) -> Result<Expr, AllocEr
     Ok(Expr { at, node })
 }
 
-#[tactic(auto, using(c_ast::proofs::Trees::tree_names))]
+#[tactic(auto, using(c_ast::proofs::Trees::arrow_names))]
 pub fn arrow(alloc: Global, at: u32, a: Expr, member: u32) -> Result<Expr, AllocError>
     ensures { (t : TokenText) → ExprNames t a → IsName t member → IfOk result (ExprNames t) }
 {
@@ -48,7 +48,7 @@ pub fn arrow(alloc: Global, at: u32, a: Expr, member: u32) -> Result<Expr, Alloc
     Ok(Expr { at, node })
 }
 
-#[tactic(auto, using(c_ast::proofs::Trees::tree_names))]
+#[tactic(auto, using(c_ast::proofs::Trees::postfix_names))]
 pub fn postfix(alloc: Global, at: u32, op: PostOp, a: Expr) -> Result<Expr, AllocError>
     ensures { (t : TokenText) → ExprNames t a → IfOk result (ExprNames t) }
 {
@@ -56,7 +56,7 @@ pub fn postfix(alloc: Global, at: u32, op: PostOp, a: Expr) -> Result<Expr, Allo
     Ok(Expr { at, node })
 }
 
-#[tactic(auto, using(c_ast::proofs::Trees::tree_names))]
+#[tactic(auto, using(c_ast::proofs::Trees::unary_names))]
 pub fn unary(alloc: Global, at: u32, op: UnaryOp, a: Expr) -> Result<Expr, AllocError>
     ensures { (t : TokenText) → ExprNames t a → IfOk result (ExprNames t) }
 {
@@ -64,7 +64,7 @@ pub fn unary(alloc: Global, at: u32, op: UnaryOp, a: Expr) -> Result<Expr, Alloc
     Ok(Expr { at, node })
 }
 
-#[tactic(auto, using(c_ast::proofs::Trees::tree_names))]
+#[tactic(auto, using(c_ast::proofs::Trees::binary_names))]
 pub fn binary(alloc: Global, at: u32, op: BinaryOp, a: Expr, b: Expr) -> Result<Expr, AllocError>
     ensures { (t : TokenText) → ExprNames t a → ExprNames t b → IfOk result (ExprNames t) }
 {
@@ -73,7 +73,7 @@ pub fn binary(alloc: Global, at: u32, op: BinaryOp, a: Expr, b: Expr) -> Result<
     Ok(Expr { at, node })
 }
 
-#[tactic(auto, using(c_ast::proofs::Trees::tree_names))]
+#[tactic(auto, using(c_ast::proofs::Trees::assign_names))]
 pub fn assign(alloc: Global, at: u32, op: AssignOp, a: Expr, b: Expr) -> Result<Expr, AllocError>
     ensures { (t : TokenText) → ExprNames t a → ExprNames t b → IfOk result (ExprNames t) }
 {
@@ -101,7 +101,7 @@ pub fn cast(alloc: Global, at: u32, to: TypeName, a: Expr) -> Result<Expr, Alloc
     Ok(Expr { at, node })
 }
 
-#[tactic(auto, using(c_ast::proofs::Trees::tree_names))]
+#[tactic(auto, using(c_ast::proofs::Trees::sizeof_expr_names))]
 pub fn sizeof_expr(alloc: Global, at: u32, a: Expr) -> Result<Expr, AllocError>
     ensures { (t : TokenText) → ExprNames t a → IfOk result (ExprNames t) }
 {
@@ -109,7 +109,7 @@ pub fn sizeof_expr(alloc: Global, at: u32, a: Expr) -> Result<Expr, AllocError>
     Ok(Expr { at, node })
 }
 
-#[tactic(auto, using(c_ast::proofs::Trees::tree_names))]
+#[tactic(auto, using(c_ast::proofs::Trees::sizeof_type_names))]
 pub fn sizeof_type(alloc: Global, at: u32, of: TypeName) -> Result<Expr, AllocError>
     ensures { (t : TokenText) → TypeNameNames t of → IfOk result (ExprNames t) }
 {
@@ -143,7 +143,7 @@ pub fn array(alloc: Global, inner: Declarator) -> Result<Declarator, AllocError>
     Ok(Declarator::Array(Boxed::new(alloc, inner)?, None))
 }
 
-#[tactic(auto, using(c_ast::proofs::Trees::tree_names))]
+#[tactic(auto, using(c_ast::proofs::Trees::array_of_names))]
 pub fn array_of(alloc: Global, inner: Declarator, size: Expr) -> Result<Declarator, AllocError>
     ensures { (t : TokenText) → DeclaratorNames t inner → ExprNames t size → IfOk result (DeclaratorNames t) }
 {

@@ -158,7 +158,7 @@ impl<
     }
 
     /// After `struct` or `union`.
-    #[tactic(auto, using(c_ast::proofs::Trees::members_names))]
+    #[tactic(auto, using(c_ast::proofs::Trees::members_names, c_ast::proofs::Trees::tag_names))]
     fn tagged(&self, tokens: &mut Cursor<'_>, union: bool) -> Result<Base, Refusal>
         requires expr { NestsExpr self.now.depth (F.pre self.now.expr) (F.post self.now.expr) }
         requires declarator { NestsDeclarator self.now.depth (G.pre self.now.declarator) (G.post self.now.declarator) }
@@ -201,6 +201,7 @@ impl<
     }
 
     /// An enumeration constant is in scope behind its enumerator (6.2.1p7).
+    #[tactic(auto, unfolding(c_ast::specs::Names::EnumeratorNames))]
     fn enumerator(&self, tokens: &mut Cursor<'_>) -> Result<Enumerator, Refusal>
         requires { NestsExpr self.now.depth (F.pre self.now.expr) (F.post self.now.expr) }
         ensures same { tokens.new.tokens ≡ tokens.old.tokens }
@@ -233,7 +234,7 @@ impl<
     }
 
     /// After `enum`.
-    #[tactic(auto, using(c_ast::proofs::Trees::enumerators_names))]
+    #[tactic(auto, using(c_ast::proofs::Trees::enumerators_names, c_ast::proofs::Trees::enumeration_names))]
     fn enumerated(&self, tokens: &mut Cursor<'_>) -> Result<Base, Refusal>
         requires { NestsExpr self.now.depth (F.pre self.now.expr) (F.post self.now.expr) }
         ensures same { tokens.new.tokens ≡ tokens.old.tokens }
@@ -254,7 +255,7 @@ impl<
     }
 
     /// The specifier that is no keyword, if one comes next. Behind a type specifier no name is a typedef name (6.7.8p3).
-    #[tactic(auto, unfolding(c_ast::specs::Input::kind))]
+    #[tactic(auto, unfolding(c_ast::specs::Input::kind, c_ast::specs::Names::BaseNames))]
     fn specifier_base(&self, tokens: &mut Cursor<'_>, typed: bool) -> Result<Base, Refusal>
         requires expr { NestsExpr self.now.depth (F.pre self.now.expr) (F.post self.now.expr) }
         requires declarator { NestsDeclarator self.now.depth (G.pre self.now.declarator) (G.post self.now.declarator) }

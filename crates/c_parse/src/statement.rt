@@ -72,6 +72,7 @@ fn for_init(alloc: Global, tokens: &mut Cursor<'_>) -> Result<ForInit, Refusal>
 }
 
 /// After `goto`.
+#[tactic(auto, unfolding(c_ast::specs::Names::StmtNames))]
 fn goto_stmt(tokens: &mut Cursor<'_>) -> Result<Stmt, Refusal>
     ensures same { tokens.new.tokens ≡ tokens.old.tokens }
     ensures names { IfOk result (StmtNames tokens.old.tokens) }
@@ -82,7 +83,7 @@ fn goto_stmt(tokens: &mut Cursor<'_>) -> Result<Stmt, Refusal>
 }
 
 /// At `continue`.
-#[tactic(auto, unfolding(c_ast::specs::Input::kind))]
+#[tactic(auto, unfolding(c_ast::specs::Input::kind, c_ast::specs::Names::StmtNames))]
 fn continue_stmt(tokens: &mut Cursor<'_>) -> Result<Stmt, Refusal>
     requires word { kind tokens.old ≡ Some (token.Keyword w.Continue) }
     ensures same { tokens.new.tokens ≡ tokens.old.tokens }
@@ -95,7 +96,7 @@ fn continue_stmt(tokens: &mut Cursor<'_>) -> Result<Stmt, Refusal>
 }
 
 /// At `break`.
-#[tactic(auto, unfolding(c_ast::specs::Input::kind))]
+#[tactic(auto, unfolding(c_ast::specs::Input::kind, c_ast::specs::Names::StmtNames))]
 fn break_stmt(tokens: &mut Cursor<'_>) -> Result<Stmt, Refusal>
     requires word { kind tokens.old ≡ Some (token.Keyword w.Break) }
     ensures same { tokens.new.tokens ≡ tokens.old.tokens }
@@ -108,7 +109,7 @@ fn break_stmt(tokens: &mut Cursor<'_>) -> Result<Stmt, Refusal>
 }
 
 /// At `return`.
-#[tactic(auto, unfolding(c_ast::specs::Input::kind))]
+#[tactic(auto, unfolding(c_ast::specs::Input::kind, c_ast::specs::Names::StmtNames))]
 fn return_stmt(alloc: Global, tokens: &mut Cursor<'_>) -> Result<Stmt, Refusal>
     requires word { kind tokens.old ≡ Some (token.Keyword w.Return) }
     ensures same { tokens.new.tokens ≡ tokens.old.tokens }
@@ -120,6 +121,7 @@ fn return_stmt(alloc: Global, tokens: &mut Cursor<'_>) -> Result<Stmt, Refusal>
     Ok(Stmt::Return(at, value))
 }
 
+#[tactic(auto, unfolding(c_ast::specs::Names::StmtNames))]
 fn simple_stmt(alloc: Global, tokens: &mut Cursor<'_>) -> Result<Stmt, Refusal>
     ensures same { tokens.new.tokens ≡ tokens.old.tokens }
     ensures names { IfOk result (StmtNames tokens.old.tokens) }
@@ -190,6 +192,7 @@ fn case_value(alloc: Global, tokens: &mut Cursor<'_>) -> Result<Expr, Refusal>
     Ok(value)
 }
 
+#[tactic(auto, unfolding(c_ast::specs::Names::EntryNames))]
 fn assertion_entry(alloc: Global, tokens: &mut Cursor<'_>) -> Result<Entry, Refusal>
     ensures same { tokens.new.tokens ≡ tokens.old.tokens }
     ensures names { IfOk result (EntryNames tokens.old.tokens) }
@@ -198,6 +201,7 @@ fn assertion_entry(alloc: Global, tokens: &mut Cursor<'_>) -> Result<Entry, Refu
     Ok(Entry::Assertion(condition, message))
 }
 
+#[tactic(auto, unfolding(c_ast::specs::Names::EntryNames))]
 fn declaration_entry(alloc: Global, tokens: &mut Cursor<'_>) -> Result<Entry, Refusal>
     ensures same { tokens.new.tokens ≡ tokens.old.tokens }
     ensures names { IfOk result (EntryNames tokens.old.tokens) }
@@ -419,6 +423,7 @@ impl<S: Fn(Global, &mut Cursor<'_>, usize) -> Result<Stmt, Refusal>> Statements<
         Ok(Stmt::Default(at, body))
     }
 
+    #[tactic(auto, unfolding(c_ast::specs::Names::EntryNames))]
     fn statement_entry(&self, tokens: &mut Cursor<'_>) -> Result<Entry, Refusal>
         requires { NestsStmt self.now.depth (S.pre self.now.stmt) (S.post self.now.stmt) }
         ensures same { tokens.new.tokens ≡ tokens.old.tokens }
