@@ -1,10 +1,16 @@
 // The program, once all is declared (6.9p3, 6.9p5, 6.9.2).
+ghost use Rattle.std.specs.Prelude.{◌≡◌, slice_get, None, IfOk, IfSome, IfNone, IsTrue};
+ghost use Rattle.std.specs.List.{All};
+ghost use Rattle.c_typed.specs.Lawful.{There, HasBody, HasMain, IsExternal, LibraryIsExternal, HasBytes, LiteralsHaveBytes, IsComplete, StaticsAreComplete, IsNumbered};
+ghost use Rattle.c_types.specs.Types.{qualified_of};
+ghost use Rattle.c_types.specs.Layout.{extent, extents};
+ghost use Rattle.c_resolve.specs.Finish.{IsSound};
 
-use c_scope::{FunctionRow, ObjectRow, Source, State, TypeFault};
+use c_scope::{Definition, FunctionRow, Literal, ObjectRow, Source, State, TypeFault};
 use c_typed::{Constant, Content, Function, Program, Static, Target};
-use c_types::Extent;
+use c_types::{Extent, Qual, Tags};
 use std::alloc::Global;
-use ub_base::{Items, NoMemory};
+use ub_base::{Bytes, Items, NoMemory};
 
 /// Where each object with static storage stands, by the order of first declarations: those that are defined in the order of
 /// their first definitions, then the others. None where that is the order in which they stand.
@@ -30,7 +36,10 @@ pub fn final_order(alloc: Global, state: &State) -> Result<Option<Vec<u32>>, NoM
 }
 
 // The earlier of two lines.
-fn earlier(line: Option<u32>, other: Option<u32>) -> Option<u32> {
+fn earlier(line: Option<u32>, other: Option<u32>) -> Option<u32>
+    ensures first { IfNone result (line ≡ None) }
+    ensures second { IfNone result (other ≡ None) }
+{
     match (line, other) {
         (Some(a), Some(b)) => Some(a.min(b)),
         (Some(a), None) => Some(a),
@@ -63,65 +72,103 @@ fn addresses_are_within(state: &State, row: &ObjectRow) -> bool {
     true
 }
 
+// The extent of an object's type, where it is complete.
+fn extent_of(tags: &Tags, qual: &Qual) -> Option<Extent>
+    ensures { result ≡ extent (extents tags.now) (qualified_of qual.now).ty }
+{
+    tags.extent(&qual.ty)
+}
+
 // The line on which an object breaks a rule: used and not defined, or defined and incomplete at the end.
-fn object_fault(state: &State, row: &ObjectRow) -> Option<u32> {
-    if row.defined.is_none() {
-        return row.used;
+fn object_fault(state: &State, row: &ObjectRow) -> Option<u32>
+    ensures { IfNone result (IsSound state.now.tags row.now) }
+{
+    match row.defined {
+        None => row.used,
+        Some(_) => match extent_of(&state.tags, &row.qual) {
+            Some(_) if addresses_are_within(state, row) => None,
+            _ => Some(row.line),
+        },
     }
-    let extent: Option<Extent> = state.tags.extent(&row.qual.ty);
-    if extent.is_none() || !addresses_are_within(state, row) {
-        return Some(row.line);
-    }
-    None
 }
 
 fn function_fault(row: &FunctionRow) -> Option<u32> {
-    if row.body.is_none() && row.library.is_none() {
-        row.used
-    } else {
-        None
+    match &row.definition {
+        Definition::Library(_) | Definition::Own(_, Some(_)) => None,
+        Definition::Nowhere | Definition::Own(_, None) => row.used,
     }
 }
 
 // The first line on which something that is used isn't defined, or something that is defined is incomplete.
-fn first_fault(state: &State) -> Option<u32> {
+fn first_fault(state: &State) -> Option<u32>
+    ensures { IfNone result (All (IsSound state.now.tags) state.now.objects.items) }
+{
+    earlier(first_object_fault(state), first_function_fault(state))
+}
+
+fn first_object_fault(state: &State) -> Option<u32>
+    ensures { IfNone result (All (IsSound state.now.tags) state.now.objects.items) }
+{
     let mut line = None;
     for row in &state.objects {
         line = earlier(line, object_fault(state, row));
     }
+    line
+}
+
+fn first_function_fault(state: &State) -> Option<u32> {
+    let mut line = None;
     for row in &state.functions {
         line = earlier(line, function_fault(row));
     }
     line
 }
 
-fn main_of(state: &State) -> Option<u32> {
-    let number = state.main?;
-    let row = state.functions.get(number as usize)?;
-    if row.body.is_some() {
+// The function that is called at program startup, where it has a body.
+fn main_of(functions: &[Function], main: Option<u32>) -> Option<u32>
+    ensures { IfSome result (λ number. There (slice_get functions.now number) HasBody) }
+{
+    let number = main?;
+    let function = functions.get(number as usize)?;
+    if function.body.is_some() {
         Some(number)
     } else {
         None
     }
 }
 
-fn program_function(row: FunctionRow) -> Function {
+// A function has the type of its definition, where the unit has one.
+fn program_function(row: FunctionRow) -> Function
+    ensures { IsExternal result }
+{
     let FunctionRow {
         ty,
         internal: _,
-        library,
-        own,
-        body,
+        definition,
         used: _,
     } = row;
-    let ty = match own {
-        Some(own) => own,
-        None => ty,
-    };
-    Function { ty, library, body }
+    match definition {
+        Definition::Nowhere => Function {
+            ty,
+            library: None,
+            body: None,
+        },
+        Definition::Library(library) => Function {
+            ty,
+            library: Some(library),
+            body: None,
+        },
+        Definition::Own(ty, body) => Function {
+            ty,
+            library: None,
+            body,
+        },
+    }
 }
 
-fn program_functions(alloc: Global, rows: Vec<FunctionRow>) -> Result<Items<Function>, NoMemory> {
+fn program_functions(alloc: Global, rows: Vec<FunctionRow>) -> Result<Items<Function>, NoMemory>
+    ensures { IfOk result (All IsExternal) }
+{
     let mut functions = Items::new(alloc);
     for row in rows {
         functions.push(program_function(row))?;
@@ -130,7 +177,14 @@ fn program_functions(alloc: Global, rows: Vec<FunctionRow>) -> Result<Items<Func
 }
 
 // The objects that are defined; they stand before the others.
-fn program_statics(alloc: Global, rows: Vec<ObjectRow>) -> Result<Items<Static>, NoMemory> {
+fn program_statics(
+    alloc: Global,
+    tags: &Tags,
+    rows: Vec<ObjectRow>,
+) -> Result<Items<Static>, NoMemory>
+    requires { All (IsSound tags.now) rows.items }
+    ensures { IfOk result (All (IsComplete tags.now)) }
+{
     let mut statics = Items::new(alloc);
     for row in rows {
         if row.defined.is_some() {
@@ -150,15 +204,40 @@ fn program_statics(alloc: Global, rows: Vec<ObjectRow>) -> Result<Items<Static>,
     Ok(statics)
 }
 
+fn program_literals(alloc: Global, rows: Vec<Literal>) -> Result<Items<Bytes>, NoMemory>
+    ensures { IfOk result (All HasBytes) }
+{
+    let mut literals = Items::new(alloc);
+    for row in rows {
+        literals.push(row.bytes)?;
+    }
+    Ok(literals)
+}
+
+const MOST: usize = u32::MAX as usize;
+
+// Whether a number of 32 bits is left for each thing that has one.
+fn is_numbered(p: &Program) -> bool
+    ensures { IsTrue result → IsNumbered p.now }
+{
+    p.functions.len() <= MOST
+        && p.statics.len() <= MOST
+        && p.literals.len() <= MOST
+        && p.tags.len() <= MOST
+}
+
 /// The program of all that is declared; faulty where something that is used isn't defined, where something that is defined is
-/// incomplete, or where there is no `main` (5.1.2.2.1, 6.9p5).
-pub fn finished(alloc: Global, source: &Source<'_>, state: State) -> Result<Program, TypeFault> {
+/// incomplete, or where there is no `main` (5.1.2.2.1, 6.9p5). More than numbers are left for counts as want of memory.
+pub fn finished(alloc: Global, source: &Source<'_>, state: State) -> Result<Program, TypeFault>
+    ensures main { IfOk result HasMain }
+    ensures library { IfOk result LibraryIsExternal }
+    ensures literals { IfOk result LiteralsHaveBytes }
+    ensures statics { IfOk result StaticsAreComplete }
+    ensures numbered { IfOk result IsNumbered }
+{
     if let Some(line) = first_fault(&state) {
         return Err(TypeFault::NotTyped(line));
     }
-    let Some(main) = main_of(&state) else {
-        return Err(TypeFault::NotTyped(source.last_line()));
-    };
     let State {
         alloc: _,
         ordinary: _,
@@ -175,14 +254,25 @@ pub fn finished(alloc: Global, source: &Source<'_>, state: State) -> Result<Prog
         linked: _,
         literals,
         unevaluated: _,
-        main: _,
+        main,
         task: _,
     } = state;
-    Ok(Program {
-        functions: program_functions(alloc, functions)?,
-        statics: program_statics(alloc, objects)?,
+    let functions = program_functions(alloc, functions)?;
+    let Some(main) = main_of(functions.as_slice(), main) else {
+        return Err(TypeFault::NotTyped(source.last_line()));
+    };
+    let statics = program_statics(alloc, &tags, objects)?;
+    let literals = program_literals(alloc, literals)?;
+    let program = Program {
+        functions,
+        statics,
         literals,
         tags,
         main,
-    })
+    };
+    if is_numbered(&program) {
+        Ok(program)
+    } else {
+        Err(TypeFault::NoMemory)
+    }
 }
