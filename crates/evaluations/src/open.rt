@@ -298,7 +298,9 @@ impl Evaluations {
     }
 
     // An event of the top frame, by its name.
-    pub(crate) fn named(&self, node: u32, kind: Kind) -> Event {
+    pub(crate) fn named(&self, node: u32, kind: Kind) -> Event
+        ensures { result.kind ≡ kind }
+    {
         match self.levels.last() {
             Some(level) => Event {
                 frame: level.frame,

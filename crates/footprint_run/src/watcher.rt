@@ -1,5 +1,5 @@
 // The watch that keeps the open evaluations of a run.
-ghost use Rattle.footprint.specs.Conflicts.{MayConflict};
+ghost use Rattle.evaluations.specs.FoundItems.{IsConflict};
 
 use core_run::{Go, View, Watch};
 use evaluations::{Evaluations, Found, Rule, Rules, first_of, last_operand_of, line_of};
@@ -13,7 +13,7 @@ pub struct Seen {
     pub found: Found,
     pub line: u32,
     pub against_line: u32,
-    ghost conflict: { MayConflict found.items.0 found.items.1 },
+    ghost conflict: { IsConflict found },
 }
 
 /// Keeps the open evaluations of a run, and stops it at the first conflict.
