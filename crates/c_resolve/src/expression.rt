@@ -4,13 +4,17 @@ use crate::declarator::Declared;
 use crate::tag::MemberList;
 use crate::words::{Storage, Words, read_words};
 use crate::{apply, declarator, literal, tag};
-use c_ast::{Base, Declarator, Enumerator, Expr, ExprNode, MemberEntry, Param, Specs, TypeName};
+use c_ast::{
+    AssignOp, Base, BinaryOp, Declarator, Enumerator, Expr, ExprNode, MemberEntry, Param, PostOp,
+    Specs, TypeName, UnaryOp,
+};
 use c_express::{Operand, integer_constant};
 use c_scope::{Meaning, Source, State, TypeFault};
 use c_types::Qual;
 use ub_base::Items;
 
-/// An expression (6.5).
+/// An expression (6.5). What follows a first operand is read by a function of its own that isn't inlined, so that a level of
+/// nesting costs the host's stack little.
 #[cycle(expression)]
 pub fn expression(source: &Source<'_>, state: &mut State, e: &Expr) -> Result<Operand, TypeFault> {
     let line = source.line(e.at);
@@ -19,29 +23,20 @@ pub fn expression(source: &Source<'_>, state: &mut State, e: &Expr) -> Result<Op
         ExprNode::Number(at) => literal::number(state.alloc, source, *at),
         ExprNode::CharLit(at) => literal::character(state.alloc, source, *at),
         ExprNode::Strings(first, count) => literal::strings(source, state, *first, *count),
-        ExprNode::Unary(op, a) => {
-            let a = expression(source, state, a.get())?;
-            apply::unary(state, *op, a, line)
-        }
-        ExprNode::Postfix(op, a) => {
-            let a = expression(source, state, a.get())?;
-            apply::postfix(state, *op, a, line)
-        }
+        ExprNode::Unary(op, a) => unary(source, state, a.get(), *op, line),
+        ExprNode::Postfix(op, a) => postfix(source, state, a.get(), *op, line),
         ExprNode::Binary(op, a, b) => {
             let a = expression(source, state, a.get())?;
-            let b = expression(source, state, b.get())?;
-            apply::binary(state, *op, a, b, line)
+            binary(source, state, b.get(), *op, a, line)
         }
         ExprNode::Assign(op, a, b) => {
             let a = expression(source, state, a.get())?;
-            let b = expression(source, state, b.get())?;
-            apply::assignment(state, *op, a, b, line)
+            assignment(source, state, b.get(), *op, a, line)
         }
         ExprNode::Cond(a, b, c) => {
             let a = expression(source, state, a.get())?;
             let b = expression(source, state, b.get())?;
-            let c = expression(source, state, c.get())?;
-            apply::conditional(state, a, b, c, line)
+            conditional(source, state, c.get(), a, b, line)
         }
         ExprNode::Comma(operands) => {
             let operands = expressions(source, state, operands.as_slice())?;
@@ -54,37 +49,175 @@ pub fn expression(source: &Source<'_>, state: &mut State, e: &Expr) -> Result<Op
         }
         ExprNode::Index(a, b) => {
             let a = expression(source, state, a.get())?;
-            let b = expression(source, state, b.get())?;
-            apply::subscript(state, a, b, line)
+            subscript(source, state, b.get(), a, line)
         }
-        ExprNode::Dot(a, name) => {
-            let a = expression(source, state, a.get())?;
-            apply::member(source, state, false, a, *name, line)
-        }
-        ExprNode::Arrow(a, name) => {
-            let a = expression(source, state, a.get())?;
-            apply::member(source, state, true, a, *name, line)
-        }
+        ExprNode::Dot(a, name) => member(source, state, a.get(), false, *name, line),
+        ExprNode::Arrow(a, name) => member(source, state, a.get(), true, *name, line),
         ExprNode::Cast(to, a) => {
             let to = type_name(source, state, to.get(), e.at)?;
-            let a = expression(source, state, a.get())?;
-            apply::cast(state, a, &to.ty, line)
+            cast(source, state, a.get(), to, line)
         }
-        ExprNode::SizeofExpr(a) => {
-            let mark = state.suspend();
-            let a = expression(source, state, a.get())?;
-            state.resume(mark);
-            apply::size_of_operand(state, a, line)
-        }
-        ExprNode::SizeofType(ty) => {
-            let qual = type_name(source, state, ty.get(), e.at)?;
-            apply::size_of_type(state, &qual.ty, line)
-        }
-        ExprNode::AlignofType(ty) => {
-            let qual = type_name(source, state, ty.get(), e.at)?;
-            apply::alignment_of_type(state, &qual.ty, line)
-        }
+        ExprNode::SizeofExpr(a) => size_of_operand(source, state, a.get(), line),
+        ExprNode::SizeofType(ty) => size_of_type(source, state, ty.get(), e.at),
+        ExprNode::AlignofType(ty) => alignment_of_type(source, state, ty.get(), e.at),
     }
+}
+
+// A unary operator and its operand (6.5.3).
+#[cycle(expression)]
+#[inline(never)]
+fn unary(
+    source: &Source<'_>,
+    state: &mut State,
+    a: &Expr,
+    op: UnaryOp,
+    line: u32,
+) -> Result<Operand, TypeFault> {
+    let a = expression(source, state, a)?;
+    apply::unary(state, op, a, line)
+}
+
+// An operand with `++` or `--` behind it (6.5.2.4).
+#[cycle(expression)]
+#[inline(never)]
+fn postfix(
+    source: &Source<'_>,
+    state: &mut State,
+    a: &Expr,
+    op: PostOp,
+    line: u32,
+) -> Result<Operand, TypeFault> {
+    let a = expression(source, state, a)?;
+    apply::postfix(state, op, a, line)
+}
+
+// A binary operator behind its left operand (6.5.5 to 6.5.14).
+#[cycle(expression)]
+#[inline(never)]
+fn binary(
+    source: &Source<'_>,
+    state: &mut State,
+    b: &Expr,
+    op: BinaryOp,
+    a: Operand,
+    line: u32,
+) -> Result<Operand, TypeFault> {
+    let b = expression(source, state, b)?;
+    apply::binary(state, op, a, b, line)
+}
+
+// An assignment behind its left operand (6.5.16).
+#[cycle(expression)]
+#[inline(never)]
+fn assignment(
+    source: &Source<'_>,
+    state: &mut State,
+    b: &Expr,
+    op: AssignOp,
+    a: Operand,
+    line: u32,
+) -> Result<Operand, TypeFault> {
+    let b = expression(source, state, b)?;
+    apply::assignment(state, op, a, b, line)
+}
+
+// A conditional expression behind its first two operands (6.5.15).
+#[cycle(expression)]
+#[inline(never)]
+fn conditional(
+    source: &Source<'_>,
+    state: &mut State,
+    c: &Expr,
+    a: Operand,
+    b: Operand,
+    line: u32,
+) -> Result<Operand, TypeFault> {
+    let c = expression(source, state, c)?;
+    apply::conditional(state, a, b, c, line)
+}
+
+// A subscript behind its first operand (6.5.2.1).
+#[cycle(expression)]
+#[inline(never)]
+fn subscript(
+    source: &Source<'_>,
+    state: &mut State,
+    b: &Expr,
+    a: Operand,
+    line: u32,
+) -> Result<Operand, TypeFault> {
+    let b = expression(source, state, b)?;
+    apply::subscript(state, a, b, line)
+}
+
+// A member of a structure or union, or of what a pointer points to (6.5.2.3).
+#[cycle(expression)]
+#[inline(never)]
+fn member(
+    source: &Source<'_>,
+    state: &mut State,
+    a: &Expr,
+    arrow: bool,
+    name: u32,
+    line: u32,
+) -> Result<Operand, TypeFault> {
+    let a = expression(source, state, a)?;
+    apply::member(source, state, arrow, a, name, line)
+}
+
+// A cast behind its type (6.5.4).
+#[cycle(expression)]
+#[inline(never)]
+fn cast(
+    source: &Source<'_>,
+    state: &mut State,
+    a: &Expr,
+    to: Qual,
+    line: u32,
+) -> Result<Operand, TypeFault> {
+    let a = expression(source, state, a)?;
+    apply::cast(state, a, &to.ty, line)
+}
+
+// `sizeof` before an expression, which isn't evaluated (6.5.3.4p2).
+#[cycle(expression)]
+#[inline(never)]
+fn size_of_operand(
+    source: &Source<'_>,
+    state: &mut State,
+    a: &Expr,
+    line: u32,
+) -> Result<Operand, TypeFault> {
+    let mark = state.suspend();
+    let a = expression(source, state, a)?;
+    state.resume(mark);
+    apply::size_of_operand(state, a, line)
+}
+
+// `sizeof` before a type name; `at` is its first token (6.5.3.4).
+#[cycle(expression)]
+#[inline(never)]
+fn size_of_type(
+    source: &Source<'_>,
+    state: &mut State,
+    ty: &TypeName,
+    at: u32,
+) -> Result<Operand, TypeFault> {
+    let qual = type_name(source, state, ty, at)?;
+    apply::size_of_type(state, &qual.ty, source.line(at))
+}
+
+// `_Alignof`; `at` is its first token (6.5.3.4p3).
+#[cycle(expression)]
+#[inline(never)]
+fn alignment_of_type(
+    source: &Source<'_>,
+    state: &mut State,
+    ty: &TypeName,
+    at: u32,
+) -> Result<Operand, TypeFault> {
+    let qual = type_name(source, state, ty, at)?;
+    apply::alignment_of_type(state, &qual.ty, source.line(at))
 }
 
 #[cycle(expression)]

@@ -1,4 +1,6 @@
 // External definitions (6.9).
+ghost use Rattle.std.specs.Prelude.{IfOk};
+ghost use Rattle.c_typed.specs.Lawful.{HasMain, LibraryIsExternal, LiteralsHaveBytes, IsNumbered};
 
 use crate::block::{begun, function_type, named_part, near, no_initializer};
 use crate::declarator::{Declared, assertion, is_name};
@@ -9,7 +11,7 @@ use crate::statement::block_items;
 use crate::words::{Storage, Words};
 use c_ast::{Declaration, Declarator, Entry as SyntaxEntry, Param, Part, Specs, Unit, UnitEntry};
 use c_lex::Tokens;
-use c_scope::{Linkage, Source, State, Task, TypeFault, copied_function};
+use c_scope::{Definition, Linkage, Source, State, Task, TypeFault, copied_function};
 use c_typed::{Block, Body, Program};
 use c_types::{FuncTy, Qual, Ty, copied, copied_qual};
 use std::alloc::Global;
@@ -219,7 +221,7 @@ fn declare_around(
 // Whether the function has no body yet, and is no library function.
 fn is_open(state: &State, number: u32) -> bool {
     match state.functions.get(number as usize) {
-        Some(row) => row.own.is_none() && row.library.is_none(),
+        Some(row) => matches!(row.definition, Definition::Nowhere),
         None => false,
     }
 }
@@ -233,7 +235,7 @@ fn begin_body(state: &mut State, number: u32, ty: &FuncTy) -> Result<(), TypeFau
     }
     let own = copied_function(alloc, ty)?;
     if let Some(row) = state.functions.get_mut(number as usize) {
-        row.own = Some(own);
+        row.definition = Definition::Own(own, None);
     }
     Ok(())
 }
@@ -247,8 +249,10 @@ fn end_body(
         return Err(TypeFault::NotTyped(line));
     }
     let (block, objects) = state.task.leave(state.alloc);
-    if let Some(row) = state.functions.get_mut(number as usize) {
-        row.body = Some(Body::Block(Block {
+    if let Some(row) = state.functions.get_mut(number as usize)
+        && let Definition::Own(_, body) = &mut row.definition
+    {
+        *body = Some(Body::Block(Block {
             number: block,
             objects,
             entries,
@@ -319,7 +323,12 @@ fn all_declared(
 /// The typed program of the unit, whose tokens these are; or the line on which it breaks a constraint or a rule of the
 /// profile. Objects with static storage are numbered in the order of their first definitions: where one is named before an
 /// object that is defined earlier, the unit is read again with the order known.
-pub fn resolve(alloc: Global, tokens: &Tokens<'_>, unit: &Unit) -> Result<Program, TypeFault> {
+pub fn resolve(alloc: Global, tokens: &Tokens<'_>, unit: &Unit) -> Result<Program, TypeFault>
+    ensures main { IfOk result HasMain }
+    ensures library { IfOk result LibraryIsExternal }
+    ensures literals { IfOk result LiteralsHaveBytes }
+    ensures numbered { IfOk result IsNumbered }
+{
     let source = Source::new(alloc, tokens)?;
     let state = all_declared(alloc, &source, unit, Vec::new(alloc))?;
     match final_order(alloc, &state)? {

@@ -1,10 +1,13 @@
 // The program, once all is declared (6.9p3, 6.9p5, 6.9.2).
+ghost use Rattle.std.specs.Prelude.{slice_get, IfOk, IfSome, IsTrue};
+ghost use Rattle.std.specs.List.{All};
+ghost use Rattle.c_typed.specs.Lawful.{There, HasBody, HasMain, IsExternal, LibraryIsExternal, HasBytes, LiteralsHaveBytes, IsNumbered};
 
-use c_scope::{FunctionRow, ObjectRow, Source, State, TypeFault};
+use c_scope::{Definition, FunctionRow, Literal, ObjectRow, Source, State, TypeFault};
 use c_typed::{Constant, Content, Function, Program, Static, Target};
 use c_types::Extent;
 use std::alloc::Global;
-use ub_base::{Items, NoMemory};
+use ub_base::{Bytes, Items, NoMemory};
 
 /// Where each object with static storage stands, by the order of first declarations: those that are defined in the order of
 /// their first definitions, then the others. None where that is the order in which they stand.
@@ -76,10 +79,9 @@ fn object_fault(state: &State, row: &ObjectRow) -> Option<u32> {
 }
 
 fn function_fault(row: &FunctionRow) -> Option<u32> {
-    if row.body.is_none() && row.library.is_none() {
-        row.used
-    } else {
-        None
+    match &row.definition {
+        Definition::Library(_) | Definition::Own(_, Some(_)) => None,
+        Definition::Nowhere | Definition::Own(_, None) => row.used,
     }
 }
 
@@ -95,33 +97,51 @@ fn first_fault(state: &State) -> Option<u32> {
     line
 }
 
-fn main_of(state: &State) -> Option<u32> {
-    let number = state.main?;
-    let row = state.functions.get(number as usize)?;
-    if row.body.is_some() {
+// The function that is called at program startup, where it has a body.
+fn main_of(functions: &[Function], main: Option<u32>) -> Option<u32>
+    ensures { IfSome result (λ number. There (slice_get functions.now number) HasBody) }
+{
+    let number = main?;
+    let function = functions.get(number as usize)?;
+    if function.body.is_some() {
         Some(number)
     } else {
         None
     }
 }
 
-fn program_function(row: FunctionRow) -> Function {
+// A function has the type of its definition, where the unit has one.
+fn program_function(row: FunctionRow) -> Function
+    ensures { IsExternal result }
+{
     let FunctionRow {
         ty,
         internal: _,
-        library,
-        own,
-        body,
+        definition,
         used: _,
     } = row;
-    let ty = match own {
-        Some(own) => own,
-        None => ty,
-    };
-    Function { ty, library, body }
+    match definition {
+        Definition::Nowhere => Function {
+            ty,
+            library: None,
+            body: None,
+        },
+        Definition::Library(library) => Function {
+            ty,
+            library: Some(library),
+            body: None,
+        },
+        Definition::Own(ty, body) => Function {
+            ty,
+            library: None,
+            body,
+        },
+    }
 }
 
-fn program_functions(alloc: Global, rows: Vec<FunctionRow>) -> Result<Items<Function>, NoMemory> {
+fn program_functions(alloc: Global, rows: Vec<FunctionRow>) -> Result<Items<Function>, NoMemory>
+    ensures { IfOk result (All IsExternal) }
+{
     let mut functions = Items::new(alloc);
     for row in rows {
         functions.push(program_function(row))?;
@@ -150,15 +170,39 @@ fn program_statics(alloc: Global, rows: Vec<ObjectRow>) -> Result<Items<Static>,
     Ok(statics)
 }
 
+fn program_literals(alloc: Global, rows: Vec<Literal>) -> Result<Items<Bytes>, NoMemory>
+    ensures { IfOk result (All HasBytes) }
+{
+    let mut literals = Items::new(alloc);
+    for row in rows {
+        literals.push(row.bytes)?;
+    }
+    Ok(literals)
+}
+
+const MOST: usize = u32::MAX as usize;
+
+// Whether a number of 32 bits is left for each thing that has one.
+fn is_numbered(p: &Program) -> bool
+    ensures { IsTrue result → IsNumbered p.now }
+{
+    p.functions.len() <= MOST
+        && p.statics.len() <= MOST
+        && p.literals.len() <= MOST
+        && p.tags.len() <= MOST
+}
+
 /// The program of all that is declared; faulty where something that is used isn't defined, where something that is defined is
-/// incomplete, or where there is no `main` (5.1.2.2.1, 6.9p5).
-pub fn finished(alloc: Global, source: &Source<'_>, state: State) -> Result<Program, TypeFault> {
+/// incomplete, or where there is no `main` (5.1.2.2.1, 6.9p5). More than numbers are left for counts as want of memory.
+pub fn finished(alloc: Global, source: &Source<'_>, state: State) -> Result<Program, TypeFault>
+    ensures main { IfOk result HasMain }
+    ensures library { IfOk result LibraryIsExternal }
+    ensures literals { IfOk result LiteralsHaveBytes }
+    ensures numbered { IfOk result IsNumbered }
+{
     if let Some(line) = first_fault(&state) {
         return Err(TypeFault::NotTyped(line));
     }
-    let Some(main) = main_of(&state) else {
-        return Err(TypeFault::NotTyped(source.last_line()));
-    };
     let State {
         alloc: _,
         ordinary: _,
@@ -175,14 +219,25 @@ pub fn finished(alloc: Global, source: &Source<'_>, state: State) -> Result<Prog
         linked: _,
         literals,
         unevaluated: _,
-        main: _,
+        main,
         task: _,
     } = state;
-    Ok(Program {
-        functions: program_functions(alloc, functions)?,
-        statics: program_statics(alloc, objects)?,
+    let functions = program_functions(alloc, functions)?;
+    let Some(main) = main_of(functions.as_slice(), main) else {
+        return Err(TypeFault::NotTyped(source.last_line()));
+    };
+    let statics = program_statics(alloc, objects)?;
+    let literals = program_literals(alloc, literals)?;
+    let program = Program {
+        functions,
+        statics,
         literals,
         tags,
         main,
-    })
+    };
+    if is_numbered(&program) {
+        Ok(program)
+    } else {
+        Err(TypeFault::NoMemory)
+    }
 }

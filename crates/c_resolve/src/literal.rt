@@ -1,4 +1,6 @@
 // Constants and string literals (6.4.4, 6.4.5).
+ghost use Rattle.std.specs.Prelude.{IfOk};
+ghost use Rattle.c_typed.specs.Lawful.{HasBytes};
 
 use c_express::{Operand, integer, leaf, place, value};
 use c_lit::{LitFault, char_value, int_value, string_bytes};
@@ -43,7 +45,9 @@ pub fn literal_bytes(
     source: &Source<'_>,
     first: u32,
     count: u32,
-) -> Result<Bytes, TypeFault> {
+) -> Result<Bytes, TypeFault>
+    ensures { IfOk result HasBytes }
+{
     let mut bytes = Bytes::from_slice(alloc, &[])?;
     for k in 0..count {
         let at = first.saturating_add(k);

@@ -192,84 +192,178 @@ fn ended_start(state: &mut State, start: LoopStart) -> ForStart {
     }
 }
 
-/// A statement (6.8).
+/// A statement (6.8). Each form that holds another one is read by a function of its own that isn't inlined, so that a level of
+/// nesting costs the host's stack the parts of one form alone.
 #[cycle(statement)]
 pub fn statement(source: &Source<'_>, state: &mut State, s: &Stmt) -> Result<Body, TypeFault> {
     match s {
         Stmt::Simple(e) => Ok(Body::Simple(unused_part(source, state, e)?)),
         Stmt::Block(entries) => compound(source, state, entries.as_slice()),
-        Stmt::If(e, yes, no) => {
+        Stmt::If(e, yes, None) => selection(source, state, yes.get(), e),
+        Stmt::If(e, yes, Some(no)) => {
             state.enter_scope();
-            let test = condition(source, state, e)?;
-            let yes = inner(source, state, yes.get())?;
-            let no = match no {
-                None => None,
-                Some(no) => Some(inner(source, state, no.get())?),
-            };
-            state.leave_scope();
-            Ok(Body::If(test, yes, no))
+            let (test, yes) = tested(source, state, yes.get(), e)?;
+            alternative(source, state, no.get(), test, yes)
         }
-        Stmt::Switch(e, s) => {
-            state.enter_scope();
-            let (test, kind) = selector(source, state, e)?;
-            open_switch(state, kind)?;
-            let body = inner(source, state, s.get())?;
-            close_switch(state);
-            state.leave_scope();
-            Ok(Body::Switch(test, body))
-        }
-        Stmt::While(e, s) => {
-            state.enter_scope();
-            let test = condition(source, state, e)?;
-            let body = repeated(source, state, s.get())?;
-            state.leave_scope();
-            Ok(Body::While(test, body))
-        }
-        Stmt::Do(s, e) => {
-            state.enter_scope();
-            let body = repeated(source, state, s.get())?;
-            let test = condition(source, state, e)?;
-            state.leave_scope();
-            Ok(Body::Do(body, test))
-        }
-        Stmt::For(init, test, step, s) => {
-            state.enter_scope();
-            let start = loop_start(source, state, init.get())?;
-            let test = match test {
-                None => None,
-                Some(e) => Some(condition(source, state, e)?),
-            };
-            let step = unused_part(source, state, step)?;
-            let body = repeated(source, state, s.get())?;
-            let start = ended_start(state, start);
-            state.leave_scope();
-            Ok(Body::For {
-                start,
-                test,
-                step,
-                body,
-            })
-        }
+        Stmt::Switch(e, s) => switch(source, state, s.get(), e),
+        Stmt::While(e, s) => while_loop(source, state, s.get(), e),
+        Stmt::Do(s, e) => do_loop(source, state, s.get(), e),
+        Stmt::For(init, test, step, s) => for_loop(source, state, s.get(), init.get(), test, step),
         Stmt::Goto(at) => to_label(source, state, *at),
         Stmt::Continue(at) => jump(source, *at, state.task.loops > 0, Body::Continue),
         Stmt::Break(at) => jump(source, *at, state.task.breakable > 0, Body::Break),
         Stmt::Return(at, e) => returned(source, state, *at, e),
-        Stmt::Label(at, s) => {
-            let number = define_label(source, state, *at)?;
-            let body = statement(source, state, s.get())?;
-            Ok(Body::Label(number, Boxed::new(state.alloc, body)?))
-        }
-        Stmt::Case(at, e, s) => {
-            let number = case_value(source, state, *at, e)?;
-            let body = statement(source, state, s.get())?;
-            Ok(Body::Case(number, Boxed::new(state.alloc, body)?))
-        }
-        Stmt::Default(at, s) => {
-            default_label(source, state, *at)?;
-            let body = statement(source, state, s.get())?;
-            Ok(Body::Default(Boxed::new(state.alloc, body)?))
-        }
+        Stmt::Label(at, s) => labelled(source, state, s.get(), *at),
+        Stmt::Case(at, e, s) => case(source, state, s.get(), *at, e),
+        Stmt::Default(at, s) => default(source, state, s.get(), *at),
     }
+}
+
+// A controlling expression and the statement behind it.
+#[cycle(statement)]
+#[inline(never)]
+fn tested(
+    source: &Source<'_>,
+    state: &mut State,
+    s: &Stmt,
+    e: &Expr,
+) -> Result<(Typed, Boxed<Body>), TypeFault> {
+    let test = condition(source, state, e)?;
+    let body = inner(source, state, s)?;
+    Ok((test, body))
+}
+
+// An `if` without `else` (6.8.4.1).
+#[cycle(statement)]
+#[inline(never)]
+fn selection(
+    source: &Source<'_>,
+    state: &mut State,
+    yes: &Stmt,
+    e: &Expr,
+) -> Result<Body, TypeFault> {
+    state.enter_scope();
+    let test = condition(source, state, e)?;
+    let yes = inner(source, state, yes)?;
+    state.leave_scope();
+    Ok(Body::If(test, yes, None))
+}
+
+// The `else` of an `if` whose first part is known, in its scope, which ends (6.8.4.1).
+#[cycle(statement)]
+#[inline(never)]
+fn alternative(
+    source: &Source<'_>,
+    state: &mut State,
+    no: &Stmt,
+    test: Typed,
+    yes: Boxed<Body>,
+) -> Result<Body, TypeFault> {
+    let no = inner(source, state, no)?;
+    state.leave_scope();
+    Ok(Body::If(test, yes, Some(no)))
+}
+
+// A `switch` (6.8.4.2).
+#[cycle(statement)]
+#[inline(never)]
+fn switch(source: &Source<'_>, state: &mut State, s: &Stmt, e: &Expr) -> Result<Body, TypeFault> {
+    state.enter_scope();
+    let (test, kind) = selector(source, state, e)?;
+    open_switch(state, kind)?;
+    let body = inner(source, state, s)?;
+    close_switch(state);
+    state.leave_scope();
+    Ok(Body::Switch(test, body))
+}
+
+// A `while` loop (6.8.5.1).
+#[cycle(statement)]
+#[inline(never)]
+fn while_loop(
+    source: &Source<'_>,
+    state: &mut State,
+    s: &Stmt,
+    e: &Expr,
+) -> Result<Body, TypeFault> {
+    state.enter_scope();
+    let test = condition(source, state, e)?;
+    let body = repeated(source, state, s)?;
+    state.leave_scope();
+    Ok(Body::While(test, body))
+}
+
+// A `do` loop (6.8.5.2).
+#[cycle(statement)]
+#[inline(never)]
+fn do_loop(source: &Source<'_>, state: &mut State, s: &Stmt, e: &Expr) -> Result<Body, TypeFault> {
+    state.enter_scope();
+    let body = repeated(source, state, s)?;
+    let test = condition(source, state, e)?;
+    state.leave_scope();
+    Ok(Body::Do(body, test))
+}
+
+// A `for` loop (6.8.5.3).
+#[cycle(statement)]
+#[inline(never)]
+fn for_loop(
+    source: &Source<'_>,
+    state: &mut State,
+    s: &Stmt,
+    init: &ForInit,
+    test: &Option<Expr>,
+    step: &Option<Expr>,
+) -> Result<Body, TypeFault> {
+    state.enter_scope();
+    let start = loop_start(source, state, init)?;
+    let test = match test {
+        None => None,
+        Some(e) => Some(condition(source, state, e)?),
+    };
+    let step = unused_part(source, state, step)?;
+    let body = repeated(source, state, s)?;
+    let start = ended_start(state, start);
+    state.leave_scope();
+    Ok(Body::For {
+        start,
+        test,
+        step,
+        body,
+    })
+}
+
+// A labelled statement (6.8.1).
+#[cycle(statement)]
+#[inline(never)]
+fn labelled(source: &Source<'_>, state: &mut State, s: &Stmt, at: u32) -> Result<Body, TypeFault> {
+    let number = define_label(source, state, at)?;
+    let body = statement(source, state, s)?;
+    Ok(Body::Label(number, Boxed::new(state.alloc, body)?))
+}
+
+// A statement behind `case` (6.8.1).
+#[cycle(statement)]
+#[inline(never)]
+fn case(
+    source: &Source<'_>,
+    state: &mut State,
+    s: &Stmt,
+    at: u32,
+    e: &Expr,
+) -> Result<Body, TypeFault> {
+    let number = case_value(source, state, at, e)?;
+    let body = statement(source, state, s)?;
+    Ok(Body::Case(number, Boxed::new(state.alloc, body)?))
+}
+
+// A statement behind `default` (6.8.1).
+#[cycle(statement)]
+#[inline(never)]
+fn default(source: &Source<'_>, state: &mut State, s: &Stmt, at: u32) -> Result<Body, TypeFault> {
+    default_label(source, state, at)?;
+    let body = statement(source, state, s)?;
+    Ok(Body::Default(Boxed::new(state.alloc, body)?))
 }
 
 // A statement inside another one, a scope of its own (6.8.4p3, 6.8.5p5).

@@ -5,6 +5,7 @@
 mod fault;
 mod library;
 mod linkage;
+mod literals;
 mod rows;
 mod source;
 mod space;
@@ -14,7 +15,8 @@ mod task;
 pub use fault::{TypeFault, placed};
 pub use library::{library_function, library_type};
 pub use linkage::{Linkage, copied_function};
-pub use rows::{FunctionRow, Meaning, ObjectRow, TagMeaning, TagRow};
+pub use literals::Literal;
+pub use rows::{Definition, FunctionRow, Meaning, ObjectRow, TagMeaning, TagRow};
 pub use source::Source;
 pub use space::{Binding, Space};
 pub use state::{Lifted, Mark, State};

@@ -1,7 +1,7 @@
 // Declarations of objects and functions whose identifiers have linkage, and what they redeclare (6.2.2, 6.7p3, 6.9.2).
 
 use crate::library::{library_function, library_type};
-use crate::rows::{FunctionRow, Meaning, ObjectRow};
+use crate::rows::{Definition, FunctionRow, Meaning, ObjectRow};
 use crate::{Source, State, TypeFault};
 use c_express::same_type;
 use c_typed::{Slot, Target};
@@ -374,12 +374,14 @@ impl State {
         library: Option<LibFunc>,
     ) -> Result<u32, NoMemory> {
         let number = u32::try_from(self.functions.len()).unwrap_or(u32::MAX);
+        let definition = match library {
+            Some(library) => Definition::Library(library),
+            None => Definition::Nowhere,
+        };
         self.functions.push(FunctionRow {
             ty,
             internal,
-            library,
-            own: None,
-            body: None,
+            definition,
             used: None,
         })?;
         self.link(symbol, Target::Function(number));

@@ -57,15 +57,23 @@ pub struct ObjectRow {
     pub used: Option<u32>,
 }
 
+/// Where a function is defined.
+#[derive(Drop)]
+pub enum Definition {
+    /// Nowhere so far.
+    Nowhere,
+    /// In the library, and so not in the unit (7.1.3p2).
+    Library(LibFunc),
+    /// In the unit, with this type, and with its body once that is read.
+    Own(FuncTy, Option<Body>),
+}
+
 /// A function.
 #[derive(Drop)]
 pub struct FunctionRow {
     pub ty: FuncTy,
     pub internal: bool,
-    pub library: Option<LibFunc>,
-    /// The type that its definition gives it.
-    pub own: Option<FuncTy>,
-    pub body: Option<Body>,
+    pub definition: Definition,
     /// The line of its first use.
     pub used: Option<u32>,
 }

@@ -1,12 +1,14 @@
 // All that is declared so far.
+ghost use Rattle.c_typed.specs.Lawful.{HasBytes};
 
+use crate::literals::Literal;
 use crate::rows::{FunctionRow, Meaning, ObjectRow, TagMeaning, TagRow};
 use crate::{Binding, Source, Space, Task};
 use c_express::{Constants, Objects};
 use c_typed::Target;
 use c_types::{Extent, Qual, TagKind, Tags, Ty};
 use std::alloc::Global;
-use ub_base::{Bytes, Items, NoMemory};
+use ub_base::{Bytes, NoMemory};
 
 /// The declarations of a unit so far.
 #[derive(Drop)]
@@ -29,7 +31,7 @@ pub struct State {
     pub functions: Vec<FunctionRow>,
     /// The object or function that a name with linkage stands for, by symbol.
     pub linked: Vec<Option<Target>>,
-    pub literals: Items<Bytes>,
+    pub literals: Vec<Literal>,
     /// How many operands that aren't evaluated are open.
     pub unevaluated: u32,
     /// The function that is called at program startup (5.1.2.2.1).
@@ -74,7 +76,7 @@ impl State {
             order,
             functions: Vec::new(alloc),
             linked,
-            literals: Items::new(alloc),
+            literals: Vec::new(alloc),
             unevaluated: 0,
             main: None,
             task: Task::new(alloc, Ty::Void),
@@ -146,14 +148,20 @@ impl State {
         }
         let kept = self.literals.remove(number as usize);
         self.forget_literals(mark);
-        self.add_literal(kept)
+        self.push_literal(kept)
+    }
+
+    fn push_literal(&mut self, literal: Literal) -> Result<u32, NoMemory> {
+        let number = u32::try_from(self.literals.len()).unwrap_or(u32::MAX);
+        self.literals.push(literal)?;
+        Ok(number)
     }
 
     /// A further string literal; the answer is its number.
-    pub fn add_literal(&mut self, bytes: Bytes) -> Result<u32, NoMemory> {
-        let number = u32::try_from(self.literals.len()).unwrap_or(u32::MAX);
-        self.literals.push(bytes)?;
-        Ok(number)
+    pub fn add_literal(&mut self, bytes: Bytes) -> Result<u32, NoMemory>
+        requires { HasBytes bytes }
+    {
+        self.push_literal(Literal { bytes })
     }
 
     /// A further object with static storage; the answer is its number.
@@ -267,9 +275,9 @@ impl Objects for State {
         match target {
             Target::Static(number) => self.static_extent(number),
             Target::Literal(number) => {
-                let bytes = self.literals.get(number as usize)?;
+                let literal = self.literals.get(number as usize)?;
                 Some(Extent {
-                    size: bytes.len() as u64,
+                    size: literal.bytes.len() as u64,
                     align: 1,
                 })
             }

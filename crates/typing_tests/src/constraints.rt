@@ -1,0 +1,50 @@
+// Whether a text is typed.
+use c_lex::lex;
+use c_parse::parse;
+use c_resolve::{TypeFault, resolve};
+use c_typed::Program;
+use std::alloc::Global;
+
+/// A constraint: the paragraph that states it, a text that breaks it, the line of the expression, name or label that does,
+/// and a text that just meets it.
+pub type Row = (&'static str, &'static str, u32, &'static str);
+
+/// How a text ends.
+#[derive(Drop)]
+pub enum Answer {
+    Typed(Program),
+    NotTyped(u32),
+    NoUnit,
+    NoMemory,
+}
+
+/// What is said of a text.
+pub fn answer(alloc: Global, text: &str) -> Answer {
+    let Ok(tokens) = lex(alloc, text.as_bytes()) else {
+        return Answer::NoUnit;
+    };
+    let Ok(unit) = parse(alloc, &tokens) else {
+        return Answer::NoUnit;
+    };
+    match resolve(alloc, &tokens, &unit) {
+        Ok(program) => Answer::Typed(program),
+        Err(TypeFault::NotTyped(line)) => Answer::NotTyped(line),
+        Err(TypeFault::NoMemory) => Answer::NoMemory,
+    }
+}
+
+/// The first row whose texts aren't answered so.
+pub fn first_wrong(alloc: Global, rows: &[Row]) -> Option<usize> {
+    for (i, row) in rows.iter().enumerate() {
+        let (_, bad, line, good) = *row;
+        match answer(alloc, bad) {
+            Answer::NotTyped(told) if told == line => {}
+            _ => return Some(i),
+        }
+        match answer(alloc, good) {
+            Answer::Typed(_) => {}
+            _ => return Some(i),
+        }
+    }
+    None
+}
