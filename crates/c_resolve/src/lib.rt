@@ -9,7 +9,6 @@ mod declarator;
 mod define;
 mod expression;
 mod external;
-mod finish;
 mod initial;
 mod listing;
 mod literal;
