@@ -164,7 +164,9 @@ fn kept_number(
 }
 
 // The frames that are named, in their order, and their new numbers.
-fn renamed(alloc: Global, frames: &Frames, named: &[bool]) -> Result<(Frames, Renaming), NoMemory> {
+fn renamed(alloc: Global, frames: &Frames, named: &[bool]) -> Result<(Frames, Renaming), NoMemory>
+    ensures { IfOk result (λ made. length made.0 ≤ length frames.now) }
+{
     let mut kept = Frames::new(alloc);
     let mut numbers = vec![in alloc; 0u32]?;
     for at in 0..frames.len() {
@@ -220,6 +222,7 @@ pub fn of_audit(
     map: &AddrMap,
     frames: &Frames,
 ) -> Result<Cert, NoMemory>
+    ensures frames { IfOk result (λ c. length c.frames ≤ length frames.now) }
     ensures order { IfOk result (λ c. c.order ≡ canonical_order picks) }
     // The claim is the one that was made, but for the numbers of its frames.
     ensures claim { IfOk result (λ c. SameClaim claim c.claim) }
