@@ -1,3 +1,4 @@
+pub mod Access
 pub mod Agreement
 pub mod Store
 pub mod Script
@@ -6,3 +7,4 @@ pub mod Streams
 pub mod Cells
 pub mod Held
 pub mod Memory
+pub mod Stores

@@ -256,6 +256,7 @@ impl Memory {
         }
         Ok(Some(Accessed {
             object: at,
+            name,
             from: addr.saturating_sub(object.base),
             settles,
         }))
