@@ -17,6 +17,3 @@ pub use cert::{Cert, CertFault, Claim, Field, Rows, Segment, Segments};
 pub use make::of_audit;
 pub use read::from_json;
 pub use write::to_json;
-
-#[cfg(test)]
-mod tests;

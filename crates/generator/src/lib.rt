@@ -4,6 +4,3 @@
 mod text;
 
 pub use text::generated;
-
-#[cfg(test)]
-mod tests;
