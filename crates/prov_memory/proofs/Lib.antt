@@ -2,3 +2,9 @@ pub mod HeldLemmas
 pub mod StoreLemmas
 pub mod ActLemmas
 pub mod CellLemmas
+pub mod ProvLemmas
+pub mod SettleLemmas
+pub mod FindLemmas
+pub mod PieceLemmas
+pub mod NearLemmas
+pub mod CompareLemmas

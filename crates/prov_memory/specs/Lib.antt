@@ -6,3 +6,6 @@ pub mod Streams
 pub mod Cells
 pub mod Held
 pub mod Memory
+pub mod Made
+pub mod Comparing
+pub mod Pieces

@@ -1,5 +1,6 @@
 // The checks of an access.
 ghost use Rattle.std.specs.Prelude.{◌≡◌, IfOk};
+ghost use Rattle.exposure.specs.Cells.{kept_in, is_other};
 ghost use Rattle.prov_memory.specs.Held.{FallsIn};
 
 use super::*;
@@ -34,7 +35,9 @@ impl Memory {
     }
 
     // Whether the ambiguity was settled to another object.
-    pub(super) fn is_lost(&self, id: Event, keep: ObjName) -> bool {
+    pub(super) fn is_lost(&self, id: Event, keep: ObjName) -> bool
+        ensures { result ≡ is_other (kept_in self.now.cells id) keep }
+    {
         match self.narrowed.kept(id) {
             None => false,
             Some(kept) => kept != keep,
