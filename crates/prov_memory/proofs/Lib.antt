@@ -8,3 +8,6 @@ pub mod FindLemmas
 pub mod PieceLemmas
 pub mod NearLemmas
 pub mod CompareLemmas
+pub mod AccessLemmas
+pub mod AgreementLemmas
+pub mod WriteLemmas

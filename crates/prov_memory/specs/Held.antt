@@ -38,6 +38,9 @@ killed h = record h { cells = []; state = record (h.state) { live = false } }
 abbrev pub uncovered : Held → Held
 uncovered h = record h { state = record (h.state) { exposed = true } }
 
+abbrev pub holding : List Cell → Held → Held
+holding cs h = record h { cells = cs }
+
 -- the object of a name
 abbrev pub held_of : List Held → ObjName → Option Held
 held_of [] x = None

@@ -1,3 +1,4 @@
+pub mod Access
 pub mod Agreement
 pub mod Store
 pub mod Script
@@ -9,3 +10,4 @@ pub mod Memory
 pub mod Made
 pub mod Comparing
 pub mod Pieces
+pub mod Stores

@@ -1,12 +1,12 @@
 // The memory.
-ghost use Rattle.std.specs.Prelude.{◌≡◌, [], Some, true, not, IfSome};
-ghost use Rattle.std.specs.Option.{option_copied};
+ghost use Rattle.std.specs.Prelude.{◌≡◌, [], Some, true, not, slice_get, IfSome};
+ghost use Rattle.std.specs.Option.{option_and_then, option_copied};
 ghost use Rattle.std.specs.Bool.{OnTrue, OnFalse};
 ghost use Rattle.exposure.specs.Cells.{kept_in, has_cell, is_other, Settles};
 ghost use Rattle.prov_memory.specs.Store.{settled};
 ghost use Rattle.prov_memory.specs.Streams.{Io};
 ghost use Rattle.prov_memory.specs.Cells.{prov_numbered};
-ghost use Rattle.prov_memory.specs.Held.{Fits, held_of};
+ghost use Rattle.prov_memory.specs.Held.{Fits, held_of, name_at};
 ghost use Rattle.prov_memory.specs.Memory.{Kept, empty, store_of, state_in, byte_in_object};
 ghost use Rattle.prov_memory.specs.Made.{AreNamed, IsMade};
 
@@ -102,6 +102,8 @@ impl Memory {
     // The object's place in `objects`.
     fn find(&mut self, name: ObjName) -> Option<usize>
         ensures same { self.new ≡ self.old }
+        ensures some { IfSome result (λ at. name_at self.old.objects at ≡ Some name) }
+        ensures object { held_of self.old.objects name ≡ option_and_then (λ at. slice_get self.old.objects at) result }
     {
         self.objects.find(name)
     }

@@ -1,9 +1,9 @@
 // Objects by their names.
-ghost use Rattle.std.specs.Prelude.{◌≡◌, ◌<◌, ◌++◌, ◌∷◌, [], None, Some, List, true, length, slice_get, slice_set, IfSome, OnOk, OnErr};
+ghost use Rattle.std.specs.Prelude.{◌≡◌, ◌<◌, ◌++◌, ◌∷◌, [], None, Some, List, true, length, slice_get, IfSome, OnOk, OnErr};
 ghost use Rattle.std.specs.Option.{option_and_then, option_copied};
 ghost use Rattle.addr_map.specs.declared.map.Row.{Row};
 ghost use Rattle.prov_memory.specs.Memory.{HaveRows};
-ghost use Rattle.prov_memory.specs.Held.{Held, Fits, FallsIn, IsWritten, held_of, changed, name_at, emptied, killed, uncovered};
+ghost use Rattle.prov_memory.specs.Held.{Held, Fits, FallsIn, IsWritten, held_of, changed, name_at, emptied, killed, uncovered, holding};
 
 use crate::Via;
 use crate::cell::Cell;
@@ -166,19 +166,15 @@ impl Objects {
         }
     }
 
-    /// Writes bytes into a range of the object at the place, and gives its name.
-    pub fn write(&mut self, at: usize, from: u64, via: Via, cells: &[Cell]) -> Option<ObjName>
+    /// Writes bytes into a range of the object at the place.
+    pub fn write(&mut self, at: usize, from: u64, via: Via, cells: &[Cell])
         requires { FallsIn self.old at from (length cells.now) }
         ensures rows { (rows : List Row) → HaveRows rows self.old → HaveRows rows self.new }
-        ensures name { result ≡ name_at self.old at }
-        ensures written { (h : Held) → slice_get self.old at ≡ Some h → (g : Held) × (self.new ≡ slice_set self.old at g) × IsWritten h g from via cells.now }
+        ensures written { (h : Held) → slice_get self.old at ≡ Some h → (g : Held) × (self.new ≡ changed (holding g.cells) h.name self.old) × IsWritten h g from via cells.now }
     {
         if at < self.list.len() {
             let object = &mut self.list[at];
             object.write(from, via, cells);
-            Some(object.name)
-        } else {
-            None
         }
     }
 }

@@ -1,4 +1,6 @@
 // The scalar types that tags name.
+ghost use Rattle.std.specs.Prelude.{◌≡◌};
+ghost use Rattle.c_types.specs.Types.{type_of, int};
 
 use crate::TypeId;
 use c_types::{FuncTy, IntKind, Placed, Qual, Shape, Ty};
@@ -72,6 +74,13 @@ pub(crate) fn kind_id(ty: &Ty) -> Option<TypeId> {
         Ty::Enum(_) => Some(TypeId::of_kind(IntKind::Int)),
         _ => None,
     }
+}
+
+/// The integer type.
+pub(crate) fn int_type(kind: IntKind) -> Ty
+    ensures { type_of result ≡ int kind }
+{
+    Ty::Int(kind)
 }
 
 /// How many bytes a scalar of the type has.

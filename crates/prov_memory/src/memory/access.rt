@@ -1,7 +1,16 @@
 // The checks of an access.
-ghost use Rattle.std.specs.Prelude.{◌≡◌, IfOk};
+ghost use Rattle.std.specs.Prelude.{◌≡◌, ◌++◌, ◌∷◌, [], IfOk, IfErr};
+ghost use Rattle.ub_base.specs.declared.names.Item.TheVariants.{Alive};
+ghost use Rattle.addr_map.specs.Rows.{row_of};
 ghost use Rattle.exposure.specs.Cells.{kept_in, is_other};
-ghost use Rattle.prov_memory.specs.Held.{FallsIn};
+ghost use Rattle.prov_memory.specs.Acts as acts;
+ghost use Rattle.prov_memory.specs.Acts.{in_row};
+ghost use Rattle.prov_memory.specs.Store.{Store};
+ghost use Rattle.prov_memory.specs.Script.{run, Done, Raised};
+ghost use Rattle.prov_memory.specs.Streams.{Io};
+ghost use Rattle.prov_memory.specs.Held.{held_of};
+ghost use Rattle.prov_memory.specs.Memory.{Kept, store_of, life_in};
+ghost use Rattle.prov_memory.specs.Access.{IsReached, IsReachedBy, CanSettle, IsFree, HasCellOf, reached, access_in, settle_items, settled_if, chosen_of, checked_offset};
 
 use super::*;
 use addr_map::Row;
@@ -10,24 +19,18 @@ use ub_base::Clause;
 /// Where an access falls, and what it settles.
 #[derive(Clone, Copy)]
 pub(super) struct Accessed {
+    /// The place of the object.
     pub object: usize,
+    pub name: ObjName,
     pub from: u64,
     pub settles: Option<(Event, ObjName)>,
 }
 
-/// What an access asks of its object's type.
-#[derive(Clone, Copy)]
-pub(super) enum Asks<'a> {
-    /// To suit a load of the scalar type.
-    Load(&'a Ty),
-    /// To suit a store of the scalar type.
-    Store(&'a Ty),
-    Nothing,
-}
-
 impl Memory {
     // Whether the range lies in the object.
-    pub(super) fn has_range(&self, name: ObjName, addr: u64, len: u64) -> bool {
+    pub(super) fn has_range(&self, name: ObjName, addr: u64, len: u64) -> bool
+        ensures { result ≡ in_row (row_of self.now.rows name) addr len }
+    {
         match self.seek(name) {
             None => row_has_range(self.map.row(name), addr, len),
             Some(object) => object.has_range(addr, len),
@@ -50,86 +53,103 @@ impl Memory {
         addr: u64,
         prov: Prov,
         len: u64,
-    ) -> Result<(ObjName, Option<(Event, ObjName)>), Clause> {
+    ) -> Result<(ObjName, Option<(Event, ObjName)>), Clause>
+        ensures found { IfOk result (λ p. (io : Io) → run self.now.rows (acts.object_of self.now.rows len addr prov) (store_of self.now io) ≡ Done p.0 (settle_items p.1) (settled_if p.1 (store_of self.now io))) }
+        ensures raises { IfErr result (λ c. (io : Io) → run self.now.rows (acts.object_of self.now.rows len addr prov) (store_of self.now io) ≡ Raised c) }
+        ensures settles { IfOk result (λ p. CanSettle self.now prov p.1) }
+    {
         match prov {
             Prov::Empty => Err(Clause::InvalidPointer),
             Prov::Whole(name) => Ok((name, None)),
             Prov::Either { id, past, start } => {
-                let name = if self.has_range(past, addr, len) {
-                    past
+                if self.has_range(past, addr, len) {
+                    self.chosen(id, past)
                 } else if self.has_range(start, addr, len) {
-                    start
+                    self.chosen(id, start)
                 } else {
-                    return Err(Clause::OutOfBounds);
-                };
-                if self.is_lost(id, name) {
-                    return Err(Clause::OutOfBounds);
+                    Err(Clause::OutOfBounds)
                 }
-                Ok((name, Some((id, name))))
             }
         }
     }
 
-    /// The checks of an access, in their order, without a change of the memory.
+    // The candidate, which the ambiguity is settled to, where it isn't settled to the other.
+    fn chosen(
+        &self,
+        id: Event,
+        keep: ObjName,
+    ) -> Result<(ObjName, Option<(Event, ObjName)>), Clause>
+        ensures { result ≡ chosen_of (is_other (kept_in self.now.cells id) keep) id keep }
+    {
+        if self.is_lost(id, keep) {
+            Err(Clause::OutOfBounds)
+        } else {
+            Ok((keep, Some((id, keep))))
+        }
+    }
+
+    /// The checks of an access up to its alignment, in their order, without a change of the memory.
     pub(super) fn access(
         &mut self,
         len: u64,
         align: u64,
-        asks: Asks<'_>,
         addr: u64,
         prov: Prov,
         t: &mut Touched,
     ) -> Result<Accessed, Clause>
         ensures same { self.new ≡ self.old }
-        ensures range { IfOk result (λ found. FallsIn self.old.objects found.object found.from len) }
+        ensures found { IfOk result (λ found. IsReached self.old.objects found len) }
+        ensures settles { IfOk result (λ found. CanSettle self.old prov found.settles) }
+        ensures items { IfOk result (λ found. t.old ≡ [] → t.new ≡ settle_items found.settles ++ Alive found.name ∷ []) }
+        ensures exact { IfOk result (λ found. (io : Io) → run self.old.rows (acts.access self.old.rows len align addr prov) (store_of self.old io) ≡ Done (reached self.old.objects found) (settle_items found.settles ++ Alive found.name ∷ []) (settled_if found.settles (store_of self.old io))) }
+        ensures raises { IfErr result (λ c. (io : Io) → run self.old.rows (acts.access self.old.rows len align addr prov) (store_of self.old io) ≡ Raised c) }
     {
         if addr == 0 {
             return Err(Clause::InvalidPointer);
         }
-        let (name, settles) = self.target(addr, prov, len)?;
-        if let Some((id, keep)) = settles {
-            t.note(Item::Narrow { id, keep });
-        }
-        t.note(Item::Alive(name));
+        let target = self.target(addr, prov, len)?;
+        note_settles(target.1, t);
+        t.note(Item::Alive(target.0));
+        self.reach(target.0, target.1, len, align, addr)
+    }
+
+    // The checks of an access whose object is known.
+    fn reach(
+        &mut self,
+        name: ObjName,
+        settles: Option<(Event, ObjName)>,
+        len: u64,
+        align: u64,
+        addr: u64,
+    ) -> Result<Accessed, Clause>
+        ensures same { self.new ≡ self.old }
+        ensures found { IfOk result (λ found. IsReachedBy self.old.objects found name settles len) }
+        ensures exact { IfOk result (λ found. (s : Store) → s.life name ≡ life_in (held_of self.old.objects name) → run self.old.rows (access_in self.old.rows len align addr name) s ≡ Done (reached self.old.objects found) (Alive name ∷ []) s) }
+        ensures raises { IfErr result (λ c. (s : Store) → s.life name ≡ life_in (held_of self.old.objects name) → run self.old.rows (access_in self.old.rows len align addr name) s ≡ Raised c) }
+    {
         let Some(at) = self.find(name) else {
             return Err(Clause::DeadObject);
         };
         let Some(object) = self.objects.get(at) else {
             return Err(Clause::DeadObject);
         };
-        if !object.state.live {
-            return Err(Clause::DeadObject);
-        }
-        if !object.has_range(addr, len) {
-            return Err(Clause::OutOfBounds);
-        }
-        if align != 0 && addr % align != 0 {
-            return Err(Clause::InvalidPointer);
-        }
-        let from = addr.saturating_sub(object.base);
-        if !self.suits(object, asks, from, len) {
-            return Err(Clause::EffectiveType);
-        }
+        let from = offset_of(object, len, align, addr)?;
         Ok(Accessed {
             object: at,
+            name,
             from,
             settles,
         })
     }
 
-    // Whether the type of an access suits the bytes that it meets.
-    fn suits(&self, object: &Object, asks: Asks<'_>, from: u64, len: u64) -> bool {
-        let (ty, is_load) = match asks {
-            Asks::Nothing => return true,
-            Asks::Load(ty) => (ty, true),
-            Asks::Store(ty) => (ty, false),
-        };
+    /// Whether the type of a load suits the bytes that it meets.
+    pub(super) fn suits_load(&self, object: &Object, ty: &Ty, from: u64, len: u64) -> bool {
         match &object.declared {
             Some(shape) => {
                 let shape: &Shape = shape;
                 shape.suits(ty, from)
             }
-            None => !is_load || ty.is_character() || self.suits_tags(object, ty, from, len),
+            None => ty.is_character() || self.suits_tags(object, ty, from, len),
         }
     }
 
@@ -164,15 +184,52 @@ impl Memory {
     }
 
     /// Settles what an access settles.
-    pub(super) fn settle(&mut self, settles: Option<(Event, ObjName)>) {
+    pub(super) fn settle(&mut self, settles: Option<(Event, ObjName)>)
+        ensures rest { record self.new { cells = [] } ≡ record self.old { cells = [] } }
+        ensures store { HasCellOf self.old settles → IsFree self.old settles → (m : Kept) → m.cells ≡ self.old.cells → (io : Io) → store_of (record m { cells = self.new.cells }) io ≡ settled_if settles (store_of m io) }
+    {
         if let Some((id, keep)) = settles {
             let _ = self.narrowed.narrow(id, keep);
         }
     }
 }
 
+/// Notes what an access settles.
+fn note_settles(settles: Option<(Event, ObjName)>, t: &mut Touched)
+    ensures { t.old ≡ [] → t.new ≡ settle_items settles }
+{
+    if let Some((id, keep)) = settles {
+        t.note(Item::Narrow { id, keep });
+    }
+}
+
+/// Where an access falls in its object, by the checks that the object decides.
+fn offset_of(object: &Object, len: u64, align: u64, addr: u64) -> Result<u64, Clause>
+    ensures { result ≡ checked_offset object.now len align addr }
+{
+    if !object.state.live {
+        return Err(Clause::DeadObject);
+    }
+    if !object.has_range(addr, len) {
+        return Err(Clause::OutOfBounds);
+    }
+    if !is_aligned(align, addr) {
+        return Err(Clause::InvalidPointer);
+    }
+    Ok(addr - object.base)
+}
+
+/// Aligned, where there is an alignment.
+fn is_aligned(align: u64, addr: u64) -> bool
+    ensures { result ≡ acts.is_aligned align addr }
+{
+    align == 0 || addr % align == 0
+}
+
 // Whether the range lies in the place of an object that isn't created yet.
-fn row_has_range(row: Option<Row>, addr: u64, len: u64) -> bool {
+fn row_has_range(row: Option<Row>, addr: u64, len: u64) -> bool
+    ensures { result ≡ in_row row addr len }
+{
     match row {
         None => false,
         Some(row) => row.base <= addr && len <= row.size && addr - row.base <= row.size - len,

@@ -357,6 +357,7 @@ impl Memory {
         }
         Ok(Some(Accessed {
             object: at,
+            name,
             from: addr.saturating_sub(object.base),
             settles,
         }))

@@ -1,7 +1,7 @@
 // Loads.
-ghost use Rattle.std.specs.Prelude.{◌≡◌, length, IfOk};
+ghost use Rattle.std.specs.Prelude.{◌≡◌, length, IfOk, OnErr};
 
-use super::access::{Accessed, Asks};
+use super::access::Accessed;
 use super::*;
 use crate::cell::{State, number_of, pointer_in, value_of};
 use crate::types::Spanned;
@@ -52,12 +52,14 @@ impl Memory {
         addr: u64,
         prov: Prov,
         t: &mut Touched,
-    ) -> Result<i128, Clause> {
+    ) -> Result<i128, Clause>
+        ensures same { OnErr result (self.new ≡ self.old) }
+    {
         t.clear();
         let len = kind.bytes();
         let ty = Ty::Int(kind);
-        let found = self.access(len, len, Asks::Load(&ty), addr, prov, t)?;
-        let number = self.load_number(found, len, t, kind == IntKind::Bool)?;
+        let found = self.access(len, len, addr, prov, t)?;
+        let number = self.load_number(found, &ty, len, t, kind == IntKind::Bool)?;
         Ok(value_of(kind, number))
     }
 
@@ -68,19 +70,33 @@ impl Memory {
         addr: u64,
         prov: Prov,
         t: &mut Touched,
-    ) -> Result<u64, Clause> {
+    ) -> Result<u64, Clause>
+        ensures same { OnErr result (self.new ≡ self.old) }
+    {
         t.clear();
-        let found = self.access(8, 8, Asks::Load(ty), addr, prov, t)?;
-        self.load_number(found, 8, t, false)
+        let found = self.access(8, 8, addr, prov, t)?;
+        self.load_number(found, ty, 8, t, false)
+    }
+
+    // Whether the type of a load suits the bytes where it falls.
+    fn check_suits(&self, found: Accessed, ty: &Ty, len: u64) -> Result<(), Clause> {
+        match self.objects.get(found.object) {
+            Some(object) if self.suits_load(object, ty, found.from, len) => Ok(()),
+            _ => Err(Clause::EffectiveType),
+        }
     }
 
     fn load_number(
         &mut self,
         found: Accessed,
+        ty: &Ty,
         len: u64,
         t: &mut Touched,
         is_bool: bool,
-    ) -> Result<u64, Clause> {
+    ) -> Result<u64, Clause>
+        ensures same { OnErr result (self.new ≡ self.old) }
+    {
+        self.check_suits(found, ty, len)?;
         let (number, _, has_pieces) = self.written(found.object, found.from, len)?;
         if is_bool && number > 1 {
             return Err(Clause::TrapRepresentation);
@@ -114,7 +130,8 @@ impl Memory {
         t: &mut Touched,
     ) -> Result<Value, MemFault> {
         t.clear();
-        let found = self.access(8, align, Asks::Load(ty), addr, prov, t)?;
+        let found = self.access(8, align, addr, prov, t)?;
+        self.check_suits(found, ty, 8)?;
         let (number, pointer, _) = self.written(found.object, found.from, 8)?;
         self.note_read(found, 8, t);
         let prov = match pointer {
@@ -164,7 +181,7 @@ impl Memory {
         t: &mut Touched,
     ) -> Result<Block, MemFault> {
         t.clear();
-        let found = self.access(size, align, Asks::Nothing, addr, prov, t)?;
+        let found = self.access(size, align, addr, prov, t)?;
         let cells = self.cells_of(found.object, found.from, size)?;
         self.note_read(found, size, t);
         self.settle(found.settles);

@@ -1,8 +1,20 @@
 // Stores.
-ghost use Rattle.std.specs.Prelude.{◌≡◌, length, IfOk};
-ghost use Rattle.prov_memory.specs.Held.{FallsIn};
+ghost use Rattle.std.specs.Prelude.{◌≡◌, ℕ, ◌<◌, ◌+◌, ◌++◌, ◌∷◌, [], Some, length, slice_get, OnOk, OnErr, IfErr, option_map};
+ghost use Rattle.std.specs.Option.{option_copied};
+ghost use Rattle.ub_base.specs.declared.names.Item.TheVariants.{Write};
+ghost use Rattle.c_types.specs.Types.{CType};
+ghost use Rattle.c_types.specs.Shapes.{form_of};
+ghost use Rattle.prov_memory.specs.Agreement.{suits_form};
+ghost use Rattle.prov_memory.specs.Acts as acts;
+ghost use Rattle.prov_memory.specs.Acts.{Seen};
+ghost use Rattle.prov_memory.specs.Script.{run, Done, Raised};
+ghost use Rattle.prov_memory.specs.Streams.{Io};
+ghost use Rattle.prov_memory.specs.Held.{Held, IsWritten, FallsIn, held_of, changed, holding};
+ghost use Rattle.prov_memory.specs.Memory.{AreKnown, CellsKnown, HasCell, store_of, life_in};
+ghost use Rattle.prov_memory.specs.Access.{IsReached};
+ghost use Rattle.prov_memory.specs.Stores.{Sees, IsShort, IsTypeOf, tagged_all, checked_store, writable};
 
-use super::access::{Accessed, Asks};
+use super::access::Accessed;
 use super::*;
 use crate::cell::{byte_at, low_bits};
 use crate::{Block, MemFault, Via};
@@ -20,7 +32,12 @@ impl Memory {
         prov: Prov,
         bytes: &Block,
         t: &mut Touched,
-    ) -> Result<(), Clause> {
+    ) -> Result<(), Clause>
+        ensures exact { OnOk result (HasCell self.old prov → IsShort via (length bytes.now.cells) → (seen : Seen) → Sees self.old via seen → (io : Io) → run self.old.rows (acts.store self.old.rows first seen align addr prov (tagged_all self.old bytes.now.cells)) (store_of self.old io) ≡ Done tt t.new (store_of self.new io)) }
+        ensures raises { IfErr result (λ c. (seen : Seen) → Sees self.old via seen → (io : Io) → run self.old.rows (acts.store self.old.rows first seen align addr prov (tagged_all self.old bytes.now.cells)) (store_of self.old io) ≡ Raised c) }
+        ensures same { OnErr result (self.new ≡ self.old) }
+        ensures known { AreKnown self.old → CellsKnown (length self.old.origins) bytes.now.cells → AreKnown self.new }
+    {
         self.store_cells(first, via, align, addr, prov, bytes.cells(), t)
     }
 
@@ -35,7 +52,9 @@ impl Memory {
         addr: u64,
         prov: Prov,
         t: &mut Touched,
-    ) -> Result<(), Clause> {
+    ) -> Result<(), Clause>
+        ensures same { OnErr result (self.new ≡ self.old) }
+    {
         let number = low_bits(value);
         let mut cells = [Cell::UNWRITTEN; 8];
         for index in 0..8u8 {
@@ -56,7 +75,9 @@ impl Memory {
         value_addr: u64,
         value_prov: Prov,
         t: &mut Touched,
-    ) -> Result<(), Clause> {
+    ) -> Result<(), Clause>
+        ensures same { OnErr result (self.new ≡ self.old) }
+    {
         let origin = self.origin_of(value_prov);
         let mut cells = [Cell::UNWRITTEN; 8];
         for index in 0..8u8 {
@@ -74,85 +95,78 @@ impl Memory {
         prov: Prov,
         cells: &[Cell],
         t: &mut Touched,
-    ) -> Result<(), Clause> {
+    ) -> Result<(), Clause>
+        ensures exact { OnOk result (HasCell self.old prov → IsShort via (length cells.now) → (seen : Seen) → Sees self.old via seen → (io : Io) → run self.old.rows (acts.store self.old.rows first seen align addr prov (tagged_all self.old cells.now)) (store_of self.old io) ≡ Done tt t.new (store_of self.new io)) }
+        ensures raises { IfErr result (λ c. (seen : Seen) → Sees self.old via seen → (io : Io) → run self.old.rows (acts.store self.old.rows first seen align addr prov (tagged_all self.old cells.now)) (store_of self.old io) ≡ Raised c) }
+        ensures same { OnErr result (self.new ≡ self.old) }
+        ensures known { AreKnown self.old → CellsKnown (length self.old.origins) cells.now → AreKnown self.new }
+    {
         t.clear();
-        let len = cells.len() as u64;
-        let found = self.access_store(via, len, align, addr, prov, t)?;
-        self.check_writable(found.object, first)?;
+        let found = self.access(cells.len() as u64, align, addr, prov, t)?;
+        self.check_store(found, first, via, cells.len())?;
         self.write(found, via, cells, t);
         self.settle(found.settles);
         Ok(())
     }
 
-    // The checks of an access that stores by `via`.
-    fn access_store(
-        &mut self,
-        via: Via,
-        len: u64,
-        align: u64,
-        addr: u64,
-        prov: Prov,
-        t: &mut Touched,
-    ) -> Result<Accessed, Clause>
-        ensures { IfOk result (λ found. FallsIn self.new.objects found.object found.from len) }
+    // The checks of a store once its object is known.
+    fn check_store(&self, found: Accessed, first: bool, via: Via, len: usize) -> Result<(), Clause>
+        requires { IsReached self.now.objects found len }
+        ensures { (seen : Seen) → Sees self.now via seen → result ≡ checked_store first seen (life_in (held_of self.now.objects found.name)) found.from }
     {
-        let found = self.access(len, align, Asks::Nothing, addr, prov, t)?;
-        let Via::Scalar(id) = via else {
-            return Ok(found);
+        let Some(object) = self.objects.get(found.object) else {
+            return Ok(());
         };
-        if self.suits_store(found.object, id, found.from) {
-            Ok(found)
-        } else {
-            Err(Clause::EffectiveType)
+        if !self.suits_store(object, via, found.from) {
+            return Err(Clause::EffectiveType);
         }
+        check_writable(object, first)
     }
 
-    // Whether a store of the scalar type suits the object.
-    fn suits_store(&self, at: usize, id: TypeId, from: u64) -> bool {
-        let Some(object) = self.objects.get(at) else {
+    // Whether a store suits the object.
+    fn suits_store(&self, object: &Object, via: Via, from: u64) -> bool
+        ensures { (seen : Seen) → Sees self.now via seen → result ≡ acts.suits_store seen (option_map form_of object.now.declared) from }
+    {
+        let Via::Scalar(id) = via else {
             return true;
         };
         let Some(shape) = &object.declared else {
             return true;
         };
-        let shape: &Shape = shape;
+        self.suits_shape(shape, id, from)
+    }
+
+    fn suits_shape(&self, shape: &Shape, id: TypeId, from: u64) -> bool
+        ensures { (ty : CType) → IsTypeOf self.now id.number ty → result ≡ suits_form ty (form_of shape.now) from }
+    {
         if let Some(kind) = id.kind() {
-            return shape.suits(&Ty::Int(kind), from);
+            let ty = types::int_type(kind);
+            return shape.suits(&ty, from);
         }
-        match self
-            .types
-            .get(id.number.saturating_sub(types::FIRST) as usize)
-        {
+        match self.type_at(id.number.saturating_sub(types::FIRST) as usize) {
             None => true,
             Some(ty) => shape.suits(ty, from),
         }
     }
 
-    /// Whether the object may be stored to.
-    fn check_writable(&self, at: usize, first: bool) -> Result<(), Clause> {
-        let Some(object) = self.objects.get(at) else {
-            return Ok(());
-        };
-        if !first && object.state.kind.literal {
-            return Err(Clause::StoreToLiteral);
-        }
-        if !first && object.state.kind.constant {
-            return Err(Clause::StoreToConst);
-        }
-        Ok(())
+    fn type_at(&self, at: usize) -> Option<&Ty>
+        ensures { option_copied result ≡ slice_get self.now.types at }
+    {
+        self.types.get(at)
     }
 
     /// Writes the bytes where an access falls.
     fn write(&mut self, found: Accessed, via: Via, cells: &[Cell], t: &mut Touched)
         requires { FallsIn self.old.objects found.object found.from (length cells.now) }
+        ensures items { length t.old < 32 → t.new ≡ t.old ++ Write found.name found.from (length cells.now) ∷ [] }
+        ensures written { (h : Held) → slice_get self.old.objects found.object ≡ Some h → (g : Held) × (self.new ≡ record self.old { objects = changed (holding g.cells) h.name self.old.objects }) × IsWritten h g found.from via cells.now }
     {
-        if let Some(name) = self.objects.write(found.object, found.from, via, cells) {
-            t.note(Item::Write {
-                object: name,
-                from: found.from,
-                len: cells.len() as u64,
-            });
-        }
+        self.objects.write(found.object, found.from, via, cells);
+        t.note(Item::Write {
+            object: found.name,
+            from: found.from,
+            len: cells.len() as u64,
+        });
     }
 
     /// Copies bytes as by way of a buffer, with their pieces and tags: what `memmove` does once its arguments are checked as
@@ -173,7 +187,7 @@ impl Memory {
         if let (Some(target), Some(source)) = (target, source)
             && len != 0
         {
-            self.check_writable(target.object, false)?;
+            self.check_target(target)?;
             let cells = self.cells_of(source.object, source.from, len)?;
             self.note_read(source, len, t);
             self.write(target, Via::Whole, cells.as_slice(), t);
@@ -183,12 +197,36 @@ impl Memory {
         Ok(())
     }
 
+    // Whether what a copy writes to may be stored to.
+    fn check_target(&self, target: Accessed) -> Result<(), Clause> {
+        match self.objects.get(target.object) {
+            None => Ok(()),
+            Some(object) => check_writable(object, false),
+        }
+    }
+
     /// Settles what an argument settles.
     fn settle_argument(&mut self, found: Option<Accessed>) {
         if let Some(found) = found {
             self.settle(found.settles);
         }
     }
+}
+
+/// Whether the object may be stored to.
+fn check_writable(object: &Object, first: bool) -> Result<(), Clause>
+    ensures { result ≡ writable first object.now.state.kind }
+{
+    if first {
+        return Ok(());
+    }
+    if object.state.kind.literal {
+        return Err(Clause::StoreToLiteral);
+    }
+    if object.state.kind.constant {
+        return Err(Clause::StoreToConst);
+    }
+    Ok(())
 }
 
 // What an argument settles.
