@@ -13,7 +13,7 @@ use Rattle.exposure.specs.Cells.{is_other}
 use Rattle.c_types.specs.Shapes.{Form}
 use Rattle.prov_memory.specs.declared.object.ObjKind.{ObjKind}
 use Rattle.prov_memory.specs.Store.{TaggedByte, fresh, Life, Store, range_from, is_live, dead, born, can_find, findable}
-use Rattle.prov_memory.specs.Script.{Touch, Ask, Get, Put, Bear, Bury, Show, Find, Settle, Take, Print, item_of, Answer, refuses, answer, taken, left}
+use Rattle.prov_memory.specs.Script.{Touch, Ask, Get, Put, Bear, Bury, Show, Find, Settle, Take, Print, item_of, Answer, refuses, answer, left}
 use Rattle.act_laws.specs.Conflict.{meets, share, against, clash, clash_one}
 use Rattle.act_laws.specs.Frame.{bears, ends_life, shows, writes, settles, settles_away, takes, prints, any_of, Diff}
 
@@ -441,7 +441,7 @@ module _ (map : List Row) where
     other = d.other;
     kept = d.kept;
     input = d.input;
-    position = λ p. ap₂ (λ (is : List ℕ) (n : ℕ). n + taken (slice_get is n)) d.input (d.position p);
+    position = λ p. ap (λ n. n + 1) (d.position p);
     output = d.output;
   }
   left_diff (Print bs) s u j d c ex = record {

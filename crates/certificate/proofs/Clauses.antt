@@ -15,7 +15,7 @@ found_passes : (p : Clause → Bool) (xs : List Clause) (x : Clause) → find p 
 found_passes p [] x e = absurd (cc)
 found_passes p (y ∷ ys) x e = found_step (p y) p y x (find p ys) refl e (found_passes p ys x)
 
-clause_named-clause_text : (clause : Clause) → clause_named (clause_text clause) ≡ Some clause
+pub clause_named-clause_text : (clause : Clause) → clause_named (clause_text clause) ≡ Some clause
 unfolding clause_named
 clause_named-clause_text DeadObject = refl
 clause_named-clause_text TrapRepresentation = refl

@@ -1,8 +1,8 @@
 -- Lists of values, and that no value of a certificate has a float.
-use Rattle.std.proofs.Common.{Vec, Global, ◌≡◌, ◌⊎◌, ◌||◌, ℕ, zero, suc, max, ◌<◌, ◌≤◌, Bool, true, false, List, [], ◌∷◌, ◌++◌, length, map, take, drop, get_or, Option, Some, None, refl, sym, ap, subst, ◌∙◌, arith, inl, inr, append_assoc, append-nil}
+use Rattle.std.proofs.Common.{Vec, Global, ◌≡◌, ◌⊎◌, ◌||◌, ℕ, zero, suc, max, ◌<◌, ◌≤◌, Bool, false, List, [], ◌∷◌, ◌++◌, length, map, take, drop, get_or, Some, None, refl, sym, ap, subst, ◌∙◌, arith, inl, inr, append_assoc, append-nil}
 use Rattle.std.proofs.lemmas.List.{map-append}
 use Rattle.std.proofs.Math.Seq.{take-suc}
-use Rattle.serde_json.specs.Data.{Data, number, string, array, object, Items, no_items, item, Members, no_members, member, depth, items_depth, members_depth}
+use Rattle.serde_json.specs.Data.{Data, depth, items_depth, members_depth}
 use Rattle.serde_json.specs.Read.{read, max_depth}
 use Rattle.serde_json.specs.View.{view, items_of}
 use Rattle.serde_json.specs.Written.{has_float, items_have_float, members_have_float, compact_text}
@@ -11,7 +11,6 @@ use Rattle.serde_json.proofs.Views.{view-Array}
 use Rattle.ub_base.specs.Frames as frames
 use Rattle.ub_base.specs.declared.names.ObjName.{ObjName}
 use Rattle.ub_base.specs.declared.names.ObjName.TheVariants.{Static, Lit, Argv, Arg, Auto, Heap}
-use Rattle.ub_base.specs.declared.names.Event.{Event}
 use Rattle.addr_map.specs.declared.map.Row.{Row}
 use Rattle.certificate.specs.declared.cert.Cert.{Cert}
 use Rattle.certificate.specs.declared.cert.Claim.{Claim}
@@ -20,7 +19,7 @@ use Rattle.certificate.specs.declared.cert.Segment.{Segment}
 use Rattle.certificate.specs.declared.cert.Segment.TheVariants.{Canonical, Pick}
 use Rattle.certificate.specs.declared.row.Run.{Run}
 use Rattle.certificate.specs.Members.{common, with_claim}
-use Rattle.certificate.specs.Writing.{IsAlone, IsRun, IsTextOf, Packs, event_entry, frame_entry, list, members, pair_entry, pair_list, row_entry, run_entry, segment_entry, value_of, whole}
+use Rattle.certificate.specs.Writing.{IsAlone, IsRun, IsTextOf, Packs, frame_entry, list, members, row_entry, run_entry, segment_entry, value_of}
 use Rattle.serde_json.proofs.OnLiterals.{serde_json_on_literals}
 
 take_all : {A : Type 0} (xs : List A) (n : ℕ) → length xs ≤ n → take n xs ≡ xs

@@ -8,3 +8,5 @@ pub mod RowSteps
 pub mod OrderSteps
 pub mod Answered
 pub mod Names
+pub mod Stating
+pub mod Stated

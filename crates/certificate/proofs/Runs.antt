@@ -1,9 +1,8 @@
 -- Runs of rows: which rows they stand for, and that rows begin with one longest run.
 use Rattle.std.proofs.Common.{◌≡◌, ◌⊎◌, ℕ, zero, suc, ◌+◌, ◌*◌, ◌<◌, ◌≤◌, ◌^◌, Bool, true, false, cond, List, [], ◌∷◌, ◌++◌, length, take, get_or, Option, Some, None, option_map, refl, sym, ap, subst, ◌∙◌, arith, inl, inr}
 use Rattle.std.specs.Prelude.{nat_lt}
-use Rattle.std.proofs.lemmas.List.{length-take, length-take-le, get_or-take}
+use Rattle.std.proofs.lemmas.List.{length-take, get_or-take}
 use Rattle.std.proofs.Math.Seq.{take-suc}
-use Rattle.std.proofs.Math.Nat.{lt_of_not-le}
 use Rattle.ub_base.specs.declared.names.ObjName.{ObjName}
 use Rattle.ub_base.specs.declared.names.ObjName.TheVariants.{Static, Lit, Argv, Arg, Auto, Heap}
 use Rattle.addr_map.specs.declared.map.Row.{Row}
@@ -87,7 +86,7 @@ map_kept : (f : ℕ → ObjName) (b : Bool) (n : ℕ) (o : ObjName) → option_m
 map_kept f true n o is = cc
 map_kept f false n o is = absurd (cc)
 
-moved_moving : (name : ObjName) (by : ℕ) (moved : ObjName) → moved_name name by ≡ Some moved → moving moved ≡ moving name + by
+pub moved_moving : (name : ObjName) (by : ℕ) (moved : ObjName) → moved_name name by ≡ Some moved → moving moved ≡ moving name + by
 moved_moving (Static k) by moved is = ap moving (map_kept Static (nat_lt (k + by) (2 ^ 32)) (k + by) moved is)
 moved_moving (Lit k) by moved is = ap moving (map_kept Lit (nat_lt (k + by) (2 ^ 32)) (k + by) moved is)
 moved_moving Argv by moved is = absurd (cc)
@@ -114,7 +113,7 @@ parts_by (Some b) (Some n) size align row is =
     let same : record { name = n; base = b; size = size; align = align } ≡ row = cc in
     (ap (λ (r : Row). Some r.base) same, ap (λ (r : Row). Some r.name) same, ap (λ (r : Row). r.size) same, ap (λ (r : Row). r.align) same)
 
-row_parts : (first : Row) (stride : Stride) (at : ℕ) (row : Row) → row_at first stride at ≡ Some row
+pub row_parts : (first : Row) (stride : Stride) (at : ℕ) (row : Row) → row_at first stride at ≡ Some row
     → (kept (λ n. nat_lt n (2 ^ 63)) (first.base + at * stride.step) ≡ Some row.base) × (moved_name first.name (at * stride.raise) ≡ Some row.name)
     × (first.size ≡ row.size) × (first.align ≡ row.align)
 row_parts first stride at row is =

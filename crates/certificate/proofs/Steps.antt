@@ -40,7 +40,7 @@ at_view F xs i x within is =
 pub at_end : {Y : Type 0} (F : List Data → Y) (xs : List Value) (i : ℕ) → length xs ≤ i → F (map view (drop i xs)) ≡ F []
 at_end F xs i past = at_drop_all (λ ys. F (map view ys)) xs i past
 
-list_of-items_of : (ds : List Data) → list_of (items_of ds) ≡ ds
+pub list_of-items_of : (ds : List Data) → list_of (items_of ds) ≡ ds
 list_of-items_of [] = refl
 list_of-items_of (d ∷ ds) = ap (λ rest. d ∷ rest) (list_of-items_of ds)
 

@@ -1,5 +1,6 @@
 -- The form of a certificate (own). docs/CERTIFICATES.md says the same in words.
 use Rattle.std.specs.Prelude.{◌≡◌, ◌⊎◌, ℕ, ◌+◌, ◌^◌, ◌<◌, ◌≤◌, List, [], ◌∷◌, length, All, Option, Some, None, ⊤}
+use Rattle.hex.specs.Hex.{IsBytes}
 use Rattle.ub_base.specs.Frames.{IsFrameList}
 use Rattle.ub_base.specs.Frames as frames
 use Rattle.ub_base.specs.declared.names.Event.{Event}
@@ -95,6 +96,14 @@ IsClaimOf count (Undefined clause pair) = IsPairOf count pair
 IsClaimOf count (OrderDependent event against) = IsEventOf count event × IsEventOf count against
 IsClaimOf count OutOfSteps = ⊤
 IsClaimOf count (Outside cause number) = number < 2 ^ 63
+
+-- the output of a clean run is a list of bytes
+abbrev pub HasBytes : Claim → Type 0
+HasBytes (Clean status output) = IsBytes output
+HasBytes (Undefined clause pair) = ⊤
+HasBytes (OrderDependent event against) = ⊤
+HasBytes OutOfSteps = ⊤
+HasBytes (Outside cause number) = ⊤
 
 -- a certificate keeps the form of this version
 pub record HasForm (version : Version) (c : Cert) : Type 0 where

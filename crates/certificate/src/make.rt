@@ -1,7 +1,8 @@
 // The certificate of an audit.
-ghost use Rattle.std.specs.Prelude.{◌≤◌, ◌<◌, ◌+◌, ◌-◌, ◌^◌, IfOk, length};
+ghost use Rattle.std.specs.Prelude.{◌≡◌, ◌≤◌, ◌<◌, ◌+◌, ◌-◌, ◌^◌, IfOk, length};
+ghost use Rattle.certificate.specs.Making.{SameClaim, SameEvent, canonical_order};
 
-use crate::cert::{Cert, Claim, Segment};
+use crate::cert::{Cert, Claim, Rows, Segment, Segments};
 use addr_map::{AddrMap, Row};
 use std::alloc::Global;
 use ub_base::{Event, Frame, Frames, Items, NoMemory, ObjName};
@@ -17,7 +18,9 @@ impl Renaming {
         Frame(self.numbers.get(frame.0 as usize).copied().unwrap_or(0))
     }
 
-    fn event(&self, event: Event) -> Event {
+    fn event(&self, event: Event) -> Event
+        ensures { SameEvent event result }
+    {
         Event {
             frame: self.frame(event.frame),
             ..event
@@ -40,7 +43,9 @@ impl Renaming {
         }
     }
 
-    fn claim(&self, claim: Claim) -> Claim {
+    fn claim(&self, claim: Claim) -> Claim
+        ensures { SameClaim claim result }
+    {
         match claim {
             Claim::Undefined {
                 clause,
@@ -159,7 +164,9 @@ fn kept_number(
 }
 
 // The frames that are named, in their order, and their new numbers.
-fn renamed(alloc: Global, frames: &Frames, named: &[bool]) -> Result<(Frames, Renaming), NoMemory> {
+fn renamed(alloc: Global, frames: &Frames, named: &[bool]) -> Result<(Frames, Renaming), NoMemory>
+    ensures { IfOk result (λ made. length made.0 ≤ length frames.now) }
+{
     let mut kept = Frames::new(alloc);
     let mut numbers = vec![in alloc; 0u32]?;
     for at in 0..frames.len() {
@@ -184,6 +191,28 @@ fn rows_of(alloc: Global, map: &AddrMap) -> Result<Vec<Row>, NoMemory> {
     Ok(rows)
 }
 
+fn renamed_rows(alloc: Global, rows: &[Row], renaming: &Renaming) -> Result<Rows, NoMemory> {
+    let mut renamed = Items::new(alloc);
+    for row in rows {
+        renamed.push(Row {
+            name: renaming.name(row.name),
+            ..*row
+        })?;
+    }
+    Ok(renamed)
+}
+
+// So many picks of the canonical order.
+fn order_of(alloc: Global, picks: u64) -> Result<Segments, NoMemory>
+    ensures { IfOk result (λ order. order ≡ canonical_order picks) }
+{
+    let mut order = Items::new(alloc);
+    if picks > 0 {
+        order.push(Segment::Canonical(picks))?;
+    }
+    Ok(order)
+}
+
 /// The certificate of an audit that made this claim after so many picks of the canonical order, under this map and with
 /// these frames. The frames that a row or the claim names, and those that started them, keep their order.
 pub fn of_audit(
@@ -192,25 +221,19 @@ pub fn of_audit(
     picks: u64,
     map: &AddrMap,
     frames: &Frames,
-) -> Result<Cert, NoMemory> {
+) -> Result<Cert, NoMemory>
+    ensures frames { IfOk result (λ c. length c.frames ≤ length frames.now) }
+    ensures order { IfOk result (λ c. c.order ≡ canonical_order picks) }
+    // The claim is the one that was made, but for the numbers of its frames.
+    ensures claim { IfOk result (λ c. SameClaim claim c.claim) }
+{
     let rows = rows_of(alloc, map)?;
     let named = named_frames(alloc, &rows, &claim, frames)?;
     let (frames, renaming) = renamed(alloc, frames, &named)?;
-    let mut kept = Items::new(alloc);
-    for row in rows {
-        kept.push(Row {
-            name: renaming.name(row.name),
-            ..row
-        })?;
-    }
-    let mut order = Items::new(alloc);
-    if picks > 0 {
-        order.push(Segment::Canonical(picks))?;
-    }
     Ok(Cert {
         frames,
-        map: kept,
-        order,
+        map: renamed_rows(alloc, &rows, &renaming)?,
+        order: order_of(alloc, picks)?,
         claim: renaming.claim(claim),
     })
 }

@@ -1,7 +1,11 @@
 // The text of a certificate.
-ghost use Rattle.std.specs.Prelude.{◌≡◌, ◌⊎◌, ◌<◌, map, length, IfOk, OnOk};
+ghost use Rattle.std.specs.Prelude.{◌≡◌, ◌⊎◌, ◌<◌, map, length, codes, IfOk, OnOk};
 ghost use Rattle.serde_json.specs.Data.{string, put as with_member};
 ghost use Rattle.serde_json.specs.View.{view, members_view};
+ghost use Rattle.hex.specs.Hex.{IsBytes, encode_lower};
+ghost use Rattle.certificate.specs.declared.words.Version.TheVariants.{Two};
+ghost use Rattle.certificate.specs.Form.{HasBytes, HasForm};
+ghost use Rattle.certificate.specs.Reading.{States};
 ghost use Rattle.certificate.specs.Writing.{list, frame_entry, event_entry, pair_entry, row_entry, run_entry, IsAlone, IsRun, Packs, segment_entry, pair_list, value_of, IsTextOf};
 ghost use Rattle.certificate.specs.Members.{common, with_claim};
 
@@ -175,15 +179,24 @@ fn put_text(alloc: Global, members: &mut Members, name: &str, text: &str) -> Res
     put(members, alloc, name, Value::try_from_str(alloc, text)?)
 }
 
+// The digits of the output.
+fn put_output(alloc: Global, members: &mut Members, output: &[u8]) -> Result<(), AllocError>
+    ensures put { OnOk result (members_view members.new.entries ≡ with_member (codes "output") (string (encode_lower output.now)) (members_view members.old.entries)) }
+    ensures bytes { IsBytes output.now }
+{
+    let digits = hex::encode(alloc, output)?;
+    put(members, alloc, "output", Value::String(digits))
+}
+
 fn put_claim(alloc: Global, members: &mut Members, claim: &Claim) -> Result<(), AllocError>
-    ensures { OnOk result (members_view members.new.entries ≡ with_claim claim.now (members_view members.old.entries)) }
+    ensures put { OnOk result (members_view members.new.entries ≡ with_claim claim.now (members_view members.old.entries)) }
+    ensures bytes { OnOk result (HasBytes claim.now) }
 {
     match claim {
         Claim::Clean { status, output } => {
             put_text(alloc, members, "verdict", "clean")?;
             put(members, alloc, "status", Value::from(*status))?;
-            let digits = hex::encode(alloc, output.as_slice())?;
-            put(members, alloc, "output", Value::String(digits))
+            put_output(alloc, members, output.as_slice())
         }
         Claim::Undefined { clause, pair } => {
             put_text(alloc, members, "verdict", "undefined")?;
@@ -205,7 +218,8 @@ fn put_claim(alloc: Global, members: &mut Members, claim: &Claim) -> Result<(), 
 
 // The value of a certificate.
 fn value_of(alloc: Global, c: &Cert) -> Result<Value, AllocError>
-    ensures { IfOk result (λ value. (entries : _) × Packs c.now.map entries × (view value ≡ value_of c.now entries)) }
+    ensures value { IfOk result (λ value. (entries : _) × Packs c.now.map entries × (view value ≡ value_of c.now entries)) }
+    ensures bytes { IfOk result (λ value. HasBytes c.now.claim) }
 {
     let mut members = common(alloc, c)?;
     put_claim(alloc, &mut members, &c.claim)?;
@@ -215,6 +229,8 @@ fn value_of(alloc: Global, c: &Cert) -> Result<Value, AllocError>
 /// The text of a certificate, in version 2: compact, its members in the order of their names, with no line feed.
 pub fn to_json(alloc: Global, c: &Cert) -> Result<Bytes, NoMemory>
     ensures text { IfOk result (IsTextOf c.now) }
+    // The text of a certificate in the form states that certificate.
+    ensures states { IfOk result (λ text. HasForm Two c.now → States text c.now) }
 {
     let value = value_of(alloc, c)?;
     let text = value.to_string(alloc)?;

@@ -114,11 +114,6 @@ answer map (Settle id x c) s = tt
 answer map Take s = slice_get s.input s.position
 answer map (Print bs) s = tt
 
--- how many bytes are taken where the input gives this
-abbrev pub taken : Option ℕ → ℕ
-taken None = 0
-taken (Some byte) = 1
-
 -- the store after a touch
 abbrev pub left : Touch → Store → Store
 left (Ask x) s = s
@@ -129,7 +124,7 @@ left (Bury x) s = buried s x
 left (Show x) s = shown s x
 left (Find a) s = s
 left (Settle id x c) s = settled s id x
-left Take s = record s { position = s.position + taken (slice_get s.input s.position) }
+left Take s = record s { position = s.position + 1 }
 left (Print bs) s = record s { output = s.output ++ bs }
 
 -- what a touch that can't be made leaves

@@ -6,4 +6,6 @@ mod kinds;
 #[cfg(test)]
 mod layouts;
 #[cfg(test)]
+mod operators;
+#[cfg(test)]
 mod types;

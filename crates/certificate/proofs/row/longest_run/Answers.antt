@@ -1,5 +1,5 @@
 -- The first two rows determine the stride, and so the longest run.
-use Rattle.std.proofs.Common.{◌≡◌, ◌≤◌, Some, None, sym, ap, subst, ◌∙◌, arith}
+use Rattle.std.proofs.Common.{arith}
 use Rattle.certificate.proofs.Runs.{bound_by, few_rows, longest, no_stride, none_longer, there}
 use Rattle.certificate.proofs.row.longest_run.Goals as goal
 

@@ -1,5 +1,5 @@
 -- A row is the next one of the run, or the run stops before it.
-use Rattle.std.proofs.Common.{◌≡◌, true, false, Some, sym, ◌∙◌, arith, rules}
+use Rattle.std.proofs.Common.{◌≡◌, true, false, sym, ◌∙◌, arith, rules}
 use Rattle.certificate.proofs.Runs.{stands_more, stands_until, stands_within}
 use Rattle.certificate.proofs.row.run_len.Goals as goal
 

@@ -1,5 +1,5 @@
 -- One more entry, and all of them.
-use Rattle.std.proofs.Common.{◌≡◌, [], List, length, map, arith}
+use Rattle.std.proofs.Common.{◌≡◌, [], length, map, arith}
 use Rattle.std.proofs.lemmas.Grind.{common_steps}
 use Rattle.serde_json.proofs.Views.{view-Array}
 use Rattle.serde_json.specs.View.{view}

@@ -1,5 +1,5 @@
 -- The items, and the entries of the rows that are left, are the entries of all rows.
-use Rattle.std.proofs.Common.{◌≡◌, ◌≤◌, ◌+◌, List, ◌++◌, length, map}
+use Rattle.std.proofs.Common.{◌≤◌, ◌+◌, List, ◌++◌, length, map}
 use Rattle.serde_json.specs.Data.{Data}
 use Rattle.serde_json.specs.View.{view}
 use Rattle.certificate.specs.Writing.{Packs}

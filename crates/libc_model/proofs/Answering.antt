@@ -1,0 +1,120 @@
+-- Lemmas on what calls answer.
+use Rattle.std.proofs.Common.{◌≡◌, ◌≢◌, ℕ, zero, suc, ◌+◌, ◌<◌, ◌≤◌, ◌⊎◌, inl, inr, Bool, true, false, ◌&&◌, cond, min, List, [], ◌∷◌, ◌++◌, length, refl, ap, ap₂, sym, subst, ◌∙◌, arith, Option, Some, None, slice_get, get_or, length-append, ℤ, pos}
+use Rattle.std.specs.Prelude.{Result, Ok, Err, nat_lt, IsTrue, ◌^◌}
+use Rattle.std.proofs.lemmas.Bool.{le-ltb}
+use Rattle.std.proofs.lemmas.List.{append-nil}
+use Rattle.ub_base.specs.declared.clause.Clause.{Clause}
+use Rattle.ub_base.specs.declared.clause.Clause.TheVariants.{Free as FreeOfOther}
+use Rattle.ub_base.specs.declared.names.Item.{Item}
+use Rattle.ub_base.specs.declared.names.Event.{Event}
+use Rattle.addr_map.specs.declared.map.Row.{Row}
+use Rattle.exposure.specs.declared.prov.Prov.{Prov}
+use Rattle.exposure.specs.declared.prov.Prov.TheVariants.{Empty}
+use Rattle.c_types.specs.declared.kind.IntKind.TheVariants.{ULong}
+use Rattle.c_types.specs.Kinds.{holds}
+use Rattle.c_types.specs.declared.library.LibFunc.{LibFunc}
+use Rattle.c_types.specs.declared.library.LibFunc.TheVariants.{Malloc, Free}
+use Rattle.prov_memory.specs.declared.value.Value.{Value}
+use Rattle.prov_memory.specs.declared.value.Value.TheVariants.{Nothing}
+use Rattle.prov_memory.specs.declared.answer.LibAnswer.{LibAnswer}
+use Rattle.prov_memory.specs.declared.answer.LibAnswer.TheVariants as answers
+use Rattle.prov_memory.specs.Store.{Store}
+use Rattle.prov_memory.specs.Script.{Act, Done, Raised, Ended, Outside, Unplaced, Give, ◌>>◌, run}
+use Rattle.prov_memory.specs.Streams.{Io}
+use Rattle.prov_memory.specs.Memory.{Kept, HasCell}
+use Rattle.libc_spec.specs.Library.{LibValue, pointer, nothing, free, malloc, argument_at, pointer_in, address_in, prov_in, integer_in, size_of_value, output_within, created_within, called}
+use Rattle.libc_model.specs.Answers.{Does, Answers, IsCall, HaveCells, is_exact, are_sizes, clipped, given_value, answer_in}
+use Rattle.libc_model.proofs.Scripts.{then, behind, run_then, behind_done}
+
+clipped_same : (s : Store) → s.position ≤ length s.input → s ≡ clipped s
+clipped_same s h =
+    let e : s.position ≡ min s.position (length s.input) = omega (arith, h) in
+    ap (λ (p : ℕ). record s { position = p }) e
+
+output_kept : (v : LibValue) (is : List Item) (s : Store) → length s.output ≤ 2 ^ 24 → output_within (Done v is s) ≡ Done v is s
+output_kept v is s h = rw (le-ltb (2 ^ 24) (length s.output) h) refl
+
+-- a value by the act that gives it
+answers_done : (v : Value) (w : LibValue) (is js : List Item) (s u : Store) (act : Act LibValue) → act ≡ Done w js u → v ≡ given_value w → is ≡ js → s ≡ clipped u → Answers (answers.Value v) is s act
+answers_done v w is js s u act e value items store = subst (λ (act : Act LibValue). Answers (answers.Value v) is s act) (sym e) (value, items, store)
+
+-- a part of a call whose streams stay within their limits is the call
+pub answers_of : (r : Result Value LibAnswer) (is : List Item) (t : Store) (act : Act LibValue) → t.position ≤ length t.input → length t.output ≤ 2 ^ 24 →
+    Does given_value r is t act → Answers (answer_in r) is t (output_within act)
+answers_of (Ok v) is t (Done w js u) p o h =
+    let q : u.position ≤ length u.input = subst (λ (s : Store). s.position ≤ length s.input) h.2 p in
+    let l : length u.output ≤ 2 ^ 24 = subst (λ (s : Store). length s.output ≤ 2 ^ 24) h.2 o in
+    answers_done v w is js t u (output_within (Done w js u)) (output_kept w js u l) h.0 h.1 (h.2 ∙ clipped_same u q)
+answers_of (Err answers.NoMemory) is t act p o h = tt
+answers_of (Err (answers.Raise c)) is t (Raised d) p o h = h
+answers_of (Err (answers.Outside c n)) is t (Outside d k) p o h = h
+answers_of (Err answers.Unplaced) is t Unplaced p o h = tt
+answers_of r is t act p o h = absurd h
+
+-- ---- free
+freed : (s t : Store) (is : List Item) (act : Act (Unit {0})) → Does (λ u. u) (Ok tt) is t act →
+    Does given_value (Ok Nothing) is t (created_within 0 s (then act (λ v u. Done nothing [] u)))
+freed s t is (Done v js u) h =
+    subst (λ (act : Act LibValue). Does given_value (Ok Nothing) is t (created_within 0 s act)) (sym (behind_done js [] nothing u)) (refl, h.1 ∙ sym (append-nil js), h.2)
+freed s t is act h = absurd h
+
+not_freed : (s t : Store) (is : List Item) (a : LibAnswer) (act : Act (Unit {0})) → Does {A = Unit {0}} (λ u. u) (Err a) is t act →
+    Does given_value (Err a) is t (created_within 0 s (then act (λ v u. Done nothing [] u)))
+not_freed s t is answers.NoMemory act h = tt
+not_freed s t is (answers.Raise c) (Raised d) h = h
+not_freed s t is (answers.Outside c n) (Outside d k) h = h
+not_freed s t is answers.Unplaced Unplaced h = tt
+not_freed s t is a act h = absurd h
+
+pub freed_by : (rows : List Row) (a : ℕ) (prov : Prov) (c : Clause) (s t : Store) (is : List Item) → Does (λ u. u) (Ok tt) is t (run rows (free rows a prov c) s) →
+    Does given_value (Ok Nothing) is t (created_within 0 s (run rows (free rows a prov c >> Give nothing) s))
+freed_by rows a prov c s t is h =
+    subst (λ (act : Act LibValue). Does given_value (Ok Nothing) is t (created_within 0 s act)) (sym (run_then rows (free rows a prov c) (λ v. Give nothing) s)) (freed s t is (run rows (free rows a prov c) s) h)
+
+pub not_freed_by : (rows : List Row) (a : ℕ) (prov : Prov) (c : Clause) (s t : Store) (is : List Item) (r : LibAnswer) → Does {A = Unit {0}} (λ u. u) (Err r) is t (run rows (free rows a prov c) s) →
+    Does given_value (Err r) is t (created_within 0 s (run rows (free rows a prov c >> Give nothing) s))
+not_freed_by rows a prov c s t is r h =
+    subst (λ (act : Act LibValue). Does given_value (Err r) is t (created_within 0 s act)) (sym (run_then rows (free rows a prov c) (λ v. Give nothing) s)) (not_freed s t is r (run rows (free rows a prov c) s) h)
+
+-- ---- calls
+pub malloc_called : (rows : List Row) (vs : List LibValue) (who : Event) (n : ℕ) (s t : Store) (r : Result Value LibAnswer) (is : List Item) → t.position ≤ length t.input → length t.output ≤ 2 ^ 24 → n ≡ size_of_value (argument_at vs 0) →
+    Does given_value r is t (created_within n s (run rows (malloc rows who n) s)) → Answers (answer_in r) is t (called rows Malloc vs who s)
+malloc_called rows vs who n s t r is p o size h =
+    answers_of r is t (created_within (size_of_value (argument_at vs 0)) s (run rows (malloc rows who (size_of_value (argument_at vs 0))) s)) p o
+    (subst (λ (n : ℕ). Does given_value r is t (created_within n s (run rows (malloc rows who n) s))) size h)
+
+address_is : (a b : ℕ) (p q : Prov) → pointer a p ≡ pointer b q → (a ≡ b) × (p ≡ q)
+address_is a b p q e = (cc, cc)
+
+pub free_called : (rows : List Row) (vs : List LibValue) (who : Event) (a : ℕ) (p : Prov) (s t : Store) (is : List Item) → t.position ≤ length t.input → length t.output ≤ 2 ^ 24 → pointer a p ≡ pointer_in (argument_at vs 0) →
+    Does (λ u. u) (Ok tt) is t (run rows (free rows a p FreeOfOther) s) → Answers (answers.Value Nothing) is t (called rows Free vs who s)
+free_called rows vs who a p s t is place out same h =
+    let q = address_is a (address_in (argument_at vs 0)) p (prov_in (argument_at vs 0)) same in
+    answers_of (Ok Nothing) is t (created_within 0 s (run rows (free rows (address_in (argument_at vs 0)) (prov_in (argument_at vs 0)) FreeOfOther >> Give nothing) s)) place out
+    (freed_by rows (address_in (argument_at vs 0)) (prov_in (argument_at vs 0)) FreeOfOther s t is
+    (subst (λ (a : ℕ). Does (λ u. u) (Ok tt) is t (run rows (free rows a (prov_in (argument_at vs 0)) FreeOfOther) s)) q.0 (subst (λ (p : Prov). Does (λ u. u) (Ok tt) is t (run rows (free rows a p FreeOfOther) s)) q.1 h)))
+
+pub free_refused : (rows : List Row) (vs : List LibValue) (who : Event) (a : ℕ) (p : Prov) (s t : Store) (is : List Item) (r : LibAnswer) → t.position ≤ length t.input → length t.output ≤ 2 ^ 24 → pointer a p ≡ pointer_in (argument_at vs 0) →
+    Does {A = Unit {0}} {B = Unit {0}} (λ u. u) (Err r) is t (run rows (free rows a p FreeOfOther) s) → Answers r is t (called rows Free vs who s)
+free_refused rows vs who a p s t is r place out same h =
+    let q = address_is a (address_in (argument_at vs 0)) p (prov_in (argument_at vs 0)) same in
+    answers_of (Err r) is t (created_within 0 s (run rows (free rows (address_in (argument_at vs 0)) (prov_in (argument_at vs 0)) FreeOfOther >> Give nothing) s)) place out
+    (not_freed_by rows (address_in (argument_at vs 0)) (prov_in (argument_at vs 0)) FreeOfOther s t is r
+    (subst (λ (a : ℕ). Does {A = Unit {0}} {B = Unit {0}} (λ u. u) (Err r) is t (run rows (free rows a (prov_in (argument_at vs 0)) FreeOfOther) s)) q.0 (subst (λ (p : Prov). Does {A = Unit {0}} {B = Unit {0}} (λ u. u) (Err r) is t (run rows (free rows a p FreeOfOther) s)) q.1 h)))
+
+-- the first pointer's ambiguity is one of the memory
+pub first_cell : (m : Kept) (vs : List LibValue) (a : ℕ) (p : Prov) → HaveCells m vs → pointer a p ≡ pointer_in (argument_at vs 0) → HasCell m p
+first_cell m [] a p have e = subst (λ (q : Prov). HasCell m q) (sym (address_is a 0 p Empty e).1) tt
+first_cell m (v ∷ vs) a p have e = subst (λ (q : Prov). HasCell m q) (sym (address_is a (address_in v) p (prov_in v) e).1) have.0
+
+size_there : (b : Bool) → b && true ≡ true → IsTrue b
+size_there true e = refl
+size_there false e = absurd (cc)
+
+pub first_size : (vs : List LibValue) → are_sizes vs (0 ∷ []) ≡ true → IsTrue (holds ULong (integer_in (argument_at vs 0)))
+first_size vs e = size_there (holds ULong (integer_in (argument_at vs 0))) e
+
+-- what holds of a call of a function holds where the function is known to be it
+pub arm : (f g : LibFunc) (rows : List Row) (vs : List LibValue) (who : Event) (m : Kept) (io : Io) (a : LibAnswer) (is : List Item) (s u : Store) → f ≡ g →
+    (IsCall g vs m io → Answers a is s (called rows g vs who u)) → is_exact f ≡ true → IsCall f vs m io → Answers a is s (called rows f vs who u)
+arm f g rows vs who m io a is s u e h = λ exact. subst (λ (k : LibFunc). IsCall k vs m io → Answers a is s (called rows k vs who u)) (sym e) h
