@@ -177,7 +177,7 @@ byte_longer states.Unwritten ps p c e = refl
 byte_longer states.Plain ps p c e = refl
 byte_longer states.Piece ps p c e = ap (λ (q : Prov). written c.number (Some (q, c.piece_index))) (prov_longer ps p c.origin.number e)
 
-known_at : (n : ℕ) (cs : List Cell) (at : ℕ) → CellsKnown n cs → (cell_at cs at).origin.number ≤ n
+pub known_at : (n : ℕ) (cs : List Cell) (at : ℕ) → CellsKnown n cs → (cell_at cs at).origin.number ≤ n
 known_at n [] at known = omega arith
 known_at n (c ∷ cs) zero known = known.0
 known_at n (c ∷ cs) (suc at) known = known_at n cs at known.1
@@ -190,7 +190,7 @@ known_split : (n : ℕ) (b : Bool) (h : Held) (o : Option Held) → CellsKnown n
 known_split n true h o here there = here
 known_split n false h o here there = there
 
-known_held : (n : ℕ) (hs : List Held) (y : ObjName) → ObjectsKnown n hs → KnownIn n (held_of hs y)
+pub known_held : (n : ℕ) (hs : List Held) (y : ObjName) → ObjectsKnown n hs → KnownIn n (held_of hs y)
 known_held n [] y known = tt
 known_held n (h ∷ hs) y known = known_split n (same_object h.name y) h (held_of hs y) known.0 (known_held n hs y known.1)
 

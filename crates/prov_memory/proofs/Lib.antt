@@ -2,6 +2,12 @@ pub mod HeldLemmas
 pub mod StoreLemmas
 pub mod ActLemmas
 pub mod CellLemmas
+pub mod ProvLemmas
+pub mod SettleLemmas
+pub mod FindLemmas
+pub mod PieceLemmas
+pub mod NearLemmas
+pub mod CompareLemmas
 pub mod AccessLemmas
 pub mod AgreementLemmas
 pub mod WriteLemmas

@@ -7,4 +7,7 @@ pub mod Streams
 pub mod Cells
 pub mod Held
 pub mod Memory
+pub mod Made
+pub mod Comparing
+pub mod Pieces
 pub mod Stores

@@ -1,5 +1,6 @@
 // Bytes as they stand in memory: 12 bytes of the host for each.
 ghost use Rattle.std.specs.Prelude.{◌≡◌};
+ghost use Rattle.prov_memory.specs.Pieces.{low_bits};
 
 use c_types::IntKind;
 
@@ -247,7 +248,9 @@ pub(crate) fn byte_at(addr: u64, index: u8) -> u8 {
 }
 
 /// The number modulo 2^64.
-pub(crate) fn low_bits(value: i128) -> u64 {
+pub(crate) fn low_bits(value: i128) -> u64
+    ensures { result ≡ low_bits value }
+{
     let low = value.rem_euclid(0x1_0000_0000_0000_0000);
     u64::try_from(low).unwrap_or(0)
 }

@@ -8,6 +8,7 @@ mod cell;
 mod memory;
 mod object;
 mod objects;
+mod origins;
 mod streams;
 mod touched;
 mod types;

@@ -8,6 +8,7 @@ ghost use Rattle.prov_memory.specs.Streams.{Io};
 ghost use Rattle.prov_memory.specs.Cells.{prov_numbered};
 ghost use Rattle.prov_memory.specs.Held.{Fits, held_of, name_at};
 ghost use Rattle.prov_memory.specs.Memory.{Kept, empty, store_of, state_in, byte_in_object};
+ghost use Rattle.prov_memory.specs.Made.{AreNamed, IsMade};
 
 mod access;
 mod arith;
@@ -19,13 +20,13 @@ mod store;
 use crate::cell::Cell;
 use crate::object::Object;
 use crate::objects::Objects;
+use crate::origins::Origins;
 use crate::types::{self, kind_id};
 use crate::{CreateFault, MemByte, ObjKind, ObjState, Origin, Touched, TypeId};
 use addr_map::{AddrMap, Mode};
 use c_types::{Shape, Ty, copied};
 use exposure::{Narrowed, Prov};
 use std::alloc::Global;
-use std::collections::BTreeMap;
 use std::marker::Model;
 use std::rc::Rc;
 use ub_base::{Event, Item, NoMemory, ObjName};
@@ -38,9 +39,7 @@ pub struct Memory {
     mode: Option<Mode>,
     map: AddrMap,
     objects: Objects,
-    // the provenances of numbers 1, 2 ..
-    origins: Vec<Prov>,
-    ambiguities: BTreeMap<Prov, u32>,
+    origins: Origins,
     narrowed: Narrowed,
     // the types of numbers 13, 14 ..
     types: Vec<Ty>,
@@ -60,7 +59,7 @@ impl Model for Memory {
     ghost view = { λ m. record {
       objects = m.objects;
       rows = m.map;
-      origins = m.origins.items;
+      origins = m.origins;
       cells = m.narrowed;
       types = m.types.items;
       created = m.created;
@@ -93,8 +92,7 @@ impl Memory {
             mode,
             map,
             objects: Objects::new(alloc),
-            origins: Vec::new(alloc),
-            ambiguities: BTreeMap::new(alloc),
+            origins: Origins::new(alloc),
             narrowed: Narrowed::new(alloc),
             types: Vec::new(alloc),
             created: 0,
@@ -133,7 +131,6 @@ impl Memory {
             map,
             objects: _,
             origins: _,
-            ambiguities: _,
             narrowed: _,
             types: _,
             created: _,
@@ -188,13 +185,7 @@ impl Memory {
     pub fn prov(&self, origin: Origin) -> Prov
         ensures { result ≡ prov_numbered self.now.origins origin.number }
     {
-        if origin.number == 0 {
-            return Prov::Empty;
-        }
-        self.origins
-            .get(origin.number as usize - 1)
-            .copied()
-            .unwrap_or(Prov::Empty)
+        self.origins.prov(origin)
     }
 
     /// The number of a scalar type, so that tags can name it.
@@ -223,7 +214,9 @@ impl Memory {
     }
 
     // The number of a provenance that was made in this memory, the empty one's for another.
-    fn origin_of(&self, prov: Prov) -> Origin {
+    fn origin_of(&self, prov: Prov) -> Origin
+        ensures { AreNamed self.now → IsMade self.now prov → prov_numbered self.now.origins result.number ≡ prov }
+    {
         match prov {
             Prov::Empty => Origin::EMPTY,
             Prov::Whole(name) => match self.seek(name) {
@@ -231,12 +224,8 @@ impl Memory {
                 Some(object) => object.origin,
             },
             Prov::Either { .. } => Origin {
-                number: self.ambiguities.get(&prov).copied().unwrap_or(0),
+                number: self.origins.number(prov).unwrap_or(0),
             },
         }
-    }
-
-    fn next_origin(&self) -> Option<u32> {
-        u32::try_from(self.origins.len().saturating_add(1)).ok()
     }
 }

@@ -1,5 +1,5 @@
 // Objects.
-ghost use Rattle.std.specs.Prelude.{◌≡◌, ℕ, ◌+◌, ◌≤◌, max, length, true, vec_len, vec_capacity};
+ghost use Rattle.std.specs.Prelude.{◌≡◌, ℕ, ◌+◌, ◌≤◌, ◌+ℤ◌, ◌&&◌, pos, int_le, max, length, true, vec_len, vec_capacity};
 ghost use Rattle.prov_memory.specs.Cells.{byte_of, cell_at, cell_left, cell_put};
 
 use crate::cell::Cell;
@@ -93,12 +93,11 @@ impl Object {
         self.base <= addr && len <= self.size && addr - self.base <= self.size - len
     }
 
-    /// Whether the address lies in the object or one past it.
-    pub fn is_near(&self, addr: i128) -> bool
-        ensures { result ≡ is_near self.now addr }
+    /// Whether the address lies in the object or one past it once it has moved.
+    pub fn is_near(&self, addr: u64, by: i128) -> bool
+        ensures { result ≡ is_near self.now (pos addr +ℤ by) }
     {
-        let start = i128::from(self.base);
-        start <= addr && addr <= start + i128::from(self.size)
+        is_within(self.base, self.size, addr, by)
     }
 
     /// The bytes of a range that was written to its end.
@@ -142,6 +141,14 @@ impl Object {
         reach(&mut self.cells, start + cells.len());
         put_cells(&mut self.cells, start, is_declared, via, cells);
     }
+}
+
+/// Whether the address lies in a range or one past it once it has moved.
+pub(crate) fn is_within(base: u64, size: u64, addr: u64, by: i128) -> bool
+    ensures { result ≡ (int_le (pos base) (pos addr +ℤ by) && int_le (pos addr +ℤ by) (pos (base + size))) }
+{
+    let start = i128::from(base) - i128::from(addr);
+    start <= by && by <= start + i128::from(size)
 }
 
 /// Bytes that were never reached before `end` count as unwritten ones from now on.

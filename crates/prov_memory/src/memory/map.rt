@@ -10,6 +10,7 @@ ghost use Rattle.prov_memory.specs.Acts.{candidates};
 ghost use Rattle.prov_memory.specs.Script.{run, Done};
 ghost use Rattle.prov_memory.specs.Streams.{Io};
 ghost use Rattle.prov_memory.specs.Held.{changed, uncovered};
+ghost use Rattle.prov_memory.specs.Made.{AreNamed};
 ghost use Rattle.prov_memory.specs.Memory.{store_of, uncovered_each, AreKnown, IsBorn, cannot_create, no_place, base_by, rows_with};
 
 use super::*;
@@ -29,6 +30,7 @@ impl Memory {
     ) -> Result<u64, CreateFault>
         ensures exact { IfOk result (λ base. AreKnown self.old → (io : Io) → run self.new.rows (acts.create self.new.rows name size align kind (option_map (λ shape. form_of shape.value) declared)) (store_of self.old io) ≡ Done base t.new (store_of self.new io)) }
         ensures known { AreKnown self.old → OnOk result (AreKnown self.new) }
+        ensures named { AreNamed self.old → OnOk result (AreNamed self.new) }
         ensures created { OnOk result (self.new.created ≡ min (self.old.created + max size 16) (2 ^ 62)) }
         ensures base { IfOk result (λ base. base ≡ base_by (row_of self.old.rows name) self.old.mode self.old.rows align) }
         ensures rows { IfOk result (λ base. self.new.rows ≡ rows_with (row_of self.old.rows name) (row_at name base size align) self.old.rows) }
@@ -49,6 +51,7 @@ impl Memory {
         t: &mut Touched,
     ) -> Result<u64, CreateFault>
         ensures born { IfOk result (λ base. IsBorn self.old self.new name base size align kind (option_map (λ shape. shape.value) declared)) }
+        ensures named { AreNamed self.old → OnOk result (AreNamed self.new) }
         ensures items { OnOk result (t.new ≡ Born name ∷ []) }
         ensures base { IfOk result (λ base. base ≡ base_by (row_of self.old.rows name) self.old.mode self.old.rows align) }
         ensures rows { IfOk result (λ base. self.new.rows ≡ rows_with (row_of self.old.rows name) (row_at name base size align) self.old.rows) }
@@ -60,14 +63,12 @@ impl Memory {
         if self.seek(name).is_some() {
             return Err(CreateFault::Unplaced);
         }
-        let Some(number) = self.next_origin() else {
-            return Err(CreateFault::NoMemory);
-        };
         let Ok(room) = usize::try_from(size) else {
             return Err(CreateFault::NoMemory);
         };
         let cells = Vec::with_capacity(self.alloc, room).map_err(NoMemory::from)?;
         let base = self.base_for(name, size, align)?;
+        let origin = self.origins.add_object(name)?;
         let object = Object {
             name,
             base,
@@ -78,12 +79,10 @@ impl Memory {
                 kind,
             },
             declared,
-            origin: Origin { number },
+            origin,
             cells,
         };
-        self.origins.reserve(1).map_err(NoMemory::from)?;
         self.objects.add(object)?;
-        self.origins.push_reserved(Prov::Whole(name));
         self.created = counted(self.created, size);
         t.note(Item::Born(name));
         Ok(base)
@@ -118,6 +117,7 @@ impl Memory {
     /// The object dies, where it was created. Its bytes count as unwritten from now on.
     pub fn kill(&mut self, name: ObjName, t: &mut Touched)
         ensures known { AreKnown self.old → AreKnown self.new }
+        ensures named { AreNamed self.old → AreNamed self.new }
         ensures rows { self.new.rows ≡ self.old.rows }
         ensures exact { (io : Io) → run self.new.rows (acts.kill name) (store_of self.old io) ≡ Done tt t.new (store_of self.new io) }
     {
@@ -129,6 +129,7 @@ impl Memory {
     /// Makes all bytes of the object unwritten, where it was created.
     pub fn unwrite(&mut self, name: ObjName, t: &mut Touched)
         ensures known { AreKnown self.old → AreKnown self.new }
+        ensures named { AreNamed self.old → AreNamed self.new }
         ensures exact { (io : Io) → run self.new.rows (acts.unwrite self.new.rows name) (store_of self.old io) ≡ Done tt t.new (store_of self.new io) }
     {
         t.clear();
@@ -157,6 +158,7 @@ impl Memory {
     /// Exposes each object of the provenance.
     pub fn expose(&mut self, prov: Prov, t: &mut Touched)
         ensures known { AreKnown self.old → AreKnown self.new }
+        ensures named { AreNamed self.old → AreNamed self.new }
         ensures exact { (io : Io) → run self.new.rows (acts.expose prov) (store_of self.old io) ≡ Done tt t.new (store_of self.new io) }
     {
         t.clear();

@@ -1,7 +1,12 @@
 // Values from bytes and bytes of values.
+ghost use Rattle.std.specs.Prelude.{◌≡◌, List, map, IfOk};
+ghost use Rattle.c_types.specs.Types.{CType};
+ghost use Rattle.prov_memory.specs.Cells.{tagged_in};
+ghost use Rattle.prov_memory.specs.Made.{AreNamed, IsMade};
+ghost use Rattle.prov_memory.specs.Pieces.{IsMadeValue, seen, value_bytes, number_bytes, pointer_bytes, piece_cells, plain_cells};
 
 use super::*;
-use crate::cell::{State, byte_at, low_bits, number_of, pointer_in, value_of};
+use crate::cell::{State, low_bits, number_of, pointer_in, value_of};
 use crate::{Block, MemFault, Value};
 use c_types::IntKind;
 use ub_base::Clause;
@@ -74,8 +79,10 @@ impl Memory {
         Ok(Value::Ptr { addr: number, prov })
     }
 
-    /// The bytes of a value: `size` bytes of an integer, eight of a pointer, those of a structure or union.
-    pub fn bytes_of(&self, alloc: Global, v: &Value, size: u64) -> Result<Block, NoMemory> {
+    /// The bytes of a value: `size` bytes of an integer, but at most eight, eight of a pointer, those of a structure or union.
+    pub fn bytes_of(&self, alloc: Global, v: &Value, size: u64) -> Result<Block, NoMemory>
+        ensures { AreNamed self.now → IsMadeValue self.now v.now → IfOk result (λ b. seen self.now b.cells ≡ value_bytes self.now size v.now) }
+    {
         match v {
             Value::Int(number) => plain_bytes(alloc, low_bits(*number), size.min(8)),
             Value::Ptr { addr, prov } => self.pieces_of(alloc, *addr, *prov),
@@ -86,23 +93,42 @@ impl Memory {
     }
 
     // The eight pieces of a pointer.
-    fn pieces_of(&self, alloc: Global, addr: u64, prov: Prov) -> Result<Block, NoMemory> {
-        let origin = self.origin_of(prov);
-        let mut cells = Vec::with_capacity(alloc, 8)?;
-        for index in 0..8u8 {
-            cells.push(Cell::piece(byte_at(addr, index), origin, index))?;
-        }
+    fn pieces_of(&self, alloc: Global, addr: u64, prov: Prov) -> Result<Block, NoMemory>
+        ensures { AreNamed self.now → IsMade self.now prov → IfOk result (λ b. seen self.now b.cells ≡ pointer_bytes 8 0 prov addr) }
+    {
+        let cells = piece_cells(alloc, addr, self.origin_of(prov))?;
         Ok(Block::of_cells(cells, None))
     }
 }
 
-// The little-endian bytes of a number.
-fn plain_bytes(alloc: Global, number: u64, size: u64) -> Result<Block, NoMemory> {
+fn piece_cells(alloc: Global, addr: u64, origin: Origin) -> Result<Vec<Cell>, NoMemory>
+    ensures { IfOk result (λ cells. cells.items ≡ piece_cells 8 0 origin addr) }
+{
     let mut cells = Vec::with_capacity(alloc, 8)?;
+    let mut rest = addr;
     for index in 0..8u8 {
-        if u64::from(index) < size {
-            cells.push(Cell::plain(byte_at(number, index)))?;
-        }
+        cells.push(Cell::piece((rest % 256) as u8, origin, index))?;
+        rest /= 256;
     }
+    Ok(cells)
+}
+
+// The `count` lowest bytes of a number.
+fn plain_bytes(alloc: Global, number: u64, count: u64) -> Result<Block, NoMemory>
+    ensures { IfOk result (λ b. (ps : List Prov) (ts : List CType) → map (tagged_in ps ts) b.cells ≡ number_bytes count number) }
+{
+    let cells = plain_cells(alloc, number, count)?;
     Ok(Block::of_cells(cells, None))
+}
+
+fn plain_cells(alloc: Global, number: u64, count: u64) -> Result<Vec<Cell>, NoMemory>
+    ensures { IfOk result (λ cells. cells.items ≡ plain_cells count number) }
+{
+    let mut cells = Vec::with_capacity(alloc, 8)?;
+    let mut rest = number;
+    for index in 0..count {
+        cells.push(Cell::plain((rest % 256) as u8))?;
+        rest /= 256;
+    }
+    Ok(cells)
 }

@@ -1,6 +1,7 @@
 use Rattle.std.proofs.Common.{length}
 use Rattle.prov_memory.specs.Acts.{candidates}
 use Rattle.prov_memory.proofs.ActLemmas.{first_noted_all, exposed_act, known_uncovered}
+use Rattle.prov_memory.proofs.PieceLemmas.{named_uncovered}
 use Rattle.prov_memory.proofs.memory.Memory.expose.Goals as goal
 
 pub returns-clause-exact : goal.returns-clause-exact
@@ -10,3 +11,7 @@ returns-clause-exact c =
 pub returns-clause-known : goal.returns-clause-known
 returns-clause-known c = λ known.
     rw c.show_each.ensures.shown (known_uncovered (length c.args.self.now.origins) (candidates c.args.prov) c.args.self.now.objects known)
+
+pub returns-clause-named : goal.returns-clause-named
+returns-clause-named c = λ named.
+    rw c.show_each.ensures.shown (named_uncovered c.args.self.now.origins (candidates c.args.prov) c.args.self.now.objects named)

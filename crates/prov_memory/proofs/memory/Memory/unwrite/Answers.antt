@@ -1,8 +1,10 @@
-use Rattle.std.proofs.Common.{sym, subst, List, [], length}
+use Rattle.std.proofs.Common.{refl, sym, subst, List, [], length}
 use Rattle.std.proofs.Common.{◌≡◌, ◌∷◌, ◌∙◌, ap, arith}
 use Rattle.ub_base.specs.declared.names.Item.{Item}
 use Rattle.ub_base.specs.declared.names.Item.TheVariants.{Alive, Write}
-use Rattle.prov_memory.specs.Held.{Held}
+use Rattle.prov_memory.specs.Held.{Held, emptied}
+use Rattle.prov_memory.specs.Made.{EachNamed, AreNamed}
+use Rattle.prov_memory.proofs.PieceLemmas.{named_changed}
 use Rattle.prov_memory.specs.Memory.{HaveRows, ObjectsKnown, AreKnown, Kept}
 use Rattle.prov_memory.specs.contracts.memory.Memory.{the_view}
 use Rattle.prov_memory.proofs.StoreLemmas.{rows_emptied}
@@ -23,4 +25,9 @@ returns-clause-exact c = λ io.
 pub returns-clause-known : goal.returns-clause-known
 returns-clause-known c = λ known.
     let before : AreKnown (the_view c.self.inside) = subst (λ (m : Kept). AreKnown m) (sym c.self.view_is) known in
-    rw c.unwrite.ensures (known_emptied (length c.self.inside.origins.items) c.args.name c.self.inside.objects before)
+    rw c.unwrite.ensures (known_emptied (length c.self.inside.origins) c.args.name c.self.inside.objects before)
+
+pub returns-clause-named : goal.returns-clause-named
+returns-clause-named c = λ named.
+    let before : AreNamed (the_view c.self.inside) = subst (λ (m : Kept). AreNamed m) (sym c.self.view_is) named in
+    rw c.unwrite.ensures (named_changed c.self.inside.origins emptied c.args.name c.self.inside.objects (λ h. refl) (λ h. refl) before)

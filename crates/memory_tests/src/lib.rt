@@ -1,0 +1,11 @@
+//! Sequences of calls of memory against values that were worked out from the definitions of its acts.
+#![tactic(auto)]
+
+#[cfg(test)]
+mod accesses;
+#[cfg(test)]
+mod call;
+#[cfg(test)]
+mod placement;
+#[cfg(test)]
+mod pointers;

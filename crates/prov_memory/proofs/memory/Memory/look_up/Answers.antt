@@ -1,0 +1,6 @@
+use Rattle.prov_memory.proofs.FindLemmas.{look_up_created}
+use Rattle.prov_memory.proofs.memory.Memory.look_up.Goals as goal
+
+pub returns-clause-value : goal.returns-clause-value
+returns-clause-value c =
+    c.in_ok-make.ensures.made (look_up_created c.args.self.now c.args.who c.choose-prov.result c.covering-inside.result.0 c.covering-inside.result.1 c.found.result c.found-2.result c.found.ensures c.found-2.ensures c.choose-prov.ensures)

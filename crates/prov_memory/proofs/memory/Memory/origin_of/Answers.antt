@@ -1,0 +1,12 @@
+use Rattle.std.proofs.Common.{◌≡◌, ◌∙◌, ℕ, sym, ap}
+use Rattle.prov_memory.specs.Cells.{prov_numbered}
+use Rattle.prov_memory.specs.Held.{Held}
+use Rattle.prov_memory.proofs.PieceLemmas.{named_held}
+use Rattle.prov_memory.proofs.memory.Memory.origin_of.Goals as goal
+
+pub returns-in-Some : goal.returns-in-Some
+returns-in-Some c = λ named made.
+    let at : c.object.inside.origin.number ≡ c.in-Some.object.now.origin.number = ap (λ (h : Held). h.origin.number) c.object.view_is in
+    ap (λ (n : ℕ). prov_numbered c.args.self.now.origins n) at
+    ∙ named_held c.args.self.now.origins c.args.self.now.objects c.in-Whole.name c.in-Some.object.now named (sym c.in-Some.ensures.object)
+    ∙ sym c.in-Whole.is
