@@ -5,3 +5,4 @@ pub mod CellLemmas
 pub mod AccessLemmas
 pub mod AgreementLemmas
 pub mod WriteLemmas
+pub mod LoadLemmas

@@ -8,3 +8,4 @@ pub mod Cells
 pub mod Held
 pub mod Memory
 pub mod Stores
+pub mod Loads
