@@ -13,6 +13,3 @@ mod weigh;
 mod words;
 
 pub use top::audit_main;
-
-#[cfg(test)]
-mod tests;

@@ -2,11 +2,10 @@
 ghost use Rattle.std.specs.Prelude.{◌≡◌, true, IfOk};
 ghost use Rattle.cert_check.specs.Parts.{NamesRace};
 
-use crate::answer::Halt;
 use crate::findings::Findings;
-use crate::machine::{Machine, Told};
 use crate::pair::{Pair, Sought};
 use certificate::Claim;
+use check_run::{Halt, Machine, Told};
 use std::alloc::Global;
 use ub_base::{Cause, Clause, NoMemory};
 

@@ -1,7 +1,7 @@
 // Whether a canonical order has a finding: the open evaluations, as the picks are told.
 
-use crate::code::Expression;
-use crate::machine::{Machine, Open, Taking, Told};
+use check_run::{Machine, Open, Taking, Told};
+use check_steps::Expression;
 use evaluations::{Evaluations, Rule, Rules};
 use std::alloc::Global;
 use ub_base::{Event, Frame, NoMemory};

@@ -2,20 +2,9 @@
 #![tactic(auto)]
 
 mod answer;
-mod blocks;
-mod bodies;
 mod claim;
-mod code;
-mod control;
-mod draft;
-mod events;
 mod findings;
-mod machine;
 mod pair;
-mod picks;
-mod prepare;
-mod statements;
-mod trees;
 mod verdict;
 
 pub use answer::{Answer, Part};

@@ -1,9 +1,9 @@
 // What two named evaluations of a run touch, and how they stand to one another.
 
-use crate::code::{Expression, Listed};
-use crate::machine::{Machine, Open, Taking, Told, Work};
 use addr_map::AddrMap;
 use c_typed::Place;
+use check_run::{Machine, Open, Taking, Told, Work};
+use check_steps::{Expression, Listed};
 use footprint::{Foot, conflicts, races};
 use seq_order::{Relation, relation};
 use std::alloc::Global;

@@ -4,15 +4,13 @@ ghost use Rattle.cert_check.specs.declared.answer.Answer.TheVariants.{Yes, No};
 ghost use Rattle.cert_check.specs.declared.answer.Part.TheVariants.{Map};
 ghost use Rattle.cert_check.specs.Parts.{NamesRace, added, is_formed, is_none, is_of_form, is_one, is_within, picks_of};
 
-use crate::answer::{Answer, Halt, Part};
+use crate::answer::{Answer, Part};
 use crate::claim::{Course, Witness, claim_holds};
-use crate::control::MOST_CREATED;
-use crate::machine::{Machine, Told};
-use crate::prepare::{Setting, prepare};
-use crate::statements::code_of;
 use addr_map::{AddrMap, Row};
 use c_typed::{Place, Program};
 use certificate::{Cert, Claim, Segment};
+use check_run::{Halt, MOST_CREATED, Machine, Setting, Told, prepare};
+use check_steps::code_of;
 use node_acts::start_bytes;
 use std::alloc::Global;
 use ub_base::{Cause, NoMemory, ObjName};

@@ -1,8 +1,7 @@
-// Reports and statuses of whole calls.
-use crate::audit_main;
-use std::alloc::{AllocError, Global};
+// Reports and statuses of audits and of other calls.
+
+use crate::calls::{called, files_of, holds, is_kept, sink_of};
 use std::test::Fail;
-use ub_base::{Fetched, Files, MemFiles, MemSink, NoMemory};
 
 // A source under the name `f.c`, and the status and the report of its audit.
 const SOURCES: [(&str, u8, &str); 31] = [
@@ -119,8 +118,20 @@ const SOURCES: [(&str, u8, &str); 31] = [
     (" @", 11, "lex stray 1\n"),
 ];
 
-// Words, and the status and the report of the call. The file `zero.c` returns 0, and `f.c` the number of its arguments.
-const COMMANDS: [(&[&str], u8, &str); 16] = [
+// The texts of the files that the words below name: `zero.c` returns 0, `f.c` the number of its arguments, and the
+// certificate `c` holds for `zero.c`.
+const FILES: [(&str, &str); 7] = [
+    ("-", "int main(void){return 7;}"),
+    ("zero.c", "int main(void){return 0;}"),
+    ("f.c", "int main(int argc,char**argv){return argc;}"),
+    ("open.c", "/*"),
+    ("part.c", "int x"),
+    ("c", CERTIFICATE),
+    ("i", ""),
+];
+
+// Words, and the status and the report of the call. Of a source that has no program no certificate is read.
+const COMMANDS: [(&[&str], u8, &str); 25] = [
     (&[], 10, "usage\n"),
     (&["audit"], 10, "usage\n"),
     (&["audit", "-f.c"], 10, "usage\n"),
@@ -139,7 +150,7 @@ const COMMANDS: [(&[&str], u8, &str); 16] = [
     ),
     (&["audit", "zero.c", "--steps", "3"], 3, "out of steps 3\n"),
     (
-        &["audit", "zero.c", "--cert", "c"],
+        &["audit", "zero.c", "--cert", "kept"],
         0,
         "clean\nexit 0\noutput 0\n",
     ),
@@ -153,69 +164,24 @@ const COMMANDS: [(&[&str], u8, &str); 16] = [
         0,
         "self 1 2\nsource 120\nclean\nexit 1\noutput 0\n",
     ),
+    (&["check", "zero.c", "c"], 0, "yes\n"),
+    (&["check", "zero.c", "c", "--input", "i", "x"], 0, "yes\n"),
+    (&["check", "zero.c"], 10, "usage\n"),
+    (&["check", "absent", "absent"], 20, "read fault\n"),
+    (&["check", "zero.c", "absent"], 20, "read fault\n"),
+    (
+        &["check", "zero.c", "c", "--input", "absent"],
+        20,
+        "read fault\n",
+    ),
+    (&["check", "open.c", "f.c"], 11, "lex open literal 0\n"),
+    (&["check", "part.c", "f.c"], 12, "syntax token 2 line 1\n"),
+    (&["check", "zero.c", "f.c"], 16, "bad certificate json\n"),
 ];
 
-// What the audit of `zero.c` keeps as its certificate.
+// What the audit of `zero.c` keeps as its certificate `kept`.
 const CERTIFICATE: &str =
     "{\"frames\":[],\"map\":[],\"order\":[4],\"output\":\"\",\"status\":0,\"verdict\":\"clean\",\"version\":2}";
-
-fn words(alloc: Global, texts: &[&str]) -> Result<Vec<String>, AllocError> {
-    let mut words = Vec::new(alloc);
-    for text in texts {
-        words.push(String::from_str(alloc, text)?)?;
-    }
-    Ok(words)
-}
-
-#[test]
-fn sources_have_their_reports(rt: HostRuntime) -> Result<(), Fail> {
-    let alloc = rt.alloc();
-    let mut files = MemFiles::new(alloc);
-    let audit = words(alloc, &["audit", "f.c"])?;
-    for (source, status, report) in SOURCES {
-        files.add("f.c", source.as_bytes())?;
-        let mut out = MemSink::new(alloc);
-        out.reserve(300)?;
-        assert_eq!(rt;
-            audit_main(alloc, &audit, &mut files, &mut out),
-            status,
-            "{source}"
-        );
-        assert_eq!(rt; out.bytes(), report.as_bytes(), "{source}");
-    }
-    Ok(())
-}
-
-#[test]
-fn commands_have_their_reports(rt: HostRuntime) -> Result<(), Fail> {
-    let alloc = rt.alloc();
-    let mut files = MemFiles::new(alloc);
-    files.add("-", b"int main(void){return 7;}")?;
-    files.add("zero.c", b"int main(void){return 0;}")?;
-    files.add("f.c", b"int main(int argc,char**argv){return argc;}")?;
-    files.add("long.c", vec![in alloc; b' '; 1048577]?.as_slice())?;
-    for (texts, status, report) in COMMANDS {
-        let mut out = MemSink::new(alloc);
-        out.reserve(300)?;
-        let words = words(alloc, texts)?;
-        assert_eq!(rt;
-            audit_main(alloc, &words, &mut files, &mut out),
-            status,
-            "{texts:?}"
-        );
-        assert_eq!(rt; out.bytes(), report.as_bytes(), "{texts:?}");
-    }
-    assert!(rt; holds(alloc, &mut files, "c", CERTIFICATE));
-    Ok(())
-}
-
-// Whether a file holds this text.
-fn holds(alloc: Global, files: &mut MemFiles, name: &str, text: &str) -> bool {
-    match files.fetch(alloc, name, 1000) {
-        Ok(Fetched::Whole(bytes)) => bytes.as_slice() == text.as_bytes(),
-        _ => false,
-    }
-}
 
 // A program that adds the numbers of its input, and the report on it with the input `10 20 30`.
 const SUM: &str = "typedef unsigned long size_t;
@@ -241,6 +207,8 @@ int main(void) {
 
 const SUM_REPORT: &str = "clean\nexit 0\noutput 18\n3 numbers, sum 60\n";
 
+const SUM_FILES: [(&str, &str); 2] = [("f.c", SUM), ("i", "10 20 30\n")];
+
 // Calls of the files and of the sink that fail, the room of the sink, and the status, what is put, and whether the
 // certificate is kept. The files are called for the source (0), the input (1) and the certificate (2).
 const DEVICES: [(&[u64], &[u64], usize, u8, &str, bool); 8] = [
@@ -254,52 +222,76 @@ const DEVICES: [(&[u64], &[u64], usize, u8, &str, bool); 8] = [
     (&[0], &[0], 100, 21, "", false),
 ];
 
-// The files with the program and its input, of whose calls these fail.
-fn failing_files(alloc: Global, calls: &[u64]) -> Result<MemFiles, NoMemory> {
-    let mut files = MemFiles::new(alloc);
-    files.add("f.c", SUM.as_bytes())?;
-    files.add("i", b"10 20 30\n")?;
-    for call in calls {
-        files.fail_call(*call)?;
+// The same of the check of a certificate. The files are called for the source (0), the certificate (1) and the input (2).
+const CHECK_DEVICES: [(&[u64], &[u64], usize, u8, &str); 10] = [
+    (&[], &[], 100, 0, "yes\n"),
+    (&[0], &[], 100, 20, "read fault\n"),
+    (&[1], &[], 100, 20, "read fault\n"),
+    (&[2], &[], 100, 20, "read fault\n"),
+    (&[3], &[], 100, 0, "yes\n"),
+    (&[], &[0], 100, 21, ""),
+    (&[], &[], 0, 21, ""),
+    (&[], &[], 3, 21, "yes"),
+    (&[1], &[], 5, 21, "read "),
+    (&[0], &[0], 100, 21, ""),
+];
+
+#[test]
+fn sources_have_their_reports(rt: HostRuntime) -> Result<(), Fail> {
+    let alloc = rt.alloc();
+    for (source, status, report) in SOURCES {
+        let mut files = files_of(alloc, &[("f.c", source)], &[])?;
+        let mut out = sink_of(alloc, &[], 300)?;
+        let given = called(alloc, &["audit", "f.c"], &mut files, &mut out)?;
+        assert_eq!(rt; given, status, "{source}");
+        assert_eq!(rt; out.bytes(), report.as_bytes(), "{source}");
     }
-    Ok(files)
+    Ok(())
 }
 
-fn failing_sink(alloc: Global, calls: &[u64], room: usize) -> Result<MemSink, NoMemory> {
-    let mut out = MemSink::new(alloc);
-    out.reserve(room)?;
-    for call in calls {
-        out.fail_call(*call)?;
+#[test]
+fn commands_have_their_reports(rt: HostRuntime) -> Result<(), Fail> {
+    let alloc = rt.alloc();
+    let mut files = files_of(alloc, &FILES, &[])?;
+    files.add("long.c", vec![in alloc; b' '; 1048577]?.as_slice())?;
+    for (texts, status, report) in COMMANDS {
+        let mut out = sink_of(alloc, &[], 300)?;
+        let given = called(alloc, texts, &mut files, &mut out)?;
+        assert_eq!(rt; given, status, "{texts:?}");
+        assert_eq!(rt; out.bytes(), report.as_bytes(), "{texts:?}");
     }
-    Ok(out)
+    assert!(rt; holds(alloc, &mut files, "kept", CERTIFICATE));
+    Ok(())
 }
 
 // Devices fail at one call or at two, and the room of the sink ends at each byte of the report.
 #[test]
 fn devices_fail(rt: HostRuntime) -> Result<(), Fail> {
     let alloc = rt.alloc();
-    let words = words(alloc, &["audit", "f.c", "--input", "i", "--cert", "c"])?;
-    for (reads, puts, room, status, report, is_kept) in DEVICES {
-        let mut files = failing_files(alloc, reads)?;
-        let mut out = failing_sink(alloc, puts, room)?;
-        assert_eq!(rt;
-            audit_main(alloc, &words, &mut files, &mut out),
-            status,
-            "{room}"
-        );
+    let words = ["audit", "f.c", "--input", "i", "--cert", "c"];
+    for (reads, puts, room, status, report, kept) in DEVICES {
+        let mut files = files_of(alloc, &SUM_FILES, reads)?;
+        let mut out = sink_of(alloc, puts, room)?;
+        let given = called(alloc, &words, &mut files, &mut out)?;
+        assert_eq!(rt; given, status, "{room}");
         assert_eq!(rt; out.bytes(), report.as_bytes(), "{room}");
-        let kept = files.fetch(alloc, "c", 100_000);
-        assert_eq!(rt; matches!(kept, Ok(Fetched::Whole(_))), is_kept, "{room}");
+        assert_eq!(rt; is_kept(alloc, &mut files, "c"), kept, "{room}");
     }
     for room in 0..SUM_REPORT.len() {
-        let mut files = failing_files(alloc, &[])?;
-        let mut out = failing_sink(alloc, &[], room)?;
-        assert_eq!(rt;
-            audit_main(alloc, &words, &mut files, &mut out),
-            21,
-            "{room}"
-        );
+        let mut files = files_of(alloc, &SUM_FILES, &[])?;
+        let mut out = sink_of(alloc, &[], room)?;
+        let given = called(alloc, &words, &mut files, &mut out)?;
+        assert_eq!(rt; given, 21, "{room}");
         assert_eq!(rt; out.bytes(), &SUM_REPORT.as_bytes()[..room], "{room}");
+        assert!(rt; is_kept(alloc, &mut files, "c"), "{room}");
+    }
+    for (reads, puts, room, status, report) in CHECK_DEVICES {
+        let mut files = files_of(alloc, &FILES, reads)?;
+        let mut out = sink_of(alloc, puts, room)?;
+        let check = ["check", "zero.c", "c", "--input", "i"];
+        let given = called(alloc, &check, &mut files, &mut out)?;
+        assert_eq!(rt; given, status, "{room}");
+        assert_eq!(rt; out.bytes(), report.as_bytes(), "{room}");
     }
     Ok(())
 }

@@ -1,10 +1,9 @@
 // What the events of a full expression do.
 
-use crate::answer::Halt;
-use crate::code::{NodeCode, Source};
+use crate::halt::Halt;
 use crate::machine::Machine;
-use crate::trees::{first_child, target};
 use c_typed::{Change, Node};
+use check_steps::{NodeCode, Source, first_child, target};
 use node_acts::{
     Pointer, answer, binary, changed, convert, distance, equal, fill, load, member, moved, part,
     related, store, unary,
@@ -28,7 +27,7 @@ fn number(value: bool) -> Value {
 }
 
 impl<'p, 'c> Machine<'p, 'c> {
-    pub fn act(&mut self, node: &NodeCode<'p>, event: Event) -> Result<Outcome, Halt> {
+    pub(crate) fn act(&mut self, node: &NodeCode<'p>, event: Event) -> Result<Outcome, Halt> {
         match event.kind {
             Kind::Val => self.value_act(node, event),
             Kind::Eff => self.effect(node, event.node),
@@ -260,7 +259,12 @@ impl<'p, 'c> Machine<'p, 'c> {
     }
 
     // A parameter's store; its items are the spare ones.
-    pub fn put_at(&mut self, detail: u32, place: Pointer, value: &Value) -> Result<(), Halt> {
+    pub(crate) fn put_at(
+        &mut self,
+        detail: u32,
+        place: Pointer,
+        value: &Value,
+    ) -> Result<(), Halt> {
         let via = self.via(detail);
         let code = self.code;
         if let Some(target) = code.stores.get(detail as usize) {

@@ -1,12 +1,11 @@
 // The bodies of calls, and frames that start and end (6.5.2.2).
 
-use crate::answer::Halt;
-use crate::code::{NodeCode, Source};
 use crate::events::Outcome;
+use crate::halt::Halt;
 use crate::machine::{Machine, Open, Taking, Told};
-use crate::trees::called;
 use c_typed::{Function, Place};
 use c_types::LibFunc;
+use check_steps::{NodeCode, Source, called};
 use node_acts::{as_function, callee, exit_status, left};
 use prov_memory::{LibAnswer, Value, Values};
 use ub_base::{Cause, Clause, Event, Frame, Items, Kind, NoMemory};
@@ -16,7 +15,7 @@ pub const MOST_FRAMES: u64 = 100_000;
 
 impl<'p, 'c> Machine<'p, 'c> {
     // The body of a call: an act of the library, or a new frame.
-    pub fn call(&mut self, node: &NodeCode<'p>, event: Event) -> Result<Outcome, Halt> {
+    pub(crate) fn call(&mut self, node: &NodeCode<'p>, event: Event) -> Result<Outcome, Halt> {
         let Some(ty) = called(node.tree) else {
             return Err(Halt::Raise(Clause::InvalidPointer));
         };
@@ -157,7 +156,7 @@ impl<'p, 'c> Machine<'p, 'c> {
     }
 
     // The frame of an isolated initializer, which sees the objects of the frame below.
-    pub fn initialize(&mut self, entry: u32, event: Event) -> Result<Frame, NoMemory> {
+    pub(crate) fn initialize(&mut self, entry: u32, event: Event) -> Result<Frame, NoMemory> {
         let locals = (self.top.locals, self.top.above);
         self.open_frame(None, entry, locals, event)
     }
@@ -200,7 +199,7 @@ impl<'p, 'c> Machine<'p, 'c> {
 
     // The top frame ends: its body is done in the frame below and leaves its result there. The end of the first frame is
     // that of the run.
-    pub fn end_frame(&mut self, taking: Taking) -> Result<Told, Halt> {
+    pub(crate) fn end_frame(&mut self, taking: Taking) -> Result<Told, Halt> {
         let mut told = self.told(taking);
         let value = self.result();
         match self.below.pop() {

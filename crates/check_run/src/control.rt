@@ -1,8 +1,8 @@
 // The control steps (6.8).
 
-use crate::answer::Halt;
-use crate::code::{Range, Source, Step, Use};
+use crate::halt::Halt;
 use crate::machine::{Local, Machine, Stage, Taking, Told, Work};
+use check_steps::{Range, Source, Step, Use};
 use node_acts::total;
 use prov_memory::{ObjKind, Value};
 use seq_order::{Done, Taken};
@@ -25,7 +25,7 @@ impl<'p, 'c> Machine<'p, 'c> {
     }
 
     // The control step of the top frame, in which no due event is left.
-    pub fn control(&mut self) -> Result<Told, Halt> {
+    pub(crate) fn control(&mut self) -> Result<Told, Halt> {
         let Some(step) = self.next_step() else {
             return self.end_frame(Taking::Control);
         };
@@ -239,7 +239,7 @@ impl<'p, 'c> Machine<'p, 'c> {
     }
 
     // Where a quiet source is chosen by, or a value.
-    pub fn source(&self, number: u32) -> Source {
+    pub(crate) fn source(&self, number: u32) -> Source {
         match self.node(number) {
             Some(node) => node.source,
             None => Source::Integer(0),

@@ -1,10 +1,10 @@
 // A run before its first pick.
 
-use crate::answer::Halt;
-use crate::code::Code;
+use crate::halt::Halt;
 use crate::machine::{Machine, Open};
 use addr_map::AddrMap;
 use c_typed::{Access, Program};
+use check_steps::Code;
 use node_acts::{Filling, Places, Started, fillings, start};
 use prov_memory::{Memory, Streams, Touched, TypeId, Value, Via};
 use std::alloc::Global;

@@ -1,7 +1,7 @@
 // The state of a run.
 
-use crate::code::{Code, Expression, NodeCode, Range, Source};
 use c_typed::Program;
+use check_steps::{Code, Expression, NodeCode, Range, Source};
 use node_acts::{Filling, Places, Pointer, as_integer, as_pointer, pointer_to, truth};
 use prov_memory::{Memory, Streams, Touched, Value, Via};
 use seq_order::{Done, Taken};
@@ -120,7 +120,7 @@ impl<'p, 'c> Machine<'p, 'c> {
     }
 
     // A node of the top frame's full expression.
-    pub fn node(&self, number: u32) -> Option<&'c NodeCode<'p>> {
+    pub(crate) fn node(&self, number: u32) -> Option<&'c NodeCode<'p>> {
         let code = self.code;
         match self.top.stage {
             Some(stage) => code.node(stage.nodes, number),
@@ -133,7 +133,7 @@ impl<'p, 'c> Machine<'p, 'c> {
         self.work.get(self.below.len())
     }
 
-    pub fn now_mut(&mut self) -> Option<&mut Work> {
+    pub(crate) fn now_mut(&mut self) -> Option<&mut Work> {
         let height = self.below.len();
         self.work.get_mut(height)
     }
@@ -142,7 +142,7 @@ impl<'p, 'c> Machine<'p, 'c> {
         self.values.get(self.top.base.saturating_add(room as usize))
     }
 
-    pub fn local(&self, object: u32, offset: u64) -> Pointer {
+    pub(crate) fn local(&self, object: u32, offset: u64) -> Pointer {
         let at = self.top.locals.saturating_add(object as usize);
         match self.locals.get(at) {
             Some(local) => pointer_to(local.name, local.addr, offset),
@@ -150,7 +150,7 @@ impl<'p, 'c> Machine<'p, 'c> {
         }
     }
 
-    pub fn pointer_at(&self, source: Source) -> Pointer {
+    pub(crate) fn pointer_at(&self, source: Source) -> Pointer {
         match source {
             Source::Local { object, offset } => self.local(object, offset),
             Source::Static { object, offset } => self.places.object(object, offset),
@@ -164,7 +164,7 @@ impl<'p, 'c> Machine<'p, 'c> {
     }
 
     // The value of a node as a pointer.
-    pub fn pointer(&self, number: u32) -> Pointer {
+    pub(crate) fn pointer(&self, number: u32) -> Pointer {
         let Some(node) = self.node(number) else {
             return Pointer::null();
         };
@@ -177,7 +177,7 @@ impl<'p, 'c> Machine<'p, 'c> {
         }
     }
 
-    pub fn integer(&self, number: u32) -> i128 {
+    pub(crate) fn integer(&self, number: u32) -> i128 {
         let Some(node) = self.node(number) else {
             return 0;
         };
@@ -191,7 +191,7 @@ impl<'p, 'c> Machine<'p, 'c> {
         }
     }
 
-    pub fn truth(&self, number: u32) -> bool {
+    pub(crate) fn truth(&self, number: u32) -> bool {
         let Some(node) = self.node(number) else {
             return true;
         };
@@ -205,7 +205,7 @@ impl<'p, 'c> Machine<'p, 'c> {
     }
 
     // A copy of the value of a node.
-    pub fn value(&self, number: u32) -> Result<Value, NoMemory> {
+    pub(crate) fn value(&self, number: u32) -> Result<Value, NoMemory> {
         let Some(node) = self.node(number) else {
             return Ok(Value::Nothing);
         };
@@ -218,7 +218,7 @@ impl<'p, 'c> Machine<'p, 'c> {
         }
     }
 
-    pub fn quiet_value(&self, source: Source) -> Value {
+    pub(crate) fn quiet_value(&self, source: Source) -> Value {
         match source {
             Source::Integer(number) => Value::Int(number),
             Source::Function(addr) => Value::Func(addr),
@@ -227,19 +227,19 @@ impl<'p, 'c> Machine<'p, 'c> {
     }
 
     // Gives a room of the top frame its value.
-    pub fn keep(&mut self, room: u32, value: Value) {
+    pub(crate) fn keep(&mut self, room: u32, value: Value) {
         let at = self.top.base.saturating_add(room as usize);
         self.put(at, value);
     }
 
-    pub fn put(&mut self, at: usize, value: Value) {
+    pub(crate) fn put(&mut self, at: usize, value: Value) {
         if let Some(place) = self.values.get_mut(at) {
             *place = value;
         }
     }
 
     // Takes the value out of a room.
-    pub fn take(&mut self, room: u32) -> Value {
+    pub(crate) fn take(&mut self, room: u32) -> Value {
         let at = self.top.base.saturating_add(room as usize);
         match self.values.get_mut(at) {
             Some(place) => std::mem::replace(place, Value::Nothing),
@@ -248,14 +248,14 @@ impl<'p, 'c> Machine<'p, 'c> {
     }
 
     // Makes so many rooms.
-    pub fn grow(&mut self, size: usize) -> Result<(), NoMemory> {
+    pub(crate) fn grow(&mut self, size: usize) -> Result<(), NoMemory> {
         for _ in self.values.len()..size {
             self.values.push(Value::Nothing)?;
         }
         Ok(())
     }
 
-    pub fn grow_locals(&mut self, size: usize) -> Result<(), NoMemory> {
+    pub(crate) fn grow_locals(&mut self, size: usize) -> Result<(), NoMemory> {
         for _ in self.locals.len()..size {
             self.locals.push(Local {
                 addr: 0,
@@ -266,7 +266,7 @@ impl<'p, 'c> Machine<'p, 'c> {
     }
 
     // What a pick of the top frame is told as.
-    pub fn told(&self, taking: Taking) -> Told {
+    pub(crate) fn told(&self, taking: Taking) -> Told {
         Told {
             frame: self.top.frame,
             turn: self.top.turn,

@@ -1,10 +1,10 @@
 // Which picks are permitted, which is the canonical one, and how an event is taken.
 
-use crate::answer::Halt;
-use crate::code::Listed;
 use crate::events::Outcome;
+use crate::halt::Halt;
 use crate::machine::{Machine, Stage, Taking, Told};
 use c_typed::{Class, Node, Place, Typed};
+use check_steps::Listed;
 use node_acts::chosen;
 use seq_order::{canonical_next, permitted};
 use ub_base::{Event, Kind, NoMemory};
@@ -164,7 +164,7 @@ impl<'p, 'c> Machine<'p, 'c> {
     }
 
     // The event is done.
-    pub fn note(&mut self, place: Place) -> Result<(), NoMemory> {
+    pub(crate) fn note(&mut self, place: Place) -> Result<(), NoMemory> {
         match self.now_mut() {
             Some(work) => work.done.add(place),
             None => Ok(()),
@@ -231,7 +231,7 @@ impl<'p, 'c> Machine<'p, 'c> {
     }
 
     // The choices by quiet tests in a tree of this number that is due.
-    pub fn choose_quietly(&mut self, number: u32) -> Result<(), NoMemory> {
+    pub(crate) fn choose_quietly(&mut self, number: u32) -> Result<(), NoMemory> {
         match self.node(number) {
             Some(node) => self.choose_below(node.tree, number),
             None => Ok(()),
