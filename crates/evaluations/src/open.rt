@@ -1,5 +1,6 @@
 // The open evaluations of a run.
-ghost use Rattle.std.specs.Prelude.{◌≡◌, ◌<◌, vec_len};
+ghost use Rattle.std.specs.Prelude.{◌≡◌, ◌<◌, vec_len, OnOk};
+ghost use Rattle.evaluations.specs.Bodies.{HasBody};
 
 use crate::known::Known;
 use crate::level::Level;
@@ -281,6 +282,13 @@ impl Evaluations {
             return Ok(());
         };
         let Level { foot, .. } = level;
+        self.give(foot)
+    }
+
+    // The body that the last event started touched this.
+    fn give(&mut self, foot: Foot) -> Result<(), NoMemory>
+        ensures { OnOk result (HasBody self.new.events.items foot) }
+    {
         let is_large = foot.size() > LARGE;
         let at = self.events.len().saturating_sub(1);
         match self.events.last_mut() {
@@ -297,22 +305,24 @@ impl Evaluations {
         Ok(())
     }
 
-    // An event of the top frame, by its name.
-    pub(crate) fn named(&self, node: u32, kind: Kind) -> Event {
+    // The top frame and the turn of its full expression.
+    pub(crate) fn place(&self) -> (Frame, u64) {
         match self.levels.last() {
-            Some(level) => Event {
-                frame: level.frame,
-                turn: level.turn,
-                node,
-                kind,
-            },
-            None => Event {
-                frame: Frame(0),
-                turn: 0,
-                node,
-                kind,
-            },
+            Some(level) => (level.frame, level.turn),
+            None => (Frame(0), 0),
         }
+    }
+}
+
+// An event of a full expression, by its name.
+pub(crate) fn named(place: (Frame, u64), node: u32, kind: Kind) -> Event
+    ensures { result ≡ record { frame = place.0; turn = place.1; node = node; kind = kind } }
+{
+    Event {
+        frame: place.0,
+        turn: place.1,
+        node,
+        kind,
     }
 }
 
