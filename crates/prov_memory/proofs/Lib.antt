@@ -11,3 +11,4 @@ pub mod CompareLemmas
 pub mod AccessLemmas
 pub mod AgreementLemmas
 pub mod WriteLemmas
+pub mod LoadLemmas

@@ -11,3 +11,4 @@ pub mod Made
 pub mod Comparing
 pub mod Pieces
 pub mod Stores
+pub mod Loads

@@ -116,6 +116,7 @@ pub(crate) struct Cell {
 
 impl Cell {
     ghost use Rattle.prov_memory.specs.Cells.{plain_cell, piece_cell, cell_of, byte_of};
+    ghost use Rattle.prov_memory.specs.Loads.{number_held};
 
     /// An unwritten byte.
     pub const UNWRITTEN: Cell = Cell {
@@ -186,6 +187,17 @@ impl Cell {
                 number: self.number,
                 piece: Some((self.origin, self.piece_index)),
             },
+        }
+    }
+
+    /// The number of a written byte.
+    pub fn value(self) -> Option<u8>
+        ensures { result ≡ number_held self.state self }
+    {
+        match self.state {
+            State::Unwritten => None,
+            State::Plain => Some(self.number),
+            State::Piece => Some(self.number),
         }
     }
 

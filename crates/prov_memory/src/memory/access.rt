@@ -142,47 +142,6 @@ impl Memory {
         })
     }
 
-    /// Whether the type of a load suits the bytes that it meets.
-    pub(super) fn suits_load(&self, object: &Object, ty: &Ty, from: u64, len: u64) -> bool {
-        match &object.declared {
-            Some(shape) => {
-                let shape: &Shape = shape;
-                shape.suits(ty, from)
-            }
-            None => ty.is_character() || self.suits_tags(object, ty, from, len),
-        }
-    }
-
-    // Whether each byte has no tag, or the tag of its place in a scalar whose type the access agrees with.
-    fn suits_tags(&self, object: &Object, ty: &Ty, from: u64, len: u64) -> bool {
-        let start = (from as usize).min(object.cells.len());
-        let end = (from.saturating_add(len) as usize).min(object.cells.len());
-        if end < start {
-            return true;
-        }
-        let mut index: u8 = 0;
-        for cell in &object.cells[start..end] {
-            if cell.tag != TypeId::NONE && (cell.tag_index != index || !self.agrees(ty, cell.tag)) {
-                return false;
-            }
-            index = index.saturating_add(1);
-        }
-        true
-    }
-
-    fn agrees(&self, ty: &Ty, tag: TypeId) -> bool {
-        if let Some(kind) = tag.kind() {
-            return c_types::agrees(ty, &Ty::Int(kind));
-        }
-        match self
-            .types
-            .get((tag.number.saturating_sub(types::FIRST)) as usize)
-        {
-            None => true,
-            Some(known) => c_types::agrees(ty, known),
-        }
-    }
-
     /// Settles what an access settles.
     pub(super) fn settle(&mut self, settles: Option<(Event, ObjName)>)
         ensures rest { record self.new { cells = [] } ≡ record self.old { cells = [] } }

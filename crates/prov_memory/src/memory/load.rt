@@ -1,5 +1,19 @@
 // Loads.
-ghost use Rattle.std.specs.Prelude.{◌≡◌, length, IfOk, OnErr};
+ghost use Rattle.std.specs.Prelude.{◌≡◌, ℕ, ◌+◌, ◌≤◌, ◌^◌, ◌&&◌, ◌==◌, Some, Err, length, map, slice_get, option_map, IfOk, IfErr, OnErr};
+ghost use Rattle.c_types.specs.Types.{type_of};
+ghost use Rattle.c_types.specs.Shapes.{form_of};
+ghost use Rattle.prov_memory.specs.Agreement as agreement;
+ghost use Rattle.prov_memory.specs.Agreement.{suits_form};
+ghost use Rattle.prov_memory.specs.Acts as acts;
+ghost use Rattle.prov_memory.specs.Acts.{tag_agrees, tags_agree};
+ghost use Rattle.prov_memory.specs.Script.{run, Raised};
+ghost use Rattle.prov_memory.specs.Streams.{Io};
+ghost use Rattle.prov_memory.specs.Cells.{tag_in};
+ghost use Rattle.prov_memory.specs.Held.{Held};
+ghost use Rattle.prov_memory.specs.Memory.{Kept, store_of};
+ghost use Rattle.prov_memory.specs.Access.{IsReached, bytes_in};
+ghost use Rattle.prov_memory.specs.Loads as loads;
+ghost use Rattle.prov_memory.specs.Loads.{number_if, number_read};
 
 use super::access::Accessed;
 use super::*;
@@ -53,13 +67,14 @@ impl Memory {
         prov: Prov,
         t: &mut Touched,
     ) -> Result<i128, Clause>
+        ensures raises { IfErr result (λ c. (io : Io) → run self.old.rows (acts.load_int self.old.rows kind addr prov) (store_of self.old io) ≡ Raised c) }
         ensures same { OnErr result (self.new ≡ self.old) }
     {
         t.clear();
         let len = kind.bytes();
-        let ty = Ty::Int(kind);
+        let ty = types::int_type(kind);
         let found = self.access(len, len, addr, prov, t)?;
-        let number = self.load_number(found, &ty, len, t, kind == IntKind::Bool)?;
+        let number = self.load_number(found, &ty, len, t, is_bool(kind))?;
         Ok(value_of(kind, number))
     }
 
@@ -71,6 +86,7 @@ impl Memory {
         prov: Prov,
         t: &mut Touched,
     ) -> Result<u64, Clause>
+        ensures raises { IfErr result (λ c. (io : Io) → run self.old.rows (acts.load_func self.old.rows (type_of ty.now) addr prov) (store_of self.old io) ≡ Raised c) }
         ensures same { OnErr result (self.new ≡ self.old) }
     {
         t.clear();
@@ -79,10 +95,53 @@ impl Memory {
     }
 
     // Whether the type of a load suits the bytes where it falls.
-    fn check_suits(&self, found: Accessed, ty: &Ty, len: u64) -> Result<(), Clause> {
+    fn check_suits(&self, found: Accessed, ty: &Ty, len: u64) -> Result<(), Clause>
+        requires { IsReached self.now.objects found len }
+    {
         match self.objects.get(found.object) {
             Some(object) if self.suits_load(object, ty, found.from, len) => Ok(()),
             _ => Err(Clause::EffectiveType),
+        }
+    }
+
+    // Whether the type of a load suits the bytes that it meets.
+    fn suits_load(&self, object: &Object, ty: &Ty, from: u64, len: u64) -> bool
+        requires { from + len ≤ 2 ^ 47 }
+        ensures { result ≡ acts.suits_load (type_of ty.now) (option_map form_of object.now.declared) from (bytes_in self.now object.now from len) }
+    {
+        match &object.declared {
+            Some(shape) => fits_shape(shape, ty, from),
+            None => ty.is_character() || self.suits_tags(object, ty, from, len),
+        }
+    }
+
+    // Whether each byte has no tag, or the tag of its place in a scalar whose type the access agrees with.
+    fn suits_tags(&self, object: &Object, ty: &Ty, from: u64, len: u64) -> bool
+        requires { from + len ≤ 2 ^ 47 }
+        ensures { result ≡ tags_agree (type_of ty.now) 0 (bytes_in self.now object.now from len) }
+    {
+        for index in 0..len {
+            if !self.suits_tag(ty, object.cell(from + index), index) {
+                return false;
+            }
+        }
+        true
+    }
+
+    fn suits_tag(&self, ty: &Ty, cell: Cell, index: u64) -> bool
+        ensures { result ≡ tag_agrees (type_of ty.now) index (tag_in (map type_of self.now.types) cell) }
+    {
+        let number = cell.tag.number;
+        if number == 0 {
+            return true;
+        }
+        if let Some(kind) = cell.tag.kind() {
+            let known = types::int_type(kind);
+            return fits_tag(ty, &known, cell.tag_index, index);
+        }
+        match self.type_at(number.saturating_sub(types::FIRST) as usize) {
+            None => true,
+            Some(known) => fits_tag(ty, known, cell.tag_index, index),
         }
     }
 
@@ -94,19 +153,45 @@ impl Memory {
         t: &mut Touched,
         is_bool: bool,
     ) -> Result<u64, Clause>
+        requires short { len ≤ 8 }
+        requires reached { IsReached self.old.objects found len }
+        ensures raises { IfErr result (λ c. (h : Held) → slice_get self.old.objects found.object ≡ Some h → Err c ≡ number_read (type_of ty.now) is_bool (option_map form_of h.declared) found.from (bytes_in self.old h found.from len)) }
         ensures same { OnErr result (self.new ≡ self.old) }
     {
-        self.check_suits(found, ty, len)?;
-        let (number, _, has_pieces) = self.written(found.object, found.from, len)?;
-        if is_bool && number > 1 {
-            return Err(Clause::TrapRepresentation);
-        }
+        let number = self.read_number(found, ty, len, is_bool)?;
         self.note_read(found, len, t);
-        if has_pieces {
+        if self.has_pieces(found, len) {
             self.show_pieces(found.object, found.from, len, t);
         }
         self.settle(found.settles);
         Ok(number)
+    }
+
+    // Whether a byte of the range is a piece of a pointer.
+    fn has_pieces(&self, found: Accessed, len: u64) -> bool {
+        let Some(object) = self.objects.get(found.object) else {
+            return false;
+        };
+        match object.reached(found.from, len) {
+            None => false,
+            Some(cells) => cells.iter().any(|cell| cell.state == State::Piece),
+        }
+    }
+
+    // The number of a range where a load of the type falls.
+    fn read_number(&self, found: Accessed, ty: &Ty, len: u64, is_bool: bool) -> Result<u64, Clause>
+        requires short { len ≤ 8 }
+        requires reached { IsReached self.now.objects found len }
+        ensures { (h : Held) → slice_get self.now.objects found.object ≡ Some h → result ≡ number_read (type_of ty.now) is_bool (option_map form_of h.declared) found.from (bytes_in self.now h found.from len) }
+    {
+        let Some(object) = self.objects.get(found.object) else {
+            return Err(Clause::Indeterminate);
+        };
+        if self.suits_load(object, ty, found.from, len) {
+            number_checked(is_bool, number_at(object, found.from, len))
+        } else {
+            Err(Clause::EffectiveType)
+        }
     }
 
     pub(super) fn note_read(&self, found: Accessed, len: u64, t: &mut Touched) {
@@ -240,6 +325,63 @@ impl Memory {
             }
         }
     }
+}
+
+/// Whether it is `_Bool`.
+fn is_bool(kind: IntKind) -> bool
+    ensures { result ≡ (agreement.number_of_kind kind == 1) }
+{
+    matches!(kind, IntKind::Bool)
+}
+
+/// A number other than 0 and 1 is none of `_Bool` (6.2.6.1p5), and a byte that isn't written has none.
+fn number_checked(is_bool: bool, number: Option<u64>) -> Result<u64, Clause>
+    ensures { result ≡ loads.number_checked is_bool number }
+{
+    let Some(number) = number else {
+        return Err(Clause::Indeterminate);
+    };
+    if is_bool && number > 1 {
+        return Err(Clause::TrapRepresentation);
+    }
+    Ok(number)
+}
+
+/// The little-endian number of a range of at most eight bytes, where all are written.
+fn number_at(object: &Object, from: u64, len: u64) -> Option<u64>
+    requires range { from + len ≤ 2 ^ 47 }
+    requires short { len ≤ 8 }
+    ensures { (m : Kept) → result ≡ number_if (bytes_in m object.now from len) }
+{
+    let mut number: u64 = 0;
+    for step in 0..len {
+        let cell = object.cell(from + (len - (step + 1)));
+        let Some(byte) = cell.value() else {
+            return None;
+        };
+        number = number * 256 + u64::from(byte);
+    }
+    Some(number)
+}
+
+/// Whether a load of the type suits an object of this shape.
+fn fits_shape(shape: &Shape, ty: &Ty, from: u64) -> bool
+    ensures { result ≡ suits_form (type_of ty.now) (form_of shape.now) from }
+{
+    shape.suits(ty, from)
+}
+
+/// Whether the tag is that of this byte of a scalar of the type, with which the access agrees.
+fn fits_tag(ty: &Ty, known: &Ty, tag_index: u8, index: u64) -> bool
+    ensures { result ≡ (tag_index == index && agreement.agrees (type_of ty.now) (type_of known.now)) }
+{
+    u64::from(tag_index) == index && agrees(ty, known)
+}
+
+fn agrees(ty: &Ty, known: &Ty) -> bool
+    ensures { result ≡ agreement.agrees (type_of ty.now) (type_of known.now) }
+{
+    c_types::agrees(ty, known)
 }
 
 // The tag of a byte that is loaded.

@@ -149,7 +149,7 @@ impl Memory {
         }
     }
 
-    fn type_at(&self, at: usize) -> Option<&Ty>
+    pub(super) fn type_at(&self, at: usize) -> Option<&Ty>
         ensures { option_copied result ≡ slice_get self.now.types at }
     {
         self.types.get(at)
