@@ -160,9 +160,22 @@ impl Memory {
     {
         let number = self.read_number(found, ty, len, is_bool)?;
         self.note_read(found, len, t);
-        self.show_pieces(found.object, found.from, len, t);
+        if self.has_pieces(found, len) {
+            self.show_pieces(found.object, found.from, len, t);
+        }
         self.settle(found.settles);
         Ok(number)
+    }
+
+    // Whether a byte of the range is a piece of a pointer.
+    fn has_pieces(&self, found: Accessed, len: u64) -> bool {
+        let Some(object) = self.objects.get(found.object) else {
+            return false;
+        };
+        match object.reached(found.from, len) {
+            None => false,
+            Some(cells) => cells.iter().any(|cell| cell.state == State::Piece),
+        }
     }
 
     // The number of a range where a load of the type falls.
