@@ -285,11 +285,17 @@ fn devices_fail(rt: HostRuntime) -> Result<(), Fail> {
         assert_eq!(rt; out.bytes(), &SUM_REPORT.as_bytes()[..room], "{room}");
         assert!(rt; is_kept(alloc, &mut files, "c"), "{room}");
     }
+    Ok(())
+}
+
+#[test]
+fn devices_fail_in_checks(rt: HostRuntime) -> Result<(), Fail> {
+    let alloc = rt.alloc();
+    let words = ["check", "zero.c", "c", "--input", "i"];
     for (reads, puts, room, status, report) in CHECK_DEVICES {
         let mut files = files_of(alloc, &FILES, reads)?;
         let mut out = sink_of(alloc, puts, room)?;
-        let check = ["check", "zero.c", "c", "--input", "i"];
-        let given = called(alloc, &check, &mut files, &mut out)?;
+        let given = called(alloc, &words, &mut files, &mut out)?;
         assert_eq!(rt; given, status, "{room}");
         assert_eq!(rt; out.bytes(), report.as_bytes(), "{room}");
     }

@@ -1,6 +1,7 @@
 // Certificates that are written by hand, and those of audits, checked by whole calls.
 
 use crate::calls::{called, files_of, sink_of};
+use std::alloc::Global;
 use std::test::Fail;
 
 const SOURCE_0: &str = "int main(void){return 0;}";
@@ -26,7 +27,7 @@ const SOURCE_8: &str = "char a[67108865];int main(void){return 0;}";
 const SOURCE_9: &str = "int main(void){char a[67108865];return 0;}";
 
 // A source, a certificate for it without input, and the report of its check.
-const CERTIFICATES: [(&str, &str, &str); 73] = [
+const CERTIFICATES_0: [(&str, &str, &str); 25] = [
     (
         SOURCE_0,
         "{\"frames\":[],\"map\":[],\"order\":[4],\"output\":\"\",\"status\":0,\"verdict\":\"clean\",\"version\":2}",
@@ -152,6 +153,9 @@ const CERTIFICATES: [(&str, &str, &str); 73] = [
         "{\"clause\":\"6.5p2\",\"frames\":[],\"map\":[[\"auto\",0,1,0,16777232,4,4]],\"order\":[6,[2,\"val\"],[0,\"eff\"],[0,\"val\"],1,1,1,1,1,1],\"pair\":[[0,3,0,\"eff\"],[0,3,2,\"eff\"]],\"verdict\":\"undefined\",\"version\":2}",
         "yes\n",
     ),
+];
+
+const CERTIFICATES_1: [(&str, &str, &str); 25] = [
     (
         SOURCE_1,
         "{\"clause\":\"6.5p2\",\"frames\":[],\"map\":[[\"auto\",0,1,0,16777232,4,4]],\"order\":[6,[2,\"val\"],[0,\"eff\"],9],\"pair\":[[0,3,0,\"eff\"],[0,3,2,\"eff\"]],\"verdict\":\"undefined\",\"version\":2}",
@@ -277,6 +281,9 @@ const CERTIFICATES: [(&str, &str, &str); 73] = [
         "{\"frames\":[],\"map\":[[\"static\",0,16777232,4,4]],\"order\":[7],\"pair\":[[0,2,1,\"eff\"],[0,2,3,\"body\"]],\"verdict\":\"order-dependent\",\"version\":2}",
         "no claim\n",
     ),
+];
+
+const CERTIFICATES_2: [(&str, &str, &str); 23] = [
     (
         SOURCE_4,
         "{\"frames\":[],\"map\":[[\"static\",0,16777232,4,4]],\"order\":[8],\"pair\":[[0,2,1,\"eff\"],[0,2,3,\"body\"]],\"verdict\":\"order-dependent\",\"version\":2}",
@@ -476,24 +483,76 @@ const REFUSED: [(&str, &str); 10] = [
     ),
 ];
 
+// Whether the check of a text for a source ends with this report and status.
+fn is_answered(
+    alloc: Global,
+    source: &str,
+    text: &str,
+    report: &str,
+    status: u8,
+) -> Result<bool, Fail> {
+    let mut files = files_of(alloc, &[("f.c", source), ("c", text)], &[])?;
+    let mut out = sink_of(alloc, &[], 400)?;
+    let given = called(alloc, &["check", "f.c", "c"], &mut files, &mut out)?;
+    Ok(given == status && out.bytes() == report.as_bytes())
+}
+
+fn status_of(report: &str) -> u8 {
+    if report == "yes\n" { 0 } else { 5 }
+}
+
 #[test]
 fn certificates_are_answered(rt: HostRuntime) -> Result<(), Fail> {
     let alloc = rt.alloc();
-    for (source, text, report) in CERTIFICATES {
-        let mut files = files_of(alloc, &[("f.c", source), ("c", text)], &[])?;
-        let mut out = sink_of(alloc, &[], 400)?;
-        let status = called(alloc, &["check", "f.c", "c"], &mut files, &mut out)?;
-        assert_eq!(rt; out.bytes(), report.as_bytes(), "{text}");
-        assert_eq!(rt; status, if report == "yes\n" { 0 } else { 5 }, "{text}");
-    }
-    for (text, report) in REFUSED {
-        let mut files = files_of(alloc, &[("f.c", SOURCE_0), ("c", text)], &[])?;
-        let mut out = sink_of(alloc, &[], 400)?;
-        let status = called(alloc, &["check", "f.c", "c"], &mut files, &mut out)?;
-        assert_eq!(rt; out.bytes(), report.as_bytes(), "{text}");
-        assert_eq!(rt; status, 16, "{text}");
+    for (source, text, report) in CERTIFICATES_0 {
+        let answered = is_answered(alloc, source, text, report, status_of(report))?;
+        assert!(rt; answered, "{text}");
     }
     Ok(())
+}
+
+#[test]
+fn further_certificates_are_answered(rt: HostRuntime) -> Result<(), Fail> {
+    let alloc = rt.alloc();
+    for (source, text, report) in CERTIFICATES_1 {
+        let answered = is_answered(alloc, source, text, report, status_of(report))?;
+        assert!(rt; answered, "{text}");
+    }
+    Ok(())
+}
+
+#[test]
+fn certificates_of_other_runs_are_answered(rt: HostRuntime) -> Result<(), Fail> {
+    let alloc = rt.alloc();
+    for (source, text, report) in CERTIFICATES_2 {
+        let answered = is_answered(alloc, source, text, report, status_of(report))?;
+        assert!(rt; answered, "{text}");
+    }
+    Ok(())
+}
+
+#[test]
+fn other_texts_are_refused(rt: HostRuntime) -> Result<(), Fail> {
+    let alloc = rt.alloc();
+    for (text, report) in REFUSED {
+        let answered = is_answered(alloc, SOURCE_0, text, report, 16)?;
+        assert!(rt; answered, "{text}");
+    }
+    Ok(())
+}
+
+// Whether the certificate of the audit of a source with these steps is answered `yes`.
+fn is_certified(alloc: Global, source: &str, input: &str, steps: &str) -> Result<bool, Fail> {
+    let mut files = files_of(alloc, &[("f.c", source), ("i", input)], &[])?;
+    let mut out = sink_of(alloc, &[], 400)?;
+    let audit = [
+        "audit", "f.c", "--input", "i", "--steps", steps, "--cert", "c",
+    ];
+    let _ = called(alloc, &audit, &mut files, &mut out)?;
+    let mut out = sink_of(alloc, &[], 400)?;
+    let check = ["check", "f.c", "c", "--input", "i"];
+    let status = called(alloc, &check, &mut files, &mut out)?;
+    Ok(status == 0 && out.bytes() == b"yes\n".as_slice())
 }
 
 #[test]
@@ -501,17 +560,8 @@ fn audits_are_certified(rt: HostRuntime) -> Result<(), Fail> {
     let alloc = rt.alloc();
     for (source, input) in AUDITED {
         for steps in BUDGETS {
-            let mut files = files_of(alloc, &[("f.c", source), ("i", input)], &[])?;
-            let mut out = sink_of(alloc, &[], 400)?;
-            let audit = [
-                "audit", "f.c", "--input", "i", "--steps", steps, "--cert", "c",
-            ];
-            let _ = called(alloc, &audit, &mut files, &mut out)?;
-            let mut out = sink_of(alloc, &[], 400)?;
-            let check = ["check", "f.c", "c", "--input", "i"];
-            let status = called(alloc, &check, &mut files, &mut out)?;
-            assert_eq!(rt; status, 0, "{source} {steps}");
-            assert_eq!(rt; out.bytes(), b"yes\n".as_slice(), "{source} {steps}");
+            let certified = is_certified(alloc, source, input, steps)?;
+            assert!(rt; certified, "{source} {steps}");
         }
     }
     Ok(())

@@ -18,9 +18,16 @@ pub enum Answer {
     NoMemory,
 }
 
+// The most bytes of a text.
+const MOST: usize = 1_048_576;
+
 /// What is said of a text.
-pub fn answer(alloc: Global, text: &str) -> Answer {
-    let Ok(tokens) = lex(alloc, text.as_bytes()) else {
+pub fn answer_to(alloc: Global, text: &str) -> Answer {
+    let source = text.as_bytes();
+    if source.len() > MOST {
+        return Answer::NoUnit;
+    }
+    let Ok(tokens) = lex(alloc, source) else {
         return Answer::NoUnit;
     };
     let Ok(unit) = parse(alloc, &tokens) else {
@@ -37,11 +44,11 @@ pub fn answer(alloc: Global, text: &str) -> Answer {
 pub fn first_wrong(alloc: Global, rows: &[Row]) -> Option<usize> {
     for (i, row) in rows.iter().enumerate() {
         let (_, bad, line, good) = *row;
-        match answer(alloc, bad) {
+        match answer_to(alloc, bad) {
             Answer::NotTyped(told) if told == line => {}
             _ => return Some(i),
         }
-        match answer(alloc, good) {
+        match answer_to(alloc, good) {
             Answer::Typed(_) => {}
             _ => return Some(i),
         }

@@ -2,7 +2,7 @@
 // meets it. "own" marks a rule of the profile.
 use crate::constraints::{Row, first_wrong};
 
-const ROWS: &[Row] = &[
+const FIRST_ROWS: &[Row] = &[
     (
         "6.5.1p2",
         "\nint main(void){\n{int y;y=0;}y=1;\nreturn 0;}",
@@ -213,6 +213,9 @@ const ROWS: &[Row] = &[
         3,
         "int a,b;\nint main(void){\n(a,&b);\nreturn 0;}",
     ),
+];
+
+const SECOND_ROWS: &[Row] = &[
     (
         "6.5.3.2p2",
         "int a;\nint main(void){\n*a;\nreturn 0;}",
@@ -423,6 +426,9 @@ const ROWS: &[Row] = &[
         3,
         "int *p;\nint main(void){\np==0;0!=p;\nreturn 0;}",
     ),
+];
+
+const THIRD_ROWS: &[Row] = &[
     (
         "6.5.9p2",
         "int *p;char *q;void *v;\nint main(void){\np==q;\nreturn 0;}",
@@ -631,5 +637,15 @@ const ROWS: &[Row] = &[
 
 #[test]
 fn expressions_meet_their_constraints(rt: HostRuntime) {
-    assert_eq!(rt; first_wrong(rt.alloc(), ROWS), None);
+    assert_eq!(rt; first_wrong(rt.alloc(), FIRST_ROWS), None);
+}
+
+#[test]
+fn further_expressions_meet_their_constraints(rt: HostRuntime) {
+    assert_eq!(rt; first_wrong(rt.alloc(), SECOND_ROWS), None);
+}
+
+#[test]
+fn other_expressions_meet_their_constraints(rt: HostRuntime) {
+    assert_eq!(rt; first_wrong(rt.alloc(), THIRD_ROWS), None);
 }

@@ -1,5 +1,5 @@
 // The trees of whole texts, written from the rules of the profile and 6.3, 6.5 and 6.7.9.
-use crate::constraints::{Answer, answer};
+use crate::constraints::{Answer, answer_to};
 use crate::show::{statics_of, trees_of_main};
 use c_typed::Program;
 use std::alloc::{AllocError, Global};
@@ -230,7 +230,7 @@ const STATICS: &[(&str, &str)] = &[
 
 // The program of a text that is typed.
 fn program_of(alloc: Global, text: &str) -> Option<Program> {
-    match answer(alloc, text) {
+    match answer_to(alloc, text) {
         Answer::Typed(program) => Some(program),
         _ => None,
     }
