@@ -1,0 +1,12 @@
+pub mod Declarations
+pub mod Declarators
+pub mod Expressions
+pub mod Initializers
+pub mod Nested
+pub mod Operators
+pub mod Places
+pub mod Sentences
+pub mod Specifiers
+pub mod Statements
+pub mod Steps
+pub mod Units

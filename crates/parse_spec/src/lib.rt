@@ -1,0 +1,6 @@
+//! What the parser answers for a list of tokens, as a function on lists.
+#![tactic(auto)]
+
+mod laws;
+
+pub use laws::law_read_sentences;
