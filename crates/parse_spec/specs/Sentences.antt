@@ -129,8 +129,8 @@ pub record ReadSentences : Type 0 where
   pub cast : tree_of (text_of (typedef_a ++ bracketed)) ≡ unit_of (
       declared_as (record { words = w.Typedef ∷ w.Int ∷ []; base = base.Plain }) (ident 2) None
       ∷ declared_as (plain w.Int) (ident 5) (Some (init.Single (made 7 (node.Cast
-          (record { specs = record { words = []; base = base.Typedef 8 }; declarator = d.Ident None })
-          (made 10 (node.Unary u.Deref (named 11))))))) ∷ [])
+      (record { specs = record { words = []; base = base.Typedef 8 }; declarator = d.Ident None })
+      (made 10 (node.Unary u.Deref (named 11))))))) ∷ [])
   pub dangling_else : tree_of (text_of dangling) ≡ unit_of (
       unit.Function (plain w.Void) no_parameters (entry.Statement nested_if ∷ []) ∷ [])
   pub designators : tree_of (text_of designated) ≡ unit_of (declared_as (plain w.Int) (ident 1)
