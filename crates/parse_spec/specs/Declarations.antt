@@ -7,7 +7,6 @@ use Rattle.c_ast.specs.declared.declaration.Init.{Init}
 use Rattle.c_ast.specs.declared.declaration.Part.{Part}
 use Rattle.c_ast.specs.declared.declaration.Specs.{Specs}
 use Rattle.c_ast.specs.declared.expression.Expr.{Expr}
-use Rattle.c_ast.specs.Input.{Input}
 use Rattle.c_grammar.specs.Grammar.{Named, name_of}
 use Rattle.c_grammar.specs.Rules.{is_declaration_word, declares_typedef}
 use Rattle.parse_spec.specs.Initializers.{initializer}
@@ -45,7 +44,7 @@ parts_from typedef zero found = refuse
 parts_from typedef (suc n) found = do
   more ← eat m.Comma
   if more then (do d ← named_declarator typedef; p ← part_of d; parts_from typedef n (found ++ p ∷ []))
-  else (do expect m.Semicolon; pure found)
+      else (do expect m.Semicolon; pure found)
 
 -- the rest of a declaration behind its first declarator
 unfoldable pub more_parts : Bool → Declarator → Parser (List Part)

@@ -10,7 +10,7 @@ use Rattle.c_ast.specs.declared.declaration.Declarator.TheVariants as d
 use Rattle.c_ast.specs.declared.declaration.Param.{Param}
 use Rattle.c_ast.specs.declared.declaration.Specs.{Specs}
 use Rattle.c_ast.specs.declared.expression.Expr.{Expr}
-use Rattle.c_ast.specs.Input.{Input, kind, next}
+use Rattle.c_ast.specs.Input.{kind, next}
 use Rattle.c_grammar.specs.Operators as op
 use Rattle.c_grammar.specs.Grammar.{Mode, Named, Abstract, Either, name_of}
 use Rattle.c_grammar.specs.Rules.{is_declaration_word, is_qualifier}
@@ -48,7 +48,7 @@ module _ (expr : ℕ → Parser Expr) (declarator : Mode → Parser Declarator) 
     p ← one_parameter
     more ← eat m.Comma
     if more then (do ellipsis ← eat m.Ellipsis; if ellipsis then pure (found ++ p ∷ [], true) else parameters_from n (found ++ p ∷ []))
-    else pure (found ++ p ∷ [], false)
+        else pure (found ++ p ∷ [], false)
 
   unfoldable pub parameters : Parser (List Param × Bool)
   parameters = λ i. (if sees m.CloseParen i then pure no_parameters else parameters_from (turns i) []) i
@@ -58,7 +58,7 @@ module _ (expr : ℕ → Parser Expr) (declarator : Mode → Parser Declarator) 
   array_suffix inner = do
     none ← eat m.CloseBracket
     if none then pure (d.Array inner None)
-    else (do e ← apart (expr op.assignment); expect m.CloseBracket; pure (d.Array inner (Some e)))
+        else (do e ← apart (expr op.assignment); expect m.CloseBracket; pure (d.Array inner (Some e)))
 
   -- after the opening parenthesis
   unfoldable pub function_suffix : Declarator → Parser Declarator

@@ -1,12 +1,12 @@
 -- What single tokens begin.
-use Rattle.std.specs.Prelude.{Bool, true, false, ◌||◌, Option, Some, None}
+use Rattle.std.specs.Prelude.{Bool, true, false, ◌||◌, Option, Some}
 use Rattle.c_lex.specs.declared.token.TokenKind.{TokenKind}
 use Rattle.c_lex.specs.declared.token.TokenKind.TheVariants as token
 use Rattle.c_lex.specs.declared.token.Word.{Word as AWord}
 use Rattle.c_lex.specs.declared.token.Word.TheVariants as w
 use Rattle.c_lex.specs.declared.token.Mark.TheVariants as m
 use Rattle.c_ast.specs.Input.{Input, kind, next, is_typedef}
-use Rattle.c_grammar.specs.Grammar.{Mode, Named, Abstract, Either}
+use Rattle.c_grammar.specs.Grammar.{Mode, Named}
 use Rattle.c_grammar.specs.Rules.{is_declaration_word, is_qualified_word}
 
 -- a keyword that begins a specifier of a structure, a union or an enumeration

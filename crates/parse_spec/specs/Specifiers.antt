@@ -8,12 +8,12 @@ use Rattle.c_lex.specs.declared.token.Mark.TheVariants as m
 use Rattle.c_ast.specs.declared.declaration.Base.{Base}
 use Rattle.c_ast.specs.declared.declaration.Base.TheVariants as base
 use Rattle.c_ast.specs.declared.declaration.Declarator.{Declarator}
-use Rattle.c_ast.specs.declared.declaration.Enumerator.{Enumerator}
+use Rattle.c_ast.specs.declared.declaration.Enumerator.{Enumerator, roll-Enumerator}
 use Rattle.c_ast.specs.declared.declaration.MemberEntry.{MemberEntry}
 use Rattle.c_ast.specs.declared.declaration.MemberEntry.TheVariants as member-entry
 use Rattle.c_ast.specs.declared.declaration.Specs.{Specs}
 use Rattle.c_ast.specs.declared.expression.Expr.{Expr}
-use Rattle.c_ast.specs.Input.{Input, kind, next, is_typedef}
+use Rattle.c_ast.specs.Input.{kind, next, is_typedef}
 use Rattle.c_grammar.specs.Operators as op
 use Rattle.c_grammar.specs.Grammar.{Mode, Named}
 use Rattle.c_grammar.specs.Rules.{is_qualified_word, has_type_word}
@@ -87,7 +87,7 @@ module _ (expr : ℕ → Parser Expr) (declarator : Mode → Parser Declarator) 
     n ← identifier
     v ← enumerator_value
     declares false (Some n)
-    pure (record { name = n; value = v })
+    pure (roll-Enumerator (record { name = n; value = v }))
 
   -- after the opening brace: at least one, maybe a comma, and the closing brace
   unfoldable pub enumerators_from : ℕ → List Enumerator → Parser (List Enumerator)
@@ -96,7 +96,7 @@ module _ (expr : ℕ → Parser Expr) (declarator : Mode → Parser Declarator) 
     a ← one_enumerator
     more ← eat m.Comma
     if more then (do done ← eat m.CloseBrace; if done then pure (found ++ a ∷ []) else enumerators_from n (found ++ a ∷ []))
-    else (do expect m.CloseBrace; pure (found ++ a ∷ []))
+        else (do expect m.CloseBrace; pure (found ++ a ∷ []))
 
   abbrev pub enumerated_by : Option ℕ → Bool → Parser Base
   enumerated_by tag true = do all ← (λ i. enumerators_from (turns i) [] i); pure (base.Enumerated tag (Some all))

@@ -1,5 +1,5 @@
 -- Statements (6.8).
-use Rattle.std.specs.Prelude.{ℕ, zero, suc, Bool, true, false, not, ◌&&◌, if◌then◌else◌, List, [], ◌∷◌, ◌++◌, Option, Some, None}
+use Rattle.std.specs.Prelude.{ℕ, zero, suc, not, ◌&&◌, if◌then◌else◌, List, [], ◌∷◌, ◌++◌, Option, Some, None}
 use Rattle.c_lex.specs.declared.token.TokenKind.{TokenKind}
 use Rattle.c_lex.specs.declared.token.TokenKind.TheVariants as token
 use Rattle.c_lex.specs.declared.token.Word.TheVariants as w
@@ -12,7 +12,7 @@ use Rattle.c_ast.specs.declared.statement.ForInit.{ForInit}
 use Rattle.c_ast.specs.declared.statement.ForInit.TheVariants as for-init
 use Rattle.c_ast.specs.declared.statement.Stmt.{Stmt}
 use Rattle.c_ast.specs.declared.statement.Stmt.TheVariants as stmt
-use Rattle.c_ast.specs.Input.{Input, kind}
+use Rattle.c_ast.specs.Input.{kind}
 use Rattle.c_grammar.specs.Operators as op
 use Rattle.parse_spec.specs.Declarations.{assertion, declaration}
 use Rattle.parse_spec.specs.Nested.{expr}
@@ -79,9 +79,9 @@ module _ (stmt_in : Parser Stmt) where
   unfoldable pub if_stmt : Parser Stmt
   if_stmt = do
     e ← in_parentheses
-    yes ← scoped stmt_in
-    no ← else_part
-    pure (stmt.If e yes no)
+    body ← scoped stmt_in
+    other ← else_part
+    pure (stmt.If e body other)
 
   unfoldable pub switch_stmt : Parser Stmt
   switch_stmt = do

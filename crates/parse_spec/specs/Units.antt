@@ -9,7 +9,7 @@ use Rattle.c_ast.specs.declared.statement.Entry.{Entry}
 use Rattle.c_ast.specs.declared.statement.Unit.{Unit as TheUnit}
 use Rattle.c_ast.specs.declared.statement.UnitEntry.{UnitEntry}
 use Rattle.c_ast.specs.declared.statement.UnitEntry.TheVariants as unit
-use Rattle.c_ast.specs.Input.{Input, kind, start_of}
+use Rattle.c_ast.specs.Input.{kind, start_of}
 use Rattle.c_grammar.specs.Rules.{declares_typedef}
 use Rattle.parse_spec.specs.Declarations.{assertion, declaration_specs, named_declarator, more_parts}
 use Rattle.parse_spec.specs.Statements.{body}
@@ -30,7 +30,7 @@ declared_as s = do
   d ← named_declarator (declares_typedef s.words)
   brace ← eat m.OpenBrace
   if brace then (do all ← function_body; pure (unit.Function s d all))
-  else (do all ← more_parts (declares_typedef s.words) d; pure (unit.Declaration (record { specs = s; parts = all })))
+      else (do all ← more_parts (declares_typedef s.words) d; pure (unit.Declaration (record { specs = s; parts = all })))
 
 -- a declaration or a function definition
 unfoldable pub declared : Parser UnitEntry
@@ -43,7 +43,7 @@ unfoldable pub unit_entry : Parser UnitEntry
 unit_entry = do
   empty ← eat m.Semicolon
   if empty then pure unit.Empty
-  else (λ i. (if sees_word w.StaticAssert i then (do p ← assertion; pure (unit.Assertion p.0 p.1)) else declared) i)
+      else (λ i. (if sees_word w.StaticAssert i then (do p ← assertion; pure (unit.Assertion p.0 p.1)) else declared) i)
 
 abbrev pub unit_of : List UnitEntry → TheUnit
 unit_of all = record { entries = all }
