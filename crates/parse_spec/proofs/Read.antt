@@ -27,4 +27,6 @@ read = record {
   cast = refl;
   dangling_else = refl;
   designators = refl;
+  hidden = refl;
+  restored = refl;
 }

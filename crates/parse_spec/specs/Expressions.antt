@@ -32,7 +32,7 @@ abbrev pub leaf : ExprNode → Parser Expr
 leaf node = λ i. Some (made i.at node, next i)
 
 unfoldable pub name_expr : Parser Expr
-name_expr = λ i. if is_typedef i then None else leaf (node.Name i.at) i
+name_expr = λ i. (if is_typedef i then refuse else leaf (node.Name i.at)) i
 
 unfoldable pub string_expr : Parser Expr
 string_expr = λ i. (do count ← strings; pure (made i.at (node.Strings i.at count))) i

@@ -5,6 +5,8 @@ pub mod Initializers
 pub mod Nested
 pub mod Operators
 pub mod Places
+pub mod ScopeLaws
+pub mod Scopes
 pub mod Sentences
 pub mod Specifiers
 pub mod Statements

@@ -96,6 +96,15 @@ bracketed = word w.Int ∷ name (codes "x") ∷ mark m.Equal ∷ mark m.OpenPare
 abbrev pub typedef_a : Spelled
 typedef_a = word w.Typedef ∷ word w.Int ∷ name (codes "A") ∷ mark m.Semicolon ∷ []
 
+-- `A A; A x;`
+abbrev pub hidden_a : Spelled
+hidden_a = name (codes "A") ∷ name (codes "A") ∷ mark m.Semicolon ∷ name (codes "A") ∷ name (codes "x") ∷ mark m.Semicolon ∷ []
+
+-- `void f(void) { int A; } A x;`
+abbrev pub restored_a : Spelled
+restored_a = word w.Void ∷ name (codes "f") ∷ mark m.OpenParen ∷ word w.Void ∷ mark m.CloseParen ∷ mark m.OpenBrace
+    ∷ word w.Int ∷ name (codes "A") ∷ mark m.Semicolon ∷ mark m.CloseBrace ∷ name (codes "A") ∷ name (codes "x") ∷ mark m.Semicolon ∷ []
+
 -- `void f(void) { if (a) if (b) goto x; else goto y; }`
 abbrev pub dangling : Spelled
 dangling = word w.Void ∷ name (codes "f") ∷ mark m.OpenParen ∷ word w.Void ∷ mark m.CloseParen ∷ mark m.OpenBrace
@@ -109,8 +118,9 @@ abbrev pub designated : Spelled
 designated = word w.Int ∷ name (codes "x") ∷ mark m.Equal ∷ mark m.OpenBrace ∷ mark m.Dot ∷ name (codes "a") ∷ mark m.OpenBracket
     ∷ number ∷ mark m.CloseBracket ∷ mark m.Dot ∷ name (codes "b") ∷ mark m.Equal ∷ number ∷ mark m.CloseBrace ∷ mark m.Semicolon ∷ []
 
-abbrev pub no_parameters : Declarator
-no_parameters = d.Function (ident 1) (record { specs = plain w.Void; declarator = d.Ident None } ∷ []) false
+-- `f(void)`, where `f` is this token
+abbrev pub no_parameters : ℕ → Declarator
+no_parameters n = d.Function (ident n) (record { specs = plain w.Void; declarator = d.Ident None } ∷ []) false
 
 abbrev pub nested_if : Stmt
 nested_if = stmt.If (named 8) (stmt.If (named 12) (stmt.Goto 15) (Some (stmt.Goto 19))) None
@@ -132,9 +142,16 @@ pub record ReadSentences : Type 0 where
       (record { specs = record { words = []; base = base.Typedef 8 }; declarator = d.Ident None })
       (made 10 (node.Unary u.Deref (named 11))))))) ∷ [])
   pub dangling_else : tree_of (text_of dangling) ≡ unit_of (
-      unit.Function (plain w.Void) no_parameters (entry.Statement nested_if ∷ []) ∷ [])
+      unit.Function (plain w.Void) (no_parameters 1) (entry.Statement nested_if ∷ []) ∷ [])
   pub designators : tree_of (text_of designated) ≡ unit_of (declared_as (plain w.Int) (ident 1)
       (Some (init.Braced 3 (record {
         designators = designator.Member 5 ∷ designator.Element (made 7 (node.Number 7)) ∷ designator.Member 10 ∷ [];
         init = init.Single (made 12 (node.Number 12));
       } ∷ []))) ∷ [])
+  -- a typedef name is hidden from the end of the declarator on, and stands again behind the block
+  pub hidden : tree_of (text_of (typedef_a ++ hidden_a)) ≡ None
+  pub restored : tree_of (text_of (typedef_a ++ restored_a)) ≡ unit_of (
+      declared_as (record { words = w.Typedef ∷ w.Int ∷ []; base = base.Plain }) (ident 2) None
+      ∷ unit.Function (plain w.Void) (no_parameters 5)
+      (entry.Declaration (record { specs = plain w.Int; parts = record { declarator = ident 11; init = None } ∷ [] }) ∷ [])
+      ∷ declared_as (record { words = []; base = base.Typedef 14 }) (ident 15) None ∷ [])

@@ -113,7 +113,7 @@ module _ (expr : ℕ → Parser Expr) (declarator : Mode → Parser Declarator) 
   -- behind a type specifier no name is a typedef name (6.7.8p3)
   abbrev pub name_base : Bool → Parser Base
   name_base true = pure base.Plain
-  name_base false = λ i. if is_typedef i then Some (base.Typedef i.at, next i) else Some (base.Plain, i)
+  name_base false = λ i. (if is_typedef i then (λ j. Some (base.Typedef j.at, next j)) else pure base.Plain) i
 
   abbrev pub base_by : Bool → Option TokenKind → Parser Base
   base_by typed (Some (token.Keyword w.Struct)) = take_token >> tagged false

@@ -3,4 +3,4 @@
 
 mod laws;
 
-pub use laws::law_read_sentences;
+pub use laws::{law_read_sentences, law_scopes_end};
