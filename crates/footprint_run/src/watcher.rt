@@ -1,7 +1,7 @@
 // The watch that keeps the open evaluations of a run.
 ghost use Rattle.footprint.specs.Conflicts.{MayConflict};
 
-use core_run::{Go, View, Watch};
+use canonical_run::{Go, View, Watch};
 use evaluations::{Evaluations, Found, Rule, Rules, first_of, last_operand_of, line_of};
 use prov_memory::Touched;
 use std::alloc::Global;
