@@ -52,15 +52,11 @@ pub fn run<W: Watch>(
     let mut machine = prepare(alloc, program, &code, input, args, mode)?;
     let mut frames = Frames::new(alloc);
     let ran = follow(&mut machine, &mut frames, budget, watch)?;
-    let Machine {
-        memory,
-        streams,
-        ..
-    } = machine;
+    let (output, map) = machine.into_output_and_map();
     Ok(RunState {
         ran,
-        output: streams.into_output(),
-        map: memory.into_map(),
+        output,
+        map,
         frames,
     })
 }

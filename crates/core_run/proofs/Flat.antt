@@ -1,5 +1,5 @@
 -- Events of steps and of terms, part by part.
-use Rattle.std.proofs.Common.{◌≡◌, ℕ, refl, sym, ◌∙◌, ap, List, [], ◌∷◌, ◌++◌}
+use Rattle.std.proofs.Common.{◌≡◌, ℕ, refl, sym, ◌∙◌, ap, List, [], ◌∷◌, ◌++◌, append_assoc}
 use Rattle.std.specs.Prelude.{Bool, true, false, nat_lt, if◌then◌else◌}
 use Rattle.c_typed.specs.declared.tree.Place.{Place}
 use Rattle.core_run.specs.declared.steps.Step.{Step}
@@ -27,3 +27,8 @@ pub within-append : (n : ℕ) (xs ys : List Place) → within n (xs ++ ys) ≡ w
 within-append n [] ys = refl
 within-append n (p ∷ xs) ys =
     ap (λ z. if nat_lt p.node n then p ∷ z else z) (within-append n xs ys) ∙ within_if (nat_lt p.node n) p (within n xs) (within n ys)
+
+-- two parts, one after the other
+pub parts : (n : ℕ) (a b xs ys zs : List Place) → ys ≡ xs ++ within n a → zs ≡ ys ++ within n b → zs ≡ xs ++ within n (a ++ b)
+parts n a b xs ys zs p q =
+    q ∙ ap (λ w. w ++ within n b) p ∙ append_assoc xs (within n a) (within n b) ∙ ap (λ w. xs ++ w) (sym (within-append n a b))

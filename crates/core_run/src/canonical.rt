@@ -4,8 +4,8 @@ use crate::machine::{Machine, Open};
 use crate::steps::Code;
 use addr_map::Mode;
 use c_typed::{Access, Program};
-use node_acts::{Filling, Places, fillings, start};
-use prov_memory::{Memory, Streams, Touched, TypeId, Via};
+use node_acts::{Filling, Places, Started, fillings, start};
+use prov_memory::{Memory, Streams, Touched, TypeId, Value, Via};
 use std::alloc::Global;
 use ub_base::{Bytes, Frame, Items, NoMemory};
 
@@ -57,6 +57,52 @@ fn first_frame(program: &Program, code: &Code) -> Open {
     }
 }
 
+// Memory with the objects before the first pick, where they stand, and the arguments of `main`.
+#[derive(Drop)]
+struct Placed {
+    memory: Memory,
+    places: Places,
+    values: Vec<Value>,
+}
+
+fn placed_objects(
+    alloc: Global,
+    program: &Program,
+    args: &[String],
+    mode: Mode,
+) -> Result<Placed, NoMemory> {
+    let mut memory = Memory::new(alloc, mode);
+    let Ok(started) = start(alloc, program, args, &mut memory) else {
+        return Err(NoMemory);
+    };
+    let Started {
+        places,
+        count,
+        vector,
+    } = started;
+    let mut values = Vec::new(alloc);
+    values.push(count)?;
+    values.push(vector)?;
+    Ok(Placed {
+        memory,
+        places,
+        values,
+    })
+}
+
+// What a pick touches, and what one act of it touches.
+#[derive(Drop)]
+struct TouchedItems {
+    pick: Touched,
+    act: Touched,
+}
+
+fn no_items(alloc: Global) -> Result<TouchedItems, NoMemory> {
+    let pick = Touched::new(alloc)?;
+    let act = Touched::new(alloc)?;
+    Ok(TouchedItems { pick, act })
+}
+
 /// The machine of a program before its first pick.
 pub fn prepare<'p, 'c>(
     alloc: Global,
@@ -66,23 +112,34 @@ pub fn prepare<'p, 'c>(
     args: &[String],
     mode: Mode,
 ) -> Result<Machine<'p, 'c>, NoMemory> {
-    let mut memory = Memory::new(alloc, mode);
-    let started = match start(alloc, program, args, &mut memory) {
-        Ok(started) => started,
-        Err(_) => return Err(NoMemory),
-    };
-    let vias = vias_of(alloc, code, &mut memory)?;
-    let fillings = fillings_of(alloc, code, &mut memory, &started.places)?;
-    let node_acts::Started {
+    let mut first = placed_objects(alloc, program, args, mode)?;
+    let vias = vias_of(alloc, code, &mut first.memory)?;
+    let fillings = fillings_of(alloc, code, &mut first.memory, &first.places)?;
+    let items = no_items(alloc)?;
+    let streams = Streams::new(alloc, input);
+    let mut machine = assembled(alloc, program, code, streams, first, vias, fillings, items);
+    let objects = machine.top.above;
+    machine.grow_locals(objects)?;
+    Ok(machine)
+}
+
+fn assembled<'p, 'c>(
+    alloc: Global,
+    program: &'p Program,
+    code: &'c Code<'p>,
+    streams: Streams,
+    first: Placed,
+    vias: Vec<Via>,
+    fillings: Vec<Items<Filling>>,
+    items: TouchedItems,
+) -> Machine<'p, 'c> {
+    let Placed {
+        memory,
         places,
-        count,
-        vector,
-    } = started;
-    let mut values = Vec::new(alloc);
-    values.push(count)?;
-    values.push(vector)?;
-    let top = first_frame(program, code);
-    let mut machine = Machine {
+        values,
+    } = first;
+    let TouchedItems { pick, act } = items;
+    Machine {
         alloc,
         program,
         code,
@@ -90,9 +147,9 @@ pub fn prepare<'p, 'c>(
         fillings,
         places,
         memory,
-        streams: Streams::new(alloc, input),
+        streams,
         below: Vec::new(alloc),
-        top,
+        top: first_frame(program, code),
         depth: 1,
         begun: Vec::new(alloc),
         open: 0,
@@ -100,9 +157,7 @@ pub fn prepare<'p, 'c>(
         awaited: Vec::new(alloc),
         locals: Vec::new(alloc),
         left: None,
-        items: Touched::new(alloc)?,
-        spare: Touched::new(alloc)?,
-    };
-    machine.grow_locals(top.above)?;
-    Ok(machine)
+        items: pick,
+        spare: act,
+    }
 }

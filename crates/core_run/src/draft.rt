@@ -131,7 +131,7 @@ impl<'p, 't> Draft<'p, 't> {
     }
 
     pub fn step(&mut self, step: Step<'p>) -> Result<(), NoMemory>
-        ensures { OnOk result (self.new.code.steps.items ≡ self.old.code.steps.items ++ step ∷ []) }
+        ensures { OnOk result (self.new.code.steps.items ≡ self.old.code.steps.items ++ step.entry ∷ []) }
     {
         self.code.steps.push(step)?;
         Ok(())

@@ -4,11 +4,12 @@ ghost use Rattle.std.specs.Prelude.{◌≡◌};
 use crate::steps::{Code, Operand, Step};
 use crate::told::Told;
 use crate::watch::Begun;
+use addr_map::AddrMap;
 use c_typed::Program;
 use node_acts::{Filling, Places, Pointer, as_integer, as_pointer, pointer_to, truth};
 use prov_memory::{Memory, Streams, Touched, Value, Via};
 use std::alloc::Global;
-use ub_base::{Cause, Clause, Event, Frame, Items, NoMemory, ObjName};
+use ub_base::{Bytes, Cause, Clause, Event, Frame, Items, NoMemory, ObjName};
 
 // An open frame.
 #[derive(Clone, Copy)]
@@ -91,6 +92,16 @@ impl<'p, 'c> Machine<'p, 'c> {
         ensures { self.new ≡ record self.old { top = record self.old.top { frame = frame } } }
     {
         self.top.frame = frame;
+    }
+
+    /// The output and the map of a run that has ended.
+    pub fn into_output_and_map(self) -> (Bytes, AddrMap) {
+        let Machine {
+            memory,
+            streams,
+            ..
+        } = self;
+        (streams.into_output(), memory.into_map())
     }
 
     // The value of a node of the open full expression.
