@@ -6,8 +6,8 @@ ghost use Rattle.footprint_run.specs.Findings.{picks_of, IsOutOfSteps, ItemsConf
 use crate::finding::{Audit, Finding, Race};
 use crate::watcher::{Seen, Watcher};
 use addr_map::Mode;
-use core_ir::CoreProgram;
 use canonical_run::{Ran, RunState, run};
+use core_ir::CoreProgram;
 use std::alloc::Global;
 use ub_base::{Clause, NoMemory};
 
