@@ -3,7 +3,7 @@
 use crate::cursor::Choice;
 use c_scope::State;
 use c_typed::{Constant, Content};
-use c_types::Ty;
+use c_types::{Member, Ty};
 use ub_base::{Items, NoMemory};
 
 /// The zeros of an object: its bytes that are taken already, as (start, end) in order; the members of unions that are named,
@@ -13,15 +13,10 @@ pub struct Zeros<'a> {
     pub taken: &'a [(u64, u64)],
     pub choices: &'a [Choice],
     pub runs: Vec<(u64, u64)>,
-    /// How many parts may still be visited.
-    pub room: u32,
 }
 
-/// How many parts of an object are visited at most; more count as want of memory.
-pub const MOST_PARTS: u32 = 0x200_0000;
-
-/// How deep types may nest; the nest of a text bounds it far below.
-pub const DEEPEST: u32 = 0x10_0000;
+// How many parts of an object are visited at most; more count as want of memory.
+const MOST_PARTS: u32 = 0x200_0000;
 
 impl Zeros<'_> {
     // Adds a run of zeros, joined to the last one where it goes on there.
@@ -53,14 +48,6 @@ impl Zeros<'_> {
         self.add(from, end)
     }
 
-    fn visit(&mut self) -> Result<(), NoMemory> {
-        if self.room == 0 {
-            return Err(NoMemory);
-        }
-        self.room -= 1;
-        Ok(())
-    }
-
     // Which member of the union is named.
     fn chosen(&self, offset: u64, tag: u32) -> u64 {
         let at = self
@@ -81,132 +68,147 @@ fn size_of(state: &State, ty: &Ty) -> u64 {
 }
 
 // Whether each byte of the type belongs to a scalar, whichever members of unions count.
-#[cycle(dense)]
-fn is_dense(state: &State, depth: u32, ty: &Ty) -> bool {
-    if depth == 0 {
-        return false;
+fn is_dense(state: &State, ty: &Ty) -> Result<bool, NoMemory> {
+    let mut left = Vec::new(state.alloc);
+    left.push(ty)?;
+    for _ in 0..MOST_PARTS {
+        let Some(ty) = left.pop() else {
+            return Ok(true);
+        };
+        match ty {
+            Ty::Array(element, _) => left.push(&element.get().ty)?,
+            Ty::Struct(tag) => {
+                let members = members_of(state, *tag);
+                if sum_of(state, members) != size_of(state, ty) {
+                    return Ok(false);
+                }
+                push_types(members, &mut left)?;
+            }
+            Ty::Union(_) | Ty::Void | Ty::Function(_) => return Ok(false),
+            Ty::Int(_) | Ty::Enum(_) | Ty::Pointer(_) => {}
+        }
     }
-    match ty {
-        Ty::Array(element, _) => is_dense(state, depth - 1, &element.get().ty),
-        Ty::Struct(tag) => are_dense(state, depth - 1, *tag),
-        Ty::Union(_) | Ty::Void | Ty::Function(_) => false,
-        Ty::Int(_) | Ty::Enum(_) | Ty::Pointer(_) => true,
+    Ok(false)
+}
+
+fn members_of(state: &State, tag: u32) -> &[Member] {
+    match state.tags.get(tag) {
+        Some(content) => content.members.as_slice(),
+        None => &[],
     }
 }
 
-#[cycle(dense)]
-fn are_dense(state: &State, depth: u32, tag: u32) -> bool {
-    let Some(content) = state.tags.get(tag) else {
-        return false;
-    };
+// How many bytes the members have.
+fn sum_of(state: &State, members: &[Member]) -> u64 {
     let mut sum: u64 = 0;
-    for member in content.members.as_slice() {
-        if depth == 0 || !is_dense(state, depth - 1, &member.qual.ty) {
-            return false;
-        }
+    for member in members {
         sum = sum.saturating_add(size_of(state, &member.qual.ty));
     }
-    sum == size_of(state, &Ty::Struct(tag))
+    sum
 }
 
-/// Adds the zeros of a part of this type that begins at the offset.
-#[cycle(zeros)]
-pub fn add_zeros(
-    state: &State,
-    depth: u32,
-    ty: &Ty,
+fn push_types<'s>(members: &'s [Member], left: &mut Vec<&'s Ty>) -> Result<(), NoMemory> {
+    for member in members {
+        left.push(&member.qual.ty)?;
+    }
+    Ok(())
+}
+
+// Parts of one type, one after another, that are still to be visited, and where the first of them begins.
+#[derive(Clone, Copy)]
+struct Parts<'s> {
+    ty: &'s Ty,
     offset: u64,
+    count: u64,
+}
+
+/// Adds the zeros of an object of this type. The parts that are still to be visited stand in a list, the first last, so
+/// structures one inside the other cost none of the host's stack.
+pub fn add_zeros(state: &State, ty: &Ty, zeros: &mut Zeros<'_>) -> Result<(), NoMemory> {
+    let mut left = Vec::new(state.alloc);
+    left.push(Parts {
+        ty,
+        offset: 0,
+        count: 1,
+    })?;
+    for _ in 0..MOST_PARTS {
+        let Some(parts) = left.pop() else {
+            return Ok(());
+        };
+        if parts.count > 1 {
+            left.push(Parts {
+                ty: parts.ty,
+                offset: parts.offset.saturating_add(size_of(state, parts.ty)),
+                count: parts.count - 1,
+            })?;
+        }
+        if parts.count > 0 {
+            open(state, parts.ty, parts.offset, &mut left, zeros)?;
+        }
+    }
+    Err(NoMemory)
+}
+
+// Adds the zeros of a part that has no parts, or puts those that it has on the list.
+fn open<'s>(
+    state: &'s State,
+    ty: &'s Ty,
+    offset: u64,
+    left: &mut Vec<Parts<'s>>,
     zeros: &mut Zeros<'_>,
 ) -> Result<(), NoMemory> {
-    zeros.visit()?;
-    if depth == 0 {
-        return Err(NoMemory);
-    }
-    let size = size_of(state, ty);
     match ty {
-        Ty::Array(element, Some(count)) => {
-            if is_dense(state, DEEPEST, ty) {
-                zeros.gaps(offset, offset.saturating_add(size))
-            } else {
-                element_zeros(state, depth - 1, &element.get().ty, *count, offset, zeros)
-            }
+        Ty::Array(element, Some(count)) if *count == 1 || !is_dense(state, ty)? => {
+            left.push(Parts {
+                ty: &element.get().ty,
+                offset,
+                count: *count,
+            })?;
+            Ok(())
         }
-        Ty::Struct(tag) => member_zeros(state, depth - 1, *tag, offset, zeros),
+        Ty::Struct(tag) => push_members(state, *tag, offset, left),
         Ty::Union(tag) => {
             let index = zeros.chosen(offset, *tag);
-            one_member(state, depth - 1, *tag, index, offset, zeros)
+            match usize::try_from(index) {
+                Ok(index) => push_member(state, *tag, index, offset, left),
+                Err(_) => Ok(()),
+            }
         }
-        _ => zeros.gaps(offset, offset.saturating_add(size)),
+        _ => zeros.gaps(offset, offset.saturating_add(size_of(state, ty))),
     }
 }
 
-#[cycle(zeros)]
-fn element_zeros(
-    state: &State,
-    depth: u32,
-    element: &Ty,
-    count: u64,
+// The members of a structure, the last first.
+fn push_members<'s>(
+    state: &'s State,
+    tag: u32,
     offset: u64,
-    zeros: &mut Zeros<'_>,
+    left: &mut Vec<Parts<'s>>,
 ) -> Result<(), NoMemory> {
-    let size = size_of(state, element);
-    let mut at = offset;
-    for _ in 0..count {
-        if depth == 0 {
-            return Err(NoMemory);
-        }
-        add_zeros(state, depth - 1, element, at, zeros)?;
-        at = at.saturating_add(size);
+    for index in (0..members_of(state, tag).len()).rev() {
+        push_member(state, tag, index, offset, left)?;
     }
     Ok(())
 }
 
-#[cycle(zeros)]
-fn member_zeros(
-    state: &State,
-    depth: u32,
+fn push_member<'s>(
+    state: &'s State,
     tag: u32,
+    index: usize,
     offset: u64,
-    zeros: &mut Zeros<'_>,
+    left: &mut Vec<Parts<'s>>,
 ) -> Result<(), NoMemory> {
-    let count = match state.tags.get(tag) {
-        Some(content) => content.members.len(),
-        None => 0,
-    };
-    for index in 0..count {
-        if depth == 0 {
-            return Err(NoMemory);
-        }
-        one_member(state, depth - 1, tag, index as u64, offset, zeros)?;
+    if let (Some(member), Some(within)) = (
+        members_of(state, tag).get(index),
+        state.tags.offset_of(tag, index),
+    ) {
+        left.push(Parts {
+            ty: &member.qual.ty,
+            offset: offset.saturating_add(within),
+            count: 1,
+        })?;
     }
     Ok(())
-}
-
-#[cycle(zeros)]
-fn one_member(
-    state: &State,
-    depth: u32,
-    tag: u32,
-    index: u64,
-    offset: u64,
-    zeros: &mut Zeros<'_>,
-) -> Result<(), NoMemory> {
-    let index = usize::try_from(index).unwrap_or(usize::MAX);
-    let Some(content) = state.tags.get(tag) else {
-        return Ok(());
-    };
-    match (content.members.get(index), state.tags.offset_of(tag, index)) {
-        (Some(member), Some(within)) if depth > 0 => {
-            add_zeros(
-                state,
-                depth - 1,
-                &member.qual.ty,
-                offset.saturating_add(within),
-                zeros,
-            )
-        }
-        _ => Ok(()),
-    }
 }
 
 /// The runs as constants.
