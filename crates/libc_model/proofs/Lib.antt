@@ -1,1 +1,4 @@
+pub mod Allocating
+pub mod Answering
+pub mod Scripts
 pub mod Seen

@@ -2,6 +2,7 @@
 ghost use Rattle.std.specs.Prelude.{◌≡◌, IsTrue};
 ghost use Rattle.c_types.specs.declared.kind.IntKind.TheVariants.{ULong};
 ghost use Rattle.c_types.specs.Kinds.{holds};
+ghost use Rattle.prov_memory.specs.declared.value.Value.TheVariants.{Ptr};
 ghost use Rattle.libc_spec.specs.Library.{argument_at, pointer_in, integer_in, size_of_value};
 ghost use Rattle.libc_model.specs.Seen.{value_seen, values_seen, pointer_seen};
 
@@ -25,7 +26,7 @@ impl Pointer {
 
     /// As a value.
     pub fn value(self) -> Value
-        ensures { value_seen result ≡ pointer_seen self }
+        ensures { result ≡ Ptr self.addr self.prov }
     {
         Value::Ptr {
             addr: self.addr,

@@ -1,6 +1,14 @@
 // The functions of the library, each with its act.
-ghost use Rattle.std.specs.Prelude.{◌≡◌, ◌≢◌, ◌<◌, ◌+◌, ◌^◌, nat_lt, Some, None, if◌then◌else◌};
-ghost use Rattle.c_types.specs.declared.library.LibFunc.TheVariants.{Printf};
+ghost use Rattle.std.specs.Prelude.{◌≡◌, ◌≢◌, ◌<◌, ◌≤◌, ◌+◌, ◌^◌, true, false, nat_lt, Some, None, Ok, Err, length, List, [], OnErr, if◌then◌else◌};
+ghost use Rattle.c_types.specs.declared.library.LibFunc.TheVariants.{Malloc, Free, Getchar, Putchar, Exit, Abort, Printf};
+ghost use Rattle.ub_base.specs.declared.clause.Cause.TheVariants.{Output};
+ghost use Rattle.prov_memory.specs.Memory.{Kept, AreKnown, store_of};
+ghost use Rattle.prov_memory.specs.Streams.{Io};
+ghost use Rattle.prov_memory.specs.declared.answer.LibAnswer.TheVariants as answers;
+ghost use Rattle.libc_spec.specs.Library.{LibValue, called, byte_or_end, integer_in, argument_at};
+ghost use Rattle.ub_base.specs.declared.names.Event.{Event};
+ghost use Rattle.libc_model.specs.Seen.{values_seen};
+ghost use Rattle.libc_model.specs.Answers.{IsCall, AreWithin, Answers, answer_in, given_value, is_exact, leaves_all, wants_memory};
 
 use crate::arguments::{check_string, int_at, pointer_at, size_at};
 use crate::bytes::{read, settle};
@@ -28,6 +36,10 @@ pub fn call(
     t: &mut Touched,
 ) -> LibAnswer
     requires { f ≢ Printf }
+    ensures exact { is_exact f ≡ true → IsCall f (values_seen args.now) m.old io.old → Answers result t.new (store_of m.new io.new) (called m.new.rows f (values_seen args.now) who (store_of m.old io.old)) }
+    ensures known { is_exact f ≡ true → AreKnown m.old → wants_memory result ≡ false → AreKnown m.new }
+    ensures same { is_exact f ≡ true → leaves_all f result ≡ true → (m.new ≡ m.old) × (io.new ≡ io.old) }
+    ensures within { is_exact f ≡ true → AreWithin io.old → AreWithin io.new }
 {
     t.clear();
     match value_of(alloc, f, args.as_slice(), who, m, io, t) {
@@ -45,10 +57,15 @@ fn value_of(
     io: &mut Streams,
     t: &mut Touched,
 ) -> Result<Value, LibAnswer>
-    requires { f ≢ Printf }
+    requires printf { f ≢ Printf }
+    requires items { t.old ≡ [] }
+    ensures exact { is_exact f ≡ true → IsCall f (values_seen args.now) m.old io.old → Answers (answer_in result) t.new (store_of m.new io.new) (called m.new.rows f (values_seen args.now) who (store_of m.old io.old)) }
+    ensures known { is_exact f ≡ true → AreKnown m.old → wants_memory (answer_in result) ≡ false → AreKnown m.new }
+    ensures same { is_exact f ≡ true → leaves_all f (answer_in result) ≡ true → (m.new ≡ m.old) × (io.new ≡ io.old) }
+    ensures within { is_exact f ≡ true → AreWithin io.old → AreWithin io.new }
 {
     match f {
-        LibFunc::Malloc => heap::allocate(alloc, size_at(args, 0), who, m, t),
+        LibFunc::Malloc => heap::allocate(size_at(args, 0), who, m, t),
         LibFunc::Calloc => heap::allocate_zeros(alloc, args, who, m, t),
         LibFunc::Realloc => heap::reallocate(alloc, args, who, m, t),
         LibFunc::Free => free(alloc, args, m, t),
@@ -69,22 +86,38 @@ fn value_of(
     }
 }
 
+// free: its value is none.
 fn free(
     alloc: Global,
     args: &[Value],
     m: &mut Memory,
     t: &mut Touched,
-) -> Result<Value, LibAnswer> {
+) -> Result<Value, LibAnswer>
+    ensures exact { (io : Io) → AreWithin io → IsCall Free (values_seen args.now) m.old io → (who : Event) → Answers (answer_in result) t.new (store_of m.new io) (called m.new.rows Free (values_seen args.now) who (store_of m.old io)) }
+    ensures known { AreKnown m.old → AreKnown m.new }
+    ensures same { OnErr result (m.new ≡ m.old) }
+{
     heap::free(alloc, pointer_at(args, 0), Clause::Free, m, t)?;
     Ok(Value::Nothing)
 }
 
 // getchar: the next byte of the input, or -1 at its end.
-fn getchar(io: &mut Streams, t: &mut Touched) -> Result<Value, LibAnswer> {
+fn getchar(io: &mut Streams, t: &mut Touched) -> Result<Value, LibAnswer>
+    requires { t.old ≡ [] }
+    ensures exact { (m : Kept) (vs : List LibValue) (who : Event) → AreWithin io.old → Answers (answer_in result) t.new (store_of m io.new) (called m.rows Getchar vs who (store_of m io.old)) }
+    ensures same { OnErr result (io.new ≡ io.old) }
+    ensures within { AreWithin io.old → AreWithin io.new }
+{
     t.add(Item::Input)?;
-    match io.next() {
-        Some(byte) => Ok(Value::Int(i128::from(byte))),
-        None => Ok(Value::Int(-1)),
+    Ok(byte_or_end(io.next()))
+}
+
+fn byte_or_end(next: Option<u8>) -> Value
+    ensures { result ≡ given_value (byte_or_end next) }
+{
+    match next {
+        Some(byte) => Value::Int(i128::from(byte)),
+        None => Value::Int(-1),
     }
 }
 
@@ -97,7 +130,9 @@ pub fn output_past(written: u64, more: u64) -> Option<u64>
 }
 
 // Whether so many more bytes of output pass the limit.
-fn check_output(io: &Streams, more: u64) -> Result<(), LibAnswer> {
+fn check_output(io: &Streams, more: u64) -> Result<(), LibAnswer>
+    ensures { length io.now.output + more < 2 ^ 64 → result ≡ (if nat_lt (2 ^ 24) (length io.now.output + more) then Err (answers.Outside Output (length io.now.output + more)) else Ok tt) }
+{
     match output_past(io.written(), more) {
         Some(total) => Err(LibAnswer::Outside(Cause::Output, total)),
         None => Ok(()),
@@ -105,7 +140,12 @@ fn check_output(io: &Streams, more: u64) -> Result<(), LibAnswer> {
 }
 
 // putchar: the byte of the number modulo 256, which it gives.
-fn putchar(number: i128, io: &mut Streams, t: &mut Touched) -> Result<Value, LibAnswer> {
+fn putchar(number: i128, io: &mut Streams, t: &mut Touched) -> Result<Value, LibAnswer>
+    requires { t.old ≡ [] }
+    ensures exact { (m : Kept) (vs : List LibValue) (who : Event) → number ≡ integer_in (argument_at vs 0) → AreWithin io.old → Answers (answer_in result) t.new (store_of m io.new) (called m.rows Putchar vs who (store_of m io.old)) }
+    ensures same { OnErr result (io.new ≡ io.old) }
+    ensures within { AreWithin io.old → AreWithin io.new }
+{
     let byte = ranges::low_byte(number);
     check_output(io, 1)?;
     t.add(Item::Output)?;
@@ -133,12 +173,19 @@ fn puts(
     Ok(Value::Int(1))
 }
 
-fn exit(status: i128, t: &mut Touched) -> Result<Value, LibAnswer> {
+// exit: the end of the run with the status modulo 256.
+fn exit(status: i128, t: &mut Touched) -> Result<Value, LibAnswer>
+    requires { t.old ≡ [] }
+    ensures exact { (m : Kept) (io : Io) (vs : List LibValue) (who : Event) → status ≡ integer_in (argument_at vs 0) → AreWithin io → Answers (answer_in result) t.new (store_of m io) (called m.rows Exit vs who (store_of m io)) }
+{
     t.add(Item::Ending)?;
     Err(LibAnswer::End(ranges::low_byte(status)))
 }
 
-fn abort(t: &mut Touched) -> Result<Value, LibAnswer> {
+fn abort(t: &mut Touched) -> Result<Value, LibAnswer>
+    requires { t.old ≡ [] }
+    ensures exact { (m : Kept) (io : Io) (vs : List LibValue) (who : Event) → AreWithin io → Answers (answer_in result) t.new (store_of m io) (called m.rows Abort vs who (store_of m io)) }
+{
     t.add(Item::Ending)?;
     Err(LibAnswer::End(ABORTED))
 }

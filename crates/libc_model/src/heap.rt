@@ -1,7 +1,18 @@
 // Allocation (7.22.3).
 
-ghost use Rattle.std.specs.Prelude.{◌≡◌, ◌+◌, ◌*◌, ◌^◌, min, max, Some, None, if◌then◌else◌};
-ghost use Rattle.libc_spec.specs.Library.{is_given, heap_name};
+ghost use Rattle.std.specs.Prelude.{◌≡◌, ◌≢◌, ◌+◌, ◌*◌, ◌^◌, min, max, true, nat_lt, Some, None, Ok, Err, OnOk, OnErr, [], if◌then◌else◌};
+ghost use Rattle.ub_base.specs.declared.clause.Cause.TheVariants.{Created};
+ghost use Rattle.exposure.specs.declared.prov.Prov.TheVariants.{Whole, Either};
+ghost use Rattle.exposure.specs.Cells.{has_cell};
+ghost use Rattle.prov_memory.specs.declared.answer.LibAnswer.TheVariants as answers;
+ghost use Rattle.prov_memory.specs.Acts.{create};
+ghost use Rattle.prov_memory.specs.Held.{held_of};
+ghost use Rattle.prov_memory.specs.Memory.{AreKnown, HasCell, life_in, store_of};
+ghost use Rattle.prov_memory.specs.Script.{run};
+ghost use Rattle.prov_memory.specs.Streams.{Io};
+ghost use Rattle.addr_map.specs.Rows.{row_of};
+ghost use Rattle.libc_spec.specs.Library.{is_given, is_heap_start, heap_name, heap_kind, malloc, free, created_within};
+ghost use Rattle.libc_model.specs.Answers.{Does, given_value};
 
 use crate::arguments::{Pointer, Range, pointer_at, size_at};
 use crate::bytes::{filled, put, settle};
@@ -54,7 +65,9 @@ fn sum_with(created: u64, size: u64) -> u64
 }
 
 // Whether an object of this size passes the limit on created bytes.
-fn check_created(m: &Memory, size: u64) -> Result<(), LibAnswer> {
+fn check_created(m: &Memory, size: u64) -> Result<(), LibAnswer>
+    ensures { result ≡ (if nat_lt (2 ^ 26) (min (m.now.created + max size 16) (2 ^ 62)) then Err (answers.Outside Created (min (m.now.created + max size 16) (2 ^ 62))) else Ok tt) }
+{
     let sum = sum_with(m.created(), size);
     if sum > CREATED {
         Err(LibAnswer::Outside(Cause::Created, sum))
@@ -68,14 +81,18 @@ fn created(
     m: &mut Memory,
     name: ObjName,
     size: u64,
-    scratch: &mut Touched,
-) -> Result<Pointer, LibAnswer> {
+    t: &mut Touched,
+) -> Result<Pointer, LibAnswer>
+    ensures exact { (io : Io) → AreKnown m.old → Does (λ base. record { addr = base; prov = Whole name }) result t.new (store_of m.new io) (run m.new.rows (create m.new.rows name size 16 heap_kind None) (store_of m.old io)) }
+    ensures known { AreKnown m.old → OnOk result (AreKnown m.new) }
+    ensures same { OnErr result (result ≢ Err answers.NoMemory → m.new ≡ m.old) }
+{
     let kind = ObjKind {
         heap: true,
         literal: false,
         constant: false,
     };
-    match m.create(name, size, 16, kind, None, scratch) {
+    match m.create(name, size, 16, kind, None, t) {
         Ok(addr) => Ok(Pointer {
             addr,
             prov: Prov::Whole(name),
@@ -87,19 +104,22 @@ fn created(
 
 /// malloc: null for 0 bytes and for more than 2^20 (own).
 pub fn allocate(
-    alloc: Global,
     size: u64,
     who: Event,
     m: &mut Memory,
     t: &mut Touched,
-) -> Result<Value, LibAnswer> {
+) -> Result<Value, LibAnswer>
+    ensures exact { (io : Io) → AreKnown m.old → Does given_value result t.new (store_of m.new io) (created_within size (store_of m.old io) (run m.new.rows (malloc m.new.rows who size) (store_of m.old io))) }
+    ensures known { AreKnown m.old → OnOk result (AreKnown m.new) }
+    ensures same { OnErr result (result ≢ Err answers.NoMemory → m.new ≡ m.old) }
+{
+    t.clear();
     let Some(size) = given(u128::from(size)) else {
         return Ok(Pointer::NULL.value());
     };
     check_created(m, size)?;
-    let mut scratch = Touched::new(alloc)?;
-    t.add(Item::Born(name_of(who)))?;
-    Ok(created(m, name_of(who), size, &mut scratch)?.value())
+    let new = created(m, name_of(who), size, t)?;
+    Ok(new.value())
 }
 
 /// calloc: the same with the exact product, and zeros.
@@ -170,6 +190,14 @@ fn heap_start(
     }
 }
 
+// Whether the object is a live one of the heap that begins at the address.
+fn is_heap_start(m: &Memory, object: ObjName, addr: u64) -> bool
+    requires { addr ≢ 0 }
+    ensures { result ≡ is_heap_start (row_of m.now.rows object) addr (life_in (held_of m.now.objects object)) }
+{
+    size_from(m, object, addr).is_some()
+}
+
 /// free: nothing for null; 7.22.3.3p2 for what isn't the start of a live heap object, which otherwise dies.
 pub fn free(
     alloc: Global,
@@ -177,15 +205,71 @@ pub fn free(
     clause: Clause,
     m: &mut Memory,
     t: &mut Touched,
-) -> Result<(), LibAnswer> {
+) -> Result<(), LibAnswer>
+    ensures exact { (io : Io) → HasCell m.old pointer.prov → Does (λ u. u) result t.new (store_of m.new io) (run m.new.rows (free m.new.rows pointer.addr pointer.prov clause) (store_of m.old io)) }
+    ensures known { AreKnown m.old → AreKnown m.new }
+    ensures same { OnErr result (m.new ≡ m.old) }
+{
+    t.clear();
     if pointer.addr == 0 {
         return Ok(());
     }
-    let old = heap_start(m, pointer, clause, t)?;
+    match pointer.prov {
+        Prov::Empty => Err(LibAnswer::Raise(clause)),
+        Prov::Whole(object) => free_object(object, pointer.addr, clause, m, t),
+        Prov::Either { id, past, start } => {
+            free_start(alloc, id, past, start, pointer.addr, clause, m, t)
+        }
+    }
+}
+
+// What a pointer of one object frees.
+fn free_object(
+    object: ObjName,
+    addr: u64,
+    clause: Clause,
+    m: &mut Memory,
+    t: &mut Touched,
+) -> Result<(), LibAnswer>
+    requires { addr ≢ 0 }
+    ensures exact { (io : Io) → Does (λ u. u) result t.new (store_of m.new io) (run m.new.rows (free m.new.rows addr (Whole object) clause) (store_of m.old io)) }
+    ensures known { AreKnown m.old → AreKnown m.new }
+    ensures same { OnErr result (m.new ≡ m.old) }
+{
+    if !is_heap_start(m, object, addr) {
+        return Err(LibAnswer::Raise(clause));
+    }
+    m.kill(object, t);
+    Ok(())
+}
+
+// What an ambiguous pointer frees: the object that it may begin.
+fn free_start(
+    alloc: Global,
+    id: Event,
+    past: ObjName,
+    start: ObjName,
+    addr: u64,
+    clause: Clause,
+    m: &mut Memory,
+    t: &mut Touched,
+) -> Result<(), LibAnswer>
+    requires start { addr ≢ 0 }
+    requires items { t.old ≡ [] }
+    ensures exact { (io : Io) → has_cell m.old.cells id ≡ true → Does (λ u. u) result t.new (store_of m.new io) (run m.new.rows (free m.new.rows addr (Either id past start) clause) (store_of m.old io)) }
+    ensures known { AreKnown m.old → AreKnown m.new }
+    ensures same { OnErr result (m.new ≡ m.old) }
+{
+    if !is_heap_start(m, start, addr) {
+        return Err(LibAnswer::Raise(clause));
+    }
     let mut scratch = Touched::new(alloc)?;
-    t.add(Item::Dies(old.object))?;
-    m.kill(old.object, &mut scratch);
-    settle(m, t, &mut scratch);
+    t.add(Item::Narrow { id, keep: start })?;
+    t.add(Item::Dies(start))?;
+    if !m.narrow(id, start) {
+        return Err(LibAnswer::Raise(clause));
+    }
+    m.kill(start, &mut scratch);
     Ok(())
 }
 
@@ -201,7 +285,7 @@ pub fn reallocate(
     let pointer = pointer_at(args, 0);
     let size = size_at(args, 1);
     if pointer.addr == 0 {
-        return allocate(alloc, size, who, m, t);
+        return allocate(size, who, m, t);
     }
     if size == 0 {
         free(alloc, pointer, Clause::Realloc, m, t)?;

@@ -118,6 +118,7 @@ impl Memory {
     /// The object dies, where it was created. Its bytes count as unwritten from now on.
     pub fn kill(&mut self, name: ObjName, t: &mut Touched)
         ensures known { AreKnown self.old → AreKnown self.new }
+        ensures rows { self.new.rows ≡ self.old.rows }
         ensures exact { (io : Io) → run self.new.rows (acts.kill name) (store_of self.old io) ≡ Done tt t.new (store_of self.new io) }
     {
         t.clear();

@@ -1,0 +1,101 @@
+-- What a call answers, against the act that the definitions give it.
+use Rattle.std.specs.Prelude.{◌≡◌, ℕ, ◌≤◌, ◌^◌, min, Bool, true, false, ◌&&◌, List, [], ◌∷◌, length, Result, Ok, Err}
+use Rattle.ub_base.specs.declared.names.Item.{Item}
+use Rattle.c_types.specs.declared.kind.IntKind.TheVariants.{ULong}
+use Rattle.c_types.specs.Kinds.{holds}
+use Rattle.c_types.specs.declared.library.LibFunc.{LibFunc}
+use Rattle.c_types.specs.declared.library.LibFunc.TheVariants.{Malloc, Calloc, Realloc, Free, Memcpy, Memmove, Memset, Memcmp, Getchar, Putchar, Exit, Abort}
+use Rattle.prov_memory.specs.declared.value.Value.{Value}
+use Rattle.prov_memory.specs.declared.value.Value.TheVariants.{Int, Ptr, Nothing}
+use Rattle.prov_memory.specs.declared.answer.LibAnswer.{LibAnswer}
+use Rattle.prov_memory.specs.declared.answer.LibAnswer.TheVariants as answers
+use Rattle.prov_memory.specs.Store.{Store}
+use Rattle.prov_memory.specs.Script.{Act, Done, Raised, Ended, Outside, Unplaced}
+use Rattle.prov_memory.specs.Streams.{Io}
+use Rattle.prov_memory.specs.Memory.{Kept, AreKnown, HasCell}
+use Rattle.libc_spec.specs.Library.{LibValue, number, pointer, nothing, argument_at, integer_in, prov_in}
+
+-- a value of the definitions as one of a run
+abbrev pub given_value : LibValue → Value
+given_value (number n) = Int n
+given_value (pointer a p) = Ptr a p
+given_value nothing = Nothing
+
+-- no more was taken than the input has, and the output is within its limit
+pub record AreWithin (io : Io) : Type 0 where
+  pub taken : io.position ≤ length io.input
+  pub written : length io.output ≤ 2 ^ 24
+
+-- at the end of the input a call takes nothing (own)
+abbrev pub clipped : Store → Store
+clipped s = record s { position = min s.position (length s.input) }
+
+-- the answer of a part of a call, its items and the store after it are those of an act; where memory is wanted nothing is said
+abbrev pub Does : {A B : Type 0} → (B → A) → Result A LibAnswer → List Item → Store → Act B → Type 0
+Does f (Ok v) is s (Done w js u) = (v ≡ f w) × (is ≡ js) × (s ≡ u)
+Does f (Err answers.NoMemory) is s act = Unit {0}
+Does f (Err (answers.Raise c)) is s (Raised d) = c ≡ d
+Does f (Err (answers.Outside c n)) is s (Outside d k) = (c ≡ d) × (n ≡ k)
+Does f (Err answers.Unplaced) is s Unplaced = Unit {0}
+Does f r is s act = ⊥
+
+-- the answer of a call, its items and the store after it are those of an act; where memory is wanted nothing is said
+abbrev pub Answers : LibAnswer → List Item → Store → Act LibValue → Type 0
+Answers answers.NoMemory is s act = Unit {0}
+Answers (answers.Value v) is s (Done w js u) = (v ≡ given_value w) × (is ≡ js) × (s ≡ clipped u)
+Answers (answers.End n) is s (Ended k js u) = (n ≡ k) × (is ≡ js) × (s ≡ clipped u)
+Answers (answers.Raise c) is s (Raised d) = c ≡ d
+Answers (answers.Outside c n) is s (Outside d k) = (c ≡ d) × (n ≡ k)
+Answers answers.Unplaced is s Unplaced = Unit {0}
+Answers answer is s act = ⊥
+
+abbrev pub answer_in : Result Value LibAnswer → LibAnswer
+answer_in (Ok v) = answers.Value v
+answer_in (Err answer) = answer
+
+-- the places of the arguments that are numbers of bytes
+abbrev pub size_places : LibFunc → List ℕ
+size_places Malloc = 0 ∷ []
+size_places Calloc = 0 ∷ 1 ∷ []
+size_places Realloc = 1 ∷ []
+size_places Memcpy = 2 ∷ []
+size_places Memmove = 2 ∷ []
+size_places Memset = 2 ∷ []
+size_places Memcmp = 2 ∷ []
+size_places _ = []
+
+abbrev pub are_sizes : List LibValue → List ℕ → Bool
+are_sizes vs [] = true
+are_sizes vs (i ∷ is) = holds ULong (integer_in (argument_at vs i)) && are_sizes vs is
+
+-- each ambiguity among the arguments is one of this memory
+abbrev pub HaveCells : Kept → List LibValue → Type 0
+HaveCells m [] = Unit {0}
+HaveCells m (v ∷ vs) = HasCell m (prov_in v) × HaveCells m vs
+
+-- memory, streams and arguments as they are in a run: sizes are values of size_t
+pub record IsCall (f : LibFunc) (vs : List LibValue) (m : Kept) (io : Io) : Type 0 where
+  pub known : AreKnown m
+  pub streams : AreWithin io
+  pub sizes : are_sizes vs (size_places f) ≡ true
+  pub cells : HaveCells m vs
+
+-- the functions whose calls are shown to be those of the definitions
+abbrev pub is_exact : LibFunc → Bool
+is_exact Malloc = true
+is_exact Free = true
+is_exact Getchar = true
+is_exact Putchar = true
+is_exact Exit = true
+is_exact Abort = true
+is_exact _ = false
+
+-- an answer after which memory and streams are as before; a malloc that wants memory may leave the row of its object
+abbrev pub leaves_all : LibFunc → LibAnswer → Bool
+leaves_all f (answers.Value v) = false
+leaves_all Malloc answers.NoMemory = false
+leaves_all f answer = true
+
+abbrev pub wants_memory : LibAnswer → Bool
+wants_memory answers.NoMemory = true
+wants_memory answer = false
