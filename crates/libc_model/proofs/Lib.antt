@@ -1,4 +1,5 @@
 pub mod Allocating
 pub mod Answering
+pub mod Freeing
 pub mod Scripts
 pub mod Seen

@@ -18,7 +18,7 @@ then (Ended n is s) k = Ended n is s
 then (Outside c n) k = Outside c n
 then Unplaced k = Unplaced
 
-refused_then : {A B : Type 0} (t : Touch) (k : A → Store → Act B) → refused {B} t ≡ then (refused {A} t) k
+refused_then : {A B : Type 0} (t : Touch) (k : A → Store → Act B) → refused {V = B} t ≡ then (refused {V = A} t) k
 refused_then (Settle id x c) k = refl
 refused_then (Ask x) k = refl
 refused_then (Get x a n) k = refl
@@ -38,7 +38,7 @@ touched_then i (Outside c n) k = refl
 touched_then i Unplaced k = refl
 
 step_then : {A B : Type 0} (r : Bool) (t : Touch) (i : Item) (k : A → Store → Act B) (a : Act A) (b : Act B) → b ≡ then a k →
-    cond r (refused {B} t) (touched i b) ≡ then (cond r (refused {A} t) (touched i a)) k
+    cond r (refused {V = B} t) (touched i b) ≡ then (cond r (refused {V = A} t) (touched i a)) k
 step_then true t i k a b e = refused_then t k
 step_then false t i k a b e = ap (touched i) e ∙ touched_then i a k
 

@@ -91,10 +91,10 @@ is_exact Abort = true
 is_exact _ = false
 
 -- an answer after which memory and streams are as before; a malloc that wants memory may leave the row of its object
-abbrev pub leaves_all : LibFunc → LibAnswer → Bool
-leaves_all f (answers.Value v) = false
-leaves_all Malloc answers.NoMemory = false
-leaves_all f answer = true
+abbrev pub leaves_all : LibAnswer → LibFunc → Bool
+leaves_all (answers.Value v) f = false
+leaves_all answers.NoMemory Malloc = false
+leaves_all answer f = true
 
 abbrev pub wants_memory : LibAnswer → Bool
 wants_memory answers.NoMemory = true

@@ -38,7 +38,7 @@ pub fn call(
     requires { f ≢ Printf }
     ensures exact { is_exact f ≡ true → IsCall f (values_seen args.now) m.old io.old → Answers result t.new (store_of m.new io.new) (called m.new.rows f (values_seen args.now) who (store_of m.old io.old)) }
     ensures known { is_exact f ≡ true → AreKnown m.old → wants_memory result ≡ false → AreKnown m.new }
-    ensures same { is_exact f ≡ true → leaves_all f result ≡ true → (m.new ≡ m.old) × (io.new ≡ io.old) }
+    ensures same { is_exact f ≡ true → leaves_all result f ≡ true → (m.new ≡ m.old) × (io.new ≡ io.old) }
     ensures within { is_exact f ≡ true → AreWithin io.old → AreWithin io.new }
 {
     t.clear();
@@ -61,7 +61,7 @@ fn value_of(
     requires items { t.old ≡ [] }
     ensures exact { is_exact f ≡ true → IsCall f (values_seen args.now) m.old io.old → Answers (answer_in result) t.new (store_of m.new io.new) (called m.new.rows f (values_seen args.now) who (store_of m.old io.old)) }
     ensures known { is_exact f ≡ true → AreKnown m.old → wants_memory (answer_in result) ≡ false → AreKnown m.new }
-    ensures same { is_exact f ≡ true → leaves_all f (answer_in result) ≡ true → (m.new ≡ m.old) × (io.new ≡ io.old) }
+    ensures same { is_exact f ≡ true → leaves_all (answer_in result) f ≡ true → (m.new ≡ m.old) × (io.new ≡ io.old) }
     ensures within { is_exact f ≡ true → AreWithin io.old → AreWithin io.new }
 {
     match f {
@@ -87,18 +87,15 @@ fn value_of(
 }
 
 // free: its value is none.
-fn free(
-    alloc: Global,
-    args: &[Value],
-    m: &mut Memory,
-    t: &mut Touched,
-) -> Result<Value, LibAnswer>
+fn free(alloc: Global, args: &[Value], m: &mut Memory, t: &mut Touched) -> Result<Value, LibAnswer>
     ensures exact { (io : Io) → AreWithin io → IsCall Free (values_seen args.now) m.old io → (who : Event) → Answers (answer_in result) t.new (store_of m.new io) (called m.new.rows Free (values_seen args.now) who (store_of m.old io)) }
     ensures known { AreKnown m.old → AreKnown m.new }
     ensures same { OnErr result (m.new ≡ m.old) }
 {
-    heap::free(alloc, pointer_at(args, 0), Clause::Free, m, t)?;
-    Ok(Value::Nothing)
+    match heap::free(alloc, pointer_at(args, 0), Clause::Free, m, t) {
+        Ok(()) => Ok(Value::Nothing),
+        Err(answer) => Err(answer),
+    }
 }
 
 // getchar: the next byte of the input, or -1 at its end.

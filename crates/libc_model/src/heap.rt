@@ -5,7 +5,7 @@ ghost use Rattle.ub_base.specs.declared.clause.Cause.TheVariants.{Created};
 ghost use Rattle.exposure.specs.declared.prov.Prov.TheVariants.{Whole, Either};
 ghost use Rattle.exposure.specs.Cells.{has_cell};
 ghost use Rattle.prov_memory.specs.declared.answer.LibAnswer.TheVariants as answers;
-ghost use Rattle.prov_memory.specs.Acts.{create};
+ghost use Rattle.prov_memory.specs.Acts.{create, base_in};
 ghost use Rattle.prov_memory.specs.Held.{held_of};
 ghost use Rattle.prov_memory.specs.Memory.{AreKnown, HasCell, life_in, store_of};
 ghost use Rattle.prov_memory.specs.Script.{run};
@@ -17,6 +17,7 @@ ghost use Rattle.libc_model.specs.Answers.{Does, given_value};
 use crate::arguments::{Pointer, Range, pointer_at, size_at};
 use crate::bytes::{filled, put, settle};
 use crate::ranges::answer_of;
+use addr_map::Row;
 use exposure::Prov;
 use prov_memory::{Block, CreateFault, LibAnswer, Memory, ObjKind, Touched, Value, Via};
 use std::alloc::Global;
@@ -77,12 +78,7 @@ fn check_created(m: &Memory, size: u64) -> Result<(), LibAnswer>
 }
 
 // A new heap object, unwritten.
-fn created(
-    m: &mut Memory,
-    name: ObjName,
-    size: u64,
-    t: &mut Touched,
-) -> Result<Pointer, LibAnswer>
+fn created(m: &mut Memory, name: ObjName, size: u64, t: &mut Touched) -> Result<Pointer, LibAnswer>
     ensures exact { (io : Io) → AreKnown m.old → Does (λ base. record { addr = base; prov = Whole name }) result t.new (store_of m.new io) (run m.new.rows (create m.new.rows name size 16 heap_kind None) (store_of m.old io)) }
     ensures known { AreKnown m.old → OnOk result (AreKnown m.new) }
     ensures same { OnErr result (result ≢ Err answers.NoMemory → m.new ≡ m.old) }
@@ -103,12 +99,7 @@ fn created(
 }
 
 /// malloc: null for 0 bytes and for more than 2^20 (own).
-pub fn allocate(
-    size: u64,
-    who: Event,
-    m: &mut Memory,
-    t: &mut Touched,
-) -> Result<Value, LibAnswer>
+pub fn allocate(size: u64, who: Event, m: &mut Memory, t: &mut Touched) -> Result<Value, LibAnswer>
     ensures exact { (io : Io) → AreKnown m.old → Does given_value result t.new (store_of m.new io) (created_within size (store_of m.old io) (run m.new.rows (malloc m.new.rows who size) (store_of m.old io))) }
     ensures known { AreKnown m.old → OnOk result (AreKnown m.new) }
     ensures same { OnErr result (result ≢ Err answers.NoMemory → m.new ≡ m.old) }
@@ -118,8 +109,10 @@ pub fn allocate(
         return Ok(Pointer::NULL.value());
     };
     check_created(m, size)?;
-    let new = created(m, name_of(who), size, t)?;
-    Ok(new.value())
+    match created(m, name_of(who), size, t) {
+        Ok(new) => Ok(new.value()),
+        Err(answer) => Err(answer),
+    }
 }
 
 /// calloc: the same with the exact product, and zeros.
@@ -190,12 +183,24 @@ fn heap_start(
     }
 }
 
+fn base_in(row: Option<Row>) -> u64
+    ensures { result ≡ base_in row }
+{
+    match row {
+        Some(row) => row.base,
+        None => 0,
+    }
+}
+
 // Whether the object is a live one of the heap that begins at the address.
 fn is_heap_start(m: &Memory, object: ObjName, addr: u64) -> bool
-    requires { addr ≢ 0 }
     ensures { result ≡ is_heap_start (row_of m.now.rows object) addr (life_in (held_of m.now.objects object)) }
 {
-    size_from(m, object, addr).is_some()
+    let base = base_in(m.map().row(object));
+    match m.object(object) {
+        Some(state) => state.live && state.kind.heap && base == addr,
+        None => false,
+    }
 }
 
 /// free: nothing for null; 7.22.3.3p2 for what isn't the start of a live heap object, which otherwise dies.
@@ -236,11 +241,13 @@ fn free_object(
     ensures known { AreKnown m.old → AreKnown m.new }
     ensures same { OnErr result (m.new ≡ m.old) }
 {
-    if !is_heap_start(m, object, addr) {
-        return Err(LibAnswer::Raise(clause));
+    let is_start = is_heap_start(m, object, addr);
+    if is_start {
+        m.kill(object, t);
+        Ok(())
+    } else {
+        Err(LibAnswer::Raise(clause))
     }
-    m.kill(object, t);
-    Ok(())
 }
 
 // What an ambiguous pointer frees: the object that it may begin.
@@ -260,17 +267,16 @@ fn free_start(
     ensures known { AreKnown m.old → AreKnown m.new }
     ensures same { OnErr result (m.new ≡ m.old) }
 {
-    if !is_heap_start(m, start, addr) {
-        return Err(LibAnswer::Raise(clause));
-    }
     let mut scratch = Touched::new(alloc)?;
     t.add(Item::Narrow { id, keep: start })?;
     t.add(Item::Dies(start))?;
-    if !m.narrow(id, start) {
-        return Err(LibAnswer::Raise(clause));
+    let is_start = is_heap_start(m, start, addr);
+    if is_start && m.narrow(id, start) {
+        m.kill(start, &mut scratch);
+        Ok(())
+    } else {
+        Err(LibAnswer::Raise(clause))
     }
-    m.kill(start, &mut scratch);
-    Ok(())
 }
 
 /// realloc: as malloc for null; 7.22.3.5p3 for what isn't the start of a live heap object; as free for 0 bytes; null, with

@@ -63,12 +63,22 @@ pub enum LibAnswer {
 }
 
 impl From<NoMemory> for LibAnswer {
+    ghost use Rattle.std.specs.Prelude.{◌≡◌};
+    ghost use Rattle.prov_memory.specs.declared.answer.LibAnswer.TheVariants.{NoMemory};
+
+    ghost from_gives = { λ _ e. e ≡ NoMemory };
+
     fn from(_e: NoMemory) -> LibAnswer {
         LibAnswer::NoMemory
     }
 }
 
 impl From<Clause> for LibAnswer {
+    ghost use Rattle.std.specs.Prelude.{◌≡◌};
+    ghost use Rattle.prov_memory.specs.declared.answer.LibAnswer.TheVariants.{Raise};
+
+    ghost from_gives = { λ c e. e ≡ Raise c };
+
     fn from(clause: Clause) -> LibAnswer {
         LibAnswer::Raise(clause)
     }

@@ -1,0 +1,34 @@
+use Rattle.std.proofs.Common.{◌∙◌, to_z, of_z, rules}
+use Rattle.std.specs.Int.{w128}
+use Rattle.std.proofs.lemmas.Int.{to_z-of_z}
+use Rattle.c_types.specs.declared.library.LibFunc.TheVariants.{Malloc, Getchar, Putchar, Exit, Abort}
+use Rattle.prov_memory.specs.Memory.{store_of}
+use Rattle.libc_model.specs.Seen.{values_seen}
+use Rattle.libc_model.specs.Answers.{answer_in}
+use Rattle.libc_model.proofs.Answering.{arm, malloc_called, first_size}
+use Rattle.libc_model.proofs.calls.value_of.Goals as goal
+
+pub returns-in-Malloc-clause-exact : goal.returns-in-Malloc-clause-exact
+returns-in-Malloc-clause-exact c =
+    arm c.args.f Malloc c.allocate.new.m.rows (values_seen c.args.args.now) c.args.who c.args.m.now c.args.io.now (answer_in c.allocate.result) c.allocate.new.t (store_of c.allocate.new.m c.args.io.now) (store_of c.args.m.now c.args.io.now) c.in-Malloc.is
+    (λ call. malloc_called c.allocate.new.m.rows (values_seen c.args.args.now) c.args.who c.size_at.result (store_of c.args.m.now c.args.io.now) (store_of c.allocate.new.m c.args.io.now) c.allocate.result c.allocate.new.t call.streams.taken call.streams.written (c.size_at.ensures (first_size (values_seen c.args.args.now) call.sizes)) (c.allocate.ensures.exact c.args.io.now call.known))
+
+pub returns-in-Getchar-clause-exact : goal.returns-in-Getchar-clause-exact
+returns-in-Getchar-clause-exact c =
+    arm c.args.f Getchar c.args.m.now.rows (values_seen c.args.args.now) c.args.who c.args.m.now c.args.io.now (answer_in c.getchar.result) c.getchar.new.t (store_of c.args.m.now c.getchar.new.io) (store_of c.args.m.now c.args.io.now) c.in-Getchar.is
+    (λ call. c.getchar.ensures.exact c.args.m.now (values_seen c.args.args.now) c.args.who call.streams)
+
+pub returns-in-Putchar-clause-exact : goal.returns-in-Putchar-clause-exact
+returns-in-Putchar-clause-exact c =
+    arm c.args.f Putchar c.args.m.now.rows (values_seen c.args.args.now) c.args.who c.args.m.now c.args.io.now (answer_in c.putchar.result) c.putchar.new.t (store_of c.args.m.now c.putchar.new.io) (store_of c.args.m.now c.args.io.now) c.in-Putchar.is
+    (λ call. c.putchar.ensures.exact c.args.m.now (values_seen c.args.args.now) c.args.who (to_z-of_z w128 c.int_at.result (search rules) ∙ c.int_at.ensures) call.streams)
+
+pub returns-in-Exit-clause-exact : goal.returns-in-Exit-clause-exact
+returns-in-Exit-clause-exact c =
+    arm c.args.f Exit c.args.m.now.rows (values_seen c.args.args.now) c.args.who c.args.m.now c.args.io.now (answer_in c.exit.result) c.exit.new.t (store_of c.args.m.now c.args.io.now) (store_of c.args.m.now c.args.io.now) c.in-Exit.is
+    (λ call. c.exit.ensures.exact c.args.m.now c.args.io.now (values_seen c.args.args.now) c.args.who (to_z-of_z w128 c.int_at-in-Exit.result (search rules) ∙ c.int_at-in-Exit.ensures) call.streams)
+
+pub returns-in-Abort-clause-exact : goal.returns-in-Abort-clause-exact
+returns-in-Abort-clause-exact c =
+    arm c.args.f Abort c.args.m.now.rows (values_seen c.args.args.now) c.args.who c.args.m.now c.args.io.now (answer_in c.abort.result) c.abort.new.t (store_of c.args.m.now c.args.io.now) (store_of c.args.m.now c.args.io.now) c.in-Abort.is
+    (λ call. c.abort.ensures.exact c.args.m.now c.args.io.now (values_seen c.args.args.now) c.args.who call.streams)
