@@ -96,6 +96,10 @@ leaves_all (answers.Value v) f = false
 leaves_all answers.NoMemory Malloc = false
 leaves_all answer f = true
 
+abbrev pub gives_value : LibAnswer → Bool
+gives_value (answers.Value v) = true
+gives_value answer = false
+
 abbrev pub wants_memory : LibAnswer → Bool
 wants_memory answers.NoMemory = true
 wants_memory answer = false

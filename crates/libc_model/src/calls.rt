@@ -1,5 +1,5 @@
 // The functions of the library, each with its act.
-ghost use Rattle.std.specs.Prelude.{◌≡◌, ◌≢◌, ◌<◌, ◌≤◌, ◌+◌, ◌^◌, true, false, nat_lt, Some, None, Ok, Err, length, List, [], OnErr, if◌then◌else◌};
+ghost use Rattle.std.specs.Prelude.{◌≡◌, ◌≢◌, ◌<◌, ◌≤◌, ◌+◌, ◌^◌, true, false, nat_lt, Some, None, Ok, Err, length, List, [], OnOk, OnErr, IfNone, if◌then◌else◌};
 ghost use Rattle.c_types.specs.declared.library.LibFunc.TheVariants.{Malloc, Free, Getchar, Putchar, Exit, Abort, Printf};
 ghost use Rattle.ub_base.specs.declared.clause.Cause.TheVariants.{Output};
 ghost use Rattle.prov_memory.specs.Memory.{Kept, AreKnown, store_of};
@@ -8,7 +8,7 @@ ghost use Rattle.prov_memory.specs.declared.answer.LibAnswer.TheVariants as answ
 ghost use Rattle.libc_spec.specs.Library.{LibValue, called, byte_or_end, integer_in, argument_at};
 ghost use Rattle.ub_base.specs.declared.names.Event.{Event};
 ghost use Rattle.libc_model.specs.Seen.{values_seen};
-ghost use Rattle.libc_model.specs.Answers.{IsCall, AreWithin, Answers, answer_in, given_value, is_exact, leaves_all, wants_memory};
+ghost use Rattle.libc_model.specs.Answers.{IsCall, AreWithin, Answers, answer_in, given_value, is_exact, gives_value, leaves_all, wants_memory};
 
 use crate::arguments::{check_string, int_at, pointer_at, size_at};
 use crate::bytes::{read, settle};
@@ -39,7 +39,8 @@ pub fn call(
     ensures exact { is_exact f ≡ true → IsCall f (values_seen args.now) m.old io.old → Answers result t.new (store_of m.new io.new) (called m.new.rows f (values_seen args.now) who (store_of m.old io.old)) }
     ensures known { is_exact f ≡ true → AreKnown m.old → wants_memory result ≡ false → AreKnown m.new }
     ensures same { is_exact f ≡ true → leaves_all result f ≡ true → (m.new ≡ m.old) × (io.new ≡ io.old) }
-    ensures within { is_exact f ≡ true → AreWithin io.old → AreWithin io.new }
+    ensures within { AreWithin io.old → AreWithin io.new }
+    ensures streams { gives_value result ≡ false → io.new ≡ io.old }
 {
     t.clear();
     match value_of(alloc, f, args.as_slice(), who, m, io, t) {
@@ -62,7 +63,8 @@ fn value_of(
     ensures exact { is_exact f ≡ true → IsCall f (values_seen args.now) m.old io.old → Answers (answer_in result) t.new (store_of m.new io.new) (called m.new.rows f (values_seen args.now) who (store_of m.old io.old)) }
     ensures known { is_exact f ≡ true → AreKnown m.old → wants_memory (answer_in result) ≡ false → AreKnown m.new }
     ensures same { is_exact f ≡ true → leaves_all (answer_in result) f ≡ true → (m.new ≡ m.old) × (io.new ≡ io.old) }
-    ensures within { is_exact f ≡ true → AreWithin io.old → AreWithin io.new }
+    ensures within { AreWithin io.old → AreWithin io.new }
+    ensures streams { OnErr result (io.new ≡ io.old) }
 {
     match f {
         LibFunc::Malloc => heap::allocate(size_at(args, 0), who, m, t),
@@ -118,17 +120,19 @@ fn byte_or_end(next: Option<u8>) -> Value
     }
 }
 
-/// The length that the output would reach with so many more bytes, where that passes the limit.
-pub fn output_past(written: u64, more: u64) -> Option<u64>
-    ensures { written + more < 2 ^ 64 → result ≡ (if nat_lt (2 ^ 24) (written + more) then Some (written + more) else None) }
+// The length that the output would reach with so many more bytes, where that passes the limit.
+fn output_past(written: u64, more: u64) -> Option<u64>
+    ensures past { written + more < 2 ^ 64 → result ≡ (if nat_lt (2 ^ 24) (written + more) then Some (written + more) else None) }
+    ensures within { IfNone result (written + more ≤ 2 ^ 24) }
 {
     let total = written.saturating_add(more);
     if total > OUTPUT { Some(total) } else { None }
 }
 
-// Whether so many more bytes of output pass the limit.
-fn check_output(io: &Streams, more: u64) -> Result<(), LibAnswer>
-    ensures { length io.now.output + more < 2 ^ 64 → result ≡ (if nat_lt (2 ^ 24) (length io.now.output + more) then Err (answers.Outside Output (length io.now.output + more)) else Ok tt) }
+/// Whether so many more bytes of output pass the limit.
+pub fn check_output(io: &Streams, more: u64) -> Result<(), LibAnswer>
+    ensures within { OnOk result (length io.now.output + more ≤ 2 ^ 24) }
+    ensures past { length io.now.output + more < 2 ^ 64 → result ≡ (if nat_lt (2 ^ 24) (length io.now.output + more) then Err (answers.Outside Output (length io.now.output + more)) else Ok tt) }
 {
     match output_past(io.written(), more) {
         Some(total) => Err(LibAnswer::Outside(Cause::Output, total)),
@@ -157,7 +161,10 @@ fn puts(
     m: &mut Memory,
     io: &mut Streams,
     t: &mut Touched,
-) -> Result<Value, LibAnswer> {
+) -> Result<Value, LibAnswer>
+    ensures within { AreWithin io.old → AreWithin io.new }
+    ensures streams { OnErr result (io.new ≡ io.old) }
+{
     let range = check_string(m, pointer_at(args, 0), t)?;
     let mut text = read(alloc, m, range, t)?;
     let _ = text.pop();

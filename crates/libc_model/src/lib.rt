@@ -10,5 +10,5 @@ mod strings;
 
 pub use arguments::{Pointer, Range, bounded_length, check, check_string, int_at, pointer_at};
 pub use bytes::{expose, read, settle};
-pub use calls::{call, output_past};
+pub use calls::{call, check_output};
 pub use ranges::low_byte;

@@ -1,6 +1,8 @@
 // printf.
 
+ghost use Rattle.std.specs.Prelude.{◌≡◌, false, OnErr};
 ghost use Rattle.libc_spec.specs.Print.{put_byte, put_integer};
+ghost use Rattle.libc_model.specs.Answers.{AreWithin, gives_value};
 ghost use Rattle.libc_print.specs.Seen.{directive_seen, width_seen, left};
 ghost use Rattle.libc_print.specs.Answers.{Puts};
 
@@ -10,7 +12,7 @@ use crate::refusal::Refusal;
 use crate::values::{Arguments, take_int, take_integer, take_pointer, take_precision, take_width};
 use c_types::Qual;
 use libc_model::{
-    Pointer, Range, check, check_string, expose, low_byte, output_past, pointer_at, read, settle,
+    Pointer, Range, check, check_output, check_string, expose, low_byte, pointer_at, read, settle,
 };
 use prov_memory::{LibAnswer, Memory, Streams, Touched, Value, Values};
 use std::alloc::Global;
@@ -25,7 +27,10 @@ pub fn format(
     m: &mut Memory,
     io: &mut Streams,
     t: &mut Touched,
-) -> LibAnswer {
+) -> LibAnswer
+    ensures within { AreWithin io.old → AreWithin io.new }
+    ensures streams { gives_value result ≡ false → io.new ≡ io.old }
+{
     t.clear();
     match printed(alloc, args.as_slice(), types, m, io, t) {
         Ok(count) => LibAnswer::Value(Value::Int(i128::from(count))),
@@ -41,15 +46,16 @@ fn printed(
     m: &mut Memory,
     io: &mut Streams,
     t: &mut Touched,
-) -> Result<u64, LibAnswer> {
+) -> Result<u64, LibAnswer>
+    ensures within { AreWithin io.old → AreWithin io.new }
+    ensures streams { OnErr result (io.new ≡ io.old) }
+{
     let range = check_string(m, pointer_at(args, 0), t)?;
     let mut format = read(alloc, m, range, t)?;
     let _ = format.pop();
     let out = text_of(alloc, format.as_slice(), args, types, m, t)?;
     let count = out.len() as u64;
-    if let Some(total) = output_past(io.written(), count) {
-        return Err(LibAnswer::Outside(Cause::Output, total));
-    }
+    check_output(io, count)?;
     t.add(Item::Output)?;
     let mut scratch = Touched::new(alloc)?;
     io.put(out.as_slice())?;

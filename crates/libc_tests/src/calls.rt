@@ -303,6 +303,10 @@ fn wrong_output(alloc: Global) -> Option<Option<usize>> {
 #[test]
 fn calls_give_what_the_standard_says(rt: HostRuntime) {
     let alloc = rt.alloc();
-    assert_eq!(rt; wrong_sequence(alloc), Some(None), "a sequence and its step");
+    assert_eq!(rt;
+        wrong_sequence(alloc),
+        Some(None),
+        "a sequence and its step"
+    );
     assert_eq!(rt; wrong_output(alloc), Some(None), "what is printed");
 }

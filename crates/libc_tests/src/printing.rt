@@ -75,14 +75,7 @@ fn printed(alloc: Global, format: &str, given: &[Given], io: &mut Streams) -> Op
         types.push(ty).ok()?;
         number = number.saturating_add(1);
     }
-    Some(libc_print::format(
-        alloc,
-        &values,
-        types.as_slice(),
-        &mut m,
-        io,
-        &mut t,
-    ))
+    Some(libc_print::format(alloc, &values, types.as_slice(), &mut m, io, &mut t))
 }
 
 fn is_outcome(answer: LibAnswer, output: &[u8], outcome: Outcome) -> bool {
@@ -150,7 +143,13 @@ fn wrong_invalid(alloc: Global) -> Option<Option<usize>> {
     ];
     for (at, format) in INVALID.iter().enumerate() {
         let io = streams(alloc, b"")?;
-        if !comes_to(alloc, io, format, given, Outcome::Raises(Clause::Conversion))? {
+        if !comes_to(
+            alloc,
+            io,
+            format,
+            given,
+            Outcome::Raises(Clause::Conversion),
+        )? {
             return Some(Some(at));
         }
     }
