@@ -1,16 +1,17 @@
 // An end of the run beside evaluations that it isn't sequenced with.
-ghost use Rattle.std.specs.Prelude.{IfOk};
-ghost use Rattle.evaluations.specs.FoundItems.{ItemsConflict};
+ghost use Rattle.std.specs.Prelude.{IfOk, IfSome};
+ghost use Rattle.footprint.specs.Conflicts.{MayConflict};
+ghost use Rattle.evaluations.specs.FoundItems.{AreOfOne, ItemsConflict};
 
 use crate::found::{Found, first_of};
-use crate::open::Evaluations;
+use crate::open::{Evaluations, named};
 use crate::rules::{Rule, Rules};
 use crate::search::{Sought, Under, least_items};
 use crate::trees::step_to;
 use addr_map::AddrMap;
 use c_typed::Typed;
 use std::alloc::Global;
-use ub_base::{Frames, Item, Kind, NoMemory};
+use ub_base::{Event, Frames, Item, Kind, NoMemory};
 
 /// The way from the root of a full expression to a node: the nodes above it, from the root on, and the nodes whose value
 /// the node isn't sequenced with: the first before it, and the first behind it.
@@ -62,22 +63,14 @@ impl Evaluations {
         };
         foot.add(Item::Any)?;
         let ending = self.event_foot(last)?;
-        let value = self.named(node, Kind::Val);
-        let body = self.named(from, end);
-        let pair = if node < from {
-            least_items(under, Sought::Any, &foot, &ending)
+        let place = self.place();
+        let value = named(place, node, Kind::Val);
+        let body = named(place, from, end);
+        Ok(if node < from {
+            dependence(value, body, least_items(under, Sought::Any, &foot, &ending))
         } else {
-            least_items(under, Sought::Any, &ending, &foot)
-        };
-        match pair {
-            Some(items) => Ok(Some(Found {
-                race: false,
-                event: if node < from { value } else { body },
-                against: if node < from { body } else { value },
-                items,
-            })),
-            None => Ok(None),
-        }
+            dependence(body, value, least_items(under, Sought::Any, &ending, &foot))
+        })
     }
 
     // The value of this node, if it is done.
@@ -124,6 +117,21 @@ fn is_unsequenced(rule: Rule) -> bool {
         Rule::Open | Rule::Closed => true,
         _ => false,
     }
+}
+
+// A dependence on the order of these two evaluations, where items of theirs conflict.
+fn dependence(event: Event, against: Event, items: Option<(Item, Item)>) -> Option<Found>
+    requires one { AreOfOne event against }
+    requires may { IfSome items (λ p. MayConflict p.0 p.1) }
+    ensures { ItemsConflict result }
+{
+    let items = items?;
+    Some(Found {
+        race: false,
+        event,
+        against,
+        items,
+    })
 }
 
 // The way from the root to the node of this number.

@@ -1,8 +1,8 @@
 // A conflict of two evaluations.
-ghost use Rattle.evaluations.specs.FoundItems.{ItemsConflict};
+ghost use Rattle.std.specs.Prelude.{◌≡◌};
+ghost use Rattle.evaluations.specs.FoundItems.{ItemsConflict, counts_before, first_found};
 
 use c_names::cmp_events;
-use std::cmp::Ordering;
 use ub_base::{Event, Frames, Item};
 
 /// Two evaluations of one full expression, the smaller one first, that conflict, and their least conflicting items: a race
@@ -17,7 +17,8 @@ pub struct Found {
 
 /// The one that counts: a race before another conflict, and then the lesser pair of evaluations.
 pub fn first_of(frames: &Frames, a: Option<Found>, b: Option<Found>) -> Option<Found>
-    ensures { ItemsConflict a → ItemsConflict b → ItemsConflict result }
+    ensures first { result ≡ first_found frames.now a b }
+    ensures items { ItemsConflict a → ItemsConflict b → ItemsConflict result }
 {
     match (a, b) {
         (None, b) => b,
@@ -32,12 +33,16 @@ pub fn first_of(frames: &Frames, a: Option<Found>, b: Option<Found>) -> Option<F
     }
 }
 
-fn is_before(frames: &Frames, a: &Found, b: &Found) -> bool {
-    if a.race != b.race {
-        return a.race;
+fn is_before(frames: &Frames, a: &Found, b: &Found) -> bool
+    ensures { result ≡ counts_before frames.now a.now b.now }
+{
+    if a.race && !b.race {
+        return true;
     }
-    let order = cmp_events(frames, &a.event, &b.event).then(cmp_events(
-        frames, &a.against, &b.against,
-    ));
-    order == Ordering::Less
+    if b.race && !a.race {
+        return false;
+    }
+    cmp_events(frames, &a.event, &b.event)
+        .then(cmp_events(frames, &a.against, &b.against))
+        .is_lt()
 }

@@ -297,22 +297,24 @@ impl Evaluations {
         Ok(())
     }
 
-    // An event of the top frame, by its name.
-    pub(crate) fn named(&self, node: u32, kind: Kind) -> Event {
+    // The top frame and the turn of its full expression.
+    pub(crate) fn place(&self) -> (Frame, u64) {
         match self.levels.last() {
-            Some(level) => Event {
-                frame: level.frame,
-                turn: level.turn,
-                node,
-                kind,
-            },
-            None => Event {
-                frame: Frame(0),
-                turn: 0,
-                node,
-                kind,
-            },
+            Some(level) => (level.frame, level.turn),
+            None => (Frame(0), 0),
         }
+    }
+}
+
+// An event of a full expression, by its name.
+pub(crate) fn named(place: (Frame, u64), node: u32, kind: Kind) -> Event
+    ensures { result ≡ record { frame = place.0; turn = place.1; node = node; kind = kind } }
+{
+    Event {
+        frame: place.0,
+        turn: place.1,
+        node,
+        kind,
     }
 }
 

@@ -1,10 +1,12 @@
 // The least conflicting pair of events, sought once where a conflict is known.
-ghost use Rattle.std.specs.Prelude.{IfOk, IfSome};
-ghost use Rattle.footprint.specs.Conflicts.{MayConflict};
+ghost use Rattle.std.specs.Prelude.{◌≡◌, ◌≢◌, IfOk, IfSome, true};
+ghost use Rattle.ub_base.specs.declared.clause.Kind.TheVariants.{Body};
+ghost use Rattle.footprint.specs.Conflicts.{MayConflict, is_access};
+ghost use Rattle.evaluations.specs.declared.search.Sought.TheVariants.{Races};
 ghost use Rattle.evaluations.specs.FoundItems.{ItemsConflict};
 
 use crate::found::{Found, first_of};
-use crate::open::Evaluations;
+use crate::open::{Evaluations, named};
 use addr_map::AddrMap;
 use footprint::{Foot, access_pair, conflict, conflicts, races};
 use ub_base::{Frames, Item, Kind, NoMemory};
@@ -32,11 +34,22 @@ fn meet(under: Under<'_>, sought: Sought, a: &Foot, b: &Foot) -> bool {
 
 /// The least pair of items, if two sets conflict.
 pub fn least_items(under: Under<'_>, sought: Sought, a: &Foot, b: &Foot) -> Option<(Item, Item)>
-    ensures { IfSome result (λ p. MayConflict p.0 p.1) }
+    ensures may { IfSome result (λ p. MayConflict p.0 p.1) }
+    ensures races { sought ≡ Races → IfSome result (λ p. (is_access p.0 ≡ true) × (is_access p.1 ≡ true)) }
 {
     match sought {
         Sought::Races => access_pair(under.frames, a, b),
         Sought::Any => conflict(under.frames, a, b, under.map),
+    }
+}
+
+// Whether conflicting accesses are a race: a body is sequenced before or after what it isn't sequenced with.
+fn is_race(sought: Sought, a: Kind, b: Kind) -> bool
+    ensures { result ≡ true → (sought ≡ Races) × (a ≢ Body) × (b ≢ Body) }
+{
+    match sought {
+        Sought::Races => a != Kind::Body && b != Kind::Body,
+        Sought::Any => false,
     }
 }
 
@@ -209,14 +222,16 @@ impl Evaluations {
     }
 
     fn found(&self, sought: Sought, a: usize, b: usize, items: (Item, Item)) -> Option<Found>
-        requires { MayConflict items.0 items.1 }
+        requires may { MayConflict items.0 items.1 }
+        requires races { sought ≡ Races → (is_access items.0 ≡ true) × (is_access items.1 ≡ true) }
         ensures { ItemsConflict result }
     {
+        let place = self.place();
         match (self.events.get(a), self.events.get(b)) {
             (Some(a), Some(b)) => Some(Found {
-                race: sought == Sought::Races,
-                event: self.named(a.node, a.kind),
-                against: self.named(b.node, b.kind),
+                race: is_race(sought, a.kind, b.kind),
+                event: named(place, a.node, a.kind),
+                against: named(place, b.node, b.kind),
                 items,
             }),
             _ => None,
