@@ -1,33 +1,25 @@
 -- The least conflicting pairs that begin with one kind of item.
-use Rattle.std.proofs.Common.{◌≡◌, ◌⊎◌, inl, inr, ⊎_elim, ℕ, Bool, true, false, cond, ◌&&◌, ◌||◌, not, IfSome, arith, refl, sym, ap, ◌∙◌, subst, List, [], ◌∷◌, Some, None, Option}
-use Rattle.std.specs.Ordering.{nat_cmp, is_eq}
-use Rattle.std.specs.declared.cmp.Ordering.TheVariants.{Less, Equal}
-use Rattle.std.specs.List.{list_any}
-use Rattle.std.specs.BTreeMap.{BTreeMap, is_at, IsOrdered}
-use Rattle.std.specs.BTreeSet.{contains}
+use Rattle.std.proofs.Common.{◌≡◌, ◌⊎◌, inl, inr, ℕ, Bool, true, false, cond, ◌&&◌, ◌||◌, refl, sym, ap, ◌∙◌, subst, List, Option}
+use Rattle.std.specs.Ordering.{nat_cmp}
 use Rattle.std.proofs.lemmas.Cmp.{tied_itself, nat_cmp_total}
-use Rattle.std.proofs.lemmas.Map.Lookups.{exact_unsigned, exact_pairs}
-use Rattle.ub_base.specs.declared.names.Event.{Event}
+use Rattle.std.proofs.lemmas.Map.Lookups.{exact_unsigned}
 use Rattle.ub_base.specs.declared.names.ObjName.{ObjName}
 use Rattle.ub_base.specs.declared.names.Item.{Item}
-use Rattle.ub_base.specs.declared.names.Item.TheVariants.{Read, Write, Born, Dies, Alive, Expose, Lookup, Narrow, Input, Output, Ending, Any}
-use Rattle.ub_base.specs.Names.{same_object, same_event}
-use Rattle.ub_base.specs.NameOrders.{object_cmp, event_cmp}
+use Rattle.ub_base.specs.declared.names.Item.TheVariants.{Born, Dies, Alive, Expose, Lookup}
+use Rattle.ub_base.specs.Names.{same_object}
 use Rattle.ub_base.specs.Frames.{Row}
-use Rattle.ub_base.proofs.NameLemmas.{same_object_is, same_object_refl, same_event_is, same_event_refl, tie_event}
+use Rattle.ub_base.proofs.NameLemmas.{same_object_is, same_object_refl}
 use Rattle.addr_map.specs.declared.map.Row.{Row as Place}
-use Rattle.addr_map.specs.Rows.{covers, past}
 use Rattle.footprint.specs.declared.foot.Foot.{Foot}
 use Rattle.footprint.specs.declared.state.State.{State}
-use Rattle.footprint.specs.States.{nothing, state_in, only_at, listed, said_by}
-use Rattle.footprint.specs.Conflicts.{items_conflict, conflicts_one, stands_at, is_object, is_state, is_lookup, is_narrow, is_stream, is_access, MayConflict}
-use Rattle.footprint.specs.Found.{ConflictIn, ConflictOf, AtObject, AtAddress, NarrowIn, SettledIn, RaceIn}
-use Rattle.footprint.specs.Holds.{holds, narrow_cmp}
+use Rattle.footprint.specs.States.{nothing, state_in, only_at, said_by}
+use Rattle.footprint.specs.Conflicts.{items_conflict, stands_at}
+use Rattle.footprint.specs.Found.{AtObject, AtAddress}
+use Rattle.footprint.specs.Holds.{holds}
 use Rattle.footprint.specs.Least.{pair_cmp, IsLeast, lesser}
-use Rattle.footprint.specs.Candidates.{when, least_of_three, whole_pair, beside, stream_pair}
+use Rattle.footprint.specs.Candidates.{when, least_of_three, whole_pair}
 use Rattle.footprint.proofs.Pairs.{born_dies, born_alive, born_expose, dies_born, dies_dies, dies_alive, alive_born, alive_dies, expose_born}
-use Rattle.footprint.proofs.RangeStarts.{is_equal, or_split, and_left, and_right, object_exact}
-use Rattle.footprint.proofs.SetLemmas.{listed_all, narrow_total}
+use Rattle.footprint.proofs.RangeStarts.{or_split, and_left, and_right}
 use Rattle.footprint.proofs.LeastLemmas.{pair_total, not_itself, both, alike}
 use Rattle.footprint.proofs.Loops.{AnyOf, any_in, any_out}
 

@@ -1,13 +1,12 @@
 -- The items of a footprint after a change of its parts.
-use Rattle.std.proofs.Common.{◌≡◌, ℕ, ◌+◌, ◌-◌, ◌^◌, min, Bool, true, false, cond, ◌&&◌, ◌||◌, not, refl, sym, ap, ◌∙◌, subst, arith}
-use Rattle.std.specs.Prelude.{◌==◌, if◌then◌else◌}
+use Rattle.std.proofs.Common.{◌≡◌, ℕ, Bool, true, false, cond, ◌&&◌, ◌||◌, refl, ap, ◌∙◌}
+use Rattle.std.specs.Prelude.{◌==◌}
 use Rattle.std.specs.declared.cmp.Ordering.{Ordering}
 use Rattle.std.specs.declared.cmp.Ordering.TheVariants.{Less, Equal, Greater}
 use Rattle.std.specs.Ordering.{nat_cmp, is_eq, ordering_then}
 use Rattle.ub_base.specs.NameOrders.{event_cmp, object_cmp}
 use Rattle.std.specs.BTreeMap.{BTreeMap}
 use Rattle.std.specs.BTreeSet.{BTreeSet, contains}
-use Rattle.std.specs.Cmp.{unsigned_ties}
 use Rattle.ub_base.specs.declared.names.Event.{Event}
 use Rattle.ub_base.specs.declared.names.ObjName.{ObjName}
 use Rattle.ub_base.specs.declared.names.Item.{Item}
@@ -17,9 +16,9 @@ use Rattle.ub_base.proofs.NameLemmas.{tie_object, tie_event}
 use Rattle.footprint.specs.declared.foot.Foot.{Foot}
 use Rattle.footprint.specs.declared.spans.Spans.{Spans}
 use Rattle.footprint.specs.declared.state.State.{State}
-use Rattle.footprint.specs.Ranges.{range_has, has_byte}
-use Rattle.footprint.specs.States.{nothing, state_in, either, only_at, not_alive}
-use Rattle.footprint.specs.Holds.{narrow_cmp, holds, stands_for, is_forgotten}
+use Rattle.footprint.specs.Ranges.{has_byte}
+use Rattle.footprint.specs.States.{state_in, either}
+use Rattle.footprint.specs.Holds.{narrow_cmp, holds, stands_for}
 
 spread : (b a c : Bool) → (b && (a || c)) ≡ ((b && a) || (b && c))
 spread true a c = refl

@@ -1,10 +1,8 @@
 -- The least conflicting pair of two footprints.
-use Rattle.std.proofs.Common.{◌≡◌, ◌⊎◌, inl, inr, ⊎_elim, ℕ, Bool, true, false, cond, ◌&&◌, ◌||◌, not, IfSome, arith, refl, sym, ap, ◌∙◌, subst, List, [], ◌∷◌, Some, None, Option}
+use Rattle.std.proofs.Common.{◌≡◌, ◌⊎◌, inl, inr, ℕ, Bool, true, false, ◌&&◌, ◌||◌, not, IfSome, refl, sym, ap, ◌∙◌, subst, List, [], ◌∷◌, Some, None, Option}
 use Rattle.std.specs.Ordering.{nat_cmp, is_eq}
-use Rattle.std.specs.declared.cmp.Ordering.TheVariants.{Less, Equal}
-use Rattle.std.specs.List.{list_any}
-use Rattle.std.specs.BTreeMap.{BTreeMap, is_at, IsOrdered}
-use Rattle.std.specs.BTreeSet.{contains}
+use Rattle.std.specs.declared.cmp.Ordering.TheVariants.{Equal}
+use Rattle.std.specs.BTreeMap.{IsOrdered}
 use Rattle.std.proofs.lemmas.Cmp.{tied_itself, nat_cmp_total}
 use Rattle.std.proofs.lemmas.Map.Lookups.{exact_unsigned, exact_pairs}
 use Rattle.ub_base.specs.declared.names.Event.{Event}
@@ -20,15 +18,14 @@ use Rattle.addr_map.specs.Rows.{covers, past}
 use Rattle.footprint.specs.declared.foot.Foot.{Foot}
 use Rattle.footprint.specs.declared.state.State.{State}
 use Rattle.footprint.specs.States.{nothing, state_in, only_at, listed, said_by}
-use Rattle.footprint.specs.Conflicts.{items_conflict, conflicts_one, stands_at, is_object, is_state, is_lookup, is_narrow, is_stream, is_access, MayConflict}
-use Rattle.footprint.specs.Found.{ConflictIn, ConflictOf, AtObject, AtAddress, NarrowIn, SettledIn, RaceIn}
+use Rattle.footprint.specs.Conflicts.{items_conflict, stands_at, is_object, is_state, is_lookup, is_narrow, is_stream, is_access, MayConflict}
+use Rattle.footprint.specs.Found.{ConflictIn, ConflictOf, AtObject, NarrowIn, SettledIn, RaceIn}
 use Rattle.footprint.specs.Holds.{holds, narrow_cmp}
-use Rattle.footprint.specs.Least.{pair_cmp, IsLeast, lesser}
-use Rattle.footprint.specs.Candidates.{when, least_of_three, whole_pair, beside, stream_pair}
-use Rattle.footprint.proofs.Pairs.{born_dies, born_alive, born_expose, dies_born, dies_dies, dies_alive, alive_born, alive_dies, expose_born}
-use Rattle.footprint.proofs.RangeStarts.{is_equal, or_split, and_left, and_right, object_exact}
+use Rattle.footprint.specs.Least.{IsLeast, lesser}
+use Rattle.footprint.specs.Candidates.{when, least_of_three, beside, stream_pair}
+use Rattle.footprint.proofs.RangeStarts.{or_split, and_left, and_right, object_exact}
 use Rattle.footprint.proofs.SetLemmas.{listed_all, narrow_total}
-use Rattle.footprint.proofs.LeastLemmas.{pair_total, not_itself, both, alike}
+use Rattle.footprint.proofs.LeastLemmas.{both, alike}
 use Rattle.footprint.proofs.Loops.{AnyOf, any_in, any_out}
 use Rattle.footprint.proofs.ConflictLemmas.{Single, single, three, and_both, or_one}
 
@@ -168,10 +165,10 @@ module _ (a b : Foot) (places : List Place) where
   lookups_least rows o h = alike rows (AnyOf OneLookup a.lookups.keys) (ConflictOf is_lookup a b places) o lookups_from lookups_is h
 
 -- ---- settled ambiguities
-event_exact : (d e : Event) → event_cmp d e ≡ Equal → d ≡ e
+pub event_exact : (d e : Event) → event_cmp d e ≡ Equal → d ≡ e
 event_exact d e h = same_event_is d e (sym (tie_event d e) ∙ ap is_eq h)
 
-narrow_exact : (x y : Event × ObjName) → narrow_cmp x y ≡ Equal → x ≡ y
+pub narrow_exact : (x y : Event × ObjName) → narrow_cmp x y ≡ Equal → x ≡ y
 narrow_exact = exact_pairs event_cmp object_cmp event_exact object_exact
 
 module _ (b : Foot) (d : Event) (x : ObjName) where
@@ -274,7 +271,7 @@ module _ (a b : Foot) (places : List Place) where
       (three rows _ _ _ _ _ _ (single rows (a.input && b.input) Input Input) (single rows (a.output && b.output) Output Output) (single rows (a.ending && b.any) Ending Any))
       (single rows (a.any && b.ending) Any Ending))
 
-  access_from : (i j : Item) → RaceIn a b i j → ConflictIn a b places i j
+  pub access_from : (i j : Item) → RaceIn a b i j → ConflictIn a b places i j
   access_from (Read x f n) (Read y g m) h = (h.0, h.1, h.4)
   access_from (Read x f n) (Write y g m) h = (h.0, h.1, h.4)
   access_from (Write x f n) (Read y g m) h = (h.0, h.1, h.4)
@@ -283,7 +280,7 @@ module _ (a b : Foot) (places : List Place) where
   access_from (Write x f n) _ h = absurd (let t : false ≡ true = h.3 in cc)
   access_from _ j h = absurd (let t : false ≡ true = h.2 in cc)
 
-  access_is : (i j : Item) → is_access i ≡ true → ConflictIn a b places i j → RaceIn a b i j
+  pub access_is : (i j : Item) → is_access i ≡ true → ConflictIn a b places i j → RaceIn a b i j
   access_is (Read x f n) (Write y g m) e h = (h.0, h.1, refl, refl, h.2)
   access_is (Write x f n) (Read y g m) e h = (h.0, h.1, refl, refl, h.2)
   access_is (Write x f n) (Write y g m) e h = (h.0, h.1, refl, refl, h.2)

@@ -1,24 +1,22 @@
 -- The least pair of accesses of one byte.
-use Rattle.std.proofs.Common.{◌≡◌, ◌⊎◌, inl, inr, ⊎_elim, ℕ, ◌≤◌, ◌<◌, ◌||◌, ◌&&◌, IfSome, arith, Bool, true, false, cond, refl, sym, ap, ◌∙◌, subst, List, [], ◌∷◌, Some, None, Option}
+use Rattle.std.proofs.Common.{◌≡◌, ◌⊎◌, inl, inr, ⊎_elim, ℕ, ◌||◌, ◌&&◌, IfSome, arith, Bool, true, false, refl, sym, ap, ◌∙◌, subst, List, Some, None, Option}
 use Rattle.std.specs.Prelude.{◌==◌, ◌↔◌, IsTrue}
 use Rattle.std.specs.declared.cmp.Ordering.{Ordering}
 use Rattle.std.specs.declared.cmp.Ordering.TheVariants.{Less, Equal, Greater}
-use Rattle.std.specs.Ordering.{nat_cmp, ordering_then}
+use Rattle.std.specs.Ordering.{ordering_then}
 use Rattle.std.proofs.lemmas.Cmp.{tied_itself}
 use Rattle.std.proofs.lemmas.Bool.Decides.{nat_tests}
 use Rattle.ub_base.specs.declared.names.ObjName.{ObjName}
 use Rattle.ub_base.specs.declared.names.Item.{Item}
-use Rattle.ub_base.specs.declared.names.Item.TheVariants.{Read, Write, Born, Dies, Alive, Expose, Lookup, Narrow, Input, Output, Ending, Any}
+use Rattle.ub_base.specs.declared.names.Item.TheVariants.{Read, Write}
 use Rattle.ub_base.specs.Names.{same_object}
 use Rattle.ub_base.specs.Frames.{Row}
-use Rattle.ub_base.proofs.NameLemmas.{same_object_is, same_object_refl}
-use Rattle.c_names.specs.Orders.{object_cmp}
+use Rattle.ub_base.proofs.NameLemmas.{same_object_is}
 use Rattle.footprint.specs.declared.foot.Foot.{Foot}
 use Rattle.footprint.specs.declared.span.Byte.{Byte}
 use Rattle.footprint.specs.Ranges.{has_byte, Meet}
-use Rattle.footprint.specs.Conflicts.{items_conflict, is_access, overlap, MayConflict}
+use Rattle.footprint.specs.Conflicts.{is_access, overlap, MayConflict}
 use Rattle.footprint.specs.Found.{RaceIn, SomeRace}
-use Rattle.footprint.specs.Holds.{holds}
 use Rattle.footprint.specs.Least.{no_event, item_cmp, pair_cmp, IsLeast, lesser, byte_cmp, IsLeastShared, read_at, write_at, paired}
 use Rattle.footprint.proofs.Pairs.{read_written, written_read, written_twice}
 use Rattle.footprint.proofs.LeastLemmas.{event_total, both, alike}

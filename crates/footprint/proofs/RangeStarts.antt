@@ -9,14 +9,13 @@ use Rattle.std.specs.List.{All}
 use Rattle.std.specs.Map.{lookup}
 use Rattle.std.specs.Option.{IsSome, IfSome}
 use Rattle.std.specs.List.{slice_get}
-use Rattle.std.specs.declared.ops.Bound.{Bound}
-use Rattle.std.specs.declared.ops.Bound.TheVariants.{Included, Excluded, Unbounded}
+use Rattle.std.specs.declared.ops.Bound.TheVariants.{Included, Unbounded}
 use Rattle.std.specs.BTreeMap.{BTreeMap, get, is_at, IsOrdered}
-use Rattle.std.specs.BTreeMap.Range.{IsRangeOf, IsInRange, IsEntryInRange}
+use Rattle.std.specs.BTreeMap.Range.{IsRangeOf, IsEntryInRange}
 use Rattle.std.proofs.lemmas.Bool.Decides.{nat_tests}
 use Rattle.std.proofs.lemmas.Cmp.{on_total, then_total, nat_cmp_total, tied_itself}
 use Rattle.std.proofs.lemmas.List.Elements.{All-head, All-tail}
-use Rattle.std.proofs.lemmas.Map.Lookups.{CmpEqualImpliesEq, exact_pairs, exact_unsigned}
+use Rattle.std.proofs.lemmas.Map.Lookups.{exact_pairs, exact_unsigned}
 use Rattle.std.proofs.lemmas.Map.Views.{All-found}
 use Rattle.ub_base.specs.declared.names.ObjName.{ObjName}
 use Rattle.ub_base.specs.Names.{same_object}

@@ -1,18 +1,17 @@
 -- Ranges taken away, and one put in place of others.
-use Rattle.std.proofs.Common.{◌≡◌, ◌≢◌, ◌⊎◌, inl, inr, ℕ, zero, suc, ◌+◌, ◌<◌, ◌≤◌, Bool, true, false, cond, ◌&&◌, ◌||◌, refl, sym, ap, ◌∙◌, subst, arith, List, [], ◌∷◌, length, Some, None, Option, is_some, btree_map_len}
-use Rattle.std.specs.Prelude.{nat_lt, nat_le, ◌==◌}
+use Rattle.std.proofs.Common.{◌≡◌, ◌≢◌, ℕ, ◌+◌, ◌<◌, ◌≤◌, Bool, true, false, cond, ◌&&◌, refl, sym, ap, ◌∙◌, subst, arith, List, [], ◌∷◌, length, Some, None, Option, is_some, btree_map_len}
+use Rattle.std.specs.Prelude.{nat_le, ◌==◌}
 use Rattle.std.specs.Ordering.{is_eq}
 use Rattle.std.specs.Cmp.{both_ways}
 use Rattle.std.specs.Map.{lookup}
-use Rattle.std.specs.BTreeMap.{BTreeMap, get, is_at, IsOrdered}
+use Rattle.std.specs.BTreeMap.{BTreeMap, get, is_at}
 use Rattle.std.proofs.lemmas.Bool.Decides.{nat_tests}
 use Rattle.ub_base.specs.declared.names.ObjName.{ObjName}
 use Rattle.ub_base.specs.Names.{same_object}
 use Rattle.ub_base.proofs.NameLemmas.{same_object_is, same_object_refl}
-use Rattle.footprint.specs.Ranges.{range_has, has_byte, start_cmp, end_at, Held, Separate, begins_in, Without, Joins}
-use Rattle.footprint.specs.Searches.{IsJoinedStart, IsJoinedEnd}
+use Rattle.footprint.specs.Ranges.{start_cmp, end_at, begins_in, Without, Joins}
 use Rattle.std.proofs.lemmas.Cmp.{tied_itself}
-use Rattle.footprint.proofs.RangeStarts.{start_total, start_exact, is_equal, has_from_held, held_from_has, and_left, and_right, within}
+use Rattle.footprint.proofs.RangeStarts.{start_total, start_exact, is_equal, and_left, and_right}
 
 pub begins_own : (x : ObjName) (from last f : ℕ) → from ≤ f → f ≤ last → begins_in x from last x f ≡ true
 begins_own x from last f le to = grind (arith, nat_tests, same_object_refl)

@@ -1,14 +1,13 @@
 -- Sets of keys and states of objects, after a change.
-use Rattle.std.proofs.Common.{◌≡◌, ℕ, Bool, true, false, cond, ◌&&◌, ◌||◌, not, refl, sym, ap, ◌∙◌, subst, List, [], ◌∷◌, Some, None, Option}
+use Rattle.std.proofs.Common.{◌≡◌, Bool, true, false, cond, ◌||◌, refl, sym, ap, ◌∙◌, subst, List, [], ◌∷◌, Some, Option}
 use Rattle.std.specs.Prelude.{if◌then◌else◌}
 use Rattle.std.specs.declared.cmp.Ordering.{Ordering}
-use Rattle.std.specs.declared.cmp.Ordering.TheVariants.{Less, Equal, Greater}
-use Rattle.std.specs.Ordering.{nat_cmp, is_eq, eq_by_cmp}
+use Rattle.std.specs.Ordering.{is_eq, eq_by_cmp}
 use Rattle.std.specs.Cmp.{IsTotalOrder, both_ways}
 use Rattle.std.specs.List.{list_any, IsDistinct}
 use Rattle.std.specs.Map.{lookup, keys_of}
 use Rattle.std.specs.BTreeMap.{BTreeMap, get, is_at, IsOrdered}
-use Rattle.std.proofs.lemmas.Cmp.{on_total, then_total, nat_cmp_total, tied_back, eq_by_cmp_equiv}
+use Rattle.std.proofs.lemmas.Cmp.{on_total, then_total, tied_back, eq_by_cmp_equiv}
 use Rattle.std.proofs.lemmas.Map.{NonePasses}
 use Rattle.std.proofs.lemmas.Map.Keys.{IsDistinct-from_sorted, IsDistinct-tail}
 use Rattle.std.proofs.lemmas.Map.Entries.{none_past_head}
@@ -17,7 +16,7 @@ use Rattle.ub_base.specs.declared.names.ObjName.{ObjName}
 use Rattle.ub_base.specs.Names.{same_object}
 use Rattle.ub_base.specs.NameOrders.{event_cmp, object_cmp}
 use Rattle.ub_base.specs.contracts.names.EventOrd.TheImpl.Laws as event_laws
-use Rattle.ub_base.proofs.NameLemmas.{same_object_is, same_object_refl, tie_object}
+use Rattle.ub_base.proofs.NameLemmas.{same_object_is, tie_object}
 use Rattle.footprint.specs.declared.state.State.{State}
 use Rattle.footprint.specs.States.{nothing, or_nothing, state_in, either, only_at, not_alive, listed}
 use Rattle.footprint.specs.Holds.{narrow_cmp}

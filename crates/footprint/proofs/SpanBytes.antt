@@ -1,15 +1,15 @@
 -- The bytes of ranges after a change.
-use Rattle.std.proofs.Common.{◌≡◌, ◌≢◌, ◌⊎◌, ◌↔◌, inl, inr, ⊎_elim, ℕ, zero, suc, ◌+◌, ◌<◌, ◌≤◌, max, Bool, true, false, cond, not, ◌&&◌, ◌||◌, refl, sym, ap, ◌∙◌, subst, arith, List, [], ◌∷◌, length, Some, None, Option, IsTrue}
+use Rattle.std.proofs.Common.{◌≡◌, ◌⊎◌, inl, inr, ⊎_elim, ℕ, ◌+◌, ◌<◌, ◌≤◌, Bool, true, false, cond, not, ◌&&◌, ◌||◌, refl, sym, ap, ◌∙◌, subst, arith, List, [], ◌∷◌, Some, None, Option, IsTrue}
 use Rattle.std.specs.Prelude.{nat_lt, nat_le, ◌==◌, ◌^◌, Result, Ok, Err, OnOk, OnErr}
 use Rattle.std.specs.Cmp.{both_ways}
 use Rattle.std.specs.Map.{lookup}
-use Rattle.std.specs.BTreeMap.{BTreeMap, get, is_at, IsOrdered}
+use Rattle.std.specs.BTreeMap.{BTreeMap, is_at, IsOrdered}
 use Rattle.std.proofs.lemmas.Bool.Decides.{nat_tests}
 use Rattle.ub_base.specs.declared.names.ObjName.{ObjName}
 use Rattle.ub_base.specs.Names.{same_object}
 use Rattle.ub_base.proofs.NameLemmas.{same_object_is, same_object_refl}
-use Rattle.footprint.specs.Ranges.{range_has, has_byte, start_cmp, end_at, Held, Separate, begins_in, Without, Joins, Meet, IsFirstByte}
-use Rattle.footprint.specs.Searches.{IsJoinedStart, IsJoinedEnd, IsLast, IsLastUpTo, IsNext}
+use Rattle.footprint.specs.Ranges.{range_has, has_byte, start_cmp, end_at, Held, Separate, begins_in, Without, Joins, IsFirstByte}
+use Rattle.footprint.specs.Searches.{IsJoinedStart, IsJoinedEnd, IsLast, IsNext}
 use Rattle.footprint.specs.declared.span.Span.{Span}
 use Rattle.footprint.proofs.RangeStarts.{has_from_held, held_from_has, and_left, and_right, within, or_true, first_of_or, or_split}
 use Rattle.footprint.proofs.Removals.{begins_own, begins_is}

@@ -15,6 +15,10 @@ use Rattle.footprint.specs.Holds.{holds}
 abbrev pub ConflictIn : Foot → Foot → List Row → Item → Item → Type 0
 ConflictIn a b rows i j = (holds a i ≡ true) × (holds b j ≡ true) × (items_conflict (stands_at rows) i j ≡ true)
 
+-- some item of a and some item of b conflict, under the address map
+abbrev pub SomeConflict : Foot → Foot → List Row → Type 0
+SomeConflict a b rows = (i : Item) × (j : Item) × ConflictIn a b rows i j
+
 -- accesses of one byte by a and by b, of which one is a write
 abbrev pub RaceIn : Foot → Foot → Item → Item → Type 0
 RaceIn a b i j = (holds a i ≡ true) × (holds b j ≡ true) × (is_access i ≡ true) × (is_access j ≡ true) × (items_conflict (λ x n. true) i j ≡ true)

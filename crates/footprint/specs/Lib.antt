@@ -3,6 +3,7 @@ pub mod Conflicts
 pub mod Found
 pub mod Holds
 pub mod Least
+pub mod Meets
 pub mod Ranges
 pub mod Searches
 pub mod States

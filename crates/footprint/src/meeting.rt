@@ -1,23 +1,40 @@
 // Whether two footprints conflict.
 ghost use Rattle.std.specs.Prelude.{◌≡◌, ◌↔◌, IsTrue};
+ghost use Rattle.std.specs.List.{list_any};
+ghost use Rattle.std.specs.BTreeMap.{IsOrdered};
+ghost use Rattle.ub_base.specs.NameOrders.{object_cmp};
 ghost use Rattle.ub_base.specs.declared.names.Item.{Item};
 ghost use Rattle.footprint.specs.Conflicts.{conflicts_one, items_conflict, stands_at, overlap, meets_access};
-ghost use Rattle.footprint.specs.Found.{SomeRace};
+ghost use Rattle.footprint.specs.Found.{SomeConflict, SomeRace};
+ghost use Rattle.footprint.specs.Meets.{states_conflict, SomeStates, is_hit, is_met, settled_otherwise, SomeNarrow, streams_meet};
+ghost use Rattle.footprint.specs.States.{state_in};
 
 use crate::Foot;
+use crate::sets::state_of;
+use crate::settled::is_settled_otherwise;
 use crate::state::State;
 use addr_map::AddrMap;
 use std::collections::{BTreeMap, BTreeSet};
 use ub_base::{Event, Item, ObjName};
 
-/// Whether an item of one set conflicts with one of the other: it looks at the entries of the smaller one.
-pub fn conflicts(a: &Foot, b: &Foot, map: &AddrMap) -> bool {
-    races(a, b)
-        || (states_conflict(&a.states, &b.states)
-            || (lookups_conflict(a, b, map) || lookups_conflict(b, a, map)))
-        || (narrows_conflict(&a.narrows, &b.narrows)
-            || ((a.input && b.input) || (a.output && b.output)))
-        || ((a.ending && b.any) || (a.any && b.ending))
+/// Whether an item of one set conflicts with one of the other: it looks at the entries of the smaller one, and at the
+/// lookups of both.
+pub fn conflicts(a: &Foot, b: &Foot, map: &AddrMap) -> bool
+    ensures { IsTrue result ↔ SomeConflict a.now b.now map.now }
+{
+    let races = races(a, b);
+    let states = states_conflict(&a.states, &b.states);
+    let first = lookups_conflict(a, b, map);
+    let second = lookups_conflict(b, a, map);
+    let narrows = narrows_conflict(&a.narrows, &b.narrows);
+    let streams = streams_meet(a, b);
+    (races | states) | ((first | second) | (narrows | streams))
+}
+
+fn streams_meet(a: &Foot, b: &Foot) -> bool
+    ensures { result ≡ streams_meet a.now b.now }
+{
+    ((a.input && b.input) || (a.output && b.output)) || ((a.ending && b.any) || (a.any && b.ending))
 }
 
 /// Whether both have a byte that one of them writes.
@@ -27,7 +44,9 @@ pub fn races(a: &Foot, b: &Foot) -> bool
     a.writes.meets(&b.writes) || (a.writes.meets(&b.reads) || a.reads.meets(&b.writes))
 }
 
-fn states_conflict(a: &BTreeMap<ObjName, State>, b: &BTreeMap<ObjName, State>) -> bool {
+fn states_conflict(a: &BTreeMap<ObjName, State>, b: &BTreeMap<ObjName, State>) -> bool
+    ensures { IsTrue result ↔ SomeStates a.now b.now }
+{
     if a.len() <= b.len() {
         some_state_conflicts(a, b)
     } else {
@@ -35,38 +54,43 @@ fn states_conflict(a: &BTreeMap<ObjName, State>, b: &BTreeMap<ObjName, State>) -
     }
 }
 
-fn some_state_conflicts(few: &BTreeMap<ObjName, State>, many: &BTreeMap<ObjName, State>) -> bool {
-    for (object, state) in few.iter() {
-        if let Some(other) = many.get(object) {
-            if state.conflicts(*other) {
-                return true;
-            }
-        }
-    }
-    false
+fn some_state_conflicts(few: &BTreeMap<ObjName, State>, many: &BTreeMap<ObjName, State>) -> bool
+    ensures some { result ≡ list_any (λ e. states_conflict e.1 (state_in many.now e.0)) few.now.entries }
+    ensures ordered { IsOrdered object_cmp few.now }
+{
+    few.iter()
+        .any(|(object, state)| state.conflicts(state_of(many, *object)))
 }
 
-fn lookups_conflict(a: &Foot, b: &Foot, map: &AddrMap) -> bool {
-    if b.states.is_empty() {
-        return false;
-    }
-    for addr in a.lookups.iter() {
-        let (inside, past) = map.covering(*addr);
-        if meets_lookup(b, inside) || meets_lookup(b, past) {
-            return true;
-        }
-    }
-    false
+fn lookups_conflict(a: &Foot, b: &Foot, map: &AddrMap) -> bool
+    ensures { result ≡ list_any (is_met b.now map.now) a.now.lookups.keys }
+{
+    a.lookups.iter().any(|addr| is_met(b, map, *addr))
 }
 
-fn meets_lookup(foot: &Foot, object: Option<ObjName>) -> bool {
+// Whether an object that contains the address or has it one past died or was exposed.
+fn is_met(b: &Foot, map: &AddrMap, addr: u64) -> bool
+    ensures { result ≡ is_met b.now map.now addr }
+{
+    let (inside, past) = map.covering(addr);
+    is_hit(b, inside) || is_hit(b, past)
+}
+
+fn is_hit(b: &Foot, object: Option<ObjName>) -> bool
+    ensures { result ≡ is_hit b.now object }
+{
     match object {
-        Some(object) => foot.state(object).meets_lookup(),
+        Some(object) => {
+            let state = b.state(object);
+            state.dies || state.expose
+        }
         None => false,
     }
 }
 
-fn narrows_conflict(a: &BTreeSet<(Event, ObjName)>, b: &BTreeSet<(Event, ObjName)>) -> bool {
+fn narrows_conflict(a: &BTreeSet<(Event, ObjName)>, b: &BTreeSet<(Event, ObjName)>) -> bool
+    ensures { IsTrue result ↔ SomeNarrow a.now b.now }
+{
     if a.len() <= b.len() {
         some_narrow_conflicts(a, b)
     } else {
@@ -77,30 +101,11 @@ fn narrows_conflict(a: &BTreeSet<(Event, ObjName)>, b: &BTreeSet<(Event, ObjName
 fn some_narrow_conflicts(
     few: &BTreeSet<(Event, ObjName)>,
     many: &BTreeSet<(Event, ObjName)>,
-) -> bool {
-    for narrow in few.iter() {
-        if is_narrowed_otherwise(many, narrow.0, narrow.1) {
-            return true;
-        }
-    }
-    false
-}
-
-/// Whether the ambiguity is settled to another object there.
-pub fn is_narrowed_otherwise(
-    narrows: &BTreeSet<(Event, ObjName)>,
-    id: Event,
-    keep: ObjName,
-) -> bool {
-    for other in narrows.range((id, ObjName::Static(0))..) {
-        if other.0 != id {
-            return false;
-        }
-        if other.1 != keep {
-            return true;
-        }
-    }
-    false
+) -> bool
+    ensures { result ≡ list_any (λ m. settled_otherwise many.now m.0 m.1) few.now.keys }
+{
+    few.iter()
+        .any(|narrow| is_settled_otherwise(many, narrow.0, narrow.1))
 }
 
 /// Whether two items conflict, of ranges a byte of each.

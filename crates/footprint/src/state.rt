@@ -1,6 +1,7 @@
 // What was done to objects as wholes.
 ghost use Rattle.std.specs.Prelude.{◌≡◌};
 ghost use Rattle.footprint.specs.States.{either, not_alive};
+ghost use Rattle.footprint.specs.Meets.{states_conflict, states_meet};
 
 /// What was done to an object as a whole.
 #[derive(Clone, Copy, Debug, PartialEq, Eq)]
@@ -43,17 +44,16 @@ impl State {
 
     /// Whether something done to one object here conflicts with something there: born with alive or expose, dies with
     /// alive, born or dies.
-    pub fn conflicts(self, other: State) -> bool {
+    pub fn conflicts(self, other: State) -> bool
+        ensures { result ≡ states_conflict self other }
+    {
         self.meets(other) || other.meets(self)
     }
 
-    fn meets(self, other: State) -> bool {
+    fn meets(self, other: State) -> bool
+        ensures { result ≡ states_meet self other }
+    {
         (self.born && (other.alive || other.expose))
             || (self.dies && (other.alive || (other.born || other.dies)))
-    }
-
-    /// Whether a lookup of an address of the object conflicts with what was done to it.
-    pub fn meets_lookup(self) -> bool {
-        self.dies || self.expose
     }
 }

@@ -1,4 +1,4 @@
-use Rattle.std.proofs.Common.{◌∙◌, refl}
+use Rattle.std.proofs.Common.{◌∙◌}
 use Rattle.footprint.proofs.Loops.{start, turn, finish}
 use Rattle.footprint.proofs.ConflictLemmas.{OneAddress, one_least, address_least}
 use Rattle.footprint.proofs.addresses.address_pair.Goals as goal

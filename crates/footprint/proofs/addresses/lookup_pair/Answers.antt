@@ -1,4 +1,4 @@
-use Rattle.std.proofs.Common.{◌∙◌, refl}
+use Rattle.std.proofs.Common.{◌∙◌}
 use Rattle.footprint.proofs.Loops.{start, turn, finish}
 use Rattle.footprint.proofs.PairLemmas.{OneLookup, one_lookup, lookups_least}
 use Rattle.footprint.proofs.addresses.lookup_pair.Goals as goal

@@ -1,4 +1,4 @@
-use Rattle.std.proofs.Common.{◌∙◌, refl}
+use Rattle.std.proofs.Common.{◌∙◌}
 use Rattle.footprint.proofs.Loops.{start, turn, finish}
 use Rattle.footprint.proofs.PairLemmas.{OtherKeep, other_least, settled_least}
 use Rattle.footprint.proofs.settled.settled_otherwise.Goals as goal

@@ -1,6 +1,6 @@
-use Rattle.std.proofs.Common.{◌≡◌, ◌∙◌, sym, ap, subst, true, false, Option, is_lt}
+use Rattle.std.proofs.Common.{◌∙◌, sym, ap, subst, Option, is_lt}
 use Rattle.footprint.specs.declared.span.Byte.{Byte}
-use Rattle.footprint.specs.Least.{byte_cmp, Reaches}
+use Rattle.footprint.specs.Least.{Reaches}
 use Rattle.footprint.proofs.LeastLemmas.{kept_reach, own_reach}
 use Rattle.footprint.proofs.shared.lesser_byte.Goals as goal
 

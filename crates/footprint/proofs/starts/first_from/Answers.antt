@@ -1,4 +1,4 @@
-use Rattle.std.proofs.Common.{◌≡◌, ◌∙◌, true, false, refl, rules}
+use Rattle.std.proofs.Common.{◌≡◌, true, false, refl, rules}
 use Rattle.footprint.proofs.RangeStarts.{next_none, next_own, next_other}
 use Rattle.footprint.proofs.starts.first_from.Goals as goal
 

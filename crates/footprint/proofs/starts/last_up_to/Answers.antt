@@ -1,4 +1,4 @@
-use Rattle.std.proofs.Common.{◌≡◌, ◌∙◌, true, false, refl, rules}
+use Rattle.std.proofs.Common.{◌≡◌, true, false, refl, rules}
 use Rattle.footprint.proofs.RangeStarts.{last_none, last_own, last_other}
 use Rattle.footprint.proofs.starts.last_up_to.Goals as goal
 

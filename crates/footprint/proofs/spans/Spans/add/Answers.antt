@@ -1,4 +1,3 @@
-use Rattle.std.proofs.Common.{refl}
 use Rattle.footprint.proofs.SpanBytes.{joined_bytes, joined_separate, none_added, all_there, separate_same, either_way}
 use Rattle.footprint.proofs.spans.Spans.add.Goals as goal
 

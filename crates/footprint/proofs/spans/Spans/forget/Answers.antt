@@ -1,5 +1,5 @@
 use Rattle.std.proofs.Common.{refl}
-use Rattle.footprint.proofs.SpanBytes.{forgotten, without_separate}
+use Rattle.footprint.proofs.SpanBytes.{forgotten}
 use Rattle.footprint.proofs.spans.Spans.forget.Goals as goal
 
 pub returns : goal.returns
