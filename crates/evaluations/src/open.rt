@@ -1,5 +1,6 @@
 // The open evaluations of a run.
-ghost use Rattle.std.specs.Prelude.{◌≡◌, ◌<◌, vec_len};
+ghost use Rattle.std.specs.Prelude.{◌≡◌, ◌<◌, vec_len, OnOk};
+ghost use Rattle.evaluations.specs.Bodies.{HasBody};
 
 use crate::known::Known;
 use crate::level::Level;
@@ -281,6 +282,13 @@ impl Evaluations {
             return Ok(());
         };
         let Level { foot, .. } = level;
+        self.give(foot)
+    }
+
+    // The body that the last event started touched this.
+    fn give(&mut self, foot: Foot) -> Result<(), NoMemory>
+        ensures { OnOk result (HasBody self.new.events.items foot) }
+    {
         let is_large = foot.size() > LARGE;
         let at = self.events.len().saturating_sub(1);
         match self.events.last_mut() {
