@@ -1,7 +1,7 @@
 // The audit of a run.
 ghost use Rattle.std.specs.Prelude.{◌≡◌, ◌≤◌, length, IfOk};
 ghost use Rattle.core_run.specs.Ends as ends;
-ghost use Rattle.footprint_run.specs.Findings.{picks_of, IsOutOfSteps, ItemsConflict};
+ghost use Rattle.footprint_run.specs.Findings.{picks_of, IsOutOfSteps, ItemsConflict, IsConflict, Tells};
 
 use crate::finding::{Audit, Finding, Race};
 use crate::watcher::{Seen, Watcher};
@@ -49,6 +49,7 @@ fn finding_of(ran: Ran, seen: Option<Seen>) -> Result<Finding, NoMemory>
     ensures picks { IfOk result (λ f. picks_of f ≡ ends.picks_of ran) }
     ensures out_of_steps { IfOk result (λ f. IsOutOfSteps f → ends.IsOutOfSteps ran) }
     ensures items { IfOk result ItemsConflict }
+    ensures tells { IfOk result (Tells ran) }
 {
     match ran {
         Ran::Ended { status, picks } => Ok(Finding::Clean { status, picks }),
@@ -85,6 +86,7 @@ fn finding_at(seen: Seen, picks: u64) -> Finding
     ensures picks { picks_of result ≡ picks }
     ensures out_of_steps { ¬ IsOutOfSteps result }
     ensures items { ItemsConflict result }
+    ensures conflict { IsConflict result }
 {
     let found = seen.found;
     if found.race {

@@ -1,9 +1,15 @@
 // The watch that keeps the open evaluations of a run.
-ghost use Rattle.footprint.specs.Conflicts.{MayConflict};
+ghost use Rattle.std.specs.Prelude.{◌≡◌, IsTrue};
+ghost use Rattle.c_typed.specs.Tree.{tree_of};
+ghost use Rattle.seq_order.specs.Marked.{taken_in};
+ghost use Rattle.evaluations.specs.FoundItems.{IsConflict};
+ghost use Rattle.footprint_run.specs.Apart.{IsApart, place_of};
 
+use c_typed::{Place, Typed};
 use core_run::{Go, View, Watch};
 use evaluations::{Evaluations, Found, Rule, Rules, first_of, last_operand_of, line_of};
 use prov_memory::Touched;
+use seq_order::{Relation, Taken, relation};
 use std::alloc::Global;
 use ub_base::{Event, Frame, Item, Kind, NoMemory};
 
@@ -13,7 +19,7 @@ pub struct Seen {
     pub found: Found,
     pub line: u32,
     pub against_line: u32,
-    ghost conflict: { MayConflict found.items.0 found.items.1 },
+    ghost conflict: { IsConflict found },
 }
 
 /// Keeps the open evaluations of a run, and stops it at the first conflict.
@@ -123,20 +129,54 @@ impl Watcher {
         Ok(self.answer(v, best))
     }
 
+    // A conflict counts where its two evaluations stand to one another as its kind asks.
     fn answer(&mut self, v: &View, found: Option<Found>) -> Go
         requires { ItemsConflict found }
     {
-        match found {
-            Some(found) => {
-                self.seen = Some(Seen {
-                    found,
-                    line: event_line(v, &found.event),
-                    against_line: event_line(v, &found.against),
-                });
-                Go::Stop
-            }
-            None => Go::On,
+        let Some(found) = found else {
+            return Go::On;
+        };
+        if !are_apart(v, &found) {
+            return Go::On;
         }
+        self.seen = Some(Seen {
+            found,
+            line: event_line(v, &found.event),
+            against_line: event_line(v, &found.against),
+        });
+        Go::Stop
+    }
+}
+
+// Whether the two evaluations of a conflict stand to one another as its kind asks.
+fn are_apart(v: &View, found: &Found) -> bool {
+    for begun in v.begun {
+        if begun.frame == found.event.frame && begun.turn == found.event.turn {
+            return are_apart_in(begun.root, &begun.taken, found);
+        }
+    }
+    false
+}
+
+// Those of a race are unsequenced (6.5p2), and of those of another conflict neither is sequenced before the other.
+fn are_apart_in(root: &Typed, taken: &Taken, found: &Found) -> bool
+    ensures { IsTrue result → IsApart (taken_in taken.now) (tree_of root.now) found.now }
+{
+    let event = place_of(&found.event);
+    let against = place_of(&found.against);
+    match relation(root, event, against, taken) {
+        Relation::Sequenced => false,
+        Relation::Unsequenced => true,
+        Relation::Indeterminate => !found.race,
+    }
+}
+
+fn place_of(event: &Event) -> Place
+    ensures { result ≡ place_of event.now }
+{
+    Place {
+        node: event.node,
+        kind: event.kind,
     }
 }
 
