@@ -187,7 +187,7 @@ settled_bytes : (o : Option (Event × ObjName)) (s : Store) (x : ObjName) → (s
 settled_bytes None s x = refl
 settled_bytes (Some p) s x = refl
 
-range_is : (m : Kept) (io : Io) (o : Option (Event × ObjName)) (x : ObjName) (h : Held) (from n : ℕ) → held_of m.objects x ≡ Some h → range_from ((settled_if o (store_of m io)).bytes x) from n ≡ bytes_in m h from n
+pub range_is : (m : Kept) (io : Io) (o : Option (Event × ObjName)) (x : ObjName) (h : Held) (from n : ℕ) → held_of m.objects x ≡ Some h → range_from ((settled_if o (store_of m io)).bytes x) from n ≡ bytes_in m h from n
 range_is m io o x h from n e =
     ap (λ (f : ℕ → TaggedByte). range_from f from n) (settled_bytes o (store_of m io) x) ∙ ap (λ (k : Option Held). range_from (λ at. tagged_in_object m.origins m.types k at) from n) e
 
@@ -197,7 +197,7 @@ life_at h = record { live = h.state.live; kind = h.state.kind; declared = option
 abbrev pub ReadFails : Kept → Found → CType → Bool → ℕ → Clause → Type 0
 ReadFails m f ty is_bool n c = (h : Held) → slice_get m.objects f.object ≡ Some h → Err c ≡ number_read ty is_bool (option_map form_of h.declared) f.from (bytes_in m h f.from n)
 
-tail_raises : {V : Type 0} (m : Kept) (f : Found) (ty : CType) (is_bool : Bool) (rest : List TaggedByte → Script V) (n : ℕ) (c : Clause) (r : IsReached m.objects f n) → ReadFails m f ty is_bool n c → (io : Io) → run m.rows (load_tail ty is_bool rest n (reached m.objects f)) (settled_if f.settles (store_of m io)) ≡ Raised c
+pub tail_raises : {V : Type 0} (m : Kept) (f : Found) (ty : CType) (is_bool : Bool) (rest : List TaggedByte → Script V) (n : ℕ) (c : Clause) (r : IsReached m.objects f n) → ReadFails m f ty is_bool n c → (io : Io) → run m.rows (load_tail ty is_bool rest n (reached m.objects f)) (settled_if f.settles (store_of m io)) ≡ Raised c
 tail_raises m f ty is_bool rest n c r fails io =
     let s = settled_if f.settles (store_of m io) in
     let bs = bytes_in m r.object f.from n in

@@ -265,7 +265,7 @@ store_done old new f g first via seen align a prov cs items makes r can e stored
     ∙ ap₂ (λ (k : ℕ) (s : Store). Done tt ((settle_items f.settles ++ Alive f.name ∷ []) ++ Write f.name f.from k ∷ []) s) len end
     ∙ ap (λ (js : List Item). Done tt js (store_of new io)) (sym noted)
 
-cells_settle : (m w : Kept) (new : Cells) (objects : List Held) (settles : Option (Event × ObjName)) → w ≡ record m { objects = objects } → (HasCellOf w settles → IsFree w settles → (k : Kept) → k.cells ≡ w.cells → (io : Io) → store_of (record k { cells = new }) io ≡ settled_if settles (store_of k io)) → HasCellOf m settles → IsFree m settles → (io : Io) → store_of (record m { cells = new }) io ≡ settled_if settles (store_of m io)
+pub cells_settle : (m w : Kept) (new : Cells) (objects : List Held) (settles : Option (Event × ObjName)) → w ≡ record m { objects = objects } → (HasCellOf w settles → IsFree w settles → (k : Kept) → k.cells ≡ w.cells → (io : Io) → store_of (record k { cells = new }) io ≡ settled_if settles (store_of k io)) → HasCellOf m settles → IsFree m settles → (io : Io) → store_of (record m { cells = new }) io ≡ settled_if settles (store_of m io)
 cells_settle m w new objects settles e store_is has free io =
     store_is (subst (λ (k : Kept). HasCellOf k settles) (sym e) has) (subst (λ (k : Kept). IsFree k settles) (sym e) free) m (ap (λ (k : Kept). k.cells) (sym e)) io
 
