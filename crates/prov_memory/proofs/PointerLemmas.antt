@@ -23,8 +23,8 @@ use Rattle.prov_memory.specs.Acts.{access, candidates, number_of, is_piece, are_
 use Rattle.prov_memory.specs.Streams.{Io}
 use Rattle.prov_memory.specs.Held.{Held}
 use Rattle.prov_memory.specs.Memory.{Kept, HasCell, AreKnown, store_of}
-use Rattle.prov_memory.specs.Access.{HasCellOf, IsFree, CanSettle, settled_if, settle_items, IsReached, reached, bytes_in}
-use Rattle.prov_memory.specs.Made.{HasMore, look_up_items}
+use Rattle.prov_memory.specs.Access.{CanSettleOf, IsReached, reached, bytes_in}
+use Rattle.prov_memory.specs.Made.{HasMore, Settling, CanSettle, after_settling, settling_items, look_up_items}
 use Rattle.prov_memory.specs.Loads.{IfRaise, is_dead_in, pointer_items}
 use Rattle.prov_memory.proofs.AccessLemmas.{done_then, raised_then, raised_first}
 use Rattle.prov_memory.proofs.FindLemmas.{store_more}
@@ -91,12 +91,12 @@ resolved_number rows who prov a s runs =
     done_then rows (from_int who a) (with_number a) s s s prov (a, prov) (look_up_items a) [] runs refl ∙ ap (λ (js : List Item). Done (a, prov) js s) (append_none (look_up_items a))
 
 -- ---- what a settling doesn't change
-find_settled : (o : Option (Event × ObjName)) (s : Store) (x : Option ObjName) → findable (settled_if o s) x ≡ findable s x
+find_settled : (o : Settling) (s : Store) (x : Option ObjName) → findable (after_settling o s) x ≡ findable s x
 find_settled None s x = refl
 find_settled (Some p) s None = refl
 find_settled (Some p) s (Some x) = refl
 
-dead_settled : (o : Option (Event × ObjName)) (s : Store) (prov : Prov) → is_dead_in (settled_if o s) prov ≡ is_dead_in s prov
+dead_settled : (o : Settling) (s : Store) (prov : Prov) → is_dead_in (after_settling o s) prov ≡ is_dead_in s prov
 dead_settled None s prov = refl
 dead_settled (Some p) s Empty = refl
 dead_settled (Some p) s (Whole x) = refl
@@ -112,7 +112,7 @@ found_split false rows who a s e = rw e refl
 found_run : (rows : List Row) (who : Event) (a : ℕ) (s : Store) → run rows (from_int who a) s ≡ Done (found_prov rows who a s) (look_up_items a) s
 found_run rows who a s = found_split (a == 0) rows who a s refl
 
-found_settled : (o : Option (Event × ObjName)) (rows : List Row) (who : Event) (a : ℕ) (s : Store) → found_prov rows who a (settled_if o s) ≡ found_prov rows who a s
+found_settled : (o : Settling) (rows : List Row) (who : Event) (a : ℕ) (s : Store) → found_prov rows who a (after_settling o s) ≡ found_prov rows who a s
 found_settled o rows who a s = ap₂ (λ (x y : Option ObjName). cond (a == 0) Empty (chosen x y who)) (find_settled o s (covers rows a)) (find_settled o s (past rows a))
 
 abbrev pub Pair : Type 0
@@ -137,44 +137,40 @@ answer_over : (b : Bool) (prov : Prov) (a : ℕ) (s t : Store) → answer_by b p
 answer_over true prov a s t = refl
 answer_over false prov a s t = refl
 
-given_settled : (o : Option (Event × ObjName)) (rows : List Row) (who : Event) (pointer : Option Prov) (a : ℕ) (s : Store) → given_by rows who pointer a (settled_if o s) ≡ over (settled_if o s) (given_by rows who pointer a s)
+given_settled : (o : Settling) (rows : List Row) (who : Event) (pointer : Option Prov) (a : ℕ) (s : Store) → given_by rows who pointer a (after_settling o s) ≡ over (after_settling o s) (given_by rows who pointer a s)
 given_settled o rows who (Some prov) a s =
-    ap (λ (b : Bool). answer_by b prov a (settled_if o s)) (dead_settled o s prov) ∙ answer_over (is_dead_in s prov) prov a s (settled_if o s)
-given_settled o rows who None a s = ap (λ (p : Prov). Done (a, p) (look_up_items a) (settled_if o s)) (found_settled o rows who a s)
+    ap (λ (b : Bool). answer_by b prov a (after_settling o s)) (dead_settled o s prov) ∙ answer_over (is_dead_in s prov) prov a s (after_settling o s)
+given_settled o rows who None a s = ap (λ (p : Prov). Done (a, p) (look_up_items a) (after_settling o s)) (found_settled o rows who a s)
 
-run_settled : (o : Option (Event × ObjName)) (rows : List Row) (who : Event) (pointer : Option Prov) (a : ℕ) (s : Store) → run rows (pointer_or_number who pointer a) (settled_if o s) ≡ over (settled_if o s) (run rows (pointer_or_number who pointer a) s)
+run_settled : (o : Settling) (rows : List Row) (who : Event) (pointer : Option Prov) (a : ℕ) (s : Store) → run rows (pointer_or_number who pointer a) (after_settling o s) ≡ over (after_settling o s) (run rows (pointer_or_number who pointer a) s)
 run_settled o rows who pointer a s =
-    given_run rows who pointer a (settled_if o s) ∙ given_settled o rows who pointer a s ∙ ap (over (settled_if o s)) (sym (given_run rows who pointer a s))
+    given_run rows who pointer a (after_settling o s) ∙ given_settled o rows who pointer a s ∙ ap (over (after_settling o s)) (sym (given_run rows who pointer a s))
 
 -- ---- the act
 abbrev pointer_rest : Event → List TaggedByte → Script Pair
 pointer_rest who bs = pointer_or_number who (pointer_in bs) (number_of bs)
 
-cell_more : (m looked : Kept) (o : Option (Event × ObjName)) → HasMore m looked → HasCellOf m o → HasCellOf looked o
-cell_more m looked None more has = tt
-cell_more m looked (Some p) more has = more.cells p.0 has
-
-free_more : (m looked : Kept) (o : Option (Event × ObjName)) → HasMore m looked → IsFree m o → IsFree looked o
-free_more m looked None more free = tt
-free_more m looked (Some p) more free = ap (λ (k : Option ObjName). is_other k p.1) (more.kept p.0) ∙ free
+can_more : (m looked : Kept) (o : Settling) → HasMore m looked → CanSettle m.cells o → CanSettle looked.cells o
+can_more m looked None more can = tt
+can_more m looked (Some p) more can = (more.cells p.0 can.0, ap (λ (k : Option ObjName). is_other k p.1) (more.kept p.0) ∙ can.1)
 
 -- what a settling leaves of a memory
-abbrev pub Settled : Kept → Kept → Option (Event × ObjName) → Type 0
-Settled old new settles = HasCellOf old settles → IsFree old settles → (k : Kept) → k.cells ≡ old.cells → (io : Io) → store_of (record k { cells = new.cells }) io ≡ settled_if settles (store_of k io)
+abbrev pub Settled : Kept → Kept → Settling → Type 0
+Settled old new settles = CanSettle old.cells settles → (k : Kept) → k.cells ≡ old.cells → (io : Io) → store_of (record k { cells = new.cells }) io ≡ after_settling settles (store_of k io)
 
-pub pointer_loaded : (m looked new : Kept) (f : Found) (ty : CType) (who : Event) (align a : ℕ) (prov target : Prov) (pointer : Option Prov) (number : ℕ) (items : List Item) → Makes m f 8 align a prov → (r : IsReached m.objects f 8) → CanSettle m prov f.settles → Reads m f ty false 8 number → pointer ≡ pointer_in (bytes_in m r.object f.from 8) → ((io : Io) → run m.rows (pointer_or_number who pointer number) (store_of m io) ≡ Done (number, target) (pointer_items pointer number) (store_of m io)) → HasMore m looked → record new { cells = [] } ≡ record looked { cells = [] } → Settled looked new f.settles → items ≡ ((settle_items f.settles ++ Alive f.name ∷ []) ++ Read f.name f.from 8 ∷ []) ++ pointer_items pointer number → HasCell m prov → AreKnown m → (io : Io) → run m.rows (load_ptr m.rows ty who align a prov) (store_of m io) ≡ Done (number, target) items (store_of new io)
+pub pointer_loaded : (m looked new : Kept) (f : Found) (ty : CType) (who : Event) (align a : ℕ) (prov target : Prov) (pointer : Option Prov) (number : ℕ) (items : List Item) → Makes m f 8 align a prov → (r : IsReached m.objects f 8) → CanSettleOf m prov f.settles → Reads m f ty false 8 number → pointer ≡ pointer_in (bytes_in m r.object f.from 8) → ((io : Io) → run m.rows (pointer_or_number who pointer number) (store_of m io) ≡ Done (number, target) (pointer_items pointer number) (store_of m io)) → HasMore m looked → record new { cells = [] } ≡ record looked { cells = [] } → Settled looked new f.settles → items ≡ ((settling_items f.settles ++ Alive f.name ∷ []) ++ Read f.name f.from 8 ∷ []) ++ pointer_items pointer number → HasCell m prov → AreKnown m → (io : Io) → run m.rows (load_ptr m.rows ty who align a prov) (store_of m io) ≡ Done (number, target) items (store_of new io)
 pointer_loaded m looked new f ty who align a prov target pointer number items makes r can reads is act more rest settles noted has known io =
     let bs = bytes_in m r.object f.from 8 in
-    let s = settled_if f.settles (store_of m io) in
+    let s = after_settling f.settles (store_of m io) in
     let js = pointer_items pointer number in
-    let first = settle_items f.settles ++ Alive f.name ∷ [] in
+    let first = settling_items f.settles ++ Alive f.name ∷ [] in
     let runs : number_of bs ≡ number → run m.rows (pointer_rest who bs) s ≡ Done (number, target) js s = λ same.
     ap₂ (λ (p : Option Prov) (k : ℕ). run m.rows (pointer_or_number who p k) s) (sym is) same
     ∙ run_settled f.settles m.rows who pointer number (store_of m io)
     ∙ ap (over s) (act io) in
-    let after : store_of (record looked { cells = new.cells }) io ≡ settled_if f.settles (store_of looked io) = settles (cell_more m looked f.settles more (can.cell has)) (free_more m looked f.settles more can.free) looked refl io in
+    let after : store_of (record looked { cells = new.cells }) io ≡ after_settling f.settles (store_of looked io) = settles (can_more m looked f.settles more (can has)) looked refl io in
     let new_is : new ≡ record looked { cells = new.cells } = ap (λ (k : Kept). record k { cells = new.cells }) rest in
-    let end : s ≡ store_of new io = ap (λ (q : Store). settled_if f.settles q) (sym (store_more m looked more known io)) ∙ sym after ∙ ap (λ (k : Kept). store_of k io) (sym new_is) in
+    let end : s ≡ store_of new io = ap (λ (q : Store). after_settling f.settles q) (sym (store_more m looked more known io)) ∙ sym after ∙ ap (λ (k : Kept). store_of k io) (sym new_is) in
     done_then m.rows (access m.rows 8 align a prov) (load_tail ty false (pointer_rest who) 8) (store_of m io) s s (reached m.objects f) (number, target) first (Read f.name f.from 8 ∷ js) (makes io) (tail_then m f ty false (pointer_rest who) 8 number (Done (number, target) js s) io r reads runs)
     ∙ ap₂ (λ (l : List Item) (q : Store). Done (number, target) l q) (sym (append_assoc first (Read f.name f.from 8 ∷ []) js) ∙ sym noted) end
 
@@ -184,7 +180,7 @@ pointer_unreached m ty who align a prov c raises io =
 
 pub pointer_unread : (m acc : Kept) (f : Found) (ty : CType) (who : Event) (align a : ℕ) (prov : Prov) (c : Clause) → acc ≡ m → Makes m f 8 align a prov → IsReached m.objects f 8 → ReadFails acc f ty false 8 c → (io : Io) → run m.rows (load_ptr m.rows ty who align a prov) (store_of m io) ≡ Raised c
 pointer_unread m acc f ty who align a prov c same makes r fails io =
-    raised_then m.rows (access m.rows 8 align a prov) (load_tail ty false (pointer_rest who) 8) (store_of m io) (settled_if f.settles (store_of m io)) (reached m.objects f) (settle_items f.settles ++ Alive f.name ∷ []) c (makes io) (tail_raises m f ty false (pointer_rest who) 8 c r (subst (λ (k : Kept). ReadFails k f ty false 8 c) same fails) io)
+    raised_then m.rows (access m.rows 8 align a prov) (load_tail ty false (pointer_rest who) 8) (store_of m io) (after_settling f.settles (store_of m io)) (reached m.objects f) (settling_items f.settles ++ Alive f.name ∷ []) c (makes io) (tail_raises m f ty false (pointer_rest who) 8 c r (subst (λ (k : Kept). ReadFails k f ty false 8 c) same fails) io)
 
 -- the pieces of the bytes where a load falls
 abbrev pub SeesPointer : Kept → Found → Option Prov → Type 0
@@ -193,12 +189,12 @@ SeesPointer m f pointer = (h : Held) → slice_get m.objects f.object ≡ Some h
 pointer_lost : (m : Kept) (f : Found) (ty : CType) (who : Event) (align a : ℕ) (prov : Prov) (pointer : Option Prov) (number : ℕ) (c : Clause) → Makes m f 8 align a prov → IsReached m.objects f 8 → Reads m f ty false 8 number → SeesPointer m f pointer → ((io : Io) → run m.rows (pointer_or_number who pointer number) (store_of m io) ≡ Raised c) → (io : Io) → run m.rows (load_ptr m.rows ty who align a prov) (store_of m io) ≡ Raised c
 pointer_lost m f ty who align a prov pointer number c makes r reads sees act io =
     let bs = bytes_in m r.object f.from 8 in
-    let s = settled_if f.settles (store_of m io) in
+    let s = after_settling f.settles (store_of m io) in
     let runs : number_of bs ≡ number → run m.rows (pointer_rest who bs) s ≡ Raised c = λ same.
     ap₂ (λ (p : Option Prov) (k : ℕ). run m.rows (pointer_or_number who p k) s) (sym (sees r.object r.there)) same
     ∙ run_settled f.settles m.rows who pointer number (store_of m io)
     ∙ ap (over s) (act io) in
-    raised_then m.rows (access m.rows 8 align a prov) (load_tail ty false (pointer_rest who) 8) (store_of m io) s (reached m.objects f) (settle_items f.settles ++ Alive f.name ∷ []) c (makes io) (tail_then m f ty false (pointer_rest who) 8 number (Raised c) io r reads runs)
+    raised_then m.rows (access m.rows 8 align a prov) (load_tail ty false (pointer_rest who) 8) (store_of m io) s (reached m.objects f) (settling_items f.settles ++ Alive f.name ∷ []) c (makes io) (tail_then m f ty false (pointer_rest who) 8 number (Raised c) io r reads runs)
 
 -- ---- from what the steps of a load ensure
 raise_map : (e : MemFault) (P Q : Clause → Type 0) → ((c : Clause) → P c → Q c) → IfRaise e P → IfRaise e Q
@@ -217,6 +213,6 @@ pointer_noted first t mid items js i few is one more =
     let longer : length mid ≡ length first + 1 = ap length next ∙ length-append first (i ∷ []) in
     more (omega arith) ∙ ap (λ (l : List Item). l ++ js) next
 
-pub pointer_exact : (m acc looked new : Kept) (f : Found) (ty : CType) (who : Event) (align a : ℕ) (prov target : Prov) (pointer : Option Prov) (number : ℕ) (t mid items : List Item) → acc ≡ m → Makes m f 8 align a prov → IsReached m.objects f 8 → CanSettle m prov f.settles → t ≡ settle_items f.settles ++ Alive f.name ∷ [] → Reads acc f ty false 8 number → (length t < 32 → mid ≡ t ++ Read f.name f.from 8 ∷ []) → SeesPointer acc f pointer → ((io : Io) → run acc.rows (pointer_or_number who pointer number) (store_of acc io) ≡ Done (number, target) (pointer_items pointer number) (store_of acc io)) → (length mid + 1 < 32 → items ≡ mid ++ pointer_items pointer number) → HasMore acc looked → record new { cells = [] } ≡ record looked { cells = [] } → Settled looked new f.settles → HasCell m prov → AreKnown m → (io : Io) → run m.rows (load_ptr m.rows ty who align a prov) (store_of m io) ≡ Done (number, target) items (store_of new io)
+pub pointer_exact : (m acc looked new : Kept) (f : Found) (ty : CType) (who : Event) (align a : ℕ) (prov target : Prov) (pointer : Option Prov) (number : ℕ) (t mid items : List Item) → acc ≡ m → Makes m f 8 align a prov → IsReached m.objects f 8 → CanSettleOf m prov f.settles → t ≡ settling_items f.settles ++ Alive f.name ∷ [] → Reads acc f ty false 8 number → (length t < 32 → mid ≡ t ++ Read f.name f.from 8 ∷ []) → SeesPointer acc f pointer → ((io : Io) → run acc.rows (pointer_or_number who pointer number) (store_of acc io) ≡ Done (number, target) (pointer_items pointer number) (store_of acc io)) → (length mid + 1 < 32 → items ≡ mid ++ pointer_items pointer number) → HasMore acc looked → record new { cells = [] } ≡ record looked { cells = [] } → Settled looked new f.settles → HasCell m prov → AreKnown m → (io : Io) → run m.rows (load_ptr m.rows ty who align a prov) (store_of m io) ≡ Done (number, target) items (store_of new io)
 pointer_exact m acc looked new f ty who align a prov target pointer number t mid items same makes r can first reads one sees act more_items more rest settles has known =
-    pointer_loaded m looked new f ty who align a prov target pointer number items makes r can (subst (λ (k : Kept). Reads k f ty false 8 number) same reads) ((subst (λ (k : Kept). SeesPointer k f pointer) same sees) r.object r.there) (subst (λ (k : Kept). (io : Io) → run k.rows (pointer_or_number who pointer number) (store_of k io) ≡ Done (number, target) (pointer_items pointer number) (store_of k io)) same act) (subst (λ (k : Kept). HasMore k looked) same more) rest settles (pointer_noted (settle_items f.settles ++ Alive f.name ∷ []) t mid items (pointer_items pointer number) (Read f.name f.from 8) (two_at_most f.settles f.name) first one more_items) has known
+    pointer_loaded m looked new f ty who align a prov target pointer number items makes r can (subst (λ (k : Kept). Reads k f ty false 8 number) same reads) ((subst (λ (k : Kept). SeesPointer k f pointer) same sees) r.object r.there) (subst (λ (k : Kept). (io : Io) → run k.rows (pointer_or_number who pointer number) (store_of k io) ≡ Done (number, target) (pointer_items pointer number) (store_of k io)) same act) (subst (λ (k : Kept). HasMore k looked) same more) rest settles (pointer_noted (settling_items f.settles ++ Alive f.name ∷ []) t mid items (pointer_items pointer number) (Read f.name f.from 8) (two_at_most f.settles f.name) first one more_items) has known

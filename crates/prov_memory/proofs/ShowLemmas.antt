@@ -4,7 +4,6 @@ use Rattle.std.specs.Prelude.{Result, Ok, Err, IfOk, OnOk, nat_lt, option_map, �
 use Rattle.std.proofs.lemmas.List.{map-append, append-nil}
 use Rattle.ub_base.specs.declared.clause.Clause.{Clause}
 use Rattle.ub_base.specs.declared.clause.Clause.TheVariants.{EffectiveType, Indeterminate, TrapRepresentation}
-use Rattle.ub_base.specs.declared.names.Event.{Event}
 use Rattle.ub_base.specs.declared.names.Item.{Item}
 use Rattle.ub_base.specs.declared.names.Item.TheVariants.{Alive, Read, Expose}
 use Rattle.ub_base.specs.declared.names.ObjName.{ObjName}
@@ -25,7 +24,8 @@ use Rattle.prov_memory.specs.Streams.{Io}
 use Rattle.prov_memory.specs.Cells.{cell_at, byte_in, tagged_in}
 use Rattle.prov_memory.specs.Held.{Held, changed, uncovered}
 use Rattle.prov_memory.specs.Memory.{Kept, HasCell, store_of, life_in, uncovered_each}
-use Rattle.prov_memory.specs.Access.{HasCellOf, IsFree, CanSettle, settled_if, settle_items, IsReached, reached, bytes_in}
+use Rattle.prov_memory.specs.Made.{Settling, CanSettle, after_settling, settling_items}
+use Rattle.prov_memory.specs.Access.{CanSettleOf, IsReached, reached, bytes_in}
 use Rattle.prov_memory.specs.Loads.{IsLoaded, number_checked, number_read, origins_of}
 use Rattle.prov_memory.proofs.StoreLemmas.{shows_each}
 use Rattle.prov_memory.proofs.AccessLemmas.{done_then}
@@ -176,29 +176,29 @@ abbrev pub Reads : Kept → Found → CType → Bool → ℕ → ℕ → Type 0
 Reads m f ty is_bool n number = (h : Held) → slice_get m.objects f.object ≡ Some h → Ok number ≡ number_read ty is_bool (option_map form_of h.declared) f.from (bytes_in m h f.from n)
 
 -- the checks of a load hold, and what follows them runs on
-pub tail_then : {V : Type 0} (m : Kept) (f : Found) (ty : CType) (is_bool : Bool) (rest : List TaggedByte → Script V) (n number : ℕ) (end : Act V) (io : Io) (r : IsReached m.objects f n) → Reads m f ty is_bool n number → (number_of (bytes_in m r.object f.from n) ≡ number → run m.rows (rest (bytes_in m r.object f.from n)) (settled_if f.settles (store_of m io)) ≡ end) → run m.rows (load_tail ty is_bool rest n (reached m.objects f)) (settled_if f.settles (store_of m io)) ≡ touched (Read f.name f.from n) end
+pub tail_then : {V : Type 0} (m : Kept) (f : Found) (ty : CType) (is_bool : Bool) (rest : List TaggedByte → Script V) (n number : ℕ) (end : Act V) (io : Io) (r : IsReached m.objects f n) → Reads m f ty is_bool n number → (number_of (bytes_in m r.object f.from n) ≡ number → run m.rows (rest (bytes_in m r.object f.from n)) (after_settling f.settles (store_of m io)) ≡ end) → run m.rows (load_tail ty is_bool rest n (reached m.objects f)) (after_settling f.settles (store_of m io)) ≡ touched (Read f.name f.from n) end
 tail_then m f ty is_bool rest n number end io r reads runs =
-    let s = settled_if f.settles (store_of m io) in
+    let s = after_settling f.settles (store_of m io) in
     let bs = bytes_in m r.object f.from n in
     ap (λ (o : Option Held). run m.rows (load_tail ty is_bool rest n (record { object = f.name; from = f.from; life = life_in o })) s) r.held
     ∙ tail_then_by (suits_load ty (option_map form_of r.object.declared) f.from bs) (all_written bs) (is_bool && nat_lt 1 (number_of bs)) number m.rows ty is_bool rest n f.name f.from (life_at r.object) s bs end (range_is m io f.settles f.name r.object f.from n r.held) refl refl refl (reads r.object r.there) runs
 
 -- the items of a load
 abbrev pub LoadItems : Found → ℕ → List ObjName → List Item → Type 0
-LoadItems f n xs items = items ≡ ((settle_items f.settles ++ Alive f.name ∷ []) ++ Read f.name f.from n ∷ []) ++ map Expose xs
+LoadItems f n xs items = items ≡ ((settling_items f.settles ++ Alive f.name ∷ []) ++ Read f.name f.from n ∷ []) ++ map Expose xs
 
 abbrev pub number_tail : {V : Type 0} → CType → Bool → (ℕ → V) → ℕ → Accessed → Script V
 number_tail ty is_bool g n = load_tail ty is_bool (λ bs. show_pieces bs >> Give (g (number_of bs))) n
 
-pub number_loaded : {V : Type 0} (m new : Kept) (f : Found) (ty : CType) (is_bool : Bool) (g : ℕ → V) (n align a : ℕ) (prov : Prov) (number : ℕ) (items : List Item) → Makes m f n align a prov → (r : IsReached m.objects f n) → CanSettle m prov f.settles → Reads m f ty is_bool n number → IsLoaded m new (origins_of (bytes_in m r.object f.from n)) f.settles → LoadItems f n (origins_of (bytes_in m r.object f.from n)) items → HasCell m prov → (io : Io) → run m.rows (access m.rows n align a prov >>= number_tail ty is_bool g n) (store_of m io) ≡ Done (g number) items (store_of new io)
+pub number_loaded : {V : Type 0} (m new : Kept) (f : Found) (ty : CType) (is_bool : Bool) (g : ℕ → V) (n align a : ℕ) (prov : Prov) (number : ℕ) (items : List Item) → Makes m f n align a prov → (r : IsReached m.objects f n) → CanSettleOf m prov f.settles → Reads m f ty is_bool n number → IsLoaded m new (origins_of (bytes_in m r.object f.from n)) f.settles → LoadItems f n (origins_of (bytes_in m r.object f.from n)) items → HasCell m prov → (io : Io) → run m.rows (access m.rows n align a prov >>= number_tail ty is_bool g n) (store_of m io) ≡ Done (g number) items (store_of new io)
 number_loaded {V} m new f ty is_bool g n align a prov number items makes r can reads loaded noted has io =
     let bs = bytes_in m r.object f.from n in
     let xs = origins_of bs in
-    let s = settled_if f.settles (store_of m io) in
+    let s = after_settling f.settles (store_of m io) in
     let mid = record m { cells = new.cells } in
-    let s_is : store_of mid io ≡ s = loaded.cells (can.cell has) can.free io in
+    let s_is : store_of mid io ≡ s = loaded.cells (can has) io in
     let new_is : new ≡ showing xs mid = ap (λ (k : Kept). record k { cells = new.cells }) loaded.rest in
-    let first = settle_items f.settles ++ Alive f.name ∷ [] in
+    let first = settling_items f.settles ++ Alive f.name ∷ [] in
     let shown : number_of bs ≡ number → run m.rows (show_pieces bs >> Give (g (number_of bs))) s ≡ Done (g number) (map Expose xs) (store_of new io) = λ same.
     ap (λ (q : Store). run m.rows (show_pieces bs >> Give (g (number_of bs))) q) (sym s_is)
     ∙ shows_then m.rows mid bs (g (number_of bs)) io
@@ -209,21 +209,21 @@ number_loaded {V} m new f ty is_bool g n align a prov number items makes r can r
 abbrev plain_number : ℕ → ℕ
 plain_number k = k
 
-pub func_loaded : (m new : Kept) (f : Found) (ty : CType) (a : ℕ) (prov : Prov) (number : ℕ) (items : List Item) → Makes m f 8 8 a prov → (r : IsReached m.objects f 8) → CanSettle m prov f.settles → Reads m f ty false 8 number → IsLoaded m new (origins_of (bytes_in m r.object f.from 8)) f.settles → LoadItems f 8 (origins_of (bytes_in m r.object f.from 8)) items → HasCell m prov → (io : Io) → run m.rows (load_func m.rows ty a prov) (store_of m io) ≡ Done number items (store_of new io)
+pub func_loaded : (m new : Kept) (f : Found) (ty : CType) (a : ℕ) (prov : Prov) (number : ℕ) (items : List Item) → Makes m f 8 8 a prov → (r : IsReached m.objects f 8) → CanSettleOf m prov f.settles → Reads m f ty false 8 number → IsLoaded m new (origins_of (bytes_in m r.object f.from 8)) f.settles → LoadItems f 8 (origins_of (bytes_in m r.object f.from 8)) items → HasCell m prov → (io : Io) → run m.rows (load_func m.rows ty a prov) (store_of m io) ≡ Done number items (store_of new io)
 func_loaded m new f ty a prov number items makes r can reads loaded noted has io =
     number_loaded m new f ty false plain_number 8 8 a prov number items makes r can reads loaded noted has io
 
 abbrev int_of : List Row → IntKind → ℕ → Prov → ℕ → Script ℤ
 int_of rows kind a prov n = access rows n n a prov >>= number_tail (int kind) (number_of_kind kind == 1) (value_of kind) n
 
-pub int_loaded : (m new : Kept) (f : Found) (kind : IntKind) (is_bool : Bool) (a n : ℕ) (prov : Prov) (number : ℕ) (value : ℤ) (items : List Item) → n ≡ bytes_of_kind kind → is_bool ≡ (number_of_kind kind == 1) → value ≡ value_of kind number → Makes m f n n a prov → (r : IsReached m.objects f n) → CanSettle m prov f.settles → Reads m f (int kind) is_bool n number → IsLoaded m new (origins_of (bytes_in m r.object f.from n)) f.settles → LoadItems f n (origins_of (bytes_in m r.object f.from n)) items → HasCell m prov → (io : Io) → run m.rows (load_int m.rows kind a prov) (store_of m io) ≡ Done value items (store_of new io)
+pub int_loaded : (m new : Kept) (f : Found) (kind : IntKind) (is_bool : Bool) (a n : ℕ) (prov : Prov) (number : ℕ) (value : ℤ) (items : List Item) → n ≡ bytes_of_kind kind → is_bool ≡ (number_of_kind kind == 1) → value ≡ value_of kind number → Makes m f n n a prov → (r : IsReached m.objects f n) → CanSettleOf m prov f.settles → Reads m f (int kind) is_bool n number → IsLoaded m new (origins_of (bytes_in m r.object f.from n)) f.settles → LoadItems f n (origins_of (bytes_in m r.object f.from n)) items → HasCell m prov → (io : Io) → run m.rows (load_int m.rows kind a prov) (store_of m io) ≡ Done value items (store_of new io)
 int_loaded m new f kind is_bool a n prov number value items size bool is makes r can reads loaded noted has io =
     ap (λ (k : ℕ). run m.rows (int_of m.rows kind a prov k) (store_of m io)) (sym size)
     ∙ number_loaded m new f (int kind) (number_of_kind kind == 1) (value_of kind) n n a prov number items makes r can (subst (λ (b : Bool). Reads m f (int kind) b n number) bool reads) loaded noted has io
     ∙ ap (λ (z : ℤ). Done z items (store_of new io)) (sym is)
 
 -- ---- from what the steps of a load ensure
-pub loaded_by : (old mid new : Kept) (xs : List ObjName) (settles : Option (Event × ObjName)) → mid ≡ showing xs old → record new { cells = [] } ≡ record mid { cells = [] } → (HasCellOf mid settles → IsFree mid settles → (k : Kept) → k.cells ≡ mid.cells → (io : Io) → store_of (record k { cells = new.cells }) io ≡ settled_if settles (store_of k io)) → IsLoaded old new xs settles
+pub loaded_by : (old mid new : Kept) (xs : List ObjName) (settles : Settling) → mid ≡ showing xs old → record new { cells = [] } ≡ record mid { cells = [] } → (CanSettle mid.cells settles → (k : Kept) → k.cells ≡ mid.cells → (io : Io) → store_of (record k { cells = new.cells }) io ≡ after_settling settles (store_of k io)) → IsLoaded old new xs settles
 loaded_by old mid new xs settles is rest store_is = record {
   rest = rest ∙ ap (λ (k : Kept). record k { cells = [] }) is;
   cells = cells_settle old mid new.cells (uncovered_each xs old.objects) settles is store_is;
@@ -235,7 +235,7 @@ load_noted t mid new i js room one more =
     let long : length mid ≡ length t + 1 = ap length is ∙ length-append t (i ∷ []) in
     more (omega arith) ∙ ap (λ (l : List Item). l ++ js) is
 
-pub two_at_most : (o : Option (Event × ObjName)) (x : ObjName) → length (settle_items o ++ Alive x ∷ []) ≤ 2
+pub two_at_most : (o : Settling) (x : ObjName) → length (settling_items o ++ Alive x ∷ []) ≤ 2
 two_at_most None x = omega arith
 two_at_most (Some p) x = omega arith
 
@@ -245,26 +245,26 @@ Loads m new f n = (h : Held) → slice_get m.objects f.object ≡ Some h → IsL
 abbrev pub Notes : Kept → Found → ℕ → List Item → List Item → Type 0
 Notes m f n t items = (h : Held) → slice_get m.objects f.object ≡ Some h → length t + 17 < 32 → items ≡ (t ++ Read f.name f.from n ∷ []) ++ map Expose (origins_of (bytes_in m h f.from n))
 
-load_items : (m : Kept) (f : Found) (n : ℕ) (t items : List Item) (r : IsReached m.objects f n) → t ≡ settle_items f.settles ++ Alive f.name ∷ [] → Notes m f n t items → LoadItems f n (origins_of (bytes_in m r.object f.from n)) items
+load_items : (m : Kept) (f : Found) (n : ℕ) (t items : List Item) (r : IsReached m.objects f n) → t ≡ settling_items f.settles ++ Alive f.name ∷ [] → Notes m f n t items → LoadItems f n (origins_of (bytes_in m r.object f.from n)) items
 load_items m f n t items r first notes =
-    let long : length t ≡ length (settle_items f.settles ++ Alive f.name ∷ []) = ap length first in
+    let long : length t ≡ length (settling_items f.settles ++ Alive f.name ∷ []) = ap length first in
     let few = two_at_most f.settles f.name in
     notes r.object r.there (omega arith)
     ∙ ap (λ (js : List Item). (js ++ Read f.name f.from n ∷ []) ++ map Expose (origins_of (bytes_in m r.object f.from n))) first
 
-func_all : (m new : Kept) (f : Found) (ty : CType) (a : ℕ) (prov : Prov) (number : ℕ) (t items : List Item) → Makes m f 8 8 a prov → IsReached m.objects f 8 → CanSettle m prov f.settles → t ≡ settle_items f.settles ++ Alive f.name ∷ [] → Reads m f ty false 8 number → Loads m new f 8 → Notes m f 8 t items → HasCell m prov → (io : Io) → run m.rows (load_func m.rows ty a prov) (store_of m io) ≡ Done number items (store_of new io)
+func_all : (m new : Kept) (f : Found) (ty : CType) (a : ℕ) (prov : Prov) (number : ℕ) (t items : List Item) → Makes m f 8 8 a prov → IsReached m.objects f 8 → CanSettleOf m prov f.settles → t ≡ settling_items f.settles ++ Alive f.name ∷ [] → Reads m f ty false 8 number → Loads m new f 8 → Notes m f 8 t items → HasCell m prov → (io : Io) → run m.rows (load_func m.rows ty a prov) (store_of m io) ≡ Done number items (store_of new io)
 func_all m new f ty a prov number t items makes r can first reads loads notes has io =
     func_loaded m new f ty a prov number items makes r can reads (loads r.object r.there) (load_items m f 8 t items r first notes) has io
 
-pub func_exact : (r : Result ℕ Clause) (m acc new : Kept) (f : Found) (ty : CType) (a : ℕ) (prov : Prov) (t items : List Item) → acc ≡ m → Makes m f 8 8 a prov → IsReached m.objects f 8 → CanSettle m prov f.settles → t ≡ settle_items f.settles ++ Alive f.name ∷ [] → IfOk r (λ n. Reads acc f ty false 8 n) → OnOk r (Loads acc new f 8) → OnOk r (Notes acc f 8 t items) → IfOk r (λ n. HasCell m prov → (io : Io) → run m.rows (load_func m.rows ty a prov) (store_of m io) ≡ Done n items (store_of new io))
+pub func_exact : (r : Result ℕ Clause) (m acc new : Kept) (f : Found) (ty : CType) (a : ℕ) (prov : Prov) (t items : List Item) → acc ≡ m → Makes m f 8 8 a prov → IsReached m.objects f 8 → CanSettleOf m prov f.settles → t ≡ settling_items f.settles ++ Alive f.name ∷ [] → IfOk r (λ n. Reads acc f ty false 8 n) → OnOk r (Loads acc new f 8) → OnOk r (Notes acc f 8 t items) → IfOk r (λ n. HasCell m prov → (io : Io) → run m.rows (load_func m.rows ty a prov) (store_of m io) ≡ Done n items (store_of new io))
 func_exact (Err c) m acc new f ty a prov t items same makes reached_it can first reads loads notes = tt
 func_exact (Ok n) m acc new f ty a prov t items same makes reached_it can first reads loads notes =
     func_all m new f ty a prov n t items makes reached_it can first (subst (λ (k : Kept). Reads k f ty false 8 n) same reads) (subst (λ (k : Kept). Loads k new f 8) same loads) (subst (λ (k : Kept). Notes k f 8 t items) same notes)
 
-int_all : (m new : Kept) (f : Found) (kind : IntKind) (is_bool : Bool) (a n : ℕ) (prov : Prov) (number : ℕ) (value : ℤ) (t items : List Item) → n ≡ bytes_of_kind kind → is_bool ≡ (number_of_kind kind == 1) → value ≡ value_of kind number → Makes m f n n a prov → IsReached m.objects f n → CanSettle m prov f.settles → t ≡ settle_items f.settles ++ Alive f.name ∷ [] → Reads m f (int kind) is_bool n number → Loads m new f n → Notes m f n t items → HasCell m prov → (io : Io) → run m.rows (load_int m.rows kind a prov) (store_of m io) ≡ Done value items (store_of new io)
+int_all : (m new : Kept) (f : Found) (kind : IntKind) (is_bool : Bool) (a n : ℕ) (prov : Prov) (number : ℕ) (value : ℤ) (t items : List Item) → n ≡ bytes_of_kind kind → is_bool ≡ (number_of_kind kind == 1) → value ≡ value_of kind number → Makes m f n n a prov → IsReached m.objects f n → CanSettleOf m prov f.settles → t ≡ settling_items f.settles ++ Alive f.name ∷ [] → Reads m f (int kind) is_bool n number → Loads m new f n → Notes m f n t items → HasCell m prov → (io : Io) → run m.rows (load_int m.rows kind a prov) (store_of m io) ≡ Done value items (store_of new io)
 int_all m new f kind is_bool a n prov number value t items size bool is makes r can first reads loads notes has io =
     int_loaded m new f kind is_bool a n prov number value items size bool is makes r can reads (loads r.object r.there) (load_items m f n t items r first notes) has io
 
-pub int_exact : (m acc new : Kept) (f : Found) (given : CType) (kind : IntKind) (is_bool : Bool) (a n : ℕ) (prov : Prov) (number : ℕ) (value : ℤ) (t items : List Item) → acc ≡ m → given ≡ int kind → n ≡ bytes_of_kind kind → is_bool ≡ (number_of_kind kind == 1) → value ≡ value_of kind number → Makes m f n n a prov → IsReached m.objects f n → CanSettle m prov f.settles → t ≡ settle_items f.settles ++ Alive f.name ∷ [] → Reads acc f given is_bool n number → Loads acc new f n → Notes acc f n t items → HasCell m prov → (io : Io) → run m.rows (load_int m.rows kind a prov) (store_of m io) ≡ Done value items (store_of new io)
+pub int_exact : (m acc new : Kept) (f : Found) (given : CType) (kind : IntKind) (is_bool : Bool) (a n : ℕ) (prov : Prov) (number : ℕ) (value : ℤ) (t items : List Item) → acc ≡ m → given ≡ int kind → n ≡ bytes_of_kind kind → is_bool ≡ (number_of_kind kind == 1) → value ≡ value_of kind number → Makes m f n n a prov → IsReached m.objects f n → CanSettleOf m prov f.settles → t ≡ settling_items f.settles ++ Alive f.name ∷ [] → Reads acc f given is_bool n number → Loads acc new f n → Notes acc f n t items → HasCell m prov → (io : Io) → run m.rows (load_int m.rows kind a prov) (store_of m io) ≡ Done value items (store_of new io)
 int_exact m acc new f given kind is_bool a n prov number value t items same named size bool is makes r can first reads loads notes =
     int_all m new f kind is_bool a n prov number value t items size bool is makes r can first (subst (λ (ty : CType). Reads m f ty is_bool n number) named (subst (λ (k : Kept). Reads k f given is_bool n number) same reads)) (subst (λ (k : Kept). Loads k new f n) same loads) (subst (λ (k : Kept). Notes k f n t items) same notes)

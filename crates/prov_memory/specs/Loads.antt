@@ -1,8 +1,7 @@
 -- Loads as a memory makes them (own).
-use Rattle.std.specs.Prelude.{◌≡◌, ℕ, Bool, true, false, not, ◌&&◌, nat_lt, List, [], ◌∷◌, ◌++◌, map, Option, Some, None, Result, Ok, Err, if◌then◌else◌}
+use Rattle.std.specs.Prelude.{◌≡◌, ℕ, Bool, false, not, ◌&&◌, nat_lt, List, [], ◌∷◌, ◌++◌, map, Option, Some, None, Result, Ok, Err, if◌then◌else◌}
 use Rattle.ub_base.specs.declared.clause.Clause.{Clause}
 use Rattle.ub_base.specs.declared.clause.Clause.TheVariants.{EffectiveType, Indeterminate, TrapRepresentation}
-use Rattle.ub_base.specs.declared.names.Event.{Event}
 use Rattle.ub_base.specs.declared.names.Item.{Item}
 use Rattle.ub_base.specs.declared.names.Item.TheVariants.{Alive}
 use Rattle.ub_base.specs.declared.names.ObjName.{ObjName}
@@ -21,8 +20,7 @@ use Rattle.prov_memory.specs.Store.{Store, TaggedByte, is_live}
 use Rattle.prov_memory.specs.Acts.{suits_load, all_written, number_of, origins_in, candidates}
 use Rattle.prov_memory.specs.Streams.{Io}
 use Rattle.prov_memory.specs.Memory.{Kept, store_of, uncovered_each}
-use Rattle.prov_memory.specs.Access.{HasCellOf, IsFree, settled_if}
-use Rattle.prov_memory.specs.Made.{look_up_items}
+use Rattle.prov_memory.specs.Made.{Settling, CanSettle, after_settling, look_up_items}
 
 -- the number of a written byte
 abbrev pub number_held : State → Cell → Option ℕ
@@ -48,9 +46,9 @@ origins_of [] = []
 origins_of (b ∷ bs) = origins_in b.byte ++ origins_of bs
 
 -- the memory after a load: these objects are exposed, and what the access settles is settled
-pub record IsLoaded (old new : Kept) (xs : List ObjName) (settles : Option (Event × ObjName)) : Type 0 where
+pub record IsLoaded (old new : Kept) (xs : List ObjName) (settles : Settling) : Type 0 where
   pub rest : record new { cells = [] } ≡ record old { objects = uncovered_each xs old.objects; cells = [] }
-  pub cells : HasCellOf old settles → IsFree old settles → (io : Io) → store_of (record old { cells = new.cells }) io ≡ settled_if settles (store_of old io)
+  pub cells : CanSettle old.cells settles → (io : Io) → store_of (record old { cells = new.cells }) io ≡ after_settling settles (store_of old io)
 
 -- the value is a pointer of which P holds
 abbrev pub IfPointer : Value → (ℕ → Prov → Type 0) → Type 0
