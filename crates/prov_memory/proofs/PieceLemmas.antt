@@ -1,12 +1,11 @@
 -- The bytes of values as cells.
 use Rattle.std.proofs.Common.{◌≡◌, ℕ, zero, suc, ◌+◌, ◌-◌, ◌/◌, ◌%◌, ◌<◌, ◌≤◌, Bool, true, false, cond, refl, sym, ap, ◌∙◌, subst, arith, append_assoc, List, [], ◌∷◌, ◌++◌, length, take, set, map, Option, Some, None}
-use Rattle.std.specs.Prelude.{is_some, IfSome}
 use Rattle.std.proofs.lemmas.List.{length-set, take_all, take_more_set}
 use Rattle.ub_base.specs.declared.names.ObjName.{ObjName}
 use Rattle.ub_base.specs.Names.{same_object}
 use Rattle.ub_base.proofs.NameLemmas.{same_object_is}
 use Rattle.exposure.specs.declared.prov.Prov.{Prov}
-use Rattle.exposure.specs.declared.prov.Prov.TheVariants.{Empty, Whole, Either}
+use Rattle.exposure.specs.declared.prov.Prov.TheVariants.{Empty, Whole}
 use Rattle.c_types.specs.Types.{CType}
 use Rattle.prov_memory.specs.declared.cell.Cell.{Cell}
 use Rattle.prov_memory.specs.declared.cell.Origin.{Origin}
@@ -15,7 +14,7 @@ use Rattle.prov_memory.specs.Cells.{plain_cell, piece_cell, tagged_in, prov_numb
 use Rattle.prov_memory.specs.Acts.{same_prov}
 use Rattle.prov_memory.specs.Held.{Held, held_of, changed, uncovered}
 use Rattle.prov_memory.specs.Memory.{uncovered_each, CellsKnown}
-use Rattle.prov_memory.specs.Made.{EachNamed, HasNumber}
+use Rattle.prov_memory.specs.Made.{EachNamed}
 use Rattle.prov_memory.proofs.ProvLemmas.{number_stays, prov_last}
 use Rattle.prov_memory.specs.Pieces.{number_bytes, pointer_bytes, plain_cells, piece_cells}
 

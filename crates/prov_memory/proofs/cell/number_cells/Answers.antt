@@ -1,5 +1,5 @@
 use Rattle.prov_memory.specs.Pieces.{plain_cells}
-use Rattle.prov_memory.proofs.PieceLemmas.{plain_put, plain_put_all}
+use Rattle.prov_memory.proofs.PieceLemmas.{plain_put}
 use Rattle.prov_memory.proofs.cell.number_cells.Goals as goal
 
 pub loop-index-preserved : goal.loop-index-preserved

@@ -1,5 +1,5 @@
 use Rattle.prov_memory.specs.Pieces.{piece_cells}
-use Rattle.prov_memory.proofs.PieceLemmas.{piece_put, piece_put_all}
+use Rattle.prov_memory.proofs.PieceLemmas.{piece_put}
 use Rattle.prov_memory.proofs.cell.pointer_cells.Goals as goal
 
 pub loop-index-preserved : goal.loop-index-preserved
