@@ -4,398 +4,404 @@ use crate::calls::{called, files_of, sink_of};
 use std::alloc::Global;
 use std::test::Fail;
 
-const SOURCE_0: &str = "int main(void){return 0;}";
+const RETURNS: &str = "int main(void){return 0;}";
 
-const SOURCE_1: &str = "int main(void){int i=1;i=i++;return i;}";
+const RACE: &str = "int main(void){int i=1;i=i++;return i;}";
 
-const SOURCE_2: &str = "int main(void){int i=1;i=i+1;return i;}";
+const SUM: &str = "int main(void){int i=1;i=i+1;return i;}";
 
-const SOURCE_3: &str = "int main(void){for(int i=0;i<3;i++){int k;k=i;}return 0;}";
+const LOOP: &str = "int main(void){for(int i=0;i<3;i++){int k;k=i;}return 0;}";
 
-const SOURCE_4: &str = "int i;int f(void){i=5;return 1;}int main(void){return i++ + f();}";
+const DEPENDENCE: &str = "int i;int f(void){i=5;return 1;}int main(void){return i++ + f();}";
 
-const SOURCE_5: &str = "int z;int main(void){return (z=1)+1/z;}";
+const DIVISION: &str = "int z;int main(void){return (z=1)+1/z;}";
 
-const SOURCE_6: &str =
+const EXIT_LATER: &str =
     "void exit(int);int quit(void){exit(3);return 0;}int a;int main(void){return a+quit();}";
 
-const SOURCE_7: &str =
+const EXIT_FIRST: &str =
     "void exit(int);int quit(void){exit(3);return 0;}int a;int main(void){return quit()+a;}";
 
-const SOURCE_8: &str = "char a[67108865];int main(void){return 0;}";
+const STATIC_TOO_LARGE: &str = "char a[67108865];int main(void){return 0;}";
 
-const SOURCE_9: &str = "int main(void){char a[67108865];return 0;}";
+const LOCAL_TOO_LARGE: &str = "int main(void){char a[67108865];return 0;}";
 
-// A source, a certificate for it without input, and the report of its check.
-const CERTIFICATES_0: [(&str, &str, &str); 25] = [
+// A source, a certificate for it without input, and the report of its check: for clean runs.
+const CLEAN_RUNS: [(&str, &str, &str); 15] = [
     (
-        SOURCE_0,
+        RETURNS,
         "{\"frames\":[],\"map\":[],\"order\":[4],\"output\":\"\",\"status\":0,\"verdict\":\"clean\",\"version\":2}",
         "yes\n",
     ),
     (
-        SOURCE_0,
+        RETURNS,
         "{\"frames\":[],\"map\":[],\"order\":[4],\"output\":\"\",\"status\":0,\"verdict\":\"clean\",\"version\":1}",
         "yes\n",
     ),
     (
-        SOURCE_1,
-        "{\"clause\":\"6.5p2\",\"frames\":[],\"map\":[[\"auto\",0,1,0,16777232,4,4]],\"order\":[10],\"pair\":[[0,3,0,\"eff\"],[0,3,2,\"eff\"]],\"verdict\":\"undefined\",\"version\":2}",
-        "yes\n",
-    ),
-    (
-        SOURCE_1,
-        "{\"clause\":\"6.5p2\",\"frames\":[],\"map\":[[\"auto\",0,1,0,16777232,4,4]],\"order\":[10],\"pair\":[[0,3,0,\"eff\"],[0,3,2,\"eff\"]],\"verdict\":\"undefined\",\"version\":1}",
-        "yes\n",
-    ),
-    (
-        SOURCE_2,
+        SUM,
         "{\"frames\":[],\"map\":[[\"auto\",0,1,0,16777232,4,4]],\"order\":[15],\"output\":\"\",\"status\":2,\"verdict\":\"clean\",\"version\":2}",
         "yes\n",
     ),
     (
-        SOURCE_2,
+        SUM,
         "{\"frames\":[],\"map\":[[\"auto\",0,1,0,16777232,4,4]],\"order\":[15],\"output\":\"\",\"status\":2,\"verdict\":\"clean\",\"version\":1}",
         "yes\n",
     ),
     (
-        SOURCE_2,
+        SUM,
         "{\"frames\":[],\"map\":[[\"auto\",0,1,0,16777233,4,4]],\"order\":[15],\"output\":\"\",\"status\":2,\"verdict\":\"clean\",\"version\":2}",
         "no map\n",
     ),
     (
-        SOURCE_2,
+        SUM,
         "{\"frames\":[],\"map\":[],\"order\":[15],\"output\":\"\",\"status\":2,\"verdict\":\"clean\",\"version\":2}",
         "no order\n",
     ),
     (
-        SOURCE_2,
+        SUM,
         "{\"frames\":[],\"map\":[[\"auto\",0,1,0,16777232,4,4]],\"order\":[14],\"output\":\"\",\"status\":2,\"verdict\":\"clean\",\"version\":2}",
         "no claim\n",
     ),
     (
-        SOURCE_2,
+        SUM,
         "{\"frames\":[],\"map\":[[\"auto\",0,1,0,16777232,4,4]],\"order\":[16],\"output\":\"\",\"status\":2,\"verdict\":\"clean\",\"version\":2}",
         "no order\n",
     ),
     (
-        SOURCE_2,
+        SUM,
         "{\"frames\":[],\"map\":[[\"auto\",0,1,0,16777232,4,4]],\"order\":[15],\"output\":\"\",\"status\":3,\"verdict\":\"clean\",\"version\":2}",
         "no claim\n",
     ),
     (
-        SOURCE_3,
+        LOOP,
         "{\"frames\":[],\"map\":[[\"auto\",0,2,0,16777232,4,4],[\"run\",3,32,4,[\"auto\",0,5,0,16777264,4,4]]],\"order\":[62],\"output\":\"\",\"status\":0,\"verdict\":\"clean\",\"version\":2}",
         "yes\n",
     ),
     (
-        SOURCE_3,
+        LOOP,
         "{\"frames\":[],\"map\":[[\"auto\",0,2,0,16777232,4,4],[\"auto\",0,5,0,16777264,4,4],[\"auto\",0,9,0,16777296,4,4],[\"auto\",0,13,0,16777328,4,4]],\"order\":[62],\"output\":\"\",\"status\":0,\"verdict\":\"clean\",\"version\":1}",
         "yes\n",
     ),
     (
-        SOURCE_3,
+        LOOP,
         "{\"frames\":[],\"map\":[[\"auto\",0,2,0,16777232,4,4],[\"run\",3,1,4,[\"auto\",0,5,0,16777264,4,4]]],\"order\":[62],\"output\":\"\",\"status\":0,\"verdict\":\"clean\",\"version\":2}",
         "no map\n",
     ),
     (
-        SOURCE_0,
+        RETURNS,
         "{\"frames\":[],\"map\":[],\"order\":[10000001],\"output\":\"\",\"status\":0,\"verdict\":\"clean\",\"version\":2}",
         "no order\n",
     ),
     (
-        SOURCE_0,
+        RETURNS,
         "{\"frames\":[],\"map\":[],\"order\":[3],\"output\":\"\",\"status\":0,\"verdict\":\"clean\",\"version\":2}",
         "no claim\n",
     ),
     (
-        SOURCE_0,
+        RETURNS,
         "{\"frames\":[],\"map\":[],\"order\":[5],\"output\":\"\",\"status\":0,\"verdict\":\"clean\",\"version\":2}",
         "no order\n",
     ),
+];
+
+// The same for a run with a race.
+const RACES: [(&str, &str, &str); 22] = [
     (
-        SOURCE_1,
+        RACE,
+        "{\"clause\":\"6.5p2\",\"frames\":[],\"map\":[[\"auto\",0,1,0,16777232,4,4]],\"order\":[10],\"pair\":[[0,3,0,\"eff\"],[0,3,2,\"eff\"]],\"verdict\":\"undefined\",\"version\":2}",
+        "yes\n",
+    ),
+    (
+        RACE,
+        "{\"clause\":\"6.5p2\",\"frames\":[],\"map\":[[\"auto\",0,1,0,16777232,4,4]],\"order\":[10],\"pair\":[[0,3,0,\"eff\"],[0,3,2,\"eff\"]],\"verdict\":\"undefined\",\"version\":1}",
+        "yes\n",
+    ),
+    (
+        RACE,
         "{\"clause\":\"6.5p2\",\"frames\":[],\"map\":[[\"auto\",0,1,0,16777232,4,4]],\"order\":[6,[2,\"val\"],[2,\"eff\"],[0,\"val\"],[0,\"eff\"]],\"pair\":[[0,3,0,\"eff\"],[0,3,2,\"eff\"]],\"verdict\":\"undefined\",\"version\":2}",
         "yes\n",
     ),
     (
-        SOURCE_1,
+        RACE,
         "{\"clause\":\"6.5p2\",\"frames\":[],\"map\":[[\"auto\",0,1,0,16777232,4,4]],\"order\":[6,[2,\"val\"],[0,\"eff\"],[2,\"eff\"]],\"pair\":[[0,3,0,\"eff\"],[0,3,2,\"eff\"]],\"verdict\":\"undefined\",\"version\":2}",
         "yes\n",
     ),
     (
-        SOURCE_1,
+        RACE,
         "{\"clause\":\"6.5p2\",\"frames\":[],\"map\":[[\"auto\",0,1,0,16777232,4,4]],\"order\":[6,[0,\"val\"],[2,\"val\"],[2,\"eff\"],[0,\"eff\"]],\"pair\":[[0,3,0,\"eff\"],[0,3,2,\"eff\"]],\"verdict\":\"undefined\",\"version\":2}",
         "no order\n",
     ),
     (
-        SOURCE_1,
+        RACE,
         "{\"clause\":\"6.5p2\",\"frames\":[],\"map\":[[\"auto\",0,1,0,16777232,4,4]],\"order\":[6,[2,\"eff\"]],\"pair\":[[0,3,0,\"eff\"],[0,3,2,\"eff\"]],\"verdict\":\"undefined\",\"version\":2}",
         "no order\n",
     ),
     (
-        SOURCE_1,
+        RACE,
         "{\"clause\":\"6.5p2\",\"frames\":[],\"map\":[[\"auto\",0,1,0,16777232,4,4]],\"order\":[6,[2,\"val\"],[2,\"val\"]],\"pair\":[[0,3,0,\"eff\"],[0,3,2,\"eff\"]],\"verdict\":\"undefined\",\"version\":2}",
         "no order\n",
     ),
     (
-        SOURCE_1,
+        RACE,
         "{\"clause\":\"6.5p2\",\"frames\":[],\"map\":[[\"auto\",0,1,0,16777232,4,4]],\"order\":[6,[2,\"val\"],[0,\"eff\"]],\"pair\":[[0,3,0,\"eff\"],[0,3,2,\"eff\"]],\"verdict\":\"undefined\",\"version\":2}",
         "no claim\n",
     ),
     (
-        SOURCE_1,
+        RACE,
         "{\"clause\":\"6.5p2\",\"frames\":[],\"map\":[[\"auto\",0,1,0,16777232,4,4]],\"order\":[6,[2,\"val\"],[0,\"eff\"],2],\"pair\":[[0,3,0,\"eff\"],[0,3,2,\"eff\"]],\"verdict\":\"undefined\",\"version\":2}",
         "yes\n",
     ),
     (
-        SOURCE_1,
+        RACE,
         "{\"clause\":\"6.5p2\",\"frames\":[],\"map\":[[\"auto\",0,1,0,16777232,4,4]],\"order\":[6,[2,\"val\"],[0,\"eff\"],[0,\"val\"],1,1,1,1,1,1],\"pair\":[[0,3,0,\"eff\"],[0,3,2,\"eff\"]],\"verdict\":\"undefined\",\"version\":2}",
         "yes\n",
     ),
-];
-
-const CERTIFICATES_1: [(&str, &str, &str); 25] = [
     (
-        SOURCE_1,
+        RACE,
         "{\"clause\":\"6.5p2\",\"frames\":[],\"map\":[[\"auto\",0,1,0,16777232,4,4]],\"order\":[6,[2,\"val\"],[0,\"eff\"],9],\"pair\":[[0,3,0,\"eff\"],[0,3,2,\"eff\"]],\"verdict\":\"undefined\",\"version\":2}",
         "no order\n",
     ),
     (
-        SOURCE_1,
+        RACE,
         "{\"clause\":\"6.5p2\",\"frames\":[],\"map\":[[\"auto\",0,1,0,16777232,4,4]],\"order\":[5,[2,\"val\"]],\"pair\":[[0,3,0,\"eff\"],[0,3,2,\"eff\"]],\"verdict\":\"undefined\",\"version\":2}",
         "no order\n",
     ),
     (
-        SOURCE_1,
+        RACE,
         "{\"clause\":\"6.5p2\",\"frames\":[],\"map\":[[\"auto\",0,1,0,16777232,4,4]],\"order\":[10],\"pair\":[[0,3,2,\"eff\"],[0,3,0,\"eff\"]],\"verdict\":\"undefined\",\"version\":2}",
         "yes\n",
     ),
     (
-        SOURCE_1,
+        RACE,
         "{\"clause\":\"6.5p2\",\"frames\":[],\"map\":[[\"auto\",0,1,0,16777232,4,4]],\"order\":[10],\"pair\":[[0,3,2,\"eff\"],[0,3,2,\"eff\"]],\"verdict\":\"undefined\",\"version\":2}",
         "no claim\n",
     ),
     (
-        SOURCE_1,
+        RACE,
         "{\"clause\":\"6.5p2\",\"frames\":[],\"map\":[[\"auto\",0,1,0,16777232,4,4]],\"order\":[10],\"pair\":[[0,3,2,\"eff\"],[0,3,2,\"val\"]],\"verdict\":\"undefined\",\"version\":2}",
         "no claim\n",
     ),
     (
-        SOURCE_1,
+        RACE,
         "{\"clause\":\"6.5p2\",\"frames\":[],\"map\":[[\"auto\",0,1,0,16777232,4,4]],\"order\":[10],\"pair\":[[0,3,2,\"val\"],[0,3,0,\"val\"]],\"verdict\":\"undefined\",\"version\":2}",
         "no claim\n",
     ),
     (
-        SOURCE_1,
+        RACE,
         "{\"clause\":\"6.5p2\",\"frames\":[],\"map\":[[\"auto\",0,1,0,16777232,4,4]],\"order\":[10],\"pair\":[],\"verdict\":\"undefined\",\"version\":2}",
         "no claim\n",
     ),
     (
-        SOURCE_1,
+        RACE,
         "{\"clause\":\"6.5p5\",\"frames\":[],\"map\":[[\"auto\",0,1,0,16777232,4,4]],\"order\":[10],\"pair\":[[0,3,0,\"eff\"],[0,3,2,\"eff\"]],\"verdict\":\"undefined\",\"version\":2}",
         "no claim\n",
     ),
     (
-        SOURCE_1,
+        RACE,
         "{\"clause\":\"6.5p2\",\"frames\":[],\"map\":[[\"auto\",0,1,0,16777232,4,4]],\"order\":[9],\"pair\":[[0,3,0,\"eff\"],[0,3,2,\"eff\"]],\"verdict\":\"undefined\",\"version\":2}",
         "no claim\n",
     ),
     (
-        SOURCE_1,
+        RACE,
         "{\"clause\":\"6.5p2\",\"frames\":[],\"map\":[[\"auto\",0,1,0,16777232,4,4]],\"order\":[15],\"pair\":[[0,3,0,\"eff\"],[0,3,2,\"eff\"]],\"verdict\":\"undefined\",\"version\":2}",
         "yes\n",
     ),
     (
-        SOURCE_1,
+        RACE,
         "{\"clause\":\"6.5p2\",\"frames\":[],\"map\":[[\"auto\",0,1,0,16777232,4,4]],\"order\":[16],\"pair\":[[0,3,0,\"eff\"],[0,3,2,\"eff\"]],\"verdict\":\"undefined\",\"version\":2}",
         "no order\n",
     ),
     (
-        SOURCE_1,
+        RACE,
         "{\"clause\":\"6.5p2\",\"frames\":[],\"map\":[[\"auto\",0,1,0,16777232,4,4]],\"order\":[],\"pair\":[[0,3,0,\"eff\"],[0,3,2,\"eff\"]],\"verdict\":\"undefined\",\"version\":2}",
-        "no claim\n",
-    ),
-    (
-        SOURCE_4,
-        "{\"clause\":\"6.5p2\",\"frames\":[],\"map\":[[\"static\",0,16777232,4,4]],\"order\":[2,[1,\"val\"],[3,\"body\"]],\"pair\":[[0,2,1,\"eff\"],[0,2,3,\"body\"]],\"verdict\":\"undefined\",\"version\":2}",
-        "no order\n",
-    ),
-    (
-        SOURCE_4,
-        "{\"clause\":\"6.5p2\",\"frames\":[],\"map\":[[\"static\",0,16777232,4,4]],\"order\":[2,[3,\"body\"]],\"pair\":[[0,2,1,\"eff\"],[0,2,3,\"body\"]],\"verdict\":\"undefined\",\"version\":2}",
-        "no claim\n",
-    ),
-    (
-        SOURCE_4,
-        "{\"clause\":\"6.5p2\",\"frames\":[],\"map\":[[\"static\",0,16777232,4,4]],\"order\":[2,[3,\"body\"],[1,\"val\"]],\"pair\":[[0,2,1,\"eff\"],[0,2,3,\"body\"]],\"verdict\":\"undefined\",\"version\":2}",
-        "no order\n",
-    ),
-    (
-        SOURCE_4,
-        "{\"clause\":\"6.5p2\",\"frames\":[],\"map\":[[\"static\",0,16777232,4,4]],\"order\":[2,[3,\"body\"],1000],\"pair\":[[0,2,1,\"eff\"],[0,2,3,\"body\"]],\"verdict\":\"undefined\",\"version\":2}",
-        "no order\n",
-    ),
-    (
-        SOURCE_4,
-        "{\"clause\":\"6.5p2\",\"frames\":[],\"map\":[[\"static\",0,16777232,4,4]],\"order\":[2,[3,\"body\"],1,1,1,1,1,1,1,1,[3,\"val\"],[1,\"val\"],[1,\"eff\"],[0,\"val\"],2],\"pair\":[[0,2,1,\"eff\"],[0,2,3,\"body\"]],\"verdict\":\"undefined\",\"version\":2}",
-        "no claim\n",
-    ),
-    (
-        SOURCE_4,
-        "{\"clause\":\"6.5p2\",\"frames\":[],\"map\":[[\"static\",0,16777232,4,4]],\"order\":[2,[3,\"body\"],8,[1,\"val\"],[1,\"eff\"],[3,\"val\"],[0,\"val\"],2],\"pair\":[[0,2,1,\"eff\"],[0,2,3,\"body\"]],\"verdict\":\"undefined\",\"version\":2}",
-        "no claim\n",
-    ),
-    (
-        SOURCE_4,
-        "{\"clause\":\"6.5p2\",\"frames\":[],\"map\":[[\"static\",0,16777232,4,4]],\"order\":[2,[3,\"body\"],8,[1,\"val\"],[1,\"eff\"],[3,\"val\"],[0,\"val\"],3],\"pair\":[[0,2,1,\"eff\"],[0,2,3,\"body\"]],\"verdict\":\"undefined\",\"version\":2}",
-        "no order\n",
-    ),
-    (
-        SOURCE_4,
-        "{\"clause\":\"6.5p2\",\"frames\":[],\"map\":[[\"static\",0,16777232,4,4]],\"order\":[2,[3,\"body\"],8,[0,\"val\"]],\"pair\":[[0,2,1,\"eff\"],[0,2,3,\"body\"]],\"verdict\":\"undefined\",\"version\":2}",
-        "no order\n",
-    ),
-    (
-        SOURCE_4,
-        "{\"frames\":[],\"map\":[[\"static\",0,16777232,4,4]],\"order\":[3],\"pair\":[[0,2,1,\"eff\"],[0,2,3,\"body\"]],\"verdict\":\"order-dependent\",\"version\":2}",
-        "no claim\n",
-    ),
-    (
-        SOURCE_4,
-        "{\"frames\":[],\"map\":[[\"static\",0,16777232,4,4]],\"order\":[4],\"pair\":[[0,2,1,\"eff\"],[0,2,3,\"body\"]],\"verdict\":\"order-dependent\",\"version\":2}",
-        "no claim\n",
-    ),
-    (
-        SOURCE_4,
-        "{\"frames\":[],\"map\":[[\"static\",0,16777232,4,4]],\"order\":[5],\"pair\":[[0,2,1,\"eff\"],[0,2,3,\"body\"]],\"verdict\":\"order-dependent\",\"version\":2}",
-        "no claim\n",
-    ),
-    (
-        SOURCE_4,
-        "{\"frames\":[],\"map\":[[\"static\",0,16777232,4,4]],\"order\":[6],\"pair\":[[0,2,1,\"eff\"],[0,2,3,\"body\"]],\"verdict\":\"order-dependent\",\"version\":2}",
-        "no claim\n",
-    ),
-    (
-        SOURCE_4,
-        "{\"frames\":[],\"map\":[[\"static\",0,16777232,4,4]],\"order\":[7],\"pair\":[[0,2,1,\"eff\"],[0,2,3,\"body\"]],\"verdict\":\"order-dependent\",\"version\":2}",
         "no claim\n",
     ),
 ];
 
-const CERTIFICATES_2: [(&str, &str, &str); 23] = [
+// The same for a run with a dependence on the order.
+const DEPENDENCES: [(&str, &str, &str); 21] = [
     (
-        SOURCE_4,
+        DEPENDENCE,
+        "{\"clause\":\"6.5p2\",\"frames\":[],\"map\":[[\"static\",0,16777232,4,4]],\"order\":[2,[1,\"val\"],[3,\"body\"]],\"pair\":[[0,2,1,\"eff\"],[0,2,3,\"body\"]],\"verdict\":\"undefined\",\"version\":2}",
+        "no order\n",
+    ),
+    (
+        DEPENDENCE,
+        "{\"clause\":\"6.5p2\",\"frames\":[],\"map\":[[\"static\",0,16777232,4,4]],\"order\":[2,[3,\"body\"]],\"pair\":[[0,2,1,\"eff\"],[0,2,3,\"body\"]],\"verdict\":\"undefined\",\"version\":2}",
+        "no claim\n",
+    ),
+    (
+        DEPENDENCE,
+        "{\"clause\":\"6.5p2\",\"frames\":[],\"map\":[[\"static\",0,16777232,4,4]],\"order\":[2,[3,\"body\"],[1,\"val\"]],\"pair\":[[0,2,1,\"eff\"],[0,2,3,\"body\"]],\"verdict\":\"undefined\",\"version\":2}",
+        "no order\n",
+    ),
+    (
+        DEPENDENCE,
+        "{\"clause\":\"6.5p2\",\"frames\":[],\"map\":[[\"static\",0,16777232,4,4]],\"order\":[2,[3,\"body\"],1000],\"pair\":[[0,2,1,\"eff\"],[0,2,3,\"body\"]],\"verdict\":\"undefined\",\"version\":2}",
+        "no order\n",
+    ),
+    (
+        DEPENDENCE,
+        "{\"clause\":\"6.5p2\",\"frames\":[],\"map\":[[\"static\",0,16777232,4,4]],\"order\":[2,[3,\"body\"],1,1,1,1,1,1,1,1,[3,\"val\"],[1,\"val\"],[1,\"eff\"],[0,\"val\"],2],\"pair\":[[0,2,1,\"eff\"],[0,2,3,\"body\"]],\"verdict\":\"undefined\",\"version\":2}",
+        "no claim\n",
+    ),
+    (
+        DEPENDENCE,
+        "{\"clause\":\"6.5p2\",\"frames\":[],\"map\":[[\"static\",0,16777232,4,4]],\"order\":[2,[3,\"body\"],8,[1,\"val\"],[1,\"eff\"],[3,\"val\"],[0,\"val\"],2],\"pair\":[[0,2,1,\"eff\"],[0,2,3,\"body\"]],\"verdict\":\"undefined\",\"version\":2}",
+        "no claim\n",
+    ),
+    (
+        DEPENDENCE,
+        "{\"clause\":\"6.5p2\",\"frames\":[],\"map\":[[\"static\",0,16777232,4,4]],\"order\":[2,[3,\"body\"],8,[1,\"val\"],[1,\"eff\"],[3,\"val\"],[0,\"val\"],3],\"pair\":[[0,2,1,\"eff\"],[0,2,3,\"body\"]],\"verdict\":\"undefined\",\"version\":2}",
+        "no order\n",
+    ),
+    (
+        DEPENDENCE,
+        "{\"clause\":\"6.5p2\",\"frames\":[],\"map\":[[\"static\",0,16777232,4,4]],\"order\":[2,[3,\"body\"],8,[0,\"val\"]],\"pair\":[[0,2,1,\"eff\"],[0,2,3,\"body\"]],\"verdict\":\"undefined\",\"version\":2}",
+        "no order\n",
+    ),
+    (
+        DEPENDENCE,
+        "{\"frames\":[],\"map\":[[\"static\",0,16777232,4,4]],\"order\":[3],\"pair\":[[0,2,1,\"eff\"],[0,2,3,\"body\"]],\"verdict\":\"order-dependent\",\"version\":2}",
+        "no claim\n",
+    ),
+    (
+        DEPENDENCE,
+        "{\"frames\":[],\"map\":[[\"static\",0,16777232,4,4]],\"order\":[4],\"pair\":[[0,2,1,\"eff\"],[0,2,3,\"body\"]],\"verdict\":\"order-dependent\",\"version\":2}",
+        "no claim\n",
+    ),
+    (
+        DEPENDENCE,
+        "{\"frames\":[],\"map\":[[\"static\",0,16777232,4,4]],\"order\":[5],\"pair\":[[0,2,1,\"eff\"],[0,2,3,\"body\"]],\"verdict\":\"order-dependent\",\"version\":2}",
+        "no claim\n",
+    ),
+    (
+        DEPENDENCE,
+        "{\"frames\":[],\"map\":[[\"static\",0,16777232,4,4]],\"order\":[6],\"pair\":[[0,2,1,\"eff\"],[0,2,3,\"body\"]],\"verdict\":\"order-dependent\",\"version\":2}",
+        "no claim\n",
+    ),
+    (
+        DEPENDENCE,
+        "{\"frames\":[],\"map\":[[\"static\",0,16777232,4,4]],\"order\":[7],\"pair\":[[0,2,1,\"eff\"],[0,2,3,\"body\"]],\"verdict\":\"order-dependent\",\"version\":2}",
+        "no claim\n",
+    ),
+    (
+        DEPENDENCE,
         "{\"frames\":[],\"map\":[[\"static\",0,16777232,4,4]],\"order\":[8],\"pair\":[[0,2,1,\"eff\"],[0,2,3,\"body\"]],\"verdict\":\"order-dependent\",\"version\":2}",
         "no claim\n",
     ),
     (
-        SOURCE_4,
+        DEPENDENCE,
         "{\"frames\":[],\"map\":[[\"static\",0,16777232,4,4]],\"order\":[9],\"pair\":[[0,2,1,\"eff\"],[0,2,3,\"body\"]],\"verdict\":\"order-dependent\",\"version\":2}",
         "yes\n",
     ),
     (
-        SOURCE_4,
+        DEPENDENCE,
         "{\"frames\":[],\"map\":[[\"static\",0,16777232,4,4]],\"order\":[13],\"pair\":[[0,2,1,\"eff\"],[0,2,3,\"body\"]],\"verdict\":\"order-dependent\",\"version\":2}",
         "yes\n",
     ),
     (
-        SOURCE_4,
+        DEPENDENCE,
         "{\"frames\":[],\"map\":[[\"static\",0,16777232,4,4]],\"order\":[14],\"pair\":[[0,2,1,\"eff\"],[0,2,3,\"body\"]],\"verdict\":\"order-dependent\",\"version\":2}",
         "yes\n",
     ),
     (
-        SOURCE_4,
+        DEPENDENCE,
         "{\"frames\":[],\"map\":[[\"static\",0,16777232,4,4]],\"order\":[15],\"pair\":[[0,2,1,\"eff\"],[0,2,3,\"body\"]],\"verdict\":\"order-dependent\",\"version\":2}",
         "yes\n",
     ),
     (
-        SOURCE_4,
+        DEPENDENCE,
         "{\"frames\":[],\"map\":[[\"static\",0,16777232,4,4]],\"order\":[16],\"pair\":[[0,2,1,\"eff\"],[0,2,3,\"body\"]],\"verdict\":\"order-dependent\",\"version\":2}",
         "yes\n",
     ),
     (
-        SOURCE_4,
+        DEPENDENCE,
         "{\"frames\":[],\"map\":[[\"static\",0,16777232,4,4]],\"order\":[17],\"pair\":[[0,2,1,\"eff\"],[0,2,3,\"body\"]],\"verdict\":\"order-dependent\",\"version\":2}",
         "yes\n",
     ),
     (
-        SOURCE_4,
+        DEPENDENCE,
         "{\"frames\":[],\"map\":[[\"static\",0,16777232,4,4]],\"order\":[18],\"pair\":[[0,2,1,\"eff\"],[0,2,3,\"body\"]],\"verdict\":\"order-dependent\",\"version\":2}",
         "no order\n",
     ),
+];
+
+// The same for runs that raise a clause, exit or pass a limit.
+const RAISES_AND_LIMITS: [(&str, &str, &str); 15] = [
     (
-        SOURCE_5,
+        DIVISION,
         "{\"clause\":\"6.5.5p5\",\"frames\":[],\"map\":[[\"static\",0,16777232,4,4]],\"order\":[2,[6,\"val\"],[4,\"val\"]],\"pair\":[],\"verdict\":\"undefined\",\"version\":2}",
         "yes\n",
     ),
     (
-        SOURCE_5,
+        DIVISION,
         "{\"clause\":\"6.5.5p5\",\"frames\":[],\"map\":[[\"static\",0,16777232,4,4]],\"order\":[2,[6,\"val\"],[1,\"eff\"],[4,\"val\"]],\"pair\":[],\"verdict\":\"undefined\",\"version\":2}",
         "yes\n",
     ),
     (
-        SOURCE_5,
+        DIVISION,
         "{\"clause\":\"6.5.5p5\",\"frames\":[],\"map\":[[\"static\",0,16777232,4,4]],\"order\":[2,[1,\"eff\"],[6,\"val\"],[4,\"val\"]],\"pair\":[],\"verdict\":\"undefined\",\"version\":2}",
         "no claim\n",
     ),
     (
-        SOURCE_5,
+        DIVISION,
         "{\"clause\":\"6.5.5p5\",\"frames\":[],\"map\":[[\"static\",0,16777232,4,4]],\"order\":[2,[6,\"val\"],[4,\"val\"],[1,\"val\"]],\"pair\":[],\"verdict\":\"undefined\",\"version\":2}",
         "no order\n",
     ),
     (
-        SOURCE_5,
+        DIVISION,
         "{\"clause\":\"6.5.5p5\",\"frames\":[],\"map\":[[\"static\",0,16777232,4,4]],\"order\":[2,[6,\"val\"],3],\"pair\":[],\"verdict\":\"undefined\",\"version\":2}",
         "yes\n",
     ),
     (
-        SOURCE_5,
+        DIVISION,
         "{\"clause\":\"6.5.5p5\",\"frames\":[],\"map\":[[\"static\",0,16777232,4,4]],\"order\":[2,[6,\"val\"],4],\"pair\":[],\"verdict\":\"undefined\",\"version\":2}",
         "no order\n",
     ),
     (
-        SOURCE_6,
+        EXIT_LATER,
         "{\"frames\":[],\"map\":[[\"static\",0,16777232,4,4]],\"order\":[7],\"pair\":[[0,2,1,\"val\"],[0,2,3,\"body\"]],\"verdict\":\"order-dependent\",\"version\":2}",
         "yes\n",
     ),
     (
-        SOURCE_7,
+        EXIT_FIRST,
         "{\"frames\":[],\"map\":[[\"static\",0,16777232,4,4]],\"order\":[6],\"pair\":[[0,2,1,\"body\"],[0,2,3,\"val\"]],\"verdict\":\"order-dependent\",\"version\":2}",
         "yes\n",
     ),
     (
-        SOURCE_7,
+        EXIT_FIRST,
         "{\"frames\":[],\"map\":[[\"static\",0,16777232,4,4]],\"order\":[6],\"pair\":[[0,2,1,\"body\"],[0,2,0,\"val\"]],\"verdict\":\"order-dependent\",\"version\":2}",
         "no claim\n",
     ),
     (
-        SOURCE_8,
+        STATIC_TOO_LARGE,
         "{\"cause\":\"created\",\"frames\":[],\"map\":[],\"number\":67108865,\"order\":[],\"verdict\":\"outside\",\"version\":2}",
         "yes\n",
     ),
     (
-        SOURCE_8,
+        STATIC_TOO_LARGE,
         "{\"cause\":\"created\",\"frames\":[],\"map\":[],\"number\":5,\"order\":[],\"verdict\":\"outside\",\"version\":2}",
         "no claim\n",
     ),
     (
-        SOURCE_8,
+        STATIC_TOO_LARGE,
         "{\"cause\":\"created\",\"frames\":[],\"map\":[],\"number\":67108865,\"order\":[1],\"verdict\":\"outside\",\"version\":2}",
         "no order\n",
     ),
     (
-        SOURCE_9,
+        LOCAL_TOO_LARGE,
         "{\"cause\":\"created\",\"frames\":[],\"map\":[],\"number\":67108865,\"order\":[],\"verdict\":\"outside\",\"version\":2}",
         "yes\n",
     ),
     (
-        SOURCE_9,
+        LOCAL_TOO_LARGE,
         "{\"cause\":\"created\",\"frames\":[],\"map\":[],\"number\":67108865,\"order\":[1],\"verdict\":\"outside\",\"version\":2}",
         "no order\n",
     ),
     (
-        SOURCE_8,
+        STATIC_TOO_LARGE,
         "{\"frames\":[],\"map\":[],\"order\":[4],\"output\":\"\",\"status\":0,\"verdict\":\"clean\",\"version\":2}",
         "no order\n",
     ),
@@ -502,9 +508,9 @@ fn status_of(report: &str) -> u8 {
 }
 
 #[test]
-fn certificates_are_answered(rt: HostRuntime) -> Result<(), Fail> {
+fn certificates_of_clean_runs_are_answered(rt: HostRuntime) -> Result<(), Fail> {
     let alloc = rt.alloc();
-    for (source, text, report) in CERTIFICATES_0 {
+    for (source, text, report) in CLEAN_RUNS {
         let answered = is_answered(alloc, source, text, report, status_of(report))?;
         assert!(rt; answered, "{text}");
     }
@@ -512,9 +518,9 @@ fn certificates_are_answered(rt: HostRuntime) -> Result<(), Fail> {
 }
 
 #[test]
-fn further_certificates_are_answered(rt: HostRuntime) -> Result<(), Fail> {
+fn certificates_of_races_are_answered(rt: HostRuntime) -> Result<(), Fail> {
     let alloc = rt.alloc();
-    for (source, text, report) in CERTIFICATES_1 {
+    for (source, text, report) in RACES {
         let answered = is_answered(alloc, source, text, report, status_of(report))?;
         assert!(rt; answered, "{text}");
     }
@@ -522,9 +528,19 @@ fn further_certificates_are_answered(rt: HostRuntime) -> Result<(), Fail> {
 }
 
 #[test]
-fn certificates_of_other_runs_are_answered(rt: HostRuntime) -> Result<(), Fail> {
+fn certificates_of_dependences_are_answered(rt: HostRuntime) -> Result<(), Fail> {
     let alloc = rt.alloc();
-    for (source, text, report) in CERTIFICATES_2 {
+    for (source, text, report) in DEPENDENCES {
+        let answered = is_answered(alloc, source, text, report, status_of(report))?;
+        assert!(rt; answered, "{text}");
+    }
+    Ok(())
+}
+
+#[test]
+fn certificates_of_raises_and_limits_are_answered(rt: HostRuntime) -> Result<(), Fail> {
+    let alloc = rt.alloc();
+    for (source, text, report) in RAISES_AND_LIMITS {
         let answered = is_answered(alloc, source, text, report, status_of(report))?;
         assert!(rt; answered, "{text}");
     }
@@ -535,7 +551,7 @@ fn certificates_of_other_runs_are_answered(rt: HostRuntime) -> Result<(), Fail> 
 fn other_texts_are_refused(rt: HostRuntime) -> Result<(), Fail> {
     let alloc = rt.alloc();
     for (text, report) in REFUSED {
-        let answered = is_answered(alloc, SOURCE_0, text, report, 16)?;
+        let answered = is_answered(alloc, RETURNS, text, report, 16)?;
         assert!(rt; answered, "{text}");
     }
     Ok(())

@@ -193,7 +193,7 @@ fn is_numbered(p: &Program) -> bool
 }
 
 /// The program of all that is declared; faulty where something that is used isn't defined, where something that is defined is
-/// incomplete, or where there is no `main` (5.1.2.2.1, 6.9p5). More than numbers are left for counts as want of memory.
+/// incomplete, where there is no `main` (5.1.2.2.1, 6.9p5), or where there is more than numbers are left for (own).
 pub fn finished(alloc: Global, source: &Source<'_>, state: State) -> Result<Program, TypeFault>
     ensures main { IfOk result HasMain }
     ensures library { IfOk result LibraryIsExternal }
@@ -238,6 +238,6 @@ pub fn finished(alloc: Global, source: &Source<'_>, state: State) -> Result<Prog
     if is_numbered(&program) {
         Ok(program)
     } else {
-        Err(TypeFault::NoMemory)
+        Err(TypeFault::NotTyped(source.last_line()))
     }
 }

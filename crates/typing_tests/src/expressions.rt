@@ -2,7 +2,8 @@
 // meets it. "own" marks a rule of the profile.
 use crate::constraints::{Row, first_wrong};
 
-const FIRST_ROWS: &[Row] = &[
+// Primary and postfix expressions (6.5.1, 6.5.2).
+const POSTFIX: &[Row] = &[
     (
         "6.5.1p2",
         "\nint main(void){\n{int y;y=0;}y=1;\nreturn 0;}",
@@ -165,6 +166,10 @@ const FIRST_ROWS: &[Row] = &[
         3,
         "int g(void){return 1;}int*h(void){return 0;}\nint main(void){\n(*h())++;\nreturn 0;}",
     ),
+];
+
+// Unary operators, casts, products and sums (6.5.3 to 6.5.6).
+const ARITHMETIC: &[Row] = &[
     (
         "6.5.3.1p1",
         "int a;\nint main(void){\n++a++;\nreturn 0;}",
@@ -213,9 +218,6 @@ const FIRST_ROWS: &[Row] = &[
         3,
         "int a,b;\nint main(void){\n(a,&b);\nreturn 0;}",
     ),
-];
-
-const SECOND_ROWS: &[Row] = &[
     (
         "6.5.3.2p2",
         "int a;\nint main(void){\n*a;\nreturn 0;}",
@@ -378,6 +380,10 @@ const SECOND_ROWS: &[Row] = &[
         3,
         "void *p,*q;int a[2];\nint main(void){\n&a[1]-a;\nreturn 0;}",
     ),
+];
+
+// Shifts, comparisons, bitwise and logical operators, conditions, assignments and constant expressions (6.5.7 to 6.6).
+const COMPARISONS: &[Row] = &[
     (
         "6.5.7p2",
         "int *p;\nint main(void){\np<<1;\nreturn 0;}",
@@ -426,9 +432,6 @@ const SECOND_ROWS: &[Row] = &[
         3,
         "int *p;\nint main(void){\np==0;0!=p;\nreturn 0;}",
     ),
-];
-
-const THIRD_ROWS: &[Row] = &[
     (
         "6.5.9p2",
         "int *p;char *q;void *v;\nint main(void){\np==q;\nreturn 0;}",
@@ -636,16 +639,16 @@ const THIRD_ROWS: &[Row] = &[
 ];
 
 #[test]
-fn expressions_meet_their_constraints(rt: HostRuntime) {
-    assert_eq!(rt; first_wrong(rt.alloc(), FIRST_ROWS), None);
+fn postfix_expressions_meet_their_constraints(rt: HostRuntime) {
+    assert_eq!(rt; first_wrong(rt.alloc(), POSTFIX), None);
 }
 
 #[test]
-fn further_expressions_meet_their_constraints(rt: HostRuntime) {
-    assert_eq!(rt; first_wrong(rt.alloc(), SECOND_ROWS), None);
+fn arithmetic_expressions_meet_their_constraints(rt: HostRuntime) {
+    assert_eq!(rt; first_wrong(rt.alloc(), ARITHMETIC), None);
 }
 
 #[test]
-fn other_expressions_meet_their_constraints(rt: HostRuntime) {
-    assert_eq!(rt; first_wrong(rt.alloc(), THIRD_ROWS), None);
+fn further_operators_meet_their_constraints(rt: HostRuntime) {
+    assert_eq!(rt; first_wrong(rt.alloc(), COMPARISONS), None);
 }
