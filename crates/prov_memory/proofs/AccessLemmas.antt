@@ -21,7 +21,8 @@ use Rattle.prov_memory.specs.Streams.{Io}
 use Rattle.prov_memory.specs.Held.{Held, held_of, has_range, name_at}
 use Rattle.prov_memory.proofs.HeldLemmas.{named_at}
 use Rattle.prov_memory.specs.Memory.{Kept, store_of, life_in, IsRowOf}
-use Rattle.prov_memory.specs.Access.{settled_if, settle_items, chosen_of, CanSettle, IsReachedBy, reached, access_in, checked_offset}
+use Rattle.prov_memory.specs.Made.{Settling, after_settling, settling_items}
+use Rattle.prov_memory.specs.Access.{chosen_of, CanSettleOf, IsReachedBy, reached, access_in, checked_offset}
 
 -- items before those of what follows
 abbrev pub before : {V : Type 0} → List Item → Act V → Act V
@@ -91,10 +92,10 @@ settles_raise : (rows : List Row) (m : Kept) (io : Io) (id : Event) (keep : ObjN
 settles_raise rows m io id keep e = rw e refl
 
 abbrev pub Outcome : Type 0
-Outcome = Result (ObjName × Option (Event × ObjName)) Clause
+Outcome = Result (ObjName × Settling) Clause
 
 abbrev pub Finds : List Row → Script ObjName → Kept → Outcome → Type 0
-Finds rows p m r = IfOk r (λ q. (io : Io) → run rows p (store_of m io) ≡ Done q.0 (settle_items q.1) (settled_if q.1 (store_of m io)))
+Finds rows p m r = IfOk r (λ q. (io : Io) → run rows p (store_of m io) ≡ Done q.0 (settling_items q.1) (after_settling q.1 (store_of m io)))
 
 abbrev pub Refuses : List Row → Script ObjName → Kept → Outcome → Type 0
 Refuses rows p m r = IfErr r (λ c. (io : Io) → run rows p (store_of m io) ≡ Raised c)
@@ -109,12 +110,12 @@ found_settled rows p m id keep r e is = subst (λ (o : Outcome). Finds rows p m 
 pub refused_settled : (rows : List Row) (p : Script ObjName) (m : Kept) (id : Event) (keep : ObjName) (r : Outcome) → r ≡ chosen_of (is_other (kept_in m.cells id) keep) id keep → ((io : Io) → run rows p (store_of m io) ≡ run rows (touch (Settle id keep OutOfBounds) >> Give keep) (store_of m io)) → Refuses rows p m r
 refused_settled rows p m id keep r e is = subst (λ (o : Outcome). Refuses rows p m o) (sym e) (found_by (is_other (kept_in m.cells id) keep) rows p m id keep refl is).1
 
-can_by : (b : Bool) (m : Kept) (id : Event) (past start keep : ObjName) → is_other (kept_in m.cells id) keep ≡ b → IfOk (chosen_of b id keep) (λ q. CanSettle m (Either id past start) q.1)
+can_by : (b : Bool) (m : Kept) (id : Event) (past start keep : ObjName) → is_other (kept_in m.cells id) keep ≡ b → IfOk (chosen_of b id keep) (λ q. CanSettleOf m (Either id past start) q.1)
 can_by true m id past start keep e = tt
-can_by false m id past start keep e = record { free = e; cell = λ h. h }
+can_by false m id past start keep e = λ has. (has, e)
 
-pub can_settled : (m : Kept) (id : Event) (past start keep : ObjName) (r : Outcome) → r ≡ chosen_of (is_other (kept_in m.cells id) keep) id keep → IfOk r (λ q. CanSettle m (Either id past start) q.1)
-can_settled m id past start keep r e = subst (λ (o : Outcome). IfOk o (λ q. CanSettle m (Either id past start) q.1)) (sym e) (can_by (is_other (kept_in m.cells id) keep) m id past start keep refl)
+pub can_settled : (m : Kept) (id : Event) (past start keep : ObjName) (r : Outcome) → r ≡ chosen_of (is_other (kept_in m.cells id) keep) id keep → IfOk r (λ q. CanSettleOf m (Either id past start) q.1)
+can_settled m id past start keep r e = subst (λ (o : Outcome). IfOk o (λ q. CanSettleOf m (Either id past start) q.1)) (sym e) (can_by (is_other (kept_in m.cells id) keep) m id past start keep refl)
 
 pub past_holds : (rows : List Row) (len a : ℕ) (id : Event) (past start : ObjName) → in_row (row_of rows past) a len ≡ true → object_of rows len a (Either id past start) ≡ touch (Settle id past OutOfBounds) >> Give past
 past_holds rows len a id past start e = rw e refl
@@ -189,7 +190,7 @@ falls h len align a from e =
     let range : (a - h.base) + len ≤ h.size = within h.base h.size a len parts.1 in
     (parts.0, omega (arith, parts.2, range))
 
-settled_life : (o : Option (Event × ObjName)) (s : Store) (x : ObjName) → (settled_if o s).life x ≡ s.life x
+settled_life : (o : Settling) (s : Store) (x : ObjName) → (after_settling o s).life x ≡ s.life x
 settled_life None s x = refl
 settled_life (Some p) s x = refl
 
@@ -200,26 +201,26 @@ not_null a e = grind (arith, nat_tests)
 access_is : (rows : List Row) (len align a : ℕ) (prov : Prov) → 0 + 1 ≤ a → access rows len align a prov ≡ (object_of rows len a prov >>= access_in rows len align a)
 access_is rows len align a prov e = rw (not_null a e) refl
 
-abbrev pub RunsTo : List Row → Script ObjName → Kept → ObjName → Option (Event × ObjName) → Type 0
-RunsTo rows p m x settles = (io : Io) → run rows p (store_of m io) ≡ Done x (settle_items settles) (settled_if settles (store_of m io))
+abbrev pub RunsTo : List Row → Script ObjName → Kept → ObjName → Settling → Type 0
+RunsTo rows p m x settles = (io : Io) → run rows p (store_of m io) ≡ Done x (settling_items settles) (after_settling settles (store_of m io))
 
-pub access_done : (r : Result Found Clause) (rows : List Row) (m : Kept) (len align a : ℕ) (prov : Prov) (x : ObjName) (settles : Option (Event × ObjName)) → 0 + 1 ≤ a → RunsTo rows (object_of rows len a prov) m x settles
+pub access_done : (r : Result Found Clause) (rows : List Row) (m : Kept) (len align a : ℕ) (prov : Prov) (x : ObjName) (settles : Settling) → 0 + 1 ≤ a → RunsTo rows (object_of rows len a prov) m x settles
     → IfOk r (λ f. IsReachedBy m.objects f x settles len)
     → IfOk r (λ f. (s : Store) → s.life x ≡ life_in (held_of m.objects x) → run rows (access_in rows len align a x) s ≡ Done (reached m.objects f) (Alive x ∷ []) s)
-    → IfOk r (λ f. (io : Io) → run rows (access rows len align a prov) (store_of m io) ≡ Done (reached m.objects f) (settle_items f.settles ++ Alive f.name ∷ []) (settled_if f.settles (store_of m io)))
+    → IfOk r (λ f. (io : Io) → run rows (access rows len align a prov) (store_of m io) ≡ Done (reached m.objects f) (settling_items f.settles ++ Alive f.name ∷ []) (after_settling f.settles (store_of m io)))
 access_done (Err c) rows m len align a prov x settles p runs by k = tt
 access_done (Ok f) rows m len align a prov x settles p runs by k = λ io.
     ap (λ (q : Script Accessed). run rows q (store_of m io)) (access_is rows len align a prov p)
-    ∙ done_then rows (object_of rows len a prov) (access_in rows len align a) (store_of m io) (settled_if settles (store_of m io)) (settled_if settles (store_of m io)) x (reached m.objects f) (settle_items settles) (Alive x ∷ []) (runs io) (k (settled_if settles (store_of m io)) (settled_life settles (store_of m io) x))
-    ∙ ap₂ (λ (y : ObjName) (o : Option (Event × ObjName)). Done (reached m.objects f) (settle_items o ++ Alive y ∷ []) (settled_if o (store_of m io))) (sym by.name_is) (sym by.settles_is)
+    ∙ done_then rows (object_of rows len a prov) (access_in rows len align a) (store_of m io) (after_settling settles (store_of m io)) (after_settling settles (store_of m io)) x (reached m.objects f) (settling_items settles) (Alive x ∷ []) (runs io) (k (after_settling settles (store_of m io)) (settled_life settles (store_of m io) x))
+    ∙ ap₂ (λ (y : ObjName) (o : Settling). Done (reached m.objects f) (settling_items o ++ Alive y ∷ []) (after_settling o (store_of m io))) (sym by.name_is) (sym by.settles_is)
 
-pub access_raises : (r : Result Found Clause) (rows : List Row) (m : Kept) (len align a : ℕ) (prov : Prov) (x : ObjName) (settles : Option (Event × ObjName)) → 0 + 1 ≤ a → RunsTo rows (object_of rows len a prov) m x settles
+pub access_raises : (r : Result Found Clause) (rows : List Row) (m : Kept) (len align a : ℕ) (prov : Prov) (x : ObjName) (settles : Settling) → 0 + 1 ≤ a → RunsTo rows (object_of rows len a prov) m x settles
     → IfErr r (λ c. (s : Store) → s.life x ≡ life_in (held_of m.objects x) → run rows (access_in rows len align a x) s ≡ Raised c)
     → IfErr r (λ c. (io : Io) → run rows (access rows len align a prov) (store_of m io) ≡ Raised c)
 access_raises (Ok f) rows m len align a prov x settles p runs k = tt
 access_raises (Err c) rows m len align a prov x settles p runs k = λ io.
     ap (λ (q : Script Accessed). run rows q (store_of m io)) (access_is rows len align a prov p)
-    ∙ raised_then rows (object_of rows len a prov) (access_in rows len align a) (store_of m io) (settled_if settles (store_of m io)) x (settle_items settles) c (runs io) (k (settled_if settles (store_of m io)) (settled_life settles (store_of m io) x))
+    ∙ raised_then rows (object_of rows len a prov) (access_in rows len align a) (store_of m io) (after_settling settles (store_of m io)) x (settling_items settles) c (runs io) (k (after_settling settles (store_of m io)) (settled_life settles (store_of m io) x))
 
 pub object_raises : (rows : List Row) (m : Kept) (len align a : ℕ) (prov : Prov) (c : Clause) → 0 + 1 ≤ a → ((io : Io) → run rows (object_of rows len a prov) (store_of m io) ≡ Raised c) → (io : Io) → run rows (access rows len align a prov) (store_of m io) ≡ Raised c
 object_raises rows m len align a prov c p raises io =

@@ -1,13 +1,13 @@
 -- What acts do to the store of a memory.
-use Rattle.std.proofs.Common.{min, max, ◌≡◌, ℕ, zero, suc, ◌+◌, ◌-◌, ◌<◌, ◌≤◌, Bool, true, false, ◌&&◌, cond, refl, sym, ap, ap₂, ◌∙◌, subst, arith, List, [], ◌∷◌, ◌++◌, length, get_or, replicate, map, slice_get, Option, Some, None}
+use Rattle.std.proofs.Common.{min, max, ◌≡◌, ℕ, zero, suc, ◌+◌, ◌-◌, ◌<◌, ◌≤◌, Bool, true, false, ◌&&◌, cond, refl, sym, ap, ap₂, ◌∙◌, subst, arith, List, [], ◌∷◌, ◌++◌, length, replicate, map, Option, Some, None}
 use Rattle.c_types.specs.Shapes.{Form}
-use Rattle.std.specs.Prelude.{Result, Ok, Err, IfOk, OnOk, nat_lt, nat_le, is_some, option_map, slice_index_or, ◌==◌, ◌^◌}
+use Rattle.std.specs.Prelude.{Result, Ok, Err, IfOk, OnOk, nat_lt, nat_le, option_map, slice_index_or, ◌==◌, ◌^◌}
 use Rattle.std.proofs.lemmas.Bool.Decides.{nat_tests}
 use Rattle.ub_base.specs.declared.names.Item.{Item}
 use Rattle.ub_base.specs.declared.names.Item.TheVariants.{Expose, Write, Alive, Dies, Born}
 use Rattle.ub_base.specs.declared.names.ObjName.{ObjName}
 use Rattle.ub_base.specs.Names.{same_object, same_event}
-use Rattle.ub_base.proofs.NameLemmas.{same_object_is, same_object_refl}
+use Rattle.ub_base.proofs.NameLemmas.{same_object_is}
 use Rattle.addr_map.specs.declared.map.Row.{Row}
 use Rattle.addr_map.specs.Rows.{row_of, row_at}
 use Rattle.exposure.specs.declared.prov.Prov.{Prov}
@@ -25,8 +25,8 @@ use Rattle.ub_base.specs.declared.names.Event.{Event}
 use Rattle.c_types.specs.declared.ty.Ty.{Ty}
 use Rattle.prov_memory.specs.declared.cell.Cell.{Cell}
 use Rattle.prov_memory.specs.Store.{Store, Byte, written, TaggedByte, fresh, with_bytes, born, settled}
-use Rattle.prov_memory.specs.Script.{Act, Done, run, touched}
-use Rattle.prov_memory.specs.Acts.{candidates, expose, show_each, kill, unwrite, size_in, create, has_place, base_in}
+use Rattle.prov_memory.specs.Script.{Done, run}
+use Rattle.prov_memory.specs.Acts.{candidates, expose, kill, unwrite, size_in, create, has_place, base_in}
 use Rattle.prov_memory.specs.Streams.{Io}
 use Rattle.prov_memory.specs.Cells.{no_cell, cell_at, byte_in_state, tag_in, tagged_in, prov_numbered}
 use Rattle.prov_memory.specs.Held.{Held, held_of, changed, emptied, killed, uncovered, Fits}

@@ -1,25 +1,25 @@
 -- What comparisons of pointers settle.
-use Rattle.std.proofs.Common.{◌≡◌, ℕ, ◌+◌, ◌<◌, ◌≤◌, Bool, true, false, cond, refl, sym, ap, ◌∙◌, subst, arith, List, [], ◌∷◌, ◌++◌, length, Option, Some, None, ◌%◌}
-use Rattle.std.specs.Prelude.{Result, Ok, Err, OnOk, OnErr, not, ◌==◌}
+use Rattle.std.proofs.Common.{◌≡◌, ℕ, ◌<◌, Bool, true, false, cond, refl, sym, ap, ◌∙◌, subst, arith, List, [], ◌∷◌, ◌++◌, length, Option, Some, None}
+use Rattle.std.specs.Prelude.{Result, Ok, Err, not}
 use Rattle.ub_base.specs.declared.clause.Clause.{Clause}
 use Rattle.ub_base.specs.declared.clause.Clause.TheVariants.{PointerDifference}
 use Rattle.ub_base.specs.declared.names.Event.{Event}
 use Rattle.ub_base.specs.declared.names.Item.{Item}
 use Rattle.ub_base.specs.declared.names.Item.TheVariants.{Narrow}
 use Rattle.ub_base.specs.declared.names.ObjName.{ObjName}
-use Rattle.ub_base.specs.Names.{same_event, same_object}
+use Rattle.ub_base.specs.Names.{same_event}
 use Rattle.ub_base.proofs.NameLemmas.{same_event_is, same_object_refl}
 use Rattle.addr_map.specs.declared.map.Row.{Row}
 use Rattle.exposure.specs.declared.prov.Prov.{Prov}
 use Rattle.exposure.specs.declared.prov.Prov.TheVariants.{Empty, Whole, Either}
 use Rattle.exposure.specs.Cells.{Cells, kept_in, has_cell, is_other}
 use Rattle.prov_memory.specs.Store.{Store, settled}
-use Rattle.prov_memory.specs.Script.{Script, Act, Done, Raised, Give, Settle, touch, ◌>>◌, run, touched}
+use Rattle.prov_memory.specs.Script.{Act, Done, Raised, Settle, touch, ◌>>◌, run, touched}
 use Rattle.prov_memory.specs.Acts.{settle_to, settle_common, diff, is_multiple, in_common, candidates}
 use Rattle.prov_memory.specs.Streams.{Io}
-use Rattle.prov_memory.specs.Memory.{Kept, store_of, act_of}
-use Rattle.prov_memory.specs.Made.{Settling, settling_to, CanSettle, settling_items, after_settling, IsMade}
-use Rattle.prov_memory.specs.Comparing.{settling_of, both_settlings, common_settling, done_result}
+use Rattle.prov_memory.specs.Memory.{Kept, store_of}
+use Rattle.prov_memory.specs.Made.{Settling, CanSettle, settling_items, after_settling, IsMade}
+use Rattle.prov_memory.specs.Comparing.{settling_of, both_settlings, common_settling}
 use Rattle.prov_memory.proofs.SettleLemmas.{done_is}
 
 -- what an act does that settles twice

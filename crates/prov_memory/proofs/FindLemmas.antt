@@ -1,5 +1,5 @@
 -- What a lookup of an address finds.
-use Rattle.std.proofs.Common.{◌≡◌, ℕ, zero, suc, ◌+◌, ◌<◌, ◌≤◌, Bool, true, false, ◌&&◌, ◌||◌, cond, refl, sym, ap, ap₂, ◌∙◌, subst, arith, List, [], ◌∷◌, ◌++◌, length, map, Option, Some, None}
+use Rattle.std.proofs.Common.{◌≡◌, ℕ, ◌<◌, ◌≤◌, Bool, true, false, ◌&&◌, ◌||◌, cond, refl, sym, ap, ap₂, ◌∙◌, subst, arith, List, [], ◌∷◌, ◌++◌, length, map, Option, Some, None}
 use Rattle.std.specs.Prelude.{Result, Ok, Err, IfOk, OnOk, OnErr, is_some, ◌==◌}
 use Rattle.ub_base.specs.declared.names.Event.{Event}
 use Rattle.ub_base.specs.declared.names.Item.{Item}
@@ -10,7 +10,7 @@ use Rattle.ub_base.proofs.NameLemmas.{same_event_refl}
 use Rattle.addr_map.specs.declared.map.Row.{Row}
 use Rattle.addr_map.specs.Rows.{covers, past}
 use Rattle.exposure.specs.declared.prov.Prov.{Prov}
-use Rattle.exposure.specs.declared.prov.Prov.TheVariants.{Empty, Whole, Either}
+use Rattle.exposure.specs.declared.prov.Prov.TheVariants.{Empty, Either}
 use Rattle.exposure.specs.Cells.{Cells, kept_in, has_cell, MakesCell}
 use Rattle.exposure.specs.Choice.{chosen}
 use Rattle.c_types.specs.declared.ty.Ty.{Ty}
@@ -19,12 +19,12 @@ use Rattle.prov_memory.specs.declared.cell.State.{State}
 use Rattle.prov_memory.specs.declared.cell.State.TheVariants as states
 use Rattle.prov_memory.specs.declared.cell.Cell.{Cell}
 use Rattle.prov_memory.specs.Store.{Store, Byte, written, findable, can_find, is_live}
-use Rattle.prov_memory.specs.Script.{Act, Done, run}
+use Rattle.prov_memory.specs.Script.{Done, run}
 use Rattle.prov_memory.specs.Acts.{from_int}
 use Rattle.prov_memory.specs.Streams.{Io}
-use Rattle.prov_memory.specs.Cells.{cell_at, byte_in_state, tag_in, prov_numbered}
+use Rattle.prov_memory.specs.Cells.{cell_at, byte_in_state, tag_in}
 use Rattle.prov_memory.specs.Held.{Held, held_of}
-use Rattle.prov_memory.specs.Memory.{Kept, store_of, life_in, is_shown, tagged_in_object, ObjectsKnown, AreKnown}
+use Rattle.prov_memory.specs.Memory.{Kept, store_of, life_in, is_shown, tagged_in_object, AreKnown}
 use Rattle.prov_memory.specs.Made.{Extends, HasMore, HasNumber, IsMade, AreCreated, look_up_items}
 use Rattle.prov_memory.proofs.ActLemmas.{KnownIn, known_at, known_held}
 use Rattle.prov_memory.proofs.ProvLemmas.{prov_more, extends_none}

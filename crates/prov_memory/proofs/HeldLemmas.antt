@@ -1,5 +1,5 @@
 -- Objects in a list against objects by their names.
-use Rattle.std.proofs.Common.{Bor, ◌⊎◌, inl, inr, ◌≡◌, ℕ, zero, suc, ◌+◌, ◌<◌, ◌≤◌, ◌≢◌, Bool, true, false, cond, refl, sym, ap, ◌∙◌, subst, arith, List, [], ◌∷◌, ◌++◌, length, get_or, set, slice_get, Option, Some, None}
+use Rattle.std.proofs.Common.{Bor, ◌⊎◌, inl, inr, ◌≡◌, ℕ, zero, suc, ◌<◌, ◌≤◌, Bool, true, false, cond, refl, sym, ap, ◌∙◌, subst, arith, List, [], ◌∷◌, ◌++◌, length, get_or, set, slice_get, Option, Some, None}
 use Rattle.std.specs.Option.{option_and_then, option_copied, IfSome}
 use Rattle.std.specs.BTreeMap.{BTreeMap, get, is_at}
 use Rattle.std.specs.Map.{lookup}

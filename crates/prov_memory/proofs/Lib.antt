@@ -12,3 +12,6 @@ pub mod AccessLemmas
 pub mod AgreementLemmas
 pub mod WriteLemmas
 pub mod LoadLemmas
+pub mod ShowLemmas
+pub mod PointerLemmas
+pub mod ValueLemmas

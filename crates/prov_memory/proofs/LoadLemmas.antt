@@ -1,11 +1,9 @@
 -- What a load reads of the bytes where it falls.
-use Rattle.std.proofs.Common.{◌≡◌, ◌≢◌, ℕ, zero, suc, ◌+◌, ◌-◌, ◌*◌, ◌<◌, ◌≤◌, Bool, true, false, not, ◌&&◌, cond, refl, sym, ap, ap₂, ◌∙◌, subst, arith, ℤ, List, [], ◌∷◌, ◌++◌, length, map, slice_get, Option, Some, None}
+use Rattle.std.proofs.Common.{◌≡◌, ℕ, zero, suc, ◌+◌, ◌-◌, ◌*◌, ◌<◌, ◌≤◌, Bool, true, false, not, ◌&&◌, cond, refl, sym, ap, ◌∙◌, subst, arith, ℤ, List, [], ◌∷◌, ◌++◌, map, slice_get, Option, Some, None}
 use Rattle.std.specs.Prelude.{Result, Ok, Err, IfErr, nat_lt, option_map, ◌==◌}
 use Rattle.std.proofs.lemmas.Bool.Decides.{nat_tests}
 use Rattle.ub_base.specs.declared.clause.Clause.{Clause}
 use Rattle.ub_base.specs.declared.clause.Clause.TheVariants.{EffectiveType, Indeterminate, TrapRepresentation}
-use Rattle.ub_base.specs.declared.names.Event.{Event}
-use Rattle.ub_base.specs.declared.names.Item.{Item}
 use Rattle.ub_base.specs.declared.names.Item.TheVariants.{Alive}
 use Rattle.ub_base.specs.declared.names.ObjName.{ObjName}
 use Rattle.addr_map.specs.declared.map.Row.{Row}
@@ -15,20 +13,21 @@ use Rattle.c_types.specs.declared.kind.IntKind.TheVariants as kinds
 use Rattle.c_types.specs.Layout.{bytes as bytes_of}
 use Rattle.c_types.specs.declared.ty.Ty.{Ty}
 use Rattle.c_types.specs.Types.{CType, int, type_of}
-use Rattle.c_types.specs.Shapes.{Form, form_of}
+use Rattle.c_types.specs.Shapes.{form_of}
 use Rattle.prov_memory.specs.declared.cell.Cell.{Cell}
 use Rattle.prov_memory.specs.declared.cell.State.{State}
 use Rattle.prov_memory.specs.declared.cell.State.TheVariants as states
 use Rattle.prov_memory.specs.declared.memory.access.Accessed.{Accessed as Found}
-use Rattle.prov_memory.specs.Agreement.{Tag, number_of_kind, bytes_of_kind}
-use Rattle.prov_memory.specs.Store.{Store, Byte, Life, TaggedByte, range_from}
-use Rattle.prov_memory.specs.Script.{Script, Give, Get, Act, Done, Raised, run, touch, require, ◌>>=◌, ◌>>◌}
-use Rattle.prov_memory.specs.Acts.{Accessed, access, declared_of, tag_agrees, tags_agree, is_written, number_in, all_written, number_of, suits_load, show_pieces, is_trap, value_of, load_int, load_func}
+use Rattle.prov_memory.specs.Agreement.{number_of_kind, bytes_of_kind}
+use Rattle.prov_memory.specs.Store.{Store, Life, TaggedByte, range_from}
+use Rattle.prov_memory.specs.Script.{Script, Give, Get, Raised, run, touch, require, ◌>>=◌, ◌>>◌}
+use Rattle.prov_memory.specs.Acts.{Accessed, access, declared_of, tag_agrees, tags_agree, is_written, number_in, all_written, number_of, suits_load, show_pieces, value_of, load_int, load_func}
 use Rattle.prov_memory.specs.Streams.{Io}
-use Rattle.prov_memory.specs.Cells.{cell_at, byte_in, byte_in_state, kind_numbered, integer_or, type_numbered, tag_in, tagged_in}
+use Rattle.prov_memory.specs.Cells.{byte_in, byte_in_state, kind_numbered, integer_or, type_numbered, tag_in}
 use Rattle.prov_memory.specs.Held.{Held, held_of}
 use Rattle.prov_memory.specs.Memory.{Kept, store_of, life_in, tagged_in_object}
-use Rattle.prov_memory.specs.Access.{settled_if, settle_items, IsReached, reached, bytes_in}
+use Rattle.prov_memory.specs.Made.{Settling, after_settling, settling_items}
+use Rattle.prov_memory.specs.Access.{IsReached, reached, bytes_in}
 use Rattle.prov_memory.specs.Loads.{number_held, number_if, number_checked, number_read}
 use Rattle.prov_memory.proofs.AccessLemmas.{raised_then, raised_first}
 use Rattle.prov_memory.proofs.WriteLemmas.{Makes}
@@ -183,11 +182,11 @@ tail_raises_by true false v c rows ty is_bool rest n x from life s bs g e f h is
 tail_raises_by true true true c rows ty is_bool rest n x from life s bs g e f h is = rw (g, e, f, h) (ap Raised (err_is TrapRepresentation c (rw h at is)))
 tail_raises_by true true false c rows ty is_bool rest n x from life s bs g e f h is = absurd (not_ok c (number_of bs) (rw h at is))
 
-settled_bytes : (o : Option (Event × ObjName)) (s : Store) (x : ObjName) → (settled_if o s).bytes x ≡ s.bytes x
+settled_bytes : (o : Settling) (s : Store) (x : ObjName) → (after_settling o s).bytes x ≡ s.bytes x
 settled_bytes None s x = refl
 settled_bytes (Some p) s x = refl
 
-range_is : (m : Kept) (io : Io) (o : Option (Event × ObjName)) (x : ObjName) (h : Held) (from n : ℕ) → held_of m.objects x ≡ Some h → range_from ((settled_if o (store_of m io)).bytes x) from n ≡ bytes_in m h from n
+pub range_is : (m : Kept) (io : Io) (o : Settling) (x : ObjName) (h : Held) (from n : ℕ) → held_of m.objects x ≡ Some h → range_from ((after_settling o (store_of m io)).bytes x) from n ≡ bytes_in m h from n
 range_is m io o x h from n e =
     ap (λ (f : ℕ → TaggedByte). range_from f from n) (settled_bytes o (store_of m io) x) ∙ ap (λ (k : Option Held). range_from (λ at. tagged_in_object m.origins m.types k at) from n) e
 
@@ -197,9 +196,9 @@ life_at h = record { live = h.state.live; kind = h.state.kind; declared = option
 abbrev pub ReadFails : Kept → Found → CType → Bool → ℕ → Clause → Type 0
 ReadFails m f ty is_bool n c = (h : Held) → slice_get m.objects f.object ≡ Some h → Err c ≡ number_read ty is_bool (option_map form_of h.declared) f.from (bytes_in m h f.from n)
 
-tail_raises : {V : Type 0} (m : Kept) (f : Found) (ty : CType) (is_bool : Bool) (rest : List TaggedByte → Script V) (n : ℕ) (c : Clause) (r : IsReached m.objects f n) → ReadFails m f ty is_bool n c → (io : Io) → run m.rows (load_tail ty is_bool rest n (reached m.objects f)) (settled_if f.settles (store_of m io)) ≡ Raised c
+pub tail_raises : {V : Type 0} (m : Kept) (f : Found) (ty : CType) (is_bool : Bool) (rest : List TaggedByte → Script V) (n : ℕ) (c : Clause) (r : IsReached m.objects f n) → ReadFails m f ty is_bool n c → (io : Io) → run m.rows (load_tail ty is_bool rest n (reached m.objects f)) (after_settling f.settles (store_of m io)) ≡ Raised c
 tail_raises m f ty is_bool rest n c r fails io =
-    let s = settled_if f.settles (store_of m io) in
+    let s = after_settling f.settles (store_of m io) in
     let bs = bytes_in m r.object f.from n in
     ap (λ (o : Option Held). run m.rows (load_tail ty is_bool rest n (record { object = f.name; from = f.from; life = life_in o })) s) r.held
     ∙ tail_raises_by (suits_load ty (option_map form_of r.object.declared) f.from bs) (all_written bs) (is_bool && nat_lt 1 (number_of bs)) c m.rows ty is_bool rest n f.name f.from (life_at r.object) s bs (range_is m io f.settles f.name r.object f.from n r.held) refl refl refl (fails r.object r.there)
@@ -210,11 +209,11 @@ load_of rows kind a prov n = access rows n n a prov >>= load_tail (int kind) (nu
 pub int_raises : (m : Kept) (f : Found) (kind : IntKind) (is_bool : Bool) (a n : ℕ) (prov : Prov) (c : Clause) → n ≡ bytes_of_kind kind → is_bool ≡ (number_of_kind kind == 1) → Makes m f n n a prov → IsReached m.objects f n → ReadFails m f (int kind) is_bool n c → (io : Io) → run m.rows (load_int m.rows kind a prov) (store_of m io) ≡ Raised c
 int_raises m f kind is_bool a n prov c size bool makes r fails io =
     ap (λ (k : ℕ). run m.rows (load_of m.rows kind a prov k) (store_of m io)) (sym size)
-    ∙ raised_then m.rows (access m.rows n n a prov) (load_tail (int kind) (number_of_kind kind == 1) (λ bs. show_pieces bs >> Give (value_of kind (number_of bs))) n) (store_of m io) (settled_if f.settles (store_of m io)) (reached m.objects f) (settle_items f.settles ++ Alive f.name ∷ []) c (makes io) (tail_raises m f (int kind) (number_of_kind kind == 1) (λ bs. show_pieces bs >> Give (value_of kind (number_of bs))) n c r (subst (λ (b : Bool). ReadFails m f (int kind) b n c) bool fails) io)
+    ∙ raised_then m.rows (access m.rows n n a prov) (load_tail (int kind) (number_of_kind kind == 1) (λ bs. show_pieces bs >> Give (value_of kind (number_of bs))) n) (store_of m io) (after_settling f.settles (store_of m io)) (reached m.objects f) (settling_items f.settles ++ Alive f.name ∷ []) c (makes io) (tail_raises m f (int kind) (number_of_kind kind == 1) (λ bs. show_pieces bs >> Give (value_of kind (number_of bs))) n c r (subst (λ (b : Bool). ReadFails m f (int kind) b n c) bool fails) io)
 
 pub func_raises : (m : Kept) (f : Found) (ty : CType) (a : ℕ) (prov : Prov) (c : Clause) → Makes m f 8 8 a prov → IsReached m.objects f 8 → ReadFails m f ty false 8 c → (io : Io) → run m.rows (load_func m.rows ty a prov) (store_of m io) ≡ Raised c
 func_raises m f ty a prov c makes r fails io =
-    raised_then m.rows (access m.rows 8 8 a prov) (load_tail ty false (λ bs. show_pieces bs >> Give (number_of bs)) 8) (store_of m io) (settled_if f.settles (store_of m io)) (reached m.objects f) (settle_items f.settles ++ Alive f.name ∷ []) c (makes io) (tail_raises m f ty false (λ bs. show_pieces bs >> Give (number_of bs)) 8 c r fails io)
+    raised_then m.rows (access m.rows 8 8 a prov) (load_tail ty false (λ bs. show_pieces bs >> Give (number_of bs)) 8) (store_of m io) (after_settling f.settles (store_of m io)) (reached m.objects f) (settling_items f.settles ++ Alive f.name ∷ []) c (makes io) (tail_raises m f ty false (λ bs. show_pieces bs >> Give (number_of bs)) 8 c r fails io)
 
 pub int_unreached : (m : Kept) (kind : IntKind) (a n : ℕ) (prov : Prov) (c : Clause) → n ≡ bytes_of_kind kind → ((io : Io) → run m.rows (access m.rows n n a prov) (store_of m io) ≡ Raised c) → (io : Io) → run m.rows (load_int m.rows kind a prov) (store_of m io) ≡ Raised c
 int_unreached m kind a n prov c size raises io =

@@ -1,11 +1,11 @@
 -- The bytes of values as cells.
-use Rattle.std.proofs.Common.{◌≡◌, ℕ, zero, suc, ◌+◌, ◌-◌, ◌/◌, ◌%◌, ◌<◌, ◌≤◌, Bool, true, false, cond, refl, sym, ap, ◌∙◌, subst, arith, append_assoc, List, [], ◌∷◌, ◌++◌, length, map, Option, Some, None}
-use Rattle.std.specs.Prelude.{is_some, IfSome}
+use Rattle.std.proofs.Common.{◌≡◌, ℕ, zero, suc, ◌+◌, ◌-◌, ◌/◌, ◌%◌, ◌<◌, ◌≤◌, Bool, true, false, cond, refl, sym, ap, ◌∙◌, subst, arith, append_assoc, List, [], ◌∷◌, ◌++◌, length, take, set, map, Option, Some, None}
+use Rattle.std.proofs.lemmas.List.{length-set, take_all, take_more_set}
 use Rattle.ub_base.specs.declared.names.ObjName.{ObjName}
 use Rattle.ub_base.specs.Names.{same_object}
 use Rattle.ub_base.proofs.NameLemmas.{same_object_is}
 use Rattle.exposure.specs.declared.prov.Prov.{Prov}
-use Rattle.exposure.specs.declared.prov.Prov.TheVariants.{Empty, Whole, Either}
+use Rattle.exposure.specs.declared.prov.Prov.TheVariants.{Empty, Whole}
 use Rattle.c_types.specs.Types.{CType}
 use Rattle.prov_memory.specs.declared.cell.Cell.{Cell}
 use Rattle.prov_memory.specs.declared.cell.Origin.{Origin}
@@ -13,8 +13,8 @@ use Rattle.prov_memory.specs.Store.{TaggedByte, written}
 use Rattle.prov_memory.specs.Cells.{plain_cell, piece_cell, tagged_in, prov_numbered}
 use Rattle.prov_memory.specs.Acts.{same_prov}
 use Rattle.prov_memory.specs.Held.{Held, held_of, changed, uncovered}
-use Rattle.prov_memory.specs.Memory.{uncovered_each}
-use Rattle.prov_memory.specs.Made.{EachNamed, HasNumber}
+use Rattle.prov_memory.specs.Memory.{uncovered_each, CellsKnown}
+use Rattle.prov_memory.specs.Made.{EachNamed}
 use Rattle.prov_memory.proofs.ProvLemmas.{number_stays, prov_last}
 use Rattle.prov_memory.specs.Pieces.{number_bytes, pointer_bytes, plain_cells, piece_cells}
 
@@ -69,6 +69,41 @@ pub plain_all : (cs whole : List Cell) (n i r : ℕ) → n ≤ i → cs ++ plain
 plain_all cs whole n i r end e =
     let z : n - i ≡ 0 = omega arith in
     sym (none_left cs) ∙ ap (λ (k : ℕ). cs ++ plain_cells k r) (sym z) ∙ e
+
+-- the same in an array
+pub plain_put : (cs whole : List Cell) (n i r : ℕ) (c : Cell) → i < n → length cs ≡ n → take i cs ++ plain_cells (n - i) r ≡ whole → c ≡ plain_cell (r % 256) → (length (set cs i c) ≡ n) × (take (i + 1) (set cs i c) ++ plain_cells (n - (i + 1)) (r / 256) ≡ whole)
+plain_put cs whole n i r c lt len before one =
+    let room : i < length cs = omega arith in
+    (length-set cs i c ∙ len, plain_pushed (take i cs) (take (i + 1) (set cs i c)) whole n i r c lt before (take_more_set cs i c room) one)
+
+pub piece_put : (cs whole : List Cell) (n i : ℕ) (o : Origin) (r : ℕ) (c : Cell) → i < n → length cs ≡ n → take i cs ++ piece_cells (n - i) i o r ≡ whole → c ≡ piece_cell (r % 256) o i → (length (set cs i c) ≡ n) × (take (i + 1) (set cs i c) ++ piece_cells (n - (i + 1)) (i + 1) o (r / 256) ≡ whole)
+piece_put cs whole n i o r c lt len before one =
+    let room : i < length cs = omega arith in
+    (length-set cs i c ∙ len, piece_pushed (take i cs) (take (i + 1) (set cs i c)) whole n i o r c lt before (take_more_set cs i c room) one)
+
+pub plain_put_all : (cs whole : List Cell) (n i r : ℕ) → n ≤ i → length cs ≡ n → take i cs ++ plain_cells (n - i) r ≡ whole → cs ≡ whole
+plain_put_all cs whole n i r end len e =
+    let within : length cs ≤ i = omega arith in
+    sym (take_all i cs within) ∙ plain_all (take i cs) whole n i r end e
+
+pub piece_put_all : (cs whole : List Cell) (n i : ℕ) (o : Origin) (r : ℕ) → n ≤ i → length cs ≡ n → take i cs ++ piece_cells (n - i) i o r ≡ whole → cs ≡ whole
+piece_put_all cs whole n i o r end len e =
+    let within : length cs ≤ i = omega arith in
+    sym (take_all i cs within) ∙ pieces_all (take i cs) whole n i o r end e
+
+-- the first bytes of a number
+pub plain_take : (k n r : ℕ) → k ≤ n → take k (plain_cells n r) ≡ plain_cells k r
+plain_take zero n r le = refl
+plain_take (suc k) zero r le = absurd (omega arith)
+plain_take (suc k) (suc n) r le = ap (λ (cs : List Cell). plain_cell (r % 256) ∷ cs) (plain_take k n (r / 256) (omega arith))
+
+pub plain_length : (k r : ℕ) → length (plain_cells k r) ≡ k
+plain_length zero r = refl
+plain_length (suc k) r = ap suc (plain_length k (r / 256))
+
+pub plain_known : (most k r : ℕ) → CellsKnown most (plain_cells k r)
+plain_known most zero r = tt
+plain_known most (suc k) r = (omega arith, plain_known most k (r / 256))
 
 -- ---- the number of an object
 held_is : (a b : Held) → Some a ≡ Some b → a ≡ b

@@ -1,6 +1,6 @@
 -- What arithmetic and comparisons of pointers settle.
-use Rattle.std.proofs.Common.{◌≡◌, ℕ, zero, suc, ◌+◌, ◌<◌, ◌≤◌, Bool, true, false, cond, refl, sym, ap, ◌∙◌, subst, arith, List, [], ◌∷◌, ◌++◌, length, Option, Some, None, ℤ, pos, ◌+ℤ◌}
-use Rattle.std.specs.Prelude.{Result, Ok, Err, IsErrAnd, OnOk, OnErr, not, is_some}
+use Rattle.std.proofs.Common.{◌≡◌, ℕ, ◌<◌, Bool, true, false, cond, refl, sym, ap, ◌∙◌, subst, arith, List, [], ◌∷◌, ◌++◌, length, Some, None, ℤ, pos, ◌+ℤ◌}
+use Rattle.std.specs.Prelude.{Result, Ok, Err, IsErrAnd, OnOk, not, is_some}
 use Rattle.std.specs.Bool.{OnTrue, OnFalse}
 use Rattle.ub_base.specs.declared.clause.Clause.{Clause}
 use Rattle.ub_base.specs.declared.clause.Clause.TheVariants.{OutOfBounds}
@@ -12,13 +12,13 @@ use Rattle.addr_map.specs.Rows.{row_of}
 use Rattle.exposure.specs.declared.prov.Prov.{Prov}
 use Rattle.exposure.specs.declared.prov.Prov.TheVariants.{Empty, Whole, Either}
 use Rattle.exposure.specs.Cells.{Cells, kept_in, has_cell, is_other, Settles}
-use Rattle.prov_memory.specs.Store.{Store, settled}
-use Rattle.prov_memory.specs.Script.{Script, Act, Done, Raised, Give, Settle, touch, require, ◌>>◌, run}
+use Rattle.prov_memory.specs.Store.{Store}
+use Rattle.prov_memory.specs.Script.{Act, Done, Raised, Give, Settle, touch, require, ◌>>◌, run}
 use Rattle.prov_memory.specs.Acts.{in_bounds, settle_by, shift}
 use Rattle.prov_memory.specs.Streams.{Io}
-use Rattle.prov_memory.specs.Held.{Held, held_of}
+use Rattle.prov_memory.specs.Held.{held_of}
 use Rattle.prov_memory.specs.Memory.{Kept, store_of}
-use Rattle.prov_memory.specs.Made.{Settling, settling_to, settling_by, shift_settling, CanSettle, settling_items, after_settling, IsMade, HasNumber}
+use Rattle.prov_memory.specs.Made.{Settling, settling_by, shift_settling, CanSettle, settling_items, after_settling, IsMade, HasNumber}
 
 -- what an act does that settles and gives a value
 abbrev pub outcome : {V : Type 0} → Result Settling Clause → V → Store → Act V

@@ -1,24 +1,20 @@
 -- How the store of a memory changes with its objects.
-use Rattle.std.proofs.Common.{max, ◌≡◌, ℕ, zero, suc, ◌+◌, ◌-◌, ◌<◌, ◌≤◌, Bool, true, false, ◌&&◌, cond, refl, sym, ap, ap₂, ◌∙◌, subst, arith, List, [], ◌∷◌, ◌++◌, length, get_or, set, replicate, map, slice_get, Option, Some, None}
-use Rattle.std.specs.Prelude.{nat_lt, nat_le, is_some, option_map, slice_index_or, ◌==◌}
-use Rattle.std.proofs.lemmas.Bool.Decides.{nat_tests}
-use Rattle.ub_base.specs.declared.names.Event.{Event}
-use Rattle.ub_base.specs.declared.names.Item.{Item}
-use Rattle.ub_base.specs.declared.names.Item.TheVariants.{Expose, Write, Alive}
+use Rattle.std.proofs.Common.{max, ◌≡◌, ℕ, zero, suc, ◌+◌, ◌≤◌, Bool, true, false, cond, refl, sym, ap, ◌∙◌, subst, arith, List, [], ◌∷◌, ◌++◌, get_or, set, map, Option, Some, None}
+use Rattle.std.specs.Prelude.{nat_lt, is_some, option_map}
+use Rattle.ub_base.specs.declared.names.Item.TheVariants.{Expose}
 use Rattle.ub_base.specs.declared.names.ObjName.{ObjName}
-use Rattle.ub_base.specs.Names.{same_object, same_event}
-use Rattle.ub_base.proofs.NameLemmas.{same_object_is, same_object_refl}
+use Rattle.ub_base.specs.Names.{same_object}
+use Rattle.ub_base.proofs.NameLemmas.{same_object_is}
 use Rattle.addr_map.specs.declared.map.Row.{Row}
 use Rattle.addr_map.specs.Rows.{row_of, first_row, insert_row, free_of, row_at}
 use Rattle.exposure.specs.declared.prov.Prov.{Prov}
-use Rattle.exposure.specs.Cells.{Cells, kept_in, has_cell, Settles}
+use Rattle.exposure.specs.Cells.{kept_in}
 use Rattle.c_types.specs.declared.ty.Ty.{Ty}
-use Rattle.prov_memory.specs.Store.{Store, Life, TaggedByte, fresh, dead, with_bytes, buried, shown, settled}
-use Rattle.prov_memory.specs.Script.{Act, Done, run, touched}
-use Rattle.prov_memory.specs.Acts.{show_each, unwrite, size_in}
+use Rattle.prov_memory.specs.Store.{Store, fresh, dead, buried, shown}
+use Rattle.prov_memory.specs.Script.{Done, run, touched}
+use Rattle.prov_memory.specs.Acts.{show_each}
 use Rattle.prov_memory.specs.Streams.{Io}
-use Rattle.prov_memory.specs.Cells.{cell_at}
-use Rattle.prov_memory.specs.Held.{Held, held_of, changed, emptied, killed, uncovered, Fits}
+use Rattle.prov_memory.specs.Held.{Held, held_of, changed, emptied, killed, uncovered}
 use Rattle.prov_memory.specs.Memory.{Kept, store_of, life_in, is_shown, tagged_in_object, IsRowOf, HaveRows, uncovered_each}
 
 -- a change that keeps names

@@ -32,7 +32,8 @@ use Rattle.prov_memory.specs.Streams.{Io}
 use Rattle.prov_memory.specs.Cells.{cell_at, cell_left, cell_put, untagged, is_character_numbered, byte_in, byte_in_state, tag_in, tagged_in, type_numbered}
 use Rattle.prov_memory.specs.Held.{Held, held_of, changed, holding, IsWritten}
 use Rattle.prov_memory.specs.Memory.{Kept, store_of, life_in, is_shown, tagged_in_object, HasCell, CellsKnown, ObjectsKnown, AreKnown}
-use Rattle.prov_memory.specs.Access.{settled_if, settle_items, CanSettle, IsFree, HasCellOf, IsReached, reached}
+use Rattle.prov_memory.specs.Made.{Settling, CanSettle, after_settling, settling_items}
+use Rattle.prov_memory.specs.Access.{CanSettleOf, IsReached, reached}
 use Rattle.prov_memory.specs.Stores.{IsTypeOf, Sees, IsShort, tagged_all, checked_store}
 use Rattle.prov_memory.proofs.StoreLemmas.{held_same, held_other, part_kept}
 use Rattle.prov_memory.proofs.ActLemmas.{settled_is}
@@ -233,43 +234,43 @@ reached_is hs f h e = ap (λ (o : Option Held). record { object = f.name; from =
 
 -- an access that a memory made, for a store of n bytes
 abbrev pub Makes : Kept → Found → ℕ → ℕ → ℕ → Prov → Type 0
-Makes m f n align a prov = (io : Io) → run m.rows (access m.rows n align a prov) (store_of m io) ≡ Done (reached m.objects f) (settle_items f.settles ++ Alive f.name ∷ []) (settled_if f.settles (store_of m io))
+Makes m f n align a prov = (io : Io) → run m.rows (access m.rows n align a prov) (store_of m io) ≡ Done (reached m.objects f) (settling_items f.settles ++ Alive f.name ∷ []) (after_settling f.settles (store_of m io))
 
 pub store_raises : (m : Kept) (f : Found) (first : Bool) (via : Seen) (align a : ℕ) (prov : Prov) (cs : List Cell) (c : Clause) → Makes m f (length cs) align a prov → IsReached m.objects f (length cs) → Err c ≡ checked_store first via (life_in (held_of m.objects f.name)) f.from → (io : Io) → run m.rows (store m.rows first via align a prov (tagged_all m cs)) (store_of m io) ≡ Raised c
 store_raises m f first via align a prov cs c makes r e io =
     let n : length (tagged_all m cs) ≡ length cs = tagged_length m cs in
     let is : Err c ≡ checked_store first via (Some (life_at r.object)) f.from = e ∙ ap (λ (o : Option Held). checked_store first via (life_in o) f.from) r.held in
     let at : reached m.objects f ≡ placed f.name f.from (life_at r.object) = reached_is m.objects f r.object r.held in
-    let tail : run m.rows (store_in first via (tagged_all m cs) (reached m.objects f)) (settled_if f.settles (store_of m io)) ≡ Raised c = ap (λ (q : Accessed). run m.rows (store_in first via (tagged_all m cs) q) (settled_if f.settles (store_of m io))) at ∙ tail_is (Err c) first m.rows via (tagged_all m cs) f.name f.from (life_at r.object) (settled_if f.settles (store_of m io)) is in
-    raised_then m.rows (access m.rows (length (tagged_all m cs)) align a prov) (store_in first via (tagged_all m cs)) (store_of m io) (settled_if f.settles (store_of m io)) (reached m.objects f) (settle_items f.settles ++ Alive f.name ∷ []) c (ap (λ (k : ℕ). run m.rows (access m.rows k align a prov) (store_of m io)) n ∙ makes io) tail
+    let tail : run m.rows (store_in first via (tagged_all m cs) (reached m.objects f)) (after_settling f.settles (store_of m io)) ≡ Raised c = ap (λ (q : Accessed). run m.rows (store_in first via (tagged_all m cs) q) (after_settling f.settles (store_of m io))) at ∙ tail_is (Err c) first m.rows via (tagged_all m cs) f.name f.from (life_at r.object) (after_settling f.settles (store_of m io)) is in
+    raised_then m.rows (access m.rows (length (tagged_all m cs)) align a prov) (store_in first via (tagged_all m cs)) (store_of m io) (after_settling f.settles (store_of m io)) (reached m.objects f) (settling_items f.settles ++ Alive f.name ∷ []) c (ap (λ (k : ℕ). run m.rows (access m.rows k align a prov) (store_of m io)) n ∙ makes io) tail
 
 -- the memory after a store: the bytes are put, and what the access settles is settled
 pub record IsStored (old new : Kept) (f : Found) (g : Held) : Type 0 where
   pub rest : record new { cells = [] } ≡ record old { objects = changed (holding g.cells) f.name old.objects; cells = [] }
-  pub cells : HasCellOf old f.settles → IsFree old f.settles → (io : Io) → store_of (record old { cells = new.cells }) io ≡ settled_if f.settles (store_of old io)
+  pub cells : CanSettle old.cells f.settles → (io : Io) → store_of (record old { cells = new.cells }) io ≡ after_settling f.settles (store_of old io)
 
-pub store_done : (old new : Kept) (f : Found) (g : Held) (first : Bool) (via : Via) (seen : Seen) (align a : ℕ) (prov : Prov) (cs : List Cell) (items : List Item) → Makes old f (length cs) align a prov → (r : IsReached old.objects f (length cs)) → CanSettle old prov f.settles → Ok tt ≡ checked_store first seen (life_in (held_of old.objects f.name)) f.from → IsStored old new f g → IsWritten r.object g f.from via cs → items ≡ (settle_items f.settles ++ Alive f.name ∷ []) ++ Write f.name f.from (length cs) ∷ [] → HasCell old prov → IsShort via (length cs) → Sees old via seen → (io : Io) → run old.rows (store old.rows first seen align a prov (tagged_all old cs)) (store_of old io) ≡ Done tt items (store_of new io)
+pub store_done : (old new : Kept) (f : Found) (g : Held) (first : Bool) (via : Via) (seen : Seen) (align a : ℕ) (prov : Prov) (cs : List Cell) (items : List Item) → Makes old f (length cs) align a prov → (r : IsReached old.objects f (length cs)) → CanSettleOf old prov f.settles → Ok tt ≡ checked_store first seen (life_in (held_of old.objects f.name)) f.from → IsStored old new f g → IsWritten r.object g f.from via cs → items ≡ (settling_items f.settles ++ Alive f.name ∷ []) ++ Write f.name f.from (length cs) ∷ [] → HasCell old prov → IsShort via (length cs) → Sees old via seen → (io : Io) → run old.rows (store old.rows first seen align a prov (tagged_all old cs)) (store_of old io) ≡ Done tt items (store_of new io)
 store_done old new f g first via seen align a prov cs items makes r can e stored w noted has short sees io =
     let n : length (tagged_all old cs) ≡ length cs = tagged_length old cs in
     let bs = stored_from (option_map form_of r.object.declared) seen 0 (tagged_all old cs) in
     let len : length bs ≡ length cs = stored_length (option_map form_of r.object.declared) seen 0 old cs in
     let is : Ok tt ≡ checked_store first seen (Some (life_at r.object)) f.from = e ∙ ap (λ (o : Option Held). checked_store first seen (life_in o) f.from) r.held in
     let at : reached old.objects f ≡ placed f.name f.from (life_at r.object) = reached_is old.objects f r.object r.held in
-    let middle = settled_if f.settles (store_of old io) in
+    let middle = after_settling f.settles (store_of old io) in
     let tail : run old.rows (store_in first seen (tagged_all old cs) (reached old.objects f)) middle ≡ put_act middle f.name f.from bs = ap (λ (q : Accessed). run old.rows (store_in first seen (tagged_all old cs) q) middle) at ∙ tail_is (Ok tt) first old.rows seen (tagged_all old cs) f.name f.from (life_at r.object) middle is in
-    let settled_store : store_of (record old { cells = new.cells }) io ≡ middle = stored.cells (can.cell has) can.free io in
+    let settled_store : store_of (record old { cells = new.cells }) io ≡ middle = stored.cells (can has) io in
     let put : store_of (record old { cells = new.cells; objects = changed (holding g.cells) f.name old.objects }) io ≡ with_bytes (store_of (record old { cells = new.cells }) io) f.name f.from bs = written_is (record old { cells = new.cells }) r.object g f.name f.from via seen cs bs io r.held w (sees_same old new.cells via seen sees) short refl len in
     let new_is : new ≡ record old { cells = new.cells; objects = changed (holding g.cells) f.name old.objects } = ap (λ (k : Kept). record k { cells = new.cells }) stored.rest in
     let end : with_bytes middle f.name f.from bs ≡ store_of new io = ap (λ (s : Store). with_bytes s f.name f.from bs) (sym settled_store) ∙ sym put ∙ ap (λ (k : Kept). store_of k io) (sym new_is) in
-    done_then old.rows (access old.rows (length (tagged_all old cs)) align a prov) (store_in first seen (tagged_all old cs)) (store_of old io) middle (with_bytes middle f.name f.from bs) (reached old.objects f) tt (settle_items f.settles ++ Alive f.name ∷ []) (Write f.name f.from (length bs) ∷ []) (ap (λ (k : ℕ). run old.rows (access old.rows k align a prov) (store_of old io)) n ∙ makes io) tail
-    ∙ ap₂ (λ (k : ℕ) (s : Store). Done tt ((settle_items f.settles ++ Alive f.name ∷ []) ++ Write f.name f.from k ∷ []) s) len end
+    done_then old.rows (access old.rows (length (tagged_all old cs)) align a prov) (store_in first seen (tagged_all old cs)) (store_of old io) middle (with_bytes middle f.name f.from bs) (reached old.objects f) tt (settling_items f.settles ++ Alive f.name ∷ []) (Write f.name f.from (length bs) ∷ []) (ap (λ (k : ℕ). run old.rows (access old.rows k align a prov) (store_of old io)) n ∙ makes io) tail
+    ∙ ap₂ (λ (k : ℕ) (s : Store). Done tt ((settling_items f.settles ++ Alive f.name ∷ []) ++ Write f.name f.from k ∷ []) s) len end
     ∙ ap (λ (js : List Item). Done tt js (store_of new io)) (sym noted)
 
-cells_settle : (m w : Kept) (new : Cells) (objects : List Held) (settles : Option (Event × ObjName)) → w ≡ record m { objects = objects } → (HasCellOf w settles → IsFree w settles → (k : Kept) → k.cells ≡ w.cells → (io : Io) → store_of (record k { cells = new }) io ≡ settled_if settles (store_of k io)) → HasCellOf m settles → IsFree m settles → (io : Io) → store_of (record m { cells = new }) io ≡ settled_if settles (store_of m io)
-cells_settle m w new objects settles e store_is has free io =
-    store_is (subst (λ (k : Kept). HasCellOf k settles) (sym e) has) (subst (λ (k : Kept). IsFree k settles) (sym e) free) m (ap (λ (k : Kept). k.cells) (sym e)) io
+pub cells_settle : (m w : Kept) (new : Cells) (objects : List Held) (settles : Settling) → w ≡ record m { objects = objects } → (CanSettle w.cells settles → (k : Kept) → k.cells ≡ w.cells → (io : Io) → store_of (record k { cells = new }) io ≡ after_settling settles (store_of k io)) → CanSettle m.cells settles → (io : Io) → store_of (record m { cells = new }) io ≡ after_settling settles (store_of m io)
+cells_settle m w new objects settles e store_is can io =
+    store_is (subst (λ (k : Kept). CanSettle k.cells settles) (sym e) can) m (ap (λ (k : Kept). k.cells) (sym e)) io
 
-pub stored_by : (old acc w new : Kept) (f : Found) (g : Held) (x : ObjName) → acc ≡ old → w ≡ record acc { objects = changed (holding g.cells) x acc.objects } → x ≡ f.name → record new { cells = [] } ≡ record w { cells = [] } → (HasCellOf w f.settles → IsFree w f.settles → (k : Kept) → k.cells ≡ w.cells → (io : Io) → store_of (record k { cells = new.cells }) io ≡ settled_if f.settles (store_of k io)) → IsStored old new f g
+pub stored_by : (old acc w new : Kept) (f : Found) (g : Held) (x : ObjName) → acc ≡ old → w ≡ record acc { objects = changed (holding g.cells) x acc.objects } → x ≡ f.name → record new { cells = [] } ≡ record w { cells = [] } → (CanSettle w.cells f.settles → (k : Kept) → k.cells ≡ w.cells → (io : Io) → store_of (record k { cells = new.cells }) io ≡ after_settling f.settles (store_of k io)) → IsStored old new f g
 stored_by old acc w new f g x same put name rest store_is =
     let is : w ≡ record old { objects = changed (holding g.cells) f.name old.objects } = put ∙ ap₂ (λ (k : Kept) (y : ObjName). record k { objects = changed (holding g.cells) y k.objects }) same name in
     record {
@@ -281,7 +282,7 @@ pub access_fails : (m : Kept) (first : Bool) (via : Seen) (align a : ℕ) (prov 
 access_fails m first via align a prov cs c raises io =
     raised_first m.rows (access m.rows (length (tagged_all m cs)) align a prov) (store_in first via (tagged_all m cs)) (store_of m io) c (ap (λ (k : ℕ). run m.rows (access m.rows k align a prov) (store_of m io)) (tagged_length m cs) ∙ raises io)
 
-pub few : (o : Option (Event × ObjName)) (x : ObjName) → length (settle_items o ++ Alive x ∷ []) < 32
+pub few : (o : Settling) (x : ObjName) → length (settling_items o ++ Alive x ∷ []) < 32
 few None x = omega arith
 few (Some p) x = omega arith
 

@@ -1,49 +1,28 @@
 -- Accesses as a memory makes them: where they fall, what they settle and which bytes they meet (own).
-use Rattle.std.specs.Prelude.{◌≡◌, ℕ, ◌+◌, ◌-◌, ◌≤◌, Bool, true, false, List, [], ◌∷◌, map, slice_get, Option, Some, None, Result, Ok, Err, if◌then◌else◌}
+use Rattle.std.specs.Prelude.{◌≡◌, ℕ, ◌+◌, ◌-◌, ◌≤◌, Bool, true, false, List, map, slice_get, Some, Result, Ok, Err, if◌then◌else◌}
 use Rattle.ub_base.specs.declared.clause.Clause.{Clause}
 use Rattle.ub_base.specs.declared.clause.Clause.TheVariants.{DeadObject, InvalidPointer, OutOfBounds}
 use Rattle.ub_base.specs.declared.names.Event.{Event}
-use Rattle.ub_base.specs.declared.names.Item.{Item}
-use Rattle.ub_base.specs.declared.names.Item.TheVariants.{Narrow}
 use Rattle.ub_base.specs.declared.names.ObjName.{ObjName}
 use Rattle.addr_map.specs.declared.map.Row.{Row}
 use Rattle.addr_map.specs.Rows.{row_of}
 use Rattle.exposure.specs.declared.prov.Prov.{Prov}
-use Rattle.exposure.specs.Cells.{kept_in, has_cell, is_other}
 use Rattle.c_types.specs.Types.{type_of}
 use Rattle.prov_memory.specs.declared.memory.access.Accessed.{Accessed as Found}
-use Rattle.prov_memory.specs.Store.{TaggedByte, Store, settled, range_from, is_live}
+use Rattle.prov_memory.specs.Store.{TaggedByte, range_from, is_live}
 use Rattle.prov_memory.specs.Script.{Script, Give, Ask, touch, require, ◌>>=◌, ◌>>◌}
 use Rattle.prov_memory.specs.Acts.{Accessed, in_row, offset_in, is_aligned}
 use Rattle.prov_memory.specs.Cells.{cell_at, tagged_in}
 use Rattle.prov_memory.specs.Held.{Held, held_of, has_range, Fits}
 use Rattle.prov_memory.specs.Memory.{Kept, HasCell, life_in}
-
--- what an access settles is settled
-abbrev pub settled_if : Option (Event × ObjName) → Store → Store
-settled_if None s = s
-settled_if (Some p) s = settled s p.0 p.1
-
-abbrev pub settle_items : Option (Event × ObjName) → List Item
-settle_items None = []
-settle_items (Some p) = Narrow p.0 p.1 ∷ []
-
--- the ambiguity wasn't settled to another object
-abbrev pub IsFree : Kept → Option (Event × ObjName) → Type 0
-IsFree m None = Unit {0}
-IsFree m (Some p) = is_other (kept_in m.cells p.0) p.1 ≡ false
+use Rattle.prov_memory.specs.Made.{Settling, CanSettle}
 
 -- what the access of a pointer settles can be settled, where its ambiguity has its cell
-abbrev pub HasCellOf : Kept → Option (Event × ObjName) → Type 0
-HasCellOf m None = Unit {0}
-HasCellOf m (Some p) = has_cell m.cells p.0 ≡ true
-
-pub record CanSettle (m : Kept) (prov : Prov) (settles : Option (Event × ObjName)) : Type 0 where
-  pub free : IsFree m settles
-  pub cell : HasCell m prov → HasCellOf m settles
+abbrev pub CanSettleOf : Kept → Prov → Settling → Type 0
+CanSettleOf m prov settles = HasCell m prov → CanSettle m.cells settles
 
 -- the candidate, where the ambiguity wasn't settled to the other
-abbrev pub chosen_of : Bool → Event → ObjName → Result (ObjName × Option (Event × ObjName)) Clause
+abbrev pub chosen_of : Bool → Event → ObjName → Result (ObjName × Settling) Clause
 chosen_of true id keep = Err OutOfBounds
 chosen_of false id keep = Ok (keep, Some (id, keep))
 
@@ -57,7 +36,7 @@ pub record IsReached (hs : List Held) (found : Found) (len : ℕ) : Type 0 where
   pub range : found.from + len ≤ object.size
   pub fits : Fits object
 
-pub record IsReachedBy (hs : List Held) (found : Found) (name : ObjName) (settles : Option (Event × ObjName)) (len : ℕ) : Type 0 where
+pub record IsReachedBy (hs : List Held) (found : Found) (name : ObjName) (settles : Settling) (len : ℕ) : Type 0 where
   pub reached : IsReached hs found len
   pub name_is : found.name ≡ name
   pub settles_is : found.settles ≡ settles

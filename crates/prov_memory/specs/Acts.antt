@@ -1,5 +1,5 @@
 -- The acts that loads, stores, casts, arithmetic and comparison of pointers are made of.
-use Rattle.std.specs.Prelude.{ℕ, zero, suc, ◌+◌, ◌-◌, ◌*◌, ◌/◌, ◌%◌, ◌^◌, Bool, true, false, not, ◌&&◌, ◌||◌, ◌==◌, nat_lt, nat_le, List, [], ◌∷◌, ◌++◌, length, replicate, map, Option, Some, None, is_some, if◌then◌else◌, ℤ, pos, ◌+ℤ◌, ◌-ℤ◌, int_le}
+use Rattle.std.specs.Prelude.{ℕ, zero, suc, ◌+◌, ◌-◌, ◌*◌, ◌%◌, ◌^◌, Bool, true, false, not, ◌&&◌, ◌||◌, ◌==◌, nat_lt, nat_le, List, [], ◌∷◌, length, replicate, Option, Some, None, is_some, if◌then◌else◌, ℤ, pos, ◌+ℤ◌, ◌-ℤ◌, int_le}
 use Rattle.ub_base.specs.declared.clause.Clause.{Clause}
 use Rattle.ub_base.specs.declared.clause.Clause.TheVariants.{DeadObject, TrapRepresentation, StoreToLiteral, InvalidPointer, OutOfBounds, PointerDifference, PointerComparison, EffectiveType, StoreToConst, LibraryArgument, Indeterminate}
 use Rattle.ub_base.specs.declared.names.Event.{Event}
@@ -17,7 +17,7 @@ use Rattle.c_types.specs.Shapes.{Form}
 use Rattle.prov_memory.specs.declared.object.ObjKind.{ObjKind}
 use Rattle.prov_memory.specs.Agreement.{Tag, number_of_kind, agrees, suits_form, read_as_int, bytes_of_kind, declared_tag}
 use Rattle.prov_memory.specs.Store.{Byte, unwritten, written, TaggedByte, fresh, Life, is_live}
-use Rattle.prov_memory.specs.Script.{Touch, Ask, Get, Put, Bear, Bury, Show, Find, Settle, Script, Give, Raise, Misplace, Do, touch, require, ◌>>=◌, ◌>>◌}
+use Rattle.prov_memory.specs.Script.{Ask, Get, Put, Bear, Bury, Show, Find, Settle, Script, Give, Raise, Misplace, touch, require, ◌>>=◌, ◌>>◌}
 
 -- the candidates of a provenance
 abbrev pub candidates : Prov → List ObjName

@@ -1,5 +1,5 @@
 -- What comparisons of pointers settle (own).
-use Rattle.std.specs.Prelude.{Bool, List, [], ◌∷◌, Option, Some, None, Result, Ok, Err}
+use Rattle.std.specs.Prelude.{List, [], ◌∷◌, None, Result, Ok, Err}
 use Rattle.ub_base.specs.declared.clause.Clause.{Clause}
 use Rattle.ub_base.specs.declared.names.ObjName.{ObjName}
 use Rattle.exposure.specs.declared.prov.Prov.{Prov}

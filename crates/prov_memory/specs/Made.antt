@@ -1,5 +1,5 @@
 -- Which provenances a memory made, and what settling leaves (own).
-use Rattle.std.specs.Prelude.{◌≡◌, ℕ, suc, ◌+◌, ◌≤◌, ◌^◌, Bool, true, false, List, [], ◌∷◌, ◌++◌, ◌==◌, length, Option, Some, None, is_some, if◌then◌else◌, Result, Ok, Err, ℤ, pos}
+use Rattle.std.specs.Prelude.{◌≡◌, ℕ, ◌≤◌, ◌^◌, Bool, true, false, List, [], ◌∷◌, ◌++◌, ◌==◌, Option, Some, None, is_some, if◌then◌else◌, Result, Ok, Err, ℤ, pos}
 use Rattle.std.specs.BTreeMap.{BTreeMap, get}
 use Rattle.std.specs.declared.cmp.Ordering.{Ordering}
 use Rattle.ub_base.specs.declared.clause.Clause.{Clause}

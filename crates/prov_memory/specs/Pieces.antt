@@ -1,5 +1,5 @@
 -- The bytes that hold a value (own: little-endian).
-use Rattle.std.specs.Prelude.{◌≡◌, ℕ, zero, suc, ◌/◌, ◌%◌, ◌^◌, min, List, [], ◌∷◌, map, Option, Some, None, ℤ, pos, unsigned_abs}
+use Rattle.std.specs.Prelude.{ℕ, zero, suc, ◌/◌, ◌%◌, ◌^◌, min, List, [], ◌∷◌, map, Some, None, ℤ, pos, unsigned_abs}
 use Rattle.std.specs.Int.{int_rem_euclid}
 use Rattle.exposure.specs.declared.prov.Prov.{Prov}
 use Rattle.c_types.specs.Types.{type_of}

@@ -1,6 +1,7 @@
 // Bytes as they stand in memory: 12 bytes of the host for each.
-ghost use Rattle.std.specs.Prelude.{◌≡◌};
-ghost use Rattle.prov_memory.specs.Pieces.{low_bits};
+ghost use Rattle.std.specs.Prelude.{◌≡◌, ◌+◌, ◌-ℤ◌, pos, nat_le, if◌then◌else◌};
+ghost use Rattle.prov_memory.specs.Acts.{value_of};
+ghost use Rattle.prov_memory.specs.Pieces.{low_bits, plain_cells, piece_cells};
 
 use c_types::IntKind;
 
@@ -244,19 +245,62 @@ pub(crate) fn pointer_in(cells: &[Cell]) -> Option<Origin> {
 }
 
 /// The value of the integer type with these bytes (own: two's complement).
-pub(crate) fn value_of(kind: IntKind, number: u64) -> i128 {
-    let value = i128::from(number);
-    if value <= kind.greatest() {
-        value
-    } else {
-        value.wrapping_sub(1i128.wrapping_shl(kind.width()))
+pub(crate) fn value_of(kind: IntKind, number: u64) -> i128
+    ensures { result ≡ value_of kind number }
+{
+    match kind {
+        IntKind::Bool => i128::from(number),
+        IntKind::Char => signed(number, 0x80),
+        IntKind::SChar => signed(number, 0x80),
+        IntKind::UChar => i128::from(number),
+        IntKind::Short => signed(number, 0x8000),
+        IntKind::UShort => i128::from(number),
+        IntKind::Int => signed(number, 0x8000_0000),
+        IntKind::UInt => i128::from(number),
+        IntKind::Long => signed(number, 0x8000_0000_0000_0000),
+        IntKind::ULong => i128::from(number),
+        IntKind::LLong => signed(number, 0x8000_0000_0000_0000),
+        IntKind::ULLong => i128::from(number),
     }
 }
 
-/// The lowest `index`th byte of an address.
-pub(crate) fn byte_at(addr: u64, index: u8) -> u8 {
-    let shifted = addr.wrapping_shr(u32::from(index).wrapping_mul(8));
-    (shifted & 0xff) as u8
+/// The number with its sign bit read as one, which is `half`.
+fn signed(number: u64, half: u64) -> i128
+    ensures { result ≡ (if nat_le half number then pos number -ℤ pos (half + half) else pos number) }
+{
+    let value = i128::from(number);
+    let half = i128::from(half);
+    if value < half {
+        value
+    } else {
+        value - (half + half)
+    }
+}
+
+/// The eight bytes of a number.
+pub(crate) fn number_cells(number: u64) -> [Cell; 8]
+    ensures { result ≡ plain_cells 8 number }
+{
+    let mut cells = [Cell::UNWRITTEN; 8];
+    let mut rest = number;
+    for index in 0..8usize {
+        cells[index] = Cell::plain((rest % 256) as u8);
+        rest /= 256;
+    }
+    cells
+}
+
+/// The eight pieces of a pointer.
+pub(crate) fn pointer_cells(addr: u64, origin: Origin) -> [Cell; 8]
+    ensures { result ≡ piece_cells 8 0 origin addr }
+{
+    let mut cells = [Cell::UNWRITTEN; 8];
+    let mut rest = addr;
+    for index in 0..8u8 {
+        cells[index as usize] = Cell::piece((rest % 256) as u8, origin, index);
+        rest /= 256;
+    }
+    cells
 }
 
 /// The number modulo 2^64.

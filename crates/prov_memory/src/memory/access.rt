@@ -10,7 +10,8 @@ ghost use Rattle.prov_memory.specs.Script.{run, Done, Raised};
 ghost use Rattle.prov_memory.specs.Streams.{Io};
 ghost use Rattle.prov_memory.specs.Held.{held_of};
 ghost use Rattle.prov_memory.specs.Memory.{Kept, store_of, life_in};
-ghost use Rattle.prov_memory.specs.Access.{IsReached, IsReachedBy, CanSettle, IsFree, HasCellOf, reached, access_in, settle_items, settled_if, chosen_of, checked_offset};
+ghost use Rattle.prov_memory.specs.Made.{CanSettle, after_settling, settling_items};
+ghost use Rattle.prov_memory.specs.Access.{IsReached, IsReachedBy, CanSettleOf, reached, access_in, chosen_of, checked_offset};
 
 use super::*;
 use addr_map::Row;
@@ -54,9 +55,9 @@ impl Memory {
         prov: Prov,
         len: u64,
     ) -> Result<(ObjName, Option<(Event, ObjName)>), Clause>
-        ensures found { IfOk result (λ p. (io : Io) → run self.now.rows (acts.object_of self.now.rows len addr prov) (store_of self.now io) ≡ Done p.0 (settle_items p.1) (settled_if p.1 (store_of self.now io))) }
+        ensures found { IfOk result (λ p. (io : Io) → run self.now.rows (acts.object_of self.now.rows len addr prov) (store_of self.now io) ≡ Done p.0 (settling_items p.1) (after_settling p.1 (store_of self.now io))) }
         ensures raises { IfErr result (λ c. (io : Io) → run self.now.rows (acts.object_of self.now.rows len addr prov) (store_of self.now io) ≡ Raised c) }
-        ensures settles { IfOk result (λ p. CanSettle self.now prov p.1) }
+        ensures settles { IfOk result (λ p. CanSettleOf self.now prov p.1) }
     {
         match prov {
             Prov::Empty => Err(Clause::InvalidPointer),
@@ -99,9 +100,9 @@ impl Memory {
     ) -> Result<Accessed, Clause>
         ensures same { self.new ≡ self.old }
         ensures found { IfOk result (λ found. IsReached self.old.objects found len) }
-        ensures settles { IfOk result (λ found. CanSettle self.old prov found.settles) }
-        ensures items { IfOk result (λ found. t.old ≡ [] → t.new ≡ settle_items found.settles ++ Alive found.name ∷ []) }
-        ensures exact { IfOk result (λ found. (io : Io) → run self.old.rows (acts.access self.old.rows len align addr prov) (store_of self.old io) ≡ Done (reached self.old.objects found) (settle_items found.settles ++ Alive found.name ∷ []) (settled_if found.settles (store_of self.old io))) }
+        ensures settles { IfOk result (λ found. CanSettleOf self.old prov found.settles) }
+        ensures items { IfOk result (λ found. t.old ≡ [] → t.new ≡ settling_items found.settles ++ Alive found.name ∷ []) }
+        ensures exact { IfOk result (λ found. (io : Io) → run self.old.rows (acts.access self.old.rows len align addr prov) (store_of self.old io) ≡ Done (reached self.old.objects found) (settling_items found.settles ++ Alive found.name ∷ []) (after_settling found.settles (store_of self.old io))) }
         ensures raises { IfErr result (λ c. (io : Io) → run self.old.rows (acts.access self.old.rows len align addr prov) (store_of self.old io) ≡ Raised c) }
     {
         if addr == 0 {
@@ -145,7 +146,7 @@ impl Memory {
     /// Settles what an access settles.
     pub(super) fn settle(&mut self, settles: Option<(Event, ObjName)>)
         ensures rest { record self.new { cells = [] } ≡ record self.old { cells = [] } }
-        ensures store { HasCellOf self.old settles → IsFree self.old settles → (m : Kept) → m.cells ≡ self.old.cells → (io : Io) → store_of (record m { cells = self.new.cells }) io ≡ settled_if settles (store_of m io) }
+        ensures store { CanSettle self.old.cells settles → (m : Kept) → m.cells ≡ self.old.cells → (io : Io) → store_of (record m { cells = self.new.cells }) io ≡ after_settling settles (store_of m io) }
     {
         if let Some((id, keep)) = settles {
             let _ = self.narrowed.narrow(id, keep);
@@ -155,7 +156,7 @@ impl Memory {
 
 /// Notes what an access settles.
 fn note_settles(settles: Option<(Event, ObjName)>, t: &mut Touched)
-    ensures { t.old ≡ [] → t.new ≡ settle_items settles }
+    ensures { t.old ≡ [] → t.new ≡ settling_items settles }
 {
     if let Some((id, keep)) = settles {
         t.note(Item::Narrow { id, keep });

@@ -1,61 +1,65 @@
 // Loads.
-ghost use Rattle.std.specs.Prelude.{◌≡◌, ℕ, ◌+◌, ◌≤◌, ◌^◌, ◌&&◌, ◌==◌, Some, Err, length, map, slice_get, option_map, IfOk, IfErr, OnErr};
+ghost use Rattle.std.specs.Prelude.{◌≡◌, ℕ, ◌+◌, ◌<◌, ◌≤◌, ◌^◌, ◌&&◌, ◌==◌, ◌++◌, ◌∷◌, [], Some, Ok, Err, length, map, slice_get, option_map, IfOk, IfErr, OnOk, OnErr};
+ghost use Rattle.ub_base.specs.Names.{same_event, same_object};
+ghost use Rattle.ub_base.specs.declared.names.Item.TheVariants.{Alive, Expose, Read};
 ghost use Rattle.c_types.specs.Types.{type_of};
 ghost use Rattle.c_types.specs.Shapes.{form_of};
 ghost use Rattle.prov_memory.specs.Agreement as agreement;
 ghost use Rattle.prov_memory.specs.Agreement.{suits_form};
 ghost use Rattle.prov_memory.specs.Acts as acts;
-ghost use Rattle.prov_memory.specs.Acts.{tag_agrees, tags_agree};
-ghost use Rattle.prov_memory.specs.Script.{run, Raised};
+ghost use Rattle.prov_memory.specs.Acts.{candidates, origins_in, tag_agrees, tags_agree};
+ghost use Rattle.prov_memory.specs.Script.{run, Done, Raised};
+ghost use Rattle.prov_memory.specs.Store.{is_live};
 ghost use Rattle.prov_memory.specs.Streams.{Io};
-ghost use Rattle.prov_memory.specs.Cells.{tag_in};
-ghost use Rattle.prov_memory.specs.Held.{Held};
-ghost use Rattle.prov_memory.specs.Memory.{Kept, store_of};
+ghost use Rattle.prov_memory.specs.Cells.{byte_in, cell_at, tag_in};
+ghost use Rattle.prov_memory.specs.Held.{Held, held_of};
+ghost use Rattle.prov_memory.specs.Memory.{Kept, HasCell, AreKnown, life_in, store_of, uncovered_each};
+ghost use Rattle.prov_memory.specs.Made.{HasMore};
 ghost use Rattle.prov_memory.specs.Access.{IsReached, bytes_in};
 ghost use Rattle.prov_memory.specs.Loads as loads;
-ghost use Rattle.prov_memory.specs.Loads.{number_if, number_read};
+ghost use Rattle.prov_memory.specs.Loads.{IfPointer, IfRaise, IsLoaded, is_dead_in, number_if, number_read, origins_of, pointer_items};
 
 use super::access::Accessed;
 use super::*;
-use crate::cell::{State, number_of, pointer_in, value_of};
+use crate::cell::{State, value_of};
 use crate::types::Spanned;
 use crate::{Block, MemFault, Value};
 use c_types::IntKind;
 use ub_base::Clause;
 
 impl Memory {
-    // The bytes of a range, where all are written.
-    fn written(
-        &self,
-        at: usize,
-        from: u64,
-        len: u64,
-    ) -> Result<(u64, Option<Origin>, bool), Clause> {
-        let Some(object) = self.objects.get(at) else {
-            return Err(Clause::Indeterminate);
-        };
-        let Some(cells) = object.reached(from, len) else {
-            return Err(Clause::Indeterminate);
-        };
-        let Some(number) = number_of(cells) else {
-            return Err(Clause::Indeterminate);
-        };
-        let has_pieces = cells.iter().any(|cell| cell.state == State::Piece);
-        Ok((number, pointer_in(cells), has_pieces))
+    // Exposes what the pieces of pointers in the range were made from.
+    fn show_pieces(&mut self, at: usize, from: u64, len: u64, t: &mut Touched)
+        requires short { len ≤ 8 }
+        requires range { from + len ≤ 2 ^ 47 }
+        ensures shown { (h : Held) → slice_get self.old.objects at ≡ Some h → self.new ≡ record self.old { objects = uncovered_each (origins_of (bytes_in self.old h from len)) self.old.objects } }
+        ensures items { (h : Held) → slice_get self.old.objects at ≡ Some h → length t.old + 16 < 32 → t.new ≡ t.old ++ map Expose (origins_of (bytes_in self.old h from len)) }
+    {
+        for offset in 0..len {
+            let cell = self.cell_in(at, from + offset);
+            let prov = self.piece_of(cell);
+            self.show_each(prov, t);
+        }
     }
 
-    // Exposes what the pieces of pointers in the range were made from.
-    fn show_pieces(&mut self, at: usize, from: u64, len: u64, t: &mut Touched) {
-        for offset in 0..len {
-            let place = from.saturating_add(offset) as usize;
-            let origin = match self.objects.get(at) {
-                None => None,
-                Some(object) => origin_at(object.cells.as_slice(), place),
-            };
-            if let Some(origin) = origin {
-                let prov = self.prov(origin);
-                self.show_each(prov, t);
-            }
+    // The byte at a place of an object.
+    fn cell_in(&self, at: usize, place: u64) -> Cell
+        ensures { (h : Held) → slice_get self.now.objects at ≡ Some h → result ≡ cell_at h.cells place }
+    {
+        match self.objects.get(at) {
+            None => Cell::UNWRITTEN,
+            Some(object) => object.cell(place),
+        }
+    }
+
+    // What a byte is a piece of, the empty provenance for another.
+    fn piece_of(&self, cell: Cell) -> Prov
+        ensures { candidates result ≡ origins_in (byte_in self.now.origins cell) }
+    {
+        match cell.state {
+            State::Unwritten => Prov::Empty,
+            State::Plain => Prov::Empty,
+            State::Piece => self.prov(cell.origin),
         }
     }
 
@@ -67,6 +71,7 @@ impl Memory {
         prov: Prov,
         t: &mut Touched,
     ) -> Result<i128, Clause>
+        ensures exact { IfOk result (λ value. HasCell self.old prov → (io : Io) → run self.old.rows (acts.load_int self.old.rows kind addr prov) (store_of self.old io) ≡ Done value t.new (store_of self.new io)) }
         ensures raises { IfErr result (λ c. (io : Io) → run self.old.rows (acts.load_int self.old.rows kind addr prov) (store_of self.old io) ≡ Raised c) }
         ensures same { OnErr result (self.new ≡ self.old) }
     {
@@ -86,22 +91,13 @@ impl Memory {
         prov: Prov,
         t: &mut Touched,
     ) -> Result<u64, Clause>
+        ensures exact { IfOk result (λ target. HasCell self.old prov → (io : Io) → run self.old.rows (acts.load_func self.old.rows (type_of ty.now) addr prov) (store_of self.old io) ≡ Done target t.new (store_of self.new io)) }
         ensures raises { IfErr result (λ c. (io : Io) → run self.old.rows (acts.load_func self.old.rows (type_of ty.now) addr prov) (store_of self.old io) ≡ Raised c) }
         ensures same { OnErr result (self.new ≡ self.old) }
     {
         t.clear();
         let found = self.access(8, 8, addr, prov, t)?;
         self.load_number(found, ty, 8, t, false)
-    }
-
-    // Whether the type of a load suits the bytes where it falls.
-    fn check_suits(&self, found: Accessed, ty: &Ty, len: u64) -> Result<(), Clause>
-        requires { IsReached self.now.objects found len }
-    {
-        match self.objects.get(found.object) {
-            Some(object) if self.suits_load(object, ty, found.from, len) => Ok(()),
-            _ => Err(Clause::EffectiveType),
-        }
     }
 
     // Whether the type of a load suits the bytes that it meets.
@@ -155,27 +151,17 @@ impl Memory {
     ) -> Result<u64, Clause>
         requires short { len ≤ 8 }
         requires reached { IsReached self.old.objects found len }
+        ensures number { IfOk result (λ number. (h : Held) → slice_get self.old.objects found.object ≡ Some h → Ok number ≡ number_read (type_of ty.now) is_bool (option_map form_of h.declared) found.from (bytes_in self.old h found.from len)) }
+        ensures loaded { OnOk result ((h : Held) → slice_get self.old.objects found.object ≡ Some h → IsLoaded self.old self.new (origins_of (bytes_in self.old h found.from len)) found.settles) }
+        ensures items { OnOk result ((h : Held) → slice_get self.old.objects found.object ≡ Some h → length t.old + 17 < 32 → t.new ≡ (t.old ++ Read found.name found.from len ∷ []) ++ map Expose (origins_of (bytes_in self.old h found.from len))) }
         ensures raises { IfErr result (λ c. (h : Held) → slice_get self.old.objects found.object ≡ Some h → Err c ≡ number_read (type_of ty.now) is_bool (option_map form_of h.declared) found.from (bytes_in self.old h found.from len)) }
         ensures same { OnErr result (self.new ≡ self.old) }
     {
         let number = self.read_number(found, ty, len, is_bool)?;
-        self.note_read(found, len, t);
-        if self.has_pieces(found, len) {
-            self.show_pieces(found.object, found.from, len, t);
-        }
+        note_read(found, len, t);
+        self.show_pieces(found.object, found.from, len, t);
         self.settle(found.settles);
         Ok(number)
-    }
-
-    // Whether a byte of the range is a piece of a pointer.
-    fn has_pieces(&self, found: Accessed, len: u64) -> bool {
-        let Some(object) = self.objects.get(found.object) else {
-            return false;
-        };
-        match object.reached(found.from, len) {
-            None => false,
-            Some(cells) => cells.iter().any(|cell| cell.state == State::Piece),
-        }
     }
 
     // The number of a range where a load of the type falls.
@@ -194,16 +180,6 @@ impl Memory {
         }
     }
 
-    pub(super) fn note_read(&self, found: Accessed, len: u64, t: &mut Touched) {
-        if let Some(object) = self.objects.get(found.object) {
-            t.note(Item::Read {
-                object: object.name,
-                from: found.from,
-                len,
-            });
-        }
-    }
-
     /// Loads a pointer to an object: the value of its eight pieces, or else what an integer cast of its bytes gives.
     pub fn load_ptr(
         &mut self,
@@ -213,46 +189,125 @@ impl Memory {
         addr: u64,
         prov: Prov,
         t: &mut Touched,
-    ) -> Result<Value, MemFault> {
+    ) -> Result<Value, MemFault>
+        ensures exact { IfOk result (λ value. IfPointer value (λ a p. HasCell self.old prov → AreKnown self.old → (io : Io) → run self.old.rows (acts.load_ptr self.old.rows (type_of ty.now) who align addr prov) (store_of self.old io) ≡ Done (a, p) t.new (store_of self.new io))) }
+        ensures raises { IfErr result (λ fault. IfRaise fault (λ c. (io : Io) → run self.old.rows (acts.load_ptr self.old.rows (type_of ty.now) who align addr prov) (store_of self.old io) ≡ Raised c)) }
+        ensures same { IfErr result (λ fault. IfRaise fault (λ c. self.new ≡ self.old)) }
+    {
         t.clear();
         let found = self.access(8, align, addr, prov, t)?;
-        self.check_suits(found, ty, 8)?;
-        let (number, pointer, _) = self.written(found.object, found.from, 8)?;
-        self.note_read(found, 8, t);
-        let prov = match pointer {
-            Some(origin) => {
-                let prov = self.prov(origin);
-                if self.is_dead(prov, t) {
-                    return Err(MemFault::Raise(Clause::DeadObject));
-                }
-                prov
-            }
-            None => self.look_up(who, number, t)?,
-        };
+        let number = self.read_number(found, ty, 8, false)?;
+        note_read(found, 8, t);
+        let pointer = self.pointer_of(found);
+        let target = self.resolved(pointer, who, number, t)?;
         self.settle(found.settles);
-        Ok(Value::Ptr { addr: number, prov })
+        Ok(Value::Ptr {
+            addr: number,
+            prov: target,
+        })
     }
 
-    fn is_live(&self, name: ObjName) -> bool {
-        match self.object(name) {
+    // What the eight bytes where a load falls were made from, where they are the pieces of one pointer value, from 0 on.
+    fn pointer_of(&self, found: Accessed) -> Option<Prov>
+        requires { IsReached self.now.objects found 8 }
+        ensures { (h : Held) → slice_get self.now.objects found.object ≡ Some h → result ≡ acts.pointer_in (bytes_in self.now h found.from 8) }
+    {
+        match self.objects.get(found.object) {
+            None => None,
+            Some(object) => self.pointer_in(object, found.from),
+        }
+    }
+
+    fn pointer_in(&self, object: &Object, from: u64) -> Option<Prov>
+        requires { from + 8 ≤ 2 ^ 47 }
+        ensures { result ≡ acts.pointer_in (bytes_in self.now object.now from 8) }
+    {
+        match self.origin_in(object.cell(from)) {
+            None => None,
+            Some(prov) => self.are_pieces(object, prov, from, 8).then_some(prov),
+        }
+    }
+
+    // Whether the bytes are the first pieces of one pointer value with the provenance.
+    fn are_pieces(&self, object: &Object, prov: Prov, from: u64, len: u64) -> bool
+        requires { from + len ≤ 2 ^ 47 }
+        ensures { result ≡ acts.are_pieces prov 0 (bytes_in self.now object.now from len) }
+    {
+        for index in 0..len {
+            if !self.is_piece(object.cell(from + index), prov, index) {
+                return false;
+            }
+        }
+        true
+    }
+
+    // Whether the byte is this piece of a pointer with the provenance.
+    fn is_piece(&self, cell: Cell, prov: Prov, index: u64) -> bool
+        ensures { result ≡ acts.is_piece prov index (byte_in self.now.origins cell) }
+    {
+        match cell.state {
+            State::Unwritten => false,
+            State::Plain => false,
+            State::Piece => {
+                is_same(self.prov(cell.origin), prov) && u64::from(cell.piece_index) == index
+            }
+        }
+    }
+
+    // What a byte that is a piece of a pointer was made from.
+    fn origin_in(&self, cell: Cell) -> Option<Prov>
+        ensures { result ≡ acts.origin_in (byte_in self.now.origins cell) }
+    {
+        match cell.state {
+            State::Unwritten => None,
+            State::Plain => None,
+            State::Piece => Some(self.prov(cell.origin)),
+        }
+    }
+
+    // The provenance of a pointer that is loaded, by that of its pieces, if any: it isn't loaded where its candidates are dead,
+    // and a number is looked up.
+    fn resolved(
+        &mut self,
+        pointer: Option<Prov>,
+        who: Event,
+        number: u64,
+        t: &mut Touched,
+    ) -> Result<Prov, MemFault>
+        ensures exact { IfOk result (λ prov. (io : Io) → run self.old.rows (acts.pointer_or_number who pointer number) (store_of self.old io) ≡ Done (number, prov) (pointer_items pointer number) (store_of self.old io)) }
+        ensures raises { IfErr result (λ fault. IfRaise fault (λ c. (io : Io) → run self.old.rows (acts.pointer_or_number who pointer number) (store_of self.old io) ≡ Raised c)) }
+        ensures same { IfErr result (λ fault. IfRaise fault (λ c. self.new ≡ self.old)) }
+        ensures items { OnOk result (length t.old + 1 < 32 → t.new ≡ t.old ++ pointer_items pointer number) }
+        ensures more { HasMore self.old self.new }
+    {
+        let Some(prov) = pointer else {
+            let prov = self.look_up(who, number, t)?;
+            return Ok(prov);
+        };
+        note_alive(prov, t);
+        if self.is_dead(prov) {
+            return Err(MemFault::Raise(Clause::DeadObject));
+        }
+        Ok(prov)
+    }
+
+    fn is_live(&self, name: ObjName) -> bool
+        ensures { result ≡ is_live (life_in (held_of self.now.objects name)) }
+    {
+        match self.seek(name) {
             None => false,
-            Some(state) => state.live,
+            Some(object) => object.state.live,
         }
     }
 
     // Whether there are candidates and all of them are dead.
-    fn is_dead(&self, prov: Prov, t: &mut Touched) -> bool {
+    fn is_dead(&self, prov: Prov) -> bool
+        ensures { (io : Io) → result ≡ is_dead_in (store_of self.now io) prov }
+    {
         match prov {
             Prov::Empty => false,
-            Prov::Whole(name) => {
-                t.note(Item::Alive(name));
-                !self.is_live(name)
-            }
-            Prov::Either { past, start, .. } => {
-                t.note(Item::Alive(past));
-                t.note(Item::Alive(start));
-                !self.is_live(past) && !self.is_live(start)
-            }
+            Prov::Whole(name) => !self.is_live(name),
+            Prov::Either { past, start, .. } => !self.is_live(past) && !self.is_live(start),
         }
     }
 
@@ -268,7 +323,7 @@ impl Memory {
         t.clear();
         let found = self.access(size, align, addr, prov, t)?;
         let cells = self.cells_of(found.object, found.from, size)?;
-        self.note_read(found, size, t);
+        note_read(found, size, t);
         self.settle(found.settles);
         Ok(Block::of_cells(cells, Some(addr)))
     }
@@ -290,10 +345,7 @@ impl Memory {
     fn tagged_cell(&mut self, at: usize, place: u64) -> Result<Cell, NoMemory>
         ensures { self.new.objects ≡ self.old.objects }
     {
-        let cell = match self.objects.get(at) {
-            None => Cell::UNWRITTEN,
-            Some(object) => object.cell(place),
-        };
+        let cell = self.cell_in(at, place);
         match self.declared_tag(at, place)? {
             DeclaredTag::Kept => Ok(cell),
             DeclaredTag::None => Ok(cell.tagged(TypeId::NONE, 0)),
@@ -324,6 +376,70 @@ impl Memory {
                 }
             }
         }
+    }
+}
+
+/// Notes that a range was read.
+pub(super) fn note_read(found: Accessed, len: u64, t: &mut Touched)
+    ensures { length t.old < 32 → t.new ≡ t.old ++ Read found.name found.from len ∷ [] }
+{
+    t.note(Item::Read {
+        object: found.name,
+        from: found.from,
+        len,
+    });
+}
+
+/// Notes that the lives of the candidates were asked for.
+fn note_alive(prov: Prov, t: &mut Touched)
+    ensures { length t.old + 1 < 32 → t.new ≡ t.old ++ map Alive (candidates prov) }
+{
+    match prov {
+        Prov::Empty => {}
+        Prov::Whole(name) => t.note(Item::Alive(name)),
+        Prov::Either { past, start, .. } => {
+            t.note(Item::Alive(past));
+            t.note(Item::Alive(start));
+        }
+    }
+}
+
+fn is_same_event(id: Event, other: Event) -> bool
+    ensures { result ≡ same_event id other }
+{
+    id == other
+}
+
+fn are_same(past: ObjName, other_past: ObjName, start: ObjName, other_start: ObjName) -> bool
+    ensures { result ≡ (same_object past other_past && same_object start other_start) }
+{
+    past == other_past && start == other_start
+}
+
+/// Whether the two have the same candidates under the same name.
+fn is_same(a: Prov, b: Prov) -> bool
+    ensures { result ≡ acts.same_prov a b }
+{
+    match a {
+        Prov::Empty => match b {
+            Prov::Empty => true,
+            Prov::Whole(_) => false,
+            Prov::Either { .. } => false,
+        },
+        Prov::Whole(name) => match b {
+            Prov::Empty => false,
+            Prov::Whole(other) => name == other,
+            Prov::Either { .. } => false,
+        },
+        Prov::Either { id, past, start } => match b {
+            Prov::Empty => false,
+            Prov::Whole(_) => false,
+            Prov::Either {
+                id: other,
+                past: other_past,
+                start: other_start,
+            } => is_same_event(id, other) && are_same(past, other_past, start, other_start),
+        },
     }
 }
 
@@ -393,14 +509,4 @@ enum DeclaredTag {
     Known(TypeId, u8),
     /// A type that the memory wasn't told of yet.
     New(Ty, u8),
-}
-
-// The provenance of the piece at a place.
-fn origin_at(cells: &[Cell], place: usize) -> Option<Origin> {
-    let cell = cells.get(place)?;
-    if cell.state == State::Piece {
-        Some(cell.origin)
-    } else {
-        None
-    }
 }

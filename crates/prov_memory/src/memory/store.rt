@@ -4,7 +4,7 @@ ghost use Rattle.std.specs.Option.{option_copied};
 ghost use Rattle.ub_base.specs.declared.names.Item.TheVariants.{Write};
 ghost use Rattle.c_types.specs.Types.{CType};
 ghost use Rattle.c_types.specs.Shapes.{form_of};
-ghost use Rattle.prov_memory.specs.Agreement.{suits_form};
+ghost use Rattle.prov_memory.specs.Agreement.{bytes_of_kind, suits_form};
 ghost use Rattle.prov_memory.specs.Acts as acts;
 ghost use Rattle.prov_memory.specs.Acts.{Seen};
 ghost use Rattle.prov_memory.specs.Script.{run, Done, Raised};
@@ -12,11 +12,14 @@ ghost use Rattle.prov_memory.specs.Streams.{Io};
 ghost use Rattle.prov_memory.specs.Held.{Held, IsWritten, FallsIn, held_of, changed, holding};
 ghost use Rattle.prov_memory.specs.Memory.{AreKnown, CellsKnown, HasCell, store_of, life_in};
 ghost use Rattle.prov_memory.specs.Access.{IsReached};
+ghost use Rattle.prov_memory.specs.Made.{AreNamed, IsMade};
+ghost use Rattle.prov_memory.specs.Pieces.{low_bits, number_bytes, pointer_bytes};
 ghost use Rattle.prov_memory.specs.Stores.{Sees, IsShort, IsTypeOf, tagged_all, checked_store, writable};
 
 use super::access::Accessed;
+use super::load::note_read;
 use super::*;
-use crate::cell::{byte_at, low_bits};
+use crate::cell::{low_bits, number_cells, pointer_cells};
 use crate::{Block, MemFault, Via};
 use c_types::IntKind;
 use ub_base::Clause;
@@ -53,14 +56,13 @@ impl Memory {
         prov: Prov,
         t: &mut Touched,
     ) -> Result<(), Clause>
+        ensures exact { OnOk result (HasCell self.old prov → (seen : Seen) → Sees self.old via seen → (io : Io) → run self.old.rows (acts.store self.old.rows first seen align addr prov (number_bytes (bytes_of_kind kind) (low_bits value))) (store_of self.old io) ≡ Done tt t.new (store_of self.new io)) }
+        ensures raises { IfErr result (λ c. (seen : Seen) → Sees self.old via seen → (io : Io) → run self.old.rows (acts.store self.old.rows first seen align addr prov (number_bytes (bytes_of_kind kind) (low_bits value))) (store_of self.old io) ≡ Raised c) }
         ensures same { OnErr result (self.new ≡ self.old) }
+        ensures known { AreKnown self.old → AreKnown self.new }
     {
-        let number = low_bits(value);
-        let mut cells = [Cell::UNWRITTEN; 8];
-        for index in 0..8u8 {
-            cells[index as usize] = Cell::plain(byte_at(number, index));
-        }
-        let len = (kind.bytes() as usize).min(8);
+        let cells = number_cells(low_bits(value));
+        let len = kind.bytes() as usize;
         self.store_cells(first, via, align, addr, prov, &cells[..len], t)
     }
 
@@ -76,13 +78,11 @@ impl Memory {
         value_prov: Prov,
         t: &mut Touched,
     ) -> Result<(), Clause>
+        ensures exact { AreNamed self.old → IsMade self.old value_prov → OnOk result (HasCell self.old prov → (seen : Seen) → Sees self.old via seen → (io : Io) → run self.old.rows (acts.store self.old.rows first seen align addr prov (pointer_bytes 8 0 value_prov value_addr)) (store_of self.old io) ≡ Done tt t.new (store_of self.new io)) }
+        ensures raises { AreNamed self.old → IsMade self.old value_prov → IfErr result (λ c. (seen : Seen) → Sees self.old via seen → (io : Io) → run self.old.rows (acts.store self.old.rows first seen align addr prov (pointer_bytes 8 0 value_prov value_addr)) (store_of self.old io) ≡ Raised c) }
         ensures same { OnErr result (self.new ≡ self.old) }
     {
-        let origin = self.origin_of(value_prov);
-        let mut cells = [Cell::UNWRITTEN; 8];
-        for index in 0..8u8 {
-            cells[index as usize] = Cell::piece(byte_at(value_addr, index), origin, index);
-        }
+        let cells = pointer_cells(value_addr, self.origin_of(value_prov));
         self.store_cells(first, via, align, addr, prov, &cells, t)
     }
 
@@ -189,7 +189,7 @@ impl Memory {
         {
             self.check_target(target)?;
             let cells = self.cells_of(source.object, source.from, len)?;
-            self.note_read(source, len, t);
+            note_read(source, len, t);
             self.write(target, Via::Whole, cells.as_slice(), t);
         }
         self.settle_argument(target);

@@ -1,4 +1,4 @@
-use Rattle.std.proofs.Common.{◌≡◌, ◌∙◌, sym, ap, subst, arith, List, Some, None}
+use Rattle.std.proofs.Common.{◌≡◌, ◌∙◌, sym, subst, arith, List, None}
 use Rattle.ub_base.specs.Names.{same_object}
 use Rattle.ub_base.proofs.NameLemmas.{same_object_refl}
 use Rattle.addr_map.specs.declared.map.Row.{Row}

@@ -1,4 +1,4 @@
-use Rattle.std.proofs.Common.{◌≡◌, ◌∙◌, sym, ap, subst, arith, List, Some, None}
+use Rattle.std.proofs.Common.{◌≡◌, sym, subst, List, Some}
 use Rattle.addr_map.specs.Rows.{row_of, row_at}
 use Rattle.prov_memory.specs.Held.{Held}
 use Rattle.prov_memory.specs.Memory.{Kept, HaveRows}

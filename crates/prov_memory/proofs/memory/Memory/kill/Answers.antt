@@ -1,8 +1,8 @@
 use Rattle.std.proofs.Common.{refl, sym, subst, List, length}
 use Rattle.prov_memory.specs.Held.{Held, killed}
-use Rattle.prov_memory.specs.Made.{EachNamed, AreNamed}
+use Rattle.prov_memory.specs.Made.{AreNamed}
 use Rattle.prov_memory.proofs.PieceLemmas.{named_changed}
-use Rattle.prov_memory.specs.Memory.{HaveRows, ObjectsKnown, AreKnown, Kept}
+use Rattle.prov_memory.specs.Memory.{HaveRows, AreKnown, Kept}
 use Rattle.prov_memory.specs.contracts.memory.Memory.{the_view}
 use Rattle.prov_memory.proofs.StoreLemmas.{rows_killed}
 use Rattle.prov_memory.proofs.ActLemmas.{first_noted, killed_act, known_killed}

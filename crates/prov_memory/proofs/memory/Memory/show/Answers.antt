@@ -1,5 +1,5 @@
-use Rattle.std.proofs.Common.{◌≡◌, ◌∙◌, refl, sym, ap, ap₂, subst, List}
-use Rattle.prov_memory.specs.Held.{Held, changed, uncovered}
+use Rattle.std.proofs.Common.{sym, subst, List}
+use Rattle.prov_memory.specs.Held.{Held}
 use Rattle.prov_memory.specs.Memory.{HaveRows}
 use Rattle.prov_memory.proofs.StoreLemmas.{rows_uncovered}
 use Rattle.prov_memory.proofs.memory.Memory.show.Goals as goal

@@ -5,7 +5,7 @@ use Rattle.ub_base.specs.declared.names.Item.TheVariants.{Alive}
 use Rattle.prov_memory.specs.Acts.{Seen}
 use Rattle.prov_memory.specs.Held.{held_of}
 use Rattle.prov_memory.specs.Memory.{Kept, life_in}
-use Rattle.prov_memory.specs.Access.{settle_items}
+use Rattle.prov_memory.specs.Made.{settling_items}
 use Rattle.prov_memory.specs.Stores.{Sees, checked_store}
 use Rattle.prov_memory.proofs.ActLemmas.{noted_after}
 use Rattle.prov_memory.proofs.WriteLemmas.{access_fails, store_raises, store_done, store_known, stored_by, few}
@@ -32,8 +32,8 @@ returns-clause-exact c = λ has short seen sees.
     let w = c.write.ensures.written r.object (ap (λ (k : Kept). slice_get k.objects f.object) c.access.ensures.same ∙ r.there) in
     let checked : Ok tt ≡ checked_store c.args.first seen (life_in (held_of m.objects f.name)) f.from =
     subst (λ (k : Kept). (seen : Seen) → Sees k c.args.via seen → Ok tt ≡ checked_store c.args.first seen (life_in (held_of k.objects f.name)) f.from) c.access.ensures.same c.in_ok-check_store.ensures seen sees in
-    let first : c.access.new.t ≡ settle_items f.settles ++ Alive f.name ∷ [] = c.in_ok-found.ensures.items c.clear.ensures in
-    let noted = noted_after c.access.new.t c.write.new.t (settle_items f.settles ++ Alive f.name ∷ []) _ first (few f.settles f.name) c.write.ensures.items in
+    let first : c.access.new.t ≡ settling_items f.settles ++ Alive f.name ∷ [] = c.in_ok-found.ensures.items c.clear.ensures in
+    let noted = noted_after c.access.new.t c.write.new.t (settling_items f.settles ++ Alive f.name ∷ []) _ first (few f.settles f.name) c.write.ensures.items in
     store_done m c.settle.new.self f w.0 c.args.first c.args.via seen c.args.align c.args.addr c.args.prov c.args.cells.now c.write.new.t c.in_ok-found.ensures.exact r c.in_ok-found.ensures.settles checked (stored_by m c.access.new.self c.write.new.self c.settle.new.self f w.0 r.object.name c.access.ensures.same w.1 r.name c.settle.ensures.rest c.settle.ensures.store) w.2 noted has short sees
 
 pub returns-clause-known : goal.returns-clause-known

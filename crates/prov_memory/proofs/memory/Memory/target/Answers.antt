@@ -7,7 +7,7 @@ use Rattle.ub_base.specs.declared.names.ObjName.{ObjName}
 use Rattle.prov_memory.specs.Acts.{in_row, object_of}
 use Rattle.prov_memory.specs.Script.{Script, Give, Settle, run, touch, ◌>>◌}
 use Rattle.prov_memory.specs.Memory.{store_of}
-use Rattle.prov_memory.specs.Access.{CanSettle}
+use Rattle.prov_memory.specs.Access.{CanSettleOf}
 use Rattle.prov_memory.proofs.AccessLemmas.{found_settled, refused_settled, can_settled, past_holds, start_holds}
 use Rattle.prov_memory.proofs.memory.Memory.target.Goals as goal
 
@@ -27,7 +27,7 @@ returns-then-has_range-clause-found c =
 
 pub returns-then-has_range-clause-settles : goal.returns-then-has_range-clause-settles
 returns-then-has_range-clause-settles c =
-    subst (λ (p : Prov). IfOk c.chosen.result (λ q. CanSettle c.args.self.now p q.1)) (sym c.in-Either.is) (can_settled c.args.self.now c.in-Either.id c.in-Either.past c.in-Either.start c.in-Either.past c.chosen.result c.chosen.ensures)
+    subst (λ (p : Prov). IfOk c.chosen.result (λ q. CanSettleOf c.args.self.now p q.1)) (sym c.in-Either.is) (can_settled c.args.self.now c.in-Either.id c.in-Either.past c.in-Either.start c.in-Either.past c.chosen.result c.chosen.ensures)
 
 pub returns-then-has_range-2-clause-found : goal.returns-then-has_range-2-clause-found
 returns-then-has_range-2-clause-found c =
@@ -47,4 +47,4 @@ returns-then-has_range-2-clause-raises c =
 
 pub returns-then-has_range-2-clause-settles : goal.returns-then-has_range-2-clause-settles
 returns-then-has_range-2-clause-settles c =
-    subst (λ (p : Prov). IfOk c.chosen-then-has_range-2.result (λ q. CanSettle c.args.self.now p q.1)) (sym c.in-Either.is) (can_settled c.args.self.now c.in-Either.id c.in-Either.past c.in-Either.start c.in-Either.start c.chosen-then-has_range-2.result c.chosen-then-has_range-2.ensures)
+    subst (λ (p : Prov). IfOk c.chosen-then-has_range-2.result (λ q. CanSettleOf c.args.self.now p q.1)) (sym c.in-Either.is) (can_settled c.args.self.now c.in-Either.id c.in-Either.past c.in-Either.start c.in-Either.start c.chosen-then-has_range-2.result c.chosen-then-has_range-2.ensures)

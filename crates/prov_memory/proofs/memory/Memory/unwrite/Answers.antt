@@ -1,11 +1,10 @@
 use Rattle.std.proofs.Common.{refl, sym, subst, List, [], length}
 use Rattle.std.proofs.Common.{◌≡◌, ◌∷◌, ◌∙◌, ap, arith}
-use Rattle.ub_base.specs.declared.names.Item.{Item}
 use Rattle.ub_base.specs.declared.names.Item.TheVariants.{Alive, Write}
 use Rattle.prov_memory.specs.Held.{Held, emptied}
-use Rattle.prov_memory.specs.Made.{EachNamed, AreNamed}
+use Rattle.prov_memory.specs.Made.{AreNamed}
 use Rattle.prov_memory.proofs.PieceLemmas.{named_changed}
-use Rattle.prov_memory.specs.Memory.{HaveRows, ObjectsKnown, AreKnown, Kept}
+use Rattle.prov_memory.specs.Memory.{HaveRows, AreKnown, Kept}
 use Rattle.prov_memory.specs.contracts.memory.Memory.{the_view}
 use Rattle.prov_memory.proofs.StoreLemmas.{rows_emptied}
 use Rattle.prov_memory.proofs.ActLemmas.{first_noted, noted_after, unwritten_act, known_emptied}

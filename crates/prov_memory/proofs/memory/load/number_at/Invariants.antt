@@ -1,4 +1,4 @@
-use Rattle.std.proofs.Common.{ℕ, ◌<◌, map}
+use Rattle.std.proofs.Common.{◌<◌, map}
 use Rattle.c_types.specs.Types.{type_of}
 use Rattle.prov_memory.specs.Cells.{cell_at, tagged_in}
 use Rattle.prov_memory.specs.Memory.{Kept}

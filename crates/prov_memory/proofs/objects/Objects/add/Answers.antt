@@ -1,6 +1,6 @@
-use Rattle.std.proofs.Common.{◌≡◌, ◌∙◌, sym, ap, subst, arith, List, length, ◌++◌, ◌∷◌, [], None}
+use Rattle.std.proofs.Common.{◌≡◌, ◌∙◌, sym, ap, subst, arith, List, ◌++◌, ◌∷◌, [], None}
 use Rattle.prov_memory.specs.contracts.object.Object.{the_view}
-use Rattle.prov_memory.specs.Held.{Held, Fits, IsIndexed, held_of}
+use Rattle.prov_memory.specs.Held.{Held, IsIndexed, held_of}
 use Rattle.prov_memory.proofs.HeldLemmas.{indexed_added, indexed_same}
 use Rattle.prov_memory.proofs.objects.Objects.add.Goals as goal
 

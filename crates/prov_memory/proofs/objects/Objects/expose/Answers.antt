@@ -1,5 +1,5 @@
-use Rattle.std.proofs.Common.{◌≡◌, ◌∙◌, Some, sym, refl, arith, List}
-use Rattle.prov_memory.specs.Held.{Held, uncovered, changed, name_at}
+use Rattle.std.proofs.Common.{◌≡◌, ◌∙◌, Some, sym, refl, arith}
+use Rattle.prov_memory.specs.Held.{uncovered, name_at}
 use Rattle.prov_memory.proofs.HeldLemmas.{there_at, once_at, set_changed, indexed_set, changed_absent, uncovered_fits}
 use Rattle.prov_memory.proofs.objects.Objects.expose.Goals as goal
 

@@ -1,4 +1,4 @@
-use Rattle.std.proofs.Common.{◌≡◌, ◌∙◌, ap, Some, None, sym}
+use Rattle.std.proofs.Common.{◌≡◌, ◌∙◌, Some, None, sym}
 use Rattle.std.specs.BTreeMap.{get}
 use Rattle.ub_base.specs.NameOrders.{object_cmp}
 use Rattle.prov_memory.proofs.HeldLemmas.{found_is, once_at, look_up_is}

@@ -1,8 +1,8 @@
-use Rattle.std.proofs.Common.{◌≡◌, sym, ap, ◌∙◌, subst, refl, arith, List, ◌++◌, ◌∷◌, []}
+use Rattle.std.proofs.Common.{◌≡◌, sym, ap, ◌∙◌, subst, refl, List, ◌++◌, ◌∷◌, []}
 use Rattle.exposure.specs.declared.prov.Prov.{Prov}
 use Rattle.exposure.specs.declared.prov.Prov.TheVariants.{Either}
 use Rattle.prov_memory.specs.Made.{AreNumbered}
-use Rattle.prov_memory.proofs.ProvLemmas.{numbered_ambiguity, numbered_same, has_number_if, extends_none, prov_last}
+use Rattle.prov_memory.proofs.ProvLemmas.{numbered_ambiguity, numbered_same}
 use Rattle.prov_memory.proofs.origins.Origins.add_ambiguity.Goals as goal
 
 pub invariant_of-self-in_err-insert : goal.invariant_of-self-in_err-insert

@@ -1,0 +1,24 @@
+use Rattle.std.proofs.Common.{◌≡◌, ◌<◌, ◌∙◌, ap, true, false, map, arith, rules}
+use Rattle.c_types.specs.Types.{type_of}
+use Rattle.prov_memory.specs.declared.cell.Cell.{Cell}
+use Rattle.prov_memory.specs.Acts.{is_piece, are_pieces}
+use Rattle.prov_memory.specs.Cells.{cell_at, byte_in, tagged_in}
+use Rattle.prov_memory.specs.Access.{bytes_in}
+use Rattle.prov_memory.proofs.PointerLemmas.{pieces_pass, pieces_fail}
+use Rattle.prov_memory.proofs.memory.Memory.are_pieces.Goals as goal
+
+pub returns-then-not-is_piece : goal.returns-then-not-is_piece
+returns-then-not-is_piece c =
+    let m = c.args.self.now in
+    let p = c.args.prov in
+    let lt : c.loop-index.index < c.args.len = omega arith in
+    let off : c.is_piece.result ≡ false = search rules in
+    pieces_fail c.is_piece.result (are_pieces p 0 (bytes_in m c.args.object.now c.args.from c.args.len)) p (λ k. tagged_in m.origins (map type_of m.types) (cell_at c.args.object.now.cells k)) c.args.from c.loop-index.index c.args.len lt c.loop-index.invariant (c.is_piece.ensures ∙ ap (λ (k : Cell). is_piece p c.loop-index.index (byte_in m.origins k)) c.cell.ensures) off
+
+pub loop-index-preserved : goal.loop-index-preserved
+loop-index-preserved c =
+    let m = c.args.self.now in
+    let p = c.args.prov in
+    let lt : c.loop-index.index < c.args.len = omega arith in
+    let on : c.is_piece.result ≡ true = search rules in
+    pieces_pass c.is_piece.result (are_pieces p 0 (bytes_in m c.args.object.now c.args.from c.args.len)) p (λ k. tagged_in m.origins (map type_of m.types) (cell_at c.args.object.now.cells k)) c.args.from c.loop-index.index c.args.len lt c.loop-index.invariant (c.is_piece.ensures ∙ ap (λ (k : Cell). is_piece p c.loop-index.index (byte_in m.origins k)) c.cell.ensures) on

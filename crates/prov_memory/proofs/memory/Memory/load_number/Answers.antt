@@ -1,0 +1,14 @@
+use Rattle.std.proofs.Common.{map}
+use Rattle.ub_base.specs.declared.names.Item.TheVariants.{Expose, Read}
+use Rattle.prov_memory.specs.Access.{bytes_in}
+use Rattle.prov_memory.specs.Loads.{origins_of}
+use Rattle.prov_memory.proofs.ShowLemmas.{loaded_by, load_noted}
+use Rattle.prov_memory.proofs.memory.Memory.load_number.Goals as goal
+
+pub returns-clause-loaded : goal.returns-clause-loaded
+returns-clause-loaded c = λ h e.
+    loaded_by c.args.self.now c.show_pieces.new.self c.settle.new.self (origins_of (bytes_in c.args.self.now h c.args.found.from c.args.len)) c.args.found.settles (c.show_pieces.ensures.shown h e) c.settle.ensures.rest c.settle.ensures.store
+
+pub returns-clause-items : goal.returns-clause-items
+returns-clause-items c = λ h e room.
+    load_noted c.args.t.now c.note_read.new.t c.show_pieces.new.t (Read c.args.found.name c.args.found.from c.args.len) (map Expose (origins_of (bytes_in c.args.self.now h c.args.found.from c.args.len))) room c.note_read.ensures (c.show_pieces.ensures.items h e)

@@ -1,0 +1,23 @@
+use Rattle.std.proofs.lemmas.Result.{err_from_is_err_and}
+use Rattle.c_types.specs.Types.{type_of}
+use Rattle.prov_memory.proofs.PointerLemmas.{pointer_unreached, pointer_unread, pointer_exact, unresolved}
+use Rattle.prov_memory.proofs.memory.Memory.load_ptr.Goals as goal
+
+pub returns-in_err-found-clause-raises : goal.returns-in_err-found-clause-raises
+returns-in_err-found-clause-raises c =
+    let p = err_from_is_err_and c.from_residual.result c.from_residual.ensures.1 in
+    rw (p.1, p.2) (pointer_unreached c.args.self.now (type_of c.args.ty.now) c.args.who c.args.align c.args.addr c.args.prov c.in_err-found.field-0.0 c.in_err-found.ensures.raises)
+
+pub returns-in_err-number-clause-raises : goal.returns-in_err-number-clause-raises
+returns-in_err-number-clause-raises c =
+    let p = err_from_is_err_and c.from_residual-in_err-number.result c.from_residual-in_err-number.ensures.1 in
+    rw (p.1, p.2) (pointer_unread c.args.self.now c.access.new.self c.in_ok-found.found (type_of c.args.ty.now) c.args.who c.args.align c.args.addr c.args.prov c.in_err-number.field-0.0 c.access.ensures.same c.in_ok-found.ensures.exact c.in_ok-found.ensures.found c.in_err-number.ensures)
+
+pub returns-in_err-target-clause-raises : goal.returns-in_err-target-clause-raises
+returns-in_err-target-clause-raises c =
+    let p = err_from_is_err_and c.from_residual-in_err-target.result c.from_residual-in_err-target.ensures.1 in
+    rw (p.1, p.2) (unresolved c.in_err-target.field-0.0 c.args.self.now c.access.new.self c.in_ok-found.found (type_of c.args.ty.now) c.args.who c.args.align c.args.addr c.args.prov c.pointer_of-pointer.result c.in_ok-number.number c.access.ensures.same c.in_ok-found.ensures.exact c.in_ok-found.ensures.found c.in_ok-number.ensures c.pointer_of-pointer.ensures c.in_err-target.ensures.raises)
+
+pub returns-clause-exact : goal.returns-clause-exact
+returns-clause-exact c =
+    pointer_exact c.args.self.now c.access.new.self c.resolved.new.self c.settle.new.self c.in_ok-found.found (type_of c.args.ty.now) c.args.who c.args.align c.args.addr c.args.prov c.in_ok-target.target c.pointer_of-pointer.result c.in_ok-number.number c.access.new.t c.note_read.new.t c.resolved.new.t c.access.ensures.same c.in_ok-found.ensures.exact c.in_ok-found.ensures.found c.in_ok-found.ensures.settles (c.in_ok-found.ensures.items c.clear.ensures) c.in_ok-number.ensures c.note_read.ensures c.pointer_of-pointer.ensures c.in_ok-target.ensures.exact c.in_ok-target.ensures.items c.resolved.ensures.more c.settle.ensures.rest c.settle.ensures.store
