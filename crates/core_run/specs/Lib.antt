@@ -1,3 +1,1 @@
-pub mod Ends
-pub mod Steps
-pub mod Told
+pub mod Depth

@@ -8,11 +8,11 @@ use prov_memory::{CreateFault, ObjKind, Value};
 use seq_order::{Done, Taken};
 use ub_base::{Cause, NoMemory, ObjName};
 
-// How many bytes the created objects may count (own).
+/// How many bytes the created objects may count (own).
 pub const MOST_CREATED: u64 = 1 << 26;
 
 impl<'p, 'c> Machine<'p, 'c> {
-    // The next pick.
+    /// The next pick.
     pub fn pick(&mut self) -> Result<Came, NoMemory> {
         self.items.clear();
         let Some(step) = self.next_step() else {

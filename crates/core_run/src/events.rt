@@ -1,8 +1,9 @@
 // The events of a full expression.
 
-use crate::machine::{Came, Machine, Told};
+use crate::machine::{Came, Machine};
 use crate::steps::{Act, Due, Operand};
-use c_typed::{Change, Place};
+use crate::told::{Completed, Told};
+use c_typed::Change;
 use c_types::Ty;
 use node_acts::{
     Pointer, answer, as_function, binary, changed, convert, distance, equal, fill, load, member,
@@ -70,7 +71,7 @@ impl<'p, 'c> Machine<'p, 'c> {
         match self.act(due.act, event)? {
             Outcome::Value(value) => self.keep(event.node, value),
             Outcome::Stored => {}
-            Outcome::Started => return Ok(starting(event)),
+            Outcome::Started => return Ok(Came::Told(Told::Starts(event))),
             Outcome::Raise(clause) => {
                 return Ok(Came::Raised {
                     event,
@@ -97,22 +98,18 @@ impl<'p, 'c> Machine<'p, 'c> {
         if let Some(choice) = due.choice {
             self.choose(choice)?;
         }
-        let mut told = Told {
-            event: Some(event),
-            starts: false,
-            completed: None,
-            operands: None,
-            status,
-        };
-        if due.completes {
-            told.completed = Some(event.node);
-            if let Some(parent) = due.parent {
-                if self.complete(parent) {
-                    told.operands = Some(parent);
-                }
-            }
+        Ok(Came::Told(Told::Event(event, self.completed(due), status)))
+    }
+
+    // What the event completes.
+    fn completed(&mut self, due: &Due<'p>) -> Completed {
+        if !due.completes {
+            return Completed::Nothing;
         }
-        Ok(Came::Told(told))
+        match due.parent {
+            Some(parent) if self.complete(parent) => Completed::Operands(parent),
+            _ => Completed::Node,
+        }
     }
 
     // An operand of the node is complete. Whether it was the last.
@@ -386,15 +383,4 @@ impl<'p, 'c> Machine<'p, 'c> {
             Err(MemFault::NoMemory) => Err(NoMemory),
         }
     }
-}
-
-// The pick of an event that starts a frame.
-fn starting(event: Event) -> Came {
-    Came::Told(Told {
-        event: Some(event),
-        starts: true,
-        completed: None,
-        operands: None,
-        status: None,
-    })
 }

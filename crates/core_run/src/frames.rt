@@ -1,8 +1,11 @@
 // Frames that start and end, and the bodies of calls.
+ghost use Rattle.std.specs.Prelude.{IfOk};
+ghost use Rattle.core_run.specs.Depth.{StartsWithin};
 
 use crate::events::Outcome;
-use crate::machine::{Came, Machine, Open, Told, control_step};
+use crate::machine::{Came, Machine, Open, control_step};
 use crate::steps::{CallCode, Operand};
+use crate::told::Told;
 use c_typed::{Function, Place};
 use c_types::LibFunc;
 use node_acts::{callee, exit_status, left};
@@ -91,7 +94,9 @@ impl<'p, 'c> Machine<'p, 'c> {
         function: u32,
         call: &CallCode<'p>,
         event: Event,
-    ) -> Result<Outcome, NoMemory> {
+    ) -> Result<Outcome, NoMemory>
+        ensures { IfOk result (λ outcome. StartsWithin outcome self.old.depth self.new.depth) }
+    {
         let reached = self.depth.saturating_add(1);
         if reached > MOST_FRAMES {
             return Ok(Outcome::Over(Cause::Depth, reached));
@@ -186,13 +191,7 @@ impl<'p, 'c> Machine<'p, 'c> {
                 }
                 Ok(control_step())
             }
-            None => Ok(Came::Told(Told {
-                event: None,
-                starts: false,
-                completed: None,
-                operands: None,
-                status: Some(exit_status(&value)),
-            })),
+            None => Ok(Came::Told(Told::Step(Some(exit_status(&value))))),
         }
     }
 }

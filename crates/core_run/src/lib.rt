@@ -1,4 +1,4 @@
-//! A run in canonical order over the whole program, which tells a watch each of its picks.
+//! The machine that takes the picks of a run, and the flat steps of a program that it follows.
 #![tactic(auto)]
 
 mod canonical;
@@ -13,7 +13,13 @@ mod nodes;
 mod objects;
 mod statements;
 mod steps;
+mod told;
 mod watch;
 
-pub use canonical::run;
-pub use watch::{Begun, Go, Ran, RunState, View, Watch};
+pub use canonical::prepare;
+pub use control::MOST_CREATED;
+pub use machine::{Came, Machine};
+pub use statements::code_of;
+pub use steps::Code;
+pub use told::{Completed, Told};
+pub use watch::{Begun, View};

@@ -1,12 +1,15 @@
 // The state of a run.
+ghost use Rattle.std.specs.Prelude.{◌≡◌};
 
 use crate::steps::{Code, Operand, Step};
+use crate::told::Told;
 use crate::watch::Begun;
+use addr_map::AddrMap;
 use c_typed::Program;
 use node_acts::{Filling, Places, Pointer, as_integer, as_pointer, pointer_to, truth};
 use prov_memory::{Memory, Streams, Touched, Value, Via};
 use std::alloc::Global;
-use ub_base::{Cause, Clause, Event, Frame, Items, NoMemory, ObjName};
+use ub_base::{Bytes, Cause, Clause, Event, Frame, Items, NoMemory, ObjName};
 
 // An open frame.
 #[derive(Clone, Copy)]
@@ -35,29 +38,21 @@ pub struct Local {
     pub name: ObjName,
 }
 
-// A pick that is told: whether a frame starts, the node that it completes and the one whose operands it completes, and
-// the status where it ends the run.
-#[derive(Clone, Copy)]
-pub struct Told {
-    pub event: Option<Event>,
-    pub starts: bool,
-    pub completed: Option<u32>,
-    pub operands: Option<u32>,
-    pub status: Option<u8>,
-}
-
-// What a pick came to.
+/// What a pick came to.
 #[derive(Clone, Copy)]
 pub enum Came {
     Told(Told),
+    /// The event raises the clause.
     Raised {
         event: Event,
         line: u32,
         clause: Clause,
     },
+    /// It would pass a limit, with the number that would be reached.
     Over(Cause, u64),
 }
 
+/// The state of a run: its open frames, the values of their full expressions, and memory.
 #[derive(Drop)]
 pub struct Machine<'p, 'c> {
     pub alloc: Global,
@@ -88,16 +83,27 @@ pub struct Machine<'p, 'c> {
 }
 
 pub fn control_step() -> Came {
-    Came::Told(Told {
-        event: None,
-        starts: false,
-        completed: None,
-        operands: None,
-        status: None,
-    })
+    Came::Told(Told::Step(None))
 }
 
 impl<'p, 'c> Machine<'p, 'c> {
+    /// The number of the frame that the last pick started.
+    pub fn start(&mut self, frame: Frame)
+        ensures { self.new ≡ record self.old { top = record self.old.top { frame = frame } } }
+    {
+        self.top.frame = frame;
+    }
+
+    /// The output and the map of a run that has ended.
+    pub fn into_output_and_map(self) -> (Bytes, AddrMap) {
+        let Machine {
+            memory,
+            streams,
+            ..
+        } = self;
+        (streams.into_output(), memory.into_map())
+    }
+
     // The value of a node of the open full expression.
     fn done(&self, node: u32) -> Option<&Value> {
         self.values.get(self.top.base.saturating_add(node as usize))
@@ -212,7 +218,7 @@ impl<'p, 'c> Machine<'p, 'c> {
         self.begun.get_mut(at)
     }
 
-    // The full expressions that have begun and aren't settled.
+    /// The full expressions that have begun and aren't settled.
     pub fn shown(&self) -> &[Begun<'p>] {
         let open = self.open.min(self.begun.len());
         &self.begun[..open]

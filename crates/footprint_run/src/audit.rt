@@ -1,13 +1,13 @@
 // The audit of a run.
 ghost use Rattle.std.specs.Prelude.{◌≡◌, ◌≤◌, length, IfOk};
-ghost use Rattle.core_run.specs.Ends as ends;
+ghost use Rattle.canonical_run.specs.Ends as ends;
 ghost use Rattle.footprint_run.specs.Findings.{picks_of, IsOutOfSteps, ItemsConflict, IsConflict, Tells};
 
 use crate::finding::{Audit, Finding, Race};
 use crate::watcher::{Seen, Watcher};
 use addr_map::Mode;
+use canonical_run::{Ran, RunState, run};
 use core_ir::CoreProgram;
-use core_run::{Ran, RunState, run};
 use std::alloc::Global;
 use ub_base::{Clause, NoMemory};
 

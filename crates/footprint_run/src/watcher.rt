@@ -6,7 +6,7 @@ ghost use Rattle.evaluations.specs.FoundItems.{IsConflict};
 ghost use Rattle.footprint_run.specs.Apart.{IsApart, place_of};
 
 use c_typed::{Place, Typed};
-use core_run::{Go, View, Watch};
+use canonical_run::{Go, View, Watch};
 use evaluations::{Evaluations, Found, Rule, Rules, first_of, last_operand_of, line_of};
 use prov_memory::Touched;
 use seq_order::{Relation, Taken, relation};

@@ -1,7 +1,7 @@
 -- Counts that grow.
 use Rattle.std.proofs.Common.{◌≡◌, ℕ, ◌+◌, refl, ap, arith}
 use Rattle.std.specs.Prelude.{Option, Some, None}
-use Rattle.core_run.specs.Told.{more}
+use Rattle.canonical_run.specs.Told.{more}
 
 pub more_more : (a b : ℕ) (o : Option ℕ) → more b (more a o) ≡ more (a + b) o
 more_more a b None = refl

@@ -1,7 +1,7 @@
 -- How many picks a run took, and how many of them were told.
 use Rattle.std.specs.Prelude.{ℕ, ◌-◌}
-use Rattle.core_run.specs.declared.watch.Ran.{Ran}
-use Rattle.core_run.specs.declared.watch.Ran.TheVariants.{Ended, Raised, Stopped, OutOfSteps, Outside}
+use Rattle.canonical_run.specs.declared.watch.Ran.{Ran}
+use Rattle.canonical_run.specs.declared.watch.Ran.TheVariants.{Ended, Raised, Stopped, OutOfSteps, Outside}
 
 abbrev pub picks_of : Ran → ℕ
 picks_of (Ended status picks) = picks

@@ -1,0 +1,251 @@
+// A run from its start to its end.
+ghost use Rattle.std.specs.Prelude.{◌≡◌, ◌≤◌, ◌<◌, ◌+◌, ◌^◌, ◌++◌, ◌∷◌, ◌⊎◌, [], length, IfOk, OnOk};
+ghost use Rattle.canonical_run.specs.Calls.{GoesOn, FollowsPick, Tells, completions, calls_of, AnswersEnd, StartedBy};
+ghost use Rattle.canonical_run.specs.Ends.{picks_of, told_of, IsOutOfSteps};
+ghost use Rattle.canonical_run.specs.Steps.{told_by, taken_by, EndsAfter, AnswersNext, IsUnstopped, GoesUnstopped, Grows};
+ghost use Rattle.canonical_run.specs.Told.{more};
+
+use crate::watch::{Go, Ran, RunState, Watch};
+use addr_map::{AddrMap, Mode};
+use core_ir::CoreProgram;
+use core_run::{Came, Completed, MOST_CREATED, Machine, Told, View, code_of, prepare};
+use node_acts::start_bytes;
+use std::alloc::Global;
+use ub_base::{Bytes, Cause, Event, Frame, Frames, NoMemory};
+
+/// Follows the canonical order of a program for at most `budget` picks, and tells `watch` each of them: `pick`, then
+/// `node_done` of the node that it completes, then `operands_done` of the node above where that awaits nothing more. A pick
+/// that raises or would pass a limit isn't told. Needs a lawful program with the terms of its full expressions.
+pub fn run<W: Watch>(
+    alloc: Global,
+    p: &CoreProgram,
+    input: &[u8],
+    args: &[String],
+    mode: Mode,
+    budget: u64,
+    watch: &mut W,
+) -> Result<RunState, NoMemory>
+    requires budget { budget ≤ 100000000 }
+
+    // The last call that the watch had, if any, was answered by On.
+    requires ready { GoesOn (W.heard watch.old) }
+
+    // The watch was told each pick but one that raised.
+    ensures told { IfOk result (λ s. W.told watch.new ≡ more (told_of s.ran) (W.told watch.old)) }
+    ensures within { IfOk result (λ s. picks_of s.ran ≤ budget) }
+    ensures out_of_steps { IfOk result (λ s. IsOutOfSteps s.ran → picks_of s.ran ≡ budget) }
+    ensures frames { IfOk result (λ s. length s.frames ≤ picks_of s.ran) }
+
+    // Stopped comes exactly where the watch answered Stop, and no call follows.
+    ensures answers { IfOk result (λ s. AnswersEnd s.ran (W.heard watch.new)) }
+
+    // The frames are those of events that were told, in that order.
+    ensures started { IfOk result (λ s. StartedBy (W.heard watch.new) s.frames) }
+{
+    let program = p.program;
+    let reached = start_bytes(program, args);
+    if reached > MOST_CREATED {
+        return Ok(unstarted(alloc, reached, budget));
+    }
+    let code = code_of(alloc, program, p.terms.items.as_slice())?;
+    let input = Bytes::from_slice(alloc, input)?;
+    let mut machine = prepare(alloc, program, &code, input, args, mode)?;
+    let mut frames = Frames::new(alloc);
+    let ran = follow(&mut machine, &mut frames, budget, watch)?;
+    let (output, map) = machine.into_output_and_map();
+    Ok(RunState {
+        ran,
+        output,
+        map,
+        frames,
+    })
+}
+
+// The start would pass the limit on created bytes.
+fn unstarted(alloc: Global, number: u64, budget: u64) -> RunState
+    ensures told { told_of result.ran ≡ 0 }
+    ensures picks { picks_of result.ran ≡ 0 }
+    ensures out_of_steps { IsOutOfSteps result.ran → budget ≡ 0 }
+    ensures frames { result.frames ≡ [] }
+    ensures unstopped { IsUnstopped result.ran }
+{
+    let ran = if budget == 0 {
+        Ran::OutOfSteps { picks: 0 }
+    } else {
+        Ran::Outside {
+            cause: Cause::Created,
+            number,
+            picks: 0,
+        }
+    };
+    RunState {
+        ran,
+        output: Bytes::from_vec(Vec::new(alloc)),
+        map: AddrMap::new(alloc),
+        frames: Frames::new(alloc),
+    }
+}
+
+// Where a pick starts a frame, the frame gets its number.
+fn start_frame(machine: &mut Machine, frames: &mut Frames, told: Told) -> Result<(), NoMemory>
+    ensures items { machine.new.items ≡ machine.old.items }
+    ensures rows { OnOk result (Grows told frames.old frames.new) }
+{
+    let Told::Starts(event) = told else {
+        return Ok(());
+    };
+    let count = frames.len();
+    if count == u32::MAX || event.frame.0 > count {
+        return Err(NoMemory);
+    }
+    let frame = match frames.find(event.frame, event.turn, event.node) {
+        Some(frame) => frame,
+        None => frames.call(event.frame, event.turn, event.node)?,
+    };
+    machine.start(frame);
+    Ok(())
+}
+
+// Tells what a pick of this event completes.
+fn tell_completed<W: Watch>(
+    view: &View,
+    event: Event,
+    completed: Completed,
+    watch: &mut W,
+) -> Result<Go, NoMemory>
+    requires { FollowsPick event.frame event.turn event.node (W.heard watch.old) }
+    ensures told { OnOk result (W.told watch.new ≡ W.told watch.old) }
+    ensures calls { IfOk result (λ go. Tells (completions event completed) go (W.heard watch.old) (W.heard watch.new)) }
+{
+    match completed {
+        Completed::Nothing => Ok(Go::On),
+        Completed::Node => watch.node_done(view, event.frame, event.turn, event.node),
+        Completed::Operands(above) => {
+            match watch.node_done(view, event.frame, event.turn, event.node)? {
+                Go::Stop => Ok(Go::Stop),
+                Go::On => watch.operands_done(view, event.frame, event.turn, above),
+            }
+        }
+    }
+}
+
+// Tells a pick of this event with what it touched.
+fn tell<W: Watch>(
+    machine: &Machine,
+    frames: &Frames,
+    told: Told,
+    watch: &mut W,
+) -> Result<Go, NoMemory>
+    requires { GoesOn (W.heard watch.old) }
+    ensures told { OnOk result (W.told watch.new ≡ more 1 (W.told watch.old)) }
+    ensures calls { IfOk result (λ go. Tells (calls_of told machine.now.items) go (W.heard watch.old) (W.heard watch.new)) }
+{
+    let view = View {
+        frames,
+        map: machine.memory.map(),
+        program: machine.program,
+        begun: machine.shown(),
+    };
+    match told {
+        Told::Step(_) => watch.pick(&view, None, &machine.items),
+        Told::Starts(event) => watch.pick(&view, Some(event), &machine.items),
+        Told::Event(event, completed, _) => {
+            match watch.pick(&view, Some(event), &machine.items)? {
+                Go::Stop => Ok(Go::Stop),
+                Go::On => tell_completed(&view, event, completed, watch),
+            }
+        }
+    }
+}
+
+// Whether the run goes on.
+enum Next {
+    On,
+    End(Ran),
+}
+
+// The pick after so many.
+fn advance<W: Watch>(
+    machine: &mut Machine,
+    frames: &mut Frames,
+    picks: u64,
+    watch: &mut W,
+) -> Result<Next, NoMemory>
+    requires few { picks < 2 ^ 32 }
+    requires ready { GoesOn (W.heard watch.old) }
+    ensures rows { IfOk result (λ next. length frames.new ≤ length frames.old + taken_by next) }
+    ensures told { IfOk result (λ next. W.told watch.new ≡ more (told_by next) (W.told watch.old)) }
+    ensures end { IfOk result (λ next. EndsAfter next picks) }
+    ensures answers { IfOk result (λ next. AnswersNext next (W.heard watch.new)) }
+    ensures started { StartedBy (W.heard watch.old) frames.old → OnOk result (StartedBy (W.heard watch.new) frames.new) }
+{
+    let told = match machine.pick()? {
+        Came::Told(told) => told,
+        Came::Raised {
+            event,
+            line,
+            clause,
+        } => {
+            return Ok(Next::End(Ran::Raised {
+                event,
+                line,
+                clause,
+                picks: picks + 1,
+            }));
+        }
+        Came::Over(cause, number) => {
+            return Ok(Next::End(Ran::Outside {
+                cause,
+                number,
+                picks,
+            }));
+        }
+    };
+    start_frame(machine, frames, told)?;
+    match tell(machine, frames, told, watch)? {
+        Go::Stop => Ok(Next::End(Ran::Stopped { picks: picks + 1 })),
+        Go::On => Ok(after(told, picks)),
+    }
+}
+
+// What follows a pick that was told.
+fn after(told: Told, picks: u64) -> Next
+    requires { picks < 2 ^ 32 }
+    ensures told { told_by result ≡ 1 }
+    ensures taken { taken_by result ≡ 1 }
+    ensures end { EndsAfter result picks }
+    ensures unstopped { GoesUnstopped result }
+{
+    match told {
+        Told::Step(Some(status)) | Told::Event(_, _, Some(status)) => Next::End(Ran::Ended {
+            status,
+            picks: picks + 1,
+        }),
+        _ => Next::On,
+    }
+}
+
+fn follow<W: Watch>(
+    machine: &mut Machine,
+    frames: &mut Frames,
+    budget: u64,
+    watch: &mut W,
+) -> Result<Ran, NoMemory>
+    requires budget { budget ≤ 100000000 }
+    requires first { frames.old ≡ [] }
+    requires ready { GoesOn (W.heard watch.old) }
+    ensures rows { IfOk result (λ ran. length frames.new ≤ picks_of ran) }
+    ensures told { IfOk result (λ ran. W.told watch.new ≡ more (told_of ran) (W.told watch.old)) }
+    ensures within { IfOk result (λ ran. picks_of ran ≤ budget) }
+    ensures out_of_steps { IfOk result (λ ran. IsOutOfSteps ran → picks_of ran ≡ budget) }
+    ensures answers { IfOk result (λ ran. AnswersEnd ran (W.heard watch.new)) }
+    ensures started { OnOk result (StartedBy (W.heard watch.new) frames.new) }
+{
+    for picks in 0..budget {
+        match advance(machine, frames, picks, watch)? {
+            Next::On => {}
+            Next::End(ran) => return Ok(ran),
+        }
+    }
+    Ok(Ran::OutOfSteps { picks: budget })
+}
