@@ -1,10 +1,10 @@
 // Declarations (6.7).
 
-use crate::declarator::{Declared, copy, name_of};
-use crate::define::{automatic, initialize};
-use crate::expression::{declared, specified};
-use crate::words::{Storage, Words};
 use c_ast::{Base, Declaration, Declarator, Init, Part, Specs};
+use c_expression::declarator::{Declared, copy, name_of};
+use c_expression::expression::{declared, specified};
+use c_expression::words::{Storage, Words};
+use c_initial::{automatic, initialize};
 use c_scope::{Linkage, Meaning, Source, State, TypeFault, copied_function};
 use c_typed::{Entry, Slot};
 use c_types::{FuncTy, Qual, Ty, copied_qual};

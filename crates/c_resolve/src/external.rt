@@ -3,12 +3,12 @@ ghost use Rattle.std.specs.Prelude.{IfOk};
 ghost use Rattle.c_typed.specs.Lawful.{HasMain, LibraryIsExternal, LiteralsHaveBytes, IsNumbered};
 
 use crate::block::{begun, function_type, named_part, near, no_initializer};
-use crate::declarator::{Declared, assertion, is_name};
-use crate::define::initialize;
-use crate::expression::{constant, declared, specified};
 use crate::statement::block_items;
-use crate::words::{Storage, Words};
 use c_ast::{Declaration, Declarator, Entry as SyntaxEntry, Param, Part, Specs, Unit, UnitEntry};
+use c_expression::declarator::{Declared, assertion, is_name};
+use c_expression::expression::{constant, declared, specified};
+use c_expression::words::{Storage, Words};
+use c_initial::initialize;
 use c_lex::Tokens;
 use c_program::{final_order, finished};
 use c_scope::{Definition, Linkage, Source, State, Task, TypeFault, copied_function};
@@ -182,7 +182,7 @@ fn own_params(d: &Declarator) -> Option<&[Param]> {
 
 fn are_named(params: &[Param]) -> bool {
     for param in params {
-        if crate::declarator::name_of(&param.declarator).is_none() {
+        if c_expression::declarator::name_of(&param.declarator).is_none() {
             return false;
         }
     }

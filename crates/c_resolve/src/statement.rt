@@ -1,11 +1,11 @@
 // Statements (6.8).
 
 use crate::block::{local_declaration, loop_declaration};
-use crate::declarator::assertion;
-use crate::expression::{constant, expression};
 use c_arith::convert;
 use c_ast::{Entry as SyntaxEntry, Expr, ForInit, Stmt};
 use c_express::{as_if_assigned, discarded, promoted, truth, value_of};
+use c_expression::declarator::assertion;
+use c_expression::expression::{constant, expression};
 use c_scope::{OpenSwitch, Source, State, TypeFault, placed};
 use c_typed::{Block, Body, Entry, ForStart, Typed};
 use c_types::{IntKind, Ty};

@@ -1,7 +1,7 @@
 // The tree of an initializer list (6.7.9), and the constants of a static one.
 
 use crate::initial::{Given, Listed, Listing};
-use crate::zeros::{DEEPEST, MOST_PARTS, Zeros, add_zeros, push_runs};
+use crate::zeros::{Zeros, add_zeros, push_runs};
 use c_express::{Operand, leaf, stored, with_child};
 use c_scope::{State, TypeFault, placed};
 use c_typed::{Constant, Node, Slot, Typed};
@@ -156,9 +156,8 @@ fn add_rest(
         taken,
         choices,
         runs: Vec::new(state.alloc),
-        room: MOST_PARTS,
     };
-    add_zeros(state, DEEPEST, &object.ty, 0, &mut zeros)?;
+    add_zeros(state, &object.ty, &mut zeros)?;
     push_runs(&zeros.runs, bytes)
 }
 

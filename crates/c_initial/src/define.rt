@@ -1,7 +1,6 @@
 // Objects with their initializers (6.7.9).
 
 use crate::cursor::Spot;
-use crate::expression::expression;
 use crate::initial::{
     Given, Listed, Listing, braced, is_text_array, lone_expression, lone_text, text,
 };
@@ -9,6 +8,7 @@ use crate::listing::{list_constants, list_node, object_place};
 use crate::statics::{keep_literal, static_content};
 use c_ast::{Expr, ExprNode, Init, InitEntry};
 use c_express::{is_scalar, stored};
+use c_expression::expression::expression;
 use c_scope::{Source, State, TypeFault, placed};
 use c_typed::{Constant, Content, Slot, Typed};
 use c_types::{Qual, Ty, copied};

@@ -1,11 +1,11 @@
 // Initializers (6.7.9).
 
 use crate::cursor::{Choice, Cursor, Spot, next_spot};
-use crate::expression::{constant, expression};
-use crate::literal::literal_bytes;
 use crate::statics::static_content;
 use c_ast::{Designator, Expr, ExprNode, Init, InitEntry};
 use c_express::{Form, Operand, is_scalar, object_of};
+use c_expression::expression::{constant, expression};
+use c_expression::literal::literal_bytes;
 use c_scope::{Source, State, TypeFault};
 use c_typed::Content;
 use c_types::{Ty, copied};
