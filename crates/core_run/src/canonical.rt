@@ -1,7 +1,7 @@
 // A run before its first pick.
 
 use crate::machine::{Machine, Open};
-use crate::steps::Code;
+use run_steps::Code;
 use addr_map::Mode;
 use c_typed::{Access, Program};
 use node_acts::{Filling, Places, Started, fillings, start};

@@ -1,7 +1,7 @@
 // The control steps (6.8).
 
 use crate::machine::{Came, Local, Machine, control_step};
-use crate::steps::{Operand, Range, Step, Use};
+use run_steps::{Operand, Range, Step, Use};
 use crate::watch::Begun;
 use node_acts::{store, total};
 use prov_memory::{CreateFault, ObjKind, Value};

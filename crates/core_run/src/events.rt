@@ -1,7 +1,7 @@
 // The events of a full expression.
 
 use crate::machine::{Came, Machine};
-use crate::steps::{Act, Due, Operand};
+use run_steps::{Act, Due, Operand};
 use crate::told::{Completed, Told};
 use c_typed::Change;
 use c_types::Ty;

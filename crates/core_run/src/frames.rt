@@ -4,7 +4,7 @@ ghost use Rattle.core_run.specs.Depth.{StartsWithin};
 
 use crate::events::Outcome;
 use crate::machine::{Came, Machine, Open, control_step};
-use crate::steps::{CallCode, Operand};
+use run_steps::{CallCode, Operand};
 use crate::told::Told;
 use c_typed::{Function, Place};
 use c_types::LibFunc;

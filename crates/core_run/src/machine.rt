@@ -1,7 +1,7 @@
 // The state of a run.
 ghost use Rattle.std.specs.Prelude.{◌≡◌};
 
-use crate::steps::{Code, Operand, Step};
+use run_steps::{Code, Operand, Step};
 use crate::told::Told;
 use crate::watch::Begun;
 use addr_map::AddrMap;

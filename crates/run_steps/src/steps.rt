@@ -5,29 +5,29 @@ use c_types::{BinOp, FuncTy, IntKind, Qual, Shape, Ty};
 use std::rc::Rc;
 use ub_base::Items;
 
-// Where a value comes from: quiet nodes need no room for theirs.
+/// Where a value comes from: quiet nodes need no room for theirs.
 #[derive(Clone, Copy, Debug)]
 pub enum Operand {
     Integer(i128),
-    // A pointer of empty provenance.
+    /// A pointer of empty provenance.
     Address(u64),
     Function(u64),
-    // An automatic object of the frame, by its number in the function.
+    /// An automatic object of the frame, by its number in the function.
     Local { object: u32, offset: u64 },
     Static { object: u32, offset: u64 },
     Literal { object: u32, offset: u64 },
-    // The value of the node of this number.
+    /// The value of the node of this number.
     Done(u32),
 }
 
-// So many entries of a table from the first on.
+/// So many entries of a table from the first on.
 #[derive(Clone, Copy, Debug)]
 pub struct Range {
     pub first: u32,
     pub count: u32,
 }
 
-// What an event does.
+/// What an event does.
 #[derive(Clone, Copy)]
 pub enum Act<'p> {
     Load {
@@ -65,7 +65,7 @@ pub enum Act<'p> {
         access: Access,
         whole: Operand,
     },
-    // The value of an operand: Assign's and Comma's.
+    /// The value of an operand: Assign's and Comma's.
     Same(Operand),
     Logical {
         either: bool,
@@ -77,7 +77,7 @@ pub enum Act<'p> {
         yes: Operand,
         no: Operand,
     },
-    // An Update's value; what it will store goes to the room of this number.
+    /// An Update's value; what it will store goes to the room of this number.
     Change {
         change: Change,
         old: bool,
@@ -86,44 +86,44 @@ pub enum Act<'p> {
         operand: Operand,
         room: u32,
     },
-    // The store of this number puts the value of the room of this number at the place.
+    /// The store of this number puts the value of the room of this number at the place.
     Store {
         store: u32,
         place: Operand,
         room: u32,
     },
-    // The body of the call of this number.
+    /// The body of the call of this number.
     Call(u32),
-    // A call's value: what its body left.
+    /// A call's value: what its body left.
     Answer {
         discarded: bool,
     },
-    // The body of the isolated initializer of this number.
+    /// The body of the isolated initializer of this number.
     Initialize(u32),
     Nothing,
-    // The constant bytes of this number are stored in the object.
+    /// The constant bytes of this number are stored in the object.
     Fill {
         object: Operand,
         constants: u32,
     },
 }
 
-// A due event.
+/// A due event.
 #[derive(Clone, Copy)]
 pub struct Due<'p> {
     pub place: Place,
     pub line: u32,
     pub act: Act<'p>,
-    // The node above.
+    /// The node above.
     pub parent: Option<u32>,
-    // It is the last event of its node.
+    /// It is the last event of its node.
     pub completes: bool,
-    // The choice that the node above makes at this event.
+    /// The choice that the node above makes at this event.
     pub choice: Option<u32>,
 }
 
-// How a choice goes by the truth of its test: the operand that is evaluated next, whether that has events, and the
-// choices that are made with it.
+/// How a choice goes by the truth of its test: the operand that is evaluated next, whether that has events, and the
+/// choices that are made with it.
 #[derive(Clone, Copy, Debug)]
 pub struct Way {
     pub operand: Option<u32>,
@@ -139,16 +139,16 @@ pub struct Choice {
     pub no: Way,
 }
 
-// What the value of a full expression is for.
+/// What the value of a full expression is for.
 #[derive(Clone, Copy, Debug)]
 pub enum Use {
     Go(u32),
-    // The first where the value is not 0.
+    /// The first where the value is not 0.
     Branch(u32, u32),
-    // The result; then the blocks are left.
+    /// The result; then the blocks are left.
     Return(u32),
     Switch(u32),
-    // The frame of an isolated initializer ends.
+    /// The frame of an isolated initializer ends.
     Isolated,
 }
 
@@ -164,7 +164,7 @@ pub enum Step<'p> {
     },
     Begin(u32),
     Event(Due<'p>),
-    // The first where the test's truth is this one.
+    /// The first where the test's truth is this one.
     Fork {
         test: Operand,
         truth: bool,
@@ -178,35 +178,35 @@ pub enum Step<'p> {
         block: u32,
         next: u32,
     },
-    // The body block is left, and the frame ends.
+    /// The body block is left, and the frame ends.
     End {
         block: u32,
     },
 }
 
-// A full expression.
+/// A full expression.
 #[derive(Clone, Copy)]
 pub struct Expression<'p> {
     pub root: &'p Typed,
-    // How many values it has room for: one for each node, and one for each Update that gives its old value.
+    /// How many values it has room for: one for each node, and one for each Update that gives its old value.
     pub rooms: u32,
-    // For each node, of how many operands the end is awaited.
+    /// For each node, of how many operands the end is awaited.
     pub awaited: Range,
-    // The choices that are made as it begins.
+    /// The choices that are made as it begins.
     pub chosen: Range,
 }
 
-// A call: what is called, its type, and the arguments.
+/// A call: what is called, its type, and the arguments.
 #[derive(Drop)]
 pub struct CallCode<'p> {
     pub designator: Operand,
     pub ty: Option<&'p FuncTy>,
     pub arguments: Items<Operand>,
-    // Those of printf's arguments.
+    /// Those of printf's arguments.
     pub types: Items<Qual>,
 }
 
-// How a value of this type is stored.
+/// How a value of this type is stored.
 #[derive(Clone, Copy)]
 pub struct StoreCode<'p> {
     pub access: Access,
@@ -214,18 +214,18 @@ pub struct StoreCode<'p> {
     pub ty: &'p Ty,
 }
 
-// An object of a block.
+/// An object of a block.
 #[derive(Drop)]
 pub struct ObjectCode {
     pub size: u64,
     pub align: u64,
     pub constant: bool,
     pub shape: Option<Rc<Shape>>,
-    // The store by which it takes an argument.
+    /// The store by which it takes an argument.
     pub store: u32,
 }
 
-// A block: its objects, the number of the first in its function, how many take arguments, and the bytes that they count.
+/// A block: its objects, the number of the first in its function, how many take arguments, and the bytes that they count.
 #[derive(Clone, Copy, Debug)]
 pub struct BlockCode {
     pub objects: Range,
@@ -234,7 +234,7 @@ pub struct BlockCode {
     pub created: u64,
 }
 
-// A function: where it begins, and how many automatic objects it has.
+/// A function: where it begins, and how many automatic objects it has.
 #[derive(Clone, Copy, Debug)]
 pub struct FunctionCode {
     pub entry: u32,
@@ -256,7 +256,7 @@ pub struct Code<'p> {
     pub choices: Vec<Choice>,
     pub calls: Vec<CallCode<'p>>,
     pub stores: Vec<StoreCode<'p>>,
-    // The constant bytes of initializer lists.
+    /// The constant bytes of initializer lists.
     pub constants: Vec<&'p [Constant]>,
     pub initializers: Vec<u32>,
     pub blocks: Vec<BlockCode>,
