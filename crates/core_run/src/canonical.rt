@@ -1,11 +1,11 @@
 // A run before its first pick.
 
 use crate::machine::{Machine, Open};
-use run_steps::Code;
 use addr_map::Mode;
 use c_typed::{Access, Program};
 use node_acts::{Filling, Places, Started, fillings, start};
 use prov_memory::{Memory, Streams, Touched, TypeId, Value, Via};
+use run_steps::Code;
 use std::alloc::Global;
 use ub_base::{Bytes, Frame, Items, NoMemory};
 

@@ -1,10 +1,10 @@
 // The control steps (6.8).
 
 use crate::machine::{Came, Local, Machine, control_step};
-use run_steps::{Operand, Range, Step, Use};
 use crate::watch::Begun;
 use node_acts::{store, total};
 use prov_memory::{CreateFault, ObjKind, Value};
+use run_steps::{Operand, Range, Step, Use};
 use seq_order::{Done, Taken};
 use ub_base::{Cause, NoMemory, ObjName};
 

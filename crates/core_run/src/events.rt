@@ -1,7 +1,6 @@
 // The events of a full expression.
 
 use crate::machine::{Came, Machine};
-use run_steps::{Act, Due, Operand};
 use crate::told::{Completed, Told};
 use c_typed::Change;
 use c_types::Ty;
@@ -10,6 +9,7 @@ use node_acts::{
     moved, part, related, store, unary,
 };
 use prov_memory::{MemFault, Value};
+use run_steps::{Act, Due, Operand};
 use ub_base::{Cause, Clause, Event, NoMemory};
 
 // What an event came to.

@@ -4,12 +4,12 @@ ghost use Rattle.core_run.specs.Depth.{StartsWithin};
 
 use crate::events::Outcome;
 use crate::machine::{Came, Machine, Open, control_step};
-use run_steps::{CallCode, Operand};
 use crate::told::Told;
 use c_typed::{Function, Place};
 use c_types::LibFunc;
 use node_acts::{callee, exit_status, left};
 use prov_memory::{LibAnswer, Value};
+use run_steps::{CallCode, Operand};
 use ub_base::{Cause, Clause, Event, Items, Kind, NoMemory};
 
 // How many frames of functions may be open at once (own).

@@ -1,13 +1,13 @@
 // The state of a run.
 ghost use Rattle.std.specs.Prelude.{◌≡◌};
 
-use run_steps::{Code, Operand, Step};
 use crate::told::Told;
 use crate::watch::Begun;
 use addr_map::AddrMap;
 use c_typed::Program;
 use node_acts::{Filling, Places, Pointer, as_integer, as_pointer, pointer_to, truth};
 use prov_memory::{Memory, Streams, Touched, Value, Via};
+use run_steps::{Code, Operand, Step};
 use std::alloc::Global;
 use ub_base::{Bytes, Cause, Clause, Event, Frame, Items, NoMemory, ObjName};
 
