@@ -1,5 +1,5 @@
 // Texts run from their bytes to the end of the run.
-use crate::programs::{Given, LARGE, LIMITS, LONG, PICKS, PLAIN, RUNS, Row};
+use crate::programs::{BUDGETS, CLEAN, LARGE, LIMITS, OUTPUTS, PICKS, RAISED, TIGHT};
 use addr_map::Mode;
 use c_lex::lex;
 use c_parse::parse;
@@ -8,15 +8,33 @@ use c_typed::Program;
 use canonical_run::{Go, Ran, RunState, View, Watch, run};
 use elaborate::elaborate;
 use prov_memory::Touched;
-use std::alloc::Global;
+use std::alloc::{AllocError, Global};
+use std::test::Fail;
 use ub_base::{Cause, Event, Frame, Kind, NoMemory};
 
-// The picks that it was told, as PICKS writes them.
+// What a run is given beside the text.
+#[derive(Clone, Copy)]
+struct Given<'g> {
+    input: &'g str,
+    // How many words follow the program's name.
+    words: usize,
+    mode: Mode,
+    budget: u64,
+}
+
+const PLAIN: Given<'static> = Given {
+    input: "",
+    words: 0,
+    mode: Mode::Spaced,
+    budget: 1_000_000,
+};
+
+// A watch that writes the picks that it is told as PICKS has them, where they are asked for.
 #[derive(Drop)]
 struct Recorder {
     alloc: Global,
     picks: String,
-    kept: bool,
+    asked: bool,
 }
 
 fn letter(kind: Kind) -> &'static str {
@@ -35,20 +53,25 @@ fn word(kind: Kind) -> &'static str {
     }
 }
 
-impl Watch for Recorder {
-    fn pick(&mut self, _v: &View, event: Option<Event>, _items: &Touched) -> Result<Go, NoMemory> {
-        if !self.kept {
-            return Ok(Go::On);
-        }
-        match event {
-            None => self.picks.push_str(".")?,
+impl Recorder {
+    fn write(&mut self, event: Option<Event>) -> Result<(), NoMemory> {
+        let text = match event {
+            None => String::from_str(self.alloc, ".")?,
             Some(event) => {
                 let node = event.node;
-                let alloc = self.alloc;
-                let number = format!(in alloc; "{node}")?;
-                self.picks.push_str(&number)?;
-                self.picks.push_str(letter(event.kind))?;
+                let letter = letter(event.kind);
+                format!(in self.alloc; "{node}{letter}")?
             }
+        };
+        self.picks.push_str(text.as_str())?;
+        Ok(())
+    }
+}
+
+impl Watch for Recorder {
+    fn pick(&mut self, _v: &View, event: Option<Event>, _items: &Touched) -> Result<Go, NoMemory> {
+        if self.asked {
+            self.write(event)?;
         }
         Ok(Go::On)
     }
@@ -78,10 +101,10 @@ fn limit(cause: Cause) -> &'static str {
     }
 }
 
-// The end of a run as RUNS writes it, and its picks.
-fn told(alloc: Global, ran: &Ran) -> Result<(String, u64), NoMemory> {
+// The end of a run and its picks, as the tables have them.
+fn ended(alloc: Global, ran: Ran) -> Result<String, AllocError> {
     match ran {
-        Ran::Ended { status, picks } => Ok((format!(in alloc; "exit {status}")?, *picks)),
+        Ran::Ended { status, picks } => format!(in alloc; "exit {status} after {picks}"),
         Ran::Raised {
             event,
             line,
@@ -92,23 +115,22 @@ fn told(alloc: Global, ran: &Ran) -> Result<(String, u64), NoMemory> {
             let turn = event.turn;
             let node = event.node;
             let kind = word(event.kind);
-            let text = format!(in alloc; "{clause} {turn} {node} {kind} line {line}")?;
-            Ok((text, *picks))
+            format!(in alloc; "{clause} {turn} {node} {kind} line {line} after {picks}")
         }
-        Ran::Stopped { picks } => Ok((String::from_str(alloc, "stopped")?, *picks)),
-        Ran::OutOfSteps { picks } => Ok((String::from_str(alloc, "out of steps")?, *picks)),
+        Ran::Stopped { picks } => format!(in alloc; "stopped after {picks}"),
+        Ran::OutOfSteps { picks } => format!(in alloc; "out of steps after {picks}"),
         Ran::Outside {
             cause,
             number,
             picks,
         } => {
-            let cause = limit(*cause);
-            Ok((format!(in alloc; "{cause} {number}")?, *picks))
+            let cause = limit(cause);
+            format!(in alloc; "{cause} {number} after {picks}")
         }
     }
 }
 
-fn words(alloc: Global, count: usize) -> Result<Vec<String>, NoMemory> {
+fn words(alloc: Global, count: usize) -> Result<Vec<String>, AllocError> {
     let mut words = Vec::new(alloc);
     for _ in 0..count {
         words.push(String::from_str(alloc, "x")?)?;
@@ -117,128 +139,169 @@ fn words(alloc: Global, count: usize) -> Result<Vec<String>, NoMemory> {
 }
 
 // The program of a text, or none where it is refused.
-fn program_of(alloc: Global, text: &str) -> Result<Option<Program>, NoMemory> {
+fn program_of(alloc: Global, text: &str) -> Option<Program> {
     let text = text.as_bytes();
     if text.len() > 1048576 {
-        return Ok(None);
+        return None;
     }
     let Ok(tokens) = lex(alloc, text) else {
-        return Ok(None);
+        return None;
     };
     let Ok(unit) = parse(alloc, &tokens) else {
-        return Ok(None);
+        return None;
     };
     match resolve(alloc, &tokens, &unit) {
-        Ok(program) => Ok(Some(program)),
-        Err(_) => Ok(None),
+        Ok(program) => Some(program),
+        Err(_) => None,
     }
 }
 
-// How the run of a text ended, with the picks that it told where they are kept.
+// The run of a program, with the picks that it told where they are asked for.
 fn run_of(
     alloc: Global,
-    text: &str,
+    program: &Program,
     given: Given,
-    kept: bool,
-) -> Result<Option<(RunState, String)>, NoMemory> {
-    let Some(program) = program_of(alloc, text)? else {
-        return Ok(None);
-    };
-    let core = elaborate(alloc, &program)?;
+    asked: bool,
+) -> Result<(RunState, String), NoMemory> {
+    let core = elaborate(alloc, program)?;
     let words = words(alloc, given.words)?;
-    let mode = if given.tight {
-        Mode::Tight
-    } else {
-        Mode::Spaced
-    };
     let mut watch = Recorder {
         alloc,
         picks: String::new(alloc),
-        kept,
+        asked,
     };
-    let input = given.input.as_bytes();
-    let budget = given.budget.min(100000000);
     let state = run(
         alloc,
         &core,
-        input,
+        given.input.as_bytes(),
         words.as_slice(),
-        mode,
-        budget,
+        given.mode,
+        given.budget.min(100_000_000),
         &mut watch,
     )?;
     let Recorder { picks, .. } = watch;
-    Ok(Some((state, picks)))
+    Ok((state, picks))
 }
 
-// What is wrong with a run of the tables, or nothing.
-fn differs(
+// The end of the run of a text.
+fn end_of(alloc: Global, text: &str, given: Given) -> Result<String, Fail> {
+    let Some(program) = program_of(alloc, text) else {
+        return Ok(String::from_str(alloc, "no program")?);
+    };
+    let (state, _) = run_of(alloc, &program, given, false)?;
+    Ok(ended(alloc, state.ran)?)
+}
+
+// The picks that the run of a text told.
+fn picks_of(alloc: Global, text: &str) -> Result<String, Fail> {
+    let Some(program) = program_of(alloc, text) else {
+        return Ok(String::from_str(alloc, "no program")?);
+    };
+    let (_, picks) = run_of(alloc, &program, PLAIN, true)?;
+    Ok(picks)
+}
+
+// Whether the run of a text ends with this status and output.
+fn puts_out(
     alloc: Global,
     text: &str,
     given: Given,
-    end: &str,
-    picks: u64,
+    wanted: u8,
     output: &str,
-) -> Result<Option<String>, NoMemory> {
-    let Some((state, _)) = run_of(alloc, text, given, false)? else {
-        return Ok(Some(String::from_str(alloc, "no run")?));
+) -> Result<bool, Fail> {
+    let Some(program) = program_of(alloc, text) else {
+        return Ok(false);
     };
-    let (ended, taken) = told(alloc, &state.ran)?;
-    if ended.as_str() != end {
-        return Ok(Some(ended));
-    }
-    if picks != 0 && picks != taken {
-        return Ok(Some(format!(in alloc; "{taken} picks")?));
-    }
-    if output != LONG && state.output.as_slice() != output.as_bytes() {
-        return Ok(Some(String::from_str(alloc, "another output")?));
-    }
-    Ok(None)
-}
-
-// The first row whose run ends otherwise, and how.
-fn first_wrong(alloc: Global, rows: &[Row]) -> Result<Option<String>, NoMemory> {
-    for (text, given, end, picks, output) in rows {
-        if let Some(wrong) = differs(alloc, text, *given, end, *picks, output)? {
-            return Ok(Some(format!(in alloc; "{wrong} at {text}")?));
+    let (state, _) = run_of(alloc, &program, given, false)?;
+    match state.ran {
+        Ran::Ended { status, .. } => {
+            Ok(status == wanted && state.output.as_slice() == output.as_bytes())
         }
-    }
-    Ok(None)
-}
-
-#[test]
-fn runs_end_as_the_standard_says(rt: HostRuntime) {
-    match first_wrong(rt.alloc(), &RUNS) {
-        Ok(None) => {}
-        Ok(Some(wrong)) => panic!(rt; "{wrong}"),
-        Err(_) => panic!(rt; "no memory"),
+        _ => Ok(false),
     }
 }
 
 #[test]
-fn runs_end_at_their_limits(rt: HostRuntime) {
-    match first_wrong(rt.alloc(), &LIMITS) {
-        Ok(None) => {}
-        Ok(Some(wrong)) => panic!(rt; "{wrong}"),
-        Err(_) => panic!(rt; "no memory"),
+fn clean_runs_end_with_a_status(rt: HostRuntime) -> Result<(), Fail> {
+    for row in CLEAN {
+        let end = end_of(rt.alloc(), row.0, PLAIN)?;
+        assert_eq!(rt; end.as_str(), row.1);
     }
+    Ok(())
 }
 
 #[test]
-fn large_runs_end_as_the_standard_says(rt: HostRuntime) {
-    match first_wrong(rt.alloc(), &LARGE) {
-        Ok(None) => {}
-        Ok(Some(wrong)) => panic!(rt; "{wrong}"),
-        Err(_) => panic!(rt; "no memory"),
+fn undefined_runs_raise_their_clause(rt: HostRuntime) -> Result<(), Fail> {
+    for row in RAISED {
+        let end = end_of(rt.alloc(), row.0, PLAIN)?;
+        assert_eq!(rt; end.as_str(), row.1);
     }
+    Ok(())
 }
 
 #[test]
-fn picks_follow_the_canonical_order(rt: HostRuntime) {
-    for (text, picks) in PICKS {
-        let Ok(Some((_, told))) = run_of(rt.alloc(), text, PLAIN, true) else {
-            panic!(rt; "no run of {text}")
+fn tight_runs_see_their_addresses(rt: HostRuntime) -> Result<(), Fail> {
+    let given = Given {
+        mode: Mode::Tight,
+        ..PLAIN
+    };
+    for row in TIGHT {
+        let end = end_of(rt.alloc(), row.0, given)?;
+        assert_eq!(rt; end.as_str(), row.1);
+    }
+    Ok(())
+}
+
+#[test]
+fn runs_take_no_more_than_their_budget(rt: HostRuntime) -> Result<(), Fail> {
+    for row in BUDGETS {
+        let given = Given {
+            budget: row.1,
+            ..PLAIN
         };
-        assert_eq!(rt; told.as_str(), picks, "at {text}");
+        let end = end_of(rt.alloc(), row.0, given)?;
+        assert_eq!(rt; end.as_str(), row.2);
     }
+    Ok(())
+}
+
+#[test]
+fn runs_end_at_their_limits(rt: HostRuntime) -> Result<(), Fail> {
+    for row in LIMITS {
+        let end = end_of(rt.alloc(), row.0, PLAIN)?;
+        assert_eq!(rt; end.as_str(), row.1);
+    }
+    Ok(())
+}
+
+#[test]
+fn large_objects_are_copied(rt: HostRuntime) -> Result<(), Fail> {
+    for row in LARGE {
+        let end = end_of(rt.alloc(), row.0, PLAIN)?;
+        assert_eq!(rt; end.as_str(), row.1);
+    }
+    Ok(())
+}
+
+#[test]
+fn runs_read_their_input_and_words(rt: HostRuntime) -> Result<(), Fail> {
+    for row in OUTPUTS {
+        let given = Given {
+            input: row.1,
+            words: row.2,
+            ..PLAIN
+        };
+        let as_wanted = puts_out(rt.alloc(), row.0, given, row.3, row.4)?;
+        assert!(rt; as_wanted, "{}", row.0);
+    }
+    Ok(())
+}
+
+#[test]
+fn picks_follow_the_canonical_order(rt: HostRuntime) -> Result<(), Fail> {
+    for row in PICKS {
+        let picks = picks_of(rt.alloc(), row.0)?;
+        assert_eq!(rt; picks.as_str(), row.1);
+    }
+    Ok(())
 }
