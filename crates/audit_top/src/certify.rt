@@ -49,6 +49,7 @@ fn text_of(alloc: Global, audit: Audit) -> Result<Bytes, NoMemory> {
         output,
         map,
         frames,
+        ..
     } = audit;
     let claim = claim_of(finding, output);
     let cert = of_audit(alloc, claim, picks_of(finding), &map, &frames)?;

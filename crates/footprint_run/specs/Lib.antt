@@ -1,2 +1,4 @@
 pub mod Apart
 pub mod Findings
+pub mod Picks
+pub mod Record

@@ -1,10 +1,14 @@
 // The audit of a run.
-ghost use Rattle.std.specs.Prelude.{◌≡◌, ◌≤◌, length, IfOk};
+ghost use Rattle.std.specs.Prelude.{◌≡◌, ◌≤◌, length, IfOk, Some};
+ghost use Rattle.canonical_run.specs.Calls.{AnswersEnd, StartedBy};
 ghost use Rattle.canonical_run.specs.Ends as ends;
 ghost use Rattle.footprint_run.specs.Findings.{picks_of, IsOutOfSteps, ItemsConflict, IsConflict, Tells};
+ghost use Rattle.footprint_run.specs.Picks.{picks_in};
 
+use crate::calls::Calls;
 use crate::finding::{Audit, Finding, Race};
-use crate::watcher::{Seen, Watcher};
+use crate::seen::Seen;
+use crate::watcher::Watcher;
 use addr_map::Mode;
 use canonical_run::{Ran, RunState, run};
 use core_ir::CoreProgram;
@@ -27,6 +31,14 @@ pub fn audit_run(
     ensures out_of_steps { IfOk result (λ a. IsOutOfSteps a.finding → picks_of a.finding ≡ budget) }
     ensures frames { IfOk result (λ a. length a.frames ≤ picks_of a.finding) }
     ensures items { IfOk result (λ a. ItemsConflict a.finding) }
+
+    // What ended the run is what is found.
+    ensures tells { IfOk result (λ a. Tells a.ran a.finding) }
+
+    // The watch stopped the run exactly at its last call, or never.
+    ensures answers { IfOk result (λ a. AnswersEnd a.ran (Some a.calls)) }
+    ensures told { IfOk result (λ a. picks_in a.calls ≡ ends.told_of a.ran) }
+    ensures started { IfOk result (λ a. StartedBy (Some a.calls) a.frames) }
 {
     let mut watcher = Watcher::new(alloc)?;
     let state = run(alloc, p, input, args, mode, budget, &mut watcher)?;
@@ -36,8 +48,11 @@ pub fn audit_run(
         map,
         frames,
     } = state;
+    let calls = watcher.into_calls();
     Ok(Audit {
-        finding: finding_of(ran, watcher.seen())?,
+        finding: finding_of(ran, &calls),
+        ran,
+        calls,
         output,
         map,
         frames,
@@ -45,40 +60,38 @@ pub fn audit_run(
 }
 
 // What is found where a run ended so. A watch that stopped a run has seen a conflict.
-fn finding_of(ran: Ran, seen: Option<Seen>) -> Result<Finding, NoMemory>
-    ensures picks { IfOk result (λ f. picks_of f ≡ ends.picks_of ran) }
-    ensures out_of_steps { IfOk result (λ f. IsOutOfSteps f → ends.IsOutOfSteps ran) }
-    ensures items { IfOk result ItemsConflict }
-    ensures tells { IfOk result (Tells ran) }
+fn finding_of(ran: Ran, calls: &Calls) -> Finding
+    requires { AnswersEnd ran (Some calls.now) }
+    ensures picks { picks_of result ≡ ends.picks_of ran }
+    ensures out_of_steps { IsOutOfSteps result → ends.IsOutOfSteps ran }
+    ensures items { ItemsConflict result }
+    ensures tells { Tells ran result }
 {
     match ran {
-        Ran::Ended { status, picks } => Ok(Finding::Clean { status, picks }),
+        Ran::Ended { status, picks } => Finding::Clean { status, picks },
         Ran::Raised {
             event,
             line,
             clause,
             picks,
-        } => Ok(Finding::Undefined {
+        } => Finding::Undefined {
             clause,
             event,
             line,
             race: None,
             picks,
-        }),
-        Ran::Stopped { picks } => match seen {
-            Some(seen) => Ok(finding_at(seen, picks)),
-            None => Err(NoMemory),
         },
-        Ran::OutOfSteps { picks } => Ok(Finding::OutOfSteps { picks }),
+        Ran::Stopped { picks } => finding_at(calls.seen().unwrap(), picks),
+        Ran::OutOfSteps { picks } => Finding::OutOfSteps { picks },
         Ran::Outside {
             cause,
             number,
             picks,
-        } => Ok(Finding::Outside {
+        } => Finding::Outside {
             cause,
             number,
             picks,
-        }),
+        },
     }
 }
 

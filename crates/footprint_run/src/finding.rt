@@ -1,6 +1,8 @@
 // What an audit finds.
 
+use crate::calls::Calls;
 use addr_map::AddrMap;
+use canonical_run::Ran;
 use ub_base::{Bytes, Cause, Clause, Event, Frames, Item};
 
 /// The first finding along the canonical order, with the number of picks that lead to it.
@@ -48,11 +50,13 @@ pub struct Race {
     pub items: (Item, Item),
 }
 
-/// A finding, with the output so far, the objects in the order of their creation, and `main` with the frames that the
+/// A finding, with what ended the run, the calls of its watch, the output so far, the objects in the order of their creation, and `main` with the frames that the
 /// picks started.
 #[derive(Drop)]
 pub struct Audit {
     pub finding: Finding,
+    pub ran: Ran,
+    pub calls: Calls,
     pub output: Bytes,
     pub map: AddrMap,
     pub frames: Frames,

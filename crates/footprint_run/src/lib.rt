@@ -2,8 +2,12 @@
 #![tactic(auto)]
 
 mod audit;
+mod calls;
+mod detector;
 mod finding;
+mod seen;
 mod watcher;
 
 pub use audit::audit_run;
+pub use calls::Calls;
 pub use finding::{Audit, Finding, Race};

@@ -1,246 +1,77 @@
-// The watch that keeps the open evaluations of a run.
-ghost use Rattle.std.specs.Prelude.{◌≡◌, IsTrue};
-ghost use Rattle.c_typed.specs.Tree.{tree_of};
-ghost use Rattle.seq_order.specs.Marked.{taken_in};
-ghost use Rattle.evaluations.specs.FoundItems.{IsConflict};
-ghost use Rattle.footprint_run.specs.Apart.{IsApart, place_of};
+// The watch of an audit.
+ghost use Rattle.std.specs.Prelude.{◌≡◌, [], IfOk, Some};
+ghost use Rattle.footprint_run.specs.Picks.{picks_in};
+ghost use Rattle.footprint_run.specs.Record.{go_of};
 
-use c_typed::{Place, Typed};
+use crate::calls::Calls;
+use crate::detector::Detector;
+use crate::seen::Seen;
 use canonical_run::{Go, View, Watch};
-use evaluations::{Evaluations, Found, Rule, Rules, first_of, last_operand_of, line_of};
 use prov_memory::Touched;
-use seq_order::{Relation, Taken, relation};
 use std::alloc::Global;
-use ub_base::{Event, Frame, Item, Kind, NoMemory};
+use ub_base::{Event, Frame, NoMemory};
 
-/// What a watch stopped at: two evaluations, and their lines.
-#[derive(Clone, Copy, Debug)]
-pub struct Seen {
-    pub found: Found,
-    pub line: u32,
-    pub against_line: u32,
-    ghost conflict: { IsConflict found },
-}
-
-/// Keeps the open evaluations of a run, and stops it at the first conflict.
+/// Stops a run at its first conflict, and records its calls.
 #[derive(Drop)]
 pub struct Watcher {
-    alloc: Global,
-    open: Evaluations,
-    // the rules of each tree that has begun once, by its number
-    trees: Vec<Rules>,
-    // how many frames had started, and how many full expressions were open, at the last pick
-    frames: u32,
-    begun: usize,
-    seen: Option<Seen>,
+    detector: Detector,
+    calls: Calls,
 }
 
 impl Watcher {
-    ghost use Rattle.evaluations.specs.FoundItems.{ItemsConflict};
-
-    pub fn new(alloc: Global) -> Result<Self, NoMemory> {
+    pub fn new(alloc: Global) -> Result<Self, NoMemory>
+        ensures { IfOk result (λ w. w.calls ≡ []) }
+    {
         Ok(Watcher {
-            alloc,
-            open: Evaluations::new(alloc)?,
-            trees: Vec::new(alloc),
-            frames: 0,
-            begun: 0,
-            seen: None,
+            detector: Detector::new(alloc)?,
+            calls: Calls::none(),
         })
     }
 
-    /// What the run was stopped at.
-    pub fn seen(&self) -> Option<Seen> {
-        self.seen
-    }
-
-    // A control step: a full expression begins, or is settled, or something else.
-    fn step(&mut self, v: &View, items: &[Item]) -> Result<(), NoMemory> {
-        let count = v.begun.len();
-        if count < self.begun {
-            self.begun = count;
-            return self.open.settle();
-        }
-        if count > self.begun {
-            self.begun = count;
-            return self.begin(v);
-        }
-        self.open.step(items)
-    }
-
-    fn begin(&mut self, v: &View) -> Result<(), NoMemory> {
-        let Some(begun) = v.begun.last() else {
-            return Ok(());
-        };
-        self.open.begin(begun.turn);
-        let tree = begun.tree as usize;
-        for _ in self.trees.len()..=tree {
-            self.trees.push(Rules::new(self.alloc))?;
-        }
-        if tree < self.trees.len() && self.trees[tree].is_empty() {
-            self.trees[tree] = Rules::of(self.alloc, begun.root)?;
-        }
-        Ok(())
-    }
-
-    // The rule of a node of the top full expression, and whether the node has chosen a further operand.
-    fn rule(&self, v: &View, node: u32) -> (Rule, bool) {
-        let Some(begun) = v.begun.last() else {
-            return (Rule::Open, false);
-        };
-        let rule = match self.trees.get(begun.tree as usize) {
-            Some(rules) => rules.get(node),
-            None => Rule::Open,
-        };
-        let chosen = rule == Rule::Choice && begun.taken.chosen(node).is_some();
-        (rule, chosen)
-    }
-
-    fn event(&mut self, v: &View, event: Event, items: &[Item]) -> Result<(), NoMemory> {
-        for _ in 0..self.open.depth() {
-            if self.open.is_top(event.frame) {
-                break;
-            }
-            self.open.leave()?;
-        }
-        let (rule, chosen) = self.rule(v, event.node);
-        self.open
-            .event(event.node, event.kind, items, rule, chosen)?;
-        let frames = v.frames.len();
-        if event.kind == Kind::Body && frames > self.frames {
-            self.frames = frames;
-            self.open.enter(Frame(frames))?;
-        }
-        Ok(())
-    }
-
-    // An end of the run: the first conflict of all that have both sides by now.
-    fn end(&mut self, v: &View) -> Result<Go, NoMemory> {
-        let mut best = None;
-        for (i, begun) in v.begun.iter().enumerate().rev() {
-            if let Some(rules) = self.trees.get(begun.tree as usize) {
-                let found = self.open.ended(v.frames, v.map, begun.root, rules)?;
-                best = first_of(v.frames, best, found);
-            }
-            if i > 0 {
-                self.open.leave()?;
-            }
-        }
-        Ok(self.answer(v, best))
-    }
-
-    // A conflict counts where its two evaluations stand to one another as its kind asks.
-    fn answer(&mut self, v: &View, found: Option<Found>) -> Go
-        requires { ItemsConflict found }
+    pub fn into_calls(self) -> Calls
+        ensures { result ≡ self.calls }
     {
-        let Some(found) = found else {
-            return Go::On;
-        };
-        if !are_apart(v, &found) {
-            return Go::On;
-        }
-        self.seen = Some(Seen {
-            found,
-            line: event_line(v, &found.event),
-            against_line: event_line(v, &found.against),
-        });
-        Go::Stop
+        let Watcher { calls, .. } = self;
+        calls
     }
-}
-
-// Whether the two evaluations of a conflict stand to one another as its kind asks.
-fn are_apart(v: &View, found: &Found) -> bool {
-    for begun in v.begun {
-        if begun.frame == found.event.frame && begun.turn == found.event.turn {
-            return are_apart_in(begun.root, &begun.taken, found);
-        }
-    }
-    false
-}
-
-// Those of a race are unsequenced (6.5p2), and of those of another conflict neither is sequenced before the other.
-fn are_apart_in(root: &Typed, taken: &Taken, found: &Found) -> bool
-    ensures { IsTrue result → IsApart (taken_in taken.now) (tree_of root.now) found.now }
-{
-    let event = place_of(&found.event);
-    let against = place_of(&found.against);
-    match relation(root, event, against, taken) {
-        Relation::Sequenced => false,
-        Relation::Unsequenced => true,
-        Relation::Indeterminate => !found.race,
-    }
-}
-
-fn place_of(event: &Event) -> Place
-    ensures { result ≡ place_of event.now }
-{
-    Place {
-        node: event.node,
-        kind: event.kind,
-    }
-}
-
-// The line of an event of a full expression that is open.
-fn event_line(v: &View, event: &Event) -> u32 {
-    for begun in v.begun {
-        if begun.frame == event.frame {
-            return line_of(begun.root, event.node);
-        }
-    }
-    0
 }
 
 impl Watch for Watcher {
+    ghost told = { λ w. Some (picks_in w.calls) };
+
+    ghost heard = { λ w. Some w.calls };
+
     fn pick(&mut self, v: &View, event: Option<Event>, items: &Touched) -> Result<Go, NoMemory> {
-        let items = items.items();
-        let Some(event) = event else {
-            self.step(v, items)?;
-            return Ok(Go::On);
-        };
-        self.event(v, event, items)?;
-        if event.kind == Kind::Body && items.contains(&Item::Ending) {
-            return self.end(v);
-        }
-        Ok(Go::On)
+        let seen = self.detector.pick(v, event, items.items())?;
+        self.calls = self.calls.picked(event, items, seen);
+        Ok(go_of(seen))
+    }
+
+    fn node_done(&mut self, v: &View, frame: Frame, turn: u64, node: u32) -> Result<Go, NoMemory> {
+        let seen = self.detector.node_done(v, node)?;
+        self.calls = self.calls.node_done(frame, turn, node, seen);
+        Ok(go_of(seen))
     }
 
     fn operands_done(
         &mut self,
         v: &View,
-        _frame: Frame,
-        _turn: u64,
+        frame: Frame,
+        turn: u64,
         node: u32,
     ) -> Result<Go, NoMemory> {
-        let (rule, chosen) = self.rule(v, node);
-        let found = self
-            .open
-            .operands_done(v.frames, v.map, node, rule, chosen)?;
-        Ok(self.answer(v, found))
+        let seen = self.detector.operands_done(v, node)?;
+        self.calls = self.calls.operands_done(frame, turn, node, seen);
+        Ok(go_of(seen))
     }
+}
 
-    fn node_done(
-        &mut self,
-        v: &View,
-        _frame: Frame,
-        _turn: u64,
-        node: u32,
-    ) -> Result<Go, NoMemory> {
-        let found = self.open.node_done(v.frames, v.map, node)?;
-        if found.is_none() {
-            return Ok(Go::On);
-        }
-        let above = match v.begun.last() {
-            Some(begun) => last_operand_of(begun.root, node),
-            None => None,
-        };
-        let more = match above {
-            Some(above) => {
-                let (rule, chosen) = self.rule(v, above);
-                self.open
-                    .operands_done(v.frames, v.map, above, rule, chosen)?
-            }
-            None => None,
-        };
-        Ok(self.answer(v, first_of(v.frames, found, more)))
+// A watch stops a run where it has seen a conflict.
+fn go_of(seen: Option<Seen>) -> Go
+    ensures { result ≡ go_of seen }
+{
+    match seen {
+        Some(_) => Go::Stop,
+        None => Go::On,
     }
 }

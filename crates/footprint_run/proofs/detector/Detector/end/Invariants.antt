@@ -1,6 +1,6 @@
 -- The items of the first conflict so far conflict.
 use Rattle.evaluations.specs.FoundItems.{ItemsConflict}
-use Rattle.footprint_run.proofs.watcher.Watcher.end.Given as goal
+use Rattle.footprint_run.proofs.detector.Detector.end.Given as goal
 
 abbrev pub invariant-loop-i : goal.invariant-loop-i
 invariant-loop-i l = ItemsConflict l.best

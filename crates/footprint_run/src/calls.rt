@@ -1,0 +1,98 @@
+// The calls of a watch.
+ghost use Rattle.std.specs.Prelude.{◌≡◌, ◌∷◌, [], Some, IsSome};
+ghost use Rattle.canonical_run.specs.Calls.{picked, node_done, operands_done, HasStopped};
+ghost use Rattle.footprint_run.specs.Record.{go_of};
+
+use crate::seen::Seen;
+use prov_memory::Touched;
+use std::marker::Model;
+use std::snapshot::Snapshot;
+use ub_base::{Event, Frame};
+
+/// The calls of the watch of a run with what it answered. Contracts see the list of them, the last one first; the program
+/// keeps only what the last one has seen.
+#[cycle(calls)]
+#[derive(Drop)]
+pub struct Calls {
+    last: Last,
+}
+
+// The last call, what was seen at it, and the calls before it.
+#[cycle(calls)]
+#[derive(Drop)]
+enum Last {
+    Nothing,
+    Picked(Option<Event>, Snapshot<Touched>, Option<Seen>, Snapshot<Calls>),
+    NodeDone(Frame, u64, u32, Option<Seen>, Snapshot<Calls>),
+    OperandsDone(Frame, u64, u32, Option<Seen>, Snapshot<Calls>),
+}
+
+impl Model for Calls {
+    ghost use Rattle.std.specs.Prelude.{length};
+    ghost use Rattle.canonical_run.specs.Calls.{Heard};
+
+    ghost Value = { Heard };
+
+    ghost use Rattle.footprint_run.specs.Record.{heard_in};
+
+    ghost view = { λ c. heard_in c.last };
+
+    ghost size = { length };
+
+    ghost use Rattle.std.proofs.Common.{arith};
+
+    ghost size_decreases = { λ a h. Prim.grind (arith) };
+}
+
+impl Calls {
+    /// No calls.
+    pub(crate) fn none() -> Calls
+        ensures { result ≡ [] }
+    {
+        Calls {
+            last: Last::Nothing,
+        }
+    }
+
+    pub(crate) fn picked(&self, event: Option<Event>, items: &Touched, seen: Option<Seen>) -> Calls
+        ensures { result ≡ (picked event items.now, go_of seen) ∷ self.now }
+    {
+        Calls {
+            last: Last::Picked(event, Snapshot::of(items), seen, Snapshot::of(self)),
+        }
+    }
+
+    pub(crate) fn node_done(&self, frame: Frame, turn: u64, node: u32, seen: Option<Seen>) -> Calls
+        ensures { result ≡ (node_done frame turn node, go_of seen) ∷ self.now }
+    {
+        Calls {
+            last: Last::NodeDone(frame, turn, node, seen, Snapshot::of(self)),
+        }
+    }
+
+    pub(crate) fn operands_done(
+        &self,
+        frame: Frame,
+        turn: u64,
+        node: u32,
+        seen: Option<Seen>,
+    ) -> Calls
+        ensures { result ≡ (operands_done frame turn node, go_of seen) ∷ self.now }
+    {
+        Calls {
+            last: Last::OperandsDone(frame, turn, node, seen, Snapshot::of(self)),
+        }
+    }
+
+    /// What was seen at the last call.
+    pub(crate) fn seen(&self) -> Option<Seen>
+        ensures { HasStopped (Some self.now) → IsSome result }
+    {
+        match &self.last {
+            Last::Nothing => None,
+            Last::Picked(_, _, seen, _) => *seen,
+            Last::NodeDone(_, _, _, seen, _) => *seen,
+            Last::OperandsDone(_, _, _, seen, _) => *seen,
+        }
+    }
+}

@@ -1,0 +1,13 @@
+// What a watch stops a run at.
+ghost use Rattle.evaluations.specs.FoundItems.{IsConflict};
+
+use evaluations::Found;
+
+/// Two evaluations that conflict, and their lines.
+#[derive(Clone, Copy, Debug)]
+pub struct Seen {
+    pub found: Found,
+    pub line: u32,
+    pub against_line: u32,
+    ghost conflict: { IsConflict found },
+}
