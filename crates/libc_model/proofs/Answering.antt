@@ -83,7 +83,7 @@ malloc_called rows vs who n s t r is p o size h =
     answers_of r is t (created_within (size_of_value (argument_at vs 0)) s (run rows (malloc rows who (size_of_value (argument_at vs 0))) s)) p o
     (subst (λ (n : ℕ). Does given_value r is t (created_within n s (run rows (malloc rows who n) s))) size h)
 
-address_is : (a b : ℕ) (p q : Prov) → pointer a p ≡ pointer b q → (a ≡ b) × (p ≡ q)
+pub address_is : (a b : ℕ) (p q : Prov) → pointer a p ≡ pointer b q → (a ≡ b) × (p ≡ q)
 address_is a b p q e = (cc, cc)
 
 pub free_called : (rows : List Row) (vs : List LibValue) (who : Event) (a : ℕ) (p : Prov) (s t : Store) (is : List Item) → t.position ≤ length t.input → length t.output ≤ 2 ^ 24 → pointer a p ≡ pointer_in (argument_at vs 0) →

@@ -1,5 +1,10 @@
 pub mod Allocating
 pub mod Answering
+pub mod Checking
+pub mod Finishing
 pub mod Freeing
+pub mod Parts
+pub mod Reading
 pub mod Scripts
 pub mod Seen
+pub mod Settling

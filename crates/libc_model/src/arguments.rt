@@ -1,9 +1,19 @@
 // The arguments of library functions and their checks (7.1.4p1).
-ghost use Rattle.std.specs.Prelude.{◌≡◌, IsTrue};
+ghost use Rattle.std.specs.Prelude.{◌≡◌, ◌+◌, ◌-◌, ◌<◌, ◌^◌, ◌++◌, ◌∷◌, [], length, true, false, Some, IsTrue, IfSome, IfOk, OnOk};
+ghost use Rattle.ub_base.specs.declared.names.Item.TheVariants.{Alive};
+ghost use Rattle.ub_base.specs.Names.{same_event};
+ghost use Rattle.addr_map.specs.Rows.{row_of};
+ghost use Rattle.exposure.specs.Cells.{has_cell, is_other};
 ghost use Rattle.c_types.specs.declared.kind.IntKind.TheVariants.{ULong};
 ghost use Rattle.c_types.specs.Kinds.{holds};
 ghost use Rattle.prov_memory.specs.declared.value.Value.TheVariants.{Ptr};
-ghost use Rattle.libc_spec.specs.Library.{argument_at, pointer_in, integer_in, size_of_value};
+ghost use Rattle.prov_memory.specs.Store.{is_live};
+ghost use Rattle.prov_memory.specs.Acts.{in_row, size_in, argument_object, argument_in, argument};
+ghost use Rattle.prov_memory.specs.Streams.{Io};
+ghost use Rattle.prov_memory.specs.Held.{held_of};
+ghost use Rattle.prov_memory.specs.Memory.{HasCell, life_in, store_of};
+ghost use Rattle.libc_spec.specs.Library.{argument_at, pointer_in, integer_in, size_of_value, is_zero, text};
+ghost use Rattle.libc_model.specs.Parts.{after, kept_by, kept_after, Follows, settled_to, one_of_two, offset_if, byte_at, accessed, accessed_if, text_in, IsShort, IsRange, string_size};
 ghost use Rattle.libc_model.specs.Seen.{value_seen, values_seen, pointer_seen};
 
 use exposure::Prov;
@@ -91,8 +101,21 @@ pub fn size_at(args: &[Value], at: usize) -> u64
     u64::try_from(int_at(args, at)).unwrap_or(0)
 }
 
-// Where the range begins in the object, if it lies in it; one of no bytes may also begin one past it.
-fn place_in(m: &Memory, object: ObjName, addr: u64, len: u64) -> Option<u64> {
+// Whether the range lies in the object; one of no bytes may also begin one past it.
+fn has_range(m: &Memory, object: ObjName, addr: u64, len: u64) -> bool
+    ensures { result ≡ in_row (row_of m.now.rows object) addr len }
+{
+    match m.map().row(object) {
+        None => false,
+        Some(row) => row.base <= addr && len <= row.size && addr - row.base <= row.size - len,
+    }
+}
+
+// Where the range begins in the object, if it lies in it.
+fn place_in(m: &Memory, object: ObjName, addr: u64, len: u64) -> Option<u64>
+    ensures place { result ≡ offset_if (row_of m.now.rows object) addr len }
+    ensures short { IfSome result (λ from. from + len < 2 ^ 64) }
+{
     let row = m.map().row(object)?;
     if row.base <= addr && len <= row.size && addr - row.base <= row.size - len {
         Some(addr - row.base)
@@ -101,27 +124,94 @@ fn place_in(m: &Memory, object: ObjName, addr: u64, len: u64) -> Option<u64> {
     }
 }
 
-// The object to which the ambiguity is settled, by this act or before.
-fn kept(m: &Memory, t: &Touched, id: Event) -> Option<ObjName> {
-    for item in t.items() {
-        if let Item::Narrow { id: other, keep } = *item
-            && other == id
-        {
-            return Some(keep);
-        }
-    }
-    m.kept(id)
+fn is_same(id: Event, other: Event) -> bool
+    ensures { result ≡ same_event id other }
+{
+    id == other
 }
 
-// Settles the ambiguity to the object, where it wasn't settled to the other one.
-fn keep_one(m: &Memory, id: Event, keep: ObjName, t: &mut Touched) -> Result<ObjName, LibAnswer> {
-    if let Some(other) = kept(m, t, id)
-        && other != keep
-    {
+// The object to which the ambiguity is settled after the item.
+fn kept_by(item: Item, id: Event, before: Option<ObjName>) -> Option<ObjName>
+    ensures { result ≡ kept_by item id before }
+{
+    match item {
+        Item::Narrow { id: other, keep } => {
+            if is_same(other, id) {
+                Some(keep)
+            } else {
+                before
+            }
+        }
+        _ => before,
+    }
+}
+
+// The same after each of these items.
+fn kept_after(items: &[Item], id: Event, before: Option<ObjName>) -> Option<ObjName>
+    ensures { result ≡ kept_after items.now id before }
+{
+    let mut kept = before;
+    for item in items {
+        kept = kept_by(*item, id, kept);
+    }
+    kept
+}
+
+// The object to which the ambiguity is settled, by this act or before.
+fn kept(m: &Memory, t: &Touched, id: Event) -> Option<ObjName>
+    ensures { (io : Io) → result ≡ (after t.now (store_of m.now io)).kept id }
+{
+    kept_after(t.items(), id, m.kept(id))
+}
+
+// Whether the ambiguity is settled to another object.
+fn is_lost(m: &Memory, t: &Touched, id: Event, keep: ObjName) -> bool
+    ensures { (io : Io) → result ≡ is_other ((after t.now (store_of m.now io)).kept id) keep }
+{
+    match kept(m, t, id) {
+        None => false,
+        Some(other) => other != keep,
+    }
+}
+
+// The object, to which the ambiguity is settled, where it wasn't settled to the other one.
+fn keep_one(
+    m: &Memory,
+    id: Event,
+    keep: ObjName,
+    t: &mut Touched,
+) -> Result<Option<ObjName>, LibAnswer>
+    ensures { (io : Io) → has_cell m.now.cells id ≡ true → Follows true (λ x. x) result m.now io t.old t.new (settled_to id keep) }
+{
+    if is_lost(m, t, id, keep) {
         return Err(LibAnswer::Raise(Clause::LibraryArgument));
     }
     t.add(Item::Narrow { id, keep })?;
-    Ok(keep)
+    Ok(Some(keep))
+}
+
+// The one of two candidates that has the range; none where both have it.
+fn one_of(
+    m: &Memory,
+    in_past: bool,
+    in_start: bool,
+    id: Event,
+    past: ObjName,
+    start: ObjName,
+    t: &mut Touched,
+) -> Result<Option<ObjName>, LibAnswer>
+    ensures { (io : Io) → has_cell m.now.cells id ≡ true → Follows true (λ x. x) result m.now io t.old t.new (one_of_two in_past in_start id past start) }
+{
+    if in_past {
+        if in_start {
+            return Ok(None);
+        }
+        return keep_one(m, id, past, t);
+    }
+    if in_start {
+        return keep_one(m, id, start, t);
+    }
+    Err(LibAnswer::Raise(Clause::LibraryArgument))
 }
 
 // The object of a range; none where a range of no bytes leaves the ambiguity open.
@@ -130,31 +220,48 @@ fn object_of(
     pointer: Pointer,
     len: u64,
     t: &mut Touched,
-) -> Result<Option<ObjName>, LibAnswer> {
-    let addr = pointer.addr;
-    if addr == 0 {
-        return Err(LibAnswer::Raise(Clause::LibraryArgument));
-    }
+) -> Result<Option<ObjName>, LibAnswer>
+    ensures { (io : Io) → HasCell m.now pointer.prov → Follows true (λ x. x) result m.now io t.old t.new (argument_object m.now.rows len pointer.addr pointer.prov) }
+{
     match pointer.prov {
         Prov::Empty => Err(LibAnswer::Raise(Clause::LibraryArgument)),
         Prov::Whole(object) => Ok(Some(object)),
         Prov::Either { id, past, start } => {
-            let in_past = place_in(m, past, addr, len).is_some();
-            let in_start = place_in(m, start, addr, len).is_some();
-            match (in_past, in_start) {
-                (true, true) => Ok(None),
-                (true, false) => Ok(Some(keep_one(m, id, past, t)?)),
-                (false, true) => Ok(Some(keep_one(m, id, start, t)?)),
-                (false, false) => Err(LibAnswer::Raise(Clause::LibraryArgument)),
-            }
+            let in_past = has_range(m, past, pointer.addr, len);
+            let in_start = has_range(m, start, pointer.addr, len);
+            one_of(m, in_past, in_start, id, past, start, t)
         }
     }
 }
 
-fn is_live(m: &Memory, object: ObjName) -> bool {
+fn is_live(m: &Memory, object: ObjName) -> bool
+    ensures { result ≡ is_live (life_in (held_of m.now.objects object)) }
+{
     match m.object(object) {
         Some(state) => state.live,
         None => false,
+    }
+}
+
+// The range in the object: 6.2.4p2 where the object is dead, then 7.1.4p1 where the range isn't in it.
+fn range_of(
+    m: &Memory,
+    object: ObjName,
+    addr: u64,
+    len: u64,
+    t: &mut Touched,
+) -> Result<Range, LibAnswer>
+    ensures follows { (io : Io) → Follows true (λ r. Some (accessed m.now r)) result m.now io t.old t.new (argument_in m.now.rows len addr (Some object)) }
+    ensures range { IfOk result (λ r. IsRange len (Some r)) }
+    ensures items { OnOk result (t.new ≡ t.old ++ Alive object ∷ []) }
+{
+    t.add(Item::Alive(object))?;
+    if !is_live(m, object) {
+        return Err(LibAnswer::Raise(Clause::DeadObject));
+    }
+    match place_in(m, object, addr, len) {
+        Some(from) => Ok(Range { object, from, len }),
+        None => Err(LibAnswer::Raise(Clause::LibraryArgument)),
     }
 }
 
@@ -166,26 +273,39 @@ pub fn check(
     pointer: Pointer,
     len: u64,
     t: &mut Touched,
-) -> Result<Option<Range>, LibAnswer> {
+) -> Result<Option<Range>, LibAnswer>
+    ensures follows { (io : Io) → HasCell m.now pointer.prov → Follows true (accessed_if m.now) result m.now io t.old t.new (argument m.now.rows len pointer.addr pointer.prov) }
+    ensures range { IfOk result (IsRange len) }
+    ensures grows { (io : Io) → HasCell m.now pointer.prov → IfOk result (λ range. IfSome range (λ r. length t.old < length t.new)) }
+{
+    if pointer.addr == 0 {
+        return Err(LibAnswer::Raise(Clause::LibraryArgument));
+    }
     let Some(object) = object_of(m, pointer, len, t)? else {
         return Ok(None);
     };
-    t.add(Item::Alive(object))?;
-    if !is_live(m, object) {
-        return Err(LibAnswer::Raise(Clause::DeadObject));
-    }
-    match place_in(m, object, pointer.addr, len) {
-        Some(from) => Ok(Some(Range { object, from, len })),
-        None => Err(LibAnswer::Raise(Clause::LibraryArgument)),
+    let range = range_of(m, object, pointer.addr, len, t)?;
+    Ok(Some(range))
+}
+
+fn is_zero(m: &Memory, object: ObjName, at: u64) -> bool
+    ensures { result ≡ is_zero (byte_at m.now object at).byte }
+{
+    match m.byte(object, at) {
+        MemByte::Unwritten => false,
+        MemByte::Written { number, .. } => number == 0,
     }
 }
 
-// How many bytes stand before the first written zero, if the object has one from the place on.
-fn length_in(m: &Memory, object: ObjName, from: u64) -> Option<u64> {
+// How many bytes a string has with its zero, if the object has a written zero from the place on.
+fn string_size(m: &Memory, object: ObjName, from: u64) -> Option<u64>
+    ensures size { result ≡ string_size (byte_at m.now object) (size_in (row_of m.now.rows object) - from) from }
+    ensures short { IfSome result (λ size. from + size < 2 ^ 64) }
+{
     let row = m.map().row(object)?;
     for at in from..row.size {
-        if let MemByte::Written { number: 0, .. } = m.byte(object, at) {
-            return Some(at - from);
+        if is_zero(m, object, at) {
+            return Some((at - from).saturating_add(1));
         }
     }
     None
@@ -200,7 +320,7 @@ pub fn bounded_length(m: &Memory, object: ObjName, from: u64, most: u64) -> Opti
         if at >= row.size {
             return None;
         }
-        if let MemByte::Written { number: 0, .. } = m.byte(object, at) {
+        if is_zero(m, object, at) {
             return Some(offset.saturating_add(1));
         }
     }
@@ -208,17 +328,25 @@ pub fn bounded_length(m: &Memory, object: ObjName, from: u64, most: u64) -> Opti
 }
 
 /// The string that a pointer argument names, with its zero: the checks of its first byte, and 7.1.4p1 where the object has no
-/// zero behind it.
-pub fn check_string(m: &Memory, pointer: Pointer, t: &mut Touched) -> Result<Range, LibAnswer> {
+/// zero behind it. `t` gains the items, the read of the string among them.
+pub fn check_string(m: &Memory, pointer: Pointer, t: &mut Touched) -> Result<Range, LibAnswer>
+    ensures follows { (io : Io) → HasCell m.now pointer.prov → Follows false (text_in m.now) result m.now io t.old t.new (text m.now.rows pointer.addr pointer.prov) }
+    ensures short { IfOk result IsShort }
+{
     let Some(first) = check(m, pointer, 1, t)? else {
         return Err(LibAnswer::Raise(Clause::LibraryArgument));
     };
-    match length_in(m, first.object, first.from) {
-        Some(len) => Ok(Range {
-            object: first.object,
-            from: first.from,
-            len: len.saturating_add(1),
-        }),
-        None => Err(LibAnswer::Raise(Clause::LibraryArgument)),
-    }
+    let Some(len) = string_size(m, first.object, first.from) else {
+        return Err(LibAnswer::Raise(Clause::LibraryArgument));
+    };
+    t.add(Item::Read {
+        object: first.object,
+        from: first.from,
+        len,
+    })?;
+    Ok(Range {
+        object: first.object,
+        from: first.from,
+        len,
+    })
 }

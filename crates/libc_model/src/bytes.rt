@@ -1,4 +1,10 @@
 // Bytes that library functions read and write.
+ghost use Rattle.std.specs.Prelude.{◌≡◌, ◌++◌, ◌∷◌, [], map, OnOk};
+ghost use Rattle.ub_base.specs.declared.names.Item.TheVariants.{Expose};
+ghost use Rattle.prov_memory.specs.Acts.{candidates};
+ghost use Rattle.prov_memory.specs.Streams.{Io};
+ghost use Rattle.prov_memory.specs.Memory.{AreKnown, store_of};
+ghost use Rattle.libc_model.specs.Parts.{after, CanFollow, byte_at, bytes_of, IsShort, ReadsByte, ReadsAll, IsSettled, AreSettled};
 
 use crate::arguments::Range;
 use exposure::Prov;
@@ -6,8 +12,10 @@ use prov_memory::{Block, LibAnswer, MemByte, Memory, Touched, Via};
 use std::alloc::Global;
 use ub_base::{Clause, Item, NoMemory, ObjName};
 
-// Adds what the piece of a pointer exposes.
-fn add_exposed(prov: Prov, t: &mut Touched) -> Result<(), NoMemory> {
+/// Adds what a pointer exposes when it is seen as a number, also where a piece of it is.
+pub fn expose(prov: Prov, t: &mut Touched) -> Result<(), NoMemory>
+    ensures { OnOk result (t.new ≡ t.old ++ map Expose (candidates prov)) }
+{
     match prov {
         Prov::Empty => Ok(()),
         Prov::Whole(object) => t.add(Item::Expose(object)),
@@ -18,20 +26,16 @@ fn add_exposed(prov: Prov, t: &mut Touched) -> Result<(), NoMemory> {
     }
 }
 
-/// Adds what a pointer exposes when it is seen as a number.
-pub fn expose(prov: Prov, t: &mut Touched) -> Result<(), NoMemory> {
-    add_exposed(prov, t)
-}
-
-/// Whether each byte of the range is written; J.2-indeterminate where one isn't.
-pub fn check_written(m: &Memory, range: Range) -> Result<(), Clause> {
-    for offset in 0..range.len {
-        let at = range.from.saturating_add(offset);
-        if m.byte(range.object, at) == MemByte::Unwritten {
-            return Err(Clause::Indeterminate);
-        }
+/// Adds the read of a range that isn't empty.
+pub fn add_read(range: Range, t: &mut Touched) -> Result<(), NoMemory> {
+    if range.len == 0 {
+        return Ok(());
     }
-    Ok(())
+    t.add(Item::Read {
+        object: range.object,
+        from: range.from,
+        len: range.len,
+    })
 }
 
 /// The bytes of a range: J.2-indeterminate where one is unwritten. `t` gains the read, and what the pieces of pointers
@@ -42,27 +46,43 @@ pub fn read(
     range: Range,
     t: &mut Touched,
 ) -> Result<Vec<u8>, LibAnswer> {
+    add_read(range, t)?;
+    numbers(alloc, m, range, t)
+}
+
+/// The bytes of a range whose read `t` has: J.2-indeterminate where one is unwritten. `t` gains what the pieces of pointers
+/// among the bytes expose.
+pub fn numbers(
+    alloc: Global,
+    m: &Memory,
+    range: Range,
+    t: &mut Touched,
+) -> Result<Vec<u8>, LibAnswer>
+    ensures { IsShort range → ReadsAll (λ v. v.items) result (bytes_of m.now range) t.old t.new }
+{
     let mut numbers = Vec::new(alloc);
-    if range.len != 0 {
-        t.add(Item::Read {
-            object: range.object,
-            from: range.from,
-            len: range.len,
-        })?;
-    }
     for offset in 0..range.len {
         let number = read_byte(m, range.object, range.from.saturating_add(offset), t)?;
-        numbers.push(number).map_err(NoMemory::from)?;
+        push_number(&mut numbers, number)?;
     }
     Ok(numbers)
 }
 
-fn read_byte(m: &Memory, object: ObjName, at: u64, t: &mut Touched) -> Result<u8, LibAnswer> {
+fn push_number(numbers: &mut Vec<u8>, number: u8) -> Result<(), NoMemory>
+    ensures { OnOk result (numbers.new.items ≡ numbers.old.items ++ number ∷ []) }
+{
+    numbers.push(number)?;
+    Ok(())
+}
+
+fn read_byte(m: &Memory, object: ObjName, at: u64, t: &mut Touched) -> Result<u8, LibAnswer>
+    ensures { ReadsByte result (byte_at m.now object at) t.old t.new }
+{
     match m.byte(object, at) {
         MemByte::Unwritten => Err(LibAnswer::Raise(Clause::Indeterminate)),
         MemByte::Written { number, piece } => {
             if let Some((origin, _)) = piece {
-                add_exposed(m.prov(origin), t)?;
+                expose(m.prov(origin), t)?;
             }
             Ok(number)
         }
@@ -139,15 +159,32 @@ pub fn put(
     Ok(())
 }
 
-/// Settles the ambiguities and exposes the objects that the items name.
-pub fn settle(m: &mut Memory, t: &Touched, scratch: &mut Touched) {
-    for item in t.items() {
-        match *item {
-            Item::Narrow { id, keep } => {
-                let _ = m.narrow(id, keep);
-            }
-            Item::Expose(object) => m.expose(Prov::Whole(object), scratch),
-            _ => {}
+// Settles the ambiguity, or exposes the object, that the item names.
+fn take_effect(m: &mut Memory, item: Item, scratch: &mut Touched)
+    ensures { IsSettled m.old m.new item }
+{
+    match item {
+        Item::Narrow { id, keep } => {
+            let _ = m.narrow(id, keep);
         }
+        Item::Expose(object) => m.expose(Prov::Whole(object), scratch),
+        _ => {}
+    }
+}
+
+/// Settles the ambiguities and exposes the objects that the items name.
+pub fn settle(m: &mut Memory, t: &Touched, scratch: &mut Touched)
+    ensures store { (io : Io) → CanFollow m.old.cells t.now (store_of m.old io) → store_of m.new io ≡ after t.now (store_of m.old io) }
+    ensures rows { m.new.rows ≡ m.old.rows }
+    ensures known { AreKnown m.old → AreKnown m.new }
+{
+    settle_each(m, t.items(), scratch);
+}
+
+fn settle_each(m: &mut Memory, items: &[Item], scratch: &mut Touched)
+    ensures { AreSettled m.old m.new items.now }
+{
+    for item in items {
+        take_effect(m, *item, scratch);
     }
 }

@@ -11,7 +11,7 @@ ghost use Rattle.libc_model.specs.Seen.{values_seen};
 ghost use Rattle.libc_model.specs.Answers.{IsCall, AreWithin, Answers, answer_in, given_value, is_exact, gives_value, leaves_all, wants_memory};
 
 use crate::arguments::{check_string, int_at, pointer_at, size_at};
-use crate::bytes::{read, settle};
+use crate::bytes::{numbers, settle};
 use crate::{heap, ranges, strings};
 use c_types::LibFunc;
 use prov_memory::{LibAnswer, Memory, Streams, Touched, Value, Values};
@@ -166,7 +166,7 @@ fn puts(
     ensures streams { OnErr result (io.new ≡ io.old) }
 {
     let range = check_string(m, pointer_at(args, 0), t)?;
-    let mut text = read(alloc, m, range, t)?;
+    let mut text = numbers(alloc, m, range, t)?;
     let _ = text.pop();
     text.push(b'\n').map_err(NoMemory::from)?;
     check_output(io, text.len() as u64)?;

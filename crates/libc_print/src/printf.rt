@@ -12,7 +12,8 @@ use crate::refusal::Refusal;
 use crate::values::{Arguments, take_int, take_integer, take_pointer, take_precision, take_width};
 use c_types::Qual;
 use libc_model::{
-    Pointer, Range, check, check_output, check_string, expose, low_byte, pointer_at, read, settle,
+    Pointer, Range, add_read, check, check_output, check_string, expose, low_byte, numbers,
+    pointer_at, settle,
 };
 use prov_memory::{LibAnswer, Memory, Streams, Touched, Value, Values};
 use std::alloc::Global;
@@ -51,7 +52,7 @@ fn printed(
     ensures streams { OnErr result (io.new ≡ io.old) }
 {
     let range = check_string(m, pointer_at(args, 0), t)?;
-    let mut format = read(alloc, m, range, t)?;
+    let mut format = numbers(alloc, m, range, t)?;
     let _ = format.pop();
     let out = text_of(alloc, format.as_slice(), args, types, m, t)?;
     let count = out.len() as u64;
@@ -191,7 +192,7 @@ fn string_of(
             None => return Ok(Vec::new(alloc)),
         },
     };
-    let mut text = read(alloc, m, range, t)?;
+    let mut text = numbers(alloc, m, range, t)?;
     if text.last() == Some(&0) {
         let _ = text.pop();
     }
@@ -209,11 +210,15 @@ fn bounded_string(
         return Ok(None);
     };
     match libc_model::bounded_length(m, first.object, first.from, most) {
-        Some(len) => Ok(Some(Range {
-            object: first.object,
-            from: first.from,
-            len,
-        })),
+        Some(len) => {
+            let range = Range {
+                object: first.object,
+                from: first.from,
+                len,
+            };
+            add_read(range, t)?;
+            Ok(Some(range))
+        }
         None => Err(LibAnswer::Raise(Clause::LibraryArgument)),
     }
 }

@@ -8,6 +8,9 @@ use Rattle.ub_base.specs.declared.clause.Cause.TheVariants.{Output as PastOutput
 use Rattle.ub_base.specs.declared.names.Event.{Event}
 use Rattle.ub_base.specs.declared.names.ObjName.{ObjName}
 use Rattle.ub_base.specs.declared.names.ObjName.TheVariants.{Heap}
+use Rattle.ub_base.specs.declared.names.Item.{Item}
+use Rattle.ub_base.specs.declared.names.Item.TheVariants.{Read}
+use Rattle.ub_base.specs.Names.{same_object}
 use Rattle.addr_map.specs.declared.map.Row.{Row}
 use Rattle.addr_map.specs.Rows.{row_of}
 use Rattle.exposure.specs.declared.prov.Prov.{Prov}
@@ -325,6 +328,32 @@ library rows Printf vs who = Give nothing
 library rows Exit vs who = Finish (low_byte (integer_in (argument_at vs 0)))
 library rows Abort vs who = Finish 134
 
+-- the functions that read strings
+abbrev pub reads_strings : LibFunc → Bool
+reads_strings Strlen = true
+reads_strings Strcpy = true
+reads_strings Strcmp = true
+reads_strings Strchr = true
+reads_strings Puts = true
+reads_strings _ = false
+
+-- two reads are one where the second begins where the first ends
+abbrev pub joins : Item → List Item → List Item
+joins (Read x a n) (Read y b m ∷ is) = if same_object x y && b == a + n then Read x a (n + m) ∷ is else Read x a n ∷ Read y b m ∷ is
+joins i is = i ∷ is
+
+abbrev pub joined : List Item → List Item
+joined [] = []
+joined (i ∷ is) = joins i (joined is)
+
+-- a string is read byte by byte up to its zero; the items of a call name all of it by one range (own)
+abbrev pub in_ranges : Act LibValue → Act LibValue
+in_ranges (Done v is s) = Done v (joined is) s
+in_ranges act = act
+
+abbrev pub noted : LibFunc → Act LibValue → Act LibValue
+noted f act = if reads_strings f then in_ranges act else act
+
 -- how many bytes a call allocates
 abbrev pub asked : LibFunc → List LibValue → ℕ
 asked Malloc vs = size_of_value (argument_at vs 0)
@@ -347,4 +376,4 @@ output_within act = act
 
 -- a call of a library function, with the limits
 abbrev pub called : List Row → LibFunc → List LibValue → Event → Store → Act LibValue
-called rows f vs who s = output_within (created_within (asked f vs) s (run rows (library rows f vs who) s))
+called rows f vs who s = output_within (created_within (asked f vs) s (noted f (run rows (library rows f vs who) s)))

@@ -8,6 +8,7 @@ returns c = record {
   no_zero = refl;
   null_text = refl;
   below = refl;
+  below_items = refl;
   found = refl;
   not_found = refl;
   on_itself = refl;

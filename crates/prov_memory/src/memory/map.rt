@@ -159,6 +159,7 @@ impl Memory {
     pub fn expose(&mut self, prov: Prov, t: &mut Touched)
         ensures known { AreKnown self.old → AreKnown self.new }
         ensures named { AreNamed self.old → AreNamed self.new }
+        ensures rest { record self.new { objects = [] } ≡ record self.old { objects = [] } }
         ensures exact { (io : Io) → run self.new.rows (acts.expose prov) (store_of self.old io) ≡ Done tt t.new (store_of self.new io) }
     {
         t.clear();

@@ -1,7 +1,7 @@
 use Rattle.std.proofs.Common.{◌∙◌, to_z, of_z, rules}
 use Rattle.std.specs.Int.{w128}
 use Rattle.std.proofs.lemmas.Int.{to_z-of_z}
-use Rattle.c_types.specs.declared.library.LibFunc.TheVariants.{Malloc, Getchar, Putchar, Exit, Abort}
+use Rattle.c_types.specs.declared.library.LibFunc.TheVariants.{Malloc, Strlen, Strcmp, Getchar, Putchar, Exit, Abort}
 use Rattle.prov_memory.specs.Memory.{store_of}
 use Rattle.libc_model.specs.Seen.{values_seen}
 use Rattle.libc_model.specs.Answers.{answer_in}
@@ -12,6 +12,16 @@ pub returns-in-Malloc-clause-exact : goal.returns-in-Malloc-clause-exact
 returns-in-Malloc-clause-exact c =
     arm c.args.f Malloc c.allocate.new.m.rows (values_seen c.args.args.now) c.args.who c.args.m.now c.args.io.now (answer_in c.allocate.result) c.allocate.new.t (store_of c.allocate.new.m c.args.io.now) (store_of c.args.m.now c.args.io.now) c.in-Malloc.is
     (λ call. malloc_called c.allocate.new.m.rows (values_seen c.args.args.now) c.args.who c.size_at.result (store_of c.args.m.now c.args.io.now) (store_of c.allocate.new.m c.args.io.now) c.allocate.result c.allocate.new.t call.streams.taken call.streams.written (c.size_at.ensures (first_size (values_seen c.args.args.now) call.sizes)) (c.allocate.ensures.exact c.args.io.now call.known))
+
+pub returns-in-Strlen-clause-exact : goal.returns-in-Strlen-clause-exact
+returns-in-Strlen-clause-exact c =
+    arm c.args.f Strlen c.length.new.m.rows (values_seen c.args.args.now) c.args.who c.args.m.now c.args.io.now (answer_in c.length.result) c.length.new.t (store_of c.length.new.m c.args.io.now) (store_of c.args.m.now c.args.io.now) c.in-Strlen.is
+    (c.length.ensures.exact c.args.io.now c.args.who)
+
+pub returns-in-Strcmp-clause-exact : goal.returns-in-Strcmp-clause-exact
+returns-in-Strcmp-clause-exact c =
+    arm c.args.f Strcmp c.compare_strings.new.m.rows (values_seen c.args.args.now) c.args.who c.args.m.now c.args.io.now (answer_in c.compare_strings.result) c.compare_strings.new.t (store_of c.compare_strings.new.m c.args.io.now) (store_of c.args.m.now c.args.io.now) c.in-Strcmp.is
+    (c.compare_strings.ensures.exact c.args.io.now c.args.who)
 
 pub returns-in-Getchar-clause-exact : goal.returns-in-Getchar-clause-exact
 returns-in-Getchar-clause-exact c =

@@ -1,5 +1,6 @@
-use Rattle.std.proofs.Common.{length}
+use Rattle.std.proofs.Common.{length, ap, []}
 use Rattle.prov_memory.specs.Acts.{candidates}
+use Rattle.prov_memory.specs.Memory.{Kept}
 use Rattle.prov_memory.proofs.ActLemmas.{first_noted_all, exposed_act, known_uncovered}
 use Rattle.prov_memory.proofs.PieceLemmas.{named_uncovered}
 use Rattle.prov_memory.proofs.memory.Memory.expose.Goals as goal
@@ -15,3 +16,6 @@ returns-clause-known c = λ known.
 pub returns-clause-named : goal.returns-clause-named
 returns-clause-named c = λ named.
     rw c.show_each.ensures.shown (named_uncovered c.args.self.now.origins (candidates c.args.prov) c.args.self.now.objects named)
+
+pub returns-clause-rest : goal.returns-clause-rest
+returns-clause-rest c = ap (λ (m : Kept). record m { objects = [] }) c.show_each.ensures.shown
