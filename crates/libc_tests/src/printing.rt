@@ -3,7 +3,7 @@
 use crate::fixture::{LITERAL, PLAIN, memory, object, streams};
 use c_types::{IntKind, Qual, Shared, Ty};
 use exposure::Prov;
-use prov_memory::{LibAnswer, Memory, Streams, Touched, Value, Values};
+use prov_memory::{LibAnswer, Memory, ObjKind, Streams, Touched, Value, Values};
 use sqlite_items::Items;
 use std::alloc::Global;
 use ub_base::{Cause, ObjName};
@@ -52,117 +52,139 @@ fn pointer(alloc: Global, ty: Ty) -> Option<Ty> {
     Some(Ty::Pointer(Shared::new(alloc, target).ok()?))
 }
 
-// A pointer to an object of its own that holds the text.
-fn text_object(
-    alloc: Global,
-    m: &mut Memory,
-    number: u32,
-    kind: &str,
-    text: &str,
-    t: &mut Touched,
-) -> Option<Value> {
+// The object that a word makes of a text: a literal, or one of char with so many unwritten bytes behind the text.
+fn object_of(word: &str, number: u32) -> Option<(ObjName, ObjKind, u64)> {
+    if word == "text" {
+        return Some((ObjName::Lit(number), LITERAL, 0));
+    }
+    if word == "chars" {
+        return Some((ObjName::Static(number), PLAIN, 0));
+    }
+    if word == "room" {
+        return Some((ObjName::Static(number), PLAIN, 2));
+    }
+    None
+}
+
+// The bytes of a text, with a zero where they are those of a literal.
+fn bytes_of(alloc: Global, text: &str, is_literal: bool) -> Option<Vec<u8>> {
     let mut bytes = Vec::from_slice(alloc, text.as_bytes()).ok()?;
-    let (name, of, room) = if kind == "text" {
+    if is_literal {
         bytes.push(0).ok()?;
-        (ObjName::Lit(number), LITERAL, 0)
-    } else if kind == "chars" {
-        (ObjName::Static(number), PLAIN, 0)
-    } else if kind == "room" {
-        (ObjName::Static(number), PLAIN, 2)
-    } else {
-        return None;
-    };
-    let size = (bytes.len() as u64).saturating_add(room);
-    let addr = object(alloc, m, name, size, of, bytes.as_slice(), t)?;
-    Some(Value::Ptr {
-        addr,
-        prov: Prov::Whole(name),
-    })
+    }
+    Some(bytes)
 }
 
-// The value and the type that a word and what stands behind it give.
-fn argument(
-    alloc: Global,
-    m: &mut Memory,
-    number: u32,
-    word: &str,
-    text: &str,
-    t: &mut Touched,
-) -> Option<(Value, Ty)> {
-    if let Some(kind) = kind_of(word) {
-        let value = text.parse::<i128>().ok()?;
-        return Some((Value::Int(value), Ty::Int(kind)));
-    }
-    if word == "to" {
-        let (target, addr) = text.split_once(' ')?;
-        let addr = addr.parse::<u64>().ok()?;
-        let ty = pointer(alloc, target_of(target)?)?;
-        let prov = Prov::Empty;
-        return Some((Value::Ptr { addr, prov }, ty));
-    }
-    let value = text_object(alloc, m, number, word, text, t)?;
-    Some((value, pointer(alloc, Ty::Int(IntKind::Char))?))
-}
-
-// The arguments of a call.
+// A call of printf.
 #[derive(Drop)]
-struct Given {
+struct Call {
+    alloc: Global,
+    memory: Memory,
+    touched: Touched,
     values: Values,
     types: Vec<Qual>,
 }
 
-impl Given {
-    fn add(
-        &mut self,
-        alloc: Global,
-        m: &mut Memory,
-        number: u32,
-        one: &str,
-        t: &mut Touched,
-    ) -> Option<()> {
-        let (word, text) = one.split_once(' ')?;
-        let (value, ty) = argument(alloc, m, number, word, text, t)?;
-        self.values.push(value).ok()?;
+fn new_call(alloc: Global) -> Option<Call> {
+    let touched = Touched::new(alloc).ok()?;
+    Some(Call {
+        alloc,
+        memory: memory(alloc),
+        touched,
+        values: Items::new(alloc),
+        types: Vec::new(alloc),
+    })
+}
+
+// The call with this format and these arguments.
+fn call_of(alloc: Global, format: &str, words: &str) -> Option<Call> {
+    let mut call = new_call(alloc)?;
+    call.add_text(0, "text", format)?;
+    call.add_all(words)?;
+    Some(call)
+}
+
+impl Call {
+    fn push(&mut self, value: Value, ty: Ty) -> Option<()> {
         let constant = false;
-        self.types.push(Qual { ty, constant }).ok()
+        self.types.push(Qual { ty, constant }).ok()?;
+        self.values.push(value).ok()
     }
 
-    fn add_all(
-        &mut self,
-        alloc: Global,
-        m: &mut Memory,
-        words: &str,
-        t: &mut Touched,
-    ) -> Option<()> {
+    // Adds a pointer to an object of its own that holds the text.
+    fn add_text(&mut self, number: u32, word: &str, text: &str) -> Option<()> {
+        let (name, kind, room) = object_of(word, number)?;
+        let ty = pointer(self.alloc, Ty::Int(IntKind::Char))?;
+        let addr = self.place(name, kind, room, text)?;
+        let prov = Prov::Whole(name);
+        self.push(Value::Ptr { addr, prov }, ty)
+    }
+
+    fn place(&mut self, name: ObjName, kind: ObjKind, room: u64, text: &str) -> Option<u64> {
+        let bytes = bytes_of(self.alloc, text, kind.literal)?;
+        let size = (bytes.len() as u64).saturating_add(room);
+        let bytes = bytes.as_slice();
+        object(
+            self.alloc,
+            &mut self.memory,
+            name,
+            size,
+            kind,
+            bytes,
+            &mut self.touched,
+        )
+    }
+
+    fn add_address(&mut self, text: &str) -> Option<()> {
+        let (target, addr) = text.split_once(' ')?;
+        let addr = addr.parse::<u64>().ok()?;
+        let ty = pointer(self.alloc, target_of(target)?)?;
+        let prov = Prov::Empty;
+        self.push(Value::Ptr { addr, prov }, ty)
+    }
+
+    // Adds the argument that a type and what stands behind it give.
+    fn add(&mut self, number: u32, one: &str) -> Option<()> {
+        let (word, text) = one.split_once(' ')?;
+        if let Some(kind) = kind_of(word) {
+            let value = text.parse::<i128>().ok()?;
+            return self.push(Value::Int(value), Ty::Int(kind));
+        }
+        if word == "to" {
+            return self.add_address(text);
+        }
+        self.add_text(number, word, text)
+    }
+
+    fn add_all(&mut self, words: &str) -> Option<()> {
         let mut rest = words;
         for number in 1..MOST {
             if rest.is_empty() {
                 return Some(());
             }
             let (one, behind) = rest.split_once(", ").unwrap_or((rest, ""));
-            self.add(alloc, m, number, one, t)?;
+            self.add(number, one)?;
             rest = behind;
         }
         None
+    }
+
+    fn answer(&mut self, io: &mut Streams) -> LibAnswer {
+        libc_print::format(
+            self.alloc,
+            &self.values,
+            self.types.as_slice(),
+            &mut self.memory,
+            io,
+            &mut self.touched,
+        )
     }
 }
 
 // What printf answers to a call with these streams.
 fn called(alloc: Global, format: &str, words: &str, io: &mut Streams) -> Option<LibAnswer> {
-    let mut m = memory(alloc);
-    let mut t = Touched::new(alloc).ok()?;
-    let mut given = Given {
-        values: Items::new(alloc),
-        types: Vec::new(alloc),
-    };
-    let value = text_object(alloc, &mut m, 0, "text", format, &mut t)?;
-    given.values.push(value).ok()?;
-    let ty = pointer(alloc, Ty::Int(IntKind::Char))?;
-    let constant = false;
-    given.types.push(Qual { ty, constant }).ok()?;
-    given.add_all(alloc, &mut m, words, &mut t)?;
-    let types = given.types.as_slice();
-    Some(libc_print::format(alloc, &given.values, types, &mut m, io, &mut t))
+    let mut call = call_of(alloc, format, words)?;
+    Some(call.answer(io))
 }
 
 fn ends_in(text: &str, before: &str, number: u64) -> bool {
