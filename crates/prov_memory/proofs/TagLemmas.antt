@@ -4,27 +4,20 @@ use Rattle.std.specs.Prelude.{Result, Ok, Err, IfOk, OnOk, nat_le, option_map, �
 use Rattle.std.proofs.lemmas.Bool.Decides.{nat_tests}
 use Rattle.std.proofs.lemmas.List.{map-append}
 use Rattle.exposure.specs.declared.prov.Prov.{Prov}
-use Rattle.c_types.specs.declared.kind.IntKind.{IntKind}
-use Rattle.c_types.specs.declared.kind.IntKind.TheVariants as kinds
 use Rattle.c_types.specs.declared.ty.Ty.{Ty}
 use Rattle.c_types.specs.Types.{CType, void, int, enumeration, pointer, array, struct, union, function, Params, none, more, type_of}
-use Rattle.c_types.specs.Shapes.{Form, Forms, form_of, forms_of, Put, put_of}
-use Rattle.c_types.specs.Shapes as shapes
+use Rattle.c_types.specs.Shapes.{Form, form_of, forms_of, Put, put_of}
 use Rattle.c_types.specs.declared.shape.Placed.{Placed}
 use Rattle.prov_memory.specs.declared.cell.Cell.{Cell}
-use Rattle.prov_memory.specs.declared.cell.TypeId.{TypeId}
-use Rattle.prov_memory.specs.declared.cell.State.{State}
-use Rattle.prov_memory.specs.declared.cell.State.TheVariants as states
 use Rattle.ub_base.specs.declared.names.ObjName.{ObjName}
 use Rattle.ub_base.specs.Names.{same_object}
 use Rattle.exposure.specs.Cells.{kept_in}
 use Rattle.prov_memory.specs.declared.types.Spanned.{Spanned}
-use Rattle.prov_memory.specs.declared.types.Spanned.TheVariants as spans
-use Rattle.prov_memory.specs.Agreement.{Tag, number_of_kind, read_as_int, spanning, spanning_parts, the_one, declared_tag}
-use Rattle.prov_memory.specs.Store.{Store, Byte, TaggedByte, range_from}
+use Rattle.prov_memory.specs.Agreement.{Tag, spanning, spanning_parts}
+use Rattle.prov_memory.specs.Store.{TaggedByte, range_from}
 use Rattle.prov_memory.specs.Acts.{retagged}
 use Rattle.prov_memory.specs.Streams.{Io}
-use Rattle.prov_memory.specs.Cells.{cell_at, byte_in, byte_in_state, kind_numbered, integer_or, type_numbered, tag_in, tagged_in}
+use Rattle.prov_memory.specs.Cells.{cell_at, byte_in, kind_numbered, integer_or, type_numbered, tagged_in}
 use Rattle.prov_memory.specs.Held.{Held, held_of}
 use Rattle.prov_memory.specs.Memory.{Kept, store_of, life_in, is_shown, tagged_in_object}
 use Rattle.prov_memory.specs.Access.{bytes_in}
@@ -57,20 +50,6 @@ mapped_at (t ∷ ts) (suc k) = mapped_at ts k
 
 pub listed_at : (ts : List Ty) (k : ℕ) (t : Ty) (ty : CType) → Some t ≡ slice_get ts k → IsSame (type_of t) ty → slice_get (map type_of ts) k ≡ Some ty
 listed_at ts k t ty at same = mapped_at ts k ∙ ap (option_map type_of) (sym at) ∙ ap Some (same_is (type_of t) ty same)
-
-pub kind_is : (k : IntKind) (n : ℕ) → n ≡ number_of_kind k → (ts : List CType) → (type_numbered ts n ≡ Some (int k)) × (n ≤ 12)
-kind_is kinds.Bool n e = λ ts. (rw e refl, omega (arith, e))
-kind_is kinds.Char n e = λ ts. (rw e refl, omega (arith, e))
-kind_is kinds.SChar n e = λ ts. (rw e refl, omega (arith, e))
-kind_is kinds.UChar n e = λ ts. (rw e refl, omega (arith, e))
-kind_is kinds.Short n e = λ ts. (rw e refl, omega (arith, e))
-kind_is kinds.UShort n e = λ ts. (rw e refl, omega (arith, e))
-kind_is kinds.Int n e = λ ts. (rw e refl, omega (arith, e))
-kind_is kinds.UInt n e = λ ts. (rw e refl, omega (arith, e))
-kind_is kinds.Long n e = λ ts. (rw e refl, omega (arith, e))
-kind_is kinds.ULong n e = λ ts. (rw e refl, omega (arith, e))
-kind_is kinds.LLong n e = λ ts. (rw e refl, omega (arith, e))
-kind_is kinds.ULLong n e = λ ts. (rw e refl, omega (arith, e))
 
 apart : (n m : ℕ) → m < n → (n == m) ≡ false
 apart n m lt = grind (arith, nat_tests)
@@ -189,13 +168,6 @@ tagged_stays : (ps : List Prov) (ts extra : List Ty) (c : Cell) → c.tag.number
 tagged_stays ps ts extra c e =
     ap (λ (o : Option CType). record { byte = byte_in ps c; tag = option_map (λ (ty : CType). (ty, c.tag_index)) o }) (type_stays ts extra c.tag.number e)
 
-pub adds_none : (m : Kept) → AddsTypes m m
-adds_none m = ([], ap (λ (ts : List Ty). record m { types = ts }) (sym (none_more m.types)))
-  where
-    none_more : (ts : List Ty) → ts ++ [] ≡ ts
-    none_more [] = refl
-    none_more (t ∷ ts) = ap (λ (l : List Ty). t ∷ l) (none_more ts)
-
 pub adds_then : (a b c : Kept) → AddsTypes a b → AddsTypes b c → AddsTypes a c
 adds_then a b c p q = (p.0 ++ q.0, q.1 ∙ ap (λ (k : Kept). record k { types = k.types ++ q.0 }) p.1 ∙ ap (λ (ts : List Ty). record a { types = ts }) (append_assoc a.types p.0 q.0))
 
@@ -265,30 +237,6 @@ pub store_adds : (a b : Kept) → AddsTypes a b → AreTagged a → (io : Io) �
 store_adds a b p known io = ap (λ (k : Kept). store_of k io) p.1 ∙ store_types a p.0 known io
 
 -- ---- what spans a byte
-pub none_and : (other : Spanned) (xs ys : List Tag) → xs ≡ [] → Spans other ys → Spans other (xs ++ ys)
-none_and other xs ys e s = subst (λ (l : List Tag). Spans other (l ++ ys)) (sym e) s
-
-pub one_none : (found : Spanned) (xs ys : List Tag) → Spans found xs → ys ≡ [] → Spans found (xs ++ ys)
-one_none found xs ys s e = subst (λ (l : List Tag). Spans found l) (sym (ap (λ (l : List Tag). xs ++ l) e ∙ none_more xs)) s
-  where
-    none_more : (l : List Tag) → l ++ [] ≡ l
-    none_more [] = refl
-    none_more (t ∷ l) = ap (λ (k : List Tag). t ∷ k) (none_more l)
-
-pub one_one : (xs ys : List Tag) (s t : Tag) → xs ≡ s ∷ [] → ys ≡ t ∷ [] → 2 ≤ length (xs ++ ys)
-one_one xs ys s t e f = rw (e, f) (omega arith)
-
-pub one_several : (xs ys : List Tag) → 2 ≤ length ys → 2 ≤ length (xs ++ ys)
-one_several xs ys e = omega (arith, length-append xs ys)
-
-pub several_any : (xs ys : List Tag) → 2 ≤ length xs → 2 ≤ length (xs ++ ys)
-several_any xs ys e = omega (arith, length-append xs ys)
-
-several_none : (tags : List Tag) → 2 ≤ length tags → the_one tags ≡ None
-several_none [] e = refl
-several_none (t ∷ []) e = absurd (omega arith)
-several_none (t ∷ s ∷ tags) e = refl
-
 -- so many parts of a list were looked at
 abbrev pub SpansSo : List Placed → (at i : ℕ) → Spanned → Type 0
 SpansSo ps at i found = (xs : List Tag) × (spanning_parts (forms_of (map put_of ps)) at ≡ xs ++ spanning_parts (forms_of (map put_of (drop i ps))) at) × Spans found xs
@@ -326,25 +274,6 @@ parts_end ps at i found le so =
     no_more [] = refl
     no_more (t ∷ l) = ap (λ (k : List Tag). t ∷ k) (no_more l)
 
--- ---- a byte takes its tag
-byte_retagged : (ps : List Prov) (s : State) (c : Cell) (i : ℕ) (id : TypeId) → byte_in_state ps s (record c { tag_index = i; tag = id }) ≡ byte_in_state ps s c
-byte_retagged ps states.Unwritten c i id = refl
-byte_retagged ps states.Plain c i id = refl
-byte_retagged ps states.Piece c i id = refl
-
-pub untagged_is : (m : Kept) (c : Cell) (form : Form) (place : ℕ) → declared_tag form place ≡ None → tagged_in m.origins (map type_of m.types) (record c { tag = record { number = 0 }; tag_index = 0 }) ≡ retagged_byte (Some form) place (tagged_in m.origins (map type_of m.types) c)
-untagged_is m c form place e = ap₂ (λ (b : Byte) (t : Option Tag). record { byte = b; tag = t }) (byte_retagged m.origins c.state c 0 (record { number = 0 })) (sym e)
-
-pub none_is : (m : Kept) (c : Cell) (form : Form) (place : ℕ) → spanning form place ≡ [] → tagged_in m.origins (map type_of m.types) (record c { tag = record { number = 0 }; tag_index = 0 }) ≡ retagged_byte (Some form) place (tagged_in m.origins (map type_of m.types) c)
-none_is m c form place e = untagged_is m c form place (ap the_one e)
-
-pub several_is : (m : Kept) (c : Cell) (form : Form) (place : ℕ) → 2 ≤ length (spanning form place) → tagged_in m.origins (map type_of m.types) (record c { tag = record { number = 0 }; tag_index = 0 }) ≡ retagged_byte (Some form) place (tagged_in m.origins (map type_of m.types) c)
-several_is m c form place e = untagged_is m c form place (several_none (spanning form place) e)
-
-pub one_is : (old new : Kept) (c : Cell) (form : Form) (place : ℕ) (ty : CType) (index : ℕ) (id : TypeId) → AddsTypes old new → spanning form place ≡ (ty, index) ∷ [] → type_numbered (map type_of new.types) id.number ≡ Some ty → tagged_in new.origins (map type_of new.types) (record c { tag = id; tag_index = index }) ≡ retagged_byte (Some form) place (tagged_in old.origins (map type_of old.types) c)
-one_is old new c form place ty index id p e named =
-    ap₂ (λ (b : Byte) (t : Option Tag). record { byte = b; tag = t }) (byte_retagged new.origins c.state c index id ∙ ap (λ (k : Kept). byte_in k.origins c) p.1) (ap (option_map (λ (t : CType). (t, index))) named ∙ ap the_one (sym e))
-
 -- ---- one byte more
 range_more : (f : ℕ → TaggedByte) (from n : ℕ) → range_from f from (suc n) ≡ range_from f from n ++ f (from + n) ∷ []
 range_more f from zero =
@@ -373,13 +302,6 @@ all_adds a b (c ∷ cs) p known = ap₂ (λ (x : TaggedByte) (xs : List TaggedBy
 tagged_end : (n : ℕ) (cs : List Cell) (c : Cell) → CellsTagged n cs → IsTagged n c → CellsTagged n (cs ++ c ∷ [])
 tagged_end n [] c known k = (k, tt)
 tagged_end n (d ∷ cs) c known k = (known.0, tagged_end n cs c known.1 k)
-
-empty_taken : (o : Option Form) (from : ℕ) → retagged o from [] ≡ []
-empty_taken None from = refl
-empty_taken (Some form) from = refl
-
-pub taken_first : (m : Kept) (h : Held) (o : Option Form) (from : ℕ) (cs : List Cell) → cs ≡ [] → IsTaken m m h o from 0 cs
-taken_first m h o from cs e = subst (λ (l : List Cell). IsTaken m m h o from 0 l) (sym e) (record { bytes = sym (empty_taken o from); tags = tt })
 
 pub taken_next : (old now new : Kept) (h : Held) (o : Option Form) (from n at : ℕ) (cs ds : List Cell) (cell c : Cell) → AddsTypes old now → AddsTypes now new → AreTagged old → slice_get old.objects at ≡ Some h → IsTaken old now h o from n cs → ((g : Held) → slice_get now.objects at ≡ Some g → cell ≡ cell_at g.cells (from + n)) → tagged_in new.origins (map type_of new.types) c ≡ retagged_byte o (from + n) (tagged_in now.origins (map type_of now.types) cell) → (IsTagged (length now.types) cell → IsTagged (length new.types) c) → ds ≡ cs ++ c ∷ [] → IsTaken old new h o from (n + 1) ds
 taken_next old now new h o from n at cs ds cell c p q known there taken is byte keeps e =
