@@ -15,3 +15,5 @@ pub mod LoadLemmas
 pub mod ShowLemmas
 pub mod PointerLemmas
 pub mod ValueLemmas
+pub mod TagLemmas
+pub mod BlockLemmas

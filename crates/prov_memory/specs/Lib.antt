@@ -12,3 +12,4 @@ pub mod Comparing
 pub mod Pieces
 pub mod Stores
 pub mod Loads
+pub mod Tags

@@ -24,13 +24,16 @@ pub struct TypeId {
 }
 
 impl TypeId {
+    ghost use Rattle.prov_memory.specs.Agreement.{number_of_kind};
     ghost use Rattle.prov_memory.specs.Cells.{kind_numbered, is_character_numbered};
 
     /// No type.
     pub const NONE: TypeId = TypeId { number: 0 };
 
     /// The integer type.
-    pub fn of_kind(kind: IntKind) -> TypeId {
+    pub fn of_kind(kind: IntKind) -> TypeId
+        ensures { result.number ≡ number_of_kind kind }
+    {
         let number = match kind {
             IntKind::Bool => 1,
             IntKind::Char => 2,

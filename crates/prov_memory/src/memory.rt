@@ -16,15 +16,16 @@ mod load;
 mod map;
 mod parts;
 mod store;
+mod tags;
+mod whole;
 
 use crate::cell::Cell;
 use crate::object::Object;
 use crate::objects::Objects;
 use crate::origins::Origins;
-use crate::types::{self, kind_id};
-use crate::{CreateFault, MemByte, ObjKind, ObjState, Origin, Touched, TypeId};
+use crate::{CreateFault, MemByte, ObjKind, ObjState, Origin, Touched, TypeId, types};
 use addr_map::{AddrMap, Mode};
-use c_types::{Shape, Ty, copied};
+use c_types::{Shape, Ty};
 use exposure::{Narrowed, Prov};
 use std::alloc::Global;
 use std::marker::Model;
@@ -186,31 +187,6 @@ impl Memory {
         ensures { result ≡ prov_numbered self.now.origins origin.number }
     {
         self.origins.prov(origin)
-    }
-
-    /// The number of a scalar type, so that tags can name it.
-    pub fn type_id(&mut self, ty: &Ty) -> Result<TypeId, NoMemory> {
-        if let Some(id) = self.known_type(ty) {
-            return Ok(id);
-        }
-        let ty = copied(self.alloc, ty)?;
-        self.add_type(ty)
-    }
-
-    fn known_type(&self, ty: &Ty) -> Option<TypeId> {
-        if let Some(id) = kind_id(ty) {
-            return Some(id);
-        }
-        let at = types::place_of(self.types.as_slice(), ty)?;
-        Some(types::id_at(at))
-    }
-
-    fn add_type(&mut self, ty: Ty) -> Result<TypeId, NoMemory>
-        ensures { record self.new { types = [] } ≡ record self.old { types = [] } }
-    {
-        let id = types::id_at(self.types.len());
-        self.types.push(ty)?;
-        Ok(id)
     }
 
     // The number of a provenance that was made in this memory, the empty one's for another.

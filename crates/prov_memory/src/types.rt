@@ -1,16 +1,24 @@
 // The scalar types that tags name.
-ghost use Rattle.std.specs.Prelude.{◌≡◌};
-ghost use Rattle.c_types.specs.Types.{type_of, int};
+ghost use Rattle.std.specs.Prelude.{◌≡◌, ℕ, ◌+◌, ◌-◌, ◌≤◌, ◌++◌, ◌↔◌, IsTrue, List, [], ◌∷◌, Some, None, map, true, slice_get, IfOk, IfSome, if◌then◌else◌, nat_le};
+ghost use Rattle.std.specs.Option.{option_copied};
+ghost use Rattle.c_types.specs.Types.{CType, type_of, qualified_of, signature_of, params_of, int};
+ghost use Rattle.c_types.specs.Shapes.{form_of, put_of, forms_of};
+ghost use Rattle.prov_memory.specs.Agreement.{Tag, read_as_int, scalar_size, spanning, spanning_parts};
+ghost use Rattle.prov_memory.specs.Cells.{type_numbered};
+ghost use Rattle.prov_memory.specs.Tags.{IsSame, AreSame, Alike, SameSignature, Spans};
 
 use crate::TypeId;
 use c_types::{FuncTy, IntKind, Placed, Qual, Shape, Ty};
+use ub_base::NoMemory;
 
 /// The first number of a type that isn't an integer type.
 pub(crate) const FIRST: u32 = 13;
 
 /// Whether it is the same type, enumerations of one number among them.
 #[cycle(same)]
-pub(crate) fn is_same(a: &Ty, b: &Ty) -> bool {
+pub(crate) fn is_same(a: &Ty, b: &Ty) -> bool
+    ensures { IsTrue result ↔ IsSame (type_of a.now) (type_of b.now) }
+{
     match a {
         Ty::Void => matches!(b, Ty::Void),
         Ty::Int(j) => match b {
@@ -26,7 +34,7 @@ pub(crate) fn is_same(a: &Ty, b: &Ty) -> bool {
             _ => false,
         },
         Ty::Array(x, m) => match b {
-            Ty::Array(y, n) => m == n && is_same_qual(x.get(), y.get()),
+            Ty::Array(y, n) => is_same_qual(x.get(), y.get()) && is_same_count(*m, *n),
             _ => false,
         },
         Ty::Struct(m) => match b {
@@ -44,31 +52,46 @@ pub(crate) fn is_same(a: &Ty, b: &Ty) -> bool {
     }
 }
 
+fn is_same_count(m: Option<u64>, n: Option<u64>) -> bool
+    ensures { IsTrue result ↔ (m ≡ n) }
+{
+    m == n
+}
+
 #[cycle(same)]
-fn is_same_qual(a: &Qual, b: &Qual) -> bool {
+fn is_same_qual(a: &Qual, b: &Qual) -> bool
+    ensures { IsTrue result ↔ Alike (qualified_of a.now) (qualified_of b.now) }
+{
     a.constant == b.constant && is_same(&a.ty, &b.ty)
 }
 
 #[cycle(same)]
-fn is_same_function(f: &FuncTy, g: &FuncTy) -> bool {
-    f.variadic == g.variadic
-        && is_same(&f.result, &g.result)
+fn is_same_function(f: &FuncTy, g: &FuncTy) -> bool
+    ensures { IsTrue result ↔ SameSignature (signature_of f.now) (signature_of g.now) }
+{
+    is_same(&f.result, &g.result)
         && are_same(f.params.as_slice(), g.params.as_slice())
+        && f.variadic == g.variadic
 }
 
 #[cycle(same)]
-fn are_same(a: &[Qual], b: &[Qual]) -> bool {
+fn are_same(a: &[Qual], b: &[Qual]) -> bool
+    ensures { IsTrue result ↔ AreSame (params_of (map qualified_of a.now)) (params_of (map qualified_of b.now)) }
+{
     let Some((x, a)) = a.split_first() else {
         return b.is_empty();
     };
     let Some((y, b)) = b.split_first() else {
         return false;
     };
-    is_same(&x.ty, &y.ty) && x.constant == y.constant && are_same(a, b)
+    x.constant == y.constant && is_same(&x.ty, &y.ty) && are_same(a, b)
 }
 
 /// The number of an integer type, an enumeration read as int.
-pub(crate) fn kind_id(ty: &Ty) -> Option<TypeId> {
+pub(crate) fn kind_id(ty: &Ty) -> Option<TypeId>
+    ensures some { IfSome result (λ id. (ts : List CType) → (type_numbered ts id.number ≡ Some (read_as_int (type_of ty.now))) × (id.number ≤ 12)) }
+    ensures none { result ≡ None → read_as_int (type_of ty.now) ≡ type_of ty.now }
+{
     match ty {
         Ty::Int(kind) => Some(TypeId::of_kind(*kind)),
         Ty::Enum(_) => Some(TypeId::of_kind(IntKind::Int)),
@@ -84,7 +107,10 @@ pub(crate) fn int_type(kind: IntKind) -> Ty
 }
 
 /// How many bytes a scalar of the type has.
-pub(crate) fn scalar_size(ty: &Ty) -> u64 {
+pub(crate) fn scalar_size(ty: &Ty) -> u64
+    ensures size { result ≡ scalar_size (type_of ty.now) }
+    ensures short { result ≤ 8 }
+{
     match ty {
         Ty::Int(kind) => kind.bytes(),
         Ty::Enum(_) => 4,
@@ -96,41 +122,70 @@ pub(crate) fn scalar_size(ty: &Ty) -> u64 {
 #[derive(Clone, Copy)]
 pub(crate) enum Spanned<'a> {
     None,
-    One(&'a Ty, u64),
+    One(&'a Ty, u8),
     Several,
 }
 
 impl<'a> Spanned<'a> {
-    fn and(self, other: Spanned<'a>) -> Spanned<'a> {
-        match (self, other) {
-            (Spanned::None, found) => found,
-            (found, Spanned::None) => found,
-            _ => Spanned::Several,
+    fn and(self, other: Spanned<'a>) -> Spanned<'a>
+        ensures { (xs ys : List Tag) → Spans self.entry xs → Spans other.entry ys → Spans result (xs ++ ys) }
+    {
+        match self {
+            Spanned::None => other,
+            Spanned::One(ty, index) => match other {
+                Spanned::None => Spanned::One(ty, index),
+                Spanned::One(_, _) => Spanned::Several,
+                Spanned::Several => Spanned::Several,
+            },
+            Spanned::Several => Spanned::Several,
         }
     }
 }
 
 /// The place of the type in a list of types.
-pub(crate) fn place_of(types: &[Ty], ty: &Ty) -> Option<usize> {
-    types.iter().position(|known| is_same(known, ty))
+pub(crate) fn place_of(types: &[Ty], ty: &Ty) -> Option<usize>
+    ensures { IfSome result (λ at. slice_get (map type_of types.now) at ≡ Some (type_of ty.now)) }
+{
+    for at in 0..types.len() {
+        if is_at(types, at, ty) {
+            return Some(at);
+        }
+    }
+    None
 }
 
-/// The number of the type at the place.
-pub(crate) fn id_at(at: usize) -> TypeId {
-    let number = match u32::try_from(at) {
-        Ok(number) => number.saturating_add(FIRST),
-        Err(_) => 0,
-    };
-    TypeId { number }
+fn is_at(types: &[Ty], at: usize, ty: &Ty) -> bool
+    ensures { result ≡ true → slice_get (map type_of types.now) at ≡ Some (type_of ty.now) }
+{
+    match type_at(types, at) {
+        None => false,
+        Some(known) => is_same(known, ty),
+    }
+}
+
+fn type_at(types: &[Ty], at: usize) -> Option<&Ty>
+    ensures { option_copied result ≡ slice_get types.now at }
+{
+    types.get(at)
+}
+
+/// The number of the type at the place, where it has one.
+pub(crate) fn id_at(at: usize) -> Result<TypeId, NoMemory>
+    ensures { IfOk result (λ id. id.number ≡ at + 13) }
+{
+    let number = u32::try_from(at.saturating_add(13)).map_err(|_| NoMemory)?;
+    Ok(TypeId { number })
 }
 
 /// The scalar that spans the byte of an object of this shape.
 #[cycle(scalar)]
-pub(crate) fn scalar_at<'a>(shape: &'a Shape, at: u64) -> Spanned<'a> {
+pub(crate) fn scalar_at<'a>(shape: &'a Shape, at: u64) -> Spanned<'a>
+    ensures { Spans result (spanning (form_of shape.now) at) }
+{
     match shape {
         Shape::Leaf(ty) => {
             if at < scalar_size(ty) {
-                Spanned::One(ty, at)
+                Spanned::One(ty, at as u8)
             } else {
                 Spanned::None
             }
@@ -148,7 +203,9 @@ pub(crate) fn scalar_at<'a>(shape: &'a Shape, at: u64) -> Spanned<'a> {
 
 // A part that begins behind the byte doesn't span it.
 #[cycle(scalar)]
-fn part_at<'a>(parts: &'a [Placed], at: u64) -> Spanned<'a> {
+fn part_at<'a>(parts: &'a [Placed], at: u64) -> Spanned<'a>
+    ensures { Spans result (spanning_parts (forms_of (map put_of parts.now)) at) }
+{
     let mut found = Spanned::None;
     for placed in parts {
         found = found.and(placed_at(placed, at));
@@ -157,7 +214,9 @@ fn part_at<'a>(parts: &'a [Placed], at: u64) -> Spanned<'a> {
 }
 
 #[cycle(scalar)]
-fn placed_at<'a>(placed: &'a Placed, at: u64) -> Spanned<'a> {
+fn placed_at<'a>(placed: &'a Placed, at: u64) -> Spanned<'a>
+    ensures { Spans result (if nat_le (put_of placed.now).offset at then spanning (put_of placed.now).part (at - (put_of placed.now).offset) else []) }
+{
     if placed.offset <= at {
         scalar_at(&placed.part, at - placed.offset)
     } else {

@@ -22,8 +22,7 @@ ghost use Rattle.prov_memory.specs.Loads.{IfPointer, IfRaise, IsLoaded, is_dead_
 use super::access::Accessed;
 use super::*;
 use crate::cell::{State, value_of};
-use crate::types::Spanned;
-use crate::{Block, MemFault, Value};
+use crate::{MemFault, Value};
 use c_types::IntKind;
 use ub_base::Clause;
 
@@ -43,7 +42,7 @@ impl Memory {
     }
 
     // The byte at a place of an object.
-    fn cell_in(&self, at: usize, place: u64) -> Cell
+    pub(super) fn cell_in(&self, at: usize, place: u64) -> Cell
         ensures { (h : Held) → slice_get self.now.objects at ≡ Some h → result ≡ cell_at h.cells place }
     {
         match self.objects.get(at) {
@@ -310,73 +309,6 @@ impl Memory {
             Prov::Either { past, start, .. } => !self.is_live(past) && !self.is_live(start),
         }
     }
-
-    /// Loads a structure or union: its bytes as they stand, with their address.
-    pub fn load_block(
-        &mut self,
-        size: u64,
-        align: u64,
-        addr: u64,
-        prov: Prov,
-        t: &mut Touched,
-    ) -> Result<Block, MemFault> {
-        t.clear();
-        let found = self.access(size, align, addr, prov, t)?;
-        let cells = self.cells_of(found.object, found.from, size)?;
-        note_read(found, size, t);
-        self.settle(found.settles);
-        Ok(Block::of_cells(cells, Some(addr)))
-    }
-
-    // The bytes of a range with their tags, those of an object with declared type by its scalars.
-    pub(super) fn cells_of(&mut self, at: usize, from: u64, len: u64) -> Result<Vec<Cell>, NoMemory>
-        ensures objects { self.new.objects ≡ self.old.objects }
-        ensures len { IfOk result (λ cells. length cells.items ≡ len) }
-    {
-        let mut cells = Vec::with_capacity(self.alloc, len as usize)?;
-        for offset in 0..len {
-            let place = from.saturating_add(offset);
-            let cell = self.tagged_cell(at, place)?;
-            cells.push(cell)?;
-        }
-        Ok(cells)
-    }
-
-    fn tagged_cell(&mut self, at: usize, place: u64) -> Result<Cell, NoMemory>
-        ensures { self.new.objects ≡ self.old.objects }
-    {
-        let cell = self.cell_in(at, place);
-        match self.declared_tag(at, place)? {
-            DeclaredTag::Kept => Ok(cell),
-            DeclaredTag::None => Ok(cell.tagged(TypeId::NONE, 0)),
-            DeclaredTag::Known(tag, index) => Ok(cell.tagged(tag, index)),
-            DeclaredTag::New(ty, index) => {
-                let tag = self.add_type(ty)?;
-                Ok(cell.tagged(tag, index))
-            }
-        }
-    }
-
-    // The tag of a byte: that of the one scalar of a declared type that spans it.
-    fn declared_tag(&self, at: usize, place: u64) -> Result<DeclaredTag, NoMemory> {
-        let Some(object) = self.objects.get(at) else {
-            return Ok(DeclaredTag::None);
-        };
-        let Some(shape) = &object.declared else {
-            return Ok(DeclaredTag::Kept);
-        };
-        let shape: &Shape = shape;
-        match types::scalar_at(shape, place) {
-            Spanned::None | Spanned::Several => Ok(DeclaredTag::None),
-            Spanned::One(ty, index) => {
-                let index = (index & 0xff) as u8;
-                match self.known_type(ty) {
-                    Some(tag) => Ok(DeclaredTag::Known(tag, index)),
-                    None => Ok(DeclaredTag::New(copied(self.alloc, ty)?, index)),
-                }
-            }
-        }
-    }
 }
 
 /// Notes that a range was read.
@@ -498,15 +430,4 @@ fn agrees(ty: &Ty, known: &Ty) -> bool
     ensures { result ≡ agreement.agrees (type_of ty.now) (type_of known.now) }
 {
     c_types::agrees(ty, known)
-}
-
-// The tag of a byte that is loaded.
-#[derive(Drop)]
-enum DeclaredTag {
-    /// The object has no declared type: the byte's own.
-    Kept,
-    None,
-    Known(TypeId, u8),
-    /// A type that the memory wasn't told of yet.
-    New(Ty, u8),
 }

@@ -1,0 +1,26 @@
+use Rattle.std.proofs.Common.{◌≡◌, ◌++◌, ◌∷◌, []}
+use Rattle.std.proofs.lemmas.Result.{err_from_is_err_and}
+use Rattle.ub_base.specs.declared.names.Item.TheVariants.{Alive, Read}
+use Rattle.prov_memory.specs.Made.{settling_items}
+use Rattle.prov_memory.proofs.ActLemmas.{noted_after}
+use Rattle.prov_memory.proofs.WriteLemmas.{few}
+use Rattle.prov_memory.proofs.BlockLemmas.{block_unreached, block_done, block_cells, block_tagged}
+use Rattle.prov_memory.proofs.memory.Memory.load_block.Goals as goal
+
+pub returns-in_err-found-clause-raises : goal.returns-in_err-found-clause-raises
+returns-in_err-found-clause-raises c =
+    let p = err_from_is_err_and c.from_residual.result c.from_residual.ensures.1 in
+    rw (p.1, p.2) (block_unreached c.args.self.now c.args.size c.args.align c.args.addr c.args.prov c.in_err-found.field-0.0 c.in_err-found.ensures.raises)
+
+pub returns-clause-exact : goal.returns-clause-exact
+returns-clause-exact c =
+    let f = c.in_ok-found.found in
+    let noted : c.note_read.new.t ≡ (settling_items f.settles ++ Alive f.name ∷ []) ++ Read f.name f.from c.args.size ∷ [] = noted_after c.access.new.t c.note_read.new.t (settling_items f.settles ++ Alive f.name ∷ []) _ (c.in_ok-found.ensures.items c.clear.ensures) (few f.settles f.name) c.note_read.ensures in
+    rw c.of_cells.ensures (block_done c.args.self.now c.access.new.self c.cells_of.new.self c.settle.new.self f c.args.size c.args.align c.args.addr c.args.prov c.in_ok-cells.cells.items c.note_read.new.t c.access.ensures.same c.in_ok-found.ensures.exact c.in_ok-found.ensures.found c.in_ok-found.ensures.settles c.in_ok-cells.ensures.more c.in_ok-cells.ensures.taken c.settle.ensures.rest c.settle.ensures.store noted)
+
+pub returns-clause-cells : goal.returns-clause-cells
+returns-clause-cells c =
+    rw c.of_cells.ensures (block_cells c.args.self.now c.access.new.self c.cells_of.new.self c.settle.new.self c.in_ok-found.found c.args.size c.in_ok-cells.cells.items c.access.ensures.same c.in_ok-found.ensures.found c.in_ok-cells.ensures.taken c.settle.ensures.rest)
+
+pub returns-clause-tagged : goal.returns-clause-tagged
+returns-clause-tagged c = block_tagged c.args.self.now c.access.new.self c.cells_of.new.self c.settle.new.self c.access.ensures.same c.in_ok-cells.ensures.more c.settle.ensures.rest
