@@ -26,8 +26,11 @@ int main(void) {
 }
 ";
 
+// A text and how its run ends.
+pub type Row = (&'static str, &'static str);
+
 // Runs that end with a status.
-pub const CLEAN: &[(&str, &str)] = &[
+pub const CLEAN: &[Row] = &[
     ("int main(void){return 0;}", "exit 0 after 4"),
     ("int main(void){int i=1;i=i+1;return i;}", "exit 2 after 15"),
     (
@@ -75,7 +78,7 @@ pub const CLEAN: &[(&str, &str)] = &[
 ];
 
 // Runs that raise a clause.
-pub const RAISED: &[(&str, &str)] = &[
+pub const RAISED: &[Row] = &[
     (
         "int main(void){return 2147483647+1;}",
         "6.5p5 2 0 val line 1 after 3",
@@ -123,7 +126,7 @@ pub const RAISED: &[(&str, &str)] = &[
 ];
 
 // Runs whose objects stand with no room between them.
-pub const TIGHT: &[(&str, &str)] = &[
+pub const TIGHT: &[Row] = &[
     (
         "typedef unsigned long uintptr_t;int main(void){int a=1,b=2;uintptr_t u=(uintptr_t)(&a+1),v=(uintptr_t)&b;int *p=(int*)u;return *p;}",
         "exit 2 after 31",
@@ -147,7 +150,7 @@ pub const BUDGETS: &[(&str, u64, &str)] = &[
 ];
 
 // Runs that pass a limit.
-pub const LIMITS: &[(&str, &str)] = &[
+pub const LIMITS: &[Row] = &[
     (
         "int printf(const char*,...);int main(void){int k;printf(\"%n\",&k);return 0;}",
         "directive 0 after 4",
@@ -171,7 +174,7 @@ pub const LIMITS: &[(&str, &str)] = &[
 ];
 
 // A run that copies a large object.
-pub const LARGE: &[(&str, &str)] = &[(
+pub const LARGE: &[Row] = &[(
     "struct s{char c[1048576];};struct s a,b;int main(void){for(int k=0;k<40;k++)a=b;return a.c[1048575];}",
     "exit 0 after 537",
 )];
@@ -190,7 +193,7 @@ pub const OUTPUTS: &[(&str, &str, usize, u8, &str)] = &[
 ];
 
 // The text, and its picks in order: a point for a control step, an event by its node and the first letter of its kind.
-pub const PICKS: &[(&str, &str)] = &[
+pub const PICKS: &[Row] = &[
     ("int main(void){return 0;}", "...."),
     (
         "int main(void){int i=1;i=i+1;return i;}",

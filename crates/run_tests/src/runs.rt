@@ -1,5 +1,5 @@
 // Texts run from their bytes to the end of the run.
-use crate::programs::{BUDGETS, CLEAN, LARGE, LIMITS, OUTPUTS, PICKS, RAISED, TIGHT};
+use crate::programs::{BUDGETS, CLEAN, LARGE, LIMITS, OUTPUTS, PICKS, RAISED, Row, TIGHT};
 use addr_map::Mode;
 use c_lex::lex;
 use c_parse::parse;
@@ -221,21 +221,28 @@ fn puts_out(
     }
 }
 
+// The first row whose text doesn't end as it says.
+fn first_wrong(alloc: Global, rows: &[Row], given: Given) -> Result<Option<usize>, Fail> {
+    for (i, row) in rows.iter().enumerate() {
+        let end = end_of(alloc, row.0, given)?;
+        if end.as_str() != row.1 {
+            return Ok(Some(i));
+        }
+    }
+    Ok(None)
+}
+
 #[test]
 fn clean_runs_end_with_a_status(rt: HostRuntime) -> Result<(), Fail> {
-    for row in CLEAN {
-        let end = end_of(rt.alloc(), row.0, PLAIN)?;
-        assert_eq!(rt; end.as_str(), row.1);
-    }
+    let wrong = first_wrong(rt.alloc(), CLEAN, PLAIN)?;
+    assert!(rt; wrong.is_none(), "{:?}", wrong);
     Ok(())
 }
 
 #[test]
 fn undefined_runs_raise_their_clause(rt: HostRuntime) -> Result<(), Fail> {
-    for row in RAISED {
-        let end = end_of(rt.alloc(), row.0, PLAIN)?;
-        assert_eq!(rt; end.as_str(), row.1);
-    }
+    let wrong = first_wrong(rt.alloc(), RAISED, PLAIN)?;
+    assert!(rt; wrong.is_none(), "{:?}", wrong);
     Ok(())
 }
 
@@ -245,63 +252,86 @@ fn tight_runs_see_their_addresses(rt: HostRuntime) -> Result<(), Fail> {
         mode: Mode::Tight,
         ..PLAIN
     };
-    for row in TIGHT {
-        let end = end_of(rt.alloc(), row.0, given)?;
-        assert_eq!(rt; end.as_str(), row.1);
-    }
-    Ok(())
-}
-
-#[test]
-fn runs_take_no_more_than_their_budget(rt: HostRuntime) -> Result<(), Fail> {
-    for row in BUDGETS {
-        let given = Given {
-            budget: row.1,
-            ..PLAIN
-        };
-        let end = end_of(rt.alloc(), row.0, given)?;
-        assert_eq!(rt; end.as_str(), row.2);
-    }
+    let wrong = first_wrong(rt.alloc(), TIGHT, given)?;
+    assert!(rt; wrong.is_none(), "{:?}", wrong);
     Ok(())
 }
 
 #[test]
 fn runs_end_at_their_limits(rt: HostRuntime) -> Result<(), Fail> {
-    for row in LIMITS {
-        let end = end_of(rt.alloc(), row.0, PLAIN)?;
-        assert_eq!(rt; end.as_str(), row.1);
-    }
+    let wrong = first_wrong(rt.alloc(), LIMITS, PLAIN)?;
+    assert!(rt; wrong.is_none(), "{:?}", wrong);
     Ok(())
 }
 
 #[test]
 fn large_objects_are_copied(rt: HostRuntime) -> Result<(), Fail> {
-    for row in LARGE {
-        let end = end_of(rt.alloc(), row.0, PLAIN)?;
-        assert_eq!(rt; end.as_str(), row.1);
-    }
+    let wrong = first_wrong(rt.alloc(), LARGE, PLAIN)?;
+    assert!(rt; wrong.is_none(), "{:?}", wrong);
     Ok(())
 }
 
+// The first row whose run doesn't end so within its budget.
+fn first_beyond(alloc: Global, rows: &[(&str, u64, &str)]) -> Result<Option<usize>, Fail> {
+    for (i, row) in rows.iter().enumerate() {
+        let given = Given {
+            budget: row.1,
+            ..PLAIN
+        };
+        let end = end_of(alloc, row.0, given)?;
+        if end.as_str() != row.2 {
+            return Ok(Some(i));
+        }
+    }
+    Ok(None)
+}
+
 #[test]
-fn runs_read_their_input_and_words(rt: HostRuntime) -> Result<(), Fail> {
-    for row in OUTPUTS {
+fn runs_take_no_more_than_their_budget(rt: HostRuntime) -> Result<(), Fail> {
+    let wrong = first_beyond(rt.alloc(), BUDGETS)?;
+    assert!(rt; wrong.is_none(), "{:?}", wrong);
+    Ok(())
+}
+
+// The first row whose run doesn't put so.
+fn first_mute(
+    alloc: Global,
+    rows: &[(&str, &str, usize, u8, &str)],
+) -> Result<Option<usize>, Fail> {
+    for (i, row) in rows.iter().enumerate() {
         let given = Given {
             input: row.1,
             words: row.2,
             ..PLAIN
         };
-        let as_wanted = puts_out(rt.alloc(), row.0, given, row.3, row.4)?;
-        assert!(rt; as_wanted, "{}", row.0);
+        if !puts_out(alloc, row.0, given, row.3, row.4)? {
+            return Ok(Some(i));
+        }
     }
+    Ok(None)
+}
+
+#[test]
+fn runs_read_their_input_and_words(rt: HostRuntime) -> Result<(), Fail> {
+    let wrong = first_mute(rt.alloc(), OUTPUTS)?;
+    assert!(rt; wrong.is_none(), "{:?}", wrong);
     Ok(())
+}
+
+// The first row whose picks are others.
+fn first_other(alloc: Global, rows: &[Row]) -> Result<Option<usize>, Fail> {
+    for (i, row) in rows.iter().enumerate() {
+        let picks = picks_of(alloc, row.0)?;
+        if picks.as_str() != row.1 {
+            return Ok(Some(i));
+        }
+    }
+    Ok(None)
 }
 
 #[test]
 fn picks_follow_the_canonical_order(rt: HostRuntime) -> Result<(), Fail> {
-    for row in PICKS {
-        let picks = picks_of(rt.alloc(), row.0)?;
-        assert_eq!(rt; picks.as_str(), row.1);
-    }
+    let wrong = first_other(rt.alloc(), PICKS)?;
+    assert!(rt; wrong.is_none(), "{:?}", wrong);
     Ok(())
 }
