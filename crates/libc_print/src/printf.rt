@@ -6,7 +6,10 @@ ghost use Rattle.libc_spec.specs.Directives.{directive_of};
 ghost use Rattle.libc_spec.specs.Print.{put_byte, put_integer, put_sized, put, step, text_of};
 ghost use Rattle.libc_model.specs.Answers.{AreWithin, gives_value};
 ghost use Rattle.libc_print.specs.Seen.{directive_seen, width_seen, left, typed};
-ghost use Rattle.libc_print.specs.Answers.{Puts, Steps, IsText, IsFormed, is_pointed, is_pointed_in, points_nowhere};
+ghost use Rattle.libc_print.specs.Answers.{Puts, Steps, IsText, IsFormed, is_pointed, is_pointed_in, points_nowhere, Prints, IsUnpointed, printed_text};
+ghost use Rattle.prov_memory.specs.Streams.{Io};
+ghost use Rattle.prov_memory.specs.Memory.{HasCell, store_of};
+ghost use Rattle.libc_model.specs.Parts.{after};
 
 use crate::directive::{Directive, Form, behind, directive_of};
 use crate::number::{Width, is_signed, put_address, put_integer, put_text};
@@ -53,10 +56,7 @@ fn printed(
     ensures within { AreWithin io.old → AreWithin io.new }
     ensures streams { OnErr result (io.new ≡ io.old) }
 {
-    let range = check_string(m, pointer_at(args, 0), t)?;
-    let mut format = numbers(alloc, m, range, t)?;
-    let _ = format.pop();
-    let out = text_of(alloc, format.as_slice(), args, types, m, t)?;
+    let out = printed_text(alloc, pointer_at(args, 0), args, types, m, t)?;
     let count = out.len() as u64;
     check_output(io, count)?;
     t.add(Item::Output)?;
@@ -64,6 +64,23 @@ fn printed(
     io.put(out.as_slice())?;
     settle(m, t, &mut scratch);
     Ok(count)
+}
+
+// The text that a call prints: the format is read first.
+fn printed_text(
+    alloc: Global,
+    pointer: Pointer,
+    args: &[Value],
+    types: &[Qual],
+    m: &Memory,
+    t: &mut Touched,
+) -> Result<Vec<u8>, LibAnswer>
+    ensures { (io : Io) → HasCell m.now pointer.prov → IsUnpointed m.now.rows (after t.old (store_of m.now io)) pointer.addr pointer.prov → Prints (λ v. v.items) result m.now io t.old t.new (printed_text m.now.rows pointer.addr pointer.prov (drop 1 (typed args.now types.now))) }
+{
+    let range = check_string(m, pointer, t)?;
+    let mut format = numbers(alloc, m, range, t)?;
+    let _ = format.pop();
+    text_of(alloc, format.as_slice(), args, types, m, t)
 }
 
 // The text of a format with its arguments.
