@@ -1,2 +1,4 @@
+pub mod Printing
+pub mod Stepping
 pub mod Taking
 pub mod Writing

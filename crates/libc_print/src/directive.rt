@@ -1,5 +1,5 @@
 // The directives of a format (7.21.6.1p4 to p9).
-ghost use Rattle.std.specs.Prelude.{◌≡◌, ◌==◌, ◌&&◌, ◌||◌, not, ◌+◌, ◌-◌, ◌*◌, min, take, drop, length, if◌then◌else◌, option_map};
+ghost use Rattle.std.specs.Prelude.{◌≡◌, ◌==◌, ◌&&◌, ◌||◌, not, ◌+◌, ◌-◌, ◌*◌, min, take, drop, length, if◌then◌else◌, option_map, ◌≤◌, IfSome};
 ghost use Rattle.std.specs.List.{list_any, take_while};
 ghost use Rattle.libc_spec.specs.Directives.{most, is_flag, is_digit, flags_in, number_from, count_of_digits, width_of, precision_behind, precision_of, begins, length_of, directive_of, form_if, has_flag, is_floating, form_of_text, form, is_plain, is_absent, is_l, is_big_l, left_out};
 ghost use Rattle.libc_print.specs.Seen.{flags_seen, count_seen, length_seen, piece, directive_seen, form_seen};
@@ -214,7 +214,8 @@ fn doubled(letter: u8, rest: &[u8], one: Length, two: Length) -> (Length, usize)
 
 /// The directive whose `%` stands before the text; None where the text ends inside it.
 pub fn directive_of(text: &[u8]) -> Option<Directive>
-    ensures { option_map directive_seen result ≡ directive_of text.now }
+    ensures value { option_map directive_seen result ≡ directive_of text.now }
+    ensures len { IfSome result (λ d. d.len ≤ length text.now) }
 {
     let flags_len = flags_len(text);
     let flags = flags_of(front(text, flags_len));

@@ -1,10 +1,15 @@
 // printf.
 
-ghost use Rattle.std.specs.Prelude.{◌≡◌, false, OnErr};
-ghost use Rattle.libc_spec.specs.Print.{put_byte, put_integer};
+ghost use Rattle.std.specs.Prelude.{◌≡◌, ◌≤◌, suc, length, drop, [], true, false, List, OnErr, IfOk};
+ghost use Rattle.addr_map.specs.declared.map.Row.{Row};
+ghost use Rattle.libc_spec.specs.Directives.{directive_of};
+ghost use Rattle.libc_spec.specs.Print.{put_byte, put_integer, put_sized, put, step, text_of};
 ghost use Rattle.libc_model.specs.Answers.{AreWithin, gives_value};
-ghost use Rattle.libc_print.specs.Seen.{directive_seen, width_seen, left};
-ghost use Rattle.libc_print.specs.Answers.{Puts};
+ghost use Rattle.libc_print.specs.Seen.{directive_seen, width_seen, left, typed};
+ghost use Rattle.libc_print.specs.Answers.{Puts, Steps, IsText, IsFormed, is_pointed, is_pointed_in, points_nowhere, Prints, IsUnpointed, printed_text};
+ghost use Rattle.prov_memory.specs.Streams.{Io};
+ghost use Rattle.prov_memory.specs.Memory.{HasCell, store_of};
+ghost use Rattle.libc_model.specs.Parts.{after};
 
 use crate::directive::{Directive, Form, behind, directive_of};
 use crate::number::{Width, is_signed, put_address, put_integer, put_text};
@@ -51,10 +56,7 @@ fn printed(
     ensures within { AreWithin io.old → AreWithin io.new }
     ensures streams { OnErr result (io.new ≡ io.old) }
 {
-    let range = check_string(m, pointer_at(args, 0), t)?;
-    let mut format = numbers(alloc, m, range, t)?;
-    let _ = format.pop();
-    let out = text_of(alloc, format.as_slice(), args, types, m, t)?;
+    let out = printed_text(alloc, pointer_at(args, 0), args, types, m, t)?;
     let count = out.len() as u64;
     check_output(io, count)?;
     t.add(Item::Output)?;
@@ -62,6 +64,23 @@ fn printed(
     io.put(out.as_slice())?;
     settle(m, t, &mut scratch);
     Ok(count)
+}
+
+// The text that a call prints: the format is read first.
+fn printed_text(
+    alloc: Global,
+    pointer: Pointer,
+    args: &[Value],
+    types: &[Qual],
+    m: &Memory,
+    t: &mut Touched,
+) -> Result<Vec<u8>, LibAnswer>
+    ensures { (io : Io) → HasCell m.now pointer.prov → IsUnpointed m.now.rows (after t.old (store_of m.now io)) pointer.addr pointer.prov → Prints (λ v. v.items) result m.now io t.old t.new (printed_text m.now.rows pointer.addr pointer.prov (drop 1 (typed args.now types.now))) }
+{
+    let range = check_string(m, pointer, t)?;
+    let mut format = numbers(alloc, m, range, t)?;
+    let _ = format.pop();
+    text_of(alloc, format.as_slice(), args, types, m, t)
 }
 
 // The text of a format with its arguments.
@@ -72,43 +91,119 @@ fn text_of(
     types: &[Qual],
     m: &Memory,
     t: &mut Touched,
-) -> Result<Vec<u8>, LibAnswer> {
+) -> Result<Vec<u8>, LibAnswer>
+    ensures exact { (rows : List Row) → points_nowhere (suc (length format.now)) format.now ≡ true → IsText (λ v. v.items) result [] (text_of (suc (length format.now)) rows 0 format.now (drop 1 (typed values.now types.now))) }
+    ensures items { points_nowhere (suc (length format.now)) format.now ≡ true → t.new ≡ t.old }
+{
     let mut args = Arguments {
         values,
         types,
         next: 1,
     };
     let mut out = Vec::new(alloc);
-    let mut at: usize = 0;
-    for _ in 0..format.len() {
-        let Some(byte) = format.get(at).copied() else {
-            break;
+    let mut rest = format;
+    for _turn in 0..format.len() {
+        let Some((byte, cs)) = rest.split_first() else {
+            return Ok(out);
         };
-        at = at.saturating_add(1);
-        if byte != b'%' {
-            out.push(byte).map_err(NoMemory::from)?;
-            continue;
-        }
-        let directive = taken_directive(format, at)?;
-        put_directive(alloc, &mut out, directive, &mut args, m, t)?;
-        at = at.saturating_add(directive.len);
+        let at = format.len() - rest.len();
+        let len = put_next(alloc, &mut out, *byte, cs, at, &mut args, m, t)?;
+        rest = behind(cs, len);
     }
     Ok(out)
 }
 
-// The directive whose `%` stands before the offset.
-fn taken_directive(format: &[u8], at: usize) -> Result<Directive, LibAnswer> {
-    let Some(directive) = directive_of(behind(format, at)) else {
-        return Err(LibAnswer::Raise(Clause::Conversion));
+// Adds what stands next in the format, a byte or the directive behind it, and gives how many bytes stand behind the first. It is
+// that many bytes from the start of the format.
+fn put_next(
+    alloc: Global,
+    out: &mut Vec<u8>,
+    byte: u8,
+    cs: &[u8],
+    at: usize,
+    args: &mut Arguments<'_>,
+    m: &Memory,
+    t: &mut Touched,
+) -> Result<usize, LibAnswer>
+    ensures exact { (rows : List Row) → is_pointed_in byte (directive_of cs.now) ≡ false → Steps result out.old.items out.new.items (left args.new) (step rows byte cs.now at (left args.old)) }
+    ensures len { IfOk result (λ n. n ≤ length cs.now) }
+    ensures items { is_pointed_in byte (directive_of cs.now) ≡ false → t.new ≡ t.old }
+{
+    if byte != b'%' {
+        out.push(byte).map_err(NoMemory::from)?;
+        return Ok(0);
+    }
+    let directive = taken_directive(cs, at)?;
+    if is_pointed(directive.conversion) {
+        put_pointed(alloc, out, directive, args, m, t)?;
+    } else {
+        put_plain(alloc, out, directive, args)?;
+    }
+    Ok(directive.len)
+}
+
+// The directive whose `%` stands before the text, at this offset of the format.
+fn taken_directive(text: &[u8], at: usize) -> Result<Directive, Refusal>
+    ensures form { IsFormed result (directive_of text.now) at }
+    ensures len { IfOk result (λ d. d.len ≤ length text.now) }
+{
+    let Some(directive) = directive_of(text) else {
+        return Err(Refusal::Raise(Clause::Conversion));
     };
     match directive.form() {
         Form::Taken => Ok(directive),
-        Form::Invalid => Err(LibAnswer::Raise(Clause::Conversion)),
-        Form::LeftOut => Err(LibAnswer::Outside(Cause::Directive, (at as u64).saturating_sub(1))),
+        Form::Invalid => Err(Refusal::Raise(Clause::Conversion)),
+        Form::LeftOut => Err(Refusal::Outside(Cause::Directive, at as u64)),
     }
 }
 
-fn put_directive(
+// Whether the argument of a conversion is a pointer.
+fn is_pointed(conversion: u8) -> bool
+    ensures { result ≡ is_pointed conversion }
+{
+    conversion == b's' || conversion == b'p'
+}
+
+// Adds a directive without a pointer.
+fn put_plain(
+    alloc: Global,
+    out: &mut Vec<u8>,
+    directive: Directive,
+    args: &mut Arguments<'_>,
+) -> Result<(), Refusal>
+    requires { is_pointed directive.conversion ≡ false }
+    ensures { (rows : List Row) → Puts result out.old.items out.new.items (left args.new) (put rows (directive_seen directive) (left args.old)) }
+{
+    if directive.conversion == b'%' {
+        out.push(b'%').map_err(NoMemory::from)?;
+        return Ok(());
+    }
+    let width = take_width(directive.width, args)?;
+    let precision = take_precision(directive.precision, args)?;
+    put_value(alloc, out, directive, width, precision, args)
+}
+
+// Adds a byte or a number.
+fn put_value(
+    alloc: Global,
+    out: &mut Vec<u8>,
+    directive: Directive,
+    width: Width,
+    precision: Option<u64>,
+    args: &mut Arguments<'_>,
+) -> Result<(), Refusal>
+    requires { is_pointed directive.conversion ≡ false }
+    ensures { (rows : List Row) → Puts result out.old.items out.new.items (left args.new) (put_sized rows (directive_seen directive) (width_seen width) precision (left args.old)) }
+{
+    if directive.conversion == b'c' {
+        put_byte(out, directive, width, args)
+    } else {
+        put_number(alloc, out, directive, width, precision, args)
+    }
+}
+
+// Adds a string or an address.
+fn put_pointed(
     alloc: Global,
     out: &mut Vec<u8>,
     directive: Directive,
@@ -116,26 +211,18 @@ fn put_directive(
     m: &Memory,
     t: &mut Touched,
 ) -> Result<(), LibAnswer> {
-    if directive.conversion == b'%' {
-        out.push(b'%').map_err(NoMemory::from)?;
-        return Ok(());
-    }
     let width = take_width(directive.width, args)?;
     let precision = take_precision(directive.precision, args)?;
-    match directive.conversion {
-        b'c' => put_byte(out, directive, width, args).map_err(Refusal::answer),
-        b's' => {
-            let pointer = take_pointer(false, args)?;
-            let text = string_of(alloc, pointer, precision, m, t)?;
-            put_text(out, text.as_slice(), directive.flags, width).map_err(Refusal::answer)
-        }
-        b'p' => {
-            let pointer = take_pointer(true, args)?;
-            expose(pointer.prov, t)?;
-            put_address(alloc, out, pointer.addr, directive.flags, width).map_err(Refusal::answer)
-        }
-        _ => put_number(alloc, out, directive, width, precision, args).map_err(Refusal::answer),
+    if directive.conversion == b's' {
+        let pointer = take_pointer(false, args)?;
+        let text = string_of(alloc, pointer, precision, m, t)?;
+        put_text(out, text.as_slice(), directive.flags, width)?;
+    } else {
+        let pointer = take_pointer(true, args)?;
+        expose(pointer.prov, t)?;
+        put_address(alloc, out, pointer.addr, directive.flags, width)?;
     }
+    Ok(())
 }
 
 fn put_byte(

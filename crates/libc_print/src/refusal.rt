@@ -11,17 +11,6 @@ pub enum Refusal {
     NoMemory,
 }
 
-impl Refusal {
-    /// As an answer of a library function.
-    pub fn answer(self) -> LibAnswer {
-        match self {
-            Refusal::Raise(clause) => LibAnswer::Raise(clause),
-            Refusal::Outside(cause, number) => LibAnswer::Outside(cause, number),
-            Refusal::NoMemory => LibAnswer::NoMemory,
-        }
-    }
-}
-
 impl From<Clause> for Refusal {
     ghost use Rattle.std.specs.Prelude.{◌≡◌};
     ghost use Rattle.libc_print.specs.declared.refusal.Refusal.TheVariants.{Raise};
@@ -41,5 +30,20 @@ impl From<NoMemory> for Refusal {
 
     fn from(_e: NoMemory) -> Refusal {
         Refusal::NoMemory
+    }
+}
+
+impl From<Refusal> for LibAnswer {
+    ghost use Rattle.std.specs.Prelude.{◌≡◌};
+    ghost use Rattle.libc_print.specs.Answers.{answer_of};
+
+    ghost from_gives = { λ refusal answer. answer ≡ answer_of refusal };
+
+    fn from(refusal: Refusal) -> LibAnswer {
+        match refusal {
+            Refusal::Raise(clause) => LibAnswer::Raise(clause),
+            Refusal::Outside(cause, number) => LibAnswer::Outside(cause, number),
+            Refusal::NoMemory => LibAnswer::NoMemory,
+        }
     }
 }
