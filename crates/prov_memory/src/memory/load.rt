@@ -14,7 +14,8 @@ ghost use Rattle.prov_memory.specs.Streams.{Io};
 ghost use Rattle.prov_memory.specs.Cells.{byte_in, cell_at, tag_in};
 ghost use Rattle.prov_memory.specs.Held.{Held, held_of};
 ghost use Rattle.prov_memory.specs.Memory.{Kept, HasCell, AreKnown, life_in, store_of, uncovered_each};
-ghost use Rattle.prov_memory.specs.Made.{HasMore};
+ghost use Rattle.prov_memory.specs.Made.{HasMore, IsMade};
+ghost use Rattle.prov_memory.specs.Sound.{IsSound};
 ghost use Rattle.prov_memory.specs.Access.{IsReached, bytes_in};
 ghost use Rattle.prov_memory.specs.Loads as loads;
 ghost use Rattle.prov_memory.specs.Loads.{IfPointer, IfRaise, IsLoaded, is_dead_in, number_if, number_read, origins_of, pointer_items};
@@ -73,6 +74,8 @@ impl Memory {
         ensures exact { IfOk result (λ value. HasCell self.old prov → (io : Io) → run self.old.rows (acts.load_int self.old.rows kind addr prov) (store_of self.old io) ≡ Done value t.new (store_of self.new io)) }
         ensures raises { IfErr result (λ c. (io : Io) → run self.old.rows (acts.load_int self.old.rows kind addr prov) (store_of self.old io) ≡ Raised c) }
         ensures same { OnErr result (self.new ≡ self.old) }
+        ensures made { (p : Prov) → IsMade self.old p → IsMade self.new p }
+        ensures sound { IsSound self.old → IsSound self.new }
     {
         t.clear();
         let len = kind.bytes();
@@ -93,6 +96,8 @@ impl Memory {
         ensures exact { IfOk result (λ target. HasCell self.old prov → (io : Io) → run self.old.rows (acts.load_func self.old.rows (type_of ty.now) addr prov) (store_of self.old io) ≡ Done target t.new (store_of self.new io)) }
         ensures raises { IfErr result (λ c. (io : Io) → run self.old.rows (acts.load_func self.old.rows (type_of ty.now) addr prov) (store_of self.old io) ≡ Raised c) }
         ensures same { OnErr result (self.new ≡ self.old) }
+        ensures made { (p : Prov) → IsMade self.old p → IsMade self.new p }
+        ensures sound { IsSound self.old → IsSound self.new }
     {
         t.clear();
         let found = self.access(8, 8, addr, prov, t)?;
@@ -155,6 +160,8 @@ impl Memory {
         ensures items { OnOk result ((h : Held) → slice_get self.old.objects found.object ≡ Some h → length t.old + 17 < 32 → t.new ≡ (t.old ++ Read found.name found.from len ∷ []) ++ map Expose (origins_of (bytes_in self.old h found.from len))) }
         ensures raises { IfErr result (λ c. (h : Held) → slice_get self.old.objects found.object ≡ Some h → Err c ≡ number_read (type_of ty.now) is_bool (option_map form_of h.declared) found.from (bytes_in self.old h found.from len)) }
         ensures same { OnErr result (self.new ≡ self.old) }
+        ensures made { (p : Prov) → IsMade self.old p → IsMade self.new p }
+        ensures sound { IsSound self.old → IsSound self.new }
     {
         let number = self.read_number(found, ty, len, is_bool)?;
         note_read(found, len, t);
