@@ -1,6 +1,6 @@
 -- What was made stays made, and a sound memory stays sound.
 use Rattle.std.proofs.Common.{◌≡◌, ℕ, zero, suc, ◌+◌, ◌≤◌, ◌<◌, Bool, true, false, refl, sym, ap, ◌∙◌, subst, arith, List, [], ◌∷◌, ◌++◌, length, Option, Some, None}
-use Rattle.std.specs.Prelude.{is_some, option_map, slice_get, slice_index_or}
+use Rattle.std.specs.Prelude.{is_some, option_map, slice_get, slice_index_or, IfSome, cond}
 use Rattle.ub_base.specs.declared.names.Event.{Event}
 use Rattle.ub_base.specs.declared.names.ObjName.{ObjName}
 use Rattle.exposure.specs.declared.prov.Prov.{Prov}
@@ -16,11 +16,19 @@ use Rattle.prov_memory.specs.Held.{Held, IsWritten, held_of, changed, uncovered,
 use Rattle.prov_memory.specs.Memory.{Kept, AreKnown, CellsKnown, ObjectsKnown, uncovered_each}
 use Rattle.prov_memory.specs.Made.{IsMade, AreNamed, EachNamed, HasMore, Extends, HasNumber}
 use Rattle.prov_memory.specs.Access.{IsReached}
-use Rattle.prov_memory.specs.Sound.{AreMade, IsSound}
-use Rattle.prov_memory.proofs.ProvLemmas.{has_number_more, number_stays, same_prov_refl}
-use Rattle.prov_memory.proofs.PieceLemmas.{named_changed, named_uncovered}
+use Rattle.prov_memory.specs.Sound.{AllMade, AreMade, IsSound}
+use Rattle.prov_memory.proofs.ProvLemmas.{has_number_more, extends_none}
+use Rattle.prov_memory.proofs.PieceLemmas.{named_changed, named_uncovered, named_longer}
 use Rattle.prov_memory.proofs.StoreLemmas.{part_kept}
-use Rattle.prov_memory.proofs.ActLemmas.{known_uncovered}
+use Rattle.prov_memory.proofs.SettleLemmas.{stays_made}
+use Rattle.std.proofs.lemmas.List.{length-append}
+use Rattle.prov_memory.specs.declared.cell.State.{State}
+use Rattle.prov_memory.specs.declared.cell.State.TheVariants as states
+use Rattle.prov_memory.specs.Store.{TaggedByte}
+use Rattle.prov_memory.specs.Cells.{byte_in_state, cell_at}
+use Rattle.prov_memory.specs.Acts.{origin_in, pointer_if, pointer_in, are_pieces}
+use Rattle.prov_memory.specs.Access.{bytes_in}
+use Rattle.prov_memory.proofs.ActLemmas.{known_uncovered, objects_more}
 
 -- what was made stays so
 abbrev pub StayMade : Kept → Kept → Type 0
@@ -35,12 +43,8 @@ made_by old new more cells held Empty made = tt
 made_by old new more cells held (Whole x) made = held x ∙ made
 made_by old new more cells held (Either id past start) made = (cells id made.0, has_number_more old.origins new.origins (Either id past start) refl more made.1)
 
-append_none : (ps : List Prov) → ps ≡ ps ++ []
-append_none [] = refl
-append_none (p ∷ ps) = ap (λ (qs : List Prov). p ∷ qs) (append_none ps)
-
 extends_same : (ps qs : List Prov) → qs ≡ ps → Extends ps qs
-extends_same ps qs e = ([], e ∙ append_none ps)
+extends_same ps qs e = subst (λ (l : List Prov). Extends ps l) (sym e) (extends_none ps)
 
 -- ---- the objects may change, but for their names and numbers
 -- the memory has other objects of the same names and numbers, and perhaps other cells
@@ -91,3 +95,67 @@ shown_made old mid new xs shown rest cells = alters_made old new (uncovered_each
 pub shown_sound : (old mid new : Kept) (xs : List ObjName) → mid ≡ record old { objects = uncovered_each xs old.objects } → record new { cells = [] } ≡ record mid { cells = [] } → SameCells mid new → IsSound old → IsSound new
 shown_sound old mid new xs shown rest cells s =
     alters_sound old new (uncovered_each xs old.objects) (shown_alters old mid new xs shown rest cells) (known_uncovered (length old.origins) xs old.objects s.known) s
+
+-- what is settled changes nothing of it
+pub settled_sound : (old new : Kept) → record new { cells = [] } ≡ record old { cells = [] } → SameCells old new → IsSound old → IsSound new
+settled_sound old new rest cells s = record {
+  known = subst (λ (m : Kept). AreKnown m) (sym rest) s.known;
+  named = subst (λ (m : Kept). AreNamed m) (sym rest) s.named;
+  made = λ n. stays_made old new rest cells (prov_numbered new.origins n) (subst (λ (ps : List Prov). IsMade old (prov_numbered ps n)) (sym (ap (λ (m : Kept). m.origins) rest)) (s.made n));
+}
+
+-- ---- what is looked up
+pub more_made : (old new : Kept) → HasMore old new → StayMade old new
+more_made old new more = made_by old new more.origins more.cells (λ x. ap (λ (m : Kept). is_some (held_of m.objects x)) more.rest)
+
+more_long : (ps qs : List Prov) → Extends ps qs → length ps ≤ length qs
+more_long ps qs more =
+    let long : length qs ≡ length ps + length more.0 = ap length more.1 ∙ length-append ps more.0 in
+    omega (arith, long)
+
+pub more_sound : (old new : Kept) → HasMore old new → (AreMade old → AreMade new) → IsSound old → IsSound new
+more_sound old new more each s =
+    let objects : new.objects ≡ old.objects = ap (λ (m : Kept). m.objects) more.rest in
+    record {
+      known = subst (λ (hs : List Held). ObjectsKnown (length new.origins) hs) (sym objects) (objects_more (length old.origins) (length new.origins) old.objects (more_long old.origins new.origins more.origins) s.known);
+      named = subst (λ (hs : List Held). EachNamed new.origins hs) (sym objects) (subst (λ (ps : List Prov). EachNamed ps old.objects) (sym more.origins.1) (named_longer old.origins more.origins.0 old.objects s.named));
+      made = each s.made;
+    }
+
+nth_each : (ps : List Prov) (p : Prov) (P : Prov → Type 0) → P p → P Empty → ((n : ℕ) → P (slice_index_or ps n Empty)) → (n : ℕ) → P (slice_index_or (ps ++ p ∷ []) n Empty)
+nth_each [] p P here none each zero = here
+nth_each [] p P here none each (suc n) = none
+nth_each (q ∷ ps) p P here none each zero = each 0
+nth_each (q ∷ ps) p P here none each (suc n) = nth_each ps p P here none (λ k. each (suc k)) n
+
+pub each_last : (m : Kept) (ps : List Prov) (p : Prov) → IsMade m p → AllMade m ps → AllMade m (ps ++ p ∷ [])
+each_last m ps p here each zero = each 0
+each_last m ps p here each (suc n) = nth_each ps p (λ q. IsMade m q) here (each 0) (λ k. each (suc k)) n
+
+-- ---- pieces
+origin_made : (m : Kept) (s : State) (c : Cell) → AreMade m → IfSome (origin_in (byte_in_state m.origins s c)) (λ p. IsMade m p)
+origin_made m states.Unwritten c made = tt
+origin_made m states.Plain c made = tt
+origin_made m states.Piece c made = made c.origin.number
+
+some_if : (b : Bool) (m : Kept) (p : Prov) → IsMade m p → IfSome (cond b (Some p) None) (λ q. IsMade m q)
+some_if true m p made = made
+some_if false m p made = tt
+
+pointer_if_made : (m : Kept) (o : Option Prov) (bs : List TaggedByte) → IfSome o (λ p. IsMade m p) → IfSome (pointer_if o bs) (λ p. IsMade m p)
+pointer_if_made m None bs made = tt
+pointer_if_made m (Some p) bs made = some_if (are_pieces p 0 bs) m p made
+
+pub pointer_made : (m : Kept) (h : Held) (from : ℕ) (o : Option Prov) → o ≡ pointer_in (bytes_in m h from 8) → AreMade m → IfSome o (λ p. IsMade m p)
+pointer_made m h from o is made =
+    subst (λ (q : Option Prov). IfSome q (λ p. IsMade m p)) (sym is) (pointer_if_made m (origin_in (byte_in_state m.origins (cell_at h.cells from).state (cell_at h.cells from))) (bytes_in m h from 8) (origin_made m (cell_at h.cells from).state (cell_at h.cells from) made))
+
+pub pointer_value : (old acc looked new : Kept) (f : Found) (pointer : Option Prov) (target : Prov) → acc ≡ old → (r : IsReached old.objects f 8) → ((h : Held) → slice_get acc.objects f.object ≡ Some h → pointer ≡ pointer_in (bytes_in acc h f.from 8)) → (IfSome pointer (λ p. IsMade acc p) → IsMade looked target) → record new { cells = [] } ≡ record looked { cells = [] } → SameCells looked new → IsSound old → IsMade new target
+pointer_value old acc looked new f pointer target same r sees value rest cells s =
+    let there : slice_get acc.objects f.object ≡ Some r.object = ap (λ (m : Kept). slice_get m.objects f.object) same ∙ r.there in
+    let made : AreMade acc = subst (λ (m : Kept). AreMade m) (sym same) s.made in
+    stays_made looked new rest cells target (value (pointer_made acc r.object f.from pointer (sees r.object there) made))
+
+pub pointer_kept : (old acc looked new : Kept) → acc ≡ old → HasMore acc looked → record new { cells = [] } ≡ record looked { cells = [] } → SameCells looked new → StayMade old new
+pointer_kept old acc looked new same more rest cells p made =
+    stays_made looked new rest cells p (more_made acc looked more p (subst (λ (m : Kept). IsMade m p) (sym same) made))

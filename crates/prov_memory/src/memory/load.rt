@@ -1,5 +1,5 @@
 // Loads.
-ghost use Rattle.std.specs.Prelude.{◌≡◌, ℕ, ◌+◌, ◌<◌, ◌≤◌, ◌^◌, ◌&&◌, ◌==◌, ◌++◌, ◌∷◌, [], Some, Ok, Err, length, map, slice_get, option_map, IfOk, IfErr, OnOk, OnErr};
+ghost use Rattle.std.specs.Prelude.{◌≡◌, ℕ, ◌+◌, ◌<◌, ◌≤◌, ◌^◌, ◌&&◌, ◌==◌, ◌++◌, ◌∷◌, [], Some, Ok, Err, length, map, slice_get, option_map, IfOk, IfErr, IfSome, OnOk, OnErr};
 ghost use Rattle.ub_base.specs.Names.{same_event, same_object};
 ghost use Rattle.ub_base.specs.declared.names.Item.TheVariants.{Alive, Expose, Read};
 ghost use Rattle.c_types.specs.Types.{type_of};
@@ -199,6 +199,9 @@ impl Memory {
         ensures exact { IfOk result (λ value. IfPointer value (λ a p. HasCell self.old prov → AreKnown self.old → (io : Io) → run self.old.rows (acts.load_ptr self.old.rows (type_of ty.now) who align addr prov) (store_of self.old io) ≡ Done (a, p) t.new (store_of self.new io))) }
         ensures raises { IfErr result (λ fault. IfRaise fault (λ c. (io : Io) → run self.old.rows (acts.load_ptr self.old.rows (type_of ty.now) who align addr prov) (store_of self.old io) ≡ Raised c)) }
         ensures same { IfErr result (λ fault. IfRaise fault (λ c. self.new ≡ self.old)) }
+        ensures value { IfOk result (λ value. IfPointer value (λ a p. IsSound self.old → IsMade self.new p)) }
+        ensures made { (p : Prov) → IsMade self.old p → IsMade self.new p }
+        ensures sound { OnOk result (IsSound self.old → IsSound self.new) }
     {
         t.clear();
         let found = self.access(8, align, addr, prov, t)?;
@@ -285,6 +288,8 @@ impl Memory {
         ensures same { IfErr result (λ fault. IfRaise fault (λ c. self.new ≡ self.old)) }
         ensures items { OnOk result (length t.old + 1 < 32 → t.new ≡ t.old ++ pointer_items pointer number) }
         ensures more { HasMore self.old self.new }
+        ensures value { IfOk result (λ prov. IfSome pointer (λ p. IsMade self.old p) → IsMade self.new prov) }
+        ensures sound { OnOk result (IsSound self.old → IsSound self.new) }
     {
         let Some(prov) = pointer else {
             let prov = self.look_up(who, number, t)?;
