@@ -1,5 +1,5 @@
 -- What was made stays made, and a sound memory stays sound.
-use Rattle.std.proofs.Common.{◌≡◌, ℕ, zero, suc, ◌+◌, ◌≤◌, ◌<◌, Bool, true, false, refl, sym, ap, ◌∙◌, subst, arith, List, [], ◌∷◌, ◌++◌, length, Option, Some, None}
+use Rattle.std.proofs.Common.{◌≡◌, ℕ, zero, suc, ◌+◌, ◌≤◌, ◌<◌, ◌/◌, Bool, true, false, refl, sym, ap, ◌∙◌, subst, arith, List, [], ◌∷◌, ◌++◌, length, Option, Some, None}
 use Rattle.std.specs.Prelude.{is_some, option_map, slice_get, slice_index_or, IfSome, cond}
 use Rattle.ub_base.specs.declared.names.Event.{Event}
 use Rattle.ub_base.specs.declared.names.ObjName.{ObjName}
@@ -8,7 +8,8 @@ use Rattle.exposure.specs.declared.prov.Prov.TheVariants.{Empty, Whole, Either}
 use Rattle.exposure.specs.Cells.{has_cell}
 use Rattle.c_types.specs.declared.ty.Ty.{Ty}
 use Rattle.prov_memory.specs.declared.cell.Cell.{Cell}
-use Rattle.prov_memory.specs.declared.cell.Via.{Via}
+use Rattle.prov_memory.specs.declared.cell.Origin.{Origin}
+use Rattle.prov_memory.specs.Pieces.{piece_cells}
 use Rattle.prov_memory.specs.declared.memory.access.Accessed.{Accessed as Found}
 use Rattle.prov_memory.specs.Acts.{same_prov}
 use Rattle.prov_memory.specs.Cells.{prov_numbered}
@@ -58,12 +59,16 @@ pub record Alters (old new : Kept) (hs : List Held) : Type 0 where
 pub alters_made : (old new : Kept) (hs : List Held) → Alters old new hs → StayMade old new
 alters_made old new hs a = made_by old new (extends_same old.origins new.origins a.origins) a.cells (λ x. ap (λ (l : List Held). is_some (held_of l x)) a.objects ∙ a.held x)
 
-pub alters_sound : (old new : Kept) (hs : List Held) → Alters old new hs → ObjectsKnown (length old.origins) hs → IsSound old → IsSound new
+pub alters_sound : (old new : Kept) (hs : List Held) → Alters old new hs → AreKnown new → IsSound old → IsSound new
 alters_sound old new hs a known s = record {
-  known = subst (λ (l : List Held). ObjectsKnown (length new.origins) l) (sym a.objects) (subst (λ (ps : List Prov). ObjectsKnown (length ps) hs) (sym a.origins) known);
+  known = known;
   named = subst (λ (l : List Held). EachNamed new.origins l) (sym a.objects) (subst (λ (ps : List Prov). EachNamed ps hs) (sym a.origins) (a.named s.named));
   made = λ n. subst (λ (ps : List Prov). IsMade new (prov_numbered ps n)) (sym a.origins) (alters_made old new hs a (prov_numbered old.origins n) (s.made n));
 }
+
+pub alters_known : (old new : Kept) (hs : List Held) → Alters old new hs → ObjectsKnown (length old.origins) hs → AreKnown new
+alters_known old new hs a known =
+    subst (λ (l : List Held). ObjectsKnown (length new.origins) l) (sym a.objects) (subst (λ (ps : List Prov). ObjectsKnown (length ps) hs) (sym a.origins) known)
 
 some_map : (f : Held → Held) (o : Option Held) → is_some (option_map f o) ≡ is_some o
 some_map f None = refl
@@ -80,21 +85,40 @@ held_uncovered (x ∷ xs) hs y = held_uncovered xs (changed uncovered x hs) y �
 abbrev pub SameCells : Kept → Kept → Type 0
 SameCells old new = (e : Event) → has_cell new.cells e ≡ has_cell old.cells e
 
-pub shown_alters : (old mid new : Kept) (xs : List ObjName) → mid ≡ record old { objects = uncovered_each xs old.objects } → record new { cells = [] } ≡ record mid { cells = [] } → SameCells mid new → Alters old new (uncovered_each xs old.objects)
-shown_alters old mid new xs shown rest cells = record {
-  objects = ap (λ (m : Kept). m.objects) rest ∙ ap (λ (m : Kept). m.objects) shown;
-  origins = ap (λ (m : Kept). m.origins) rest ∙ ap (λ (m : Kept). m.origins) shown;
-  cells = λ e h. cells e ∙ ap (λ (m : Kept). has_cell m.cells e) shown ∙ h;
-  held = held_uncovered xs old.objects;
-  named = named_uncovered old.origins xs old.objects;
+-- first the objects change, then something is settled
+both_alter : (old mid new : Kept) (hs : List Held) → mid ≡ record old { objects = hs } → record new { cells = [] } ≡ record mid { cells = [] } → SameCells mid new → ((x : ObjName) → is_some (held_of hs x) ≡ is_some (held_of old.objects x)) → (EachNamed old.origins old.objects → EachNamed old.origins hs) → Alters old new hs
+both_alter old mid new hs is rest cells held named = record {
+  objects = ap (λ (m : Kept). m.objects) rest ∙ ap (λ (m : Kept). m.objects) is;
+  origins = ap (λ (m : Kept). m.origins) rest ∙ ap (λ (m : Kept). m.origins) is;
+  cells = λ e h. cells e ∙ ap (λ (m : Kept). has_cell m.cells e) is ∙ h;
+  held = held;
+  named = named;
 }
+
+shown_alters : (old mid new : Kept) (xs : List ObjName) → mid ≡ record old { objects = uncovered_each xs old.objects } → record new { cells = [] } ≡ record mid { cells = [] } → SameCells mid new → Alters old new (uncovered_each xs old.objects)
+shown_alters old mid new xs shown rest cells =
+    both_alter old mid new (uncovered_each xs old.objects) shown rest cells (held_uncovered xs old.objects) (named_uncovered old.origins xs old.objects)
 
 pub shown_made : (old mid new : Kept) (xs : List ObjName) → mid ≡ record old { objects = uncovered_each xs old.objects } → record new { cells = [] } ≡ record mid { cells = [] } → SameCells mid new → StayMade old new
 shown_made old mid new xs shown rest cells = alters_made old new (uncovered_each xs old.objects) (shown_alters old mid new xs shown rest cells)
 
 pub shown_sound : (old mid new : Kept) (xs : List ObjName) → mid ≡ record old { objects = uncovered_each xs old.objects } → record new { cells = [] } ≡ record mid { cells = [] } → SameCells mid new → IsSound old → IsSound new
 shown_sound old mid new xs shown rest cells s =
-    alters_sound old new (uncovered_each xs old.objects) (shown_alters old mid new xs shown rest cells) (known_uncovered (length old.origins) xs old.objects s.known) s
+    let hs = uncovered_each xs old.objects in
+    let a = shown_alters old mid new xs shown rest cells in
+    alters_sound old new hs a (alters_known old new hs a (known_uncovered (length old.origins) xs old.objects s.known)) s
+
+-- ---- stores
+stored_alters : (old acc w new : Kept) (g : Held) (x : ObjName) → acc ≡ old → w ≡ record acc { objects = changed (holding g.cells) x acc.objects } → record new { cells = [] } ≡ record w { cells = [] } → SameCells w new → Alters old new (changed (holding g.cells) x old.objects)
+stored_alters old acc w new g x same put rest cells =
+    let is : w ≡ record old { objects = changed (holding g.cells) x old.objects } = put ∙ ap (λ (k : Kept). record k { objects = changed (holding g.cells) x k.objects }) same in
+    both_alter old w new (changed (holding g.cells) x old.objects) is rest cells (λ y. held_changed (holding g.cells) x old.objects y (λ h. refl)) (named_changed old.origins (holding g.cells) x old.objects (λ h. refl) (λ h. refl))
+
+pub stored_made : (old acc w new : Kept) (g : Held) (x : ObjName) → acc ≡ old → w ≡ record acc { objects = changed (holding g.cells) x acc.objects } → record new { cells = [] } ≡ record w { cells = [] } → SameCells w new → StayMade old new
+stored_made old acc w new g x same put rest cells = alters_made old new (changed (holding g.cells) x old.objects) (stored_alters old acc w new g x same put rest cells)
+
+pub stored_sound : (old acc w new : Kept) (g : Held) (x : ObjName) → acc ≡ old → w ≡ record acc { objects = changed (holding g.cells) x acc.objects } → record new { cells = [] } ≡ record w { cells = [] } → SameCells w new → AreKnown new → IsSound old → IsSound new
+stored_sound old acc w new g x same put rest cells known s = alters_sound old new (changed (holding g.cells) x old.objects) (stored_alters old acc w new g x same put rest cells) known s
 
 -- what is settled changes nothing of it
 pub settled_sound : (old new : Kept) → record new { cells = [] } ≡ record old { cells = [] } → SameCells old new → IsSound old → IsSound new
@@ -159,3 +183,26 @@ pointer_value old acc looked new f pointer target same r sees value rest cells s
 pub pointer_kept : (old acc looked new : Kept) → acc ≡ old → HasMore acc looked → record new { cells = [] } ≡ record looked { cells = [] } → SameCells looked new → StayMade old new
 pointer_kept old acc looked new same more rest cells p made =
     stays_made looked new rest cells p (more_made acc looked more p (subst (λ (m : Kept). IsMade m p) (sym same) made))
+
+-- ---- the number of a provenance is one of the memory
+some_within : (ps : List Prov) (n : ℕ) (p : Prov) → same_prov p Empty ≡ false → slice_index_or ps n Empty ≡ p → n < length ps
+some_within [] n p some e = absurd (clash (subst (λ (q : Prov). same_prov q Empty ≡ false) (sym e) some))
+  where
+    clash : same_prov Empty Empty ≡ false → ⊥
+    clash h = cc
+some_within (q ∷ ps) zero p some e = omega arith
+some_within (q ∷ ps) (suc n) p some e = omega (arith, some_within ps n p some e)
+
+number_within : (ps : List Prov) (n : ℕ) (p : Prov) → same_prov p Empty ≡ false → prov_numbered ps n ≡ p → n ≤ length ps
+number_within ps zero p some e = omega arith
+number_within ps (suc n) p some e = omega (arith, some_within ps n p some e)
+
+pub whole_within : (ps : List Prov) (n : ℕ) (p : Prov) (x : ObjName) → p ≡ Whole x → prov_numbered ps n ≡ p → n ≤ length ps
+whole_within ps n p x is e = number_within ps n (Whole x) refl (e ∙ is)
+
+pub either_within : (ps : List Prov) (n : ℕ) (p : Prov) (id : Event) (past start : ObjName) → p ≡ Either id past start → prov_numbered ps n ≡ p → n ≤ length ps
+either_within ps n p id past start is e = number_within ps n (Either id past start) refl (e ∙ is)
+
+pub pieces_known : (most k index r : ℕ) (o : Origin) → o.number ≤ most → CellsKnown most (piece_cells k index o r)
+pieces_known most zero index r o le = tt
+pieces_known most (suc k) index r o le = (le, pieces_known most k (suc index) (r / 256) o le)

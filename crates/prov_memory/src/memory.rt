@@ -1,5 +1,5 @@
 // The memory.
-ghost use Rattle.std.specs.Prelude.{◌≡◌, [], Some, true, not, slice_get, IfSome};
+ghost use Rattle.std.specs.Prelude.{◌≡◌, ◌≤◌, [], Some, true, not, length, slice_get, IfSome};
 ghost use Rattle.std.specs.Option.{option_and_then, option_copied};
 ghost use Rattle.std.specs.Bool.{OnTrue, OnFalse};
 ghost use Rattle.exposure.specs.Cells.{kept_in, has_cell, is_other, Settles};
@@ -191,7 +191,8 @@ impl Memory {
 
     // The number of a provenance that was made in this memory, the empty one's for another.
     fn origin_of(&self, prov: Prov) -> Origin
-        ensures { AreNamed self.now → IsMade self.now prov → prov_numbered self.now.origins result.number ≡ prov }
+        ensures prov { AreNamed self.now → IsMade self.now prov → prov_numbered self.now.origins result.number ≡ prov }
+        ensures number { AreNamed self.now → IsMade self.now prov → result.number ≤ length self.now.origins }
     {
         match prov {
             Prov::Empty => Origin::EMPTY,
