@@ -29,7 +29,8 @@ use Rattle.prov_memory.specs.Store.{TaggedByte}
 use Rattle.prov_memory.specs.Cells.{byte_in_state, cell_at}
 use Rattle.prov_memory.specs.Acts.{origin_in, pointer_if, pointer_in, are_pieces}
 use Rattle.prov_memory.specs.Access.{bytes_in}
-use Rattle.prov_memory.proofs.ActLemmas.{known_uncovered, objects_more}
+use Rattle.prov_memory.proofs.ActLemmas.{known_uncovered, objects_more, known_at}
+use Rattle.prov_memory.proofs.WriteLemmas.{held_known}
 
 -- what was made stays so
 abbrev pub StayMade : Kept → Kept → Type 0
@@ -206,3 +207,40 @@ either_within ps n p id past start is e = number_within ps n (Either id past sta
 pub pieces_known : (most k index r : ℕ) (o : Origin) → o.number ≤ most → CellsKnown most (piece_cells k index o r)
 pieces_known most zero index r o le = tt
 pieces_known most (suc k) index r o le = (le, pieces_known most k (suc index) (r / 256) o le)
+
+-- ---- more types
+pub typed_made : (old new : Kept) → record new { types = [] } ≡ record old { types = [] } → StayMade old new
+typed_made old new rest = made_by old new (extends_same old.origins new.origins (ap (λ (m : Kept). m.origins) rest)) (λ e h. ap (λ (m : Kept). has_cell m.cells e) rest ∙ h) (λ x. ap (λ (m : Kept). is_some (held_of m.objects x)) rest)
+
+pub typed_sound : (old new : Kept) → record new { types = [] } ≡ record old { types = [] } → IsSound old → IsSound new
+typed_sound old new rest s = record {
+  known = subst (λ (m : Kept). AreKnown m) (sym rest) s.known;
+  named = subst (λ (m : Kept). AreNamed m) (sym rest) s.named;
+  made = λ n. typed_made old new rest (prov_numbered new.origins n) (subst (λ (ps : List Prov). IsMade old (prov_numbered ps n)) (sym (ap (λ (m : Kept). m.origins) rest)) (s.made n));
+}
+
+pub block_made : (old acc mid new : Kept) → acc ≡ old → record mid { types = [] } ≡ record acc { types = [] } → record new { cells = [] } ≡ record mid { cells = [] } → SameCells mid new → StayMade old new
+block_made old acc mid new same types rest cells p made =
+    stays_made mid new rest cells p (typed_made acc mid types p (subst (λ (m : Kept). IsMade m p) (sym same) made))
+
+pub block_sound : (old acc mid new : Kept) → acc ≡ old → record mid { types = [] } ≡ record acc { types = [] } → record new { cells = [] } ≡ record mid { cells = [] } → SameCells mid new → IsSound old → IsSound new
+block_sound old acc mid new same types rest cells s =
+    settled_sound mid new rest cells (typed_sound acc mid types (subst (λ (m : Kept). IsSound m) (sym same) s))
+
+pub block_known : (old acc mid new : Kept) (f : Found) (size : ℕ) (cs : List Cell) → acc ≡ old → (r : IsReached old.objects f size) → record mid { types = [] } ≡ record acc { types = [] } → record new { cells = [] } ≡ record mid { cells = [] } → (AreKnown acc → (h : Held) → slice_get acc.objects f.object ≡ Some h → CellsKnown (length acc.origins) cs) → AreKnown old → CellsKnown (length new.origins) cs
+block_known old acc mid new f size cs same r types rest cells known =
+    let origins : new.origins ≡ acc.origins = ap (λ (m : Kept). m.origins) rest ∙ ap (λ (m : Kept). m.origins) types in
+    let there : slice_get acc.objects f.object ≡ Some r.object = ap (λ (m : Kept). slice_get m.objects f.object) same ∙ r.there in
+    subst (λ (ps : List Prov). CellsKnown (length ps) cs) (sym origins) (cells (subst (λ (m : Kept). AreKnown m) (sym same) known) r.object there)
+
+cells_end : (n : ℕ) (cs : List Cell) (c : Cell) → CellsKnown n cs → c.origin.number ≤ n → CellsKnown n (cs ++ c ∷ [])
+cells_end n [] c known le = (le, tt)
+cells_end n (d ∷ cs) c known le = (known.0, cells_end n cs c known.1 le)
+
+-- one more byte of an object
+pub cell_known : (m : Kept) (h : Held) (at place : ℕ) (cs after : List Cell) (c d : Cell) → AreKnown m → slice_get m.objects at ≡ Some h → c ≡ cell_at h.cells place → d.origin ≡ c.origin → after ≡ cs ++ d ∷ [] → CellsKnown (length m.origins) cs → CellsKnown (length m.origins) after
+cell_known m h at place cs after c d known there is same pushed before =
+    let n = length m.origins in
+    let le : (cell_at h.cells place).origin.number ≤ n = known_at n h.cells place (held_known n m.objects at h there known) in
+    let number : d.origin.number ≡ (cell_at h.cells place).origin.number = ap (λ (o : Origin). o.number) same ∙ ap (λ (k : Cell). k.origin.number) is in
+    subst (λ (l : List Cell). CellsKnown n l) (sym pushed) (cells_end n cs d before (omega (arith, le, number)))

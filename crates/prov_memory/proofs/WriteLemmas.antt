@@ -314,7 +314,7 @@ written_known : (n : ℕ) (h g : Held) (from : ℕ) (via : Via) (cs : List Cell)
 written_known n h g from via cs w old new =
     all_known n g.cells (λ at. subst (λ (c : Cell). c.origin.number ≤ n) (sym (w.bytes at)) (put_origin (nat_le from at && nat_lt at (from + length cs)) (is_some h.declared) n (cell_at h.cells at) (cell_at cs (at - from)) via (at - from) (known_at n h.cells at old) (known_at n cs (at - from) new)))
 
-held_known : (n : ℕ) (hs : List Held) (k : ℕ) (h : Held) → slice_get hs k ≡ Some h → ObjectsKnown n hs → CellsKnown n h.cells
+pub held_known : (n : ℕ) (hs : List Held) (k : ℕ) (h : Held) → slice_get hs k ≡ Some h → ObjectsKnown n hs → CellsKnown n h.cells
 held_known n [] k h e known = absurd (cc)
 held_known n (g ∷ hs) zero h e known = subst (λ (f : Held). CellsKnown n f.cells) (held_is g h e) known.0
   where
