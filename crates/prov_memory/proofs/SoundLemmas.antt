@@ -1,11 +1,18 @@
 -- What was made stays made, and a sound memory stays sound.
-use Rattle.std.proofs.Common.{◌≡◌, ℕ, zero, suc, ◌+◌, ◌≤◌, ◌<◌, ◌/◌, Bool, true, false, refl, sym, ap, ◌∙◌, subst, arith, List, [], ◌∷◌, ◌++◌, length, Option, Some, None}
-use Rattle.std.specs.Prelude.{is_some, option_map, slice_get, slice_index_or, IfSome, cond}
+use Rattle.std.proofs.Common.{◌≡◌, ℕ, zero, suc, ◌+◌, ◌≤◌, ◌<◌, ◌/◌, Bool, true, false, cond, refl, sym, ap, ◌∙◌, subst, arith, List, [], ◌∷◌, ◌++◌, length, Option, Some, None}
+use Rattle.std.specs.Prelude.{is_some, option_map, slice_get, slice_index_or, IfSome, IfOk, OnOk, Result, Ok, Err}
 use Rattle.ub_base.specs.declared.names.Event.{Event}
 use Rattle.ub_base.specs.declared.names.ObjName.{ObjName}
 use Rattle.exposure.specs.declared.prov.Prov.{Prov}
 use Rattle.exposure.specs.declared.prov.Prov.TheVariants.{Empty, Whole, Either}
-use Rattle.exposure.specs.Cells.{has_cell}
+use Rattle.exposure.specs.Cells.{Cells, has_cell, Settles}
+use Rattle.addr_map.specs.declared.map.Mode.{Mode}
+use Rattle.addr_map.specs.declared.map.Row.{Row}
+use Rattle.std.specs.Bool.{OnTrue, OnFalse}
+use Rattle.ub_base.specs.Names.{same_object}
+use Rattle.ub_base.proofs.NameLemmas.{same_object_refl}
+use Rattle.c_types.specs.declared.shape.Shape.{Shape}
+use Rattle.prov_memory.specs.declared.object.ObjKind.{ObjKind}
 use Rattle.c_types.specs.declared.ty.Ty.{Ty}
 use Rattle.prov_memory.specs.declared.cell.Cell.{Cell}
 use Rattle.prov_memory.specs.declared.cell.Origin.{Origin}
@@ -14,7 +21,7 @@ use Rattle.prov_memory.specs.declared.memory.access.Accessed.{Accessed as Found}
 use Rattle.prov_memory.specs.Acts.{same_prov}
 use Rattle.prov_memory.specs.Cells.{prov_numbered}
 use Rattle.prov_memory.specs.Held.{Held, IsWritten, held_of, changed, uncovered, holding}
-use Rattle.prov_memory.specs.Memory.{Kept, AreKnown, CellsKnown, ObjectsKnown, uncovered_each}
+use Rattle.prov_memory.specs.Memory.{Kept, empty, AreKnown, CellsKnown, ObjectsKnown, uncovered_each, newborn, IsBorn}
 use Rattle.prov_memory.specs.Made.{IsMade, AreNamed, EachNamed, HasMore, Extends, HasNumber}
 use Rattle.prov_memory.specs.Access.{IsReached}
 use Rattle.prov_memory.specs.Sound.{AllMade, AreMade, IsSound}
@@ -29,7 +36,7 @@ use Rattle.prov_memory.specs.Store.{TaggedByte}
 use Rattle.prov_memory.specs.Cells.{byte_in_state, cell_at}
 use Rattle.prov_memory.specs.Acts.{origin_in, pointer_if, pointer_in, are_pieces}
 use Rattle.prov_memory.specs.Access.{bytes_in}
-use Rattle.prov_memory.proofs.ActLemmas.{known_uncovered, objects_more, known_at}
+use Rattle.prov_memory.proofs.ActLemmas.{born_known, known_uncovered, objects_more, known_at}
 use Rattle.prov_memory.proofs.WriteLemmas.{held_known}
 
 -- what was made stays so
@@ -40,9 +47,9 @@ StayMade old new = (p : Prov) → IsMade old p → IsMade new p
 abbrev pub StayCells : Kept → Kept → Type 0
 StayCells old new = (e : Event) → has_cell old.cells e ≡ true → has_cell new.cells e ≡ true
 
-made_by : (old new : Kept) → Extends old.origins new.origins → StayCells old new → ((x : ObjName) → is_some (held_of new.objects x) ≡ is_some (held_of old.objects x)) → StayMade old new
+made_by : (old new : Kept) → Extends old.origins new.origins → StayCells old new → ((x : ObjName) → is_some (held_of old.objects x) ≡ true → is_some (held_of new.objects x) ≡ true) → StayMade old new
 made_by old new more cells held Empty made = tt
-made_by old new more cells held (Whole x) made = held x ∙ made
+made_by old new more cells held (Whole x) made = held x made
 made_by old new more cells held (Either id past start) made = (cells id made.0, has_number_more old.origins new.origins (Either id past start) refl more made.1)
 
 extends_same : (ps qs : List Prov) → qs ≡ ps → Extends ps qs
@@ -58,7 +65,7 @@ pub record Alters (old new : Kept) (hs : List Held) : Type 0 where
   pub named : EachNamed old.origins old.objects → EachNamed old.origins hs
 
 pub alters_made : (old new : Kept) (hs : List Held) → Alters old new hs → StayMade old new
-alters_made old new hs a = made_by old new (extends_same old.origins new.origins a.origins) a.cells (λ x. ap (λ (l : List Held). is_some (held_of l x)) a.objects ∙ a.held x)
+alters_made old new hs a = made_by old new (extends_same old.origins new.origins a.origins) a.cells (λ x h. ap (λ (l : List Held). is_some (held_of l x)) a.objects ∙ a.held x ∙ h)
 
 pub alters_sound : (old new : Kept) (hs : List Held) → Alters old new hs → AreKnown new → IsSound old → IsSound new
 alters_sound old new hs a known s = record {
@@ -131,7 +138,7 @@ settled_sound old new rest cells s = record {
 
 -- ---- what is looked up
 pub more_made : (old new : Kept) → HasMore old new → StayMade old new
-more_made old new more = made_by old new more.origins more.cells (λ x. ap (λ (m : Kept). is_some (held_of m.objects x)) more.rest)
+more_made old new more = made_by old new more.origins more.cells (λ x h. ap (λ (m : Kept). is_some (held_of m.objects x)) more.rest ∙ h)
 
 more_long : (ps qs : List Prov) → Extends ps qs → length ps ≤ length qs
 more_long ps qs more =
@@ -210,7 +217,7 @@ pieces_known most (suc k) index r o le = (le, pieces_known most k (suc index) (r
 
 -- ---- more types
 pub typed_made : (old new : Kept) → record new { types = [] } ≡ record old { types = [] } → StayMade old new
-typed_made old new rest = made_by old new (extends_same old.origins new.origins (ap (λ (m : Kept). m.origins) rest)) (λ e h. ap (λ (m : Kept). has_cell m.cells e) rest ∙ h) (λ x. ap (λ (m : Kept). is_some (held_of m.objects x)) rest)
+typed_made old new rest = made_by old new (extends_same old.origins new.origins (ap (λ (m : Kept). m.origins) rest)) (λ e h. ap (λ (m : Kept). has_cell m.cells e) rest ∙ h) (λ x h. ap (λ (m : Kept). is_some (held_of m.objects x)) rest ∙ h)
 
 pub typed_sound : (old new : Kept) → record new { types = [] } ≡ record old { types = [] } → IsSound old → IsSound new
 typed_sound old new rest s = record {
@@ -244,3 +251,81 @@ cell_known m h at place cs after c d known there is same pushed before =
     let le : (cell_at h.cells place).origin.number ≤ n = known_at n h.cells place (held_known n m.objects at h there known) in
     let number : d.origin.number ≡ (cell_at h.cells place).origin.number = ap (λ (o : Origin). o.number) same ∙ ap (λ (k : Cell). k.origin.number) is in
     subst (λ (l : List Cell). CellsKnown n l) (sym pushed) (cells_end n cs d before (omega (arith, le, number)))
+
+-- ---- birth and death
+changed_alters : (m : Kept) (f : Held → Held) (x : ObjName) → ((h : Held) → (f h).name ≡ h.name) → ((h : Held) → (f h).origin.number ≡ h.origin.number) → Alters m (record m { objects = changed f x m.objects }) (changed f x m.objects)
+changed_alters m f x names numbers = record {
+  objects = refl;
+  origins = refl;
+  cells = λ e h. h;
+  held = λ y. held_changed f x m.objects y names;
+  named = named_changed m.origins f x m.objects names numbers;
+}
+
+pub changed_made : (m : Kept) (f : Held → Held) (x : ObjName) → ((h : Held) → (f h).name ≡ h.name) → ((h : Held) → (f h).origin.number ≡ h.origin.number) → StayMade m (record m { objects = changed f x m.objects })
+changed_made m f x names numbers = alters_made m (record m { objects = changed f x m.objects }) (changed f x m.objects) (changed_alters m f x names numbers)
+
+pub changed_sound : (m : Kept) (f : Held → Held) (x : ObjName) → ((h : Held) → (f h).name ≡ h.name) → ((h : Held) → (f h).origin.number ≡ h.origin.number) → (ObjectsKnown (length m.origins) m.objects → ObjectsKnown (length m.origins) (changed f x m.objects)) → IsSound m → IsSound (record m { objects = changed f x m.objects })
+changed_sound m f x names numbers known s =
+    alters_sound m (record m { objects = changed f x m.objects }) (changed f x m.objects) (changed_alters m f x names numbers) (known s.known) s
+
+some_split : (b : Bool) (g : Held) (rest more : Option Held) → (is_some rest ≡ true → is_some more ≡ true) → is_some (cond b (Some g) rest) ≡ true → is_some (cond b (Some g) more) ≡ true
+some_split true g rest more keeps h = refl
+some_split false g rest more keeps h = keeps h
+
+held_end : (hs : List Held) (h : Held) (x : ObjName) → is_some (held_of hs x) ≡ true → is_some (held_of (hs ++ h ∷ []) x) ≡ true
+held_end [] h x some = absurd (clash some)
+  where
+    clash : false ≡ true → ⊥
+    clash e = cc
+held_end (g ∷ hs) h x some = some_split (same_object g.name x) g (held_of hs x) (held_of (hs ++ h ∷ []) x) (held_end hs h x) some
+
+some_either : (b : Bool) (g : Held) (rest : Option Held) → is_some rest ≡ true → is_some (cond b (Some g) rest) ≡ true
+some_either true g rest h = refl
+some_either false g rest h = h
+
+held_last : (hs : List Held) (h : Held) → is_some (held_of (hs ++ h ∷ []) h.name) ≡ true
+held_last [] h = rw (same_object_refl h.name) refl
+held_last (g ∷ hs) h = some_either (same_object g.name h.name) g (held_of (hs ++ h ∷ []) h.name) (held_last hs h)
+
+born_made : (old new : Kept) (x : ObjName) (base size align : ℕ) (kind : ObjKind) (declared : Option Shape) → IsBorn old new x base size align kind declared → StayMade old new
+born_made old new x base size align kind declared b =
+    let one = newborn x base size kind declared b.objects.0 in
+    made_by old new (Whole x ∷ [], b.origins) (λ e h. ap (λ (cells : Cells). has_cell cells e) b.cells ∙ h) (λ y h. ap (λ (hs : List Held). is_some (held_of hs y)) b.objects.1 ∙ held_end old.objects one y h)
+
+born_whole : (old new : Kept) (x : ObjName) (base size align : ℕ) (kind : ObjKind) (declared : Option Shape) → IsBorn old new x base size align kind declared → IsMade new (Whole x)
+born_whole old new x base size align kind declared b =
+    let one = newborn x base size kind declared b.objects.0 in
+    ap (λ (hs : List Held). is_some (held_of hs x)) b.objects.1 ∙ held_last old.objects one
+
+born_sound : (old new : Kept) (x : ObjName) (base size align : ℕ) (kind : ObjKind) (declared : Option Shape) → IsBorn old new x base size align kind declared → AreNamed new → IsSound old → IsSound new
+born_sound old new x base size align kind declared b named s = record {
+  known = born_known old new x base size align kind declared b s.known;
+  named = named;
+  made = subst (λ (ps : List Prov). AllMade new ps) (sym b.origins) (each_last new old.origins (Whole x) (born_whole old new x base size align kind declared b) (λ n. born_made old new x base size align kind declared b (prov_numbered old.origins n) (s.made n)));
+}
+
+pub created_made : {E : Type 0} (r : Result ℕ E) (old new : Kept) (x : ObjName) (size align : ℕ) (kind : ObjKind) (declared : Option Shape) → IfOk r (λ base. IsBorn old new x base size align kind declared) → (p : Prov) → IsMade old p → OnOk r (IsMade new p)
+created_made (Ok base) old new x size align kind declared b p made = born_made old new x base size align kind declared b p made
+created_made (Err e) old new x size align kind declared b p made = tt
+
+pub created_whole : {E : Type 0} (r : Result ℕ E) (old new : Kept) (x : ObjName) (size align : ℕ) (kind : ObjKind) (declared : Option Shape) → IfOk r (λ base. IsBorn old new x base size align kind declared) → OnOk r (IsMade new (Whole x))
+created_whole (Ok base) old new x size align kind declared b = born_whole old new x base size align kind declared b
+created_whole (Err e) old new x size align kind declared b = tt
+
+pub created_sound : {E : Type 0} (r : Result ℕ E) (old new : Kept) (x : ObjName) (size align : ℕ) (kind : ObjKind) (declared : Option Shape) → IfOk r (λ base. IsBorn old new x base size align kind declared) → (AreNamed old → OnOk r (AreNamed new)) → IsSound old → OnOk r (IsSound new)
+created_sound (Ok base) old new x size align kind declared b named s = born_sound old new x base size align kind declared b (named s.named) s
+created_sound (Err e) old new x size align kind declared b named s = tt
+
+-- ---- what settles
+pub cells_narrowed : (b : Bool) (old new : Cells) (id : Event) (keep : ObjName) → OnTrue b (Settles old new id keep) → OnFalse b (new ≡ old) → (e : Event) → has_cell new e ≡ has_cell old e
+cells_narrowed true old new id keep s same e = s.cells e
+cells_narrowed false old new id keep s same e = ap (λ (cells : Cells). has_cell cells e) same
+
+-- a memory without objects
+no_prov : (rows : List Row) (mode : Option Mode) (n : ℕ) → IsMade (empty rows mode) (prov_numbered [] n)
+no_prov rows mode zero = tt
+no_prov rows mode (suc n) = tt
+
+pub empty_sound : (rows : List Row) (mode : Option Mode) → IsSound (empty rows mode)
+empty_sound rows mode = record { known = tt; named = tt; made = no_prov rows mode }

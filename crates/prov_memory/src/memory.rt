@@ -9,6 +9,7 @@ ghost use Rattle.prov_memory.specs.Cells.{prov_numbered};
 ghost use Rattle.prov_memory.specs.Held.{Fits, held_of, name_at};
 ghost use Rattle.prov_memory.specs.Memory.{Kept, empty, store_of, state_in, byte_in_object};
 ghost use Rattle.prov_memory.specs.Made.{AreNamed, IsMade};
+ghost use Rattle.prov_memory.specs.Sound.{IsSound};
 
 mod access;
 mod arith;
@@ -178,6 +179,8 @@ impl Memory {
         ensures unchanged { OnFalse result (self.new ≡ self.old) }
         ensures store { has_cell self.old.cells id ≡ true → OnTrue result ((io : Io) → store_of self.new io ≡ settled (store_of self.old io) id keep) }
         ensures rest { record self.new { cells = [] } ≡ record self.old { cells = [] } }
+        ensures made { (p : Prov) → IsMade self.old p → IsMade self.new p }
+        ensures sound { IsSound self.old → IsSound self.new }
     {
         self.narrowed.narrow(id, keep)
     }

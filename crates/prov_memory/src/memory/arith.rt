@@ -123,6 +123,7 @@ impl Memory {
         ensures same { OnErr result (self.new ≡ self.old) }
         ensures rest { record self.new { cells = [] } ≡ record self.old { cells = [] } }
         ensures made { (p : Prov) → IsMade self.old p → IsMade self.new p }
+        ensures sound { IsSound self.old → IsSound self.new }
     {
         t.clear();
         let settles = self.shifted(addr, prov, by)?;
@@ -210,6 +211,8 @@ impl Memory {
         ensures same { OnErr result (self.new ≡ self.old) }
         ensures rest { record self.new { cells = [] } ≡ record self.old { cells = [] } }
         ensures cells { (e : Event) → has_cell self.new.cells e ≡ has_cell self.old.cells e }
+        ensures made { (p : Prov) → IsMade self.old p → IsMade self.new p }
+        ensures sound { IsSound self.old → IsSound self.new }
     {
         t.clear();
         if !is_multiple(size, a, b) {
@@ -233,6 +236,8 @@ impl Memory {
         ensures same { OnErr result (self.new ≡ self.old) }
         ensures rest { record self.new { cells = [] } ≡ record self.old { cells = [] } }
         ensures cells { (e : Event) → has_cell self.new.cells e ≡ has_cell self.old.cells e }
+        ensures made { (p : Prov) → IsMade self.old p → IsMade self.new p }
+        ensures sound { IsSound self.old → IsSound self.new }
     {
         t.clear();
         self.settle_common(ap, bp, Clause::PointerComparison, t)?;

@@ -4,6 +4,9 @@ ghost use Rattle.c_types.specs.Types.{type_of};
 ghost use Rattle.c_types.specs.Shapes.{form_of};
 ghost use Rattle.prov_memory.specs.Agreement.{read_as_int};
 ghost use Rattle.prov_memory.specs.Cells.{tagged_in, type_numbered};
+ghost use Rattle.exposure.specs.declared.prov.Prov.{Prov};
+ghost use Rattle.prov_memory.specs.Made.{IsMade};
+ghost use Rattle.prov_memory.specs.Sound.{IsSound};
 ghost use Rattle.prov_memory.specs.Tags.{AddsTypes, IsTagged, retagged_byte};
 
 use super::*;
@@ -18,6 +21,8 @@ impl Memory {
         ensures known { IfOk result (λ id. id.number ≤ length self.new.types + 12) }
         ensures more { OnOk result (AddsTypes self.old self.new) }
         ensures rest { record self.new { types = [] } ≡ record self.old { types = [] } }
+        ensures made { (p : Prov) → IsMade self.old p → IsMade self.new p }
+        ensures sound { IsSound self.old → IsSound self.new }
     {
         if let Some(id) = kind_id(ty) {
             return Ok(id);
