@@ -53,7 +53,7 @@ impl Memory {
     }
 
     // What a byte is a piece of, the empty provenance for another.
-    fn piece_of(&self, cell: Cell) -> Prov
+    pub(super) fn piece_of(&self, cell: Cell) -> Prov
         ensures { candidates result ≡ origins_in (byte_in self.now.origins cell) }
     {
         match cell.state {
