@@ -1,5 +1,5 @@
 -- What a memory knows of its provenances, which its calls keep (own).
-use Rattle.std.specs.Prelude.{◌≡◌, ℕ, List}
+use Rattle.std.specs.Prelude.{ℕ, List}
 use Rattle.exposure.specs.declared.prov.Prov.{Prov}
 use Rattle.prov_memory.specs.Cells.{prov_numbered}
 use Rattle.prov_memory.specs.Memory.{Kept, AreKnown}

@@ -1,7 +1,7 @@
 // Pointer arithmetic, comparison and casts.
 ghost use Rattle.std.specs.Ordering.{nat_cmp};
 ghost use Rattle.ub_base.specs.Names.{same_object};
-ghost use Rattle.std.specs.Prelude.{◌≡◌, ◌++◌, ◌∷◌, ◌<◌, ◌/◌, ◌+ℤ◌, ◌-ℤ◌, [], pos, true, if◌then◌else◌, IfOk, IfSome, OnOk, OnErr, length};
+ghost use Rattle.std.specs.Prelude.{◌≡◌, ◌++◌, ◌∷◌, ◌<◌, ◌/◌, ◌+ℤ◌, ◌-ℤ◌, [], pos, true, if◌then◌else◌, IfOk, IfSome, is_some, slice_get, OnOk, OnErr, length};
 ghost use Rattle.addr_map.specs.Rows.{row_of};
 ghost use Rattle.exposure.specs.declared.prov.Prov.TheVariants.{Either};
 ghost use Rattle.prov_memory.specs.Sound.{AllMade, IsSound};
@@ -339,6 +339,7 @@ impl Memory {
     ) -> Result<Option<Accessed>, Clause>
         ensures same { self.new ≡ self.old }
         ensures range { IfOk result (λ found. IfSome found (λ place. FallsIn self.old.objects place.object place.from len)) }
+        ensures there { IfOk result (λ found. IfSome found (λ place. is_some (slice_get self.old.objects place.object) ≡ true)) }
     {
         if addr == 0 {
             return Err(Clause::LibraryArgument);

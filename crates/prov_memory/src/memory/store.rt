@@ -1,5 +1,5 @@
 // Stores.
-ghost use Rattle.std.specs.Prelude.{◌≡◌, ℕ, ◌<◌, ◌+◌, ◌++◌, ◌∷◌, [], Some, length, slice_get, OnOk, OnErr, IfErr, option_map};
+ghost use Rattle.std.specs.Prelude.{◌≡◌, ℕ, ◌<◌, ◌+◌, ◌++◌, ◌∷◌, [], Some, length, slice_get, OnOk, OnErr, IfErr, IfSome, is_some, true, option_map};
 ghost use Rattle.std.specs.Option.{option_copied};
 ghost use Rattle.ub_base.specs.declared.names.Item.TheVariants.{Write};
 ghost use Rattle.c_types.specs.Types.{CType};
@@ -189,21 +189,43 @@ impl Memory {
         from_prov: Prov,
         len: u64,
         t: &mut Touched,
-    ) -> Result<(), MemFault> {
+    ) -> Result<(), MemFault>
+        ensures made { (p : Prov) → IsMade self.old p → IsMade self.new p }
+        ensures sound { IsSound self.old → IsSound self.new }
+    {
         t.clear();
         let target = self.argument(to, to_prov, len, None, t)?;
-        let pending = settled_at(target);
-        let source = self.argument(from, from_prov, len, pending, t)?;
-        if let (Some(target), Some(source)) = (target, source)
-            && len != 0
-        {
-            self.check_target(target)?;
-            let cells = self.cells_of(source.object, source.from, len)?;
-            note_read(source, len, t);
-            self.write(target, Via::Whole, cells.as_slice(), t);
-        }
+        let source = self.argument(from, from_prov, len, settled_at(target), t)?;
+        self.copy_found(target, source, len, t)?;
         self.settle_argument(target);
         self.settle_argument(source);
+        Ok(())
+    }
+
+    // Copies bytes from where one argument falls to where the other does.
+    fn copy_found(
+        &mut self,
+        target: Option<Accessed>,
+        source: Option<Accessed>,
+        len: u64,
+        t: &mut Touched,
+    ) -> Result<(), MemFault>
+        requires range { IfSome target (λ place. FallsIn self.old.objects place.object place.from len) }
+        requires there { IfSome target (λ place. is_some (slice_get self.old.objects place.object) ≡ true) }
+        requires source { IfSome source (λ place. is_some (slice_get self.old.objects place.object) ≡ true) }
+        ensures made { (p : Prov) → IsMade self.old p → IsMade self.new p }
+        ensures sound { IsSound self.old → IsSound self.new }
+    {
+        let (Some(target), Some(source)) = (target, source) else {
+            return Ok(());
+        };
+        if len == 0 {
+            return Ok(());
+        }
+        self.check_target(target)?;
+        let cells = self.cells_of(source.object, source.from, len)?;
+        note_read(source, len, t);
+        self.write(target, Via::Whole, cells.as_slice(), t);
         Ok(())
     }
 
@@ -216,7 +238,10 @@ impl Memory {
     }
 
     /// Settles what an argument settles.
-    fn settle_argument(&mut self, found: Option<Accessed>) {
+    fn settle_argument(&mut self, found: Option<Accessed>)
+        ensures made { (p : Prov) → IsMade self.old p → IsMade self.new p }
+        ensures sound { IsSound self.old → IsSound self.new }
+    {
         if let Some(found) = found {
             self.settle(found.settles);
         }

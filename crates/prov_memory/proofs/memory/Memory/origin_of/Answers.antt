@@ -2,7 +2,7 @@ use Rattle.std.proofs.Common.{◌≡◌, ◌∙◌, ℕ, sym, ap}
 use Rattle.prov_memory.specs.Cells.{prov_numbered}
 use Rattle.prov_memory.specs.Held.{Held}
 use Rattle.prov_memory.proofs.PieceLemmas.{named_held}
-use Rattle.prov_memory.proofs.SoundLemmas.{whole_within, either_within}
+use Rattle.prov_memory.proofs.SoundLemmas.{whole_within}
 use Rattle.prov_memory.proofs.memory.Memory.origin_of.Goals as goal
 
 pub returns-in-Some-clause-prov : goal.returns-in-Some-clause-prov

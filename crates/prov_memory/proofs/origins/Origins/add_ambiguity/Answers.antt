@@ -3,7 +3,6 @@ use Rattle.exposure.specs.declared.prov.Prov.{Prov}
 use Rattle.exposure.specs.declared.prov.Prov.TheVariants.{Either}
 use Rattle.prov_memory.specs.Made.{AreNumbered}
 use Rattle.prov_memory.proofs.ProvLemmas.{numbered_ambiguity, numbered_same}
-use Rattle.prov_memory.specs.Memory.{Kept}
 use Rattle.prov_memory.specs.Sound.{AllMade}
 use Rattle.prov_memory.proofs.SoundLemmas.{each_last}
 use Rattle.prov_memory.proofs.origins.Origins.add_ambiguity.Goals as goal
