@@ -243,7 +243,7 @@ cells_more : (n m : ℕ) (cs : List Cell) → n ≤ m → CellsKnown n cs → Ce
 cells_more n m [] le known = tt
 cells_more n m (c ∷ cs) le known = (omega (arith, le, known.0), cells_more n m cs le known.1)
 
-objects_more : (n m : ℕ) (hs : List Held) → n ≤ m → ObjectsKnown n hs → ObjectsKnown m hs
+pub objects_more : (n m : ℕ) (hs : List Held) → n ≤ m → ObjectsKnown n hs → ObjectsKnown m hs
 objects_more n m [] le known = tt
 objects_more n m (h ∷ hs) le known = (cells_more n m h.cells le known.0, objects_more n m hs le known.1)
 

@@ -17,3 +17,4 @@ pub mod PointerLemmas
 pub mod ValueLemmas
 pub mod TagLemmas
 pub mod BlockLemmas
+pub mod SoundLemmas

@@ -140,7 +140,7 @@ named_uncovered ps (x ∷ xs) hs named = named_uncovered ps xs (changed uncovere
 whole_some : (x : ObjName) → same_prov (Whole x) Empty ≡ false
 whole_some x = refl
 
-named_longer : (ps more : List Prov) (hs : List Held) → EachNamed ps hs → EachNamed (ps ++ more) hs
+pub named_longer : (ps more : List Prov) (hs : List Held) → EachNamed ps hs → EachNamed (ps ++ more) hs
 named_longer ps more [] named = tt
 named_longer ps more (h ∷ hs) named = (number_stays ps more h.origin.number (Whole h.name) (whole_some h.name) named.0, named_longer ps more hs named.1)
 

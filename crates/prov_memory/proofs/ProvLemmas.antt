@@ -61,7 +61,7 @@ pub prov_more : (ps more : List Prov) (n : ℕ) → n ≤ length ps → prov_num
 prov_more ps more zero e = refl
 prov_more ps more (suc n) e = nth_more ps more n (omega arith)
 
-nth_past : (ps : List Prov) (n : ℕ) → length ps ≤ n → slice_index_or ps n Empty ≡ Empty
+pub nth_past : (ps : List Prov) (n : ℕ) → length ps ≤ n → slice_index_or ps n Empty ≡ Empty
 nth_past [] n e = refl
 nth_past (q ∷ ps) zero e = absurd (omega arith)
 nth_past (q ∷ ps) (suc n) e = nth_past ps n (omega arith)

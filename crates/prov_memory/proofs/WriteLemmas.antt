@@ -310,11 +310,11 @@ put_origin : (t d : Bool) (n : ℕ) (old new : Cell) (via : Via) (i : ℕ) → o
 put_origin true d n old new via i e f = left_origin true d via i new n f
 put_origin false d n old new via i e f = e
 
-written_known : (n : ℕ) (h g : Held) (from : ℕ) (via : Via) (cs : List Cell) → IsWritten h g from via cs → CellsKnown n h.cells → CellsKnown n cs → CellsKnown n g.cells
+pub written_known : (n : ℕ) (h g : Held) (from : ℕ) (via : Via) (cs : List Cell) → IsWritten h g from via cs → CellsKnown n h.cells → CellsKnown n cs → CellsKnown n g.cells
 written_known n h g from via cs w old new =
     all_known n g.cells (λ at. subst (λ (c : Cell). c.origin.number ≤ n) (sym (w.bytes at)) (put_origin (nat_le from at && nat_lt at (from + length cs)) (is_some h.declared) n (cell_at h.cells at) (cell_at cs (at - from)) via (at - from) (known_at n h.cells at old) (known_at n cs (at - from) new)))
 
-held_known : (n : ℕ) (hs : List Held) (k : ℕ) (h : Held) → slice_get hs k ≡ Some h → ObjectsKnown n hs → CellsKnown n h.cells
+pub held_known : (n : ℕ) (hs : List Held) (k : ℕ) (h : Held) → slice_get hs k ≡ Some h → ObjectsKnown n hs → CellsKnown n h.cells
 held_known n [] k h e known = absurd (cc)
 held_known n (g ∷ hs) zero h e known = subst (λ (f : Held). CellsKnown n f.cells) (held_is g h e) known.0
   where
@@ -326,7 +326,7 @@ holding_split : (b : Bool) (n : ℕ) (cs : List Cell) (h : Held) → CellsKnown 
 holding_split true n cs h new old = new
 holding_split false n cs h new old = old
 
-holding_known : (n : ℕ) (cs : List Cell) (x : ObjName) (hs : List Held) → CellsKnown n cs → ObjectsKnown n hs → ObjectsKnown n (changed (holding cs) x hs)
+pub holding_known : (n : ℕ) (cs : List Cell) (x : ObjName) (hs : List Held) → CellsKnown n cs → ObjectsKnown n hs → ObjectsKnown n (changed (holding cs) x hs)
 holding_known n cs x [] new known = tt
 holding_known n cs x (h ∷ hs) new known = (holding_split (same_object h.name x) n cs h new known.0, holding_known n cs x hs new known.1)
 

@@ -13,3 +13,4 @@ pub mod Pieces
 pub mod Stores
 pub mod Loads
 pub mod Tags
+pub mod Sound

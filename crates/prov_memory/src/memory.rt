@@ -1,5 +1,5 @@
 // The memory.
-ghost use Rattle.std.specs.Prelude.{◌≡◌, [], Some, true, not, slice_get, IfSome};
+ghost use Rattle.std.specs.Prelude.{◌≡◌, ◌≤◌, [], Some, true, not, length, slice_get, IfSome};
 ghost use Rattle.std.specs.Option.{option_and_then, option_copied};
 ghost use Rattle.std.specs.Bool.{OnTrue, OnFalse};
 ghost use Rattle.exposure.specs.Cells.{kept_in, has_cell, is_other, Settles};
@@ -9,6 +9,7 @@ ghost use Rattle.prov_memory.specs.Cells.{prov_numbered};
 ghost use Rattle.prov_memory.specs.Held.{Fits, held_of, name_at};
 ghost use Rattle.prov_memory.specs.Memory.{Kept, empty, store_of, state_in, byte_in_object};
 ghost use Rattle.prov_memory.specs.Made.{AreNamed, IsMade};
+ghost use Rattle.prov_memory.specs.Sound.{IsSound};
 
 mod access;
 mod arith;
@@ -178,6 +179,8 @@ impl Memory {
         ensures unchanged { OnFalse result (self.new ≡ self.old) }
         ensures store { has_cell self.old.cells id ≡ true → OnTrue result ((io : Io) → store_of self.new io ≡ settled (store_of self.old io) id keep) }
         ensures rest { record self.new { cells = [] } ≡ record self.old { cells = [] } }
+        ensures made { (p : Prov) → IsMade self.old p → IsMade self.new p }
+        ensures sound { IsSound self.old → IsSound self.new }
     {
         self.narrowed.narrow(id, keep)
     }
@@ -191,7 +194,8 @@ impl Memory {
 
     // The number of a provenance that was made in this memory, the empty one's for another.
     fn origin_of(&self, prov: Prov) -> Origin
-        ensures { AreNamed self.now → IsMade self.now prov → prov_numbered self.now.origins result.number ≡ prov }
+        ensures prov { AreNamed self.now → IsMade self.now prov → prov_numbered self.now.origins result.number ≡ prov }
+        ensures number { AreNamed self.now → IsMade self.now prov → result.number ≤ length self.now.origins }
     {
         match prov {
             Prov::Empty => Origin::EMPTY,

@@ -2,7 +2,9 @@
 ghost use Rattle.std.specs.Prelude.{◌≡◌, ◌+◌, ◌++◌, ◌∷◌, [], None, true, length, IfOk, IfSome, OnOk, OnErr};
 ghost use Rattle.prov_memory.specs.Cells.{prov_numbered};
 ghost use Rattle.exposure.specs.declared.prov.Prov.TheVariants.{Whole, Either};
-ghost use Rattle.prov_memory.specs.Made.{is_ambiguous, HasNumber, Extends};
+ghost use Rattle.prov_memory.specs.Made.{is_ambiguous, HasNumber, Extends, IsMade};
+ghost use Rattle.prov_memory.specs.Memory.{Kept};
+ghost use Rattle.prov_memory.specs.Sound.{AllMade};
 
 use crate::Origin;
 use exposure::Prov;
@@ -90,6 +92,7 @@ impl Origins {
     ) -> Result<(), NoMemory>
         ensures number { OnOk result (HasNumber self.new (Either id past start)) }
         ensures more { Extends self.old self.new }
+        ensures each { (m : Kept) → IsMade m (Either id past start) → AllMade m self.old → AllMade m self.new }
     {
         let prov = Prov::Either { id, past, start };
         if self.number(prov).is_some() {

@@ -2,7 +2,7 @@
 ghost use Rattle.std.specs.Prelude.{◌≡◌, ◌++◌, ◌∷◌, [], IfOk, IfErr};
 ghost use Rattle.ub_base.specs.declared.names.Item.TheVariants.{Alive};
 ghost use Rattle.addr_map.specs.Rows.{row_of};
-ghost use Rattle.exposure.specs.Cells.{kept_in, is_other};
+ghost use Rattle.exposure.specs.Cells.{kept_in, has_cell, is_other};
 ghost use Rattle.prov_memory.specs.Acts as acts;
 ghost use Rattle.prov_memory.specs.Acts.{in_row};
 ghost use Rattle.prov_memory.specs.Store.{Store};
@@ -146,6 +146,7 @@ impl Memory {
     /// Settles what an access settles.
     pub(super) fn settle(&mut self, settles: Option<(Event, ObjName)>)
         ensures rest { record self.new { cells = [] } ≡ record self.old { cells = [] } }
+        ensures cells { (e : Event) → has_cell self.new.cells e ≡ has_cell self.old.cells e }
         ensures store { CanSettle self.old.cells settles → (m : Kept) → m.cells ≡ self.old.cells → (io : Io) → store_of (record m { cells = self.new.cells }) io ≡ after_settling settles (store_of m io) }
     {
         if let Some((id, keep)) = settles {

@@ -1,9 +1,10 @@
 // Pointer arithmetic, comparison and casts.
 ghost use Rattle.std.specs.Ordering.{nat_cmp};
 ghost use Rattle.ub_base.specs.Names.{same_object};
-ghost use Rattle.std.specs.Prelude.{◌≡◌, ◌++◌, ◌∷◌, ◌<◌, ◌/◌, ◌+ℤ◌, ◌-ℤ◌, [], pos, true, if◌then◌else◌, IfOk, IfSome, OnOk, OnErr, length};
+ghost use Rattle.std.specs.Prelude.{◌≡◌, ◌++◌, ◌∷◌, ◌<◌, ◌/◌, ◌+ℤ◌, ◌-ℤ◌, [], pos, true, if◌then◌else◌, IfOk, IfSome, is_some, slice_get, OnOk, OnErr, length};
 ghost use Rattle.addr_map.specs.Rows.{row_of};
 ghost use Rattle.exposure.specs.declared.prov.Prov.TheVariants.{Either};
+ghost use Rattle.prov_memory.specs.Sound.{AllMade, IsSound};
 ghost use Rattle.exposure.specs.Cells.{has_cell};
 ghost use Rattle.prov_memory.specs.Acts as acts;
 ghost use Rattle.prov_memory.specs.Acts.{in_bounds, candidates, in_common, is_among};
@@ -11,7 +12,7 @@ ghost use Rattle.prov_memory.specs.Script.{run, Done};
 ghost use Rattle.prov_memory.specs.Store.{findable, can_find};
 ghost use Rattle.prov_memory.specs.Streams.{Io};
 ghost use Rattle.prov_memory.specs.Held.{FallsIn};
-ghost use Rattle.prov_memory.specs.Memory.{store_of, act_of, AreKnown};
+ghost use Rattle.prov_memory.specs.Memory.{Kept, store_of, act_of, AreKnown};
 ghost use Rattle.prov_memory.specs.Made.{IsAddress, IsMade, AreCreated, HasMore, look_up_items, CanSettle, settling_by, settling_to, shift_settling, settling_items, after_settling, address_result};
 ghost use Rattle.prov_memory.specs.Comparing.{settling_of, both_settlings, common_settling, common_in, done_result};
 
@@ -122,6 +123,7 @@ impl Memory {
         ensures same { OnErr result (self.new ≡ self.old) }
         ensures rest { record self.new { cells = [] } ≡ record self.old { cells = [] } }
         ensures made { (p : Prov) → IsMade self.old p → IsMade self.new p }
+        ensures sound { IsSound self.old → IsSound self.new }
     {
         t.clear();
         let settles = self.shifted(addr, prov, by)?;
@@ -209,6 +211,8 @@ impl Memory {
         ensures same { OnErr result (self.new ≡ self.old) }
         ensures rest { record self.new { cells = [] } ≡ record self.old { cells = [] } }
         ensures cells { (e : Event) → has_cell self.new.cells e ≡ has_cell self.old.cells e }
+        ensures made { (p : Prov) → IsMade self.old p → IsMade self.new p }
+        ensures sound { IsSound self.old → IsSound self.new }
     {
         t.clear();
         if !is_multiple(size, a, b) {
@@ -232,6 +236,8 @@ impl Memory {
         ensures same { OnErr result (self.new ≡ self.old) }
         ensures rest { record self.new { cells = [] } ≡ record self.old { cells = [] } }
         ensures cells { (e : Event) → has_cell self.new.cells e ≡ has_cell self.old.cells e }
+        ensures made { (p : Prov) → IsMade self.old p → IsMade self.new p }
+        ensures sound { IsSound self.old → IsSound self.new }
     {
         t.clear();
         self.settle_common(ap, bp, Clause::PointerComparison, t)?;
@@ -244,6 +250,8 @@ impl Memory {
         ensures exact { IfOk result (λ prov. AreKnown self.old → (io : Io) → run self.new.rows (acts.from_int who addr) (store_of self.old io) ≡ Done prov t.new (store_of self.new io)) }
         ensures value { IfOk result (λ prov. IsMade self.new prov) }
         ensures more { HasMore self.old self.new }
+        ensures made { (p : Prov) → IsMade self.old p → IsMade self.new p }
+        ensures sound { OnOk result (IsSound self.old → IsSound self.new) }
     {
         t.clear();
         self.look_up(who, addr, t)
@@ -259,6 +267,7 @@ impl Memory {
         ensures items { OnOk result (length t.old < 32 → t.new ≡ t.old ++ look_up_items addr) }
         ensures value { IfOk result (λ prov. IsMade self.new prov) }
         ensures more { HasMore self.old self.new }
+        ensures sound { OnOk result (IsSound self.old → IsSound self.new) }
     {
         if addr == 0 {
             return Ok(Prov::Empty);
@@ -300,6 +309,7 @@ impl Memory {
     fn make(&mut self, prov: Prov) -> Result<(), NoMemory>
         ensures more { HasMore self.old self.new }
         ensures made { AreCreated self.old prov → OnOk result (IsMade self.new prov) }
+        ensures each { (m : Kept) → IsMade m prov → AllMade m self.old.origins → AllMade m self.new.origins }
     {
         match prov {
             Prov::Empty => Ok(()),
@@ -311,6 +321,7 @@ impl Memory {
     fn make_ambiguity(&mut self, id: Event, past: ObjName, start: ObjName) -> Result<(), NoMemory>
         ensures more { HasMore self.old self.new }
         ensures made { OnOk result (IsMade self.new (Either id past start)) }
+        ensures each { (m : Kept) → IsMade m (Either id past start) → AllMade m self.old.origins → AllMade m self.new.origins }
     {
         self.origins.add_ambiguity(id, past, start)?;
         self.narrowed.make(id)
@@ -328,6 +339,7 @@ impl Memory {
     ) -> Result<Option<Accessed>, Clause>
         ensures same { self.new ≡ self.old }
         ensures range { IfOk result (λ found. IfSome found (λ place. FallsIn self.old.objects place.object place.from len)) }
+        ensures there { IfOk result (λ found. IfSome found (λ place. is_some (slice_get self.old.objects place.object) ≡ true)) }
     {
         if addr == 0 {
             return Err(Clause::LibraryArgument);

@@ -1,5 +1,5 @@
 // Loads.
-ghost use Rattle.std.specs.Prelude.{◌≡◌, ℕ, ◌+◌, ◌<◌, ◌≤◌, ◌^◌, ◌&&◌, ◌==◌, ◌++◌, ◌∷◌, [], Some, Ok, Err, length, map, slice_get, option_map, IfOk, IfErr, OnOk, OnErr};
+ghost use Rattle.std.specs.Prelude.{◌≡◌, ℕ, ◌+◌, ◌<◌, ◌≤◌, ◌^◌, ◌&&◌, ◌==◌, ◌++◌, ◌∷◌, [], Some, Ok, Err, length, map, slice_get, option_map, IfOk, IfErr, IfSome, OnOk, OnErr};
 ghost use Rattle.ub_base.specs.Names.{same_event, same_object};
 ghost use Rattle.ub_base.specs.declared.names.Item.TheVariants.{Alive, Expose, Read};
 ghost use Rattle.c_types.specs.Types.{type_of};
@@ -14,7 +14,8 @@ ghost use Rattle.prov_memory.specs.Streams.{Io};
 ghost use Rattle.prov_memory.specs.Cells.{byte_in, cell_at, tag_in};
 ghost use Rattle.prov_memory.specs.Held.{Held, held_of};
 ghost use Rattle.prov_memory.specs.Memory.{Kept, HasCell, AreKnown, life_in, store_of, uncovered_each};
-ghost use Rattle.prov_memory.specs.Made.{HasMore};
+ghost use Rattle.prov_memory.specs.Made.{HasMore, IsMade};
+ghost use Rattle.prov_memory.specs.Sound.{IsSound};
 ghost use Rattle.prov_memory.specs.Access.{IsReached, bytes_in};
 ghost use Rattle.prov_memory.specs.Loads as loads;
 ghost use Rattle.prov_memory.specs.Loads.{IfPointer, IfRaise, IsLoaded, is_dead_in, number_if, number_read, origins_of, pointer_items};
@@ -52,7 +53,7 @@ impl Memory {
     }
 
     // What a byte is a piece of, the empty provenance for another.
-    fn piece_of(&self, cell: Cell) -> Prov
+    pub(super) fn piece_of(&self, cell: Cell) -> Prov
         ensures { candidates result ≡ origins_in (byte_in self.now.origins cell) }
     {
         match cell.state {
@@ -73,6 +74,8 @@ impl Memory {
         ensures exact { IfOk result (λ value. HasCell self.old prov → (io : Io) → run self.old.rows (acts.load_int self.old.rows kind addr prov) (store_of self.old io) ≡ Done value t.new (store_of self.new io)) }
         ensures raises { IfErr result (λ c. (io : Io) → run self.old.rows (acts.load_int self.old.rows kind addr prov) (store_of self.old io) ≡ Raised c) }
         ensures same { OnErr result (self.new ≡ self.old) }
+        ensures made { (p : Prov) → IsMade self.old p → IsMade self.new p }
+        ensures sound { IsSound self.old → IsSound self.new }
     {
         t.clear();
         let len = kind.bytes();
@@ -93,6 +96,8 @@ impl Memory {
         ensures exact { IfOk result (λ target. HasCell self.old prov → (io : Io) → run self.old.rows (acts.load_func self.old.rows (type_of ty.now) addr prov) (store_of self.old io) ≡ Done target t.new (store_of self.new io)) }
         ensures raises { IfErr result (λ c. (io : Io) → run self.old.rows (acts.load_func self.old.rows (type_of ty.now) addr prov) (store_of self.old io) ≡ Raised c) }
         ensures same { OnErr result (self.new ≡ self.old) }
+        ensures made { (p : Prov) → IsMade self.old p → IsMade self.new p }
+        ensures sound { IsSound self.old → IsSound self.new }
     {
         t.clear();
         let found = self.access(8, 8, addr, prov, t)?;
@@ -155,6 +160,8 @@ impl Memory {
         ensures items { OnOk result ((h : Held) → slice_get self.old.objects found.object ≡ Some h → length t.old + 17 < 32 → t.new ≡ (t.old ++ Read found.name found.from len ∷ []) ++ map Expose (origins_of (bytes_in self.old h found.from len))) }
         ensures raises { IfErr result (λ c. (h : Held) → slice_get self.old.objects found.object ≡ Some h → Err c ≡ number_read (type_of ty.now) is_bool (option_map form_of h.declared) found.from (bytes_in self.old h found.from len)) }
         ensures same { OnErr result (self.new ≡ self.old) }
+        ensures made { (p : Prov) → IsMade self.old p → IsMade self.new p }
+        ensures sound { IsSound self.old → IsSound self.new }
     {
         let number = self.read_number(found, ty, len, is_bool)?;
         note_read(found, len, t);
@@ -192,6 +199,9 @@ impl Memory {
         ensures exact { IfOk result (λ value. IfPointer value (λ a p. HasCell self.old prov → AreKnown self.old → (io : Io) → run self.old.rows (acts.load_ptr self.old.rows (type_of ty.now) who align addr prov) (store_of self.old io) ≡ Done (a, p) t.new (store_of self.new io))) }
         ensures raises { IfErr result (λ fault. IfRaise fault (λ c. (io : Io) → run self.old.rows (acts.load_ptr self.old.rows (type_of ty.now) who align addr prov) (store_of self.old io) ≡ Raised c)) }
         ensures same { IfErr result (λ fault. IfRaise fault (λ c. self.new ≡ self.old)) }
+        ensures value { IfOk result (λ value. IfPointer value (λ a p. IsSound self.old → IsMade self.new p)) }
+        ensures made { (p : Prov) → IsMade self.old p → IsMade self.new p }
+        ensures sound { OnOk result (IsSound self.old → IsSound self.new) }
     {
         t.clear();
         let found = self.access(8, align, addr, prov, t)?;
@@ -278,6 +288,8 @@ impl Memory {
         ensures same { IfErr result (λ fault. IfRaise fault (λ c. self.new ≡ self.old)) }
         ensures items { OnOk result (length t.old + 1 < 32 → t.new ≡ t.old ++ pointer_items pointer number) }
         ensures more { HasMore self.old self.new }
+        ensures value { IfOk result (λ prov. IfSome pointer (λ p. IsMade self.old p) → IsMade self.new prov) }
+        ensures sound { OnOk result (IsSound self.old → IsSound self.new) }
     {
         let Some(prov) = pointer else {
             let prov = self.look_up(who, number, t)?;

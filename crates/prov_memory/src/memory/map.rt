@@ -5,12 +5,14 @@ ghost use Rattle.ub_base.specs.declared.names.Item.TheVariants.{Expose, Born};
 ghost use Rattle.prov_memory.specs.declared.answer.CreateFault.TheVariants.{Unplaced};
 ghost use Rattle.c_types.specs.Shapes.{form_of};
 ghost use Rattle.exposure.specs.declared.prov.Prov.{Prov};
+ghost use Rattle.exposure.specs.declared.prov.Prov.TheVariants.{Whole};
 ghost use Rattle.prov_memory.specs.Acts as acts;
 ghost use Rattle.prov_memory.specs.Acts.{candidates};
 ghost use Rattle.prov_memory.specs.Script.{run, Done};
 ghost use Rattle.prov_memory.specs.Streams.{Io};
 ghost use Rattle.prov_memory.specs.Held.{changed, uncovered};
-ghost use Rattle.prov_memory.specs.Made.{AreNamed};
+ghost use Rattle.prov_memory.specs.Made.{AreNamed, IsMade};
+ghost use Rattle.prov_memory.specs.Sound.{IsSound};
 ghost use Rattle.prov_memory.specs.Memory.{store_of, uncovered_each, AreKnown, IsBorn, cannot_create, no_place, base_by, rows_with};
 
 use super::*;
@@ -31,6 +33,9 @@ impl Memory {
         ensures exact { IfOk result (λ base. AreKnown self.old → (io : Io) → run self.new.rows (acts.create self.new.rows name size align kind (option_map (λ shape. form_of shape.value) declared)) (store_of self.old io) ≡ Done base t.new (store_of self.new io)) }
         ensures known { AreKnown self.old → OnOk result (AreKnown self.new) }
         ensures named { AreNamed self.old → OnOk result (AreNamed self.new) }
+        ensures made { (p : Prov) → IsMade self.old p → OnOk result (IsMade self.new p) }
+        ensures whole { OnOk result (IsMade self.new (Whole name)) }
+        ensures sound { IsSound self.old → OnOk result (IsSound self.new) }
         ensures created { OnOk result (self.new.created ≡ min (self.old.created + max size 16) (2 ^ 62)) }
         ensures base { IfOk result (λ base. base ≡ base_by (row_of self.old.rows name) self.old.mode self.old.rows align) }
         ensures rows { IfOk result (λ base. self.new.rows ≡ rows_with (row_of self.old.rows name) (row_at name base size align) self.old.rows) }
@@ -118,6 +123,8 @@ impl Memory {
     pub fn kill(&mut self, name: ObjName, t: &mut Touched)
         ensures known { AreKnown self.old → AreKnown self.new }
         ensures named { AreNamed self.old → AreNamed self.new }
+        ensures made { (p : Prov) → IsMade self.old p → IsMade self.new p }
+        ensures sound { IsSound self.old → IsSound self.new }
         ensures rows { self.new.rows ≡ self.old.rows }
         ensures exact { (io : Io) → run self.new.rows (acts.kill name) (store_of self.old io) ≡ Done tt t.new (store_of self.new io) }
     {
@@ -130,6 +137,8 @@ impl Memory {
     pub fn unwrite(&mut self, name: ObjName, t: &mut Touched)
         ensures known { AreKnown self.old → AreKnown self.new }
         ensures named { AreNamed self.old → AreNamed self.new }
+        ensures made { (p : Prov) → IsMade self.old p → IsMade self.new p }
+        ensures sound { IsSound self.old → IsSound self.new }
         ensures exact { (io : Io) → run self.new.rows (acts.unwrite self.new.rows name) (store_of self.old io) ≡ Done tt t.new (store_of self.new io) }
     {
         t.clear();
@@ -159,6 +168,8 @@ impl Memory {
     pub fn expose(&mut self, prov: Prov, t: &mut Touched)
         ensures known { AreKnown self.old → AreKnown self.new }
         ensures named { AreNamed self.old → AreNamed self.new }
+        ensures made { (p : Prov) → IsMade self.old p → IsMade self.new p }
+        ensures sound { IsSound self.old → IsSound self.new }
         ensures rest { record self.new { objects = [] } ≡ record self.old { objects = [] } }
         ensures exact { (io : Io) → run self.new.rows (acts.expose prov) (store_of self.old io) ≡ Done tt t.new (store_of self.new io) }
     {

@@ -1,24 +1,27 @@
 // Values from bytes and bytes of values.
-ghost use Rattle.std.specs.Prelude.{◌≡◌, List, map, IfOk};
+ghost use Rattle.std.specs.Prelude.{◌≡◌, List, map, IfOk, OnOk};
 ghost use Rattle.c_types.specs.Types.{CType};
 ghost use Rattle.prov_memory.specs.Cells.{tagged_in};
 ghost use Rattle.prov_memory.specs.Made.{AreNamed, IsMade};
+ghost use Rattle.prov_memory.specs.Loads.{IfPointer};
+ghost use Rattle.prov_memory.specs.Sound.{IsSound};
 ghost use Rattle.prov_memory.specs.Pieces.{IsMadeValue, seen, value_bytes, number_bytes, pointer_bytes, piece_cells, plain_cells};
 
 use super::*;
-use crate::cell::{State, low_bits, number_of, pointer_in, value_of};
+use crate::cell::{low_bits, number_of, pointer_in, value_of};
 use crate::{Block, MemFault, Value};
 use c_types::IntKind;
 use ub_base::Clause;
 
 impl Memory {
     // Exposes what the pieces of pointers among the cells were made from.
-    fn show_cells(&mut self, cells: &[Cell], t: &mut Touched) {
+    fn show_cells(&mut self, cells: &[Cell], t: &mut Touched)
+        ensures made { (p : Prov) → IsMade self.old p → IsMade self.new p }
+        ensures sound { IsSound self.old → IsSound self.new }
+    {
         for cell in cells {
-            if cell.state == State::Piece {
-                let prov = self.prov(cell.origin);
-                self.show_each(prov, t);
-            }
+            let prov = self.piece_of(*cell);
+            self.show_each(prov, t);
         }
     }
 
@@ -29,7 +32,10 @@ impl Memory {
         len: u64,
         is_bool: bool,
         t: &mut Touched,
-    ) -> Result<u64, Clause> {
+    ) -> Result<u64, Clause>
+        ensures made { (p : Prov) → IsMade self.old p → IsMade self.new p }
+        ensures sound { IsSound self.old → IsSound self.new }
+    {
         t.clear();
         let cells = bytes.range(from, len);
         let Some(number) = number_of(cells) else {
@@ -49,13 +55,19 @@ impl Memory {
         bytes: &Block,
         from: u64,
         t: &mut Touched,
-    ) -> Result<i128, Clause> {
+    ) -> Result<i128, Clause>
+        ensures made { (p : Prov) → IsMade self.old p → IsMade self.new p }
+        ensures sound { IsSound self.old → IsSound self.new }
+    {
         let number = self.part_number(bytes, from, kind.bytes(), kind == IntKind::Bool, t)?;
         Ok(value_of(kind, number))
     }
 
     /// The member at the offset that is a pointer to a function, as a load reads it.
-    pub fn part_func(&mut self, bytes: &Block, from: u64, t: &mut Touched) -> Result<u64, Clause> {
+    pub fn part_func(&mut self, bytes: &Block, from: u64, t: &mut Touched) -> Result<u64, Clause>
+        ensures made { (p : Prov) → IsMade self.old p → IsMade self.new p }
+        ensures sound { IsSound self.old → IsSound self.new }
+    {
         self.part_number(bytes, from, 8, false, t)
     }
 
@@ -66,7 +78,11 @@ impl Memory {
         bytes: &Block,
         from: u64,
         t: &mut Touched,
-    ) -> Result<Value, MemFault> {
+    ) -> Result<Value, MemFault>
+        ensures value { IfOk result (λ value. IfPointer value (λ a p. IsSound self.old → IsMade self.new p)) }
+        ensures made { (p : Prov) → IsMade self.old p → IsMade self.new p }
+        ensures sound { OnOk result (IsSound self.old → IsSound self.new) }
+    {
         t.clear();
         let cells = bytes.range(from, 8);
         let Some(number) = number_of(cells) else {

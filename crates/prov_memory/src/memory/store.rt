@@ -1,5 +1,5 @@
 // Stores.
-ghost use Rattle.std.specs.Prelude.{◌≡◌, ℕ, ◌<◌, ◌+◌, ◌++◌, ◌∷◌, [], Some, length, slice_get, OnOk, OnErr, IfErr, option_map};
+ghost use Rattle.std.specs.Prelude.{◌≡◌, ℕ, ◌<◌, ◌+◌, ◌++◌, ◌∷◌, [], Some, length, slice_get, OnOk, OnErr, IfErr, IfSome, is_some, true, option_map};
 ghost use Rattle.std.specs.Option.{option_copied};
 ghost use Rattle.ub_base.specs.declared.names.Item.TheVariants.{Write};
 ghost use Rattle.c_types.specs.Types.{CType};
@@ -13,6 +13,7 @@ ghost use Rattle.prov_memory.specs.Held.{Held, IsWritten, FallsIn, held_of, chan
 ghost use Rattle.prov_memory.specs.Memory.{AreKnown, CellsKnown, HasCell, store_of, life_in};
 ghost use Rattle.prov_memory.specs.Access.{IsReached};
 ghost use Rattle.prov_memory.specs.Made.{AreNamed, IsMade};
+ghost use Rattle.prov_memory.specs.Sound.{IsSound};
 ghost use Rattle.prov_memory.specs.Pieces.{low_bits, number_bytes, pointer_bytes};
 ghost use Rattle.prov_memory.specs.Stores.{Sees, IsShort, IsTypeOf, tagged_all, checked_store, writable};
 
@@ -40,6 +41,8 @@ impl Memory {
         ensures raises { IfErr result (λ c. (seen : Seen) → Sees self.old via seen → (io : Io) → run self.old.rows (acts.store self.old.rows first seen align addr prov (tagged_all self.old bytes.now.cells)) (store_of self.old io) ≡ Raised c) }
         ensures same { OnErr result (self.new ≡ self.old) }
         ensures known { AreKnown self.old → CellsKnown (length self.old.origins) bytes.now.cells → AreKnown self.new }
+        ensures made { (p : Prov) → IsMade self.old p → IsMade self.new p }
+        ensures sound { IsSound self.old → CellsKnown (length self.old.origins) bytes.now.cells → IsSound self.new }
     {
         self.store_cells(first, via, align, addr, prov, bytes.cells(), t)
     }
@@ -60,6 +63,8 @@ impl Memory {
         ensures raises { IfErr result (λ c. (seen : Seen) → Sees self.old via seen → (io : Io) → run self.old.rows (acts.store self.old.rows first seen align addr prov (number_bytes (bytes_of_kind kind) (low_bits value))) (store_of self.old io) ≡ Raised c) }
         ensures same { OnErr result (self.new ≡ self.old) }
         ensures known { AreKnown self.old → AreKnown self.new }
+        ensures made { (p : Prov) → IsMade self.old p → IsMade self.new p }
+        ensures sound { IsSound self.old → IsSound self.new }
     {
         let cells = number_cells(low_bits(value));
         let len = kind.bytes() as usize;
@@ -81,6 +86,9 @@ impl Memory {
         ensures exact { AreNamed self.old → IsMade self.old value_prov → OnOk result (HasCell self.old prov → (seen : Seen) → Sees self.old via seen → (io : Io) → run self.old.rows (acts.store self.old.rows first seen align addr prov (pointer_bytes 8 0 value_prov value_addr)) (store_of self.old io) ≡ Done tt t.new (store_of self.new io)) }
         ensures raises { AreNamed self.old → IsMade self.old value_prov → IfErr result (λ c. (seen : Seen) → Sees self.old via seen → (io : Io) → run self.old.rows (acts.store self.old.rows first seen align addr prov (pointer_bytes 8 0 value_prov value_addr)) (store_of self.old io) ≡ Raised c) }
         ensures same { OnErr result (self.new ≡ self.old) }
+        ensures known { AreNamed self.old → IsMade self.old value_prov → AreKnown self.old → AreKnown self.new }
+        ensures made { (p : Prov) → IsMade self.old p → IsMade self.new p }
+        ensures sound { IsSound self.old → IsMade self.old value_prov → IsSound self.new }
     {
         let cells = pointer_cells(value_addr, self.origin_of(value_prov));
         self.store_cells(first, via, align, addr, prov, &cells, t)
@@ -100,6 +108,8 @@ impl Memory {
         ensures raises { IfErr result (λ c. (seen : Seen) → Sees self.old via seen → (io : Io) → run self.old.rows (acts.store self.old.rows first seen align addr prov (tagged_all self.old cells.now)) (store_of self.old io) ≡ Raised c) }
         ensures same { OnErr result (self.new ≡ self.old) }
         ensures known { AreKnown self.old → CellsKnown (length self.old.origins) cells.now → AreKnown self.new }
+        ensures made { (p : Prov) → IsMade self.old p → IsMade self.new p }
+        ensures sound { IsSound self.old → CellsKnown (length self.old.origins) cells.now → IsSound self.new }
     {
         t.clear();
         let found = self.access(cells.len() as u64, align, addr, prov, t)?;
@@ -179,21 +189,43 @@ impl Memory {
         from_prov: Prov,
         len: u64,
         t: &mut Touched,
-    ) -> Result<(), MemFault> {
+    ) -> Result<(), MemFault>
+        ensures made { (p : Prov) → IsMade self.old p → IsMade self.new p }
+        ensures sound { IsSound self.old → IsSound self.new }
+    {
         t.clear();
         let target = self.argument(to, to_prov, len, None, t)?;
-        let pending = settled_at(target);
-        let source = self.argument(from, from_prov, len, pending, t)?;
-        if let (Some(target), Some(source)) = (target, source)
-            && len != 0
-        {
-            self.check_target(target)?;
-            let cells = self.cells_of(source.object, source.from, len)?;
-            note_read(source, len, t);
-            self.write(target, Via::Whole, cells.as_slice(), t);
-        }
+        let source = self.argument(from, from_prov, len, settled_at(target), t)?;
+        self.copy_found(target, source, len, t)?;
         self.settle_argument(target);
         self.settle_argument(source);
+        Ok(())
+    }
+
+    // Copies bytes from where one argument falls to where the other does.
+    fn copy_found(
+        &mut self,
+        target: Option<Accessed>,
+        source: Option<Accessed>,
+        len: u64,
+        t: &mut Touched,
+    ) -> Result<(), MemFault>
+        requires range { IfSome target (λ place. FallsIn self.old.objects place.object place.from len) }
+        requires there { IfSome target (λ place. is_some (slice_get self.old.objects place.object) ≡ true) }
+        requires source { IfSome source (λ place. is_some (slice_get self.old.objects place.object) ≡ true) }
+        ensures made { (p : Prov) → IsMade self.old p → IsMade self.new p }
+        ensures sound { IsSound self.old → IsSound self.new }
+    {
+        let (Some(target), Some(source)) = (target, source) else {
+            return Ok(());
+        };
+        if len == 0 {
+            return Ok(());
+        }
+        self.check_target(target)?;
+        let cells = self.cells_of(source.object, source.from, len)?;
+        note_read(source, len, t);
+        self.write(target, Via::Whole, cells.as_slice(), t);
         Ok(())
     }
 
@@ -206,7 +238,10 @@ impl Memory {
     }
 
     /// Settles what an argument settles.
-    fn settle_argument(&mut self, found: Option<Accessed>) {
+    fn settle_argument(&mut self, found: Option<Accessed>)
+        ensures made { (p : Prov) → IsMade self.old p → IsMade self.new p }
+        ensures sound { IsSound self.old → IsSound self.new }
+    {
         if let Some(found) = found {
             self.settle(found.settles);
         }

@@ -1,9 +1,12 @@
 // The tags of bytes.
-ghost use Rattle.std.specs.Prelude.{◌≡◌, ◌≤◌, ◌+◌, Some, length, map, option_map, IfOk, IfSome, OnOk};
+ghost use Rattle.std.specs.Prelude.{◌≡◌, ◌≤◌, ◌+◌, [], Some, length, map, option_map, IfOk, IfSome, OnOk};
 ghost use Rattle.c_types.specs.Types.{type_of};
 ghost use Rattle.c_types.specs.Shapes.{form_of};
 ghost use Rattle.prov_memory.specs.Agreement.{read_as_int};
 ghost use Rattle.prov_memory.specs.Cells.{tagged_in, type_numbered};
+ghost use Rattle.exposure.specs.declared.prov.Prov.{Prov};
+ghost use Rattle.prov_memory.specs.Made.{IsMade};
+ghost use Rattle.prov_memory.specs.Sound.{IsSound};
 ghost use Rattle.prov_memory.specs.Tags.{AddsTypes, IsTagged, retagged_byte};
 
 use super::*;
@@ -17,6 +20,9 @@ impl Memory {
         ensures id { IfOk result (λ id. type_numbered (map type_of self.new.types) id.number ≡ Some (read_as_int (type_of ty.now))) }
         ensures known { IfOk result (λ id. id.number ≤ length self.new.types + 12) }
         ensures more { OnOk result (AddsTypes self.old self.new) }
+        ensures rest { record self.new { types = [] } ≡ record self.old { types = [] } }
+        ensures made { (p : Prov) → IsMade self.old p → IsMade self.new p }
+        ensures sound { IsSound self.old → IsSound self.new }
     {
         if let Some(id) = kind_id(ty) {
             return Ok(id);
@@ -42,6 +48,7 @@ impl Memory {
         ensures id { IfOk result (λ id. type_numbered (map type_of self.new.types) id.number ≡ Some (type_of ty)) }
         ensures known { IfOk result (λ id. id.number ≤ length self.new.types + 12) }
         ensures more { OnOk result (AddsTypes self.old self.new) }
+        ensures rest { record self.new { types = [] } ≡ record self.old { types = [] } }
     {
         let id = types::id_at(self.types.len())?;
         self.types.push(ty)?;
@@ -56,8 +63,10 @@ impl Memory {
         place: u64,
     ) -> Result<Cell, NoMemory>
         ensures more { OnOk result (AddsTypes self.old self.new) }
+        ensures rest { record self.new { types = [] } ≡ record self.old { types = [] } }
         ensures byte { IfOk result (λ c. tagged_in self.new.origins (map type_of self.new.types) c ≡ retagged_byte (option_map (λ shape. form_of shape.value) declared.now) place (tagged_in self.old.origins (map type_of self.old.types) cell)) }
         ensures known { IfOk result (λ c. IsTagged (length self.old.types) cell → IsTagged (length self.new.types) c) }
+        ensures origin { IfOk result (λ c. c.origin ≡ cell.origin) }
     {
         match declared {
             None => Ok(cell),
@@ -67,8 +76,10 @@ impl Memory {
 
     fn tagged_by(&mut self, cell: Cell, shape: &Shape, place: u64) -> Result<Cell, NoMemory>
         ensures more { OnOk result (AddsTypes self.old self.new) }
+        ensures rest { record self.new { types = [] } ≡ record self.old { types = [] } }
         ensures byte { IfOk result (λ c. tagged_in self.new.origins (map type_of self.new.types) c ≡ retagged_byte (Some (form_of shape.now)) place (tagged_in self.old.origins (map type_of self.old.types) cell)) }
         ensures known { IfOk result (λ c. IsTagged (length self.old.types) cell → IsTagged (length self.new.types) c) }
+        ensures origin { IfOk result (λ c. c.origin ≡ cell.origin) }
     {
         match types::scalar_at(shape, place) {
             Spanned::None => Ok(cell.tagged(TypeId::NONE, 0)),

@@ -1,11 +1,13 @@
 // Loads of structures and unions.
-ghost use Rattle.std.specs.Prelude.{◌≡◌, ◌+◌, ◌≤◌, ◌^◌, Some, length, slice_get, option_map, IfOk, IfErr, OnOk};
+ghost use Rattle.std.specs.Prelude.{◌≡◌, ◌+◌, ◌≤◌, ◌^◌, [], Some, length, slice_get, option_map, IfOk, IfErr, OnOk};
 ghost use Rattle.c_types.specs.Shapes.{form_of};
 ghost use Rattle.prov_memory.specs.Acts as acts;
 ghost use Rattle.prov_memory.specs.Script.{run, Done, Raised};
 ghost use Rattle.prov_memory.specs.Streams.{Io};
 ghost use Rattle.prov_memory.specs.Held.{Held};
-ghost use Rattle.prov_memory.specs.Memory.{HasCell, store_of};
+ghost use Rattle.prov_memory.specs.Memory.{HasCell, AreKnown, CellsKnown, store_of};
+ghost use Rattle.prov_memory.specs.Made.{IsMade};
+ghost use Rattle.prov_memory.specs.Sound.{IsSound};
 ghost use Rattle.prov_memory.specs.Loads.{IfRaise};
 ghost use Rattle.prov_memory.specs.Stores.{tagged_all};
 ghost use Rattle.prov_memory.specs.Tags.{AddsTypes, AreTagged, CellsTagged, IsTaken};
@@ -31,6 +33,9 @@ impl Memory {
         ensures len { IfOk result (λ block. length block.cells ≡ size) }
         ensures cells { IfOk result (λ block. AreTagged self.old → CellsTagged (length self.new.types) block.cells) }
         ensures tagged { OnOk result (AreTagged self.old → AreTagged self.new) }
+        ensures known { IfOk result (λ block. AreKnown self.old → CellsKnown (length self.new.origins) block.cells) }
+        ensures made { (p : Prov) → IsMade self.old p → IsMade self.new p }
+        ensures sound { IsSound self.old → IsSound self.new }
     {
         t.clear();
         let found = self.access(size, align, addr, prov, t)?;
@@ -44,8 +49,10 @@ impl Memory {
     pub(super) fn cells_of(&mut self, at: usize, from: u64, len: u64) -> Result<Vec<Cell>, NoMemory>
         ensures objects { OnOk result (self.new.objects ≡ self.old.objects) }
         ensures more { OnOk result (AddsTypes self.old self.new) }
+        ensures rest { record self.new { types = [] } ≡ record self.old { types = [] } }
         ensures len { IfOk result (λ cells. length cells.items ≡ len) }
         ensures taken { IfOk result (λ cells. from + len ≤ 2 ^ 47 → AreTagged self.old → (h : Held) → slice_get self.old.objects at ≡ Some h → IsTaken self.old self.new h (option_map form_of h.declared) from len cells.items) }
+        ensures known { IfOk result (λ cells. AreKnown self.old → (h : Held) → slice_get self.old.objects at ≡ Some h → CellsKnown (length self.old.origins) cells.items) }
     {
         let declared = self.declared_at(at)?;
         self.cells_by(at, &declared, from, len)
@@ -70,8 +77,10 @@ impl Memory {
         len: u64,
     ) -> Result<Vec<Cell>, NoMemory>
         ensures more { OnOk result (AddsTypes self.old self.new) }
+        ensures rest { record self.new { types = [] } ≡ record self.old { types = [] } }
         ensures len { IfOk result (λ cells. length cells.items ≡ len) }
         ensures taken { IfOk result (λ cells. from + len ≤ 2 ^ 47 → AreTagged self.old → (h : Held) → slice_get self.old.objects at ≡ Some h → IsTaken self.old self.new h (option_map (λ shape. form_of shape.value) declared.now) from len cells.items) }
+        ensures known { IfOk result (λ cells. AreKnown self.old → (h : Held) → slice_get self.old.objects at ≡ Some h → CellsKnown (length self.old.origins) cells.items) }
     {
         let mut cells = Vec::with_capacity(self.alloc, len as usize)?;
         for offset in 0..len {

@@ -1,9 +1,11 @@
-use Rattle.std.proofs.Common.{◌≡◌, ℕ, ◌+◌, ◌<◌, ◌∙◌, ap, map, option_map, arith, rules}
+use Rattle.std.proofs.Common.{◌≡◌, ℕ, ◌+◌, ◌<◌, ◌∙◌, ap, map, option_map, slice_get, arith, rules}
 use Rattle.c_types.specs.Types.{type_of}
 use Rattle.c_types.specs.Shapes.{form_of}
 use Rattle.prov_memory.specs.Cells.{cell_at, tagged_in}
 use Rattle.prov_memory.specs.Tags.{retagged_byte}
 use Rattle.prov_memory.proofs.TagLemmas.{adds_then, taken_next, taken_all}
+use Rattle.prov_memory.specs.Memory.{Kept}
+use Rattle.prov_memory.proofs.SoundLemmas.{cell_known}
 use Rattle.prov_memory.proofs.memory.Memory.cells_by.Goals as goal
 
 pub loop-offset-preserved : goal.loop-offset-preserved
@@ -16,6 +18,8 @@ loop-offset-preserved c =
     let lt : n < c.args.len = omega arith in
     record {
       more = adds_then m now c.retagged.new.self inv.more c.in_ok-tagged.ensures.more;
+      rest = c.retagged.ensures.rest ∙ inv.rest;
+      known = λ known h e. cell_known m h c.args.at c.saturating_add-place.result c.loop-offset.cells.items c.push.new.self.items c.cell_in-cell.result c.in_ok-tagged.tagged known e (c.cell_in-cell.ensures h (ap (λ (k : Kept). slice_get k.objects c.args.at) inv.rest ∙ e)) c.in_ok-tagged.ensures.origin c.in_ok-push.ensures.items (inv.known known h e);
       len = search rules;
       taken = λ range known h e.
           let place : c.saturating_add-place.result ≡ c.args.from + n = omega (arith, c.saturating_add-place.ensures, range, lt) in

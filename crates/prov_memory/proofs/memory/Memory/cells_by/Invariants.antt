@@ -1,6 +1,7 @@
-use Rattle.std.proofs.Common.{◌≡◌, ◌+◌, ◌≤◌, ◌^◌, option_map, slice_get, Some, vec_len}
+use Rattle.std.proofs.Common.{◌≡◌, ◌+◌, ◌≤◌, ◌^◌, [], length, option_map, slice_get, Some, vec_len}
 use Rattle.c_types.specs.Shapes.{form_of}
 use Rattle.prov_memory.specs.Held.{Held}
+use Rattle.prov_memory.specs.Memory.{AreKnown, CellsKnown}
 use Rattle.prov_memory.specs.Tags.{AddsTypes, AreTagged, IsTaken}
 use Rattle.prov_memory.proofs.memory.Memory.cells_by.Given as goal
 
@@ -8,6 +9,8 @@ use Rattle.prov_memory.proofs.memory.Memory.cells_by.Given as goal
 abbrev pub invariant-loop-offset : goal.invariant-loop-offset
 invariant-loop-offset l = record {
   more : AddsTypes l.initial.self l.self;
+  rest : record l.self { types = [] } ≡ record l.initial.self { types = [] };
+  known : AreKnown l.initial.self → (h : Held) → slice_get l.initial.self.objects l.at ≡ Some h → CellsKnown (length l.initial.self.origins) l.cells.items;
   len : vec_len l.cells ≡ l.offset;
   taken : l.from + l.len ≤ 2 ^ 47 → AreTagged l.initial.self → (h : Held) → slice_get l.initial.self.objects l.at ≡ Some h → IsTaken l.initial.self l.self h (option_map (λ shape. form_of shape.value) l.declared) l.from l.offset l.cells.items;
 }

@@ -1,4 +1,6 @@
 use Rattle.prov_memory.proofs.ActLemmas.{created_all, created_known}
+use Rattle.std.proofs.Common.{option_map}
+use Rattle.prov_memory.proofs.SoundLemmas.{created_made, created_whole, created_sound}
 use Rattle.prov_memory.proofs.memory.Memory.create.Goals as goal
 
 pub returns-clause-exact : goal.returns-clause-exact
@@ -8,3 +10,15 @@ returns-clause-exact c =
 pub returns-clause-known : goal.returns-clause-known
 returns-clause-known c =
     created_known c.bear.result c.args.self.now c.bear.new.self c.args.name c.args.size c.args.align c.args.kind (λ shape. shape.value) c.args.declared c.bear.ensures.born
+
+pub returns-clause-made : goal.returns-clause-made
+returns-clause-made c =
+    created_made c.bear.result c.args.self.now c.bear.new.self c.args.name c.args.size c.args.align c.args.kind (option_map (λ shape. shape.value) c.args.declared) c.bear.ensures.born
+
+pub returns-clause-whole : goal.returns-clause-whole
+returns-clause-whole c =
+    created_whole c.bear.result c.args.self.now c.bear.new.self c.args.name c.args.size c.args.align c.args.kind (option_map (λ shape. shape.value) c.args.declared) c.bear.ensures.born
+
+pub returns-clause-sound : goal.returns-clause-sound
+returns-clause-sound c =
+    created_sound c.bear.result c.args.self.now c.bear.new.self c.args.name c.args.size c.args.align c.args.kind (option_map (λ shape. shape.value) c.args.declared) c.bear.ensures.born c.bear.ensures.named

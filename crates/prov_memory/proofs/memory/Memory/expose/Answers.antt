@@ -3,6 +3,8 @@ use Rattle.prov_memory.specs.Acts.{candidates}
 use Rattle.prov_memory.specs.Memory.{Kept}
 use Rattle.prov_memory.proofs.ActLemmas.{first_noted_all, exposed_act, known_uncovered}
 use Rattle.prov_memory.proofs.PieceLemmas.{named_uncovered}
+use Rattle.std.proofs.Common.{refl}
+use Rattle.prov_memory.proofs.SoundLemmas.{shown_made, shown_sound}
 use Rattle.prov_memory.proofs.memory.Memory.expose.Goals as goal
 
 pub returns-clause-exact : goal.returns-clause-exact
@@ -19,3 +21,11 @@ returns-clause-named c = λ named.
 
 pub returns-clause-rest : goal.returns-clause-rest
 returns-clause-rest c = ap (λ (m : Kept). record m { objects = [] }) c.show_each.ensures.shown
+
+pub returns-clause-made : goal.returns-clause-made
+returns-clause-made c =
+    shown_made c.args.self.now c.show_each.new.self c.show_each.new.self (candidates c.args.prov) c.show_each.ensures.shown refl (λ e. refl)
+
+pub returns-clause-sound : goal.returns-clause-sound
+returns-clause-sound c =
+    shown_sound c.args.self.now c.show_each.new.self c.show_each.new.self (candidates c.args.prov) c.show_each.ensures.shown refl (λ e. refl)

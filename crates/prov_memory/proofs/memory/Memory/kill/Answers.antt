@@ -6,6 +6,7 @@ use Rattle.prov_memory.specs.Memory.{HaveRows, AreKnown, Kept}
 use Rattle.prov_memory.specs.contracts.memory.Memory.{the_view}
 use Rattle.prov_memory.proofs.StoreLemmas.{rows_killed}
 use Rattle.prov_memory.proofs.ActLemmas.{first_noted, killed_act, known_killed}
+use Rattle.prov_memory.proofs.SoundLemmas.{changed_made, changed_sound}
 use Rattle.prov_memory.proofs.memory.Memory.kill.Goals as goal
 
 pub invariant_of-self : goal.invariant_of-self
@@ -25,3 +26,11 @@ pub returns-clause-named : goal.returns-clause-named
 returns-clause-named c = λ named.
     let before : AreNamed (the_view c.self.inside) = subst (λ (m : Kept). AreNamed m) (sym c.self.view_is) named in
     rw c.kill.ensures (named_changed c.self.inside.origins killed c.args.name c.self.inside.objects (λ h. refl) (λ h. refl) before)
+
+pub returns-clause-made : goal.returns-clause-made
+returns-clause-made c = λ p.
+    rw (← c.self.view_is, c.kill.ensures) (changed_made (the_view c.self.inside) killed c.args.name (λ h. refl) (λ h. refl) p)
+
+pub returns-clause-sound : goal.returns-clause-sound
+returns-clause-sound c =
+    rw (← c.self.view_is, c.kill.ensures) (changed_sound (the_view c.self.inside) killed c.args.name (λ h. refl) (λ h. refl) (known_killed (length c.self.inside.origins) c.args.name c.self.inside.objects))

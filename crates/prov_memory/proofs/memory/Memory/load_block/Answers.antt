@@ -1,10 +1,13 @@
-use Rattle.std.proofs.Common.{◌≡◌, ◌++◌, ◌∷◌, []}
+use Rattle.std.proofs.Common.{◌≡◌, ◌++◌, ◌∷◌, [], sym, subst}
 use Rattle.std.proofs.lemmas.Result.{err_from_is_err_and}
 use Rattle.ub_base.specs.declared.names.Item.TheVariants.{Alive, Read}
-use Rattle.prov_memory.specs.Made.{settling_items}
+use Rattle.prov_memory.specs.Memory.{Kept}
+use Rattle.prov_memory.specs.Made.{IsMade, settling_items}
+use Rattle.prov_memory.specs.Sound.{IsSound}
 use Rattle.prov_memory.proofs.ActLemmas.{noted_after}
 use Rattle.prov_memory.proofs.WriteLemmas.{few}
 use Rattle.prov_memory.proofs.BlockLemmas.{block_unreached, block_done, block_cells, block_tagged}
+use Rattle.prov_memory.proofs.SoundLemmas.{block_made, block_sound, block_known, typed_made, typed_sound}
 use Rattle.prov_memory.proofs.memory.Memory.load_block.Goals as goal
 
 pub returns-in_err-found-clause-raises : goal.returns-in_err-found-clause-raises
@@ -24,3 +27,23 @@ returns-clause-cells c =
 
 pub returns-clause-tagged : goal.returns-clause-tagged
 returns-clause-tagged c = block_tagged c.args.self.now c.access.new.self c.cells_of.new.self c.settle.new.self c.access.ensures.same c.in_ok-cells.ensures.more c.settle.ensures.rest
+
+pub returns-clause-known : goal.returns-clause-known
+returns-clause-known c =
+    rw c.of_cells.ensures (block_known c.args.self.now c.access.new.self c.cells_of.new.self c.settle.new.self c.in_ok-found.found c.args.size c.in_ok-cells.cells.items c.access.ensures.same c.in_ok-found.ensures.found c.cells_of.ensures.rest c.settle.ensures.rest c.in_ok-cells.ensures.known)
+
+pub returns-clause-made : goal.returns-clause-made
+returns-clause-made c =
+    block_made c.args.self.now c.access.new.self c.cells_of.new.self c.settle.new.self c.access.ensures.same c.cells_of.ensures.rest c.settle.ensures.rest c.settle.ensures.cells
+
+pub returns-in_err-cells-clause-made : goal.returns-in_err-cells-clause-made
+returns-in_err-cells-clause-made c = λ p made.
+    typed_made c.access.new.self c.cells_of.new.self c.cells_of.ensures.rest p (subst (λ (m : Kept). IsMade m p) (sym c.access.ensures.same) made)
+
+pub returns-clause-sound : goal.returns-clause-sound
+returns-clause-sound c =
+    block_sound c.args.self.now c.access.new.self c.cells_of.new.self c.settle.new.self c.access.ensures.same c.cells_of.ensures.rest c.settle.ensures.rest c.settle.ensures.cells
+
+pub returns-in_err-cells-clause-sound : goal.returns-in_err-cells-clause-sound
+returns-in_err-cells-clause-sound c = λ s.
+    typed_sound c.access.new.self c.cells_of.new.self c.cells_of.ensures.rest (subst (λ (m : Kept). IsSound m) (sym c.access.ensures.same) s)

@@ -1,6 +1,11 @@
+use Rattle.std.proofs.Common.{sym, subst}
 use Rattle.std.proofs.lemmas.Result.{err_from_is_err_and}
 use Rattle.c_types.specs.Types.{type_of}
+use Rattle.prov_memory.specs.Memory.{Kept}
+use Rattle.prov_memory.specs.Made.{IsMade}
+use Rattle.prov_memory.specs.Sound.{IsSound}
 use Rattle.prov_memory.proofs.PointerLemmas.{pointer_unreached, pointer_unread, pointer_exact, unresolved}
+use Rattle.prov_memory.proofs.SoundLemmas.{pointer_value, pointer_kept, more_made, settled_sound}
 use Rattle.prov_memory.proofs.memory.Memory.load_ptr.Goals as goal
 
 pub returns-in_err-found-clause-raises : goal.returns-in_err-found-clause-raises
@@ -21,3 +26,19 @@ returns-in_err-target-clause-raises c =
 pub returns-clause-exact : goal.returns-clause-exact
 returns-clause-exact c =
     pointer_exact c.args.self.now c.access.new.self c.resolved.new.self c.settle.new.self c.in_ok-found.found (type_of c.args.ty.now) c.args.who c.args.align c.args.addr c.args.prov c.in_ok-target.target c.pointer_of-pointer.result c.in_ok-number.number c.access.new.t c.note_read.new.t c.resolved.new.t c.access.ensures.same c.in_ok-found.ensures.exact c.in_ok-found.ensures.found c.in_ok-found.ensures.settles (c.in_ok-found.ensures.items c.clear.ensures) c.in_ok-number.ensures c.note_read.ensures c.pointer_of-pointer.ensures c.in_ok-target.ensures.exact c.in_ok-target.ensures.items c.resolved.ensures.more c.settle.ensures.rest c.settle.ensures.store
+
+pub returns-clause-value : goal.returns-clause-value
+returns-clause-value c =
+    pointer_value c.args.self.now c.access.new.self c.resolved.new.self c.settle.new.self c.in_ok-found.found c.pointer_of-pointer.result c.in_ok-target.target c.access.ensures.same c.in_ok-found.ensures.found c.pointer_of-pointer.ensures c.in_ok-target.ensures.value c.settle.ensures.rest c.settle.ensures.cells
+
+pub returns-clause-made : goal.returns-clause-made
+returns-clause-made c =
+    pointer_kept c.args.self.now c.access.new.self c.resolved.new.self c.settle.new.self c.access.ensures.same c.resolved.ensures.more c.settle.ensures.rest c.settle.ensures.cells
+
+pub returns-in_err-target-clause-made : goal.returns-in_err-target-clause-made
+returns-in_err-target-clause-made c = λ p made.
+    more_made c.access.new.self c.resolved.new.self c.resolved.ensures.more p (subst (λ (m : Kept). IsMade m p) (sym c.access.ensures.same) made)
+
+pub returns-clause-sound : goal.returns-clause-sound
+returns-clause-sound c = λ s.
+    settled_sound c.resolved.new.self c.settle.new.self c.settle.ensures.rest c.settle.ensures.cells (c.in_ok-target.ensures.sound (subst (λ (m : Kept). IsSound m) (sym c.access.ensures.same) s))

@@ -2,11 +2,16 @@ use Rattle.std.proofs.Common.{◌≡◌, ◌∙◌, ℕ, sym, ap}
 use Rattle.prov_memory.specs.Cells.{prov_numbered}
 use Rattle.prov_memory.specs.Held.{Held}
 use Rattle.prov_memory.proofs.PieceLemmas.{named_held}
+use Rattle.prov_memory.proofs.SoundLemmas.{whole_within}
 use Rattle.prov_memory.proofs.memory.Memory.origin_of.Goals as goal
 
-pub returns-in-Some : goal.returns-in-Some
-returns-in-Some c = λ named made.
+pub returns-in-Some-clause-prov : goal.returns-in-Some-clause-prov
+returns-in-Some-clause-prov c = λ named made.
     let at : c.object.inside.origin.number ≡ c.in-Some.object.now.origin.number = ap (λ (h : Held). h.origin.number) c.object.view_is in
     ap (λ (n : ℕ). prov_numbered c.args.self.now.origins n) at
     ∙ named_held c.args.self.now.origins c.args.self.now.objects c.in-Whole.name c.in-Some.object.now named (sym c.in-Some.ensures.object)
     ∙ sym c.in-Whole.is
+
+pub returns-in-Some-clause-number : goal.returns-in-Some-clause-number
+returns-in-Some-clause-number c = λ named made.
+    whole_within c.args.self.now.origins c.object.inside.origin.number c.args.prov c.in-Whole.name c.in-Whole.is (returns-in-Some-clause-prov c named made)

@@ -5,6 +5,7 @@ use Rattle.ub_base.specs.declared.clause.Clause.{Clause}
 use Rattle.prov_memory.specs.Memory.{act_of, store_of}
 use Rattle.prov_memory.specs.Made.{address_result, shift_settling}
 use Rattle.prov_memory.proofs.SettleLemmas.{shift_done, shift_raised, err_is}
+use Rattle.prov_memory.proofs.SoundLemmas.{settled_sound}
 use Rattle.prov_memory.proofs.memory.Memory.shift.Goals as goal
 
 pub returns-in_err-settles-clause-exact : goal.returns-in_err-settles-clause-exact
@@ -17,3 +18,6 @@ pub returns-clause-exact : goal.returns-clause-exact
 returns-clause-exact c = λ made io.
     let by : to_z w128 (of_z w128 c.args.by) ≡ c.args.by = to_z-of_z c.ranges.by in
     shift_done c.args.self.now c.note_settled.new.self c.args.addr c.moved.result c.args.prov c.args.by c.shifted.result c.in_ok-settles.settles c.clear.new.self c.note_settled.new.t c.note_settled.ensures.rest (c.shifted.ensures.settling ∙ ap (λ (z : ℤ). shift_settling c.args.self.now.rows c.args.self.now.cells (pos c.args.addr +ℤ z) c.args.prov) by) c.in_ok-settles.was made (c.moved.ensures ∙ ap (λ (z : ℤ). pos c.args.addr +ℤ z) by) c.clear.ensures c.note_settled.ensures.items c.note_settled.ensures.store io
+
+pub returns-clause-sound : goal.returns-clause-sound
+returns-clause-sound c = settled_sound c.args.self.now c.note_settled.new.self c.note_settled.ensures.rest c.note_settled.ensures.cells

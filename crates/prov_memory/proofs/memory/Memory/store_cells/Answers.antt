@@ -9,6 +9,7 @@ use Rattle.prov_memory.specs.Made.{settling_items}
 use Rattle.prov_memory.specs.Stores.{Sees, checked_store}
 use Rattle.prov_memory.proofs.ActLemmas.{noted_after}
 use Rattle.prov_memory.proofs.WriteLemmas.{access_fails, store_raises, store_done, store_known, stored_by, few}
+use Rattle.prov_memory.proofs.SoundLemmas.{stored_made, stored_sound}
 use Rattle.prov_memory.proofs.memory.Memory.store_cells.Goals as goal
 
 pub returns-in_err-found-clause-raises : goal.returns-in_err-found-clause-raises
@@ -43,3 +44,15 @@ returns-clause-known c = λ known cells.
     let r = c.in_ok-found.ensures.found in
     let w = c.write.ensures.written r.object (ap (λ (k : Kept). slice_get k.objects f.object) c.access.ensures.same ∙ r.there) in
     store_known m c.settle.new.self f w.0 c.args.via c.args.cells.now r (stored_by m c.access.new.self c.write.new.self c.settle.new.self f w.0 r.object.name c.access.ensures.same w.1 r.name c.settle.ensures.rest c.settle.ensures.store) w.2 known cells
+
+pub returns-clause-made : goal.returns-clause-made
+returns-clause-made c =
+    let r = c.in_ok-found.ensures.found in
+    let w = c.write.ensures.written r.object (ap (λ (k : Kept). slice_get k.objects c.in_ok-found.found.object) c.access.ensures.same ∙ r.there) in
+    stored_made c.args.self.now c.access.new.self c.write.new.self c.settle.new.self w.0 r.object.name c.access.ensures.same w.1 c.settle.ensures.rest c.settle.ensures.cells
+
+pub returns-clause-sound : goal.returns-clause-sound
+returns-clause-sound c = λ s cells.
+    let r = c.in_ok-found.ensures.found in
+    let w = c.write.ensures.written r.object (ap (λ (k : Kept). slice_get k.objects c.in_ok-found.found.object) c.access.ensures.same ∙ r.there) in
+    stored_sound c.args.self.now c.access.new.self c.write.new.self c.settle.new.self w.0 r.object.name c.access.ensures.same w.1 c.settle.ensures.rest c.settle.ensures.cells (returns-clause-known c s.known cells) s

@@ -3,6 +3,8 @@ use Rattle.exposure.specs.declared.prov.Prov.{Prov}
 use Rattle.exposure.specs.declared.prov.Prov.TheVariants.{Either}
 use Rattle.prov_memory.specs.Made.{AreNumbered}
 use Rattle.prov_memory.proofs.ProvLemmas.{numbered_ambiguity, numbered_same}
+use Rattle.prov_memory.specs.Sound.{AllMade}
+use Rattle.prov_memory.proofs.SoundLemmas.{each_last}
 use Rattle.prov_memory.proofs.origins.Origins.add_ambiguity.Goals as goal
 
 pub invariant_of-self-in_err-insert : goal.invariant_of-self-in_err-insert
@@ -15,3 +17,10 @@ invariant_of-self-2 c =
     let p = Either c.args.id c.args.past c.args.start in
     let items : c.push_reserved.new.self.items ≡ ps ++ p ∷ [] = c.push_reserved.ensures.items ∙ ap (λ (l : List Prov). l ++ p ∷ []) c.reserve.ensures.items in
     subst (λ (l : List Prov). AreNumbered c.insert.new.self l) (sym items) (numbered_ambiguity c.self.inside.numbers c.insert.new.self ps p c.in_ok-number.number refl (rw c.self.view_is c.in_ok-number.ensures) c.in_ok-insert.ensures.updates.0 c.self.invariant)
+
+pub returns-clause-each : goal.returns-clause-each
+returns-clause-each c = λ m made each.
+    let ps = c.self.inside.list.items in
+    let p = Either c.args.id c.args.past c.args.start in
+    let items : c.push_reserved.new.self.items ≡ ps ++ p ∷ [] = c.push_reserved.ensures.items ∙ ap (λ (l : List Prov). l ++ p ∷ []) c.reserve.ensures.items in
+    subst (λ (l : List Prov). AllMade m l) (sym items) (each_last m ps p made (subst (λ (l : List Prov). AllMade m l) (sym c.self.view_is) each))
