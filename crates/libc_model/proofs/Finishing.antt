@@ -42,26 +42,26 @@ finish_fails (answers.Raise c) m io is script h = subst (λ (act : Act LibValue)
 finish_fails e m io is script h = absurd h
 
 -- ---- a call that reads one string
--- the value by the string and its numbers
-abbrev pub with_text : (Text → List ℕ → LibValue) → List Row → ℕ → Prov → Script LibValue
+-- what the string and its numbers give
+abbrev pub with_text : {V : Type 0} → (Text → List ℕ → V) → List Row → ℕ → Prov → Script V
 with_text f rows a prov = text rows a prov >>= (λ s. read_numbers s.bytes >>= (λ ns. Give (f s ns)))
 
-pub no_text : (f : Text → List ℕ → LibValue) (m : Kept) (io : Io) (old mid new : List Item) (a : ℕ) (prov : Prov) (e : LibAnswer) → Follows false (text_in m) (Err e) m io old mid (text m.rows a prov) →
-    Follows false value_seen (Err e) m io old new (with_text f m.rows a prov)
-no_text f m io old mid new a prov e h = err_follows false false Text LibValue (text_in m) value_seen e m io old mid new (text m.rows a prov) (λ s. read_numbers s.bytes >>= (λ ns. Give (f s ns))) h
+pub no_text : {B V : Type 0} (seen : B → V) (f : Text → List ℕ → V) (m : Kept) (io : Io) (old mid new : List Item) (a : ℕ) (prov : Prov) (e : LibAnswer) → Follows false (text_in m) (Err e) m io old mid (text m.rows a prov) →
+    Follows false seen (Err e) m io old new (with_text f m.rows a prov)
+no_text {V = V} seen f m io old mid new a prov e h = err_follows false false Text V (text_in m) seen e m io old mid new (text m.rows a prov) (λ s. read_numbers s.bytes >>= (λ ns. Give (f s ns))) h
 
-pub no_numbers : {A : Type 0} (items : A → List ℕ) (f : Text → List ℕ → LibValue) (m : Kept) (io : Io) (old mid end new : List Item) (a : ℕ) (prov : Prov) (r : Range) (e : LibAnswer) → Gives false Text m io old mid (text m.rows a prov) (text_in m r) →
-    ReadsAll items (Err e) (bytes_of m r) mid end → Follows false value_seen (Err e) m io old new (with_text f m.rows a prov)
-no_numbers {A = A} items f m io old mid end new a prov r e g h =
-    then_follows {C = Value} false true Text LibValue value_seen (Err e) m io old mid new (text m.rows a prov) (text_in m r) (λ s. read_numbers s.bytes >>= (λ ns. Give (f s ns))) g
-    (err_follows true true (List ℕ) LibValue items value_seen e m io mid end new (read_numbers (bytes_of m r)) (λ ns. Give (f (text_in m r) ns)) (reads_follow items (Err e) m io mid end (bytes_of m r) h))
+pub no_numbers : {A B V : Type 0} (items : A → List ℕ) (seen : B → V) (f : Text → List ℕ → V) (m : Kept) (io : Io) (old mid end new : List Item) (a : ℕ) (prov : Prov) (r : Range) (e : LibAnswer) → Gives false Text m io old mid (text m.rows a prov) (text_in m r) →
+    ReadsAll items (Err e) (bytes_of m r) mid end → Follows false seen (Err e) m io old new (with_text f m.rows a prov)
+no_numbers {A = A} {B = B} {V = V} items seen f m io old mid end new a prov r e g h =
+    then_follows {C = B} false true Text V seen (Err e) m io old mid new (text m.rows a prov) (text_in m r) (λ s. read_numbers s.bytes >>= (λ ns. Give (f s ns))) g
+    (err_follows true true (List ℕ) V items seen e m io mid end new (read_numbers (bytes_of m r)) (λ ns. Give (f (text_in m r) ns)) (reads_follow items (Err e) m io mid end (bytes_of m r) h))
 
-pub text_read : {A : Type 0} (items : A → List ℕ) (v : A) (f : Text → List ℕ → LibValue) (m : Kept) (io : Io) (old mid new : List Item) (a : ℕ) (prov : Prov) (r : Range) → Gives false Text m io old mid (text m.rows a prov) (text_in m r) →
-    ReadsAll items (Ok v) (bytes_of m r) mid new → Gives false LibValue m io old new (with_text f m.rows a prov) (f (text_in m r) (items v))
-text_read items v f m io old mid new a prov r g h =
-    then_gives false true Text LibValue m io old mid new (text m.rows a prov) (text_in m r) (λ s. read_numbers s.bytes >>= (λ ns. Give (f s ns))) (f (text_in m r) (items v)) g
-    (then_gives true true (List ℕ) LibValue m io mid new new (read_numbers (bytes_of m r)) (items v) (λ ns. Give (f (text_in m r) ns)) (f (text_in m r) (items v)) (reads_follow items (Ok v) m io mid new (bytes_of m r) h)
-    (gives_at_once true LibValue m io new (f (text_in m r) (items v))))
+pub text_read : {A V : Type 0} (items : A → List ℕ) (v : A) (f : Text → List ℕ → V) (m : Kept) (io : Io) (old mid new : List Item) (a : ℕ) (prov : Prov) (r : Range) → Gives false Text m io old mid (text m.rows a prov) (text_in m r) →
+    ReadsAll items (Ok v) (bytes_of m r) mid new → Gives false V m io old new (with_text f m.rows a prov) (f (text_in m r) (items v))
+text_read {V = V} items v f m io old mid new a prov r g h =
+    then_gives false true Text V m io old mid new (text m.rows a prov) (text_in m r) (λ s. read_numbers s.bytes >>= (λ ns. Give (f s ns))) (f (text_in m r) (items v)) g
+    (then_gives true true (List ℕ) V m io mid new new (read_numbers (bytes_of m r)) (items v) (λ ns. Give (f (text_in m r) ns)) (f (text_in m r) (items v)) (reads_follow items (Ok v) m io mid new (bytes_of m r) h)
+    (gives_at_once true V m io new (f (text_in m r) (items v))))
 
 length_of_range : (f : ℕ → TaggedByte) (a n : ℕ) → length (range_from f a n) ≡ n
 length_of_range f a zero = refl

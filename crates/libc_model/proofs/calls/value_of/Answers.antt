@@ -1,7 +1,7 @@
 use Rattle.std.proofs.Common.{◌∙◌, to_z, of_z, rules}
 use Rattle.std.specs.Int.{w128}
 use Rattle.std.proofs.lemmas.Int.{to_z-of_z}
-use Rattle.c_types.specs.declared.library.LibFunc.TheVariants.{Malloc, Strlen, Strcmp, Getchar, Putchar, Exit, Abort}
+use Rattle.c_types.specs.declared.library.LibFunc.TheVariants.{Malloc, Strlen, Strcmp, Getchar, Putchar, Puts, Exit, Abort}
 use Rattle.prov_memory.specs.Memory.{store_of}
 use Rattle.libc_model.specs.Seen.{values_seen}
 use Rattle.libc_model.specs.Answers.{answer_in}
@@ -32,6 +32,11 @@ pub returns-in-Putchar-clause-exact : goal.returns-in-Putchar-clause-exact
 returns-in-Putchar-clause-exact c =
     arm c.args.f Putchar c.args.m.now.rows (values_seen c.args.args.now) c.args.who c.args.m.now c.args.io.now (answer_in c.putchar.result) c.putchar.new.t (store_of c.args.m.now c.putchar.new.io) (store_of c.args.m.now c.args.io.now) c.in-Putchar.is
     (λ call. c.putchar.ensures.exact c.args.m.now (values_seen c.args.args.now) c.args.who (to_z-of_z w128 c.int_at.result (search rules) ∙ c.int_at.ensures) call.streams)
+
+pub returns-in-Puts-clause-exact : goal.returns-in-Puts-clause-exact
+returns-in-Puts-clause-exact c =
+    arm c.args.f Puts c.puts.new.m.rows (values_seen c.args.args.now) c.args.who c.args.m.now c.args.io.now (answer_in c.puts.result) c.puts.new.t (store_of c.puts.new.m c.puts.new.io) (store_of c.args.m.now c.args.io.now) c.in-Puts.is
+    (c.puts.ensures.exact c.args.who)
 
 pub returns-in-Exit-clause-exact : goal.returns-in-Exit-clause-exact
 returns-in-Exit-clause-exact c =
