@@ -1,7 +1,7 @@
 use Rattle.std.proofs.Common.{◌∙◌, to_z, of_z, rules}
 use Rattle.std.specs.Int.{w128}
 use Rattle.std.proofs.lemmas.Int.{to_z-of_z}
-use Rattle.c_types.specs.declared.library.LibFunc.TheVariants.{Malloc, Strlen, Strcmp, Getchar, Putchar, Puts, Exit, Abort}
+use Rattle.c_types.specs.declared.library.LibFunc.TheVariants.{Malloc, Strlen, Strcmp, Strchr, Getchar, Putchar, Puts, Exit, Abort}
 use Rattle.prov_memory.specs.Memory.{store_of}
 use Rattle.libc_model.specs.Seen.{values_seen}
 use Rattle.libc_model.specs.Answers.{answer_in}
@@ -22,6 +22,11 @@ pub returns-in-Strcmp-clause-exact : goal.returns-in-Strcmp-clause-exact
 returns-in-Strcmp-clause-exact c =
     arm c.args.f Strcmp c.compare_strings.new.m.rows (values_seen c.args.args.now) c.args.who c.args.m.now c.args.io.now (answer_in c.compare_strings.result) c.compare_strings.new.t (store_of c.compare_strings.new.m c.args.io.now) (store_of c.args.m.now c.args.io.now) c.in-Strcmp.is
     (c.compare_strings.ensures.exact c.args.io.now c.args.who)
+
+pub returns-in-Strchr-clause-exact : goal.returns-in-Strchr-clause-exact
+returns-in-Strchr-clause-exact c =
+    arm c.args.f Strchr c.find_byte.new.m.rows (values_seen c.args.args.now) c.args.who c.args.m.now c.args.io.now (answer_in c.find_byte.result) c.find_byte.new.t (store_of c.find_byte.new.m c.args.io.now) (store_of c.args.m.now c.args.io.now) c.in-Strchr.is
+    (c.find_byte.ensures.exact c.args.io.now c.args.who)
 
 pub returns-in-Getchar-clause-exact : goal.returns-in-Getchar-clause-exact
 returns-in-Getchar-clause-exact c =
