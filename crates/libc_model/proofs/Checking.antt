@@ -1,6 +1,6 @@
 -- Lemmas on the checks of pointer arguments and of strings.
 use Rattle.std.proofs.Common.{◌≡◌, ℕ, zero, suc, ◌+◌, ◌-◌, ◌<◌, ◌≤◌, Bool, true, false, cond, List, [], ◌∷◌, ◌++◌, length, length-append, append_assoc, refl, ap, sym, subst, ◌∙◌, arith, Option, Some, None}
-use Rattle.std.specs.Prelude.{Result, Ok, Err, not, max}
+use Rattle.std.specs.Prelude.{Err, not, max}
 use Rattle.std.proofs.lemmas.Bool.{ne_eqb}
 use Rattle.std.proofs.lemmas.List.{append-nil}
 use Rattle.ub_base.specs.declared.clause.Clause.{Clause}
@@ -16,7 +16,7 @@ use Rattle.exposure.specs.declared.prov.Prov.{Prov}
 use Rattle.exposure.specs.Cells.{has_cell, is_other}
 use Rattle.prov_memory.specs.declared.answer.LibAnswer.{LibAnswer}
 use Rattle.prov_memory.specs.Store.{Store, Life, TaggedByte, is_live, range_from}
-use Rattle.prov_memory.specs.Script.{Script, Give, require, ◌>>=◌, ◌>>◌, Act, Done, Raised, touched, run}
+use Rattle.prov_memory.specs.Script.{Script, require, ◌>>=◌, ◌>>◌, Act, Done, Raised, touched, run}
 use Rattle.prov_memory.specs.Acts.{Accessed, in_row, offset_in, size_in, argument_object, argument_in, argument}
 use Rattle.prov_memory.specs.Streams.{Io}
 use Rattle.prov_memory.specs.Held.{held_of}

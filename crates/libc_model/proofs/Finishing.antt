@@ -1,24 +1,22 @@
 -- Lemmas on whole calls that read strings.
-use Rattle.std.proofs.Common.{◌≡◌, ℕ, zero, suc, ◌+◌, ◌-◌, ◌<◌, ◌≤◌, ◌==◌, ◌^◌, Bool, true, false, cond, Option, Some, None, List, [], ◌∷◌, ◌++◌, length, refl, ap, sym, subst, ◌∙◌, arith, ℤ, pos}
-use Rattle.std.specs.Prelude.{Result, Ok, Err}
+use Rattle.std.proofs.Common.{◌≡◌, ℕ, zero, suc, ◌+◌, ◌-◌, ◌<◌, ◌==◌, Bool, true, false, cond, Option, Some, List, [], ◌∷◌, length, refl, ap, sym, subst, ◌∙◌, arith, ℤ, pos}
+use Rattle.std.specs.Prelude.{Ok, Err}
 use Rattle.ub_base.specs.declared.names.Item.{Item}
 use Rattle.ub_base.specs.declared.names.Event.{Event}
 use Rattle.addr_map.specs.declared.map.Row.{Row}
 use Rattle.exposure.specs.declared.prov.Prov.{Prov}
-use Rattle.exposure.specs.declared.prov.Prov.TheVariants.{Empty}
 use Rattle.c_types.specs.declared.library.LibFunc.TheVariants.{Strlen, Strcmp, Strchr}
 use Rattle.prov_memory.specs.declared.value.Value.{Value}
-use Rattle.prov_memory.specs.declared.value.Value.TheVariants.{Int}
 use Rattle.prov_memory.specs.declared.answer.LibAnswer.{LibAnswer}
 use Rattle.prov_memory.specs.declared.answer.LibAnswer.TheVariants as answers
 use Rattle.prov_memory.specs.Store.{Store, TaggedByte, range_from}
-use Rattle.prov_memory.specs.Script.{Script, Give, ◌>>=◌, Act, Done, Raised, run}
+use Rattle.prov_memory.specs.Script.{Script, Give, ◌>>=◌, Act, Done, run}
 use Rattle.prov_memory.specs.Streams.{Io}
 use Rattle.prov_memory.specs.Memory.{Kept, HasCell, store_of}
-use Rattle.libc_spec.specs.Library.{LibValue, number, pointer, pointer_in, address_in, prov_in, argument_at, Text, text, numbers, read_numbers, order_of, low_byte, place_of, pointer_behind, integer_in, number_of_byte, strlen, strcmp, strchr, joined, called, output_within}
+use Rattle.libc_spec.specs.Library.{LibValue, number, pointer, pointer_in, address_in, prov_in, argument_at, Text, text, read_numbers, order_of, low_byte, place_of, pointer_behind, integer_in, number_of_byte, strlen, strcmp, strchr, joined, called}
 use Rattle.libc_model.specs.declared.arguments.Range.{Range}
 use Rattle.libc_model.specs.Seen.{value_seen}
-use Rattle.libc_model.specs.Answers.{Answers, AreWithin, HaveCells, given_value}
+use Rattle.libc_model.specs.Answers.{Answers, AreWithin, HaveCells}
 use Rattle.libc_model.specs.Parts.{after, CanFollow, Gives, Follows, ReadsAll, byte_at, bytes_of, text_in, IsPassed, limited}
 use Rattle.libc_model.proofs.Answering.{answers_of, address_is}
 use Rattle.libc_model.proofs.Parts.{then_gives, then_follows, err_follows, gives_at_once}

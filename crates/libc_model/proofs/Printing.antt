@@ -1,5 +1,5 @@
 -- Lemmas on calls that print.
-use Rattle.std.proofs.Common.{◌≡◌, ℕ, zero, suc, ◌+◌, ◌-◌, ◌≤◌, ◌^◌, Bool, true, false, cond, List, [], ◌∷◌, ◌++◌, length, length-append, take, refl, ap, sym, subst, ◌∙◌, arith, ℤ, pos}
+use Rattle.std.proofs.Common.{◌≡◌, ℕ, suc, ◌+◌, ◌-◌, ◌≤◌, ◌^◌, Bool, true, false, cond, List, [], ◌∷◌, ◌++◌, length, length-append, take, refl, ap, sym, subst, ◌∙◌, arith, pos}
 use Rattle.std.specs.Prelude.{Result, Ok, Err, nat_lt}
 use Rattle.ub_base.specs.declared.clause.Cause.TheVariants.{Output as PastOutput}
 use Rattle.ub_base.specs.declared.names.Item.{Item}
@@ -9,7 +9,6 @@ use Rattle.addr_map.specs.declared.map.Row.{Row}
 use Rattle.exposure.specs.declared.prov.Prov.{Prov}
 use Rattle.exposure.specs.Cells.{Cells}
 use Rattle.c_types.specs.declared.library.LibFunc.TheVariants.{Puts}
-use Rattle.prov_memory.specs.declared.value.Value.{Value}
 use Rattle.prov_memory.specs.declared.value.Value.TheVariants.{Int}
 use Rattle.prov_memory.specs.declared.answer.LibAnswer.{LibAnswer}
 use Rattle.prov_memory.specs.declared.answer.LibAnswer.TheVariants as answers
@@ -21,7 +20,7 @@ use Rattle.libc_spec.specs.Library.{LibValue, number, pointer, pointer_in, addre
 use Rattle.libc_model.specs.Seen.{value_seen}
 use Rattle.libc_model.specs.Answers.{Answers, AreWithin}
 use Rattle.libc_model.specs.Parts.{effect, after, CanDo, CanFollow, Gives, Follows, line, line_at, printed, printing, limited}
-use Rattle.libc_model.proofs.Scripts.{then, behind, run_then, behind_done, run_same, run_twice}
+use Rattle.libc_model.proofs.Scripts.{then, run_then, behind_done, run_same, run_twice}
 use Rattle.libc_model.proofs.Answering.{answers_of, address_is}
 use Rattle.libc_model.proofs.Parts.{err_follows, bare_after, after_append, follow_append, joined_append}
 use Rattle.libc_model.proofs.Finishing.{finish_fails}

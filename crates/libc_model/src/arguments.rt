@@ -1,6 +1,6 @@
 // The arguments of library functions and their checks (7.1.4p1).
 ghost use Rattle.std.specs.Prelude.{◌≡◌, ◌+◌, ◌-◌, ◌<◌, ◌≤◌, ◌^◌, ◌++◌, ◌∷◌, [], length, true, false, Some, IsTrue, IfSome, IfOk, OnOk};
-ghost use Rattle.ub_base.specs.declared.names.Item.TheVariants.{Alive};
+ghost use Rattle.ub_base.specs.declared.names.Item.TheVariants.{Alive, Read};
 ghost use Rattle.ub_base.specs.Names.{same_event};
 ghost use Rattle.addr_map.specs.Rows.{row_of};
 ghost use Rattle.exposure.specs.Cells.{has_cell, is_other};
@@ -353,14 +353,18 @@ pub fn check_string(m: &Memory, pointer: Pointer, t: &mut Touched) -> Result<Ran
     let Some(len) = string_size(m, first.object, first.from) else {
         return Err(LibAnswer::Raise(Clause::LibraryArgument));
     };
-    t.add(Item::Read {
-        object: first.object,
-        from: first.from,
-        len,
-    })?;
-    Ok(Range {
-        object: first.object,
-        from: first.from,
-        len,
-    })
+    let range = Range { len, ..first };
+    t.add(read_of(range))?;
+    Ok(range)
+}
+
+/// The read of a range.
+pub fn read_of(range: Range) -> Item
+    ensures { result ≡ Read range.object range.from range.len }
+{
+    Item::Read {
+        object: range.object,
+        from: range.from,
+        len: range.len,
+    }
 }

@@ -6,7 +6,7 @@ ghost use Rattle.prov_memory.specs.Streams.{Io};
 ghost use Rattle.prov_memory.specs.Memory.{AreKnown, store_of};
 ghost use Rattle.libc_model.specs.Parts.{after, CanFollow, byte_at, bytes_of, IsShort, ReadsByte, ReadsAll, IsSettled, AreSettled};
 
-use crate::arguments::Range;
+use crate::arguments::{Range, read_of};
 use exposure::Prov;
 use prov_memory::{Block, LibAnswer, MemByte, Memory, Touched, Via};
 use std::alloc::Global;
@@ -31,11 +31,7 @@ pub fn add_read(range: Range, t: &mut Touched) -> Result<(), NoMemory> {
     if range.len == 0 {
         return Ok(());
     }
-    t.add(Item::Read {
-        object: range.object,
-        from: range.from,
-        len: range.len,
-    })
+    t.add(read_of(range))
 }
 
 /// The bytes of a range: J.2-indeterminate where one is unwritten. `t` gains the read, and what the pieces of pointers

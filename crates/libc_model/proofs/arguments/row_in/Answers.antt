@@ -1,6 +1,5 @@
-use Rattle.std.proofs.Common.{◌≡◌, ◌+◌, ◌≤◌, ◌^◌, ◌∙◌, ap, arith, Some, List}
-use Rattle.addr_map.specs.declared.map.Row.{Row}
-use Rattle.addr_map.specs.Rows.{row_of, free_of}
+use Rattle.std.proofs.Common.{◌+◌, ◌≤◌, arith}
+use Rattle.addr_map.specs.Rows.{free_of}
 use Rattle.libc_model.proofs.Checking.{row_ends}
 use Rattle.libc_model.proofs.arguments.row_in.Goals as goal
 

@@ -1,4 +1,4 @@
-use Rattle.std.proofs.Common.{◌≡◌, false, ◌∙◌, ℕ, List, Vec, Global, sym, subst}
+use Rattle.std.proofs.Common.{false, ℕ, List, Vec, Global, sym, subst}
 use Rattle.std.proofs.lemmas.Result.{err_from_is_err_and}
 use Rattle.libc_model.specs.Parts.{Gives, line_at}
 use Rattle.libc_model.proofs.Printing.{line_value}

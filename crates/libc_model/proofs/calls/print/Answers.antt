@@ -1,4 +1,4 @@
-use Rattle.std.proofs.Common.{◌≡◌, ◌+◌, ◌<◌, ◌≤◌, ◌^◌, ◌∙◌, length, arith, sym, ap}
+use Rattle.std.proofs.Common.{◌+◌, ◌<◌, ◌^◌, length, arith}
 use Rattle.std.proofs.lemmas.Result.{err_from_is_err_and}
 use Rattle.libc_model.proofs.Printing.{print_past, print_gives}
 use Rattle.libc_model.proofs.calls.print.Goals as goal

@@ -1,4 +1,4 @@
-use Rattle.std.proofs.Common.{◌∙◌, to_z, of_z, rules}
+use Rattle.std.proofs.Common.{◌∙◌, rules}
 use Rattle.std.specs.Int.{w128}
 use Rattle.std.proofs.lemmas.Int.{to_z-of_z}
 use Rattle.c_types.specs.declared.library.LibFunc.TheVariants.{Malloc, Strlen, Strcmp, Strchr, Getchar, Putchar, Puts, Exit, Abort}
