@@ -1,6 +1,6 @@
 -- The parts of a call that look at memory, against the parts of its script (own). A call lists its items while memory stays as it is;
 -- what they settle and expose takes effect at its end.
-use Rattle.std.specs.Prelude.{◌≡◌, ℕ, zero, suc, ◌+◌, ◌<◌, ◌^◌, Bool, true, false, ◌||◌, List, [], ◌∷◌, ◌++◌, map, Option, Some, None, Result, Ok, Err, if◌then◌else◌, pos}
+use Rattle.std.specs.Prelude.{◌≡◌, ℕ, zero, suc, ◌+◌, ◌<◌, ◌^◌, Bool, true, false, ◌||◌, ◌==◌, List, [], ◌∷◌, ◌++◌, map, Option, Some, None, Result, Ok, Err, if◌then◌else◌, pos}
 use Rattle.ub_base.specs.declared.clause.Clause.TheVariants.{LibraryArgument, Indeterminate}
 use Rattle.ub_base.specs.declared.names.Item.{Item}
 use Rattle.ub_base.specs.declared.names.Item.TheVariants.{Read, Expose, Narrow}
@@ -163,6 +163,19 @@ ReadsAll items (Ok v) bs old new = (all_written bs ≡ true) × (items v ≡ num
 ReadsAll items (Err answers.NoMemory) bs old new = Unit {0}
 ReadsAll items (Err (answers.Raise c)) bs old new = (c ≡ Indeterminate) × (all_written bs ≡ false)
 ReadsAll items (Err answer) bs old new = ⊥
+
+-- the read of a range, none where it has no bytes
+abbrev pub read_items : Range → List Item
+read_items r = if r.len == 0 then [] else Read r.object r.from r.len ∷ []
+
+-- the same of a range that may have been left open
+abbrev pub reads_if : Option Range → List Item
+reads_if None = []
+reads_if (Some r) = read_items r
+
+abbrev pub bytes_if : Kept → Option Range → List TaggedByte
+bytes_if m None = []
+bytes_if m (Some r) = bytes_of m r
 
 -- the bytes of a string as puts prints them: without the zero, with a line feed
 abbrev pub line : List ℕ → List ℕ

@@ -1,6 +1,7 @@
 // Functions on ranges of bytes (7.24.2.1, 7.24.2.2, 7.24.4.1, 7.24.6.1).
 
-ghost use Rattle.std.specs.Prelude.{◌≡◌, Ok, Err, if◌then◌else◌};
+ghost use Rattle.std.specs.Prelude.{◌≡◌, ◌++◌, Ok, Err, IfSome, if◌then◌else◌};
+ghost use Rattle.libc_model.specs.Parts.{IsShort, bytes_if, reads_if, ReadsAll};
 ghost use Rattle.libc_spec.specs.Library.{low_byte, order_of, overlap};
 
 use crate::arguments::{Pointer, Range, check, int_at, pointer_at, read_of, size_at};
@@ -150,7 +151,9 @@ fn read_if(
     m: &Memory,
     range: Option<Range>,
     t: &mut Touched,
-) -> Result<Vec<u8>, LibAnswer> {
+) -> Result<Vec<u8>, LibAnswer>
+    ensures { IfSome range IsShort → ReadsAll (λ v. v.items) result (bytes_if m.now range) (t.old ++ reads_if range) t.new }
+{
     match range {
         Some(range) => read(alloc, m, range, t),
         None => Ok(Vec::new(alloc)),
