@@ -1,6 +1,6 @@
 -- Lemmas on the checks of pointer arguments and of strings.
 use Rattle.std.proofs.Common.{◌≡◌, ℕ, zero, suc, ◌+◌, ◌-◌, ◌<◌, ◌≤◌, Bool, true, false, cond, List, [], ◌∷◌, ◌++◌, length, length-append, append_assoc, refl, ap, sym, subst, ◌∙◌, arith, Option, Some, None}
-use Rattle.std.specs.Prelude.{Result, Ok, Err, not}
+use Rattle.std.specs.Prelude.{Err, not, max}
 use Rattle.std.proofs.lemmas.Bool.{ne_eqb}
 use Rattle.std.proofs.lemmas.List.{append-nil}
 use Rattle.ub_base.specs.declared.clause.Clause.{Clause}
@@ -10,12 +10,13 @@ use Rattle.ub_base.specs.declared.names.Item.TheVariants.{Read, Write, Born, Die
 use Rattle.ub_base.specs.declared.names.Event.{Event}
 use Rattle.ub_base.specs.declared.names.ObjName.{ObjName}
 use Rattle.addr_map.specs.declared.map.Row.{Row}
-use Rattle.addr_map.specs.Rows.{row_of}
+use Rattle.addr_map.specs.Rows.{row_of, free_of}
+use Rattle.ub_base.specs.Names.{same_object}
 use Rattle.exposure.specs.declared.prov.Prov.{Prov}
 use Rattle.exposure.specs.Cells.{has_cell, is_other}
 use Rattle.prov_memory.specs.declared.answer.LibAnswer.{LibAnswer}
 use Rattle.prov_memory.specs.Store.{Store, Life, TaggedByte, is_live, range_from}
-use Rattle.prov_memory.specs.Script.{Script, Give, require, ◌>>=◌, ◌>>◌, Act, Done, Raised, touched, run}
+use Rattle.prov_memory.specs.Script.{Script, require, ◌>>=◌, ◌>>◌, Act, Done, Raised, touched, run}
 use Rattle.prov_memory.specs.Acts.{Accessed, in_row, offset_in, size_in, argument_object, argument_in, argument}
 use Rattle.prov_memory.specs.Streams.{Io}
 use Rattle.prov_memory.specs.Held.{held_of}
@@ -44,6 +45,23 @@ effect_kept Any s id = refl
 pub after_kept : (is : List Item) (s : Store) (id : Event) → (after is s).kept id ≡ kept_after is id (s.kept id)
 after_kept [] s id = refl
 after_kept (i ∷ is) s id = after_kept is (effect i s) id ∙ ap (kept_after is id) (effect_kept i s id)
+
+-- ---- rows
+some_row : (q r : Row) → Some q ≡ Some r → q ≡ r
+some_row q r e = cc
+
+row_by : (b : Bool) (q r : Row) (o : Option Row) (n : ℕ) → Some q ≡ cond b (Some r) o → (Some q ≡ o → q.base + q.size ≤ n) → q.base + q.size ≤ max (r.base + r.size) n
+row_by true q r o n e h =
+    let k : q.base + q.size ≡ r.base + r.size = ap (λ (w : Row). w.base + w.size) (some_row q r e) in
+    omega arith
+row_by false q r o n e h =
+    let k : q.base + q.size ≤ n = h e in
+    omega arith
+
+-- no row ends behind them all
+pub row_ends : (rows : List Row) (x : ObjName) (q : Row) → Some q ≡ row_of rows x → q.base + q.size ≤ free_of rows
+row_ends [] x q e = absurd (cc)
+row_ends (r ∷ rows) x q e = row_by (same_object r.name x) q r (row_of rows x) (free_of rows) e (λ k. row_ends rows x q k)
 
 -- ---- settling
 pub settles_gives : (m : Kept) (io : Io) (old new : List Item) (id : Event) (x : ObjName) → has_cell m.cells id ≡ true → is_other ((after old (store_of m io)).kept id) x ≡ false →

@@ -1,28 +1,30 @@
 -- Lemmas on whole calls that read strings.
-use Rattle.std.proofs.Common.{◌≡◌, ℕ, zero, suc, ◌+◌, ◌-◌, ◌≤◌, ◌^◌, Bool, true, false, List, [], ◌∷◌, ◌++◌, length, refl, ap, sym, subst, ◌∙◌, arith, ℤ, pos}
-use Rattle.std.specs.Prelude.{Result, Ok, Err}
+use Rattle.std.proofs.Common.{◌≡◌, ℕ, zero, suc, ◌+◌, ◌-◌, ◌<◌, ◌==◌, Bool, true, false, cond, Option, Some, List, [], ◌∷◌, length, refl, ap, sym, subst, ◌∙◌, arith, ℤ, pos}
+use Rattle.std.specs.Prelude.{Ok, Err}
 use Rattle.ub_base.specs.declared.names.Item.{Item}
 use Rattle.ub_base.specs.declared.names.Event.{Event}
 use Rattle.addr_map.specs.declared.map.Row.{Row}
 use Rattle.exposure.specs.declared.prov.Prov.{Prov}
-use Rattle.exposure.specs.declared.prov.Prov.TheVariants.{Empty}
-use Rattle.c_types.specs.declared.library.LibFunc.TheVariants.{Strlen, Strcmp}
+use Rattle.c_types.specs.declared.library.LibFunc.TheVariants.{Strlen, Strcmp, Strchr}
 use Rattle.prov_memory.specs.declared.value.Value.{Value}
-use Rattle.prov_memory.specs.declared.value.Value.TheVariants.{Int}
 use Rattle.prov_memory.specs.declared.answer.LibAnswer.{LibAnswer}
 use Rattle.prov_memory.specs.declared.answer.LibAnswer.TheVariants as answers
 use Rattle.prov_memory.specs.Store.{Store, TaggedByte, range_from}
-use Rattle.prov_memory.specs.Script.{Script, Give, ◌>>=◌, Act, Done, Raised, run}
+use Rattle.prov_memory.specs.Script.{Script, Give, ◌>>=◌, Act, Done, run}
 use Rattle.prov_memory.specs.Streams.{Io}
 use Rattle.prov_memory.specs.Memory.{Kept, HasCell, store_of}
-use Rattle.libc_spec.specs.Library.{LibValue, number, pointer, pointer_in, address_in, prov_in, argument_at, Text, text, numbers, read_numbers, order_of, strlen, strcmp, joined, called, output_within}
+use Rattle.libc_spec.specs.Library.{LibValue, number, pointer, pointer_in, address_in, prov_in, argument_at, Text, text, read_numbers, order_of, low_byte, place_of, pointer_behind, integer_in, number_of_byte, strlen, strcmp, strchr, joined, called}
 use Rattle.libc_model.specs.declared.arguments.Range.{Range}
 use Rattle.libc_model.specs.Seen.{value_seen}
-use Rattle.libc_model.specs.Answers.{Answers, AreWithin, HaveCells, given_value}
-use Rattle.libc_model.specs.Parts.{after, CanFollow, Gives, Follows, ReadsAll, bytes_of, text_in, IsPassed, limited}
+use Rattle.libc_model.specs.Answers.{Answers, AreWithin, HaveCells}
+use Rattle.libc_model.specs.Parts.{after, CanFollow, Gives, Follows, ReadsAll, byte_at, bytes_of, text_in, IsPassed, limited}
 use Rattle.libc_model.proofs.Answering.{answers_of, address_is}
 use Rattle.libc_model.proofs.Parts.{then_gives, then_follows, err_follows, gives_at_once}
 use Rattle.libc_model.proofs.Reading.{reads_follow}
+use Rattle.libc_model.proofs.Seen.{place_of-from}
+use Rattle.std.specs.List.{position, position_from}
+use Rattle.std.proofs.lemmas.Iterator.Adapters.{position_from-zero}
+use Rattle.std.proofs.lemmas.List.{length-map}
 
 -- ---- the end of a call
 -- the call gives its value, and what it settles and exposes took effect
@@ -42,26 +44,26 @@ finish_fails (answers.Raise c) m io is script h = subst (λ (act : Act LibValue)
 finish_fails e m io is script h = absurd h
 
 -- ---- a call that reads one string
--- the value by the string and its numbers
-abbrev pub with_text : (Text → List ℕ → LibValue) → List Row → ℕ → Prov → Script LibValue
+-- what the string and its numbers give
+abbrev pub with_text : {V : Type 0} → (Text → List ℕ → V) → List Row → ℕ → Prov → Script V
 with_text f rows a prov = text rows a prov >>= (λ s. read_numbers s.bytes >>= (λ ns. Give (f s ns)))
 
-pub no_text : (f : Text → List ℕ → LibValue) (m : Kept) (io : Io) (old mid new : List Item) (a : ℕ) (prov : Prov) (e : LibAnswer) → Follows false (text_in m) (Err e) m io old mid (text m.rows a prov) →
-    Follows false value_seen (Err e) m io old new (with_text f m.rows a prov)
-no_text f m io old mid new a prov e h = err_follows false false Text LibValue (text_in m) value_seen e m io old mid new (text m.rows a prov) (λ s. read_numbers s.bytes >>= (λ ns. Give (f s ns))) h
+pub no_text : {B V : Type 0} (seen : B → V) (f : Text → List ℕ → V) (m : Kept) (io : Io) (old mid new : List Item) (a : ℕ) (prov : Prov) (e : LibAnswer) → Follows false (text_in m) (Err e) m io old mid (text m.rows a prov) →
+    Follows false seen (Err e) m io old new (with_text f m.rows a prov)
+no_text {V = V} seen f m io old mid new a prov e h = err_follows false false Text V (text_in m) seen e m io old mid new (text m.rows a prov) (λ s. read_numbers s.bytes >>= (λ ns. Give (f s ns))) h
 
-pub no_numbers : {A : Type 0} (items : A → List ℕ) (f : Text → List ℕ → LibValue) (m : Kept) (io : Io) (old mid end new : List Item) (a : ℕ) (prov : Prov) (r : Range) (e : LibAnswer) → Gives false Text m io old mid (text m.rows a prov) (text_in m r) →
-    ReadsAll items (Err e) (bytes_of m r) mid end → Follows false value_seen (Err e) m io old new (with_text f m.rows a prov)
-no_numbers {A = A} items f m io old mid end new a prov r e g h =
-    then_follows {C = Value} false true Text LibValue value_seen (Err e) m io old mid new (text m.rows a prov) (text_in m r) (λ s. read_numbers s.bytes >>= (λ ns. Give (f s ns))) g
-    (err_follows true true (List ℕ) LibValue items value_seen e m io mid end new (read_numbers (bytes_of m r)) (λ ns. Give (f (text_in m r) ns)) (reads_follow items (Err e) m io mid end (bytes_of m r) h))
+pub no_numbers : {A B V : Type 0} (items : A → List ℕ) (seen : B → V) (f : Text → List ℕ → V) (m : Kept) (io : Io) (old mid end new : List Item) (a : ℕ) (prov : Prov) (r : Range) (e : LibAnswer) → Gives false Text m io old mid (text m.rows a prov) (text_in m r) →
+    ReadsAll items (Err e) (bytes_of m r) mid end → Follows false seen (Err e) m io old new (with_text f m.rows a prov)
+no_numbers {A = A} {B = B} {V = V} items seen f m io old mid end new a prov r e g h =
+    then_follows {C = B} false true Text V seen (Err e) m io old mid new (text m.rows a prov) (text_in m r) (λ s. read_numbers s.bytes >>= (λ ns. Give (f s ns))) g
+    (err_follows true true (List ℕ) V items seen e m io mid end new (read_numbers (bytes_of m r)) (λ ns. Give (f (text_in m r) ns)) (reads_follow items (Err e) m io mid end (bytes_of m r) h))
 
-pub text_read : {A : Type 0} (items : A → List ℕ) (v : A) (f : Text → List ℕ → LibValue) (m : Kept) (io : Io) (old mid new : List Item) (a : ℕ) (prov : Prov) (r : Range) → Gives false Text m io old mid (text m.rows a prov) (text_in m r) →
-    ReadsAll items (Ok v) (bytes_of m r) mid new → Gives false LibValue m io old new (with_text f m.rows a prov) (f (text_in m r) (items v))
-text_read items v f m io old mid new a prov r g h =
-    then_gives false true Text LibValue m io old mid new (text m.rows a prov) (text_in m r) (λ s. read_numbers s.bytes >>= (λ ns. Give (f s ns))) (f (text_in m r) (items v)) g
-    (then_gives true true (List ℕ) LibValue m io mid new new (read_numbers (bytes_of m r)) (items v) (λ ns. Give (f (text_in m r) ns)) (f (text_in m r) (items v)) (reads_follow items (Ok v) m io mid new (bytes_of m r) h)
-    (gives_at_once true LibValue m io new (f (text_in m r) (items v))))
+pub text_read : {A V : Type 0} (items : A → List ℕ) (v : A) (f : Text → List ℕ → V) (m : Kept) (io : Io) (old mid new : List Item) (a : ℕ) (prov : Prov) (r : Range) → Gives false Text m io old mid (text m.rows a prov) (text_in m r) →
+    ReadsAll items (Ok v) (bytes_of m r) mid new → Gives false V m io old new (with_text f m.rows a prov) (f (text_in m r) (items v))
+text_read {V = V} items v f m io old mid new a prov r g h =
+    then_gives false true Text V m io old mid new (text m.rows a prov) (text_in m r) (λ s. read_numbers s.bytes >>= (λ ns. Give (f s ns))) (f (text_in m r) (items v)) g
+    (then_gives true true (List ℕ) V m io mid new new (read_numbers (bytes_of m r)) (items v) (λ ns. Give (f (text_in m r) ns)) (f (text_in m r) (items v)) (reads_follow items (Ok v) m io mid new (bytes_of m r) h)
+    (gives_at_once true V m io new (f (text_in m r) (items v))))
 
 length_of_range : (f : ℕ → TaggedByte) (a n : ℕ) → length (range_from f a n) ≡ n
 length_of_range f a zero = refl
@@ -81,6 +83,41 @@ pub strlen_called : (rows : List Row) (vs : List LibValue) (who : Event) (a : �
 strlen_called rows vs who a p s t is e same h =
     let q = address_is a (address_in (argument_at vs 0)) p (prov_in (argument_at vs 0)) same in
     subst (λ (b : ℕ). Answers e is t (limited s (run rows (strlen rows b (prov_in (argument_at vs 0))) s))) q.0 (subst (λ (r : Prov). Answers e is t (limited s (run rows (strlen rows a r) s))) q.1 h)
+
+-- strchr
+abbrev pub place_value : ℕ → Prov → ℤ → Text → List ℕ → LibValue
+place_value a prov c s ns = pointer_behind a prov (place_of (low_byte c) 0 ns)
+
+some_place : (k n : ℕ) → Some k ≡ Some n → k ≡ n
+some_place k n e = cc
+
+within_by : (b : Bool) (k i n : ℕ) (o : Option ℕ) → Some k ≡ cond b (Some i) o → (Some k ≡ o → k < i + 1 + n) → k < i + suc n
+within_by true k i n o e h = let q : k ≡ i = some_place k i e in omega arith
+within_by false k i n o e h = let q : k < i + 1 + n = h e in omega arith
+
+-- a place lies in its list
+place_within : (test : ℕ → Bool) (k i : ℕ) (ns : List ℕ) → Some k ≡ position_from test i ns → k < i + length ns
+place_within test k i [] e = absurd (cc)
+place_within test k i (n ∷ ns) e = within_by (test n) k i (length ns) (position_from test (i + 1) ns) e (λ h. place_within test k (i + 1) ns h)
+
+pub place_in_range : {A : Type 0} (items : A → List ℕ) (v : A) (m : Kept) (r : Range) (w k : ℕ) (mid new : List Item) → ReadsAll items (Ok v) (bytes_of m r) mid new → Some k ≡ position (λ n. n == w) (items v) → k < r.len
+place_in_range items v m r w k mid new h e =
+    let len : length (items v) ≡ r.len = ap length h.1 ∙ length-map (bytes_of m r) number_of_byte ∙ length_of_range (byte_at m r.object) r.from r.len in
+    let place : k < 0 + length (items v) = place_within (λ n. n == w) k 0 (items v) (e ∙ position_from-zero (λ n. n == w) (items v)) in
+    omega arith
+
+pub place_read : {A : Type 0} (items : A → List ℕ) (v : A) (m : Kept) (io : Io) (old mid new : List Item) (a : ℕ) (prov : Prov) (c : ℤ) (w : ℕ) (o : Option ℕ) (value : LibValue) (r : Range) → Gives false Text m io old mid (text m.rows a prov) (text_in m r) →
+    ReadsAll items (Ok v) (bytes_of m r) mid new → w ≡ low_byte c → o ≡ position (λ n. n == w) (items v) → value ≡ pointer_behind a prov o → Gives false LibValue m io old new (strchr m.rows a prov c) value
+place_read items v m io old mid new a prov c w o value r g h byte place is =
+    let found : value ≡ place_value a prov c (text_in m r) (items v) = is ∙ ap (pointer_behind a prov) (place ∙ position_from-zero (λ n. n == w) (items v) ∙ sym (place_of-from w 0 (items v)) ∙ ap (λ (b : ℕ). place_of b 0 (items v)) byte) in
+    subst (λ (q : LibValue). Gives false LibValue m io old new (strchr m.rows a prov c) q) (sym found) (text_read items v (place_value a prov c) m io old mid new a prov r g h)
+
+pub strchr_called : (rows : List Row) (vs : List LibValue) (who : Event) (a : ℕ) (p : Prov) (c : ℤ) (s t : Store) (is : List Item) (e : LibAnswer) → pointer a p ≡ pointer_in (argument_at vs 0) → c ≡ integer_in (argument_at vs 1) →
+    Answers e is t (limited s (run rows (strchr rows a p c) s)) → Answers e is t (called rows Strchr vs who s)
+strchr_called rows vs who a p c s t is e same byte h =
+    let q = address_is a (address_in (argument_at vs 0)) p (prov_in (argument_at vs 0)) same in
+    subst (λ (d : ℤ). Answers e is t (limited s (run rows (strchr rows (address_in (argument_at vs 0)) (prov_in (argument_at vs 0)) d) s))) byte
+    (subst (λ (b : ℕ). Answers e is t (limited s (run rows (strchr rows b (prov_in (argument_at vs 0)) c) s))) q.0 (subst (λ (r : Prov). Answers e is t (limited s (run rows (strchr rows a r c) s))) q.1 h))
 
 -- ---- a call that compares two strings
 abbrev pub behind_first : List Row → ℕ → Prov → Text → Script LibValue

@@ -4,6 +4,7 @@ pub mod Checking
 pub mod Finishing
 pub mod Freeing
 pub mod Parts
+pub mod Printing
 pub mod Reading
 pub mod Scripts
 pub mod Seen

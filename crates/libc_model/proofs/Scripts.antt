@@ -1,5 +1,5 @@
 -- What scripts do one after the other.
-use Rattle.std.proofs.Common.{◌≡◌, ℕ, Bool, true, false, cond, List, [], ◌∷◌, ◌++◌, refl, ap, sym, ◌∙◌}
+use Rattle.std.proofs.Common.{◌≡◌, Bool, true, false, cond, List, [], ◌∷◌, ◌++◌, refl, ap, sym, ◌∙◌}
 use Rattle.ub_base.specs.declared.names.Item.{Item}
 use Rattle.addr_map.specs.declared.map.Row.{Row}
 use Rattle.prov_memory.specs.Store.{Store}
@@ -57,3 +57,22 @@ run_then rows (Do t g) k s =
 pub behind_done : {V : Type 0} (is js : List Item) (v : V) (s : Store) → behind is (Done v js s) ≡ Done v (is ++ js) s
 behind_done [] js v s = refl
 behind_done (i ∷ is) js v s = ap (touched i) (behind_done is js v s)
+
+-- a script, and then either of two that do the same
+then_same : {A B : Type 0} (act : Act A) (k j : A → Store → Act B) → ((v : A) (u : Store) → k v u ≡ j v u) → then act k ≡ then act j
+then_same (Done v is s) k j h = ap (behind is) (h v s)
+then_same (Raised c) k j h = refl
+then_same (Ended n is s) k j h = refl
+then_same (Outside c n) k j h = refl
+then_same Unplaced k j h = refl
+
+pub run_same : {A B : Type 0} (rows : List Row) (p : Script A) (k j : A → Script B) (s : Store) → ((v : A) (u : Store) → run rows (k v) u ≡ run rows (j v) u) → run rows (p >>= k) s ≡ run rows (p >>= j) s
+run_same rows p k j s h = run_then rows p k s ∙ then_same (run rows p s) (λ v u. run rows (k v) u) (λ v u. run rows (j v) u) h ∙ sym (run_then rows p j s)
+
+pub run_twice : {A B C : Type 0} (rows : List Row) (p : Script A) (k : A → Script B) (j : B → Script C) (s : Store) → run rows ((p >>= k) >>= j) s ≡ run rows (p >>= (λ v. k v >>= j)) s
+run_twice rows (Give v) k j s = refl
+run_twice rows (Raise c) k j s = refl
+run_twice rows (Finish n) k j s = refl
+run_twice rows (Exceed c n) k j s = refl
+run_twice rows Misplace k j s = refl
+run_twice {C = C} rows (Do t g) k j s = ap (λ (act : Act C). cond (refuses t s) (refused t) (touched (item_of t) act)) (run_twice rows (g (answer rows t s)) k j (left t s))

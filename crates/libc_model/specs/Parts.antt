@@ -1,6 +1,6 @@
 -- The parts of a call that look at memory, against the parts of its script (own). A call lists its items while memory stays as it is;
 -- what they settle and expose takes effect at its end.
-use Rattle.std.specs.Prelude.{◌≡◌, ℕ, zero, suc, ◌+◌, ◌<◌, ◌^◌, Bool, true, false, ◌||◌, List, [], ◌∷◌, ◌++◌, map, Option, Some, None, Result, Ok, Err, if◌then◌else◌}
+use Rattle.std.specs.Prelude.{◌≡◌, ℕ, zero, suc, ◌+◌, ◌<◌, ◌^◌, Bool, true, false, ◌||◌, ◌==◌, List, [], ◌∷◌, ◌++◌, map, Option, Some, None, Result, Ok, Err, if◌then◌else◌, pos}
 use Rattle.ub_base.specs.declared.clause.Clause.TheVariants.{LibraryArgument, Indeterminate}
 use Rattle.ub_base.specs.declared.names.Item.{Item}
 use Rattle.ub_base.specs.declared.names.Item.TheVariants.{Read, Expose, Narrow}
@@ -8,18 +8,19 @@ use Rattle.ub_base.specs.declared.names.Event.{Event}
 use Rattle.ub_base.specs.declared.names.ObjName.{ObjName}
 use Rattle.ub_base.specs.Names.{same_event}
 use Rattle.addr_map.specs.declared.map.Row.{Row}
+use Rattle.exposure.specs.declared.prov.Prov.{Prov}
 use Rattle.exposure.specs.Cells.{Cells, has_cell, is_other}
 use Rattle.prov_memory.specs.declared.value.Value.{Value}
 use Rattle.prov_memory.specs.declared.answer.LibAnswer.{LibAnswer}
 use Rattle.prov_memory.specs.declared.answer.LibAnswer.TheVariants as answers
 use Rattle.prov_memory.specs.Store.{Store, TaggedByte, range_from, settled, shown}
-use Rattle.prov_memory.specs.Script.{Settle, Script, Give, touch, ◌>>◌, Act, Done, Raised, run}
+use Rattle.prov_memory.specs.Script.{Settle, Print, Script, Give, touch, ◌>>=◌, ◌>>◌, Act, Done, Raised, run}
 use Rattle.prov_memory.specs.Acts.{Accessed, settle_by, the_one_in, in_row, offset_in, is_written, all_written, origins_in}
 use Rattle.prov_memory.specs.Loads.{origins_of}
 use Rattle.prov_memory.specs.Streams.{Io}
 use Rattle.prov_memory.specs.Held.{held_of}
 use Rattle.prov_memory.specs.Memory.{Kept, AreKnown, store_of, life_in, tagged_in_object}
-use Rattle.libc_spec.specs.Library.{LibValue, Text, is_zero, numbers, number_of_byte, joined, in_ranges, created_within, output_within}
+use Rattle.libc_spec.specs.Library.{LibValue, number, Text, text, is_zero, numbers, number_of_byte, read_numbers, without_zero, joined, in_ranges, created_within, output_within}
 use Rattle.libc_model.specs.declared.arguments.Range.{Range}
 use Rattle.libc_model.specs.Answers.{given_value}
 use Rattle.libc_model.specs.Seen.{value_seen}
@@ -162,6 +163,35 @@ ReadsAll items (Ok v) bs old new = (all_written bs ≡ true) × (items v ≡ num
 ReadsAll items (Err answers.NoMemory) bs old new = Unit {0}
 ReadsAll items (Err (answers.Raise c)) bs old new = (c ≡ Indeterminate) × (all_written bs ≡ false)
 ReadsAll items (Err answer) bs old new = ⊥
+
+-- the read of a range, none where it has no bytes
+abbrev pub read_items : Range → List Item
+read_items r = if r.len == 0 then [] else Read r.object r.from r.len ∷ []
+
+-- the same of a range that may have been left open
+abbrev pub reads_if : Option Range → List Item
+reads_if None = []
+reads_if (Some r) = read_items r
+
+abbrev pub bytes_if : Kept → Option Range → List TaggedByte
+bytes_if m None = []
+bytes_if m (Some r) = bytes_of m r
+
+-- the bytes of a string as puts prints them: without the zero, with a line feed
+abbrev pub line : List ℕ → List ℕ
+line ns = without_zero ns ++ 10 ∷ []
+
+-- the line of a string argument
+abbrev pub line_at : List Row → ℕ → Prov → Script (List ℕ)
+line_at rows a prov = text rows a prov >>= (λ s. read_numbers s.bytes >>= (λ ns. Give (line ns)))
+
+-- bytes are printed; the value is that of puts
+abbrev pub printed : List ℕ → Script LibValue
+printed bs = touch (Print bs) >> Give (number (pos 1))
+
+-- what a script gives is printed
+abbrev pub printing : Script (List ℕ) → Script LibValue
+printing script = script >>= printed
 
 -- a call of a function that allocates nothing, with its limits
 abbrev pub limited : Store → Act LibValue → Act LibValue

@@ -1,6 +1,6 @@
 // The arguments of library functions and their checks (7.1.4p1).
-ghost use Rattle.std.specs.Prelude.{◌≡◌, ◌+◌, ◌-◌, ◌<◌, ◌^◌, ◌++◌, ◌∷◌, [], length, true, false, Some, IsTrue, IfSome, IfOk, OnOk};
-ghost use Rattle.ub_base.specs.declared.names.Item.TheVariants.{Alive};
+ghost use Rattle.std.specs.Prelude.{◌≡◌, ◌+◌, ◌-◌, ◌<◌, ◌≤◌, ◌^◌, ◌++◌, ◌∷◌, [], length, true, false, Some, IsTrue, IfSome, IfOk, OnOk};
+ghost use Rattle.ub_base.specs.declared.names.Item.TheVariants.{Alive, Read};
 ghost use Rattle.ub_base.specs.Names.{same_event};
 ghost use Rattle.addr_map.specs.Rows.{row_of};
 ghost use Rattle.exposure.specs.Cells.{has_cell, is_other};
@@ -16,6 +16,7 @@ ghost use Rattle.libc_spec.specs.Library.{argument_at, pointer_in, integer_in, s
 ghost use Rattle.libc_model.specs.Parts.{after, kept_by, kept_after, Follows, settled_to, one_of_two, offset_if, byte_at, accessed, accessed_if, text_in, IsShort, IsRange, string_size};
 ghost use Rattle.libc_model.specs.Seen.{value_seen, values_seen, pointer_seen};
 
+use addr_map::Row;
 use exposure::Prov;
 use prov_memory::{LibAnswer, MemByte, Memory, Touched, Value};
 use ub_base::{Clause, Event, Item, ObjName};
@@ -111,12 +112,22 @@ fn has_range(m: &Memory, object: ObjName, addr: u64, len: u64) -> bool
     }
 }
 
+// The row of the object, which ends within the address space (own: 47 bits).
+fn row_in(m: &Memory, object: ObjName) -> Option<Row>
+    ensures row { result ≡ row_of m.now.rows object }
+    ensures low { IfSome result (λ r. r.base + r.size ≤ 2 ^ 47) }
+{
+    let row = m.map().row(object)?;
+    Some(row)
+}
+
 // Where the range begins in the object, if it lies in it.
 fn place_in(m: &Memory, object: ObjName, addr: u64, len: u64) -> Option<u64>
     ensures place { result ≡ offset_if (row_of m.now.rows object) addr len }
     ensures short { IfSome result (λ from. from + len < 2 ^ 64) }
+    ensures near { IfSome result (λ from. addr ≤ from + 2 ^ 47) }
 {
-    let row = m.map().row(object)?;
+    let row = row_in(m, object)?;
     if row.base <= addr && len <= row.size && addr - row.base <= row.size - len {
         Some(addr - row.base)
     } else {
@@ -253,6 +264,7 @@ fn range_of(
 ) -> Result<Range, LibAnswer>
     ensures follows { (io : Io) → Follows true (λ r. Some (accessed m.now r)) result m.now io t.old t.new (argument_in m.now.rows len addr (Some object)) }
     ensures range { IfOk result (λ r. IsRange len (Some r)) }
+    ensures near { IfOk result (λ r. addr ≤ r.from + 2 ^ 47) }
     ensures items { OnOk result (t.new ≡ t.old ++ Alive object ∷ []) }
 {
     t.add(Item::Alive(object))?;
@@ -276,6 +288,7 @@ pub fn check(
 ) -> Result<Option<Range>, LibAnswer>
     ensures follows { (io : Io) → HasCell m.now pointer.prov → Follows true (accessed_if m.now) result m.now io t.old t.new (argument m.now.rows len pointer.addr pointer.prov) }
     ensures range { IfOk result (IsRange len) }
+    ensures near { IfOk result (λ range. IfSome range (λ r. pointer.addr ≤ r.from + 2 ^ 47)) }
     ensures grows { (io : Io) → HasCell m.now pointer.prov → IfOk result (λ range. IfSome range (λ r. length t.old < length t.new)) }
 {
     if pointer.addr == 0 {
@@ -300,9 +313,9 @@ fn is_zero(m: &Memory, object: ObjName, at: u64) -> bool
 // How many bytes a string has with its zero, if the object has a written zero from the place on.
 fn string_size(m: &Memory, object: ObjName, from: u64) -> Option<u64>
     ensures size { result ≡ string_size (byte_at m.now object) (size_in (row_of m.now.rows object) - from) from }
-    ensures short { IfSome result (λ size. from + size < 2 ^ 64) }
+    ensures low { IfSome result (λ size. from + size ≤ 2 ^ 47) }
 {
-    let row = m.map().row(object)?;
+    let row = row_in(m, object)?;
     for at in from..row.size {
         if is_zero(m, object, at) {
             return Some((at - from).saturating_add(1));
@@ -332,6 +345,7 @@ pub fn bounded_length(m: &Memory, object: ObjName, from: u64, most: u64) -> Opti
 pub fn check_string(m: &Memory, pointer: Pointer, t: &mut Touched) -> Result<Range, LibAnswer>
     ensures follows { (io : Io) → HasCell m.now pointer.prov → Follows false (text_in m.now) result m.now io t.old t.new (text m.now.rows pointer.addr pointer.prov) }
     ensures short { IfOk result IsShort }
+    ensures near { IfOk result (λ r. pointer.addr + r.len ≤ 2 ^ 48) }
 {
     let Some(first) = check(m, pointer, 1, t)? else {
         return Err(LibAnswer::Raise(Clause::LibraryArgument));
@@ -339,14 +353,18 @@ pub fn check_string(m: &Memory, pointer: Pointer, t: &mut Touched) -> Result<Ran
     let Some(len) = string_size(m, first.object, first.from) else {
         return Err(LibAnswer::Raise(Clause::LibraryArgument));
     };
-    t.add(Item::Read {
-        object: first.object,
-        from: first.from,
-        len,
-    })?;
-    Ok(Range {
-        object: first.object,
-        from: first.from,
-        len,
-    })
+    let range = Range { len, ..first };
+    t.add(read_of(range))?;
+    Ok(range)
+}
+
+/// The read of a range.
+pub fn read_of(range: Range) -> Item
+    ensures { result ≡ Read range.object range.from range.len }
+{
+    Item::Read {
+        object: range.object,
+        from: range.from,
+        len: range.len,
+    }
 }

@@ -4,9 +4,9 @@ ghost use Rattle.ub_base.specs.declared.names.Item.TheVariants.{Expose};
 ghost use Rattle.prov_memory.specs.Acts.{candidates};
 ghost use Rattle.prov_memory.specs.Streams.{Io};
 ghost use Rattle.prov_memory.specs.Memory.{AreKnown, store_of};
-ghost use Rattle.libc_model.specs.Parts.{after, CanFollow, byte_at, bytes_of, IsShort, ReadsByte, ReadsAll, IsSettled, AreSettled};
+ghost use Rattle.libc_model.specs.Parts.{after, CanFollow, byte_at, bytes_of, IsShort, read_items, ReadsByte, ReadsAll, IsSettled, AreSettled};
 
-use crate::arguments::Range;
+use crate::arguments::{Range, read_of};
 use exposure::Prov;
 use prov_memory::{Block, LibAnswer, MemByte, Memory, Touched, Via};
 use std::alloc::Global;
@@ -27,25 +27,20 @@ pub fn expose(prov: Prov, t: &mut Touched) -> Result<(), NoMemory>
 }
 
 /// Adds the read of a range that isn't empty.
-pub fn add_read(range: Range, t: &mut Touched) -> Result<(), NoMemory> {
+pub fn add_read(range: Range, t: &mut Touched) -> Result<(), NoMemory>
+    ensures { OnOk result (t.new ≡ t.old ++ read_items range) }
+{
     if range.len == 0 {
         return Ok(());
     }
-    t.add(Item::Read {
-        object: range.object,
-        from: range.from,
-        len: range.len,
-    })
+    t.add(read_of(range))
 }
 
 /// The bytes of a range: J.2-indeterminate where one is unwritten. `t` gains the read, and what the pieces of pointers
 /// among the bytes expose.
-pub fn read(
-    alloc: Global,
-    m: &Memory,
-    range: Range,
-    t: &mut Touched,
-) -> Result<Vec<u8>, LibAnswer> {
+pub fn read(alloc: Global, m: &Memory, range: Range, t: &mut Touched) -> Result<Vec<u8>, LibAnswer>
+    ensures { IsShort range → ReadsAll (λ v. v.items) result (bytes_of m.now range) (t.old ++ read_items range) t.new }
+{
     add_read(range, t)?;
     numbers(alloc, m, range, t)
 }

@@ -1,16 +1,19 @@
 // The functions of the library, each with its act.
-ghost use Rattle.std.specs.Prelude.{◌≡◌, ◌≢◌, ◌<◌, ◌≤◌, ◌+◌, ◌^◌, true, false, nat_lt, Some, None, Ok, Err, length, List, [], OnOk, OnErr, IfNone, if◌then◌else◌};
-ghost use Rattle.c_types.specs.declared.library.LibFunc.TheVariants.{Malloc, Free, Getchar, Putchar, Exit, Abort, Printf};
+ghost use Rattle.std.specs.Prelude.{◌≡◌, ◌≢◌, ℕ, ◌<◌, ◌≤◌, ◌+◌, ◌^◌, true, false, nat_lt, Some, None, Ok, Err, length, List, [], OnOk, OnErr, IfNone, if◌then◌else◌};
+ghost use Rattle.c_types.specs.declared.library.LibFunc.TheVariants.{Malloc, Free, Getchar, Putchar, Puts, Exit, Abort, Printf};
 ghost use Rattle.ub_base.specs.declared.clause.Cause.TheVariants.{Output};
-ghost use Rattle.prov_memory.specs.Memory.{Kept, AreKnown, store_of};
+ghost use Rattle.addr_map.specs.declared.map.Row.{Row};
+ghost use Rattle.prov_memory.specs.Script.{Script, run};
+ghost use Rattle.prov_memory.specs.Memory.{Kept, AreKnown, HasCell, store_of};
 ghost use Rattle.prov_memory.specs.Streams.{Io};
 ghost use Rattle.prov_memory.specs.declared.answer.LibAnswer.TheVariants as answers;
 ghost use Rattle.libc_spec.specs.Library.{LibValue, called, byte_or_end, integer_in, argument_at};
 ghost use Rattle.ub_base.specs.declared.names.Event.{Event};
 ghost use Rattle.libc_model.specs.Seen.{values_seen};
+ghost use Rattle.libc_model.specs.Parts.{Gives, Follows, line, line_at, printing, limited};
 ghost use Rattle.libc_model.specs.Answers.{IsCall, AreWithin, Answers, answer_in, given_value, is_exact, gives_value, leaves_all, wants_memory};
 
-use crate::arguments::{check_string, int_at, pointer_at, size_at};
+use crate::arguments::{Pointer, check_string, int_at, pointer_at, size_at};
 use crate::bytes::{numbers, settle};
 use crate::{heap, ranges, strings};
 use c_types::LibFunc;
@@ -154,7 +157,7 @@ fn putchar(number: i128, io: &mut Streams, t: &mut Touched) -> Result<Value, Lib
     Ok(Value::Int(i128::from(byte)))
 }
 
-// puts: the string and a line feed; the value is own.
+// puts: the string and a line feed.
 fn puts(
     alloc: Global,
     args: &[Value],
@@ -162,17 +165,53 @@ fn puts(
     io: &mut Streams,
     t: &mut Touched,
 ) -> Result<Value, LibAnswer>
+    requires { t.old ≡ [] }
+    ensures exact { (who : Event) → IsCall Puts (values_seen args.now) m.old io.old → Answers (answer_in result) t.new (store_of m.new io.new) (called m.new.rows Puts (values_seen args.now) who (store_of m.old io.old)) }
+    ensures known { AreKnown m.old → AreKnown m.new }
+    ensures same { OnErr result ((m.new ≡ m.old) × (io.new ≡ io.old)) }
     ensures within { AreWithin io.old → AreWithin io.new }
     ensures streams { OnErr result (io.new ≡ io.old) }
 {
-    let range = check_string(m, pointer_at(args, 0), t)?;
-    let mut text = numbers(alloc, m, range, t)?;
-    let _ = text.pop();
-    text.push(b'\n').map_err(NoMemory::from)?;
-    check_output(io, text.len() as u64)?;
+    let line = line_of(alloc, m, pointer_at(args, 0), t)?;
+    print(alloc, line.as_slice(), m, io, t)
+}
+
+// The string with a line feed for its zero.
+fn line_of(alloc: Global, m: &Memory, text: Pointer, t: &mut Touched) -> Result<Vec<u8>, LibAnswer>
+    ensures { (io : Io) → HasCell m.now text.prov → Follows false (λ v. v.items) result m.now io t.old t.new (line_at m.now.rows text.addr text.prov) }
+{
+    let range = check_string(m, text, t)?;
+    let mut line = numbers(alloc, m, range, t)?;
+    end_line(&mut line)?;
+    Ok(line)
+}
+
+// The last byte becomes a line feed.
+fn end_line(bytes: &mut Vec<u8>) -> Result<(), NoMemory>
+    ensures { OnOk result (bytes.new.items ≡ line bytes.old.items) }
+{
+    let _ = bytes.pop();
+    bytes.push(b'\n')?;
+    Ok(())
+}
+
+// The end of a call that prints; the value is own.
+fn print(
+    alloc: Global,
+    bytes: &[u8],
+    m: &mut Memory,
+    io: &mut Streams,
+    t: &mut Touched,
+) -> Result<Value, LibAnswer>
+    ensures exact { (script : List Row → Script (List ℕ)) → AreWithin io.old → Gives false (List ℕ) m.old io.old [] t.old (script m.old.rows) bytes.now → Answers (answer_in result) t.new (store_of m.new io.new) (limited (store_of m.old io.old) (run m.new.rows (printing (script m.new.rows)) (store_of m.old io.old))) }
+    ensures known { AreKnown m.old → AreKnown m.new }
+    ensures same { OnErr result ((m.new ≡ m.old) × (io.new ≡ io.old)) }
+    ensures within { AreWithin io.old → AreWithin io.new }
+{
+    check_output(io, bytes.len() as u64)?;
     t.add(Item::Output)?;
     let mut scratch = Touched::new(alloc)?;
-    io.put(text.as_slice())?;
+    io.put(bytes)?;
     settle(m, t, &mut scratch);
     Ok(Value::Int(1))
 }

@@ -1,15 +1,16 @@
 // Functions on ranges of bytes (7.24.2.1, 7.24.2.2, 7.24.4.1, 7.24.6.1).
 
-ghost use Rattle.std.specs.Prelude.{◌≡◌, Ok, Err, if◌then◌else◌};
+ghost use Rattle.std.specs.Prelude.{◌≡◌, ◌++◌, Ok, Err, IfSome, if◌then◌else◌};
+ghost use Rattle.libc_model.specs.Parts.{IsShort, bytes_if, reads_if, ReadsAll};
 ghost use Rattle.libc_spec.specs.Library.{low_byte, order_of, overlap};
 
-use crate::arguments::{Pointer, Range, check, int_at, pointer_at, size_at};
+use crate::arguments::{Pointer, Range, check, int_at, pointer_at, read_of, size_at};
 use crate::bytes::{add_write, check_writable, filled, put, read, settle};
 use exposure::Prov;
 use prov_memory::{Block, LibAnswer, Memory, Touched, Value, Via};
 use std::alloc::Global;
 use std::cmp::Ordering;
-use ub_base::{Clause, Item, NoMemory};
+use ub_base::{Clause, NoMemory};
 
 /// A number modulo 256.
 pub fn low_byte(number: i128) -> u8
@@ -108,11 +109,7 @@ fn move_bytes(
     t: &mut Touched,
     scratch: &mut Touched,
 ) -> Result<(), LibAnswer> {
-    t.add(Item::Read {
-        object: source.object,
-        from: source.from,
-        len: source.len,
-    })?;
+    t.add(read_of(source))?;
     add_write(target, t)?;
     if let Some(block) = copied(m, source, scratch)? {
         put(m, target.object, target.from, Via::Whole, &block, scratch)?;
@@ -154,7 +151,9 @@ fn read_if(
     m: &Memory,
     range: Option<Range>,
     t: &mut Touched,
-) -> Result<Vec<u8>, LibAnswer> {
+) -> Result<Vec<u8>, LibAnswer>
+    ensures { IfSome range IsShort → ReadsAll (λ v. v.items) result (bytes_if m.now range) (t.old ++ reads_if range) t.new }
+{
     match range {
         Some(range) => read(alloc, m, range, t),
         None => Ok(Vec::new(alloc)),

@@ -3,12 +3,12 @@
 ghost use Rattle.std.specs.Prelude.{◌≡◌, ◌==◌, List, [], false, IfOk, OnErr};
 ghost use Rattle.std.specs.List.{position};
 ghost use Rattle.ub_base.specs.declared.names.Event.{Event};
-ghost use Rattle.c_types.specs.declared.library.LibFunc.TheVariants.{Strlen, Strcmp};
+ghost use Rattle.c_types.specs.declared.library.LibFunc.TheVariants.{Strlen, Strcmp, Strchr};
 ghost use Rattle.addr_map.specs.declared.map.Row.{Row};
 ghost use Rattle.prov_memory.specs.Script.{Script, run};
 ghost use Rattle.prov_memory.specs.Streams.{Io};
 ghost use Rattle.prov_memory.specs.Memory.{AreKnown, HasCell, store_of};
-ghost use Rattle.libc_spec.specs.Library.{LibValue, called, strlen, strcmp};
+ghost use Rattle.libc_spec.specs.Library.{LibValue, called, strlen, strcmp, strchr};
 ghost use Rattle.libc_model.specs.Seen.{value_seen, values_seen};
 ghost use Rattle.libc_model.specs.Answers.{IsCall, AreWithin, Answers, answer_in};
 ghost use Rattle.libc_model.specs.Parts.{Follows, IsPassed, limited};
@@ -143,10 +143,11 @@ pub fn find_byte(
     t: &mut Touched,
 ) -> Result<Value, LibAnswer>
     requires { t.old ≡ [] }
+    ensures exact { (io : Io) (who : Event) → IsCall Strchr (values_seen args.now) m.old io → Answers (answer_in result) t.new (store_of m.new io) (called m.new.rows Strchr (values_seen args.now) who (store_of m.old io)) }
     ensures known { AreKnown m.old → AreKnown m.new }
     ensures same { OnErr result (m.new ≡ m.old) }
 {
-    let read = place_in_string(alloc, m, pointer_at(args, 0), low_byte(int_at(args, 1)), t);
+    let read = place_in_string(alloc, m, pointer_at(args, 0), int_at(args, 1), t);
     finish(alloc, read, m, t)
 }
 
@@ -154,14 +155,15 @@ fn place_in_string(
     alloc: Global,
     m: &Memory,
     text: Pointer,
-    wanted: u8,
+    number: i128,
     t: &mut Touched,
 ) -> Result<Value, LibAnswer>
+    ensures follows { (io : Io) → HasCell m.now text.prov → Follows false value_seen result m.now io t.old t.new (strchr m.now.rows text.addr text.prov number) }
     ensures passed { IfOk result IsPassed }
 {
     let range = check_string(m, text, t)?;
     let numbers = numbers(alloc, m, range, t)?;
-    match place_of(wanted, numbers.as_slice()) {
+    match place_of(low_byte(number), numbers.as_slice()) {
         Some(at) => Ok(Value::Ptr {
             addr: text.addr.saturating_add(at as u64),
             prov: text.prov,

@@ -1,4 +1,5 @@
-use Rattle.std.proofs.Common.{◌<◌, true, length, refl, subst, Option}
+use Rattle.std.proofs.Common.{◌<◌, ◌∙◌, ◌++◌, ◌∷◌, [], true, ap, length, refl, subst, Option}
+use Rattle.ub_base.specs.declared.names.Item.{Item}
 use Rattle.std.specs.Prelude.{IfSome}
 use Rattle.prov_memory.specs.Acts.{Accessed, argument}
 use Rattle.libc_model.specs.declared.arguments.Range.{Range}
@@ -21,4 +22,4 @@ returns-in_default-string_size-clause-follows c = λ io cell.
 
 pub returns-clause-follows : goal.returns-clause-follows
 returns-clause-follows c = λ io cell.
-    text_gives c.args.m.now io c.args.t.now c.check.new.t c.add.new.self c.args.pointer.addr c.args.pointer.prov c.in-Some.first (record { object = c.in-Some.first.object; from = c.in-Some.first.from; len = c.in-Some-string_size.len }) (subst (λ (o : Option Range). Gives true (Option Accessed) c.args.m.now io c.args.t.now c.check.new.t (argument c.args.m.now.rows 1 c.args.pointer.addr c.args.pointer.prov) (accessed_if c.args.m.now o)) c.in-Some.is (c.in_ok-first.ensures.follows io cell)) (subst (λ (o : Option Range). IfSome o (λ r. length c.args.t.now < length c.check.new.t)) c.in-Some.is (c.in_ok-first.ensures.grows io cell)) c.in-Some-string_size.ensures.size c.in_ok-add.ensures.ok refl
+    text_gives c.args.m.now io c.args.t.now c.check.new.t c.add.new.self c.args.pointer.addr c.args.pointer.prov c.in-Some.first (record { object = c.in-Some.first.object; from = c.in-Some.first.from; len = c.in-Some-string_size.len }) (subst (λ (o : Option Range). Gives true (Option Accessed) c.args.m.now io c.args.t.now c.check.new.t (argument c.args.m.now.rows 1 c.args.pointer.addr c.args.pointer.prov) (accessed_if c.args.m.now o)) c.in-Some.is (c.in_ok-first.ensures.follows io cell)) (subst (λ (o : Option Range). IfSome o (λ r. length c.args.t.now < length c.check.new.t)) c.in-Some.is (c.in_ok-first.ensures.grows io cell)) c.in-Some-string_size.ensures.size (c.in_ok-add.ensures.ok ∙ ap (λ (i : Item). c.check.new.t ++ i ∷ []) c.read_of.ensures) refl

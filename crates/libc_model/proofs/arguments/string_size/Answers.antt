@@ -1,4 +1,4 @@
-use Rattle.std.proofs.Common.{◌≡◌, ◌-◌, ◌+◌, ◌∙◌, ap, sym, Option, Some, arith, ℕ, List}
+use Rattle.std.proofs.Common.{◌≡◌, ◌-◌, ◌+◌, ◌∙◌, ap, sym, Option, Some, arith, ℕ}
 use Rattle.addr_map.specs.declared.map.Row.{Row}
 use Rattle.addr_map.specs.Rows.{row_of}
 use Rattle.prov_memory.specs.Acts.{size_in}
@@ -13,7 +13,7 @@ loop-at-init c =
 
 pub returns-then-is_zero-clause-size : goal.returns-then-is_zero-clause-size
 returns-then-is_zero-clause-size c =
-    let row : Some c.in_ok-row.row ≡ row_of c.args.m.now.rows c.args.object = c.in_ok-row.ensures.row ∙ ap (λ (rs : List Row). row_of rs c.args.object) c.map.ensures in
+    let row : Some c.in_ok-row.row ≡ row_of c.args.m.now.rows c.args.object = c.in_ok-row.ensures.row in
     let size : c.saturating_add.result ≡ c.loop-at.at - c.args.from + 1 = omega arith in
     ap Some size
     ∙ sym (size_here (byte_at c.args.m.now c.args.object) c.in_ok-row.row.size c.args.from c.loop-at.at (string_size (byte_at c.args.m.now c.args.object) (c.in_ok-row.row.size - c.args.from) c.args.from) c.loop-at-test.true (sym c.is_zero.ensures ∙ c.if-is_zero.true) c.loop-at.invariant)
@@ -25,6 +25,6 @@ loop-at-preserved c =
 
 pub returns-clause-size : goal.returns-clause-size
 returns-clause-size c =
-    let row : Some c.in_ok-row.row ≡ row_of c.args.m.now.rows c.args.object = c.in_ok-row.ensures.row ∙ ap (λ (rs : List Row). row_of rs c.args.object) c.map.ensures in
+    let row : Some c.in_ok-row.row ≡ row_of c.args.m.now.rows c.args.object = c.in_ok-row.ensures.row in
     sym (size_ends (byte_at c.args.m.now c.args.object) c.in_ok-row.row.size c.args.from c.loop-at.at (string_size (byte_at c.args.m.now c.args.object) (c.in_ok-row.row.size - c.args.from) c.args.from) c.loop-at-test.false c.loop-at.invariant)
     ∙ ap (λ (o : Option Row). string_size (byte_at c.args.m.now c.args.object) (size_in o - c.args.from) c.args.from) row

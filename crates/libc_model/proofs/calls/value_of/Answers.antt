@@ -1,7 +1,7 @@
-use Rattle.std.proofs.Common.{◌∙◌, to_z, of_z, rules}
+use Rattle.std.proofs.Common.{◌∙◌, rules}
 use Rattle.std.specs.Int.{w128}
 use Rattle.std.proofs.lemmas.Int.{to_z-of_z}
-use Rattle.c_types.specs.declared.library.LibFunc.TheVariants.{Malloc, Strlen, Strcmp, Getchar, Putchar, Exit, Abort}
+use Rattle.c_types.specs.declared.library.LibFunc.TheVariants.{Malloc, Strlen, Strcmp, Strchr, Getchar, Putchar, Puts, Exit, Abort}
 use Rattle.prov_memory.specs.Memory.{store_of}
 use Rattle.libc_model.specs.Seen.{values_seen}
 use Rattle.libc_model.specs.Answers.{answer_in}
@@ -23,6 +23,11 @@ returns-in-Strcmp-clause-exact c =
     arm c.args.f Strcmp c.compare_strings.new.m.rows (values_seen c.args.args.now) c.args.who c.args.m.now c.args.io.now (answer_in c.compare_strings.result) c.compare_strings.new.t (store_of c.compare_strings.new.m c.args.io.now) (store_of c.args.m.now c.args.io.now) c.in-Strcmp.is
     (c.compare_strings.ensures.exact c.args.io.now c.args.who)
 
+pub returns-in-Strchr-clause-exact : goal.returns-in-Strchr-clause-exact
+returns-in-Strchr-clause-exact c =
+    arm c.args.f Strchr c.find_byte.new.m.rows (values_seen c.args.args.now) c.args.who c.args.m.now c.args.io.now (answer_in c.find_byte.result) c.find_byte.new.t (store_of c.find_byte.new.m c.args.io.now) (store_of c.args.m.now c.args.io.now) c.in-Strchr.is
+    (c.find_byte.ensures.exact c.args.io.now c.args.who)
+
 pub returns-in-Getchar-clause-exact : goal.returns-in-Getchar-clause-exact
 returns-in-Getchar-clause-exact c =
     arm c.args.f Getchar c.args.m.now.rows (values_seen c.args.args.now) c.args.who c.args.m.now c.args.io.now (answer_in c.getchar.result) c.getchar.new.t (store_of c.args.m.now c.getchar.new.io) (store_of c.args.m.now c.args.io.now) c.in-Getchar.is
@@ -32,6 +37,11 @@ pub returns-in-Putchar-clause-exact : goal.returns-in-Putchar-clause-exact
 returns-in-Putchar-clause-exact c =
     arm c.args.f Putchar c.args.m.now.rows (values_seen c.args.args.now) c.args.who c.args.m.now c.args.io.now (answer_in c.putchar.result) c.putchar.new.t (store_of c.args.m.now c.putchar.new.io) (store_of c.args.m.now c.args.io.now) c.in-Putchar.is
     (λ call. c.putchar.ensures.exact c.args.m.now (values_seen c.args.args.now) c.args.who (to_z-of_z w128 c.int_at.result (search rules) ∙ c.int_at.ensures) call.streams)
+
+pub returns-in-Puts-clause-exact : goal.returns-in-Puts-clause-exact
+returns-in-Puts-clause-exact c =
+    arm c.args.f Puts c.puts.new.m.rows (values_seen c.args.args.now) c.args.who c.args.m.now c.args.io.now (answer_in c.puts.result) c.puts.new.t (store_of c.puts.new.m c.puts.new.io) (store_of c.args.m.now c.args.io.now) c.in-Puts.is
+    (c.puts.ensures.exact c.args.who)
 
 pub returns-in-Exit-clause-exact : goal.returns-in-Exit-clause-exact
 returns-in-Exit-clause-exact c =
