@@ -1,4 +1,5 @@
 // Steps in the making. Until the end a step goes on at a label.
+ghost use Rattle.std.specs.Prelude.{◌≡◌, ◌++◌, ◌∷◌, [], OnOk};
 
 use crate::nodes::Objects;
 use crate::steps::{Code, Operand, Range, Step, Use};
@@ -104,14 +105,18 @@ pub fn count_of<T>(items: &Vec<T>) -> u32 {
 }
 
 impl<'p, 't> Draft<'p, 't> {
-    pub fn label(&mut self) -> Result<Label, NoMemory> {
+    pub fn label(&mut self) -> Result<Label, NoMemory>
+        ensures { self.new.code ≡ self.old.code }
+    {
         let label = count_of(&self.labels);
         self.labels.push(u32::MAX)?;
         Ok(label)
     }
 
     // The label stands before the next step.
-    pub fn set(&mut self, label: Label) {
+    pub fn set(&mut self, label: Label)
+        ensures { self.new.code ≡ self.old.code }
+    {
         let at = count_of(&self.code.steps);
         if let Some(place) = self.labels.get_mut(label as usize) {
             *place = at;
@@ -125,7 +130,9 @@ impl<'p, 't> Draft<'p, 't> {
         Ok(label)
     }
 
-    pub fn step(&mut self, step: Step<'p>) -> Result<(), NoMemory> {
+    pub fn step(&mut self, step: Step<'p>) -> Result<(), NoMemory>
+        ensures { OnOk result (self.new.code.steps.items ≡ self.old.code.steps.items ++ step.entry ∷ []) }
+    {
         self.code.steps.push(step)?;
         Ok(())
     }

@@ -1,4 +1,8 @@
 // The steps of one full expression, from its term.
+ghost use Rattle.std.specs.Prelude.{◌≡◌, ◌++◌, ◌∷◌, [], length, OnOk};
+ghost use Rattle.c_typed.specs.Order.{place};
+ghost use Rattle.core_ir.specs.Term.{term_of};
+ghost use Rattle.run_steps.specs.Written.{written, within, events_of};
 
 use crate::choices::{add_awaited, chosen_at_once, is_choice};
 use crate::draft::{Draft, Label, count_of};
@@ -90,7 +94,9 @@ impl<'p, 't> Draft<'p, 't> {
         root: &Typed,
         number: u32,
         nodes: &[NodeInfo<'p>],
-    ) -> Result<Range, NoMemory> {
+    ) -> Result<Range, NoMemory>
+        ensures { OnOk result (self.new.code.steps.items ≡ self.old.code.steps.items) }
+    {
         let first = count_of(&self.code.chosen);
         chosen_at_once(root, number, nodes, &mut self.code.chosen)?;
         let count = count_of(&self.code.chosen).saturating_sub(first);
@@ -116,7 +122,9 @@ impl<'p, 't> Draft<'p, 't> {
     }
 
     // The events of a term, from left to right.
-    fn term(&mut self, core: &Core, nodes: &[NodeInfo<'p>]) -> Result<(), NoMemory> {
+    fn term(&mut self, core: &Core, nodes: &[NodeInfo<'p>]) -> Result<(), NoMemory>
+        ensures { OnOk result (events_of self.new.code.steps.items ≡ events_of self.old.code.steps.items ++ within (length nodes.now) (written (term_of core.now))) }
+    {
         match core {
             Core::Pure(_) => Ok(()),
             Core::Act(number, kind) => self.event(*number, *kind, nodes),
@@ -134,48 +142,42 @@ impl<'p, 't> Draft<'p, 't> {
             Core::Atomic(inner) | Core::Indet(inner) => self.term(inner.get(), nodes),
             Core::Choose(number, test, first, second) => {
                 self.term(test.get(), nodes)?;
-                match self.forked(*number, nodes)? {
-                    Forked::First => self.term(first.get(), nodes),
-                    Forked::Second => self.term(second.get(), nodes),
-                    Forked::Both(fork) => {
-                        self.set(fork.first);
-                        self.term(first.get(), nodes)?;
-                        self.step(Step::Go(fork.end))?;
-                        self.set(fork.second);
-                        self.term(second.get(), nodes)?;
-                        self.set(fork.end);
-                        Ok(())
-                    }
-                }
+                let fork = self.fork(*number, nodes)?;
+                self.set(fork.first);
+                self.term(first.get(), nodes)?;
+                self.step(Step::Go(fork.end))?;
+                self.set(fork.second);
+                self.term(second.get(), nodes)?;
+                self.set(fork.end);
+                Ok(())
             }
         }
     }
 
-    // A choice of this node: the continuation that its quiet test takes, or both with a step that forks.
-    fn forked(&mut self, number: u32, nodes: &[NodeInfo<'p>]) -> Result<Forked, NoMemory> {
-        let Some(info) = nodes.get(number as usize) else {
-            return Ok(Forked::Second);
-        };
-        let test = operand(nodes, number, 0);
-        let node = &info.tree.node;
-        if test.is_quiet() {
-            return Ok(match chosen(node, test.truth()) {
-                Some(1) => Forked::First,
-                _ => Forked::Second,
-            });
-        }
+    // The step that goes on at the continuation which this node chooses.
+    fn fork(&mut self, number: u32, nodes: &[NodeInfo<'p>]) -> Result<Fork, NoMemory>
+        ensures { OnOk result (events_of self.new.code.steps.items ≡ events_of self.old.code.steps.items) }
+    {
         let fork = Fork {
             first: self.label()?,
             second: self.label()?,
             end: self.label()?,
         };
         self.step(Step::Fork {
-            test,
-            truth: chosen(node, true) == Some(1),
+            test: operand(nodes, number, 0),
+            truth: takes_first(number, nodes),
             first: fork.first,
             second: fork.second,
         })?;
-        Ok(Forked::Both(fork))
+        Ok(fork)
+    }
+}
+
+// Whether the node evaluates its second operand where the first is true.
+fn takes_first(number: u32, nodes: &[NodeInfo]) -> bool {
+    match nodes.get(number as usize) {
+        Some(info) => chosen(&info.tree.node, true) == Some(1),
+        None => false,
     }
 }
 
@@ -184,13 +186,6 @@ struct Fork {
     first: Label,
     second: Label,
     end: Label,
-}
-
-#[derive(Clone, Copy, Debug)]
-enum Forked {
-    First,
-    Second,
-    Both(Fork),
 }
 
 fn operand_at(nodes: &[NodeInfo], number: u32) -> Operand {
@@ -209,7 +204,9 @@ fn completes(node: &Node, kind: Kind) -> bool {
 }
 
 impl<'p, 't> Draft<'p, 't> {
-    fn event(&mut self, number: u32, kind: Kind, nodes: &[NodeInfo<'p>]) -> Result<(), NoMemory> {
+    fn event(&mut self, number: u32, kind: Kind, nodes: &[NodeInfo<'p>]) -> Result<(), NoMemory>
+        ensures { OnOk result (events_of self.new.code.steps.items ≡ events_of self.old.code.steps.items ++ within (length nodes.now) (place number kind ∷ [])) }
+    {
         let Some(info) = nodes.get(number as usize) else {
             return Ok(());
         };
@@ -238,7 +235,9 @@ impl<'p, 't> Draft<'p, 't> {
         info: &NodeInfo<'p>,
         number: u32,
         nodes: &[NodeInfo<'p>],
-    ) -> Result<Option<u32>, NoMemory> {
+    ) -> Result<Option<u32>, NoMemory>
+        ensures { OnOk result (self.new.code.steps.items ≡ self.old.code.steps.items) }
+    {
         let Some(parent) = info.parent else {
             return Ok(None);
         };
@@ -266,7 +265,9 @@ impl<'p, 't> Draft<'p, 't> {
         number: u32,
         truth: bool,
         nodes: &[NodeInfo<'p>],
-    ) -> Result<Way, NoMemory> {
+    ) -> Result<Way, NoMemory>
+        ensures { OnOk result (self.new.code.steps.items ≡ self.old.code.steps.items) }
+    {
         let operand = chosen(&above.tree.node, truth);
         let Some(index) = operand else {
             let chosen = Range { first: 0, count: 0 };
@@ -294,7 +295,9 @@ impl<'p, 't> Draft<'p, 't> {
         info: &NodeInfo<'p>,
         number: u32,
         nodes: &[NodeInfo<'p>],
-    ) -> Result<Act<'p>, NoMemory> {
+    ) -> Result<Act<'p>, NoMemory>
+        ensures { OnOk result (self.new.code.steps.items ≡ self.old.code.steps.items) }
+    {
         let place = operand(nodes, number, 0);
         match &info.tree.node {
             Node::Assign {
@@ -331,7 +334,9 @@ impl<'p, 't> Draft<'p, 't> {
         }
     }
 
-    fn store(&mut self, access: Access, initializing: bool, ty: &'p Ty) -> Result<u32, NoMemory> {
+    fn store(&mut self, access: Access, initializing: bool, ty: &'p Ty) -> Result<u32, NoMemory>
+        ensures { OnOk result (self.new.code.steps.items ≡ self.old.code.steps.items) }
+    {
         let number = count_of(&self.code.stores);
         self.code.stores.push(StoreCode {
             access,
@@ -346,7 +351,9 @@ impl<'p, 't> Draft<'p, 't> {
         info: &NodeInfo<'p>,
         number: u32,
         nodes: &[NodeInfo<'p>],
-    ) -> Result<Act<'p>, NoMemory> {
+    ) -> Result<Act<'p>, NoMemory>
+        ensures { OnOk result (self.new.code.steps.items ≡ self.old.code.steps.items) }
+    {
         if let Some(initializer) = info.initializer {
             return Ok(Act::Initialize(initializer));
         }
