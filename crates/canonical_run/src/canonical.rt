@@ -41,6 +41,9 @@ pub fn run<W: Watch>(
 
     // The frames are those of events that were told, in that order.
     ensures started { IfOk result (λ s. StartedBy (W.heard watch.new) s.frames) }
+
+    // The trees that the watch was given are there as before.
+    ensures trees { OnOk result (W.trees watch.new ≡ W.trees watch.old) }
 {
     let program = p.program;
     let reached = start_bytes(program, args);
@@ -115,6 +118,7 @@ fn tell_completed<W: Watch>(
 ) -> Result<Go, NoMemory>
     requires { FollowsPick event.frame event.turn event.node (W.heard watch.old) }
     ensures told { OnOk result (W.told watch.new ≡ W.told watch.old) }
+    ensures trees { OnOk result (W.trees watch.new ≡ W.trees watch.old) }
     ensures calls { IfOk result (λ go. Tells (completions event completed) go (W.heard watch.old) (W.heard watch.new)) }
 {
     match completed {
@@ -138,6 +142,7 @@ fn tell<W: Watch>(
 ) -> Result<Go, NoMemory>
     requires { GoesOn (W.heard watch.old) }
     ensures told { OnOk result (W.told watch.new ≡ more 1 (W.told watch.old)) }
+    ensures trees { OnOk result (W.trees watch.new ≡ W.trees watch.old) }
     ensures calls { IfOk result (λ go. Tells (calls_of told machine.now.items) go (W.heard watch.old) (W.heard watch.new)) }
 {
     let view = View {
@@ -175,6 +180,7 @@ fn advance<W: Watch>(
     requires ready { GoesOn (W.heard watch.old) }
     ensures rows { IfOk result (λ next. length frames.new ≤ length frames.old + taken_by next) }
     ensures told { IfOk result (λ next. W.told watch.new ≡ more (told_by next) (W.told watch.old)) }
+    ensures trees { OnOk result (W.trees watch.new ≡ W.trees watch.old) }
     ensures end { IfOk result (λ next. EndsAfter next picks) }
     ensures answers { IfOk result (λ next. AnswersNext next (W.heard watch.new)) }
     ensures started { StartedBy (W.heard watch.old) frames.old → OnOk result (StartedBy (W.heard watch.new) frames.new) }
@@ -236,6 +242,7 @@ fn follow<W: Watch>(
     requires ready { GoesOn (W.heard watch.old) }
     ensures rows { IfOk result (λ ran. length frames.new ≤ picks_of ran) }
     ensures told { IfOk result (λ ran. W.told watch.new ≡ more (told_of ran) (W.told watch.old)) }
+    ensures trees { OnOk result (W.trees watch.new ≡ W.trees watch.old) }
     ensures within { IfOk result (λ ran. picks_of ran ≤ budget) }
     ensures out_of_steps { IfOk result (λ ran. IsOutOfSteps ran → picks_of ran ≡ budget) }
     ensures answers { IfOk result (λ ran. AnswersEnd ran (W.heard watch.new)) }

@@ -1,5 +1,6 @@
 // What a run tells of its picks.
-ghost use Rattle.std.specs.Prelude.{◌≡◌, ℕ, Option, None, IfOk, OnOk};
+ghost use Rattle.std.specs.Prelude.{◌≡◌, ℕ, List, [], Option, None, IfOk, OnOk};
+ghost use Rattle.c_typed.specs.Tree.{Tree};
 ghost use Rattle.canonical_run.specs.Told.{more};
 
 use addr_map::AddrMap;
@@ -25,16 +26,21 @@ pub trait Watch {
     /// The calls so far with what it answered, the last one first, where it keeps them.
     ghost heard: { Self → Option Heard } = { λ _. None };
 
+    /// The trees that it was given, which no call changes.
+    ghost trees: { Self → List Tree } = { λ _. [] };
+
     /// A pick and what it touched; a control step has no event.
     fn pick(&mut self, v: &View, event: Option<Event>, items: &Touched) -> Result<Go, NoMemory>
         requires { GoesOn (heard self.old) }
         ensures told { OnOk result (told self.new ≡ more 1 (told self.old)) }
+        ensures trees { OnOk result (trees self.new ≡ trees self.old) }
         ensures heard { IfOk result (λ go. heard self.new ≡ noted (picked event items.now) go (heard self.old)) };
 
     /// The pick that was told last was the last event of this node and of all below it.
     fn node_done(&mut self, v: &View, frame: Frame, turn: u64, node: u32) -> Result<Go, NoMemory>
         requires { FollowsPick frame turn node (heard self.old) }
         ensures told { OnOk result (told self.new ≡ told self.old) }
+        ensures trees { OnOk result (trees self.new ≡ trees self.old) }
         ensures heard { IfOk result (λ go. heard self.new ≡ noted (node_done_call frame turn node) go (heard self.old)) };
 
     /// The pick that was told last completed a node, and with it all that stands below this node, the one above it.
@@ -47,6 +53,7 @@ pub trait Watch {
     ) -> Result<Go, NoMemory>
         requires { FollowsNode frame turn (heard self.old) }
         ensures told { OnOk result (told self.new ≡ told self.old) }
+        ensures trees { OnOk result (trees self.new ≡ trees self.old) }
         ensures heard { IfOk result (λ go. heard self.new ≡ noted (operands_done_call frame turn node) go (heard self.old)) };
 }
 

@@ -1,15 +1,12 @@
 -- The own trees of a node's listed initializers, from those of its operands.
-use Rattle.std.proofs.Common.{◌≡◌, List, [], ◌∷◌, ◌++◌, map, refl, sym, ap, ◌∙◌, append_assoc}
-use Rattle.std.proofs.lemmas.List.{map-append}
+use Rattle.std.proofs.Common.{◌≡◌, Bor, List, [], ◌∷◌, ◌++◌, map, refl, sym, ap, ◌∙◌, append_assoc}
 use Rattle.c_typed.specs.declared.tree.Node.{Node, para-Node, para-roll-Node, map-Node, out-Node, roll-Node, roll-out-Node}
 use Rattle.c_typed.specs.declared.tree.Node.TheOpen as shape
 use Rattle.c_typed.specs.declared.tree.Node.TheOpen.{Node-F}
 use Rattle.c_typed.specs.declared.tree.Node.TheVariants as nodes
 use Rattle.c_typed.specs.declared.tree.Typed.{Typed, out-Typed, roll-out-Typed, para-roll-Typed}
 use Rattle.c_typed.specs.Tree.{Tree, tree_of}
-use Rattle.core_ir.specs.declared.term.Core.{Core}
-use Rattle.core_ir.specs.Term.{term_of}
-use Rattle.elaborate.specs.Terms.{capped_for}
+use Rattle.elaborate.specs.Roots.{tree_at, trees_at}
 use Rattle.elaborate.proofs.Grown.{Grown, grown_one, grown_more}
 use Rattle.elaborate.specs.Expressions.{joined, all_second, node_own, typed_own, own_trees}
 
@@ -44,25 +41,20 @@ own_other t f =
     ∙ (para-roll-Node (List Tree) (List Tree) node_own typed_own (out-Node (out-Typed t).node)
     ∙ no_own (out-Node (out-Typed t).node) (λ u e. f u (sym (roll-out-Node (out-Typed t).node) ∙ (ap roll-Node e ∙ nodes.rolls-Isolated u)))))
 
-start : (old grown : List Core) (ts us all : List Tree) → Grown old grown ts → all ≡ ts ++ us → map term_of grown ++ map (capped_for 0) us ≡ map term_of old ++ map (capped_for 0) all
-start old grown ts us all h e =
-    ap (λ z. z ++ map (capped_for 0) us) h
-    ∙ (append_assoc (map term_of old) (map (capped_for 0) ts) (map (capped_for 0) us)
-    ∙ ap (λ z. map term_of old ++ z) (sym (map-append (capped_for 0) ts us) ∙ ap (map (capped_for 0)) (sym e)))
-
 -- before the operands, where the node is a listed initializer
-pub start_isolated : (root u v : Typed) (items : List Typed) (old pushed grown terms : List Core) (core : Core) → (out-Typed root).node ≡ nodes.Isolated v → u ≡ v → items ≡ (out-Typed root).children
-    → pushed ≡ old ++ core ∷ [] → term_of core ≡ capped_for 0 (tree_of u) → Grown pushed grown (own_trees u) → terms ≡ grown
-    → map term_of terms ++ map (capped_for 0) (joined (map own_trees items)) ≡ map term_of old ++ map (capped_for 0) (own_trees root)
-start_isolated root u v items old pushed grown terms core i e k p o r q =
-    ap (λ z. map term_of z ++ map (capped_for 0) (joined (map own_trees items))) q
-    ∙ start old grown (tree_of u ∷ own_trees u) (joined (map own_trees items)) (own_trees root)
-    (grown_more old pushed grown (tree_of u ∷ []) (own_trees u) (grown_one old pushed core (tree_of u) p o) r)
-    (own_isolated root u (i ∙ ap nodes.Isolated (sym e)) ∙ ap (λ z. (tree_of u ∷ own_trees u) ++ joined (map own_trees z)) (sym k))
+pub start_isolated : (root u v : Typed) (items : List Typed) (old pushed grown roots : List (Bor Typed)) (at : Bor Typed) → (out-Typed root).node ≡ nodes.Isolated v → u ≡ v → items ≡ (out-Typed root).children
+    → pushed ≡ old ++ at ∷ [] → at.now ≡ u → Grown pushed grown (own_trees u) → roots ≡ grown
+    → trees_at roots ++ joined (map own_trees items) ≡ trees_at old ++ own_trees root
+start_isolated root u v items old pushed grown roots at i e k p o r q =
+    ap (λ z. trees_at z ++ joined (map own_trees items)) q
+    ∙ (ap (λ z. z ++ joined (map own_trees items)) (grown_more old pushed grown (tree_at at ∷ []) (own_trees u) (grown_one old pushed at p) r)
+    ∙ (append_assoc (trees_at old) (tree_at at ∷ own_trees u) (joined (map own_trees items))
+    ∙ ap (λ z. trees_at old ++ z) (ap (λ z. (tree_of z ∷ own_trees u) ++ joined (map own_trees items)) o
+    ∙ sym (own_isolated root u (i ∙ ap nodes.Isolated (sym e)) ∙ ap (λ z. (tree_of u ∷ own_trees u) ++ joined (map own_trees z)) (sym k)))))
 
 -- and where it is none
-pub start_other : (root : Typed) (items : List Typed) (old terms : List Core) → ((u : Typed) → (out-Typed root).node ≡ nodes.Isolated u → ⊥) → items ≡ (out-Typed root).children → terms ≡ old
-    → map term_of terms ++ map (capped_for 0) (joined (map own_trees items)) ≡ map term_of old ++ map (capped_for 0) (own_trees root)
-start_other root items old terms f k q =
-    ap (λ z. map term_of z ++ map (capped_for 0) (joined (map own_trees items))) q
-    ∙ ap (λ z. map term_of old ++ map (capped_for 0) z) (ap (λ z. joined (map own_trees z)) k ∙ sym (own_other root f))
+pub start_other : (root : Typed) (items : List Typed) (old roots : List (Bor Typed)) → ((u : Typed) → (out-Typed root).node ≡ nodes.Isolated u → ⊥) → items ≡ (out-Typed root).children → roots ≡ old
+    → trees_at roots ++ joined (map own_trees items) ≡ trees_at old ++ own_trees root
+start_other root items old roots f k q =
+    ap (λ z. trees_at z ++ joined (map own_trees items)) q
+    ∙ ap (λ z. trees_at old ++ z) (ap (λ z. joined (map own_trees z)) k ∙ sym (own_other root f))

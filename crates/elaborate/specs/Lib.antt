@@ -1,3 +1,4 @@
 pub mod Expressions
 pub mod Formed
+pub mod Roots
 pub mod Terms

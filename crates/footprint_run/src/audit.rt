@@ -1,17 +1,21 @@
 // The audit of a run.
-ghost use Rattle.std.specs.Prelude.{◌≡◌, ◌≤◌, length, IfOk, Some};
+ghost use Rattle.std.specs.Prelude.{◌≡◌, ◌≤◌, length, IfOk, List, Some};
 ghost use Rattle.canonical_run.specs.Calls.{AnswersEnd, StartedBy};
 ghost use Rattle.canonical_run.specs.Ends as ends;
+ghost use Rattle.c_typed.specs.Tree.{Tree};
+ghost use Rattle.elaborate.specs.Expressions.{program_trees};
+ghost use Rattle.footprint_run.specs.Apart.{AreApart, SeenApart, StandsApart};
 ghost use Rattle.footprint_run.specs.Findings.{picks_of, IsOutOfSteps, ItemsConflict, IsConflict, Tells};
 ghost use Rattle.footprint_run.specs.Picks.{picks_in};
+ghost use Rattle.footprint_run.specs.Record.{HasSeen};
 
-use crate::calls::Calls;
 use crate::finding::{Audit, Finding, Race};
 use crate::seen::Seen;
 use crate::watcher::Watcher;
 use addr_map::Mode;
 use canonical_run::{Ran, RunState, run};
 use core_ir::CoreProgram;
+use elaborate::roots_of;
 use std::alloc::Global;
 use ub_base::{Clause, NoMemory};
 
@@ -32,6 +36,9 @@ pub fn audit_run(
     ensures frames { IfOk result (λ a. length a.frames ≤ picks_of a.finding) }
     ensures items { IfOk result (λ a. ItemsConflict a.finding) }
 
+    // The two events of a race or of a dependence on the order stand in one full expression of the program.
+    ensures apart { IfOk result (λ a. StandsApart (program_trees p.now.program.now) a.finding) }
+
     // What ended the run is what is found.
     ensures tells { IfOk result (λ a. Tells a.ran a.finding) }
 
@@ -40,7 +47,8 @@ pub fn audit_run(
     ensures told { IfOk result (λ a. picks_in a.calls ≡ ends.told_of a.ran) }
     ensures started { IfOk result (λ a. StartedBy (Some a.calls) a.frames) }
 {
-    let mut watcher = Watcher::new(alloc)?;
+    let roots = roots_of(alloc, p.program)?;
+    let mut watcher = Watcher::new(alloc, roots.as_slice())?;
     let state = run(alloc, p, input, args, mode, budget, &mut watcher)?;
     let RunState {
         ran,
@@ -48,9 +56,9 @@ pub fn audit_run(
         map,
         frames,
     } = state;
-    let calls = watcher.into_calls();
+    let (calls, seen) = watcher.into_parts();
     Ok(Audit {
-        finding: finding_of(ran, &calls),
+        finding: finding_of(ran, seen),
         ran,
         calls,
         output,
@@ -60,11 +68,12 @@ pub fn audit_run(
 }
 
 // What is found where a run ended so. A watch that stopped a run has seen a conflict.
-fn finding_of(ran: Ran, calls: &Calls) -> Finding
-    requires { AnswersEnd ran (Some calls.now) }
+fn finding_of(ran: Ran, seen: Option<Seen>) -> Finding
+    requires { HasSeen ran seen }
     ensures picks { picks_of result ≡ ends.picks_of ran }
     ensures out_of_steps { IsOutOfSteps result → ends.IsOutOfSteps ran }
     ensures items { ItemsConflict result }
+    ensures apart { (trees : List Tree) → SeenApart trees seen → StandsApart trees result }
     ensures tells { Tells ran result }
 {
     match ran {
@@ -81,7 +90,7 @@ fn finding_of(ran: Ran, calls: &Calls) -> Finding
             race: None,
             picks,
         },
-        Ran::Stopped { picks } => finding_at(calls.seen().unwrap(), picks),
+        Ran::Stopped { picks } => finding_at(seen.unwrap(), picks),
         Ran::OutOfSteps { picks } => Finding::OutOfSteps { picks },
         Ran::Outside {
             cause,
@@ -99,6 +108,7 @@ fn finding_at(seen: Seen, picks: u64) -> Finding
     ensures picks { picks_of result ≡ picks }
     ensures out_of_steps { ¬ IsOutOfSteps result }
     ensures items { ItemsConflict result }
+    ensures apart { (trees : List Tree) → AreApart trees seen.found.race seen.found.event seen.found.against → StandsApart trees result }
     ensures conflict { IsConflict result }
 {
     let found = seen.found;

@@ -1,30 +1,29 @@
 // The calls of a watch.
-ghost use Rattle.std.specs.Prelude.{◌≡◌, ◌∷◌, [], Some, IsSome};
-ghost use Rattle.canonical_run.specs.Calls.{picked, node_done, operands_done, HasStopped};
-ghost use Rattle.footprint_run.specs.Record.{go_of};
+ghost use Rattle.std.specs.Prelude.{◌≡◌, ◌∷◌, []};
+ghost use Rattle.canonical_run.specs.Calls.{picked, node_done, operands_done};
 
-use crate::seen::Seen;
+use canonical_run::Go;
 use prov_memory::Touched;
 use std::marker::Model;
 use std::snapshot::Snapshot;
 use ub_base::{Event, Frame};
 
 /// The calls of the watch of a run with what it answered. Contracts see the list of them, the last one first; the program
-/// keeps only what the last one has seen.
+/// keeps only the last one.
 #[cycle(calls)]
 #[derive(Drop)]
 pub struct Calls {
     last: Last,
 }
 
-// The last call, what was seen at it, and the calls before it.
+// The last call, its answer, and the calls before it.
 #[cycle(calls)]
 #[derive(Drop)]
 enum Last {
     Nothing,
-    Picked(Option<Event>, Snapshot<Touched>, Option<Seen>, Snapshot<Calls>),
-    NodeDone(Frame, u64, u32, Option<Seen>, Snapshot<Calls>),
-    OperandsDone(Frame, u64, u32, Option<Seen>, Snapshot<Calls>),
+    Picked(Option<Event>, Snapshot<Touched>, Go, Snapshot<Calls>),
+    NodeDone(Frame, u64, u32, Go, Snapshot<Calls>),
+    OperandsDone(Frame, u64, u32, Go, Snapshot<Calls>),
 }
 
 impl Model for Calls {
@@ -54,45 +53,27 @@ impl Calls {
         }
     }
 
-    pub(crate) fn picked(&self, event: Option<Event>, items: &Touched, seen: Option<Seen>) -> Calls
-        ensures { result ≡ (picked event items.now, go_of seen) ∷ self.now }
+    pub(crate) fn picked(&self, event: Option<Event>, items: &Touched, go: Go) -> Calls
+        ensures { result ≡ (picked event items.now, go) ∷ self.now }
     {
         Calls {
-            last: Last::Picked(event, Snapshot::of(items), seen, Snapshot::of(self)),
+            last: Last::Picked(event, Snapshot::of(items), go, Snapshot::of(self)),
         }
     }
 
-    pub(crate) fn node_done(&self, frame: Frame, turn: u64, node: u32, seen: Option<Seen>) -> Calls
-        ensures { result ≡ (node_done frame turn node, go_of seen) ∷ self.now }
+    pub(crate) fn node_done(&self, frame: Frame, turn: u64, node: u32, go: Go) -> Calls
+        ensures { result ≡ (node_done frame turn node, go) ∷ self.now }
     {
         Calls {
-            last: Last::NodeDone(frame, turn, node, seen, Snapshot::of(self)),
+            last: Last::NodeDone(frame, turn, node, go, Snapshot::of(self)),
         }
     }
 
-    pub(crate) fn operands_done(
-        &self,
-        frame: Frame,
-        turn: u64,
-        node: u32,
-        seen: Option<Seen>,
-    ) -> Calls
-        ensures { result ≡ (operands_done frame turn node, go_of seen) ∷ self.now }
+    pub(crate) fn operands_done(&self, frame: Frame, turn: u64, node: u32, go: Go) -> Calls
+        ensures { result ≡ (operands_done frame turn node, go) ∷ self.now }
     {
         Calls {
-            last: Last::OperandsDone(frame, turn, node, seen, Snapshot::of(self)),
-        }
-    }
-
-    /// What was seen at the last call.
-    pub(crate) fn seen(&self) -> Option<Seen>
-        ensures { HasStopped (Some self.now) → IsSome result }
-    {
-        match &self.last {
-            Last::Nothing => None,
-            Last::Picked(_, _, seen, _) => *seen,
-            Last::NodeDone(_, _, _, seen, _) => *seen,
-            Last::OperandsDone(_, _, _, seen, _) => *seen,
+            last: Last::OperandsDone(frame, turn, node, go, Snapshot::of(self)),
         }
     }
 }

@@ -1,15 +1,16 @@
 // The open evaluations of a run, and its first conflict.
-ghost use Rattle.std.specs.Prelude.{◌≡◌, IsTrue};
+ghost use Rattle.std.specs.Prelude.{◌≡◌, IfOk, IsTrue};
 ghost use Rattle.c_typed.specs.Tree.{tree_of};
+ghost use Rattle.elaborate.specs.Roots.{trees_at};
 ghost use Rattle.seq_order.specs.Marked.{taken_in};
 ghost use Rattle.evaluations.specs.FoundItems.{ItemsConflict};
-ghost use Rattle.footprint_run.specs.Apart.{IsApart, place_of};
+ghost use Rattle.footprint_run.specs.Apart.{AreApart, IsApart, SeenApart, place_of};
 
 use crate::seen::Seen;
 use c_typed::{Place, Typed};
 use canonical_run::View;
 use evaluations::{Evaluations, Found, Rule, Rules, first_of, last_operand_of, line_of};
-use seq_order::{Relation, Taken, relation};
+use seq_order::{Relation, Taken, due, relation};
 use std::alloc::Global;
 use ub_base::{Event, Frame, Item, Kind, NoMemory};
 
@@ -39,32 +40,49 @@ impl Detector {
     /// A pick and what it touched.
     pub fn pick(
         &mut self,
+        roots: &[&Typed],
         v: &View,
         event: Option<Event>,
         items: &[Item],
-    ) -> Result<Option<Seen>, NoMemory> {
+    ) -> Result<Option<Seen>, NoMemory>
+        ensures { IfOk result (SeenApart (trees_at roots.now)) }
+    {
         let Some(event) = event else {
             self.step(v, items)?;
             return Ok(None);
         };
         self.event(v, event, items)?;
         if event.kind == Kind::Body && items.contains(&Item::Ending) {
-            return self.end(v);
+            return self.end(roots, v);
         }
         Ok(None)
     }
 
     /// The operands of this node of the top full expression are done.
-    pub fn operands_done(&mut self, v: &View, node: u32) -> Result<Option<Seen>, NoMemory> {
+    pub fn operands_done(
+        &mut self,
+        roots: &[&Typed],
+        v: &View,
+        node: u32,
+    ) -> Result<Option<Seen>, NoMemory>
+        ensures { IfOk result (SeenApart (trees_at roots.now)) }
+    {
         let (rule, chosen) = self.rule(v, node);
         let found = self
             .open
             .operands_done(v.frames, v.map, node, rule, chosen)?;
-        Ok(seen_of(v, found))
+        Ok(seen_of(roots, v, found))
     }
 
     /// This node of the top full expression is done.
-    pub fn node_done(&mut self, v: &View, node: u32) -> Result<Option<Seen>, NoMemory> {
+    pub fn node_done(
+        &mut self,
+        roots: &[&Typed],
+        v: &View,
+        node: u32,
+    ) -> Result<Option<Seen>, NoMemory>
+        ensures { IfOk result (SeenApart (trees_at roots.now)) }
+    {
         let found = self.open.node_done(v.frames, v.map, node)?;
         if found.is_none() {
             return Ok(None);
@@ -81,7 +99,7 @@ impl Detector {
             }
             None => None,
         };
-        Ok(seen_of(v, first_of(v.frames, found, more)))
+        Ok(seen_of(roots, v, first_of(v.frames, found, more)))
     }
 
     // A control step: a full expression begins, or is settled, or something else.
@@ -145,7 +163,9 @@ impl Detector {
     }
 
     // An end of the run: the first conflict of all that have both sides by now.
-    fn end(&mut self, v: &View) -> Result<Option<Seen>, NoMemory> {
+    fn end(&mut self, roots: &[&Typed], v: &View) -> Result<Option<Seen>, NoMemory>
+        ensures { IfOk result (SeenApart (trees_at roots.now)) }
+    {
         let mut best = None;
         for (i, begun) in v.begun.iter().enumerate().rev() {
             if let Some(rules) = self.trees.get(begun.tree as usize) {
@@ -156,16 +176,17 @@ impl Detector {
                 self.open.leave()?;
             }
         }
-        Ok(seen_of(v, best))
+        Ok(seen_of(roots, v, best))
     }
 }
 
 // A conflict counts where its two evaluations stand to one another as its kind asks.
-fn seen_of(v: &View, found: Option<Found>) -> Option<Seen>
+fn seen_of(roots: &[&Typed], v: &View, found: Option<Found>) -> Option<Seen>
     requires { ItemsConflict found }
+    ensures { SeenApart (trees_at roots.now) result }
 {
     let found = found?;
-    if !are_apart(v, &found) {
+    if !are_apart(roots, v, &found) {
         return None;
     }
     Some(Seen {
@@ -176,21 +197,37 @@ fn seen_of(v: &View, found: Option<Found>) -> Option<Seen>
 }
 
 // Whether the two evaluations of a conflict stand to one another as its kind asks.
-fn are_apart(v: &View, found: &Found) -> bool {
+fn are_apart(roots: &[&Typed], v: &View, found: &Found) -> bool
+    ensures { IsTrue result → AreApart (trees_at roots.now) found.now.race found.now.event found.now.against }
+{
     for begun in v.begun {
         if begun.frame == found.event.frame && begun.turn == found.event.turn {
-            return are_apart_in(begun.root, &begun.taken, found);
+            return are_apart_at(roots, begun.tree as usize, &begun.taken, found);
         }
     }
     false
 }
 
-// Those of a race are unsequenced (6.5p2), and of those of another conflict neither is sequenced before the other.
+// The same in the full expression of this number.
+fn are_apart_at(roots: &[&Typed], number: usize, taken: &Taken, found: &Found) -> bool
+    ensures { IsTrue result → AreApart (trees_at roots.now) found.now.race found.now.event found.now.against }
+{
+    match roots.get(number) {
+        Some(root) => are_apart_in(root, taken, found),
+        None => false,
+    }
+}
+
+// Both are evaluated; those of a race are unsequenced (6.5p2), and of those of another conflict neither is sequenced
+// before the other.
 fn are_apart_in(root: &Typed, taken: &Taken, found: &Found) -> bool
-    ensures { IsTrue result → IsApart (taken_in taken.now) (tree_of root.now) found.now }
+    ensures { IsTrue result → IsApart (taken_in taken.now) (tree_of root.now) found.now.race (place_of found.now.event) (place_of found.now.against) }
 {
     let event = place_of(&found.event);
     let against = place_of(&found.against);
+    if !due(root, event, taken) || !due(root, against, taken) {
+        return false;
+    }
     match relation(root, event, against, taken) {
         Relation::Sequenced => false,
         Relation::Unsequenced => true,

@@ -1,56 +1,77 @@
 // The watch of an audit.
-ghost use Rattle.std.specs.Prelude.{◌≡◌, [], IfOk, Some};
+ghost use Rattle.std.specs.Prelude.{◌≡◌, [], IfOk, Some, IsSome};
+ghost use Rattle.canonical_run.specs.Calls.{HasStopped};
+ghost use Rattle.elaborate.specs.Roots.{trees_at};
+ghost use Rattle.footprint_run.specs.Apart.{SeenApart};
 ghost use Rattle.footprint_run.specs.Picks.{picks_in};
 ghost use Rattle.footprint_run.specs.Record.{go_of};
 
 use crate::calls::Calls;
 use crate::detector::Detector;
 use crate::seen::Seen;
+use c_typed::Typed;
 use canonical_run::{Go, View, Watch};
 use prov_memory::Touched;
 use std::alloc::Global;
 use ub_base::{Event, Frame, NoMemory};
 
-/// Stops a run at its first conflict, and records its calls.
+/// Stops a run at its first conflict, and records its calls and what it has seen at the last one.
 #[derive(Drop)]
-pub struct Watcher {
+pub struct Watcher<'p> {
+    // the program's full expressions
+    roots: &'p [&'p Typed],
     detector: Detector,
     calls: Calls,
+    seen: Option<Seen>,
+    ghost stopped: { HasStopped (Some calls) → IsSome seen },
+    ghost apart: { SeenApart (trees_at roots.now) seen },
 }
 
-impl Watcher {
-    pub fn new(alloc: Global) -> Result<Self, NoMemory>
-        ensures { IfOk result (λ w. w.calls ≡ []) }
+impl<'p> Watcher<'p> {
+    pub fn new(alloc: Global, roots: &'p [&'p Typed]) -> Result<Self, NoMemory>
+        ensures calls { IfOk result (λ w. w.calls ≡ []) }
+        ensures roots { IfOk result (λ w. w.roots.now ≡ roots.now) }
     {
         Ok(Watcher {
+            roots,
             detector: Detector::new(alloc)?,
             calls: Calls::none(),
+            seen: None,
         })
     }
 
-    pub fn into_calls(self) -> Calls
-        ensures { result ≡ self.calls }
+    /// The calls, and what was seen at the last one.
+    pub fn into_parts(self) -> (Calls, Option<Seen>)
+        ensures calls { result.0 ≡ self.entry.calls }
+        ensures stopped { HasStopped (Some self.entry.calls) → IsSome result.1 }
+        ensures apart { SeenApart (trees_at self.entry.roots.now) result.1 }
     {
-        let Watcher { calls, .. } = self;
-        calls
+        let Watcher { calls, seen, .. } = self;
+        (calls, seen)
     }
 }
 
-impl Watch for Watcher {
+impl<'p> Watch for Watcher<'p> {
     ghost told = { λ w. Some (picks_in w.calls) };
 
     ghost heard = { λ w. Some w.calls };
 
+    ghost trees = { λ w. trees_at w.roots.now };
+
     fn pick(&mut self, v: &View, event: Option<Event>, items: &Touched) -> Result<Go, NoMemory> {
-        let seen = self.detector.pick(v, event, items.items())?;
-        self.calls = self.calls.picked(event, items, seen);
-        Ok(go_of(seen))
+        let seen = self.detector.pick(self.roots, v, event, items.items())?;
+        let go = go_of(seen);
+        self.calls = self.calls.picked(event, items, go);
+        self.seen = seen;
+        Ok(go)
     }
 
     fn node_done(&mut self, v: &View, frame: Frame, turn: u64, node: u32) -> Result<Go, NoMemory> {
-        let seen = self.detector.node_done(v, node)?;
-        self.calls = self.calls.node_done(frame, turn, node, seen);
-        Ok(go_of(seen))
+        let seen = self.detector.node_done(self.roots, v, node)?;
+        let go = go_of(seen);
+        self.calls = self.calls.node_done(frame, turn, node, go);
+        self.seen = seen;
+        Ok(go)
     }
 
     fn operands_done(
@@ -60,9 +81,11 @@ impl Watch for Watcher {
         turn: u64,
         node: u32,
     ) -> Result<Go, NoMemory> {
-        let seen = self.detector.operands_done(v, node)?;
-        self.calls = self.calls.operands_done(frame, turn, node, seen);
-        Ok(go_of(seen))
+        let seen = self.detector.operands_done(self.roots, v, node)?;
+        let go = go_of(seen);
+        self.calls = self.calls.operands_done(frame, turn, node, go);
+        self.seen = seen;
+        Ok(go)
     }
 }
 

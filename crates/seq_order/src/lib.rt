@@ -17,7 +17,7 @@ mod tests;
 pub use done::{Done, Marks};
 pub use laws::law_canonical_end;
 pub use next::canonical_next;
-pub use ready::permitted;
+pub use ready::{due, permitted};
 pub use relations::Relation;
 pub use sequence::{before, relation};
 pub use taken::Taken;

@@ -20,6 +20,13 @@ pub fn permitted(root: &Typed, p: Place, taken: &Taken, done: &Done) -> bool
     is_due(root, 0, p, taken) && is_free(root, p, taken, done)
 }
 
+/// Whether the event is one of those that are evaluated where these operands are chosen.
+pub fn due(root: &Typed, p: Place, taken: &Taken) -> bool
+    ensures { nodes_of (tree_of root.now) < 2 ^ 32 → result ≡ due_in (taken_in taken.now) 0 (tree_of root.now) p }
+{
+    is_due(root, 0, p, taken)
+}
+
 /// The event isn't done, and every due event that comes before it is.
 pub fn is_free(root: &Typed, p: Place, taken: &Taken, done: &Done) -> bool
     ensures { nodes_of (tree_of root.now) < 2 ^ 32 → result ≡ is_free (tree_of root.now) (taken_in taken.now) (done_in done.now) p }

@@ -7,6 +7,7 @@ abbrev pub invariant-loop-picks : goal.invariant-loop-picks
 invariant-loop-picks g l = record {
   rows : length l.frames ≤ l.picks;
   told : g.W.Watch.told l.watch ≡ more l.picks (g.W.Watch.told l.initial.watch);
+  trees : g.W.Watch.trees l.watch ≡ g.W.Watch.trees l.initial.watch;
   ready : GoesOn (g.W.Watch.heard l.watch);
   started : StartedBy (g.W.Watch.heard l.watch) l.frames;
 }
