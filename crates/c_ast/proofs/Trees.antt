@@ -9,6 +9,7 @@ use Rattle.c_lex.specs.declared.token.Word.TheVariants as w
 use Rattle.c_ast.specs.declared.declaration.Base.{Base}
 use Rattle.c_ast.specs.declared.declaration.Base.TheBlock.{hidden-the_row-Declarator-2, hidden-the_row-Declarator-5, hidden-the_row-Enumerator-1, hidden-the_row-Expr-3, hidden-the_row-Expr-6, hidden-the_row-MemberEntry-0, hidden-the_row-Param-4, hidden-the_row-TypeName-7}
 use Rattle.c_ast.specs.declared.declaration.Base.TheVariants as base
+use Rattle.c_ast.specs.declared.declaration.Declaration.{Declaration}
 use Rattle.c_ast.specs.declared.declaration.Declarator.{Declarator}
 use Rattle.c_ast.specs.declared.declaration.Declarator.TheVariants as declarator
 use Rattle.c_ast.specs.declared.declaration.Enumerator.{Enumerator}
@@ -34,84 +35,104 @@ use Rattle.c_ast.specs.declared.statement.Entry.TheVariants as entry
 use Rattle.c_ast.specs.declared.statement.ForInit.{ForInit}
 use Rattle.c_ast.specs.declared.statement.Stmt.{Stmt}
 use Rattle.c_ast.specs.declared.statement.Stmt.TheVariants as stmt
-use Rattle.c_ast.specs.Names.{IsToken, IsName, IsWord, MaybeName, NodeNames, ExprNames, TypeNameNames, DeclaratorNames, SpecsName, BaseNames, MemberNames, EnumeratorNames, ParamNames, MaybeExprNames, DesignatorNames, InitNames, InitEntryNames, ForNames, StmtNames, EntryNames, MaybeStmtNames}
+use Rattle.c_ast.specs.Names.{IsToken, IsName, IsWord, MaybeName, AreStrings, DeclarationNames, NodeNames, ExprNames, TypeNameNames, DeclaratorNames, SpecsName, BaseNames, MemberNames, EnumeratorNames, ParamNames, MaybeExprNames, DesignatorNames, InitNames, InitEntryNames, ForNames, StmtNames, EntryNames, MaybeStmtNames}
 
 -- ---- expressions
 
+pub name_names : (t : TokenText) (n : ℕ) → IsName t n → NodeNames t (node.Name n)
+unfolding NodeNames
+name_names t n h = h
+
+pub number_names : (t : TokenText) (n : ℕ) → IsToken t token.Number n → NodeNames t (node.Number n)
+unfolding NodeNames
+number_names t n h = h
+
+pub character_names : (t : TokenText) (n : ℕ) → IsToken t token.CharLit n → NodeNames t (node.CharLit n)
+unfolding NodeNames
+character_names t n h = h
+
+pub strings_names : (t : TokenText) (n count : ℕ) → AreStrings t n count → NodeNames t (node.Strings n count)
+unfolding NodeNames
+strings_names t n count h = h
+
 pub unary_names : (t : TokenText) (o : UnaryOp) (a : Expr) → ExprNames t a → NodeNames t (node.Unary o a)
-unfolding hidden-the_row-Expr-3 hidden
+unfolding NodeNames hidden-the_row-Expr-3 hidden
 unary_names t o a h = (h, tt)
 
 pub postfix_names : (t : TokenText) (o : PostOp) (a : Expr) → ExprNames t a → NodeNames t (node.Postfix o a)
-unfolding hidden-the_row-Expr-3 hidden
+unfolding NodeNames hidden-the_row-Expr-3 hidden
 postfix_names t o a h = (h, tt)
 
 pub binary_names : (t : TokenText) (o : BinaryOp) (a b : Expr) → ExprNames t a → ExprNames t b → NodeNames t (node.Binary o a b)
-unfolding hidden-the_row-Expr-3 hidden
+unfolding NodeNames hidden-the_row-Expr-3 hidden
 binary_names t o a b h k = ((h, tt), (k, tt))
 
 pub assign_names : (t : TokenText) (o : AssignOp) (a b : Expr) → ExprNames t a → ExprNames t b → NodeNames t (node.Assign o a b)
-unfolding hidden-the_row-Expr-3 hidden
+unfolding NodeNames hidden-the_row-Expr-3 hidden
 assign_names t o a b h k = ((h, tt), (k, tt))
 
 pub cond_names : (t : TokenText) (a b c : Expr) → ExprNames t a → ExprNames t b → ExprNames t c → NodeNames t (node.Cond a b c)
-unfolding hidden-the_row-Expr-3 hidden
+unfolding NodeNames hidden-the_row-Expr-3 hidden
 cond_names t a b c h k l = ((h, tt), (k, tt), (l, tt))
 
 pub comma_names : (t : TokenText) (all : List Expr) → All (ExprNames t) all → NodeNames t (node.Comma all)
-unfolding hidden-the_row-Expr-6 hidden
+unfolding NodeNames hidden-the_row-Expr-6 hidden
 comma_names t [] h = tt
 comma_names t (e ∷ rest) h = (All-head (ExprNames t) e rest h, comma_names t rest (All-tail (ExprNames t) e rest h))
 
 pub call_names : (t : TokenText) (a : Expr) (all : List Expr) → ExprNames t a → All (ExprNames t) all → NodeNames t (node.Call a all)
-unfolding hidden-the_row-Expr-3 hidden
+unfolding NodeNames hidden-the_row-Expr-3 hidden
 call_names t a all h k = ((h, tt), comma_names t all k)
 
 pub index_names : (t : TokenText) (a b : Expr) → ExprNames t a → ExprNames t b → NodeNames t (node.Index a b)
-unfolding hidden-the_row-Expr-3 hidden
+unfolding NodeNames hidden-the_row-Expr-3 hidden
 index_names t a b h k = ((h, tt), (k, tt))
 
 pub dot_names : (t : TokenText) (a : Expr) (n : ℕ) → ExprNames t a → IsName t n → NodeNames t (node.Dot a n)
-unfolding hidden-the_row-Expr-3 hidden
+unfolding NodeNames hidden-the_row-Expr-3 hidden
 dot_names t a n h k = ((h, tt), k)
 
 pub arrow_names : (t : TokenText) (a : Expr) (n : ℕ) → ExprNames t a → IsName t n → NodeNames t (node.Arrow a n)
-unfolding hidden-the_row-Expr-3 hidden
+unfolding NodeNames hidden-the_row-Expr-3 hidden
 arrow_names t a n h k = ((h, tt), k)
 
 pub cast_names : (t : TokenText) (to : TypeName) (a : Expr) → TypeNameNames t to → ExprNames t a → NodeNames t (node.Cast to a)
-unfolding hidden-the_row-Expr-3 hidden-the_row-TypeName-7 hidden
+unfolding NodeNames hidden-the_row-Expr-3 hidden-the_row-TypeName-7 hidden
 cast_names t to a h k = ((h.0, h.1, tt), (k, tt))
 
 pub sizeof_expr_names : (t : TokenText) (a : Expr) → ExprNames t a → NodeNames t (node.SizeofExpr a)
-unfolding hidden-the_row-Expr-3 hidden
+unfolding NodeNames hidden-the_row-Expr-3 hidden
 sizeof_expr_names t a h = (h, tt)
 
 pub sizeof_type_names : (t : TokenText) (of : TypeName) → TypeNameNames t of → NodeNames t (node.SizeofType of)
-unfolding hidden-the_row-TypeName-7 hidden
+unfolding NodeNames hidden-the_row-TypeName-7 hidden
 sizeof_type_names t of h = (h.0, h.1, tt)
 
 pub alignof_type_names : (t : TokenText) (of : TypeName) → TypeNameNames t of → NodeNames t (node.AlignofType of)
-unfolding hidden-the_row-TypeName-7 hidden
+unfolding NodeNames hidden-the_row-TypeName-7 hidden
 alignof_type_names t of h = (h.0, h.1, tt)
 
 -- ---- declarators
 
+pub ident_names : (t : TokenText) (name : Option ℕ) → MaybeName t name → DeclaratorNames t (declarator.Ident name)
+unfolding DeclaratorNames
+ident_names t name h = h
+
 pub pointer_names : (t : TokenText) (words : List Word) (d : Declarator) → DeclaratorNames t d → DeclaratorNames t (declarator.Pointer words d)
-unfolding hidden-the_row-Declarator-2 hidden
+unfolding DeclaratorNames hidden-the_row-Declarator-2 hidden
 pointer_names t words d h = (h, tt)
 
 pub array_names : (t : TokenText) (d : Declarator) → DeclaratorNames t d → DeclaratorNames t (declarator.Array d None)
-unfolding hidden-the_row-Declarator-2 hidden
+unfolding DeclaratorNames hidden-the_row-Declarator-2 hidden
 array_names t d h = ((h, tt), tt)
 
 pub array_of_names : (t : TokenText) (d : Declarator) (a : Expr) → DeclaratorNames t d → ExprNames t a → DeclaratorNames t (declarator.Array d (Some a))
-unfolding hidden-the_row-Declarator-2 hidden-the_row-Expr-3 hidden
+unfolding DeclaratorNames hidden-the_row-Declarator-2 hidden-the_row-Expr-3 hidden
 array_of_names t d a h k = ((h, tt), (k, tt))
 
 pub function_names : (t : TokenText) (d : Declarator) (params : List Param) (ellipsis : Bool) → DeclaratorNames t d → All (ParamNames t) params
     → DeclaratorNames t (declarator.Function d params ellipsis)
-unfolding hidden-the_row-Declarator-2 hidden-the_row-Param-4 hidden
+unfolding DeclaratorNames hidden-the_row-Declarator-2 hidden-the_row-Param-4 hidden
 function_names t d [] ellipsis h k = ((h, tt), tt)
 function_names t d (p ∷ rest) ellipsis h k =
     let first = All-head (ParamNames t) p rest k in
@@ -119,35 +140,56 @@ function_names t d (p ∷ rest) ellipsis h k =
 
 -- ---- specifiers
 
+pub plain_names : (t : TokenText) → BaseNames t base.Plain
+unfolding BaseNames
+plain_names t = tt
+
+pub typedef_names : (t : TokenText) (n : ℕ) → IsName t n → BaseNames t (base.Typedef n)
+unfolding BaseNames
+typedef_names t n h = h
+
+pub tag_names : (t : TokenText) (union : Bool) (tag : Option ℕ) → MaybeName t tag → BaseNames t (base.Tagged union tag None)
+unfolding BaseNames
+tag_names t union tag h = (h, tt)
+
+pub enumeration_names : (t : TokenText) (tag : Option ℕ) → MaybeName t tag → BaseNames t (base.Enumerated tag None)
+unfolding BaseNames
+enumeration_names t tag h = (h, tt)
+
 pub members_names : (t : TokenText) (union : Bool) (tag : Option ℕ) (all : List MemberEntry) → MaybeName t tag → All (MemberNames t) all
     → BaseNames t (base.Tagged union tag (Some all))
-unfolding hidden-the_row-MemberEntry-0 hidden
+unfolding BaseNames hidden-the_row-MemberEntry-0 hidden
 members_names t union tag [] h k = (h, tt)
 members_names t union tag (m ∷ rest) h k =
     (h, (All-head (MemberNames t) m rest k, (members_names t union tag rest h (All-tail (MemberNames t) m rest k)).1))
 
 pub enumerators_names : (t : TokenText) (tag : Option ℕ) (all : List Enumerator) → MaybeName t tag → All (EnumeratorNames t) all
     → BaseNames t (base.Enumerated tag (Some all))
-unfolding hidden-the_row-Enumerator-1 hidden
+unfolding BaseNames hidden-the_row-Enumerator-1 hidden
 enumerators_names t tag [] h k = (h, tt)
 enumerators_names t tag (m ∷ rest) h k =
     (h, (All-head (EnumeratorNames t) m rest k, (enumerators_names t tag rest h (All-tail (EnumeratorNames t) m rest k)).1))
 
 pub fields_names : (t : TokenText) (specs : Specs) (all : List Declarator) → SpecsName t specs → All (DeclaratorNames t) all
     → MemberNames t (member.Fields specs all)
-unfolding hidden-the_row-Declarator-5 hidden
+unfolding BaseNames hidden-the_row-Declarator-5 hidden
 fields_names t specs [] h k = (h, tt)
 fields_names t specs (d ∷ rest) h k =
     (h, (All-head (DeclaratorNames t) d rest k, (fields_names t specs rest h (All-tail (DeclaratorNames t) d rest k)).1))
 
 pub member_assertion_names : (t : TokenText) (e : Expr) (message : ℕ) → ExprNames t e → IsToken t token.StringLit message
     → MemberNames t (member.Assertion e message)
+unfolding BaseNames
 member_assertion_names t e message h k = (h, k)
 
 -- ---- initializers
 
+pub single_names : (t : TokenText) (e : Expr) → ExprNames t e → InitNames t (init.Single e)
+unfolding InitNames
+single_names t e h = h
+
 pub braced_names : (t : TokenText) (at : ℕ) (all : List InitEntry) → All (InitEntryNames t) all → InitNames t (init.Braced at all)
-unfolding hidden-the_row-InitEntry-0 hidden
+unfolding InitNames hidden-the_row-InitEntry-0 hidden
 braced_names t at [] h = tt
 braced_names t at (e ∷ rest) h =
     let first = All-head (InitEntryNames t) e rest h in
@@ -155,45 +197,78 @@ braced_names t at (e ∷ rest) h =
 
 -- ---- statements
 
+pub simple_names : (t : TokenText) (e : Option Expr) → MaybeExprNames t e → StmtNames t (stmt.Simple e)
+unfolding StmtNames
+simple_names t e h = h
+
+pub goto_names : (t : TokenText) (n : ℕ) → IsName t n → StmtNames t (stmt.Goto n)
+unfolding StmtNames
+goto_names t n h = h
+
+pub continue_names : (t : TokenText) (n : ℕ) → IsWord t w.Continue n → StmtNames t (stmt.Continue n)
+unfolding StmtNames
+continue_names t n h = h
+
+pub break_names : (t : TokenText) (n : ℕ) → IsWord t w.Break n → StmtNames t (stmt.Break n)
+unfolding StmtNames
+break_names t n h = h
+
+pub return_names : (t : TokenText) (n : ℕ) (e : Option Expr) → IsWord t w.Return n → MaybeExprNames t e → StmtNames t (stmt.Return n e)
+unfolding StmtNames
+return_names t n e h k = (h, k)
+
+pub statement_entry_names : (t : TokenText) (a : Stmt) → StmtNames t a → EntryNames t (entry.Statement a)
+unfolding StmtNames
+statement_entry_names t a h = h
+
+pub declaration_entry_names : (t : TokenText) (d : Declaration) → DeclarationNames t d → EntryNames t (entry.Declaration d)
+unfolding StmtNames
+declaration_entry_names t d h = h
+
+pub assertion_entry_names : (t : TokenText) (e : Expr) (message : ℕ) → ExprNames t e → IsToken t token.StringLit message
+    → EntryNames t (entry.Assertion e message)
+unfolding StmtNames
+assertion_entry_names t e message h k = (h, k)
+
 pub block_names : (t : TokenText) (all : List Entry) → All (EntryNames t) all → StmtNames t (stmt.Block all)
-unfolding hidden-the_row-Entry-0 hidden
+unfolding StmtNames hidden-the_row-Entry-0 hidden
 block_names t [] h = tt
 block_names t (e ∷ rest) h = (All-head (EntryNames t) e rest h, block_names t rest (All-tail (EntryNames t) e rest h))
 
 pub if_names : (t : TokenText) (e : Expr) (body : Stmt) (other : Option Stmt) → ExprNames t e → StmtNames t body → MaybeStmtNames t other
     → StmtNames t (stmt.If e body other)
-unfolding hidden-the_row-Stmt-1 hidden
+unfolding StmtNames hidden-the_row-Stmt-1 hidden
 if_names t e body None h k l = (h, (k, tt), tt)
 if_names t e body (Some other) h k l = (h, (k, tt), (l, tt))
 
 pub switch_names : (t : TokenText) (e : Expr) (body : Stmt) → ExprNames t e → StmtNames t body → StmtNames t (stmt.Switch e body)
-unfolding hidden-the_row-Stmt-1 hidden
+unfolding StmtNames hidden-the_row-Stmt-1 hidden
 switch_names t e body h k = (h, (k, tt))
 
 pub while_names : (t : TokenText) (e : Expr) (body : Stmt) → ExprNames t e → StmtNames t body → StmtNames t (stmt.While e body)
-unfolding hidden-the_row-Stmt-1 hidden
+unfolding StmtNames hidden-the_row-Stmt-1 hidden
 while_names t e body h k = (h, (k, tt))
 
 pub do_names : (t : TokenText) (e : Expr) (body : Stmt) → ExprNames t e → StmtNames t body → StmtNames t (stmt.Do body e)
-unfolding hidden-the_row-Stmt-1 hidden
+unfolding StmtNames hidden-the_row-Stmt-1 hidden
 do_names t e body h k = ((k, tt), h)
 
 pub for_names : (t : TokenText) (i : ForInit) (test step : Option Expr) (body : Stmt) → ForNames t i → MaybeExprNames t test → MaybeExprNames t step
     → StmtNames t body → StmtNames t (stmt.For i test step body)
-unfolding hidden-the_row-Stmt-1 hidden
+unfolding StmtNames hidden-the_row-Stmt-1 hidden
 for_names t i test step body h k l m = (h, k, l, (m, tt))
 
 pub label_names : (t : TokenText) (n : ℕ) (body : Stmt) → IsName t n → StmtNames t body → StmtNames t (stmt.Label n body)
-unfolding hidden-the_row-Stmt-1 hidden
+unfolding StmtNames hidden-the_row-Stmt-1 hidden
 label_names t n body h k = (h, (k, tt))
 
 pub case_names : (t : TokenText) (n : ℕ) (e : Expr) (body : Stmt) → IsWord t w.Case n → ExprNames t e → StmtNames t body
     → StmtNames t (stmt.Case n e body)
-unfolding hidden-the_row-Stmt-1 hidden
+unfolding StmtNames hidden-the_row-Stmt-1 hidden
 case_names t n e body h k l = (h, k, (l, tt))
 
 pub default_names : (t : TokenText) (n : ℕ) (body : Stmt) → IsWord t w.Default n → StmtNames t body → StmtNames t (stmt.Default n body)
-unfolding hidden-the_row-Stmt-1 hidden
+unfolding StmtNames hidden-the_row-Stmt-1 hidden
 default_names t n body h k = (h, (k, tt))
 
-pub ruleset tree_names = (unary_names, postfix_names, binary_names, assign_names, cond_names, comma_names, call_names, index_names, dot_names, arrow_names, cast_names, sizeof_expr_names, sizeof_type_names, alignof_type_names, pointer_names, array_names, array_of_names, function_names, members_names, enumerators_names, fields_names, member_assertion_names, braced_names, block_names, if_names, switch_names, while_names, do_names, for_names, label_names, case_names, default_names)
+pub ruleset tree_names = (name_names, number_names, character_names, strings_names, ident_names, plain_names, typedef_names, tag_names, enumeration_names, single_names, simple_names, goto_names, continue_names, break_names, return_names, statement_entry_names, declaration_entry_names, assertion_entry_names, unary_names, postfix_names, binary_names, assign_names, cond_names, comma_names, call_names, index_names, dot_names, arrow_names, cast_names, sizeof_expr_names, sizeof_type_names, alignof_type_names, pointer_names, array_names, array_of_names, function_names, members_names, enumerators_names, fields_names, member_assertion_names, braced_names, block_names, if_names, switch_names, while_names, do_names, for_names, label_names, case_names, default_names)

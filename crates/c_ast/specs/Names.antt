@@ -45,7 +45,7 @@ MaybeName t (Some n) = IsName t n
 abbrev pub AreStrings : TokenText → ℕ → ℕ → Type 0
 AreStrings t first count = (0 < count) × ((k : ℕ) → k < count → IsToken t token.StringLit (first + k))
 
-abbrev mutual
+unfoldable mutual
   pub NodeNames : TokenText → ExprNode → Type 0
   NodeNames t (Name n) = IsName t n
   NodeNames t (Number n) = IsToken t token.Number n
@@ -145,7 +145,7 @@ abbrev pub DesignatorNames : TokenText → Designator → Type 0
 DesignatorNames t (Member n) = IsName t n
 DesignatorNames t (Element e) = ExprNames t e
 
-abbrev mutual
+unfoldable mutual
   pub InitNames : TokenText → Init → Type 0
   InitNames t (Single e) = ExprNames t e
   InitNames t (Braced' at p entries) = InitsName t entries
@@ -175,7 +175,7 @@ ForNames t (for_init.Declared d) = DeclarationNames t d
 abbrev pub IsWord : TokenText → Word → ℕ → Type 0
 IsWord t word n = IsToken t (token.Keyword word) n
 
-abbrev mutual
+unfoldable mutual
   pub StmtNames : TokenText → Stmt → Type 0
   StmtNames t (s.Simple e) = MaybeExprNames t e
   StmtNames t (s.Block' p entries) = EntriesName t entries

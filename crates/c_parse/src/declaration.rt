@@ -1,18 +1,23 @@
 //! Declarations (6.7).
 
-use crate::cursor::Cursor;
-use crate::declarator::declare_named;
-use crate::error::ParseFault;
+ghost use Rattle.std.specs.Prelude.{◌≡◌, All, IfOk};
+ghost use Rattle.c_lex.specs.declared.token.TokenKind.TheVariants as token;
+ghost use Rattle.c_ast.specs.Names.{ExprNames, DeclaratorNames, SpecsName, MaybeInitNames, PartNames, DeclarationNames, IsToken};
+
 use crate::initializer::initializer;
-use crate::knot::{Grammar, Mode, Place, declarator, expr, specs};
-use crate::tokens::declares_typedef;
 use c_ast::{Declaration, Declarator, Expr, Init, Part, Specs};
+use c_cursor::tokens::declares_typedef;
+use c_cursor::{Cursor, Mode, Place, Refusal};
 use c_lex::Mark;
+use c_rules::{Grammar, declarator, declare_named, expr, specs};
 use std::alloc::Global;
 use ub_base::Items;
 
 /// A static assertion (6.7.10): its condition, and the first string literal of its message.
-pub fn assertion(alloc: Global, tokens: &mut Cursor<'_>) -> Result<(Expr, u32), ParseFault> {
+pub fn assertion(alloc: Global, tokens: &mut Cursor<'_>) -> Result<(Expr, u32), Refusal>
+    ensures same { tokens.new.tokens ≡ tokens.old.tokens }
+    ensures names { IfOk result (λ p. ExprNames tokens.old.tokens p.0 × IsToken tokens.old.tokens token.StringLit p.1) }
+{
     let depth = tokens.turns();
     Grammar {
         alloc,
@@ -24,7 +29,10 @@ pub fn assertion(alloc: Global, tokens: &mut Cursor<'_>) -> Result<(Expr, u32), 
     .assertion(tokens)
 }
 
-pub fn declaration_specs(alloc: Global, tokens: &mut Cursor<'_>) -> Result<Specs, ParseFault> {
+pub fn declaration_specs(alloc: Global, tokens: &mut Cursor<'_>) -> Result<Specs, Refusal>
+    ensures same { tokens.new.tokens ≡ tokens.old.tokens }
+    ensures names { IfOk result (SpecsName tokens.old.tokens) }
+{
     let turns = tokens.turns();
     specs(alloc, tokens, turns, Place::Declaration)
 }
@@ -34,14 +42,20 @@ pub fn named_declarator(
     alloc: Global,
     tokens: &mut Cursor<'_>,
     typedef: bool,
-) -> Result<Declarator, ParseFault> {
+) -> Result<Declarator, Refusal>
+    ensures same { tokens.new.tokens ≡ tokens.old.tokens }
+    ensures names { IfOk result (DeclaratorNames tokens.old.tokens) }
+{
     let turns = tokens.turns();
     let found = declarator(alloc, tokens, turns, Mode::Named)?;
     declare_named(tokens, &found, typedef)?;
     Ok(found)
 }
 
-fn maybe_init(alloc: Global, tokens: &mut Cursor<'_>) -> Result<Option<Init>, ParseFault> {
+fn maybe_init(alloc: Global, tokens: &mut Cursor<'_>) -> Result<Option<Init>, Refusal>
+    ensures same { tokens.new.tokens ≡ tokens.old.tokens }
+    ensures names { IfOk result (MaybeInitNames tokens.old.tokens) }
+{
     if !tokens.eat(Mark::Equal) {
         return Ok(None);
     }
@@ -49,7 +63,10 @@ fn maybe_init(alloc: Global, tokens: &mut Cursor<'_>) -> Result<Option<Init>, Pa
     Ok(Some(initializer(alloc, tokens, turns)?))
 }
 
-fn part(alloc: Global, tokens: &mut Cursor<'_>, typedef: bool) -> Result<Part, ParseFault> {
+fn part(alloc: Global, tokens: &mut Cursor<'_>, typedef: bool) -> Result<Part, Refusal>
+    ensures same { tokens.new.tokens ≡ tokens.old.tokens }
+    ensures names { IfOk result (PartNames tokens.old.tokens) }
+{
     let declarator = named_declarator(alloc, tokens, typedef)?;
     let init = maybe_init(alloc, tokens)?;
     Ok(Part { declarator, init })
@@ -59,7 +76,11 @@ fn first_part(
     alloc: Global,
     tokens: &mut Cursor<'_>,
     declarator: Declarator,
-) -> Result<Part, ParseFault> {
+) -> Result<Part, Refusal>
+    requires declarator { DeclaratorNames tokens.old.tokens declarator }
+    ensures same { tokens.new.tokens ≡ tokens.old.tokens }
+    ensures names { IfOk result (PartNames tokens.old.tokens) }
+{
     let init = maybe_init(alloc, tokens)?;
     Ok(Part { declarator, init })
 }
@@ -70,7 +91,11 @@ fn rest_parts(
     tokens: &mut Cursor<'_>,
     typedef: bool,
     first: Part,
-) -> Result<Items<Part>, ParseFault> {
+) -> Result<Items<Part>, Refusal>
+    requires first { PartNames tokens.old.tokens first }
+    ensures same { tokens.new.tokens ≡ tokens.old.tokens }
+    ensures names { IfOk result (All (PartNames tokens.old.tokens)) }
+{
     let mut found = Items::new(alloc);
     found.push(first)?;
     for _turn in 0..tokens.turns() {
@@ -89,7 +114,11 @@ pub fn more_parts(
     tokens: &mut Cursor<'_>,
     typedef: bool,
     first: Declarator,
-) -> Result<Items<Part>, ParseFault> {
+) -> Result<Items<Part>, Refusal>
+    requires first { DeclaratorNames tokens.old.tokens first }
+    ensures same { tokens.new.tokens ≡ tokens.old.tokens }
+    ensures names { IfOk result (All (PartNames tokens.old.tokens)) }
+{
     let first = first_part(alloc, tokens, first)?;
     rest_parts(alloc, tokens, typedef, first)
 }
@@ -99,7 +128,10 @@ fn maybe_parts(
     alloc: Global,
     tokens: &mut Cursor<'_>,
     typedef: bool,
-) -> Result<Items<Part>, ParseFault> {
+) -> Result<Items<Part>, Refusal>
+    ensures same { tokens.new.tokens ≡ tokens.old.tokens }
+    ensures names { IfOk result (All (PartNames tokens.old.tokens)) }
+{
     if tokens.eat(Mark::Semicolon) {
         return Ok(Items::new(alloc));
     }
@@ -108,7 +140,10 @@ fn maybe_parts(
 }
 
 /// A declaration that is no static assertion.
-pub fn declaration(alloc: Global, tokens: &mut Cursor<'_>) -> Result<Declaration, ParseFault> {
+pub fn declaration(alloc: Global, tokens: &mut Cursor<'_>) -> Result<Declaration, Refusal>
+    ensures same { tokens.new.tokens ≡ tokens.old.tokens }
+    ensures names { IfOk result (DeclarationNames tokens.old.tokens) }
+{
     let specs = declaration_specs(alloc, tokens)?;
     let parts = maybe_parts(alloc, tokens, declares_typedef(&specs))?;
     Ok(Declaration { specs, parts })

@@ -1,16 +1,21 @@
 //! Initializers (6.7.9).
 
-use crate::cursor::Cursor;
-use crate::error::ParseFault;
-use crate::knot::expr;
-use crate::operators::{ASSIGNMENT, CONDITIONAL};
-use crate::tokens::identifier;
+ghost use Rattle.std.specs.Prelude.{◌≡◌, All, IfOk};
+ghost use Rattle.c_ast.specs.Names.{DesignatorNames, InitNames, InitEntryNames};
+
 use c_ast::{Designator, Init, InitEntry};
+use c_cursor::operators::{ASSIGNMENT, CONDITIONAL};
+use c_cursor::tokens::identifier;
+use c_cursor::{Cursor, Refusal};
 use c_lex::Mark;
+use c_rules::expr;
 use std::alloc::Global;
 use ub_base::Items;
 
-fn designator(alloc: Global, tokens: &mut Cursor<'_>) -> Result<Designator, ParseFault> {
+fn designator(alloc: Global, tokens: &mut Cursor<'_>) -> Result<Designator, Refusal>
+    ensures same { tokens.new.tokens ≡ tokens.old.tokens }
+    ensures names { IfOk result (DesignatorNames tokens.old.tokens) }
+{
     if tokens.eat(Mark::Dot) {
         return Ok(Designator::Member(identifier(tokens)?));
     }
@@ -29,10 +34,10 @@ fn is_designator(mark: Option<Mark>) -> bool {
 }
 
 /// At least one designator, and the `=` behind them.
-fn designator_list(
-    alloc: Global,
-    tokens: &mut Cursor<'_>,
-) -> Result<Items<Designator>, ParseFault> {
+fn designator_list(alloc: Global, tokens: &mut Cursor<'_>) -> Result<Items<Designator>, Refusal>
+    ensures same { tokens.new.tokens ≡ tokens.old.tokens }
+    ensures names { IfOk result (All (DesignatorNames tokens.old.tokens)) }
+{
     let mut found = Items::new(alloc);
     for _turn in 0..tokens.turns() {
         found.push(designator(alloc, tokens)?)?;
@@ -45,7 +50,10 @@ fn designator_list(
 }
 
 /// The designation before an initializer, if there is one.
-fn designation(alloc: Global, tokens: &mut Cursor<'_>) -> Result<Items<Designator>, ParseFault> {
+fn designation(alloc: Global, tokens: &mut Cursor<'_>) -> Result<Items<Designator>, Refusal>
+    ensures same { tokens.new.tokens ≡ tokens.old.tokens }
+    ensures names { IfOk result (All (DesignatorNames tokens.old.tokens)) }
+{
     if is_designator(tokens.mark()) {
         designator_list(alloc, tokens)
     } else {
@@ -54,11 +62,10 @@ fn designation(alloc: Global, tokens: &mut Cursor<'_>) -> Result<Items<Designato
 }
 
 #[cycle(init)]
-fn init_entry(
-    alloc: Global,
-    tokens: &mut Cursor<'_>,
-    depth: usize,
-) -> Result<InitEntry, ParseFault> {
+fn init_entry(alloc: Global, tokens: &mut Cursor<'_>, depth: usize) -> Result<InitEntry, Refusal>
+    ensures same { tokens.new.tokens ≡ tokens.old.tokens }
+    ensures names { IfOk result (InitEntryNames tokens.old.tokens) }
+{
     let designators = designation(alloc, tokens)?;
     let init = initializer(alloc, tokens, depth)?;
     Ok(InitEntry { designators, init })
@@ -70,7 +77,10 @@ fn init_entries(
     alloc: Global,
     tokens: &mut Cursor<'_>,
     depth: usize,
-) -> Result<Items<InitEntry>, ParseFault> {
+) -> Result<Items<InitEntry>, Refusal>
+    ensures same { tokens.new.tokens ≡ tokens.old.tokens }
+    ensures names { IfOk result (All (InitEntryNames tokens.old.tokens)) }
+{
     let mut found = Items::new(alloc);
     for _turn in 0..tokens.turns() {
         found.push(init_entry(alloc, tokens, depth)?)?;
@@ -87,11 +97,11 @@ fn init_entries(
 
 /// An initializer, in which others nest no deeper than `depth`.
 #[cycle(init)]
-pub fn initializer(
-    alloc: Global,
-    tokens: &mut Cursor<'_>,
-    depth: usize,
-) -> Result<Init, ParseFault> {
+#[tactic(auto, using(c_ast::proofs::Trees::braced_names, c_ast::proofs::Trees::single_names))]
+pub fn initializer(alloc: Global, tokens: &mut Cursor<'_>, depth: usize) -> Result<Init, Refusal>
+    ensures same { tokens.new.tokens ≡ tokens.old.tokens }
+    ensures names { IfOk result (InitNames tokens.old.tokens) }
+{
     if depth == 0 {
         return Err(tokens.refuse());
     }

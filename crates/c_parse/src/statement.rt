@@ -1,24 +1,34 @@
 //! Statements (6.8).
 
+ghost use Rattle.std.specs.Prelude.{◌≡◌, All, IfOk, IsTrue, Some};
+ghost use Rattle.c_lex.specs.declared.token.TokenKind.TheVariants as token;
+ghost use Rattle.c_lex.specs.declared.token.Word.TheVariants as w;
+ghost use Rattle.c_ast.specs.Input.{kind};
+ghost use Rattle.c_ast.specs.Names.{ExprNames, MaybeExprNames, ForNames, DeclarationNames, StmtNames, MaybeStmtNames, EntryNames, IsName, IsWord, IsToken};
 ghost use Rattle.c_parse.specs.Nests.{NestsStmt};
 
-use crate::cursor::Cursor;
 use crate::declaration::{assertion, declaration};
-use crate::error::ParseFault;
-use crate::knot::expr;
-use crate::operators::{COMMA, CONDITIONAL};
-use crate::tokens::{begins_declaration, identifier};
 use c_ast::{Entry, Expr, ForInit, Stmt};
+use c_cursor::operators::{COMMA, CONDITIONAL};
+use c_cursor::tokens::{begins_declaration, identifier};
+use c_cursor::{Cursor, Refusal};
 use c_lex::{Mark, TokenKind, Word};
+use c_rules::expr;
 use std::alloc::Global;
 use ub_base::{Boxed, Items};
 
-fn whole_expr(alloc: Global, tokens: &mut Cursor<'_>) -> Result<Expr, ParseFault> {
+fn whole_expr(alloc: Global, tokens: &mut Cursor<'_>) -> Result<Expr, Refusal>
+    ensures same { tokens.new.tokens ≡ tokens.old.tokens }
+    ensures names { IfOk result (ExprNames tokens.old.tokens) }
+{
     let turns = tokens.turns();
     expr(alloc, tokens, turns, COMMA)
 }
 
-fn in_parentheses(alloc: Global, tokens: &mut Cursor<'_>) -> Result<Expr, ParseFault> {
+fn in_parentheses(alloc: Global, tokens: &mut Cursor<'_>) -> Result<Expr, Refusal>
+    ensures same { tokens.new.tokens ≡ tokens.old.tokens }
+    ensures names { IfOk result (ExprNames tokens.old.tokens) }
+{
     tokens.expect(Mark::OpenParen)?;
     let test = whole_expr(alloc, tokens)?;
     tokens.expect(Mark::CloseParen)?;
@@ -26,18 +36,20 @@ fn in_parentheses(alloc: Global, tokens: &mut Cursor<'_>) -> Result<Expr, ParseF
 }
 
 /// An expression, and then this punctuator.
-fn expr_before(alloc: Global, tokens: &mut Cursor<'_>, end: Mark) -> Result<Expr, ParseFault> {
+fn expr_before(alloc: Global, tokens: &mut Cursor<'_>, end: Mark) -> Result<Expr, Refusal>
+    ensures same { tokens.new.tokens ≡ tokens.old.tokens }
+    ensures names { IfOk result (ExprNames tokens.old.tokens) }
+{
     let value = whole_expr(alloc, tokens)?;
     tokens.expect(end)?;
     Ok(value)
 }
 
 /// An expression or none, and then this punctuator.
-fn maybe_expr(
-    alloc: Global,
-    tokens: &mut Cursor<'_>,
-    end: Mark,
-) -> Result<Option<Expr>, ParseFault> {
+fn maybe_expr(alloc: Global, tokens: &mut Cursor<'_>, end: Mark) -> Result<Option<Expr>, Refusal>
+    ensures same { tokens.new.tokens ≡ tokens.old.tokens }
+    ensures names { IfOk result (MaybeExprNames tokens.old.tokens) }
+{
     if tokens.eat(end) {
         return Ok(None);
     }
@@ -45,7 +57,10 @@ fn maybe_expr(
 }
 
 /// The first part of `for`, and its semicolon.
-fn for_init(alloc: Global, tokens: &mut Cursor<'_>) -> Result<ForInit, ParseFault> {
+fn for_init(alloc: Global, tokens: &mut Cursor<'_>) -> Result<ForInit, Refusal>
+    ensures same { tokens.new.tokens ≡ tokens.old.tokens }
+    ensures names { IfOk result (ForNames tokens.old.tokens) }
+{
     if begins_declaration(tokens) {
         return Ok(ForInit::Declared(declaration(alloc, tokens)?));
     }
@@ -56,14 +71,23 @@ fn for_init(alloc: Global, tokens: &mut Cursor<'_>) -> Result<ForInit, ParseFaul
 }
 
 /// After `goto`.
-fn goto_stmt(tokens: &mut Cursor<'_>) -> Result<Stmt, ParseFault> {
+#[tactic(auto, unfolding(c_ast::specs::Names::StmtNames))]
+fn goto_stmt(tokens: &mut Cursor<'_>) -> Result<Stmt, Refusal>
+    ensures same { tokens.new.tokens ≡ tokens.old.tokens }
+    ensures names { IfOk result (StmtNames tokens.old.tokens) }
+{
     let label = identifier(tokens)?;
     tokens.expect(Mark::Semicolon)?;
     Ok(Stmt::Goto(label))
 }
 
 /// At `continue`.
-fn continue_stmt(tokens: &mut Cursor<'_>) -> Result<Stmt, ParseFault> {
+#[tactic(auto, unfolding(c_ast::specs::Input::kind, c_ast::specs::Names::StmtNames))]
+fn continue_stmt(tokens: &mut Cursor<'_>) -> Result<Stmt, Refusal>
+    requires word { kind tokens.old ≡ Some (token.Keyword w.Continue) }
+    ensures same { tokens.new.tokens ≡ tokens.old.tokens }
+    ensures names { IfOk result (StmtNames tokens.old.tokens) }
+{
     let at = tokens.at();
     tokens.take();
     tokens.expect(Mark::Semicolon)?;
@@ -71,7 +95,12 @@ fn continue_stmt(tokens: &mut Cursor<'_>) -> Result<Stmt, ParseFault> {
 }
 
 /// At `break`.
-fn break_stmt(tokens: &mut Cursor<'_>) -> Result<Stmt, ParseFault> {
+#[tactic(auto, unfolding(c_ast::specs::Input::kind, c_ast::specs::Names::StmtNames))]
+fn break_stmt(tokens: &mut Cursor<'_>) -> Result<Stmt, Refusal>
+    requires word { kind tokens.old ≡ Some (token.Keyword w.Break) }
+    ensures same { tokens.new.tokens ≡ tokens.old.tokens }
+    ensures names { IfOk result (StmtNames tokens.old.tokens) }
+{
     let at = tokens.at();
     tokens.take();
     tokens.expect(Mark::Semicolon)?;
@@ -79,20 +108,32 @@ fn break_stmt(tokens: &mut Cursor<'_>) -> Result<Stmt, ParseFault> {
 }
 
 /// At `return`.
-fn return_stmt(alloc: Global, tokens: &mut Cursor<'_>) -> Result<Stmt, ParseFault> {
+#[tactic(auto, unfolding(c_ast::specs::Input::kind, c_ast::specs::Names::StmtNames))]
+fn return_stmt(alloc: Global, tokens: &mut Cursor<'_>) -> Result<Stmt, Refusal>
+    requires word { kind tokens.old ≡ Some (token.Keyword w.Return) }
+    ensures same { tokens.new.tokens ≡ tokens.old.tokens }
+    ensures names { IfOk result (StmtNames tokens.old.tokens) }
+{
     let at = tokens.at();
     tokens.take();
     let value = maybe_expr(alloc, tokens, Mark::Semicolon)?;
     Ok(Stmt::Return(at, value))
 }
 
-fn simple_stmt(alloc: Global, tokens: &mut Cursor<'_>) -> Result<Stmt, ParseFault> {
+#[tactic(auto, unfolding(c_ast::specs::Names::StmtNames))]
+fn simple_stmt(alloc: Global, tokens: &mut Cursor<'_>) -> Result<Stmt, Refusal>
+    ensures same { tokens.new.tokens ≡ tokens.old.tokens }
+    ensures names { IfOk result (StmtNames tokens.old.tokens) }
+{
     let value = maybe_expr(alloc, tokens, Mark::Semicolon)?;
     Ok(Stmt::Simple(value))
 }
 
 /// A statement that holds no other.
-fn plain_stmt(alloc: Global, tokens: &mut Cursor<'_>) -> Result<Stmt, ParseFault> {
+fn plain_stmt(alloc: Global, tokens: &mut Cursor<'_>) -> Result<Stmt, Refusal>
+    ensures same { tokens.new.tokens ≡ tokens.old.tokens }
+    ensures names { IfOk result (StmtNames tokens.old.tokens) }
+{
     match tokens.word() {
         Some(Word::Goto) => {
             tokens.take();
@@ -106,7 +147,10 @@ fn plain_stmt(alloc: Global, tokens: &mut Cursor<'_>) -> Result<Stmt, ParseFault
 }
 
 /// The `while` of a `do`, its condition and the semicolon.
-fn do_test(alloc: Global, tokens: &mut Cursor<'_>) -> Result<Expr, ParseFault> {
+fn do_test(alloc: Global, tokens: &mut Cursor<'_>) -> Result<Expr, Refusal>
+    ensures same { tokens.new.tokens ≡ tokens.old.tokens }
+    ensures names { IfOk result (ExprNames tokens.old.tokens) }
+{
     tokens.expect_word(Word::While)?;
     let test = in_parentheses(alloc, tokens)?;
     tokens.expect(Mark::Semicolon)?;
@@ -117,38 +161,57 @@ fn do_test(alloc: Global, tokens: &mut Cursor<'_>) -> Result<Expr, ParseFault> {
 fn for_tests(
     alloc: Global,
     tokens: &mut Cursor<'_>,
-) -> Result<(Option<Expr>, Option<Expr>), ParseFault> {
+) -> Result<(Option<Expr>, Option<Expr>), Refusal>
+    ensures same { tokens.new.tokens ≡ tokens.old.tokens }
+    ensures names { IfOk result (λ p. MaybeExprNames tokens.old.tokens p.0 × MaybeExprNames tokens.old.tokens p.1) }
+{
     let test = maybe_expr(alloc, tokens, Mark::Semicolon)?;
     let step = maybe_expr(alloc, tokens, Mark::CloseParen)?;
     Ok((test, step))
 }
 
 /// The opening parenthesis and the first part of `for`.
-fn for_start(alloc: Global, tokens: &mut Cursor<'_>) -> Result<Boxed<ForInit>, ParseFault> {
+fn for_start(alloc: Global, tokens: &mut Cursor<'_>) -> Result<Boxed<ForInit>, Refusal>
+    ensures same { tokens.new.tokens ≡ tokens.old.tokens }
+    ensures names { IfOk result (ForNames tokens.old.tokens) }
+{
     tokens.expect(Mark::OpenParen)?;
     let init = for_init(alloc, tokens)?;
     Ok(Boxed::new(alloc, init)?)
 }
 
 /// The value of a `case` and the colon.
-fn case_value(alloc: Global, tokens: &mut Cursor<'_>) -> Result<Expr, ParseFault> {
+fn case_value(alloc: Global, tokens: &mut Cursor<'_>) -> Result<Expr, Refusal>
+    ensures same { tokens.new.tokens ≡ tokens.old.tokens }
+    ensures names { IfOk result (ExprNames tokens.old.tokens) }
+{
     let turns = tokens.turns();
     let value = expr(alloc, tokens, turns, CONDITIONAL)?;
     tokens.expect(Mark::Colon)?;
     Ok(value)
 }
 
-fn assertion_entry(alloc: Global, tokens: &mut Cursor<'_>) -> Result<Entry, ParseFault> {
+#[tactic(auto, unfolding(c_ast::specs::Names::EntryNames))]
+fn assertion_entry(alloc: Global, tokens: &mut Cursor<'_>) -> Result<Entry, Refusal>
+    ensures same { tokens.new.tokens ≡ tokens.old.tokens }
+    ensures names { IfOk result (EntryNames tokens.old.tokens) }
+{
     let (condition, message) = assertion(alloc, tokens)?;
     Ok(Entry::Assertion(condition, message))
 }
 
-fn declaration_entry(alloc: Global, tokens: &mut Cursor<'_>) -> Result<Entry, ParseFault> {
+#[tactic(auto, unfolding(c_ast::specs::Names::EntryNames))]
+fn declaration_entry(alloc: Global, tokens: &mut Cursor<'_>) -> Result<Entry, Refusal>
+    ensures same { tokens.new.tokens ≡ tokens.old.tokens }
+    ensures names { IfOk result (EntryNames tokens.old.tokens) }
+{
     let found = declaration(alloc, tokens)?;
     Ok(Entry::Declaration(found))
 }
 
-fn is_label(tokens: &Cursor<'_>) -> bool {
+fn is_label(tokens: &Cursor<'_>) -> bool
+    ensures { IsTrue result → kind tokens.now ≡ Some token.Name }
+{
     match (tokens.peek(), tokens.peek_after()) {
         (Some(TokenKind::Name), Some(TokenKind::Punct(Mark::Colon))) => true,
         _ => false,
@@ -164,16 +227,20 @@ pub struct Statements<S> {
     pub stmt: S,
 }
 
-impl<S: Fn(Global, &mut Cursor<'_>, usize) -> Result<Stmt, ParseFault>> Statements<S> {
-    fn stmt(&self, tokens: &mut Cursor<'_>) -> Result<Stmt, ParseFault>
+impl<S: Fn(Global, &mut Cursor<'_>, usize) -> Result<Stmt, Refusal>> Statements<S> {
+    fn stmt(&self, tokens: &mut Cursor<'_>) -> Result<Stmt, Refusal>
         requires { NestsStmt self.now.depth (S.pre self.now.stmt) (S.post self.now.stmt) }
+        ensures same { tokens.new.tokens ≡ tokens.old.tokens }
+        ensures names { IfOk result (StmtNames tokens.old.tokens) }
     {
         (self.stmt)(self.alloc, tokens, self.depth)
     }
 
     /// A statement that is a block of its own: what is declared in it ends with it (6.8.4p3, 6.8.5p5).
-    fn sub_stmt(&self, tokens: &mut Cursor<'_>) -> Result<Stmt, ParseFault>
+    fn sub_stmt(&self, tokens: &mut Cursor<'_>) -> Result<Stmt, Refusal>
         requires { NestsStmt self.now.depth (S.pre self.now.stmt) (S.post self.now.stmt) }
+        ensures same { tokens.new.tokens ≡ tokens.old.tokens }
+        ensures names { IfOk result (StmtNames tokens.old.tokens) }
     {
         let outer = tokens.open();
         let found = self.stmt(tokens)?;
@@ -181,23 +248,29 @@ impl<S: Fn(Global, &mut Cursor<'_>, usize) -> Result<Stmt, ParseFault>> Statemen
         Ok(found)
     }
 
-    fn boxed_sub(&self, tokens: &mut Cursor<'_>) -> Result<Boxed<Stmt>, ParseFault>
+    fn boxed_sub(&self, tokens: &mut Cursor<'_>) -> Result<Boxed<Stmt>, Refusal>
         requires { NestsStmt self.now.depth (S.pre self.now.stmt) (S.post self.now.stmt) }
+        ensures same { tokens.new.tokens ≡ tokens.old.tokens }
+        ensures names { IfOk result (StmtNames tokens.old.tokens) }
     {
         let body = self.sub_stmt(tokens)?;
         Ok(Boxed::new(self.alloc, body)?)
     }
 
-    fn boxed_stmt(&self, tokens: &mut Cursor<'_>) -> Result<Boxed<Stmt>, ParseFault>
+    fn boxed_stmt(&self, tokens: &mut Cursor<'_>) -> Result<Boxed<Stmt>, Refusal>
         requires { NestsStmt self.now.depth (S.pre self.now.stmt) (S.post self.now.stmt) }
+        ensures same { tokens.new.tokens ≡ tokens.old.tokens }
+        ensures names { IfOk result (StmtNames tokens.old.tokens) }
     {
         let body = self.stmt(tokens)?;
         Ok(Boxed::new(self.alloc, body)?)
     }
 
     /// An `else` goes with the nearest `if` (6.8.4.1p3).
-    fn else_part(&self, tokens: &mut Cursor<'_>) -> Result<Option<Boxed<Stmt>>, ParseFault>
+    fn else_part(&self, tokens: &mut Cursor<'_>) -> Result<Option<Boxed<Stmt>>, Refusal>
         requires { NestsStmt self.now.depth (S.pre self.now.stmt) (S.post self.now.stmt) }
+        ensures same { tokens.new.tokens ≡ tokens.old.tokens }
+        ensures names { IfOk result (MaybeStmtNames tokens.old.tokens) }
     {
         if tokens.eat_word(Word::Else) {
             Ok(Some(self.boxed_sub(tokens)?))
@@ -209,8 +282,10 @@ impl<S: Fn(Global, &mut Cursor<'_>, usize) -> Result<Stmt, ParseFault>> Statemen
     fn if_branches(
         &self,
         tokens: &mut Cursor<'_>,
-    ) -> Result<(Boxed<Stmt>, Option<Boxed<Stmt>>), ParseFault>
+    ) -> Result<(Boxed<Stmt>, Option<Boxed<Stmt>>), Refusal>
         requires { NestsStmt self.now.depth (S.pre self.now.stmt) (S.post self.now.stmt) }
+        ensures same { tokens.new.tokens ≡ tokens.old.tokens }
+        ensures names { IfOk result (λ p. StmtNames tokens.old.tokens p.0 × MaybeStmtNames tokens.old.tokens p.1) }
     {
         let yes = self.boxed_sub(tokens)?;
         let no = self.else_part(tokens)?;
@@ -218,8 +293,11 @@ impl<S: Fn(Global, &mut Cursor<'_>, usize) -> Result<Stmt, ParseFault>> Statemen
     }
 
     /// After `if`.
-    fn if_stmt(&self, tokens: &mut Cursor<'_>) -> Result<Stmt, ParseFault>
+    #[tactic(auto, using(c_ast::proofs::Trees::if_names))]
+    fn if_stmt(&self, tokens: &mut Cursor<'_>) -> Result<Stmt, Refusal>
         requires { NestsStmt self.now.depth (S.pre self.now.stmt) (S.post self.now.stmt) }
+        ensures same { tokens.new.tokens ≡ tokens.old.tokens }
+        ensures names { IfOk result (StmtNames tokens.old.tokens) }
     {
         let test = in_parentheses(self.alloc, tokens)?;
         let (yes, no) = self.if_branches(tokens)?;
@@ -227,8 +305,11 @@ impl<S: Fn(Global, &mut Cursor<'_>, usize) -> Result<Stmt, ParseFault>> Statemen
     }
 
     /// After `switch`.
-    fn switch_stmt(&self, tokens: &mut Cursor<'_>) -> Result<Stmt, ParseFault>
+    #[tactic(auto, using(c_ast::proofs::Trees::switch_names))]
+    fn switch_stmt(&self, tokens: &mut Cursor<'_>) -> Result<Stmt, Refusal>
         requires { NestsStmt self.now.depth (S.pre self.now.stmt) (S.post self.now.stmt) }
+        ensures same { tokens.new.tokens ≡ tokens.old.tokens }
+        ensures names { IfOk result (StmtNames tokens.old.tokens) }
     {
         let test = in_parentheses(self.alloc, tokens)?;
         let body = self.boxed_sub(tokens)?;
@@ -236,8 +317,11 @@ impl<S: Fn(Global, &mut Cursor<'_>, usize) -> Result<Stmt, ParseFault>> Statemen
     }
 
     /// After `while`.
-    fn while_stmt(&self, tokens: &mut Cursor<'_>) -> Result<Stmt, ParseFault>
+    #[tactic(auto, using(c_ast::proofs::Trees::while_names))]
+    fn while_stmt(&self, tokens: &mut Cursor<'_>) -> Result<Stmt, Refusal>
         requires { NestsStmt self.now.depth (S.pre self.now.stmt) (S.post self.now.stmt) }
+        ensures same { tokens.new.tokens ≡ tokens.old.tokens }
+        ensures names { IfOk result (StmtNames tokens.old.tokens) }
     {
         let test = in_parentheses(self.alloc, tokens)?;
         let body = self.boxed_sub(tokens)?;
@@ -245,8 +329,11 @@ impl<S: Fn(Global, &mut Cursor<'_>, usize) -> Result<Stmt, ParseFault>> Statemen
     }
 
     /// After `do`.
-    fn do_stmt(&self, tokens: &mut Cursor<'_>) -> Result<Stmt, ParseFault>
+    #[tactic(auto, using(c_ast::proofs::Trees::do_names))]
+    fn do_stmt(&self, tokens: &mut Cursor<'_>) -> Result<Stmt, Refusal>
         requires { NestsStmt self.now.depth (S.pre self.now.stmt) (S.post self.now.stmt) }
+        ensures same { tokens.new.tokens ≡ tokens.old.tokens }
+        ensures names { IfOk result (StmtNames tokens.old.tokens) }
     {
         let body = self.boxed_sub(tokens)?;
         let test = do_test(self.alloc, tokens)?;
@@ -254,8 +341,11 @@ impl<S: Fn(Global, &mut Cursor<'_>, usize) -> Result<Stmt, ParseFault>> Statemen
     }
 
     /// After `for`.
-    fn for_stmt(&self, tokens: &mut Cursor<'_>) -> Result<Stmt, ParseFault>
+    #[tactic(auto, using(c_ast::proofs::Trees::for_names))]
+    fn for_stmt(&self, tokens: &mut Cursor<'_>) -> Result<Stmt, Refusal>
         requires { NestsStmt self.now.depth (S.pre self.now.stmt) (S.post self.now.stmt) }
+        ensures same { tokens.new.tokens ≡ tokens.old.tokens }
+        ensures names { IfOk result (StmtNames tokens.old.tokens) }
     {
         let init = for_start(self.alloc, tokens)?;
         let (test, step, body) = self.for_rest(tokens)?;
@@ -266,8 +356,10 @@ impl<S: Fn(Global, &mut Cursor<'_>, usize) -> Result<Stmt, ParseFault>> Statemen
     fn for_rest(
         &self,
         tokens: &mut Cursor<'_>,
-    ) -> Result<(Option<Expr>, Option<Expr>, Boxed<Stmt>), ParseFault>
+    ) -> Result<(Option<Expr>, Option<Expr>, Boxed<Stmt>), Refusal>
         requires { NestsStmt self.now.depth (S.pre self.now.stmt) (S.post self.now.stmt) }
+        ensures same { tokens.new.tokens ≡ tokens.old.tokens }
+        ensures names { IfOk result (λ p. MaybeExprNames tokens.old.tokens p.0 × MaybeExprNames tokens.old.tokens p.1 × StmtNames tokens.old.tokens p.2) }
     {
         let (test, step) = for_tests(self.alloc, tokens)?;
         let body = self.boxed_sub(tokens)?;
@@ -275,8 +367,10 @@ impl<S: Fn(Global, &mut Cursor<'_>, usize) -> Result<Stmt, ParseFault>> Statemen
     }
 
     /// A selection or an iteration statement (6.8.4, 6.8.5).
-    fn held_stmt(&self, tokens: &mut Cursor<'_>) -> Result<Stmt, ParseFault>
+    fn held_stmt(&self, tokens: &mut Cursor<'_>) -> Result<Stmt, Refusal>
         requires { NestsStmt self.now.depth (S.pre self.now.stmt) (S.post self.now.stmt) }
+        ensures same { tokens.new.tokens ≡ tokens.old.tokens }
+        ensures names { IfOk result (StmtNames tokens.old.tokens) }
     {
         let word = tokens.word();
         tokens.take();
@@ -290,8 +384,12 @@ impl<S: Fn(Global, &mut Cursor<'_>, usize) -> Result<Stmt, ParseFault>> Statemen
     }
 
     /// After the name of a label.
-    fn label_stmt(&self, tokens: &mut Cursor<'_>, label: u32) -> Result<Stmt, ParseFault>
-        requires { NestsStmt self.now.depth (S.pre self.now.stmt) (S.post self.now.stmt) }
+    #[tactic(auto, using(c_ast::proofs::Trees::label_names))]
+    fn label_stmt(&self, tokens: &mut Cursor<'_>, label: u32) -> Result<Stmt, Refusal>
+        requires label { IsName tokens.old.tokens label }
+        requires stmt { NestsStmt self.now.depth (S.pre self.now.stmt) (S.post self.now.stmt) }
+        ensures same { tokens.new.tokens ≡ tokens.old.tokens }
+        ensures names { IfOk result (StmtNames tokens.old.tokens) }
     {
         tokens.expect(Mark::Colon)?;
         let body = self.boxed_stmt(tokens)?;
@@ -299,8 +397,12 @@ impl<S: Fn(Global, &mut Cursor<'_>, usize) -> Result<Stmt, ParseFault>> Statemen
     }
 
     /// After `case`, which stands at `at`.
-    fn case_stmt(&self, tokens: &mut Cursor<'_>, at: u32) -> Result<Stmt, ParseFault>
-        requires { NestsStmt self.now.depth (S.pre self.now.stmt) (S.post self.now.stmt) }
+    #[tactic(auto, using(c_ast::proofs::Trees::case_names))]
+    fn case_stmt(&self, tokens: &mut Cursor<'_>, at: u32) -> Result<Stmt, Refusal>
+        requires word { IsWord tokens.old.tokens w.Case at }
+        requires stmt { NestsStmt self.now.depth (S.pre self.now.stmt) (S.post self.now.stmt) }
+        ensures same { tokens.new.tokens ≡ tokens.old.tokens }
+        ensures names { IfOk result (StmtNames tokens.old.tokens) }
     {
         let value = case_value(self.alloc, tokens)?;
         let body = self.boxed_stmt(tokens)?;
@@ -308,23 +410,32 @@ impl<S: Fn(Global, &mut Cursor<'_>, usize) -> Result<Stmt, ParseFault>> Statemen
     }
 
     /// After `default`, which stands at `at`.
-    fn default_stmt(&self, tokens: &mut Cursor<'_>, at: u32) -> Result<Stmt, ParseFault>
-        requires { NestsStmt self.now.depth (S.pre self.now.stmt) (S.post self.now.stmt) }
+    #[tactic(auto, using(c_ast::proofs::Trees::default_names))]
+    fn default_stmt(&self, tokens: &mut Cursor<'_>, at: u32) -> Result<Stmt, Refusal>
+        requires word { IsWord tokens.old.tokens w.Default at }
+        requires stmt { NestsStmt self.now.depth (S.pre self.now.stmt) (S.post self.now.stmt) }
+        ensures same { tokens.new.tokens ≡ tokens.old.tokens }
+        ensures names { IfOk result (StmtNames tokens.old.tokens) }
     {
         tokens.expect(Mark::Colon)?;
         let body = self.boxed_stmt(tokens)?;
         Ok(Stmt::Default(at, body))
     }
 
-    fn statement_entry(&self, tokens: &mut Cursor<'_>) -> Result<Entry, ParseFault>
+    #[tactic(auto, unfolding(c_ast::specs::Names::EntryNames))]
+    fn statement_entry(&self, tokens: &mut Cursor<'_>) -> Result<Entry, Refusal>
         requires { NestsStmt self.now.depth (S.pre self.now.stmt) (S.post self.now.stmt) }
+        ensures same { tokens.new.tokens ≡ tokens.old.tokens }
+        ensures names { IfOk result (EntryNames tokens.old.tokens) }
     {
         let found = self.stmt(tokens)?;
         Ok(Entry::Statement(found))
     }
 
-    fn entry(&self, tokens: &mut Cursor<'_>) -> Result<Entry, ParseFault>
+    fn entry(&self, tokens: &mut Cursor<'_>) -> Result<Entry, Refusal>
         requires { NestsStmt self.now.depth (S.pre self.now.stmt) (S.post self.now.stmt) }
+        ensures same { tokens.new.tokens ≡ tokens.old.tokens }
+        ensures names { IfOk result (EntryNames tokens.old.tokens) }
     {
         if tokens.sees_word(Word::StaticAssert) {
             assertion_entry(self.alloc, tokens)
@@ -336,8 +447,10 @@ impl<S: Fn(Global, &mut Cursor<'_>, usize) -> Result<Stmt, ParseFault>> Statemen
     }
 
     /// After the opening brace: the block items and the closing brace (6.8.2).
-    pub fn entries(&self, tokens: &mut Cursor<'_>) -> Result<Items<Entry>, ParseFault>
+    pub fn entries(&self, tokens: &mut Cursor<'_>) -> Result<Items<Entry>, Refusal>
         requires { NestsStmt self.now.depth (S.pre self.now.stmt) (S.post self.now.stmt) }
+        ensures same { tokens.new.tokens ≡ tokens.old.tokens }
+        ensures names { IfOk result (All (EntryNames tokens.old.tokens)) }
     {
         let mut found = Items::new(self.alloc);
         for _turn in 0..tokens.turns() {
@@ -350,8 +463,11 @@ impl<S: Fn(Global, &mut Cursor<'_>, usize) -> Result<Stmt, ParseFault>> Statemen
     }
 
     /// After the opening brace.
-    fn block(&self, tokens: &mut Cursor<'_>) -> Result<Stmt, ParseFault>
+    #[tactic(auto, using(c_ast::proofs::Trees::block_names))]
+    fn block(&self, tokens: &mut Cursor<'_>) -> Result<Stmt, Refusal>
         requires { NestsStmt self.now.depth (S.pre self.now.stmt) (S.post self.now.stmt) }
+        ensures same { tokens.new.tokens ≡ tokens.old.tokens }
+        ensures names { IfOk result (StmtNames tokens.old.tokens) }
     {
         let outer = tokens.open();
         let found = self.entries(tokens)?;
@@ -360,8 +476,10 @@ impl<S: Fn(Global, &mut Cursor<'_>, usize) -> Result<Stmt, ParseFault>> Statemen
     }
 
     /// A selection or an iteration statement. What is declared in it ends with it (6.8.4p3, 6.8.5p5).
-    fn scoped_stmt(&self, tokens: &mut Cursor<'_>) -> Result<Stmt, ParseFault>
+    fn scoped_stmt(&self, tokens: &mut Cursor<'_>) -> Result<Stmt, Refusal>
         requires { NestsStmt self.now.depth (S.pre self.now.stmt) (S.post self.now.stmt) }
+        ensures same { tokens.new.tokens ≡ tokens.old.tokens }
+        ensures names { IfOk result (StmtNames tokens.old.tokens) }
     {
         let outer = tokens.open();
         let found = self.held_stmt(tokens)?;
@@ -370,8 +488,11 @@ impl<S: Fn(Global, &mut Cursor<'_>, usize) -> Result<Stmt, ParseFault>> Statemen
     }
 
     /// A statement whose first token is no name that is a label.
-    fn unlabelled(&self, tokens: &mut Cursor<'_>) -> Result<Stmt, ParseFault>
+    #[tactic(auto, unfolding(c_ast::specs::Input::kind))]
+    fn unlabelled(&self, tokens: &mut Cursor<'_>) -> Result<Stmt, Refusal>
         requires { NestsStmt self.now.depth (S.pre self.now.stmt) (S.post self.now.stmt) }
+        ensures same { tokens.new.tokens ≡ tokens.old.tokens }
+        ensures names { IfOk result (StmtNames tokens.old.tokens) }
     {
         let at = tokens.at();
         match tokens.peek() {
@@ -394,8 +515,11 @@ impl<S: Fn(Global, &mut Cursor<'_>, usize) -> Result<Stmt, ParseFault>> Statemen
         }
     }
 
-    pub fn one_stmt(&self, tokens: &mut Cursor<'_>) -> Result<Stmt, ParseFault>
+    #[tactic(auto, unfolding(c_ast::specs::Input::kind))]
+    pub fn one_stmt(&self, tokens: &mut Cursor<'_>) -> Result<Stmt, Refusal>
         requires { NestsStmt self.now.depth (S.pre self.now.stmt) (S.post self.now.stmt) }
+        ensures same { tokens.new.tokens ≡ tokens.old.tokens }
+        ensures names { IfOk result (StmtNames tokens.old.tokens) }
     {
         if is_label(tokens) {
             let label = tokens.at();
@@ -408,7 +532,10 @@ impl<S: Fn(Global, &mut Cursor<'_>, usize) -> Result<Stmt, ParseFault>> Statemen
 }
 
 /// A statement, in which others nest no deeper than `depth`.
-pub fn stmt(alloc: Global, tokens: &mut Cursor<'_>, depth: usize) -> Result<Stmt, ParseFault> {
+pub fn stmt(alloc: Global, tokens: &mut Cursor<'_>, depth: usize) -> Result<Stmt, Refusal>
+    ensures same { tokens.new.tokens ≡ tokens.old.tokens }
+    ensures names { IfOk result (StmtNames tokens.old.tokens) }
+{
     if depth == 0 {
         return Err(tokens.refuse());
     }
@@ -421,7 +548,10 @@ pub fn stmt(alloc: Global, tokens: &mut Cursor<'_>, depth: usize) -> Result<Stmt
 }
 
 /// After the opening brace of a function's body: the block items and the closing brace.
-pub fn body(alloc: Global, tokens: &mut Cursor<'_>) -> Result<Items<Entry>, ParseFault> {
+pub fn body(alloc: Global, tokens: &mut Cursor<'_>) -> Result<Items<Entry>, Refusal>
+    ensures same { tokens.new.tokens ≡ tokens.old.tokens }
+    ensures names { IfOk result (All (EntryNames tokens.old.tokens)) }
+{
     let depth = tokens.turns();
     Statements { alloc, depth, stmt }.entries(tokens)
 }

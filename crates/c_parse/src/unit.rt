@@ -1,15 +1,16 @@
 //! Translation units (6.9).
 
-ghost use Rattle.std.specs.Prelude.{◌≡◌, ◌<◌, ◌⊎◌, Err};
+ghost use Rattle.std.specs.Prelude.{◌≡◌, ◌<◌, ◌⊎◌, ℕ, All, Err, IfOk};
+ghost use Rattle.c_lex.specs.declared.token.TokenKind.TheVariants as token;
+ghost use Rattle.c_ast.specs.Names.{Names, UnitEntryNames, EntryNames, DeclaratorNames, SpecsName, IsToken};
 ghost use Rattle.c_ast.specs.Nest.{nest_of};
 
-use crate::cursor::Cursor;
 use crate::declaration::{assertion, declaration_specs, more_parts, named_declarator};
 use crate::error::ParseFault;
-use crate::spelling::spelled_by;
 use crate::statement::body;
-use crate::tokens::declares_typedef;
 use c_ast::{Declaration, Declarator, Entry, Specs, Unit, UnitEntry, nest};
+use c_cursor::tokens::declares_typedef;
+use c_cursor::{Cursor, Refusal, spelled_by};
 use c_lex::{Mark, Tokens, Word};
 use std::alloc::Global;
 use ub_base::Items;
@@ -18,7 +19,10 @@ use ub_base::Items;
 pub const NEST_LIMIT: u32 = 2000;
 
 /// A function's body, after the opening brace. What its parameters declare is in scope there (6.2.1p4).
-fn function_body(alloc: Global, tokens: &mut Cursor<'_>) -> Result<Items<Entry>, ParseFault> {
+fn function_body(alloc: Global, tokens: &mut Cursor<'_>) -> Result<Items<Entry>, Refusal>
+    ensures same { tokens.new.tokens ≡ tokens.old.tokens }
+    ensures names { IfOk result (All (EntryNames tokens.old.tokens)) }
+{
     let outer = tokens.open();
     tokens.open_prototype()?;
     let found = body(alloc, tokens)?;
@@ -32,7 +36,12 @@ fn definition(
     tokens: &mut Cursor<'_>,
     specs: Specs,
     declarator: Declarator,
-) -> Result<UnitEntry, ParseFault> {
+) -> Result<UnitEntry, Refusal>
+    requires specs { SpecsName tokens.old.tokens specs }
+    requires declarator { DeclaratorNames tokens.old.tokens declarator }
+    ensures same { tokens.new.tokens ≡ tokens.old.tokens }
+    ensures names { IfOk result (UnitEntryNames tokens.old.tokens) }
+{
     let body = function_body(alloc, tokens)?;
     Ok(UnitEntry::Function {
         specs,
@@ -47,17 +56,22 @@ fn declaration_behind(
     tokens: &mut Cursor<'_>,
     specs: Specs,
     first: Declarator,
-) -> Result<UnitEntry, ParseFault> {
+) -> Result<UnitEntry, Refusal>
+    requires specs { SpecsName tokens.old.tokens specs }
+    requires first { DeclaratorNames tokens.old.tokens first }
+    ensures same { tokens.new.tokens ≡ tokens.old.tokens }
+    ensures names { IfOk result (UnitEntryNames tokens.old.tokens) }
+{
     let parts = more_parts(alloc, tokens, declares_typedef(&specs), first)?;
     Ok(UnitEntry::Declaration(Declaration { specs, parts }))
 }
 
 /// The rest of a declaration or a function definition behind its specifiers.
-fn declared_as(
-    alloc: Global,
-    tokens: &mut Cursor<'_>,
-    specs: Specs,
-) -> Result<UnitEntry, ParseFault> {
+fn declared_as(alloc: Global, tokens: &mut Cursor<'_>, specs: Specs) -> Result<UnitEntry, Refusal>
+    requires specs { SpecsName tokens.old.tokens specs }
+    ensures same { tokens.new.tokens ≡ tokens.old.tokens }
+    ensures names { IfOk result (UnitEntryNames tokens.old.tokens) }
+{
     tokens.set_prototype(Vec::new(alloc));
     let first = named_declarator(alloc, tokens, declares_typedef(&specs))?;
     if tokens.eat(Mark::OpenBrace) {
@@ -68,7 +82,10 @@ fn declared_as(
 }
 
 /// A declaration or a function definition.
-fn declared(alloc: Global, tokens: &mut Cursor<'_>) -> Result<UnitEntry, ParseFault> {
+fn declared(alloc: Global, tokens: &mut Cursor<'_>) -> Result<UnitEntry, Refusal>
+    ensures same { tokens.new.tokens ≡ tokens.old.tokens }
+    ensures names { IfOk result (UnitEntryNames tokens.old.tokens) }
+{
     let specs = declaration_specs(alloc, tokens)?;
     if tokens.eat(Mark::Semicolon) {
         let parts = Items::new(alloc);
@@ -78,12 +95,18 @@ fn declared(alloc: Global, tokens: &mut Cursor<'_>) -> Result<UnitEntry, ParseFa
     }
 }
 
-fn assertion_entry(alloc: Global, tokens: &mut Cursor<'_>) -> Result<UnitEntry, ParseFault> {
+fn assertion_entry(alloc: Global, tokens: &mut Cursor<'_>) -> Result<UnitEntry, Refusal>
+    ensures same { tokens.new.tokens ≡ tokens.old.tokens }
+    ensures names { IfOk result (UnitEntryNames tokens.old.tokens) }
+{
     let (condition, message) = assertion(alloc, tokens)?;
     Ok(UnitEntry::Assertion(condition, message))
 }
 
-fn unit_entry(alloc: Global, tokens: &mut Cursor<'_>) -> Result<UnitEntry, ParseFault> {
+fn unit_entry(alloc: Global, tokens: &mut Cursor<'_>) -> Result<UnitEntry, Refusal>
+    ensures same { tokens.new.tokens ≡ tokens.old.tokens }
+    ensures names { IfOk result (UnitEntryNames tokens.old.tokens) }
+{
     if tokens.eat(Mark::Semicolon) {
         Ok(UnitEntry::Empty)
     } else if tokens.sees_word(Word::StaticAssert) {
@@ -93,7 +116,10 @@ fn unit_entry(alloc: Global, tokens: &mut Cursor<'_>) -> Result<UnitEntry, Parse
     }
 }
 
-fn unit(alloc: Global, tokens: &mut Cursor<'_>) -> Result<Unit, ParseFault> {
+fn unit(alloc: Global, tokens: &mut Cursor<'_>) -> Result<Unit, Refusal>
+    ensures same { tokens.new.tokens ≡ tokens.old.tokens }
+    ensures names { IfOk result (Names tokens.old.tokens) }
+{
     let mut entries = Items::new(alloc);
     for _turn in 0..tokens.turns() {
         match tokens.peek() {
@@ -104,6 +130,15 @@ fn unit(alloc: Global, tokens: &mut Cursor<'_>) -> Result<Unit, ParseFault> {
     Err(tokens.refuse())
 }
 
+/// The syntax tree that the tokens spell, however deep the rules nest.
+fn tree(alloc: Global, tokens: &Tokens<'_>) -> Result<Unit, Refusal>
+    ensures { IfOk result (Names tokens.now) }
+{
+    let spelled = spelled_by(alloc, tokens)?;
+    let mut cursor = Cursor::new(alloc, tokens, spelled)?;
+    unit(alloc, &mut cursor)
+}
+
 /// The syntax tree that the tokens spell, by Annex A without what the profile leaves out.
 ///
 /// # Errors
@@ -111,14 +146,16 @@ fn unit(alloc: Global, tokens: &mut Cursor<'_>) -> Result<Unit, ParseFault> {
 /// `TooDeep` where `nest` passes the limit, before all else; `Syntax` with the first token with which no sentence goes on;
 /// `NoMemory`.
 pub fn parse(alloc: Global, tokens: &Tokens<'_>) -> Result<Unit, ParseFault>
-    // Where the rules nest too deep, this is said before all else.
-    ensures { NEST_LIMIT < nest_of tokens.now.list → (result ≡ Err (ParseFault.TooDeep (nest_of tokens.now.list))) ⊎ (result ≡ Err ParseFault.NoMemory) }
+    // Each number in the tree is that of a token of the kind that its place names.
+    ensures names { IfOk result (Names tokens.now) }
+
+    // Where the rules nest too deep, this is said before all else, and nowhere else.
+    ensures deep { NEST_LIMIT < nest_of tokens.now.list → (result ≡ Err (ParseFault.TooDeep (nest_of tokens.now.list))) ⊎ (result ≡ Err ParseFault.NoMemory) }
+    ensures limit { (count : ℕ) → result ≡ Err (ParseFault.TooDeep count) → (NEST_LIMIT < count) × (count ≡ nest_of tokens.now.list) }
 {
     let nest = nest(alloc, tokens)?;
     if nest > NEST_LIMIT {
         return Err(ParseFault::TooDeep(nest));
     }
-    let spelled = spelled_by(alloc, tokens)?;
-    let mut cursor = Cursor::new(alloc, tokens, spelled)?;
-    unit(alloc, &mut cursor)
+    Ok(tree(alloc, tokens)?)
 }

@@ -1,4 +1,5 @@
-use Rattle.std.proofs.Common.{◌*◌, ◌+◌}
+use Rattle.std.proofs.Common.{◌≡◌, ◌*◌, ◌+◌, All}
+use Rattle.c_ast.specs.Names.{InitEntryNames}
 use Rattle.c_parse.proofs.initializer.+init.Given as goal
 
 abbrev pub decreases-init_entries : goal.decreases-init_entries
@@ -9,3 +10,6 @@ decreases-init_entry l = 3 * l.depth + 1
 
 abbrev pub decreases-initializer : goal.decreases-initializer
 decreases-initializer l = 3 * l.depth
+
+abbrev pub invariant-init_entries-loop-turn : goal.invariant-init_entries-loop-turn
+invariant-init_entries-loop-turn l = record { same : l.tokens.tokens ≡ l.fn.tokens.tokens; names : All (InitEntryNames l.fn.tokens.tokens) l.found }

@@ -1,0 +1,6 @@
+use Rattle.std.proofs.Common.{◌≡◌, All}
+use Rattle.c_ast.specs.Names.{DeclaratorNames}
+use Rattle.c_rules.proofs.knot.Grammar.member_names.Given as goal
+
+abbrev pub invariant-loop-turn : goal.invariant-loop-turn
+invariant-loop-turn g l = record { same : l.tokens.tokens ≡ l.fn.tokens.tokens; names : All (DeclaratorNames l.fn.tokens.tokens) l.found }

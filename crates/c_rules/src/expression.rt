@@ -1,0 +1,562 @@
+//! Expressions (6.5).
+
+ghost use Rattle.std.specs.Prelude.{◌≡◌, All, IfOk, Some};
+ghost use Rattle.c_lex.specs.TokenText.{TokenText};
+ghost use Rattle.c_lex.specs.declared.token.TokenKind.TheVariants as token;
+ghost use Rattle.c_ast.specs.Input.{kind, next};
+ghost use Rattle.c_ast.specs.Names.{NodeNames, ExprNames, TypeNameNames};
+ghost use Rattle.c_rules.specs.Nests.{NestsExpr, NestsDeclarator, NestsSpecs};
+
+use crate::knot::Grammar;
+use crate::make;
+use c_ast::{AssignOp, BinaryOp, Declarator, Expr, ExprNode, PostOp, Specs, TypeName, UnaryOp};
+use c_cursor::operators::{
+    ASSIGNMENT, CAST, COMMA, CONDITIONAL, POSTFIX, UNARY, assign_op, binary_op, level_of,
+    operand_level, unary_op,
+};
+use c_cursor::tokens::{begins_type_after, identifier, strings};
+use c_cursor::{Cursor, Mode, Place, Refusal};
+use c_lex::{Mark, TokenKind, Word};
+use std::alloc::Global;
+use ub_base::Items;
+
+/// The assignment operator that comes next, where one may stand.
+fn assignment_sign(tokens: &Cursor<'_>, lone: bool) -> Option<AssignOp> {
+    match tokens.mark() {
+        Some(mark) => { if lone { assign_op(mark) } else { None } }
+        None => None,
+    }
+}
+
+/// The binary operator that comes next.
+fn binary_sign(tokens: &Cursor<'_>) -> Option<BinaryOp> {
+    match tokens.mark() {
+        Some(mark) => binary_op(mark),
+        None => None,
+    }
+}
+
+/// The expression that the next token is alone.
+fn leaf(tokens: &mut Cursor<'_>, node: ExprNode) -> Expr
+    requires { NodeNames tokens.old.tokens node }
+    ensures same { tokens.new.tokens ≡ tokens.old.tokens }
+    ensures names { ExprNames tokens.old.tokens result }
+{
+    let at = tokens.at();
+    tokens.take();
+    Expr { at, node }
+}
+
+#[tactic(auto, unfolding(c_ast::specs::Input::kind, c_ast::specs::Names::NodeNames))]
+fn name_expr(tokens: &mut Cursor<'_>) -> Result<Expr, Refusal>
+    requires { kind tokens.old ≡ Some token.Name }
+    ensures same { tokens.new.tokens ≡ tokens.old.tokens }
+    ensures names { IfOk result (ExprNames tokens.old.tokens) }
+{
+    if tokens.is_typedef() {
+        return Err(tokens.refuse());
+    }
+    let at = tokens.at();
+    Ok(leaf(tokens, ExprNode::Name(at)))
+}
+
+#[tactic(auto, unfolding(c_ast::specs::Names::NodeNames))]
+fn string_expr(tokens: &mut Cursor<'_>) -> Result<Expr, Refusal>
+    ensures same { tokens.new.tokens ≡ tokens.old.tokens }
+    ensures names { IfOk result (ExprNames tokens.old.tokens) }
+{
+    let at = tokens.at();
+    let node = ExprNode::Strings(at, strings(tokens)?);
+    Ok(Expr { at, node })
+}
+
+/// Whether a cast comes next.
+fn begins_cast(tokens: &Cursor<'_>) -> bool {
+    tokens.sees(Mark::OpenParen) && begins_type_after(tokens)
+}
+
+impl<
+    F: Fn(Global, &mut Cursor<'_>, usize, u8) -> Result<Expr, Refusal>,
+    G: Fn(Global, &mut Cursor<'_>, usize, Mode) -> Result<Declarator, Refusal>,
+    H: Fn(Global, &mut Cursor<'_>, usize, Place) -> Result<Specs, Refusal>,
+> Grammar<F, G, H> {
+    /// After the opening parenthesis.
+    fn inside(&self, tokens: &mut Cursor<'_>) -> Result<Expr, Refusal>
+        requires { NestsExpr self.now.depth (F.pre self.now.expr) (F.post self.now.expr) }
+        ensures same { tokens.new.tokens ≡ tokens.old.tokens }
+        ensures names { IfOk result (ExprNames tokens.old.tokens) }
+    {
+        let inner = self.expr(tokens, COMMA)?;
+        tokens.expect(Mark::CloseParen)?;
+        Ok(inner)
+    }
+
+    #[tactic(auto, unfolding(c_ast::specs::Input::kind, c_ast::specs::Names::NodeNames))]
+    fn primary(&self, tokens: &mut Cursor<'_>) -> Result<Expr, Refusal>
+        requires { NestsExpr self.now.depth (F.pre self.now.expr) (F.post self.now.expr) }
+        ensures same { tokens.new.tokens ≡ tokens.old.tokens }
+        ensures names { IfOk result (ExprNames tokens.old.tokens) }
+    {
+        let at = tokens.at();
+        match tokens.peek() {
+            Some(TokenKind::Name) => name_expr(tokens),
+            Some(TokenKind::Number) => Ok(leaf(tokens, ExprNode::Number(at))),
+            Some(TokenKind::CharLit) => Ok(leaf(tokens, ExprNode::CharLit(at))),
+            Some(TokenKind::StringLit) => string_expr(tokens),
+            Some(TokenKind::Punct(Mark::OpenParen)) => {
+                tokens.take();
+                self.inside(tokens)
+            }
+            _ => Err(tokens.refuse()),
+        }
+    }
+
+    fn argument_list(&self, tokens: &mut Cursor<'_>) -> Result<Items<Expr>, Refusal>
+        requires { NestsExpr self.now.depth (F.pre self.now.expr) (F.post self.now.expr) }
+        ensures same { tokens.new.tokens ≡ tokens.old.tokens }
+        ensures names { IfOk result (All (ExprNames tokens.old.tokens)) }
+    {
+        let mut found = Items::new(self.alloc);
+        for _turn in 0..tokens.turns() {
+            found.push(self.expr(tokens, ASSIGNMENT)?)?;
+            if !tokens.eat(Mark::Comma) {
+                return Ok(found);
+            }
+        }
+        Err(tokens.refuse())
+    }
+
+    fn arguments(&self, tokens: &mut Cursor<'_>) -> Result<Items<Expr>, Refusal>
+        requires { NestsExpr self.now.depth (F.pre self.now.expr) (F.post self.now.expr) }
+        ensures same { tokens.new.tokens ≡ tokens.old.tokens }
+        ensures names { IfOk result (All (ExprNames tokens.old.tokens)) }
+    {
+        if tokens.eat(Mark::CloseParen) {
+            return Ok(Items::new(self.alloc));
+        }
+        let found = self.argument_list(tokens)?;
+        tokens.expect(Mark::CloseParen)?;
+        Ok(found)
+    }
+
+    /// After the opening parenthesis of a call.
+    fn call_of(&self, tokens: &mut Cursor<'_>, at: u32, left: Expr) -> Result<Expr, Refusal>
+        requires expr { NestsExpr self.now.depth (F.pre self.now.expr) (F.post self.now.expr) }
+        requires left { ExprNames tokens.old.tokens left }
+        ensures same { tokens.new.tokens ≡ tokens.old.tokens }
+        ensures names { IfOk result (ExprNames tokens.old.tokens) }
+    {
+        let found = self.arguments(tokens)?;
+        Ok(make::call(self.alloc, at, left, found)?)
+    }
+
+    /// After the opening bracket of a subscript.
+    fn subscript(&self, tokens: &mut Cursor<'_>) -> Result<Expr, Refusal>
+        requires { NestsExpr self.now.depth (F.pre self.now.expr) (F.post self.now.expr) }
+        ensures same { tokens.new.tokens ≡ tokens.old.tokens }
+        ensures names { IfOk result (ExprNames tokens.old.tokens) }
+    {
+        let inner = self.expr(tokens, COMMA)?;
+        tokens.expect(Mark::CloseBracket)?;
+        Ok(inner)
+    }
+
+    fn index_of(&self, tokens: &mut Cursor<'_>, at: u32, left: Expr) -> Result<Expr, Refusal>
+        requires expr { NestsExpr self.now.depth (F.pre self.now.expr) (F.post self.now.expr) }
+        requires left { ExprNames tokens.old.tokens left }
+        ensures same { tokens.new.tokens ≡ tokens.old.tokens }
+        ensures names { IfOk result (ExprNames tokens.old.tokens) }
+    {
+        let inner = self.subscript(tokens)?;
+        Ok(make::index(self.alloc, at, left, inner)?)
+    }
+
+    /// After the dot.
+    fn dot_of(&self, tokens: &mut Cursor<'_>, at: u32, left: Expr) -> Result<Expr, Refusal>
+        requires left { ExprNames tokens.old.tokens left }
+        ensures same { tokens.new.tokens ≡ tokens.old.tokens }
+        ensures names { IfOk result (ExprNames tokens.old.tokens) }
+    {
+        let member = identifier(tokens)?;
+        Ok(make::dot(self.alloc, at, left, member)?)
+    }
+
+    /// After the arrow.
+    fn arrow_of(&self, tokens: &mut Cursor<'_>, at: u32, left: Expr) -> Result<Expr, Refusal>
+        requires left { ExprNames tokens.old.tokens left }
+        ensures same { tokens.new.tokens ≡ tokens.old.tokens }
+        ensures names { IfOk result (ExprNames tokens.old.tokens) }
+    {
+        let member = identifier(tokens)?;
+        Ok(make::arrow(self.alloc, at, left, member)?)
+    }
+
+    fn stepped(&self, at: u32, op: PostOp, left: Expr) -> Result<Expr, Refusal>
+        ensures { (t : TokenText) → ExprNames t left → IfOk result (ExprNames t) }
+    {
+        Ok(make::postfix(self.alloc, at, op, left)?)
+    }
+
+    /// One more postfix operator.
+    fn post(&self, tokens: &mut Cursor<'_>, at: u32, left: Expr) -> Result<Expr, Refusal>
+        requires expr { NestsExpr self.now.depth (F.pre self.now.expr) (F.post self.now.expr) }
+        requires left { ExprNames tokens.old.tokens left }
+        ensures same { tokens.new.tokens ≡ tokens.old.tokens }
+        ensures names { IfOk result (ExprNames tokens.old.tokens) }
+    {
+        let mark = tokens.mark();
+        tokens.take();
+        match mark {
+            Some(Mark::OpenParen) => self.call_of(tokens, at, left),
+            Some(Mark::OpenBracket) => self.index_of(tokens, at, left),
+            Some(Mark::Dot) => self.dot_of(tokens, at, left),
+            Some(Mark::Arrow) => self.arrow_of(tokens, at, left),
+            Some(Mark::PlusPlus) => self.stepped(at, PostOp::Increment, left),
+            _ => self.stepped(at, PostOp::Decrement, left),
+        }
+    }
+
+    fn posts(&self, tokens: &mut Cursor<'_>, at: u32, mut left: Expr) -> Result<Expr, Refusal>
+        requires expr { NestsExpr self.now.depth (F.pre self.now.expr) (F.post self.now.expr) }
+        requires left { ExprNames tokens.old.tokens left }
+        ensures same { tokens.new.tokens ≡ tokens.old.tokens }
+        ensures names { IfOk result (ExprNames tokens.old.tokens) }
+    {
+        for _turn in 0..tokens.turns() {
+            if tokens.tight() <= POSTFIX {
+                return Ok(left);
+            }
+            left = self.post(tokens, at, left)?;
+        }
+        Err(tokens.refuse())
+    }
+
+    /// A type name in parentheses.
+    fn type_name(&self, tokens: &mut Cursor<'_>) -> Result<TypeName, Refusal>
+        requires declarator { NestsDeclarator self.now.depth (G.pre self.now.declarator) (G.post self.now.declarator) }
+        requires specs { NestsSpecs self.now.depth (H.pre self.now.specs) (H.post self.now.specs) }
+        ensures same { tokens.new.tokens ≡ tokens.old.tokens }
+        ensures names { IfOk result (TypeNameNames tokens.old.tokens) }
+    {
+        tokens.expect(Mark::OpenParen)?;
+        let specs = self.specs(tokens, Place::Qualified)?;
+        let declarator = self.declarator(tokens, Mode::Abstract)?;
+        tokens.expect(Mark::CloseParen)?;
+        Ok(TypeName { specs, declarator })
+    }
+
+    fn casted(&self, tokens: &mut Cursor<'_>, at: u32) -> Result<Expr, Refusal>
+        requires expr { NestsExpr self.now.depth (F.pre self.now.expr) (F.post self.now.expr) }
+        requires declarator { NestsDeclarator self.now.depth (G.pre self.now.declarator) (G.post self.now.declarator) }
+        requires specs { NestsSpecs self.now.depth (H.pre self.now.specs) (H.post self.now.specs) }
+        ensures same { tokens.new.tokens ≡ tokens.old.tokens }
+        ensures names { IfOk result (ExprNames tokens.old.tokens) }
+    {
+        let to = self.type_name(tokens)?;
+        let value = self.expr(tokens, CAST)?;
+        Ok(make::cast(self.alloc, at, to, value)?)
+    }
+
+    /// After `sizeof`.
+    fn size(&self, tokens: &mut Cursor<'_>, at: u32) -> Result<Expr, Refusal>
+        requires expr { NestsExpr self.now.depth (F.pre self.now.expr) (F.post self.now.expr) }
+        requires declarator { NestsDeclarator self.now.depth (G.pre self.now.declarator) (G.post self.now.declarator) }
+        requires specs { NestsSpecs self.now.depth (H.pre self.now.specs) (H.post self.now.specs) }
+        ensures same { tokens.new.tokens ≡ tokens.old.tokens }
+        ensures names { IfOk result (ExprNames tokens.old.tokens) }
+    {
+        if tokens.sees(Mark::OpenParen) && begins_type_after(tokens) {
+            let of = self.type_name(tokens)?;
+            Ok(make::sizeof_type(self.alloc, at, of)?)
+        } else {
+            let of = self.expr(tokens, UNARY)?;
+            Ok(make::sizeof_expr(self.alloc, at, of)?)
+        }
+    }
+
+    fn chained(&self, tokens: &mut Cursor<'_>, at: u32) -> Result<Expr, Refusal>
+        requires { NestsExpr self.now.depth (F.pre self.now.expr) (F.post self.now.expr) }
+        ensures same { tokens.new.tokens ≡ tokens.old.tokens }
+        ensures names { IfOk result (ExprNames tokens.old.tokens) }
+    {
+        let first = self.primary(tokens)?;
+        self.posts(tokens, at, first)
+    }
+
+    /// After `_Alignof`.
+    fn alignment(&self, tokens: &mut Cursor<'_>, at: u32) -> Result<Expr, Refusal>
+        requires declarator { NestsDeclarator self.now.depth (G.pre self.now.declarator) (G.post self.now.declarator) }
+        requires specs { NestsSpecs self.now.depth (H.pre self.now.specs) (H.post self.now.specs) }
+        ensures same { tokens.new.tokens ≡ tokens.old.tokens }
+        ensures names { IfOk result (ExprNames tokens.old.tokens) }
+    {
+        let of = self.type_name(tokens)?;
+        Ok(make::alignof_type(self.alloc, at, of)?)
+    }
+
+    /// At an opening parenthesis. A cast is no unary expression.
+    fn bracketed(&self, tokens: &mut Cursor<'_>, at: u32, least: u8) -> Result<Expr, Refusal>
+        requires expr { NestsExpr self.now.depth (F.pre self.now.expr) (F.post self.now.expr) }
+        requires declarator { NestsDeclarator self.now.depth (G.pre self.now.declarator) (G.post self.now.declarator) }
+        requires specs { NestsSpecs self.now.depth (H.pre self.now.specs) (H.post self.now.specs) }
+        ensures same { tokens.new.tokens ≡ tokens.old.tokens }
+        ensures names { IfOk result (ExprNames tokens.old.tokens) }
+    {
+        if !begins_type_after(tokens) {
+            return self.chained(tokens, at);
+        }
+        if least > CAST {
+            return Err(tokens.refuse_after());
+        }
+        self.casted(tokens, at)
+    }
+
+    /// At a unary operator.
+    fn operated(&self, tokens: &mut Cursor<'_>, at: u32, op: UnaryOp) -> Result<Expr, Refusal>
+        requires { NestsExpr self.now.depth (F.pre self.now.expr) (F.post self.now.expr) }
+        ensures same { tokens.new.tokens ≡ tokens.old.tokens }
+        ensures names { IfOk result (ExprNames tokens.old.tokens) }
+    {
+        tokens.take();
+        let operand = self.expr(tokens, operand_level(op))?;
+        Ok(make::unary(self.alloc, at, op, operand)?)
+    }
+
+    /// A cast expression, and a unary expression where `least` asks for one.
+    fn prefix(&self, tokens: &mut Cursor<'_>, least: u8) -> Result<Expr, Refusal>
+        requires expr { NestsExpr self.now.depth (F.pre self.now.expr) (F.post self.now.expr) }
+        requires declarator { NestsDeclarator self.now.depth (G.pre self.now.declarator) (G.post self.now.declarator) }
+        requires specs { NestsSpecs self.now.depth (H.pre self.now.specs) (H.post self.now.specs) }
+        ensures same { tokens.new.tokens ≡ tokens.old.tokens }
+        ensures names { IfOk result (ExprNames tokens.old.tokens) }
+    {
+        let at = tokens.at();
+        match tokens.peek() {
+            Some(TokenKind::Keyword(Word::Sizeof)) => {
+                tokens.take();
+                self.size(tokens, at)
+            }
+            Some(TokenKind::Keyword(Word::Alignof)) => {
+                tokens.take();
+                self.alignment(tokens, at)
+            }
+            Some(TokenKind::Punct(Mark::OpenParen)) => self.bracketed(tokens, at, least),
+            Some(TokenKind::Punct(mark)) => match unary_op(mark) {
+                Some(op) => self.operated(tokens, at, op),
+                None => Err(tokens.refuse()),
+            },
+            _ => self.chained(tokens, at),
+        }
+    }
+
+    fn yes_branch(&self, tokens: &mut Cursor<'_>) -> Result<Expr, Refusal>
+        requires { NestsExpr self.now.depth (F.pre self.now.expr) (F.post self.now.expr) }
+        ensures same { tokens.new.tokens ≡ tokens.old.tokens }
+        ensures names { IfOk result (ExprNames tokens.old.tokens) }
+    {
+        let yes = self.expr(tokens, COMMA)?;
+        tokens.expect(Mark::Colon)?;
+        Ok(yes)
+    }
+
+    fn branches(&self, tokens: &mut Cursor<'_>) -> Result<(Expr, Expr), Refusal>
+        requires { NestsExpr self.now.depth (F.pre self.now.expr) (F.post self.now.expr) }
+        ensures same { tokens.new.tokens ≡ tokens.old.tokens }
+        ensures names { IfOk result (λ p. ExprNames tokens.old.tokens p.0 × ExprNames tokens.old.tokens p.1) }
+    {
+        let yes = self.yes_branch(tokens)?;
+        let no = self.expr(tokens, CONDITIONAL)?;
+        Ok((yes, no))
+    }
+
+    /// After the `?`.
+    fn choice(&self, tokens: &mut Cursor<'_>, at: u32, test: Expr) -> Result<Expr, Refusal>
+        requires expr { NestsExpr self.now.depth (F.pre self.now.expr) (F.post self.now.expr) }
+        requires test { ExprNames tokens.old.tokens test }
+        ensures same { tokens.new.tokens ≡ tokens.old.tokens }
+        ensures names { IfOk result (ExprNames tokens.old.tokens) }
+    {
+        let (yes, no) = self.branches(tokens)?;
+        Ok(make::cond(self.alloc, at, test, yes, no)?)
+    }
+
+    fn assign_of(
+        &self,
+        tokens: &mut Cursor<'_>,
+        at: u32,
+        op: AssignOp,
+        left: Expr,
+    ) -> Result<Expr, Refusal>
+        requires expr { NestsExpr self.now.depth (F.pre self.now.expr) (F.post self.now.expr) }
+        requires left { ExprNames tokens.old.tokens left }
+        ensures same { tokens.new.tokens ≡ tokens.old.tokens }
+        ensures names { IfOk result (ExprNames tokens.old.tokens) }
+    {
+        tokens.take();
+        let value = self.expr(tokens, ASSIGNMENT)?;
+        Ok(make::assign(self.alloc, at, op, left, value)?)
+    }
+
+    /// Only a unary expression stands before an assignment operator (6.5.16).
+    fn assigned(
+        &self,
+        tokens: &mut Cursor<'_>,
+        at: u32,
+        lone: bool,
+        left: Expr,
+    ) -> Result<Expr, Refusal>
+        requires expr { NestsExpr self.now.depth (F.pre self.now.expr) (F.post self.now.expr) }
+        requires left { ExprNames tokens.old.tokens left }
+        ensures same { tokens.new.tokens ≡ tokens.old.tokens }
+        ensures names { IfOk result (ExprNames tokens.old.tokens) }
+    {
+        match assignment_sign(tokens, lone) {
+            Some(op) => self.assign_of(tokens, at, op, left),
+            None => Err(tokens.refuse()),
+        }
+    }
+
+    fn binary_of(
+        &self,
+        tokens: &mut Cursor<'_>,
+        at: u32,
+        op: BinaryOp,
+        left: Expr,
+    ) -> Result<Expr, Refusal>
+        requires expr { NestsExpr self.now.depth (F.pre self.now.expr) (F.post self.now.expr) }
+        requires left { ExprNames tokens.old.tokens left }
+        ensures same { tokens.new.tokens ≡ tokens.old.tokens }
+        ensures names { IfOk result (ExprNames tokens.old.tokens) }
+    {
+        tokens.take();
+        let right = self.expr(tokens, level_of(op) + 1)?;
+        Ok(make::binary(self.alloc, at, op, left, right)?)
+    }
+
+    /// A binary operator or an assignment, after what stands before it.
+    fn joined(
+        &self,
+        tokens: &mut Cursor<'_>,
+        at: u32,
+        lone: bool,
+        left: Expr,
+    ) -> Result<Expr, Refusal>
+        requires expr { NestsExpr self.now.depth (F.pre self.now.expr) (F.post self.now.expr) }
+        requires left { ExprNames tokens.old.tokens left }
+        ensures same { tokens.new.tokens ≡ tokens.old.tokens }
+        ensures names { IfOk result (ExprNames tokens.old.tokens) }
+    {
+        match binary_sign(tokens) {
+            Some(op) => self.binary_of(tokens, at, op, left),
+            None => self.assigned(tokens, at, lone, left),
+        }
+    }
+
+    /// One more operator, after what stands before it; `lone` says that this is a unary expression.
+    fn step(
+        &self,
+        tokens: &mut Cursor<'_>,
+        at: u32,
+        lone: bool,
+        left: Expr,
+    ) -> Result<Expr, Refusal>
+        requires expr { NestsExpr self.now.depth (F.pre self.now.expr) (F.post self.now.expr) }
+        requires left { ExprNames tokens.old.tokens left }
+        ensures same { tokens.new.tokens ≡ tokens.old.tokens }
+        ensures names { IfOk result (ExprNames tokens.old.tokens) }
+    {
+        if tokens.eat(Mark::Question) {
+            self.choice(tokens, at, left)
+        } else {
+            self.joined(tokens, at, lone, left)
+        }
+    }
+
+    fn climb(
+        &self,
+        tokens: &mut Cursor<'_>,
+        least: u8,
+        at: u32,
+        mut lone: bool,
+        mut left: Expr,
+    ) -> Result<Expr, Refusal>
+        requires expr { NestsExpr self.now.depth (F.pre self.now.expr) (F.post self.now.expr) }
+        requires left { ExprNames tokens.old.tokens left }
+        ensures same { tokens.new.tokens ≡ tokens.old.tokens }
+        ensures names { IfOk result (ExprNames tokens.old.tokens) }
+    {
+        for _turn in 0..tokens.turns() {
+            if tokens.tight() <= least {
+                return Ok(left);
+            }
+            left = self.step(tokens, at, lone, left)?;
+            lone = false;
+        }
+        Err(tokens.refuse())
+    }
+
+    fn operators(&self, tokens: &mut Cursor<'_>, least: u8) -> Result<Expr, Refusal>
+        requires expr { NestsExpr self.now.depth (F.pre self.now.expr) (F.post self.now.expr) }
+        requires declarator { NestsDeclarator self.now.depth (G.pre self.now.declarator) (G.post self.now.declarator) }
+        requires specs { NestsSpecs self.now.depth (H.pre self.now.specs) (H.post self.now.specs) }
+        ensures same { tokens.new.tokens ≡ tokens.old.tokens }
+        ensures names { IfOk result (ExprNames tokens.old.tokens) }
+    {
+        let at = tokens.at();
+        let lone = !begins_cast(tokens);
+        let first = self.prefix(tokens, least)?;
+        self.climb(tokens, least, at, lone, first)
+    }
+
+    #[tactic(auto, using(c_ast::proofs::Trees::comma_names))]
+    fn commas(&self, tokens: &mut Cursor<'_>, at: u32, first: Expr) -> Result<Expr, Refusal>
+        requires expr { NestsExpr self.now.depth (F.pre self.now.expr) (F.post self.now.expr) }
+        requires declarator { NestsDeclarator self.now.depth (G.pre self.now.declarator) (G.post self.now.declarator) }
+        requires specs { NestsSpecs self.now.depth (H.pre self.now.specs) (H.post self.now.specs) }
+        requires first { ExprNames tokens.old.tokens first }
+        ensures same { tokens.new.tokens ≡ tokens.old.tokens }
+        ensures names { IfOk result (ExprNames tokens.old.tokens) }
+    {
+        let mut found = Items::new(self.alloc);
+        found.push(first)?;
+        for _turn in 0..tokens.turns() {
+            if !tokens.eat(Mark::Comma) {
+                let node = ExprNode::Comma(found);
+                return Ok(Expr { at, node });
+            }
+            found.push(self.operators(tokens, ASSIGNMENT)?)?;
+        }
+        Err(tokens.refuse())
+    }
+
+    fn whole(&self, tokens: &mut Cursor<'_>) -> Result<Expr, Refusal>
+        requires expr { NestsExpr self.now.depth (F.pre self.now.expr) (F.post self.now.expr) }
+        requires declarator { NestsDeclarator self.now.depth (G.pre self.now.declarator) (G.post self.now.declarator) }
+        requires specs { NestsSpecs self.now.depth (H.pre self.now.specs) (H.post self.now.specs) }
+        ensures same { tokens.new.tokens ≡ tokens.old.tokens }
+        ensures names { IfOk result (ExprNames tokens.old.tokens) }
+    {
+        let at = tokens.at();
+        let first = self.operators(tokens, ASSIGNMENT)?;
+        if tokens.sees(Mark::Comma) {
+            self.commas(tokens, at, first)
+        } else {
+            Ok(first)
+        }
+    }
+
+    /// An expression of this level or a tighter one.
+    pub fn level(&self, tokens: &mut Cursor<'_>, least: u8) -> Result<Expr, Refusal>
+        requires expr { NestsExpr self.now.depth (F.pre self.now.expr) (F.post self.now.expr) }
+        requires declarator { NestsDeclarator self.now.depth (G.pre self.now.declarator) (G.post self.now.declarator) }
+        requires specs { NestsSpecs self.now.depth (H.pre self.now.specs) (H.post self.now.specs) }
+        ensures same { tokens.new.tokens ≡ tokens.old.tokens }
+        ensures names { IfOk result (ExprNames tokens.old.tokens) }
+    {
+        if least == COMMA {
+            self.whole(tokens)
+        } else {
+            self.operators(tokens, least)
+        }
+    }
+}
