@@ -1,11 +1,13 @@
 // The program, once all is declared (6.9p3, 6.9p5, 6.9.2).
-ghost use Rattle.std.specs.Prelude.{slice_get, IfOk, IfSome, IsTrue};
+ghost use Rattle.std.specs.Prelude.{IfOk, IsTrue};
 ghost use Rattle.std.specs.List.{All};
-ghost use Rattle.c_typed.specs.Lawful.{There, HasBody, HasMain, IsExternal, LibraryIsExternal, HasBytes, LiteralsHaveBytes, IsNumbered};
+ghost use Rattle.c_typed.specs.Lawful.{HasMain, MainHasType, IsExternal, LibraryIsExternal, HasBytes, LiteralsHaveBytes, StaticsAreComplete, IsNumbered};
 
-use c_scope::{Definition, FunctionRow, Literal, ObjectRow, Source, State, TypeFault};
-use c_typed::{Constant, Content, Function, Program, Static, Target};
-use c_types::Extent;
+use crate::lines::earlier;
+use crate::startup::main_of;
+use crate::statics::{Checked, program_statics};
+use c_scope::{Definition, FunctionRow, Literal, Source, State, TypeFault};
+use c_typed::{Function, Program};
 use std::alloc::Global;
 use ub_base::{Bytes, Items, NoMemory};
 
@@ -32,52 +34,6 @@ pub fn final_order(alloc: Global, state: &State) -> Result<Option<Vec<u32>>, NoM
     Ok(if same { None } else { Some(order) })
 }
 
-// The earlier of two lines.
-fn earlier(line: Option<u32>, other: Option<u32>) -> Option<u32> {
-    match (line, other) {
-        (Some(a), Some(b)) => Some(a.min(b)),
-        (Some(a), None) => Some(a),
-        (None, other) => other,
-    }
-}
-
-fn is_address_within(state: &State, constant: &Constant) -> bool {
-    match &constant.content {
-        Content::Address {
-            target: Target::Static(number),
-            offset,
-        } => match state.objects.get(*number as usize) {
-            Some(row) => match state.tags.extent(&row.qual.ty) {
-                Some(extent) => *offset <= extent.size,
-                None => false,
-            },
-            None => false,
-        },
-        _ => true,
-    }
-}
-
-fn addresses_are_within(state: &State, row: &ObjectRow) -> bool {
-    for constant in row.constants.as_slice() {
-        if !is_address_within(state, constant) {
-            return false;
-        }
-    }
-    true
-}
-
-// The line on which an object breaks a rule: used and not defined, or defined and incomplete at the end.
-fn object_fault(state: &State, row: &ObjectRow) -> Option<u32> {
-    if row.defined.is_none() {
-        return row.used;
-    }
-    let extent: Option<Extent> = state.tags.extent(&row.qual.ty);
-    if extent.is_none() || !addresses_are_within(state, row) {
-        return Some(row.line);
-    }
-    None
-}
-
 fn function_fault(row: &FunctionRow) -> Option<u32> {
     match &row.definition {
         Definition::Library(_) | Definition::Own(_, Some(_)) => None,
@@ -85,29 +41,13 @@ fn function_fault(row: &FunctionRow) -> Option<u32> {
     }
 }
 
-// The first line on which something that is used isn't defined, or something that is defined is incomplete.
-fn first_fault(state: &State) -> Option<u32> {
+// The first line on which a function is used that isn't defined.
+fn first_fault(functions: &[FunctionRow]) -> Option<u32> {
     let mut line = None;
-    for row in &state.objects {
-        line = earlier(line, object_fault(state, row));
-    }
-    for row in &state.functions {
+    for row in functions {
         line = earlier(line, function_fault(row));
     }
     line
-}
-
-// The function that is called at program startup, where it has a body.
-fn main_of(functions: &[Function], main: Option<u32>) -> Option<u32>
-    ensures { IfSome result (λ number. There (slice_get functions.now number) HasBody) }
-{
-    let number = main?;
-    let function = functions.get(number as usize)?;
-    if function.body.is_some() {
-        Some(number)
-    } else {
-        None
-    }
 }
 
 // A function has the type of its definition, where the unit has one.
@@ -149,27 +89,6 @@ fn program_functions(alloc: Global, rows: Vec<FunctionRow>) -> Result<Items<Func
     Ok(functions)
 }
 
-// The objects that are defined; they stand before the others.
-fn program_statics(alloc: Global, rows: Vec<ObjectRow>) -> Result<Items<Static>, NoMemory> {
-    let mut statics = Items::new(alloc);
-    for row in rows {
-        if row.defined.is_some() {
-            let ObjectRow {
-                qual,
-                linked: _,
-                internal: _,
-                defined: _,
-                line: _,
-                initialized: _,
-                constants,
-                used: _,
-            } = row;
-            statics.push(Static { qual, constants })?;
-        }
-    }
-    Ok(statics)
-}
-
 fn program_literals(alloc: Global, rows: Vec<Literal>) -> Result<Items<Bytes>, NoMemory>
     ensures { IfOk result (All HasBytes) }
 {
@@ -196,13 +115,12 @@ fn is_numbered(p: &Program) -> bool
 /// incomplete, where there is no `main` (5.1.2.2.1, 6.9p5), or where there is more than numbers are left for (own).
 pub fn finished(alloc: Global, source: &Source<'_>, state: State) -> Result<Program, TypeFault>
     ensures main { IfOk result HasMain }
+    ensures main_type { IfOk result MainHasType }
     ensures library { IfOk result LibraryIsExternal }
     ensures literals { IfOk result LiteralsHaveBytes }
+    ensures complete { IfOk result StaticsAreComplete }
     ensures numbered { IfOk result IsNumbered }
 {
-    if let Some(line) = first_fault(&state) {
-        return Err(TypeFault::NotTyped(line));
-    }
     let State {
         alloc: _,
         ordinary: _,
@@ -222,11 +140,14 @@ pub fn finished(alloc: Global, source: &Source<'_>, state: State) -> Result<Prog
         main,
         task: _,
     } = state;
+    let Checked { statics, fault } = program_statics(alloc, &tags, objects)?;
+    if let Some(line) = earlier(fault, first_fault(functions.as_slice())) {
+        return Err(TypeFault::NotTyped(line));
+    }
     let functions = program_functions(alloc, functions)?;
     let Some(main) = main_of(functions.as_slice(), main) else {
         return Err(TypeFault::NotTyped(source.last_line()));
     };
-    let statics = program_statics(alloc, objects)?;
     let literals = program_literals(alloc, literals)?;
     let program = Program {
         functions,

@@ -2,5 +2,9 @@
 #![tactic(auto)]
 
 mod finish;
+mod lines;
+mod startup;
+mod statics;
 
 pub use finish::{final_order, finished};
+pub use startup::is_main_type;

@@ -1,6 +1,6 @@
 // External definitions (6.9).
 ghost use Rattle.std.specs.Prelude.{IfOk};
-ghost use Rattle.c_typed.specs.Lawful.{HasMain, LibraryIsExternal, LiteralsHaveBytes, IsNumbered};
+ghost use Rattle.c_typed.specs.Lawful.{HasMain, MainHasType, LibraryIsExternal, LiteralsHaveBytes, StaticsAreComplete, IsNumbered};
 
 use crate::block::{begun, function_type, named_part, near, no_initializer};
 use crate::statement::block_items;
@@ -10,7 +10,7 @@ use c_expression::expression::{constant, declared, specified};
 use c_expression::words::{Storage, Words};
 use c_initial::initialize;
 use c_lex::Tokens;
-use c_program::{final_order, finished};
+use c_program::{final_order, finished, is_main_type};
 use c_scope::{Definition, Linkage, Source, State, Task, TypeFault, copied_function};
 use c_typed::{Block, Body, Program};
 use c_types::{FuncTy, Qual, Ty, copied, copied_qual};
@@ -67,37 +67,6 @@ fn joined_type(state: &State, number: u32, qual: Qual) -> Result<Qual, TypeFault
     match state.objects.get(number as usize) {
         Some(row) => Ok(copied_qual(state.alloc, &row.qual)?),
         None => Ok(qual),
-    }
-}
-
-fn is_int(ty: &Ty) -> bool {
-    matches!(ty, Ty::Int(c_types::IntKind::Int))
-}
-
-// A pointer to a pointer to `char`.
-fn is_argument_vector(ty: &Ty) -> bool {
-    match ty {
-        Ty::Pointer(outer) => match &outer.get().ty {
-            Ty::Pointer(inner) => {
-                !outer.get().constant
-                    && !inner.get().constant
-                    && matches!(inner.get().ty, Ty::Int(c_types::IntKind::Char))
-            }
-            _ => false,
-        },
-        _ => false,
-    }
-}
-
-/// Whether it is one of the two types of `main` (5.1.2.2.1p1).
-pub fn is_main_type(ty: &FuncTy) -> bool {
-    if ty.variadic || !is_int(&ty.result) {
-        return false;
-    }
-    match ty.params.as_slice() {
-        [] => true,
-        [count, vector] => is_int(&count.ty) && is_argument_vector(&vector.ty),
-        _ => false,
     }
 }
 
@@ -325,8 +294,10 @@ fn all_declared(
 /// object that is defined earlier, the unit is read again with the order known.
 pub fn resolve(alloc: Global, tokens: &Tokens<'_>, unit: &Unit) -> Result<Program, TypeFault>
     ensures main { IfOk result HasMain }
+    ensures main_type { IfOk result MainHasType }
     ensures library { IfOk result LibraryIsExternal }
     ensures literals { IfOk result LiteralsHaveBytes }
+    ensures complete { IfOk result StaticsAreComplete }
     ensures numbered { IfOk result IsNumbered }
 {
     let source = Source::new(alloc, tokens)?;

@@ -15,7 +15,7 @@ use prov_memory::Touched;
 use std::alloc::Global;
 use ub_base::{Event, Frame, NoMemory};
 
-/// Stops a run at its first conflict, and records its calls and what it has seen at the last one.
+/// Stops a run at its first conflict, and records its calls and what it has seen, which is something once it has stopped.
 #[derive(Drop)]
 pub struct Watcher<'p> {
     // the program's full expressions
@@ -40,7 +40,7 @@ impl<'p> Watcher<'p> {
         })
     }
 
-    /// The calls, and what was seen at the last one.
+    /// The calls, and what was seen.
     pub fn into_parts(self) -> (Calls, Option<Seen>)
         ensures calls { result.0 ≡ self.entry.calls }
         ensures stopped { HasStopped (Some self.entry.calls) → IsSome result.1 }
@@ -60,17 +60,21 @@ impl<'p> Watch for Watcher<'p> {
 
     fn pick(&mut self, v: &View, event: Option<Event>, items: &Touched) -> Result<Go, NoMemory> {
         let seen = self.detector.pick(self.roots, v, event, items.items())?;
-        let go = go_of(seen);
+        let go = go_of(&seen);
         self.calls = self.calls.picked(event, items, go);
-        self.seen = seen;
+        if seen.is_some() {
+            self.seen = seen;
+        }
         Ok(go)
     }
 
     fn node_done(&mut self, v: &View, frame: Frame, turn: u64, node: u32) -> Result<Go, NoMemory> {
         let seen = self.detector.node_done(self.roots, v, node)?;
-        let go = go_of(seen);
+        let go = go_of(&seen);
         self.calls = self.calls.node_done(frame, turn, node, go);
-        self.seen = seen;
+        if seen.is_some() {
+            self.seen = seen;
+        }
         Ok(go)
     }
 
@@ -82,16 +86,18 @@ impl<'p> Watch for Watcher<'p> {
         node: u32,
     ) -> Result<Go, NoMemory> {
         let seen = self.detector.operands_done(self.roots, v, node)?;
-        let go = go_of(seen);
+        let go = go_of(&seen);
         self.calls = self.calls.operands_done(frame, turn, node, go);
-        self.seen = seen;
+        if seen.is_some() {
+            self.seen = seen;
+        }
         Ok(go)
     }
 }
 
 // A watch stops a run where it has seen a conflict.
-fn go_of(seen: Option<Seen>) -> Go
-    ensures { result ≡ go_of seen }
+fn go_of(seen: &Option<Seen>) -> Go
+    ensures { result ≡ go_of seen.now }
 {
     match seen {
         Some(_) => Go::Stop,
