@@ -1,3 +1,4 @@
+pub mod Ending
 pub mod Printing
 pub mod Stepping
 pub mod Taking

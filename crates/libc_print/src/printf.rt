@@ -1,15 +1,19 @@
 // printf.
 
-ghost use Rattle.std.specs.Prelude.{◌≡◌, ◌≤◌, suc, length, drop, [], true, false, List, OnErr, IfOk};
+ghost use Rattle.std.specs.Prelude.{◌≡◌, ◌≤◌, ℕ, suc, length, drop, [], true, false, List, OnErr, IfOk};
 ghost use Rattle.addr_map.specs.declared.map.Row.{Row};
 ghost use Rattle.libc_spec.specs.Directives.{directive_of};
-ghost use Rattle.libc_spec.specs.Print.{put_byte, put_integer, put_sized, put, step, text_of};
-ghost use Rattle.libc_model.specs.Answers.{AreWithin, gives_value};
+ghost use Rattle.libc_spec.specs.Library.{argument_at};
+ghost use Rattle.libc_spec.specs.Print.{put_byte, put_integer, put_sized, put, step, text_of, printf};
+ghost use Rattle.libc_model.specs.Answers.{AreWithin, Answers, HaveCells, answer_in, gives_value};
+ghost use Rattle.libc_model.specs.Parts.{after, Gives};
+ghost use Rattle.libc_model.specs.Seen.{values_seen};
 ghost use Rattle.libc_print.specs.Seen.{directive_seen, width_seen, left, typed};
 ghost use Rattle.libc_print.specs.Answers.{Puts, Steps, IsText, IsFormed, is_pointed, is_pointed_in, points_nowhere, Prints, IsUnpointed, printed_text};
+ghost use Rattle.libc_print.specs.Calls.{printing, limited, IsUnpointedCall};
+ghost use Rattle.prov_memory.specs.Script.{Script, run};
 ghost use Rattle.prov_memory.specs.Streams.{Io};
-ghost use Rattle.prov_memory.specs.Memory.{HasCell, store_of};
-ghost use Rattle.libc_model.specs.Parts.{after};
+ghost use Rattle.prov_memory.specs.Memory.{HasCell, AreKnown, store_of};
 
 use crate::directive::{Directive, Form, behind, directive_of};
 use crate::number::{Width, is_signed, put_address, put_integer, put_text};
@@ -34,12 +38,15 @@ pub fn format(
     io: &mut Streams,
     t: &mut Touched,
 ) -> LibAnswer
+    ensures exact { AreWithin io.old → HaveCells m.old (values_seen args.now) → IsUnpointedCall m.old io.old (argument_at (values_seen args.now) 0) → Answers result t.new (store_of m.new io.new) (limited (run m.new.rows (printf m.new.rows (argument_at (values_seen args.now) 0) (drop 1 (typed args.now types.now))) (store_of m.old io.old))) }
+    ensures known { AreKnown m.old → AreKnown m.new }
+    ensures same { gives_value result ≡ false → (m.new ≡ m.old) × (io.new ≡ io.old) }
     ensures within { AreWithin io.old → AreWithin io.new }
     ensures streams { gives_value result ≡ false → io.new ≡ io.old }
 {
     t.clear();
     match printed(alloc, args.as_slice(), types, m, io, t) {
-        Ok(count) => LibAnswer::Value(Value::Int(i128::from(count))),
+        Ok(value) => LibAnswer::Value(value),
         Err(answer) => answer,
     }
 }
@@ -52,18 +59,39 @@ fn printed(
     m: &mut Memory,
     io: &mut Streams,
     t: &mut Touched,
-) -> Result<u64, LibAnswer>
+) -> Result<Value, LibAnswer>
+    requires { t.old ≡ [] }
+    ensures exact { AreWithin io.old → HaveCells m.old (values_seen args.now) → IsUnpointedCall m.old io.old (argument_at (values_seen args.now) 0) → Answers (answer_in result) t.new (store_of m.new io.new) (limited (run m.new.rows (printf m.new.rows (argument_at (values_seen args.now) 0) (drop 1 (typed args.now types.now))) (store_of m.old io.old))) }
+    ensures known { AreKnown m.old → AreKnown m.new }
+    ensures same { OnErr result ((m.new ≡ m.old) × (io.new ≡ io.old)) }
     ensures within { AreWithin io.old → AreWithin io.new }
     ensures streams { OnErr result (io.new ≡ io.old) }
 {
-    let out = printed_text(alloc, pointer_at(args, 0), args, types, m, t)?;
-    let count = out.len() as u64;
+    let text = printed_text(alloc, pointer_at(args, 0), args, types, m, t)?;
+    put_out(alloc, text.as_slice(), m, io, t)
+}
+
+// The end of a call: its bytes are printed and counted.
+fn put_out(
+    alloc: Global,
+    bytes: &[u8],
+    m: &mut Memory,
+    io: &mut Streams,
+    t: &mut Touched,
+) -> Result<Value, LibAnswer>
+    ensures exact { (script : List Row → Script (List ℕ)) → AreWithin io.old → Gives false (List ℕ) m.old io.old [] t.old (script m.old.rows) bytes.now → Answers (answer_in result) t.new (store_of m.new io.new) (limited (run m.new.rows (printing (script m.new.rows)) (store_of m.old io.old))) }
+    ensures known { AreKnown m.old → AreKnown m.new }
+    ensures same { OnErr result ((m.new ≡ m.old) × (io.new ≡ io.old)) }
+    ensures within { AreWithin io.old → AreWithin io.new }
+    ensures streams { OnErr result (io.new ≡ io.old) }
+{
+    let count = bytes.len() as u64;
     check_output(io, count)?;
     t.add(Item::Output)?;
     let mut scratch = Touched::new(alloc)?;
-    io.put(out.as_slice())?;
+    io.put(bytes)?;
     settle(m, t, &mut scratch);
-    Ok(count)
+    Ok(Value::Int(i128::from(count)))
 }
 
 // The text that a call prints: the format is read first.
