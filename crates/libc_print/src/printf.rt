@@ -4,7 +4,7 @@ ghost use Rattle.std.specs.Prelude.{◌≡◌, ◌≤◌, ℕ, suc, length, drop
 ghost use Rattle.addr_map.specs.declared.map.Row.{Row};
 ghost use Rattle.libc_spec.specs.Directives.{directive_of};
 ghost use Rattle.libc_spec.specs.Library.{argument_at};
-ghost use Rattle.libc_spec.specs.Print.{put_byte, put_integer, put_sized, put, step, text_of, printf};
+ghost use Rattle.libc_spec.specs.Print.{put_byte, put_integer, put_sized, put, step, text_of, printed_by};
 ghost use Rattle.libc_model.specs.Answers.{AreWithin, Answers, HaveCells, answer_in, gives_value};
 ghost use Rattle.libc_model.specs.Parts.{after, Gives};
 ghost use Rattle.libc_model.specs.Seen.{values_seen};
@@ -38,7 +38,7 @@ pub fn format(
     io: &mut Streams,
     t: &mut Touched,
 ) -> LibAnswer
-    ensures exact { AreWithin io.old → HaveCells m.old (values_seen args.now) → IsUnpointedCall m.old io.old (argument_at (values_seen args.now) 0) → Answers result t.new (store_of m.new io.new) (limited (run m.new.rows (printf m.new.rows (argument_at (values_seen args.now) 0) (drop 1 (typed args.now types.now))) (store_of m.old io.old))) }
+    ensures exact { AreWithin io.old → HaveCells m.old (values_seen args.now) → IsUnpointedCall m.old io.old (argument_at (values_seen args.now) 0) → Answers result t.new (store_of m.new io.new) (printed_by m.new.rows (argument_at (values_seen args.now) 0) (drop 1 (typed args.now types.now)) (store_of m.old io.old)) }
     ensures known { AreKnown m.old → AreKnown m.new }
     ensures same { gives_value result ≡ false → (m.new ≡ m.old) × (io.new ≡ io.old) }
     ensures within { AreWithin io.old → AreWithin io.new }
@@ -61,7 +61,7 @@ fn printed(
     t: &mut Touched,
 ) -> Result<Value, LibAnswer>
     requires { t.old ≡ [] }
-    ensures exact { AreWithin io.old → HaveCells m.old (values_seen args.now) → IsUnpointedCall m.old io.old (argument_at (values_seen args.now) 0) → Answers (answer_in result) t.new (store_of m.new io.new) (limited (run m.new.rows (printf m.new.rows (argument_at (values_seen args.now) 0) (drop 1 (typed args.now types.now))) (store_of m.old io.old))) }
+    ensures exact { AreWithin io.old → HaveCells m.old (values_seen args.now) → IsUnpointedCall m.old io.old (argument_at (values_seen args.now) 0) → Answers (answer_in result) t.new (store_of m.new io.new) (printed_by m.new.rows (argument_at (values_seen args.now) 0) (drop 1 (typed args.now types.now)) (store_of m.old io.old)) }
     ensures known { AreKnown m.old → AreKnown m.new }
     ensures same { OnErr result ((m.new ≡ m.old) × (io.new ≡ io.old)) }
     ensures within { AreWithin io.old → AreWithin io.new }
