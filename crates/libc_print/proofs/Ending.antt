@@ -23,8 +23,8 @@ use Rattle.libc_model.specs.Parts.{effect, after, CanDo, CanFollow, Gives}
 use Rattle.libc_model.proofs.Scripts.{then, run_then, behind_done, run_same, run_twice}
 use Rattle.libc_model.proofs.Answering.{answers_of, address_is}
 use Rattle.libc_model.proofs.Parts.{raises_then, bare_after, after_append, follow_append, joined_append}
-use Rattle.libc_print.specs.Answers.{Prints, IsUnpointed, printed_text}
-use Rattle.libc_print.specs.Calls.{put_out, printing, limited, IsUnpointedCall}
+use Rattle.libc_print.specs.Answers.{Prints, printed_text}
+use Rattle.libc_print.specs.Calls.{put_out, printing, limited}
 use Rattle.libc_print.proofs.Printing.{with_format, with_numbers}
 
 -- ---- the output beside what items settle and expose
@@ -139,9 +139,3 @@ printf_called rows vs as' a p s t is e same h =
     subst (λ (act : Act LibValue). Answers e is t (limited act)) (printf_is rows (argument_at vs 0) as' s)
     (subst (λ (b : ℕ). Answers e is t (limited (run rows (printing (printed_text rows b (prov_in (argument_at vs 0)) as')) s))) q.0
     (subst (λ (r : Prov). Answers e is t (limited (run rows (printing (printed_text rows a r as')) s))) q.1 h))
-
-pub unpointed_at : (m : Kept) (io : Io) (is : List Item) (vs : List LibValue) (a : ℕ) (p : Prov) → is ≡ [] → pointer a p ≡ pointer_in (argument_at vs 0) → IsUnpointedCall m io (argument_at vs 0) → IsUnpointed m.rows (after is (store_of m io)) a p
-unpointed_at m io is vs a p none same h =
-    let q = address_is a (address_in (argument_at vs 0)) p (prov_in (argument_at vs 0)) same in
-    subst (λ (js : List Item). IsUnpointed m.rows (after js (store_of m io)) a p) (sym none)
-    (subst (λ (r : Prov). IsUnpointed m.rows (store_of m io) a r) (sym q.1) (subst (λ (b : ℕ). IsUnpointed m.rows (store_of m io) b (prov_in (argument_at vs 0))) (sym q.0) h))

@@ -45,7 +45,7 @@ behind_passes : {B : Type 0} (is : List Item) (c : Cause) (n : ℕ) → behind {
 behind_passes [] c n = refl
 behind_passes {B = B} (i ∷ is) c n = ap (touched i) (behind_passes {B = B} is c n)
 
-then_passes : (q : _) (A B : Type 0) (m : Kept) (io : Io) (old mid : List Item) (p : Script A) (v : A) (k : A → Script B) (c : Cause) (n : ℕ) →
+pub then_passes : (q : _) (A B : Type 0) (m : Kept) (io : Io) (old mid : List Item) (p : Script A) (v : A) (k : A → Script B) (c : Cause) (n : ℕ) →
     Gives q A m io old mid p v → run m.rows (k v) (after mid (store_of m io)) ≡ Outside c n → run m.rows (p >>= k) (after old (store_of m io)) ≡ Outside c n
 then_passes q A B m io old mid p v k c n f e =
     run_then m.rows p k (after old (store_of m io)) ∙ ap (λ (act : Act A). then act (λ a u. run m.rows (k a) u)) f.done ∙ ap (behind f.items) e ∙ behind_passes f.items c n
