@@ -6,7 +6,6 @@ use Rattle.std.proofs.lemmas.Bool.{ne_eqb}
 use Rattle.std.proofs.lemmas.Bool.Decides.{nat_tests}
 use Rattle.std.proofs.lemmas.Iterator.Adapters.{position_from-zero}
 use Rattle.std.proofs.lemmas.List.{append-nil}
-use Rattle.ub_base.specs.declared.clause.Clause.{Clause}
 use Rattle.ub_base.specs.declared.clause.Clause.TheVariants.{LibraryArgument}
 use Rattle.ub_base.specs.declared.names.Item.{Item}
 use Rattle.ub_base.specs.declared.names.Item.TheVariants.{Read}
@@ -16,13 +15,12 @@ use Rattle.addr_map.specs.Rows.{row_of}
 use Rattle.exposure.specs.declared.prov.Prov.{Prov}
 use Rattle.exposure.specs.Cells.{Cells}
 use Rattle.prov_memory.specs.declared.answer.LibAnswer.{LibAnswer}
-use Rattle.prov_memory.specs.declared.answer.LibAnswer.TheVariants as answers
 use Rattle.prov_memory.specs.Store.{Store, TaggedByte, range_from}
 use Rattle.prov_memory.specs.Script.{Script, Give, ◌>>=◌, Act, Done, Raised, touched, run}
 use Rattle.prov_memory.specs.Acts.{Accessed, argument, size_in}
 use Rattle.prov_memory.specs.Streams.{Io}
 use Rattle.prov_memory.specs.Memory.{Kept, store_of}
-use Rattle.libc_spec.specs.Library.{LibValue, pointer, Text, read_numbers, is_zero, joined}
+use Rattle.libc_spec.specs.Library.{pointer, Text, read_numbers, is_zero, joined}
 use Rattle.libc_spec.specs.Print.{before_zero, until_most, bounded_from, string_bytes}
 use Rattle.libc_model.specs.declared.arguments.Range.{Range}
 use Rattle.libc_model.specs.Parts.{after, CanFollow, has_read, starts_in_read, Gives, Follows, ReadsAll, accessed, accessed_if, byte_at, bytes_of, bytes_if, read_items, one_more, string_size}

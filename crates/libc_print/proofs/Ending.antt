@@ -8,7 +8,6 @@ use Rattle.ub_base.specs.declared.names.Item.TheVariants.{Read, Write, Born, Die
 use Rattle.addr_map.specs.declared.map.Row.{Row}
 use Rattle.exposure.specs.declared.prov.Prov.{Prov}
 use Rattle.exposure.specs.Cells.{Cells}
-use Rattle.prov_memory.specs.declared.value.Value.{Value}
 use Rattle.prov_memory.specs.declared.value.Value.TheVariants.{Int}
 use Rattle.prov_memory.specs.declared.answer.LibAnswer.{LibAnswer}
 use Rattle.prov_memory.specs.declared.answer.LibAnswer.TheVariants as answers
@@ -23,7 +22,7 @@ use Rattle.libc_model.specs.Parts.{effect, after, CanDo, CanFollow, Gives}
 use Rattle.libc_model.proofs.Scripts.{then, run_then, behind_done, run_same, run_twice}
 use Rattle.libc_model.proofs.Answering.{answers_of, address_is}
 use Rattle.libc_model.proofs.Parts.{raises_then, bare_after, after_append, follow_append, joined_append}
-use Rattle.libc_print.specs.Answers.{Prints, printed_text}
+use Rattle.libc_print.specs.Runs.{Prints, printed_text}
 use Rattle.libc_print.specs.Calls.{put_out, printing, limited}
 use Rattle.libc_print.proofs.Printing.{with_format, with_numbers}
 

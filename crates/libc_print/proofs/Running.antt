@@ -1,9 +1,7 @@
 -- Lemmas on the parts of a call that add bytes to its text.
-use Rattle.std.proofs.Common.{◌≡◌, ℕ, suc, ◌+◌, ◌-◌, ◌<◌, ◌≤◌, ◌==◌, Bool, true, false, List, [], ◌∷◌, ◌++◌, length, drop, map, Result, Ok, Err, Option, Some, refl, sym, ap, ap₂, ◌∙◌, subst, arith, append_assoc}
-use Rattle.std.proofs.lemmas.Bool.{ne_eqb}
+use Rattle.std.proofs.Common.{◌≡◌, ℕ, suc, ◌+◌, ◌-◌, ◌<◌, ◌≤◌, Bool, true, false, List, [], ◌∷◌, ◌++◌, length, drop, map, Result, Ok, Err, Some, refl, sym, ap, ap₂, ◌∙◌, subst, arith, append_assoc}
 use Rattle.std.proofs.lemmas.List.{length-drop, append-nil}
 use Rattle.ub_base.specs.declared.clause.Clause.{Clause}
-use Rattle.ub_base.specs.declared.clause.Cause.{Cause}
 use Rattle.ub_base.specs.declared.names.Item.{Item}
 use Rattle.ub_base.specs.declared.names.Item.TheVariants.{Expose}
 use Rattle.ub_base.specs.declared.names.ObjName.{ObjName}
@@ -13,24 +11,24 @@ use Rattle.exposure.specs.Cells.{Cells}
 use Rattle.prov_memory.specs.declared.answer.LibAnswer.{LibAnswer}
 use Rattle.prov_memory.specs.declared.answer.LibAnswer.TheVariants as answers
 use Rattle.prov_memory.specs.Store.{Store}
-use Rattle.prov_memory.specs.Script.{Script, Give, Raise as RaiseOf, Exceed, ◌>>=◌, Act, Done, Raised, Outside as ActOutside, touched, run}
+use Rattle.prov_memory.specs.Script.{Script, Give, Raise as RaiseOf, Exceed, ◌>>=◌, Done, Raised, Outside as ActOutside, touched, run}
 use Rattle.prov_memory.specs.Acts.{candidates, show_each, expose}
 use Rattle.prov_memory.specs.Streams.{Io}
 use Rattle.prov_memory.specs.Memory.{Kept, store_of}
 use Rattle.libc_spec.specs.Library.{Text, text, read_numbers, without_zero, joined}
 use Rattle.libc_spec.specs.Directives as directives
 use Rattle.libc_spec.specs.Directives.{directive_of, form, taken}
-use Rattle.libc_spec.specs.Print.{Argument, Taken, Step, Width, Parts, Field, width_taken, precision_taken, put_string, put_address, put_sized, put, step, text_of, field, address_parts, one}
+use Rattle.libc_spec.specs.Print.{Argument, Taken, Step, Field, put, step, text_of, field, address_parts, one}
 use Rattle.libc_model.specs.declared.arguments.Range.{Range}
 use Rattle.libc_model.specs.Parts.{after, effect, CanFollow, has_read, Gives, Follows, ReadsAll, bytes_of, text_in}
-use Rattle.libc_model.proofs.Scripts.{then, behind, run_then, behind_done}
+use Rattle.libc_model.proofs.Scripts.{behind}
 use Rattle.libc_model.proofs.Parts.{then_gives, then_raises, raises_then, gives_at_once, quiet_starts, after_append, follow_append}
 use Rattle.libc_model.proofs.Reading.{reads_follow}
 use Rattle.libc_print.specs.declared.refusal.Refusal.{Refusal}
 use Rattle.libc_print.specs.declared.refusal.Refusal.TheVariants.{Raise, Outside, NoMemory}
 use Rattle.libc_print.specs.Seen.{digits_of, address_parts_of}
-use Rattle.libc_print.specs.Answers.{PutsBytes, Puts, Steps, Prints, answer_of, is_pointed, printed_text}
-use Rattle.libc_print.specs.Runs.{Added, Adds, directive_bytes, step_bytes}
+use Rattle.libc_print.specs.Answers.{PutsBytes, Puts, Steps, answer_of}
+use Rattle.libc_print.specs.Runs.{Prints, printed_text, Added, Adds, directive_bytes, step_bytes}
 use Rattle.libc_print.proofs.Stepping.{sized_step}
 use Rattle.libc_print.proofs.Printing.{then_passes, with_format, with_numbers, text_without}
 use Rattle.libc_print.proofs.Ending.{passes_then}

@@ -9,9 +9,9 @@ ghost use Rattle.libc_model.specs.Answers.{AreWithin, Answers, HaveCells, answer
 ghost use Rattle.libc_model.specs.Parts.{Gives};
 ghost use Rattle.libc_model.specs.Seen.{values_seen};
 ghost use Rattle.libc_print.specs.Seen.{directive_seen, width_seen, left, typed};
-ghost use Rattle.libc_print.specs.Answers.{Puts, IsFormed, is_pointed, Prints, printed_text};
+ghost use Rattle.libc_print.specs.Answers.{Puts, IsFormed, is_pointed};
+ghost use Rattle.libc_print.specs.Runs.{Prints, printed_text, Adds, directive_bytes, step_bytes};
 ghost use Rattle.libc_print.specs.Calls.{printing, limited};
-ghost use Rattle.libc_print.specs.Runs.{Adds, directive_bytes, step_bytes};
 ghost use Rattle.prov_memory.specs.Script.{Script, run};
 ghost use Rattle.prov_memory.specs.Streams.{Io};
 ghost use Rattle.prov_memory.specs.Memory.{Kept, HasCell, AreKnown, store_of};

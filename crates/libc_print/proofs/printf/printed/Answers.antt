@@ -1,5 +1,5 @@
 use Rattle.std.specs.Prelude.{Err}
-use Rattle.std.proofs.Common.{◌≡◌, false, ℕ, List, [], Vec, Global, drop, sym, subst}
+use Rattle.std.proofs.Common.{false, ℕ, List, [], Vec, Global, drop, sym, subst}
 use Rattle.std.proofs.lemmas.Result.{err_from_is_err_and}
 use Rattle.ub_base.specs.declared.names.Item.{Item}
 use Rattle.prov_memory.specs.Memory.{store_of}
@@ -8,7 +8,7 @@ use Rattle.libc_model.specs.Answers.{answer_in}
 use Rattle.libc_model.specs.Parts.{Gives}
 use Rattle.libc_model.proofs.Finishing.{cell_of}
 use Rattle.libc_print.specs.Seen.{typed}
-use Rattle.libc_print.specs.Answers.{Prints, printed_text}
+use Rattle.libc_print.specs.Runs.{Prints, printed_text}
 use Rattle.libc_print.proofs.Ending.{printf_called, print_fails}
 use Rattle.libc_print.proofs.printf.printed.Goals as goal
 

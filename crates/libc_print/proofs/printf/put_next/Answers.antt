@@ -1,4 +1,4 @@
-use Rattle.std.proofs.Common.{◌≡◌, ◌++◌, ◌∷◌, [], List, Ok, Err, ℕ, refl, sym, subst}
+use Rattle.std.proofs.Common.{List, Ok, Err, ℕ, refl, sym, subst}
 use Rattle.std.proofs.lemmas.Result.{err_from_is_err_and}
 use Rattle.libc_spec.specs.Print.{step}
 use Rattle.libc_print.specs.Seen.{left, directive_seen}

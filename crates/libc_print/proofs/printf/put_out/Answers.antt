@@ -1,10 +1,9 @@
-use Rattle.std.proofs.Common.{◌≡◌, ◌∙◌, ◌+◌, ◌<◌, ◌^◌, ℤ, List, length, sym, subst, arith, rules, to_z, of_z}
+use Rattle.std.proofs.Common.{◌≡◌, ◌∙◌, ◌+◌, ◌<◌, ◌^◌, ℤ, length, sym, subst, arith, rules, to_z, of_z}
 use Rattle.std.specs.Int.{w128}
 use Rattle.std.proofs.lemmas.Int.{to_z-of_z}
 use Rattle.std.proofs.lemmas.Result.{err_from_is_err_and}
 use Rattle.prov_memory.specs.declared.value.Value.TheVariants.{Int}
 use Rattle.prov_memory.specs.declared.answer.LibAnswer.TheVariants as answers
-use Rattle.addr_map.specs.declared.map.Row.{Row}
 use Rattle.prov_memory.specs.Memory.{store_of}
 use Rattle.prov_memory.specs.Script.{run}
 use Rattle.libc_model.specs.Answers.{Answers}

@@ -1,4 +1,4 @@
-use Rattle.std.proofs.Common.{true, List, Ok, Err}
+use Rattle.std.proofs.Common.{true, Ok, Err}
 use Rattle.std.proofs.lemmas.Result.{err_from_is_err_and}
 use Rattle.prov_memory.specs.Script.{◌>>=◌, ◌>>◌}
 use Rattle.prov_memory.specs.Acts.{expose}
