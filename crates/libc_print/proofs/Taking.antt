@@ -1,15 +1,12 @@
 -- Lemmas on the arguments that are left.
-use Rattle.std.proofs.Common.{◌≡◌, ℕ, zero, suc, ◌<◌, ◌≤◌, List, [], ◌∷◌, length, drop, get_or, min, true, false, refl, ap, sym, arith, rules, ℤ}
-use Rattle.ub_base.specs.declared.clause.Clause.{Clause}
-use Rattle.ub_base.specs.declared.clause.Clause.TheVariants.{TooFewArguments, Conversion}
+use Rattle.std.proofs.Common.{◌≡◌, ℕ, zero, suc, ◌<◌, ◌≤◌, List, [], ◌∷◌, length, drop, get_or, min, false, refl, ap, sym, arith, rules}
 use Rattle.c_types.specs.declared.kind.IntKind.{IntKind}
 use Rattle.c_types.specs.declared.kind.IntKind.TheVariants.{Int}
-use Rattle.c_types.specs.Types.{CType, void, int, type_of, qualified_of}
+use Rattle.c_types.specs.Types.{void, type_of, qualified_of}
 use Rattle.c_types.specs.declared.ty.Qual.{Qual, the_lemmas}
 use Rattle.prov_memory.specs.declared.value.Value.{Value}
-use Rattle.prov_memory.specs.Script.{Give, Raise}
-use Rattle.libc_spec.specs.Library.{argument_at, integer_in}
-use Rattle.libc_spec.specs.Print.{Argument, next_int, is_int, same_kind}
+use Rattle.libc_spec.specs.Library.{argument_at}
+use Rattle.libc_spec.specs.Print.{same_kind}
 use Rattle.libc_model.specs.Seen.{values_seen}
 use Rattle.libc_print.specs.Seen.{typed, type_at}
 
@@ -48,18 +45,3 @@ type_at-none (u ∷ ts) (suc i) h = type_at-none ts i (omega (arith, h))
 pub same_kind-void : (k : IntKind) → same_kind k void ≡ false
 same_kind-void Int = refl
 same_kind-void _ = refl
-
-same_kind-int : (ty : CType) → same_kind Int ty ≡ is_int ty
-same_kind-int (int Int) = refl
-same_kind-int _ = refl
-
--- an argument of type int
-pub int-none : (c : Clause) (as' : List Argument) → c ≡ TooFewArguments → as' ≡ [] → Raise c ≡ next_int as'
-int-none c as' e k = rw k (ap Raise e)
-
-pub int-given : (a : Argument) (as' rest : List Argument) (n : ℤ) → as' ≡ a ∷ rest → same_kind Int a.ty ≡ true → n ≡ integer_in a.value →
-    Give (record { item = n; rest = rest }) ≡ next_int as'
-int-given a as' rest n e k q = rw (e, ← same_kind-int a.ty, k, q) refl
-
-pub int-refused : (a : Argument) (as' rest : List Argument) → as' ≡ a ∷ rest → same_kind Int a.ty ≡ false → Raise Conversion ≡ next_int as'
-int-refused a as' rest e k = rw (e, ← same_kind-int a.ty, k) refl

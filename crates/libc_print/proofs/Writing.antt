@@ -1,31 +1,15 @@
 -- Lemmas on the bytes of conversions.
 use Rattle.std.proofs.Common.{◌≡◌, ℕ, zero, suc, ◌+◌, ◌-◌, ◌/◌, ◌%◌, ◌<◌, ◌≤◌, Bool, List, [], ◌∷◌, ◌++◌, Result, Ok, Err, Option, ℤ, refl, sym, ap, ◌∙◌, subst, arith, append_assoc, replicate, reverse}
-use Rattle.std.proofs.lemmas.Bool.{le-ltb, lt-ltb, ne_eqb}
+use Rattle.std.proofs.lemmas.Bool.{ne_eqb}
 use Rattle.std.proofs.lemmas.List.{append-nil, replicate-append-replicate, reverse-append}
 use Rattle.ub_base.specs.declared.clause.Clause.{Clause}
-use Rattle.ub_base.specs.declared.clause.Cause.TheVariants.{Conversion as PastConversion}
 use Rattle.prov_memory.specs.Script.{Script, Give, Raise as RaiseOf, Exceed, ◌>>=◌}
 use Rattle.libc_spec.specs.Directives.{Flags}
-use Rattle.libc_spec.specs.Print.{Argument, Taken, integer_parts, Parts, Field, own_size, whole_size, padded, field, one, digit, digits_by}
+use Rattle.libc_spec.specs.Print.{Argument, Taken, integer_parts, Field, field, one, digit, digits_by}
 use Rattle.libc_print.specs.declared.refusal.Refusal.{Refusal}
 use Rattle.libc_print.specs.declared.refusal.Refusal.TheVariants.{Raise, Outside, NoMemory}
 use Rattle.libc_print.specs.Seen.{digits_of, integer_parts_of}
 use Rattle.libc_print.specs.Answers.{PutsBytes, Puts}
-
--- a conversion within the limit
-pub field_fits : (p : Parts) (f : Field) (old new : List ℕ) → whole_size p f ≤ 4095 →
-    new ≡ old ++ padded p f (whole_size p f - own_size p) → PutsBytes (Ok tt) old new (field p f)
-field_fits p f old new h e = rw (le-ltb 4095 (whole_size p f) h) e
-
--- a conversion past the limit
-pub field_passes : (p : Parts) (f : Field) (old new : List ℕ) → 4095 < whole_size p f →
-    PutsBytes (Err (Outside PastConversion (whole_size p f))) old new (field p f)
-field_passes p f old new h = rw (lt-ltb 4095 (whole_size p f) h) (refl, refl)
-
--- the same conversion by other names
-pub field_same : (r : Result (Unit {0}) Refusal) (old new : List ℕ) (p q : Parts) (f g : Field) → p ≡ q → f ≡ g →
-    PutsBytes r old new (field p f) → PutsBytes r old new (field q g)
-field_same r old new p q f g d e h = subst (λ g. PutsBytes r old new (field q g)) e (subst (λ q. PutsBytes r old new (field q f)) d h)
 
 -- an integer with its digits, opened
 pub integer_opened : (r : Result (Unit {0}) Refusal) (old new : List ℕ) (flags : Flags) (c : ℕ) (precision : Option ℕ) (n : ℤ) (g : Field) →

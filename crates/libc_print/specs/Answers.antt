@@ -1,22 +1,14 @@
 -- What functions of this crate answer, against scripts that touch no memory.
-use Rattle.std.specs.Prelude.{◌≡◌, ℕ, zero, suc, ◌==◌, Bool, true, false, ◌||◌, List, [], ◌∷◌, ◌++◌, length, drop, Option, Some, None, if◌then◌else◌, Result, Ok, Err}
+use Rattle.std.specs.Prelude.{◌≡◌, ℕ, ◌==◌, Bool, ◌||◌, List, ◌++◌, Option, Some, None, Result, Ok, Err}
 use Rattle.ub_base.specs.declared.clause.Clause.{Clause}
 use Rattle.ub_base.specs.declared.clause.Clause.TheVariants.{Conversion}
 use Rattle.ub_base.specs.declared.clause.Cause.TheVariants.{Directive as PastDirective}
 use Rattle.prov_memory.specs.declared.answer.LibAnswer.{LibAnswer}
 use Rattle.prov_memory.specs.declared.answer.LibAnswer.TheVariants as answers
-use Rattle.ub_base.specs.declared.names.Item.{Item}
-use Rattle.addr_map.specs.declared.map.Row.{Row}
-use Rattle.exposure.specs.declared.prov.Prov.{Prov}
-use Rattle.prov_memory.specs.Store.{Store}
-use Rattle.prov_memory.specs.Streams.{Io}
-use Rattle.prov_memory.specs.Memory.{Kept, store_of}
-use Rattle.prov_memory.specs.Script.{Script, Give, Raise as RaiseOf, Exceed, ◌>>=◌, Done, Raised, Outside as ActOutside, run}
-use Rattle.libc_spec.specs.Library.{Text, text, numbers, read_numbers, without_zero}
-use Rattle.libc_model.specs.Parts.{Gives, after}
+use Rattle.prov_memory.specs.Script.{Script, Give, Raise as RaiseOf, Exceed}
 use Rattle.libc_spec.specs.Directives as directives
-use Rattle.libc_spec.specs.Directives.{directive_of, form}
-use Rattle.libc_spec.specs.Print.{Argument, Taken, Step, text_of}
+use Rattle.libc_spec.specs.Directives.{form}
+use Rattle.libc_spec.specs.Print.{Argument, Taken, Step}
 use Rattle.libc_print.specs.Seen.{directive_seen}
 use Rattle.libc_print.specs.declared.directive.Directive.{Directive}
 use Rattle.libc_print.specs.declared.refusal.Refusal.{Refusal}
@@ -57,22 +49,6 @@ answer_of NoMemory = answers.NoMemory
 abbrev pub is_pointed : ℕ → Bool
 is_pointed c = (c == 115) || (c == 112)
 
--- whether a byte of a format begins such a directive
-abbrev pub is_pointed_in : ℕ → Option directives.Directive → Bool
-is_pointed_in c None = false
-is_pointed_in c (Some d) = if c == 37 then is_pointed d.conversion else false
-
-abbrev pub size_behind : ℕ → Option directives.Directive → ℕ
-size_behind c None = 0
-size_behind c (Some d) = if c == 37 then d.len else 0
-
--- no directive of a format has one
-abbrev pub points_nowhere : (fuel : ℕ) → List ℕ → Bool
-points_nowhere zero cs = true
-points_nowhere (suc fuel) [] = true
-points_nowhere (suc fuel) (c ∷ cs) =
-    if is_pointed_in c (directive_of cs) then false else points_nowhere fuel (drop (size_behind c (directive_of cs)) cs)
-
 abbrev pub refusal_of : directives.Form → (at : ℕ) → Option Refusal
 refusal_of directives.taken at = None
 refusal_of directives.left_out at = Some (Outside PastDirective at)
@@ -91,32 +67,3 @@ Steps (Ok n) old new rest (Give s) = (new ≡ old ++ s.bytes) × (rest ≡ s.res
 Steps (Err (answers.Raise c)) old new rest (RaiseOf d) = c ≡ d
 Steps (Err (answers.Outside c n)) old new rest (Exceed d m) = (c ≡ d) × (n ≡ m)
 Steps r old new rest script = ⊥
-
--- behind these bytes come those that the script gives, or it is refused as the script says
-abbrev pub IsText : {A : Type 0} → (A → List ℕ) → Result A LibAnswer → (before : List ℕ) → Script (List ℕ) → Type 0
-IsText items (Err answers.NoMemory) before script = Unit {0}
-IsText items (Ok v) before (Give bytes) = items v ≡ before ++ bytes
-IsText items (Err (answers.Raise c)) before (RaiseOf d) = c ≡ d
-IsText items (Err (answers.Outside c n)) before (Exceed d m) = (c ≡ d) × (n ≡ m)
-IsText items r before script = ⊥
-
--- a part of a call that looks at memory does what a script does: it gives its value, or raises its clause, or passes its limit; where
--- memory is wanted nothing is said
-abbrev pub Prints : {A V : Type 0} → (A → V) → Result A LibAnswer → Kept → Io → (old new : List Item) → Script V → Type 0
-Prints {V = V} seen (Ok a) m io old new script = Gives false V m io old new script (seen a)
-Prints seen (Err answers.NoMemory) m io old new script = Unit {0}
-Prints seen (Err (answers.Raise c)) m io old new script = run m.rows script (after old (store_of m io)) ≡ Raised c
-Prints seen (Err (answers.Outside c n)) m io old new script = run m.rows script (after old (store_of m io)) ≡ ActOutside c n
-Prints seen (Err answer) m io old new script = ⊥
-
--- the text of a call: its format is read and then printed
-abbrev pub printed_text : List Row → ℕ → Prov → List Argument → Script (List ℕ)
-printed_text rows a p as' = do
-  s ← text rows a p
-  ns ← read_numbers s.bytes
-  text_of (length ns) rows 0 (without_zero ns) as'
-
--- the format that stands there has no `%s` and no `%p`
-abbrev pub IsUnpointed : List Row → Store → ℕ → Prov → Type 0
-IsUnpointed rows store a p = (s : Text) (is : List Item) (u : Store) → run rows (text rows a p) store ≡ Done s is u →
-    points_nowhere (length (numbers s.bytes)) (without_zero (numbers s.bytes)) ≡ true

@@ -1,2 +1,5 @@
 pub mod Answers
+pub mod Calls
+pub mod Runs
 pub mod Seen
+pub mod Strings

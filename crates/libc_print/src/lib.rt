@@ -5,6 +5,7 @@ mod directive;
 mod number;
 mod printf;
 mod refusal;
+mod strings;
 mod values;
 
 pub use printf::format;

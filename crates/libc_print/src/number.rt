@@ -115,6 +115,14 @@ pub struct Width {
     pub is_left: bool,
 }
 
+/// Adds a byte.
+pub fn put_one(out: &mut Vec<u8>, byte: u8) -> Result<(), NoMemory>
+    ensures { OnOk result (out.new.items ≡ out.old.items ++ byte ∷ []) }
+{
+    out.push(byte)?;
+    Ok(())
+}
+
 fn put_many(out: &mut Vec<u8>, byte: u8, count: u64) -> Result<(), NoMemory>
     ensures { OnOk result (out.new.items ≡ out.old.items ++ replicate count byte) }
 {

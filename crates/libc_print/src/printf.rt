@@ -1,28 +1,33 @@
 // printf.
 
-ghost use Rattle.std.specs.Prelude.{◌≡◌, ◌≤◌, suc, length, drop, [], true, false, List, OnErr, IfOk};
+ghost use Rattle.std.specs.Prelude.{◌≡◌, ◌≤◌, ℕ, suc, length, drop, [], true, false, List, OnErr, IfOk};
 ghost use Rattle.addr_map.specs.declared.map.Row.{Row};
 ghost use Rattle.libc_spec.specs.Directives.{directive_of};
-ghost use Rattle.libc_spec.specs.Print.{put_byte, put_integer, put_sized, put, step, text_of};
-ghost use Rattle.libc_model.specs.Answers.{AreWithin, gives_value};
+ghost use Rattle.libc_spec.specs.Library.{argument_at};
+ghost use Rattle.libc_spec.specs.Print.{put_byte, put_integer, put_string, put_address, put_sized, put, step, text_of, printed_by};
+ghost use Rattle.libc_model.specs.Answers.{AreWithin, Answers, HaveCells, answer_in, gives_value};
+ghost use Rattle.libc_model.specs.Parts.{Gives};
+ghost use Rattle.libc_model.specs.Seen.{values_seen};
 ghost use Rattle.libc_print.specs.Seen.{directive_seen, width_seen, left, typed};
-ghost use Rattle.libc_print.specs.Answers.{Puts, Steps, IsText, IsFormed, is_pointed, is_pointed_in, points_nowhere, Prints, IsUnpointed, printed_text};
+ghost use Rattle.libc_print.specs.Answers.{Puts, IsFormed, is_pointed};
+ghost use Rattle.libc_print.specs.Runs.{Prints, printed_text, Adds, directive_bytes, step_bytes};
+ghost use Rattle.libc_print.specs.Calls.{printing, limited};
+ghost use Rattle.prov_memory.specs.Script.{Script, run};
 ghost use Rattle.prov_memory.specs.Streams.{Io};
-ghost use Rattle.prov_memory.specs.Memory.{HasCell, store_of};
-ghost use Rattle.libc_model.specs.Parts.{after};
+ghost use Rattle.prov_memory.specs.Memory.{Kept, HasCell, AreKnown, store_of};
 
 use crate::directive::{Directive, Form, behind, directive_of};
-use crate::number::{Width, is_signed, put_address, put_integer, put_text};
+use crate::number::{Width, is_signed, put_address, put_integer, put_one, put_text};
 use crate::refusal::Refusal;
+use crate::strings::string_of;
 use crate::values::{Arguments, take_int, take_integer, take_pointer, take_precision, take_width};
 use c_types::Qual;
 use libc_model::{
-    Pointer, Range, add_read, check, check_output, check_string, expose, low_byte, numbers,
-    pointer_at, settle,
+    Pointer, check_output, check_string, expose, low_byte, numbers, pointer_at, settle,
 };
 use prov_memory::{LibAnswer, Memory, Streams, Touched, Value, Values};
 use std::alloc::Global;
-use ub_base::{Cause, Clause, Item, NoMemory};
+use ub_base::{Cause, Clause, Item};
 
 /// What printf gives for a format and further arguments, which have these types. After each answer but a value, memory and
 /// streams are as before.
@@ -34,12 +39,15 @@ pub fn format(
     io: &mut Streams,
     t: &mut Touched,
 ) -> LibAnswer
+    ensures exact { AreWithin io.old → HaveCells m.old (values_seen args.now) → Answers result t.new (store_of m.new io.new) (printed_by m.new.rows (argument_at (values_seen args.now) 0) (drop 1 (typed args.now types.now)) (store_of m.old io.old)) }
+    ensures known { AreKnown m.old → AreKnown m.new }
+    ensures same { gives_value result ≡ false → (m.new ≡ m.old) × (io.new ≡ io.old) }
     ensures within { AreWithin io.old → AreWithin io.new }
     ensures streams { gives_value result ≡ false → io.new ≡ io.old }
 {
     t.clear();
     match printed(alloc, args.as_slice(), types, m, io, t) {
-        Ok(count) => LibAnswer::Value(Value::Int(i128::from(count))),
+        Ok(value) => LibAnswer::Value(value),
         Err(answer) => answer,
     }
 }
@@ -52,18 +60,39 @@ fn printed(
     m: &mut Memory,
     io: &mut Streams,
     t: &mut Touched,
-) -> Result<u64, LibAnswer>
+) -> Result<Value, LibAnswer>
+    requires { t.old ≡ [] }
+    ensures exact { AreWithin io.old → HaveCells m.old (values_seen args.now) → Answers (answer_in result) t.new (store_of m.new io.new) (printed_by m.new.rows (argument_at (values_seen args.now) 0) (drop 1 (typed args.now types.now)) (store_of m.old io.old)) }
+    ensures known { AreKnown m.old → AreKnown m.new }
+    ensures same { OnErr result ((m.new ≡ m.old) × (io.new ≡ io.old)) }
     ensures within { AreWithin io.old → AreWithin io.new }
     ensures streams { OnErr result (io.new ≡ io.old) }
 {
-    let out = printed_text(alloc, pointer_at(args, 0), args, types, m, t)?;
-    let count = out.len() as u64;
+    let text = printed_text(alloc, pointer_at(args, 0), args, types, m, t)?;
+    put_out(alloc, text.as_slice(), m, io, t)
+}
+
+// The end of a call: its bytes are printed and counted.
+fn put_out(
+    alloc: Global,
+    bytes: &[u8],
+    m: &mut Memory,
+    io: &mut Streams,
+    t: &mut Touched,
+) -> Result<Value, LibAnswer>
+    ensures exact { (script : List Row → Script (List ℕ)) → AreWithin io.old → Gives false (List ℕ) m.old io.old [] t.old (script m.old.rows) bytes.now → Answers (answer_in result) t.new (store_of m.new io.new) (limited (run m.new.rows (printing (script m.new.rows)) (store_of m.old io.old))) }
+    ensures known { AreKnown m.old → AreKnown m.new }
+    ensures same { OnErr result ((m.new ≡ m.old) × (io.new ≡ io.old)) }
+    ensures within { AreWithin io.old → AreWithin io.new }
+    ensures streams { OnErr result (io.new ≡ io.old) }
+{
+    let count = bytes.len() as u64;
     check_output(io, count)?;
     t.add(Item::Output)?;
     let mut scratch = Touched::new(alloc)?;
-    io.put(out.as_slice())?;
+    io.put(bytes)?;
     settle(m, t, &mut scratch);
-    Ok(count)
+    Ok(Value::Int(i128::from(count)))
 }
 
 // The text that a call prints: the format is read first.
@@ -75,7 +104,7 @@ fn printed_text(
     m: &Memory,
     t: &mut Touched,
 ) -> Result<Vec<u8>, LibAnswer>
-    ensures { (io : Io) → HasCell m.now pointer.prov → IsUnpointed m.now.rows (after t.old (store_of m.now io)) pointer.addr pointer.prov → Prints (λ v. v.items) result m.now io t.old t.new (printed_text m.now.rows pointer.addr pointer.prov (drop 1 (typed args.now types.now))) }
+    ensures { (io : Io) → HasCell m.now pointer.prov → HaveCells m.now (values_seen args.now) → Prints (λ v. v.items) result m.now io t.old t.new (printed_text m.now.rows pointer.addr pointer.prov (drop 1 (typed args.now types.now))) }
 {
     let range = check_string(m, pointer, t)?;
     let mut format = numbers(alloc, m, range, t)?;
@@ -92,8 +121,7 @@ fn text_of(
     m: &Memory,
     t: &mut Touched,
 ) -> Result<Vec<u8>, LibAnswer>
-    ensures exact { (rows : List Row) → points_nowhere (suc (length format.now)) format.now ≡ true → IsText (λ v. v.items) result [] (text_of (suc (length format.now)) rows 0 format.now (drop 1 (typed values.now types.now))) }
-    ensures items { points_nowhere (suc (length format.now)) format.now ≡ true → t.new ≡ t.old }
+    ensures { (io : Io) → HaveCells m.now (values_seen values.now) → Prints (λ v. v.items) result m.now io t.old t.new (text_of (suc (length format.now)) m.now.rows 0 format.now (drop 1 (typed values.now types.now))) }
 {
     let mut args = Arguments {
         values,
@@ -125,20 +153,16 @@ fn put_next(
     m: &Memory,
     t: &mut Touched,
 ) -> Result<usize, LibAnswer>
-    ensures exact { (rows : List Row) → is_pointed_in byte (directive_of cs.now) ≡ false → Steps result out.old.items out.new.items (left args.new) (step rows byte cs.now at (left args.old)) }
+    ensures exact { (io : Io) → HaveCells m.now (values_seen args.old.values.now) → Adds (step_bytes (left args.new)) result m.now io t.old t.new out.old.items out.new.items (step m.now.rows byte cs.now at (left args.old)) }
     ensures len { IfOk result (λ n. n ≤ length cs.now) }
-    ensures items { is_pointed_in byte (directive_of cs.now) ≡ false → t.new ≡ t.old }
+    ensures values { args.new.values ≡ args.old.values }
 {
     if byte != b'%' {
-        out.push(byte).map_err(NoMemory::from)?;
+        put_one(out, byte)?;
         return Ok(0);
     }
     let directive = taken_directive(cs, at)?;
-    if is_pointed(directive.conversion) {
-        put_pointed(alloc, out, directive, args, m, t)?;
-    } else {
-        put_plain(alloc, out, directive, args)?;
-    }
+    put_directive(alloc, out, directive, args, m, t)?;
     Ok(directive.len)
 }
 
@@ -164,6 +188,24 @@ fn is_pointed(conversion: u8) -> bool
     conversion == b's' || conversion == b'p'
 }
 
+fn put_directive(
+    alloc: Global,
+    out: &mut Vec<u8>,
+    directive: Directive,
+    args: &mut Arguments<'_>,
+    m: &Memory,
+    t: &mut Touched,
+) -> Result<(), LibAnswer>
+    ensures exact { (io : Io) → HaveCells m.now (values_seen args.old.values.now) → Adds (directive_bytes (left args.new)) result m.now io t.old t.new out.old.items out.new.items (put m.now.rows (directive_seen directive) (left args.old)) }
+    ensures values { args.new.values ≡ args.old.values }
+{
+    if is_pointed(directive.conversion) {
+        return put_pointed(alloc, out, directive, args, m, t);
+    }
+    put_plain(alloc, out, directive, args)?;
+    Ok(())
+}
+
 // Adds a directive without a pointer.
 fn put_plain(
     alloc: Global,
@@ -172,10 +214,11 @@ fn put_plain(
     args: &mut Arguments<'_>,
 ) -> Result<(), Refusal>
     requires { is_pointed directive.conversion ≡ false }
-    ensures { (rows : List Row) → Puts result out.old.items out.new.items (left args.new) (put rows (directive_seen directive) (left args.old)) }
+    ensures exact { (rows : List Row) → Puts result out.old.items out.new.items (left args.new) (put rows (directive_seen directive) (left args.old)) }
+    ensures values { args.new.values ≡ args.old.values }
 {
     if directive.conversion == b'%' {
-        out.push(b'%').map_err(NoMemory::from)?;
+        put_one(out, b'%')?;
         return Ok(());
     }
     let width = take_width(directive.width, args)?;
@@ -193,7 +236,8 @@ fn put_value(
     args: &mut Arguments<'_>,
 ) -> Result<(), Refusal>
     requires { is_pointed directive.conversion ≡ false }
-    ensures { (rows : List Row) → Puts result out.old.items out.new.items (left args.new) (put_sized rows (directive_seen directive) (width_seen width) precision (left args.old)) }
+    ensures exact { (rows : List Row) → Puts result out.old.items out.new.items (left args.new) (put_sized rows (directive_seen directive) (width_seen width) precision (left args.old)) }
+    ensures values { args.new.values ≡ args.old.values }
 {
     if directive.conversion == b'c' {
         put_byte(out, directive, width, args)
@@ -202,36 +246,14 @@ fn put_value(
     }
 }
 
-// Adds a string or an address.
-fn put_pointed(
-    alloc: Global,
-    out: &mut Vec<u8>,
-    directive: Directive,
-    args: &mut Arguments<'_>,
-    m: &Memory,
-    t: &mut Touched,
-) -> Result<(), LibAnswer> {
-    let width = take_width(directive.width, args)?;
-    let precision = take_precision(directive.precision, args)?;
-    if directive.conversion == b's' {
-        let pointer = take_pointer(false, args)?;
-        let text = string_of(alloc, pointer, precision, m, t)?;
-        put_text(out, text.as_slice(), directive.flags, width)?;
-    } else {
-        let pointer = take_pointer(true, args)?;
-        expose(pointer.prov, t)?;
-        put_address(alloc, out, pointer.addr, directive.flags, width)?;
-    }
-    Ok(())
-}
-
 fn put_byte(
     out: &mut Vec<u8>,
     directive: Directive,
     width: Width,
     args: &mut Arguments<'_>,
 ) -> Result<(), Refusal>
-    ensures { Puts result out.old.items out.new.items (left args.new) (put_byte (directive_seen directive) (width_seen width) (left args.old)) }
+    ensures exact { Puts result out.old.items out.new.items (left args.new) (put_byte (directive_seen directive) (width_seen width) (left args.old)) }
+    ensures values { args.new.values ≡ args.old.values }
 {
     match take_int(args) {
         Ok(number) => put_text(out, &[low_byte(number)], directive.flags, width),
@@ -247,7 +269,8 @@ fn put_number(
     precision: Option<u64>,
     args: &mut Arguments<'_>,
 ) -> Result<(), Refusal>
-    ensures { Puts result out.old.items out.new.items (left args.new) (put_integer (directive_seen directive) (width_seen width) precision (left args.old)) }
+    ensures exact { Puts result out.old.items out.new.items (left args.new) (put_integer (directive_seen directive) (width_seen width) precision (left args.old)) }
+    ensures values { args.new.values ≡ args.old.values }
 {
     let conversion = directive.conversion;
     match take_integer(directive.length, is_signed(conversion), args) {
@@ -264,48 +287,60 @@ fn put_number(
     }
 }
 
-// The bytes of a string before its zero, at most as many as the precision.
-fn string_of(
+// Adds a directive with a pointer.
+fn put_pointed(
     alloc: Global,
-    pointer: Pointer,
-    precision: Option<u64>,
+    out: &mut Vec<u8>,
+    directive: Directive,
+    args: &mut Arguments<'_>,
     m: &Memory,
     t: &mut Touched,
-) -> Result<Vec<u8>, LibAnswer> {
-    let range = match precision {
-        None => check_string(m, pointer, t)?,
-        Some(most) => match bounded_string(m, pointer, most, t)? {
-            Some(range) => range,
-            None => return Ok(Vec::new(alloc)),
-        },
-    };
-    let mut text = numbers(alloc, m, range, t)?;
-    if text.last() == Some(&0) {
-        let _ = text.pop();
+) -> Result<(), LibAnswer>
+    requires { is_pointed directive.conversion ≡ true }
+    ensures exact { (io : Io) → HaveCells m.now (values_seen args.old.values.now) → Adds (directive_bytes (left args.new)) result m.now io t.old t.new out.old.items out.new.items (put m.now.rows (directive_seen directive) (left args.old)) }
+    ensures values { args.new.values ≡ args.old.values }
+{
+    let width = take_width(directive.width, args)?;
+    let precision = take_precision(directive.precision, args)?;
+    if directive.conversion == b's' {
+        put_string(alloc, out, directive, width, precision, args, m, t)
+    } else {
+        put_pointer(alloc, out, directive, width, args, t)
     }
-    Ok(text)
 }
 
-// The bytes that are read of a string of which at most so many are wanted.
-fn bounded_string(
+fn put_string(
+    alloc: Global,
+    out: &mut Vec<u8>,
+    directive: Directive,
+    width: Width,
+    precision: Option<u64>,
+    args: &mut Arguments<'_>,
     m: &Memory,
-    pointer: Pointer,
-    most: u64,
     t: &mut Touched,
-) -> Result<Option<Range>, LibAnswer> {
-    let Some(first) = check(m, pointer, most.min(1), t)? else {
-        return Ok(None);
-    };
-    match libc_model::bounded_length(m, first.object, first.from, most) {
-        Some(len) => {
-            let range = Range {
-                object: first.object,
-                from: first.from,
-                len,
-            };
-            add_read(range, t)?;
-            Ok(Some(range))
-        }
-        None => Err(LibAnswer::Raise(Clause::LibraryArgument)),
-    }
+) -> Result<(), LibAnswer>
+    ensures exact { (io : Io) → HaveCells m.now (values_seen args.old.values.now) → Adds (directive_bytes (left args.new)) result m.now io t.old t.new out.old.items out.new.items (put_string m.now.rows (directive_seen directive) (width_seen width) precision (left args.old)) }
+    ensures values { args.new.values ≡ args.old.values }
+{
+    let pointer = take_pointer(false, args)?;
+    let text = string_of(alloc, pointer, precision, m, t)?;
+    put_text(out, text.as_slice(), directive.flags, width)?;
+    Ok(())
+}
+
+fn put_pointer(
+    alloc: Global,
+    out: &mut Vec<u8>,
+    directive: Directive,
+    width: Width,
+    args: &mut Arguments<'_>,
+    t: &mut Touched,
+) -> Result<(), LibAnswer>
+    ensures exact { (m : Kept) (io : Io) → Adds (directive_bytes (left args.new)) result m io t.old t.new out.old.items out.new.items (put_address (directive_seen directive) (width_seen width) (left args.old)) }
+    ensures values { args.new.values ≡ args.old.values }
+{
+    let pointer = take_pointer(true, args)?;
+    expose(pointer.prov, t)?;
+    put_address(alloc, out, pointer.addr, directive.flags, width)?;
+    Ok(())
 }

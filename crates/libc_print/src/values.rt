@@ -4,7 +4,9 @@ ghost use Rattle.ub_base.specs.declared.clause.Clause.TheVariants.{TooFewArgumen
 ghost use Rattle.c_types.specs.Types.{type_of, pointer};
 ghost use Rattle.libc_spec.specs.Print.{next_int, next_integer, next_pointer, width_taken, precision_taken, not_negative, signed_kind, converted, same_kind, fits_kind, is_target};
 ghost use Rattle.libc_spec.specs.Directives.{most};
-ghost use Rattle.libc_model.specs.Seen.{pointer_seen};
+ghost use Rattle.prov_memory.specs.Memory.{Kept, HasCell};
+ghost use Rattle.libc_model.specs.Answers.{HaveCells};
+ghost use Rattle.libc_model.specs.Seen.{pointer_seen, values_seen};
 ghost use Rattle.libc_print.specs.Seen.{count_seen, length_seen, width_seen, argument_of, type_at, left};
 ghost use Rattle.libc_print.specs.Answers.{taken, taken_as};
 
@@ -69,7 +71,8 @@ fn is_kind(kind: IntKind, ty: &Ty) -> bool
 
 /// The next argument, of type int.
 pub fn take_int(args: &mut Arguments<'_>) -> Result<i128, Clause>
-    ensures { taken result (left args.new) ≡ next_int (left args.old) }
+    ensures exact { taken result (left args.new) ≡ next_int (left args.old) }
+    ensures values { args.new.values ≡ args.old.values }
 {
     let at = take(args)?;
     if is_kind_at(IntKind::Int, args.types, at) {
@@ -88,7 +91,8 @@ fn magnitude(number: i128) -> u64
 
 /// The width, from the directive or the next argument.
 pub fn take_width(count: Count, args: &mut Arguments<'_>) -> Result<Width, Clause>
-    ensures { taken_as width_seen result (left args.new) ≡ width_taken (count_seen count) (left args.old) }
+    ensures exact { taken_as width_seen result (left args.new) ≡ width_taken (count_seen count) (left args.old) }
+    ensures values { args.new.values ≡ args.old.values }
 {
     match count {
         Count::Absent => Ok(Width {
@@ -111,7 +115,8 @@ pub fn take_width(count: Count, args: &mut Arguments<'_>) -> Result<Width, Claus
 
 /// The precision, from the directive or the next argument.
 pub fn take_precision(count: Count, args: &mut Arguments<'_>) -> Result<Option<u64>, Clause>
-    ensures { taken result (left args.new) ≡ precision_taken (count_seen count) (left args.old) }
+    ensures exact { taken result (left args.new) ≡ precision_taken (count_seen count) (left args.old) }
+    ensures values { args.new.values ≡ args.old.values }
 {
     match count {
         Count::Absent => Ok(None),
@@ -175,7 +180,8 @@ pub fn take_integer(
     is_signed: bool,
     args: &mut Arguments<'_>,
 ) -> Result<i128, Clause>
-    ensures { taken result (left args.new) ≡ next_integer (length_seen length) is_signed (left args.old) }
+    ensures exact { taken result (left args.new) ≡ next_integer (length_seen length) is_signed (left args.old) }
+    ensures values { args.new.values ≡ args.old.values }
 {
     let at = take(args)?;
     if fits_at(signed_kind(length), is_signed, args, at) {
@@ -187,7 +193,9 @@ pub fn take_integer(
 
 /// The next argument, a pointer to a character type, or where it may be one to void.
 pub fn take_pointer(may_be_void: bool, args: &mut Arguments<'_>) -> Result<Pointer, Clause>
-    ensures { taken_as pointer_seen result (left args.new) ≡ next_pointer may_be_void (left args.old) }
+    ensures exact { taken_as pointer_seen result (left args.new) ≡ next_pointer may_be_void (left args.old) }
+    ensures values { args.new.values ≡ args.old.values }
+    ensures cell { (m : Kept) → HaveCells m (values_seen args.old.values.now) → IfOk result (λ p. HasCell m p.prov) }
 {
     let at = take(args)?;
     if is_pointer_at(may_be_void, args.types, at) {

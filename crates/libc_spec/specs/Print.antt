@@ -13,7 +13,7 @@ use Rattle.addr_map.specs.Rows.{row_of}
 use Rattle.prov_memory.specs.Store.{TaggedByte, Store}
 use Rattle.prov_memory.specs.Script.{Get, Print, Script, Give, Raise, Exceed, touch, require, ◌>>=◌, ◌>>◌, Act, run}
 use Rattle.prov_memory.specs.Acts.{Accessed, argument, expose, size_in}
-use Rattle.libc_spec.specs.Library.{LibValue, number, pointer_in, address_in, prov_in, integer_in, low_byte, read_numbers, without_zero, text, ends_in_zero, output_within}
+use Rattle.libc_spec.specs.Library.{LibValue, number, pointer_in, address_in, prov_in, integer_in, low_byte, read_numbers, without_zero, text, ends_in_zero, in_ranges, output_within}
 use Rattle.libc_spec.specs.Directives.{Flags, Count, absent, count, Length, hh, h, l, ll, j, z, t, Directive, most, directive_of, Form, taken, left_out, invalid, form, is_in}
 use Rattle.libc_spec.specs.Directives as directives
 
@@ -318,6 +318,7 @@ printf rows format as' = do
   touch (Print bytes)
   Give (number (pos (length bytes)))
 
--- a call of printf, with the limit on the output
+-- a call of printf, whose items name what is read of a string by one range (own), with the limit on the output; the check of each
+-- string's pointer stands before its reads, so no range joins two strings
 abbrev pub printed_by : List Row → LibValue → List Argument → Store → Act LibValue
-printed_by rows format as' s = output_within (run rows (printf rows format as') s)
+printed_by rows format as' s = output_within (in_ranges (run rows (printf rows format as') s))

@@ -8,17 +8,17 @@ use Rattle.libc_print.specs.Seen.{left, flags_seen, width_seen}
 use Rattle.libc_print.proofs.Writing.{puts_refused, puts_taken, puts_one}
 use Rattle.libc_print.proofs.printf.put_byte.Goals as goal
 
-pub returns-in-Err : goal.returns-in-Err
-returns-in-Err c =
-    let e = c.in-Err.ensures in
+pub returns-in-Err-clause-exact : goal.returns-in-Err-clause-exact
+returns-in-Err-clause-exact c =
+    let e = c.in-Err.ensures.exact in
     puts_refused c.in-Err.clause c.args.out.now.items c.args.out.now.items (left c.take_int.new.args)
     (next_int (left c.args.args.now))
     (λ n. field (bare (low_byte n.item ∷ [])) (spaced (flags_seen c.args.directive.flags) (width_seen c.args.width)) >>= (λ bytes. one bytes n.rest))
     e
 
-pub returns-in-Ok : goal.returns-in-Ok
-returns-in-Ok c =
-    let e = c.in-Ok.ensures in
+pub returns-in-Ok-clause-exact : goal.returns-in-Ok-clause-exact
+returns-in-Ok-clause-exact c =
+    let e = c.in-Ok.ensures.exact in
     let q : to_z w128 (of_z w128 c.in-Ok.number) ≡ c.in-Ok.number = to_z-of_z w128 c.in-Ok.number (search rules) in
     let b : c.low_byte.result ≡ low_byte c.in-Ok.number = c.low_byte.ensures ∙ ap low_byte q in
     puts_taken c.put_text.result c.args.out.now.items c.put_text.new.out.items (left c.take_int.new.args)
