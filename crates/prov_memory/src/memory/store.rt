@@ -40,6 +40,7 @@ impl Memory {
         ensures exact { OnOk result (HasCell self.old prov → IsShort via (length bytes.now.cells) → (seen : Seen) → Sees self.old via seen → (io : Io) → run self.old.rows (acts.store self.old.rows first seen align addr prov (tagged_all self.old bytes.now.cells)) (store_of self.old io) ≡ Done tt t.new (store_of self.new io)) }
         ensures raises { IfErr result (λ c. (seen : Seen) → Sees self.old via seen → (io : Io) → run self.old.rows (acts.store self.old.rows first seen align addr prov (tagged_all self.old bytes.now.cells)) (store_of self.old io) ≡ Raised c) }
         ensures same { OnErr result (self.new ≡ self.old) }
+        ensures rows { self.new.rows ≡ self.old.rows }
         ensures known { AreKnown self.old → CellsKnown (length self.old.origins) bytes.now.cells → AreKnown self.new }
         ensures made { (p : Prov) → IsMade self.old p → IsMade self.new p }
         ensures sound { IsSound self.old → CellsKnown (length self.old.origins) bytes.now.cells → IsSound self.new }
@@ -107,6 +108,7 @@ impl Memory {
         ensures exact { OnOk result (HasCell self.old prov → IsShort via (length cells.now) → (seen : Seen) → Sees self.old via seen → (io : Io) → run self.old.rows (acts.store self.old.rows first seen align addr prov (tagged_all self.old cells.now)) (store_of self.old io) ≡ Done tt t.new (store_of self.new io)) }
         ensures raises { IfErr result (λ c. (seen : Seen) → Sees self.old via seen → (io : Io) → run self.old.rows (acts.store self.old.rows first seen align addr prov (tagged_all self.old cells.now)) (store_of self.old io) ≡ Raised c) }
         ensures same { OnErr result (self.new ≡ self.old) }
+        ensures rows { self.new.rows ≡ self.old.rows }
         ensures known { AreKnown self.old → CellsKnown (length self.old.origins) cells.now → AreKnown self.new }
         ensures made { (p : Prov) → IsMade self.old p → IsMade self.new p }
         ensures sound { IsSound self.old → CellsKnown (length self.old.origins) cells.now → IsSound self.new }

@@ -36,6 +36,7 @@ impl Memory {
         ensures known { IfOk result (λ block. AreKnown self.old → CellsKnown (length self.new.origins) block.cells) }
         ensures made { (p : Prov) → IsMade self.old p → IsMade self.new p }
         ensures sound { IsSound self.old → IsSound self.new }
+        ensures rest { record self.new { cells = []; types = [] } ≡ record self.old { cells = []; types = [] } }
     {
         t.clear();
         let found = self.access(size, align, addr, prov, t)?;

@@ -1,4 +1,4 @@
-use Rattle.std.proofs.Common.{◌≡◌, ◌++◌, ◌∷◌, [], sym, subst}
+use Rattle.std.proofs.Common.{◌≡◌, ◌++◌, ◌∷◌, [], ap, sym, subst, ◌∙◌}
 use Rattle.std.proofs.lemmas.Result.{err_from_is_err_and}
 use Rattle.ub_base.specs.declared.names.Item.TheVariants.{Alive, Read}
 use Rattle.prov_memory.specs.Memory.{Kept}
@@ -47,3 +47,11 @@ returns-clause-sound c =
 pub returns-in_err-cells-clause-sound : goal.returns-in_err-cells-clause-sound
 returns-in_err-cells-clause-sound c = λ s.
     typed_sound c.access.new.self c.cells_of.new.self c.cells_of.ensures.rest (subst (λ (m : Kept). IsSound m) (sym c.access.ensures.same) s)
+
+pub returns-clause-rest : goal.returns-clause-rest
+returns-clause-rest c =
+    ap (λ (m : Kept). record m { types = [] }) c.settle.ensures.rest ∙ ap (λ (m : Kept). record m { cells = [] }) c.cells_of.ensures.rest ∙ ap (λ (m : Kept). record m { cells = []; types = [] }) c.access.ensures.same
+
+pub returns-in_err-cells-clause-rest : goal.returns-in_err-cells-clause-rest
+returns-in_err-cells-clause-rest c =
+    ap (λ (m : Kept). record m { cells = [] }) c.cells_of.ensures.rest ∙ ap (λ (m : Kept). record m { cells = []; types = [] }) c.access.ensures.same

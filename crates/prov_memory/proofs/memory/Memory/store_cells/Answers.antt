@@ -56,3 +56,9 @@ returns-clause-sound c = λ s cells.
     let r = c.in_ok-found.ensures.found in
     let w = c.write.ensures.written r.object (ap (λ (k : Kept). slice_get k.objects c.in_ok-found.found.object) c.access.ensures.same ∙ r.there) in
     stored_sound c.args.self.now c.access.new.self c.write.new.self c.settle.new.self w.0 r.object.name c.access.ensures.same w.1 c.settle.ensures.rest c.settle.ensures.cells (returns-clause-known c s.known cells) s
+
+pub returns-clause-rows : goal.returns-clause-rows
+returns-clause-rows c =
+    let r = c.in_ok-found.ensures.found in
+    let w = c.write.ensures.written r.object (ap (λ (k : Kept). slice_get k.objects c.in_ok-found.found.object) c.access.ensures.same ∙ r.there) in
+    ap (λ (k : Kept). k.rows) c.settle.ensures.rest ∙ ap (λ (k : Kept). k.rows) w.1 ∙ ap (λ (k : Kept). k.rows) c.access.ensures.same
