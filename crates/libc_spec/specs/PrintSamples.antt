@@ -4,6 +4,8 @@ use Rattle.ub_base.specs.declared.clause.Clause.{Clause}
 use Rattle.ub_base.specs.declared.clause.Clause.TheVariants.{Conversion, TooFewArguments}
 use Rattle.ub_base.specs.declared.clause.Cause.{Cause}
 use Rattle.ub_base.specs.declared.clause.Cause.TheVariants.{Conversion as PastConversion, Directive as PastDirective}
+use Rattle.ub_base.specs.declared.names.Item.{Item}
+use Rattle.ub_base.specs.declared.names.Item.TheVariants.{Alive, Read, Output}
 use Rattle.ub_base.specs.declared.names.ObjName.{ObjName}
 use Rattle.ub_base.specs.declared.names.ObjName.TheVariants.{Lit}
 use Rattle.addr_map.specs.declared.map.Row.{Row}
@@ -86,6 +88,17 @@ output_of _ = []
 abbrev pub prints : List ℕ → List Argument → List ℕ
 prints format args = output_of (call format args)
 
+abbrev pub items_of : Act LibValue → List Item
+items_of (Done v is s) = is
+items_of _ = []
+
+abbrev pub items : List ℕ → List Argument → List Item
+items format args = items_of (call format args)
+
+-- the same string from its second byte on
+abbrev pub tail : Argument
+tail = record { value = pointer 16777473 (Whole (Lit 1)); ty = pointer_to (int Char) }
+
 pub record PrintSamples : Type 0 where
   -- %d of 0
   pub row_0 : prints (codes "%d") ((given_int Int (pos 0)) ∷ []) ≡ 48 ∷ []
@@ -153,3 +166,8 @@ pub record PrintSamples : Type 0 where
   pub refusal_3 : answers (codes "%4096d") ((given_int Int (pos 1)) ∷ []) ≡ leaves PastConversion 4096
   pub refusal_4 : answers (codes "%d") ((given_int Long (pos 1)) ∷ []) ≡ raises Conversion
   pub refusal_5 : answers (codes "%#d") ((given_int Int (pos 1)) ∷ []) ≡ raises Conversion
+  -- a string is read whole, or as far as its precision goes
+  pub items_0 : items (codes "%s") (word ∷ []) ≡ Alive (Lit 0) ∷ Read (Lit 0) 0 3 ∷ Alive (Lit 1) ∷ Read (Lit 1) 0 3 ∷ Output ∷ []
+  pub items_1 : items (codes "%.1s") (word ∷ []) ≡ Alive (Lit 0) ∷ Read (Lit 0) 0 5 ∷ Alive (Lit 1) ∷ Read (Lit 1) 0 1 ∷ Output ∷ []
+  -- two strings of which one begins where the other's bytes end
+  pub items_2 : items (codes "%.1s%s") (word ∷ tail ∷ []) ≡ Alive (Lit 0) ∷ Read (Lit 0) 0 7 ∷ Alive (Lit 1) ∷ Read (Lit 1) 0 1 ∷ Alive (Lit 1) ∷ Read (Lit 1) 1 2 ∷ Output ∷ []

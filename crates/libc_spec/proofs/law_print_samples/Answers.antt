@@ -39,4 +39,7 @@ returns c = record {
   refusal_3 = refl;
   refusal_4 = refl;
   refusal_5 = refl;
+  items_0 = refl;
+  items_1 = refl;
+  items_2 = refl;
 }
