@@ -1,4 +1,11 @@
 // Conversions (6.3, 6.5.4, 6.5.16.1).
+ghost use Rattle.std.specs.Prelude.{◌≡◌, ◌==◌};
+ghost use Rattle.c_types.specs.Types.{type_of, qualified_of};
+ghost use Rattle.c_types.specs.Layout.{align_of};
+ghost use Rattle.c_express.specs.Same.{same, same_kind, compatible};
+ghost use Rattle.c_express.specs.Terms.{term_of, expression_of, Gives};
+ghost use Rattle.c_express.specs.Conversions.{integer_of, null_pointer};
+ghost use Rattle.c_express.specs.Conversions as spec;
 
 use crate::Refused;
 use crate::constant::integer_constant;
@@ -11,12 +18,17 @@ use c_types::{IntKind, Qual, Tags, Ty, compatible, copied, promote, usual};
 use std::alloc::Global;
 
 /// Whether the type is an integer or a pointer type (6.2.5p21).
-pub fn is_scalar(ty: &Ty) -> bool {
+pub fn is_scalar(ty: &Ty) -> bool
+    ensures { result ≡ spec.is_scalar (type_of ty.now) }
+{
     matches!(ty, Ty::Int(_) | Ty::Enum(_) | Ty::Pointer(_))
 }
 
 /// The value as an integer of this kind.
-pub fn to_kind(alloc: Global, tree: Typed, kind: IntKind) -> Result<Typed, Refused> {
+#[tactic(auto, unfolding(crate::specs::Conversions::to_kind, crate::specs::Same::same_kind))]
+pub fn to_kind(alloc: Global, tree: Typed, kind: IntKind) -> Result<Typed, Refused>
+    ensures { Gives term_of result (spec.to_kind kind (term_of tree)) }
+{
     match &tree.ty {
         Ty::Int(own) if *own == kind => Ok(tree),
         Ty::Int(_) | Ty::Enum(_) => {
@@ -29,7 +41,10 @@ pub fn to_kind(alloc: Global, tree: Typed, kind: IntKind) -> Result<Typed, Refus
 }
 
 /// An integer value after the integer promotions, with its kind (6.3.1.1p2).
-pub fn promoted(alloc: Global, tree: Typed) -> Result<(Typed, IntKind), Refused> {
+#[tactic(auto, unfolding(crate::specs::Conversions::promoted, crate::specs::Conversions::to_kind))]
+pub fn promoted(alloc: Global, tree: Typed) -> Result<(Typed, IntKind), Refused>
+    ensures { Gives integer_of result (spec.promoted (term_of tree)) }
+{
     match kind_of(&tree.ty) {
         None => Err(Refused::Constraint),
         Some(kind) => {
@@ -40,7 +55,10 @@ pub fn promoted(alloc: Global, tree: Typed) -> Result<(Typed, IntKind), Refused>
 }
 
 /// The kind that the usual arithmetic conversions give (6.3.1.8p1).
-pub fn usual_kind(a: &Ty, b: &Ty) -> Option<IntKind> {
+#[tactic(auto, unfolding(crate::specs::Conversions::usual_kind))]
+pub fn usual_kind(a: &Ty, b: &Ty) -> Option<IntKind>
+    ensures { result ≡ spec.usual_kind (type_of a.now) (type_of b.now) }
+{
     Some(usual(kind_of(a)?, kind_of(b)?))
 }
 
@@ -67,7 +85,9 @@ pub fn truth(alloc: Global, tags: &Tags, operand: Operand) -> Result<Typed, Refu
     }
 }
 
-fn alignment(tags: &Tags, target: &Ty) -> u64 {
+fn alignment(tags: &Tags, target: &Ty) -> u64
+    ensures { result ≡ align_of tags.now (type_of target.now) }
+{
     match tags.extent(target) {
         Some(e) => e.align,
         None => 1,
