@@ -148,7 +148,9 @@ usual_kind a b = do
 unfoldable pub balanced : Term → Term → Option Balanced
 balanced a b = do
   kind ← usual_kind (type_at a) (type_at b)
-  Some (record { left = as_kind kind a; right = as_kind kind b; kind = kind })
+  left ← to_kind kind a
+  right ← to_kind kind b
+  Some (record { left = left; right = right; kind = kind })
 
 -- 3. Pointers (6.3.2.3).
 

@@ -6,6 +6,7 @@ ghost use Rattle.c_express.specs.Same.{same, same_kind, compatible};
 ghost use Rattle.c_express.specs.Terms.{term_of, expression_of, Gives};
 ghost use Rattle.c_express.specs.Conversions.{integer_of, null_pointer};
 ghost use Rattle.c_express.specs.Conversions as spec;
+ghost use Rattle.c_express.specs.Operators as operators;
 
 use crate::Refused;
 use crate::constant::integer_constant;
@@ -76,7 +77,10 @@ pub fn promoted_argument(alloc: Global, tags: &Tags, operand: Operand) -> Result
 }
 
 /// A value that is tested against zero: of scalar type (6.5.13p2, 6.8.4.1p1, 6.8.5p2).
-pub fn truth(alloc: Global, tags: &Tags, operand: Operand) -> Result<Typed, Refused> {
+#[tactic(auto, unfolding(crate::specs::Operators::truth))]
+pub fn truth(alloc: Global, tags: &Tags, operand: Operand) -> Result<Typed, Refused>
+    ensures { Gives term_of result (operators.truth tags.now (expression_of operand)) }
+{
     let tree = value_of(alloc, tags, operand)?;
     if is_scalar(&tree.ty) {
         Ok(tree)
