@@ -1,5 +1,5 @@
 -- Conversions (6.3): of lvalues, arrays and functions to values, of integers, of pointers, and as if by assignment.
-use Rattle.std.specs.Prelude.{◌≡◌, ℕ, Bool, true, false, not, ◌&&◌, ◌||◌, if◌then◌else◌, ℤ, pos, List, Option, Some, None}
+use Rattle.std.specs.Prelude.{◌≡◌, ℕ, Bool, true, false, not, ◌&&◌, ◌||◌, if◌then◌else◌, ℤ, pos, List, Option, Some, None, Result, IfOk}
 use Rattle.std.specs.Borrow.{Bor}
 use Rattle.c_types.specs.declared.kind.IntKind.{IntKind}
 use Rattle.c_types.specs.declared.kind.IntKind.TheVariants.{Bool as Boolean, Int}
@@ -18,6 +18,7 @@ use Rattle.c_express.specs.declared.operand.Form.{Form}
 use Rattle.c_express.specs.declared.operand.Form.TheVariants as form
 use Rattle.c_express.specs.declared.operand.Used.{Used}
 use Rattle.c_express.specs.declared.operand.Used.TheVariants as use_of
+use Rattle.c_express.specs.declared.refused.Refused.{Refused}
 use Rattle.c_express.specs.Same.{same, compatible}
 use Rattle.c_typed.specs.declared.tree.Typed.{Typed}
 use Rattle.c_express.specs.Terms.{Term, term_of, type_at, line_at, retyped, constant, over, Expression, ◌>>=◌, unless_refused}
@@ -228,3 +229,48 @@ assigned_value tags to t = converted tags to t
 
 abbrev pub null_pointer : CType → ℕ → Term
 null_pointer ty line = constant (pos 0) ty line
+
+-- what may be a null pointer constant: `(void *)0`, or an integer, which is one where it is a constant expression of value 0
+-- (6.3.2.3p3)
+abbrev pub may_be_null : Form → CType → Bool
+may_be_null form.NullPointer ty = true
+may_be_null form.Value ty = is_integer ty
+may_be_null _ ty = false
+
+-- an integer value where a pointer is wanted: its value decides
+abbrev pub is_undecided : Form → CType → CType → Bool
+is_undecided form.Value from to = is_pointer to && is_integer from
+is_undecided _ from to = false
+
+abbrev pub is_null_form : Form → Bool
+is_null_form form.NullPointer = true
+is_null_form _ = false
+
+-- the null pointer constant becomes a pointer of the type (6.3.2.3p3)
+abbrev pub takes_null : Expression → CType → Bool
+takes_null e to = is_null_form e.form && (is_pointer to && not (same (type_at e.tree) to))
+
+abbrev pub put_as : List Tag → CType → Term → Option Term
+put_as tags to t = if may_assign (type_at t) to then assigned_value tags to t else None
+
+-- an operand, that isn't an integer where a pointer is wanted, as if assigned to an object of this type (6.5.16.1p2)
+unfoldable pub as_if_assigned : List Tag → CType → Expression → Option Term
+as_if_assigned tags to e =
+    if takes_null e to then Some (null_pointer to (line_at e.tree))
+    else (value tags e >>= λ t. put_as tags to t)
+
+-- such an integer: only a null pointer constant goes
+abbrev pub NullOnly : CType → Expression → Result Typed Refused → Type 0
+NullOnly to e result = IfOk result (λ t. term_of t ≡ null_pointer to (line_at e.tree))
+
+-- the default argument promotions (6.5.2.2p6)
+abbrev pub promoted_type : CType → Term → Option Term
+promoted_type (int kind) t = promoted t >>= λ p. Some p.term
+promoted_type (enumeration tag) t = promoted t >>= λ p. Some p.term
+promoted_type (pointer constant target) t = Some t
+promoted_type (struct tag) t = Some t
+promoted_type (union tag) t = Some t
+promoted_type _ t = None
+
+unfoldable pub default_promoted : List Tag → Expression → Option Term
+default_promoted tags e = value tags e >>= λ t. promoted_type (type_at t) t

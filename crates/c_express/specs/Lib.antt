@@ -1,3 +1,4 @@
+pub mod Assignments
 pub mod Conversions
 pub mod Operators
 pub mod Same

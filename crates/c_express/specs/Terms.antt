@@ -96,6 +96,10 @@ abbrev pub ◌>>=◌ : {A B : Type 0} → Option A → (A → Option B) → Opti
 (Some x) >>= f = f x
 None >>= f = None
 
+abbrev pub map_option : {A B : Type 0} → (A → B) → Option A → Option B
+map_option f None = None
+map_option f (Some x) = Some (f x)
+
 -- what a constraint asks for
 abbrev pub unless_refused : {A : Type 0} → Bool → A → Option A
 unless_refused allowed x = if allowed then Some x else None
