@@ -235,8 +235,28 @@ fn may_assign(from: &Ty, to: &Ty) -> bool
     }
 }
 
+// Whether the operand is a null pointer constant that becomes a pointer of this type (6.3.2.3p3).
+fn takes_null(operand: &Operand, to: &Ty) -> bool
+    ensures { spec.is_undecided operand.now.form (type_at (term_of operand.now.tree)) (type_of to.now) ≡ false → result ≡ spec.takes_null (expression_of operand.now) (type_of to.now) }
+{
+    matches!(to, Ty::Pointer(_)) && !same_type(&operand.tree.ty, to) && is_null_constant(operand)
+}
+
+// A value put into an object of this type; a structure or union stays as it is.
+fn put_as(alloc: Global, tags: &Tags, tree: Typed, to: &Ty) -> Result<Typed, Refused>
+    ensures { Gives term_of result (spec.put_as tags.now (type_of to.now) (term_of tree)) }
+{
+    if !may_assign(&tree.ty, to) {
+        return Err(Refused::Constraint);
+    }
+    match to {
+        Ty::Struct(_) | Ty::Union(_) => Ok(tree),
+        to => converted(alloc, tags, tree, to),
+    }
+}
+
 /// The operand converted as if by assignment to an object of this type (6.5.16.1p2).
-#[tactic(auto, unfolding(crate::specs::Conversions::as_if_assigned))]
+#[tactic(auto, unfolding(crate::specs::Conversions::as_if_assigned, crate::specs::Conversions::value))]
 pub fn as_if_assigned(
     alloc: Global,
     tags: &Tags,
@@ -246,20 +266,11 @@ pub fn as_if_assigned(
     ensures exact { spec.is_undecided operand.form (type_at (term_of operand.tree)) (type_of to.now) ≡ false → Gives term_of result (spec.as_if_assigned tags.now (type_of to.now) (expression_of operand)) }
     ensures null { spec.is_undecided operand.form (type_at (term_of operand.tree)) (type_of to.now) ≡ true → spec.NullOnly (type_of to.now) (expression_of operand) result }
 {
-    if matches!(to, Ty::Pointer(_))
-        && !same_type(&operand.tree.ty, to)
-        && is_null_constant(&operand)
-    {
+    if takes_null(&operand, to) {
         return null_pointer(alloc, to, operand.tree.line);
     }
     let tree = value_of(alloc, tags, operand)?;
-    if !may_assign(&tree.ty, to) {
-        return Err(Refused::Constraint);
-    }
-    match to {
-        Ty::Struct(_) | Ty::Union(_) => Ok(tree),
-        to => converted(alloc, tags, tree, to),
-    }
+    put_as(alloc, tags, tree, to)
 }
 
 fn is_void_pointer(ty: &Ty) -> bool {
