@@ -16,7 +16,7 @@ use Rattle.c_typed.specs.Lawful.{is_shift}
 use Rattle.c_express.specs.declared.operand.Form.{Form}
 use Rattle.c_express.specs.declared.operand.Form.TheVariants as form
 use Rattle.c_express.specs.Terms.{Term, term_of, type_at, constant, unary, binary, Expression, as_value, ◌>>=◌, unless_refused}
-use Rattle.c_express.specs.Conversions.{target_of, is_pointer, value, access_of, to_kind, promoted, usual, usual_kind}
+use Rattle.c_express.specs.Conversions.{target_of, is_pointer, value, access_of, to_kind, promoted, usual, usual_kind, as_if_assigned, is_undecided}
 use Rattle.c_express.specs.Operators.{step}
 
 -- which structures and unions have a const member, directly or in a member (6.3.2.1p1)
@@ -139,3 +139,24 @@ incremented tags constants op e line = do
   place ← modifiable constants e
   by ← change_by_one tags op place.ty
   Some (as_value (unary (shape.Update by.change true) place.ty line place.term))
+
+-- 4. Simple assignment (6.5.16.1).
+
+-- the store of a value as if assigned; an initialization is one too (6.7.9p11)
+unfoldable pub stored : List Tag → Bool → Term → CType → Expression → ℕ → Option Term
+stored tags initializing place ty e line = do
+  a ← access_of tags ty
+  t ← as_if_assigned tags ty e
+  Some (binary (shape.Assign initializing a) ty line place t)
+
+-- `a = b`: to a modifiable lvalue (6.5.16p2)
+unfoldable pub assigned : List Tag → Constants → Expression → Expression → ℕ → Option Expression
+assigned tags constants a b line = do
+  place ← modifiable constants a
+  t ← stored tags false place.term place.ty b line
+  Some (as_value t)
+
+-- it isn't an integer that is assigned to a pointer, whose value decides
+abbrev pub is_decided : Option Place → Expression → Bool
+is_decided None b = true
+is_decided (Some place) b = not (is_undecided b.form (type_at b.tree) place.ty)

@@ -1,4 +1,5 @@
 pub mod Assignments
+pub mod Calls
 pub mod Conversions
 pub mod Operators
 pub mod Same

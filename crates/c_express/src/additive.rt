@@ -80,13 +80,7 @@ fn same_elements(a: &Qual, b: &Qual) -> bool
 
 // The difference of two pointers to elements of compatible complete types (6.5.6p3, 6.5.6p9).
 #[tactic(auto, unfolding(crate::specs::Operators::difference))]
-fn difference(
-    alloc: Global,
-    tags: &Tags,
-    a: Typed,
-    b: Typed,
-    line: u32,
-) -> Result<Operand, Refused>
+fn difference(alloc: Global, tags: &Tags, a: Typed, b: Typed, line: u32) -> Result<Operand, Refused>
     ensures { Gives expression_of result (spec.difference tags.now (term_of a) (term_of b) line) }
 {
     let size = match (object_of(&a.ty), object_of(&b.ty)) {

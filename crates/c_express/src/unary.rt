@@ -36,12 +36,7 @@ fn integer_unary(
 
 /// `-E` (6.5.3.3p3).
 #[tactic(auto, unfolding(crate::specs::Operators::of_promoted))]
-pub fn negated(
-    alloc: Global,
-    tags: &Tags,
-    operand: Operand,
-    line: u32,
-) -> Result<Operand, Refused>
+pub fn negated(alloc: Global, tags: &Tags, operand: Operand, line: u32) -> Result<Operand, Refused>
     ensures { Gives expression_of result (spec.negated tags.now (expression_of operand) line) }
 {
     let (tree, kind) = promoted(alloc, value_of(alloc, tags, operand)?)?;
@@ -64,12 +59,7 @@ pub fn complemented(
 
 /// `!E`, of any scalar (6.5.3.3p5).
 #[tactic(auto, unfolding(crate::specs::Operators::inverted))]
-pub fn inverted(
-    alloc: Global,
-    tags: &Tags,
-    operand: Operand,
-    line: u32,
-) -> Result<Operand, Refused>
+pub fn inverted(alloc: Global, tags: &Tags, operand: Operand, line: u32) -> Result<Operand, Refused>
     ensures { Gives expression_of result (spec.inverted tags.now (expression_of operand) line) }
 {
     let tree = truth(alloc, tags, operand)?;
