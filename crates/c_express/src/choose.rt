@@ -1,4 +1,10 @@
 // Calls, conditionals and commas (6.5.2.2, 6.5.15, 6.5.17).
+ghost use Rattle.std.specs.Prelude.{◌≡◌, false, map, slice_get};
+ghost use Rattle.c_types.specs.Types.{qualified_of};
+ghost use Rattle.c_express.specs.Terms.{term_of, expression_of, Gives};
+ghost use Rattle.c_express.specs.Conversions.{target_seen};
+ghost use Rattle.c_express.specs.Calls.{is_undecided_for};
+ghost use Rattle.c_express.specs.Calls as calls;
 
 use crate::Refused;
 use crate::binary::{balanced, matched};
@@ -18,6 +24,13 @@ fn may_return(tags: &Tags, ty: &Ty) -> bool {
     }
 }
 
+// The parameter at this place, where there is one.
+fn parameter(params: &[Qual], at: usize) -> Option<&Qual>
+    ensures { target_seen result ≡ slice_get (map qualified_of params.now) at }
+{
+    params.get(at)
+}
+
 // One argument: converted to the type of its parameter, or by the default promotions where the ellipsis takes it
 // (6.5.2.2p7).
 fn argument(
@@ -26,8 +39,10 @@ fn argument(
     params: &[Qual],
     at: usize,
     operand: Operand,
-) -> Result<Typed, Refused> {
-    match params.get(at) {
+) -> Result<Typed, Refused>
+    ensures { is_undecided_for (slice_get (map qualified_of params.now) at) (expression_of operand) ≡ false → Gives term_of result (calls.argument tags.now (slice_get (map qualified_of params.now) at) (expression_of operand)) }
+{
+    match parameter(params, at) {
         Some(param) => as_if_assigned(alloc, tags, operand, &param.ty),
         None => promoted_argument(alloc, tags, operand),
     }

@@ -1,22 +1,34 @@
 // Conversions (6.3, 6.5.4, 6.5.16.1).
+ghost use Rattle.std.specs.Prelude.{◌≡◌, true, false};
+ghost use Rattle.c_types.specs.Types.{type_of, qualified_of};
+ghost use Rattle.c_types.specs.Layout.{align_of};
+ghost use Rattle.c_express.specs.Terms.{term_of, type_at, expression_of, Gives};
+ghost use Rattle.c_express.specs.Conversions.{integer_of};
+ghost use Rattle.c_express.specs.Conversions as spec;
+ghost use Rattle.c_express.specs.Operators as operators;
 
 use crate::Refused;
 use crate::constant::integer_constant;
 use crate::operand::{
     Form, Operand, discarded, kind_of, leaf, object_of, value, value_of, with_child,
 };
-use crate::same::same_type;
+use crate::same::{are_compatible, same_type};
 use c_typed::{Conversion, Node, Typed};
-use c_types::{IntKind, Qual, Tags, Ty, compatible, copied, promote, usual};
+use c_types::{IntKind, Qual, Tags, Ty, copied, promote, usual};
 use std::alloc::Global;
 
 /// Whether the type is an integer or a pointer type (6.2.5p21).
-pub fn is_scalar(ty: &Ty) -> bool {
+pub fn is_scalar(ty: &Ty) -> bool
+    ensures { result ≡ spec.is_scalar (type_of ty.now) }
+{
     matches!(ty, Ty::Int(_) | Ty::Enum(_) | Ty::Pointer(_))
 }
 
 /// The value as an integer of this kind.
-pub fn to_kind(alloc: Global, tree: Typed, kind: IntKind) -> Result<Typed, Refused> {
+#[tactic(auto, unfolding(crate::specs::Conversions::to_kind, crate::specs::Same::same_kind))]
+pub fn to_kind(alloc: Global, tree: Typed, kind: IntKind) -> Result<Typed, Refused>
+    ensures { Gives term_of result (spec.to_kind kind (term_of tree)) }
+{
     match &tree.ty {
         Ty::Int(own) if *own == kind => Ok(tree),
         Ty::Int(_) | Ty::Enum(_) => {
@@ -29,7 +41,10 @@ pub fn to_kind(alloc: Global, tree: Typed, kind: IntKind) -> Result<Typed, Refus
 }
 
 /// An integer value after the integer promotions, with its kind (6.3.1.1p2).
-pub fn promoted(alloc: Global, tree: Typed) -> Result<(Typed, IntKind), Refused> {
+#[tactic(auto, unfolding(crate::specs::Conversions::promoted, crate::specs::Conversions::to_kind))]
+pub fn promoted(alloc: Global, tree: Typed) -> Result<(Typed, IntKind), Refused>
+    ensures { Gives integer_of result (spec.promoted (term_of tree)) }
+{
     match kind_of(&tree.ty) {
         None => Err(Refused::Constraint),
         Some(kind) => {
@@ -40,12 +55,18 @@ pub fn promoted(alloc: Global, tree: Typed) -> Result<(Typed, IntKind), Refused>
 }
 
 /// The kind that the usual arithmetic conversions give (6.3.1.8p1).
-pub fn usual_kind(a: &Ty, b: &Ty) -> Option<IntKind> {
+#[tactic(auto, unfolding(crate::specs::Conversions::usual_kind))]
+pub fn usual_kind(a: &Ty, b: &Ty) -> Option<IntKind>
+    ensures { result ≡ spec.usual_kind (type_of a.now) (type_of b.now) }
+{
     Some(usual(kind_of(a)?, kind_of(b)?))
 }
 
 /// An argument after the default argument promotions (6.5.2.2p6).
-pub fn promoted_argument(alloc: Global, tags: &Tags, operand: Operand) -> Result<Typed, Refused> {
+#[tactic(auto, unfolding(crate::specs::Conversions::default_promoted))]
+pub fn promoted_argument(alloc: Global, tags: &Tags, operand: Operand) -> Result<Typed, Refused>
+    ensures { Gives term_of result (spec.default_promoted tags.now (expression_of operand)) }
+{
     let tree = value_of(alloc, tags, operand)?;
     match &tree.ty {
         Ty::Int(_) | Ty::Enum(_) => {
@@ -58,7 +79,10 @@ pub fn promoted_argument(alloc: Global, tags: &Tags, operand: Operand) -> Result
 }
 
 /// A value that is tested against zero: of scalar type (6.5.13p2, 6.8.4.1p1, 6.8.5p2).
-pub fn truth(alloc: Global, tags: &Tags, operand: Operand) -> Result<Typed, Refused> {
+#[tactic(auto, unfolding(crate::specs::Operators::truth))]
+pub fn truth(alloc: Global, tags: &Tags, operand: Operand) -> Result<Typed, Refused>
+    ensures { Gives term_of result (operators.truth tags.now (expression_of operand)) }
+{
     let tree = value_of(alloc, tags, operand)?;
     if is_scalar(&tree.ty) {
         Ok(tree)
@@ -67,14 +91,24 @@ pub fn truth(alloc: Global, tags: &Tags, operand: Operand) -> Result<Typed, Refu
     }
 }
 
-fn alignment(tags: &Tags, target: &Ty) -> u64 {
+pub fn is_function(ty: &Ty) -> bool
+    ensures { result ≡ spec.is_function (type_of ty.now) }
+{
+    matches!(ty, Ty::Function(_))
+}
+
+fn alignment(tags: &Tags, target: &Ty) -> u64
+    ensures { result ≡ align_of tags.now (type_of target.now) }
+{
     match tags.extent(target) {
         Some(e) => e.align,
         None => 1,
     }
 }
 
-fn pointer_conversion(tags: &Tags, from: &Qual, to: &Qual) -> Option<Conversion> {
+fn pointer_conversion(tags: &Tags, from: &Qual, to: &Qual) -> Option<Conversion>
+    ensures { result ≡ spec.pointer_conversion tags.now (qualified_of from.now).ty (qualified_of to.now).ty }
+{
     match (&from.ty, &to.ty) {
         (Ty::Function(_), Ty::Function(_)) => Some(Conversion::Function),
         (Ty::Function(_), _) => None,
@@ -85,7 +119,9 @@ fn pointer_conversion(tags: &Tags, from: &Qual, to: &Qual) -> Option<Conversion>
     }
 }
 
-fn address_conversion(from: &Qual, kind: IntKind) -> Option<Conversion> {
+fn address_conversion(from: &Qual, kind: IntKind) -> Option<Conversion>
+    ensures { result ≡ spec.address_conversion (qualified_of from.now).ty kind }
+{
     match (&from.ty, kind) {
         (Ty::Function(_), _) => None,
         (_, IntKind::Bool) => Some(Conversion::NotNull),
@@ -93,7 +129,9 @@ fn address_conversion(from: &Qual, kind: IntKind) -> Option<Conversion> {
     }
 }
 
-fn lookup_conversion(to: &Qual) -> Option<Conversion> {
+fn lookup_conversion(to: &Qual) -> Option<Conversion>
+    ensures { result ≡ spec.lookup_conversion (qualified_of to.now).ty }
+{
     match &to.ty {
         Ty::Function(_) => None,
         _ => Some(Conversion::Lookup),
@@ -101,7 +139,10 @@ fn lookup_conversion(to: &Qual) -> Option<Conversion> {
 }
 
 /// The conversion from one scalar type to another; none between a function pointer and an integer or an object pointer.
-fn conversion(tags: &Tags, from: &Ty, to: &Ty) -> Option<Conversion> {
+#[tactic(auto, unfolding(crate::specs::Conversions::conversion_to))]
+fn conversion(tags: &Tags, from: &Ty, to: &Ty) -> Option<Conversion>
+    ensures { result ≡ spec.conversion_to tags.now (type_of from.now) (type_of to.now) }
+{
     match (object_of(from), object_of(to)) {
         (Some(from), Some(to)) => pointer_conversion(tags, from, to),
         (Some(from), None) => address_conversion(from, kind_of(to)?),
@@ -117,7 +158,10 @@ fn conversion(tags: &Tags, from: &Ty, to: &Ty) -> Option<Conversion> {
 }
 
 /// The value in another scalar type. No node stands between equal types.
-pub fn converted(alloc: Global, tags: &Tags, tree: Typed, to: &Ty) -> Result<Typed, Refused> {
+#[tactic(auto, unfolding(crate::specs::Conversions::converted))]
+pub fn converted(alloc: Global, tags: &Tags, tree: Typed, to: &Ty) -> Result<Typed, Refused>
+    ensures { Gives term_of result (spec.converted tags.now (type_of to.now) (term_of tree)) }
+{
     if same_type(&tree.ty, to) {
         return Ok(tree);
     }
@@ -133,7 +177,10 @@ pub fn converted(alloc: Global, tags: &Tags, tree: Typed, to: &Ty) -> Result<Typ
 
 /// Whether the operand is a null pointer constant: an integer constant expression of value 0, or one cast to `void *`
 /// (6.3.2.3p3).
-pub fn is_null_constant(operand: &Operand) -> bool {
+pub fn is_null_constant(operand: &Operand) -> bool
+    ensures null { operand.now.form ≡ Form.NullPointer → result ≡ true }
+    ensures other { spec.may_be_null operand.now.form (type_at (term_of operand.now.tree)) ≡ false → result ≡ false }
+{
     match operand.form {
         Form::NullPointer => true,
         Form::Value => match kind_of(&operand.tree.ty) {
@@ -145,24 +192,37 @@ pub fn is_null_constant(operand: &Operand) -> bool {
 }
 
 /// A null pointer of this type.
-pub fn null_pointer(alloc: Global, ty: &Ty, line: u32) -> Result<Typed, Refused> {
+pub fn null_pointer(alloc: Global, ty: &Ty, line: u32) -> Result<Typed, Refused>
+    ensures { Gives term_of result (Some (spec.null_pointer (type_of ty.now) line)) }
+{
     Ok(leaf(alloc, Node::Const(0), copied(alloc, ty)?, line))
 }
 
-// Whether a pointer may be assigned: compatible targets or one of them void, with no qualifier lost (6.5.16.1p1).
-fn may_point(from: &Qual, to: &Qual) -> bool {
-    if from.constant && !to.constant {
-        return false;
-    }
-    match (&from.ty, &to.ty) {
-        (Ty::Void, Ty::Function(_)) | (Ty::Function(_), Ty::Void) => false,
-        (Ty::Void, _) | (_, Ty::Void) => true,
-        (from, to) => compatible(from, to),
+/// Whether pointers to these types go together: they are compatible, or one is void and the other an object type
+/// (6.5.9p2, 6.5.15p6, 6.5.16.1p1).
+pub fn may_meet(a: &Ty, b: &Ty) -> bool
+    ensures { result ≡ spec.may_meet (type_of a.now) (type_of b.now) }
+{
+    match a {
+        Ty::Void => !is_function(b),
+        a => match b {
+            Ty::Void => !is_function(a),
+            b => are_compatible(a, b),
+        },
     }
 }
 
+// Whether a pointer may be assigned: the targets go together, and no qualifier is lost (6.5.16.1p1).
+fn may_point(from: &Qual, to: &Qual) -> bool
+    ensures { result ≡ spec.may_point (qualified_of from.now) (qualified_of to.now) }
+{
+    (!from.constant || to.constant) && may_meet(&from.ty, &to.ty)
+}
+
 // Whether a value of the first type may be assigned to an object of the second (6.5.16.1p1).
-fn may_assign(from: &Ty, to: &Ty) -> bool {
+fn may_assign(from: &Ty, to: &Ty) -> bool
+    ensures { result ≡ spec.may_assign (type_of from.now) (type_of to.now) }
+{
     match to {
         Ty::Int(IntKind::Bool) => is_scalar(from),
         Ty::Int(_) | Ty::Enum(_) => kind_of(from).is_some(),
@@ -170,25 +230,22 @@ fn may_assign(from: &Ty, to: &Ty) -> bool {
             Ty::Pointer(from) => may_point(from.get(), to.get()),
             _ => false,
         },
-        Ty::Struct(_) | Ty::Union(_) => compatible(from, to),
+        Ty::Struct(_) | Ty::Union(_) => are_compatible(from, to),
         Ty::Void | Ty::Array(_, _) | Ty::Function(_) => false,
     }
 }
 
-/// The operand converted as if by assignment to an object of this type (6.5.16.1p2).
-pub fn as_if_assigned(
-    alloc: Global,
-    tags: &Tags,
-    operand: Operand,
-    to: &Ty,
-) -> Result<Typed, Refused> {
-    if matches!(to, Ty::Pointer(_))
-        && !same_type(&operand.tree.ty, to)
-        && is_null_constant(&operand)
-    {
-        return null_pointer(alloc, to, operand.tree.line);
-    }
-    let tree = value_of(alloc, tags, operand)?;
+// Whether the operand is a null pointer constant that becomes a pointer of this type (6.3.2.3p3).
+fn takes_null(operand: &Operand, to: &Ty) -> bool
+    ensures { spec.is_undecided operand.now.form (type_at (term_of operand.now.tree)) (type_of to.now) ≡ false → result ≡ spec.takes_null (expression_of operand.now) (type_of to.now) }
+{
+    matches!(to, Ty::Pointer(_)) && !same_type(&operand.tree.ty, to) && is_null_constant(operand)
+}
+
+// A value put into an object of this type; a structure or union stays as it is.
+fn put_as(alloc: Global, tags: &Tags, tree: Typed, to: &Ty) -> Result<Typed, Refused>
+    ensures { Gives term_of result (spec.put_as tags.now (type_of to.now) (term_of tree)) }
+{
     if !may_assign(&tree.ty, to) {
         return Err(Refused::Constraint);
     }
@@ -196,6 +253,24 @@ pub fn as_if_assigned(
         Ty::Struct(_) | Ty::Union(_) => Ok(tree),
         to => converted(alloc, tags, tree, to),
     }
+}
+
+/// The operand converted as if by assignment to an object of this type (6.5.16.1p2).
+#[tactic(auto, unfolding(crate::specs::Conversions::as_if_assigned, crate::specs::Conversions::value))]
+pub fn as_if_assigned(
+    alloc: Global,
+    tags: &Tags,
+    operand: Operand,
+    to: &Ty,
+) -> Result<Typed, Refused>
+    ensures exact { spec.is_undecided operand.form (type_at (term_of operand.tree)) (type_of to.now) ≡ false → Gives term_of result (spec.as_if_assigned tags.now (type_of to.now) (expression_of operand)) }
+    ensures null { spec.is_undecided operand.form (type_at (term_of operand.tree)) (type_of to.now) ≡ true → spec.NullOnly (type_of to.now) (expression_of operand) result }
+{
+    if takes_null(&operand, to) {
+        return null_pointer(alloc, to, operand.tree.line);
+    }
+    let tree = value_of(alloc, tags, operand)?;
+    put_as(alloc, tags, tree, to)
 }
 
 fn is_void_pointer(ty: &Ty) -> bool {

@@ -1,4 +1,11 @@
 // Values, places and function designators (6.3.2.1).
+ghost use Rattle.std.specs.Prelude.{◌≡◌, [], ◌∷◌, IfOk};
+ghost use Rattle.c_types.specs.Types.{type_of, qualified_of, int};
+ghost use Rattle.c_types.specs.Types as types;
+ghost use Rattle.c_express.specs.Terms.{term_of, expression_of, made, constant, as_value, as_place, Gives};
+ghost use Rattle.c_express.specs.Terms as spec;
+ghost use Rattle.c_express.specs.Conversions.{target_seen, target_of, use_seen, use_at};
+ghost use Rattle.c_express.specs.Conversions as conversions;
 
 use crate::Refused;
 use c_typed::{Access, Node, Typed};
@@ -29,7 +36,9 @@ pub struct Operand {
 }
 
 /// A node without children.
-pub fn leaf(alloc: Global, node: Node, ty: Ty, line: u32) -> Typed {
+pub fn leaf(alloc: Global, node: Node, ty: Ty, line: u32) -> Typed
+    ensures { term_of result ≡ made node (type_of ty) line [] }
+{
     Typed {
         node,
         ty,
@@ -45,7 +54,9 @@ pub fn with_child(
     ty: Ty,
     line: u32,
     child: Typed,
-) -> Result<Typed, Refused> {
+) -> Result<Typed, Refused>
+    ensures { Gives term_of result (Some (made node (type_of ty) line (term_of child ∷ []))) }
+{
     let mut children = Items::new(alloc);
     children.push(child)?;
     Ok(Typed {
@@ -64,7 +75,9 @@ pub fn with_children(
     line: u32,
     first: Typed,
     second: Typed,
-) -> Result<Typed, Refused> {
+) -> Result<Typed, Refused>
+    ensures { Gives term_of result (Some (made node (type_of ty) line (term_of first ∷ term_of second ∷ []))) }
+{
     let mut children = Items::new(alloc);
     children.push(first)?;
     children.push(second)?;
@@ -77,7 +90,9 @@ pub fn with_children(
 }
 
 /// The tree as a value.
-pub fn value(tree: Typed) -> Operand {
+pub fn value(tree: Typed) -> Operand
+    ensures { expression_of result ≡ as_value (term_of tree) }
+{
     Operand {
         tree,
         form: Form::Value,
@@ -85,7 +100,9 @@ pub fn value(tree: Typed) -> Operand {
 }
 
 /// The tree, which gives a pointer, as an lvalue.
-pub fn place(tree: Typed, register: bool) -> Operand {
+pub fn place(tree: Typed, register: bool) -> Operand
+    ensures { expression_of result ≡ as_place register (term_of tree) }
+{
     Operand {
         tree,
         form: Form::Place { register },
@@ -93,12 +110,16 @@ pub fn place(tree: Typed, register: bool) -> Operand {
 }
 
 /// An integer constant of this kind.
-pub fn integer(alloc: Global, number: i128, kind: IntKind, line: u32) -> Typed {
+pub fn integer(alloc: Global, number: i128, kind: IntKind, line: u32) -> Typed
+    ensures { term_of result ≡ constant number (int kind) line }
+{
     leaf(alloc, Node::Const(number), Ty::Int(kind), line)
 }
 
 /// The integer kind of an integer or enumerated type.
-pub fn kind_of(ty: &Ty) -> Option<IntKind> {
+pub fn kind_of(ty: &Ty) -> Option<IntKind>
+    ensures { result ≡ types.kind_of (type_of ty.now) }
+{
     match ty {
         Ty::Int(kind) => Some(*kind),
         Ty::Enum(_) => Some(IntKind::Int),
@@ -107,7 +128,9 @@ pub fn kind_of(ty: &Ty) -> Option<IntKind> {
 }
 
 /// The type that a pointer type points to.
-pub fn object_of(ty: &Ty) -> Option<&Qual> {
+pub fn object_of(ty: &Ty) -> Option<&Qual>
+    ensures { target_seen result ≡ target_of (type_of ty.now) }
+{
     match ty {
         Ty::Pointer(target) => Some(target.get()),
         _ => None,
@@ -126,7 +149,9 @@ pub fn function_target(ty: &Ty) -> Option<&FuncTy> {
 }
 
 /// How a complete scalar, structure or union type lies in memory.
-pub fn access_of(tags: &Tags, ty: &Ty) -> Option<Access> {
+pub fn access_of(tags: &Tags, ty: &Ty) -> Option<Access>
+    ensures { result ≡ conversions.access_of tags.now (type_of ty.now) }
+{
     match ty {
         Ty::Int(kind) => Some(Access::Integer(*kind)),
         Ty::Enum(_) => Some(Access::Integer(IntKind::Int)),
@@ -151,7 +176,9 @@ enum Used {
     Decayed(Ty),
 }
 
-fn use_of(alloc: Global, tags: &Tags, object: &Qual) -> Result<Used, Refused> {
+fn use_of(alloc: Global, tags: &Tags, object: &Qual) -> Result<Used, Refused>
+    ensures { Gives use_seen result (use_at tags.now (qualified_of object.now).ty) }
+{
     match &object.ty {
         Ty::Array(element, _) => {
             let target = Qual {
@@ -167,7 +194,9 @@ fn use_of(alloc: Global, tags: &Tags, object: &Qual) -> Result<Used, Refused> {
     }
 }
 
-fn use_behind(alloc: Global, tags: &Tags, ty: &Ty) -> Result<Used, Refused> {
+fn use_behind(alloc: Global, tags: &Tags, ty: &Ty) -> Result<Used, Refused>
+    ensures { Gives use_seen result (conversions.use_behind tags.now (type_of ty.now)) }
+{
     match object_of(ty) {
         None => Err(Refused::Constraint),
         Some(object) => use_of(alloc, tags, object),
@@ -175,7 +204,9 @@ fn use_behind(alloc: Global, tags: &Tags, ty: &Ty) -> Result<Used, Refused> {
 }
 
 /// The tree with another type.
-pub fn retyped(tree: Typed, ty: Ty) -> Typed {
+pub fn retyped(tree: Typed, ty: Ty) -> Typed
+    ensures { term_of result ≡ spec.retyped (type_of ty) (term_of tree) }
+{
     let Typed {
         node,
         ty: _,
@@ -192,7 +223,10 @@ pub fn retyped(tree: Typed, ty: Ty) -> Typed {
 
 /// The value of the operand: an lvalue is loaded, an array gives a pointer to its first element, a function a pointer to
 /// it (6.3.2.1p2 to 6.3.2.1p4). Refused where the object's type is incomplete.
-pub fn value_of(alloc: Global, tags: &Tags, operand: Operand) -> Result<Typed, Refused> {
+#[tactic(auto, unfolding(crate::specs::Conversions::value))]
+pub fn value_of(alloc: Global, tags: &Tags, operand: Operand) -> Result<Typed, Refused>
+    ensures { Gives term_of result (conversions.value tags.now (expression_of operand)) }
+{
     let Operand { tree, form } = operand;
     match form {
         Form::Value | Form::NullPointer | Form::Designator => Ok(tree),

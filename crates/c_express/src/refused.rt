@@ -1,4 +1,5 @@
 // Why an operand can't be made.
+ghost use Rattle.std.specs.Prelude.{◌≡◌};
 
 use std::alloc::{AllocError, AllocFailed};
 use ub_base::NoMemory;
@@ -11,18 +12,30 @@ pub enum Refused {
 }
 
 impl From<NoMemory> for Refused {
+    ghost use Rattle.c_express.specs.declared.refused.Refused.TheVariants.{NoMemory};
+
+    ghost from_gives = { λ _ e. e ≡ NoMemory };
+
     fn from(_e: NoMemory) -> Refused {
         Refused::NoMemory
     }
 }
 
 impl From<AllocError> for Refused {
+    ghost use Rattle.c_express.specs.declared.refused.Refused.TheVariants.{NoMemory};
+
+    ghost from_gives = { λ _ e. e ≡ NoMemory };
+
     fn from(_e: AllocError) -> Refused {
         Refused::NoMemory
     }
 }
 
 impl<T: Drop> From<AllocFailed<T>> for Refused {
+    ghost use Rattle.c_express.specs.declared.refused.Refused.TheVariants.{NoMemory};
+
+    ghost from_gives = { λ _ e. e ≡ NoMemory };
+
     fn from(_e: AllocFailed<T>) -> Refused {
         Refused::NoMemory
     }

@@ -8,7 +8,6 @@ mod linkage;
 mod literals;
 mod rows;
 mod source;
-mod space;
 mod state;
 mod task;
 
@@ -16,8 +15,8 @@ pub use fault::{TypeFault, placed};
 pub use library::{library_function, library_type};
 pub use linkage::{Linkage, copied_function};
 pub use literals::Literal;
+pub use name_space::{Binding, Space};
 pub use rows::{Definition, FunctionRow, Meaning, ObjectRow, TagMeaning, TagRow};
 pub use source::Source;
-pub use space::{Binding, Space};
 pub use state::{Lifted, Mark, State};
 pub use task::{Label, OpenBlock, OpenSwitch, Task};

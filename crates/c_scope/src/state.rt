@@ -1,5 +1,7 @@
 // All that is declared so far.
+ghost use Rattle.std.specs.Prelude.{◌≡◌, OnOk};
 ghost use Rattle.c_typed.specs.Lawful.{HasBytes};
+ghost use Rattle.name_space.specs.Scopes.{left};
 
 use crate::literals::Literal;
 use crate::rows::{FunctionRow, Meaning, ObjectRow, TagMeaning, TagRow};
@@ -89,14 +91,20 @@ impl State {
     }
 
     /// Ends the innermost scope.
-    pub fn leave_scope(&mut self) {
+    pub fn leave_scope(&mut self)
+        ensures ordinary { self.new.ordinary ≡ left self.old.depth self.old.ordinary }
+        ensures tags { self.new.tag_names ≡ left self.old.depth self.old.tag_names }
+    {
         self.ordinary.leave(self.depth);
         self.tag_names.leave(self.depth);
         self.depth = self.depth.saturating_sub(1);
     }
 
     /// Takes the declarations of the innermost scope away, and ends it.
-    pub fn lift_scope(&mut self) -> Result<Lifted, NoMemory> {
+    pub fn lift_scope(&mut self) -> Result<Lifted, NoMemory>
+        ensures ordinary { OnOk result (self.new.ordinary ≡ left self.old.depth self.old.ordinary) }
+        ensures tags { OnOk result (self.new.tag_names ≡ left self.old.depth self.old.tag_names) }
+    {
         let ordinary = self.ordinary.lift(self.alloc, self.depth)?;
         let tag_names = self.tag_names.lift(self.alloc, self.depth)?;
         self.depth = self.depth.saturating_sub(1);
@@ -287,6 +295,10 @@ impl Objects for State {
 }
 
 impl Constants for State {
+    ghost use Rattle.c_scope.specs.Tagged.{has_constant};
+
+    ghost is_constant = { has_constant };
+
     fn has_constant(&self, tag: u32) -> bool {
         match self.tag_rows.get(tag as usize) {
             Some(row) => row.constant,

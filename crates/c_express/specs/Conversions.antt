@@ -1,0 +1,276 @@
+-- Conversions (6.3): of lvalues, arrays and functions to values, of integers, of pointers, and as if by assignment.
+use Rattle.std.specs.Prelude.{◌≡◌, ℕ, Bool, true, false, not, ◌&&◌, ◌||◌, if◌then◌else◌, ℤ, pos, List, Option, Some, None, Result, IfOk}
+use Rattle.std.specs.Borrow.{Bor}
+use Rattle.c_types.specs.declared.kind.IntKind.{IntKind}
+use Rattle.c_types.specs.declared.kind.IntKind.TheVariants.{Bool as Boolean, Int}
+use Rattle.c_types.specs.declared.tags.Tag.{Tag}
+use Rattle.c_types.specs.declared.tags.Extent.{Extent}
+use Rattle.c_types.specs.Kinds as kinds
+use Rattle.c_types.specs.Layout.{extent, extents, align_of}
+use Rattle.c_types.specs.declared.ty.Qual.{Qual}
+use Rattle.c_types.specs.Types.{CType, void, int, enumeration, pointer, array, struct, union, function, Qualified, type_of, qualified_of, kind_of}
+use Rattle.c_typed.specs.declared.tree.Access.{Access}
+use Rattle.c_typed.specs.declared.tree.Access.TheVariants as access
+use Rattle.c_typed.specs.declared.tree.Conversion.{Conversion}
+use Rattle.c_typed.specs.declared.tree.Conversion.TheVariants as conversion
+use Rattle.c_typed.specs.declared.tree.Node.TheOpen as shape
+use Rattle.c_express.specs.declared.operand.Form.{Form}
+use Rattle.c_express.specs.declared.operand.Form.TheVariants as form
+use Rattle.c_express.specs.declared.operand.Used.{Used}
+use Rattle.c_express.specs.declared.operand.Used.TheVariants as use_of
+use Rattle.c_express.specs.declared.refused.Refused.{Refused}
+use Rattle.c_express.specs.Same.{same, compatible}
+use Rattle.c_typed.specs.declared.tree.Typed.{Typed}
+use Rattle.c_express.specs.Terms.{Term, term_of, type_at, line_at, retyped, constant, over, Expression, ◌>>=◌, unless_refused}
+
+-- what a reference to a type with its qualifier shows
+abbrev pub target_seen : Option (Bor Qual) → Option Qualified
+target_seen None = None
+target_seen (Some q) = Some (qualified_of q.now)
+
+-- what a pointer points to
+abbrev pub target_of : CType → Option Qualified
+target_of (pointer constant target) = Some (record { constant = constant; ty = target })
+target_of _ = None
+
+abbrev pub is_function : CType → Bool
+is_function (function result params variadic) = true
+is_function _ = false
+
+abbrev pub is_pointer : CType → Bool
+is_pointer (pointer constant target) = true
+is_pointer _ = false
+
+abbrev pub is_void : CType → Bool
+is_void void = true
+is_void _ = false
+
+-- integer and pointer types (6.2.5p21)
+abbrev pub is_scalar : CType → Bool
+is_scalar (int kind) = true
+is_scalar (enumeration tag) = true
+is_scalar (pointer constant target) = true
+is_scalar _ = false
+
+-- 1. Values (6.3.2.1).
+
+abbrev pub pointer_access : CType → Access
+pointer_access (function result params variadic) = access.Function
+pointer_access _ = access.Pointer
+
+abbrev pub whole : Option Extent → Option Access
+whole None = None
+whole (Some e) = Some (access.Whole e.size e.align)
+
+-- how a value of the type lies in memory; none of an incomplete type, `void`, an array or a function
+abbrev pub access_of : List Tag → CType → Option Access
+access_of tags (int kind) = Some (access.Integer kind)
+access_of tags (enumeration tag) = Some (access.Integer Int)
+access_of tags (pointer constant target) = Some (pointer_access target)
+access_of tags (struct tag) = whole (extent (extents tags) (struct tag))
+access_of tags (union tag) = whole (extent (extents tags) (union tag))
+access_of tags _ = None
+
+-- what an lvalue becomes: it is loaded, or it is an array and gives a pointer to its first element (6.3.2.1p2, 6.3.2.1p3)
+pub data Use : Type 0 where
+  loads : Access → CType → Use
+  decays : CType → Use
+
+abbrev pub use_seen : Used → Use
+use_seen (use_of.Loaded access ty) = loads access (type_of ty)
+use_seen (use_of.Decayed ty) = decays (type_of ty)
+
+abbrev pub loaded : CType → Option Access → Option Use
+loaded object None = None
+loaded object (Some a) = Some (loads a object)
+
+abbrev pub use_at : List Tag → CType → Option Use
+use_at tags (array constant element count) = Some (decays (pointer constant element))
+use_at tags object = loaded object (access_of tags object)
+
+abbrev pub use_behind : List Tag → CType → Option Use
+use_behind tags (pointer constant object) = use_at tags object
+use_behind tags _ = None
+
+abbrev pub put_to_use : Term → Use → Term
+put_to_use place (loads a object) = over (shape.Load a) object place
+put_to_use place (decays ty) = retyped ty place
+
+abbrev pub value_as : List Tag → Form → Term → Option Term
+value_as tags (form.Place register) t = use_behind tags (type_at t) >>= λ use_made. Some (put_to_use t use_made)
+value_as tags form.Void t = None
+value_as tags _ t = Some t
+
+-- the value of an operand (6.3.2.1p2 to 6.3.2.1p4)
+unfoldable pub value : List Tag → Expression → Option Term
+value tags e = value_as tags e.form e.tree
+
+-- 2. Integers (6.3.1).
+
+-- no conversion stands between equal types
+abbrev pub as_kind : IntKind → Term → Term
+as_kind kind t = if same (type_at t) (int kind) then t else over (shape.Conv (conversion.Integer kind)) (int kind) t
+
+-- an integer, in this kind
+unfoldable pub to_kind : IntKind → Term → Option Term
+to_kind kind t = kind_of (type_at t) >>= λ own. Some (as_kind kind t)
+
+-- a value with its integer kind
+pub record Integer : Type 0 where
+  pub term : Term
+  pub kind : IntKind
+
+abbrev pub integer_of : Typed × IntKind → Integer
+integer_of p = record { term = term_of p.0; kind = p.1 }
+
+abbrev pub in_kind : IntKind → Term → Integer
+in_kind kind t = record { term = as_kind kind t; kind = kind }
+
+-- the integer promotions (6.3.1.1p2)
+unfoldable pub promoted : Term → Option Integer
+promoted t = kind_of (type_at t) >>= λ own. Some (in_kind (kinds.promoted own) t)
+
+-- two values in their common type
+pub record Balanced : Type 0 where
+  pub left : Term
+  pub right : Term
+  pub kind : IntKind
+
+abbrev pub usual : IntKind → IntKind → IntKind
+usual j k = kinds.common (kinds.promoted j) (kinds.promoted k)
+
+-- the usual arithmetic conversions (6.3.1.8p1)
+unfoldable pub usual_kind : CType → CType → Option IntKind
+usual_kind a b = do
+  j ← kind_of a
+  k ← kind_of b
+  Some (usual j k)
+
+unfoldable pub balanced : Term → Term → Option Balanced
+balanced a b = do
+  kind ← usual_kind (type_at a) (type_at b)
+  left ← to_kind kind a
+  right ← to_kind kind b
+  Some (record { left = left; right = right; kind = kind })
+
+-- 3. Pointers (6.3.2.3).
+
+-- the conversion between pointers; none between one to a function and one to an object
+abbrev pub pointer_conversion : List Tag → CType → CType → Option Conversion
+pointer_conversion tags from to =
+    if is_function from then unless_refused (is_function to) conversion.Function
+    else unless_refused (not (is_function to)) (conversion.Pointer (align_of tags to))
+
+abbrev pub number_conversion : IntKind → Conversion
+number_conversion Boolean = conversion.NotNull
+number_conversion kind = conversion.Address kind
+
+-- a pointer to an integer; to `_Bool`, whether it is null (6.3.1.2, 6.3.2.3p6)
+abbrev pub address_conversion : CType → IntKind → Option Conversion
+address_conversion from kind = unless_refused (not (is_function from)) (number_conversion kind)
+
+-- an integer to a pointer (6.3.2.3p5)
+abbrev pub lookup_conversion : CType → Option Conversion
+lookup_conversion to = unless_refused (not (is_function to)) conversion.Lookup
+
+abbrev pub between : List Tag → CType → CType → Option Qualified → Option Qualified → Option Conversion
+between tags from to (Some p) (Some q) = pointer_conversion tags p.ty q.ty
+between tags from to (Some p) None = kind_of to >>= λ kind. address_conversion p.ty kind
+between tags from to None (Some q) = kind_of from >>= λ own. lookup_conversion q.ty
+between tags from to None None = kind_of from >>= λ own. kind_of to >>= λ kind. Some (conversion.Integer kind)
+
+-- the conversion from one scalar type to another (6.3.1, 6.3.2.3)
+unfoldable pub conversion_to : List Tag → CType → CType → Option Conversion
+conversion_to tags from to = between tags from to (target_of from) (target_of to)
+
+-- the value in another scalar type: no conversion stands between equal types
+unfoldable pub converted : List Tag → CType → Term → Option Term
+converted tags to t =
+    if same (type_at t) to then Some t
+    else conversion_to tags (type_at t) to >>= λ c. Some (over (shape.Conv c) to t)
+
+-- 4. As if by assignment (6.5.16.1).
+
+-- two pointers to compatible types, or one to `void` and one to an object type
+abbrev pub may_meet : CType → CType → Bool
+may_meet a b =
+    if is_void a then not (is_function b)
+    else if is_void b then not (is_function a)
+    else compatible a b
+
+-- no qualifier is lost (6.5.16.1p1)
+abbrev pub may_point : Qualified → Qualified → Bool
+may_point from to = (not from.constant || to.constant) && may_meet from.ty to.ty
+
+abbrev pub is_integer : CType → Bool
+is_integer (int kind) = true
+is_integer (enumeration tag) = true
+is_integer _ = false
+
+abbrev pub points : Option Qualified → Qualified → Bool
+points None to = false
+points (Some from) to = may_point from to
+
+-- a value of the first type may be assigned to an object of the second (6.5.16.1p1)
+abbrev pub may_assign : CType → CType → Bool
+may_assign from (int Boolean) = is_scalar from
+may_assign from (int kind) = is_integer from
+may_assign from (enumeration tag) = is_integer from
+may_assign from (pointer constant target) = points (target_of from) (record { constant = constant; ty = target })
+may_assign from (struct tag) = compatible from (struct tag)
+may_assign from (union tag) = compatible from (union tag)
+may_assign from _ = false
+
+-- a structure or union stays as it is
+abbrev pub assigned_value : List Tag → CType → Term → Option Term
+assigned_value tags (struct tag) t = Some t
+assigned_value tags (union tag) t = Some t
+assigned_value tags to t = converted tags to t
+
+abbrev pub null_pointer : CType → ℕ → Term
+null_pointer ty line = constant (pos 0) ty line
+
+-- what may be a null pointer constant: `(void *)0`, or an integer, which is one where it is a constant expression of value 0
+-- (6.3.2.3p3)
+abbrev pub may_be_null : Form → CType → Bool
+may_be_null form.NullPointer ty = true
+may_be_null form.Value ty = is_integer ty
+may_be_null _ ty = false
+
+-- an integer value where a pointer is wanted: its value decides
+abbrev pub is_undecided : Form → CType → CType → Bool
+is_undecided form.Value from to = is_pointer to && is_integer from
+is_undecided _ from to = false
+
+abbrev pub is_null_form : Form → Bool
+is_null_form form.NullPointer = true
+is_null_form _ = false
+
+-- the null pointer constant becomes a pointer of the type (6.3.2.3p3)
+abbrev pub takes_null : Expression → CType → Bool
+takes_null e to = is_null_form e.form && (is_pointer to && not (same (type_at e.tree) to))
+
+abbrev pub put_as : List Tag → CType → Term → Option Term
+put_as tags to t = if may_assign (type_at t) to then assigned_value tags to t else None
+
+-- an operand, that isn't an integer where a pointer is wanted, as if assigned to an object of this type (6.5.16.1p2)
+unfoldable pub as_if_assigned : List Tag → CType → Expression → Option Term
+as_if_assigned tags to e =
+    if takes_null e to then Some (null_pointer to (line_at e.tree))
+    else (value tags e >>= λ t. put_as tags to t)
+
+-- such an integer: only a null pointer constant goes
+abbrev pub NullOnly : CType → Expression → Result Typed Refused → Type 0
+NullOnly to e result = IfOk result (λ t. term_of t ≡ null_pointer to (line_at e.tree))
+
+-- the default argument promotions (6.5.2.2p6)
+abbrev pub promoted_type : CType → Term → Option Term
+promoted_type (int kind) t = promoted t >>= λ p. Some p.term
+promoted_type (enumeration tag) t = promoted t >>= λ p. Some p.term
+promoted_type (pointer constant target) t = Some t
+promoted_type (struct tag) t = Some t
+promoted_type (union tag) t = Some t
+promoted_type _ t = None
+
+unfoldable pub default_promoted : List Tag → Expression → Option Term
+default_promoted tags e = value tags e >>= λ t. promoted_type (type_at t) t
