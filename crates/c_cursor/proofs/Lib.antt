@@ -1,0 +1,4 @@
+mod Cursors
+mod Known
+mod Runs
+mod Spellings

@@ -1,0 +1,5 @@
+pub mod Cursors
+pub mod Declarations
+pub mod Places
+pub mod Runs
+pub mod Spelling
