@@ -3,9 +3,12 @@ pub mod Answering
 pub mod Checking
 pub mod Finishing
 pub mod Freeing
+pub mod Listing
+pub mod Living
 pub mod Parts
 pub mod Printing
 pub mod Reading
 pub mod Scripts
 pub mod Seen
 pub mod Settling
+pub mod Writing

@@ -1,11 +1,18 @@
 // Functions on ranges of bytes (7.24.2.1, 7.24.2.2, 7.24.4.1, 7.24.6.1).
 
-ghost use Rattle.std.specs.Prelude.{◌≡◌, ◌++◌, Ok, Err, IfSome, if◌then◌else◌};
-ghost use Rattle.libc_model.specs.Parts.{IsShort, bytes_if, reads_if, ReadsAll};
-ghost use Rattle.libc_spec.specs.Library.{low_byte, order_of, overlap};
+ghost use Rattle.std.specs.Prelude.{◌≡◌, ◌++◌, [], true, Ok, Err, IfOk, IfSome, OnErr, if◌then◌else◌};
+ghost use Rattle.ub_base.specs.declared.names.Event.{Event};
+ghost use Rattle.c_types.specs.declared.library.LibFunc.TheVariants.{Memset, Memcmp};
+ghost use Rattle.prov_memory.specs.Streams.{Io};
+ghost use Rattle.prov_memory.specs.Memory.{AreKnown, HasCell, store_of};
+ghost use Rattle.libc_model.specs.Seen.{value_seen, values_seen};
+ghost use Rattle.libc_model.specs.Answers.{IsCall, Answers, answer_in};
+ghost use Rattle.libc_model.specs.Parts.{Follows, IsPassed, IsRange, IsShort, accessed_if, bytes_if, reads_if, ReadsAll};
+ghost use Rattle.libc_model.specs.Writes.{Tells, IsPlace, FillsRange, target_at, target_checked};
+ghost use Rattle.libc_spec.specs.Library.{called, low_byte, memcmp, order_of, overlap};
 
 use crate::arguments::{Pointer, Range, check, int_at, pointer_at, read_of, size_at};
-use crate::bytes::{add_write, check_writable, filled, put, read, settle};
+use crate::bytes::{add_write, check_writable, filled, finish, overwrite, put, read, settle};
 use exposure::Prov;
 use prov_memory::{Block, LibAnswer, Memory, Touched, Value, Via};
 use std::alloc::Global;
@@ -48,10 +55,39 @@ pub fn check_apart(len: u64, to: u64, from: u64, clause: Clause) -> Result<(), C
     }
 }
 
-fn check_target(m: &Memory, target: Option<Range>) -> Result<(), Clause> {
+/// Whether the range, if there is one, may be written to; one of no bytes may be written anywhere (own).
+pub fn check_target(m: &Memory, target: Option<Range>) -> Result<(), Clause>
+    ensures { result ≡ target_checked m.now target }
+{
     match target {
         Some(range) if range.len != 0 => check_writable(m, range.object),
         _ => Ok(()),
+    }
+}
+
+// The range of a pointer argument that is written to.
+fn target_of(
+    m: &Memory,
+    to: Pointer,
+    len: u64,
+    t: &mut Touched,
+) -> Result<Option<Range>, LibAnswer>
+    ensures follows { (io : Io) → HasCell m.now to.prov → Follows true (accessed_if m.now) result m.now io t.old t.new (target_at m.now.rows len to.addr to.prov) }
+    ensures range { IfOk result (IsRange len) }
+    ensures place { IfOk result (λ target. IfSome target (IsPlace m.now to.addr)) }
+{
+    let target = check(m, to, len, t)?;
+    check_target(m, target)?;
+    Ok(target)
+}
+
+// How many bytes are written.
+fn len_of(target: Option<Range>) -> u64
+    ensures { FillsRange result target }
+{
+    match target {
+        Some(range) => range.len,
+        None => 0,
     }
 }
 
@@ -123,25 +159,17 @@ pub fn fill(
     args: &[Value],
     m: &mut Memory,
     t: &mut Touched,
-) -> Result<Value, LibAnswer> {
+) -> Result<Value, LibAnswer>
+    requires { t.old ≡ [] }
+    ensures exact { (io : Io) (who : Event) → IsCall Memset (values_seen args.now) m.old io → Answers (answer_in result) t.new (store_of m.new io) (called m.old.rows Memset (values_seen args.now) who (store_of m.old io)) }
+    ensures known { AreKnown m.old → AreKnown m.new }
+    ensures same { OnErr result (m.new ≡ m.old) }
+{
     let to = pointer_at(args, 0);
     let number = low_byte(int_at(args, 1));
-    let target = check(m, to, size_at(args, 2), t)?;
-    check_target(m, target)?;
-    let mut scratch = Touched::new(alloc)?;
-    if let Some(range) = target {
-        add_write(range, t)?;
-        let block = filled(alloc, number, range.len)?;
-        put(
-            m,
-            range.object,
-            range.from,
-            Via::Bytes,
-            &block,
-            &mut scratch,
-        )?;
-    }
-    settle(m, t, &mut scratch);
+    let target = target_of(m, to, size_at(args, 2), t)?;
+    let block = filled(alloc, number, len_of(target))?;
+    overwrite(alloc, m, to.addr, target, &block, t)?;
     Ok(to.value())
 }
 
@@ -166,13 +194,37 @@ pub fn compare(
     args: &[Value],
     m: &mut Memory,
     t: &mut Touched,
-) -> Result<Value, LibAnswer> {
-    let len = size_at(args, 2);
-    let a = check(m, pointer_at(args, 0), len, t)?;
-    let b = check(m, pointer_at(args, 1), len, t)?;
-    let first = read_if(alloc, m, a, t)?;
-    let second = read_if(alloc, m, b, t)?;
-    let mut scratch = Touched::new(alloc)?;
-    settle(m, t, &mut scratch);
-    Ok(Value::Int(order_of(first.as_slice(), second.as_slice())))
+) -> Result<Value, LibAnswer>
+    requires { t.old ≡ [] }
+    ensures exact { (io : Io) (who : Event) → IsCall Memcmp (values_seen args.now) m.old io → Answers (answer_in result) t.new (store_of m.new io) (called m.new.rows Memcmp (values_seen args.now) who (store_of m.old io)) }
+    ensures known { AreKnown m.old → AreKnown m.new }
+    ensures same { OnErr result (m.new ≡ m.old) }
+{
+    let read = order_of_ranges(
+        alloc,
+        m,
+        pointer_at(args, 0),
+        pointer_at(args, 1),
+        size_at(args, 2),
+        t,
+    );
+    finish(alloc, read, m, t)
+}
+
+fn order_of_ranges(
+    alloc: Global,
+    m: &Memory,
+    first: Pointer,
+    second: Pointer,
+    len: u64,
+    t: &mut Touched,
+) -> Result<Value, LibAnswer>
+    ensures tells { (io : Io) → HasCell m.now first.prov → HasCell m.now second.prov → Tells value_seen result m.now io t.old t.new (memcmp m.now.rows first.addr first.prov second.addr second.prov len) }
+    ensures passed { IfOk result IsPassed }
+{
+    let a = check(m, first, len, t)?;
+    let b = check(m, second, len, t)?;
+    let x = read_if(alloc, m, a, t)?;
+    let y = read_if(alloc, m, b, t)?;
+    Ok(Value::Int(order_of(x.as_slice(), y.as_slice())))
 }
