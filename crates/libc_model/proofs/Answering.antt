@@ -114,6 +114,10 @@ size_there false e = absurd (cc)
 pub first_size : (vs : List LibValue) → are_sizes vs (0 ∷ []) ≡ true → IsTrue (holds ULong (integer_in (argument_at vs 0)))
 first_size vs e = size_there (holds ULong (integer_in (argument_at vs 0))) e
 
+-- the one size among the arguments is one of size_t
+pub one_size : (vs : List LibValue) (i : ℕ) → are_sizes vs (i ∷ []) ≡ true → IsTrue (holds ULong (integer_in (argument_at vs i)))
+one_size vs i e = size_there (holds ULong (integer_in (argument_at vs i))) e
+
 -- what holds of a call of a function holds where the function is known to be it
 pub arm : (f g : LibFunc) (rows : List Row) (vs : List LibValue) (who : Event) (m : Kept) (io : Io) (a : LibAnswer) (is : List Item) (s u : Store) → f ≡ g →
     (IsCall g vs m io → Answers a is s (called rows g vs who u)) → is_exact f ≡ true → IsCall f vs m io → Answers a is s (called rows f vs who u)

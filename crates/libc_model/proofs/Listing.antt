@@ -1,6 +1,6 @@
 -- Lemmas on the parts of a call whose reads are noted one by one.
 use Rattle.std.proofs.Common.{◌≡◌, ℕ, zero, suc, ◌==◌, Bool, true, false, cond, List, [], ◌∷◌, ◌++◌, append_assoc, refl, ap, sym, subst, ◌∙◌, arith, Option, Some, None, ℤ}
-use Rattle.std.specs.Prelude.{Result, Ok, Err}
+use Rattle.std.specs.Prelude.{Result, Ok, Err, IfSome}
 use Rattle.std.proofs.lemmas.Bool.{ne_eqb}
 use Rattle.std.proofs.lemmas.List.{append-nil}
 use Rattle.ub_base.specs.declared.clause.Clause.{Clause}
@@ -23,7 +23,7 @@ use Rattle.libc_spec.specs.Library.{LibValue, number, pointer, pointer_in, addre
 use Rattle.libc_model.specs.declared.arguments.Range.{Range}
 use Rattle.libc_model.specs.Seen.{value_seen}
 use Rattle.libc_model.specs.Answers.{Answers, AreWithin}
-use Rattle.libc_model.specs.Parts.{after, CanFollow, is_read, has_read, Gives, Follows, byte_at, bytes_of, bytes_if, reads_if, accessed_if, IsRange, IsPassed, ReadsAll}
+use Rattle.libc_model.specs.Parts.{after, CanFollow, is_read, has_read, Gives, Follows, byte_at, bytes_of, bytes_if, reads_if, accessed_if, IsRange, IsShort, IsPassed, ReadsAll}
 use Rattle.libc_model.specs.Writes.{Lists, Tells, within_limits}
 use Rattle.libc_model.proofs.Scripts.{then, behind, run_then, behind_done}
 use Rattle.libc_model.proofs.Parts.{or_false, joins_quiet, behind_raised, raises_then, after_bytes, after_append, follow_append}
@@ -38,10 +38,13 @@ joined_quiet (i ∷ is) h =
     ap (joins i) (joined_quiet is e.1) ∙ joins_quiet i is e.0
 
 -- a part that reads nothing
+pub quiet_items : (V : Type 0) (m : Kept) (io : Io) (old new : List Item) (p : Script V) (v : V) (g : Gives true V m io old new p v) → new ≡ old ++ g.items
+quiet_items V m io old new p v g = g.added ∙ ap (λ (is : List Item). old ++ is) (joined_quiet g.items g.apart)
+
 pub quiet_lists : (V : Type 0) (m : Kept) (io : Io) (old new : List Item) (p : Script V) (v : V) → Gives true V m io old new p v → Lists V m io old new p v
 quiet_lists V m io old new p v g = record {
   items = g.items;
-  added = g.added ∙ ap (λ (is : List Item). old ++ is) (joined_quiet g.items g.apart);
+  added = quiet_items V m io old new p v g;
   done = g.done;
   able = g.able;
 }
@@ -130,6 +133,10 @@ bytes_list m io old (suc n) (Some r) h =
     subst (λ (b : Bool). Lists (List TaggedByte) m io old (old ++ cond b [] (Read r.object r.from r.len ∷ [])) (touch (Get r.object r.from (suc n))) (range_from (byte_at m r.object) r.from r.len)) (sym some)
     (subst (λ (k : ℕ). Lists (List TaggedByte) m io old (old ++ Read r.object r.from k ∷ []) (touch (Get r.object r.from (suc n))) (range_from (byte_at m r.object) r.from k)) (sym h.0)
     (get_lists m io old r.object r.from (suc n)))
+
+pub short_range : (n : ℕ) (range : Option Range) → IsRange n range → IfSome range IsShort
+short_range n None h = tt
+short_range n (Some r) h = h.1
 
 -- ---- memcmp
 abbrev pub order_by : ℕ → Option Accessed → List ℕ → Script LibValue

@@ -40,7 +40,7 @@ use Rattle.libc_model.specs.Writes.{IsPlace, FillsRange, LiveOn, SeesBytes, writ
 use Rattle.libc_model.proofs.Scripts.{then, behind, run_then, behind_done, run_same, run_twice}
 use Rattle.libc_model.proofs.Parts.{after_life, after_append, follow_append, then_gives, then_follows, then_raises, raises_then, err_follows, gives_at_once}
 use Rattle.libc_model.proofs.Checking.{offset_some}
-use Rattle.libc_model.proofs.Listing.{quiet_lists, next_not_zero}
+use Rattle.libc_model.proofs.Listing.{quiet_items, next_not_zero}
 use Rattle.libc_model.proofs.Answering.{answers_of, address_is}
 
 -- ---- places
@@ -290,7 +290,7 @@ fill_gives m new io is js a p c n k b target within byte range fills g more stor
     sym (memset_is m.rows a p c n (store_of m io))
     ∙ written_behind true (Option Accessed) m io is (write_items target) (target_at m.rows n a p) (accessed_if m target) (write_numbers (replicate n (low_byte c))) (pointer a p) (overwritten target (replicate n (low_byte c)) (after is (store_of m io))) g
     (write_run m.rows m (replicate n (low_byte c)) target (after is (store_of m io)) (fills_all n (low_byte c) target range) (λ x. after_life is (store_of m io) x)) in
-    let items : js ≡ g.items ++ write_items target = more ∙ ap (λ (ks : List Item). ks ++ write_items target) ((quiet_lists (Option Accessed) m io [] is (target_at m.rows n a p) (accessed_if m target) g).added) in
+    let items : js ≡ g.items ++ write_items target = more ∙ ap (λ (ks : List Item). ks ++ write_items target) (quiet_items (Option Accessed) m io [] is (target_at m.rows n a p) (accessed_if m target) g) in
     subst (λ (act : Act LibValue). Answers (answers.Value (Ptr a p)) js (store_of new io) (within_limits (store_of m io) act)) (sym all)
     (answers_of (Ok (Ptr a p)) js (store_of new io) (Done (pointer a p) (g.items ++ write_items target) (overwritten target (replicate n (low_byte c)) (after is (store_of m io)))) within.taken within.written
     (refl, items, store (g.able tt) ∙ same_numbers target k n b (low_byte c) (after is (store_of m io)) fills range byte))
