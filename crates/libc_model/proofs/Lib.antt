@@ -1,6 +1,7 @@
 pub mod Allocating
 pub mod Answering
 pub mod Checking
+pub mod Copying
 pub mod Finishing
 pub mod Freeing
 pub mod Listing

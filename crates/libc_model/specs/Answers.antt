@@ -4,7 +4,7 @@ use Rattle.ub_base.specs.declared.names.Item.{Item}
 use Rattle.c_types.specs.declared.kind.IntKind.TheVariants.{ULong}
 use Rattle.c_types.specs.Kinds.{holds}
 use Rattle.c_types.specs.declared.library.LibFunc.{LibFunc}
-use Rattle.c_types.specs.declared.library.LibFunc.TheVariants.{Malloc, Calloc, Realloc, Free, Memcpy, Memmove, Memset, Memcmp, Strlen, Strcmp, Strchr, Getchar, Putchar, Puts, Exit, Abort}
+use Rattle.c_types.specs.declared.library.LibFunc.TheVariants.{Malloc, Calloc, Realloc, Free, Memcpy, Memmove, Memset, Memcmp, Strlen, Strcpy, Strcmp, Strchr, Getchar, Putchar, Puts, Exit, Abort}
 use Rattle.prov_memory.specs.declared.value.Value.{Value}
 use Rattle.prov_memory.specs.declared.value.Value.TheVariants.{Int, Ptr, Nothing}
 use Rattle.prov_memory.specs.declared.answer.LibAnswer.{LibAnswer}
@@ -84,7 +84,10 @@ pub record IsCall (f : LibFunc) (vs : List LibValue) (m : Kept) (io : Io) : Type
 abbrev pub is_exact : LibFunc → Bool
 is_exact Malloc = true
 is_exact Free = true
+is_exact Memset = true
+is_exact Memcmp = true
 is_exact Strlen = true
+is_exact Strcpy = true
 is_exact Strcmp = true
 is_exact Strchr = true
 is_exact Getchar = true

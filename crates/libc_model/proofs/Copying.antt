@@ -1,0 +1,196 @@
+-- Lemmas on calls that copy bytes.
+use Rattle.std.proofs.Common.{◌≡◌, ℕ, Bool, true, false, cond, List, [], ◌∷◌, ◌++◌, length, refl, ap, sym, subst, ◌∙◌, Option, Some, None}
+use Rattle.std.specs.Prelude.{Result, Ok, Err, not}
+use Rattle.std.proofs.lemmas.List.{length-map}
+use Rattle.ub_base.specs.declared.clause.Clause.{Clause}
+use Rattle.ub_base.specs.declared.clause.Clause.TheVariants.{StrcpyOverlap}
+use Rattle.ub_base.specs.declared.names.Item.{Item}
+use Rattle.ub_base.specs.declared.names.Item.TheVariants.{Write}
+use Rattle.ub_base.specs.declared.names.Event.{Event}
+use Rattle.addr_map.specs.declared.map.Row.{Row}
+use Rattle.exposure.specs.declared.prov.Prov.{Prov}
+use Rattle.c_types.specs.declared.library.LibFunc.TheVariants.{Strcpy}
+use Rattle.prov_memory.specs.declared.value.Value.{Value}
+use Rattle.prov_memory.specs.declared.value.Value.TheVariants.{Ptr}
+use Rattle.prov_memory.specs.declared.answer.LibAnswer.{LibAnswer}
+use Rattle.prov_memory.specs.declared.answer.LibAnswer.TheVariants as answers
+use Rattle.prov_memory.specs.Store.{Store}
+use Rattle.prov_memory.specs.Script.{Script, Give, require, ◌>>=◌, ◌>>◌, Act, Done, Raised, run}
+use Rattle.prov_memory.specs.Acts.{Accessed, argument}
+use Rattle.prov_memory.specs.Streams.{Io}
+use Rattle.prov_memory.specs.Memory.{Kept, store_of}
+use Rattle.libc_spec.specs.Library.{LibValue, pointer, pointer_in, address_in, prov_in, argument_at, Text, text, overlap, read_numbers, number_of_byte, check_target, write_numbers, strcpy, joined, called}
+use Rattle.libc_model.specs.declared.arguments.Range.{Range}
+use Rattle.libc_model.specs.Answers.{Answers, AreWithin}
+use Rattle.libc_model.specs.Parts.{after, CanFollow, starts_in_read, Gives, Follows, ReadsAll, byte_at, bytes_of, text_in, accessed_if, IsRange, limited}
+use Rattle.libc_model.specs.Writes.{FillsRange, target_checked, string_to_copy, write_items, overwritten}
+use Rattle.libc_model.proofs.Scripts.{run_same, run_twice}
+use Rattle.libc_model.proofs.Parts.{after_life, joined_append, then_gives, then_follows, then_raises, raises_then, err_follows, gives_at_once}
+use Rattle.libc_model.proofs.Reading.{reads_follow}
+use Rattle.libc_model.proofs.Answering.{answers_of, address_is}
+use Rattle.libc_model.proofs.Finishing.{length_of_range}
+use Rattle.libc_model.proofs.Writing.{target_passes, target_raises, checks_give, write_run, written_behind}
+
+-- ---- ranges that may overlap
+clause_is : (c d : Clause) (r : Result (Unit {0}) Clause) → r ≡ Err c → r ≡ Err d → d ≡ c
+clause_is c d r e h = cc
+
+pub overlap_raises : (b : Bool) (c d : Clause) (rows : List Row) (s : Store) (r : Result (Unit {0}) Clause) → r ≡ Err c → r ≡ cond b (Err d) (Ok tt) → run rows (require (not b) d) s ≡ Raised c
+overlap_raises true c d rows s r e h = ap Raised (clause_is c d r e h)
+overlap_raises false c d rows s r e h = absurd (cc)
+
+pub apart_passes : (b : Bool) (d : Clause) (rows : List Row) (s : Store) (r : Result (Unit {0}) Clause) → r ≡ Ok tt → r ≡ cond b (Err d) (Ok tt) → run rows (require (not b) d) s ≡ Done tt [] s
+apart_passes true d rows s r e h = absurd (cc)
+apart_passes false d rows s r e h = refl
+
+-- ---- strcpy
+abbrev pub Copied : Type 0
+Copied = List ℕ × Option Accessed
+
+abbrev pub copied_apart : ℕ → (to from : ℕ) → Option Accessed → List ℕ → Script Copied
+copied_apart n to from target ns = require (not (overlap n to from)) StrcpyOverlap >>= (λ w. Give (ns, target))
+
+abbrev pub copied_to : ℕ → (to from : ℕ) → Option Accessed → List ℕ → Script Copied
+copied_to n to from target ns = check_target n target >>= (λ u. copied_apart n to from target ns)
+
+abbrev pub copied_of : (to from : ℕ) → Text → Option Accessed → Script Copied
+copied_of to from source target = read_numbers source.bytes >>= (λ ns. copied_to (length source.bytes) to from target ns)
+
+abbrev pub copied_from : List Row → (to : ℕ) → Prov → (from : ℕ) → Text → Script Copied
+copied_from rows to p from source = argument rows (length source.bytes) to p >>= (λ target. copied_of to from source target)
+
+strcpy_is : (rows : List Row) (to : ℕ) (p : Prov) (from : ℕ) (q : Prov) (s : Store) →
+    run rows (string_to_copy rows to p from q >>= (λ c. write_numbers c.0 c.1 >> Give (pointer to p))) s ≡ run rows (strcpy rows to p from q) s
+strcpy_is rows to p from q s =
+    let write : Copied → Script LibValue = λ c. write_numbers c.0 c.1 >> Give (pointer to p) in
+    run_twice rows (text rows from q) (copied_from rows to p from) write s
+    ∙ run_same rows (text rows from q) (λ source. copied_from rows to p from source >>= write) (λ source. argument rows (length source.bytes) to p >>= (λ target. read_numbers source.bytes >>= (λ ns. check_target (length source.bytes) target >> (require (not (overlap (length source.bytes) to from)) StrcpyOverlap >> write (ns, target))))) s
+    (λ source u. run_twice rows (argument rows (length source.bytes) to p) (copied_of to from source) write u
+    ∙ run_same rows (argument rows (length source.bytes) to p) (λ target. copied_of to from source target >>= write) (λ target. read_numbers source.bytes >>= (λ ns. check_target (length source.bytes) target >> (require (not (overlap (length source.bytes) to from)) StrcpyOverlap >> write (ns, target)))) u
+    (λ target w. run_twice rows (read_numbers source.bytes) (copied_to (length source.bytes) to from target) write w
+    ∙ run_same rows (read_numbers source.bytes) (λ ns. copied_to (length source.bytes) to from target ns >>= write) (λ ns. check_target (length source.bytes) target >> (require (not (overlap (length source.bytes) to from)) StrcpyOverlap >> write (ns, target))) w
+    (λ ns x. run_twice rows (check_target (length source.bytes) target) (λ u. copied_apart (length source.bytes) to from target ns) write x
+    ∙ run_same rows (check_target (length source.bytes) target) (λ v. copied_apart (length source.bytes) to from target ns >>= write) (λ v. require (not (overlap (length source.bytes) to from)) StrcpyOverlap >> write (ns, target)) x
+    (λ v y. run_twice rows (require (not (overlap (length source.bytes) to from)) StrcpyOverlap) (λ w. Give (ns, target)) write y))))
+
+text_length : (m : Kept) (r : Range) → length (bytes_of m r) ≡ r.len
+text_length m r = length_of_range (byte_at m r.object) r.from r.len
+
+-- the source is no string
+pub no_source : {B : Type 0} (seen : B → Copied) (m : Kept) (io : Io) (old mid new : List Item) (to : ℕ) (p : Prov) (from : ℕ) (q : Prov) (e : LibAnswer) → Follows false (text_in m) (Err e) m io old mid (text m.rows from q) →
+    Follows false seen (Err e) m io old new (string_to_copy m.rows to p from q)
+no_source seen m io old mid new to p from q e h = err_follows false false Text Copied (text_in m) seen e m io old mid new (text m.rows from q) (copied_from m.rows to p from) h
+
+-- the range of the target isn't there
+pub no_copy_target : {B : Type 0} (seen : B → Copied) (m : Kept) (io : Io) (old mid next new : List Item) (to : ℕ) (p : Prov) (from : ℕ) (q : Prov) (r : Range) (e : LibAnswer) → Gives false Text m io old mid (text m.rows from q) (text_in m r) →
+    Follows true (accessed_if m) (Err e) m io mid next (argument m.rows r.len to p) → Follows false seen (Err e) m io old new (string_to_copy m.rows to p from q)
+no_copy_target {B = B} seen m io old mid next new to p from q r e g h =
+    then_follows {C = B} false true Text Copied seen (Err e) m io old mid new (text m.rows from q) (text_in m r) (copied_from m.rows to p from) g
+    (err_follows true true (Option Accessed) Copied (accessed_if m) seen e m io mid next new (argument m.rows (length (bytes_of m r)) to p) (copied_of to from (text_in m r))
+    (subst (λ (n : ℕ). Follows true (accessed_if m) (Err e) m io mid next (argument m.rows n to p)) (sym (text_length m r)) h))
+
+-- both ranges were checked
+behind_ranges : {B : Type 0} (seen : B → Copied) (x : Result B LibAnswer) (m : Kept) (io : Io) (old mid next new : List Item) (to : ℕ) (p : Prov) (from : ℕ) (q : Prov) (r : Range) (u : Option Range) → Gives false Text m io old mid (text m.rows from q) (text_in m r) →
+    Gives true (Option Accessed) m io mid next (argument m.rows r.len to p) (accessed_if m u) → Follows true seen x m io next new (copied_of to from (text_in m r) (accessed_if m u)) → Follows false seen x m io old new (string_to_copy m.rows to p from q)
+behind_ranges {B = B} seen x m io old mid next new to p from q r u g h k =
+    then_follows {C = B} false true Text Copied seen x m io old mid new (text m.rows from q) (text_in m r) (copied_from m.rows to p from) g
+    (then_follows {C = B} true true (Option Accessed) Copied seen x m io mid next new (argument m.rows (length (bytes_of m r)) to p) (accessed_if m u) (copied_of to from (text_in m r))
+    (subst (λ (n : ℕ). Gives true (Option Accessed) m io mid next (argument m.rows n to p) (accessed_if m u)) (sym (text_length m r)) h) k)
+
+-- the source isn't written
+pub no_copy_numbers : {A B : Type 0} (items : A → List ℕ) (seen : B → Copied) (m : Kept) (io : Io) (old mid next end new : List Item) (to : ℕ) (p : Prov) (from : ℕ) (q : Prov) (r : Range) (u : Option Range) (e : LibAnswer) → Gives false Text m io old mid (text m.rows from q) (text_in m r) →
+    Gives true (Option Accessed) m io mid next (argument m.rows r.len to p) (accessed_if m u) → ReadsAll items (Err e) (bytes_of m r) next end → Follows false seen (Err e) m io old new (string_to_copy m.rows to p from q)
+no_copy_numbers items seen m io old mid next end new to p from q r u e g h k =
+    behind_ranges seen (Err e) m io old mid next new to p from q r u g h
+    (err_follows true true (List ℕ) Copied items seen e m io next end new (read_numbers (bytes_of m r)) (copied_to (length (bytes_of m r)) to from (accessed_if m u)) (reads_follow items (Err e) m io next end (bytes_of m r) k))
+
+-- the source was read
+behind_copied : {A B : Type 0} (items : A → List ℕ) (v : A) (seen : B → Copied) (x : Result B LibAnswer) (m : Kept) (io : Io) (old mid next last new : List Item) (to : ℕ) (p : Prov) (from : ℕ) (q : Prov) (r : Range) (u : Option Range) → Gives false Text m io old mid (text m.rows from q) (text_in m r) →
+    Gives true (Option Accessed) m io mid next (argument m.rows r.len to p) (accessed_if m u) → ReadsAll items (Ok v) (bytes_of m r) next last → Follows true seen x m io last new (copied_to r.len to from (accessed_if m u) (items v)) → Follows false seen x m io old new (string_to_copy m.rows to p from q)
+behind_copied {B = B} items v seen x m io old mid next last new to p from q r u g h k f =
+    behind_ranges seen x m io old mid next new to p from q r u g h
+    (then_follows {C = B} true true (List ℕ) Copied seen x m io next last new (read_numbers (bytes_of m r)) (items v) (copied_to (length (bytes_of m r)) to from (accessed_if m u)) (reads_follow items (Ok v) m io next last (bytes_of m r) k)
+    (subst (λ (n : ℕ). Follows true seen x m io last new (copied_to n to from (accessed_if m u) (items v))) (sym (text_length m r)) f))
+
+-- the target may not be written to
+pub copy_unwritable : {A B : Type 0} (items : A → List ℕ) (v : A) (seen : B → Copied) (m : Kept) (io : Io) (old mid next last : List Item) (to : ℕ) (p : Prov) (from : ℕ) (q : Prov) (r : Range) (u : Option Range) (c : Clause) → IsRange r.len u → Gives false Text m io old mid (text m.rows from q) (text_in m r) →
+    Gives true (Option Accessed) m io mid next (argument m.rows r.len to p) (accessed_if m u) → ReadsAll items (Ok v) (bytes_of m r) next last → Err c ≡ target_checked m u → Follows false seen (Err (answers.Raise c)) m io old last (string_to_copy m.rows to p from q)
+copy_unwritable items v seen m io old mid next last to p from q r u c range g h k e =
+    behind_copied items v seen (Err (answers.Raise c)) m io old mid next last last to p from q r u g h k
+    (raises_then (Unit {0}) Copied m.rows (after last (store_of m io)) (check_target r.len (accessed_if m u)) (λ w. copied_apart r.len to from (accessed_if m u) (items v)) c (target_raises m.rows m r.len u c (after last (store_of m io)) range e))
+
+-- the ranges overlap
+pub copy_overlaps : {A B : Type 0} (items : A → List ℕ) (v : A) (seen : B → Copied) (m : Kept) (io : Io) (old mid next last : List Item) (to : ℕ) (p : Prov) (from : ℕ) (q : Prov) (r : Range) (u : Option Range) (c : Clause) (o : Result (Unit {0}) Clause) → IsRange r.len u → Gives false Text m io old mid (text m.rows from q) (text_in m r) →
+    Gives true (Option Accessed) m io mid next (argument m.rows r.len to p) (accessed_if m u) → ReadsAll items (Ok v) (bytes_of m r) next last → Ok tt ≡ target_checked m u → o ≡ Err c → o ≡ cond (overlap r.len to from) (Err StrcpyOverlap) (Ok tt) →
+    Follows false seen (Err (answers.Raise c)) m io old last (string_to_copy m.rows to p from q)
+copy_overlaps items v seen m io old mid next last to p from q r u c o range g h k able is over =
+    behind_copied items v seen (Err (answers.Raise c)) m io old mid next last last to p from q r u g h k
+    (then_raises true (Unit {0}) Copied m io last last (check_target r.len (accessed_if m u)) tt (λ w. copied_apart r.len to from (accessed_if m u) (items v)) c
+    (checks_give true m io last (check_target r.len (accessed_if m u)) (target_passes m.rows m r.len u (after last (store_of m io)) range able))
+    (raises_then (Unit {0}) Copied m.rows (after last (store_of m io)) (require (not (overlap r.len to from)) StrcpyOverlap) (λ w. Give (items v, accessed_if m u)) c (overlap_raises (overlap r.len to from) c StrcpyOverlap m.rows (after last (store_of m io)) o is over)))
+
+pub copy_read : {A B : Type 0} (items : A → List ℕ) (v : A) (seen : B → Copied) (b : B) (m : Kept) (io : Io) (old mid next last : List Item) (to : ℕ) (p : Prov) (from : ℕ) (q : Prov) (r : Range) (u : Option Range) (o : Result (Unit {0}) Clause) → IsRange r.len u → Gives false Text m io old mid (text m.rows from q) (text_in m r) →
+    Gives true (Option Accessed) m io mid next (argument m.rows r.len to p) (accessed_if m u) → ReadsAll items (Ok v) (bytes_of m r) next last → Ok tt ≡ target_checked m u → o ≡ Ok tt → o ≡ cond (overlap r.len to from) (Err StrcpyOverlap) (Ok tt) → seen b ≡ (items v, accessed_if m u) →
+    Gives false Copied m io old last (string_to_copy m.rows to p from q) (seen b)
+copy_read items v seen b m io old mid next last to p from q r u o range g h k able is over same =
+    behind_copied items v seen (Ok b) m io old mid next last last to p from q r u g h k
+    (then_gives true true (Unit {0}) Copied m io last last last (check_target r.len (accessed_if m u)) tt (λ w. copied_apart r.len to from (accessed_if m u) (items v)) (seen b)
+    (checks_give true m io last (check_target r.len (accessed_if m u)) (target_passes m.rows m r.len u (after last (store_of m io)) range able))
+    (then_gives true true (Unit {0}) Copied m io last last last (require (not (overlap r.len to from)) StrcpyOverlap) tt (λ w. Give (items v, accessed_if m u)) (seen b)
+    (checks_give true m io last (require (not (overlap r.len to from)) StrcpyOverlap) (apart_passes (overlap r.len to from) StrcpyOverlap m.rows (after last (store_of m io)) o is over))
+    (subst (λ (c : Copied). Gives true Copied m io last last (Give (items v, accessed_if m u)) c) (sym same) (gives_at_once true Copied m io last (items v, accessed_if m u)))))
+
+pub copy_fills : {A : Type 0} (items : A → List ℕ) (v : A) (m : Kept) (r : Range) (u : Option Range) (old new : List Item) → IsRange r.len u → ReadsAll items (Ok v) (bytes_of m r) old new → FillsRange (length (items v)) u
+copy_fills items v m r None old new range h = tt
+copy_fills items v m r (Some w) old new range h = ap length h.1 ∙ length-map (bytes_of m r) number_of_byte ∙ text_length m r ∙ sym range.0
+
+-- writes are joined with no read
+writes_by : (b : Bool) (r : Range) → starts_in_read (cond b [] (Write r.object r.from r.len ∷ [])) ≡ false
+writes_by true r = refl
+writes_by false r = refl
+
+writes_apart : (target : Option Range) → starts_in_read (write_items target) ≡ false
+writes_apart None = refl
+writes_apart (Some r) = writes_by _ r
+
+joined_by : (b : Bool) (r : Range) → joined (cond b [] (Write r.object r.from r.len ∷ [])) ≡ cond b [] (Write r.object r.from r.len ∷ [])
+joined_by true r = refl
+joined_by false r = refl
+
+writes_joined : (target : Option Range) → joined (write_items target) ≡ write_items target
+writes_joined None = refl
+writes_joined (Some r) = joined_by _ r
+
+pub copy_gives : (m new : Kept) (io : Io) (is js : List Item) (to : ℕ) (p : Prov) (from : ℕ) (q : Prov) (ns : List ℕ) (target : Option Range) → AreWithin io → FillsRange (length ns) target →
+    Gives false Copied m io [] is (string_to_copy m.rows to p from q) (ns, accessed_if m target) → js ≡ is ++ write_items target →
+    (CanFollow m.cells is (store_of m io) → store_of new io ≡ overwritten target ns (after is (store_of m io))) →
+    Answers (answers.Value (Ptr to p)) js (store_of new io) (limited (store_of m io) (run m.rows (strcpy m.rows to p from q) (store_of m io)))
+copy_gives m new io is js to p from q ns target within fills g more store =
+    let all : run m.rows (strcpy m.rows to p from q) (store_of m io) ≡ Done (pointer to p) (g.items ++ write_items target) (overwritten target ns (after is (store_of m io))) =
+    sym (strcpy_is m.rows to p from q (store_of m io))
+    ∙ written_behind false Copied m io is (write_items target) (string_to_copy m.rows to p from q) (ns, accessed_if m target) (λ c. write_numbers c.0 c.1) (pointer to p) (overwritten target ns (after is (store_of m io))) g
+    (write_run m.rows m ns target (after is (store_of m io)) fills (λ x. after_life is (store_of m io) x)) in
+    let items : js ≡ joined (g.items ++ write_items target) =
+    more ∙ ap (λ (ks : List Item). ks ++ write_items target) g.added ∙ ap (λ (ks : List Item). joined g.items ++ ks) (sym (writes_joined target)) ∙ sym (joined_append g.items (write_items target) (writes_apart target)) in
+    subst (λ (act : Act LibValue). Answers (answers.Value (Ptr to p)) js (store_of new io) (limited (store_of m io) act)) (sym all)
+    (answers_of (Ok (Ptr to p)) js (store_of new io) (Done (pointer to p) (joined (g.items ++ write_items target)) (overwritten target ns (after is (store_of m io)))) within.taken within.written
+    (refl, items, store (g.able tt)))
+
+pub copy_fails : {B : Type 0} (seen : B → Copied) (m : Kept) (io : Io) (is : List Item) (to : ℕ) (p : Prov) (from : ℕ) (q : Prov) (e : LibAnswer) → Follows false seen (Err e) m io [] is (string_to_copy m.rows to p from q) →
+    Answers e is (store_of m io) (limited (store_of m io) (run m.rows (strcpy m.rows to p from q) (store_of m io)))
+copy_fails seen m io is to p from q answers.NoMemory h = tt
+copy_fails seen m io is to p from q (answers.Raise d) h =
+    let act : run m.rows (strcpy m.rows to p from q) (store_of m io) ≡ Raised d =
+    sym (strcpy_is m.rows to p from q (store_of m io)) ∙ raises_then Copied LibValue m.rows (store_of m io) (string_to_copy m.rows to p from q) (λ c. write_numbers c.0 c.1 >> Give (pointer to p)) d h in
+    subst (λ (act : Act LibValue). Answers (answers.Raise d) is (store_of m io) (limited (store_of m io) act)) (sym act) refl
+copy_fails seen m io is to p from q e h = absurd h
+
+pub strcpy_called : (rows : List Row) (vs : List LibValue) (who : Event) (a b : ℕ) (p q : Prov) (s t : Store) (is : List Item) (e : LibAnswer) → pointer a p ≡ pointer_in (argument_at vs 0) → pointer b q ≡ pointer_in (argument_at vs 1) →
+    Answers e is t (limited s (run rows (strcpy rows a p b q) s)) → Answers e is t (called rows Strcpy vs who s)
+strcpy_called rows vs who a b p q s t is e first second h =
+    let x = address_is a (address_in (argument_at vs 0)) p (prov_in (argument_at vs 0)) first in
+    let y = address_is b (address_in (argument_at vs 1)) q (prov_in (argument_at vs 1)) second in
+    subst (λ (d : ℕ). Answers e is t (limited s (run rows (strcpy rows (address_in (argument_at vs 0)) (prov_in (argument_at vs 0)) d (prov_in (argument_at vs 1))) s))) y.0
+    (subst (λ (r : Prov). Answers e is t (limited s (run rows (strcpy rows (address_in (argument_at vs 0)) (prov_in (argument_at vs 0)) b r) s))) y.1
+    (subst (λ (d : ℕ). Answers e is t (limited s (run rows (strcpy rows d (prov_in (argument_at vs 0)) b q) s))) x.0
+    (subst (λ (r : Prov). Answers e is t (limited s (run rows (strcpy rows a r b q) s))) x.1 h)))
