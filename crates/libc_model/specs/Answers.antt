@@ -1,6 +1,7 @@
 -- What a call answers, against the act that the definitions give it.
 use Rattle.std.specs.Prelude.{◌≡◌, ℕ, ◌≤◌, ◌^◌, min, Bool, true, false, ◌&&◌, List, [], ◌∷◌, length, Result, Ok, Err}
 use Rattle.ub_base.specs.declared.names.Item.{Item}
+use Rattle.addr_map.specs.declared.map.Row.{Row}
 use Rattle.c_types.specs.declared.kind.IntKind.TheVariants.{ULong}
 use Rattle.c_types.specs.Kinds.{holds}
 use Rattle.c_types.specs.declared.library.LibFunc.{LibFunc}
@@ -96,6 +97,12 @@ is_exact Puts = true
 is_exact Exit = true
 is_exact Abort = true
 is_exact _ = false
+
+-- the rows that a call goes by: those that it leaves or, where it writes bytes, those that it found
+abbrev pub rows_by : LibFunc → Kept → Kept → List Row
+rows_by Memset old new = old.rows
+rows_by Strcpy old new = old.rows
+rows_by f old new = new.rows
 
 -- an answer after which memory and streams are as before; a malloc that wants memory may leave the row of its object
 abbrev pub leaves_all : LibAnswer → LibFunc → Bool
