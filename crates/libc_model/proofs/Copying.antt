@@ -1,9 +1,9 @@
 -- Lemmas on calls that copy bytes.
 use Rattle.std.proofs.Common.{◌≡◌, ℕ, Bool, true, false, cond, List, [], ◌∷◌, ◌++◌, length, refl, ap, sym, subst, ◌∙◌, Option, Some, None}
-use Rattle.std.specs.Prelude.{Result, Ok, Err, not}
+use Rattle.std.specs.Prelude.{Result, Ok, Err, not, ◌||◌}
 use Rattle.std.proofs.lemmas.List.{length-map}
 use Rattle.ub_base.specs.declared.clause.Clause.{Clause}
-use Rattle.ub_base.specs.declared.clause.Clause.TheVariants.{StrcpyOverlap}
+use Rattle.ub_base.specs.declared.clause.Clause.TheVariants.{MemcpyOverlap, StrcpyOverlap}
 use Rattle.ub_base.specs.declared.names.Item.{Item}
 use Rattle.ub_base.specs.declared.names.Item.TheVariants.{Write}
 use Rattle.ub_base.specs.declared.names.Event.{Event}
@@ -23,7 +23,7 @@ use Rattle.libc_spec.specs.Library.{LibValue, pointer, pointer_in, address_in, p
 use Rattle.libc_model.specs.declared.arguments.Range.{Range}
 use Rattle.libc_model.specs.Answers.{Answers, AreWithin}
 use Rattle.libc_model.specs.Parts.{after, CanFollow, starts_in_read, Gives, Follows, ReadsAll, byte_at, bytes_of, text_in, accessed_if, IsRange, limited}
-use Rattle.libc_model.specs.Writes.{FillsRange, target_checked, string_to_copy, write_items, overwritten}
+use Rattle.libc_model.specs.Writes.{FillsRange, target_checked, ranges_to_copy, string_to_copy, write_items, overwritten}
 use Rattle.libc_model.proofs.Scripts.{run_same, run_twice}
 use Rattle.libc_model.proofs.Parts.{after_life, joined_append, then_gives, then_follows, then_raises, raises_then, err_follows, gives_at_once}
 use Rattle.libc_model.proofs.Reading.{reads_follow}
@@ -42,6 +42,70 @@ overlap_raises false c d rows s r e h = absurd (cc)
 pub apart_passes : (b : Bool) (d : Clause) (rows : List Row) (s : Store) (r : Result (Unit {0}) Clause) → r ≡ Ok tt → r ≡ cond b (Err d) (Ok tt) → run rows (require (not b) d) s ≡ Done tt [] s
 apart_passes true d rows s r e h = absurd (cc)
 apart_passes false d rows s r e h = refl
+
+-- ---- memcpy and memmove
+abbrev pub Ranged : Type 0
+Ranged = Option Accessed × Option Accessed
+
+abbrev pub ranged_apart : Bool → ℕ → (to from : ℕ) → Option Accessed → Option Accessed → Script Ranged
+ranged_apart may n to from target source = require (may || not (overlap n to from)) MemcpyOverlap >>= (λ w. Give (target, source))
+
+abbrev pub ranged_to : Bool → ℕ → (to from : ℕ) → Option Accessed → Option Accessed → Script Ranged
+ranged_to may n to from target source = check_target n target >>= (λ u. ranged_apart may n to from target source)
+
+abbrev pub ranged_from : List Row → Bool → ℕ → (to from : ℕ) → Prov → Option Accessed → Script Ranged
+ranged_from rows may n to from q target = argument rows n from q >>= (λ source. ranged_to may n to from target source)
+
+pub no_ranged_target : {B : Type 0} (seen : B → Ranged) (m : Kept) (io : Io) (old mid new : List Item) (may : Bool) (to : ℕ) (p : Prov) (from : ℕ) (q : Prov) (n : ℕ) (e : LibAnswer) → Follows true (accessed_if m) (Err e) m io old mid (argument m.rows n to p) →
+    Follows true seen (Err e) m io old new (ranges_to_copy m.rows may to p from q n)
+no_ranged_target seen m io old mid new may to p from q n e h = err_follows true true (Option Accessed) Ranged (accessed_if m) seen e m io old mid new (argument m.rows n to p) (ranged_from m.rows may n to from q) h
+
+pub no_ranged_source : {B : Type 0} (seen : B → Ranged) (m : Kept) (io : Io) (old mid next new : List Item) (may : Bool) (to : ℕ) (p : Prov) (from : ℕ) (q : Prov) (n : ℕ) (r : Option Range) (e : LibAnswer) → Gives true (Option Accessed) m io old mid (argument m.rows n to p) (accessed_if m r) →
+    Follows true (accessed_if m) (Err e) m io mid next (argument m.rows n from q) → Follows true seen (Err e) m io old new (ranges_to_copy m.rows may to p from q n)
+no_ranged_source {B = B} seen m io old mid next new may to p from q n r e g h =
+    then_follows {C = B} true true (Option Accessed) Ranged seen (Err e) m io old mid new (argument m.rows n to p) (accessed_if m r) (ranged_from m.rows may n to from q) g
+    (err_follows true true (Option Accessed) Ranged (accessed_if m) seen e m io mid next new (argument m.rows n from q) (ranged_to may n to from (accessed_if m r)) h)
+
+-- both ranges were checked
+behind_ranged : {B : Type 0} (seen : B → Ranged) (x : Result B LibAnswer) (m : Kept) (io : Io) (old mid new : List Item) (may : Bool) (to : ℕ) (p : Prov) (from : ℕ) (q : Prov) (n : ℕ) (r u : Option Range) → Gives true (Option Accessed) m io old mid (argument m.rows n to p) (accessed_if m r) →
+    Gives true (Option Accessed) m io mid new (argument m.rows n from q) (accessed_if m u) → Follows true seen x m io new new (ranged_to may n to from (accessed_if m r) (accessed_if m u)) → Follows true seen x m io old new (ranges_to_copy m.rows may to p from q n)
+behind_ranged {B = B} seen x m io old mid new may to p from q n r u g h k =
+    then_follows {C = B} true true (Option Accessed) Ranged seen x m io old mid new (argument m.rows n to p) (accessed_if m r) (ranged_from m.rows may n to from q) g
+    (then_follows {C = B} true true (Option Accessed) Ranged seen x m io mid new new (argument m.rows n from q) (accessed_if m u) (ranged_to may n to from (accessed_if m r)) h k)
+
+pub ranged_unwritable : {B : Type 0} (seen : B → Ranged) (m : Kept) (io : Io) (old mid new : List Item) (may : Bool) (to : ℕ) (p : Prov) (from : ℕ) (q : Prov) (n : ℕ) (r u : Option Range) (c : Clause) → IsRange n r → Gives true (Option Accessed) m io old mid (argument m.rows n to p) (accessed_if m r) →
+    Gives true (Option Accessed) m io mid new (argument m.rows n from q) (accessed_if m u) → Err c ≡ target_checked m r → Follows true seen (Err (answers.Raise c)) m io old new (ranges_to_copy m.rows may to p from q n)
+ranged_unwritable seen m io old mid new may to p from q n r u c range g h e =
+    behind_ranged seen (Err (answers.Raise c)) m io old mid new may to p from q n r u g h
+    (raises_then (Unit {0}) Ranged m.rows (after new (store_of m io)) (check_target n (accessed_if m r)) (λ w. ranged_apart may n to from (accessed_if m r) (accessed_if m u)) c (target_raises m.rows m n r c (after new (store_of m io)) range e))
+
+require_raises : (b : Bool) (c d : Clause) (rows : List Row) (s : Store) (r : Result (Unit {0}) Clause) → r ≡ Err c → r ≡ cond b (Ok tt) (Err d) → run rows (require b d) s ≡ Raised c
+require_raises true c d rows s r e h = absurd (cc)
+require_raises false c d rows s r e h = ap Raised (clause_is c d r e h)
+
+require_passes : (b : Bool) (d : Clause) (rows : List Row) (s : Store) (r : Result (Unit {0}) Clause) → r ≡ Ok tt → r ≡ cond b (Ok tt) (Err d) → run rows (require b d) s ≡ Done tt [] s
+require_passes true d rows s r e h = refl
+require_passes false d rows s r e h = absurd (cc)
+
+pub ranged_overlap : {B : Type 0} (seen : B → Ranged) (m : Kept) (io : Io) (old mid new : List Item) (may : Bool) (to : ℕ) (p : Prov) (from : ℕ) (q : Prov) (n : ℕ) (r u : Option Range) (c : Clause) (o : Result (Unit {0}) Clause) → IsRange n r →
+    Gives true (Option Accessed) m io old mid (argument m.rows n to p) (accessed_if m r) → Gives true (Option Accessed) m io mid new (argument m.rows n from q) (accessed_if m u) → Ok tt ≡ target_checked m r → o ≡ Err c → o ≡ cond (may || not (overlap n to from)) (Ok tt) (Err MemcpyOverlap) →
+    Follows true seen (Err (answers.Raise c)) m io old new (ranges_to_copy m.rows may to p from q n)
+ranged_overlap seen m io old mid new may to p from q n r u c o range g h able is over =
+    behind_ranged seen (Err (answers.Raise c)) m io old mid new may to p from q n r u g h
+    (then_raises true (Unit {0}) Ranged m io new new (check_target n (accessed_if m r)) tt (λ w. ranged_apart may n to from (accessed_if m r) (accessed_if m u)) c
+    (checks_give true m io new (check_target n (accessed_if m r)) (target_passes m.rows m n r (after new (store_of m io)) range able))
+    (raises_then (Unit {0}) Ranged m.rows (after new (store_of m io)) (require (may || not (overlap n to from)) MemcpyOverlap) (λ w. Give (accessed_if m r, accessed_if m u)) c (require_raises (may || not (overlap n to from)) c MemcpyOverlap m.rows (after new (store_of m io)) o is over)))
+
+pub ranged_given : {B : Type 0} (seen : B → Ranged) (b : B) (m : Kept) (io : Io) (old mid new : List Item) (may : Bool) (to : ℕ) (p : Prov) (from : ℕ) (q : Prov) (n : ℕ) (r u : Option Range) (o : Result (Unit {0}) Clause) → IsRange n r →
+    Gives true (Option Accessed) m io old mid (argument m.rows n to p) (accessed_if m r) → Gives true (Option Accessed) m io mid new (argument m.rows n from q) (accessed_if m u) → Ok tt ≡ target_checked m r → o ≡ Ok tt → o ≡ cond (may || not (overlap n to from)) (Ok tt) (Err MemcpyOverlap) → seen b ≡ (accessed_if m r, accessed_if m u) →
+    Gives true Ranged m io old new (ranges_to_copy m.rows may to p from q n) (seen b)
+ranged_given seen b m io old mid new may to p from q n r u o range g h able is over same =
+    behind_ranged seen (Ok b) m io old mid new may to p from q n r u g h
+    (then_gives true true (Unit {0}) Ranged m io new new new (check_target n (accessed_if m r)) tt (λ w. ranged_apart may n to from (accessed_if m r) (accessed_if m u)) (seen b)
+    (checks_give true m io new (check_target n (accessed_if m r)) (target_passes m.rows m n r (after new (store_of m io)) range able))
+    (then_gives true true (Unit {0}) Ranged m io new new new (require (may || not (overlap n to from)) MemcpyOverlap) tt (λ w. Give (accessed_if m r, accessed_if m u)) (seen b)
+    (checks_give true m io new (require (may || not (overlap n to from)) MemcpyOverlap) (require_passes (may || not (overlap n to from)) MemcpyOverlap m.rows (after new (store_of m io)) o is over))
+    (subst (λ (c : Ranged). Gives true Ranged m io new new (Give (accessed_if m r, accessed_if m u)) c) (sym same) (gives_at_once true Ranged m io new (accessed_if m r, accessed_if m u)))))
 
 -- ---- strcpy
 abbrev pub Copied : Type 0

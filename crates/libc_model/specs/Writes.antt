@@ -1,7 +1,7 @@
 -- Parts of a call whose reads are noted one by one, and the bytes that a call writes (own).
-use Rattle.std.specs.Prelude.{◌≡◌, ℕ, ◌≤◌, ◌==◌, true, not, List, [], ◌∷◌, ◌++◌, length, map, Option, Some, None, Result, Ok, Err, if◌then◌else◌}
+use Rattle.std.specs.Prelude.{◌≡◌, ℕ, ◌≤◌, ◌==◌, ◌||◌, Bool, true, not, List, [], ◌∷◌, ◌++◌, length, map, Option, Some, None, Result, Ok, Err, if◌then◌else◌}
 use Rattle.ub_base.specs.declared.clause.Clause.{Clause}
-use Rattle.ub_base.specs.declared.clause.Clause.TheVariants.{StoreToLiteral, StoreToConst, StrcpyOverlap}
+use Rattle.ub_base.specs.declared.clause.Clause.TheVariants.{StoreToLiteral, StoreToConst, MemcpyOverlap, StrcpyOverlap}
 use Rattle.ub_base.specs.declared.names.Item.{Item}
 use Rattle.ub_base.specs.declared.names.Item.TheVariants.{Write}
 use Rattle.ub_base.specs.declared.names.ObjName.{ObjName}
@@ -64,6 +64,11 @@ abbrev pub string_to_copy : List Row → (to : ℕ) → Prov → (from : ℕ) �
 string_to_copy rows to p from q =
     text rows from q >>= (λ source. argument rows (length source.bytes) to p >>= (λ target. read_numbers source.bytes >>= (λ ns. check_target (length source.bytes) target >>= (λ u.
     require (not (overlap (length source.bytes) to from)) StrcpyOverlap >>= (λ w. Give (ns, target))))))
+
+-- the ranges of a copy
+abbrev pub ranges_to_copy : List Row → (may_overlap : Bool) → (to : ℕ) → Prov → (from : ℕ) → Prov → ℕ → Script (Option Accessed × Option Accessed)
+ranges_to_copy rows may_overlap to p from q n =
+    argument rows n to p >>= (λ target. argument rows n from q >>= (λ source. check_target n target >>= (λ u. require (may_overlap || not (overlap n to from)) MemcpyOverlap >>= (λ w. Give (target, source)))))
 
 -- none for a range of no bytes
 abbrev pub without_empty : Option Range → Option Range

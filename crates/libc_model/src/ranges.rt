@@ -1,14 +1,15 @@
 // Functions on ranges of bytes (7.24.2.1, 7.24.2.2, 7.24.4.1, 7.24.6.1).
 
-ghost use Rattle.std.specs.Prelude.{◌≡◌, ◌++◌, [], true, Ok, Err, IfOk, IfSome, OnErr, if◌then◌else◌};
+ghost use Rattle.std.specs.Prelude.{◌≡◌, ◌++◌, ◌||◌, [], true, not, Ok, Err, IfOk, IfSome, OnErr, if◌then◌else◌};
 ghost use Rattle.ub_base.specs.declared.names.Event.{Event};
+ghost use Rattle.ub_base.specs.declared.clause.Clause.TheVariants.{MemcpyOverlap};
 ghost use Rattle.c_types.specs.declared.library.LibFunc.TheVariants.{Memset, Memcmp};
 ghost use Rattle.prov_memory.specs.Streams.{Io};
 ghost use Rattle.prov_memory.specs.Memory.{AreKnown, HasCell, store_of};
 ghost use Rattle.libc_model.specs.Seen.{value_seen, values_seen};
 ghost use Rattle.libc_model.specs.Answers.{IsCall, Answers, answer_in};
 ghost use Rattle.libc_model.specs.Parts.{Follows, IsPassed, IsRange, IsShort, accessed_if, bytes_if, reads_if, ReadsAll};
-ghost use Rattle.libc_model.specs.Writes.{Tells, IsPlace, FillsRange, target_at, target_checked};
+ghost use Rattle.libc_model.specs.Writes.{Tells, IsPlace, FillsRange, target_at, target_checked, ranges_to_copy};
 ghost use Rattle.libc_spec.specs.Library.{called, low_byte, memcmp, order_of, overlap};
 
 use crate::arguments::{Pointer, Range, check, int_at, pointer_at, read_of, size_at};
@@ -111,6 +112,45 @@ pub fn answer_of(fault: prov_memory::MemFault) -> LibAnswer {
     }
 }
 
+// Whether the ranges may overlap or don't (7.24.2.1p2).
+fn check_overlap(may_overlap: bool, len: u64, to: u64, from: u64) -> Result<(), Clause>
+    ensures { result ≡ (if may_overlap || not (overlap len to from) then Ok tt else Err MemcpyOverlap) }
+{
+    if may_overlap {
+        return Ok(());
+    }
+    check_apart(len, to, from, Clause::MemcpyOverlap)
+}
+
+// The ranges of a copy, each none where it leaves an ambiguity open.
+#[derive(Clone, Copy)]
+struct Ranges {
+    target: Option<Range>,
+    source: Option<Range>,
+}
+
+fn ranges_to_copy(
+    m: &Memory,
+    may_overlap: bool,
+    to: Pointer,
+    from: Pointer,
+    len: u64,
+    t: &mut Touched,
+) -> Result<Ranges, LibAnswer>
+    ensures follows { (io : Io) → HasCell m.now to.prov → HasCell m.now from.prov → Follows true (λ r. (accessed_if m.now r.target, accessed_if m.now r.source)) result m.now io t.old t.new (ranges_to_copy m.now.rows may_overlap to.addr to.prov from.addr from.prov len) }
+    ensures target { IfOk result (λ r. IsRange len r.target) }
+    ensures source { IfOk result (λ r. IsRange len r.source) }
+    ensures to { IfOk result (λ r. IfSome r.target (IsPlace m.now to.addr)) }
+    ensures from { IfOk result (λ r. IfSome r.source (IsPlace m.now from.addr)) }
+    ensures writable { IfOk result (λ r. target_checked m.now r.target ≡ Ok tt) }
+{
+    let target = check(m, to, len, t)?;
+    let source = check(m, from, len, t)?;
+    check_target(m, target)?;
+    check_overlap(may_overlap, len, to.addr, from.addr)?;
+    Ok(Ranges { target, source })
+}
+
 /// memcpy, and memmove, which takes an overlap.
 pub fn copy(
     alloc: Global,
@@ -122,14 +162,9 @@ pub fn copy(
     let to = pointer_at(args, 0);
     let from = pointer_at(args, 1);
     let len = size_at(args, 2);
-    let target = check(m, to, len, t)?;
-    let source = check(m, from, len, t)?;
-    check_target(m, target)?;
-    if !may_overlap {
-        check_apart(len, to.addr, from.addr, Clause::MemcpyOverlap)?;
-    }
+    let ranges = ranges_to_copy(m, may_overlap, to, from, len, t)?;
     let mut scratch = Touched::new(alloc)?;
-    if let (Some(target), Some(source)) = (target, source)
+    if let (Some(target), Some(source)) = (ranges.target, ranges.source)
         && len != 0
     {
         move_bytes(m, target, source, t, &mut scratch)?;
