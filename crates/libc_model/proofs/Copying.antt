@@ -1,35 +1,45 @@
 -- Lemmas on calls that copy bytes.
-use Rattle.std.proofs.Common.{◌≡◌, ℕ, Bool, true, false, cond, List, [], ◌∷◌, ◌++◌, length, refl, ap, sym, subst, ◌∙◌, Option, Some, None}
-use Rattle.std.specs.Prelude.{Result, Ok, Err, not, ◌||◌}
+use Rattle.std.proofs.Common.{◌≡◌, ℕ, zero, suc, ◌==◌, Bool, true, false, cond, List, [], ◌∷◌, ◌++◌, length, refl, ap, ap₂, sym, subst, ◌∙◌, Option, Some, None}
+use Rattle.std.specs.Prelude.{Result, Ok, Err, IsTrue, not, ◌||◌}
 use Rattle.std.proofs.lemmas.List.{length-map}
 use Rattle.ub_base.specs.declared.clause.Clause.{Clause}
 use Rattle.ub_base.specs.declared.clause.Clause.TheVariants.{MemcpyOverlap, StrcpyOverlap}
+use Rattle.ub_base.specs.declared.clause.Cause.{Cause}
 use Rattle.ub_base.specs.declared.names.Item.{Item}
-use Rattle.ub_base.specs.declared.names.Item.TheVariants.{Write}
+use Rattle.ub_base.specs.declared.names.Item.TheVariants.{Read, Write}
+use Rattle.ub_base.specs.declared.names.ObjName.{ObjName}
 use Rattle.ub_base.specs.declared.names.Event.{Event}
 use Rattle.addr_map.specs.declared.map.Row.{Row}
 use Rattle.exposure.specs.declared.prov.Prov.{Prov}
+use Rattle.c_types.specs.Shapes.{Form}
+use Rattle.c_types.specs.declared.kind.IntKind.TheVariants.{ULong}
+use Rattle.c_types.specs.Kinds.{holds}
 use Rattle.c_types.specs.declared.library.LibFunc.TheVariants.{Strcpy}
 use Rattle.prov_memory.specs.declared.value.Value.{Value}
 use Rattle.prov_memory.specs.declared.value.Value.TheVariants.{Ptr}
 use Rattle.prov_memory.specs.declared.answer.LibAnswer.{LibAnswer}
 use Rattle.prov_memory.specs.declared.answer.LibAnswer.TheVariants as answers
-use Rattle.prov_memory.specs.Store.{Store}
-use Rattle.prov_memory.specs.Script.{Script, Give, require, ◌>>=◌, ◌>>◌, Act, Done, Raised, run}
-use Rattle.prov_memory.specs.Acts.{Accessed, argument}
+use Rattle.prov_memory.specs.Store.{Store, TaggedByte, range_from, with_bytes}
+use Rattle.prov_memory.specs.Script.{Get, Put, Script, Give, touch, require, ◌>>=◌, ◌>>◌, Act, Done, Raised, Ended, Outside, Unplaced, run}
+use Rattle.prov_memory.specs.Acts.{Accessed, whole, declared_of, stored_from, retagged, argument, check_writable, copy_between}
 use Rattle.prov_memory.specs.Streams.{Io}
-use Rattle.prov_memory.specs.Memory.{Kept, store_of}
-use Rattle.libc_spec.specs.Library.{LibValue, pointer, pointer_in, address_in, prov_in, argument_at, Text, text, overlap, read_numbers, number_of_byte, check_target, write_numbers, strcpy, joined, called}
+use Rattle.prov_memory.specs.Held.{held_of}
+use Rattle.prov_memory.specs.Memory.{Kept, act_of, life_in, store_of}
+use Rattle.libc_spec.specs.Library.{LibValue, pointer, pointer_in, address_in, prov_in, argument_at, integer_in, size_of_value, Text, text, overlap, read_numbers, number_of_byte, check_target, write_numbers, memmove, strcpy, joined, called}
 use Rattle.libc_model.specs.declared.arguments.Range.{Range}
-use Rattle.libc_model.specs.Answers.{Answers, AreWithin}
-use Rattle.libc_model.specs.Parts.{after, CanFollow, starts_in_read, Gives, Follows, ReadsAll, byte_at, bytes_of, text_in, accessed_if, IsRange, limited}
-use Rattle.libc_model.specs.Writes.{FillsRange, target_checked, ranges_to_copy, string_to_copy, write_items, overwritten}
-use Rattle.libc_model.proofs.Scripts.{run_same, run_twice}
-use Rattle.libc_model.proofs.Parts.{after_life, joined_append, then_gives, then_follows, then_raises, raises_then, err_follows, gives_at_once}
+use Rattle.libc_model.specs.Answers.{Answers, AreWithin, Refuses, are_sizes, size_places, copy_function}
+use Rattle.libc_model.specs.Parts.{after, CanFollow, starts_in_read, Gives, Follows, ReadsAll, byte_at, bytes_of, text_in, accessed, accessed_if, IsRange, limited}
+use Rattle.libc_model.specs.Writes.{FillsRange, within_limits, writable, target_checked, ranges_to_copy, string_to_copy, write_items, overwritten, moved_items, moved}
+use Rattle.libc_model.proofs.Scripts.{then, run_then, run_same, run_twice}
+use Rattle.libc_model.proofs.Parts.{after_life, after_bytes, joined_append, then_gives, then_follows, then_raises, raises_then, err_follows, gives_at_once}
 use Rattle.libc_model.proofs.Reading.{reads_follow}
-use Rattle.libc_model.proofs.Answering.{answers_of, address_is}
+use Rattle.libc_model.proofs.Answering.{answers_of, address_is, one_size}
 use Rattle.libc_model.proofs.Finishing.{length_of_range}
-use Rattle.libc_model.proofs.Writing.{target_passes, target_raises, checks_give, write_run, written_behind}
+use Rattle.libc_model.proofs.Listing.{next_not_zero}
+use Rattle.libc_model.proofs.Writing.{did, stored_length, writable_run, target_passes, target_raises, checks_give, write_run, written_behind}
+
+text_length : (m : Kept) (r : Range) → length (bytes_of m r) ≡ r.len
+text_length m r = length_of_range (byte_at m r.object) r.from r.len
 
 -- ---- ranges that may overlap
 clause_is : (c d : Clause) (r : Result (Unit {0}) Clause) → r ≡ Err c → r ≡ Err d → d ≡ c
@@ -107,6 +117,137 @@ ranged_given seen b m io old mid new may to p from q n r u o range g h able is o
     (checks_give true m io new (require (may || not (overlap n to from)) MemcpyOverlap) (require_passes (may || not (overlap n to from)) MemcpyOverlap m.rows (after new (store_of m io)) o is over))
     (subst (λ (c : Ranged). Gives true Ranged m io new new (Give (accessed_if m r, accessed_if m u)) c) (sym same) (gives_at_once true Ranged m io new (accessed_if m r, accessed_if m u)))))
 
+-- what holds of the act of these arguments holds of that of a call's
+memmove_by : (P : Act LibValue → Type 0) (may : Bool) (rows : List Row) (vs : List LibValue) (to from : ℕ) (p q : Prov) (n : ℕ) (s : Store) → pointer to p ≡ pointer_in (argument_at vs 0) → pointer from q ≡ pointer_in (argument_at vs 1) → n ≡ size_of_value (argument_at vs 2) →
+    P (run rows (memmove rows may to p from q n) s) → P (run rows (memmove rows may (address_in (argument_at vs 0)) (prov_in (argument_at vs 0)) (address_in (argument_at vs 1)) (prov_in (argument_at vs 1)) (size_of_value (argument_at vs 2))) s)
+memmove_by P may rows vs to from p q n s first second size h =
+    let x = address_is to (address_in (argument_at vs 0)) p (prov_in (argument_at vs 0)) first in
+    let y = address_is from (address_in (argument_at vs 1)) q (prov_in (argument_at vs 1)) second in
+    subst (λ (k : ℕ). P (run rows (memmove rows may (address_in (argument_at vs 0)) (prov_in (argument_at vs 0)) (address_in (argument_at vs 1)) (prov_in (argument_at vs 1)) k) s)) size
+    (subst (λ (d : ℕ). P (run rows (memmove rows may (address_in (argument_at vs 0)) (prov_in (argument_at vs 0)) d (prov_in (argument_at vs 1)) n) s)) y.0
+    (subst (λ (r : Prov). P (run rows (memmove rows may (address_in (argument_at vs 0)) (prov_in (argument_at vs 0)) from r n) s)) y.1
+    (subst (λ (d : ℕ). P (run rows (memmove rows may d (prov_in (argument_at vs 0)) from q n) s)) x.0
+    (subst (λ (r : Prov). P (run rows (memmove rows may to r from q n) s)) x.1 h))))
+
+memmove_is : (rows : List Row) (may : Bool) (to : ℕ) (p : Prov) (from : ℕ) (q : Prov) (n : ℕ) (s : Store) →
+    run rows (ranges_to_copy rows may to p from q n >>= (λ r. copy_between n r.0 r.1 >> Give (pointer to p))) s ≡ run rows (memmove rows may to p from q n) s
+memmove_is rows may to p from q n s =
+    let move : Ranged → Script LibValue = λ r. copy_between n r.0 r.1 >> Give (pointer to p) in
+    run_twice rows (argument rows n to p) (ranged_from rows may n to from q) move s
+    ∙ run_same rows (argument rows n to p) (λ target. ranged_from rows may n to from q target >>= move) (λ target. argument rows n from q >>= (λ source. check_target n target >> (require (may || not (overlap n to from)) MemcpyOverlap >> move (target, source)))) s
+    (λ target u. run_twice rows (argument rows n from q) (ranged_to may n to from target) move u
+    ∙ run_same rows (argument rows n from q) (λ source. ranged_to may n to from target source >>= move) (λ source. check_target n target >> (require (may || not (overlap n to from)) MemcpyOverlap >> move (target, source))) u
+    (λ source w. run_twice rows (check_target n target) (λ u. ranged_apart may n to from target source) move w
+    ∙ run_same rows (check_target n target) (λ v. ranged_apart may n to from target source >>= move) (λ v. require (may || not (overlap n to from)) MemcpyOverlap >> move (target, source)) w
+    (λ v x. run_twice rows (require (may || not (overlap n to from)) MemcpyOverlap) (λ w. Give (target, source)) move x)))
+
+retagged_length : (d : Option Form) (from : ℕ) (bs : List TaggedByte) → length (retagged d from bs) ≡ length bs
+retagged_length None from bs = refl
+retagged_length (Some form) from [] = refl
+retagged_length (Some form) from (b ∷ bs) = ap suc (retagged_length (Some form) (suc from) bs)
+
+abbrev pub moved_bytes : Kept → Range → Range → List TaggedByte → List TaggedByte
+moved_bytes m r u bs = stored_from (declared_of (life_in (held_of m.objects r.object))) whole 0 (retagged (declared_of (life_in (held_of m.objects u.object))) u.from bs)
+
+moved_length : (m : Kept) (r u : Range) → length (moved_bytes m r u (bytes_of m u)) ≡ u.len
+moved_length m r u =
+    stored_length (declared_of (life_in (held_of m.objects r.object))) whole 0 (retagged (declared_of (life_in (held_of m.objects u.object))) u.from (bytes_of m u))
+    ∙ retagged_length (declared_of (life_in (held_of m.objects u.object))) u.from (bytes_of m u) ∙ text_length m u
+
+-- the target may be written to
+writable_passes : (b : Bool) (w : Result (Unit {0}) Clause) → b ≡ false → Ok tt ≡ cond b (Ok tt) w → w ≡ Ok tt
+writable_passes true w e h = absurd (cc)
+writable_passes false w e h = sym h
+
+moves_at : (rows : List Row) (m : Kept) (n : ℕ) (r u : Range) (s : Store) → writable (life_in (held_of m.objects r.object)) ≡ Ok tt →
+    run rows (copy_between (suc n) (Some (accessed m r)) (Some (accessed m u))) s
+    ≡ did (Read u.object u.from (suc n) ∷ Write r.object r.from (length (moved_bytes m r u (range_from (s.bytes u.object) u.from (suc n)))) ∷ []) (with_bytes s r.object r.from (moved_bytes m r u (range_from (s.bytes u.object) u.from (suc n))))
+moves_at rows m n r u s ok =
+    run_then rows (check_writable false (life_in (held_of m.objects r.object))) (λ v. touch (Get u.object u.from (suc n)) >>= (λ bs. touch (Put r.object r.from (moved_bytes m r u bs)))) s
+    ∙ ap (λ (act : Act (Unit {0})). then act (λ v w. run rows (touch (Get u.object u.from (suc n)) >>= (λ bs. touch (Put r.object r.from (moved_bytes m r u bs)))) w))
+    (writable_run rows (life_in (held_of m.objects r.object)) s ∙ ap (λ (o : Result (Unit {0}) Clause). act_of o [] s) ok)
+
+nothing_moved : (m : Kept) (r u : Range) (s : Store) → 0 ≡ r.len → 0 ≡ u.len → did [] s ≡ did (moved_items (Some r) (Some u)) (moved m (Some r) (Some u) s)
+nothing_moved m r u s e h =
+    ap₂ (λ (k j : ℕ). did (cond (j == 0) [] (Read u.object u.from u.len ∷ []) ++ cond (k == 0) [] (Write r.object r.from r.len ∷ [])) (cond (k == 0) s (with_bytes s r.object r.from (moved_bytes m r u (bytes_of m u))))) e h
+
+all_moved : (m : Kept) (n : ℕ) (r u : Range) (s : Store) → r.len ≡ suc n → u.len ≡ suc n → s.bytes u.object ≡ byte_at m u.object →
+    did (Read u.object u.from (suc n) ∷ Write r.object r.from (length (moved_bytes m r u (range_from (s.bytes u.object) u.from (suc n)))) ∷ []) (with_bytes s r.object r.from (moved_bytes m r u (range_from (s.bytes u.object) u.from (suc n))))
+    ≡ did (moved_items (Some r) (Some u)) (moved m (Some r) (Some u) s)
+all_moved m n r u s to from same =
+    let some_to : (r.len == 0) ≡ false = ap (λ (k : ℕ). k == 0) to ∙ next_not_zero n in
+    let some_from : (u.len == 0) ≡ false = ap (λ (k : ℕ). k == 0) from ∙ next_not_zero n in
+    ap (λ (f : ℕ → TaggedByte). did (Read u.object u.from (suc n) ∷ Write r.object r.from (length (moved_bytes m r u (range_from f u.from (suc n)))) ∷ []) (with_bytes s r.object r.from (moved_bytes m r u (range_from f u.from (suc n))))) same
+    ∙ ap (λ (k : ℕ). did (Read u.object u.from k ∷ Write r.object r.from (length (moved_bytes m r u (range_from (byte_at m u.object) u.from k))) ∷ []) (with_bytes s r.object r.from (moved_bytes m r u (range_from (byte_at m u.object) u.from k)))) (sym from)
+    ∙ ap (λ (k : ℕ). did (Read u.object u.from u.len ∷ Write r.object r.from k ∷ []) (with_bytes s r.object r.from (moved_bytes m r u (bytes_of m u)))) (moved_length m r u ∙ from ∙ sym to)
+    ∙ ap₂ (λ (b d : Bool). did (cond b [] (Read u.object u.from u.len ∷ []) ++ cond d [] (Write r.object r.from r.len ∷ [])) (cond d s (with_bytes s r.object r.from (moved_bytes m r u (bytes_of m u))))) (sym some_from) (sym some_to)
+
+-- the script of a copy between ranges that were checked
+pub move_run : (rows : List Row) (m : Kept) (n : ℕ) (r u : Option Range) (s : Store) → IsRange n r → IsRange n u → Ok tt ≡ target_checked m r → ((x : ObjName) → s.bytes x ≡ byte_at m x) →
+    run rows (copy_between n (accessed_if m r) (accessed_if m u)) s ≡ did (moved_items r u) (moved m r u s)
+move_run rows m zero None u s h k able same = refl
+move_run rows m zero (Some r) None s h k able same = refl
+move_run rows m zero (Some r) (Some u) s h k able same = nothing_moved m r u s (sym h.0) (sym k.0)
+move_run rows m (suc n) None u s h k able same = refl
+move_run rows m (suc n) (Some r) None s h k able same = refl
+move_run rows m (suc n) (Some r) (Some u) s h k able same =
+    moves_at rows m n r u s (writable_passes (r.len == 0) (writable (life_in (held_of m.objects r.object))) (ap (λ (k : ℕ). k == 0) h.0 ∙ next_not_zero n) able)
+    ∙ all_moved m n r u s h.0 k.0 (same u.object)
+
+-- what a call of memcpy or memmove does once its ranges were checked
+pub memmove_done : (m : Kept) (io : Io) (is : List Item) (may : Bool) (to : ℕ) (p : Prov) (from : ℕ) (q : Prov) (n : ℕ) (r u : Option Range) → IsRange n r → IsRange n u → Ok tt ≡ target_checked m r →
+    (g : Gives true Ranged m io [] is (ranges_to_copy m.rows may to p from q n) (accessed_if m r, accessed_if m u)) →
+    run m.rows (memmove m.rows may to p from q n) (store_of m io) ≡ Done (pointer to p) (g.items ++ moved_items r u) (moved m r u (after is (store_of m io)))
+memmove_done m io is may to p from q n r u range source able g =
+    sym (memmove_is m.rows may to p from q n (store_of m io))
+    ∙ written_behind true Ranged m io is (moved_items r u) (ranges_to_copy m.rows may to p from q n) (accessed_if m r, accessed_if m u) (λ c. copy_between n c.0 c.1) (pointer to p) (moved m r u (after is (store_of m io))) g
+    (move_run m.rows m n r u (after is (store_of m io)) range source able (λ x. after_bytes is (store_of m io) x))
+
+-- such a call raises nothing
+refuses_by : (b : Bool) (c : Cause) (k : ℕ) (v : LibValue) (is : List Item) (u : Store) (a : LibAnswer) → Refuses (cond b (Outside c k) (Done v is u)) a
+refuses_by true c k v is u a = tt
+refuses_by false c k v is u a = tt
+
+pub move_refuses : (a : LibAnswer) (m : Kept) (io : Io) (is : List Item) (may : Bool) (to : ℕ) (p : Prov) (from : ℕ) (q : Prov) (n : ℕ) (r u : Option Range) → IsRange n r → IsRange n u → Ok tt ≡ target_checked m r →
+    Gives true Ranged m io [] is (ranges_to_copy m.rows may to p from q n) (accessed_if m r, accessed_if m u) →
+    Refuses (within_limits (store_of m io) (run m.rows (memmove m.rows may to p from q n) (store_of m io))) a
+move_refuses a m io is may to p from q n r u range source able g =
+    subst (λ (act : Act LibValue). Refuses (within_limits (store_of m io) act) a) (sym (memmove_done m io is may to p from q n r u range source able g))
+    (refuses_by _ _ _ (pointer to p) (g.items ++ moved_items r u) (moved m r u (after is (store_of m io))) a)
+
+-- one whose ranges aren't passes on why
+memmove_raises : (m : Kept) (io : Io) (is : List Item) (may : Bool) (to : ℕ) (p : Prov) (from : ℕ) (q : Prov) (n : ℕ) (c : Clause) → run m.rows (ranges_to_copy m.rows may to p from q n) (store_of m io) ≡ Raised c →
+    run m.rows (memmove m.rows may to p from q n) (store_of m io) ≡ Raised c
+memmove_raises m io is may to p from q n c h =
+    sym (memmove_is m.rows may to p from q n (store_of m io)) ∙ raises_then Ranged LibValue m.rows (store_of m io) (ranges_to_copy m.rows may to p from q n) (λ r. copy_between n r.0 r.1 >> Give (pointer to p)) c h
+
+no_memory_refused : (act : Act LibValue) → Refuses act answers.NoMemory
+no_memory_refused (Raised c) = tt
+no_memory_refused (Done v is u) = tt
+no_memory_refused (Ended n is u) = tt
+no_memory_refused (Outside c n) = tt
+no_memory_refused Unplaced = tt
+
+pub ranges_refuse : {B : Type 0} (seen : B → Ranged) (m : Kept) (io : Io) (is : List Item) (may : Bool) (to : ℕ) (p : Prov) (from : ℕ) (q : Prov) (n : ℕ) (e : LibAnswer) → Follows true seen (Err e) m io [] is (ranges_to_copy m.rows may to p from q n) →
+    Refuses (within_limits (store_of m io) (run m.rows (memmove m.rows may to p from q n) (store_of m io))) e
+ranges_refuse seen m io is may to p from q n answers.NoMemory h = no_memory_refused (within_limits (store_of m io) (run m.rows (memmove m.rows may to p from q n) (store_of m io)))
+ranges_refuse seen m io is may to p from q n (answers.Raise c) h =
+    subst (λ (act : Act LibValue). Refuses (within_limits (store_of m io) act) (answers.Raise c)) (sym (memmove_raises m io is may to p from q n c h)) refl
+ranges_refuse seen m io is may to p from q n e h = absurd h
+
+pub memmove_refused : (may : Bool) (rows : List Row) (vs : List LibValue) (who : Event) (to from : ℕ) (p q : Prov) (n : ℕ) (s : Store) (e : LibAnswer) → pointer to p ≡ pointer_in (argument_at vs 0) → pointer from q ≡ pointer_in (argument_at vs 1) → n ≡ size_of_value (argument_at vs 2) →
+    Refuses (within_limits s (run rows (memmove rows may to p from q n) s)) e → Refuses (called rows (copy_function may) vs who s) e
+memmove_refused true rows vs who to from p q n s e first second size h = memmove_by (λ (act : Act LibValue). Refuses (within_limits s act) e) true rows vs to from p q n s first second size h
+memmove_refused false rows vs who to from p q n s e first second size h = memmove_by (λ (act : Act LibValue). Refuses (within_limits s act) e) false rows vs to from p q n s first second size h
+
+pub copy_size : (may : Bool) (vs : List LibValue) → are_sizes vs (size_places (copy_function may)) ≡ true → IsTrue (holds ULong (integer_in (argument_at vs 2)))
+copy_size true vs e = one_size vs 2 e
+copy_size false vs e = one_size vs 2 e
+
+-- an act that no answer refuses isn't raised
+pub none_raised : (act : Act LibValue) (c : Clause) → ((a : LibAnswer) → Refuses act a) → act ≡ Raised c → ⊥
+none_raised act c h e = subst (λ (act : Act LibValue). Refuses act answers.Unplaced) e (h answers.Unplaced)
+
 -- ---- strcpy
 abbrev pub Copied : Type 0
 Copied = List ℕ × Option Accessed
@@ -136,9 +277,6 @@ strcpy_is rows to p from q s =
     (λ ns x. run_twice rows (check_target (length source.bytes) target) (λ u. copied_apart (length source.bytes) to from target ns) write x
     ∙ run_same rows (check_target (length source.bytes) target) (λ v. copied_apart (length source.bytes) to from target ns >>= write) (λ v. require (not (overlap (length source.bytes) to from)) StrcpyOverlap >> write (ns, target)) x
     (λ v y. run_twice rows (require (not (overlap (length source.bytes) to from)) StrcpyOverlap) (λ w. Give (ns, target)) write y))))
-
-text_length : (m : Kept) (r : Range) → length (bytes_of m r) ≡ r.len
-text_length m r = length_of_range (byte_at m r.object) r.from r.len
 
 -- the source is no string
 pub no_source : {B : Type 0} (seen : B → Copied) (m : Kept) (io : Io) (old mid new : List Item) (to : ℕ) (p : Prov) (from : ℕ) (q : Prov) (e : LibAnswer) → Follows false (text_in m) (Err e) m io old mid (text m.rows from q) →

@@ -65,7 +65,7 @@ writable_by true constant rows s = refl
 writable_by false true rows s = refl
 writable_by false false rows s = refl
 
-writable_run : (rows : List Row) (life : Option Life) (s : Store) → run rows (check_writable false life) s ≡ act_of (writable life) [] s
+pub writable_run : (rows : List Row) (life : Option Life) (s : Store) → run rows (check_writable false life) s ≡ act_of (writable life) [] s
 writable_run rows life s = writable_by (is_literal life) (is_constant life) rows s
 
 target_run : (rows : List Row) (m : Kept) (n : ℕ) (target : Option Range) (s : Store) → IsRange n target → run rows (check_target n (accessed_if m target)) s ≡ act_of (target_checked m target) [] s

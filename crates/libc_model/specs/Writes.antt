@@ -14,13 +14,13 @@ use Rattle.prov_memory.specs.declared.cell.Via.{Via}
 use Rattle.prov_memory.specs.declared.cell.Via.TheVariants as vias
 use Rattle.prov_memory.specs.Store.{Life, Store, is_live, with_bytes}
 use Rattle.prov_memory.specs.Script.{Script, Give, require, ◌>>=◌, ◌>>◌, Act, Done, Raised, run}
-use Rattle.prov_memory.specs.Acts.{Accessed, Seen, whole, bytes, in_row, offset_in, is_literal, is_constant, declared_of, stored_from, argument}
+use Rattle.prov_memory.specs.Acts.{Accessed, Seen, whole, bytes, in_row, offset_in, is_literal, is_constant, declared_of, stored_from, retagged, argument}
 use Rattle.prov_memory.specs.Streams.{Io}
 use Rattle.prov_memory.specs.Held.{held_of}
 use Rattle.prov_memory.specs.Memory.{Kept, store_of, life_in}
 use Rattle.libc_spec.specs.Library.{LibValue, text, plain, overlap, read_numbers, check_target, output_within, created_within}
 use Rattle.libc_model.specs.declared.arguments.Range.{Range}
-use Rattle.libc_model.specs.Parts.{after, CanFollow}
+use Rattle.libc_model.specs.Parts.{after, CanFollow, bytes_of, read_items}
 
 -- behind the old items the script gives the value and adds the new ones
 pub record Lists (V : Type 0) (m : Kept) (io : Io) (old new : List Item) (script : Script V) (v : V) : Type 0 where
@@ -84,6 +84,16 @@ write_items (Some r) = if r.len == 0 then [] else Write r.object r.from r.len �
 abbrev pub overwritten : Option Range → List ℕ → Store → Store
 overwritten None ns s = s
 overwritten (Some r) ns s = if r.len == 0 then s else with_bytes s r.object r.from (stored_from (declared_of (s.life r.object)) bytes 0 (map plain ns))
+
+-- the items of a copy between ranges of one length, none where they have no bytes
+abbrev pub moved_items : Option Range → Option Range → List Item
+moved_items (Some target) (Some source) = read_items source ++ write_items (Some target)
+moved_items target source = []
+
+-- the bytes of the one range replace those of the other as they stand, with pieces and tags
+abbrev pub moved : Kept → Option Range → Option Range → Store → Store
+moved m (Some target) (Some source) s = if target.len == 0 then s else with_bytes s target.object target.from (stored_from (declared_of (life_in (held_of m.objects target.object))) whole 0 (retagged (declared_of (life_in (held_of m.objects source.object))) source.from (bytes_of m source)))
+moved m target source s = s
 
 -- bytes without a type
 abbrev pub SeesBytes : Via → Seen → Type 0

@@ -2,12 +2,14 @@
 
 ghost use Rattle.std.specs.Prelude.{◌≡◌, ◌++◌, ◌||◌, [], true, not, Ok, Err, IfOk, IfSome, OnErr, if◌then◌else◌};
 ghost use Rattle.ub_base.specs.declared.names.Event.{Event};
+ghost use Rattle.ub_base.specs.declared.clause.Clause.{Clause};
 ghost use Rattle.ub_base.specs.declared.clause.Clause.TheVariants.{MemcpyOverlap};
+ghost use Rattle.prov_memory.specs.Script.{Raised};
 ghost use Rattle.c_types.specs.declared.library.LibFunc.TheVariants.{Memset, Memcmp};
 ghost use Rattle.prov_memory.specs.Streams.{Io};
 ghost use Rattle.prov_memory.specs.Memory.{AreKnown, HasCell, store_of};
 ghost use Rattle.libc_model.specs.Seen.{value_seen, values_seen};
-ghost use Rattle.libc_model.specs.Answers.{IsCall, Answers, answer_in};
+ghost use Rattle.libc_model.specs.Answers.{IsCall, Answers, Refuses, answer_in, copy_function};
 ghost use Rattle.libc_model.specs.Parts.{Follows, IsPassed, IsRange, IsShort, accessed_if, bytes_if, reads_if, ReadsAll};
 ghost use Rattle.libc_model.specs.Writes.{Tells, IsPlace, FillsRange, target_at, target_checked, ranges_to_copy};
 ghost use Rattle.libc_spec.specs.Library.{called, low_byte, memcmp, order_of, overlap};
@@ -158,7 +160,11 @@ pub fn copy(
     args: &[Value],
     m: &mut Memory,
     t: &mut Touched,
-) -> Result<Value, LibAnswer> {
+) -> Result<Value, LibAnswer>
+    requires { t.old ≡ [] }
+    ensures refused { (io : Io) (who : Event) → IsCall (copy_function may_overlap) (values_seen args.now) m.old io → Refuses (called m.old.rows (copy_function may_overlap) (values_seen args.now) who (store_of m.old io)) (answer_in result) }
+    ensures kept { (io : Io) (who : Event) (c : Clause) → IsCall (copy_function may_overlap) (values_seen args.now) m.old io → called m.old.rows (copy_function may_overlap) (values_seen args.now) who (store_of m.old io) ≡ Raised c → m.new ≡ m.old }
+{
     let to = pointer_at(args, 0);
     let from = pointer_at(args, 1);
     let len = size_at(args, 2);
