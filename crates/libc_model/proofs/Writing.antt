@@ -134,14 +134,16 @@ stored_over m r seen bs s = with_bytes s r.object r.from (stored_from (declared_
 stored_at : (m : Kept) (io : Io) (a : ℕ) (r : Range) (via : Via) (seen : Seen) (bs : List TaggedByte) → SeesBytes via seen → IsPlace m a r → length bs ≡ r.len →
     (is : List Item) × (run m.rows (acts.store m.rows true seen 1 a (Whole r.object) bs) (store_of m io) ≡ Done tt is (stored_over m r seen bs (store_of m io)))
 stored_at m io a r vias.Whole whole bs sees p len =
-    let stored = stored_from (declared_of (life_in (held_of m.objects r.object))) whole 0 bs in
-    (Alive r.object ∷ Write r.object (offset_in (row_of m.rows r.object) a) (length (stored_from (declared_of (life_in (held_of m.objects r.object))) whole 0 bs)) ∷ [],
-    whole_stored m.rows a r.object (store_of m io) bs (ne_eqb a 0 (λ e. not_zero a p.address e)) p.live (ap (in_row (row_of m.rows r.object) a) len ∙ p.inside)
-    ∙ ap (λ (from : ℕ). Done tt (Alive r.object ∷ Write r.object (offset_in (row_of m.rows r.object) a) (length (stored_from (declared_of (life_in (held_of m.objects r.object))) whole 0 bs)) ∷ []) (with_bytes (store_of m io) r.object from (stored_from (declared_of (life_in (held_of m.objects r.object))) whole 0 bs))) (sym p.from))
-stored_at m io a r vias.Bytes bytes bs sees p len =
-    (Alive r.object ∷ Write r.object (offset_in (row_of m.rows r.object) a) (length (stored_from (declared_of (life_in (held_of m.objects r.object))) bytes 0 bs)) ∷ [],
-    bytes_stored m.rows a r.object (store_of m io) bs (ne_eqb a 0 (λ e. not_zero a p.address e)) p.live (ap (in_row (row_of m.rows r.object) a) len ∙ p.inside)
-    ∙ ap (λ (from : ℕ). Done tt (Alive r.object ∷ Write r.object (offset_in (row_of m.rows r.object) a) (length (stored_from (declared_of (life_in (held_of m.objects r.object))) bytes 0 bs)) ∷ []) (with_bytes (store_of m io) r.object from (stored_from (declared_of (life_in (held_of m.objects r.object))) bytes 0 bs))) (sym p.from))
+    let stored = stored_from (declared_of (life_in (held_of m.objects r.object))) whole 0 bs in (
+      Alive r.object ∷ Write r.object (offset_in (row_of m.rows r.object) a) (length (stored_from (declared_of (life_in (held_of m.objects r.object))) whole 0 bs)) ∷ [],
+      whole_stored m.rows a r.object (store_of m io) bs (ne_eqb a 0 (λ e. not_zero a p.address e)) p.live (ap (in_row (row_of m.rows r.object) a) len ∙ p.inside)
+          ∙ ap (λ (from : ℕ). Done tt (Alive r.object ∷ Write r.object (offset_in (row_of m.rows r.object) a) (length (stored_from (declared_of (life_in (held_of m.objects r.object))) whole 0 bs)) ∷ []) (with_bytes (store_of m io) r.object from (stored_from (declared_of (life_in (held_of m.objects r.object))) whole 0 bs))) (sym p.from),
+    )
+stored_at m io a r vias.Bytes bytes bs sees p len = (
+  Alive r.object ∷ Write r.object (offset_in (row_of m.rows r.object) a) (length (stored_from (declared_of (life_in (held_of m.objects r.object))) bytes 0 bs)) ∷ [],
+  bytes_stored m.rows a r.object (store_of m io) bs (ne_eqb a 0 (λ e. not_zero a p.address e)) p.live (ap (in_row (row_of m.rows r.object) a) len ∙ p.inside)
+      ∙ ap (λ (from : ℕ). Done tt (Alive r.object ∷ Write r.object (offset_in (row_of m.rows r.object) a) (length (stored_from (declared_of (life_in (held_of m.objects r.object))) bytes 0 bs)) ∷ []) (with_bytes (store_of m io) r.object from (stored_from (declared_of (life_in (held_of m.objects r.object))) bytes 0 bs))) (sym p.from),
+)
 stored_at m io a r via seen bs sees p len = absurd sees
 
 sees_bytes : (m : Kept) (via : Via) (seen : Seen) → SeesBytes via seen → Sees m via seen

@@ -1,11 +1,11 @@
 use Rattle.std.proofs.Common.{◌∙◌, rules}
 use Rattle.std.specs.Int.{w128}
 use Rattle.std.proofs.lemmas.Int.{to_z-of_z}
-use Rattle.c_types.specs.declared.library.LibFunc.TheVariants.{Malloc, Memset, Memcmp, Strlen, Strcpy, Strcmp, Strchr, Getchar, Putchar, Puts, Exit, Abort}
+use Rattle.c_types.specs.declared.library.LibFunc.TheVariants.{Malloc, Memcpy, Memmove, Memset, Memcmp, Strlen, Strcpy, Strcmp, Strchr, Getchar, Putchar, Puts, Exit, Abort}
 use Rattle.prov_memory.specs.Memory.{store_of}
 use Rattle.libc_model.specs.Seen.{values_seen}
 use Rattle.libc_model.specs.Answers.{answer_in}
-use Rattle.libc_model.proofs.Answering.{arm, malloc_called, first_size}
+use Rattle.libc_model.proofs.Answering.{arm, refused_arm, kept_arm, malloc_called, first_size}
 use Rattle.libc_model.proofs.calls.value_of.Goals as goal
 
 pub returns-in-Malloc-clause-exact : goal.returns-in-Malloc-clause-exact
@@ -67,3 +67,19 @@ pub returns-in-Strcpy-clause-exact : goal.returns-in-Strcpy-clause-exact
 returns-in-Strcpy-clause-exact c =
     arm c.args.f Strcpy c.args.m.now c.copy_string.new.m (values_seen c.args.args.now) c.args.who c.args.m.now c.args.io.now (answer_in c.copy_string.result) c.copy_string.new.t (store_of c.copy_string.new.m c.args.io.now) (store_of c.args.m.now c.args.io.now) c.in-Strcpy.is
     (c.copy_string.ensures.exact c.args.io.now c.args.who)
+
+pub returns-in-Memcpy-clause-refused : goal.returns-in-Memcpy-clause-refused
+returns-in-Memcpy-clause-refused c =
+    refused_arm c.args.f Memcpy c.args.m.now.rows (values_seen c.args.args.now) c.args.who c.args.m.now c.args.io.now (answer_in c.copy.result) (store_of c.args.m.now c.args.io.now) c.in-Memcpy.is (c.copy.ensures.refused c.args.io.now c.args.who)
+
+pub returns-in-Memcpy-clause-kept : goal.returns-in-Memcpy-clause-kept
+returns-in-Memcpy-clause-kept c = λ d copies.
+    kept_arm c.args.f Memcpy c.args.m.now.rows (values_seen c.args.args.now) c.args.who c.args.m.now c.copy.new.m c.args.io.now (store_of c.args.m.now c.args.io.now) d c.in-Memcpy.is (c.copy.ensures.kept c.args.io.now c.args.who d)
+
+pub returns-in-Memmove-clause-refused : goal.returns-in-Memmove-clause-refused
+returns-in-Memmove-clause-refused c =
+    refused_arm c.args.f Memmove c.args.m.now.rows (values_seen c.args.args.now) c.args.who c.args.m.now c.args.io.now (answer_in c.copy-in-Memmove.result) (store_of c.args.m.now c.args.io.now) c.in-Memmove.is (c.copy-in-Memmove.ensures.refused c.args.io.now c.args.who)
+
+pub returns-in-Memmove-clause-kept : goal.returns-in-Memmove-clause-kept
+returns-in-Memmove-clause-kept c = λ d copies.
+    kept_arm c.args.f Memmove c.args.m.now.rows (values_seen c.args.args.now) c.args.who c.args.m.now c.copy-in-Memmove.new.m c.args.io.now (store_of c.args.m.now c.args.io.now) d c.in-Memmove.is (c.copy-in-Memmove.ensures.kept c.args.io.now c.args.who d)
