@@ -1,6 +1,6 @@
 -- Lemmas on what calls answer.
-use Rattle.std.proofs.Common.{◌≡◌, ◌≢◌, ℕ, zero, suc, ◌+◌, ◌<◌, ◌≤◌, ◌⊎◌, inl, inr, Bool, true, false, ◌&&◌, cond, min, List, [], ◌∷◌, ◌++◌, length, refl, ap, ap₂, sym, subst, ◌∙◌, arith, Option, Some, None, slice_get, get_or, length-append, ℤ, pos}
-use Rattle.std.specs.Prelude.{Result, Ok, Err, nat_lt, IsTrue, ◌^◌}
+use Rattle.std.proofs.Common.{◌≡◌, ℕ, ◌≤◌, Bool, true, false, ◌&&◌, min, List, [], ◌∷◌, length, refl, ap, sym, subst, ◌∙◌, arith}
+use Rattle.std.specs.Prelude.{Result, Ok, Err, IsTrue, ◌^◌}
 use Rattle.std.proofs.lemmas.Bool.{le-ltb}
 use Rattle.std.proofs.lemmas.List.{append-nil}
 use Rattle.ub_base.specs.declared.clause.Clause.{Clause}
@@ -19,12 +19,12 @@ use Rattle.prov_memory.specs.declared.value.Value.TheVariants.{Nothing}
 use Rattle.prov_memory.specs.declared.answer.LibAnswer.{LibAnswer}
 use Rattle.prov_memory.specs.declared.answer.LibAnswer.TheVariants as answers
 use Rattle.prov_memory.specs.Store.{Store}
-use Rattle.prov_memory.specs.Script.{Act, Done, Raised, Ended, Outside, Unplaced, Give, ◌>>◌, run}
+use Rattle.prov_memory.specs.Script.{Act, Done, Raised, Outside, Unplaced, Give, ◌>>◌, run}
 use Rattle.prov_memory.specs.Streams.{Io}
 use Rattle.prov_memory.specs.Memory.{Kept, HasCell}
 use Rattle.libc_spec.specs.Library.{LibValue, pointer, nothing, free, malloc, argument_at, pointer_in, address_in, prov_in, integer_in, size_of_value, output_within, created_within, called}
 use Rattle.libc_model.specs.Answers.{Does, Answers, Refuses, IsCall, HaveCells, is_copy, is_exact, rows_by, are_sizes, clipped, given_value, answer_in}
-use Rattle.libc_model.proofs.Scripts.{then, behind, run_then, behind_done}
+use Rattle.libc_model.proofs.Scripts.{then, run_then, behind_done}
 
 clipped_same : (s : Store) → s.position ≤ length s.input → s ≡ clipped s
 clipped_same s h =

@@ -1,5 +1,5 @@
 -- Lemmas on the parts of a call whose reads are noted one by one.
-use Rattle.std.proofs.Common.{◌≡◌, ℕ, zero, suc, ◌==◌, Bool, true, false, cond, List, [], ◌∷◌, ◌++◌, append_assoc, refl, ap, sym, subst, ◌∙◌, arith, Option, Some, None, ℤ}
+use Rattle.std.proofs.Common.{◌≡◌, ℕ, zero, suc, ◌==◌, Bool, true, false, cond, List, [], ◌∷◌, ◌++◌, append_assoc, refl, ap, sym, subst, ◌∙◌, arith, Option, Some, None}
 use Rattle.std.specs.Prelude.{Result, Ok, Err, IfSome}
 use Rattle.std.proofs.lemmas.Bool.{ne_eqb}
 use Rattle.std.proofs.lemmas.List.{append-nil}
@@ -23,7 +23,7 @@ use Rattle.libc_spec.specs.Library.{LibValue, number, pointer, pointer_in, addre
 use Rattle.libc_model.specs.declared.arguments.Range.{Range}
 use Rattle.libc_model.specs.Seen.{value_seen}
 use Rattle.libc_model.specs.Answers.{Answers, AreWithin}
-use Rattle.libc_model.specs.Parts.{after, CanFollow, is_read, has_read, Gives, Follows, byte_at, bytes_of, bytes_if, reads_if, accessed_if, IsRange, IsShort, IsPassed, ReadsAll}
+use Rattle.libc_model.specs.Parts.{after, CanFollow, is_read, has_read, Gives, Follows, byte_at, bytes_if, reads_if, accessed_if, IsRange, IsShort, IsPassed, ReadsAll}
 use Rattle.libc_model.specs.Writes.{Lists, Tells, within_limits}
 use Rattle.libc_model.proofs.Scripts.{then, behind, run_then, behind_done}
 use Rattle.libc_model.proofs.Parts.{or_false, joins_quiet, behind_raised, raises_then, after_bytes, after_append, follow_append}

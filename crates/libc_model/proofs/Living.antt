@@ -6,14 +6,14 @@ use Rattle.ub_base.specs.declared.names.Item.TheVariants.{Expose}
 use Rattle.ub_base.specs.declared.names.ObjName.{ObjName}
 use Rattle.exposure.specs.declared.prov.Prov.TheVariants.{Whole}
 use Rattle.prov_memory.specs.Store.{Store, shown}
-use Rattle.prov_memory.specs.Script.{Act, Done, run}
+use Rattle.prov_memory.specs.Script.{Done, run}
 use Rattle.prov_memory.specs.Acts.{expose}
 use Rattle.prov_memory.specs.Held.{held_of}
 use Rattle.prov_memory.specs.Streams.{Io}
 use Rattle.prov_memory.specs.Memory.{Kept, life_in, store_of}
-use Rattle.libc_model.specs.Parts.{IsSettled, AreSettled}
+use Rattle.libc_model.specs.Parts.{IsSettled}
 use Rattle.libc_model.specs.Writes.{LiveOn}
-use Rattle.libc_model.proofs.Settling.{SettlesRest, settles_all, settles_on, settles_none}
+use Rattle.libc_model.proofs.Settling.{SettlesRest, settles_all, settles_on}
 
 -- an ambiguity is settled
 pub narrow_lives : (m new : Kept) → record new { cells = [] } ≡ record m { cells = [] } → LiveOn m new

@@ -1,10 +1,10 @@
 -- Lemmas on calls that write bytes.
-use Rattle.std.proofs.Common.{◌≡◌, ℕ, zero, suc, ◌+◌, ◌%◌, ◌≤◌, ◌==◌, Bool, true, false, cond, List, [], ◌∷◌, ◌++◌, length, map, replicate, refl, ap, ap₂, sym, subst, ◌∙◌, arith, Option, Some, None, ℤ}
-use Rattle.std.specs.Prelude.{Result, Ok, Err, OnOk, IfErr, IfSome, not}
+use Rattle.std.proofs.Common.{◌≡◌, ℕ, zero, suc, ◌%◌, ◌≤◌, ◌==◌, Bool, true, false, cond, List, [], ◌∷◌, ◌++◌, length, map, replicate, refl, ap, ap₂, sym, subst, ◌∙◌, arith, Option, Some, None, ℤ}
+use Rattle.std.specs.Prelude.{Result, Ok, Err, OnOk, IfErr, not}
 use Rattle.std.proofs.lemmas.Bool.{ne_eqb}
 use Rattle.std.proofs.lemmas.List.{append-nil, length-map, length-replicate}
 use Rattle.ub_base.specs.declared.clause.Clause.{Clause}
-use Rattle.ub_base.specs.declared.clause.Clause.TheVariants.{StoreToLiteral, StoreToConst, StrcpyOverlap}
+use Rattle.ub_base.specs.declared.clause.Clause.TheVariants.{StoreToLiteral, StoreToConst}
 use Rattle.ub_base.specs.declared.names.Item.{Item}
 use Rattle.ub_base.specs.declared.names.Item.TheVariants.{Alive, Write}
 use Rattle.ub_base.specs.declared.names.Event.{Event}
@@ -28,17 +28,16 @@ use Rattle.prov_memory.specs.Acts.{Accessed, Seen, whole, bytes, in_row, offset_
 use Rattle.prov_memory.specs.Cells.{plain_cell}
 use Rattle.prov_memory.specs.Streams.{Io}
 use Rattle.prov_memory.specs.Held.{held_of}
-use Rattle.prov_memory.specs.Memory.{Kept, AreKnown, CellsKnown, HasCell, act_of, life_in, store_of}
+use Rattle.prov_memory.specs.Memory.{Kept, CellsKnown, HasCell, act_of, life_in, store_of}
 use Rattle.prov_memory.specs.Stores.{Sees, tagged_all}
 use Rattle.prov_memory.specs.Stores as stores
-use Rattle.libc_spec.specs.Library.{LibValue, pointer, pointer_in, address_in, prov_in, integer_in, size_of_value, argument_at, plain, low_byte, check_target, write_numbers, memset, called, joined}
+use Rattle.libc_spec.specs.Library.{LibValue, pointer, pointer_in, address_in, prov_in, integer_in, size_of_value, argument_at, plain, low_byte, check_target, write_numbers, memset, called}
 use Rattle.libc_model.specs.declared.arguments.Range.{Range}
-use Rattle.libc_model.specs.Seen.{value_seen}
 use Rattle.libc_model.specs.Answers.{Answers, AreWithin}
-use Rattle.libc_model.specs.Parts.{after, CanFollow, Gives, Follows, offset_if, accessed, accessed_if, IsRange}
+use Rattle.libc_model.specs.Parts.{after, CanFollow, Gives, Follows, offset_if, accessed_if, IsRange}
 use Rattle.libc_model.specs.Writes.{IsPlace, FillsRange, LiveOn, SeesBytes, writable, target_checked, target_at, without_empty, write_items, overwritten, within_limits}
 use Rattle.libc_model.proofs.Scripts.{then, behind, run_then, behind_done, run_same, run_twice}
-use Rattle.libc_model.proofs.Parts.{after_life, after_append, follow_append, then_gives, then_follows, then_raises, raises_then, err_follows, gives_at_once}
+use Rattle.libc_model.proofs.Parts.{after_life, after_append, follow_append, then_gives, then_raises, raises_then, err_follows, gives_at_once}
 use Rattle.libc_model.proofs.Checking.{offset_some}
 use Rattle.libc_model.proofs.Listing.{quiet_items, next_not_zero}
 use Rattle.libc_model.proofs.Answering.{answers_of, address_is}

@@ -1,6 +1,5 @@
-use Rattle.std.proofs.Common.{ℕ, List, length, map, sym, subst}
+use Rattle.std.proofs.Common.{List, length, sym, subst}
 use Rattle.prov_memory.specs.declared.cell.Cell.{Cell}
-use Rattle.prov_memory.specs.Cells.{plain_cell}
 use Rattle.prov_memory.specs.Acts.{bytes}
 use Rattle.prov_memory.specs.Memory.{CellsKnown}
 use Rattle.libc_model.proofs.Writing.{overwrite_done, plain_known}
