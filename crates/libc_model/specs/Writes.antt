@@ -1,9 +1,9 @@
 -- Parts of a call whose reads are noted one by one, and the bytes that a call writes (own).
-use Rattle.std.specs.Prelude.{◌≡◌, ℕ, ◌≤◌, ◌==◌, ◌||◌, Bool, true, not, List, [], ◌∷◌, ◌++◌, length, map, Option, Some, None, Result, Ok, Err, if◌then◌else◌}
+use Rattle.std.specs.Prelude.{◌≡◌, ℕ, ◌≤◌, ◌==◌, ◌||◌, Bool, true, false, not, List, [], ◌∷◌, ◌++◌, length, map, Option, Some, None, Result, Ok, Err, if◌then◌else◌}
 use Rattle.ub_base.specs.declared.clause.Clause.{Clause}
 use Rattle.ub_base.specs.declared.clause.Clause.TheVariants.{StoreToLiteral, StoreToConst, MemcpyOverlap, StrcpyOverlap}
 use Rattle.ub_base.specs.declared.names.Item.{Item}
-use Rattle.ub_base.specs.declared.names.Item.TheVariants.{Write}
+use Rattle.ub_base.specs.declared.names.Item.TheVariants.{Expose, Write}
 use Rattle.ub_base.specs.declared.names.ObjName.{ObjName}
 use Rattle.addr_map.specs.declared.map.Row.{Row}
 use Rattle.addr_map.specs.Rows.{row_of}
@@ -100,6 +100,23 @@ abbrev pub SeesBytes : Via → Seen → Type 0
 SeesBytes vias.Whole whole = Unit {0}
 SeesBytes vias.Bytes bytes = Unit {0}
 SeesBytes _ _ = ⊥
+
+abbrev pub is_expose : Item → Bool
+is_expose (Expose x) = true
+is_expose i = false
+
+abbrev pub has_expose : List Item → Bool
+has_expose [] = false
+has_expose (i ∷ is) = is_expose i || has_expose is
+
+-- the ranges of a copy have one length
+abbrev pub AreEven : Option Range → Option Range → Type 0
+AreEven (Some r) (Some u) = r.len ≡ u.len
+AreEven r u = Unit {0}
+
+-- the memory is as before, but for the types that have numbers and the ambiguities
+abbrev pub IsKept : Kept → Kept → Type 0
+IsKept old new = record new { cells = []; types = [] } ≡ record old { cells = []; types = [] }
 
 -- each object lives as before
 abbrev pub LiveOn : Kept → Kept → Type 0

@@ -7,6 +7,7 @@ ghost use Rattle.prov_memory.specs.Cells.{plain_cell};
 ghost use Rattle.prov_memory.specs.Held.{held_of};
 ghost use Rattle.prov_memory.specs.Store.{with_bytes};
 ghost use Rattle.prov_memory.specs.Stores.{tagged_all};
+ghost use Rattle.prov_memory.specs.Tags.{AreTagged};
 ghost use Rattle.prov_memory.specs.Streams.{Io};
 ghost use Rattle.prov_memory.specs.Script.{Script, run};
 ghost use Rattle.prov_memory.specs.Memory.{AreKnown, CellsKnown, life_in, store_of};
@@ -14,7 +15,7 @@ ghost use Rattle.libc_spec.specs.Library.{LibValue};
 ghost use Rattle.libc_model.specs.Seen.{value_seen};
 ghost use Rattle.libc_model.specs.Answers.{AreWithin, Answers, answer_in};
 ghost use Rattle.libc_model.specs.Parts.{after, Follows, IsPassed, limited, CanFollow, byte_at, bytes_of, IsShort, read_items, ReadsByte, ReadsAll, IsSettled, AreSettled};
-ghost use Rattle.libc_model.specs.Writes.{Tells, within_limits, IsPlace, FillsRange, LiveOn, SeesBytes, overwritten, without_empty, writable, write_items};
+ghost use Rattle.libc_model.specs.Writes.{Tells, within_limits, IsPlace, FillsRange, LiveOn, SeesBytes, has_expose, is_expose, overwritten, without_empty, writable, write_items};
 
 use crate::arguments::{Range, read_of};
 use exposure::Prov;
@@ -194,8 +195,8 @@ pub fn finish(
     Ok(value)
 }
 
-// Stores the bytes over the range that begins at the address.
-fn put_over(m: &mut Memory, addr: u64, range: Range, via: Via, block: &Block, scratch: &mut Touched)
+/// Stores the bytes over the range that begins at the address, in a live object.
+pub fn put_over(m: &mut Memory, addr: u64, range: Range, via: Via, block: &Block, scratch: &mut Touched)
     requires place { IsPlace m.old addr range }
     requires len { length block.now.cells ≡ range.len }
     ensures store { (io : Io) (seen : Seen) → SeesBytes via seen → store_of m.new io ≡ with_bytes (store_of m.old io) range.object range.from (stored_from (declared_of (life_in (held_of m.old.objects range.object))) seen 0 (tagged_all m.old block.now.cells)) }
@@ -240,8 +241,8 @@ pub fn overwrite(
     Ok(())
 }
 
-// None for a range of no bytes.
-fn without_empty(range: Option<Range>) -> Option<Range>
+/// None for a range of no bytes.
+pub fn without_empty(range: Option<Range>) -> Option<Range>
     ensures { result ≡ without_empty range }
 {
     match range {
@@ -254,6 +255,7 @@ fn without_empty(range: Option<Range>) -> Option<Range>
 fn take_effect(m: &mut Memory, item: Item, scratch: &mut Touched)
     ensures settled { IsSettled m.old m.new item }
     ensures lives { LiveOn m.old m.new }
+    ensures tagged { is_expose item ≡ false → AreTagged m.old → AreTagged m.new }
 {
     match item {
         Item::Narrow { id, keep } => {
@@ -270,6 +272,7 @@ pub fn settle(m: &mut Memory, t: &Touched, scratch: &mut Touched)
     ensures rows { m.new.rows ≡ m.old.rows }
     ensures known { AreKnown m.old → AreKnown m.new }
     ensures lives { LiveOn m.old m.new }
+    ensures tagged { has_expose t.now ≡ false → AreTagged m.old → AreTagged m.new }
 {
     settle_each(m, t.items(), scratch);
 }
@@ -277,6 +280,7 @@ pub fn settle(m: &mut Memory, t: &Touched, scratch: &mut Touched)
 fn settle_each(m: &mut Memory, items: &[Item], scratch: &mut Touched)
     ensures settled { AreSettled m.old m.new items.now }
     ensures lives { LiveOn m.old m.new }
+    ensures tagged { has_expose items.now ≡ false → AreTagged m.old → AreTagged m.new }
 {
     for item in items {
         take_effect(m, *item, scratch);
