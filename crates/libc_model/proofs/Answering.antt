@@ -23,7 +23,7 @@ use Rattle.prov_memory.specs.Script.{Act, Done, Raised, Outside, Unplaced, Give,
 use Rattle.prov_memory.specs.Streams.{Io}
 use Rattle.prov_memory.specs.Memory.{Kept, HasCell}
 use Rattle.libc_spec.specs.Library.{LibValue, pointer, nothing, free, malloc, argument_at, pointer_in, address_in, prov_in, integer_in, size_of_value, output_within, created_within, called}
-use Rattle.libc_model.specs.Answers.{Does, Answers, Refuses, IsCall, HaveCells, is_copy, is_exact, rows_by, are_sizes, clipped, given_value, answer_in}
+use Rattle.libc_model.specs.Answers.{Does, Answers, IsCall, HaveCells, is_exact, rows_by, are_sizes, clipped, given_value, answer_in}
 use Rattle.libc_model.proofs.Scripts.{then, run_then, behind_done}
 
 clipped_same : (s : Store) → s.position ≤ length s.input → s ≡ clipped s
@@ -122,12 +122,3 @@ one_size vs i e = size_there (holds ULong (integer_in (argument_at vs i))) e
 pub arm : (f g : LibFunc) (old new : Kept) (vs : List LibValue) (who : Event) (m : Kept) (io : Io) (a : LibAnswer) (is : List Item) (s u : Store) → f ≡ g →
     (IsCall g vs m io → Answers a is s (called (rows_by g old new) g vs who u)) → is_exact f ≡ true → IsCall f vs m io → Answers a is s (called (rows_by f old new) f vs who u)
 arm f g old new vs who m io a is s u e h = λ exact. subst (λ (k : LibFunc). IsCall k vs m io → Answers a is s (called (rows_by k old new) k vs who u)) (sym e) h
-
--- the same of what an act refuses
-pub refused_arm : (f g : LibFunc) (rows : List Row) (vs : List LibValue) (who : Event) (m : Kept) (io : Io) (a : LibAnswer) (u : Store) → f ≡ g →
-    (IsCall g vs m io → Refuses (called rows g vs who u) a) → is_copy f ≡ true → IsCall f vs m io → Refuses (called rows f vs who u) a
-refused_arm f g rows vs who m io a u e h = λ copies. subst (λ (k : LibFunc). IsCall k vs m io → Refuses (called rows k vs who u) a) (sym e) h
-
-pub kept_arm : (f g : LibFunc) (rows : List Row) (vs : List LibValue) (who : Event) (m new : Kept) (io : Io) (u : Store) (c : Clause) → f ≡ g →
-    (IsCall g vs m io → called rows g vs who u ≡ Raised c → new ≡ m) → IsCall f vs m io → called rows f vs who u ≡ Raised c → (new ≡ m) × (io ≡ io)
-kept_arm f g rows vs who m new io u c e h = λ call raised. (subst (λ (k : LibFunc). IsCall k vs m io → called rows k vs who u ≡ Raised c → new ≡ m) (sym e) h call raised, refl)

@@ -4,7 +4,6 @@ use Rattle.std.specs.Prelude.{Result, Ok, Err, IsTrue, not, ◌||◌}
 use Rattle.std.proofs.lemmas.List.{length-map}
 use Rattle.ub_base.specs.declared.clause.Clause.{Clause}
 use Rattle.ub_base.specs.declared.clause.Clause.TheVariants.{MemcpyOverlap, StrcpyOverlap}
-use Rattle.ub_base.specs.declared.clause.Cause.{Cause}
 use Rattle.ub_base.specs.declared.names.Item.{Item}
 use Rattle.ub_base.specs.declared.names.Item.TheVariants.{Read, Write}
 use Rattle.ub_base.specs.declared.names.ObjName.{ObjName}
@@ -19,14 +18,14 @@ use Rattle.prov_memory.specs.declared.value.Value.TheVariants.{Ptr}
 use Rattle.prov_memory.specs.declared.answer.LibAnswer.{LibAnswer}
 use Rattle.prov_memory.specs.declared.answer.LibAnswer.TheVariants as answers
 use Rattle.prov_memory.specs.Store.{Store, TaggedByte, range_from, with_bytes}
-use Rattle.prov_memory.specs.Script.{Get, Put, Script, Give, touch, require, ◌>>=◌, ◌>>◌, Act, Done, Raised, Ended, Outside, Unplaced, run}
+use Rattle.prov_memory.specs.Script.{Get, Put, Script, Give, touch, require, ◌>>=◌, ◌>>◌, Act, Done, Raised, run}
 use Rattle.prov_memory.specs.Acts.{Accessed, whole, declared_of, stored_from, retagged, argument, check_writable, copy_between}
 use Rattle.prov_memory.specs.Streams.{Io}
 use Rattle.prov_memory.specs.Held.{held_of}
 use Rattle.prov_memory.specs.Memory.{Kept, act_of, life_in, store_of}
 use Rattle.libc_spec.specs.Library.{LibValue, pointer, pointer_in, address_in, prov_in, argument_at, integer_in, size_of_value, Text, text, overlap, read_numbers, number_of_byte, check_target, write_numbers, memmove, strcpy, joined, called}
 use Rattle.libc_model.specs.declared.arguments.Range.{Range}
-use Rattle.libc_model.specs.Answers.{Answers, AreWithin, Refuses, are_sizes, size_places, copy_function}
+use Rattle.libc_model.specs.Answers.{Answers, AreWithin, are_sizes, size_places, copy_function}
 use Rattle.libc_model.specs.Parts.{after, CanFollow, starts_in_read, Gives, Follows, ReadsAll, byte_at, bytes_of, text_in, accessed, accessed_if, IsRange, limited}
 use Rattle.libc_model.specs.Writes.{FillsRange, within_limits, writable, target_checked, ranges_to_copy, string_to_copy, write_items, overwritten, moved_items, moved}
 use Rattle.libc_model.proofs.Scripts.{then, run_then, run_same, run_twice}
@@ -117,7 +116,7 @@ ranged_given seen b m io old mid new may to p from q n r u o range g h able is o
     (subst (λ (c : Ranged). Gives true Ranged m io new new (Give (accessed_if m r, accessed_if m u)) c) (sym same) (gives_at_once true Ranged m io new (accessed_if m r, accessed_if m u)))))
 
 -- what holds of the act of these arguments holds of that of a call's
-memmove_by : (P : Act LibValue → Type 0) (may : Bool) (rows : List Row) (vs : List LibValue) (to from : ℕ) (p q : Prov) (n : ℕ) (s : Store) → pointer to p ≡ pointer_in (argument_at vs 0) → pointer from q ≡ pointer_in (argument_at vs 1) → n ≡ size_of_value (argument_at vs 2) →
+pub memmove_by : (P : Act LibValue → Type 0) (may : Bool) (rows : List Row) (vs : List LibValue) (to from : ℕ) (p q : Prov) (n : ℕ) (s : Store) → pointer to p ≡ pointer_in (argument_at vs 0) → pointer from q ≡ pointer_in (argument_at vs 1) → n ≡ size_of_value (argument_at vs 2) →
     P (run rows (memmove rows may to p from q n) s) → P (run rows (memmove rows may (address_in (argument_at vs 0)) (prov_in (argument_at vs 0)) (address_in (argument_at vs 1)) (prov_in (argument_at vs 1)) (size_of_value (argument_at vs 2))) s)
 memmove_by P may rows vs to from p q n s first second size h =
     let x = address_is to (address_in (argument_at vs 0)) p (prov_in (argument_at vs 0)) first in
@@ -202,50 +201,15 @@ memmove_done m io is may to p from q n r u range source able g =
     ∙ written_behind true Ranged m io is (moved_items r u) (ranges_to_copy m.rows may to p from q n) (accessed_if m r, accessed_if m u) (λ c. copy_between n c.0 c.1) (pointer to p) (moved m r u (after is (store_of m io))) g
     (move_run m.rows m n r u (after is (store_of m io)) range source able (λ x. after_bytes is (store_of m io) x))
 
--- such a call raises nothing
-refuses_by : (b : Bool) (c : Cause) (k : ℕ) (v : LibValue) (is : List Item) (u : Store) (a : LibAnswer) → Refuses (cond b (Outside c k) (Done v is u)) a
-refuses_by true c k v is u a = tt
-refuses_by false c k v is u a = tt
-
-pub move_refuses : (a : LibAnswer) (m : Kept) (io : Io) (is : List Item) (may : Bool) (to : ℕ) (p : Prov) (from : ℕ) (q : Prov) (n : ℕ) (r u : Option Range) → IsRange n r → IsRange n u → Ok tt ≡ target_checked m r →
-    Gives true Ranged m io [] is (ranges_to_copy m.rows may to p from q n) (accessed_if m r, accessed_if m u) →
-    Refuses (within_limits (store_of m io) (run m.rows (memmove m.rows may to p from q n) (store_of m io))) a
-move_refuses a m io is may to p from q n r u range source able g =
-    subst (λ (act : Act LibValue). Refuses (within_limits (store_of m io) act) a) (sym (memmove_done m io is may to p from q n r u range source able g))
-    (refuses_by _ _ _ (pointer to p) (g.items ++ moved_items r u) (moved m r u (after is (store_of m io))) a)
-
 -- one whose ranges aren't passes on why
-memmove_raises : (m : Kept) (io : Io) (is : List Item) (may : Bool) (to : ℕ) (p : Prov) (from : ℕ) (q : Prov) (n : ℕ) (c : Clause) → run m.rows (ranges_to_copy m.rows may to p from q n) (store_of m io) ≡ Raised c →
+pub memmove_raises : (m : Kept) (io : Io) (is : List Item) (may : Bool) (to : ℕ) (p : Prov) (from : ℕ) (q : Prov) (n : ℕ) (c : Clause) → run m.rows (ranges_to_copy m.rows may to p from q n) (store_of m io) ≡ Raised c →
     run m.rows (memmove m.rows may to p from q n) (store_of m io) ≡ Raised c
 memmove_raises m io is may to p from q n c h =
     sym (memmove_is m.rows may to p from q n (store_of m io)) ∙ raises_then Ranged LibValue m.rows (store_of m io) (ranges_to_copy m.rows may to p from q n) (λ r. copy_between n r.0 r.1 >> Give (pointer to p)) c h
 
-no_memory_refused : (act : Act LibValue) → Refuses act answers.NoMemory
-no_memory_refused (Raised c) = tt
-no_memory_refused (Done v is u) = tt
-no_memory_refused (Ended n is u) = tt
-no_memory_refused (Outside c n) = tt
-no_memory_refused Unplaced = tt
-
-pub ranges_refuse : {B : Type 0} (seen : B → Ranged) (m : Kept) (io : Io) (is : List Item) (may : Bool) (to : ℕ) (p : Prov) (from : ℕ) (q : Prov) (n : ℕ) (e : LibAnswer) → Follows true seen (Err e) m io [] is (ranges_to_copy m.rows may to p from q n) →
-    Refuses (within_limits (store_of m io) (run m.rows (memmove m.rows may to p from q n) (store_of m io))) e
-ranges_refuse seen m io is may to p from q n answers.NoMemory h = no_memory_refused (within_limits (store_of m io) (run m.rows (memmove m.rows may to p from q n) (store_of m io)))
-ranges_refuse seen m io is may to p from q n (answers.Raise c) h =
-    subst (λ (act : Act LibValue). Refuses (within_limits (store_of m io) act) (answers.Raise c)) (sym (memmove_raises m io is may to p from q n c h)) refl
-ranges_refuse seen m io is may to p from q n e h = absurd h
-
-pub memmove_refused : (may : Bool) (rows : List Row) (vs : List LibValue) (who : Event) (to from : ℕ) (p q : Prov) (n : ℕ) (s : Store) (e : LibAnswer) → pointer to p ≡ pointer_in (argument_at vs 0) → pointer from q ≡ pointer_in (argument_at vs 1) → n ≡ size_of_value (argument_at vs 2) →
-    Refuses (within_limits s (run rows (memmove rows may to p from q n) s)) e → Refuses (called rows (copy_function may) vs who s) e
-memmove_refused true rows vs who to from p q n s e first second size h = memmove_by (λ (act : Act LibValue). Refuses (within_limits s act) e) true rows vs to from p q n s first second size h
-memmove_refused false rows vs who to from p q n s e first second size h = memmove_by (λ (act : Act LibValue). Refuses (within_limits s act) e) false rows vs to from p q n s first second size h
-
 pub copy_size : (may : Bool) (vs : List LibValue) → are_sizes vs (size_places (copy_function may)) ≡ true → IsTrue (holds ULong (integer_in (argument_at vs 2)))
 copy_size true vs e = one_size vs 2 e
 copy_size false vs e = one_size vs 2 e
-
--- an act that no answer refuses isn't raised
-pub none_raised : (act : Act LibValue) (c : Clause) → ((a : LibAnswer) → Refuses act a) → act ≡ Raised c → ⊥
-none_raised act c h e = subst (λ (act : Act LibValue). Refuses act answers.Unplaced) e (h answers.Unplaced)
 
 -- ---- strcpy
 abbrev pub Copied : Type 0

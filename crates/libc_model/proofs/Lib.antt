@@ -6,6 +6,7 @@ pub mod Finishing
 pub mod Freeing
 pub mod Listing
 pub mod Living
+pub mod Moving
 pub mod Parts
 pub mod Printing
 pub mod Reading

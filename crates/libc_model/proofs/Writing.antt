@@ -111,7 +111,7 @@ stored_length (Some form) seen i [] = refl
 stored_length None seen i (b ∷ bs) = ap suc (stored_length None seen (suc i) bs)
 stored_length (Some form) seen i (b ∷ bs) = ap suc (stored_length (Some form) seen (suc i) bs)
 
-whole_remainder : (a : ℕ) → (a % 1 == 0) ≡ true
+pub whole_remainder : (a : ℕ) → (a % 1 == 0) ≡ true
 whole_remainder a = grind arith
 
 -- a store over a place
@@ -123,7 +123,7 @@ bytes_stored : (rows : List Row) (a : ℕ) (x : ObjName) (s : Store) (bs : List 
     run rows (acts.store rows true bytes 1 a (Whole x) bs) s ≡ Done tt (Alive x ∷ Write x (offset_in (row_of rows x) a) (length (stored_from (declared_of (s.life x)) bytes 0 bs)) ∷ []) (with_bytes s x (offset_in (row_of rows x) a) (stored_from (declared_of (s.life x)) bytes 0 bs))
 bytes_stored rows a x s bs some live inside = rw (some, live, inside, whole_remainder a) refl
 
-not_zero : (a : ℕ) → 1 ≤ a → a ≡ 0 → ⊥
+pub not_zero : (a : ℕ) → 1 ≤ a → a ≡ 0 → ⊥
 not_zero a h e = omega arith
 
 -- what a store does to a store that has the range

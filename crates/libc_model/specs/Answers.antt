@@ -51,13 +51,6 @@ Answers (answers.Outside c n) is s (Outside d k) = (c ≡ d) × (n ≡ k)
 Answers answers.Unplaced is s Unplaced = Unit {0}
 Answers answer is s act = ⊥
 
--- where an act raises a clause, so does the answer, unless memory is wanted
-abbrev pub Refuses : Act LibValue → LibAnswer → Type 0
-Refuses (Raised c) answers.NoMemory = Unit {0}
-Refuses (Raised c) (answers.Raise d) = d ≡ c
-Refuses (Raised c) answer = ⊥
-Refuses act answer = Unit {0}
-
 abbrev pub answer_in : Result Value LibAnswer → LibAnswer
 answer_in (Ok v) = answers.Value v
 answer_in (Err answer) = answer
@@ -115,12 +108,7 @@ is_exact Exit = true
 is_exact Abort = true
 is_exact _ = false
 
--- the functions that copy bytes as they stand
-abbrev pub is_copy : LibFunc → Bool
-is_copy Memcpy = true
-is_copy Memmove = true
-is_copy f = false
-
+-- the function that copies bytes
 abbrev pub copy_function : (may_overlap : Bool) → LibFunc
 copy_function false = Memcpy
 copy_function true = Memmove

@@ -85,6 +85,11 @@ abbrev pub overwritten : Option Range → List ℕ → Store → Store
 overwritten None ns s = s
 overwritten (Some r) ns s = if r.len == 0 then s else with_bytes s r.object r.from (stored_from (declared_of (s.life r.object)) bytes 0 (map plain ns))
 
+-- the ranges between which bytes are copied, none where there are no bytes
+abbrev pub moving : Option Range → Option Range → Option (Range × Range)
+moving (Some target) (Some source) = if target.len == 0 then None else Some (target, source)
+moving target source = None
+
 -- the items of a copy between ranges of one length, none where they have no bytes
 abbrev pub moved_items : Option Range → Option Range → List Item
 moved_items (Some target) (Some source) = read_items source ++ write_items (Some target)

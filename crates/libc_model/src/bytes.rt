@@ -241,8 +241,8 @@ pub fn overwrite(
     Ok(())
 }
 
-/// None for a range of no bytes.
-pub fn without_empty(range: Option<Range>) -> Option<Range>
+// None for a range of no bytes.
+fn without_empty(range: Option<Range>) -> Option<Range>
     ensures { result ≡ without_empty range }
 {
     match range {

@@ -1,10 +1,9 @@
 // The functions of the library, each with its act.
 ghost use Rattle.std.specs.Prelude.{◌≡◌, ◌≢◌, ℕ, ◌<◌, ◌≤◌, ◌+◌, ◌^◌, true, false, nat_lt, Some, None, Ok, Err, length, List, [], OnOk, OnErr, IfNone, if◌then◌else◌};
 ghost use Rattle.c_types.specs.declared.library.LibFunc.TheVariants.{Malloc, Free, Getchar, Putchar, Puts, Exit, Abort, Printf};
-ghost use Rattle.ub_base.specs.declared.clause.Clause.{Clause};
 ghost use Rattle.ub_base.specs.declared.clause.Cause.TheVariants.{Output};
 ghost use Rattle.addr_map.specs.declared.map.Row.{Row};
-ghost use Rattle.prov_memory.specs.Script.{Script, Raised, run};
+ghost use Rattle.prov_memory.specs.Script.{Script, run};
 ghost use Rattle.prov_memory.specs.Memory.{Kept, AreKnown, HasCell, store_of};
 ghost use Rattle.prov_memory.specs.Streams.{Io};
 ghost use Rattle.prov_memory.specs.declared.answer.LibAnswer.TheVariants as answers;
@@ -12,7 +11,7 @@ ghost use Rattle.libc_spec.specs.Library.{LibValue, called, byte_or_end, integer
 ghost use Rattle.ub_base.specs.declared.names.Event.{Event};
 ghost use Rattle.libc_model.specs.Seen.{values_seen};
 ghost use Rattle.libc_model.specs.Parts.{Gives, Follows, line, line_at, printing, limited};
-ghost use Rattle.libc_model.specs.Answers.{IsCall, AreWithin, Answers, Refuses, answer_in, given_value, is_copy, is_exact, rows_by, gives_value, leaves_all, wants_memory};
+ghost use Rattle.libc_model.specs.Answers.{IsCall, AreWithin, Answers, answer_in, given_value, is_exact, rows_by, gives_value, leaves_all, wants_memory};
 
 use crate::arguments::{Pointer, check_string, int_at, pointer_at, size_at};
 use crate::bytes::{numbers, settle};
@@ -43,8 +42,6 @@ pub fn call(
     ensures exact { is_exact f ≡ true → IsCall f (values_seen args.now) m.old io.old → Answers result t.new (store_of m.new io.new) (called (rows_by f m.old m.new) f (values_seen args.now) who (store_of m.old io.old)) }
     ensures known { is_exact f ≡ true → AreKnown m.old → wants_memory result ≡ false → AreKnown m.new }
     ensures same { is_exact f ≡ true → leaves_all result f ≡ true → (m.new ≡ m.old) × (io.new ≡ io.old) }
-    ensures refused { is_copy f ≡ true → IsCall f (values_seen args.now) m.old io.old → Refuses (called m.old.rows f (values_seen args.now) who (store_of m.old io.old)) result }
-    ensures kept { (c : Clause) → is_copy f ≡ true → IsCall f (values_seen args.now) m.old io.old → called m.old.rows f (values_seen args.now) who (store_of m.old io.old) ≡ Raised c → (m.new ≡ m.old) × (io.new ≡ io.old) }
     ensures within { AreWithin io.old → AreWithin io.new }
     ensures streams { gives_value result ≡ false → io.new ≡ io.old }
 {
@@ -69,8 +66,6 @@ fn value_of(
     ensures exact { is_exact f ≡ true → IsCall f (values_seen args.now) m.old io.old → Answers (answer_in result) t.new (store_of m.new io.new) (called (rows_by f m.old m.new) f (values_seen args.now) who (store_of m.old io.old)) }
     ensures known { is_exact f ≡ true → AreKnown m.old → wants_memory (answer_in result) ≡ false → AreKnown m.new }
     ensures same { is_exact f ≡ true → leaves_all (answer_in result) f ≡ true → (m.new ≡ m.old) × (io.new ≡ io.old) }
-    ensures refused { is_copy f ≡ true → IsCall f (values_seen args.now) m.old io.old → Refuses (called m.old.rows f (values_seen args.now) who (store_of m.old io.old)) (answer_in result) }
-    ensures kept { (c : Clause) → is_copy f ≡ true → IsCall f (values_seen args.now) m.old io.old → called m.old.rows f (values_seen args.now) who (store_of m.old io.old) ≡ Raised c → (m.new ≡ m.old) × (io.new ≡ io.old) }
     ensures within { AreWithin io.old → AreWithin io.new }
     ensures streams { OnErr result (io.new ≡ io.old) }
 {

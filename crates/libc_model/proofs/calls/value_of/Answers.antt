@@ -5,7 +5,7 @@ use Rattle.c_types.specs.declared.library.LibFunc.TheVariants.{Malloc, Memcpy, M
 use Rattle.prov_memory.specs.Memory.{store_of}
 use Rattle.libc_model.specs.Seen.{values_seen}
 use Rattle.libc_model.specs.Answers.{answer_in}
-use Rattle.libc_model.proofs.Answering.{arm, refused_arm, kept_arm, malloc_called, first_size}
+use Rattle.libc_model.proofs.Answering.{arm, malloc_called, first_size}
 use Rattle.libc_model.proofs.calls.value_of.Goals as goal
 
 pub returns-in-Malloc-clause-exact : goal.returns-in-Malloc-clause-exact
@@ -68,18 +68,12 @@ returns-in-Strcpy-clause-exact c =
     arm c.args.f Strcpy c.args.m.now c.copy_string.new.m (values_seen c.args.args.now) c.args.who c.args.m.now c.args.io.now (answer_in c.copy_string.result) c.copy_string.new.t (store_of c.copy_string.new.m c.args.io.now) (store_of c.args.m.now c.args.io.now) c.in-Strcpy.is
     (c.copy_string.ensures.exact c.args.io.now c.args.who)
 
-pub returns-in-Memcpy-clause-refused : goal.returns-in-Memcpy-clause-refused
-returns-in-Memcpy-clause-refused c =
-    refused_arm c.args.f Memcpy c.args.m.now.rows (values_seen c.args.args.now) c.args.who c.args.m.now c.args.io.now (answer_in c.copy.result) (store_of c.args.m.now c.args.io.now) c.in-Memcpy.is (c.copy.ensures.refused c.args.io.now c.args.who)
+pub returns-in-Memcpy-clause-exact : goal.returns-in-Memcpy-clause-exact
+returns-in-Memcpy-clause-exact c =
+    arm c.args.f Memcpy c.args.m.now c.copy.new.m (values_seen c.args.args.now) c.args.who c.args.m.now c.args.io.now (answer_in c.copy.result) c.copy.new.t (store_of c.copy.new.m c.args.io.now) (store_of c.args.m.now c.args.io.now) c.in-Memcpy.is
+    (c.copy.ensures.exact c.args.io.now c.args.who)
 
-pub returns-in-Memcpy-clause-kept : goal.returns-in-Memcpy-clause-kept
-returns-in-Memcpy-clause-kept c = λ d copies.
-    kept_arm c.args.f Memcpy c.args.m.now.rows (values_seen c.args.args.now) c.args.who c.args.m.now c.copy.new.m c.args.io.now (store_of c.args.m.now c.args.io.now) d c.in-Memcpy.is (c.copy.ensures.kept c.args.io.now c.args.who d)
-
-pub returns-in-Memmove-clause-refused : goal.returns-in-Memmove-clause-refused
-returns-in-Memmove-clause-refused c =
-    refused_arm c.args.f Memmove c.args.m.now.rows (values_seen c.args.args.now) c.args.who c.args.m.now c.args.io.now (answer_in c.copy-in-Memmove.result) (store_of c.args.m.now c.args.io.now) c.in-Memmove.is (c.copy-in-Memmove.ensures.refused c.args.io.now c.args.who)
-
-pub returns-in-Memmove-clause-kept : goal.returns-in-Memmove-clause-kept
-returns-in-Memmove-clause-kept c = λ d copies.
-    kept_arm c.args.f Memmove c.args.m.now.rows (values_seen c.args.args.now) c.args.who c.args.m.now c.copy-in-Memmove.new.m c.args.io.now (store_of c.args.m.now c.args.io.now) d c.in-Memmove.is (c.copy-in-Memmove.ensures.kept c.args.io.now c.args.who d)
+pub returns-in-Memmove-clause-exact : goal.returns-in-Memmove-clause-exact
+returns-in-Memmove-clause-exact c =
+    arm c.args.f Memmove c.args.m.now c.copy-in-Memmove.new.m (values_seen c.args.args.now) c.args.who c.args.m.now c.args.io.now (answer_in c.copy-in-Memmove.result) c.copy-in-Memmove.new.t (store_of c.copy-in-Memmove.new.m c.args.io.now) (store_of c.args.m.now c.args.io.now) c.in-Memmove.is
+    (c.copy-in-Memmove.ensures.exact c.args.io.now c.args.who)
