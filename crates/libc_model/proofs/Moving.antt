@@ -51,10 +51,11 @@ standing m r = retagged (declared_of (life_in (held_of m.objects r.object))) r.f
 
 loaded_at : (m : Kept) (io : Io) (a : ℕ) (r : Range) → IsPlace m a r →
     (is : List Item) × (run m.rows (acts.load_block m.rows r.len 1 a (Whole r.object)) (store_of m io) ≡ Done (standing m r) is (store_of m io))
-loaded_at m io a r p =
-    (Alive r.object ∷ Read r.object (offset_in (row_of m.rows r.object) a) r.len ∷ [],
-    block_loaded m.rows a r.len r.object (store_of m io) (ne_eqb a 0 (λ e. not_zero a p.address e)) p.live p.inside
-    ∙ ap (λ (from : ℕ). Done (retagged (declared_of (life_in (held_of m.objects r.object))) from (range_from (byte_at m r.object) from r.len)) (Alive r.object ∷ Read r.object (offset_in (row_of m.rows r.object) a) r.len ∷ []) (store_of m io)) (sym p.from))
+loaded_at m io a r p = (
+  Alive r.object ∷ Read r.object (offset_in (row_of m.rows r.object) a) r.len ∷ [],
+  block_loaded m.rows a r.len r.object (store_of m io) (ne_eqb a 0 (λ e. not_zero a p.address e)) p.live p.inside
+      ∙ ap (λ (from : ℕ). Done (retagged (declared_of (life_in (held_of m.objects r.object))) from (range_from (byte_at m r.object) from r.len)) (Alive r.object ∷ Read r.object (offset_in (row_of m.rows r.object) a) r.len ∷ []) (store_of m io)) (sym p.from),
+)
 
 same_done : {V : Type 0} (v w : V) (is js : List Item) (s u : Store) → Done v is s ≡ Done w js u → (v ≡ w) × (s ≡ u)
 same_done v w is js s u e = (cc, cc)
@@ -105,9 +106,10 @@ pub nothing_moves : (m : Kept) (target source : Option Range) (s : Store) → No
 nothing_moves m None source s e even = (refl, refl)
 nothing_moves m (Some r) None s e even = (refl, refl)
 nothing_moves m (Some r) (Some u) s e even =
-    let none : (r.len == 0) ≡ true = nothing_by (r.len == 0) (r, u) e in
-    (ap₂ (λ (b d : Bool). cond b [] (Read u.object u.from u.len ∷ []) ++ cond d [] (Write r.object r.from r.len ∷ [])) (ap (λ (k : ℕ). k == 0) (sym even) ∙ none) none,
-    ap (λ (b : Bool). cond b s (with_bytes s r.object r.from (moved_bytes m r u (bytes_of m u)))) none)
+    let none : (r.len == 0) ≡ true = nothing_by (r.len == 0) (r, u) e in (
+      ap₂ (λ (b d : Bool). cond b [] (Read u.object u.from u.len ∷ []) ++ cond d [] (Write r.object r.from r.len ∷ [])) (ap (λ (k : ℕ). k == 0) (sym even) ∙ none) none,
+      ap (λ (b : Bool). cond b s (with_bytes s r.object r.from (moved_bytes m r u (bytes_of m u)))) none,
+    )
 
 pub moved_noted : (target source : Option Range) (r u : Range) (is one js : List Item) (i : Item) → Some (r, u) ≡ moving target source → AreEven target source → i ≡ Read u.object u.from u.len → one ≡ is ++ i ∷ [] → js ≡ one ++ write_items (Some r) → js ≡ is ++ moved_items target source
 moved_noted target source r u is one js i e even read first second =
@@ -232,9 +234,12 @@ object_none rows len a (Either id past start) =
 
 in_none : (rows : List Row) (len a : ℕ) (x : Option ObjName) → ExposesNone (argument_in rows len a x)
 in_none rows len a None = tt
-in_none rows len a (Some x) = (refl, λ life.
-    none_then (require (is_live life) DeadObject) (λ u. require (in_row (row_of rows x) a len) LibraryArgument >> Give (Some (record { object = x; from = offset_in (row_of rows x) a; life = life }))) (require_none (is_live life) DeadObject)
-    (λ u. none_then (require (in_row (row_of rows x) a len) LibraryArgument) (λ w. Give (Some (record { object = x; from = offset_in (row_of rows x) a; life = life }))) (require_none (in_row (row_of rows x) a len) LibraryArgument) (λ w. tt)))
+in_none rows len a (Some x) = (
+  refl,
+  λ life.
+      none_then (require (is_live life) DeadObject) (λ u. require (in_row (row_of rows x) a len) LibraryArgument >> Give (Some (record { object = x; from = offset_in (row_of rows x) a; life = life }))) (require_none (is_live life) DeadObject)
+      (λ u. none_then (require (in_row (row_of rows x) a len) LibraryArgument) (λ w. Give (Some (record { object = x; from = offset_in (row_of rows x) a; life = life }))) (require_none (in_row (row_of rows x) a len) LibraryArgument) (λ w. tt)),
+)
 
 argument_none : (rows : List Row) (len a : ℕ) (prov : Prov) → ExposesNone (argument rows len a prov)
 argument_none rows len a prov =

@@ -196,7 +196,14 @@ pub fn finish(
 }
 
 /// Stores the bytes over the range that begins at the address, in a live object.
-pub fn put_over(m: &mut Memory, addr: u64, range: Range, via: Via, block: &Block, scratch: &mut Touched)
+pub fn put_over(
+    m: &mut Memory,
+    addr: u64,
+    range: Range,
+    via: Via,
+    block: &Block,
+    scratch: &mut Touched,
+)
     requires place { IsPlace m.old addr range }
     requires len { length block.now.cells ≡ range.len }
     ensures store { (io : Io) (seen : Seen) → SeesBytes via seen → store_of m.new io ≡ with_bytes (store_of m.old io) range.object range.from (stored_from (declared_of (life_in (held_of m.old.objects range.object))) seen 0 (tagged_all m.old block.now.cells)) }

@@ -12,4 +12,4 @@ pub returns-in-Ok-clause-store : goal.returns-in-Ok-clause-store
 returns-in-Ok-clause-store c = λ tagged io. (copied_same c.args.m.now c.load_block.new.self io c.args.addr c.args.range c.in-Ok.block.cells c.load_block.new.t c.requires (c.in-Ok.ensures.exact tt tagged io)).1
 
 pub returns-in-Ok-clause-kept : goal.returns-in-Ok-clause-kept
-returns-in-Ok-clause-kept c = ?
+returns-in-Ok-clause-kept c = c.in-Ok.ensures.rest
