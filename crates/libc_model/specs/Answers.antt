@@ -1,7 +1,6 @@
 -- What a call answers, against the act that the definitions give it.
 use Rattle.std.specs.Prelude.{◌≡◌, ℕ, ◌≤◌, ◌^◌, min, Bool, true, false, ◌&&◌, List, [], ◌∷◌, length, Result, Ok, Err}
 use Rattle.ub_base.specs.declared.names.Item.{Item}
-use Rattle.addr_map.specs.declared.map.Row.{Row}
 use Rattle.c_types.specs.declared.kind.IntKind.TheVariants.{ULong}
 use Rattle.c_types.specs.Kinds.{holds}
 use Rattle.c_types.specs.declared.library.LibFunc.{LibFunc}
@@ -112,14 +111,6 @@ is_exact _ = false
 abbrev pub copy_function : (may_overlap : Bool) → LibFunc
 copy_function false = Memcpy
 copy_function true = Memmove
-
--- the rows that a call goes by: those that it leaves or, where it writes bytes, those that it found
-abbrev pub rows_by : LibFunc → Kept → Kept → List Row
-rows_by Memcpy old new = old.rows
-rows_by Memmove old new = old.rows
-rows_by Memset old new = old.rows
-rows_by Strcpy old new = old.rows
-rows_by f old new = new.rows
 
 -- an answer after which memory and streams are as before; a malloc that wants memory may leave the row of its object, and a copy
 -- what it settles and numbers of types

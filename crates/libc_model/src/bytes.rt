@@ -207,6 +207,7 @@ pub fn put_over(
     requires place { IsPlace m.old addr range }
     requires len { length block.now.cells ≡ range.len }
     ensures store { (io : Io) (seen : Seen) → SeesBytes via seen → store_of m.new io ≡ with_bytes (store_of m.old io) range.object range.from (stored_from (declared_of (life_in (held_of m.old.objects range.object))) seen 0 (tagged_all m.old block.now.cells)) }
+    ensures rows { m.new.rows ≡ m.old.rows }
     ensures known { AreKnown m.old → CellsKnown (length m.old.origins) block.now.cells → AreKnown m.new }
 {
     let _ = m.store(
@@ -234,6 +235,7 @@ pub fn overwrite(
     requires len { FillsRange (length block.now.cells) target }
     ensures items { OnOk result (t.new ≡ t.old ++ write_items target) }
     ensures store { OnOk result ((io : Io) (ns : List ℕ) → block.now.cells ≡ map plain_cell ns → CanFollow m.old.cells t.old (store_of m.old io) → store_of m.new io ≡ overwritten target ns (after t.old (store_of m.old io))) }
+    ensures rows { m.new.rows ≡ m.old.rows }
     ensures known { (ns : List ℕ) → block.now.cells ≡ map plain_cell ns → AreKnown m.old → AreKnown m.new }
     ensures same { OnErr result (m.new ≡ m.old) }
 {

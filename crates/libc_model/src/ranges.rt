@@ -163,7 +163,7 @@ pub fn copy(
     t: &mut Touched,
 ) -> Result<Value, LibAnswer>
     requires { t.old ≡ [] }
-    ensures exact { (io : Io) (who : Event) → IsCall (copy_function may_overlap) (values_seen args.now) m.old io → Answers (answer_in result) t.new (store_of m.new io) (called m.old.rows (copy_function may_overlap) (values_seen args.now) who (store_of m.old io)) }
+    ensures exact { (io : Io) (who : Event) → IsCall (copy_function may_overlap) (values_seen args.now) m.old io → Answers (answer_in result) t.new (store_of m.new io) (called m.new.rows (copy_function may_overlap) (values_seen args.now) who (store_of m.old io)) }
     ensures known { AreKnown m.old → wants_memory (answer_in result) ≡ false → AreKnown m.new }
     ensures same { leaves_all (answer_in result) (copy_function may_overlap) ≡ true → m.new ≡ m.old }
 {
@@ -199,6 +199,7 @@ fn move_bytes(
     requires even { AreEven ranges.target ranges.source }
     ensures items { OnOk result (t.new ≡ t.old ++ moved_items ranges.target ranges.source) }
     ensures store { OnOk result ((io : Io) → has_expose t.old ≡ false → AreTagged m.old → CanFollow m.old.cells t.old (store_of m.old io) → store_of m.new io ≡ moved m.old ranges.target ranges.source (after t.old (store_of m.old io))) }
+    ensures rows { OnOk result (m.new.rows ≡ m.old.rows) }
     ensures known { AreKnown m.old → OnOk result (AreKnown m.new) }
 {
     let mut scratch = Touched::new(alloc)?;
@@ -222,7 +223,7 @@ pub fn fill(
     t: &mut Touched,
 ) -> Result<Value, LibAnswer>
     requires { t.old ≡ [] }
-    ensures exact { (io : Io) (who : Event) → IsCall Memset (values_seen args.now) m.old io → Answers (answer_in result) t.new (store_of m.new io) (called m.old.rows Memset (values_seen args.now) who (store_of m.old io)) }
+    ensures exact { (io : Io) (who : Event) → IsCall Memset (values_seen args.now) m.old io → Answers (answer_in result) t.new (store_of m.new io) (called m.new.rows Memset (values_seen args.now) who (store_of m.old io)) }
     ensures known { AreKnown m.old → AreKnown m.new }
     ensures same { OnErr result (m.new ≡ m.old) }
 {

@@ -59,7 +59,7 @@ pub fn copy_string(
     t: &mut Touched,
 ) -> Result<Value, LibAnswer>
     requires { t.old ≡ [] }
-    ensures exact { (io : Io) (who : Event) → IsCall Strcpy (values_seen args.now) m.old io → Answers (answer_in result) t.new (store_of m.new io) (called m.old.rows Strcpy (values_seen args.now) who (store_of m.old io)) }
+    ensures exact { (io : Io) (who : Event) → IsCall Strcpy (values_seen args.now) m.old io → Answers (answer_in result) t.new (store_of m.new io) (called m.new.rows Strcpy (values_seen args.now) who (store_of m.old io)) }
     ensures known { AreKnown m.old → AreKnown m.new }
     ensures same { OnErr result (m.new ≡ m.old) }
 {

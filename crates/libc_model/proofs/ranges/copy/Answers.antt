@@ -2,6 +2,7 @@ use Rattle.std.proofs.Common.{true, List, sym, subst}
 use Rattle.std.specs.Prelude.{Err}
 use Rattle.std.proofs.lemmas.Result.{err_from_is_err_and}
 use Rattle.ub_base.specs.declared.names.Item.{Item}
+use Rattle.addr_map.specs.declared.map.Row.{Row}
 use Rattle.prov_memory.specs.declared.value.Value.{Value}
 use Rattle.prov_memory.specs.declared.value.Value.TheVariants.{Ptr}
 use Rattle.prov_memory.specs.declared.answer.LibAnswer.TheVariants as answers
@@ -30,8 +31,9 @@ returns-in_err-ranges-clause-exact c =
 
 pub returns-clause-exact : goal.returns-clause-exact
 returns-clause-exact c = λ io who call.
-    subst (λ (v : Value). Answers (answers.Value v) c.move_bytes.new.t (store_of c.move_bytes.new.m io) (called c.args.m.now.rows (copy_function c.args.may_overlap) (values_seen c.args.args.now) who (store_of c.args.m.now io))) (sym c.value.ensures)
+    subst (λ (rs : List Row). Answers (answers.Value c.value.result) c.move_bytes.new.t (store_of c.move_bytes.new.m io) (called rs (copy_function c.args.may_overlap) (values_seen c.args.args.now) who (store_of c.args.m.now io))) (sym c.in_ok-move_bytes.ensures.rows)
+    (subst (λ (v : Value). Answers (answers.Value v) c.move_bytes.new.t (store_of c.move_bytes.new.m io) (called c.args.m.now.rows (copy_function c.args.may_overlap) (values_seen c.args.args.now) who (store_of c.args.m.now io))) (sym c.value.ensures)
     (memmove_called c.args.may_overlap c.args.m.now.rows (values_seen c.args.args.now) who c.pointer_at-to.result.addr c.pointer_at-from.result.addr c.pointer_at-to.result.prov c.pointer_at-from.result.prov c.size_at.result (store_of c.args.m.now io) (store_of c.move_bytes.new.m io) c.move_bytes.new.t (answers.Value (Ptr c.pointer_at-to.result.addr c.pointer_at-to.result.prov)) c.pointer_at-to.ensures c.pointer_at-from.ensures (c.size_at.ensures (copy_size c.args.may_overlap (values_seen c.args.args.now) call.sizes))
     (move_gives c.args.m.now c.move_bytes.new.m io c.ranges_to_copy.new.t c.move_bytes.new.t c.args.may_overlap c.pointer_at-to.result.addr c.pointer_at-to.result.prov c.pointer_at-from.result.addr c.pointer_at-from.result.prov c.size_at.result c.in_ok-ranges.ranges.target c.in_ok-ranges.ranges.source call.streams c.in_ok-ranges.ensures.target c.in_ok-ranges.ensures.source (sym c.in_ok-ranges.ensures.writable) (typed_copy c.args.may_overlap c.args.m.now call.tags)
     (subst (λ (is : List Item). Gives true Ranged c.args.m.now io is c.ranges_to_copy.new.t (ranges_to_copy c.args.m.now.rows c.args.may_overlap c.pointer_at-to.result.addr c.pointer_at-to.result.prov c.pointer_at-from.result.addr c.pointer_at-from.result.prov c.size_at.result) (accessed_if c.args.m.now c.in_ok-ranges.ranges.target, accessed_if c.args.m.now c.in_ok-ranges.ranges.source)) c.requires (c.in_ok-ranges.ensures.follows io (cell_of c.args.m.now (values_seen c.args.args.now) 0 c.pointer_at-to.result.addr c.pointer_at-to.result.prov call.cells c.pointer_at-to.ensures) (cell_of c.args.m.now (values_seen c.args.args.now) 1 c.pointer_at-from.result.addr c.pointer_at-from.result.prov call.cells c.pointer_at-from.ensures)))
-    c.in_ok-move_bytes.ensures.items (c.in_ok-move_bytes.ensures.store io)))
+    c.in_ok-move_bytes.ensures.items (c.in_ok-move_bytes.ensures.store io))))
