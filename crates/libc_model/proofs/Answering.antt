@@ -1,6 +1,6 @@
 -- Lemmas on what calls answer.
-use Rattle.std.proofs.Common.{◌≡◌, ◌≢◌, ℕ, zero, suc, ◌+◌, ◌<◌, ◌≤◌, ◌⊎◌, inl, inr, Bool, true, false, ◌&&◌, cond, min, List, [], ◌∷◌, ◌++◌, length, refl, ap, ap₂, sym, subst, ◌∙◌, arith, Option, Some, None, slice_get, get_or, length-append, ℤ, pos}
-use Rattle.std.specs.Prelude.{Result, Ok, Err, nat_lt, IsTrue, ◌^◌}
+use Rattle.std.proofs.Common.{◌≡◌, ℕ, ◌≤◌, Bool, true, false, ◌&&◌, min, List, [], ◌∷◌, length, refl, ap, sym, subst, ◌∙◌, arith}
+use Rattle.std.specs.Prelude.{Result, Ok, Err, IsTrue, ◌^◌}
 use Rattle.std.proofs.lemmas.Bool.{le-ltb}
 use Rattle.std.proofs.lemmas.List.{append-nil}
 use Rattle.ub_base.specs.declared.clause.Clause.{Clause}
@@ -19,12 +19,12 @@ use Rattle.prov_memory.specs.declared.value.Value.TheVariants.{Nothing}
 use Rattle.prov_memory.specs.declared.answer.LibAnswer.{LibAnswer}
 use Rattle.prov_memory.specs.declared.answer.LibAnswer.TheVariants as answers
 use Rattle.prov_memory.specs.Store.{Store}
-use Rattle.prov_memory.specs.Script.{Act, Done, Raised, Ended, Outside, Unplaced, Give, ◌>>◌, run}
+use Rattle.prov_memory.specs.Script.{Act, Done, Raised, Outside, Unplaced, Give, ◌>>◌, run}
 use Rattle.prov_memory.specs.Streams.{Io}
 use Rattle.prov_memory.specs.Memory.{Kept, HasCell}
 use Rattle.libc_spec.specs.Library.{LibValue, pointer, nothing, free, malloc, argument_at, pointer_in, address_in, prov_in, integer_in, size_of_value, output_within, created_within, called}
 use Rattle.libc_model.specs.Answers.{Does, Answers, IsCall, HaveCells, is_exact, are_sizes, clipped, given_value, answer_in}
-use Rattle.libc_model.proofs.Scripts.{then, behind, run_then, behind_done}
+use Rattle.libc_model.proofs.Scripts.{then, run_then, behind_done}
 
 clipped_same : (s : Store) → s.position ≤ length s.input → s ≡ clipped s
 clipped_same s h =
@@ -113,6 +113,10 @@ size_there false e = absurd (cc)
 
 pub first_size : (vs : List LibValue) → are_sizes vs (0 ∷ []) ≡ true → IsTrue (holds ULong (integer_in (argument_at vs 0)))
 first_size vs e = size_there (holds ULong (integer_in (argument_at vs 0))) e
+
+-- the one size among the arguments is one of size_t
+pub one_size : (vs : List LibValue) (i : ℕ) → are_sizes vs (i ∷ []) ≡ true → IsTrue (holds ULong (integer_in (argument_at vs i)))
+one_size vs i e = size_there (holds ULong (integer_in (argument_at vs i))) e
 
 -- what holds of a call of a function holds where the function is known to be it
 pub arm : (f g : LibFunc) (rows : List Row) (vs : List LibValue) (who : Event) (m : Kept) (io : Io) (a : LibAnswer) (is : List Item) (s u : Store) → f ≡ g →

@@ -90,7 +90,7 @@ asked_outside rows a len x s live range = rw (live, range) refl
 some_is : (a b : ℕ) → Some a ≡ Some b → a ≡ b
 some_is a b h = cc
 
-offset_some : (b : Bool) (from offset : ℕ) → Some from ≡ cond b (Some offset) None → (b ≡ true) × (from ≡ offset)
+pub offset_some : (b : Bool) (from offset : ℕ) → Some from ≡ cond b (Some offset) None → (b ≡ true) × (from ≡ offset)
 offset_some true from offset e = (refl, some_is from offset e)
 offset_some false from offset e = absurd (cc)
 

@@ -65,7 +65,7 @@ text_read {V = V} items v f m io old mid new a prov r g h =
     (then_gives true true (List ℕ) V m io mid new new (read_numbers (bytes_of m r)) (items v) (λ ns. Give (f (text_in m r) ns)) (f (text_in m r) (items v)) (reads_follow items (Ok v) m io mid new (bytes_of m r) h)
     (gives_at_once true V m io new (f (text_in m r) (items v))))
 
-length_of_range : (f : ℕ → TaggedByte) (a n : ℕ) → length (range_from f a n) ≡ n
+pub length_of_range : (f : ℕ → TaggedByte) (a n : ℕ) → length (range_from f a n) ≡ n
 length_of_range f a zero = refl
 length_of_range f a (suc n) = ap suc (length_of_range f (suc a) n)
 

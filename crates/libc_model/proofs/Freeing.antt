@@ -1,6 +1,6 @@
 -- Lemmas on the death of allocated objects.
-use Rattle.std.proofs.Common.{◌≡◌, ℕ, zero, suc, Bool, true, false, ◌&&◌, ◌==◌, List, [], ◌∷◌, ◌++◌, refl, ap, ap₂, sym, subst, ◌∙◌, Option, Some, None}
-use Rattle.std.specs.Prelude.{Result, Ok, Err, not}
+use Rattle.std.proofs.Common.{◌≡◌, ℕ, zero, suc, Bool, true, false, List, [], ◌∷◌, ◌++◌, refl, ap, sym, subst, ◌∙◌}
+use Rattle.std.specs.Prelude.{Ok, not}
 use Rattle.ub_base.specs.declared.clause.Clause.{Clause}
 use Rattle.ub_base.specs.declared.names.Item.{Item}
 use Rattle.ub_base.specs.declared.names.Item.TheVariants.{Dies, Narrow}
@@ -9,16 +9,13 @@ use Rattle.ub_base.specs.declared.names.ObjName.{ObjName}
 use Rattle.addr_map.specs.declared.map.Row.{Row}
 use Rattle.addr_map.specs.Rows.{row_of}
 use Rattle.exposure.specs.declared.prov.Prov.TheVariants.{Whole, Either}
-use Rattle.exposure.specs.Cells.{Cells, kept_in, is_other}
-use Rattle.prov_memory.specs.declared.object.ObjState.{ObjState}
-use Rattle.prov_memory.specs.declared.answer.LibAnswer.{LibAnswer}
-use Rattle.prov_memory.specs.declared.answer.LibAnswer.TheVariants as answers
+use Rattle.exposure.specs.Cells.{kept_in, is_other}
 use Rattle.prov_memory.specs.Store.{Store, buried, settled}
-use Rattle.prov_memory.specs.Script.{Act, Done, Raised, run}
-use Rattle.prov_memory.specs.Acts.{kill, base_in}
+use Rattle.prov_memory.specs.Script.{Done, run}
+use Rattle.prov_memory.specs.Acts.{kill}
 use Rattle.prov_memory.specs.Streams.{Io}
-use Rattle.prov_memory.specs.Held.{Held, held_of}
-use Rattle.prov_memory.specs.Memory.{Kept, store_of, life_in, state_in, ObjectsKnown, AreKnown}
+use Rattle.prov_memory.specs.Held.{held_of}
+use Rattle.prov_memory.specs.Memory.{Kept, store_of, life_in}
 use Rattle.libc_spec.specs.Library.{is_heap_start, free}
 use Rattle.libc_model.specs.Answers.{Does}
 use Rattle.libc_model.proofs.Allocating.{does_same}

@@ -1,11 +1,16 @@
 pub mod Allocating
 pub mod Answering
 pub mod Checking
+pub mod Copying
 pub mod Finishing
 pub mod Freeing
+pub mod Listing
+pub mod Living
+pub mod Moving
 pub mod Parts
 pub mod Printing
 pub mod Reading
 pub mod Scripts
 pub mod Seen
 pub mod Settling
+pub mod Writing

@@ -14,13 +14,13 @@ use Rattle.exposure.specs.Cells.{Cells}
 use Rattle.prov_memory.specs.declared.answer.LibAnswer.{LibAnswer}
 use Rattle.prov_memory.specs.declared.answer.LibAnswer.TheVariants as answers
 use Rattle.prov_memory.specs.Store.{Store, TaggedByte, range_from}
-use Rattle.prov_memory.specs.Script.{Script, Give, Raise, touch, require, ◌>>=◌, ◌>>◌, Act, Done, Raised, touched, run}
+use Rattle.prov_memory.specs.Script.{Script, Give, require, ◌>>=◌, ◌>>◌, Act, Done, Raised, touched, run}
 use Rattle.prov_memory.specs.Acts.{all_written, show_each, show_pieces, origins_in}
 use Rattle.prov_memory.specs.Loads.{origins_of}
 use Rattle.prov_memory.specs.Streams.{Io}
 use Rattle.prov_memory.specs.Memory.{Kept, store_of}
 use Rattle.libc_spec.specs.Library.{until_zero, is_zero, behind as more_bytes, joins, joined, numbers, read_numbers}
-use Rattle.libc_model.specs.Parts.{effect, after, CanDo, CanFollow, is_read, starts_in_read, has_read, is_joined, Gives, Follows, one_more, string_size}
+use Rattle.libc_model.specs.Parts.{effect, after, CanFollow, is_read, starts_in_read, has_read, is_joined, Gives, Follows, one_more, string_size}
 use Rattle.libc_model.proofs.Scripts.{then, behind, run_then, behind_done}
 
 -- ---- what items settle and expose
@@ -147,7 +147,7 @@ pub joined_append : (is js : List Item) → starts_in_read js ≡ false → join
 joined_append [] js h = refl
 joined_append (i ∷ is) js h = ap (joins i) (joined_append is js h) ∙ joins_over i (joined is) (joined js) (starts_joined js ∙ h)
 
-or_false : (a b : Bool) → a || b ≡ false → (a ≡ false) × (b ≡ false)
+pub or_false : (a b : Bool) → a || b ≡ false → (a ≡ false) × (b ≡ false)
 or_false true b h = absurd (cc)
 or_false false b h = (refl, h)
 
@@ -178,7 +178,7 @@ apart_append true true is js h k = quiet_append is js h k
 apart_append true false is js h k = starts_append is js (quiet_starts is h) k
 apart_append false q is js h k = starts_append is js h (apart_starts q js k)
 
-joins_quiet : (i : Item) (js : List Item) → is_read i ≡ false → joins i js ≡ i ∷ js
+pub joins_quiet : (i : Item) (js : List Item) → is_read i ≡ false → joins i js ≡ i ∷ js
 joins_quiet (Read x a n) js h = absurd (cc)
 joins_quiet (Write x a n) js h = refl
 joins_quiet (Born x) js h = refl
@@ -224,7 +224,7 @@ then_gives q r A B m io old mid new p v k w f g = record {
   able = λ h. g.able (f.able h);
 }
 
-behind_raised : {B : Type 0} (is : List Item) (c : Clause) → behind {V = B} is (Raised c) ≡ Raised c
+pub behind_raised : {B : Type 0} (is : List Item) (c : Clause) → behind {V = B} is (Raised c) ≡ Raised c
 behind_raised [] c = refl
 behind_raised {B = B} (i ∷ is) c = ap (touched i) (behind_raised {B = B} is c)
 

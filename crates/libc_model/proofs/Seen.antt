@@ -1,5 +1,5 @@
 -- Lemmas on arguments and lists of bytes.
-use Rattle.std.proofs.Common.{◌≡◌, ℕ, zero, suc, ◌+◌, ◌<◌, ◌==◌, cond, ◌≤◌, inl, inr, eq-eqb, Bool, true, false, List, [], ◌∷◌, length, get_or, refl, ap, sym, ◌∙◌, arith, add-one, ℤ, pos, negsuc, if◌then◌else◌, nat_lt, Option, Some, None}
+use Rattle.std.proofs.Common.{◌≡◌, ℕ, zero, suc, ◌<◌, ◌==◌, cond, ◌≤◌, inl, inr, eq-eqb, List, [], ◌∷◌, length, get_or, refl, ap, sym, ◌∙◌, arith, add-one, ℤ, pos, negsuc, if◌then◌else◌, nat_lt, Some}
 use Rattle.std.proofs.lemmas.Bool.{le-ltb, lt-ltb, ne_eqb, cases_lt}
 use Rattle.std.specs.Cmp.Lexicographic.{slice_cmp}
 use Rattle.std.specs.Ordering.{ordering_then, nat_cmp}
@@ -7,7 +7,7 @@ use Rattle.std.specs.List.{position_from}
 use Rattle.std.specs.declared.cmp.Ordering.{Ordering}
 use Rattle.std.specs.declared.cmp.Ordering.TheVariants.{Less, Equal, Greater}
 use Rattle.prov_memory.specs.declared.value.Value.{Value}
-use Rattle.libc_spec.specs.Library.{LibValue, nothing, argument_at, order_of, place_of}
+use Rattle.libc_spec.specs.Library.{nothing, argument_at, order_of, place_of}
 use Rattle.libc_model.specs.Seen.{value_seen, values_seen}
 
 -- an argument that is there

@@ -1,16 +1,15 @@
 -- Lemmas on the end of a call: what its items settle and expose takes effect.
-use Rattle.std.proofs.Common.{◌≡◌, ℕ, ◌+◌, ◌<◌, drop, drop-cons, add-one, Bool, true, false, List, [], ◌∷◌, length, refl, ap, sym, subst, ◌∙◌, Option}
+use Rattle.std.proofs.Common.{◌≡◌, ℕ, ◌+◌, ◌<◌, drop, drop-cons, add-one, Bool, true, false, List, [], ◌∷◌, length, refl, ap, sym, subst, ◌∙◌}
 use Rattle.std.specs.Prelude.{not, slice_index_or}
 use Rattle.std.specs.Bool.{OnTrue, OnFalse}
 use Rattle.ub_base.specs.declared.names.Item.{Item}
 use Rattle.ub_base.specs.declared.names.Item.TheVariants.{Read, Write, Born, Dies, Alive, Expose, Lookup, Narrow, Input, Output, Ending, Any}
 use Rattle.ub_base.specs.declared.names.Event.{Event}
 use Rattle.ub_base.specs.declared.names.ObjName.{ObjName}
-use Rattle.addr_map.specs.declared.map.Row.{Row}
 use Rattle.exposure.specs.declared.prov.Prov.TheVariants.{Whole}
 use Rattle.exposure.specs.Cells.{Cells, kept_in, has_cell, is_other, Settles}
 use Rattle.prov_memory.specs.Store.{Store, settled, shown}
-use Rattle.prov_memory.specs.Script.{Act, Done, run}
+use Rattle.prov_memory.specs.Script.{Done, run}
 use Rattle.prov_memory.specs.Acts.{expose}
 use Rattle.prov_memory.specs.Streams.{Io}
 use Rattle.prov_memory.specs.Memory.{Kept, AreKnown, ObjectsKnown, store_of}

@@ -4,7 +4,7 @@ use Rattle.ub_base.specs.declared.names.Item.{Item}
 use Rattle.c_types.specs.declared.kind.IntKind.TheVariants.{ULong}
 use Rattle.c_types.specs.Kinds.{holds}
 use Rattle.c_types.specs.declared.library.LibFunc.{LibFunc}
-use Rattle.c_types.specs.declared.library.LibFunc.TheVariants.{Malloc, Calloc, Realloc, Free, Memcpy, Memmove, Memset, Memcmp, Strlen, Strcmp, Strchr, Getchar, Putchar, Puts, Exit, Abort}
+use Rattle.c_types.specs.declared.library.LibFunc.TheVariants.{Malloc, Calloc, Realloc, Free, Memcpy, Memmove, Memset, Memcmp, Strlen, Strcpy, Strcmp, Strchr, Getchar, Putchar, Puts, Exit, Abort}
 use Rattle.prov_memory.specs.declared.value.Value.{Value}
 use Rattle.prov_memory.specs.declared.value.Value.TheVariants.{Int, Ptr, Nothing}
 use Rattle.prov_memory.specs.declared.answer.LibAnswer.{LibAnswer}
@@ -13,6 +13,7 @@ use Rattle.prov_memory.specs.Store.{Store}
 use Rattle.prov_memory.specs.Script.{Act, Done, Raised, Ended, Outside, Unplaced}
 use Rattle.prov_memory.specs.Streams.{Io}
 use Rattle.prov_memory.specs.Memory.{Kept, AreKnown, HasCell}
+use Rattle.prov_memory.specs.Tags.{AreTagged}
 use Rattle.libc_spec.specs.Library.{LibValue, number, pointer, nothing, argument_at, integer_in, prov_in}
 
 -- a value of the definitions as one of a run
@@ -73,18 +74,30 @@ abbrev pub HaveCells : Kept → List LibValue → Type 0
 HaveCells m [] = Unit {0}
 HaveCells m (v ∷ vs) = HasCell m (prov_in v) × HaveCells m vs
 
+-- the memory has the types of its tags, where a call copies them
+abbrev pub AreTyped : LibFunc → Kept → Type 0
+AreTyped Memcpy m = AreTagged m
+AreTyped Memmove m = AreTagged m
+AreTyped f m = Unit {0}
+
 -- memory, streams and arguments as they are in a run: sizes are values of size_t
 pub record IsCall (f : LibFunc) (vs : List LibValue) (m : Kept) (io : Io) : Type 0 where
   pub known : AreKnown m
   pub streams : AreWithin io
   pub sizes : are_sizes vs (size_places f) ≡ true
   pub cells : HaveCells m vs
+  pub tags : AreTyped f m
 
 -- the functions whose calls are shown to be those of the definitions
 abbrev pub is_exact : LibFunc → Bool
 is_exact Malloc = true
 is_exact Free = true
+is_exact Memcpy = true
+is_exact Memmove = true
+is_exact Memset = true
+is_exact Memcmp = true
 is_exact Strlen = true
+is_exact Strcpy = true
 is_exact Strcmp = true
 is_exact Strchr = true
 is_exact Getchar = true
@@ -94,10 +107,18 @@ is_exact Exit = true
 is_exact Abort = true
 is_exact _ = false
 
--- an answer after which memory and streams are as before; a malloc that wants memory may leave the row of its object
+-- the function that copies bytes
+abbrev pub copy_function : (may_overlap : Bool) → LibFunc
+copy_function false = Memcpy
+copy_function true = Memmove
+
+-- an answer after which memory and streams are as before; a malloc that wants memory may leave the row of its object, and a copy
+-- what it settles and numbers of types
 abbrev pub leaves_all : LibAnswer → LibFunc → Bool
 leaves_all (answers.Value v) f = false
 leaves_all answers.NoMemory Malloc = false
+leaves_all answers.NoMemory Memcpy = false
+leaves_all answers.NoMemory Memmove = false
 leaves_all answer f = true
 
 abbrev pub gives_value : LibAnswer → Bool

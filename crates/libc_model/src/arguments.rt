@@ -14,6 +14,7 @@ ghost use Rattle.prov_memory.specs.Held.{held_of};
 ghost use Rattle.prov_memory.specs.Memory.{HasCell, life_in, store_of};
 ghost use Rattle.libc_spec.specs.Library.{argument_at, pointer_in, integer_in, size_of_value, is_zero, text};
 ghost use Rattle.libc_model.specs.Parts.{after, kept_by, kept_after, Follows, settled_to, one_of_two, offset_if, byte_at, accessed, accessed_if, text_in, IsShort, IsRange, string_size};
+ghost use Rattle.libc_model.specs.Writes.{IsPlace};
 ghost use Rattle.libc_model.specs.Seen.{value_seen, values_seen, pointer_seen};
 
 use addr_map::Row;
@@ -265,6 +266,7 @@ fn range_of(
     ensures follows { (io : Io) → Follows true (λ r. Some (accessed m.now r)) result m.now io t.old t.new (argument_in m.now.rows len addr (Some object)) }
     ensures range { IfOk result (λ r. IsRange len (Some r)) }
     ensures near { IfOk result (λ r. addr ≤ r.from + 2 ^ 47) }
+    ensures place { 1 ≤ addr → IfOk result (IsPlace m.now addr) }
     ensures items { OnOk result (t.new ≡ t.old ++ Alive object ∷ []) }
 {
     t.add(Item::Alive(object))?;
@@ -289,6 +291,7 @@ pub fn check(
     ensures follows { (io : Io) → HasCell m.now pointer.prov → Follows true (accessed_if m.now) result m.now io t.old t.new (argument m.now.rows len pointer.addr pointer.prov) }
     ensures range { IfOk result (IsRange len) }
     ensures near { IfOk result (λ range. IfSome range (λ r. pointer.addr ≤ r.from + 2 ^ 47)) }
+    ensures place { IfOk result (λ range. IfSome range (IsPlace m.now pointer.addr)) }
     ensures grows { (io : Io) → HasCell m.now pointer.prov → IfOk result (λ range. IfSome range (λ r. length t.old < length t.new)) }
 {
     if pointer.addr == 0 {

@@ -1,13 +1,25 @@
 // Functions on ranges of bytes (7.24.2.1, 7.24.2.2, 7.24.4.1, 7.24.6.1).
 
-ghost use Rattle.std.specs.Prelude.{◌≡◌, ◌++◌, Ok, Err, IfSome, if◌then◌else◌};
-ghost use Rattle.libc_model.specs.Parts.{IsShort, bytes_if, reads_if, ReadsAll};
-ghost use Rattle.libc_spec.specs.Library.{low_byte, order_of, overlap};
+ghost use Rattle.std.specs.Prelude.{◌≡◌, ◌++◌, ◌||◌, [], length, true, false, not, Ok, Err, IfOk, IfSome, OnOk, OnErr, if◌then◌else◌};
+ghost use Rattle.ub_base.specs.declared.names.Event.{Event};
+ghost use Rattle.ub_base.specs.declared.clause.Clause.TheVariants.{MemcpyOverlap};
+ghost use Rattle.c_types.specs.declared.library.LibFunc.TheVariants.{Memset, Memcmp};
+ghost use Rattle.prov_memory.specs.Acts.{declared_of, retagged};
+ghost use Rattle.prov_memory.specs.Held.{held_of};
+ghost use Rattle.prov_memory.specs.Streams.{Io};
+ghost use Rattle.prov_memory.specs.Memory.{AreKnown, CellsKnown, HasCell, life_in, store_of};
+ghost use Rattle.prov_memory.specs.Stores.{tagged_all};
+ghost use Rattle.prov_memory.specs.Tags.{AreTagged};
+ghost use Rattle.libc_model.specs.Seen.{value_seen, values_seen};
+ghost use Rattle.libc_model.specs.Answers.{IsCall, Answers, answer_in, copy_function, leaves_all, wants_memory};
+ghost use Rattle.libc_model.specs.Parts.{after, CanFollow, Follows, IsPassed, IsRange, IsShort, accessed_if, bytes_if, bytes_of, reads_if, ReadsAll};
+ghost use Rattle.libc_model.specs.Writes.{Tells, AreEven, IsKept, IsPlace, FillsRange, has_expose, moved, moved_items, moving, ranges_to_copy, target_at, target_checked};
+ghost use Rattle.libc_spec.specs.Library.{called, low_byte, memcmp, order_of, overlap};
 
 use crate::arguments::{Pointer, Range, check, int_at, pointer_at, read_of, size_at};
-use crate::bytes::{add_write, check_writable, filled, put, read, settle};
+use crate::bytes::{add_write, check_writable, filled, finish, overwrite, put_over, read, settle};
 use exposure::Prov;
-use prov_memory::{Block, LibAnswer, Memory, Touched, Value, Via};
+use prov_memory::{Block, LibAnswer, MemFault, Memory, Touched, Value, Via};
 use std::alloc::Global;
 use std::cmp::Ordering;
 use ub_base::{Clause, NoMemory};
@@ -48,31 +60,98 @@ pub fn check_apart(len: u64, to: u64, from: u64, clause: Clause) -> Result<(), C
     }
 }
 
-fn check_target(m: &Memory, target: Option<Range>) -> Result<(), Clause> {
+/// Whether the range, if there is one, may be written to; one of no bytes may be written anywhere (own).
+pub fn check_target(m: &Memory, target: Option<Range>) -> Result<(), Clause>
+    ensures { result ≡ target_checked m.now target }
+{
     match target {
         Some(range) if range.len != 0 => check_writable(m, range.object),
         _ => Ok(()),
     }
 }
 
-// The bytes of a range as they stand, with pieces and tags.
-fn copied(m: &mut Memory, range: Range, scratch: &mut Touched) -> Result<Option<Block>, LibAnswer> {
-    let Some(row) = m.map().row(range.object) else {
-        return Ok(None);
-    };
-    let addr = row.base.saturating_add(range.from);
+// The range of a pointer argument that is written to.
+fn target_of(m: &Memory, to: Pointer, len: u64, t: &mut Touched) -> Result<Option<Range>, LibAnswer>
+    ensures follows { (io : Io) → HasCell m.now to.prov → Follows true (accessed_if m.now) result m.now io t.old t.new (target_at m.now.rows len to.addr to.prov) }
+    ensures range { IfOk result (IsRange len) }
+    ensures place { IfOk result (λ target. IfSome target (IsPlace m.now to.addr)) }
+{
+    let target = check(m, to, len, t)?;
+    check_target(m, target)?;
+    Ok(target)
+}
+
+// How many bytes are written.
+fn len_of(target: Option<Range>) -> u64
+    ensures { FillsRange result target }
+{
+    match target {
+        Some(range) => range.len,
+        None => 0,
+    }
+}
+
+// The bytes of the range that begins at the address, in a live object, as they stand, with pieces and tags.
+fn copied(m: &mut Memory, addr: u64, range: Range, scratch: &mut Touched) -> Result<Block, NoMemory>
+    requires { IsPlace m.old addr range }
+    ensures bytes { IfOk result (λ b. AreTagged m.old → tagged_all m.new b.cells ≡ retagged (declared_of (life_in (held_of m.old.objects range.object))) range.from (bytes_of m.old range)) }
+    ensures store { OnOk result (AreTagged m.old → (io : Io) → store_of m.new io ≡ store_of m.old io) }
+    ensures len { IfOk result (λ b. length b.cells ≡ range.len) }
+    ensures pieces { IfOk result (λ b. AreKnown m.old → CellsKnown (length m.new.origins) b.cells) }
+    ensures kept { OnOk result (IsKept m.old m.new) }
+{
     match m.load_block(range.len, 1, addr, Prov::Whole(range.object), scratch) {
-        Ok(block) => Ok(Some(block)),
-        Err(fault) => Err(answer_of(fault)),
+        Ok(block) => Ok(block),
+        Err(MemFault::Raise(_)) => unreachable!(),
+        Err(MemFault::NoMemory) => Err(NoMemory),
     }
 }
 
 /// Why memory gave nothing, as the answer of a library function.
-pub fn answer_of(fault: prov_memory::MemFault) -> LibAnswer {
+pub fn answer_of(fault: MemFault) -> LibAnswer {
     match fault {
-        prov_memory::MemFault::Raise(clause) => LibAnswer::Raise(clause),
-        prov_memory::MemFault::NoMemory => LibAnswer::NoMemory,
+        MemFault::Raise(clause) => LibAnswer::Raise(clause),
+        MemFault::NoMemory => LibAnswer::NoMemory,
     }
+}
+
+// Whether the ranges may overlap or don't (7.24.2.1p2).
+fn check_overlap(may_overlap: bool, len: u64, to: u64, from: u64) -> Result<(), Clause>
+    ensures { result ≡ (if may_overlap || not (overlap len to from) then Ok tt else Err MemcpyOverlap) }
+{
+    if may_overlap {
+        return Ok(());
+    }
+    check_apart(len, to, from, Clause::MemcpyOverlap)
+}
+
+// The ranges of a copy, each none where it leaves an ambiguity open.
+#[derive(Clone, Copy)]
+struct Ranges {
+    target: Option<Range>,
+    source: Option<Range>,
+}
+
+fn ranges_to_copy(
+    m: &Memory,
+    may_overlap: bool,
+    to: Pointer,
+    from: Pointer,
+    len: u64,
+    t: &mut Touched,
+) -> Result<Ranges, LibAnswer>
+    ensures follows { (io : Io) → HasCell m.now to.prov → HasCell m.now from.prov → Follows true (λ r. (accessed_if m.now r.target, accessed_if m.now r.source)) result m.now io t.old t.new (ranges_to_copy m.now.rows may_overlap to.addr to.prov from.addr from.prov len) }
+    ensures target { IfOk result (λ r. IsRange len r.target) }
+    ensures source { IfOk result (λ r. IsRange len r.source) }
+    ensures to { IfOk result (λ r. IfSome r.target (IsPlace m.now to.addr)) }
+    ensures from { IfOk result (λ r. IfSome r.source (IsPlace m.now from.addr)) }
+    ensures writable { IfOk result (λ r. target_checked m.now r.target ≡ Ok tt) }
+{
+    let target = check(m, to, len, t)?;
+    let source = check(m, from, len, t)?;
+    check_target(m, target)?;
+    check_overlap(may_overlap, len, to.addr, from.addr)?;
+    Ok(Ranges { target, source })
 }
 
 /// memcpy, and memmove, which takes an overlap.
@@ -82,38 +161,57 @@ pub fn copy(
     args: &[Value],
     m: &mut Memory,
     t: &mut Touched,
-) -> Result<Value, LibAnswer> {
+) -> Result<Value, LibAnswer>
+    requires { t.old ≡ [] }
+    ensures exact { (io : Io) (who : Event) → IsCall (copy_function may_overlap) (values_seen args.now) m.old io → Answers (answer_in result) t.new (store_of m.new io) (called m.new.rows (copy_function may_overlap) (values_seen args.now) who (store_of m.old io)) }
+    ensures known { AreKnown m.old → wants_memory (answer_in result) ≡ false → AreKnown m.new }
+    ensures same { leaves_all (answer_in result) (copy_function may_overlap) ≡ true → m.new ≡ m.old }
+{
     let to = pointer_at(args, 0);
     let from = pointer_at(args, 1);
-    let len = size_at(args, 2);
-    let target = check(m, to, len, t)?;
-    let source = check(m, from, len, t)?;
-    check_target(m, target)?;
-    if !may_overlap {
-        check_apart(len, to.addr, from.addr, Clause::MemcpyOverlap)?;
-    }
-    let mut scratch = Touched::new(alloc)?;
-    if let (Some(target), Some(source)) = (target, source)
-        && len != 0
-    {
-        move_bytes(m, target, source, t, &mut scratch)?;
-    }
-    settle(m, t, &mut scratch);
+    let ranges = ranges_to_copy(m, may_overlap, to, from, size_at(args, 2), t)?;
+    move_bytes(alloc, m, to.addr, from.addr, ranges, t)?;
     Ok(to.value())
 }
 
+// The ranges between which bytes are copied, none where there are no bytes.
+fn moving(ranges: Ranges) -> Option<(Range, Range)>
+    ensures { result ≡ moving ranges.target ranges.source }
+{
+    match (ranges.target, ranges.source) {
+        (Some(target), Some(source)) if target.len != 0 => Some((target, source)),
+        _ => None,
+    }
+}
+
+// The end of a copy: what the items settle takes effect, and the bytes are stored as they stand. `t` gains the read and the
+// write.
 fn move_bytes(
+    alloc: Global,
     m: &mut Memory,
-    target: Range,
-    source: Range,
+    to: u64,
+    from: u64,
+    ranges: Ranges,
     t: &mut Touched,
-    scratch: &mut Touched,
-) -> Result<(), LibAnswer> {
+) -> Result<(), NoMemory>
+    requires to { IfSome ranges.target (IsPlace m.old to) }
+    requires from { IfSome ranges.source (IsPlace m.old from) }
+    requires even { AreEven ranges.target ranges.source }
+    ensures items { OnOk result (t.new ≡ t.old ++ moved_items ranges.target ranges.source) }
+    ensures store { OnOk result ((io : Io) → has_expose t.old ≡ false → AreTagged m.old → CanFollow m.old.cells t.old (store_of m.old io) → store_of m.new io ≡ moved m.old ranges.target ranges.source (after t.old (store_of m.old io))) }
+    ensures rows { OnOk result (m.new.rows ≡ m.old.rows) }
+    ensures known { AreKnown m.old → OnOk result (AreKnown m.new) }
+{
+    let mut scratch = Touched::new(alloc)?;
+    let Some((target, source)) = moving(ranges) else {
+        settle(m, t, &mut scratch);
+        return Ok(());
+    };
     t.add(read_of(source))?;
     add_write(target, t)?;
-    if let Some(block) = copied(m, source, scratch)? {
-        put(m, target.object, target.from, Via::Whole, &block, scratch)?;
-    }
+    settle(m, t, &mut scratch);
+    let block = copied(m, from, source, &mut scratch)?;
+    put_over(m, to, target, Via::Whole, &block, &mut scratch);
     Ok(())
 }
 
@@ -123,25 +221,17 @@ pub fn fill(
     args: &[Value],
     m: &mut Memory,
     t: &mut Touched,
-) -> Result<Value, LibAnswer> {
+) -> Result<Value, LibAnswer>
+    requires { t.old ≡ [] }
+    ensures exact { (io : Io) (who : Event) → IsCall Memset (values_seen args.now) m.old io → Answers (answer_in result) t.new (store_of m.new io) (called m.new.rows Memset (values_seen args.now) who (store_of m.old io)) }
+    ensures known { AreKnown m.old → AreKnown m.new }
+    ensures same { OnErr result (m.new ≡ m.old) }
+{
     let to = pointer_at(args, 0);
     let number = low_byte(int_at(args, 1));
-    let target = check(m, to, size_at(args, 2), t)?;
-    check_target(m, target)?;
-    let mut scratch = Touched::new(alloc)?;
-    if let Some(range) = target {
-        add_write(range, t)?;
-        let block = filled(alloc, number, range.len)?;
-        put(
-            m,
-            range.object,
-            range.from,
-            Via::Bytes,
-            &block,
-            &mut scratch,
-        )?;
-    }
-    settle(m, t, &mut scratch);
+    let target = target_of(m, to, size_at(args, 2), t)?;
+    let block = filled(alloc, number, len_of(target))?;
+    overwrite(alloc, m, to.addr, target, &block, t)?;
     Ok(to.value())
 }
 
@@ -166,13 +256,37 @@ pub fn compare(
     args: &[Value],
     m: &mut Memory,
     t: &mut Touched,
-) -> Result<Value, LibAnswer> {
-    let len = size_at(args, 2);
-    let a = check(m, pointer_at(args, 0), len, t)?;
-    let b = check(m, pointer_at(args, 1), len, t)?;
-    let first = read_if(alloc, m, a, t)?;
-    let second = read_if(alloc, m, b, t)?;
-    let mut scratch = Touched::new(alloc)?;
-    settle(m, t, &mut scratch);
-    Ok(Value::Int(order_of(first.as_slice(), second.as_slice())))
+) -> Result<Value, LibAnswer>
+    requires { t.old ≡ [] }
+    ensures exact { (io : Io) (who : Event) → IsCall Memcmp (values_seen args.now) m.old io → Answers (answer_in result) t.new (store_of m.new io) (called m.new.rows Memcmp (values_seen args.now) who (store_of m.old io)) }
+    ensures known { AreKnown m.old → AreKnown m.new }
+    ensures same { OnErr result (m.new ≡ m.old) }
+{
+    let read = order_of_ranges(
+        alloc,
+        m,
+        pointer_at(args, 0),
+        pointer_at(args, 1),
+        size_at(args, 2),
+        t,
+    );
+    finish(alloc, read, m, t)
+}
+
+fn order_of_ranges(
+    alloc: Global,
+    m: &Memory,
+    first: Pointer,
+    second: Pointer,
+    len: u64,
+    t: &mut Touched,
+) -> Result<Value, LibAnswer>
+    ensures tells { (io : Io) → HasCell m.now first.prov → HasCell m.now second.prov → Tells value_seen result m.now io t.old t.new (memcmp m.now.rows first.addr first.prov second.addr second.prov len) }
+    ensures passed { IfOk result IsPassed }
+{
+    let a = check(m, first, len, t)?;
+    let b = check(m, second, len, t)?;
+    let x = read_if(alloc, m, a, t)?;
+    let y = read_if(alloc, m, b, t)?;
+    Ok(Value::Int(order_of(x.as_slice(), y.as_slice())))
 }

@@ -1,22 +1,21 @@
 // Functions on strings (7.24.2.3, 7.24.4.2, 7.24.5.2, 7.24.6.3).
 
-ghost use Rattle.std.specs.Prelude.{◌≡◌, ◌==◌, List, [], false, IfOk, OnErr};
+ghost use Rattle.std.specs.Prelude.{◌≡◌, ◌==◌, [], length, false, IfOk, IfSome, OnErr};
 ghost use Rattle.std.specs.List.{position};
 ghost use Rattle.ub_base.specs.declared.names.Event.{Event};
-ghost use Rattle.c_types.specs.declared.library.LibFunc.TheVariants.{Strlen, Strcmp, Strchr};
-ghost use Rattle.addr_map.specs.declared.map.Row.{Row};
-ghost use Rattle.prov_memory.specs.Script.{Script, run};
+ghost use Rattle.c_types.specs.declared.library.LibFunc.TheVariants.{Strlen, Strcpy, Strcmp, Strchr};
 ghost use Rattle.prov_memory.specs.Streams.{Io};
 ghost use Rattle.prov_memory.specs.Memory.{AreKnown, HasCell, store_of};
-ghost use Rattle.libc_spec.specs.Library.{LibValue, called, strlen, strcmp, strchr};
+ghost use Rattle.libc_spec.specs.Library.{called, strlen, strcmp, strchr};
 ghost use Rattle.libc_model.specs.Seen.{value_seen, values_seen};
-ghost use Rattle.libc_model.specs.Answers.{IsCall, AreWithin, Answers, answer_in};
-ghost use Rattle.libc_model.specs.Parts.{Follows, IsPassed, limited};
+ghost use Rattle.libc_model.specs.Answers.{IsCall, Answers, answer_in};
+ghost use Rattle.libc_model.specs.Parts.{Follows, IsPassed, accessed_if};
+ghost use Rattle.libc_model.specs.Writes.{IsPlace, FillsRange, string_to_copy};
 
 use crate::arguments::{Pointer, Range, check, check_string, int_at, pointer_at};
-use crate::bytes::{add_write, block_of, check_writable, numbers, put, settle};
-use crate::ranges::{check_apart, low_byte, order_of};
-use prov_memory::{LibAnswer, Memory, Touched, Value, Via};
+use crate::bytes::{block_of, finish, numbers, overwrite};
+use crate::ranges::{check_apart, check_target, low_byte, order_of};
+use prov_memory::{LibAnswer, Memory, Touched, Value};
 use std::alloc::Global;
 use ub_base::Clause;
 
@@ -45,23 +44,6 @@ fn length_of(alloc: Global, m: &Memory, text: Pointer, t: &mut Touched) -> Resul
     Ok(Value::Int(i128::from(range.len.saturating_sub(1))))
 }
 
-// The end of a call that allocates nothing: what its items settle and expose takes effect.
-fn finish(
-    alloc: Global,
-    read: Result<Value, LibAnswer>,
-    m: &mut Memory,
-    t: &Touched,
-) -> Result<Value, LibAnswer>
-    ensures exact { (io : Io) (script : List Row → Script LibValue) → AreWithin io → IfOk read IsPassed → Follows false value_seen read m.old io [] t.now (script m.old.rows) → Answers (answer_in result) t.now (store_of m.new io) (limited (store_of m.old io) (run m.new.rows (script m.new.rows) (store_of m.old io))) }
-    ensures known { AreKnown m.old → AreKnown m.new }
-    ensures same { OnErr result (m.new ≡ m.old) }
-{
-    let value = read?;
-    let mut scratch = Touched::new(alloc)?;
-    settle(m, t, &mut scratch);
-    Ok(value)
-}
-
 // Where the byte first stands.
 fn place_of(wanted: u8, numbers: &[u8]) -> Option<usize>
     ensures { result ≡ position (λ number. number == wanted) numbers.now }
@@ -75,31 +57,43 @@ pub fn copy_string(
     args: &[Value],
     m: &mut Memory,
     t: &mut Touched,
-) -> Result<Value, LibAnswer> {
+) -> Result<Value, LibAnswer>
+    requires { t.old ≡ [] }
+    ensures exact { (io : Io) (who : Event) → IsCall Strcpy (values_seen args.now) m.old io → Answers (answer_in result) t.new (store_of m.new io) (called m.new.rows Strcpy (values_seen args.now) who (store_of m.old io)) }
+    ensures known { AreKnown m.old → AreKnown m.new }
+    ensures same { OnErr result (m.new ≡ m.old) }
+{
     let to = pointer_at(args, 0);
-    let from = pointer_at(args, 1);
+    let copy = string_to_copy(alloc, m, to, pointer_at(args, 1), t)?;
+    let block = block_of(alloc, copy.numbers.as_slice())?;
+    overwrite(alloc, m, to.addr, copy.target, &block, t)?;
+    Ok(to.value())
+}
+
+// The bytes of a string and the range that they replace.
+#[derive(Drop)]
+struct StringCopy {
+    numbers: Vec<u8>,
+    target: Option<Range>,
+}
+
+fn string_to_copy(
+    alloc: Global,
+    m: &Memory,
+    to: Pointer,
+    from: Pointer,
+    t: &mut Touched,
+) -> Result<StringCopy, LibAnswer>
+    ensures follows { (io : Io) → HasCell m.now to.prov → HasCell m.now from.prov → Follows false (λ copy. (copy.numbers.items, accessed_if m.now copy.target)) result m.now io t.old t.new (string_to_copy m.now.rows to.addr to.prov from.addr from.prov) }
+    ensures place { IfOk result (λ copy. IfSome copy.target (IsPlace m.now to.addr)) }
+    ensures len { IfOk result (λ copy. FillsRange (length copy.numbers.items) copy.target) }
+{
     let source = check_string(m, from, t)?;
     let target = check(m, to, source.len, t)?;
     let numbers = numbers(alloc, m, source, t)?;
-    if let Some(range) = target {
-        check_writable(m, range.object)?;
-    }
+    check_target(m, target)?;
     check_apart(source.len, to.addr, from.addr, Clause::StrcpyOverlap)?;
-    let mut scratch = Touched::new(alloc)?;
-    if let Some(range) = target {
-        add_write(range, t)?;
-        let block = block_of(alloc, numbers.as_slice())?;
-        put(
-            m,
-            range.object,
-            range.from,
-            Via::Bytes,
-            &block,
-            &mut scratch,
-        )?;
-    }
-    settle(m, t, &mut scratch);
-    Ok(to.value())
+    Ok(StringCopy { numbers, target })
 }
 
 /// strcmp: reads both strings whole; the first difference decides, as unsigned bytes.

@@ -1,4 +1,4 @@
-use Rattle.std.proofs.Common.{◌≡◌, ℕ, ap, sym, ◌∙◌, arith}
+use Rattle.std.proofs.Common.{ap, sym, ◌∙◌}
 use Rattle.libc_spec.specs.Library.{pointer_in}
 use Rattle.libc_model.proofs.Seen.{argument_at-there, argument_at-none}
 use Rattle.libc_model.proofs.arguments.pointer_at.Goals as goal

@@ -1,7 +1,7 @@
 use Rattle.std.proofs.Common.{◌∙◌, rules}
 use Rattle.std.specs.Int.{w128}
 use Rattle.std.proofs.lemmas.Int.{to_z-of_z}
-use Rattle.c_types.specs.declared.library.LibFunc.TheVariants.{Malloc, Strlen, Strcmp, Strchr, Getchar, Putchar, Puts, Exit, Abort}
+use Rattle.c_types.specs.declared.library.LibFunc.TheVariants.{Malloc, Memcpy, Memmove, Memset, Memcmp, Strlen, Strcpy, Strcmp, Strchr, Getchar, Putchar, Puts, Exit, Abort}
 use Rattle.prov_memory.specs.Memory.{store_of}
 use Rattle.libc_model.specs.Seen.{values_seen}
 use Rattle.libc_model.specs.Answers.{answer_in}
@@ -52,3 +52,28 @@ pub returns-in-Abort-clause-exact : goal.returns-in-Abort-clause-exact
 returns-in-Abort-clause-exact c =
     arm c.args.f Abort c.args.m.now.rows (values_seen c.args.args.now) c.args.who c.args.m.now c.args.io.now (answer_in c.abort.result) c.abort.new.t (store_of c.args.m.now c.args.io.now) (store_of c.args.m.now c.args.io.now) c.in-Abort.is
     (λ call. c.abort.ensures.exact c.args.m.now c.args.io.now (values_seen c.args.args.now) c.args.who call.streams)
+
+pub returns-in-Memset-clause-exact : goal.returns-in-Memset-clause-exact
+returns-in-Memset-clause-exact c =
+    arm c.args.f Memset c.fill.new.m.rows (values_seen c.args.args.now) c.args.who c.args.m.now c.args.io.now (answer_in c.fill.result) c.fill.new.t (store_of c.fill.new.m c.args.io.now) (store_of c.args.m.now c.args.io.now) c.in-Memset.is
+    (c.fill.ensures.exact c.args.io.now c.args.who)
+
+pub returns-in-Memcmp-clause-exact : goal.returns-in-Memcmp-clause-exact
+returns-in-Memcmp-clause-exact c =
+    arm c.args.f Memcmp c.compare.new.m.rows (values_seen c.args.args.now) c.args.who c.args.m.now c.args.io.now (answer_in c.compare.result) c.compare.new.t (store_of c.compare.new.m c.args.io.now) (store_of c.args.m.now c.args.io.now) c.in-Memcmp.is
+    (c.compare.ensures.exact c.args.io.now c.args.who)
+
+pub returns-in-Strcpy-clause-exact : goal.returns-in-Strcpy-clause-exact
+returns-in-Strcpy-clause-exact c =
+    arm c.args.f Strcpy c.copy_string.new.m.rows (values_seen c.args.args.now) c.args.who c.args.m.now c.args.io.now (answer_in c.copy_string.result) c.copy_string.new.t (store_of c.copy_string.new.m c.args.io.now) (store_of c.args.m.now c.args.io.now) c.in-Strcpy.is
+    (c.copy_string.ensures.exact c.args.io.now c.args.who)
+
+pub returns-in-Memcpy-clause-exact : goal.returns-in-Memcpy-clause-exact
+returns-in-Memcpy-clause-exact c =
+    arm c.args.f Memcpy c.copy.new.m.rows (values_seen c.args.args.now) c.args.who c.args.m.now c.args.io.now (answer_in c.copy.result) c.copy.new.t (store_of c.copy.new.m c.args.io.now) (store_of c.args.m.now c.args.io.now) c.in-Memcpy.is
+    (c.copy.ensures.exact c.args.io.now c.args.who)
+
+pub returns-in-Memmove-clause-exact : goal.returns-in-Memmove-clause-exact
+returns-in-Memmove-clause-exact c =
+    arm c.args.f Memmove c.copy-in-Memmove.new.m.rows (values_seen c.args.args.now) c.args.who c.args.m.now c.args.io.now (answer_in c.copy-in-Memmove.result) c.copy-in-Memmove.new.t (store_of c.copy-in-Memmove.new.m c.args.io.now) (store_of c.args.m.now c.args.io.now) c.in-Memmove.is
+    (c.copy-in-Memmove.ensures.exact c.args.io.now c.args.who)

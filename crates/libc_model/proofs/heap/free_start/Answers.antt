@@ -1,4 +1,4 @@
-use Rattle.std.proofs.Common.{◌≡◌, ◌∙◌, sym, rules}
+use Rattle.std.proofs.Common.{◌≡◌, ◌∙◌, sym}
 use Rattle.ub_base.specs.declared.names.Item.TheVariants.{Dies, Narrow}
 use Rattle.exposure.specs.Cells.{kept_in, is_other}
 use Rattle.prov_memory.specs.Memory.{store_of}

@@ -1,4 +1,4 @@
-use Rattle.std.proofs.Common.{◌≡◌, ap, sym, ◌∙◌}
+use Rattle.std.proofs.Common.{ap, sym, ◌∙◌}
 use Rattle.libc_model.proofs.Seen.{sign_of, order_of-slice_cmp}
 use Rattle.libc_model.proofs.ranges.order_of.Goals as goal
 

@@ -1,0 +1,60 @@
+-- Lemmas on the lives of objects where items take effect.
+use Rattle.std.proofs.Common.{◌≡◌, ℕ, zero, suc, ◌+◌, ◌<◌, Bool, true, false, ◌||◌, drop, List, [], ◌∷◌, length, refl, ap, sym, subst, ◌∙◌, arith}
+use Rattle.std.specs.Prelude.{slice_index_or}
+use Rattle.ub_base.specs.declared.names.Item.{Item}
+use Rattle.ub_base.specs.declared.names.Item.TheVariants.{Expose}
+use Rattle.ub_base.specs.declared.names.ObjName.{ObjName}
+use Rattle.exposure.specs.declared.prov.Prov.TheVariants.{Whole}
+use Rattle.prov_memory.specs.Store.{Store, shown}
+use Rattle.prov_memory.specs.Script.{Done, run}
+use Rattle.prov_memory.specs.Acts.{expose}
+use Rattle.prov_memory.specs.Held.{held_of}
+use Rattle.prov_memory.specs.Streams.{Io}
+use Rattle.prov_memory.specs.Memory.{Kept, life_in, store_of}
+use Rattle.prov_memory.specs.Tags.{AreTagged, ObjectsTagged}
+use Rattle.libc_model.specs.Parts.{IsSettled}
+use Rattle.libc_model.specs.Writes.{LiveOn, has_expose, is_expose}
+use Rattle.libc_model.proofs.Settling.{SettlesRest, settles_all, settles_on}
+
+-- an ambiguity is settled
+pub narrow_lives : (m new : Kept) → record new { cells = [] } ≡ record m { cells = [] } → LiveOn m new
+narrow_lives m new e x = ap (λ (k : Kept). life_in (held_of k.objects x)) e
+
+done_store : {V : Type 0} (v w : V) (is js : List Item) (s u : Store) → Done v is s ≡ Done w js u → s ≡ u
+done_store v w is js s u e = cc
+
+abbrev pub no_streams : Io
+no_streams = record { input = []; position = 0; output = [] }
+
+-- an object is exposed
+pub expose_lives : (m new : Kept) (x : ObjName) (is : List Item) → ((io : Io) → run new.rows (expose (Whole x)) (store_of m io) ≡ Done tt is (store_of new io)) → LiveOn m new
+expose_lives m new x is e y = ap (λ (s : Store). s.life y) (sym (done_store tt tt (Expose x ∷ []) is (shown (store_of m no_streams) x) (store_of new no_streams) (e no_streams)))
+
+-- the rest of the items leads to where all lead, and each object lives as before
+pub record SettlesAlive (old now : Kept) (all rest : List Item) : Type 0 where
+  pub settles : SettlesRest old now all rest
+  pub lives : LiveOn old now
+  pub tagged : has_expose all ≡ false → AreTagged old → AreTagged now
+
+pub alive_all : (m : Kept) (is : List Item) → SettlesAlive m m is is
+alive_all m is = record { settles = settles_all m is; lives = λ x. refl; tagged = λ none h. h }
+
+or_false_left : (a b : Bool) → a || b ≡ false → a ≡ false
+or_false_left true b h = absurd (cc)
+or_false_left false b h = refl
+
+or_false_right : (a b : Bool) → a || b ≡ false → b ≡ false
+or_false_right true b h = absurd (cc)
+or_false_right false b h = h
+
+exposes_none : (is : List Item) (k : ℕ) (d : Item) → k < length is → has_expose is ≡ false → is_expose (slice_index_or is k d) ≡ false
+exposes_none [] k d h none = absurd (omega (arith, h))
+exposes_none (i ∷ is) zero d h none = or_false_left (is_expose i) (has_expose is) none
+exposes_none (i ∷ is) (suc k) d h none = exposes_none is k d (omega (arith, h)) (or_false_right (is_expose i) (has_expose is) none)
+
+pub narrow_tagged : (m new : Kept) → record new { cells = [] } ≡ record m { cells = [] } → AreTagged m → AreTagged new
+narrow_tagged m new e h = subst (λ (k : Kept). ObjectsTagged (length k.types) k.objects) (sym e) h
+
+pub alive_on : (old now new : Kept) (all : List Item) (k : ℕ) (d : Item) → k < length all → SettlesAlive old now all (drop k all) → IsSettled now new (slice_index_or all k d) → LiveOn now new →
+    (is_expose (slice_index_or all k d) ≡ false → AreTagged now → AreTagged new) → SettlesAlive old new all (drop (k + 1) all)
+alive_on old now new all k d h r one lives tagged = record { settles = settles_on old now new all k d h r.settles one; lives = λ x. lives x ∙ r.lives x; tagged = λ none t. tagged (exposes_none all k d h none) (r.tagged none t) }
