@@ -372,15 +372,17 @@ fn enumerated(
     state: &mut State,
     list: &[Enumerator],
 ) -> Result<(), TypeFault> {
-    let mut next: i128 = 0;
+    let mut before = None;
     for e in list {
-        let number = match &e.value {
-            None => next,
-            Some(value) => constant(source, state, value)?,
+        let value = match &e.value {
+            None => None,
+            Some(value) => Some(constant(source, state, value)?),
         };
-        let number = tag::enumerator_value(source, e.name, number)?;
-        state.declare(source, e.name, Meaning::Constant(number))?;
-        next = number.saturating_add(1);
+        let Some(number) = tag::enumerator(value, before) else {
+            return Err(source.fault(e.name));
+        };
+        state.declare(source, e.name, Meaning::Constant(i128::from(number)))?;
+        before = Some(number);
     }
     Ok(())
 }

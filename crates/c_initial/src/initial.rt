@@ -1,4 +1,6 @@
 // Initializers (6.7.9).
+ghost use Rattle.std.specs.Prelude.{◌≡◌};
+ghost use Rattle.c_initial.specs.Texts.{text_in};
 
 use crate::cursor::{Choice, Cursor, Spot, next_spot};
 use crate::statics::static_content;
@@ -62,7 +64,9 @@ pub fn is_text_array(ty: &Ty) -> bool {
 }
 
 // The bytes that a string gives an array of so many characters: its zero only where there is room (6.7.9p14).
-fn text_of(bytes: Bytes, count: Option<u64>) -> Option<Bytes> {
+fn text_of(bytes: Bytes, count: Option<u64>) -> Option<Bytes>
+    ensures { result ≡ text_in bytes count }
+{
     let Some(count) = count else {
         return Some(bytes);
     };
