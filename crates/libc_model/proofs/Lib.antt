@@ -3,9 +3,11 @@ pub mod Answering
 pub mod Checking
 pub mod Finishing
 pub mod Freeing
+pub mod Making
 pub mod Parts
 pub mod Printing
 pub mod Reading
+pub mod Resizing
 pub mod Scripts
 pub mod Seen
 pub mod Settling

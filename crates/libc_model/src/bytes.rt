@@ -1,7 +1,8 @@
 // Bytes that library functions read and write.
-ghost use Rattle.std.specs.Prelude.{◌≡◌, ◌++◌, ◌∷◌, [], map, OnOk};
+ghost use Rattle.std.specs.Prelude.{◌≡◌, ◌++◌, ◌∷◌, [], map, replicate, IfOk, OnOk};
 ghost use Rattle.ub_base.specs.declared.names.Item.TheVariants.{Expose};
 ghost use Rattle.prov_memory.specs.Acts.{candidates};
+ghost use Rattle.prov_memory.specs.Cells.{plain_cell};
 ghost use Rattle.prov_memory.specs.Streams.{Io};
 ghost use Rattle.prov_memory.specs.Memory.{AreKnown, store_of};
 ghost use Rattle.libc_model.specs.Parts.{after, CanFollow, byte_at, bytes_of, IsShort, read_items, ReadsByte, ReadsAll, IsSettled, AreSettled};
@@ -98,6 +99,16 @@ pub fn check_writable(m: &Memory, object: ObjName) -> Result<(), Clause> {
     Ok(())
 }
 
+// Adds a number at the end.
+fn push_plain(block: &mut Block, number: u8) -> Result<(), NoMemory>
+    ensures { OnOk result (block.new.cells ≡ block.old.cells ++ plain_cell number ∷ []) }
+{
+    block.push(MemByte::Written {
+        number,
+        piece: None,
+    })
+}
+
 /// These numbers as bytes to be stored.
 pub fn block_of(alloc: Global, numbers: &[u8]) -> Result<Block, NoMemory> {
     let mut block = Block::new(alloc);
@@ -111,13 +122,12 @@ pub fn block_of(alloc: Global, numbers: &[u8]) -> Result<Block, NoMemory> {
 }
 
 /// The same number again and again.
-pub fn filled(alloc: Global, number: u8, len: u64) -> Result<Block, NoMemory> {
+pub fn filled(alloc: Global, number: u8, len: u64) -> Result<Block, NoMemory>
+    ensures { IfOk result (λ b. b.cells ≡ map plain_cell (replicate len number)) }
+{
     let mut block = Block::new(alloc);
-    for _ in 0..len {
-        block.push(MemByte::Written {
-            number,
-            piece: None,
-        })?;
+    for _turn in 0..len {
+        push_plain(&mut block, number)?;
     }
     Ok(block)
 }

@@ -1,18 +1,25 @@
 // Allocation (7.22.3).
 
-ghost use Rattle.std.specs.Prelude.{◌≡◌, ◌≢◌, ◌+◌, ◌*◌, ◌^◌, min, max, true, nat_lt, Some, None, Ok, Err, OnOk, OnErr, [], if◌then◌else◌};
+ghost use Rattle.std.specs.Prelude.{◌≡◌, ◌≢◌, ◌+◌, ◌*◌, ◌^◌, ◌∷◌, ◌++◌, length, min, max, true, nat_lt, Some, None, Ok, Err, OnOk, OnErr, [], if◌then◌else◌};
 ghost use Rattle.ub_base.specs.declared.clause.Cause.TheVariants.{Created};
+ghost use Rattle.ub_base.specs.declared.names.Item.TheVariants.{Born, Alive, Write};
 ghost use Rattle.exposure.specs.declared.prov.Prov.TheVariants.{Whole, Either};
 ghost use Rattle.exposure.specs.Cells.{has_cell};
 ghost use Rattle.prov_memory.specs.declared.answer.LibAnswer.TheVariants as answers;
-ghost use Rattle.prov_memory.specs.Acts.{create, base_in};
+ghost use Rattle.prov_memory.specs.Acts.{Seen, create, base_in, stored_from};
 ghost use Rattle.prov_memory.specs.Held.{held_of};
-ghost use Rattle.prov_memory.specs.Memory.{AreKnown, HasCell, life_in, store_of};
+ghost use Rattle.prov_memory.specs.Memory.{AreKnown, CellsKnown, HasCell, life_in, store_of};
 ghost use Rattle.prov_memory.specs.Script.{run};
+ghost use Rattle.prov_memory.specs.Store.{with_bytes};
+ghost use Rattle.prov_memory.specs.Stores.{Sees, IsShort, tagged_all};
 ghost use Rattle.prov_memory.specs.Streams.{Io};
 ghost use Rattle.addr_map.specs.Rows.{row_of};
-ghost use Rattle.libc_spec.specs.Library.{is_given, is_heap_start, heap_name, heap_kind, malloc, free, created_within};
-ghost use Rattle.libc_model.specs.Answers.{Does, given_value};
+ghost use Rattle.addr_map.specs.Sound.{Above};
+ghost use Rattle.c_types.specs.declared.library.LibFunc.TheVariants.{Calloc};
+ghost use Rattle.libc_spec.specs.Library.{asked, is_given, is_heap_start, heap_name, heap_kind, malloc, calloc, free, created_within};
+ghost use Rattle.libc_model.specs.Seen.{values_seen};
+ghost use Rattle.libc_model.specs.Making.{rows_made, IsNewAt};
+ghost use Rattle.libc_model.specs.Answers.{Does, are_sizes, given_value};
 
 use crate::arguments::{Pointer, Range, pointer_at, size_at};
 use crate::bytes::{filled, put, settle};
@@ -80,6 +87,7 @@ fn check_created(m: &Memory, size: u64) -> Result<(), LibAnswer>
 // A new heap object, unwritten.
 fn created(m: &mut Memory, name: ObjName, size: u64, t: &mut Touched) -> Result<Pointer, LibAnswer>
     ensures exact { (io : Io) → AreKnown m.old → Does (λ base. record { addr = base; prov = Whole name }) result t.new (store_of m.new io) (run m.new.rows (create m.new.rows name size 16 heap_kind None) (store_of m.old io)) }
+    ensures rows { result ≢ Err answers.NoMemory → m.new.rows ≡ rows_made m.old name size }
     ensures known { AreKnown m.old → OnOk result (AreKnown m.new) }
     ensures same { OnErr result (result ≢ Err answers.NoMemory → m.new ≡ m.old) }
 {
@@ -122,24 +130,67 @@ pub fn allocate_zeros(
     who: Event,
     m: &mut Memory,
     t: &mut Touched,
-) -> Result<Value, LibAnswer> {
-    let Some(size) = given(product(size_at(args, 0), size_at(args, 1))) else {
+) -> Result<Value, LibAnswer>
+    requires items { t.old ≡ [] }
+    ensures exact { (io : Io) → are_sizes (values_seen args.now) (0 ∷ 1 ∷ []) ≡ true → AreKnown m.old → Above 16777216 m.old.rows → Does given_value result t.new (store_of m.new io) (created_within (asked Calloc (values_seen args.now)) (store_of m.old io) (run (rows_made m.old (heap_name who) (asked Calloc (values_seen args.now))) (calloc (rows_made m.old (heap_name who) (asked Calloc (values_seen args.now))) who (asked Calloc (values_seen args.now))) (store_of m.old io))) }
+    ensures known { AreKnown m.old → OnOk result (AreKnown m.new) }
+    ensures same { OnErr result (result ≢ Err answers.NoMemory → m.new ≡ m.old) }
+{
+    zeroed(alloc, product(size_at(args, 0), size_at(args, 1)), who, m, t)
+}
+
+// calloc of so many bytes in all.
+fn zeroed(
+    alloc: Global,
+    size: u128,
+    who: Event,
+    m: &mut Memory,
+    t: &mut Touched,
+) -> Result<Value, LibAnswer>
+    requires items { t.old ≡ [] }
+    ensures exact { (io : Io) → AreKnown m.old → Above 16777216 m.old.rows → Does given_value result t.new (store_of m.new io) (created_within size (store_of m.old io) (run (rows_made m.old (heap_name who) size) (calloc (rows_made m.old (heap_name who) size) who size) (store_of m.old io))) }
+    ensures known { AreKnown m.old → OnOk result (AreKnown m.new) }
+    ensures same { OnErr result (result ≢ Err answers.NoMemory → m.new ≡ m.old) }
+{
+    let Some(size) = given(size) else {
         return Ok(Pointer::NULL.value());
     };
     check_created(m, size)?;
     let name = name_of(who);
+    add_zeroed(name, size, t)?;
     let mut scratch = Touched::new(alloc)?;
     let zeros = filled(alloc, 0, size)?;
+    let new = created(m, name, size, &mut scratch)?;
+    fill(m, name, new.addr, Via::Bytes, &zeros, &mut scratch);
+    Ok(new.value())
+}
+
+// The items of a new object that is written whole.
+fn add_zeroed(name: ObjName, size: u64, t: &mut Touched) -> Result<(), NoMemory>
+    ensures { OnOk result (t.new ≡ t.old ++ (Born name ∷ Alive name ∷ Write name 0 size ∷ [])) }
+{
     t.add(Item::Born(name))?;
     t.add(Item::Alive(name))?;
     t.add(Item::Write {
         object: name,
         from: 0,
         len: size,
-    })?;
-    let new = created(m, name, size, &mut scratch)?;
-    put(m, name, 0, Via::Bytes, &zeros, &mut scratch)?;
-    Ok(new.value())
+    })
+}
+
+// Stores the bytes at the start of a new object, which refuses none.
+fn fill(
+    m: &mut Memory,
+    object: ObjName,
+    addr: u64,
+    via: Via,
+    block: &Block,
+    scratch: &mut Touched,
+)
+    ensures exact { IsShort via (length block.now.cells) → (seen : Seen) → Sees m.old via seen → IsNewAt m.old object addr (length (tagged_all m.old block.now.cells)) → (io : Io) → store_of m.new io ≡ with_bytes (store_of m.old io) object 0 (stored_from None seen 0 (tagged_all m.old block.now.cells)) }
+    ensures known { AreKnown m.old → CellsKnown (length m.old.origins) block.now.cells → AreKnown m.new }
+{
+    let _ = m.store(true, via, 1, addr, Prov::Whole(object), block, scratch);
 }
 
 // Whether the object is a live one of the heap that begins at the address; its size then.
