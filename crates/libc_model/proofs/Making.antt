@@ -1,5 +1,5 @@
 -- Lemmas on new objects: what a creation does, where the object stands, and how bytes get into it.
-use Rattle.std.proofs.Common.{◌≡◌, ℕ, zero, suc, ◌+◌, ◌-◌, ◌*◌, ◌%◌, ◌/◌, ◌<◌, ◌≤◌, ◌==◌, Bool, true, false, ◌&&◌, ◌||◌, cond, List, [], ◌∷◌, ◌++◌, length, map, refl, ap, ap₂, sym, subst, ◌∙◌, arith, eq-eqb, Option, Some, None}
+use Rattle.std.proofs.Common.{◌≡◌, ◌≢◌, ℕ, zero, suc, ◌+◌, ◌-◌, ◌*◌, ◌%◌, ◌/◌, ◌<◌, ◌≤◌, ◌==◌, Bool, true, false, ◌&&◌, ◌||◌, cond, List, [], ◌∷◌, ◌++◌, length, map, refl, ap, ap₂, sym, subst, ◌∙◌, arith, eq-eqb, Option, Some, None}
 use Rattle.std.specs.Prelude.{Result, Ok, Err, OnOk, IfErr, nat_le, nat_lt, ◌^◌, max, replicate, is_some, not}
 use Rattle.std.proofs.lemmas.Bool.Decides.{nat_tests}
 use Rattle.std.proofs.lemmas.List.{length-replicate}
@@ -25,6 +25,7 @@ use Rattle.prov_memory.specs.declared.answer.LibAnswer.{LibAnswer}
 use Rattle.prov_memory.specs.declared.answer.LibAnswer.TheVariants as answers
 use Rattle.prov_memory.specs.declared.cell.Cell.{Cell}
 use Rattle.prov_memory.specs.declared.cell.Via.{Via}
+use Rattle.prov_memory.specs.declared.cell.Via.TheVariants as vias
 use Rattle.prov_memory.specs.declared.value.Value.TheVariants.{Ptr}
 use Rattle.prov_memory.specs.Store.{Store, Life, TaggedByte, born, with_bytes, is_live}
 use Rattle.prov_memory.specs.Script.{Ask, Put, Bear, Script, Give, Misplace, touch, ◌>>=◌, ◌>>◌, Act, Done, Raised, Ended, Outside, Unplaced, run}
@@ -41,7 +42,7 @@ use Rattle.libc_model.specs.declared.arguments.Pointer.{Pointer}
 use Rattle.libc_model.specs.Answers.{Does, given_value}
 use Rattle.libc_model.specs.Making.{new_life, rows_made, IsNewAt}
 use Rattle.libc_model.proofs.Scripts.{then, behind, run_then, behind_done}
-use Rattle.libc_model.proofs.Allocating.{does_same, based, limit_kept}
+use Rattle.libc_model.proofs.Allocating.{does_same, based, limit_kept, limit_of}
 
 -- ---- what a creation does
 pub record IsNew (rows : List Row) (x : ObjName) (n b : ℕ) (is : List Item) (s t : Store) : Type 0 where
@@ -276,3 +277,68 @@ calloc_then rows who n s e =
 pub calloc_is : (rows : List Row) (who : Event) (n : ℕ) (s : Store) → is_given n ≡ true → nat_lt (2 ^ 26) (created_with s n) ≡ false →
     created_within n s (run rows (calloc rows who n) s) ≡ then (run rows (new_object rows who n) s) (zeroed (heap_name who) n)
 calloc_is rows who n s e h = limit_kept n s (run rows (calloc rows who n) s) e h ∙ calloc_then rows who n s e
+
+abbrev pub Fills : Kept → Kept → Via → ObjName → ℕ → List Cell → Type 0
+Fills m new via x a cs = IsShort via (length cs) → (seen : Seen) → Sees m via seen → IsNewAt m x a (length (tagged_all m cs)) → (io : Io) → store_of new io ≡ with_bytes (store_of m io) x 0 (stored_from None seen 0 (tagged_all m cs))
+
+zeroed_items : (x : ObjName) (k : ℕ) (old is items : List Item) → old ≡ [] → items ≡ old ++ (Born x ∷ Alive x ∷ Write x 0 k ∷ []) → is ≡ Born x ∷ [] → items ≡ is ++ (Alive x ∷ Write x 0 (length (replicate k (plain 0))) ∷ [])
+zeroed_items x k old is items none noted first =
+    noted ∙ ap (λ (os : List Item). os ++ (Born x ∷ Alive x ∷ Write x 0 k ∷ [])) none ∙ ap (λ (j : ℕ). Born x ∷ Alive x ∷ Write x 0 j ∷ []) (sym (length-replicate k (plain 0)))
+    ∙ ap (λ (is : List Item). is ++ (Alive x ∷ Write x 0 (length (replicate k (plain 0))) ∷ [])) (sym first)
+
+same_most : (k n : ℕ) → k ≡ n → k ≤ n
+same_most k n e = omega (arith, e)
+
+zeroed_value : (m mid new : Kept) (x : ObjName) (k : ℕ) (p : Pointer) (is old items : List Item) (io : Io) → Above 16777216 mid.rows → Fills mid new vias.Bytes x p.addr (map plain_cell (replicate k 0)) →
+    old ≡ [] → items ≡ old ++ (Born x ∷ Alive x ∷ Write x 0 k ∷ []) → Does (based x) (Ok p) is (store_of mid io) (run mid.rows (create mid.rows x k 16 heap_kind None) (store_of m io)) →
+    Does given_value (Ok (Ptr p.addr p.prov)) items (store_of new io) (then (run mid.rows (create mid.rows x k 16 heap_kind None) (store_of m io)) (zeroed x k))
+zeroed_value m mid new x k p is old items io above fills none noted does =
+    let made = is_new mid.rows x k p is (store_of m io) (store_of mid io) does in
+    let at = new_at mid x k p.addr (length (tagged_all mid (map plain_cell (replicate k 0)))) is (store_of m io) io made above (same_most _ k (zeros_length mid k)) in
+    then_value x p is (Alive x ∷ Write x 0 (length (replicate k (plain 0))) ∷ []) items (store_of mid io) (store_of new io) (run mid.rows (create mid.rows x k 16 heap_kind None) (store_of m io)) (λ u. with_bytes u x 0 (replicate k (plain 0))) does
+    (zeroed_items x k old is items none noted made.items)
+    (fills tt bytes tt at io ∙ ap (with_bytes (store_of mid io) x 0) (zeros_stored mid k))
+
+-- the object is made, and its bytes are zeros
+pub calloc_done : (m mid new : Kept) (who : Event) (n k : ℕ) (x : ObjName) (p : Pointer) (is old items : List Item) (cs : List Cell) (io : Io) → k ≡ n → x ≡ heap_name who → is_given n ≡ true → nat_lt (2 ^ 26) (created_with (store_of m io) k) ≡ false →
+    mid.rows ≡ rows_made m x k → Above 16777216 m.rows → cs ≡ map plain_cell (replicate k 0) → Fills mid new vias.Bytes x p.addr cs → old ≡ [] → items ≡ old ++ (Born x ∷ Alive x ∷ Write x 0 k ∷ []) →
+    Does (based x) (Ok p) is (store_of mid io) (run mid.rows (create mid.rows x k 16 heap_kind None) (store_of m io)) →
+    Does given_value (Ok (Ptr p.addr p.prov)) items (store_of new io) (created_within n (store_of m io) (run (rows_made m (heap_name who) n) (calloc (rows_made m (heap_name who) n) who n) (store_of m io)))
+calloc_done m mid new who n k x p is old items cs io size name given limit rows above zeros fills none noted does =
+    let high : Above 16777216 mid.rows = subst (λ (rs : List Row). Above 16777216 rs) (sym rows) (rows_above m x k above) in
+    let value = zeroed_value m mid new x k p is old items io high (subst (λ (bs : List Cell). Fills mid new vias.Bytes x p.addr bs) zeros fills) none noted does in
+    let there = subst (λ (rs : List Row). Does given_value (Ok (Ptr p.addr p.prov)) items (store_of new io) (then (run rs (create rs x k 16 heap_kind None) (store_of m io)) (zeroed x k))) rows value in
+    let asked = subst (λ (j : ℕ). Does given_value (Ok (Ptr p.addr p.prov)) items (store_of new io) (then (run (rows_made m x j) (create (rows_made m x j) x j 16 heap_kind None) (store_of m io)) (zeroed x j))) size there in
+    let named = subst (λ (y : ObjName). Does given_value (Ok (Ptr p.addr p.prov)) items (store_of new io) (then (run (rows_made m y n) (create (rows_made m y n) y n 16 heap_kind None) (store_of m io)) (zeroed y n))) name asked in
+    does_same given_value (Ok (Ptr p.addr p.prov)) items (store_of new io) (created_within n (store_of m io) (run (rows_made m (heap_name who) n) (calloc (rows_made m (heap_name who) n) who n) (store_of m io)))
+    (then (run (rows_made m (heap_name who) n) (new_object (rows_made m (heap_name who) n) who n) (store_of m io)) (zeroed (heap_name who) n))
+    (calloc_is (rows_made m (heap_name who) n) who n (store_of m io) given (limit_of n k (store_of m io) size limit)) named
+
+failed_there : (m mid : Kept) (who : Event) (n k : ℕ) (x : ObjName) (a : LibAnswer) (is items : List Item) (t : Store) (io : Io) → k ≡ n → x ≡ heap_name who → is_given n ≡ true → nat_lt (2 ^ 26) (created_with (store_of m io) k) ≡ false →
+    mid.rows ≡ rows_made m x k → Does (based x) (Err a) is (store_of mid io) (run mid.rows (create mid.rows x k 16 heap_kind None) (store_of m io)) →
+    Does given_value (Err a) items t (created_within n (store_of m io) (run (rows_made m (heap_name who) n) (calloc (rows_made m (heap_name who) n) who n) (store_of m io)))
+failed_there m mid who n k x a is items t io size name given limit rows does =
+    let there = subst (λ (rs : List Row). Does (based x) (Err a) is (store_of mid io) (run rs (create rs x k 16 heap_kind None) (store_of m io))) rows does in
+    let asked = subst (λ (j : ℕ). Does (based x) (Err a) is (store_of mid io) (run (rows_made m x j) (create (rows_made m x j) x j 16 heap_kind None) (store_of m io))) size there in
+    let named = subst (λ (y : ObjName). Does (based y) (Err a) is (store_of mid io) (run (rows_made m y n) (create (rows_made m y n) y n 16 heap_kind None) (store_of m io))) name asked in
+    does_same given_value (Err a) items t (created_within n (store_of m io) (run (rows_made m (heap_name who) n) (calloc (rows_made m (heap_name who) n) who n) (store_of m io)))
+    (then (run (rows_made m (heap_name who) n) (new_object (rows_made m (heap_name who) n) who n) (store_of m io)) (zeroed (heap_name who) n))
+    (calloc_is (rows_made m (heap_name who) n) who n (store_of m io) given (limit_of n k (store_of m io) size limit))
+    (then_fault (heap_name who) a is items (store_of mid io) t (run (rows_made m (heap_name who) n) (new_object (rows_made m (heap_name who) n) who n) (store_of m io)) (zeroed (heap_name who) n) named)
+
+abbrev pub unmade : LibAnswer → Result Pointer LibAnswer
+unmade a = Err a
+
+-- it isn't made
+pub calloc_failed : (m mid : Kept) (who : Event) (n k : ℕ) (x : ObjName) (a : LibAnswer) (is items : List Item) (t : Store) (io : Io) → k ≡ n → x ≡ heap_name who → is_given n ≡ true → nat_lt (2 ^ 26) (created_with (store_of m io) k) ≡ false →
+    (unmade a ≢ Err answers.NoMemory → mid.rows ≡ rows_made m x k) → Does (based x) (Err a) is (store_of mid io) (run mid.rows (create mid.rows x k 16 heap_kind None) (store_of m io)) →
+    Does given_value (Err a) items t (created_within n (store_of m io) (run (rows_made m (heap_name who) n) (calloc (rows_made m (heap_name who) n) who n) (store_of m io)))
+calloc_failed m mid who n k x answers.NoMemory is items t io size name given limit rows does = tt
+calloc_failed m mid who n k x a is items t io size name given limit rows does =
+    failed_there m mid who n k x a is items t io size name given limit (rows (λ e. absurd (cc))) does
+
+pub made_value : (p : Pointer) → Ok p ≢ Err answers.NoMemory
+made_value p e = absurd (cc)
+
+pub zeros_in : (k n : ℕ) (cs : List Cell) → cs ≡ map plain_cell (replicate n 0) → CellsKnown k cs
+zeros_in k n cs e = subst (λ (bs : List Cell). CellsKnown k bs) (sym e) (zeros_known k n)
