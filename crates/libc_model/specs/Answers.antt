@@ -1,6 +1,9 @@
 -- What a call answers, against the act that the definitions give it.
 use Rattle.std.specs.Prelude.{◌≡◌, ℕ, ◌≤◌, ◌^◌, min, Bool, true, false, ◌&&◌, List, [], ◌∷◌, length, Result, Ok, Err}
+use Rattle.ub_base.specs.declared.names.Event.{Event}
 use Rattle.ub_base.specs.declared.names.Item.{Item}
+use Rattle.addr_map.specs.declared.map.Row.{Row}
+use Rattle.addr_map.specs.Sound.{Above}
 use Rattle.c_types.specs.declared.kind.IntKind.TheVariants.{ULong}
 use Rattle.c_types.specs.Kinds.{holds}
 use Rattle.c_types.specs.declared.library.LibFunc.{LibFunc}
@@ -13,7 +16,8 @@ use Rattle.prov_memory.specs.Store.{Store}
 use Rattle.prov_memory.specs.Script.{Act, Done, Raised, Ended, Outside, Unplaced}
 use Rattle.prov_memory.specs.Streams.{Io}
 use Rattle.prov_memory.specs.Memory.{Kept, AreKnown, HasCell}
-use Rattle.libc_spec.specs.Library.{LibValue, number, pointer, nothing, argument_at, integer_in, prov_in}
+use Rattle.libc_spec.specs.Library.{LibValue, number, pointer, nothing, argument_at, integer_in, prov_in, asked, heap_name}
+use Rattle.libc_model.specs.Making.{rows_made}
 
 -- a value of the definitions as one of a run
 abbrev pub given_value : LibValue → Value
@@ -73,16 +77,28 @@ abbrev pub HaveCells : Kept → List LibValue → Type 0
 HaveCells m [] = Unit {0}
 HaveCells m (v ∷ vs) = HasCell m (prov_in v) × HaveCells m vs
 
+-- no row begins below 16,777,216, which each map keeps, where a call stores to a new object
+abbrev pub StandHigh : LibFunc → List Row → Type 0
+StandHigh Calloc rows = Above 16777216 rows
+StandHigh f rows = Unit {0}
+
 -- memory, streams and arguments as they are in a run: sizes are values of size_t
 pub record IsCall (f : LibFunc) (vs : List LibValue) (m : Kept) (io : Io) : Type 0 where
   pub known : AreKnown m
   pub streams : AreWithin io
   pub sizes : are_sizes vs (size_places f) ≡ true
   pub cells : HaveCells m vs
+  pub high : StandHigh f m.rows
+
+-- the rows under which a call is its definition: those of the memory after it; of calloc those that its new object makes of the earlier ones
+abbrev pub rows_under : LibFunc → List LibValue → Event → Kept → List Row → List Row
+rows_under Calloc vs who m rows = rows_made m (heap_name who) (asked Calloc vs)
+rows_under f vs who m rows = rows
 
 -- the functions whose calls are shown to be those of the definitions
 abbrev pub is_exact : LibFunc → Bool
 is_exact Malloc = true
+is_exact Calloc = true
 is_exact Free = true
 is_exact Strlen = true
 is_exact Strcmp = true
@@ -94,10 +110,12 @@ is_exact Exit = true
 is_exact Abort = true
 is_exact _ = false
 
--- an answer after which memory and streams are as before; a malloc that wants memory may leave the row of its object
+-- an answer after which memory and streams are as before; an allocation that wants memory may leave the row of its object
 abbrev pub leaves_all : LibAnswer → LibFunc → Bool
 leaves_all (answers.Value v) f = false
 leaves_all answers.NoMemory Malloc = false
+leaves_all answers.NoMemory Calloc = false
+leaves_all answers.NoMemory Realloc = false
 leaves_all answer f = true
 
 abbrev pub gives_value : LibAnswer → Bool
