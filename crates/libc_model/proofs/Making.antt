@@ -50,6 +50,7 @@ pub record IsNew (rows : List Row) (x : ObjName) (n b : ℕ) (is : List Item) (s
   pub store : t ≡ born s x n heap_kind None
   pub base : b ≡ base_in (row_of rows x)
   pub place : has_place (row_of rows x) n 16 ≡ true
+  pub absent : is_some (s.life x) ≡ false
 
 done_base : (a b : ℕ) (is js : List Item) (s t : Store) → Done a js s ≡ Done b is t → b ≡ a
 done_base a b is js s t e = cc
@@ -61,10 +62,10 @@ done_left : {V : Type 0} (a b : V) (is js : List Item) (s t : Store) → Done a 
 done_left a b is js s t e = cc
 
 born_if : (q : Bool) (x : ObjName) (n a b : ℕ) (is : List Item) (s t : Store) → cond q Unplaced (Done a (Born x ∷ []) (born s x n heap_kind None)) ≡ Done b is t →
-    (is ≡ Born x ∷ []) × (t ≡ born s x n heap_kind None) × (b ≡ a)
+    (is ≡ Born x ∷ []) × (t ≡ born s x n heap_kind None) × (b ≡ a) × (q ≡ false)
 born_if true x n a b is s t e = absurd (cc)
 born_if false x n a b is s t e =
-    (done_items a b is (Born x ∷ []) (born s x n heap_kind None) t e, done_left a b is (Born x ∷ []) (born s x n heap_kind None) t e, done_base a b is (Born x ∷ []) (born s x n heap_kind None) t e)
+    (done_items a b is (Born x ∷ []) (born s x n heap_kind None) t e, done_left a b is (Born x ∷ []) (born s x n heap_kind None) t e, done_base a b is (Born x ∷ []) (born s x n heap_kind None) t e, refl)
 
 created_if : (p : Bool) (rows : List Row) (x : ObjName) (n a b : ℕ) (is : List Item) (s t : Store) → run rows (cond p (touch (Bear x n heap_kind None) >> Give a) Misplace) s ≡ Done b is t →
     (p ≡ true) × (cond (is_some (s.life x)) Unplaced (Done a (Born x ∷ []) (born s x n heap_kind None)) ≡ Done b is t)
@@ -75,7 +76,7 @@ created_is : (rows : List Row) (x : ObjName) (n b : ℕ) (is : List Item) (s t :
 created_is rows x n b is s t e =
     let p = created_if (has_place (row_of rows x) n 16) rows x n (base_in (row_of rows x)) b is s t e in
     let q = born_if (is_some (s.life x)) x n (base_in (row_of rows x)) b is s t p.1 in
-    record { items = q.0; store = q.1; base = q.2; place = p.0 }
+    record { items = q.0; store = q.1; base = q.2; place = p.0; absent = q.3 }
 
 -- an act whose value is based at the object
 done_by : (x : ObjName) (p : Pointer) (is : List Item) (t : Store) (act : Act ℕ) → Does (based x) (Ok p) is t act → act ≡ Done p.addr is t
@@ -98,7 +99,7 @@ above_row : (k : ℕ) (x : ObjName) (rows : List Row) (r : Row) → Above k rows
 above_row k x [] r h e = absurd (cc)
 above_row k x (s ∷ rows) r h e = above_if (same_object s.name x) k s r (row_of rows x) h.0 (λ f. above_row k x rows r h.1 f) e
 
-true_false : true ≡ false → ⊥
+pub true_false : true ≡ false → ⊥
 true_false e = absurd (cc)
 
 spaced_high : (n : ℕ) → 16777216 ≤ n → 16777216 ≤ (n + 16 + (16 - 1)) / 16 * 16
@@ -135,7 +136,7 @@ rows_unplaced m new x n able same =
     ap (λ (k : Kept). k.rows) same
     ∙ ap (λ (c : Bool). cond c m.rows (rows_with (row_of m.rows x) (row_at x (base_by (row_of m.rows x) m.mode m.rows 16) n 16) m.rows)) (sym able)
 
-both_left : (a b : Bool) → a && b ≡ true → a ≡ true
+pub both_left : (a b : Bool) → a && b ≡ true → a ≡ true
 both_left true b e = refl
 both_left false b e = absurd (cc)
 
@@ -182,11 +183,11 @@ within a b len size e h = grind (arith, nat_tests)
 aligned_all : (a : ℕ) → is_aligned 1 a ≡ true
 aligned_all a = eq-eqb (a % 1) 0 (omega arith)
 
-access_new : (rows : List Row) (x : ObjName) (r : Row) (a len : ℕ) (s : Store) → row_of rows x ≡ Some r → r.base ≡ a → 0 < a → len ≤ r.size → s.life x ≡ Some new_life →
+pub access_there : (rows : List Row) (x : ObjName) (r : Row) (a len : ℕ) (s : Store) → row_of rows x ≡ Some r → r.base ≡ a → 0 < a → len ≤ r.size → is_live (s.life x) ≡ true →
     run rows (access rows len 1 a (Whole x)) s ≡ Done (record { object = x; from = offset_in (row_of rows x) a; life = s.life x }) (Alive x ∷ []) s
-access_new rows x r a len s there base above room life =
+access_there rows x r a len s there base above room live =
     let z : (a == 0) ≡ false = not_null a above in
-    rw z (reaches rows len 1 a x s (ap is_live life) (ap (λ (o : Option Row). in_row o a len) there ∙ within a r.base len r.size base room) (aligned_all a))
+    rw z (reaches rows len 1 a x s live (ap (λ (o : Option Row). in_row o a len) there ∙ within a r.base len r.size base room) (aligned_all a))
 
 no_offset : (a b : ℕ) → b ≡ a → a - b ≡ 0
 no_offset a b e = omega (arith, e)
@@ -206,7 +207,7 @@ filled_run : (m : Kept) (x : ObjName) (a : ℕ) (seen : Seen) (bs : List TaggedB
 filled_run m x a seen bs io new =
     done_then m.rows (access m.rows (length bs) 1 a (Whole x)) (store_in true seen bs) (store_of m io) (store_of m io) (with_bytes (store_of m io) x 0 (stored_from None seen 0 bs))
     (record { object = x; from = offset_in (row_of m.rows x) a; life = life_in (held_of m.objects x) }) tt (Alive x ∷ []) (Write x 0 (length (stored_from None seen 0 bs)) ∷ [])
-    (access_new m.rows x new.row a (length bs) (store_of m io) new.there new.base new.above new.room new.life)
+    (access_there m.rows x new.row a (length bs) (store_of m io) new.there new.base new.above new.room (ap is_live new.life))
     (put_there m.rows x new.row a seen bs (store_of m io) new.there new.base new.life)
 
 abbrev pub Stores : Result (Unit {0}) Clause → Kept → Kept → Via → ObjName → ℕ → List Cell → List Item → Type 0
@@ -215,7 +216,7 @@ Stores r m new via x a cs is = OnOk r (HasCell m (Whole x) → IsShort via (leng
 abbrev pub Refuses : Result (Unit {0}) Clause → Kept → Via → ObjName → ℕ → List Cell → Type 0
 Refuses r m via x a cs = IfErr r (λ c. (seen : Seen) → Sees m via seen → (io : Io) → run m.rows (store m.rows true seen 1 a (Whole x) (tagged_all m cs)) (store_of m io) ≡ Raised c)
 
-not_raised : {V : Type 0} (v : V) (is : List Item) (s : Store) (c : Clause) → Done v is s ≡ Raised c → ⊥
+pub not_raised : {V : Type 0} (v : V) (is : List Item) (s : Store) (c : Clause) → Done v is s ≡ Raised c → ⊥
 not_raised v is s c e = absurd (cc)
 
 -- a new object takes the bytes

@@ -1,16 +1,23 @@
 -- New objects of calloc and realloc as a memory makes them (own).
-use Rattle.std.specs.Prelude.{◌≡◌, ℕ, zero, suc, ◌<◌, ◌≤◌, Bool, true, false, List, Option, Some, None, if◌then◌else◌}
+use Rattle.std.specs.Prelude.{◌≡◌, ◌≢◌, ℕ, ◌<◌, ◌≤◌, true, List, Option, Some, None, Result, if◌then◌else◌}
+use Rattle.ub_base.specs.declared.clause.Clause.{Clause}
+use Rattle.ub_base.specs.declared.names.Event.{Event}
+use Rattle.ub_base.specs.declared.names.Item.{Item}
 use Rattle.ub_base.specs.declared.names.ObjName.{ObjName}
 use Rattle.addr_map.specs.declared.map.Row.{Row}
 use Rattle.addr_map.specs.Rows.{row_of, row_at}
 use Rattle.exposure.specs.declared.prov.Prov.{Prov}
 use Rattle.exposure.specs.declared.prov.Prov.TheVariants.{Empty, Whole, Either}
 use Rattle.exposure.specs.Cells.{Cells, kept_in, is_other}
-use Rattle.prov_memory.specs.Store.{Life}
+use Rattle.prov_memory.specs.declared.answer.LibAnswer.{LibAnswer}
+use Rattle.prov_memory.specs.declared.answer.LibAnswer.TheVariants as answers
+use Rattle.prov_memory.specs.Store.{Life, Store}
+use Rattle.prov_memory.specs.Script.{Act}
+use Rattle.prov_memory.specs.Streams.{Io}
 use Rattle.prov_memory.specs.Held.{held_of}
 use Rattle.prov_memory.specs.Memory.{Kept, life_in, cannot_create, base_by, rows_with}
 use Rattle.prov_memory.specs.Made.{Settling}
-use Rattle.libc_spec.specs.Library.{heap_kind, is_heap_start}
+use Rattle.libc_spec.specs.Library.{is_given, heap_kind, heap_name, is_heap_start}
 
 -- an allocated object as it begins
 abbrev pub new_life : Life
@@ -42,3 +49,18 @@ start_if m a (Some p) = if is_heap_start (row_of m.rows p.0) a (life_in (held_of
 -- the same where a live heap object begins at the address
 abbrev pub heap_start_in : Kept → ℕ → Prov → Option (ObjName × Settling)
 heap_start_in m a prov = start_if m a (start_in m.cells prov)
+
+-- a live heap object begins at the address
+pub record IsStart (m : Kept) (x : ObjName) (a : ℕ) : Type 0 where
+  pub there : a ≢ 0
+  pub begins : is_heap_start (row_of m.rows x) a (life_in (held_of m.objects x)) ≡ true
+
+-- the rows under which a realloc to so many bytes is its definition: those of the memory after it, or those that its new object makes
+abbrev pub rows_resized : Kept → List Row → Event → ℕ → List Row
+rows_resized m rows who n = if is_given n then rows_made m (heap_name who) n else rows
+
+-- the answer is undefined behaviour of a clause of which P holds
+abbrev pub IfRaised : LibAnswer → (Clause → Type 0) → Type 0
+IfRaised (answers.Raise c) P = P c
+IfRaised answers.NoMemory P = Unit {0}
+IfRaised answer P = ⊥
