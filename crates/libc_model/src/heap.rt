@@ -1,6 +1,6 @@
 // Allocation (7.22.3).
 
-ghost use Rattle.std.specs.Prelude.{◌≡◌, ◌≢◌, ◌+◌, ◌*◌, ◌^◌, ◌∷◌, ◌++◌, length, min, max, true, nat_lt, Some, None, Ok, Err, IfOk, IfErr, OnOk, OnErr, [], if◌then◌else◌};
+ghost use Rattle.std.specs.Prelude.{◌≡◌, ◌≢◌, ◌+◌, ◌*◌, ◌^◌, ◌∷◌, ◌++◌, length, min, max, true, false, nat_lt, Some, None, Ok, Err, IfOk, IfErr, OnOk, OnErr, [], if◌then◌else◌};
 ghost use Rattle.ub_base.specs.declared.clause.Cause.TheVariants.{Created};
 ghost use Rattle.ub_base.specs.declared.names.Item.TheVariants.{Read, Born, Alive, Write, Dies};
 ghost use Rattle.exposure.specs.declared.prov.Prov.TheVariants.{Whole, Either};
@@ -18,8 +18,9 @@ ghost use Rattle.prov_memory.specs.Streams.{Io};
 ghost use Rattle.addr_map.specs.Rows.{row_of};
 ghost use Rattle.addr_map.specs.Sound.{Above};
 ghost use Rattle.c_types.specs.declared.library.LibFunc.TheVariants.{Calloc};
-ghost use Rattle.libc_spec.specs.Library.{asked, is_given, is_heap_start, heap_name, heap_kind, malloc, calloc, free, created_within};
+ghost use Rattle.libc_spec.specs.Library.{asked, is_given, is_heap_start, heap_name, heap_kind, malloc, calloc, free, resized, created_within};
 ghost use Rattle.libc_model.specs.Seen.{values_seen};
+ghost use Rattle.libc_model.specs.Told.{IsTold};
 ghost use Rattle.libc_model.specs.Making.{rows_made, rows_resized, IsNewAt, IsStart, IfRaised, start_in, heap_start_in};
 ghost use Rattle.libc_model.specs.Answers.{Does, are_sizes, given_value};
 
@@ -375,19 +376,27 @@ fn resize(
     m: &mut Memory,
     t: &mut Touched,
 ) -> Result<Value, LibAnswer>
-    requires { t.old ≡ [] }
+    requires start { pointer.addr ≢ 0 }
+    requires some { size ≢ 0 }
+    requires items { t.old ≡ [] }
+    ensures told { (io : Io) → AreKnown m.old → IsTold result t.new io (created_within size (store_of m.old io) (run (rows_resized m.old m.new.rows who size) (resized (rows_resized m.old m.new.rows who size) who pointer.addr pointer.prov size) (store_of m.old io))) }
+    ensures unmoved { is_given size ≡ false → (io : Io) → HasCell m.old pointer.prov → Does given_value result t.new (store_of m.new io) (created_within size (store_of m.old io) (run m.new.rows (resized m.new.rows who pointer.addr pointer.prov size) (store_of m.old io))) }
+    ensures same { AreKnown m.old → OnErr result (result ≢ Err answers.NoMemory → m.new ≡ m.old) }
+    ensures sound { IsSound m.old → OnOk result (IsSound m.new) }
 {
     let Some((object, settles)) = heap_start(m, pointer) else {
         return Err(LibAnswer::Raise(Clause::Realloc));
     };
     add_start(object, settles, t)?;
-    let Some(size) = given(u128::from(size)) else {
+    if size > MOST {
         settle_start(m, settles);
         return Ok(Pointer::NULL.value());
-    };
+    }
     check_created(m, size)?;
-    let new = move_to(alloc, object, settles, pointer.addr, size, name_of(who), m, t)?;
-    Ok(new.value())
+    match move_to(alloc, object, settles, pointer.addr, size, name_of(who), m, t) {
+        Ok(new) => Ok(new.value()),
+        Err(answer) => Err(answer),
+    }
 }
 
 // The items of what is asked about the object that a pointer means.
