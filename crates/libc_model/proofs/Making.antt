@@ -26,6 +26,7 @@ use Rattle.prov_memory.specs.declared.answer.LibAnswer.TheVariants as answers
 use Rattle.prov_memory.specs.declared.cell.Cell.{Cell}
 use Rattle.prov_memory.specs.declared.cell.Via.{Via}
 use Rattle.prov_memory.specs.declared.cell.Via.TheVariants as vias
+use Rattle.prov_memory.specs.declared.value.Value.{Value}
 use Rattle.prov_memory.specs.declared.value.Value.TheVariants.{Ptr}
 use Rattle.prov_memory.specs.Store.{Store, Life, TaggedByte, born, with_bytes, is_live}
 use Rattle.prov_memory.specs.Script.{Ask, Put, Bear, Script, Give, Misplace, touch, ◌>>=◌, ◌>>◌, Act, Done, Raised, Ended, Outside, Unplaced, run}
@@ -37,12 +38,12 @@ use Rattle.prov_memory.specs.Memory.{Kept, HasCell, CellsKnown, store_of, life_i
 use Rattle.prov_memory.specs.Stores.{Sees, IsShort, tagged_all}
 use Rattle.prov_memory.proofs.AccessLemmas.{done_then, reaches}
 use Rattle.prov_memory.proofs.WriteLemmas.{store_in, tagged_length}
-use Rattle.libc_spec.specs.Library.{LibValue, pointer, plain, is_given, heap_name, heap_kind, new_object, calloc, created_with, created_within}
+use Rattle.libc_spec.specs.Library.{LibValue, pointer, plain, is_given, heap_name, heap_kind, new_object, malloc, calloc, created_with, created_within}
 use Rattle.libc_model.specs.declared.arguments.Pointer.{Pointer}
 use Rattle.libc_model.specs.Answers.{Does, given_value}
-use Rattle.libc_model.specs.Making.{new_life, rows_made, IsNewAt}
+use Rattle.libc_model.specs.Making.{new_life, rows_made, rows_resized, IsNewAt}
 use Rattle.libc_model.proofs.Scripts.{then, behind, run_then, behind_done}
-use Rattle.libc_model.proofs.Allocating.{does_same, based, limit_kept, limit_of}
+use Rattle.libc_model.proofs.Allocating.{does_same, based, limit_kept, limit_of, malloc_done, malloc_failed}
 
 -- ---- what a creation does
 pub record IsNew (rows : List Row) (x : ObjName) (n b : ℕ) (is : List Item) (s t : Store) : Type 0 where
@@ -343,3 +344,27 @@ made_value p e = absurd (cc)
 
 pub zeros_in : (k n : ℕ) (cs : List Cell) → cs ≡ map plain_cell (replicate n 0) → CellsKnown k cs
 zeros_in k n cs e = subst (λ (bs : List Cell). CellsKnown k bs) (sym e) (zeros_known k n)
+
+-- ---- malloc, under the rows that its object makes
+under_given : (r : Result Value LibAnswer) (is : List Item) (t : Store) (m : Kept) (after : List Row) (who : Event) (n : ℕ) (s : Store) → is_given n ≡ true →
+    Does given_value r is t (created_within n s (run (rows_made m (heap_name who) n) (malloc (rows_made m (heap_name who) n) who n) s)) →
+    Does given_value r is t (created_within n s (run (rows_resized m after who n) (malloc (rows_resized m after who n) who n) s))
+under_given r is t m after who n s given does =
+    subst (λ (b : Bool). Does given_value r is t (created_within n s (run (cond b (rows_made m (heap_name who) n) after) (malloc (cond b (rows_made m (heap_name who) n) after) who n) s))) (sym given) does
+
+pub malloc_made : (m mid : Kept) (after : List Row) (who : Event) (n k : ℕ) (x : ObjName) (s : Store) (p : Pointer) (is : List Item) (t : Store) → k ≡ n → x ≡ heap_name who → is_given n ≡ true → nat_lt (2 ^ 26) (created_with s k) ≡ false → mid.rows ≡ rows_made m x k →
+    Does (based x) (Ok p) is t (run mid.rows (create mid.rows x k 16 heap_kind None) s) →
+    Does given_value (Ok (Ptr p.addr p.prov)) is t (created_within n s (run (rows_resized m after who n) (malloc (rows_resized m after who n) who n) s))
+malloc_made m mid after who n k x s p is t size name given limit rows does =
+    let there : mid.rows ≡ rows_made m (heap_name who) n = rows ∙ ap (rows_made m x) size ∙ ap (λ (y : ObjName). rows_made m y n) name in
+    under_given (Ok (Ptr p.addr p.prov)) is t m after who n s given
+    (subst (λ (rs : List Row). Does given_value (Ok (Ptr p.addr p.prov)) is t (created_within n s (run rs (malloc rs who n) s))) there (malloc_done mid.rows who n k x s p is t size name given limit does))
+
+pub malloc_unmade : (m mid : Kept) (after : List Row) (who : Event) (n k : ℕ) (x : ObjName) (s : Store) (a : LibAnswer) (is : List Item) (t : Store) → k ≡ n → x ≡ heap_name who → is_given n ≡ true → nat_lt (2 ^ 26) (created_with s k) ≡ false → (unmade a ≢ Err answers.NoMemory → mid.rows ≡ rows_made m x k) →
+    Does (based x) (Err a) is t (run mid.rows (create mid.rows x k 16 heap_kind None) s) →
+    Does given_value (Err a) is t (created_within n s (run (rows_resized m after who n) (malloc (rows_resized m after who n) who n) s))
+malloc_unmade m mid after who n k x s answers.NoMemory is t size name given limit rows does = tt
+malloc_unmade m mid after who n k x s a is t size name given limit rows does =
+    let there : mid.rows ≡ rows_made m (heap_name who) n = rows (λ e. absurd (cc)) ∙ ap (rows_made m x) size ∙ ap (λ (y : ObjName). rows_made m y n) name in
+    under_given (Err a) is t m after who n s given
+    (subst (λ (rs : List Row). Does given_value (Err a) is t (created_within n s (run rs (malloc rs who n) s))) there (malloc_failed mid.rows who n k x s a is t size name given limit does))

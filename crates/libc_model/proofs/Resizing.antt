@@ -2,6 +2,7 @@
 use Rattle.std.proofs.Common.{◌≡◌, ◌≢◌, ℕ, zero, suc, ◌<◌, ◌≤◌, ◌==◌, Bool, true, false, ◌&&◌, ◌||◌, arith, cond, min, List, [], ◌∷◌, ◌++◌, length, refl, ap, ap₂, sym, subst, ◌∙◌, Option, Some, None}
 use Rattle.std.specs.Prelude.{Result, Ok, Err, is_some, nat_lt, ◌^◌}
 use Rattle.std.proofs.lemmas.Bool.Decides.{nat_tests}
+use Rattle.std.proofs.lemmas.List.{append-nil}
 use Rattle.ub_base.specs.declared.clause.Clause.{Clause}
 use Rattle.ub_base.specs.declared.clause.Clause.TheVariants.{Realloc as ReallocOfOther}
 use Rattle.ub_base.specs.declared.clause.Cause.TheVariants.{Created as PastCreated}
@@ -32,11 +33,11 @@ use Rattle.prov_memory.specs.Made.{Settling, CanSettle, after_settling, settling
 use Rattle.prov_memory.proofs.AccessLemmas.{done_then}
 use Rattle.prov_memory.proofs.BlockLemmas.{block_in}
 use Rattle.prov_memory.proofs.StoreLemmas.{inserted_other}
-use Rattle.libc_spec.specs.Library.{LibValue, heap_kind, pointer, null, is_given, is_heap_start, heap_name, new_object, start_object, moved, resized, created_with, created_within}
+use Rattle.libc_spec.specs.Library.{LibValue, heap_kind, pointer, null, is_given, is_heap_start, heap_name, new_object, start_object, malloc, free, moved, resized, realloc, created_with, created_within}
 use Rattle.libc_model.specs.declared.arguments.Pointer.{Pointer}
 use Rattle.libc_model.specs.Answers.{Does, given_value}
 use Rattle.libc_model.specs.Told.{HasStreams, IsTold}
-use Rattle.libc_model.specs.Making.{new_life, rows_made, rows_resized, IsStart, IfRaised, start_in, start_if, heap_start_in}
+use Rattle.libc_model.specs.Making.{new_life, rows_made, rows_resized, released, IsStart, IfRaised, start_in, start_if, heap_start_in}
 use Rattle.libc_model.proofs.Scripts.{then, behind, run_then, behind_done}
 use Rattle.libc_model.proofs.Allocating.{does_same, based, limit_kept}
 use Rattle.libc_model.proofs.Making.{true_false, both_left, is_new, access_there, not_raised, unmade}
@@ -546,3 +547,67 @@ same_unmade a b e = cc
 
 pub not_wanting : (a : LibAnswer) → no_value a ≢ no_value answers.NoMemory → unmade a ≢ unmade answers.NoMemory
 not_wanting a h e = h (ap no_value (same_unmade a answers.NoMemory e))
+
+-- ---- realloc to no bytes
+null_by : (v : Value) (is : List Item) (t : Store) (act : Act (Unit {0})) → v ≡ Ptr 0 Empty → Does (λ u. u) (Ok tt) is t act → Does given_value (Ok v) is t (then act (λ w u. Done null [] u))
+null_by v is t (Done w js u) value h = does_same given_value (Ok v) is t (behind js (Done null [] u)) (Done null (js ++ []) u) (behind_done js [] null u) (value, h.1 ∙ sym (append-nil js), h.2)
+null_by v is t act value h = absurd h
+
+pub released_null : (rows : List Row) (a : ℕ) (prov : Prov) (v : Value) (is : List Item) (s t : Store) → v ≡ Ptr 0 Empty → Does (λ u. u) (Ok tt) is t (run rows (free rows a prov ReallocOfOther) s) → Does given_value (Ok v) is t (run rows (released rows a prov) s)
+released_null rows a prov v is s t value h =
+    does_same given_value (Ok v) is t (run rows (released rows a prov) s) (then (run rows (free rows a prov ReallocOfOther) s) (λ w u. Done null [] u)) (run_then rows (free rows a prov ReallocOfOther) (λ w. Give null) s) (null_by v is t (run rows (free rows a prov ReallocOfOther) s) value h)
+
+fault_null : (b : LibAnswer) (is : List Item) (t : Store) (act : Act (Unit {0})) → Does {A = Unit {0}} {B = Unit {0}} (λ u. u) (Err b) is t act → Does given_value (Err b) is t (then act (λ w u. Done null [] u))
+fault_null answers.NoMemory is t act h = tt
+fault_null (answers.Raise c) is t (Raised d) h = h
+fault_null (answers.Outside c n) is t (Outside d k) h = h
+fault_null answers.Unplaced is t Unplaced h = tt
+fault_null b is t act h = absurd h
+
+pub released_fault : (rows : List Row) (a : ℕ) (prov : Prov) (b : LibAnswer) (is : List Item) (s t : Store) → Does {A = Unit {0}} {B = Unit {0}} (λ u. u) (Err b) is t (run rows (free rows a prov ReallocOfOther) s) → Does given_value (Err b) is t (run rows (released rows a prov) s)
+released_fault rows a prov b is s t h =
+    does_same given_value (Err b) is t (run rows (released rows a prov) s) (then (run rows (free rows a prov ReallocOfOther) s) (λ w u. Done null [] u)) (run_then rows (free rows a prov ReallocOfOther) (λ w. Give null) s) (fault_null b is t (run rows (free rows a prov ReallocOfOther) s) h)
+
+-- ---- realloc by its pointer and its size
+realloc_null : (rows : List Row) (who : Event) (a : ℕ) (prov : Prov) (n : ℕ) → a ≡ 0 → malloc rows who n ≡ realloc rows who a prov n
+realloc_null rows who zero prov n e = refl
+realloc_null rows who (suc a) prov n e = absurd (cc)
+
+realloc_none : (rows : List Row) (who : Event) (a : ℕ) (prov : Prov) → a ≢ 0 → released rows a prov ≡ realloc rows who a prov 0
+realloc_none rows who zero prov some = absurd (some refl)
+realloc_none rows who (suc a) prov some = refl
+
+realloc_some : (rows : List Row) (who : Event) (a : ℕ) (prov : Prov) (n : ℕ) → a ≢ 0 → n ≢ 0 → resized rows who a prov n ≡ realloc rows who a prov n
+realloc_some rows who zero prov n some more = absurd (some refl)
+realloc_some rows who (suc a) prov zero some more = absurd (more refl)
+realloc_some rows who (suc a) prov (suc n) some more = refl
+
+abbrev pub changing : Kept → Io → List Row → Event → ℕ → Prov → ℕ → Act LibValue
+changing m io rows who a prov n = created_within n (store_of m io) (run rows (realloc rows who a prov n) (store_of m io))
+
+pub null_changes : (r : Result Value LibAnswer) (is : List Item) (t : Store) (m : Kept) (io : Io) (rows : List Row) (who : Event) (a : ℕ) (prov : Prov) (n : ℕ) → a ≡ 0 →
+    Does given_value r is t (created_within n (store_of m io) (run rows (malloc rows who n) (store_of m io))) → Does given_value r is t (changing m io rows who a prov n)
+null_changes r is t m io rows who a prov n e h =
+    subst (λ (q : Script LibValue). Does given_value r is t (created_within n (store_of m io) (run rows q (store_of m io)))) (realloc_null rows who a prov n e) h
+
+limit_none : (s : Store) (act : Act LibValue) → created_within 0 s act ≡ act
+limit_none s (Raised c) = refl
+limit_none s (Done v is u) = refl
+limit_none s (Ended k is u) = refl
+limit_none s (Outside c k) = refl
+limit_none s Unplaced = refl
+
+none_changes_by : (r : Result Value LibAnswer) (is : List Item) (t : Store) (m : Kept) (io : Io) (after : List Row) (who : Event) (a : ℕ) (prov : Prov) → a ≢ 0 →
+    Does given_value r is t (run after (released after a prov) (store_of m io)) → Does given_value r is t (changing m io (rows_resized m after who 0) who a prov 0)
+none_changes_by r is t m io after who a prov some h =
+    does_same given_value r is t (changing m io (rows_resized m after who 0) who a prov 0) (run after (released after a prov) (store_of m io))
+    (limit_none (store_of m io) (run after (realloc after who a prov 0) (store_of m io)) ∙ ap (λ (q : Script LibValue). run after q (store_of m io)) (sym (realloc_none after who a prov some))) h
+
+pub none_changes : (r : Result Value LibAnswer) (is : List Item) (t : Store) (m : Kept) (io : Io) (after : List Row) (who : Event) (a : ℕ) (prov : Prov) (n : ℕ) → a ≢ 0 → n ≡ 0 →
+    Does given_value r is t (run after (released after a prov) (store_of m io)) → Does given_value r is t (changing m io (rows_resized m after who n) who a prov n)
+none_changes r is t m io after who a prov n some none h =
+    subst (λ (k : ℕ). Does given_value r is t (changing m io (rows_resized m after who k) who a prov k)) (sym none) (none_changes_by r is t m io after who a prov some h)
+
+pub told_changes : (r : Result Value LibAnswer) (is : List Item) (m : Kept) (io : Io) (rows : List Row) (who : Event) (a : ℕ) (prov : Prov) (n : ℕ) → a ≢ 0 → n ≢ 0 → IsTold r is io (resizing m io rows who a prov n) → IsTold r is io (changing m io rows who a prov n)
+told_changes r is m io rows who a prov n some more h =
+    subst (λ (q : Script LibValue). IsTold r is io (created_within n (store_of m io) (run rows q (store_of m io)))) (realloc_some rows who a prov n some more) h

@@ -1,6 +1,7 @@
 -- New objects of calloc and realloc as a memory makes them (own).
-use Rattle.std.specs.Prelude.{◌≡◌, ◌≢◌, ℕ, ◌<◌, ◌≤◌, true, List, Option, Some, None, Result, if◌then◌else◌}
+use Rattle.std.specs.Prelude.{◌≡◌, ◌≢◌, ℕ, ◌<◌, ◌≤◌, ◌==◌, Bool, true, not, ◌&&◌, List, Option, Some, None, Result, if◌then◌else◌}
 use Rattle.ub_base.specs.declared.clause.Clause.{Clause}
+use Rattle.ub_base.specs.declared.clause.Clause.TheVariants.{Realloc as ReallocOfOther}
 use Rattle.ub_base.specs.declared.names.Event.{Event}
 use Rattle.ub_base.specs.declared.names.Item.{Item}
 use Rattle.ub_base.specs.declared.names.ObjName.{ObjName}
@@ -12,12 +13,12 @@ use Rattle.exposure.specs.Cells.{Cells, kept_in, is_other}
 use Rattle.prov_memory.specs.declared.answer.LibAnswer.{LibAnswer}
 use Rattle.prov_memory.specs.declared.answer.LibAnswer.TheVariants as answers
 use Rattle.prov_memory.specs.Store.{Life, Store}
-use Rattle.prov_memory.specs.Script.{Act}
+use Rattle.prov_memory.specs.Script.{Script, Give, ◌>>=◌, ◌>>◌}
 use Rattle.prov_memory.specs.Streams.{Io}
 use Rattle.prov_memory.specs.Held.{held_of}
 use Rattle.prov_memory.specs.Memory.{Kept, life_in, cannot_create, base_by, rows_with}
 use Rattle.prov_memory.specs.Made.{Settling}
-use Rattle.libc_spec.specs.Library.{is_given, heap_kind, heap_name, is_heap_start}
+use Rattle.libc_spec.specs.Library.{LibValue, null, free, is_given, heap_kind, heap_name, is_heap_start}
 
 -- an allocated object as it begins
 abbrev pub new_life : Life
@@ -64,3 +65,11 @@ abbrev pub IfRaised : LibAnswer → (Clause → Type 0) → Type 0
 IfRaised (answers.Raise c) P = P c
 IfRaised answers.NoMemory P = Unit {0}
 IfRaised answer P = ⊥
+
+-- a realloc of this address to so many bytes makes a new object of an old one, unless it is refused
+abbrev pub moves : ℕ → ℕ → Bool
+moves a n = not (a == 0) && is_given n
+
+-- a realloc to no bytes
+abbrev pub released : List Row → ℕ → Prov → Script LibValue
+released rows a prov = free rows a prov ReallocOfOther >> Give null

@@ -18,10 +18,10 @@ ghost use Rattle.prov_memory.specs.Streams.{Io};
 ghost use Rattle.addr_map.specs.Rows.{row_of};
 ghost use Rattle.addr_map.specs.Sound.{Above};
 ghost use Rattle.c_types.specs.declared.library.LibFunc.TheVariants.{Calloc};
-ghost use Rattle.libc_spec.specs.Library.{asked, is_given, is_heap_start, heap_name, heap_kind, malloc, calloc, free, resized, created_within};
+ghost use Rattle.libc_spec.specs.Library.{asked, is_given, is_heap_start, heap_name, heap_kind, malloc, calloc, free, realloc, resized, created_within};
 ghost use Rattle.libc_model.specs.Seen.{values_seen};
 ghost use Rattle.libc_model.specs.Told.{IsTold};
-ghost use Rattle.libc_model.specs.Making.{rows_made, rows_resized, IsNewAt, IsStart, IfRaised, start_in, heap_start_in};
+ghost use Rattle.libc_model.specs.Making.{moves, released, rows_made, rows_resized, IsNewAt, IsStart, IfRaised, start_in, heap_start_in};
 ghost use Rattle.libc_model.specs.Answers.{Does, are_sizes, given_value};
 
 use crate::arguments::{Pointer, pointer_at, size_at};
@@ -112,7 +112,9 @@ fn created(m: &mut Memory, name: ObjName, size: u64, t: &mut Touched) -> Result<
 /// malloc: null for 0 bytes and for more than 2^20 (own).
 pub fn allocate(size: u64, who: Event, m: &mut Memory, t: &mut Touched) -> Result<Value, LibAnswer>
     ensures exact { (io : Io) → AreKnown m.old → Does given_value result t.new (store_of m.new io) (created_within size (store_of m.old io) (run m.new.rows (malloc m.new.rows who size) (store_of m.old io))) }
+    ensures made { (io : Io) → AreKnown m.old → Does given_value result t.new (store_of m.new io) (created_within size (store_of m.old io) (run (rows_resized m.old m.new.rows who size) (malloc (rows_resized m.old m.new.rows who size) who size) (store_of m.old io))) }
     ensures known { AreKnown m.old → OnOk result (AreKnown m.new) }
+    ensures sound { IsSound m.old → OnOk result (IsSound m.new) }
     ensures same { OnErr result (result ≢ Err answers.NoMemory → m.new ≡ m.old) }
 {
     t.clear();
@@ -227,6 +229,7 @@ pub fn free(
 ) -> Result<(), LibAnswer>
     ensures exact { (io : Io) → HasCell m.old pointer.prov → Does (λ u. u) result t.new (store_of m.new io) (run m.new.rows (free m.new.rows pointer.addr pointer.prov clause) (store_of m.old io)) }
     ensures known { AreKnown m.old → AreKnown m.new }
+    ensures sound { IsSound m.old → IsSound m.new }
     ensures same { OnErr result (m.new ≡ m.old) }
 {
     t.clear();
@@ -253,6 +256,7 @@ fn free_object(
     requires { addr ≢ 0 }
     ensures exact { (io : Io) → Does (λ u. u) result t.new (store_of m.new io) (run m.new.rows (free m.new.rows addr (Whole object) clause) (store_of m.old io)) }
     ensures known { AreKnown m.old → AreKnown m.new }
+    ensures sound { IsSound m.old → IsSound m.new }
     ensures same { OnErr result (m.new ≡ m.old) }
 {
     let is_start = is_heap_start(m, object, addr);
@@ -279,6 +283,7 @@ fn free_start(
     requires items { t.old ≡ [] }
     ensures exact { (io : Io) → has_cell m.old.cells id ≡ true → Does (λ u. u) result t.new (store_of m.new io) (run m.new.rows (free m.new.rows addr (Either id past start) clause) (store_of m.old io)) }
     ensures known { AreKnown m.old → AreKnown m.new }
+    ensures sound { IsSound m.old → IsSound m.new }
     ensures same { OnErr result (m.new ≡ m.old) }
 {
     let mut scratch = Touched::new(alloc)?;
@@ -343,8 +348,24 @@ pub fn reallocate(
 ) -> Result<Value, LibAnswer>
     requires items { t.old ≡ [] }
 {
-    let pointer = pointer_at(args, 0);
-    let size = size_at(args, 1);
+    change_size(alloc, pointer_at(args, 0), size_at(args, 1), who, m, t)
+}
+
+// realloc of a pointer to a size.
+fn change_size(
+    alloc: Global,
+    pointer: Pointer,
+    size: u64,
+    who: Event,
+    m: &mut Memory,
+    t: &mut Touched,
+) -> Result<Value, LibAnswer>
+    requires items { t.old ≡ [] }
+    ensures told { (io : Io) → AreKnown m.old → HasCell m.old pointer.prov → IsTold result t.new io (created_within size (store_of m.old io) (run (rows_resized m.old m.new.rows who size) (realloc (rows_resized m.old m.new.rows who size) who pointer.addr pointer.prov size) (store_of m.old io))) }
+    ensures unmoved { moves pointer.addr size ≡ false → (io : Io) → AreKnown m.old → HasCell m.old pointer.prov → Does given_value result t.new (store_of m.new io) (created_within size (store_of m.old io) (run (rows_resized m.old m.new.rows who size) (realloc (rows_resized m.old m.new.rows who size) who pointer.addr pointer.prov size) (store_of m.old io))) }
+    ensures same { AreKnown m.old → OnErr result (result ≢ Err answers.NoMemory → m.new ≡ m.old) }
+    ensures sound { IsSound m.old → OnOk result (IsSound m.new) }
+{
     if pointer.addr == 0 {
         return allocate(size, who, m, t);
     }
@@ -360,7 +381,11 @@ fn release(
     pointer: Pointer,
     m: &mut Memory,
     t: &mut Touched,
-) -> Result<Value, LibAnswer> {
+) -> Result<Value, LibAnswer>
+    ensures exact { (io : Io) → HasCell m.old pointer.prov → Does given_value result t.new (store_of m.new io) (run m.new.rows (released m.new.rows pointer.addr pointer.prov) (store_of m.old io)) }
+    ensures same { OnErr result (m.new ≡ m.old) }
+    ensures sound { IsSound m.old → IsSound m.new }
+{
     match free(alloc, pointer, Clause::Realloc, m, t) {
         Ok(()) => Ok(Pointer::NULL.value()),
         Err(answer) => Err(answer),
