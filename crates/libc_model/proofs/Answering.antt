@@ -13,7 +13,7 @@ use Rattle.exposure.specs.declared.prov.Prov.TheVariants.{Empty}
 use Rattle.c_types.specs.declared.kind.IntKind.TheVariants.{ULong}
 use Rattle.c_types.specs.Kinds.{holds}
 use Rattle.c_types.specs.declared.library.LibFunc.{LibFunc}
-use Rattle.c_types.specs.declared.library.LibFunc.TheVariants.{Malloc, Calloc, Free}
+use Rattle.c_types.specs.declared.library.LibFunc.TheVariants.{Malloc, Calloc, Realloc, Free}
 use Rattle.prov_memory.specs.declared.value.Value.{Value}
 use Rattle.prov_memory.specs.declared.value.Value.TheVariants.{Nothing}
 use Rattle.prov_memory.specs.declared.answer.LibAnswer.{LibAnswer}
@@ -21,9 +21,10 @@ use Rattle.prov_memory.specs.declared.answer.LibAnswer.TheVariants as answers
 use Rattle.prov_memory.specs.Store.{Store}
 use Rattle.prov_memory.specs.Script.{Act, Done, Raised, Ended, Outside, Unplaced, Give, ◌>>◌, run}
 use Rattle.prov_memory.specs.Streams.{Io}
-use Rattle.prov_memory.specs.Memory.{Kept, HasCell}
+use Rattle.prov_memory.specs.Memory.{Kept, HasCell, store_of}
 use Rattle.libc_spec.specs.Library.{LibValue, pointer, nothing, free, malloc, calloc, asked, argument_at, pointer_in, address_in, prov_in, integer_in, size_of_value, output_within, created_within, called}
-use Rattle.libc_model.specs.Answers.{Does, Answers, IsCall, HaveCells, is_exact, are_sizes, rows_under, clipped, given_value, answer_in}
+use Rattle.libc_model.specs.Answers.{Does, Answers, AreWithin, IsCall, HaveCells, is_exact, are_sizes, rows_under, clipped, given_value, answer_in}
+use Rattle.libc_model.specs.Told.{HasStreams, IsTold, AnswersSome, realloc_act}
 use Rattle.libc_model.proofs.Scripts.{then, behind, run_then, behind_done}
 
 clipped_same : (s : Store) → s.position ≤ length s.input → s ≡ clipped s
@@ -123,3 +124,35 @@ arm f g rows vs who m io a is s u e h = λ exact. subst (λ (k : LibFunc). IsCal
 pub calloc_called : (rows : List Row) (vs : List LibValue) (who : Event) (s t : Store) (r : Result Value LibAnswer) (is : List Item) → t.position ≤ length t.input → length t.output ≤ 2 ^ 24 →
     Does given_value r is t (created_within (asked Calloc vs) s (run rows (calloc rows who (asked Calloc vs)) s)) → Answers (answer_in r) is t (called rows Calloc vs who s)
 calloc_called rows vs who s t r is p o h = answers_of r is t (created_within (asked Calloc vs) s (run rows (calloc rows who (asked Calloc vs)) s)) p o h
+
+-- the same of a call of realloc alone
+pub realloc_arm : (f : LibFunc) (rows : List Row) (vs : List LibValue) (who : Event) (m : Kept) (io : Io) (a : LibAnswer) (is : List Item) (s u : Store) → f ≡ Realloc →
+    (IsCall Realloc vs m io → Answers a is s (called (rows_under Realloc vs who m rows) Realloc vs who u)) → IsCall f vs m io → Answers a is s (called (rows_under f vs who m rows) f vs who u)
+realloc_arm f rows vs who m io a is s u e h = subst (λ (k : LibFunc). IsCall k vs m io → Answers a is s (called (rows_under k vs who m rows) k vs who u)) (sym e) h
+
+pub told_arm : (f : LibFunc) (rows : List Row) (vs : List LibValue) (who : Event) (m : Kept) (io : Io) (a : LibAnswer) (is : List Item) (u : Store) → f ≡ Realloc →
+    (IsCall Realloc vs m io → AnswersSome a is (called (rows_under Realloc vs who m rows) Realloc vs who u)) → IsCall f vs m io → AnswersSome a is (called (rows_under f vs who m rows) f vs who u)
+told_arm f rows vs who m io a is u e h = subst (λ (k : LibFunc). IsCall k vs m io → AnswersSome a is (called (rows_under k vs who m rows) k vs who u)) (sym e) h
+
+-- a realloc whose streams stay within their limits is the call
+pub realloc_called : (m : Kept) (after : List Row) (vs : List LibValue) (who : Event) (io : Io) (t : Store) (r : Result Value LibAnswer) (is : List Item) → t.position ≤ length t.input → length t.output ≤ 2 ^ 24 →
+    Does given_value r is t (realloc_act m after vs who io) → Answers (answer_in r) is t (called (rows_under Realloc vs who m after) Realloc vs who (store_of m io))
+realloc_called m after vs who io t r is p o h = answers_of r is t (realloc_act m after vs who io) p o h
+
+stands_within : (s : Store) (io : Io) → HasStreams s io → AreWithin io → s.position ≤ length s.input
+stands_within s io same within = omega (arith, same.1, ap (λ (is : List ℕ). length is) same.0, within.taken)
+
+prints_within : (s : Store) (io : Io) → HasStreams s io → AreWithin io → length s.output ≤ 2 ^ 24
+prints_within s io same within = omega (arith, ap (λ (is : List ℕ). length is) same.2, within.written)
+
+pub realloc_told : (m : Kept) (after : List Row) (vs : List LibValue) (who : Event) (io : Io) (r : Result Value LibAnswer) (is : List Item) → AreWithin io → IsTold r is io (realloc_act m after vs who io) →
+    AnswersSome (answer_in r) is (called (rows_under Realloc vs who m after) Realloc vs who (store_of m io))
+realloc_told m after vs who io r is within h =
+    (h.0, realloc_called m after vs who io h.0 r is (stands_within h.0 io h.1 within) (prints_within h.0 io h.1 within) h.2)
+
+pub second_size : (vs : List LibValue) → are_sizes vs (1 ∷ []) ≡ true → IsTrue (holds ULong (integer_in (argument_at vs 1)))
+second_size vs e = size_there (holds ULong (integer_in (argument_at vs 1))) e
+
+pub first_has : (m : Kept) (vs : List LibValue) → HaveCells m vs → HasCell m (prov_in (argument_at vs 0))
+first_has m [] have = tt
+first_has m (v ∷ vs) have = have.0

@@ -37,7 +37,7 @@ use Rattle.libc_spec.specs.Library.{LibValue, heap_kind, pointer, null, is_given
 use Rattle.libc_model.specs.declared.arguments.Pointer.{Pointer}
 use Rattle.libc_model.specs.Answers.{Does, given_value}
 use Rattle.libc_model.specs.Told.{HasStreams, IsTold}
-use Rattle.libc_model.specs.Making.{new_life, rows_made, rows_resized, released, IsStart, IfRaised, start_in, start_if, heap_start_in}
+use Rattle.libc_model.specs.Making.{new_life, rows_made, rows_resized, released, moves, IsStart, IfRaised, start_in, start_if, heap_start_in}
 use Rattle.libc_model.proofs.Scripts.{then, behind, run_then, behind_done}
 use Rattle.libc_model.proofs.Allocating.{does_same, based, limit_kept}
 use Rattle.libc_model.proofs.Making.{true_false, both_left, is_new, access_there, not_raised, unmade}
@@ -611,3 +611,21 @@ none_changes r is t m io after who a prov n some none h =
 pub told_changes : (r : Result Value LibAnswer) (is : List Item) (m : Kept) (io : Io) (rows : List Row) (who : Event) (a : ℕ) (prov : Prov) (n : ℕ) → a ≢ 0 → n ≢ 0 → IsTold r is io (resizing m io rows who a prov n) → IsTold r is io (changing m io rows who a prov n)
 told_changes r is m io rows who a prov n some more h =
     subst (λ (q : Script LibValue). IsTold r is io (created_within n (store_of m io) (run rows q (store_of m io)))) (realloc_some rows who a prov n some more) h
+
+-- ---- by arguments
+pub told_args : (r : Result Value LibAnswer) (is : List Item) (m : Kept) (io : Io) (after : List Row) (who : Event) (a b : ℕ) (p q : Prov) (n k : ℕ) → a ≡ b → p ≡ q → n ≡ k →
+    IsTold r is io (changing m io (rows_resized m after who n) who a p n) → IsTold r is io (changing m io (rows_resized m after who k) who b q k)
+told_args r is m io after who a b p q n k address prov size h =
+    subst (λ (j : ℕ). IsTold r is io (changing m io (rows_resized m after who j) who b q j)) size
+    (subst (λ (c : Prov). IsTold r is io (changing m io (rows_resized m after who n) who b c n)) prov
+    (subst (λ (c : ℕ). IsTold r is io (changing m io (rows_resized m after who n) who c p n)) address h))
+
+pub does_args : (r : Result Value LibAnswer) (is : List Item) (t : Store) (m : Kept) (io : Io) (after : List Row) (who : Event) (a b : ℕ) (p q : Prov) (n k : ℕ) → a ≡ b → p ≡ q → n ≡ k →
+    Does given_value r is t (changing m io (rows_resized m after who n) who a p n) → Does given_value r is t (changing m io (rows_resized m after who k) who b q k)
+does_args r is t m io after who a b p q n k address prov size h =
+    subst (λ (j : ℕ). Does given_value r is t (changing m io (rows_resized m after who j) who b q j)) size
+    (subst (λ (c : Prov). Does given_value r is t (changing m io (rows_resized m after who n) who b c n)) prov
+    (subst (λ (c : ℕ). Does given_value r is t (changing m io (rows_resized m after who n) who c p n)) address h))
+
+pub unmoved_args : (a b n k : ℕ) → a ≡ b → n ≡ k → moves b k ≡ false → moves a n ≡ false
+unmoved_args a b n k address size e = ap₂ moves address size ∙ e

@@ -17,7 +17,7 @@ use Rattle.prov_memory.specs.Script.{Act, Done, Raised, Ended, Outside, Unplaced
 use Rattle.prov_memory.specs.Streams.{Io}
 use Rattle.prov_memory.specs.Memory.{Kept, AreKnown, HasCell}
 use Rattle.libc_spec.specs.Library.{LibValue, number, pointer, nothing, argument_at, integer_in, prov_in, asked, heap_name}
-use Rattle.libc_model.specs.Making.{rows_made}
+use Rattle.libc_model.specs.Making.{rows_made, rows_resized}
 
 -- a value of the definitions as one of a run
 abbrev pub given_value : LibValue → Value
@@ -90,9 +90,15 @@ pub record IsCall (f : LibFunc) (vs : List LibValue) (m : Kept) (io : Io) : Type
   pub cells : HaveCells m vs
   pub high : StandHigh f m.rows
 
--- the rows under which a call is its definition: those of the memory after it; of calloc those that its new object makes of the earlier ones
+abbrev pub is_realloc : LibFunc → Bool
+is_realloc Realloc = true
+is_realloc f = false
+
+-- the rows under which a call is its definition: those of the memory after it; of calloc, and of a realloc to some bytes, those that its
+-- new object makes of the earlier ones
 abbrev pub rows_under : LibFunc → List LibValue → Event → Kept → List Row → List Row
 rows_under Calloc vs who m rows = rows_made m (heap_name who) (asked Calloc vs)
+rows_under Realloc vs who m rows = rows_resized m rows who (asked Realloc vs)
 rows_under f vs who m rows = rows
 
 -- the functions whose calls are shown to be those of the definitions

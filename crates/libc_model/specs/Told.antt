@@ -1,13 +1,18 @@
 -- Answers with their items, for some store after them (own).
-use Rattle.std.specs.Prelude.{◌≡◌, List, Result}
+use Rattle.std.specs.Prelude.{◌≡◌, Bool, List, Result}
+use Rattle.ub_base.specs.declared.names.Event.{Event}
 use Rattle.ub_base.specs.declared.names.Item.{Item}
+use Rattle.addr_map.specs.declared.map.Row.{Row}
+use Rattle.c_types.specs.declared.library.LibFunc.TheVariants.{Realloc}
 use Rattle.prov_memory.specs.declared.value.Value.{Value}
 use Rattle.prov_memory.specs.declared.answer.LibAnswer.{LibAnswer}
 use Rattle.prov_memory.specs.Store.{Store}
-use Rattle.prov_memory.specs.Script.{Act}
+use Rattle.prov_memory.specs.Script.{Act, run}
+use Rattle.prov_memory.specs.Memory.{Kept, store_of}
 use Rattle.prov_memory.specs.Streams.{Io}
-use Rattle.libc_spec.specs.Library.{LibValue}
+use Rattle.libc_spec.specs.Library.{LibValue, address_in, argument_at, asked, library, created_within}
 use Rattle.libc_model.specs.Answers.{Does, Answers, given_value}
+use Rattle.libc_model.specs.Making.{moves, rows_resized}
 
 abbrev pub HasStreams : Store → Io → Type 0
 HasStreams s io = (s.input ≡ io.input) × (s.position ≡ io.position) × (s.output ≡ io.output)
@@ -19,3 +24,15 @@ IsTold r is io act = (s : Store) × HasStreams s io × Does given_value r is s a
 -- the answer of a call and its items are those of an act, for some store after it
 abbrev pub AnswersSome : LibAnswer → List Item → Act LibValue → Type 0
 AnswersSome a is act = (s : Store) × Answers a is s act
+
+-- what a realloc does under rows
+abbrev pub realloc_under : List Row → Kept → List LibValue → Event → Io → Act LibValue
+realloc_under rows m vs who io = created_within (asked Realloc vs) (store_of m io) (run rows (library rows Realloc vs who) (store_of m io))
+
+-- the same under the rows that it goes by
+abbrev pub realloc_act : Kept → List Row → List LibValue → Event → Io → Act LibValue
+realloc_act m after vs who io = realloc_under (rows_resized m after who (asked Realloc vs)) m vs who io
+
+-- a realloc with these arguments makes a new object of an old one, unless it is refused
+abbrev pub moves_old : List LibValue → Bool
+moves_old vs = moves (address_in (argument_at vs 0)) (asked Realloc vs)

@@ -18,9 +18,9 @@ ghost use Rattle.prov_memory.specs.Streams.{Io};
 ghost use Rattle.addr_map.specs.Rows.{row_of};
 ghost use Rattle.addr_map.specs.Sound.{Above};
 ghost use Rattle.c_types.specs.declared.library.LibFunc.TheVariants.{Calloc};
-ghost use Rattle.libc_spec.specs.Library.{asked, is_given, is_heap_start, heap_name, heap_kind, malloc, calloc, free, realloc, resized, created_within};
+ghost use Rattle.libc_spec.specs.Library.{argument_at, prov_in, asked, is_given, is_heap_start, heap_name, heap_kind, malloc, calloc, free, realloc, resized, created_within};
 ghost use Rattle.libc_model.specs.Seen.{values_seen};
-ghost use Rattle.libc_model.specs.Told.{IsTold};
+ghost use Rattle.libc_model.specs.Told.{IsTold, moves_old, realloc_act};
 ghost use Rattle.libc_model.specs.Making.{moves, released, rows_made, rows_resized, IsNewAt, IsStart, IfRaised, start_in, heap_start_in};
 ghost use Rattle.libc_model.specs.Answers.{Does, are_sizes, given_value};
 
@@ -347,6 +347,10 @@ pub fn reallocate(
     t: &mut Touched,
 ) -> Result<Value, LibAnswer>
     requires items { t.old ≡ [] }
+    ensures told { (io : Io) → are_sizes (values_seen args.now) (1 ∷ []) ≡ true → AreKnown m.old → HasCell m.old (prov_in (argument_at (values_seen args.now) 0)) → IsTold result t.new io (realloc_act m.old m.new.rows (values_seen args.now) who io) }
+    ensures unmoved { moves_old (values_seen args.now) ≡ false → (io : Io) → are_sizes (values_seen args.now) (1 ∷ []) ≡ true → AreKnown m.old → HasCell m.old (prov_in (argument_at (values_seen args.now) 0)) → Does given_value result t.new (store_of m.new io) (realloc_act m.old m.new.rows (values_seen args.now) who io) }
+    ensures same { AreKnown m.old → OnErr result (result ≢ Err answers.NoMemory → m.new ≡ m.old) }
+    ensures sound { IsSound m.old → OnOk result (IsSound m.new) }
 {
     change_size(alloc, pointer_at(args, 0), size_at(args, 1), who, m, t)
 }
