@@ -201,9 +201,11 @@ IsMadeAs r m io h n = (s : Store) × Does (based h) r (Born h ∷ []) s (run (ro
 pub made_as : (m mid : Kept) (h : ObjName) (n : ℕ) (p : Pointer) (is : List Item) (io : Io) → mid.rows ≡ rows_made m h n →
     Does (based h) (Ok p) is (store_of mid io) (run mid.rows (create mid.rows h n 16 heap_kind None) (store_of m io)) → IsMadeAs (Ok p) m io h n
 made_as m mid h n p is io rows does =
-    let new = is_new mid.rows h n p is (store_of m io) (store_of mid io) does in
-    (store_of mid io, subst (λ (rs : List Row). Does (based h) (Ok p) (Born h ∷ []) (store_of mid io) (run rs (create rs h n 16 heap_kind None) (store_of m io))) rows
-    (subst (λ (js : List Item). Does (based h) (Ok p) js (store_of mid io) (run mid.rows (create mid.rows h n 16 heap_kind None) (store_of m io))) new.items does))
+    let new = is_new mid.rows h n p is (store_of m io) (store_of mid io) does in (
+      store_of mid io,
+      subst (λ (rs : List Row). Does (based h) (Ok p) (Born h ∷ []) (store_of mid io) (run rs (create rs h n 16 heap_kind None) (store_of m io))) rows
+          (subst (λ (js : List Item). Does (based h) (Ok p) js (store_of mid io) (run mid.rows (create mid.rows h n 16 heap_kind None) (store_of m io))) new.items does),
+    )
 
 does_fault : (h : ObjName) (a : LibAnswer) (is js : List Item) (s t : Store) (act : Act ℕ) → Does (based h) (Err a) is s act → Does (based h) (Err a) js t act
 does_fault h answers.NoMemory is js s t act d = tt
@@ -215,9 +217,11 @@ does_fault h a is js s t act d = absurd d
 pub unmade_as : (m mid : Kept) (h : ObjName) (n : ℕ) (a : LibAnswer) (is : List Item) (io : Io) → (unmade a ≢ Err answers.NoMemory → mid.rows ≡ rows_made m h n) →
     Does (based h) (Err a) is (store_of mid io) (run mid.rows (create mid.rows h n 16 heap_kind None) (store_of m io)) → IsMadeAs (Err a) m io h n
 unmade_as m mid h n answers.NoMemory is io rows does = (store_of m io, tt)
-unmade_as m mid h n a is io rows does =
-    (store_of m io, does_fault h a is (Born h ∷ []) (store_of mid io) (store_of m io) (run (rows_made m h n) (create (rows_made m h n) h n 16 heap_kind None) (store_of m io))
-    (subst (λ (rs : List Row). Does (based h) (Err a) is (store_of mid io) (run rs (create rs h n 16 heap_kind None) (store_of m io))) (rows (λ e. absurd (cc))) does))
+unmade_as m mid h n a is io rows does = (
+  store_of m io,
+  does_fault h a is (Born h ∷ []) (store_of mid io) (store_of m io) (run (rows_made m h n) (create (rows_made m h n) h n 16 heap_kind None) (store_of m io))
+      (subst (λ (rs : List Row). Does (based h) (Err a) is (store_of mid io) (run rs (create rs h n 16 heap_kind None) (store_of m io))) (rows (λ e. absurd (cc))) does),
+)
 
 -- the bytes weren't read for want of memory
 pub unread_as : (m mid : Kept) (h x : ObjName) (a n len : ℕ) (p : Pointer) (is : List Item) (io : Io) (b : LibAnswer) → IsStart m x a → mid.rows ≡ rows_made m h n → len ≡ min (size_in (row_of m.rows x)) n →
@@ -364,9 +368,12 @@ same_starts false m rows h x n a e = ap (λ (rs : List Row). is_heap_start (row_
 -- no live heap object begins there
 pub refused_told : (m : Kept) (io : Io) (who : Event) (a : ℕ) (prov : Prov) (n : ℕ) (is : List Item) → None ≡ heap_start_in m a prov → IsTold (Err (answers.Raise ReallocOfOther)) is io (resizing m io (rows_resized m m.rows who n) who a prov n)
 refused_told m io who a prov n is e =
-    let rows = rows_resized m m.rows who n in
-    (store_of m io, (refl, refl, refl), does_same given_value (Err (answers.Raise ReallocOfOther)) is (store_of m io) (resizing m io rows who a prov n) (Raised ReallocOfOther)
-    (ap (created_within n (store_of m io)) (resized_refused rows m io who a prov n (λ x. same_starts (is_given n) m m.rows (heap_name who) x n a refl) (sym e))) refl)
+    let rows = rows_resized m m.rows who n in (
+      store_of m io,
+      (refl, refl, refl),
+      does_same given_value (Err (answers.Raise ReallocOfOther)) is (store_of m io) (resizing m io rows who a prov n) (Raised ReallocOfOther)
+          (ap (created_within n (store_of m io)) (resized_refused rows m io who a prov n (λ x. same_starts (is_given n) m m.rows (heap_name who) x n a refl) (sym e))) refl,
+    )
 
 -- too many bytes
 pub null_run : (rows : List Row) (m : Kept) (io : Io) (who : Event) (a : ℕ) (prov : Prov) (n : ℕ) (x : ObjName) (settles : Settling) → Some (x, settles) ≡ heap_start_in m a prov → is_given n ≡ false → rows ≡ m.rows →
@@ -431,10 +438,13 @@ failed_told m io who a prov n x settles b is found given limit made =
     let rows = rows_made m (heap_name who) n in
     let h = heap_name who in
     let p = has_place (row_of rows h) n 16 in
-    let q = is_some (life_in (held_of m.objects h)) in
-    (store_of m io, (refl, refl, refl), does_same given_value (Err b) is (store_of m io) (resizing m io rows who a prov n) (resized_act m io h n x settles) (resizing_is m io who a prov n x settles found given limit)
-    (fault_by p q b settles rows x h n (Born h ∷ []) is made.0 (store_of m io) (after_settling settles (store_of m io)) (born (store_of m io) h n heap_kind None)
-    (subst (λ (act : Act ℕ). Does (based h) (Err b) (Born h ∷ []) made.0 act) (create_run p q rows h n (store_of m io) refl refl) made.1)))
+    let q = is_some (life_in (held_of m.objects h)) in (
+      store_of m io,
+      (refl, refl, refl),
+      does_same given_value (Err b) is (store_of m io) (resizing m io rows who a prov n) (resized_act m io h n x settles) (resizing_is m io who a prov n x settles found given limit)
+          (fault_by p q b settles rows x h n (Born h ∷ []) is made.0 (store_of m io) (after_settling settles (store_of m io)) (born (store_of m io) h n heap_kind None)
+          (subst (λ (act : Act ℕ). Does (based h) (Err b) (Born h ∷ []) made.0 act) (create_run p q rows h n (store_of m io) refl refl) made.1)),
+    )
 
 -- ---- it is made
 prov_by : (x : ObjName) (p : Pointer) (is : List Item) (t : Store) (act : Act ℕ) → Does (based x) (Ok p) is t act → p.prov ≡ Whole x
@@ -470,12 +480,14 @@ moved_told m io who a prov n x settles p old mid is found given limit made none 
     let held = is_held (row_of m.rows x) a (held_of m.objects x) (started (start_in m.cells prov) m a (x, settles) (sym found)).1 in
     let act : resized_act m io h n x settles ≡ Done (pointer (base_in (row_of rows h)) (Whole h)) (settling_items settles ++ (Alive x ∷ moved_items x h (min (size_in (row_of rows x)) n) (length (moved_bytes rows x n u)))) (moved_store rows x h n u) =
     ap₂ (λ (b c : Bool). behind (settling_items settles) (touched (Alive x) (moved_act b c rows x h n u))) new.place new.absent
-    ∙ behind_done (settling_items settles) (Alive x ∷ moved_items x h (min (size_in (row_of rows x)) n) (length (moved_bytes rows x n u))) (pointer (base_in (row_of rows h)) (Whole h)) (moved_store rows x h n u) in
-    (moved_store rows x h n u, streams_moved settles rows x h n m io,
-    does_same given_value (Ok (Ptr p.addr p.prov)) is (moved_store rows x h n u) (resizing m io rows who a prov n)
-    (Done (pointer (base_in (row_of rows h)) (Whole h)) (settling_items settles ++ (Alive x ∷ moved_items x h (min (size_in (row_of rows x)) n) (length (moved_bytes rows x n u)))) (moved_store rows x h n u))
-    (resizing_is m io who a prov n x settles found given limit ∙ act)
-    (ap₂ Ptr new.base (prov_by h p (Born h ∷ []) made.0 (run rows (create rows h n 16 heap_kind None) (store_of m io)) made.1), moved_noted settles m rows x h n u old mid is (row_kept m h x n held) none first rest, refl))
+    ∙ behind_done (settling_items settles) (Alive x ∷ moved_items x h (min (size_in (row_of rows x)) n) (length (moved_bytes rows x n u))) (pointer (base_in (row_of rows h)) (Whole h)) (moved_store rows x h n u) in (
+      moved_store rows x h n u,
+      streams_moved settles rows x h n m io,
+      does_same given_value (Ok (Ptr p.addr p.prov)) is (moved_store rows x h n u) (resizing m io rows who a prov n)
+          (Done (pointer (base_in (row_of rows h)) (Whole h)) (settling_items settles ++ (Alive x ∷ moved_items x h (min (size_in (row_of rows x)) n) (length (moved_bytes rows x n u)))) (moved_store rows x h n u))
+          (resizing_is m io who a prov n x settles found given limit ∙ act)
+          (ap₂ Ptr new.base (prov_by h p (Born h ∷ []) made.0 (run rows (create rows h n 16 heap_kind None) (store_of m io)) made.1), moved_noted settles m rows x h n u old mid is (row_kept m h x n held) none first rest, refl),
+    )
 
 -- ---- how many bytes
 pub over_given : (n : ℕ) → 1048576 < n → is_given n ≡ false
@@ -512,10 +524,13 @@ pub limit_told : (m : Kept) (io : Io) (who : Event) (a : ℕ) (prov : Prov) (n :
 limit_told m io who a prov n x settles b is found some most limit =
     let given = some_given n some most in
     let q = passed_split (nat_lt (2 ^ 26) (created_with (store_of m io) n)) b (answers.Outside PastCreated (created_with (store_of m io) n)) limit in
-    told_given (Err b) is m m.rows io who a prov n given
-    (store_of m io, (refl, refl, refl), subst (λ (c : LibAnswer). Does given_value (Err c) is (store_of m io) (resizing m io (rows_made m (heap_name who) n) who a prov n)) (sym q.1)
-    (does_same given_value (Err (answers.Outside PastCreated (created_with (store_of m io) n))) is (store_of m io) (resizing m io (rows_made m (heap_name who) n) who a prov n) (Outside PastCreated (created_with (store_of m io) n))
-    (outside_told m io who a prov n x settles is found given q.0) (refl, refl)))
+    told_given (Err b) is m m.rows io who a prov n given (
+      store_of m io,
+      (refl, refl, refl),
+      subst (λ (c : LibAnswer). Does given_value (Err c) is (store_of m io) (resizing m io (rows_made m (heap_name who) n) who a prov n)) (sym q.1)
+          (does_same given_value (Err (answers.Outside PastCreated (created_with (store_of m io) n))) is (store_of m io) (resizing m io (rows_made m (heap_name who) n) who a prov n) (Outside PastCreated (created_with (store_of m io) n))
+          (outside_told m io who a prov n x settles is found given q.0) (refl, refl)),
+    )
 
 named_as : (r : Result Pointer LibAnswer) (m : Kept) (io : Io) (h k : ObjName) (n : ℕ) → h ≡ k → IsMadeAs r m io h n → IsMadeAs r m io k n
 named_as r m io h k n e made = subst (λ (y : ObjName). IsMadeAs r m io y n) e made

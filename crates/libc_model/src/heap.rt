@@ -141,7 +141,13 @@ pub fn allocate_zeros(
     ensures known { AreKnown m.old → OnOk result (AreKnown m.new) }
     ensures same { OnErr result (result ≢ Err answers.NoMemory → m.new ≡ m.old) }
 {
-    zeroed(alloc, product(size_at(args, 0), size_at(args, 1)), who, m, t)
+    zeroed(
+        alloc,
+        product(size_at(args, 0), size_at(args, 1)),
+        who,
+        m,
+        t,
+    )
 }
 
 // calloc of so many bytes in all.
@@ -184,14 +190,7 @@ fn add_zeroed(name: ObjName, size: u64, t: &mut Touched) -> Result<(), NoMemory>
 }
 
 // Stores the bytes at the start of a new object, which refuses none.
-fn fill(
-    m: &mut Memory,
-    object: ObjName,
-    addr: u64,
-    via: Via,
-    block: &Block,
-    scratch: &mut Touched,
-)
+fn fill(m: &mut Memory, object: ObjName, addr: u64, via: Via, block: &Block, scratch: &mut Touched)
     ensures exact { IsShort via (length block.now.cells) → (seen : Seen) → Sees m.old via seen → IsNewAt m.old object addr (length (tagged_all m.old block.now.cells)) → (io : Io) → store_of m.new io ≡ with_bytes (store_of m.old io) object 0 (stored_from None seen 0 (tagged_all m.old block.now.cells)) }
     ensures known { AreKnown m.old → CellsKnown (length m.old.origins) block.now.cells → AreKnown m.new }
     ensures sound { IsSound m.old → CellsKnown (length m.old.origins) block.now.cells → IsSound m.new }
@@ -422,7 +421,16 @@ fn resize(
         return Ok(Pointer::NULL.value());
     }
     check_created(m, size)?;
-    match move_to(alloc, object, settles, pointer.addr, size, name_of(who), m, t) {
+    match move_to(
+        alloc,
+        object,
+        settles,
+        pointer.addr,
+        size,
+        name_of(who),
+        m,
+        t,
+    ) {
         Ok(new) => Ok(new.value()),
         Err(answer) => Err(answer),
     }
