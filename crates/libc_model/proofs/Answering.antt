@@ -1,6 +1,6 @@
 -- Lemmas on what calls answer.
 use Rattle.std.proofs.Common.{◌≡◌, ◌≢◌, ℕ, zero, suc, ◌+◌, ◌<◌, ◌≤◌, ◌⊎◌, inl, inr, Bool, true, false, ◌&&◌, cond, min, List, [], ◌∷◌, ◌++◌, length, refl, ap, ap₂, sym, subst, ◌∙◌, arith, Option, Some, None, slice_get, get_or, length-append, ℤ, pos}
-use Rattle.std.specs.Prelude.{Result, Ok, Err, nat_lt, IsTrue, ◌^◌}
+use Rattle.std.specs.Prelude.{Result, Ok, Err, OnOk, nat_lt, IsTrue, ◌^◌}
 use Rattle.std.proofs.lemmas.Bool.{le-ltb}
 use Rattle.std.proofs.lemmas.List.{append-nil}
 use Rattle.ub_base.specs.declared.clause.Clause.{Clause}
@@ -23,7 +23,7 @@ use Rattle.prov_memory.specs.Script.{Act, Done, Raised, Ended, Outside, Unplaced
 use Rattle.prov_memory.specs.Streams.{Io}
 use Rattle.prov_memory.specs.Memory.{Kept, HasCell, store_of}
 use Rattle.libc_spec.specs.Library.{LibValue, pointer, nothing, free, malloc, calloc, asked, argument_at, pointer_in, address_in, prov_in, integer_in, size_of_value, output_within, created_within, called}
-use Rattle.libc_model.specs.Answers.{Does, Answers, AreWithin, IsCall, HaveCells, is_exact, are_sizes, rows_under, clipped, given_value, answer_in}
+use Rattle.libc_model.specs.Answers.{Does, Answers, AreWithin, IsCall, HaveCells, is_exact, are_sizes, rows_under, clipped, given_value, gives_value, answer_in}
 use Rattle.libc_model.specs.Told.{HasStreams, IsTold, AnswersSome, realloc_act}
 use Rattle.libc_model.proofs.Scripts.{then, behind, run_then, behind_done}
 
@@ -156,3 +156,16 @@ second_size vs e = size_there (holds ULong (integer_in (argument_at vs 1))) e
 pub first_has : (m : Kept) (vs : List LibValue) → HaveCells m vs → HasCell m (prov_in (argument_at vs 0))
 first_has m [] have = tt
 first_has m (v ∷ vs) have = have.0
+
+-- an answer that is a value is one of a realloc that succeeded
+dies_by : (r : Result Value LibAnswer) (is : List Item) (io : Io) (act : Act LibValue) (D : Type 0) → IsTold r is io act → OnOk r D → gives_value (answer_in r) ≡ true → D
+dies_by (Ok v) is io act D told dies gives = dies
+dies_by (Err (answers.Value v)) is io act D told dies gives = absurd told.2
+dies_by (Err a) is io act D told dies gives = absurd (cc)
+
+sizes_of : (f : LibFunc) (vs : List LibValue) (m : Kept) (io : Io) → f ≡ Realloc → IsCall f vs m io → IsCall Realloc vs m io
+sizes_of f vs m io e call = subst (λ (k : LibFunc). IsCall k vs m io) e call
+
+pub dies_arm : (f : LibFunc) (r : Result Value LibAnswer) (is : List Item) (m : Kept) (io : Io) (vs : List LibValue) (act : Act LibValue) (D : Type 0) → f ≡ Realloc →
+    (IsCall Realloc vs m io → IsTold r is io act) → (IsCall Realloc vs m io → OnOk r D) → IsCall f vs m io → gives_value (answer_in r) ≡ true → D
+dies_arm f r is m io vs act D e told dies call gives = dies_by r is io act D (told (sizes_of f vs m io e call)) (dies (sizes_of f vs m io e call)) gives

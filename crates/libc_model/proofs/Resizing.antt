@@ -14,7 +14,7 @@ use Rattle.addr_map.specs.declared.map.Row.{Row}
 use Rattle.addr_map.specs.Rows.{row_of, row_at}
 use Rattle.addr_map.proofs.Tests.{eq_true}
 use Rattle.ub_base.specs.Names.{same_object}
-use Rattle.ub_base.proofs.NameLemmas.{same_object_is}
+use Rattle.ub_base.proofs.NameLemmas.{same_object_is, same_object_refl}
 use Rattle.exposure.specs.declared.prov.Prov.{Prov}
 use Rattle.exposure.specs.declared.prov.Prov.TheVariants.{Empty, Whole, Either}
 use Rattle.exposure.specs.Cells.{Cells, kept_in, has_cell, is_other}
@@ -23,9 +23,9 @@ use Rattle.prov_memory.specs.declared.answer.LibAnswer.TheVariants as answers
 use Rattle.prov_memory.specs.declared.cell.Cell.{Cell}
 use Rattle.prov_memory.specs.declared.value.Value.{Value}
 use Rattle.prov_memory.specs.declared.value.Value.TheVariants.{Ptr}
-use Rattle.prov_memory.specs.Store.{Store, TaggedByte, Life, is_live, range_from, with_bytes, born, buried, settled}
+use Rattle.prov_memory.specs.Store.{Store, TaggedByte, Life, is_live, range_from, with_bytes, born, dead, buried, settled}
 use Rattle.prov_memory.specs.Script.{Ask, Get, Put, Bury, Settle, Script, Give, touch, require, ◌>>=◌, ◌>>◌, Act, Done, Raised, Ended, Outside, Unplaced, touched, run}
-use Rattle.prov_memory.specs.Acts.{access, load_block, create, retagged, declared_of, offset_in, has_place, base_in, size_in}
+use Rattle.prov_memory.specs.Acts.{access, load_block, create, kill, retagged, declared_of, offset_in, has_place, base_in, size_in}
 use Rattle.prov_memory.specs.Streams.{Io}
 use Rattle.prov_memory.specs.Held.{Held, held_of}
 use Rattle.prov_memory.specs.Memory.{Kept, HasCell, CellsKnown, store_of, life_in, tagged_in_object, no_place, base_by, rows_with, cannot_create}
@@ -644,3 +644,16 @@ does_args r is t m io after who a b p q n k address prov size h =
 
 pub unmoved_args : (a b n k : ℕ) → a ≡ b → n ≡ k → moves b k ≡ false → moves a n ≡ false
 unmoved_args a b n k address size e = ap₂ moves address size ∙ e
+
+-- ---- the old object dies
+dead_lives : (o : Option Life) → is_live (dead o) ≡ false
+dead_lives None = refl
+dead_lives (Some l) = refl
+
+buried_left : {V : Type 0} (v w : V) (is js : List Item) (s u : Store) → Done v is s ≡ Done w js u → u ≡ s
+buried_left v w is js s u e = cc
+
+pub dies_then : (rows : List Row) (x : ObjName) (is : List Item) (s u : Store) → run rows (kill x) s ≡ Done tt is u → is_live (u.life x) ≡ false
+dies_then rows x is s u e =
+    ap (λ (t : Store). is_live (t.life x)) (buried_left tt tt (Dies x ∷ []) is (buried s x) u e)
+    ∙ ap (λ (b : Bool). is_live (cond b (dead (s.life x)) (s.life x))) (same_object_refl x) ∙ dead_lives (s.life x)

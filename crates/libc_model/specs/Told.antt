@@ -1,18 +1,20 @@
 -- Answers with their items, for some store after them (own).
-use Rattle.std.specs.Prelude.{◌≡◌, Bool, List, Result}
+use Rattle.std.specs.Prelude.{◌≡◌, ℕ, Bool, false, List, Result, IfSome}
 use Rattle.ub_base.specs.declared.names.Event.{Event}
 use Rattle.ub_base.specs.declared.names.Item.{Item}
 use Rattle.addr_map.specs.declared.map.Row.{Row}
 use Rattle.c_types.specs.declared.library.LibFunc.TheVariants.{Realloc}
 use Rattle.prov_memory.specs.declared.value.Value.{Value}
 use Rattle.prov_memory.specs.declared.answer.LibAnswer.{LibAnswer}
-use Rattle.prov_memory.specs.Store.{Store}
+use Rattle.prov_memory.specs.Store.{Store, is_live}
 use Rattle.prov_memory.specs.Script.{Act, run}
-use Rattle.prov_memory.specs.Memory.{Kept, store_of}
+use Rattle.prov_memory.specs.Memory.{Kept, store_of, life_in}
+use Rattle.prov_memory.specs.Held.{held_of}
+use Rattle.exposure.specs.declared.prov.Prov.{Prov}
 use Rattle.prov_memory.specs.Streams.{Io}
-use Rattle.libc_spec.specs.Library.{LibValue, address_in, argument_at, asked, library, created_within}
+use Rattle.libc_spec.specs.Library.{LibValue, address_in, prov_in, argument_at, asked, library, created_within}
 use Rattle.libc_model.specs.Answers.{Does, Answers, given_value}
-use Rattle.libc_model.specs.Making.{moves, rows_resized}
+use Rattle.libc_model.specs.Making.{moves, rows_resized, heap_start_in}
 
 abbrev pub HasStreams : Store → Io → Type 0
 HasStreams s io = (s.input ≡ io.input) × (s.position ≡ io.position) × (s.output ≡ io.output)
@@ -36,3 +38,11 @@ realloc_act m after vs who io = realloc_under (rows_resized m after who (asked R
 -- a realloc with these arguments makes a new object of an old one, unless it is refused
 abbrev pub moves_old : List LibValue → Bool
 moves_old vs = moves (address_in (argument_at vs 0)) (asked Realloc vs)
+
+-- the live heap object that begins at the address doesn't live any more
+abbrev pub OldDies : Kept → Kept → ℕ → Prov → Type 0
+OldDies old new a prov = IfSome (heap_start_in old a prov) (λ p. is_live (life_in (held_of new.objects p.0)) ≡ false)
+
+-- the same of the first argument
+abbrev pub FirstDies : Kept → Kept → List LibValue → Type 0
+FirstDies old new vs = OldDies old new (address_in (argument_at vs 0)) (prov_in (argument_at vs 0))

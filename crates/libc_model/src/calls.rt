@@ -11,7 +11,7 @@ ghost use Rattle.prov_memory.specs.declared.answer.LibAnswer.TheVariants as answ
 ghost use Rattle.libc_spec.specs.Library.{LibValue, called, byte_or_end, integer_in, argument_at};
 ghost use Rattle.ub_base.specs.declared.names.Event.{Event};
 ghost use Rattle.libc_model.specs.Seen.{values_seen};
-ghost use Rattle.libc_model.specs.Told.{AnswersSome, moves_old};
+ghost use Rattle.libc_model.specs.Told.{AnswersSome, FirstDies, moves_old};
 ghost use Rattle.libc_model.specs.Parts.{Gives, Follows, line, line_at, printing, limited};
 ghost use Rattle.libc_model.specs.Answers.{IsCall, AreWithin, Answers, answer_in, given_value, is_exact, is_realloc, gives_value, leaves_all, rows_under, wants_memory};
 
@@ -46,6 +46,7 @@ pub fn call(
     ensures same { is_exact f ≡ true → leaves_all result f ≡ true → (m.new ≡ m.old) × (io.new ≡ io.old) }
     ensures resized { is_realloc f ≡ true → IsCall f (values_seen args.now) m.old io.old → AnswersSome result t.new (called (rows_under f (values_seen args.now) who m.old m.new.rows) f (values_seen args.now) who (store_of m.old io.old)) }
     ensures unmoved { is_realloc f ≡ true → moves_old (values_seen args.now) ≡ false → IsCall f (values_seen args.now) m.old io.old → Answers result t.new (store_of m.new io.new) (called (rows_under f (values_seen args.now) who m.old m.new.rows) f (values_seen args.now) who (store_of m.old io.old)) }
+    ensures dies { is_realloc f ≡ true → moves_old (values_seen args.now) ≡ true → IsCall f (values_seen args.now) m.old io.old → gives_value result ≡ true → FirstDies m.old m.new (values_seen args.now) }
     ensures left { is_realloc f ≡ true → AreKnown m.old → leaves_all result f ≡ true → (m.new ≡ m.old) × (io.new ≡ io.old) }
     ensures sound { is_realloc f ≡ true → IsSound m.old → wants_memory result ≡ false → IsSound m.new }
     ensures within { AreWithin io.old → AreWithin io.new }
@@ -74,6 +75,7 @@ fn value_of(
     ensures same { is_exact f ≡ true → leaves_all (answer_in result) f ≡ true → (m.new ≡ m.old) × (io.new ≡ io.old) }
     ensures resized { is_realloc f ≡ true → IsCall f (values_seen args.now) m.old io.old → AnswersSome (answer_in result) t.new (called (rows_under f (values_seen args.now) who m.old m.new.rows) f (values_seen args.now) who (store_of m.old io.old)) }
     ensures unmoved { is_realloc f ≡ true → moves_old (values_seen args.now) ≡ false → IsCall f (values_seen args.now) m.old io.old → Answers (answer_in result) t.new (store_of m.new io.new) (called (rows_under f (values_seen args.now) who m.old m.new.rows) f (values_seen args.now) who (store_of m.old io.old)) }
+    ensures dies { is_realloc f ≡ true → moves_old (values_seen args.now) ≡ true → IsCall f (values_seen args.now) m.old io.old → gives_value (answer_in result) ≡ true → FirstDies m.old m.new (values_seen args.now) }
     ensures left { is_realloc f ≡ true → AreKnown m.old → leaves_all (answer_in result) f ≡ true → (m.new ≡ m.old) × (io.new ≡ io.old) }
     ensures sound { is_realloc f ≡ true → IsSound m.old → wants_memory (answer_in result) ≡ false → IsSound m.new }
     ensures within { AreWithin io.old → AreWithin io.new }

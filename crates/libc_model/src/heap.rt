@@ -12,7 +12,7 @@ ghost use Rattle.prov_memory.specs.Memory.{AreKnown, CellsKnown, HasCell, life_i
 ghost use Rattle.prov_memory.specs.Made.{CanSettle, after_settling, settling_items};
 ghost use Rattle.prov_memory.specs.Script.{run, Raised};
 ghost use Rattle.prov_memory.specs.Sound.{IsSound};
-ghost use Rattle.prov_memory.specs.Store.{Store, with_bytes};
+ghost use Rattle.prov_memory.specs.Store.{Store, is_live, with_bytes};
 ghost use Rattle.prov_memory.specs.Stores.{Sees, IsShort, tagged_all};
 ghost use Rattle.prov_memory.specs.Streams.{Io};
 ghost use Rattle.addr_map.specs.Rows.{row_of};
@@ -20,7 +20,7 @@ ghost use Rattle.addr_map.specs.Sound.{Above};
 ghost use Rattle.c_types.specs.declared.library.LibFunc.TheVariants.{Calloc};
 ghost use Rattle.libc_spec.specs.Library.{argument_at, prov_in, asked, is_given, is_heap_start, heap_name, heap_kind, malloc, calloc, free, realloc, resized, created_within};
 ghost use Rattle.libc_model.specs.Seen.{values_seen};
-ghost use Rattle.libc_model.specs.Told.{IsTold, moves_old, realloc_act};
+ghost use Rattle.libc_model.specs.Told.{IsTold, OldDies, FirstDies, moves_old, realloc_act};
 ghost use Rattle.libc_model.specs.Making.{moves, released, rows_made, rows_resized, IsNewAt, IsStart, IfRaised, start_in, heap_start_in};
 ghost use Rattle.libc_model.specs.Answers.{Does, are_sizes, given_value};
 
@@ -347,6 +347,7 @@ pub fn reallocate(
 ) -> Result<Value, LibAnswer>
     requires items { t.old ≡ [] }
     ensures told { (io : Io) → are_sizes (values_seen args.now) (1 ∷ []) ≡ true → AreKnown m.old → HasCell m.old (prov_in (argument_at (values_seen args.now) 0)) → IsTold result t.new io (realloc_act m.old m.new.rows (values_seen args.now) who io) }
+    ensures dies { moves_old (values_seen args.now) ≡ true → are_sizes (values_seen args.now) (1 ∷ []) ≡ true → OnOk result (FirstDies m.old m.new (values_seen args.now)) }
     ensures unmoved { moves_old (values_seen args.now) ≡ false → (io : Io) → are_sizes (values_seen args.now) (1 ∷ []) ≡ true → AreKnown m.old → HasCell m.old (prov_in (argument_at (values_seen args.now) 0)) → Does given_value result t.new (store_of m.new io) (realloc_act m.old m.new.rows (values_seen args.now) who io) }
     ensures same { AreKnown m.old → OnErr result (result ≢ Err answers.NoMemory → m.new ≡ m.old) }
     ensures sound { IsSound m.old → OnOk result (IsSound m.new) }
@@ -365,6 +366,7 @@ fn change_size(
 ) -> Result<Value, LibAnswer>
     requires items { t.old ≡ [] }
     ensures told { (io : Io) → AreKnown m.old → HasCell m.old pointer.prov → IsTold result t.new io (created_within size (store_of m.old io) (run (rows_resized m.old m.new.rows who size) (realloc (rows_resized m.old m.new.rows who size) who pointer.addr pointer.prov size) (store_of m.old io))) }
+    ensures dies { moves pointer.addr size ≡ true → OnOk result (OldDies m.old m.new pointer.addr pointer.prov) }
     ensures unmoved { moves pointer.addr size ≡ false → (io : Io) → AreKnown m.old → HasCell m.old pointer.prov → Does given_value result t.new (store_of m.new io) (created_within size (store_of m.old io) (run (rows_resized m.old m.new.rows who size) (realloc (rows_resized m.old m.new.rows who size) who pointer.addr pointer.prov size) (store_of m.old io))) }
     ensures same { AreKnown m.old → OnErr result (result ≢ Err answers.NoMemory → m.new ≡ m.old) }
     ensures sound { IsSound m.old → OnOk result (IsSound m.new) }
@@ -408,6 +410,7 @@ fn resize(
     requires some { size ≢ 0 }
     requires items { t.old ≡ [] }
     ensures told { (io : Io) → AreKnown m.old → IsTold result t.new io (created_within size (store_of m.old io) (run (rows_resized m.old m.new.rows who size) (resized (rows_resized m.old m.new.rows who size) who pointer.addr pointer.prov size) (store_of m.old io))) }
+    ensures dies { is_given size ≡ true → OnOk result (OldDies m.old m.new pointer.addr pointer.prov) }
     ensures unmoved { is_given size ≡ false → (io : Io) → HasCell m.old pointer.prov → Does given_value result t.new (store_of m.new io) (created_within size (store_of m.old io) (run m.new.rows (resized m.new.rows who pointer.addr pointer.prov size) (store_of m.old io))) }
     ensures same { AreKnown m.old → OnErr result (result ≢ Err answers.NoMemory → m.new ≡ m.old) }
     ensures sound { IsSound m.old → OnOk result (IsSound m.new) }
@@ -474,6 +477,7 @@ fn move_to(
 ) -> Result<Pointer, LibAnswer>
     ensures exact { (io : Io) → AreKnown m.old → IsStart m.old object addr → (s : Store) × Does (λ base. record { addr = base; prov = Whole name }) result (Born name ∷ []) s (run (rows_made m.old name size) (create (rows_made m.old name size) name size 16 heap_kind None) (store_of m.old io)) }
     ensures items { OnOk result (t.new ≡ t.old ++ (Read object 0 (min (size_in (row_of m.old.rows object)) size) ∷ Born name ∷ Alive name ∷ Write name 0 (min (size_in (row_of m.old.rows object)) size) ∷ Dies object ∷ [])) }
+    ensures dies { OnOk result (is_live (life_in (held_of m.new.objects object)) ≡ false) }
     ensures same { AreKnown m.old → IsStart m.old object addr → OnErr result (result ≢ Err answers.NoMemory → m.new ≡ m.old) }
     ensures sound { IsSound m.old → OnOk result (IsSound m.new) }
 {

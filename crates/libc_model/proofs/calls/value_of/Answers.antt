@@ -6,8 +6,9 @@ use Rattle.prov_memory.specs.Memory.{store_of}
 use Rattle.libc_spec.specs.Library.{asked, heap_name}
 use Rattle.libc_model.specs.Seen.{values_seen}
 use Rattle.libc_model.specs.Making.{rows_made}
+use Rattle.libc_model.specs.Told.{FirstDies, realloc_act}
 use Rattle.libc_model.specs.Answers.{answer_in}
-use Rattle.libc_model.proofs.Answering.{arm, realloc_arm, told_arm, malloc_called, calloc_called, realloc_called, realloc_told, first_size, first_has}
+use Rattle.libc_model.proofs.Answering.{arm, realloc_arm, told_arm, dies_arm, malloc_called, calloc_called, realloc_called, realloc_told, first_size, first_has}
 use Rattle.libc_model.proofs.calls.value_of.Goals as goal
 
 pub returns-in-Malloc-clause-exact : goal.returns-in-Malloc-clause-exact
@@ -71,3 +72,10 @@ returns-in-Realloc-clause-unmoved c = λ is unmoved.
     realloc_arm c.args.f c.reallocate.new.m.rows (values_seen c.args.args.now) c.args.who c.args.m.now c.args.io.now (answer_in c.reallocate.result) c.reallocate.new.t (store_of c.reallocate.new.m c.args.io.now) (store_of c.args.m.now c.args.io.now) c.in-Realloc.is
     (λ call. realloc_called c.args.m.now c.reallocate.new.m.rows (values_seen c.args.args.now) c.args.who c.args.io.now (store_of c.reallocate.new.m c.args.io.now) c.reallocate.result c.reallocate.new.t call.streams.taken call.streams.written
     (c.reallocate.ensures.unmoved unmoved c.args.io.now call.sizes call.known (first_has c.args.m.now (values_seen c.args.args.now) call.cells)))
+
+pub returns-in-Realloc-clause-dies : goal.returns-in-Realloc-clause-dies
+returns-in-Realloc-clause-dies c = λ is moves.
+    dies_arm c.args.f c.reallocate.result c.reallocate.new.t c.args.m.now c.args.io.now (values_seen c.args.args.now) (realloc_act c.args.m.now c.reallocate.new.m.rows (values_seen c.args.args.now) c.args.who c.args.io.now)
+    (FirstDies c.args.m.now c.reallocate.new.m (values_seen c.args.args.now)) c.in-Realloc.is
+    (λ call. c.reallocate.ensures.told c.args.io.now call.sizes call.known (first_has c.args.m.now (values_seen c.args.args.now) call.cells))
+    (λ call. c.reallocate.ensures.dies moves call.sizes)

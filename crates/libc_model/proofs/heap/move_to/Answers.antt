@@ -7,7 +7,7 @@ use Rattle.prov_memory.specs.Acts.{size_in}
 use Rattle.prov_memory.specs.Memory.{store_of}
 use Rattle.prov_memory.specs.declared.answer.LibAnswer.TheVariants as answers
 use Rattle.libc_model.proofs.Making.{made_value}
-use Rattle.libc_model.proofs.Resizing.{made_as, unmade_as, unread_as, wanting_as, no_streams}
+use Rattle.libc_model.proofs.Resizing.{made_as, unmade_as, unread_as, wanting_as, dies_then, no_streams}
 use Rattle.libc_model.proofs.heap.move_to.Goals as goal
 
 pub returns-in_err-add_moved-clause-exact : goal.returns-in_err-add_moved-clause-exact
@@ -49,3 +49,7 @@ returns-in_err-block-clause-same c =
 pub returns-clause-exact : goal.returns-clause-exact
 returns-clause-exact c = λ io known start.
     made_as c.args.m.now c.created.new.m c.args.name c.args.size c.in_ok-new.new c.created.new.t io (c.in_ok-new.ensures.rows (made_value c.in_ok-new.new)) (c.in_ok-new.ensures.exact io known)
+
+pub returns-clause-dies : goal.returns-clause-dies
+returns-clause-dies c =
+    dies_then c.kill.new.self.rows c.args.object c.kill.new.t (store_of c.fill.new.m no_streams) (store_of c.kill.new.self no_streams) (c.kill.ensures.exact no_streams)
