@@ -1,5 +1,6 @@
 pub mod Allocating
 pub mod Answering
+pub mod Carrying
 pub mod Checking
 pub mod Copying
 pub mod Finishing

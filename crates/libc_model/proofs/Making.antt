@@ -41,7 +41,7 @@ use Rattle.prov_memory.proofs.WriteLemmas.{store_in, tagged_length}
 use Rattle.libc_spec.specs.Library.{LibValue, pointer, plain, is_given, heap_name, heap_kind, new_object, malloc, calloc, created_with, created_within}
 use Rattle.libc_model.specs.declared.arguments.Pointer.{Pointer}
 use Rattle.libc_model.specs.Answers.{Does, given_value}
-use Rattle.libc_model.specs.Making.{new_life, rows_made, rows_resized, IsNewAt}
+use Rattle.libc_model.specs.Making.{new_life, rows_made, IsNewAt}
 use Rattle.libc_model.proofs.Scripts.{then, behind, run_then, behind_done}
 use Rattle.libc_model.proofs.Allocating.{does_same, based, limit_kept, limit_of, malloc_done, malloc_failed}
 
@@ -59,7 +59,7 @@ done_base a b is js s t e = cc
 done_items : (a b : ℕ) (is js : List Item) (s t : Store) → Done a js s ≡ Done b is t → is ≡ js
 done_items a b is js s t e = cc
 
-done_left : {V : Type 0} (a b : V) (is js : List Item) (s t : Store) → Done a js s ≡ Done b is t → t ≡ s
+pub done_left : {V : Type 0} (a b : V) (is js : List Item) (s t : Store) → Done a js s ≡ Done b is t → t ≡ s
 done_left a b is js s t e = cc
 
 born_if : (q : Bool) (x : ObjName) (n a b : ℕ) (is : List Item) (s t : Store) → cond q Unplaced (Done a (Born x ∷ []) (born s x n heap_kind None)) ≡ Done b is t →
@@ -178,7 +178,7 @@ suits_all bytes from = refl
 not_null : (a : ℕ) → 0 < a → (a == 0) ≡ false
 not_null a h = grind (arith, nat_tests)
 
-within : (a b len size : ℕ) → b ≡ a → len ≤ size → nat_le b a && nat_le (a + len) (b + size) ≡ true
+pub within : (a b len size : ℕ) → b ≡ a → len ≤ size → nat_le b a && nat_le (a + len) (b + size) ≡ true
 within a b len size e h = grind (arith, nat_tests)
 
 aligned_all : (a : ℕ) → is_aligned 1 a ≡ true
@@ -190,7 +190,7 @@ access_there rows x r a len s there base above room live =
     let z : (a == 0) ≡ false = not_null a above in
     rw z (reaches rows len 1 a x s live (ap (λ (o : Option Row). in_row o a len) there ∙ within a r.base len r.size base room) (aligned_all a))
 
-no_offset : (a b : ℕ) → b ≡ a → a - b ≡ 0
+pub no_offset : (a b : ℕ) → b ≡ a → a - b ≡ 0
 no_offset a b e = omega (arith, e)
 
 put_new : (rows : List Row) (x : ObjName) (seen : Seen) (bs : List TaggedByte) (s : Store) →
@@ -336,27 +336,3 @@ made_value p e = absurd (cc)
 
 pub zeros_in : (k n : ℕ) (cs : List Cell) → cs ≡ map plain_cell (replicate n 0) → CellsKnown k cs
 zeros_in k n cs e = subst (λ (bs : List Cell). CellsKnown k bs) (sym e) (zeros_known k n)
-
--- ---- malloc, under the rows that its object makes
-under_given : (r : Result Value LibAnswer) (is : List Item) (t : Store) (m : Kept) (after : List Row) (who : Event) (n : ℕ) (s : Store) → is_given n ≡ true →
-    Does given_value r is t (created_within n s (run (rows_made m (heap_name who) n) (malloc (rows_made m (heap_name who) n) who n) s)) →
-    Does given_value r is t (created_within n s (run (rows_resized m after who n) (malloc (rows_resized m after who n) who n) s))
-under_given r is t m after who n s given does =
-    subst (λ (b : Bool). Does given_value r is t (created_within n s (run (cond b (rows_made m (heap_name who) n) after) (malloc (cond b (rows_made m (heap_name who) n) after) who n) s))) (sym given) does
-
-pub malloc_made : (m mid : Kept) (after : List Row) (who : Event) (n k : ℕ) (x : ObjName) (s : Store) (p : Pointer) (is : List Item) (t : Store) → k ≡ n → x ≡ heap_name who → is_given n ≡ true → nat_lt (2 ^ 26) (created_with s k) ≡ false → mid.rows ≡ rows_made m x k →
-    Does (based x) (Ok p) is t (run mid.rows (create mid.rows x k 16 heap_kind None) s) →
-    Does given_value (Ok (Ptr p.addr p.prov)) is t (created_within n s (run (rows_resized m after who n) (malloc (rows_resized m after who n) who n) s))
-malloc_made m mid after who n k x s p is t size name given limit rows does =
-    let there : mid.rows ≡ rows_made m (heap_name who) n = rows ∙ ap (rows_made m x) size ∙ ap (λ (y : ObjName). rows_made m y n) name in
-    under_given (Ok (Ptr p.addr p.prov)) is t m after who n s given
-    (subst (λ (rs : List Row). Does given_value (Ok (Ptr p.addr p.prov)) is t (created_within n s (run rs (malloc rs who n) s))) there (malloc_done mid.rows who n k x s p is t size name given limit does))
-
-pub malloc_unmade : (m mid : Kept) (after : List Row) (who : Event) (n k : ℕ) (x : ObjName) (s : Store) (a : LibAnswer) (is : List Item) (t : Store) → k ≡ n → x ≡ heap_name who → is_given n ≡ true → nat_lt (2 ^ 26) (created_with s k) ≡ false → (unmade a ≢ Err answers.NoMemory → mid.rows ≡ rows_made m x k) →
-    Does (based x) (Err a) is t (run mid.rows (create mid.rows x k 16 heap_kind None) s) →
-    Does given_value (Err a) is t (created_within n s (run (rows_resized m after who n) (malloc (rows_resized m after who n) who n) s))
-malloc_unmade m mid after who n k x s answers.NoMemory is t size name given limit rows does = tt
-malloc_unmade m mid after who n k x s a is t size name given limit rows does =
-    let there : mid.rows ≡ rows_made m (heap_name who) n = rows (λ e. absurd (cc)) ∙ ap (rows_made m x) size ∙ ap (λ (y : ObjName). rows_made m y n) name in
-    under_given (Err a) is t m after who n s given
-    (subst (λ (rs : List Row). Does given_value (Err a) is t (created_within n s (run rs (malloc rs who n) s))) there (malloc_failed mid.rows who n k x s a is t size name given limit does))

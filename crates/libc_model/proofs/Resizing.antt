@@ -36,8 +36,7 @@ use Rattle.prov_memory.proofs.StoreLemmas.{inserted_other}
 use Rattle.libc_spec.specs.Library.{LibValue, heap_kind, pointer, null, is_given, is_heap_start, heap_name, new_object, start_object, malloc, free, moved, resized, realloc, created_with, created_within}
 use Rattle.libc_model.specs.declared.arguments.Pointer.{Pointer}
 use Rattle.libc_model.specs.Answers.{Does, given_value}
-use Rattle.libc_model.specs.Told.{HasStreams, IsTold}
-use Rattle.libc_model.specs.Making.{new_life, rows_made, rows_resized, released, moves, IsStart, IfRaised, start_in, start_if, heap_start_in}
+use Rattle.libc_model.specs.Making.{rows_made, released, moved_bytes, moved_store, IsStart, start_in, start_if, heap_start_in}
 use Rattle.libc_model.proofs.Scripts.{then, behind, run_then, behind_done}
 use Rattle.libc_model.proofs.Allocating.{does_same, based, limit_kept}
 use Rattle.libc_model.proofs.Making.{true_false, both_left, is_new, access_there, not_raised, unmade}
@@ -115,7 +114,7 @@ row_other : (o : Option Row) (m : Kept) (h x : ObjName) (b n : ℕ) → same_obj
 row_other (Some r) m h x b n e = refl
 row_other None m h x b n e = inserted_other (λ r. same_object r.name x) (row_at h b n 16) m.rows e
 
-apart_by : (b : Bool) (m : Kept) (h x : ObjName) → same_object h x ≡ b → is_some (held_of m.objects h) ≡ false → is_some (held_of m.objects x) ≡ true → same_object h x ≡ false
+pub apart_by : (b : Bool) (m : Kept) (h x : ObjName) → same_object h x ≡ b → is_some (held_of m.objects h) ≡ false → is_some (held_of m.objects x) ≡ true → same_object h x ≡ false
 apart_by true m h x e gone there = absurd (true_false (sym there ∙ ap (λ (y : ObjName). is_some (held_of m.objects y)) (sym (same_object_is h x e)) ∙ gone))
 apart_by false m h x e gone there = e
 
@@ -133,11 +132,11 @@ pub row_kept : (m : Kept) (h x : ObjName) (n : ℕ) → is_some (held_of m.objec
 row_kept m h x n there =
     row_kept_by (cannot_create m h n 16) m h x (base_by (row_of m.rows h) m.mode m.rows 16) n (λ e. first_false (is_some (held_of m.objects h)) (no_place m (row_of m.rows h) m.mode n 16) e) there
 
-is_held : (o : Option Row) (a : ℕ) (k : Option Held) → is_heap_start o a (life_in k) ≡ true → is_some k ≡ true
+pub is_held : (o : Option Row) (a : ℕ) (k : Option Held) → is_heap_start o a (life_in k) ≡ true → is_some k ≡ true
 is_held o a None e = absurd (cc)
 is_held o a (Some k) e = refl
 
-live_start : (o : Option Row) (a : ℕ) (l : Option Life) → is_heap_start o a l ≡ true → is_live l ≡ true
+pub live_start : (o : Option Row) (a : ℕ) (l : Option Life) → is_heap_start o a l ≡ true → is_live l ≡ true
 live_start o a None e = absurd (cc)
 live_start o a (Some l) e = both_left l.live (l.kind.heap && base_in o == a) e
 
@@ -145,7 +144,7 @@ both_right : (a b : Bool) → a && b ≡ true → b ≡ true
 both_right true b e = e
 both_right false b e = absurd (cc)
 
-base_start : (o : Option Row) (a : ℕ) (l : Option Life) → is_heap_start o a l ≡ true → base_in o ≡ a
+pub base_start : (o : Option Row) (a : ℕ) (l : Option Life) → is_heap_start o a l ≡ true → base_in o ≡ a
 base_start o a None e = absurd (cc)
 base_start o a (Some l) e = eq_true (base_in o) a (both_right l.kind.heap (base_in o == a) (both_right l.live (l.kind.heap && base_in o == a) e))
 
@@ -154,45 +153,18 @@ pub record IsRowAt (o : Option Row) (a : ℕ) : Type 0 where
   pub there : o ≡ Some row
   pub base : row.base ≡ a
 
-row_at_base : (o : Option Row) (a : ℕ) → a ≢ 0 → base_in o ≡ a → IsRowAt o a
+pub row_at_base : (o : Option Row) (a : ℕ) → a ≢ 0 → base_in o ≡ a → IsRowAt o a
 row_at_base None a some e = absurd (some (sym e))
 row_at_base (Some r) a some e = record { row = r; there = refl; base = e }
 
-above_null : (a : ℕ) → a ≢ 0 → 0 < a
+pub above_null : (a : ℕ) → a ≢ 0 → 0 < a
 above_null zero some = absurd (some refl)
 above_null (suc a) some = omega arith
 
--- ---- the bytes of a live object can be read
-loads_there : (rows : List Row) (x : ObjName) (r : Row) (a len : ℕ) (s : Store) → row_of rows x ≡ Some r → r.base ≡ a → 0 < a → len ≤ r.size → is_live (s.life x) ≡ true →
-    run rows (load_block rows len 1 a (Whole x)) s
-    ≡ Done (retagged (declared_of (s.life x)) (offset_in (row_of rows x) a) (range_from (s.bytes x) (offset_in (row_of rows x) a) len)) (Alive x ∷ Read x (offset_in (row_of rows x) a) len ∷ []) s
-loads_there rows x r a len s there base above room live =
-    done_then rows (access rows len 1 a (Whole x)) (block_in len) s s s (record { object = x; from = offset_in (row_of rows x) a; life = s.life x })
-    (retagged (declared_of (s.life x)) (offset_in (row_of rows x) a) (range_from (s.bytes x) (offset_in (row_of rows x) a) len)) (Alive x ∷ []) (Read x (offset_in (row_of rows x) a) len ∷ [])
-    (access_there rows x r a len s there base above room live) refl
-
-live_beside : (b : Bool) (o : Option Life) → is_live o ≡ true → is_live (cond b (Some new_life) o) ≡ true
-live_beside true o e = refl
-live_beside false o e = e
-
-within_row : (o : Option Row) (r : Row) (len n : ℕ) → o ≡ Some r → len ≡ min (size_in o) n → len ≤ r.size
+pub within_row : (o : Option Row) (r : Row) (len n : ℕ) → o ≡ Some r → len ≡ min (size_in o) n → len ≤ r.size
 within_row o r len n there e =
     let size : size_in o ≡ r.size = ap size_in there in
     omega (arith, e, size)
-
--- once a new object is there, the load of the old one's bytes raises nothing
-pub load_goes : (m mid : Kept) (h x : ObjName) (a n len : ℕ) (p : Pointer) (is : List Item) (io : Io) (c : Clause) → IsStart m x a → mid.rows ≡ rows_made m h n → len ≡ min (size_in (row_of m.rows x)) n →
-    Does (based h) (Ok p) is (store_of mid io) (run mid.rows (create mid.rows h n 16 heap_kind None) (store_of m io)) → run mid.rows (load_block mid.rows len 1 a (Whole x)) (store_of mid io) ≡ Raised c → ⊥
-load_goes m mid h x a n len p is io c start rows size does raised =
-    let o = row_of m.rows x in
-    let l = life_in (held_of m.objects x) in
-    let new = is_new mid.rows h n p is (store_of m io) (store_of mid io) does in
-    let same : row_of mid.rows x ≡ o = ap (λ (rs : List Row). row_of rs x) rows ∙ row_kept m h x n (is_held o a (held_of m.objects x) start.begins) in
-    let q = row_at_base o a start.there (base_start o a l start.begins) in
-    let live : is_live (life_in (held_of mid.objects x)) ≡ true = ap (λ (t : Store). is_live (t.life x)) new.store ∙ live_beside (same_object h x) l (live_start o a l start.begins) in
-    not_raised (retagged (declared_of (life_in (held_of mid.objects x))) (offset_in (row_of mid.rows x) a) (range_from (λ at. tagged_in_object mid.origins mid.types (held_of mid.objects x) at) (offset_in (row_of mid.rows x) a) len))
-    (Alive x ∷ Read x (offset_in (row_of mid.rows x) a) len ∷ []) (store_of mid io) c
-    (sym (loads_there mid.rows x q.row a len (store_of mid io) (same ∙ q.there) q.base (above_null a start.there) (within_row o q.row len n q.there size) live) ∙ raised)
 
 -- ---- the new object
 abbrev pub IsMadeAs : Result Pointer LibAnswer → Kept → Io → ObjName → ℕ → Type 0
@@ -223,32 +195,9 @@ unmade_as m mid h n a is io rows does = (
       (subst (λ (rs : List Row). Does (based h) (Err a) is (store_of mid io) (run rs (create rs h n 16 heap_kind None) (store_of m io))) (rows (λ e. absurd (cc))) does),
 )
 
--- the bytes weren't read for want of memory
-pub unread_as : (m mid : Kept) (h x : ObjName) (a n len : ℕ) (p : Pointer) (is : List Item) (io : Io) (b : LibAnswer) → IsStart m x a → mid.rows ≡ rows_made m h n → len ≡ min (size_in (row_of m.rows x)) n →
-    Does (based h) (Ok p) is (store_of mid io) (run mid.rows (create mid.rows h n 16 heap_kind None) (store_of m io)) →
-    IfRaised b (λ c. (io : Io) → run mid.rows (load_block mid.rows len 1 a (Whole x)) (store_of mid io) ≡ Raised c) → b ≡ answers.NoMemory
-unread_as m mid h x a n len p is io answers.NoMemory start rows size does raises = refl
-unread_as m mid h x a n len p is io (answers.Raise c) start rows size does raises = absurd (load_goes m mid h x a n len p is io c start rows size does (raises io))
-unread_as m mid h x a n len p is io b start rows size does raises = absurd raises
-
-pub wanting_as : (m : Kept) (h : ObjName) (n : ℕ) (a : LibAnswer) (io : Io) → a ≡ answers.NoMemory → IsMadeAs (Err a) m io h n
-wanting_as m h n a io e = subst (λ (b : LibAnswer). IsMadeAs (Err b) m io h n) (sym e) (store_of m io, tt)
-
-pub no_streams : Io
-no_streams = record { input = []; position = 0; output = [] }
-
-pub cells_since : (mid new : Kept) (cs : List Cell) → record new { cells = [] } ≡ record mid { cells = [] } → CellsKnown (length mid.origins) cs → CellsKnown (length new.origins) cs
-cells_since mid new cs rest known = subst (λ (k : Kept). CellsKnown (length k.origins) cs) (sym rest) known
-
 -- ---- what is moved
-abbrev pub moved_bytes : List Row → ObjName → ℕ → Store → List TaggedByte
-moved_bytes rows x n u = range_from (u.bytes x) 0 (min (size_in (row_of rows x)) n)
-
 abbrev pub moved_items : ObjName → ObjName → ℕ → ℕ → List Item
 moved_items x h read write = Read x 0 read ∷ Born h ∷ Alive h ∷ Write h 0 write ∷ Dies x ∷ []
-
-abbrev pub moved_store : List Row → ObjName → ObjName → ℕ → Store → Store
-moved_store rows x h n u = buried (with_bytes (born u h n heap_kind None) h 0 (moved_bytes rows x n u)) x
 
 abbrev pub moved_act : Bool → Bool → List Row → ObjName → ObjName → ℕ → Store → Act LibValue
 moved_act p q rows x h n u =
@@ -306,17 +255,16 @@ pub can_settle_start : (m : Kept) (a : ℕ) (prov : Prov) (x : ObjName) (settles
 can_settle_start m a prov x settles e has = can_settle m prov x settles (started (start_in m.cells prov) m a (x, settles) (sym e)).0 has
 
 -- ---- a realloc to some bytes
-abbrev pub resized_act : Kept → Io → ObjName → ℕ → ObjName → Settling → Act LibValue
-resized_act m io h n x settles =
-    behind (settling_items settles) (touched (Alive x) (moved_act (has_place (row_of (rows_made m h n) h) n 16) (is_some (life_in (held_of m.objects h))) (rows_made m h n) x h n (after_settling settles (store_of m io))))
+abbrev pub resized_act : List Row → Kept → Io → ObjName → ℕ → ObjName → Settling → Act LibValue
+resized_act rows m io h n x settles =
+    behind (settling_items settles) (touched (Alive x) (moved_act (has_place (row_of rows h) n 16) (is_some (life_in (held_of m.objects h))) rows x h n (after_settling settles (store_of m io))))
 
-resized_moves : (m : Kept) (io : Io) (who : Event) (a : ℕ) (prov : Prov) (n : ℕ) (x : ObjName) (settles : Settling) → Some (x, settles) ≡ heap_start_in m a prov → is_given n ≡ true →
-    run (rows_made m (heap_name who) n) (resized (rows_made m (heap_name who) n) who a prov n) (store_of m io) ≡ resized_act m io (heap_name who) n x settles
-resized_moves m io who a prov n x settles found given =
-    let rows = rows_made m (heap_name who) n in
+resized_moves : (rows : List Row) (m : Kept) (io : Io) (who : Event) (a : ℕ) (prov : Prov) (n : ℕ) (x : ObjName) (settles : Settling) → SameStarts rows m a → Some (x, settles) ≡ heap_start_in m a prov → is_given n ≡ true →
+    run rows (resized rows who a prov n) (store_of m io) ≡ resized_act rows m io (heap_name who) n x settles
+resized_moves rows m io who a prov n x settles same found given =
     let u = after_settling settles (store_of m io) in
     let f = started (start_in m.cells prov) m a (x, settles) (sym found) in
-    resized_found rows m io who a prov n x settles f.0 (start_same m (heap_name who) x n a ∙ f.1)
+    resized_found rows m io who a prov n x settles f.0 (same x ∙ f.1)
     ∙ ap (λ (b : Bool). behind (settling_items settles) (touched (Alive x) (run rows (cond b (moved rows who x n) (Give null)) u))) given
     ∙ ap (λ (act : Act LibValue). behind (settling_items settles) (touched (Alive x) act))
     (moved_run (has_place (row_of rows (heap_name who)) n 16) (is_some (life_in (held_of m.objects (heap_name who)))) rows who x n u refl (ap is_some (life_after settles (store_of m io) (heap_name who))))
@@ -348,35 +296,26 @@ limit_passed n s (Ended k is u) e h unraised = rw (e, h) refl
 limit_passed n s (Outside c k) e h unraised = rw (e, h) refl
 limit_passed n s Unplaced e h unraised = rw (e, h) refl
 
+-- ---- how many bytes
+pub over_given : (n : ℕ) → 1048576 < n → is_given n ≡ false
+over_given n h = grind (arith, nat_tests)
+
+pub some_given : (n : ℕ) → n ≢ 0 → n ≤ 1048576 → is_given n ≡ true
+some_given zero some h = absurd (some refl)
+some_given (suc n) some h = grind (arith, nat_tests)
+
 -- ---- the answers of a realloc to some bytes
 abbrev pub resizing : Kept → Io → List Row → Event → ℕ → Prov → ℕ → Act LibValue
 resizing m io rows who a prov n = created_within n (store_of m io) (run rows (resized rows who a prov n) (store_of m io))
 
-streams_after : (settles : Settling) (m : Kept) (io : Io) → HasStreams (after_settling settles (store_of m io)) io
-streams_after None m io = (refl, refl, refl)
-streams_after (Some p) m io = (refl, refl, refl)
-
-streams_moved : (settles : Settling) (rows : List Row) (x h : ObjName) (n : ℕ) (m : Kept) (io : Io) → HasStreams (moved_store rows x h n (after_settling settles (store_of m io))) io
-streams_moved None rows x h n m io = (refl, refl, refl)
-streams_moved (Some p) rows x h n m io = (refl, refl, refl)
-
-same_starts : (b : Bool) (m : Kept) (rows : List Row) (h x : ObjName) (n a : ℕ) → rows ≡ m.rows →
-    is_heap_start (row_of (cond b (rows_made m h n) rows) x) a (life_in (held_of m.objects x)) ≡ is_heap_start (row_of m.rows x) a (life_in (held_of m.objects x))
-same_starts true m rows h x n a e = start_same m h x n a
-same_starts false m rows h x n a e = ap (λ (rs : List Row). is_heap_start (row_of rs x) a (life_in (held_of m.objects x))) e
-
 -- no live heap object begins there
-pub refused_told : (m : Kept) (io : Io) (who : Event) (a : ℕ) (prov : Prov) (n : ℕ) (is : List Item) → None ≡ heap_start_in m a prov → IsTold (Err (answers.Raise ReallocOfOther)) is io (resizing m io (rows_resized m m.rows who n) who a prov n)
-refused_told m io who a prov n is e =
-    let rows = rows_resized m m.rows who n in (
-      store_of m io,
-      (refl, refl, refl),
-      does_same given_value (Err (answers.Raise ReallocOfOther)) is (store_of m io) (resizing m io rows who a prov n) (Raised ReallocOfOther)
-          (ap (created_within n (store_of m io)) (resized_refused rows m io who a prov n (λ x. same_starts (is_given n) m m.rows (heap_name who) x n a refl) (sym e))) refl,
-    )
+pub refused_does : (m : Kept) (io : Io) (who : Event) (a : ℕ) (prov : Prov) (n : ℕ) (is : List Item) → None ≡ heap_start_in m a prov → Does given_value (Err (answers.Raise ReallocOfOther)) is (store_of m io) (resizing m io m.rows who a prov n)
+refused_does m io who a prov n is e =
+    does_same given_value (Err (answers.Raise ReallocOfOther)) is (store_of m io) (resizing m io m.rows who a prov n) (Raised ReallocOfOther)
+    (ap (created_within n (store_of m io)) (resized_refused m.rows m io who a prov n (λ x. refl) (sym e))) refl
 
 -- too many bytes
-pub null_run : (rows : List Row) (m : Kept) (io : Io) (who : Event) (a : ℕ) (prov : Prov) (n : ℕ) (x : ObjName) (settles : Settling) → Some (x, settles) ≡ heap_start_in m a prov → is_given n ≡ false → rows ≡ m.rows →
+null_run : (rows : List Row) (m : Kept) (io : Io) (who : Event) (a : ℕ) (prov : Prov) (n : ℕ) (x : ObjName) (settles : Settling) → Some (x, settles) ≡ heap_start_in m a prov → is_given n ≡ false → rows ≡ m.rows →
     resizing m io rows who a prov n ≡ Done null (settling_items settles ++ Alive x ∷ []) (after_settling settles (store_of m io))
 null_run rows m io who a prov n x settles found given same =
     let u = after_settling settles (store_of m io) in
@@ -387,24 +326,25 @@ null_run rows m io who a prov n x settles found given same =
     ∙ behind_done (settling_items settles) (Alive x ∷ []) null u in
     ap (created_within n (store_of m io)) run_is ∙ ap (λ (b : Bool). cond (b && nat_lt (2 ^ 26) (created_with (store_of m io) n)) (Outside PastCreated (created_with (store_of m io) n)) (Done null (settling_items settles ++ Alive x ∷ []) u)) given
 
-pub null_does : (rows : List Row) (m : Kept) (io : Io) (who : Event) (a : ℕ) (prov : Prov) (n : ℕ) (x : ObjName) (settles : Settling) (v : Value) (old is : List Item) (s : Store) → Some (x, settles) ≡ heap_start_in m a prov → is_given n ≡ false → rows ≡ m.rows →
+pub null_does : (rows : List Row) (m : Kept) (io : Io) (who : Event) (a : ℕ) (prov : Prov) (n : ℕ) (x : ObjName) (settles : Settling) (v : Value) (old is : List Item) (s : Store) → Some (x, settles) ≡ heap_start_in m a prov → 1048576 < n → rows ≡ m.rows →
     v ≡ Ptr 0 Empty → old ≡ [] → is ≡ old ++ (settling_items settles ++ Alive x ∷ []) → s ≡ after_settling settles (store_of m io) → Does given_value (Ok v) is s (resizing m io rows who a prov n)
-null_does rows m io who a prov n x settles v old is s found given same value none noted after =
+null_does rows m io who a prov n x settles v old is s found over same value none noted after =
     does_same given_value (Ok v) is s (resizing m io rows who a prov n) (Done null (settling_items settles ++ Alive x ∷ []) (after_settling settles (store_of m io)))
-    (null_run rows m io who a prov n x settles found given same) (value, noted ∙ ap (λ (os : List Item). os ++ (settling_items settles ++ Alive x ∷ [])) none, after)
+    (null_run rows m io who a prov n x settles found (over_given n over) same) (value, noted ∙ ap (λ (os : List Item). os ++ (settling_items settles ++ Alive x ∷ [])) none, after)
 
 -- too many bytes in all
-pub outside_told : (m : Kept) (io : Io) (who : Event) (a : ℕ) (prov : Prov) (n : ℕ) (x : ObjName) (settles : Settling) (is : List Item) → Some (x, settles) ≡ heap_start_in m a prov → is_given n ≡ true → nat_lt (2 ^ 26) (created_with (store_of m io) n) ≡ true →
-    resizing m io (rows_made m (heap_name who) n) who a prov n ≡ Outside PastCreated (created_with (store_of m io) n)
-outside_told m io who a prov n x settles is found given limit =
-    limit_passed n (store_of m io) (run (rows_made m (heap_name who) n) (resized (rows_made m (heap_name who) n) who a prov n) (store_of m io)) given limit
-    (subst Unraised (sym (resized_moves m io who a prov n x settles found given))
-    (unraised_behind (settling_items settles) _ (unraised_touched (Alive x) _ (moved_unraised (has_place (row_of (rows_made m (heap_name who) n) (heap_name who)) n 16) (is_some (life_in (held_of m.objects (heap_name who)))) (rows_made m (heap_name who) n) x (heap_name who) n (after_settling settles (store_of m io))))))
+outside_is : (m : Kept) (io : Io) (who : Event) (a : ℕ) (prov : Prov) (n : ℕ) (x : ObjName) (settles : Settling) → Some (x, settles) ≡ heap_start_in m a prov → is_given n ≡ true → nat_lt (2 ^ 26) (created_with (store_of m io) n) ≡ true →
+    resizing m io m.rows who a prov n ≡ Outside PastCreated (created_with (store_of m io) n)
+outside_is m io who a prov n x settles found given limit =
+    limit_passed n (store_of m io) (run m.rows (resized m.rows who a prov n) (store_of m io)) given limit
+    (subst Unraised (sym (resized_moves m.rows m io who a prov n x settles (λ y. refl) found given))
+    (unraised_behind (settling_items settles) _ (unraised_touched (Alive x) _ (moved_unraised (has_place (row_of m.rows (heap_name who)) n 16) (is_some (life_in (held_of m.objects (heap_name who)))) m.rows x (heap_name who) n (after_settling settles (store_of m io))))))
 
 resizing_is : (m : Kept) (io : Io) (who : Event) (a : ℕ) (prov : Prov) (n : ℕ) (x : ObjName) (settles : Settling) → Some (x, settles) ≡ heap_start_in m a prov → is_given n ≡ true → nat_lt (2 ^ 26) (created_with (store_of m io) n) ≡ false →
-    resizing m io (rows_made m (heap_name who) n) who a prov n ≡ resized_act m io (heap_name who) n x settles
+    resizing m io (rows_made m (heap_name who) n) who a prov n ≡ resized_act (rows_made m (heap_name who) n) m io (heap_name who) n x settles
 resizing_is m io who a prov n x settles found given limit =
-    limit_kept n (store_of m io) (run (rows_made m (heap_name who) n) (resized (rows_made m (heap_name who) n) who a prov n) (store_of m io)) given limit ∙ resized_moves m io who a prov n x settles found given
+    limit_kept n (store_of m io) (run (rows_made m (heap_name who) n) (resized (rows_made m (heap_name who) n) who a prov n) (store_of m io)) given limit
+    ∙ resized_moves (rows_made m (heap_name who) n) m io who a prov n x settles (λ y. start_same m (heap_name who) y n a) found given
 
 -- ---- the object isn't made
 create_run : (p q : Bool) (rows : List Row) (h : ObjName) (n : ℕ) (s : Store) → has_place (row_of rows h) n 16 ≡ p → is_some (s.life h) ≡ q →
@@ -432,19 +372,16 @@ fault_by true true a settles rows x h n is js s t u v d = unplaced_does a h is j
 fault_by true false a settles rows x h n is js s t u v d = made_does a h is js s t v (base_in (row_of rows h)) _ d
 fault_by false q a settles rows x h n is js s t u v d = unplaced_does a h is js s t _ (behind_unplaced (settling_items settles)) d
 
-pub failed_told : (m : Kept) (io : Io) (who : Event) (a : ℕ) (prov : Prov) (n : ℕ) (x : ObjName) (settles : Settling) (b : LibAnswer) (is : List Item) → Some (x, settles) ≡ heap_start_in m a prov → is_given n ≡ true → nat_lt (2 ^ 26) (created_with (store_of m io) n) ≡ false →
-    IsMadeAs (Err b) m io (heap_name who) n → IsTold (Err b) is io (resizing m io (rows_made m (heap_name who) n) who a prov n)
-failed_told m io who a prov n x settles b is found given limit made =
+failed_does : (m : Kept) (io : Io) (who : Event) (a : ℕ) (prov : Prov) (n : ℕ) (x : ObjName) (settles : Settling) (b : LibAnswer) (is : List Item) (t : Store) → Some (x, settles) ≡ heap_start_in m a prov → is_given n ≡ true → nat_lt (2 ^ 26) (created_with (store_of m io) n) ≡ false →
+    IsMadeAs (Err b) m io (heap_name who) n → Does given_value (Err b) is t (resizing m io (rows_made m (heap_name who) n) who a prov n)
+failed_does m io who a prov n x settles b is t found given limit made =
     let rows = rows_made m (heap_name who) n in
     let h = heap_name who in
     let p = has_place (row_of rows h) n 16 in
-    let q = is_some (life_in (held_of m.objects h)) in (
-      store_of m io,
-      (refl, refl, refl),
-      does_same given_value (Err b) is (store_of m io) (resizing m io rows who a prov n) (resized_act m io h n x settles) (resizing_is m io who a prov n x settles found given limit)
-          (fault_by p q b settles rows x h n (Born h ∷ []) is made.0 (store_of m io) (after_settling settles (store_of m io)) (born (store_of m io) h n heap_kind None)
-          (subst (λ (act : Act ℕ). Does (based h) (Err b) (Born h ∷ []) made.0 act) (create_run p q rows h n (store_of m io) refl refl) made.1)),
-    )
+    let q = is_some (life_in (held_of m.objects h)) in
+    does_same given_value (Err b) is t (resizing m io rows who a prov n) (resized_act rows m io h n x settles) (resizing_is m io who a prov n x settles found given limit)
+    (fault_by p q b settles rows x h n (Born h ∷ []) is made.0 t (after_settling settles (store_of m io)) (born (store_of m io) h n heap_kind None)
+    (subst (λ (act : Act ℕ). Does (based h) (Err b) (Born h ∷ []) made.0 act) (create_run p q rows h n (store_of m io) refl refl) made.1))
 
 -- ---- it is made
 prov_by : (x : ObjName) (p : Pointer) (is : List Item) (t : Store) (act : Act ℕ) → Does (based x) (Ok p) is t act → p.prov ≡ Whole x
@@ -469,44 +406,28 @@ moved_noted settles m rows x h n u old mid new kept none first rest =
     ∙ append_twice (settling_items settles) [] (moved_items x h (min (size_in (row_of m.rows x)) n) (min (size_in (row_of m.rows x)) n)) (Alive x)
     ∙ ap₂ (λ (i j : ℕ). settling_items settles ++ (Alive x ∷ moved_items x h i j)) size long
 
-pub moved_told : (m : Kept) (io : Io) (who : Event) (a : ℕ) (prov : Prov) (n : ℕ) (x : ObjName) (settles : Settling) (p : Pointer) (old mid is : List Item) → Some (x, settles) ≡ heap_start_in m a prov → is_given n ≡ true → nat_lt (2 ^ 26) (created_with (store_of m io) n) ≡ false →
+moved_does : (m : Kept) (io : Io) (who : Event) (a : ℕ) (prov : Prov) (n : ℕ) (x : ObjName) (settles : Settling) (p : Pointer) (old mid is : List Item) (t : Store) → Some (x, settles) ≡ heap_start_in m a prov → is_given n ≡ true → nat_lt (2 ^ 26) (created_with (store_of m io) n) ≡ false →
     IsMadeAs (Ok p) m io (heap_name who) n → old ≡ [] → mid ≡ old ++ (settling_items settles ++ Alive x ∷ []) → is ≡ mid ++ moved_items x (heap_name who) (min (size_in (row_of m.rows x)) n) (min (size_in (row_of m.rows x)) n) →
-    IsTold (Ok (Ptr p.addr p.prov)) is io (resizing m io (rows_made m (heap_name who) n) who a prov n)
-moved_told m io who a prov n x settles p old mid is found given limit made none first rest =
+    t ≡ moved_store (rows_made m (heap_name who) n) x (heap_name who) n (after_settling settles (store_of m io)) → Does given_value (Ok (Ptr p.addr p.prov)) is t (resizing m io (rows_made m (heap_name who) n) who a prov n)
+moved_does m io who a prov n x settles p old mid is t found given limit made none first rest store =
     let rows = rows_made m (heap_name who) n in
     let h = heap_name who in
     let u = after_settling settles (store_of m io) in
     let new = is_new rows h n p (Born h ∷ []) (store_of m io) made.0 made.1 in
     let held = is_held (row_of m.rows x) a (held_of m.objects x) (started (start_in m.cells prov) m a (x, settles) (sym found)).1 in
-    let act : resized_act m io h n x settles ≡ Done (pointer (base_in (row_of rows h)) (Whole h)) (settling_items settles ++ (Alive x ∷ moved_items x h (min (size_in (row_of rows x)) n) (length (moved_bytes rows x n u)))) (moved_store rows x h n u) =
+    let act : resized_act rows m io h n x settles ≡ Done (pointer (base_in (row_of rows h)) (Whole h)) (settling_items settles ++ (Alive x ∷ moved_items x h (min (size_in (row_of rows x)) n) (length (moved_bytes rows x n u)))) (moved_store rows x h n u) =
     ap₂ (λ (b c : Bool). behind (settling_items settles) (touched (Alive x) (moved_act b c rows x h n u))) new.place new.absent
-    ∙ behind_done (settling_items settles) (Alive x ∷ moved_items x h (min (size_in (row_of rows x)) n) (length (moved_bytes rows x n u))) (pointer (base_in (row_of rows h)) (Whole h)) (moved_store rows x h n u) in (
-      moved_store rows x h n u,
-      streams_moved settles rows x h n m io,
-      does_same given_value (Ok (Ptr p.addr p.prov)) is (moved_store rows x h n u) (resizing m io rows who a prov n)
-          (Done (pointer (base_in (row_of rows h)) (Whole h)) (settling_items settles ++ (Alive x ∷ moved_items x h (min (size_in (row_of rows x)) n) (length (moved_bytes rows x n u)))) (moved_store rows x h n u))
-          (resizing_is m io who a prov n x settles found given limit ∙ act)
-          (ap₂ Ptr new.base (prov_by h p (Born h ∷ []) made.0 (run rows (create rows h n 16 heap_kind None) (store_of m io)) made.1), moved_noted settles m rows x h n u old mid is (row_kept m h x n held) none first rest, refl),
-    )
+    ∙ behind_done (settling_items settles) (Alive x ∷ moved_items x h (min (size_in (row_of rows x)) n) (length (moved_bytes rows x n u))) (pointer (base_in (row_of rows h)) (Whole h)) (moved_store rows x h n u) in
+    does_same given_value (Ok (Ptr p.addr p.prov)) is t (resizing m io rows who a prov n)
+    (Done (pointer (base_in (row_of rows h)) (Whole h)) (settling_items settles ++ (Alive x ∷ moved_items x h (min (size_in (row_of rows x)) n) (length (moved_bytes rows x n u)))) (moved_store rows x h n u))
+    (resizing_is m io who a prov n x settles found given limit ∙ act)
+    (ap₂ Ptr new.base (prov_by h p (Born h ∷ []) made.0 (run rows (create rows h n 16 heap_kind None) (store_of m io)) made.1), moved_noted settles m rows x h n u old mid is (row_kept m h x n held) none first rest, store)
 
--- ---- how many bytes
-pub over_given : (n : ℕ) → 1048576 < n → is_given n ≡ false
-over_given n h = grind (arith, nat_tests)
-
-pub some_given : (n : ℕ) → n ≢ 0 → n ≤ 1048576 → is_given n ≡ true
-some_given zero some h = absurd (some refl)
-some_given (suc n) some h = grind (arith, nat_tests)
-
-told_given : (r : Result Value LibAnswer) (is : List Item) (m : Kept) (after : List Row) (io : Io) (who : Event) (a : ℕ) (prov : Prov) (n : ℕ) → is_given n ≡ true →
-    IsTold r is io (resizing m io (rows_made m (heap_name who) n) who a prov n) → IsTold r is io (resizing m io (rows_resized m after who n) who a prov n)
-told_given r is m after io who a prov n given told =
-    subst (λ (b : Bool). IsTold r is io (resizing m io (cond b (rows_made m (heap_name who) n) after) who a prov n)) (sym given) told
-
-pub null_told : (m : Kept) (after : List Row) (io : Io) (who : Event) (a : ℕ) (prov : Prov) (n : ℕ) (x : ObjName) (settles : Settling) (v : Value) (old is : List Item) → Some (x, settles) ≡ heap_start_in m a prov → 1048576 < n → after ≡ m.rows →
-    v ≡ Ptr 0 Empty → old ≡ [] → is ≡ old ++ (settling_items settles ++ Alive x ∷ []) → IsTold (Ok v) is io (resizing m io (rows_resized m after who n) who a prov n)
-null_told m after io who a prov n x settles v old is found over same value none noted =
-    subst (λ (b : Bool). IsTold (Ok v) is io (resizing m io (cond b (rows_made m (heap_name who) n) after) who a prov n)) (sym (over_given n over))
-    (after_settling settles (store_of m io), streams_after settles m io, null_does after m io who a prov n x settles v old is (after_settling settles (store_of m io)) found (over_given n over) same value none noted refl)
+-- the same under the rows that there are then
+under_made : (r : Result Value LibAnswer) (is : List Item) (t : Store) (m : Kept) (io : Io) (after : List Row) (who : Event) (a : ℕ) (prov : Prov) (n : ℕ) (h : ObjName) → h ≡ heap_name who → after ≡ rows_made m h n →
+    Does given_value r is t (resizing m io (rows_made m (heap_name who) n) who a prov n) → Does given_value r is t (resizing m io after who a prov n)
+under_made r is t m io after who a prov n h name rows does =
+    subst (λ (rs : List Row). Does given_value r is t (resizing m io rs who a prov n)) (sym (rows ∙ ap (λ (y : ObjName). rows_made m y n) name)) does
 
 abbrev refusing : LibAnswer → Result (Unit {0}) LibAnswer
 refusing a = Err a
@@ -519,49 +440,40 @@ passed_split true a limit e = (refl, same_refusal a limit e)
 passed_split false a limit e = absurd (cc)
 
 -- the limit on created bytes
-pub limit_told : (m : Kept) (io : Io) (who : Event) (a : ℕ) (prov : Prov) (n : ℕ) (x : ObjName) (settles : Settling) (b : LibAnswer) (is : List Item) → Some (x, settles) ≡ heap_start_in m a prov → n ≢ 0 → n ≤ 1048576 →
-    refusing b ≡ cond (nat_lt (2 ^ 26) (created_with (store_of m io) n)) (refusing (answers.Outside PastCreated (created_with (store_of m io) n))) (Ok tt) → IsTold (Err b) is io (resizing m io (rows_resized m m.rows who n) who a prov n)
-limit_told m io who a prov n x settles b is found some most limit =
-    let given = some_given n some most in
+pub limit_does : (m : Kept) (io : Io) (who : Event) (a : ℕ) (prov : Prov) (n : ℕ) (x : ObjName) (settles : Settling) (b : LibAnswer) (is : List Item) → Some (x, settles) ≡ heap_start_in m a prov → n ≢ 0 → n ≤ 1048576 →
+    refusing b ≡ cond (nat_lt (2 ^ 26) (created_with (store_of m io) n)) (refusing (answers.Outside PastCreated (created_with (store_of m io) n))) (Ok tt) → Does given_value (Err b) is (store_of m io) (resizing m io m.rows who a prov n)
+limit_does m io who a prov n x settles b is found some most limit =
     let q = passed_split (nat_lt (2 ^ 26) (created_with (store_of m io) n)) b (answers.Outside PastCreated (created_with (store_of m io) n)) limit in
-    told_given (Err b) is m m.rows io who a prov n given (
-      store_of m io,
-      (refl, refl, refl),
-      subst (λ (c : LibAnswer). Does given_value (Err c) is (store_of m io) (resizing m io (rows_made m (heap_name who) n) who a prov n)) (sym q.1)
-          (does_same given_value (Err (answers.Outside PastCreated (created_with (store_of m io) n))) is (store_of m io) (resizing m io (rows_made m (heap_name who) n) who a prov n) (Outside PastCreated (created_with (store_of m io) n))
-          (outside_told m io who a prov n x settles is found given q.0) (refl, refl)),
-    )
+    subst (λ (c : LibAnswer). Does given_value (Err c) is (store_of m io) (resizing m io m.rows who a prov n)) (sym q.1)
+    (does_same given_value (Err (answers.Outside PastCreated (created_with (store_of m io) n))) is (store_of m io) (resizing m io m.rows who a prov n) (Outside PastCreated (created_with (store_of m io) n))
+    (outside_is m io who a prov n x settles found (some_given n some most) q.0) (refl, refl))
 
 named_as : (r : Result Pointer LibAnswer) (m : Kept) (io : Io) (h k : ObjName) (n : ℕ) → h ≡ k → IsMadeAs r m io h n → IsMadeAs r m io k n
 named_as r m io h k n e made = subst (λ (y : ObjName). IsMadeAs r m io y n) e made
 
-pub failing_told : (m : Kept) (after : List Row) (io : Io) (who : Event) (a : ℕ) (prov : Prov) (n : ℕ) (x h : ObjName) (settles : Settling) (b : LibAnswer) (is : List Item) → Some (x, settles) ≡ heap_start_in m a prov → n ≢ 0 → n ≤ 1048576 → h ≡ heap_name who →
-    nat_lt (2 ^ 26) (created_with (store_of m io) n) ≡ false → IsMadeAs (Err b) m io h n → IsTold (Err b) is io (resizing m io (rows_resized m after who n) who a prov n)
-failing_told m after io who a prov n x h settles b is found some most name limit made =
-    let given = some_given n some most in
-    told_given (Err b) is m after io who a prov n given (failed_told m io who a prov n x settles b is found given limit (named_as (Err b) m io h (heap_name who) n name made))
+failing_there : (m : Kept) (after : List Row) (io : Io) (who : Event) (a : ℕ) (prov : Prov) (n : ℕ) (x h : ObjName) (settles : Settling) (b : LibAnswer) (is : List Item) (t : Store) → Some (x, settles) ≡ heap_start_in m a prov → n ≢ 0 → n ≤ 1048576 → h ≡ heap_name who →
+    nat_lt (2 ^ 26) (created_with (store_of m io) n) ≡ false → after ≡ rows_made m h n → IsMadeAs (Err b) m io h n → Does given_value (Err b) is t (resizing m io after who a prov n)
+failing_there m after io who a prov n x h settles b is t found some most name limit rows made =
+    under_made (Err b) is t m io after who a prov n h name rows (failed_does m io who a prov n x settles b is t found (some_given n some most) limit (named_as (Err b) m io h (heap_name who) n name made))
 
-pub done_told : (m : Kept) (after : List Row) (io : Io) (who : Event) (a : ℕ) (prov : Prov) (n : ℕ) (x h : ObjName) (settles : Settling) (p : Pointer) (v : Value) (old mid is : List Item) → Some (x, settles) ≡ heap_start_in m a prov → n ≢ 0 → n ≤ 1048576 → h ≡ heap_name who →
-    nat_lt (2 ^ 26) (created_with (store_of m io) n) ≡ false → v ≡ Ptr p.addr p.prov → IsMadeAs (Ok p) m io h n → old ≡ [] → mid ≡ old ++ (settling_items settles ++ Alive x ∷ []) →
-    is ≡ mid ++ moved_items x h (min (size_in (row_of m.rows x)) n) (min (size_in (row_of m.rows x)) n) → IsTold (Ok v) is io (resizing m io (rows_resized m after who n) who a prov n)
-done_told m after io who a prov n x h settles p v old mid is found some most name limit value made none first rest =
-    let given = some_given n some most in
+pub failing_does : (m : Kept) (after : List Row) (io : Io) (who : Event) (a : ℕ) (prov : Prov) (n : ℕ) (x h : ObjName) (settles : Settling) (b : LibAnswer) (is : List Item) (t : Store) → Some (x, settles) ≡ heap_start_in m a prov → n ≢ 0 → n ≤ 1048576 → h ≡ heap_name who →
+    nat_lt (2 ^ 26) (created_with (store_of m io) n) ≡ false → (unmade b ≢ Err answers.NoMemory → after ≡ rows_made m h n) → IsMadeAs (Err b) m io h n → Does given_value (Err b) is t (resizing m io after who a prov n)
+failing_does m after io who a prov n x h settles answers.NoMemory is t found some most name limit rows made = tt
+failing_does m after io who a prov n x h settles b is t found some most name limit rows made =
+    failing_there m after io who a prov n x h settles b is t found some most name limit (rows (λ e. absurd (cc))) made
+
+pub done_does : (m : Kept) (after : List Row) (io : Io) (who : Event) (a : ℕ) (prov : Prov) (n : ℕ) (x h : ObjName) (settles : Settling) (p : Pointer) (v : Value) (old mid is : List Item) (t : Store) → Some (x, settles) ≡ heap_start_in m a prov → n ≢ 0 → n ≤ 1048576 → h ≡ heap_name who →
+    nat_lt (2 ^ 26) (created_with (store_of m io) n) ≡ false → v ≡ Ptr p.addr p.prov → after ≡ rows_made m h n → IsMadeAs (Ok p) m io h n → old ≡ [] → mid ≡ old ++ (settling_items settles ++ Alive x ∷ []) →
+    is ≡ mid ++ moved_items x h (min (size_in (row_of m.rows x)) n) (min (size_in (row_of m.rows x)) n) → t ≡ moved_store (rows_made m h n) x h n (after_settling settles (store_of m io)) → Does given_value (Ok v) is t (resizing m io after who a prov n)
+done_does m after io who a prov n x h settles p v old mid is t found some most name limit value rows made none first rest store =
     let size = min (size_in (row_of m.rows x)) n in
-    subst (λ (w : Value). IsTold (Ok w) is io (resizing m io (rows_resized m after who n) who a prov n)) (sym value)
-    (told_given (Ok (Ptr p.addr p.prov)) is m after io who a prov n given
-    (moved_told m io who a prov n x settles p old mid is found given limit (named_as (Ok p) m io h (heap_name who) n name made) none first (rest ∙ ap (λ (y : ObjName). mid ++ moved_items x y size size) name)))
+    subst (λ (w : Value). Does given_value (Ok w) is t (resizing m io after who a prov n)) (sym value)
+    (under_made (Ok (Ptr p.addr p.prov)) is t m io after who a prov n h name rows
+    (moved_does m io who a prov n x settles p old mid is t found (some_given n some most) limit (named_as (Ok p) m io h (heap_name who) n name made) none first (rest ∙ ap (λ (y : ObjName). mid ++ moved_items x y size size) name)
+    (store ∙ ap (λ (y : ObjName). moved_store (rows_made m y n) x y n (after_settling settles (store_of m io))) name)))
 
 pub rows_rest : (new m : Kept) → record new { cells = [] } ≡ record m { cells = [] } → new.rows ≡ m.rows
 rows_rest new m e = ap (λ (k : Kept). k.rows) e
-
-abbrev pub no_value : LibAnswer → Result Value LibAnswer
-no_value a = Err a
-
-same_unmade : (a b : LibAnswer) → unmade a ≡ unmade b → a ≡ b
-same_unmade a b e = cc
-
-pub not_wanting : (a : LibAnswer) → no_value a ≢ no_value answers.NoMemory → unmade a ≢ unmade answers.NoMemory
-not_wanting a h e = h (ap no_value (same_unmade a answers.NoMemory e))
 
 -- ---- realloc to no bytes
 null_by : (v : Value) (is : List Item) (t : Store) (act : Act (Unit {0})) → v ≡ Ptr 0 Empty → Does (λ u. u) (Ok tt) is t act → Does given_value (Ok v) is t (then act (λ w u. Done null [] u))
@@ -612,48 +524,25 @@ limit_none s (Ended k is u) = refl
 limit_none s (Outside c k) = refl
 limit_none s Unplaced = refl
 
-none_changes_by : (r : Result Value LibAnswer) (is : List Item) (t : Store) (m : Kept) (io : Io) (after : List Row) (who : Event) (a : ℕ) (prov : Prov) → a ≢ 0 →
-    Does given_value r is t (run after (released after a prov) (store_of m io)) → Does given_value r is t (changing m io (rows_resized m after who 0) who a prov 0)
-none_changes_by r is t m io after who a prov some h =
-    does_same given_value r is t (changing m io (rows_resized m after who 0) who a prov 0) (run after (released after a prov) (store_of m io))
-    (limit_none (store_of m io) (run after (realloc after who a prov 0) (store_of m io)) ∙ ap (λ (q : Script LibValue). run after q (store_of m io)) (sym (realloc_none after who a prov some))) h
+none_changes_by : (r : Result Value LibAnswer) (is : List Item) (t : Store) (m : Kept) (io : Io) (rows : List Row) (who : Event) (a : ℕ) (prov : Prov) → a ≢ 0 →
+    Does given_value r is t (run rows (released rows a prov) (store_of m io)) → Does given_value r is t (changing m io rows who a prov 0)
+none_changes_by r is t m io rows who a prov some h =
+    does_same given_value r is t (changing m io rows who a prov 0) (run rows (released rows a prov) (store_of m io))
+    (limit_none (store_of m io) (run rows (realloc rows who a prov 0) (store_of m io)) ∙ ap (λ (q : Script LibValue). run rows q (store_of m io)) (sym (realloc_none rows who a prov some))) h
 
-pub none_changes : (r : Result Value LibAnswer) (is : List Item) (t : Store) (m : Kept) (io : Io) (after : List Row) (who : Event) (a : ℕ) (prov : Prov) (n : ℕ) → a ≢ 0 → n ≡ 0 →
-    Does given_value r is t (run after (released after a prov) (store_of m io)) → Does given_value r is t (changing m io (rows_resized m after who n) who a prov n)
-none_changes r is t m io after who a prov n some none h =
-    subst (λ (k : ℕ). Does given_value r is t (changing m io (rows_resized m after who k) who a prov k)) (sym none) (none_changes_by r is t m io after who a prov some h)
+pub none_changes : (r : Result Value LibAnswer) (is : List Item) (t : Store) (m : Kept) (io : Io) (rows : List Row) (who : Event) (a : ℕ) (prov : Prov) (n : ℕ) → a ≢ 0 → n ≡ 0 →
+    Does given_value r is t (run rows (released rows a prov) (store_of m io)) → Does given_value r is t (changing m io rows who a prov n)
+none_changes r is t m io rows who a prov n some none h =
+    subst (λ (k : ℕ). Does given_value r is t (changing m io rows who a prov k)) (sym none) (none_changes_by r is t m io rows who a prov some h)
 
-pub told_changes : (r : Result Value LibAnswer) (is : List Item) (m : Kept) (io : Io) (rows : List Row) (who : Event) (a : ℕ) (prov : Prov) (n : ℕ) → a ≢ 0 → n ≢ 0 → IsTold r is io (resizing m io rows who a prov n) → IsTold r is io (changing m io rows who a prov n)
-told_changes r is m io rows who a prov n some more h =
-    subst (λ (q : Script LibValue). IsTold r is io (created_within n (store_of m io) (run rows q (store_of m io)))) (realloc_some rows who a prov n some more) h
+pub some_changes : (r : Result Value LibAnswer) (is : List Item) (t : Store) (m : Kept) (io : Io) (rows : List Row) (who : Event) (a : ℕ) (prov : Prov) (n : ℕ) → a ≢ 0 → n ≢ 0 → Does given_value r is t (resizing m io rows who a prov n) → Does given_value r is t (changing m io rows who a prov n)
+some_changes r is t m io rows who a prov n some more h =
+    subst (λ (q : Script LibValue). Does given_value r is t (created_within n (store_of m io) (run rows q (store_of m io)))) (realloc_some rows who a prov n some more) h
 
 -- ---- by arguments
-pub told_args : (r : Result Value LibAnswer) (is : List Item) (m : Kept) (io : Io) (after : List Row) (who : Event) (a b : ℕ) (p q : Prov) (n k : ℕ) → a ≡ b → p ≡ q → n ≡ k →
-    IsTold r is io (changing m io (rows_resized m after who n) who a p n) → IsTold r is io (changing m io (rows_resized m after who k) who b q k)
-told_args r is m io after who a b p q n k address prov size h =
-    subst (λ (j : ℕ). IsTold r is io (changing m io (rows_resized m after who j) who b q j)) size
-    (subst (λ (c : Prov). IsTold r is io (changing m io (rows_resized m after who n) who b c n)) prov
-    (subst (λ (c : ℕ). IsTold r is io (changing m io (rows_resized m after who n) who c p n)) address h))
-
-pub does_args : (r : Result Value LibAnswer) (is : List Item) (t : Store) (m : Kept) (io : Io) (after : List Row) (who : Event) (a b : ℕ) (p q : Prov) (n k : ℕ) → a ≡ b → p ≡ q → n ≡ k →
-    Does given_value r is t (changing m io (rows_resized m after who n) who a p n) → Does given_value r is t (changing m io (rows_resized m after who k) who b q k)
-does_args r is t m io after who a b p q n k address prov size h =
-    subst (λ (j : ℕ). Does given_value r is t (changing m io (rows_resized m after who j) who b q j)) size
-    (subst (λ (c : Prov). Does given_value r is t (changing m io (rows_resized m after who n) who b c n)) prov
-    (subst (λ (c : ℕ). Does given_value r is t (changing m io (rows_resized m after who n) who c p n)) address h))
-
-pub unmoved_args : (a b n k : ℕ) → a ≡ b → n ≡ k → moves b k ≡ false → moves a n ≡ false
-unmoved_args a b n k address size e = ap₂ moves address size ∙ e
-
--- ---- the old object dies
-dead_lives : (o : Option Life) → is_live (dead o) ≡ false
-dead_lives None = refl
-dead_lives (Some l) = refl
-
-buried_left : {V : Type 0} (v w : V) (is js : List Item) (s u : Store) → Done v is s ≡ Done w js u → u ≡ s
-buried_left v w is js s u e = cc
-
-pub dies_then : (rows : List Row) (x : ObjName) (is : List Item) (s u : Store) → run rows (kill x) s ≡ Done tt is u → is_live (u.life x) ≡ false
-dies_then rows x is s u e =
-    ap (λ (t : Store). is_live (t.life x)) (buried_left tt tt (Dies x ∷ []) is (buried s x) u e)
-    ∙ ap (λ (b : Bool). is_live (cond b (dead (s.life x)) (s.life x))) (same_object_refl x) ∙ dead_lives (s.life x)
+pub does_args : (r : Result Value LibAnswer) (is : List Item) (t : Store) (m : Kept) (io : Io) (rows : List Row) (who : Event) (a b : ℕ) (p q : Prov) (n k : ℕ) → a ≡ b → p ≡ q → n ≡ k →
+    Does given_value r is t (changing m io rows who a p n) → Does given_value r is t (changing m io rows who b q k)
+does_args r is t m io rows who a b p q n k address prov size h =
+    subst (λ (j : ℕ). Does given_value r is t (changing m io rows who b q j)) size
+    (subst (λ (c : Prov). Does given_value r is t (changing m io rows who b c n)) prov
+    (subst (λ (c : ℕ). Does given_value r is t (changing m io rows who c p n)) address h))

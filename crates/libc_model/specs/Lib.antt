@@ -3,4 +3,3 @@ pub mod Seen
 pub mod Parts
 pub mod Writes
 pub mod Making
-pub mod Told

@@ -1,24 +1,23 @@
 -- New objects of calloc and realloc as a memory makes them (own).
-use Rattle.std.specs.Prelude.{◌≡◌, ◌≢◌, ℕ, ◌<◌, ◌≤◌, ◌==◌, Bool, true, not, ◌&&◌, List, Option, Some, None, Result, if◌then◌else◌}
-use Rattle.ub_base.specs.declared.clause.Clause.{Clause}
+use Rattle.std.specs.Prelude.{◌≡◌, ◌≢◌, ℕ, ◌<◌, ◌≤◌, true, min, List, Option, Some, None, if◌then◌else◌}
 use Rattle.ub_base.specs.declared.clause.Clause.TheVariants.{Realloc as ReallocOfOther}
 use Rattle.ub_base.specs.declared.names.Event.{Event}
-use Rattle.ub_base.specs.declared.names.Item.{Item}
 use Rattle.ub_base.specs.declared.names.ObjName.{ObjName}
 use Rattle.addr_map.specs.declared.map.Row.{Row}
 use Rattle.addr_map.specs.Rows.{row_of, row_at}
+use Rattle.addr_map.specs.Sound.{Above}
 use Rattle.exposure.specs.declared.prov.Prov.{Prov}
 use Rattle.exposure.specs.declared.prov.Prov.TheVariants.{Empty, Whole, Either}
 use Rattle.exposure.specs.Cells.{Cells, kept_in, is_other}
-use Rattle.prov_memory.specs.declared.answer.LibAnswer.{LibAnswer}
-use Rattle.prov_memory.specs.declared.answer.LibAnswer.TheVariants as answers
-use Rattle.prov_memory.specs.Store.{Life, Store}
+use Rattle.prov_memory.specs.Store.{Life, Store, TaggedByte, range_from, with_bytes, born, buried}
 use Rattle.prov_memory.specs.Script.{Script, Give, ◌>>=◌, ◌>>◌}
-use Rattle.prov_memory.specs.Streams.{Io}
+use Rattle.prov_memory.specs.Acts.{size_in}
 use Rattle.prov_memory.specs.Held.{held_of}
-use Rattle.prov_memory.specs.Memory.{Kept, life_in, cannot_create, base_by, rows_with}
+use Rattle.prov_memory.specs.Memory.{Kept, AreKnown, life_in, cannot_create, base_by, rows_with}
 use Rattle.prov_memory.specs.Made.{Settling}
-use Rattle.libc_spec.specs.Library.{LibValue, null, free, is_given, heap_kind, heap_name, is_heap_start}
+use Rattle.prov_memory.specs.Tags.{AreTagged}
+use Rattle.libc_spec.specs.Library.{LibValue, null, free, heap_kind, is_heap_start}
+use Rattle.libc_model.specs.Answers.{AreBare}
 
 -- an allocated object as it begins
 abbrev pub new_life : Life
@@ -56,19 +55,21 @@ pub record IsStart (m : Kept) (x : ObjName) (a : ℕ) : Type 0 where
   pub there : a ≢ 0
   pub begins : is_heap_start (row_of m.rows x) a (life_in (held_of m.objects x)) ≡ true
 
--- the rows under which a realloc to so many bytes is its definition: those of the memory after it, or those that its new object makes
-abbrev pub rows_resized : Kept → List Row → Event → ℕ → List Row
-rows_resized m rows who n = if is_given n then rows_made m (heap_name who) n else rows
+-- what a realloc takes of a memory: its pieces have their provenances and its tags their types, no object of the heap has a declared
+-- type (6.5p6), and no row begins below 16,777,216
+pub record CanMove (m : Kept) : Type 0 where
+  pub known : AreKnown m
+  pub tagged : AreTagged m
+  pub bare : AreBare m
+  pub high : Above 16777216 m.rows
 
--- the answer is undefined behaviour of a clause of which P holds
-abbrev pub IfRaised : LibAnswer → (Clause → Type 0) → Type 0
-IfRaised (answers.Raise c) P = P c
-IfRaised answers.NoMemory P = Unit {0}
-IfRaised answer P = ⊥
+-- the bytes that an object and one of so many bytes both have
+abbrev pub moved_bytes : List Row → ObjName → ℕ → Store → List TaggedByte
+moved_bytes rows x n s = range_from (s.bytes x) 0 (min (size_in (row_of rows x)) n)
 
--- a realloc of this address to so many bytes makes a new object of an old one, unless it is refused
-abbrev pub moves : ℕ → ℕ → Bool
-moves a n = not (a == 0) && is_given n
+-- a new object begins with them, and the old one is dead
+abbrev pub moved_store : List Row → ObjName → ObjName → ℕ → Store → Store
+moved_store rows x new n s = buried (with_bytes (born s new n heap_kind None) new 0 (moved_bytes rows x n s)) x
 
 -- a realloc to no bytes
 abbrev pub released : List Row → ℕ → Prov → Script LibValue

@@ -1,34 +1,33 @@
 // Allocation (7.22.3).
 
-ghost use Rattle.std.specs.Prelude.{◌≡◌, ◌≢◌, ◌+◌, ◌*◌, ◌^◌, ◌∷◌, ◌++◌, length, min, max, true, false, nat_lt, Some, None, Ok, Err, IfOk, IfErr, OnOk, OnErr, [], if◌then◌else◌};
+ghost use Rattle.std.specs.Prelude.{◌≡◌, ◌≢◌, ◌+◌, ◌*◌, ◌^◌, ◌∷◌, ◌++◌, length, min, max, true, nat_lt, Some, None, Ok, Err, IfOk, OnOk, OnErr, [], if◌then◌else◌};
 ghost use Rattle.ub_base.specs.declared.clause.Cause.TheVariants.{Created};
 ghost use Rattle.ub_base.specs.declared.names.Item.TheVariants.{Read, Born, Alive, Write, Dies};
 ghost use Rattle.exposure.specs.declared.prov.Prov.TheVariants.{Whole, Either};
 ghost use Rattle.exposure.specs.Cells.{has_cell, kept_in, is_other};
 ghost use Rattle.prov_memory.specs.declared.answer.LibAnswer.TheVariants as answers;
-ghost use Rattle.prov_memory.specs.Acts.{Seen, create, load_block, base_in, size_in, stored_from};
+ghost use Rattle.prov_memory.specs.Acts.{Seen, create, base_in, size_in, stored_from};
 ghost use Rattle.prov_memory.specs.Held.{held_of};
-ghost use Rattle.prov_memory.specs.Memory.{AreKnown, CellsKnown, HasCell, life_in, store_of};
+ghost use Rattle.prov_memory.specs.Memory.{AreKnown, CellsKnown, HasCell, IsBorn, life_in, store_of};
 ghost use Rattle.prov_memory.specs.Made.{CanSettle, after_settling, settling_items};
-ghost use Rattle.prov_memory.specs.Script.{run, Raised};
-ghost use Rattle.prov_memory.specs.Sound.{IsSound};
-ghost use Rattle.prov_memory.specs.Store.{Store, is_live, with_bytes};
+ghost use Rattle.prov_memory.specs.Script.{run};
+ghost use Rattle.prov_memory.specs.Store.{Store, with_bytes};
 ghost use Rattle.prov_memory.specs.Stores.{Sees, IsShort, tagged_all};
 ghost use Rattle.prov_memory.specs.Streams.{Io};
 ghost use Rattle.addr_map.specs.Rows.{row_of};
 ghost use Rattle.addr_map.specs.Sound.{Above};
-ghost use Rattle.c_types.specs.declared.library.LibFunc.TheVariants.{Calloc};
-ghost use Rattle.libc_spec.specs.Library.{argument_at, prov_in, asked, is_given, is_heap_start, heap_name, heap_kind, malloc, calloc, free, realloc, resized, created_within};
+ghost use Rattle.c_types.specs.declared.library.LibFunc.TheVariants.{Calloc, Realloc};
+ghost use Rattle.libc_spec.specs.Library.{asked, library, is_given, is_heap_start, heap_name, heap_kind, malloc, calloc, free, realloc, resized, created_within};
 ghost use Rattle.libc_model.specs.Seen.{values_seen};
-ghost use Rattle.libc_model.specs.Told.{IsTold, OldDies, FirstDies, moves_old, realloc_act};
-ghost use Rattle.libc_model.specs.Making.{moves, released, rows_made, rows_resized, IsNewAt, IsStart, IfRaised, start_in, heap_start_in};
-ghost use Rattle.libc_model.specs.Answers.{Does, are_sizes, given_value};
+ghost use Rattle.libc_model.specs.Making.{moved_store, released, rows_made, CanMove, IsNewAt, IsStart, start_in, heap_start_in};
+ghost use Rattle.libc_model.specs.Answers.{Does, IsCall, are_sizes, given_value};
 
-use crate::arguments::{Pointer, pointer_at, size_at};
+use crate::arguments::{Pointer, Range, pointer_at, size_at};
 use crate::bytes::filled;
+use crate::ranges::copied;
 use addr_map::Row;
 use exposure::Prov;
-use prov_memory::{Block, CreateFault, LibAnswer, MemFault, Memory, ObjKind, Touched, Value, Via};
+use prov_memory::{Block, CreateFault, LibAnswer, Memory, ObjKind, Touched, Value, Via};
 use std::alloc::Global;
 use ub_base::{Cause, Clause, Event, Item, NoMemory, ObjName};
 
@@ -90,8 +89,8 @@ fn check_created(m: &Memory, size: u64) -> Result<(), LibAnswer>
 fn created(m: &mut Memory, name: ObjName, size: u64, t: &mut Touched) -> Result<Pointer, LibAnswer>
     ensures exact { (io : Io) → AreKnown m.old → Does (λ base. record { addr = base; prov = Whole name }) result t.new (store_of m.new io) (run m.new.rows (create m.new.rows name size 16 heap_kind None) (store_of m.old io)) }
     ensures rows { result ≢ Err answers.NoMemory → m.new.rows ≡ rows_made m.old name size }
+    ensures born { IfOk result (λ new. IsBorn m.old m.new name new.addr size 16 heap_kind None) }
     ensures known { AreKnown m.old → OnOk result (AreKnown m.new) }
-    ensures sound { IsSound m.old → OnOk result (IsSound m.new) }
     ensures same { OnErr result (result ≢ Err answers.NoMemory → m.new ≡ m.old) }
 {
     let kind = ObjKind {
@@ -112,9 +111,7 @@ fn created(m: &mut Memory, name: ObjName, size: u64, t: &mut Touched) -> Result<
 /// malloc: null for 0 bytes and for more than 2^20 (own).
 pub fn allocate(size: u64, who: Event, m: &mut Memory, t: &mut Touched) -> Result<Value, LibAnswer>
     ensures exact { (io : Io) → AreKnown m.old → Does given_value result t.new (store_of m.new io) (created_within size (store_of m.old io) (run m.new.rows (malloc m.new.rows who size) (store_of m.old io))) }
-    ensures made { (io : Io) → AreKnown m.old → Does given_value result t.new (store_of m.new io) (created_within size (store_of m.old io) (run (rows_resized m.old m.new.rows who size) (malloc (rows_resized m.old m.new.rows who size) who size) (store_of m.old io))) }
     ensures known { AreKnown m.old → OnOk result (AreKnown m.new) }
-    ensures sound { IsSound m.old → OnOk result (IsSound m.new) }
     ensures same { OnErr result (result ≢ Err answers.NoMemory → m.new ≡ m.old) }
 {
     t.clear();
@@ -194,7 +191,6 @@ fn fill(m: &mut Memory, object: ObjName, addr: u64, via: Via, block: &Block, scr
     ensures exact { IsShort via (length block.now.cells) → (seen : Seen) → Sees m.old via seen → IsNewAt m.old object addr (length (tagged_all m.old block.now.cells)) → (io : Io) → store_of m.new io ≡ with_bytes (store_of m.old io) object 0 (stored_from None seen 0 (tagged_all m.old block.now.cells)) }
     ensures rows { m.new.rows ≡ m.old.rows }
     ensures known { AreKnown m.old → CellsKnown (length m.old.origins) block.now.cells → AreKnown m.new }
-    ensures sound { IsSound m.old → CellsKnown (length m.old.origins) block.now.cells → IsSound m.new }
 {
     let _ = m.store(true, via, 1, addr, Prov::Whole(object), block, scratch);
 }
@@ -229,7 +225,6 @@ pub fn free(
 ) -> Result<(), LibAnswer>
     ensures exact { (io : Io) → HasCell m.old pointer.prov → Does (λ u. u) result t.new (store_of m.new io) (run m.new.rows (free m.new.rows pointer.addr pointer.prov clause) (store_of m.old io)) }
     ensures known { AreKnown m.old → AreKnown m.new }
-    ensures sound { IsSound m.old → IsSound m.new }
     ensures same { OnErr result (m.new ≡ m.old) }
 {
     t.clear();
@@ -256,7 +251,6 @@ fn free_object(
     requires { addr ≢ 0 }
     ensures exact { (io : Io) → Does (λ u. u) result t.new (store_of m.new io) (run m.new.rows (free m.new.rows addr (Whole object) clause) (store_of m.old io)) }
     ensures known { AreKnown m.old → AreKnown m.new }
-    ensures sound { IsSound m.old → IsSound m.new }
     ensures same { OnErr result (m.new ≡ m.old) }
 {
     let is_start = is_heap_start(m, object, addr);
@@ -283,7 +277,6 @@ fn free_start(
     requires items { t.old ≡ [] }
     ensures exact { (io : Io) → has_cell m.old.cells id ≡ true → Does (λ u. u) result t.new (store_of m.new io) (run m.new.rows (free m.new.rows addr (Either id past start) clause) (store_of m.old io)) }
     ensures known { AreKnown m.old → AreKnown m.new }
-    ensures sound { IsSound m.old → IsSound m.new }
     ensures same { OnErr result (m.new ≡ m.old) }
 {
     let mut scratch = Touched::new(alloc)?;
@@ -347,11 +340,9 @@ pub fn reallocate(
     t: &mut Touched,
 ) -> Result<Value, LibAnswer>
     requires items { t.old ≡ [] }
-    ensures told { (io : Io) → are_sizes (values_seen args.now) (1 ∷ []) ≡ true → AreKnown m.old → HasCell m.old (prov_in (argument_at (values_seen args.now) 0)) → IsTold result t.new io (realloc_act m.old m.new.rows (values_seen args.now) who io) }
-    ensures dies { moves_old (values_seen args.now) ≡ true → are_sizes (values_seen args.now) (1 ∷ []) ≡ true → OnOk result (FirstDies m.old m.new (values_seen args.now)) }
-    ensures unmoved { moves_old (values_seen args.now) ≡ false → (io : Io) → are_sizes (values_seen args.now) (1 ∷ []) ≡ true → AreKnown m.old → HasCell m.old (prov_in (argument_at (values_seen args.now) 0)) → Does given_value result t.new (store_of m.new io) (realloc_act m.old m.new.rows (values_seen args.now) who io) }
-    ensures same { AreKnown m.old → OnErr result (result ≢ Err answers.NoMemory → m.new ≡ m.old) }
-    ensures sound { IsSound m.old → OnOk result (IsSound m.new) }
+    ensures exact { (io : Io) → IsCall Realloc (values_seen args.now) m.old io → Does given_value result t.new (store_of m.new io) (created_within (asked Realloc (values_seen args.now)) (store_of m.old io) (run m.new.rows (library m.new.rows Realloc (values_seen args.now) who) (store_of m.old io))) }
+    ensures known { AreKnown m.old → OnOk result (AreKnown m.new) }
+    ensures same { OnErr result (result ≢ Err answers.NoMemory → m.new ≡ m.old) }
 {
     change_size(alloc, pointer_at(args, 0), size_at(args, 1), who, m, t)
 }
@@ -366,11 +357,9 @@ fn change_size(
     t: &mut Touched,
 ) -> Result<Value, LibAnswer>
     requires items { t.old ≡ [] }
-    ensures told { (io : Io) → AreKnown m.old → HasCell m.old pointer.prov → IsTold result t.new io (created_within size (store_of m.old io) (run (rows_resized m.old m.new.rows who size) (realloc (rows_resized m.old m.new.rows who size) who pointer.addr pointer.prov size) (store_of m.old io))) }
-    ensures dies { moves pointer.addr size ≡ true → OnOk result (OldDies m.old m.new pointer.addr pointer.prov) }
-    ensures unmoved { moves pointer.addr size ≡ false → (io : Io) → AreKnown m.old → HasCell m.old pointer.prov → Does given_value result t.new (store_of m.new io) (created_within size (store_of m.old io) (run (rows_resized m.old m.new.rows who size) (realloc (rows_resized m.old m.new.rows who size) who pointer.addr pointer.prov size) (store_of m.old io))) }
-    ensures same { AreKnown m.old → OnErr result (result ≢ Err answers.NoMemory → m.new ≡ m.old) }
-    ensures sound { IsSound m.old → OnOk result (IsSound m.new) }
+    ensures exact { (io : Io) → CanMove m.old → HasCell m.old pointer.prov → Does given_value result t.new (store_of m.new io) (created_within size (store_of m.old io) (run m.new.rows (realloc m.new.rows who pointer.addr pointer.prov size) (store_of m.old io))) }
+    ensures known { AreKnown m.old → OnOk result (AreKnown m.new) }
+    ensures same { OnErr result (result ≢ Err answers.NoMemory → m.new ≡ m.old) }
 {
     if pointer.addr == 0 {
         return allocate(size, who, m, t);
@@ -389,8 +378,8 @@ fn release(
     t: &mut Touched,
 ) -> Result<Value, LibAnswer>
     ensures exact { (io : Io) → HasCell m.old pointer.prov → Does given_value result t.new (store_of m.new io) (run m.new.rows (released m.new.rows pointer.addr pointer.prov) (store_of m.old io)) }
+    ensures known { AreKnown m.old → AreKnown m.new }
     ensures same { OnErr result (m.new ≡ m.old) }
-    ensures sound { IsSound m.old → IsSound m.new }
 {
     match free(alloc, pointer, Clause::Realloc, m, t) {
         Ok(()) => Ok(Pointer::NULL.value()),
@@ -410,11 +399,9 @@ fn resize(
     requires start { pointer.addr ≢ 0 }
     requires some { size ≢ 0 }
     requires items { t.old ≡ [] }
-    ensures told { (io : Io) → AreKnown m.old → IsTold result t.new io (created_within size (store_of m.old io) (run (rows_resized m.old m.new.rows who size) (resized (rows_resized m.old m.new.rows who size) who pointer.addr pointer.prov size) (store_of m.old io))) }
-    ensures dies { is_given size ≡ true → OnOk result (OldDies m.old m.new pointer.addr pointer.prov) }
-    ensures unmoved { is_given size ≡ false → (io : Io) → HasCell m.old pointer.prov → Does given_value result t.new (store_of m.new io) (created_within size (store_of m.old io) (run m.new.rows (resized m.new.rows who pointer.addr pointer.prov size) (store_of m.old io))) }
-    ensures same { AreKnown m.old → OnErr result (result ≢ Err answers.NoMemory → m.new ≡ m.old) }
-    ensures sound { IsSound m.old → OnOk result (IsSound m.new) }
+    ensures exact { (io : Io) → CanMove m.old → HasCell m.old pointer.prov → Does given_value result t.new (store_of m.new io) (created_within size (store_of m.old io) (run m.new.rows (resized m.new.rows who pointer.addr pointer.prov size) (store_of m.old io))) }
+    ensures known { AreKnown m.old → OnOk result (AreKnown m.new) }
+    ensures same { OnErr result (result ≢ Err answers.NoMemory → m.new ≡ m.old) }
 {
     let Some((object, settles)) = heap_start(m, pointer) else {
         return Err(LibAnswer::Raise(Clause::Realloc));
@@ -458,7 +445,6 @@ fn add_start(
 fn settle_start(m: &mut Memory, settles: Option<(Event, ObjName)>)
     ensures store { CanSettle m.old.cells settles → (io : Io) → store_of m.new io ≡ after_settling settles (store_of m.old io) }
     ensures rest { record m.new { cells = [] } ≡ record m.old { cells = [] } }
-    ensures sound { IsSound m.old → IsSound m.new }
 {
     if let Some((id, keep)) = settles {
         let _ = m.narrow(id, keep);
@@ -476,40 +462,28 @@ fn move_to(
     m: &mut Memory,
     t: &mut Touched,
 ) -> Result<Pointer, LibAnswer>
-    ensures exact { (io : Io) → AreKnown m.old → IsStart m.old object addr → (s : Store) × Does (λ base. record { addr = base; prov = Whole name }) result (Born name ∷ []) s (run (rows_made m.old name size) (create (rows_made m.old name size) name size 16 heap_kind None) (store_of m.old io)) }
+    requires { IsStart m.old object addr }
+    ensures made { (io : Io) → AreKnown m.old → (s : Store) × Does (λ base. record { addr = base; prov = Whole name }) result (Born name ∷ []) s (run (rows_made m.old name size) (create (rows_made m.old name size) name size 16 heap_kind None) (store_of m.old io)) }
+    ensures store { OnOk result ((io : Io) → CanMove m.old → CanSettle m.old.cells settles → store_of m.new io ≡ moved_store (rows_made m.old name size) object name size (after_settling settles (store_of m.old io))) }
+    ensures rows { result ≢ Err answers.NoMemory → m.new.rows ≡ rows_made m.old name size }
     ensures items { OnOk result (t.new ≡ t.old ++ (Read object 0 (min (size_in (row_of m.old.rows object)) size) ∷ Born name ∷ Alive name ∷ Write name 0 (min (size_in (row_of m.old.rows object)) size) ∷ Dies object ∷ [])) }
-    ensures dies { OnOk result (is_live (life_in (held_of m.new.objects object)) ≡ false) }
-    ensures same { AreKnown m.old → IsStart m.old object addr → OnErr result (result ≢ Err answers.NoMemory → m.new ≡ m.old) }
-    ensures sound { IsSound m.old → OnOk result (IsSound m.new) }
+    ensures known { AreKnown m.old → OnOk result (AreKnown m.new) }
+    ensures same { OnErr result (result ≢ Err answers.NoMemory → m.new ≡ m.old) }
 {
     let len = size_in(m.map().row(object)).min(size);
     add_moved(object, len, name, t)?;
     let mut scratch = Touched::new(alloc)?;
     let new = created(m, name, size, &mut scratch)?;
-    let block = block_at(m, object, addr, len, &mut scratch)?;
     settle_start(m, settles);
+    let old = Range {
+        object,
+        from: 0,
+        len,
+    };
+    let block = copied(m, addr, old, &mut scratch)?;
     fill(m, name, new.addr, Via::Whole, &block, &mut scratch);
     m.kill(object, &mut scratch);
     Ok(new)
-}
-
-// The first bytes of an object that begins at the address.
-fn block_at(
-    m: &mut Memory,
-    object: ObjName,
-    addr: u64,
-    len: u64,
-    scratch: &mut Touched,
-) -> Result<Block, LibAnswer>
-    ensures raises { IfErr result (λ answer. IfRaised answer (λ c. (io : Io) → run m.old.rows (load_block m.old.rows len 1 addr (Whole object)) (store_of m.old io) ≡ Raised c)) }
-    ensures known { IfOk result (λ block. AreKnown m.old → CellsKnown (length m.new.origins) block.cells) }
-    ensures sound { IsSound m.old → IsSound m.new }
-{
-    match m.load_block(len, 1, addr, Prov::Whole(object), scratch) {
-        Ok(block) => Ok(block),
-        Err(MemFault::Raise(clause)) => Err(LibAnswer::Raise(clause)),
-        Err(MemFault::NoMemory) => Err(LibAnswer::NoMemory),
-    }
 }
 
 fn size_in(row: Option<Row>) -> u64
