@@ -13,16 +13,16 @@ use Rattle.exposure.specs.declared.prov.Prov.TheVariants.{Empty}
 use Rattle.c_types.specs.declared.kind.IntKind.TheVariants.{ULong}
 use Rattle.c_types.specs.Kinds.{holds}
 use Rattle.c_types.specs.declared.library.LibFunc.{LibFunc}
-use Rattle.c_types.specs.declared.library.LibFunc.TheVariants.{Malloc, Free}
+use Rattle.c_types.specs.declared.library.LibFunc.TheVariants.{Malloc, Calloc, Realloc, Free}
 use Rattle.prov_memory.specs.declared.value.Value.{Value}
 use Rattle.prov_memory.specs.declared.value.Value.TheVariants.{Nothing}
 use Rattle.prov_memory.specs.declared.answer.LibAnswer.{LibAnswer}
 use Rattle.prov_memory.specs.declared.answer.LibAnswer.TheVariants as answers
 use Rattle.prov_memory.specs.Store.{Store}
-use Rattle.prov_memory.specs.Script.{Act, Done, Raised, Outside, Unplaced, Give, ◌>>◌, run}
+use Rattle.prov_memory.specs.Script.{Act, Done, Raised, Ended, Outside, Unplaced, Give, ◌>>◌, run}
 use Rattle.prov_memory.specs.Streams.{Io}
 use Rattle.prov_memory.specs.Memory.{Kept, HasCell}
-use Rattle.libc_spec.specs.Library.{LibValue, pointer, nothing, free, malloc, argument_at, pointer_in, address_in, prov_in, integer_in, size_of_value, output_within, created_within, called}
+use Rattle.libc_spec.specs.Library.{LibValue, pointer, nothing, free, malloc, calloc, library, asked, argument_at, pointer_in, address_in, prov_in, integer_in, size_of_value, output_within, created_within, called}
 use Rattle.libc_model.specs.Answers.{Does, Answers, IsCall, HaveCells, is_exact, are_sizes, clipped, given_value, answer_in}
 use Rattle.libc_model.proofs.Scripts.{then, run_then, behind_done}
 
@@ -122,3 +122,18 @@ one_size vs i e = size_there (holds ULong (integer_in (argument_at vs i))) e
 pub arm : (f g : LibFunc) (rows : List Row) (vs : List LibValue) (who : Event) (m : Kept) (io : Io) (a : LibAnswer) (is : List Item) (s u : Store) → f ≡ g →
     (IsCall g vs m io → Answers a is s (called rows g vs who u)) → is_exact f ≡ true → IsCall f vs m io → Answers a is s (called rows f vs who u)
 arm f g rows vs who m io a is s u e h = λ exact. subst (λ (k : LibFunc). IsCall k vs m io → Answers a is s (called rows k vs who u)) (sym e) h
+
+-- a calloc whose streams stay within their limits is the call
+pub calloc_called : (rows : List Row) (vs : List LibValue) (who : Event) (s t : Store) (r : Result Value LibAnswer) (is : List Item) → t.position ≤ length t.input → length t.output ≤ 2 ^ 24 →
+    Does given_value r is t (created_within (asked Calloc vs) s (run rows (calloc rows who (asked Calloc vs)) s)) → Answers (answer_in r) is t (called rows Calloc vs who s)
+calloc_called rows vs who s t r is p o h = answers_of r is t (created_within (asked Calloc vs) s (run rows (calloc rows who (asked Calloc vs)) s)) p o h
+
+-- the same of a realloc
+pub realloc_called : (rows : List Row) (vs : List LibValue) (who : Event) (s t : Store) (r : Result Value LibAnswer) (is : List Item) → t.position ≤ length t.input → length t.output ≤ 2 ^ 24 →
+    Does given_value r is t (created_within (asked Realloc vs) s (run rows (library rows Realloc vs who) s)) → Answers (answer_in r) is t (called rows Realloc vs who s)
+realloc_called rows vs who s t r is p o h = answers_of r is t (created_within (asked Realloc vs) s (run rows (library rows Realloc vs who) s)) p o h
+
+-- the first pointer's ambiguity, where it is null for want of an argument too
+pub first_has : (m : Kept) (vs : List LibValue) → HaveCells m vs → HasCell m (prov_in (argument_at vs 0))
+first_has m [] have = tt
+first_has m (v ∷ vs) have = have.0

@@ -2,3 +2,4 @@ pub mod Answers
 pub mod Seen
 pub mod Parts
 pub mod Writes
+pub mod Making

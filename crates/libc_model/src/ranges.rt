@@ -91,8 +91,8 @@ fn len_of(target: Option<Range>) -> u64
     }
 }
 
-// The bytes of the range that begins at the address, in a live object, as they stand, with pieces and tags.
-fn copied(m: &mut Memory, addr: u64, range: Range, scratch: &mut Touched) -> Result<Block, NoMemory>
+/// The bytes of the range that begins at the address, in a live object, as they stand, with pieces and tags.
+pub fn copied(m: &mut Memory, addr: u64, range: Range, scratch: &mut Touched) -> Result<Block, NoMemory>
     requires { IsPlace m.old addr range }
     ensures bytes { IfOk result (λ b. AreTagged m.old → tagged_all m.new b.cells ≡ retagged (declared_of (life_in (held_of m.old.objects range.object))) range.from (bytes_of m.old range)) }
     ensures store { OnOk result (AreTagged m.old → (io : Io) → store_of m.new io ≡ store_of m.old io) }
@@ -104,14 +104,6 @@ fn copied(m: &mut Memory, addr: u64, range: Range, scratch: &mut Touched) -> Res
         Ok(block) => Ok(block),
         Err(MemFault::Raise(_)) => unreachable!(),
         Err(MemFault::NoMemory) => Err(NoMemory),
-    }
-}
-
-/// Why memory gave nothing, as the answer of a library function.
-pub fn answer_of(fault: MemFault) -> LibAnswer {
-    match fault {
-        MemFault::Raise(clause) => LibAnswer::Raise(clause),
-        MemFault::NoMemory => LibAnswer::NoMemory,
     }
 }
 
