@@ -1,5 +1,5 @@
 -- Lemmas on a realloc that moves its object: what memory is once the bytes stand in the new one.
-use Rattle.std.proofs.Common.{◌≡◌, ◌≢◌, ℕ, ◌<◌, ◌≤◌, Bool, true, false, cond, arith, min, List, [], ◌∷◌, ◌++◌, length, refl, ap, ap₂, sym, subst, ◌∙◌, Option, Some, None}
+use Rattle.std.proofs.Common.{◌≡◌, ℕ, ◌≤◌, ◌==◌, ◌&&◌, Bool, true, false, cond, arith, min, List, [], ◌∷◌, ◌++◌, length, refl, ap, ap₂, sym, subst, ◌∙◌, Option, Some, None}
 use Rattle.std.specs.Prelude.{IfSome, Ok, is_some}
 use Rattle.std.proofs.lemmas.List.{length-map}
 use Rattle.ub_base.specs.declared.names.Item.{Item}
@@ -15,7 +15,7 @@ use Rattle.prov_memory.specs.declared.cell.Cell.{Cell}
 use Rattle.prov_memory.specs.declared.cell.Via.TheVariants as vias
 use Rattle.prov_memory.specs.Store.{Store, TaggedByte, Life, fresh, is_live, range_from, with_bytes, born, buried}
 use Rattle.prov_memory.specs.Script.{Done, run}
-use Rattle.prov_memory.specs.Acts.{whole, create, kill, retagged, declared_of, stored_from, in_row, offset_in, size_in}
+use Rattle.prov_memory.specs.Acts.{whole, create, kill, retagged, declared_of, stored_from, in_row, offset_in, base_in, size_in}
 use Rattle.prov_memory.specs.Streams.{Io}
 use Rattle.prov_memory.specs.Held.{Held, held_of}
 use Rattle.prov_memory.specs.Memory.{Kept, AreKnown, ObjectsKnown, IsBorn, newborn, store_of, life_in}
@@ -30,8 +30,8 @@ use Rattle.libc_model.specs.Parts.{bytes_of}
 use Rattle.libc_model.specs.Writes.{IsPlace, IsKept}
 use Rattle.libc_model.specs.Making.{new_life, rows_made, moved_bytes, moved_store, CanMove, IsNewAt, IsStart}
 use Rattle.libc_model.proofs.Allocating.{based}
-use Rattle.libc_model.proofs.Making.{Fills, is_new, new_at, rows_above, stored_whole, within, no_offset, done_left}
-use Rattle.libc_model.proofs.Resizing.{row_kept, is_held, live_start, base_start, row_at_base, above_null, within_row, apart_by}
+use Rattle.libc_model.proofs.Making.{Fills, is_new, new_at, rows_above, stored_whole, within, no_offset, both_left, done_left}
+use Rattle.libc_model.proofs.Resizing.{row_kept, is_held, live_start, base_start, row_at_base, above_null, within_row, both_right, apart_by}
 
 -- the old object's range, whose bytes the new one also has
 abbrev pub old_range : ObjName → ℕ → Range
@@ -89,17 +89,9 @@ pub but_known : (mid set : Kept) → IsButCells mid set → AreKnown mid → Are
 but_known mid set rest known = subst (λ (k : Kept). ObjectsKnown (length k.origins) k.objects) (sym rest) known
 
 -- ---- the old object has no declared type
-right_of : (a b : Bool) → cond a b false ≡ true → b ≡ true
-right_of true b e = e
-right_of false b e = absurd (cc)
-
-left_of : (a b : Bool) → cond a b false ≡ true → a ≡ true
-left_of true b e = refl
-left_of false b e = absurd (cc)
-
 bare_by : (o : Option Row) (a : ℕ) (l : Option Life) → is_heap_start o a l ≡ true → IfSome l (λ l. l.kind.heap ≡ true → l.declared ≡ None) → declared_of l ≡ None
 bare_by o a None e bare = refl
-bare_by o a (Some l) e bare = bare (left_of l.kind.heap _ (right_of l.live _ e))
+bare_by o a (Some l) e bare = bare (both_left l.kind.heap (base_in o == a) (both_right l.live (l.kind.heap && base_in o == a) e))
 
 -- ---- the bytes in the new object
 settled_born : (settles : Settling) (s : Store) (h : ObjName) (n : ℕ) → after_settling settles (born s h n heap_kind None) ≡ born (after_settling settles s) h n heap_kind None

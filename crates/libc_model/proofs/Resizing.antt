@@ -140,7 +140,7 @@ pub live_start : (o : Option Row) (a : ℕ) (l : Option Life) → is_heap_start 
 live_start o a None e = absurd (cc)
 live_start o a (Some l) e = both_left l.live (l.kind.heap && base_in o == a) e
 
-both_right : (a b : Bool) → a && b ≡ true → b ≡ true
+pub both_right : (a b : Bool) → a && b ≡ true → b ≡ true
 both_right true b e = e
 both_right false b e = absurd (cc)
 

@@ -130,8 +130,8 @@ abbrev pub copy_function : (may_overlap : Bool) → LibFunc
 copy_function false = Memcpy
 copy_function true = Memmove
 
--- an answer after which memory and streams are as before; an allocation that wants memory may leave the row of its object, and a copy
--- what it settles and numbers of types
+-- an answer after which memory and streams are as before; an allocation that wants memory may leave its object or the row of it, and
+-- a copy what it settles and numbers of types
 abbrev pub leaves_all : LibAnswer → LibFunc → Bool
 leaves_all (answers.Value v) f = false
 leaves_all answers.NoMemory Malloc = false
