@@ -23,7 +23,7 @@ use Rattle.prov_memory.specs.Script.{Act, Done, Raised, Ended, Outside, Unplaced
 use Rattle.prov_memory.specs.Streams.{Io}
 use Rattle.prov_memory.specs.Memory.{Kept, HasCell}
 use Rattle.libc_spec.specs.Library.{LibValue, pointer, nothing, free, malloc, calloc, library, asked, argument_at, pointer_in, address_in, prov_in, integer_in, size_of_value, output_within, created_within, called}
-use Rattle.libc_model.specs.Answers.{Does, Answers, IsCall, HaveCells, is_exact, are_sizes, clipped, given_value, answer_in}
+use Rattle.libc_model.specs.Answers.{Does, Answers, IsCall, HaveCells, are_sizes, clipped, given_value, answer_in}
 use Rattle.libc_model.proofs.Scripts.{then, run_then, behind_done}
 
 clipped_same : (s : Store) → s.position ≤ length s.input → s ≡ clipped s
@@ -120,8 +120,8 @@ one_size vs i e = size_there (holds ULong (integer_in (argument_at vs i))) e
 
 -- what holds of a call of a function holds where the function is known to be it
 pub arm : (f g : LibFunc) (rows : List Row) (vs : List LibValue) (who : Event) (m : Kept) (io : Io) (a : LibAnswer) (is : List Item) (s u : Store) → f ≡ g →
-    (IsCall g vs m io → Answers a is s (called rows g vs who u)) → is_exact f ≡ true → IsCall f vs m io → Answers a is s (called rows f vs who u)
-arm f g rows vs who m io a is s u e h = λ exact. subst (λ (k : LibFunc). IsCall k vs m io → Answers a is s (called rows k vs who u)) (sym e) h
+    (IsCall g vs m io → Answers a is s (called rows g vs who u)) → IsCall f vs m io → Answers a is s (called rows f vs who u)
+arm f g rows vs who m io a is s u e h = subst (λ (k : LibFunc). IsCall k vs m io → Answers a is s (called rows k vs who u)) (sym e) h
 
 -- a calloc whose streams stay within their limits is the call
 pub calloc_called : (rows : List Row) (vs : List LibValue) (who : Event) (s t : Store) (r : Result Value LibAnswer) (is : List Item) → t.position ≤ length t.input → length t.output ≤ 2 ^ 24 →

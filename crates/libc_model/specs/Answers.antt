@@ -7,7 +7,7 @@ use Rattle.addr_map.specs.Sound.{Above}
 use Rattle.c_types.specs.declared.kind.IntKind.TheVariants.{ULong}
 use Rattle.c_types.specs.Kinds.{holds}
 use Rattle.c_types.specs.declared.library.LibFunc.{LibFunc}
-use Rattle.c_types.specs.declared.library.LibFunc.TheVariants.{Malloc, Calloc, Realloc, Free, Memcpy, Memmove, Memset, Memcmp, Strlen, Strcpy, Strcmp, Strchr, Getchar, Putchar, Puts, Exit, Abort}
+use Rattle.c_types.specs.declared.library.LibFunc.TheVariants.{Malloc, Calloc, Realloc, Memcpy, Memmove, Memset, Memcmp}
 use Rattle.prov_memory.specs.declared.value.Value.{Value}
 use Rattle.prov_memory.specs.declared.value.Value.TheVariants.{Int, Ptr, Nothing}
 use Rattle.prov_memory.specs.declared.answer.LibAnswer.{LibAnswer}
@@ -103,27 +103,6 @@ pub record IsCall (f : LibFunc) (vs : List LibValue) (m : Kept) (io : Io) : Type
   pub cells : HaveCells m vs
   pub tags : AreTyped f m
   pub high : StandHigh f m.rows
-
--- the functions whose calls are shown to be those of the definitions
-abbrev pub is_exact : LibFunc → Bool
-is_exact Malloc = true
-is_exact Calloc = true
-is_exact Realloc = true
-is_exact Free = true
-is_exact Memcpy = true
-is_exact Memmove = true
-is_exact Memset = true
-is_exact Memcmp = true
-is_exact Strlen = true
-is_exact Strcpy = true
-is_exact Strcmp = true
-is_exact Strchr = true
-is_exact Getchar = true
-is_exact Putchar = true
-is_exact Puts = true
-is_exact Exit = true
-is_exact Abort = true
-is_exact _ = false
 
 -- the function that copies bytes
 abbrev pub copy_function : (may_overlap : Bool) → LibFunc

@@ -11,7 +11,7 @@ ghost use Rattle.libc_spec.specs.Library.{LibValue, called, byte_or_end, integer
 ghost use Rattle.ub_base.specs.declared.names.Event.{Event};
 ghost use Rattle.libc_model.specs.Seen.{values_seen};
 ghost use Rattle.libc_model.specs.Parts.{Gives, Follows, line, line_at, printing, limited};
-ghost use Rattle.libc_model.specs.Answers.{IsCall, AreWithin, Answers, answer_in, given_value, is_exact, gives_value, leaves_all, wants_memory};
+ghost use Rattle.libc_model.specs.Answers.{IsCall, AreWithin, Answers, answer_in, given_value, gives_value, leaves_all, wants_memory};
 
 use crate::arguments::{Pointer, check_string, int_at, pointer_at, size_at};
 use crate::bytes::{numbers, settle};
@@ -28,7 +28,7 @@ const OUTPUT: u64 = 1 << 24;
 const ABORTED: u8 = 134;
 
 /// What a call of a library function gives, but for printf. `who` names the object that it may allocate. After each answer
-/// but a value and an end, memory and streams are as before.
+/// but a value memory and streams are as before, unless memory was wanted.
 pub fn call(
     alloc: Global,
     f: LibFunc,
@@ -39,9 +39,9 @@ pub fn call(
     t: &mut Touched,
 ) -> LibAnswer
     requires { f ≢ Printf }
-    ensures exact { is_exact f ≡ true → IsCall f (values_seen args.now) m.old io.old → Answers result t.new (store_of m.new io.new) (called m.new.rows f (values_seen args.now) who (store_of m.old io.old)) }
-    ensures known { is_exact f ≡ true → AreKnown m.old → wants_memory result ≡ false → AreKnown m.new }
-    ensures same { is_exact f ≡ true → leaves_all result f ≡ true → (m.new ≡ m.old) × (io.new ≡ io.old) }
+    ensures exact { IsCall f (values_seen args.now) m.old io.old → Answers result t.new (store_of m.new io.new) (called m.new.rows f (values_seen args.now) who (store_of m.old io.old)) }
+    ensures known { AreKnown m.old → wants_memory result ≡ false → AreKnown m.new }
+    ensures same { leaves_all result f ≡ true → (m.new ≡ m.old) × (io.new ≡ io.old) }
     ensures within { AreWithin io.old → AreWithin io.new }
     ensures streams { gives_value result ≡ false → io.new ≡ io.old }
 {
@@ -63,9 +63,9 @@ fn value_of(
 ) -> Result<Value, LibAnswer>
     requires printf { f ≢ Printf }
     requires items { t.old ≡ [] }
-    ensures exact { is_exact f ≡ true → IsCall f (values_seen args.now) m.old io.old → Answers (answer_in result) t.new (store_of m.new io.new) (called m.new.rows f (values_seen args.now) who (store_of m.old io.old)) }
-    ensures known { is_exact f ≡ true → AreKnown m.old → wants_memory (answer_in result) ≡ false → AreKnown m.new }
-    ensures same { is_exact f ≡ true → leaves_all (answer_in result) f ≡ true → (m.new ≡ m.old) × (io.new ≡ io.old) }
+    ensures exact { IsCall f (values_seen args.now) m.old io.old → Answers (answer_in result) t.new (store_of m.new io.new) (called m.new.rows f (values_seen args.now) who (store_of m.old io.old)) }
+    ensures known { AreKnown m.old → wants_memory (answer_in result) ≡ false → AreKnown m.new }
+    ensures same { leaves_all (answer_in result) f ≡ true → (m.new ≡ m.old) × (io.new ≡ io.old) }
     ensures within { AreWithin io.old → AreWithin io.new }
     ensures streams { OnErr result (io.new ≡ io.old) }
 {

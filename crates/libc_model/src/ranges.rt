@@ -92,7 +92,12 @@ fn len_of(target: Option<Range>) -> u64
 }
 
 /// The bytes of the range that begins at the address, in a live object, as they stand, with pieces and tags.
-pub fn copied(m: &mut Memory, addr: u64, range: Range, scratch: &mut Touched) -> Result<Block, NoMemory>
+pub fn copied(
+    m: &mut Memory,
+    addr: u64,
+    range: Range,
+    scratch: &mut Touched,
+) -> Result<Block, NoMemory>
     requires { IsPlace m.old addr range }
     ensures bytes { IfOk result (λ b. AreTagged m.old → tagged_all m.new b.cells ≡ retagged (declared_of (life_in (held_of m.old.objects range.object))) range.from (bytes_of m.old range)) }
     ensures store { OnOk result (AreTagged m.old → (io : Io) → store_of m.new io ≡ store_of m.old io) }
