@@ -30,6 +30,7 @@ impl Memory {
         declared: Option<Rc<Shape>>,
         t: &mut Touched,
     ) -> Result<u64, CreateFault>
+        ensures born { IfOk result (λ base. IsBorn self.old self.new name base size align kind (option_map (λ shape. shape.value) declared)) }
         ensures exact { IfOk result (λ base. AreKnown self.old → (io : Io) → run self.new.rows (acts.create self.new.rows name size align kind (option_map (λ shape. form_of shape.value) declared)) (store_of self.old io) ≡ Done base t.new (store_of self.new io)) }
         ensures known { AreKnown self.old → OnOk result (AreKnown self.new) }
         ensures named { AreNamed self.old → OnOk result (AreNamed self.new) }
