@@ -32,7 +32,7 @@ malloc_then : (rows : List Row) (who : Event) (n : ℕ) (s : Store) → is_given
     run rows (malloc rows who n) s ≡ then (run rows (new_object rows who n) s) (λ base u. Done (pointer base (Whole (heap_name who))) [] u)
 malloc_then rows who n s e = rw e (run_then rows (new_object rows who n) (λ base. Give (pointer base (Whole (heap_name who)))) s)
 
-limit_kept : (n : ℕ) (s : Store) (act : Act LibValue) → is_given n ≡ true → nat_lt (2 ^ 26) (created_with s n) ≡ false → created_within n s act ≡ act
+pub limit_kept : (n : ℕ) (s : Store) (act : Act LibValue) → is_given n ≡ true → nat_lt (2 ^ 26) (created_with s n) ≡ false → created_within n s act ≡ act
 limit_kept n s (Raised c) e h = refl
 limit_kept n s (Done v is u) e h = rw (e, h) refl
 limit_kept n s (Ended k is u) e h = rw (e, h) refl
@@ -73,13 +73,13 @@ within_split true a e = absurd (cc)
 within_split false a e = refl
 
 -- an object of this name and size is the one that is asked for
-same_object_asked : (rows : List Row) (who : Event) (n k : ℕ) (x : ObjName) (s : Store) (r : Result Pointer LibAnswer) (is : List Item) (t : Store) → k ≡ n → x ≡ heap_name who →
+pub same_object_asked : (rows : List Row) (who : Event) (n k : ℕ) (x : ObjName) (s : Store) (r : Result Pointer LibAnswer) (is : List Item) (t : Store) → k ≡ n → x ≡ heap_name who →
     Does (based x) r is t (run rows (create rows x k 16 heap_kind None) s) → Does (based (heap_name who)) r is t (run rows (new_object rows who n) s)
 same_object_asked rows who n k x s r is t size name d =
     subst (λ (y : ObjName). Does (based y) r is t (run rows (create rows y n 16 heap_kind None) s)) name
     (subst (λ (j : ℕ). Does (based x) r is t (run rows (create rows x j 16 heap_kind None) s)) size d)
 
-limit_of : (n k : ℕ) (s : Store) → k ≡ n → nat_lt (2 ^ 26) (created_with s k) ≡ false → nat_lt (2 ^ 26) (created_with s n) ≡ false
+pub limit_of : (n k : ℕ) (s : Store) → k ≡ n → nat_lt (2 ^ 26) (created_with s k) ≡ false → nat_lt (2 ^ 26) (created_with s n) ≡ false
 limit_of n k s e h = subst (λ (j : ℕ). nat_lt (2 ^ 26) (created_with s j) ≡ false) e h
 
 -- the object is created

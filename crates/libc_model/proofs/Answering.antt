@@ -1,6 +1,6 @@
 -- Lemmas on what calls answer.
-use Rattle.std.proofs.Common.{◌≡◌, ℕ, ◌≤◌, Bool, true, false, ◌&&◌, min, List, [], ◌∷◌, length, refl, ap, sym, subst, ◌∙◌, arith}
-use Rattle.std.specs.Prelude.{Result, Ok, Err, IsTrue, ◌^◌}
+use Rattle.std.proofs.Common.{◌≡◌, ◌≢◌, ℕ, zero, suc, ◌+◌, ◌<◌, ◌≤◌, ◌⊎◌, inl, inr, Bool, true, false, ◌&&◌, cond, min, List, [], ◌∷◌, ◌++◌, length, refl, ap, ap₂, sym, subst, ◌∙◌, arith, Option, Some, None, slice_get, get_or, length-append, ℤ, pos}
+use Rattle.std.specs.Prelude.{Result, Ok, Err, OnOk, nat_lt, IsTrue, ◌^◌}
 use Rattle.std.proofs.lemmas.Bool.{le-ltb}
 use Rattle.std.proofs.lemmas.List.{append-nil}
 use Rattle.ub_base.specs.declared.clause.Clause.{Clause}
@@ -13,7 +13,7 @@ use Rattle.exposure.specs.declared.prov.Prov.TheVariants.{Empty}
 use Rattle.c_types.specs.declared.kind.IntKind.TheVariants.{ULong}
 use Rattle.c_types.specs.Kinds.{holds}
 use Rattle.c_types.specs.declared.library.LibFunc.{LibFunc}
-use Rattle.c_types.specs.declared.library.LibFunc.TheVariants.{Malloc, Free}
+use Rattle.c_types.specs.declared.library.LibFunc.TheVariants.{Malloc, Calloc, Realloc, Free}
 use Rattle.prov_memory.specs.declared.value.Value.{Value}
 use Rattle.prov_memory.specs.declared.value.Value.TheVariants.{Nothing}
 use Rattle.prov_memory.specs.declared.answer.LibAnswer.{LibAnswer}
@@ -21,10 +21,12 @@ use Rattle.prov_memory.specs.declared.answer.LibAnswer.TheVariants as answers
 use Rattle.prov_memory.specs.Store.{Store}
 use Rattle.prov_memory.specs.Script.{Act, Done, Raised, Outside, Unplaced, Give, ◌>>◌, run}
 use Rattle.prov_memory.specs.Streams.{Io}
-use Rattle.prov_memory.specs.Memory.{Kept, HasCell}
-use Rattle.libc_spec.specs.Library.{LibValue, pointer, nothing, free, malloc, argument_at, pointer_in, address_in, prov_in, integer_in, size_of_value, output_within, created_within, called}
-use Rattle.libc_model.specs.Answers.{Does, Answers, IsCall, HaveCells, is_exact, are_sizes, clipped, given_value, answer_in}
-use Rattle.libc_model.proofs.Scripts.{then, run_then, behind_done}
+use Rattle.prov_memory.specs.Memory.{Kept, HasCell, store_of}
+use Rattle.libc_spec.specs.Library.{LibValue, pointer, nothing, free, malloc, calloc, asked, argument_at, pointer_in, address_in, prov_in, integer_in, size_of_value, output_within, created_within, called}
+use Rattle.libc_model.specs.Answers.{Does, Answers, AreWithin, IsCall, HaveCells, is_exact, are_sizes, clipped, given_value, gives_value, answer_in}
+use Rattle.libc_model.specs.Making.{rows_resized}
+use Rattle.libc_model.specs.Told.{HasStreams, IsTold, AnswersSome, realloc_act}
+use Rattle.libc_model.proofs.Scripts.{then, behind, run_then, behind_done}
 
 clipped_same : (s : Store) → s.position ≤ length s.input → s ≡ clipped s
 clipped_same s h =
@@ -122,3 +124,50 @@ one_size vs i e = size_there (holds ULong (integer_in (argument_at vs i))) e
 pub arm : (f g : LibFunc) (rows : List Row) (vs : List LibValue) (who : Event) (m : Kept) (io : Io) (a : LibAnswer) (is : List Item) (s u : Store) → f ≡ g →
     (IsCall g vs m io → Answers a is s (called rows g vs who u)) → is_exact f ≡ true → IsCall f vs m io → Answers a is s (called rows f vs who u)
 arm f g rows vs who m io a is s u e h = λ exact. subst (λ (k : LibFunc). IsCall k vs m io → Answers a is s (called rows k vs who u)) (sym e) h
+
+-- a calloc whose streams stay within their limits is the call
+pub calloc_called : (rows : List Row) (vs : List LibValue) (who : Event) (s t : Store) (r : Result Value LibAnswer) (is : List Item) → t.position ≤ length t.input → length t.output ≤ 2 ^ 24 →
+    Does given_value r is t (created_within (asked Calloc vs) s (run rows (calloc rows who (asked Calloc vs)) s)) → Answers (answer_in r) is t (called rows Calloc vs who s)
+calloc_called rows vs who s t r is p o h = answers_of r is t (created_within (asked Calloc vs) s (run rows (calloc rows who (asked Calloc vs)) s)) p o h
+
+-- the same of a call of realloc alone
+pub realloc_arm : (f : LibFunc) (rows : List Row) (vs : List LibValue) (who : Event) (m : Kept) (io : Io) (a : LibAnswer) (is : List Item) (s u : Store) → f ≡ Realloc →
+    (IsCall Realloc vs m io → Answers a is s (called rows Realloc vs who u)) → IsCall f vs m io → Answers a is s (called rows f vs who u)
+realloc_arm f rows vs who m io a is s u e h = subst (λ (k : LibFunc). IsCall k vs m io → Answers a is s (called rows k vs who u)) (sym e) h
+
+pub told_arm : (f : LibFunc) (rows : List Row) (vs : List LibValue) (who : Event) (m : Kept) (io : Io) (a : LibAnswer) (is : List Item) (u : Store) → f ≡ Realloc →
+    (IsCall Realloc vs m io → AnswersSome a is (called rows Realloc vs who u)) → IsCall f vs m io → AnswersSome a is (called rows f vs who u)
+told_arm f rows vs who m io a is u e h = subst (λ (k : LibFunc). IsCall k vs m io → AnswersSome a is (called rows k vs who u)) (sym e) h
+
+-- a realloc whose streams stay within their limits is the call
+pub realloc_called : (m : Kept) (after : List Row) (vs : List LibValue) (who : Event) (io : Io) (t : Store) (r : Result Value LibAnswer) (is : List Item) → t.position ≤ length t.input → length t.output ≤ 2 ^ 24 →
+    Does given_value r is t (realloc_act m after vs who io) → Answers (answer_in r) is t (called (rows_resized m after who (asked Realloc vs)) Realloc vs who (store_of m io))
+realloc_called m after vs who io t r is p o h = answers_of r is t (realloc_act m after vs who io) p o h
+
+stands_within : (s : Store) (io : Io) → HasStreams s io → AreWithin io → s.position ≤ length s.input
+stands_within s io same within = omega (arith, same.1, ap (λ (is : List ℕ). length is) same.0, within.taken)
+
+prints_within : (s : Store) (io : Io) → HasStreams s io → AreWithin io → length s.output ≤ 2 ^ 24
+prints_within s io same within = omega (arith, ap (λ (is : List ℕ). length is) same.2, within.written)
+
+pub realloc_told : (m : Kept) (after : List Row) (vs : List LibValue) (who : Event) (io : Io) (r : Result Value LibAnswer) (is : List Item) → AreWithin io → IsTold r is io (realloc_act m after vs who io) →
+    AnswersSome (answer_in r) is (called (rows_resized m after who (asked Realloc vs)) Realloc vs who (store_of m io))
+realloc_told m after vs who io r is within h =
+    (h.0, realloc_called m after vs who io h.0 r is (stands_within h.0 io h.1 within) (prints_within h.0 io h.1 within) h.2)
+
+pub first_has : (m : Kept) (vs : List LibValue) → HaveCells m vs → HasCell m (prov_in (argument_at vs 0))
+first_has m [] have = tt
+first_has m (v ∷ vs) have = have.0
+
+-- an answer that is a value is one of a realloc that succeeded
+dies_by : (r : Result Value LibAnswer) (is : List Item) (io : Io) (act : Act LibValue) (D : Type 0) → IsTold r is io act → OnOk r D → gives_value (answer_in r) ≡ true → D
+dies_by (Ok v) is io act D told dies gives = dies
+dies_by (Err (answers.Value v)) is io act D told dies gives = absurd told.2
+dies_by (Err a) is io act D told dies gives = absurd (cc)
+
+sizes_of : (f : LibFunc) (vs : List LibValue) (m : Kept) (io : Io) → f ≡ Realloc → IsCall f vs m io → IsCall Realloc vs m io
+sizes_of f vs m io e call = subst (λ (k : LibFunc). IsCall k vs m io) e call
+
+pub dies_arm : (f : LibFunc) (r : Result Value LibAnswer) (is : List Item) (m : Kept) (io : Io) (vs : List LibValue) (act : Act LibValue) (D : Type 0) → f ≡ Realloc →
+    (IsCall Realloc vs m io → IsTold r is io act) → (IsCall Realloc vs m io → OnOk r D) → IsCall f vs m io → gives_value (answer_in r) ≡ true → D
+dies_arm f r is m io vs act D e told dies call gives = dies_by r is io act D (told (sizes_of f vs m io e call)) (dies (sizes_of f vs m io e call)) gives

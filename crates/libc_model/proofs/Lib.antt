@@ -6,10 +6,12 @@ pub mod Finishing
 pub mod Freeing
 pub mod Listing
 pub mod Living
+pub mod Making
 pub mod Moving
 pub mod Parts
 pub mod Printing
 pub mod Reading
+pub mod Resizing
 pub mod Scripts
 pub mod Seen
 pub mod Settling

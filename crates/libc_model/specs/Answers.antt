@@ -1,6 +1,9 @@
 -- What a call answers, against the act that the definitions give it.
 use Rattle.std.specs.Prelude.{◌≡◌, ℕ, ◌≤◌, ◌^◌, min, Bool, true, false, ◌&&◌, List, [], ◌∷◌, length, Result, Ok, Err}
+use Rattle.ub_base.specs.declared.names.Event.{Event}
 use Rattle.ub_base.specs.declared.names.Item.{Item}
+use Rattle.addr_map.specs.declared.map.Row.{Row}
+use Rattle.addr_map.specs.Sound.{Above}
 use Rattle.c_types.specs.declared.kind.IntKind.TheVariants.{ULong}
 use Rattle.c_types.specs.Kinds.{holds}
 use Rattle.c_types.specs.declared.library.LibFunc.{LibFunc}
@@ -80,6 +83,11 @@ AreTyped Memcpy m = AreTagged m
 AreTyped Memmove m = AreTagged m
 AreTyped f m = Unit {0}
 
+-- no row begins below 16,777,216, which each map keeps, where a call stores to a new object
+abbrev pub StandHigh : LibFunc → List Row → Type 0
+StandHigh Calloc rows = Above 16777216 rows
+StandHigh f rows = Unit {0}
+
 -- memory, streams and arguments as they are in a run: sizes are values of size_t
 pub record IsCall (f : LibFunc) (vs : List LibValue) (m : Kept) (io : Io) : Type 0 where
   pub known : AreKnown m
@@ -87,10 +95,16 @@ pub record IsCall (f : LibFunc) (vs : List LibValue) (m : Kept) (io : Io) : Type
   pub sizes : are_sizes vs (size_places f) ≡ true
   pub cells : HaveCells m vs
   pub tags : AreTyped f m
+  pub high : StandHigh f m.rows
+
+abbrev pub is_realloc : LibFunc → Bool
+is_realloc Realloc = true
+is_realloc f = false
 
 -- the functions whose calls are shown to be those of the definitions
 abbrev pub is_exact : LibFunc → Bool
 is_exact Malloc = true
+is_exact Calloc = true
 is_exact Free = true
 is_exact Memcpy = true
 is_exact Memmove = true
@@ -112,11 +126,13 @@ abbrev pub copy_function : (may_overlap : Bool) → LibFunc
 copy_function false = Memcpy
 copy_function true = Memmove
 
--- an answer after which memory and streams are as before; a malloc that wants memory may leave the row of its object, and a copy
+-- an answer after which memory and streams are as before; an allocation that wants memory may leave the row of its object, and a copy
 -- what it settles and numbers of types
 abbrev pub leaves_all : LibAnswer → LibFunc → Bool
 leaves_all (answers.Value v) f = false
 leaves_all answers.NoMemory Malloc = false
+leaves_all answers.NoMemory Calloc = false
+leaves_all answers.NoMemory Realloc = false
 leaves_all answers.NoMemory Memcpy = false
 leaves_all answers.NoMemory Memmove = false
 leaves_all answer f = true

@@ -2,3 +2,5 @@ pub mod Answers
 pub mod Seen
 pub mod Parts
 pub mod Writes
+pub mod Making
+pub mod Told

@@ -327,22 +327,6 @@ fn string_size(m: &Memory, object: ObjName, from: u64) -> Option<u64>
     None
 }
 
-/// How many bytes of a string are read of which at most `most` are wanted: up to the first written zero, or `most`; None where
-/// the object ends before either.
-pub fn bounded_length(m: &Memory, object: ObjName, from: u64, most: u64) -> Option<u64> {
-    let row = m.map().row(object)?;
-    for offset in 0..most {
-        let at = from.saturating_add(offset);
-        if at >= row.size {
-            return None;
-        }
-        if is_zero(m, object, at) {
-            return Some(offset.saturating_add(1));
-        }
-    }
-    Some(most)
-}
-
 /// The string that a pointer argument names, with its zero: the checks of its first byte, and 7.1.4p1 where the object has no
 /// zero behind it. `t` gains the items, the read of the string among them.
 pub fn check_string(m: &Memory, pointer: Pointer, t: &mut Touched) -> Result<Range, LibAnswer>

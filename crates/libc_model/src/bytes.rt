@@ -157,26 +157,6 @@ pub fn add_write(range: Range, t: &mut Touched) -> Result<(), NoMemory>
     })
 }
 
-/// Stores the bytes at the place of the object, which was checked before.
-pub fn put(
-    m: &mut Memory,
-    object: ObjName,
-    from: u64,
-    via: Via,
-    block: &Block,
-    scratch: &mut Touched,
-) -> Result<(), LibAnswer> {
-    if block.len() == 0 {
-        return Ok(());
-    }
-    let Some(row) = m.map().row(object) else {
-        return Ok(());
-    };
-    let addr = row.base.saturating_add(from);
-    m.store(true, via, 1, addr, Prov::Whole(object), block, scratch)?;
-    Ok(())
-}
-
 /// The end of a call that allocates and writes nothing: what its items settle and expose takes effect.
 pub fn finish(
     alloc: Global,

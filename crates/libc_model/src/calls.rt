@@ -1,17 +1,20 @@
 // The functions of the library, each with its act.
 ghost use Rattle.std.specs.Prelude.{◌≡◌, ◌≢◌, ℕ, ◌<◌, ◌≤◌, ◌+◌, ◌^◌, true, false, nat_lt, Some, None, Ok, Err, length, List, [], OnOk, OnErr, IfNone, if◌then◌else◌};
-ghost use Rattle.c_types.specs.declared.library.LibFunc.TheVariants.{Malloc, Free, Getchar, Putchar, Puts, Exit, Abort, Printf};
+ghost use Rattle.c_types.specs.declared.library.LibFunc.TheVariants.{Malloc, Realloc, Free, Getchar, Putchar, Puts, Exit, Abort, Printf};
 ghost use Rattle.ub_base.specs.declared.clause.Cause.TheVariants.{Output};
 ghost use Rattle.addr_map.specs.declared.map.Row.{Row};
 ghost use Rattle.prov_memory.specs.Script.{Script, run};
 ghost use Rattle.prov_memory.specs.Memory.{Kept, AreKnown, HasCell, store_of};
+ghost use Rattle.prov_memory.specs.Sound.{IsSound};
 ghost use Rattle.prov_memory.specs.Streams.{Io};
 ghost use Rattle.prov_memory.specs.declared.answer.LibAnswer.TheVariants as answers;
-ghost use Rattle.libc_spec.specs.Library.{LibValue, called, byte_or_end, integer_in, argument_at};
+ghost use Rattle.libc_spec.specs.Library.{LibValue, asked, called, byte_or_end, integer_in, argument_at};
 ghost use Rattle.ub_base.specs.declared.names.Event.{Event};
 ghost use Rattle.libc_model.specs.Seen.{values_seen};
+ghost use Rattle.libc_model.specs.Making.{rows_resized};
+ghost use Rattle.libc_model.specs.Told.{AnswersSome, FirstDies, moves_old};
 ghost use Rattle.libc_model.specs.Parts.{Gives, Follows, line, line_at, printing, limited};
-ghost use Rattle.libc_model.specs.Answers.{IsCall, AreWithin, Answers, answer_in, given_value, is_exact, gives_value, leaves_all, wants_memory};
+ghost use Rattle.libc_model.specs.Answers.{IsCall, AreWithin, Answers, answer_in, given_value, is_exact, is_realloc, gives_value, leaves_all, wants_memory};
 
 use crate::arguments::{Pointer, check_string, int_at, pointer_at, size_at};
 use crate::bytes::{numbers, settle};
@@ -42,6 +45,11 @@ pub fn call(
     ensures exact { is_exact f ≡ true → IsCall f (values_seen args.now) m.old io.old → Answers result t.new (store_of m.new io.new) (called m.new.rows f (values_seen args.now) who (store_of m.old io.old)) }
     ensures known { is_exact f ≡ true → AreKnown m.old → wants_memory result ≡ false → AreKnown m.new }
     ensures same { is_exact f ≡ true → leaves_all result f ≡ true → (m.new ≡ m.old) × (io.new ≡ io.old) }
+    ensures resized { is_realloc f ≡ true → IsCall f (values_seen args.now) m.old io.old → AnswersSome result t.new (called (rows_resized m.old m.new.rows who (asked Realloc (values_seen args.now))) f (values_seen args.now) who (store_of m.old io.old)) }
+    ensures unmoved { is_realloc f ≡ true → moves_old (values_seen args.now) ≡ false → IsCall f (values_seen args.now) m.old io.old → Answers result t.new (store_of m.new io.new) (called (rows_resized m.old m.new.rows who (asked Realloc (values_seen args.now))) f (values_seen args.now) who (store_of m.old io.old)) }
+    ensures dies { is_realloc f ≡ true → moves_old (values_seen args.now) ≡ true → IsCall f (values_seen args.now) m.old io.old → gives_value result ≡ true → FirstDies m.old m.new (values_seen args.now) }
+    ensures left { is_realloc f ≡ true → AreKnown m.old → leaves_all result f ≡ true → (m.new ≡ m.old) × (io.new ≡ io.old) }
+    ensures sound { is_realloc f ≡ true → IsSound m.old → wants_memory result ≡ false → IsSound m.new }
     ensures within { AreWithin io.old → AreWithin io.new }
     ensures streams { gives_value result ≡ false → io.new ≡ io.old }
 {
@@ -66,6 +74,11 @@ fn value_of(
     ensures exact { is_exact f ≡ true → IsCall f (values_seen args.now) m.old io.old → Answers (answer_in result) t.new (store_of m.new io.new) (called m.new.rows f (values_seen args.now) who (store_of m.old io.old)) }
     ensures known { is_exact f ≡ true → AreKnown m.old → wants_memory (answer_in result) ≡ false → AreKnown m.new }
     ensures same { is_exact f ≡ true → leaves_all (answer_in result) f ≡ true → (m.new ≡ m.old) × (io.new ≡ io.old) }
+    ensures resized { is_realloc f ≡ true → IsCall f (values_seen args.now) m.old io.old → AnswersSome (answer_in result) t.new (called (rows_resized m.old m.new.rows who (asked Realloc (values_seen args.now))) f (values_seen args.now) who (store_of m.old io.old)) }
+    ensures unmoved { is_realloc f ≡ true → moves_old (values_seen args.now) ≡ false → IsCall f (values_seen args.now) m.old io.old → Answers (answer_in result) t.new (store_of m.new io.new) (called (rows_resized m.old m.new.rows who (asked Realloc (values_seen args.now))) f (values_seen args.now) who (store_of m.old io.old)) }
+    ensures dies { is_realloc f ≡ true → moves_old (values_seen args.now) ≡ true → IsCall f (values_seen args.now) m.old io.old → gives_value (answer_in result) ≡ true → FirstDies m.old m.new (values_seen args.now) }
+    ensures left { is_realloc f ≡ true → AreKnown m.old → leaves_all (answer_in result) f ≡ true → (m.new ≡ m.old) × (io.new ≡ io.old) }
+    ensures sound { is_realloc f ≡ true → IsSound m.old → wants_memory (answer_in result) ≡ false → IsSound m.new }
     ensures within { AreWithin io.old → AreWithin io.new }
     ensures streams { OnErr result (io.new ≡ io.old) }
 {

@@ -1,25 +1,34 @@
 // Allocation (7.22.3).
 
-ghost use Rattle.std.specs.Prelude.{◌≡◌, ◌≢◌, ◌+◌, ◌*◌, ◌^◌, min, max, true, nat_lt, Some, None, Ok, Err, OnOk, OnErr, [], if◌then◌else◌};
+ghost use Rattle.std.specs.Prelude.{◌≡◌, ◌≢◌, ◌+◌, ◌*◌, ◌^◌, ◌∷◌, ◌++◌, length, min, max, true, false, nat_lt, Some, None, Ok, Err, IfOk, IfErr, OnOk, OnErr, [], if◌then◌else◌};
 ghost use Rattle.ub_base.specs.declared.clause.Cause.TheVariants.{Created};
+ghost use Rattle.ub_base.specs.declared.names.Item.TheVariants.{Read, Born, Alive, Write, Dies};
 ghost use Rattle.exposure.specs.declared.prov.Prov.TheVariants.{Whole, Either};
-ghost use Rattle.exposure.specs.Cells.{has_cell};
+ghost use Rattle.exposure.specs.Cells.{has_cell, kept_in, is_other};
 ghost use Rattle.prov_memory.specs.declared.answer.LibAnswer.TheVariants as answers;
-ghost use Rattle.prov_memory.specs.Acts.{create, base_in};
+ghost use Rattle.prov_memory.specs.Acts.{Seen, create, load_block, base_in, size_in, stored_from};
 ghost use Rattle.prov_memory.specs.Held.{held_of};
-ghost use Rattle.prov_memory.specs.Memory.{AreKnown, HasCell, life_in, store_of};
-ghost use Rattle.prov_memory.specs.Script.{run};
+ghost use Rattle.prov_memory.specs.Memory.{AreKnown, CellsKnown, HasCell, life_in, store_of};
+ghost use Rattle.prov_memory.specs.Made.{CanSettle, after_settling, settling_items};
+ghost use Rattle.prov_memory.specs.Script.{run, Raised};
+ghost use Rattle.prov_memory.specs.Sound.{IsSound};
+ghost use Rattle.prov_memory.specs.Store.{Store, is_live, with_bytes};
+ghost use Rattle.prov_memory.specs.Stores.{Sees, IsShort, tagged_all};
 ghost use Rattle.prov_memory.specs.Streams.{Io};
 ghost use Rattle.addr_map.specs.Rows.{row_of};
-ghost use Rattle.libc_spec.specs.Library.{is_given, is_heap_start, heap_name, heap_kind, malloc, free, created_within};
-ghost use Rattle.libc_model.specs.Answers.{Does, given_value};
+ghost use Rattle.addr_map.specs.Sound.{Above};
+ghost use Rattle.c_types.specs.declared.library.LibFunc.TheVariants.{Calloc};
+ghost use Rattle.libc_spec.specs.Library.{argument_at, prov_in, asked, is_given, is_heap_start, heap_name, heap_kind, malloc, calloc, free, realloc, resized, created_within};
+ghost use Rattle.libc_model.specs.Seen.{values_seen};
+ghost use Rattle.libc_model.specs.Told.{IsTold, OldDies, FirstDies, moves_old, realloc_act};
+ghost use Rattle.libc_model.specs.Making.{moves, released, rows_made, rows_resized, IsNewAt, IsStart, IfRaised, start_in, heap_start_in};
+ghost use Rattle.libc_model.specs.Answers.{Does, are_sizes, given_value};
 
-use crate::arguments::{Pointer, Range, pointer_at, size_at};
-use crate::bytes::{filled, put, settle};
-use crate::ranges::answer_of;
+use crate::arguments::{Pointer, pointer_at, size_at};
+use crate::bytes::filled;
 use addr_map::Row;
 use exposure::Prov;
-use prov_memory::{Block, CreateFault, LibAnswer, Memory, ObjKind, Touched, Value, Via};
+use prov_memory::{Block, CreateFault, LibAnswer, MemFault, Memory, ObjKind, Touched, Value, Via};
 use std::alloc::Global;
 use ub_base::{Cause, Clause, Event, Item, NoMemory, ObjName};
 
@@ -80,7 +89,9 @@ fn check_created(m: &Memory, size: u64) -> Result<(), LibAnswer>
 // A new heap object, unwritten.
 fn created(m: &mut Memory, name: ObjName, size: u64, t: &mut Touched) -> Result<Pointer, LibAnswer>
     ensures exact { (io : Io) → AreKnown m.old → Does (λ base. record { addr = base; prov = Whole name }) result t.new (store_of m.new io) (run m.new.rows (create m.new.rows name size 16 heap_kind None) (store_of m.old io)) }
+    ensures rows { result ≢ Err answers.NoMemory → m.new.rows ≡ rows_made m.old name size }
     ensures known { AreKnown m.old → OnOk result (AreKnown m.new) }
+    ensures sound { IsSound m.old → OnOk result (IsSound m.new) }
     ensures same { OnErr result (result ≢ Err answers.NoMemory → m.new ≡ m.old) }
 {
     let kind = ObjKind {
@@ -101,7 +112,9 @@ fn created(m: &mut Memory, name: ObjName, size: u64, t: &mut Touched) -> Result<
 /// malloc: null for 0 bytes and for more than 2^20 (own).
 pub fn allocate(size: u64, who: Event, m: &mut Memory, t: &mut Touched) -> Result<Value, LibAnswer>
     ensures exact { (io : Io) → AreKnown m.old → Does given_value result t.new (store_of m.new io) (created_within size (store_of m.old io) (run m.new.rows (malloc m.new.rows who size) (store_of m.old io))) }
+    ensures made { (io : Io) → AreKnown m.old → Does given_value result t.new (store_of m.new io) (created_within size (store_of m.old io) (run (rows_resized m.old m.new.rows who size) (malloc (rows_resized m.old m.new.rows who size) who size) (store_of m.old io))) }
     ensures known { AreKnown m.old → OnOk result (AreKnown m.new) }
+    ensures sound { IsSound m.old → OnOk result (IsSound m.new) }
     ensures same { OnErr result (result ≢ Err answers.NoMemory → m.new ≡ m.old) }
 {
     t.clear();
@@ -122,65 +135,68 @@ pub fn allocate_zeros(
     who: Event,
     m: &mut Memory,
     t: &mut Touched,
-) -> Result<Value, LibAnswer> {
-    let Some(size) = given(product(size_at(args, 0), size_at(args, 1))) else {
+) -> Result<Value, LibAnswer>
+    requires items { t.old ≡ [] }
+    ensures exact { (io : Io) → are_sizes (values_seen args.now) (0 ∷ 1 ∷ []) ≡ true → AreKnown m.old → Above 16777216 m.old.rows → Does given_value result t.new (store_of m.new io) (created_within (asked Calloc (values_seen args.now)) (store_of m.old io) (run m.new.rows (calloc m.new.rows who (asked Calloc (values_seen args.now))) (store_of m.old io))) }
+    ensures known { AreKnown m.old → OnOk result (AreKnown m.new) }
+    ensures same { OnErr result (result ≢ Err answers.NoMemory → m.new ≡ m.old) }
+{
+    zeroed(
+        alloc,
+        product(size_at(args, 0), size_at(args, 1)),
+        who,
+        m,
+        t,
+    )
+}
+
+// calloc of so many bytes in all.
+fn zeroed(
+    alloc: Global,
+    size: u128,
+    who: Event,
+    m: &mut Memory,
+    t: &mut Touched,
+) -> Result<Value, LibAnswer>
+    requires items { t.old ≡ [] }
+    ensures exact { (io : Io) → AreKnown m.old → Above 16777216 m.old.rows → Does given_value result t.new (store_of m.new io) (created_within size (store_of m.old io) (run m.new.rows (calloc m.new.rows who size) (store_of m.old io))) }
+    ensures known { AreKnown m.old → OnOk result (AreKnown m.new) }
+    ensures same { OnErr result (result ≢ Err answers.NoMemory → m.new ≡ m.old) }
+{
+    let Some(size) = given(size) else {
         return Ok(Pointer::NULL.value());
     };
     check_created(m, size)?;
     let name = name_of(who);
+    add_zeroed(name, size, t)?;
     let mut scratch = Touched::new(alloc)?;
     let zeros = filled(alloc, 0, size)?;
+    let new = created(m, name, size, &mut scratch)?;
+    fill(m, name, new.addr, Via::Bytes, &zeros, &mut scratch);
+    Ok(new.value())
+}
+
+// The items of a new object that is written whole.
+fn add_zeroed(name: ObjName, size: u64, t: &mut Touched) -> Result<(), NoMemory>
+    ensures { OnOk result (t.new ≡ t.old ++ (Born name ∷ Alive name ∷ Write name 0 size ∷ [])) }
+{
     t.add(Item::Born(name))?;
     t.add(Item::Alive(name))?;
     t.add(Item::Write {
         object: name,
         from: 0,
         len: size,
-    })?;
-    let new = created(m, name, size, &mut scratch)?;
-    put(m, name, 0, Via::Bytes, &zeros, &mut scratch)?;
-    Ok(new.value())
+    })
 }
 
-// Whether the object is a live one of the heap that begins at the address; its size then.
-fn size_from(m: &Memory, object: ObjName, addr: u64) -> Option<u64> {
-    let state = m.object(object)?;
-    let row = m.map().row(object)?;
-    if state.live && state.kind.heap && row.base == addr {
-        Some(row.size)
-    } else {
-        None
-    }
-}
-
-// The live heap object that begins at the pointer, and its size.
-fn heap_start(
-    m: &Memory,
-    pointer: Pointer,
-    clause: Clause,
-    t: &mut Touched,
-) -> Result<Range, LibAnswer> {
-    let object = match pointer.prov {
-        Prov::Empty => return Err(LibAnswer::Raise(clause)),
-        Prov::Whole(object) => object,
-        Prov::Either { id, start, .. } => {
-            if let Some(other) = m.kept(id)
-                && other != start
-            {
-                return Err(LibAnswer::Raise(clause));
-            }
-            t.add(Item::Narrow { id, keep: start })?;
-            start
-        }
-    };
-    match size_from(m, object, pointer.addr) {
-        Some(len) => Ok(Range {
-            object,
-            from: 0,
-            len,
-        }),
-        None => Err(LibAnswer::Raise(clause)),
-    }
+// Stores the bytes at the start of a new object, which refuses none.
+fn fill(m: &mut Memory, object: ObjName, addr: u64, via: Via, block: &Block, scratch: &mut Touched)
+    ensures exact { IsShort via (length block.now.cells) → (seen : Seen) → Sees m.old via seen → IsNewAt m.old object addr (length (tagged_all m.old block.now.cells)) → (io : Io) → store_of m.new io ≡ with_bytes (store_of m.old io) object 0 (stored_from None seen 0 (tagged_all m.old block.now.cells)) }
+    ensures rows { m.new.rows ≡ m.old.rows }
+    ensures known { AreKnown m.old → CellsKnown (length m.old.origins) block.now.cells → AreKnown m.new }
+    ensures sound { IsSound m.old → CellsKnown (length m.old.origins) block.now.cells → IsSound m.new }
+{
+    let _ = m.store(true, via, 1, addr, Prov::Whole(object), block, scratch);
 }
 
 fn base_in(row: Option<Row>) -> u64
@@ -213,6 +229,7 @@ pub fn free(
 ) -> Result<(), LibAnswer>
     ensures exact { (io : Io) → HasCell m.old pointer.prov → Does (λ u. u) result t.new (store_of m.new io) (run m.new.rows (free m.new.rows pointer.addr pointer.prov clause) (store_of m.old io)) }
     ensures known { AreKnown m.old → AreKnown m.new }
+    ensures sound { IsSound m.old → IsSound m.new }
     ensures same { OnErr result (m.new ≡ m.old) }
 {
     t.clear();
@@ -239,6 +256,7 @@ fn free_object(
     requires { addr ≢ 0 }
     ensures exact { (io : Io) → Does (λ u. u) result t.new (store_of m.new io) (run m.new.rows (free m.new.rows addr (Whole object) clause) (store_of m.old io)) }
     ensures known { AreKnown m.old → AreKnown m.new }
+    ensures sound { IsSound m.old → IsSound m.new }
     ensures same { OnErr result (m.new ≡ m.old) }
 {
     let is_start = is_heap_start(m, object, addr);
@@ -265,6 +283,7 @@ fn free_start(
     requires items { t.old ≡ [] }
     ensures exact { (io : Io) → has_cell m.old.cells id ≡ true → Does (λ u. u) result t.new (store_of m.new io) (run m.new.rows (free m.new.rows addr (Either id past start) clause) (store_of m.old io)) }
     ensures known { AreKnown m.old → AreKnown m.new }
+    ensures sound { IsSound m.old → IsSound m.new }
     ensures same { OnErr result (m.new ≡ m.old) }
 {
     let mut scratch = Touched::new(alloc)?;
@@ -279,6 +298,45 @@ fn free_start(
     }
 }
 
+// Whether the ambiguity was settled to another object.
+fn is_lost(m: &Memory, id: Event, keep: ObjName) -> bool
+    ensures { result ≡ is_other (kept_in m.now.cells id) keep }
+{
+    match m.kept(id) {
+        None => false,
+        Some(kept) => kept != keep,
+    }
+}
+
+// The object that a pointer to the heap means, and what that settles.
+fn start_of(m: &Memory, prov: Prov) -> Option<(ObjName, Option<(Event, ObjName)>)>
+    ensures { result ≡ start_in m.now.cells prov }
+{
+    match prov {
+        Prov::Empty => None,
+        Prov::Whole(object) => Some((object, None)),
+        Prov::Either { id, start, .. } => {
+            if is_lost(m, id, start) {
+                None
+            } else {
+                Some((start, Some((id, start))))
+            }
+        }
+    }
+}
+
+// The same where a live heap object begins at the address.
+fn heap_start(m: &Memory, pointer: Pointer) -> Option<(ObjName, Option<(Event, ObjName)>)>
+    ensures { result ≡ heap_start_in m.now pointer.addr pointer.prov }
+{
+    let start = start_of(m, pointer.prov)?;
+    if is_heap_start(m, start.0, pointer.addr) {
+        Some(start)
+    } else {
+        None
+    }
+}
+
 /// realloc: as malloc for null; 7.22.3.5p3 for what isn't the start of a live heap object; as free for 0 bytes; null, with
 /// the object as it was, for more than 2^20; else a new object with the bytes that both have, and the old one dies.
 pub fn reallocate(
@@ -287,67 +345,197 @@ pub fn reallocate(
     who: Event,
     m: &mut Memory,
     t: &mut Touched,
-) -> Result<Value, LibAnswer> {
-    let pointer = pointer_at(args, 0);
-    let size = size_at(args, 1);
+) -> Result<Value, LibAnswer>
+    requires items { t.old ≡ [] }
+    ensures told { (io : Io) → are_sizes (values_seen args.now) (1 ∷ []) ≡ true → AreKnown m.old → HasCell m.old (prov_in (argument_at (values_seen args.now) 0)) → IsTold result t.new io (realloc_act m.old m.new.rows (values_seen args.now) who io) }
+    ensures dies { moves_old (values_seen args.now) ≡ true → are_sizes (values_seen args.now) (1 ∷ []) ≡ true → OnOk result (FirstDies m.old m.new (values_seen args.now)) }
+    ensures unmoved { moves_old (values_seen args.now) ≡ false → (io : Io) → are_sizes (values_seen args.now) (1 ∷ []) ≡ true → AreKnown m.old → HasCell m.old (prov_in (argument_at (values_seen args.now) 0)) → Does given_value result t.new (store_of m.new io) (realloc_act m.old m.new.rows (values_seen args.now) who io) }
+    ensures same { AreKnown m.old → OnErr result (result ≢ Err answers.NoMemory → m.new ≡ m.old) }
+    ensures sound { IsSound m.old → OnOk result (IsSound m.new) }
+{
+    change_size(alloc, pointer_at(args, 0), size_at(args, 1), who, m, t)
+}
+
+// realloc of a pointer to a size.
+fn change_size(
+    alloc: Global,
+    pointer: Pointer,
+    size: u64,
+    who: Event,
+    m: &mut Memory,
+    t: &mut Touched,
+) -> Result<Value, LibAnswer>
+    requires items { t.old ≡ [] }
+    ensures told { (io : Io) → AreKnown m.old → HasCell m.old pointer.prov → IsTold result t.new io (created_within size (store_of m.old io) (run (rows_resized m.old m.new.rows who size) (realloc (rows_resized m.old m.new.rows who size) who pointer.addr pointer.prov size) (store_of m.old io))) }
+    ensures dies { moves pointer.addr size ≡ true → OnOk result (OldDies m.old m.new pointer.addr pointer.prov) }
+    ensures unmoved { moves pointer.addr size ≡ false → (io : Io) → AreKnown m.old → HasCell m.old pointer.prov → Does given_value result t.new (store_of m.new io) (created_within size (store_of m.old io) (run (rows_resized m.old m.new.rows who size) (realloc (rows_resized m.old m.new.rows who size) who pointer.addr pointer.prov size) (store_of m.old io))) }
+    ensures same { AreKnown m.old → OnErr result (result ≢ Err answers.NoMemory → m.new ≡ m.old) }
+    ensures sound { IsSound m.old → OnOk result (IsSound m.new) }
+{
     if pointer.addr == 0 {
         return allocate(size, who, m, t);
     }
     if size == 0 {
-        free(alloc, pointer, Clause::Realloc, m, t)?;
-        return Ok(Pointer::NULL.value());
+        return release(alloc, pointer, m, t);
     }
-    let old = heap_start(m, pointer, Clause::Realloc, t)?;
-    t.add(Item::Alive(old.object))?;
-    let mut scratch = Touched::new(alloc)?;
+    resize(alloc, pointer, size, who, m, t)
+}
+
+// realloc to no bytes.
+fn release(
+    alloc: Global,
+    pointer: Pointer,
+    m: &mut Memory,
+    t: &mut Touched,
+) -> Result<Value, LibAnswer>
+    ensures exact { (io : Io) → HasCell m.old pointer.prov → Does given_value result t.new (store_of m.new io) (run m.new.rows (released m.new.rows pointer.addr pointer.prov) (store_of m.old io)) }
+    ensures same { OnErr result (m.new ≡ m.old) }
+    ensures sound { IsSound m.old → IsSound m.new }
+{
+    match free(alloc, pointer, Clause::Realloc, m, t) {
+        Ok(()) => Ok(Pointer::NULL.value()),
+        Err(answer) => Err(answer),
+    }
+}
+
+// realloc of an object to some bytes.
+fn resize(
+    alloc: Global,
+    pointer: Pointer,
+    size: u64,
+    who: Event,
+    m: &mut Memory,
+    t: &mut Touched,
+) -> Result<Value, LibAnswer>
+    requires start { pointer.addr ≢ 0 }
+    requires some { size ≢ 0 }
+    requires items { t.old ≡ [] }
+    ensures told { (io : Io) → AreKnown m.old → IsTold result t.new io (created_within size (store_of m.old io) (run (rows_resized m.old m.new.rows who size) (resized (rows_resized m.old m.new.rows who size) who pointer.addr pointer.prov size) (store_of m.old io))) }
+    ensures dies { is_given size ≡ true → OnOk result (OldDies m.old m.new pointer.addr pointer.prov) }
+    ensures unmoved { is_given size ≡ false → (io : Io) → HasCell m.old pointer.prov → Does given_value result t.new (store_of m.new io) (created_within size (store_of m.old io) (run m.new.rows (resized m.new.rows who pointer.addr pointer.prov size) (store_of m.old io))) }
+    ensures same { AreKnown m.old → OnErr result (result ≢ Err answers.NoMemory → m.new ≡ m.old) }
+    ensures sound { IsSound m.old → OnOk result (IsSound m.new) }
+{
+    let Some((object, settles)) = heap_start(m, pointer) else {
+        return Err(LibAnswer::Raise(Clause::Realloc));
+    };
+    add_start(object, settles, t)?;
     if size > MOST {
-        settle(m, t, &mut scratch);
+        settle_start(m, settles);
         return Ok(Pointer::NULL.value());
     }
     check_created(m, size)?;
-    let common = Range {
-        object: old.object,
-        from: 0,
-        len: old.len.min(size),
-    };
-    add_moved(common, name_of(who), t)?;
-    let new = moved(m, pointer.addr, common, name_of(who), size, &mut scratch)?;
-    m.kill(old.object, &mut scratch);
-    settle(m, t, &mut scratch);
-    Ok(new.value())
+    match move_to(
+        alloc,
+        object,
+        settles,
+        pointer.addr,
+        size,
+        name_of(who),
+        m,
+        t,
+    ) {
+        Ok(new) => Ok(new.value()),
+        Err(answer) => Err(answer),
+    }
+}
+
+// The items of what is asked about the object that a pointer means.
+fn add_start(
+    object: ObjName,
+    settles: Option<(Event, ObjName)>,
+    t: &mut Touched,
+) -> Result<(), NoMemory>
+    ensures { OnOk result (t.new ≡ t.old ++ (settling_items settles ++ Alive object ∷ [])) }
+{
+    if let Some((id, keep)) = settles {
+        t.add(Item::Narrow { id, keep })?;
+    }
+    t.add(Item::Alive(object))
+}
+
+// Settles what a pointer settles.
+fn settle_start(m: &mut Memory, settles: Option<(Event, ObjName)>)
+    ensures store { CanSettle m.old.cells settles → (io : Io) → store_of m.new io ≡ after_settling settles (store_of m.old io) }
+    ensures rest { record m.new { cells = [] } ≡ record m.old { cells = [] } }
+    ensures sound { IsSound m.old → IsSound m.new }
+{
+    if let Some((id, keep)) = settles {
+        let _ = m.narrow(id, keep);
+    }
+}
+
+// A new object that begins with the bytes that both have, pieces and tags among them; the old one dies.
+fn move_to(
+    alloc: Global,
+    object: ObjName,
+    settles: Option<(Event, ObjName)>,
+    addr: u64,
+    size: u64,
+    name: ObjName,
+    m: &mut Memory,
+    t: &mut Touched,
+) -> Result<Pointer, LibAnswer>
+    ensures exact { (io : Io) → AreKnown m.old → IsStart m.old object addr → (s : Store) × Does (λ base. record { addr = base; prov = Whole name }) result (Born name ∷ []) s (run (rows_made m.old name size) (create (rows_made m.old name size) name size 16 heap_kind None) (store_of m.old io)) }
+    ensures items { OnOk result (t.new ≡ t.old ++ (Read object 0 (min (size_in (row_of m.old.rows object)) size) ∷ Born name ∷ Alive name ∷ Write name 0 (min (size_in (row_of m.old.rows object)) size) ∷ Dies object ∷ [])) }
+    ensures dies { OnOk result (is_live (life_in (held_of m.new.objects object)) ≡ false) }
+    ensures same { AreKnown m.old → IsStart m.old object addr → OnErr result (result ≢ Err answers.NoMemory → m.new ≡ m.old) }
+    ensures sound { IsSound m.old → OnOk result (IsSound m.new) }
+{
+    let len = size_in(m.map().row(object)).min(size);
+    add_moved(object, len, name, t)?;
+    let mut scratch = Touched::new(alloc)?;
+    let new = created(m, name, size, &mut scratch)?;
+    let block = block_at(m, object, addr, len, &mut scratch)?;
+    settle_start(m, settles);
+    fill(m, name, new.addr, Via::Whole, &block, &mut scratch);
+    m.kill(object, &mut scratch);
+    Ok(new)
+}
+
+// The first bytes of an object that begins at the address.
+fn block_at(
+    m: &mut Memory,
+    object: ObjName,
+    addr: u64,
+    len: u64,
+    scratch: &mut Touched,
+) -> Result<Block, LibAnswer>
+    ensures raises { IfErr result (λ answer. IfRaised answer (λ c. (io : Io) → run m.old.rows (load_block m.old.rows len 1 addr (Whole object)) (store_of m.old io) ≡ Raised c)) }
+    ensures known { IfOk result (λ block. AreKnown m.old → CellsKnown (length m.new.origins) block.cells) }
+    ensures sound { IsSound m.old → IsSound m.new }
+{
+    match m.load_block(len, 1, addr, Prov::Whole(object), scratch) {
+        Ok(block) => Ok(block),
+        Err(MemFault::Raise(clause)) => Err(LibAnswer::Raise(clause)),
+        Err(MemFault::NoMemory) => Err(LibAnswer::NoMemory),
+    }
+}
+
+fn size_in(row: Option<Row>) -> u64
+    ensures { result ≡ size_in row }
+{
+    match row {
+        Some(row) => row.size,
+        None => 0,
+    }
 }
 
 // The items of bytes that move to a new object.
-fn add_moved(common: Range, name: ObjName, t: &mut Touched) -> Result<(), NoMemory> {
+fn add_moved(object: ObjName, len: u64, name: ObjName, t: &mut Touched) -> Result<(), NoMemory>
+    ensures { OnOk result (t.new ≡ t.old ++ (Read object 0 len ∷ Born name ∷ Alive name ∷ Write name 0 len ∷ Dies object ∷ [])) }
+{
     t.add(Item::Read {
-        object: common.object,
-        from: common.from,
-        len: common.len,
+        object,
+        from: 0,
+        len,
     })?;
     t.add(Item::Born(name))?;
     t.add(Item::Alive(name))?;
     t.add(Item::Write {
         object: name,
         from: 0,
-        len: common.len,
+        len,
     })?;
-    t.add(Item::Dies(common.object))
-}
-
-// A new object that begins with these bytes of the old one, pieces and tags among them.
-fn moved(
-    m: &mut Memory,
-    addr: u64,
-    common: Range,
-    name: ObjName,
-    size: u64,
-    scratch: &mut Touched,
-) -> Result<Pointer, LibAnswer> {
-    let block = match m.load_block(common.len, 1, addr, Prov::Whole(common.object), scratch) {
-        Ok(block) => block,
-        Err(fault) => return Err(answer_of(fault)),
-    };
-    let new = created(m, name, size, scratch)?;
-    put(m, name, 0, Via::Whole, &block, scratch)?;
-    Ok(new)
+    t.add(Item::Dies(object))
 }

@@ -107,14 +107,6 @@ fn copied(m: &mut Memory, addr: u64, range: Range, scratch: &mut Touched) -> Res
     }
 }
 
-/// Why memory gave nothing, as the answer of a library function.
-pub fn answer_of(fault: MemFault) -> LibAnswer {
-    match fault {
-        MemFault::Raise(clause) => LibAnswer::Raise(clause),
-        MemFault::NoMemory => LibAnswer::NoMemory,
-    }
-}
-
 // Whether the ranges may overlap or don't (7.24.2.1p2).
 fn check_overlap(may_overlap: bool, len: u64, to: u64, from: u64) -> Result<(), Clause>
     ensures { result ≡ (if may_overlap || not (overlap len to from) then Ok tt else Err MemcpyOverlap) }

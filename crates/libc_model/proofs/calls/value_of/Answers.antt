@@ -1,17 +1,25 @@
 use Rattle.std.proofs.Common.{◌∙◌, rules}
 use Rattle.std.specs.Int.{w128}
 use Rattle.std.proofs.lemmas.Int.{to_z-of_z}
-use Rattle.c_types.specs.declared.library.LibFunc.TheVariants.{Malloc, Memcpy, Memmove, Memset, Memcmp, Strlen, Strcpy, Strcmp, Strchr, Getchar, Putchar, Puts, Exit, Abort}
+use Rattle.c_types.specs.declared.library.LibFunc.TheVariants.{Malloc, Calloc, Realloc, Memcpy, Memmove, Memset, Memcmp, Strlen, Strcpy, Strcmp, Strchr, Getchar, Putchar, Puts, Exit, Abort}
 use Rattle.prov_memory.specs.Memory.{store_of}
+use Rattle.libc_spec.specs.Library.{asked}
 use Rattle.libc_model.specs.Seen.{values_seen}
+use Rattle.libc_model.specs.Making.{rows_resized}
+use Rattle.libc_model.specs.Told.{FirstDies, realloc_act}
 use Rattle.libc_model.specs.Answers.{answer_in}
-use Rattle.libc_model.proofs.Answering.{arm, malloc_called, first_size}
+use Rattle.libc_model.proofs.Answering.{arm, realloc_arm, told_arm, dies_arm, malloc_called, calloc_called, realloc_called, realloc_told, first_size, first_has}
 use Rattle.libc_model.proofs.calls.value_of.Goals as goal
 
 pub returns-in-Malloc-clause-exact : goal.returns-in-Malloc-clause-exact
 returns-in-Malloc-clause-exact c =
     arm c.args.f Malloc c.allocate.new.m.rows (values_seen c.args.args.now) c.args.who c.args.m.now c.args.io.now (answer_in c.allocate.result) c.allocate.new.t (store_of c.allocate.new.m c.args.io.now) (store_of c.args.m.now c.args.io.now) c.in-Malloc.is
     (λ call. malloc_called c.allocate.new.m.rows (values_seen c.args.args.now) c.args.who c.size_at.result (store_of c.args.m.now c.args.io.now) (store_of c.allocate.new.m c.args.io.now) c.allocate.result c.allocate.new.t call.streams.taken call.streams.written (c.size_at.ensures (first_size (values_seen c.args.args.now) call.sizes)) (c.allocate.ensures.exact c.args.io.now call.known))
+
+pub returns-in-Calloc-clause-exact : goal.returns-in-Calloc-clause-exact
+returns-in-Calloc-clause-exact c =
+    arm c.args.f Calloc c.allocate_zeros.new.m.rows (values_seen c.args.args.now) c.args.who c.args.m.now c.args.io.now (answer_in c.allocate_zeros.result) c.allocate_zeros.new.t (store_of c.allocate_zeros.new.m c.args.io.now) (store_of c.args.m.now c.args.io.now) c.in-Calloc.is
+    (λ call. calloc_called c.allocate_zeros.new.m.rows (values_seen c.args.args.now) c.args.who (store_of c.args.m.now c.args.io.now) (store_of c.allocate_zeros.new.m c.args.io.now) c.allocate_zeros.result c.allocate_zeros.new.t call.streams.taken call.streams.written (c.allocate_zeros.ensures.exact c.args.io.now call.sizes call.known call.high))
 
 pub returns-in-Strlen-clause-exact : goal.returns-in-Strlen-clause-exact
 returns-in-Strlen-clause-exact c =
@@ -77,3 +85,22 @@ pub returns-in-Memmove-clause-exact : goal.returns-in-Memmove-clause-exact
 returns-in-Memmove-clause-exact c =
     arm c.args.f Memmove c.copy-in-Memmove.new.m.rows (values_seen c.args.args.now) c.args.who c.args.m.now c.args.io.now (answer_in c.copy-in-Memmove.result) c.copy-in-Memmove.new.t (store_of c.copy-in-Memmove.new.m c.args.io.now) (store_of c.args.m.now c.args.io.now) c.in-Memmove.is
     (c.copy-in-Memmove.ensures.exact c.args.io.now c.args.who)
+
+pub returns-in-Realloc-clause-resized : goal.returns-in-Realloc-clause-resized
+returns-in-Realloc-clause-resized c = λ is.
+    told_arm c.args.f (rows_resized c.args.m.now c.reallocate.new.m.rows c.args.who (asked Realloc (values_seen c.args.args.now))) (values_seen c.args.args.now) c.args.who c.args.m.now c.args.io.now (answer_in c.reallocate.result) c.reallocate.new.t (store_of c.args.m.now c.args.io.now) c.in-Realloc.is
+    (λ call. realloc_told c.args.m.now c.reallocate.new.m.rows (values_seen c.args.args.now) c.args.who c.args.io.now c.reallocate.result c.reallocate.new.t call.streams
+    (c.reallocate.ensures.told c.args.io.now call.sizes call.known (first_has c.args.m.now (values_seen c.args.args.now) call.cells)))
+
+pub returns-in-Realloc-clause-unmoved : goal.returns-in-Realloc-clause-unmoved
+returns-in-Realloc-clause-unmoved c = λ is unmoved.
+    realloc_arm c.args.f (rows_resized c.args.m.now c.reallocate.new.m.rows c.args.who (asked Realloc (values_seen c.args.args.now))) (values_seen c.args.args.now) c.args.who c.args.m.now c.args.io.now (answer_in c.reallocate.result) c.reallocate.new.t (store_of c.reallocate.new.m c.args.io.now) (store_of c.args.m.now c.args.io.now) c.in-Realloc.is
+    (λ call. realloc_called c.args.m.now c.reallocate.new.m.rows (values_seen c.args.args.now) c.args.who c.args.io.now (store_of c.reallocate.new.m c.args.io.now) c.reallocate.result c.reallocate.new.t call.streams.taken call.streams.written
+    (c.reallocate.ensures.unmoved unmoved c.args.io.now call.sizes call.known (first_has c.args.m.now (values_seen c.args.args.now) call.cells)))
+
+pub returns-in-Realloc-clause-dies : goal.returns-in-Realloc-clause-dies
+returns-in-Realloc-clause-dies c = λ is moves.
+    dies_arm c.args.f c.reallocate.result c.reallocate.new.t c.args.m.now c.args.io.now (values_seen c.args.args.now) (realloc_act c.args.m.now c.reallocate.new.m.rows (values_seen c.args.args.now) c.args.who c.args.io.now)
+    (FirstDies c.args.m.now c.reallocate.new.m (values_seen c.args.args.now)) c.in-Realloc.is
+    (λ call. c.reallocate.ensures.told c.args.io.now call.sizes call.known (first_has c.args.m.now (values_seen c.args.args.now) call.cells))
+    (λ call. c.reallocate.ensures.dies moves call.sizes)

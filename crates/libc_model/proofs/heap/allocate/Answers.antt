@@ -5,6 +5,7 @@ use Rattle.prov_memory.specs.declared.answer.LibAnswer.TheVariants as answers
 use Rattle.prov_memory.specs.Memory.{store_of}
 use Rattle.libc_spec.specs.Library.{is_given}
 use Rattle.libc_model.proofs.Allocating.{given_some, within_split, malloc_done, malloc_failed}
+use Rattle.libc_model.proofs.Making.{malloc_made, malloc_unmade, made_value}
 use Rattle.libc_model.proofs.heap.allocate.Goals as goal
 
 pub returns-in-Ok-clause-exact : goal.returns-in-Ok-clause-exact
@@ -26,3 +27,23 @@ returns-in-Err-clause-exact c = λ io known.
     (given.1 ∙ asked) c.name_of.ensures (subst (λ (n : ℕ). is_given n ≡ true) asked given.0)
     (within_split (nat_lt (2 ^ 26) sum) (answers.Outside Created sum) c.in_ok-check_created.ensures)
     (c.in-Err.ensures.exact io known)
+
+pub returns-in-Ok-clause-made : goal.returns-in-Ok-clause-made
+returns-in-Ok-clause-made c = λ io known.
+    let asked : c.from.result ≡ c.args.size = search rules in
+    let given = given_some (is_given c.from.result) c.from.result c.in-Some.size c.in-Some.ensures in
+    let sum : ℕ = min (c.args.m.now.created + max c.in-Some.size 16) (2 ^ 62) in
+    rw c.value-in-Ok.ensures (malloc_made c.args.m.now c.created.new.m c.created.new.m.rows c.args.who c.args.size c.in-Some.size c.name_of.result (store_of c.args.m.now io) c.in-Ok.new c.created.new.t (store_of c.created.new.m io)
+    (given.1 ∙ asked) c.name_of.ensures (subst (λ (n : ℕ). is_given n ≡ true) asked given.0)
+    (within_split (nat_lt (2 ^ 26) sum) (answers.Outside Created sum) c.in_ok-check_created.ensures)
+    (c.in-Ok.ensures.rows (made_value c.in-Ok.new)) (c.in-Ok.ensures.exact io known))
+
+pub returns-in-Err-clause-made : goal.returns-in-Err-clause-made
+returns-in-Err-clause-made c = λ io known.
+    let asked : c.from.result ≡ c.args.size = search rules in
+    let given = given_some (is_given c.from.result) c.from.result c.in-Some.size c.in-Some.ensures in
+    let sum : ℕ = min (c.args.m.now.created + max c.in-Some.size 16) (2 ^ 62) in
+    malloc_unmade c.args.m.now c.created.new.m c.created.new.m.rows c.args.who c.args.size c.in-Some.size c.name_of.result (store_of c.args.m.now io) c.in-Err.answer c.created.new.t (store_of c.created.new.m io)
+    (given.1 ∙ asked) c.name_of.ensures (subst (λ (n : ℕ). is_given n ≡ true) asked given.0)
+    (within_split (nat_lt (2 ^ 26) sum) (answers.Outside Created sum) c.in_ok-check_created.ensures)
+    c.in-Err.ensures.rows (c.in-Err.ensures.exact io known)

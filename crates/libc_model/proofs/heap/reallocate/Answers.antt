@@ -1,0 +1,25 @@
+use Rattle.std.proofs.Common.{sym, subst}
+use Rattle.exposure.specs.declared.prov.Prov.{Prov}
+use Rattle.prov_memory.specs.Memory.{HasCell, store_of}
+use Rattle.libc_spec.specs.Library.{argument_at, address_in, prov_in, size_of_value}
+use Rattle.libc_model.specs.Seen.{values_seen}
+use Rattle.libc_model.proofs.Answering.{address_is, one_size}
+use Rattle.libc_model.proofs.Resizing.{told_args, does_args, unmoved_args}
+use Rattle.libc_model.proofs.heap.reallocate.Goals as goal
+
+pub returns-clause-told : goal.returns-clause-told
+returns-clause-told c = λ io sizes known has.
+    let vs = values_seen c.args.args.now in
+    let p = c.pointer_at.result in
+    let at = address_is p.addr (address_in (argument_at vs 0)) p.prov (prov_in (argument_at vs 0)) c.pointer_at.ensures in
+    told_args c.change_size.result c.change_size.new.t c.args.m.now io c.change_size.new.m.rows c.args.who p.addr (address_in (argument_at vs 0)) p.prov (prov_in (argument_at vs 0)) c.size_at.result (size_of_value (argument_at vs 1))
+    at.0 at.1 (c.size_at.ensures (one_size vs 1 sizes)) (c.change_size.ensures.told io known (subst (λ (q : Prov). HasCell c.args.m.now q) (sym at.1) has))
+
+pub returns-clause-unmoved : goal.returns-clause-unmoved
+returns-clause-unmoved c = λ unmoved io sizes known has.
+    let vs = values_seen c.args.args.now in
+    let p = c.pointer_at.result in
+    let at = address_is p.addr (address_in (argument_at vs 0)) p.prov (prov_in (argument_at vs 0)) c.pointer_at.ensures in
+    does_args c.change_size.result c.change_size.new.t (store_of c.change_size.new.m io) c.args.m.now io c.change_size.new.m.rows c.args.who p.addr (address_in (argument_at vs 0)) p.prov (prov_in (argument_at vs 0)) c.size_at.result (size_of_value (argument_at vs 1))
+    at.0 at.1 (c.size_at.ensures (one_size vs 1 sizes))
+    (c.change_size.ensures.unmoved (unmoved_args p.addr (address_in (argument_at vs 0)) c.size_at.result (size_of_value (argument_at vs 1)) at.0 (c.size_at.ensures (one_size vs 1 sizes)) unmoved) io known (subst (λ (q : Prov). HasCell c.args.m.now q) (sym at.1) has))
