@@ -1,18 +1,18 @@
 //! Declarations (6.7).
 
-use crate::cursor::Cursor;
+use crate::behind::{kept, pushed, with};
 use crate::declarator::declare_named;
-use crate::error::ParseFault;
 use crate::initializer::initializer;
-use crate::knot::{Grammar, Mode, Place, declarator, expr, specs};
-use crate::tokens::declares_typedef;
+use crate::knot::{Grammar, declarator, expr, specs};
 use c_ast::{Declaration, Declarator, Expr, Init, Part, Specs};
+use c_cursor::tokens::declares_typedef;
+use c_cursor::{Cursor, Mode, Place, Refusal};
 use c_lex::Mark;
 use std::alloc::Global;
 use ub_base::Items;
 
 /// A static assertion (6.7.10): its condition, and the first string literal of its message.
-pub fn assertion(alloc: Global, tokens: &mut Cursor<'_>) -> Result<(Expr, u32), ParseFault> {
+pub fn assertion(alloc: Global, tokens: &mut Cursor<'_>) -> Result<(Expr, u32), Refusal> {
     let depth = tokens.turns();
     Grammar {
         alloc,
@@ -24,7 +24,7 @@ pub fn assertion(alloc: Global, tokens: &mut Cursor<'_>) -> Result<(Expr, u32), 
     .assertion(tokens)
 }
 
-pub fn declaration_specs(alloc: Global, tokens: &mut Cursor<'_>) -> Result<Specs, ParseFault> {
+pub fn declaration_specs(alloc: Global, tokens: &mut Cursor<'_>) -> Result<Specs, Refusal> {
     let turns = tokens.turns();
     specs(alloc, tokens, turns, Place::Declaration)
 }
@@ -34,14 +34,14 @@ pub fn named_declarator(
     alloc: Global,
     tokens: &mut Cursor<'_>,
     typedef: bool,
-) -> Result<Declarator, ParseFault> {
+) -> Result<Declarator, Refusal> {
     let turns = tokens.turns();
     let found = declarator(alloc, tokens, turns, Mode::Named)?;
-    declare_named(tokens, &found, typedef)?;
-    Ok(found)
+    let declared = declare_named(tokens, &found, typedef);
+    kept(found, declared)
 }
 
-fn maybe_init(alloc: Global, tokens: &mut Cursor<'_>) -> Result<Option<Init>, ParseFault> {
+fn maybe_init(alloc: Global, tokens: &mut Cursor<'_>) -> Result<Option<Init>, Refusal> {
     if !tokens.eat(Mark::Equal) {
         return Ok(None);
     }
@@ -49,18 +49,18 @@ fn maybe_init(alloc: Global, tokens: &mut Cursor<'_>) -> Result<Option<Init>, Pa
     Ok(Some(initializer(alloc, tokens, turns)?))
 }
 
-fn part(alloc: Global, tokens: &mut Cursor<'_>, typedef: bool) -> Result<Part, ParseFault> {
+fn part(alloc: Global, tokens: &mut Cursor<'_>, typedef: bool) -> Result<Part, Refusal> {
     let declarator = named_declarator(alloc, tokens, typedef)?;
-    let init = maybe_init(alloc, tokens)?;
-    Ok(Part { declarator, init })
+    part_behind(alloc, tokens, declarator)
 }
 
-fn first_part(
+/// The rest of a part behind its declarator.
+fn part_behind(
     alloc: Global,
     tokens: &mut Cursor<'_>,
     declarator: Declarator,
-) -> Result<Part, ParseFault> {
-    let init = maybe_init(alloc, tokens)?;
+) -> Result<Part, Refusal> {
+    let (declarator, init) = with(declarator, maybe_init(alloc, tokens))?;
     Ok(Part { declarator, init })
 }
 
@@ -70,17 +70,15 @@ fn rest_parts(
     tokens: &mut Cursor<'_>,
     typedef: bool,
     first: Part,
-) -> Result<Items<Part>, ParseFault> {
-    let mut found = Items::new(alloc);
-    found.push(first)?;
+) -> Result<Items<Part>, Refusal> {
+    let mut found = pushed(Items::new(alloc), Ok(first))?;
     for _turn in 0..tokens.turns() {
         if !tokens.eat(Mark::Comma) {
-            tokens.expect(Mark::Semicolon)?;
-            return Ok(found);
+            return kept(found, tokens.expect(Mark::Semicolon));
         }
-        found.push(part(alloc, tokens, typedef)?)?;
+        found = pushed(found, part(alloc, tokens, typedef))?;
     }
-    Err(tokens.refuse())
+    kept(found, Err(tokens.refuse()))
 }
 
 /// The rest of a declaration behind its first declarator, and the semicolon.
@@ -89,8 +87,8 @@ pub fn more_parts(
     tokens: &mut Cursor<'_>,
     typedef: bool,
     first: Declarator,
-) -> Result<Items<Part>, ParseFault> {
-    let first = first_part(alloc, tokens, first)?;
+) -> Result<Items<Part>, Refusal> {
+    let first = part_behind(alloc, tokens, first)?;
     rest_parts(alloc, tokens, typedef, first)
 }
 
@@ -99,7 +97,7 @@ fn maybe_parts(
     alloc: Global,
     tokens: &mut Cursor<'_>,
     typedef: bool,
-) -> Result<Items<Part>, ParseFault> {
+) -> Result<Items<Part>, Refusal> {
     if tokens.eat(Mark::Semicolon) {
         return Ok(Items::new(alloc));
     }
@@ -108,8 +106,9 @@ fn maybe_parts(
 }
 
 /// A declaration that is no static assertion.
-pub fn declaration(alloc: Global, tokens: &mut Cursor<'_>) -> Result<Declaration, ParseFault> {
+pub fn declaration(alloc: Global, tokens: &mut Cursor<'_>) -> Result<Declaration, Refusal> {
     let specs = declaration_specs(alloc, tokens)?;
-    let parts = maybe_parts(alloc, tokens, declares_typedef(&specs))?;
+    let typedef = declares_typedef(&specs);
+    let (specs, parts) = with(specs, maybe_parts(alloc, tokens, typedef))?;
     Ok(Declaration { specs, parts })
 }

@@ -2,13 +2,13 @@
 
 ghost use Rattle.c_parse.specs.Nests.{NestsExpr, NestsDeclarator, NestsSpecs};
 
-use crate::cursor::Cursor;
-use crate::error::ParseFault;
-use crate::knot::{Grammar, Mode, Place};
+use crate::behind::{before, kept, pushed, with};
+use crate::knot::Grammar;
 use crate::make;
-use crate::operators::ASSIGNMENT;
-use crate::tokens::{opens_parameters, qualifiers};
 use c_ast::{Declarator, Expr, Param, Specs};
+use c_cursor::operators::ASSIGNMENT;
+use c_cursor::tokens::{opens_parameters, qualifiers};
+use c_cursor::{Cursor, Mode, Place, Refusal};
 use c_lex::{Mark, TokenKind};
 use std::alloc::Global;
 use ub_base::Items;
@@ -28,7 +28,7 @@ pub fn declare_named(
     tokens: &mut Cursor<'_>,
     declarator: &Declarator,
     typedef: bool,
-) -> Result<(), ParseFault> {
+) -> Result<(), Refusal> {
     match name_of(declarator) {
         Some(at) => tokens.declare(at, typedef),
         None => Ok(()),
@@ -50,14 +50,14 @@ fn is_own_name(declarator: &Declarator) -> bool {
     }
 }
 
-fn no_name(mode: Mode, tokens: &Cursor<'_>) -> Result<Declarator, ParseFault> {
+fn no_name(mode: Mode, tokens: &Cursor<'_>) -> Result<Declarator, Refusal> {
     match mode {
         Mode::Named => Err(tokens.refuse()),
         _ => Ok(Declarator::Ident(None)),
     }
 }
 
-fn name(mode: Mode, tokens: &mut Cursor<'_>) -> Result<Declarator, ParseFault> {
+fn name(mode: Mode, tokens: &mut Cursor<'_>) -> Result<Declarator, Refusal> {
     match mode {
         Mode::Abstract => Ok(Declarator::Ident(None)),
         _ => {
@@ -69,35 +69,35 @@ fn name(mode: Mode, tokens: &mut Cursor<'_>) -> Result<Declarator, ParseFault> {
 }
 
 impl<
-    F: Fn(Global, &mut Cursor<'_>, usize, u8) -> Result<Expr, ParseFault>,
-    G: Fn(Global, &mut Cursor<'_>, usize, Mode) -> Result<Declarator, ParseFault>,
-    H: Fn(Global, &mut Cursor<'_>, usize, Place) -> Result<Specs, ParseFault>,
+    F: Fn(Global, &mut Cursor<'_>, usize, u8) -> Result<Expr, Refusal>,
+    G: Fn(Global, &mut Cursor<'_>, usize, Mode) -> Result<Declarator, Refusal>,
+    H: Fn(Global, &mut Cursor<'_>, usize, Place) -> Result<Specs, Refusal>,
 > Grammar<F, G, H> {
-    fn parameter_declarator(&self, tokens: &mut Cursor<'_>) -> Result<Declarator, ParseFault>
+    fn parameter_declarator(&self, tokens: &mut Cursor<'_>) -> Result<Declarator, Refusal>
         requires { NestsDeclarator self.now.depth (G.pre self.now.declarator) (G.post self.now.declarator) }
     {
         let found = self.declarator(tokens, Mode::Either)?;
-        declare_named(tokens, &found, false)?;
-        Ok(found)
+        let declared = declare_named(tokens, &found, false);
+        kept(found, declared)
     }
 
-    fn parameter(&self, tokens: &mut Cursor<'_>) -> Result<Param, ParseFault>
+    fn parameter(&self, tokens: &mut Cursor<'_>) -> Result<Param, Refusal>
         requires declarator { NestsDeclarator self.now.depth (G.pre self.now.declarator) (G.post self.now.declarator) }
         requires specs { NestsSpecs self.now.depth (H.pre self.now.specs) (H.post self.now.specs) }
     {
         let specs = self.specs(tokens, Place::Declaration)?;
-        let declarator = self.parameter_declarator(tokens)?;
+        let (specs, declarator) = with(specs, self.parameter_declarator(tokens))?;
         Ok(Param { specs, declarator })
     }
 
     /// The parameters, and whether an ellipsis follows them.
-    fn parameter_list(&self, tokens: &mut Cursor<'_>) -> Result<(Items<Param>, bool), ParseFault>
+    fn parameter_list(&self, tokens: &mut Cursor<'_>) -> Result<(Items<Param>, bool), Refusal>
         requires declarator { NestsDeclarator self.now.depth (G.pre self.now.declarator) (G.post self.now.declarator) }
         requires specs { NestsSpecs self.now.depth (H.pre self.now.specs) (H.post self.now.specs) }
     {
         let mut found = Items::new(self.alloc);
         for _turn in 0..tokens.turns() {
-            found.push(self.parameter(tokens)?)?;
+            found = pushed(found, self.parameter(tokens))?;
             if !tokens.eat(Mark::Comma) {
                 return Ok((found, false));
             }
@@ -105,10 +105,10 @@ impl<
                 return Ok((found, true));
             }
         }
-        Err(tokens.refuse())
+        with(found, Err(tokens.refuse()))
     }
 
-    fn parameters(&self, tokens: &mut Cursor<'_>) -> Result<(Items<Param>, bool), ParseFault>
+    fn parameters(&self, tokens: &mut Cursor<'_>) -> Result<(Items<Param>, bool), Refusal>
         requires declarator { NestsDeclarator self.now.depth (G.pre self.now.declarator) (G.post self.now.declarator) }
         requires specs { NestsSpecs self.now.depth (H.pre self.now.specs) (H.post self.now.specs) }
     {
@@ -119,20 +119,19 @@ impl<
         }
     }
 
-    fn array_size(&self, tokens: &mut Cursor<'_>) -> Result<Expr, ParseFault>
+    fn array_size(&self, tokens: &mut Cursor<'_>) -> Result<Expr, Refusal>
         requires { NestsExpr self.now.depth (F.pre self.now.expr) (F.post self.now.expr) }
     {
         let prototype = tokens.take_prototype(self.alloc);
-        let size = self.expr(tokens, ASSIGNMENT)?;
+        let size = self.expr(tokens, ASSIGNMENT);
         tokens.set_prototype(prototype);
-        tokens.expect(Mark::CloseBracket)?;
-        Ok(size)
+        before(tokens, size, Mark::CloseBracket)
     }
 
-    fn sized(&self, tokens: &mut Cursor<'_>, inner: Declarator) -> Result<Declarator, ParseFault>
+    fn sized(&self, tokens: &mut Cursor<'_>, inner: Declarator) -> Result<Declarator, Refusal>
         requires { NestsExpr self.now.depth (F.pre self.now.expr) (F.post self.now.expr) }
     {
-        let size = self.array_size(tokens)?;
+        let (inner, size) = with(inner, self.array_size(tokens))?;
         Ok(make::array_of(self.alloc, inner, size)?)
     }
 
@@ -141,7 +140,7 @@ impl<
         &self,
         tokens: &mut Cursor<'_>,
         inner: Declarator,
-    ) -> Result<Declarator, ParseFault>
+    ) -> Result<Declarator, Refusal>
         requires { NestsExpr self.now.depth (F.pre self.now.expr) (F.post self.now.expr) }
     {
         if tokens.eat(Mark::CloseBracket) {
@@ -152,20 +151,15 @@ impl<
     }
 
     /// The parameters and the closing parenthesis. What the parameters declare ends with them (6.2.1p4).
-    fn prototype(
-        &self,
-        tokens: &mut Cursor<'_>,
-        own: bool,
-    ) -> Result<(Items<Param>, bool), ParseFault>
+    fn prototype(&self, tokens: &mut Cursor<'_>, own: bool) -> Result<(Items<Param>, bool), Refusal>
         requires declarator { NestsDeclarator self.now.depth (G.pre self.now.declarator) (G.post self.now.declarator) }
         requires specs { NestsSpecs self.now.depth (H.pre self.now.specs) (H.post self.now.specs) }
     {
         let outer = tokens.open();
         let saved = tokens.take_prototype(self.alloc);
         let found = self.parameters(tokens)?;
-        tokens.leave_prototype(self.alloc, outer, own, saved)?;
-        tokens.expect(Mark::CloseParen)?;
-        Ok(found)
+        let left = tokens.leave_prototype(self.alloc, outer, own, saved);
+        before(tokens, kept(found, left), Mark::CloseParen)
     }
 
     /// After the opening parenthesis.
@@ -173,15 +167,16 @@ impl<
         &self,
         tokens: &mut Cursor<'_>,
         inner: Declarator,
-    ) -> Result<Declarator, ParseFault>
+    ) -> Result<Declarator, Refusal>
         requires declarator { NestsDeclarator self.now.depth (G.pre self.now.declarator) (G.post self.now.declarator) }
         requires specs { NestsSpecs self.now.depth (H.pre self.now.specs) (H.post self.now.specs) }
     {
-        let (params, ellipsis) = self.prototype(tokens, is_own_name(&inner))?;
+        let own = is_own_name(&inner);
+        let (inner, (params, ellipsis)) = with(inner, self.prototype(tokens, own))?;
         Ok(make::function(self.alloc, inner, params, ellipsis)?)
     }
 
-    fn suffix(&self, tokens: &mut Cursor<'_>, inner: Declarator) -> Result<Declarator, ParseFault>
+    fn suffix(&self, tokens: &mut Cursor<'_>, inner: Declarator) -> Result<Declarator, Refusal>
         requires expr { NestsExpr self.now.depth (F.pre self.now.expr) (F.post self.now.expr) }
         requires declarator { NestsDeclarator self.now.depth (G.pre self.now.declarator) (G.post self.now.declarator) }
         requires specs { NestsSpecs self.now.depth (H.pre self.now.specs) (H.post self.now.specs) }
@@ -198,7 +193,7 @@ impl<
         &self,
         tokens: &mut Cursor<'_>,
         mut inner: Declarator,
-    ) -> Result<Declarator, ParseFault>
+    ) -> Result<Declarator, Refusal>
         requires expr { NestsExpr self.now.depth (F.pre self.now.expr) (F.post self.now.expr) }
         requires declarator { NestsDeclarator self.now.depth (G.pre self.now.declarator) (G.post self.now.declarator) }
         requires specs { NestsSpecs self.now.depth (H.pre self.now.specs) (H.post self.now.specs) }
@@ -209,19 +204,18 @@ impl<
             }
             inner = self.suffix(tokens, inner)?;
         }
-        Err(tokens.refuse())
+        kept(inner, Err(tokens.refuse()))
     }
 
     /// After the opening parenthesis.
-    fn nested(&self, tokens: &mut Cursor<'_>, mode: Mode) -> Result<Declarator, ParseFault>
+    fn nested(&self, tokens: &mut Cursor<'_>, mode: Mode) -> Result<Declarator, Refusal>
         requires { NestsDeclarator self.now.depth (G.pre self.now.declarator) (G.post self.now.declarator) }
     {
-        let inner = self.declarator(tokens, mode)?;
-        tokens.expect(Mark::CloseParen)?;
-        Ok(inner)
+        let inner = self.declarator(tokens, mode);
+        before(tokens, inner, Mark::CloseParen)
     }
 
-    fn base(&self, tokens: &mut Cursor<'_>, mode: Mode) -> Result<Declarator, ParseFault>
+    fn base(&self, tokens: &mut Cursor<'_>, mode: Mode) -> Result<Declarator, Refusal>
         requires { NestsDeclarator self.now.depth (G.pre self.now.declarator) (G.post self.now.declarator) }
     {
         match tokens.peek() {
@@ -238,19 +232,15 @@ impl<
     }
 
     /// After the star.
-    fn pointed(&self, tokens: &mut Cursor<'_>, mode: Mode) -> Result<Declarator, ParseFault>
+    fn pointed(&self, tokens: &mut Cursor<'_>, mode: Mode) -> Result<Declarator, Refusal>
         requires { NestsDeclarator self.now.depth (G.pre self.now.declarator) (G.post self.now.declarator) }
     {
         let words = qualifiers(self.alloc, tokens)?;
-        let inner = self.declarator(tokens, mode)?;
+        let (words, inner) = with(words, self.declarator(tokens, mode))?;
         Ok(make::pointer(self.alloc, words, inner)?)
     }
 
-    pub fn one_declarator(
-        &self,
-        tokens: &mut Cursor<'_>,
-        mode: Mode,
-    ) -> Result<Declarator, ParseFault>
+    pub fn one_declarator(&self, tokens: &mut Cursor<'_>, mode: Mode) -> Result<Declarator, Refusal>
         requires expr { NestsExpr self.now.depth (F.pre self.now.expr) (F.post self.now.expr) }
         requires declarator { NestsDeclarator self.now.depth (G.pre self.now.declarator) (G.post self.now.declarator) }
         requires specs { NestsSpecs self.now.depth (H.pre self.now.specs) (H.post self.now.specs) }

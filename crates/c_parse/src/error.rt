@@ -2,7 +2,7 @@
 
 ghost use Rattle.std.specs.Prelude.{◌≡◌};
 
-use std::alloc::{AllocError, AllocFailed};
+use c_cursor::Refusal;
 use ub_base::NoMemory;
 
 #[derive(Clone, Copy, Debug, PartialEq, Eq)]
@@ -14,26 +14,6 @@ pub enum ParseFault {
     NoMemory,
 }
 
-impl From<AllocError> for ParseFault {
-    ghost use Rattle.c_parse.specs.declared.error.ParseFault.TheVariants.{NoMemory};
-
-    ghost from_gives = { λ _ e. e ≡ NoMemory };
-
-    fn from(_e: AllocError) -> ParseFault {
-        ParseFault::NoMemory
-    }
-}
-
-impl<T: Drop> From<AllocFailed<T>> for ParseFault {
-    ghost use Rattle.c_parse.specs.declared.error.ParseFault.TheVariants.{NoMemory};
-
-    ghost from_gives = { λ _ e. e ≡ NoMemory };
-
-    fn from(_e: AllocFailed<T>) -> ParseFault {
-        ParseFault::NoMemory
-    }
-}
-
 impl From<NoMemory> for ParseFault {
     ghost use Rattle.c_parse.specs.declared.error.ParseFault.TheVariants as fault;
 
@@ -41,5 +21,18 @@ impl From<NoMemory> for ParseFault {
 
     fn from(_e: NoMemory) -> ParseFault {
         ParseFault::NoMemory
+    }
+}
+
+impl From<Refusal> for ParseFault {
+    ghost use Rattle.c_parse.specs.Faults.{fault_of};
+
+    ghost from_gives = { λ r e. e ≡ fault_of r };
+
+    fn from(r: Refusal) -> ParseFault {
+        match r {
+            Refusal::Syntax(at) => ParseFault::Syntax(at),
+            Refusal::NoMemory => ParseFault::NoMemory,
+        }
     }
 }

@@ -2,16 +2,16 @@
 
 ghost use Rattle.c_parse.specs.Nests.{NestsExpr, NestsDeclarator, NestsSpecs};
 
-use crate::cursor::Cursor;
-use crate::error::ParseFault;
-use crate::knot::{Grammar, Mode, Place};
+use crate::behind::{before, kept, pushed, with};
+use crate::knot::Grammar;
 use crate::make;
-use crate::operators::{
-    ASSIGNMENT, CAST, COMMA, CONDITIONAL, POSTFIX, UNARY, assign_op, binary_op, level_of,
-    operand_level, unary_op,
-};
-use crate::tokens::{begins_type_after, identifier, strings};
 use c_ast::{AssignOp, BinaryOp, Declarator, Expr, ExprNode, PostOp, Specs, TypeName, UnaryOp};
+use c_cursor::operators::{
+    ASSIGNMENT, CAST, COMMA, CONDITIONAL, POSTFIX, UNARY, assign_op, binary_op, operand_level,
+    right_level_of, unary_op,
+};
+use c_cursor::tokens::{begins_type_after, identifier, strings};
+use c_cursor::{Cursor, Mode, Place, Refusal};
 use c_lex::{Mark, TokenKind, Word};
 use std::alloc::Global;
 use ub_base::Items;
@@ -39,7 +39,7 @@ fn leaf(tokens: &mut Cursor<'_>, node: ExprNode) -> Expr {
     Expr { at, node }
 }
 
-fn name_expr(tokens: &mut Cursor<'_>) -> Result<Expr, ParseFault> {
+fn name_expr(tokens: &mut Cursor<'_>) -> Result<Expr, Refusal> {
     if tokens.is_typedef() {
         return Err(tokens.refuse());
     }
@@ -47,7 +47,7 @@ fn name_expr(tokens: &mut Cursor<'_>) -> Result<Expr, ParseFault> {
     Ok(leaf(tokens, ExprNode::Name(at)))
 }
 
-fn string_expr(tokens: &mut Cursor<'_>) -> Result<Expr, ParseFault> {
+fn string_expr(tokens: &mut Cursor<'_>) -> Result<Expr, Refusal> {
     let at = tokens.at();
     let node = ExprNode::Strings(at, strings(tokens)?);
     Ok(Expr { at, node })
@@ -59,20 +59,19 @@ fn begins_cast(tokens: &Cursor<'_>) -> bool {
 }
 
 impl<
-    F: Fn(Global, &mut Cursor<'_>, usize, u8) -> Result<Expr, ParseFault>,
-    G: Fn(Global, &mut Cursor<'_>, usize, Mode) -> Result<Declarator, ParseFault>,
-    H: Fn(Global, &mut Cursor<'_>, usize, Place) -> Result<Specs, ParseFault>,
+    F: Fn(Global, &mut Cursor<'_>, usize, u8) -> Result<Expr, Refusal>,
+    G: Fn(Global, &mut Cursor<'_>, usize, Mode) -> Result<Declarator, Refusal>,
+    H: Fn(Global, &mut Cursor<'_>, usize, Place) -> Result<Specs, Refusal>,
 > Grammar<F, G, H> {
     /// After the opening parenthesis.
-    fn inside(&self, tokens: &mut Cursor<'_>) -> Result<Expr, ParseFault>
+    fn inside(&self, tokens: &mut Cursor<'_>) -> Result<Expr, Refusal>
         requires { NestsExpr self.now.depth (F.pre self.now.expr) (F.post self.now.expr) }
     {
-        let inner = self.expr(tokens, COMMA)?;
-        tokens.expect(Mark::CloseParen)?;
-        Ok(inner)
+        let inner = self.expr(tokens, COMMA);
+        before(tokens, inner, Mark::CloseParen)
     }
 
-    fn primary(&self, tokens: &mut Cursor<'_>) -> Result<Expr, ParseFault>
+    fn primary(&self, tokens: &mut Cursor<'_>) -> Result<Expr, Refusal>
         requires { NestsExpr self.now.depth (F.pre self.now.expr) (F.post self.now.expr) }
     {
         let at = tokens.at();
@@ -89,72 +88,70 @@ impl<
         }
     }
 
-    fn argument_list(&self, tokens: &mut Cursor<'_>) -> Result<Items<Expr>, ParseFault>
+    fn argument_list(&self, tokens: &mut Cursor<'_>) -> Result<Items<Expr>, Refusal>
         requires { NestsExpr self.now.depth (F.pre self.now.expr) (F.post self.now.expr) }
     {
         let mut found = Items::new(self.alloc);
         for _turn in 0..tokens.turns() {
-            found.push(self.expr(tokens, ASSIGNMENT)?)?;
+            found = pushed(found, self.expr(tokens, ASSIGNMENT))?;
             if !tokens.eat(Mark::Comma) {
                 return Ok(found);
             }
         }
-        Err(tokens.refuse())
+        kept(found, Err(tokens.refuse()))
     }
 
-    fn arguments(&self, tokens: &mut Cursor<'_>) -> Result<Items<Expr>, ParseFault>
+    fn arguments(&self, tokens: &mut Cursor<'_>) -> Result<Items<Expr>, Refusal>
         requires { NestsExpr self.now.depth (F.pre self.now.expr) (F.post self.now.expr) }
     {
         if tokens.eat(Mark::CloseParen) {
             return Ok(Items::new(self.alloc));
         }
-        let found = self.argument_list(tokens)?;
-        tokens.expect(Mark::CloseParen)?;
-        Ok(found)
+        let found = self.argument_list(tokens);
+        before(tokens, found, Mark::CloseParen)
     }
 
     /// After the opening parenthesis of a call.
-    fn call_of(&self, tokens: &mut Cursor<'_>, at: u32, left: Expr) -> Result<Expr, ParseFault>
+    fn call_of(&self, tokens: &mut Cursor<'_>, at: u32, left: Expr) -> Result<Expr, Refusal>
         requires { NestsExpr self.now.depth (F.pre self.now.expr) (F.post self.now.expr) }
     {
-        let found = self.arguments(tokens)?;
+        let (left, found) = with(left, self.arguments(tokens))?;
         Ok(make::call(self.alloc, at, left, found)?)
     }
 
     /// After the opening bracket of a subscript.
-    fn subscript(&self, tokens: &mut Cursor<'_>) -> Result<Expr, ParseFault>
+    fn subscript(&self, tokens: &mut Cursor<'_>) -> Result<Expr, Refusal>
         requires { NestsExpr self.now.depth (F.pre self.now.expr) (F.post self.now.expr) }
     {
-        let inner = self.expr(tokens, COMMA)?;
-        tokens.expect(Mark::CloseBracket)?;
-        Ok(inner)
+        let inner = self.expr(tokens, COMMA);
+        before(tokens, inner, Mark::CloseBracket)
     }
 
-    fn index_of(&self, tokens: &mut Cursor<'_>, at: u32, left: Expr) -> Result<Expr, ParseFault>
+    fn index_of(&self, tokens: &mut Cursor<'_>, at: u32, left: Expr) -> Result<Expr, Refusal>
         requires { NestsExpr self.now.depth (F.pre self.now.expr) (F.post self.now.expr) }
     {
-        let inner = self.subscript(tokens)?;
+        let (left, inner) = with(left, self.subscript(tokens))?;
         Ok(make::index(self.alloc, at, left, inner)?)
     }
 
     /// After the dot.
-    fn dot_of(&self, tokens: &mut Cursor<'_>, at: u32, left: Expr) -> Result<Expr, ParseFault> {
-        let member = identifier(tokens)?;
+    fn dot_of(&self, tokens: &mut Cursor<'_>, at: u32, left: Expr) -> Result<Expr, Refusal> {
+        let (left, member) = with(left, identifier(tokens))?;
         Ok(make::dot(self.alloc, at, left, member)?)
     }
 
     /// After the arrow.
-    fn arrow_of(&self, tokens: &mut Cursor<'_>, at: u32, left: Expr) -> Result<Expr, ParseFault> {
-        let member = identifier(tokens)?;
+    fn arrow_of(&self, tokens: &mut Cursor<'_>, at: u32, left: Expr) -> Result<Expr, Refusal> {
+        let (left, member) = with(left, identifier(tokens))?;
         Ok(make::arrow(self.alloc, at, left, member)?)
     }
 
-    fn stepped(&self, at: u32, op: PostOp, left: Expr) -> Result<Expr, ParseFault> {
+    fn stepped(&self, at: u32, op: PostOp, left: Expr) -> Result<Expr, Refusal> {
         Ok(make::postfix(self.alloc, at, op, left)?)
     }
 
     /// One more postfix operator.
-    fn post(&self, tokens: &mut Cursor<'_>, at: u32, left: Expr) -> Result<Expr, ParseFault>
+    fn post(&self, tokens: &mut Cursor<'_>, at: u32, left: Expr) -> Result<Expr, Refusal>
         requires { NestsExpr self.now.depth (F.pre self.now.expr) (F.post self.now.expr) }
     {
         let mark = tokens.mark();
@@ -169,7 +166,7 @@ impl<
         }
     }
 
-    fn posts(&self, tokens: &mut Cursor<'_>, at: u32, mut left: Expr) -> Result<Expr, ParseFault>
+    fn posts(&self, tokens: &mut Cursor<'_>, at: u32, mut left: Expr) -> Result<Expr, Refusal>
         requires { NestsExpr self.now.depth (F.pre self.now.expr) (F.post self.now.expr) }
     {
         for _turn in 0..tokens.turns() {
@@ -178,33 +175,33 @@ impl<
             }
             left = self.post(tokens, at, left)?;
         }
-        Err(tokens.refuse())
+        kept(left, Err(tokens.refuse()))
     }
 
     /// A type name in parentheses.
-    fn type_name(&self, tokens: &mut Cursor<'_>) -> Result<TypeName, ParseFault>
+    fn type_name(&self, tokens: &mut Cursor<'_>) -> Result<TypeName, Refusal>
         requires declarator { NestsDeclarator self.now.depth (G.pre self.now.declarator) (G.post self.now.declarator) }
         requires specs { NestsSpecs self.now.depth (H.pre self.now.specs) (H.post self.now.specs) }
     {
         tokens.expect(Mark::OpenParen)?;
         let specs = self.specs(tokens, Place::Qualified)?;
-        let declarator = self.declarator(tokens, Mode::Abstract)?;
-        tokens.expect(Mark::CloseParen)?;
+        let declarator = self.declarator(tokens, Mode::Abstract);
+        let (specs, declarator) = with(specs, before(tokens, declarator, Mark::CloseParen))?;
         Ok(TypeName { specs, declarator })
     }
 
-    fn casted(&self, tokens: &mut Cursor<'_>, at: u32) -> Result<Expr, ParseFault>
+    fn casted(&self, tokens: &mut Cursor<'_>, at: u32) -> Result<Expr, Refusal>
         requires expr { NestsExpr self.now.depth (F.pre self.now.expr) (F.post self.now.expr) }
         requires declarator { NestsDeclarator self.now.depth (G.pre self.now.declarator) (G.post self.now.declarator) }
         requires specs { NestsSpecs self.now.depth (H.pre self.now.specs) (H.post self.now.specs) }
     {
         let to = self.type_name(tokens)?;
-        let value = self.expr(tokens, CAST)?;
+        let (to, value) = with(to, self.expr(tokens, CAST))?;
         Ok(make::cast(self.alloc, at, to, value)?)
     }
 
     /// After `sizeof`.
-    fn size(&self, tokens: &mut Cursor<'_>, at: u32) -> Result<Expr, ParseFault>
+    fn size(&self, tokens: &mut Cursor<'_>, at: u32) -> Result<Expr, Refusal>
         requires expr { NestsExpr self.now.depth (F.pre self.now.expr) (F.post self.now.expr) }
         requires declarator { NestsDeclarator self.now.depth (G.pre self.now.declarator) (G.post self.now.declarator) }
         requires specs { NestsSpecs self.now.depth (H.pre self.now.specs) (H.post self.now.specs) }
@@ -218,7 +215,7 @@ impl<
         }
     }
 
-    fn chained(&self, tokens: &mut Cursor<'_>, at: u32) -> Result<Expr, ParseFault>
+    fn chained(&self, tokens: &mut Cursor<'_>, at: u32) -> Result<Expr, Refusal>
         requires { NestsExpr self.now.depth (F.pre self.now.expr) (F.post self.now.expr) }
     {
         let first = self.primary(tokens)?;
@@ -226,7 +223,7 @@ impl<
     }
 
     /// After `_Alignof`.
-    fn alignment(&self, tokens: &mut Cursor<'_>, at: u32) -> Result<Expr, ParseFault>
+    fn alignment(&self, tokens: &mut Cursor<'_>, at: u32) -> Result<Expr, Refusal>
         requires declarator { NestsDeclarator self.now.depth (G.pre self.now.declarator) (G.post self.now.declarator) }
         requires specs { NestsSpecs self.now.depth (H.pre self.now.specs) (H.post self.now.specs) }
     {
@@ -235,7 +232,7 @@ impl<
     }
 
     /// At an opening parenthesis. A cast is no unary expression.
-    fn bracketed(&self, tokens: &mut Cursor<'_>, at: u32, least: u8) -> Result<Expr, ParseFault>
+    fn bracketed(&self, tokens: &mut Cursor<'_>, at: u32, least: u8) -> Result<Expr, Refusal>
         requires expr { NestsExpr self.now.depth (F.pre self.now.expr) (F.post self.now.expr) }
         requires declarator { NestsDeclarator self.now.depth (G.pre self.now.declarator) (G.post self.now.declarator) }
         requires specs { NestsSpecs self.now.depth (H.pre self.now.specs) (H.post self.now.specs) }
@@ -250,7 +247,7 @@ impl<
     }
 
     /// At a unary operator.
-    fn operated(&self, tokens: &mut Cursor<'_>, at: u32, op: UnaryOp) -> Result<Expr, ParseFault>
+    fn operated(&self, tokens: &mut Cursor<'_>, at: u32, op: UnaryOp) -> Result<Expr, Refusal>
         requires { NestsExpr self.now.depth (F.pre self.now.expr) (F.post self.now.expr) }
     {
         tokens.take();
@@ -259,7 +256,7 @@ impl<
     }
 
     /// A cast expression, and a unary expression where `least` asks for one.
-    fn prefix(&self, tokens: &mut Cursor<'_>, least: u8) -> Result<Expr, ParseFault>
+    fn prefix(&self, tokens: &mut Cursor<'_>, least: u8) -> Result<Expr, Refusal>
         requires expr { NestsExpr self.now.depth (F.pre self.now.expr) (F.post self.now.expr) }
         requires declarator { NestsDeclarator self.now.depth (G.pre self.now.declarator) (G.post self.now.declarator) }
         requires specs { NestsSpecs self.now.depth (H.pre self.now.specs) (H.post self.now.specs) }
@@ -283,27 +280,25 @@ impl<
         }
     }
 
-    fn yes_branch(&self, tokens: &mut Cursor<'_>) -> Result<Expr, ParseFault>
+    fn yes_branch(&self, tokens: &mut Cursor<'_>) -> Result<Expr, Refusal>
         requires { NestsExpr self.now.depth (F.pre self.now.expr) (F.post self.now.expr) }
     {
-        let yes = self.expr(tokens, COMMA)?;
-        tokens.expect(Mark::Colon)?;
-        Ok(yes)
+        let yes = self.expr(tokens, COMMA);
+        before(tokens, yes, Mark::Colon)
     }
 
-    fn branches(&self, tokens: &mut Cursor<'_>) -> Result<(Expr, Expr), ParseFault>
+    fn branches(&self, tokens: &mut Cursor<'_>) -> Result<(Expr, Expr), Refusal>
         requires { NestsExpr self.now.depth (F.pre self.now.expr) (F.post self.now.expr) }
     {
         let yes = self.yes_branch(tokens)?;
-        let no = self.expr(tokens, CONDITIONAL)?;
-        Ok((yes, no))
+        with(yes, self.expr(tokens, CONDITIONAL))
     }
 
     /// After the `?`.
-    fn choice(&self, tokens: &mut Cursor<'_>, at: u32, test: Expr) -> Result<Expr, ParseFault>
+    fn choice(&self, tokens: &mut Cursor<'_>, at: u32, test: Expr) -> Result<Expr, Refusal>
         requires { NestsExpr self.now.depth (F.pre self.now.expr) (F.post self.now.expr) }
     {
-        let (yes, no) = self.branches(tokens)?;
+        let (test, (yes, no)) = with(test, self.branches(tokens))?;
         Ok(make::cond(self.alloc, at, test, yes, no)?)
     }
 
@@ -313,11 +308,11 @@ impl<
         at: u32,
         op: AssignOp,
         left: Expr,
-    ) -> Result<Expr, ParseFault>
+    ) -> Result<Expr, Refusal>
         requires { NestsExpr self.now.depth (F.pre self.now.expr) (F.post self.now.expr) }
     {
         tokens.take();
-        let value = self.expr(tokens, ASSIGNMENT)?;
+        let (left, value) = with(left, self.expr(tokens, ASSIGNMENT))?;
         Ok(make::assign(self.alloc, at, op, left, value)?)
     }
 
@@ -328,12 +323,12 @@ impl<
         at: u32,
         lone: bool,
         left: Expr,
-    ) -> Result<Expr, ParseFault>
+    ) -> Result<Expr, Refusal>
         requires { NestsExpr self.now.depth (F.pre self.now.expr) (F.post self.now.expr) }
     {
         match assignment_sign(tokens, lone) {
             Some(op) => self.assign_of(tokens, at, op, left),
-            None => Err(tokens.refuse()),
+            None => kept(left, Err(tokens.refuse())),
         }
     }
 
@@ -343,11 +338,11 @@ impl<
         at: u32,
         op: BinaryOp,
         left: Expr,
-    ) -> Result<Expr, ParseFault>
+    ) -> Result<Expr, Refusal>
         requires { NestsExpr self.now.depth (F.pre self.now.expr) (F.post self.now.expr) }
     {
         tokens.take();
-        let right = self.expr(tokens, level_of(op) + 1)?;
+        let (left, right) = with(left, self.expr(tokens, right_level_of(op)))?;
         Ok(make::binary(self.alloc, at, op, left, right)?)
     }
 
@@ -358,7 +353,7 @@ impl<
         at: u32,
         lone: bool,
         left: Expr,
-    ) -> Result<Expr, ParseFault>
+    ) -> Result<Expr, Refusal>
         requires { NestsExpr self.now.depth (F.pre self.now.expr) (F.post self.now.expr) }
     {
         match binary_sign(tokens) {
@@ -374,7 +369,7 @@ impl<
         at: u32,
         lone: bool,
         left: Expr,
-    ) -> Result<Expr, ParseFault>
+    ) -> Result<Expr, Refusal>
         requires { NestsExpr self.now.depth (F.pre self.now.expr) (F.post self.now.expr) }
     {
         if tokens.eat(Mark::Question) {
@@ -391,7 +386,7 @@ impl<
         at: u32,
         mut lone: bool,
         mut left: Expr,
-    ) -> Result<Expr, ParseFault>
+    ) -> Result<Expr, Refusal>
         requires { NestsExpr self.now.depth (F.pre self.now.expr) (F.post self.now.expr) }
     {
         for _turn in 0..tokens.turns() {
@@ -401,10 +396,10 @@ impl<
             left = self.step(tokens, at, lone, left)?;
             lone = false;
         }
-        Err(tokens.refuse())
+        kept(left, Err(tokens.refuse()))
     }
 
-    fn operators(&self, tokens: &mut Cursor<'_>, least: u8) -> Result<Expr, ParseFault>
+    fn operators(&self, tokens: &mut Cursor<'_>, least: u8) -> Result<Expr, Refusal>
         requires expr { NestsExpr self.now.depth (F.pre self.now.expr) (F.post self.now.expr) }
         requires declarator { NestsDeclarator self.now.depth (G.pre self.now.declarator) (G.post self.now.declarator) }
         requires specs { NestsSpecs self.now.depth (H.pre self.now.specs) (H.post self.now.specs) }
@@ -415,24 +410,32 @@ impl<
         self.climb(tokens, least, at, lone, first)
     }
 
-    fn commas(&self, tokens: &mut Cursor<'_>, at: u32, first: Expr) -> Result<Expr, ParseFault>
+    /// The first operand of commas, and those behind it.
+    fn operands(&self, tokens: &mut Cursor<'_>, first: Expr) -> Result<Items<Expr>, Refusal>
         requires expr { NestsExpr self.now.depth (F.pre self.now.expr) (F.post self.now.expr) }
         requires declarator { NestsDeclarator self.now.depth (G.pre self.now.declarator) (G.post self.now.declarator) }
         requires specs { NestsSpecs self.now.depth (H.pre self.now.specs) (H.post self.now.specs) }
     {
-        let mut found = Items::new(self.alloc);
-        found.push(first)?;
+        let mut found = pushed(Items::new(self.alloc), Ok(first))?;
         for _turn in 0..tokens.turns() {
             if !tokens.eat(Mark::Comma) {
-                let node = ExprNode::Comma(found);
-                return Ok(Expr { at, node });
+                return Ok(found);
             }
-            found.push(self.operators(tokens, ASSIGNMENT)?)?;
+            found = pushed(found, self.operators(tokens, ASSIGNMENT))?;
         }
-        Err(tokens.refuse())
+        kept(found, Err(tokens.refuse()))
     }
 
-    fn whole(&self, tokens: &mut Cursor<'_>) -> Result<Expr, ParseFault>
+    fn commas(&self, tokens: &mut Cursor<'_>, at: u32, first: Expr) -> Result<Expr, Refusal>
+        requires expr { NestsExpr self.now.depth (F.pre self.now.expr) (F.post self.now.expr) }
+        requires declarator { NestsDeclarator self.now.depth (G.pre self.now.declarator) (G.post self.now.declarator) }
+        requires specs { NestsSpecs self.now.depth (H.pre self.now.specs) (H.post self.now.specs) }
+    {
+        let node = ExprNode::Comma(self.operands(tokens, first)?);
+        Ok(Expr { at, node })
+    }
+
+    fn whole(&self, tokens: &mut Cursor<'_>) -> Result<Expr, Refusal>
         requires expr { NestsExpr self.now.depth (F.pre self.now.expr) (F.post self.now.expr) }
         requires declarator { NestsDeclarator self.now.depth (G.pre self.now.declarator) (G.post self.now.declarator) }
         requires specs { NestsSpecs self.now.depth (H.pre self.now.specs) (H.post self.now.specs) }
@@ -447,7 +450,7 @@ impl<
     }
 
     /// An expression of this level or a tighter one.
-    pub fn level(&self, tokens: &mut Cursor<'_>, least: u8) -> Result<Expr, ParseFault>
+    pub fn level(&self, tokens: &mut Cursor<'_>, least: u8) -> Result<Expr, Refusal>
         requires expr { NestsExpr self.now.depth (F.pre self.now.expr) (F.post self.now.expr) }
         requires declarator { NestsDeclarator self.now.depth (G.pre self.now.declarator) (G.post self.now.declarator) }
         requires specs { NestsSpecs self.now.depth (H.pre self.now.specs) (H.post self.now.specs) }

@@ -1,24 +1,23 @@
 //! Initializers (6.7.9).
 
-use crate::cursor::Cursor;
-use crate::error::ParseFault;
+use crate::behind::{before, kept, pushed, with};
 use crate::knot::expr;
-use crate::operators::{ASSIGNMENT, CONDITIONAL};
-use crate::tokens::identifier;
 use c_ast::{Designator, Init, InitEntry};
+use c_cursor::operators::{ASSIGNMENT, CONDITIONAL};
+use c_cursor::tokens::identifier;
+use c_cursor::{Cursor, Refusal};
 use c_lex::Mark;
 use std::alloc::Global;
 use ub_base::Items;
 
-fn designator(alloc: Global, tokens: &mut Cursor<'_>) -> Result<Designator, ParseFault> {
+fn designator(alloc: Global, tokens: &mut Cursor<'_>) -> Result<Designator, Refusal> {
     if tokens.eat(Mark::Dot) {
         return Ok(Designator::Member(identifier(tokens)?));
     }
     tokens.expect(Mark::OpenBracket)?;
     let turns = tokens.turns();
-    let index = expr(alloc, tokens, turns, CONDITIONAL)?;
-    tokens.expect(Mark::CloseBracket)?;
-    Ok(Designator::Element(index))
+    let index = expr(alloc, tokens, turns, CONDITIONAL);
+    Ok(Designator::Element(before(tokens, index, Mark::CloseBracket)?))
 }
 
 fn is_designator(mark: Option<Mark>) -> bool {
@@ -29,23 +28,19 @@ fn is_designator(mark: Option<Mark>) -> bool {
 }
 
 /// At least one designator, and the `=` behind them.
-fn designator_list(
-    alloc: Global,
-    tokens: &mut Cursor<'_>,
-) -> Result<Items<Designator>, ParseFault> {
+fn designator_list(alloc: Global, tokens: &mut Cursor<'_>) -> Result<Items<Designator>, Refusal> {
     let mut found = Items::new(alloc);
     for _turn in 0..tokens.turns() {
-        found.push(designator(alloc, tokens)?)?;
+        found = pushed(found, designator(alloc, tokens))?;
         if !is_designator(tokens.mark()) {
-            tokens.expect(Mark::Equal)?;
-            return Ok(found);
+            return kept(found, tokens.expect(Mark::Equal));
         }
     }
-    Err(tokens.refuse())
+    kept(found, Err(tokens.refuse()))
 }
 
 /// The designation before an initializer, if there is one.
-fn designation(alloc: Global, tokens: &mut Cursor<'_>) -> Result<Items<Designator>, ParseFault> {
+fn designation(alloc: Global, tokens: &mut Cursor<'_>) -> Result<Items<Designator>, Refusal> {
     if is_designator(tokens.mark()) {
         designator_list(alloc, tokens)
     } else {
@@ -54,13 +49,9 @@ fn designation(alloc: Global, tokens: &mut Cursor<'_>) -> Result<Items<Designato
 }
 
 #[cycle(init)]
-fn init_entry(
-    alloc: Global,
-    tokens: &mut Cursor<'_>,
-    depth: usize,
-) -> Result<InitEntry, ParseFault> {
+fn init_entry(alloc: Global, tokens: &mut Cursor<'_>, depth: usize) -> Result<InitEntry, Refusal> {
     let designators = designation(alloc, tokens)?;
-    let init = initializer(alloc, tokens, depth)?;
+    let (designators, init) = with(designators, initializer(alloc, tokens, depth))?;
     Ok(InitEntry { designators, init })
 }
 
@@ -70,28 +61,23 @@ fn init_entries(
     alloc: Global,
     tokens: &mut Cursor<'_>,
     depth: usize,
-) -> Result<Items<InitEntry>, ParseFault> {
+) -> Result<Items<InitEntry>, Refusal> {
     let mut found = Items::new(alloc);
     for _turn in 0..tokens.turns() {
-        found.push(init_entry(alloc, tokens, depth)?)?;
+        found = pushed(found, init_entry(alloc, tokens, depth))?;
         if !tokens.eat(Mark::Comma) {
-            tokens.expect(Mark::CloseBrace)?;
-            return Ok(found);
+            return kept(found, tokens.expect(Mark::CloseBrace));
         }
         if tokens.eat(Mark::CloseBrace) {
             return Ok(found);
         }
     }
-    Err(tokens.refuse())
+    kept(found, Err(tokens.refuse()))
 }
 
 /// An initializer, in which others nest no deeper than `depth`.
 #[cycle(init)]
-pub fn initializer(
-    alloc: Global,
-    tokens: &mut Cursor<'_>,
-    depth: usize,
-) -> Result<Init, ParseFault> {
+pub fn initializer(alloc: Global, tokens: &mut Cursor<'_>, depth: usize) -> Result<Init, Refusal> {
     if depth == 0 {
         return Err(tokens.refuse());
     }

@@ -2,26 +2,9 @@
 
 ghost use Rattle.c_parse.specs.Nests.{NestsExpr, NestsDeclarator, NestsSpecs};
 
-use crate::cursor::Cursor;
-use crate::error::ParseFault;
 use c_ast::{Declarator, Expr, Specs};
+use c_cursor::{Cursor, Mode, Place, Refusal};
 use std::alloc::Global;
-
-/// Where a declarator stands: in a declaration it has a name, in a type name it has none, and in a parameter it may have
-/// one (6.7.6, 6.7.7).
-#[derive(Clone, Copy, Debug, PartialEq, Eq)]
-pub enum Mode {
-    Named,
-    Abstract,
-    Either,
-}
-
-/// Which keywords may stand among specifiers: those of a declaration, or only type specifiers and qualifiers (6.7.2.1).
-#[derive(Clone, Copy, Debug, PartialEq, Eq)]
-pub enum Place {
-    Declaration,
-    Qualified,
-}
 
 /// The rules take the parsers that lead back to them as parameters, so that each is proved by itself.
 #[derive(Clone, Copy)]
@@ -35,23 +18,23 @@ pub struct Grammar<F, G, H> {
 }
 
 impl<
-    F: Fn(Global, &mut Cursor<'_>, usize, u8) -> Result<Expr, ParseFault>,
-    G: Fn(Global, &mut Cursor<'_>, usize, Mode) -> Result<Declarator, ParseFault>,
-    H: Fn(Global, &mut Cursor<'_>, usize, Place) -> Result<Specs, ParseFault>,
+    F: Fn(Global, &mut Cursor<'_>, usize, u8) -> Result<Expr, Refusal>,
+    G: Fn(Global, &mut Cursor<'_>, usize, Mode) -> Result<Declarator, Refusal>,
+    H: Fn(Global, &mut Cursor<'_>, usize, Place) -> Result<Specs, Refusal>,
 > Grammar<F, G, H> {
-    pub fn expr(&self, tokens: &mut Cursor<'_>, least: u8) -> Result<Expr, ParseFault>
+    pub fn expr(&self, tokens: &mut Cursor<'_>, least: u8) -> Result<Expr, Refusal>
         requires { NestsExpr self.now.depth (F.pre self.now.expr) (F.post self.now.expr) }
     {
         (self.expr)(self.alloc, tokens, self.depth, least)
     }
 
-    pub fn declarator(&self, tokens: &mut Cursor<'_>, mode: Mode) -> Result<Declarator, ParseFault>
+    pub fn declarator(&self, tokens: &mut Cursor<'_>, mode: Mode) -> Result<Declarator, Refusal>
         requires { NestsDeclarator self.now.depth (G.pre self.now.declarator) (G.post self.now.declarator) }
     {
         (self.declarator)(self.alloc, tokens, self.depth, mode)
     }
 
-    pub fn specs(&self, tokens: &mut Cursor<'_>, place: Place) -> Result<Specs, ParseFault>
+    pub fn specs(&self, tokens: &mut Cursor<'_>, place: Place) -> Result<Specs, Refusal>
         requires { NestsSpecs self.now.depth (H.pre self.now.specs) (H.post self.now.specs) }
     {
         (self.specs)(self.alloc, tokens, self.depth, place)
@@ -65,7 +48,7 @@ pub fn expr(
     tokens: &mut Cursor<'_>,
     depth: usize,
     least: u8,
-) -> Result<Expr, ParseFault> {
+) -> Result<Expr, Refusal> {
     if depth == 0 {
         return Err(tokens.refuse());
     }
@@ -86,7 +69,7 @@ pub fn declarator(
     tokens: &mut Cursor<'_>,
     depth: usize,
     mode: Mode,
-) -> Result<Declarator, ParseFault> {
+) -> Result<Declarator, Refusal> {
     if depth == 0 {
         return Err(tokens.refuse());
     }
@@ -107,7 +90,7 @@ pub fn specs(
     tokens: &mut Cursor<'_>,
     depth: usize,
     place: Place,
-) -> Result<Specs, ParseFault> {
+) -> Result<Specs, Refusal> {
     if depth == 0 {
         return Err(tokens.refuse());
     }

@@ -1,7 +1,7 @@
 //! The syntax tree of a list of tokens (Annex A of ISO/IEC 9899:2011, in the profile).
 #![tactic(auto)]
 
-mod cursor;
+mod behind;
 mod declaration;
 mod declarator;
 mod error;
@@ -9,12 +9,8 @@ mod expression;
 mod initializer;
 mod knot;
 mod make;
-mod operators;
-mod scope;
 mod specifiers;
-mod spelling;
 mod statement;
-mod tokens;
 mod unit;
 
 pub use error::ParseFault;

@@ -5,6 +5,25 @@ use c_lex::Word;
 use std::alloc::{AllocError, Global};
 use ub_base::{Boxed, Items};
 
+/// Two parts of one node. Where memory ends, both are let go here, whatever they are.
+fn both<A: Drop, B: Drop>(alloc: Global, a: A, b: B) -> Result<(Boxed<A>, Boxed<B>), AllocError> {
+    let a = Boxed::new(alloc, a)?;
+    let b = Boxed::new(alloc, b)?;
+    Ok((a, b))
+}
+
+/// Three parts of one node.
+fn all<A: Drop, B: Drop, C: Drop>(
+    alloc: Global,
+    a: A,
+    b: B,
+    c: C,
+) -> Result<(Boxed<A>, Boxed<B>, Boxed<C>), AllocError> {
+    let (a, b) = both(alloc, a, b)?;
+    let c = Boxed::new(alloc, c)?;
+    Ok((a, b, c))
+}
+
 pub fn call(
     alloc: Global,
     at: u32,
@@ -17,8 +36,8 @@ pub fn call(
 }
 
 pub fn index(alloc: Global, at: u32, a: Expr, b: Expr) -> Result<Expr, AllocError> {
-    let a = Boxed::new(alloc, a)?;
-    let node = ExprNode::Index(a, Boxed::new(alloc, b)?);
+    let (a, b) = both(alloc, a, b)?;
+    let node = ExprNode::Index(a, b);
     Ok(Expr { at, node })
 }
 
@@ -43,27 +62,26 @@ pub fn unary(alloc: Global, at: u32, op: UnaryOp, a: Expr) -> Result<Expr, Alloc
 }
 
 pub fn binary(alloc: Global, at: u32, op: BinaryOp, a: Expr, b: Expr) -> Result<Expr, AllocError> {
-    let a = Boxed::new(alloc, a)?;
-    let node = ExprNode::Binary(op, a, Boxed::new(alloc, b)?);
+    let (a, b) = both(alloc, a, b)?;
+    let node = ExprNode::Binary(op, a, b);
     Ok(Expr { at, node })
 }
 
 pub fn assign(alloc: Global, at: u32, op: AssignOp, a: Expr, b: Expr) -> Result<Expr, AllocError> {
-    let a = Boxed::new(alloc, a)?;
-    let node = ExprNode::Assign(op, a, Boxed::new(alloc, b)?);
+    let (a, b) = both(alloc, a, b)?;
+    let node = ExprNode::Assign(op, a, b);
     Ok(Expr { at, node })
 }
 
 pub fn cond(alloc: Global, at: u32, a: Expr, b: Expr, c: Expr) -> Result<Expr, AllocError> {
-    let a = Boxed::new(alloc, a)?;
-    let b = Boxed::new(alloc, b)?;
-    let node = ExprNode::Cond(a, b, Boxed::new(alloc, c)?);
+    let (a, b, c) = all(alloc, a, b, c)?;
+    let node = ExprNode::Cond(a, b, c);
     Ok(Expr { at, node })
 }
 
 pub fn cast(alloc: Global, at: u32, to: TypeName, a: Expr) -> Result<Expr, AllocError> {
-    let to = Boxed::new(alloc, to)?;
-    let node = ExprNode::Cast(to, Boxed::new(alloc, a)?);
+    let (to, a) = both(alloc, to, a)?;
+    let node = ExprNode::Cast(to, a);
     Ok(Expr { at, node })
 }
 
@@ -95,8 +113,8 @@ pub fn array(alloc: Global, inner: Declarator) -> Result<Declarator, AllocError>
 }
 
 pub fn array_of(alloc: Global, inner: Declarator, size: Expr) -> Result<Declarator, AllocError> {
-    let inner = Boxed::new(alloc, inner)?;
-    Ok(Declarator::Array(inner, Some(Boxed::new(alloc, size)?)))
+    let (inner, size) = both(alloc, inner, size)?;
+    Ok(Declarator::Array(inner, Some(size)))
 }
 
 pub fn function(

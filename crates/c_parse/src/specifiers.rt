@@ -2,18 +2,18 @@
 
 ghost use Rattle.c_parse.specs.Nests.{NestsExpr, NestsDeclarator, NestsSpecs};
 
-use crate::cursor::Cursor;
-use crate::error::ParseFault;
-use crate::knot::{Grammar, Mode, Place};
-use crate::operators::CONDITIONAL;
-use crate::tokens::{has_type_word, identifier, maybe_identifier, specifier_words, strings};
+use crate::behind::{before, kept, pushed, with};
+use crate::knot::Grammar;
 use c_ast::{Base, Declarator, Enumerator, Expr, MemberEntry, Specs};
+use c_cursor::operators::CONDITIONAL;
+use c_cursor::tokens::{has_type_word, identifier, maybe_identifier, specifier_words, strings};
+use c_cursor::{Cursor, Mode, Place, Refusal};
 use c_lex::{Mark, TokenKind, Word};
 use std::alloc::Global;
 use ub_base::Items;
 
 /// The message of a static assertion, the parenthesis and the semicolon.
-fn message(tokens: &mut Cursor<'_>) -> Result<u32, ParseFault> {
+fn message(tokens: &mut Cursor<'_>) -> Result<u32, Refusal> {
     let message = tokens.at();
     strings(tokens)?;
     tokens.expect(Mark::CloseParen)?;
@@ -21,86 +21,103 @@ fn message(tokens: &mut Cursor<'_>) -> Result<u32, ParseFault> {
     Ok(message)
 }
 
+/// These keywords and those that follow.
+fn words_behind(
+    alloc: Global,
+    tokens: &mut Cursor<'_>,
+    place: Place,
+    words: Items<Word>,
+) -> Result<Items<Word>, Refusal> {
+    let (mut words, more) = with(words, specifier_words(alloc, tokens, place))?;
+    words.append(more)?;
+    Ok(words)
+}
+
 /// The keywords that follow, behind what was read.
 fn specs_behind(
     alloc: Global,
     tokens: &mut Cursor<'_>,
     place: Place,
-    mut words: Items<Word>,
+    words: Items<Word>,
     base: Base,
-) -> Result<Specs, ParseFault> {
-    let more = specifier_words(alloc, tokens, place)?;
-    words.append(more)?;
+) -> Result<Specs, Refusal> {
+    let (base, words) = with(base, words_behind(alloc, tokens, place, words))?;
     Ok(Specs { words, base })
 }
 
+/// At least one token was taken since this one.
+fn taken(tokens: &Cursor<'_>, first: u32) -> Result<(), Refusal> {
+    if tokens.at() == first {
+        Err(tokens.refuse())
+    } else {
+        Ok(())
+    }
+}
+
 impl<
-    F: Fn(Global, &mut Cursor<'_>, usize, u8) -> Result<Expr, ParseFault>,
-    G: Fn(Global, &mut Cursor<'_>, usize, Mode) -> Result<Declarator, ParseFault>,
-    H: Fn(Global, &mut Cursor<'_>, usize, Place) -> Result<Specs, ParseFault>,
+    F: Fn(Global, &mut Cursor<'_>, usize, u8) -> Result<Expr, Refusal>,
+    G: Fn(Global, &mut Cursor<'_>, usize, Mode) -> Result<Declarator, Refusal>,
+    H: Fn(Global, &mut Cursor<'_>, usize, Place) -> Result<Specs, Refusal>,
 > Grammar<F, G, H> {
     /// The condition of a static assertion, up to the comma.
-    fn condition(&self, tokens: &mut Cursor<'_>) -> Result<Expr, ParseFault>
+    fn condition(&self, tokens: &mut Cursor<'_>) -> Result<Expr, Refusal>
         requires { NestsExpr self.now.depth (F.pre self.now.expr) (F.post self.now.expr) }
     {
         tokens.expect_word(Word::StaticAssert)?;
         tokens.expect(Mark::OpenParen)?;
-        let condition = self.expr(tokens, CONDITIONAL)?;
-        tokens.expect(Mark::Comma)?;
-        Ok(condition)
+        let condition = self.expr(tokens, CONDITIONAL);
+        before(tokens, condition, Mark::Comma)
     }
 
     /// A static assertion (6.7.10): its condition, and the first string literal of its message.
-    pub fn assertion(&self, tokens: &mut Cursor<'_>) -> Result<(Expr, u32), ParseFault>
+    pub fn assertion(&self, tokens: &mut Cursor<'_>) -> Result<(Expr, u32), Refusal>
         requires { NestsExpr self.now.depth (F.pre self.now.expr) (F.post self.now.expr) }
     {
         let condition = self.condition(tokens)?;
-        let message = message(tokens)?;
-        Ok((condition, message))
+        with(condition, message(tokens))
     }
 
-    fn member_assertion(&self, tokens: &mut Cursor<'_>) -> Result<MemberEntry, ParseFault>
+    fn member_assertion(&self, tokens: &mut Cursor<'_>) -> Result<MemberEntry, Refusal>
         requires { NestsExpr self.now.depth (F.pre self.now.expr) (F.post self.now.expr) }
     {
         let (condition, message) = self.assertion(tokens)?;
         Ok(MemberEntry::Assertion(condition, message))
     }
 
-    fn member_names(&self, tokens: &mut Cursor<'_>) -> Result<Items<Declarator>, ParseFault>
+    fn member_names(&self, tokens: &mut Cursor<'_>) -> Result<Items<Declarator>, Refusal>
         requires { NestsDeclarator self.now.depth (G.pre self.now.declarator) (G.post self.now.declarator) }
     {
         let mut found = Items::new(self.alloc);
         for _turn in 0..tokens.turns() {
-            found.push(self.declarator(tokens, Mode::Named)?)?;
+            found = pushed(found, self.declarator(tokens, Mode::Named))?;
             if !tokens.eat(Mark::Comma) {
                 return Ok(found);
             }
         }
-        Err(tokens.refuse())
+        kept(found, Err(tokens.refuse()))
     }
 
     /// The declarators of members, or none, and the semicolon.
-    fn maybe_names(&self, tokens: &mut Cursor<'_>) -> Result<Items<Declarator>, ParseFault>
+    fn maybe_names(&self, tokens: &mut Cursor<'_>) -> Result<Items<Declarator>, Refusal>
         requires { NestsDeclarator self.now.depth (G.pre self.now.declarator) (G.post self.now.declarator) }
     {
         if tokens.eat(Mark::Semicolon) {
             return Ok(Items::new(self.alloc));
         }
-        let names = self.member_names(tokens)?;
-        tokens.expect(Mark::Semicolon)?;
-        Ok(names)
+        let names = self.member_names(tokens);
+        before(tokens, names, Mark::Semicolon)
     }
 
-    fn fields(&self, tokens: &mut Cursor<'_>) -> Result<MemberEntry, ParseFault>
+    fn fields(&self, tokens: &mut Cursor<'_>) -> Result<MemberEntry, Refusal>
         requires declarator { NestsDeclarator self.now.depth (G.pre self.now.declarator) (G.post self.now.declarator) }
         requires specs { NestsSpecs self.now.depth (H.pre self.now.specs) (H.post self.now.specs) }
     {
         let specs = self.specs(tokens, Place::Qualified)?;
-        let names = self.maybe_names(tokens)?;
+        let (specs, names) = with(specs, self.maybe_names(tokens))?;
         Ok(MemberEntry::Fields(specs, names))
     }
 
-    fn member(&self, tokens: &mut Cursor<'_>) -> Result<MemberEntry, ParseFault>
+    fn member(&self, tokens: &mut Cursor<'_>) -> Result<MemberEntry, Refusal>
         requires expr { NestsExpr self.now.depth (F.pre self.now.expr) (F.post self.now.expr) }
         requires declarator { NestsDeclarator self.now.depth (G.pre self.now.declarator) (G.post self.now.declarator) }
         requires specs { NestsSpecs self.now.depth (H.pre self.now.specs) (H.post self.now.specs) }
@@ -113,23 +130,23 @@ impl<
     }
 
     /// After the opening brace: at least one, and the closing brace.
-    fn members(&self, tokens: &mut Cursor<'_>) -> Result<Items<MemberEntry>, ParseFault>
+    fn members(&self, tokens: &mut Cursor<'_>) -> Result<Items<MemberEntry>, Refusal>
         requires expr { NestsExpr self.now.depth (F.pre self.now.expr) (F.post self.now.expr) }
         requires declarator { NestsDeclarator self.now.depth (G.pre self.now.declarator) (G.post self.now.declarator) }
         requires specs { NestsSpecs self.now.depth (H.pre self.now.specs) (H.post self.now.specs) }
     {
         let mut found = Items::new(self.alloc);
         for _turn in 0..tokens.turns() {
-            found.push(self.member(tokens)?)?;
+            found = pushed(found, self.member(tokens))?;
             if tokens.eat(Mark::CloseBrace) {
                 return Ok(found);
             }
         }
-        Err(tokens.refuse())
+        kept(found, Err(tokens.refuse()))
     }
 
     /// After `struct` or `union`.
-    fn tagged(&self, tokens: &mut Cursor<'_>, union: bool) -> Result<Base, ParseFault>
+    fn tagged(&self, tokens: &mut Cursor<'_>, union: bool) -> Result<Base, Refusal>
         requires expr { NestsExpr self.now.depth (F.pre self.now.expr) (F.post self.now.expr) }
         requires declarator { NestsDeclarator self.now.depth (G.pre self.now.declarator) (G.post self.now.declarator) }
         requires specs { NestsSpecs self.now.depth (H.pre self.now.specs) (H.post self.now.specs) }
@@ -156,7 +173,7 @@ impl<
         }
     }
 
-    fn enumerator_value(&self, tokens: &mut Cursor<'_>) -> Result<Option<Expr>, ParseFault>
+    fn enumerator_value(&self, tokens: &mut Cursor<'_>) -> Result<Option<Expr>, Refusal>
         requires { NestsExpr self.now.depth (F.pre self.now.expr) (F.post self.now.expr) }
     {
         if tokens.eat(Mark::Equal) {
@@ -167,35 +184,34 @@ impl<
     }
 
     /// An enumeration constant is in scope behind its enumerator (6.2.1p7).
-    fn enumerator(&self, tokens: &mut Cursor<'_>) -> Result<Enumerator, ParseFault>
+    fn enumerator(&self, tokens: &mut Cursor<'_>) -> Result<Enumerator, Refusal>
         requires { NestsExpr self.now.depth (F.pre self.now.expr) (F.post self.now.expr) }
     {
         let name = identifier(tokens)?;
         let value = self.enumerator_value(tokens)?;
-        tokens.declare(name, false)?;
+        let value = kept(value, tokens.declare(name, false))?;
         Ok(Enumerator { name, value })
     }
 
     /// After the opening brace: at least one, and the closing brace.
-    fn enumerators(&self, tokens: &mut Cursor<'_>) -> Result<Items<Enumerator>, ParseFault>
+    fn enumerators(&self, tokens: &mut Cursor<'_>) -> Result<Items<Enumerator>, Refusal>
         requires { NestsExpr self.now.depth (F.pre self.now.expr) (F.post self.now.expr) }
     {
         let mut found = Items::new(self.alloc);
         for _turn in 0..tokens.turns() {
-            found.push(self.enumerator(tokens)?)?;
+            found = pushed(found, self.enumerator(tokens))?;
             if !tokens.eat(Mark::Comma) {
-                tokens.expect(Mark::CloseBrace)?;
-                return Ok(found);
+                return kept(found, tokens.expect(Mark::CloseBrace));
             }
             if tokens.eat(Mark::CloseBrace) {
                 return Ok(found);
             }
         }
-        Err(tokens.refuse())
+        kept(found, Err(tokens.refuse()))
     }
 
     /// After `enum`.
-    fn enumerated(&self, tokens: &mut Cursor<'_>) -> Result<Base, ParseFault>
+    fn enumerated(&self, tokens: &mut Cursor<'_>) -> Result<Base, Refusal>
         requires { NestsExpr self.now.depth (F.pre self.now.expr) (F.post self.now.expr) }
     {
         let tag = maybe_identifier(tokens);
@@ -213,7 +229,7 @@ impl<
     }
 
     /// The specifier that is no keyword, if one comes next. Behind a type specifier no name is a typedef name (6.7.8p3).
-    fn specifier_base(&self, tokens: &mut Cursor<'_>, typed: bool) -> Result<Base, ParseFault>
+    fn specifier_base(&self, tokens: &mut Cursor<'_>, typed: bool) -> Result<Base, Refusal>
         requires expr { NestsExpr self.now.depth (F.pre self.now.expr) (F.post self.now.expr) }
         requires declarator { NestsDeclarator self.now.depth (G.pre self.now.declarator) (G.post self.now.declarator) }
         requires specs { NestsSpecs self.now.depth (H.pre self.now.specs) (H.post self.now.specs) }
@@ -244,17 +260,16 @@ impl<
     }
 
     /// At least one specifier.
-    pub fn specifiers(&self, tokens: &mut Cursor<'_>, place: Place) -> Result<Specs, ParseFault>
+    pub fn specifiers(&self, tokens: &mut Cursor<'_>, place: Place) -> Result<Specs, Refusal>
         requires expr { NestsExpr self.now.depth (F.pre self.now.expr) (F.post self.now.expr) }
         requires declarator { NestsDeclarator self.now.depth (G.pre self.now.declarator) (G.post self.now.declarator) }
         requires specs { NestsSpecs self.now.depth (H.pre self.now.specs) (H.post self.now.specs) }
     {
         let first = tokens.at();
         let words = specifier_words(self.alloc, tokens, place)?;
-        let base = self.specifier_base(tokens, has_type_word(words.as_slice()))?;
-        if tokens.at() == first {
-            return Err(tokens.refuse());
-        }
+        let typed = has_type_word(words.as_slice());
+        let found = with(words, self.specifier_base(tokens, typed))?;
+        let (words, base) = kept(found, taken(tokens, first))?;
         specs_behind(self.alloc, tokens, place, words, base)
     }
 }

@@ -2,42 +2,35 @@
 
 ghost use Rattle.c_parse.specs.Nests.{NestsStmt};
 
-use crate::cursor::Cursor;
+use crate::behind::{before, kept, pushed, with};
 use crate::declaration::{assertion, declaration};
-use crate::error::ParseFault;
 use crate::knot::expr;
-use crate::operators::{COMMA, CONDITIONAL};
-use crate::tokens::{begins_declaration, identifier};
 use c_ast::{Entry, Expr, ForInit, Stmt};
+use c_cursor::operators::{COMMA, CONDITIONAL};
+use c_cursor::tokens::{begins_declaration, identifier};
+use c_cursor::{Cursor, Refusal};
 use c_lex::{Mark, TokenKind, Word};
 use std::alloc::Global;
 use ub_base::{Boxed, Items};
 
-fn whole_expr(alloc: Global, tokens: &mut Cursor<'_>) -> Result<Expr, ParseFault> {
+fn whole_expr(alloc: Global, tokens: &mut Cursor<'_>) -> Result<Expr, Refusal> {
     let turns = tokens.turns();
     expr(alloc, tokens, turns, COMMA)
 }
 
-fn in_parentheses(alloc: Global, tokens: &mut Cursor<'_>) -> Result<Expr, ParseFault> {
+fn in_parentheses(alloc: Global, tokens: &mut Cursor<'_>) -> Result<Expr, Refusal> {
     tokens.expect(Mark::OpenParen)?;
-    let test = whole_expr(alloc, tokens)?;
-    tokens.expect(Mark::CloseParen)?;
-    Ok(test)
+    expr_before(alloc, tokens, Mark::CloseParen)
 }
 
 /// An expression, and then this punctuator.
-fn expr_before(alloc: Global, tokens: &mut Cursor<'_>, end: Mark) -> Result<Expr, ParseFault> {
-    let value = whole_expr(alloc, tokens)?;
-    tokens.expect(end)?;
-    Ok(value)
+fn expr_before(alloc: Global, tokens: &mut Cursor<'_>, end: Mark) -> Result<Expr, Refusal> {
+    let value = whole_expr(alloc, tokens);
+    before(tokens, value, end)
 }
 
 /// An expression or none, and then this punctuator.
-fn maybe_expr(
-    alloc: Global,
-    tokens: &mut Cursor<'_>,
-    end: Mark,
-) -> Result<Option<Expr>, ParseFault> {
+fn maybe_expr(alloc: Global, tokens: &mut Cursor<'_>, end: Mark) -> Result<Option<Expr>, Refusal> {
     if tokens.eat(end) {
         return Ok(None);
     }
@@ -45,7 +38,7 @@ fn maybe_expr(
 }
 
 /// The first part of `for`, and its semicolon.
-fn for_init(alloc: Global, tokens: &mut Cursor<'_>) -> Result<ForInit, ParseFault> {
+fn for_init(alloc: Global, tokens: &mut Cursor<'_>) -> Result<ForInit, Refusal> {
     if begins_declaration(tokens) {
         return Ok(ForInit::Declared(declaration(alloc, tokens)?));
     }
@@ -56,14 +49,14 @@ fn for_init(alloc: Global, tokens: &mut Cursor<'_>) -> Result<ForInit, ParseFaul
 }
 
 /// After `goto`.
-fn goto_stmt(tokens: &mut Cursor<'_>) -> Result<Stmt, ParseFault> {
+fn goto_stmt(tokens: &mut Cursor<'_>) -> Result<Stmt, Refusal> {
     let label = identifier(tokens)?;
     tokens.expect(Mark::Semicolon)?;
     Ok(Stmt::Goto(label))
 }
 
 /// At `continue`.
-fn continue_stmt(tokens: &mut Cursor<'_>) -> Result<Stmt, ParseFault> {
+fn continue_stmt(tokens: &mut Cursor<'_>) -> Result<Stmt, Refusal> {
     let at = tokens.at();
     tokens.take();
     tokens.expect(Mark::Semicolon)?;
@@ -71,7 +64,7 @@ fn continue_stmt(tokens: &mut Cursor<'_>) -> Result<Stmt, ParseFault> {
 }
 
 /// At `break`.
-fn break_stmt(tokens: &mut Cursor<'_>) -> Result<Stmt, ParseFault> {
+fn break_stmt(tokens: &mut Cursor<'_>) -> Result<Stmt, Refusal> {
     let at = tokens.at();
     tokens.take();
     tokens.expect(Mark::Semicolon)?;
@@ -79,20 +72,20 @@ fn break_stmt(tokens: &mut Cursor<'_>) -> Result<Stmt, ParseFault> {
 }
 
 /// At `return`.
-fn return_stmt(alloc: Global, tokens: &mut Cursor<'_>) -> Result<Stmt, ParseFault> {
+fn return_stmt(alloc: Global, tokens: &mut Cursor<'_>) -> Result<Stmt, Refusal> {
     let at = tokens.at();
     tokens.take();
     let value = maybe_expr(alloc, tokens, Mark::Semicolon)?;
     Ok(Stmt::Return(at, value))
 }
 
-fn simple_stmt(alloc: Global, tokens: &mut Cursor<'_>) -> Result<Stmt, ParseFault> {
+fn simple_stmt(alloc: Global, tokens: &mut Cursor<'_>) -> Result<Stmt, Refusal> {
     let value = maybe_expr(alloc, tokens, Mark::Semicolon)?;
     Ok(Stmt::Simple(value))
 }
 
 /// A statement that holds no other.
-fn plain_stmt(alloc: Global, tokens: &mut Cursor<'_>) -> Result<Stmt, ParseFault> {
+fn plain_stmt(alloc: Global, tokens: &mut Cursor<'_>) -> Result<Stmt, Refusal> {
     match tokens.word() {
         Some(Word::Goto) => {
             tokens.take();
@@ -106,44 +99,41 @@ fn plain_stmt(alloc: Global, tokens: &mut Cursor<'_>) -> Result<Stmt, ParseFault
 }
 
 /// The `while` of a `do`, its condition and the semicolon.
-fn do_test(alloc: Global, tokens: &mut Cursor<'_>) -> Result<Expr, ParseFault> {
+fn do_test(alloc: Global, tokens: &mut Cursor<'_>) -> Result<Expr, Refusal> {
     tokens.expect_word(Word::While)?;
-    let test = in_parentheses(alloc, tokens)?;
-    tokens.expect(Mark::Semicolon)?;
-    Ok(test)
+    let test = in_parentheses(alloc, tokens);
+    before(tokens, test, Mark::Semicolon)
 }
 
 /// The condition and the last part of `for`, and the parenthesis.
 fn for_tests(
     alloc: Global,
     tokens: &mut Cursor<'_>,
-) -> Result<(Option<Expr>, Option<Expr>), ParseFault> {
+) -> Result<(Option<Expr>, Option<Expr>), Refusal> {
     let test = maybe_expr(alloc, tokens, Mark::Semicolon)?;
-    let step = maybe_expr(alloc, tokens, Mark::CloseParen)?;
-    Ok((test, step))
+    with(test, maybe_expr(alloc, tokens, Mark::CloseParen))
 }
 
 /// The opening parenthesis and the first part of `for`.
-fn for_start(alloc: Global, tokens: &mut Cursor<'_>) -> Result<Boxed<ForInit>, ParseFault> {
+fn for_start(alloc: Global, tokens: &mut Cursor<'_>) -> Result<Boxed<ForInit>, Refusal> {
     tokens.expect(Mark::OpenParen)?;
     let init = for_init(alloc, tokens)?;
     Ok(Boxed::new(alloc, init)?)
 }
 
 /// The value of a `case` and the colon.
-fn case_value(alloc: Global, tokens: &mut Cursor<'_>) -> Result<Expr, ParseFault> {
+fn case_value(alloc: Global, tokens: &mut Cursor<'_>) -> Result<Expr, Refusal> {
     let turns = tokens.turns();
-    let value = expr(alloc, tokens, turns, CONDITIONAL)?;
-    tokens.expect(Mark::Colon)?;
-    Ok(value)
+    let value = expr(alloc, tokens, turns, CONDITIONAL);
+    before(tokens, value, Mark::Colon)
 }
 
-fn assertion_entry(alloc: Global, tokens: &mut Cursor<'_>) -> Result<Entry, ParseFault> {
+fn assertion_entry(alloc: Global, tokens: &mut Cursor<'_>) -> Result<Entry, Refusal> {
     let (condition, message) = assertion(alloc, tokens)?;
     Ok(Entry::Assertion(condition, message))
 }
 
-fn declaration_entry(alloc: Global, tokens: &mut Cursor<'_>) -> Result<Entry, ParseFault> {
+fn declaration_entry(alloc: Global, tokens: &mut Cursor<'_>) -> Result<Entry, Refusal> {
     let found = declaration(alloc, tokens)?;
     Ok(Entry::Declaration(found))
 }
@@ -164,31 +154,31 @@ pub struct Statements<S> {
     pub stmt: S,
 }
 
-impl<S: Fn(Global, &mut Cursor<'_>, usize) -> Result<Stmt, ParseFault>> Statements<S> {
-    fn stmt(&self, tokens: &mut Cursor<'_>) -> Result<Stmt, ParseFault>
+impl<S: Fn(Global, &mut Cursor<'_>, usize) -> Result<Stmt, Refusal>> Statements<S> {
+    fn stmt(&self, tokens: &mut Cursor<'_>) -> Result<Stmt, Refusal>
         requires { NestsStmt self.now.depth (S.pre self.now.stmt) (S.post self.now.stmt) }
     {
         (self.stmt)(self.alloc, tokens, self.depth)
     }
 
     /// A statement that is a block of its own: what is declared in it ends with it (6.8.4p3, 6.8.5p5).
-    fn sub_stmt(&self, tokens: &mut Cursor<'_>) -> Result<Stmt, ParseFault>
+    fn sub_stmt(&self, tokens: &mut Cursor<'_>) -> Result<Stmt, Refusal>
         requires { NestsStmt self.now.depth (S.pre self.now.stmt) (S.post self.now.stmt) }
     {
         let outer = tokens.open();
-        let found = self.stmt(tokens)?;
+        let found = self.stmt(tokens);
         tokens.close(outer);
-        Ok(found)
+        found
     }
 
-    fn boxed_sub(&self, tokens: &mut Cursor<'_>) -> Result<Boxed<Stmt>, ParseFault>
+    fn boxed_sub(&self, tokens: &mut Cursor<'_>) -> Result<Boxed<Stmt>, Refusal>
         requires { NestsStmt self.now.depth (S.pre self.now.stmt) (S.post self.now.stmt) }
     {
         let body = self.sub_stmt(tokens)?;
         Ok(Boxed::new(self.alloc, body)?)
     }
 
-    fn boxed_stmt(&self, tokens: &mut Cursor<'_>) -> Result<Boxed<Stmt>, ParseFault>
+    fn boxed_stmt(&self, tokens: &mut Cursor<'_>) -> Result<Boxed<Stmt>, Refusal>
         requires { NestsStmt self.now.depth (S.pre self.now.stmt) (S.post self.now.stmt) }
     {
         let body = self.stmt(tokens)?;
@@ -196,7 +186,7 @@ impl<S: Fn(Global, &mut Cursor<'_>, usize) -> Result<Stmt, ParseFault>> Statemen
     }
 
     /// An `else` goes with the nearest `if` (6.8.4.1p3).
-    fn else_part(&self, tokens: &mut Cursor<'_>) -> Result<Option<Boxed<Stmt>>, ParseFault>
+    fn else_part(&self, tokens: &mut Cursor<'_>) -> Result<Option<Boxed<Stmt>>, Refusal>
         requires { NestsStmt self.now.depth (S.pre self.now.stmt) (S.post self.now.stmt) }
     {
         if tokens.eat_word(Word::Else) {
@@ -209,56 +199,55 @@ impl<S: Fn(Global, &mut Cursor<'_>, usize) -> Result<Stmt, ParseFault>> Statemen
     fn if_branches(
         &self,
         tokens: &mut Cursor<'_>,
-    ) -> Result<(Boxed<Stmt>, Option<Boxed<Stmt>>), ParseFault>
+    ) -> Result<(Boxed<Stmt>, Option<Boxed<Stmt>>), Refusal>
         requires { NestsStmt self.now.depth (S.pre self.now.stmt) (S.post self.now.stmt) }
     {
         let yes = self.boxed_sub(tokens)?;
-        let no = self.else_part(tokens)?;
-        Ok((yes, no))
+        with(yes, self.else_part(tokens))
     }
 
     /// After `if`.
-    fn if_stmt(&self, tokens: &mut Cursor<'_>) -> Result<Stmt, ParseFault>
+    fn if_stmt(&self, tokens: &mut Cursor<'_>) -> Result<Stmt, Refusal>
         requires { NestsStmt self.now.depth (S.pre self.now.stmt) (S.post self.now.stmt) }
     {
         let test = in_parentheses(self.alloc, tokens)?;
-        let (yes, no) = self.if_branches(tokens)?;
+        let (test, (yes, no)) = with(test, self.if_branches(tokens))?;
         Ok(Stmt::If(test, yes, no))
     }
 
     /// After `switch`.
-    fn switch_stmt(&self, tokens: &mut Cursor<'_>) -> Result<Stmt, ParseFault>
+    fn switch_stmt(&self, tokens: &mut Cursor<'_>) -> Result<Stmt, Refusal>
         requires { NestsStmt self.now.depth (S.pre self.now.stmt) (S.post self.now.stmt) }
     {
         let test = in_parentheses(self.alloc, tokens)?;
-        let body = self.boxed_sub(tokens)?;
+        let (test, body) = with(test, self.boxed_sub(tokens))?;
         Ok(Stmt::Switch(test, body))
     }
 
     /// After `while`.
-    fn while_stmt(&self, tokens: &mut Cursor<'_>) -> Result<Stmt, ParseFault>
+    fn while_stmt(&self, tokens: &mut Cursor<'_>) -> Result<Stmt, Refusal>
         requires { NestsStmt self.now.depth (S.pre self.now.stmt) (S.post self.now.stmt) }
     {
         let test = in_parentheses(self.alloc, tokens)?;
-        let body = self.boxed_sub(tokens)?;
+        let (test, body) = with(test, self.boxed_sub(tokens))?;
         Ok(Stmt::While(test, body))
     }
 
     /// After `do`.
-    fn do_stmt(&self, tokens: &mut Cursor<'_>) -> Result<Stmt, ParseFault>
+    fn do_stmt(&self, tokens: &mut Cursor<'_>) -> Result<Stmt, Refusal>
         requires { NestsStmt self.now.depth (S.pre self.now.stmt) (S.post self.now.stmt) }
     {
         let body = self.boxed_sub(tokens)?;
-        let test = do_test(self.alloc, tokens)?;
+        let (body, test) = with(body, do_test(self.alloc, tokens))?;
         Ok(Stmt::Do(body, test))
     }
 
     /// After `for`.
-    fn for_stmt(&self, tokens: &mut Cursor<'_>) -> Result<Stmt, ParseFault>
+    fn for_stmt(&self, tokens: &mut Cursor<'_>) -> Result<Stmt, Refusal>
         requires { NestsStmt self.now.depth (S.pre self.now.stmt) (S.post self.now.stmt) }
     {
         let init = for_start(self.alloc, tokens)?;
-        let (test, step, body) = self.for_rest(tokens)?;
+        let (init, ((test, step), body)) = with(init, self.for_rest(tokens))?;
         Ok(Stmt::For(init, test, step, body))
     }
 
@@ -266,16 +255,15 @@ impl<S: Fn(Global, &mut Cursor<'_>, usize) -> Result<Stmt, ParseFault>> Statemen
     fn for_rest(
         &self,
         tokens: &mut Cursor<'_>,
-    ) -> Result<(Option<Expr>, Option<Expr>, Boxed<Stmt>), ParseFault>
+    ) -> Result<((Option<Expr>, Option<Expr>), Boxed<Stmt>), Refusal>
         requires { NestsStmt self.now.depth (S.pre self.now.stmt) (S.post self.now.stmt) }
     {
-        let (test, step) = for_tests(self.alloc, tokens)?;
-        let body = self.boxed_sub(tokens)?;
-        Ok((test, step, body))
+        let tests = for_tests(self.alloc, tokens)?;
+        with(tests, self.boxed_sub(tokens))
     }
 
     /// A selection or an iteration statement (6.8.4, 6.8.5).
-    fn held_stmt(&self, tokens: &mut Cursor<'_>) -> Result<Stmt, ParseFault>
+    fn held_stmt(&self, tokens: &mut Cursor<'_>) -> Result<Stmt, Refusal>
         requires { NestsStmt self.now.depth (S.pre self.now.stmt) (S.post self.now.stmt) }
     {
         let word = tokens.word();
@@ -290,7 +278,7 @@ impl<S: Fn(Global, &mut Cursor<'_>, usize) -> Result<Stmt, ParseFault>> Statemen
     }
 
     /// After the name of a label.
-    fn label_stmt(&self, tokens: &mut Cursor<'_>, label: u32) -> Result<Stmt, ParseFault>
+    fn label_stmt(&self, tokens: &mut Cursor<'_>, label: u32) -> Result<Stmt, Refusal>
         requires { NestsStmt self.now.depth (S.pre self.now.stmt) (S.post self.now.stmt) }
     {
         tokens.expect(Mark::Colon)?;
@@ -299,16 +287,16 @@ impl<S: Fn(Global, &mut Cursor<'_>, usize) -> Result<Stmt, ParseFault>> Statemen
     }
 
     /// After `case`, which stands at `at`.
-    fn case_stmt(&self, tokens: &mut Cursor<'_>, at: u32) -> Result<Stmt, ParseFault>
+    fn case_stmt(&self, tokens: &mut Cursor<'_>, at: u32) -> Result<Stmt, Refusal>
         requires { NestsStmt self.now.depth (S.pre self.now.stmt) (S.post self.now.stmt) }
     {
         let value = case_value(self.alloc, tokens)?;
-        let body = self.boxed_stmt(tokens)?;
+        let (value, body) = with(value, self.boxed_stmt(tokens))?;
         Ok(Stmt::Case(at, value, body))
     }
 
     /// After `default`, which stands at `at`.
-    fn default_stmt(&self, tokens: &mut Cursor<'_>, at: u32) -> Result<Stmt, ParseFault>
+    fn default_stmt(&self, tokens: &mut Cursor<'_>, at: u32) -> Result<Stmt, Refusal>
         requires { NestsStmt self.now.depth (S.pre self.now.stmt) (S.post self.now.stmt) }
     {
         tokens.expect(Mark::Colon)?;
@@ -316,14 +304,14 @@ impl<S: Fn(Global, &mut Cursor<'_>, usize) -> Result<Stmt, ParseFault>> Statemen
         Ok(Stmt::Default(at, body))
     }
 
-    fn statement_entry(&self, tokens: &mut Cursor<'_>) -> Result<Entry, ParseFault>
+    fn statement_entry(&self, tokens: &mut Cursor<'_>) -> Result<Entry, Refusal>
         requires { NestsStmt self.now.depth (S.pre self.now.stmt) (S.post self.now.stmt) }
     {
         let found = self.stmt(tokens)?;
         Ok(Entry::Statement(found))
     }
 
-    fn entry(&self, tokens: &mut Cursor<'_>) -> Result<Entry, ParseFault>
+    fn entry(&self, tokens: &mut Cursor<'_>) -> Result<Entry, Refusal>
         requires { NestsStmt self.now.depth (S.pre self.now.stmt) (S.post self.now.stmt) }
     {
         if tokens.sees_word(Word::StaticAssert) {
@@ -336,7 +324,7 @@ impl<S: Fn(Global, &mut Cursor<'_>, usize) -> Result<Stmt, ParseFault>> Statemen
     }
 
     /// After the opening brace: the block items and the closing brace (6.8.2).
-    pub fn entries(&self, tokens: &mut Cursor<'_>) -> Result<Items<Entry>, ParseFault>
+    pub fn entries(&self, tokens: &mut Cursor<'_>) -> Result<Items<Entry>, Refusal>
         requires { NestsStmt self.now.depth (S.pre self.now.stmt) (S.post self.now.stmt) }
     {
         let mut found = Items::new(self.alloc);
@@ -344,13 +332,13 @@ impl<S: Fn(Global, &mut Cursor<'_>, usize) -> Result<Stmt, ParseFault>> Statemen
             if tokens.eat(Mark::CloseBrace) {
                 return Ok(found);
             }
-            found.push(self.entry(tokens)?)?;
+            found = pushed(found, self.entry(tokens))?;
         }
-        Err(tokens.refuse())
+        kept(found, Err(tokens.refuse()))
     }
 
     /// After the opening brace.
-    fn block(&self, tokens: &mut Cursor<'_>) -> Result<Stmt, ParseFault>
+    fn block(&self, tokens: &mut Cursor<'_>) -> Result<Stmt, Refusal>
         requires { NestsStmt self.now.depth (S.pre self.now.stmt) (S.post self.now.stmt) }
     {
         let outer = tokens.open();
@@ -360,17 +348,17 @@ impl<S: Fn(Global, &mut Cursor<'_>, usize) -> Result<Stmt, ParseFault>> Statemen
     }
 
     /// A selection or an iteration statement. What is declared in it ends with it (6.8.4p3, 6.8.5p5).
-    fn scoped_stmt(&self, tokens: &mut Cursor<'_>) -> Result<Stmt, ParseFault>
+    fn scoped_stmt(&self, tokens: &mut Cursor<'_>) -> Result<Stmt, Refusal>
         requires { NestsStmt self.now.depth (S.pre self.now.stmt) (S.post self.now.stmt) }
     {
         let outer = tokens.open();
-        let found = self.held_stmt(tokens)?;
+        let found = self.held_stmt(tokens);
         tokens.close(outer);
-        Ok(found)
+        found
     }
 
     /// A statement whose first token is no name that is a label.
-    fn unlabelled(&self, tokens: &mut Cursor<'_>) -> Result<Stmt, ParseFault>
+    fn unlabelled(&self, tokens: &mut Cursor<'_>) -> Result<Stmt, Refusal>
         requires { NestsStmt self.now.depth (S.pre self.now.stmt) (S.post self.now.stmt) }
     {
         let at = tokens.at();
@@ -394,7 +382,7 @@ impl<S: Fn(Global, &mut Cursor<'_>, usize) -> Result<Stmt, ParseFault>> Statemen
         }
     }
 
-    pub fn one_stmt(&self, tokens: &mut Cursor<'_>) -> Result<Stmt, ParseFault>
+    pub fn one_stmt(&self, tokens: &mut Cursor<'_>) -> Result<Stmt, Refusal>
         requires { NestsStmt self.now.depth (S.pre self.now.stmt) (S.post self.now.stmt) }
     {
         if is_label(tokens) {
@@ -408,7 +396,7 @@ impl<S: Fn(Global, &mut Cursor<'_>, usize) -> Result<Stmt, ParseFault>> Statemen
 }
 
 /// A statement, in which others nest no deeper than `depth`.
-pub fn stmt(alloc: Global, tokens: &mut Cursor<'_>, depth: usize) -> Result<Stmt, ParseFault> {
+pub fn stmt(alloc: Global, tokens: &mut Cursor<'_>, depth: usize) -> Result<Stmt, Refusal> {
     if depth == 0 {
         return Err(tokens.refuse());
     }
@@ -421,7 +409,7 @@ pub fn stmt(alloc: Global, tokens: &mut Cursor<'_>, depth: usize) -> Result<Stmt
 }
 
 /// After the opening brace of a function's body: the block items and the closing brace.
-pub fn body(alloc: Global, tokens: &mut Cursor<'_>) -> Result<Items<Entry>, ParseFault> {
+pub fn body(alloc: Global, tokens: &mut Cursor<'_>) -> Result<Items<Entry>, Refusal> {
     let depth = tokens.turns();
     Statements { alloc, depth, stmt }.entries(tokens)
 }

@@ -1,15 +1,15 @@
 //! Translation units (6.9).
 
-ghost use Rattle.std.specs.Prelude.{◌≡◌, ◌<◌, ◌⊎◌, Err};
+ghost use Rattle.std.specs.Prelude.{◌≡◌, ◌<◌, ◌⊎◌, ℕ, Err};
 ghost use Rattle.c_ast.specs.Nest.{nest_of};
 
-use crate::cursor::Cursor;
+use crate::behind::{kept, pushed, with};
 use crate::declaration::{assertion, declaration_specs, more_parts, named_declarator};
 use crate::error::ParseFault;
-use crate::spelling::spelled_by;
 use crate::statement::body;
-use crate::tokens::declares_typedef;
 use c_ast::{Declaration, Declarator, Entry, Specs, Unit, UnitEntry, nest};
+use c_cursor::tokens::declares_typedef;
+use c_cursor::{Cursor, Refusal, spelled_by};
 use c_lex::{Mark, Tokens, Word};
 use std::alloc::Global;
 use ub_base::Items;
@@ -18,12 +18,12 @@ use ub_base::Items;
 pub const NEST_LIMIT: u32 = 2000;
 
 /// A function's body, after the opening brace. What its parameters declare is in scope there (6.2.1p4).
-fn function_body(alloc: Global, tokens: &mut Cursor<'_>) -> Result<Items<Entry>, ParseFault> {
+fn function_body(alloc: Global, tokens: &mut Cursor<'_>) -> Result<Items<Entry>, Refusal> {
     let outer = tokens.open();
     tokens.open_prototype()?;
-    let found = body(alloc, tokens)?;
+    let found = body(alloc, tokens);
     tokens.close(outer);
-    Ok(found)
+    found
 }
 
 /// After the declarator of a function definition and the opening brace.
@@ -32,8 +32,9 @@ fn definition(
     tokens: &mut Cursor<'_>,
     specs: Specs,
     declarator: Declarator,
-) -> Result<UnitEntry, ParseFault> {
-    let body = function_body(alloc, tokens)?;
+) -> Result<UnitEntry, Refusal> {
+    let held = (specs, declarator);
+    let ((specs, declarator), body) = with(held, function_body(alloc, tokens))?;
     Ok(UnitEntry::Function {
         specs,
         declarator,
@@ -47,19 +48,17 @@ fn declaration_behind(
     tokens: &mut Cursor<'_>,
     specs: Specs,
     first: Declarator,
-) -> Result<UnitEntry, ParseFault> {
-    let parts = more_parts(alloc, tokens, declares_typedef(&specs), first)?;
+) -> Result<UnitEntry, Refusal> {
+    let typedef = declares_typedef(&specs);
+    let (specs, parts) = with(specs, more_parts(alloc, tokens, typedef, first))?;
     Ok(UnitEntry::Declaration(Declaration { specs, parts }))
 }
 
 /// The rest of a declaration or a function definition behind its specifiers.
-fn declared_as(
-    alloc: Global,
-    tokens: &mut Cursor<'_>,
-    specs: Specs,
-) -> Result<UnitEntry, ParseFault> {
+fn declared_as(alloc: Global, tokens: &mut Cursor<'_>, specs: Specs) -> Result<UnitEntry, Refusal> {
     tokens.set_prototype(Vec::new(alloc));
-    let first = named_declarator(alloc, tokens, declares_typedef(&specs))?;
+    let typedef = declares_typedef(&specs);
+    let (specs, first) = with(specs, named_declarator(alloc, tokens, typedef))?;
     if tokens.eat(Mark::OpenBrace) {
         definition(alloc, tokens, specs, first)
     } else {
@@ -68,7 +67,7 @@ fn declared_as(
 }
 
 /// A declaration or a function definition.
-fn declared(alloc: Global, tokens: &mut Cursor<'_>) -> Result<UnitEntry, ParseFault> {
+fn declared(alloc: Global, tokens: &mut Cursor<'_>) -> Result<UnitEntry, Refusal> {
     let specs = declaration_specs(alloc, tokens)?;
     if tokens.eat(Mark::Semicolon) {
         let parts = Items::new(alloc);
@@ -78,12 +77,12 @@ fn declared(alloc: Global, tokens: &mut Cursor<'_>) -> Result<UnitEntry, ParseFa
     }
 }
 
-fn assertion_entry(alloc: Global, tokens: &mut Cursor<'_>) -> Result<UnitEntry, ParseFault> {
+fn assertion_entry(alloc: Global, tokens: &mut Cursor<'_>) -> Result<UnitEntry, Refusal> {
     let (condition, message) = assertion(alloc, tokens)?;
     Ok(UnitEntry::Assertion(condition, message))
 }
 
-fn unit_entry(alloc: Global, tokens: &mut Cursor<'_>) -> Result<UnitEntry, ParseFault> {
+fn unit_entry(alloc: Global, tokens: &mut Cursor<'_>) -> Result<UnitEntry, Refusal> {
     if tokens.eat(Mark::Semicolon) {
         Ok(UnitEntry::Empty)
     } else if tokens.sees_word(Word::StaticAssert) {
@@ -93,15 +92,27 @@ fn unit_entry(alloc: Global, tokens: &mut Cursor<'_>) -> Result<UnitEntry, Parse
     }
 }
 
-fn unit(alloc: Global, tokens: &mut Cursor<'_>) -> Result<Unit, ParseFault> {
-    let mut entries = Items::new(alloc);
+fn unit_entries(alloc: Global, tokens: &mut Cursor<'_>) -> Result<Items<UnitEntry>, Refusal> {
+    let mut found = Items::new(alloc);
     for _turn in 0..tokens.turns() {
         match tokens.peek() {
-            Some(_) => entries.push(unit_entry(alloc, tokens)?)?,
-            None => return Ok(Unit { entries }),
+            Some(_) => found = pushed(found, unit_entry(alloc, tokens))?,
+            None => return Ok(found),
         }
     }
-    Err(tokens.refuse())
+    kept(found, Err(tokens.refuse()))
+}
+
+fn unit(alloc: Global, tokens: &mut Cursor<'_>) -> Result<Unit, Refusal> {
+    let entries = unit_entries(alloc, tokens)?;
+    Ok(Unit { entries })
+}
+
+/// The syntax tree that the tokens spell, however deep the rules nest.
+fn tree(alloc: Global, tokens: &Tokens<'_>) -> Result<Unit, Refusal> {
+    let spelled = spelled_by(alloc, tokens)?;
+    let mut cursor = Cursor::new(alloc, tokens, spelled)?;
+    unit(alloc, &mut cursor)
 }
 
 /// The syntax tree that the tokens spell, by Annex A without what the profile leaves out.
@@ -111,14 +122,13 @@ fn unit(alloc: Global, tokens: &mut Cursor<'_>) -> Result<Unit, ParseFault> {
 /// `TooDeep` where `nest` passes the limit, before all else; `Syntax` with the first token with which no sentence goes on;
 /// `NoMemory`.
 pub fn parse(alloc: Global, tokens: &Tokens<'_>) -> Result<Unit, ParseFault>
-    // Where the rules nest too deep, this is said before all else.
-    ensures { NEST_LIMIT < nest_of tokens.now.list → (result ≡ Err (ParseFault.TooDeep (nest_of tokens.now.list))) ⊎ (result ≡ Err ParseFault.NoMemory) }
+    // Where the rules nest too deep, this is said before all else, and nowhere else.
+    ensures deep { NEST_LIMIT < nest_of tokens.now.list → (result ≡ Err (ParseFault.TooDeep (nest_of tokens.now.list))) ⊎ (result ≡ Err ParseFault.NoMemory) }
+    ensures only { (count : ℕ) → result ≡ Err (ParseFault.TooDeep count) → (NEST_LIMIT < count) × (count ≡ nest_of tokens.now.list) }
 {
     let nest = nest(alloc, tokens)?;
     if nest > NEST_LIMIT {
         return Err(ParseFault::TooDeep(nest));
     }
-    let spelled = spelled_by(alloc, tokens)?;
-    let mut cursor = Cursor::new(alloc, tokens, spelled)?;
-    unit(alloc, &mut cursor)
+    Ok(tree(alloc, tokens)?)
 }
