@@ -17,6 +17,3 @@ pub use laws::law_literals_close;
 pub use lexer::lex;
 pub use token::{LexFault, Mark, Token, TokenKind, Word};
 pub use token_list::Tokens;
-
-#[cfg(test)]
-mod tests;

@@ -10,6 +10,3 @@ mod literal;
 pub use fault::LitFault;
 pub use integer::{IntLit, int_value};
 pub use literal::{char_value, string_bytes};
-
-#[cfg(test)]
-mod tests;
