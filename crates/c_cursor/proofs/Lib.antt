@@ -2,3 +2,4 @@ mod Cursors
 mod Known
 mod Runs
 mod Spellings
+pub mod Turns

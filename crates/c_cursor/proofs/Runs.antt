@@ -1,16 +1,16 @@
 -- Runs of keywords, and names that are declared one after another.
-use Rattle.std.proofs.Common.{◌≡◌, ℕ, Bool, true, false, List, [], ◌∷◌, ◌++◌, refl, sym, ap, subst, ◌∙◌, ◌+◌, ◌<◌, map, take, get_or, arith, inl, inr, Some}
+use Rattle.std.proofs.Common.{◌≡◌, ℕ, suc, Bool, true, false, List, [], ◌∷◌, ◌++◌, refl, sym, ap, subst, ◌∙◌, ◌+◌, ◌<◌, map, take, get_or, arith, inl, inr, Some}
 use Rattle.c_lex.specs.declared.token.Word.{Word as AWord}
 use Rattle.std.specs.Prelude.{nat_lt, length, Option, None}
-use Rattle.std.proofs.lemmas.Bool.{cond_both, cases_lt}
-use Rattle.std.proofs.lemmas.List.{take_more, get_or-map, length-map}
+use Rattle.std.proofs.lemmas.Bool.{cases_lt, cond-true, lt-ltb}
+use Rattle.std.proofs.lemmas.List.{take_more, get_or-map, length-map, append_assoc}
 use Rattle.c_lex.specs.TokenText.{kind_at}
 use Rattle.c_lex.specs.declared.token.TokenKind.{TokenKind}
 use Rattle.c_lex.specs.declared.token.TokenKind.TheVariants as token
 use Rattle.c_ast.specs.Input.{Input, declared, kind, next}
 use Rattle.c_grammar.specs.Rules.{Words, Word}
-use Rattle.parse_spec.specs.Steps.{allows, word_of}
-use Rattle.c_cursor.specs.Declarations.{said, declared_at, redeclared}
+use Rattle.parse_spec.specs.Steps.{allows, word_of, words_from, is_string, strings_from}
+use Rattle.c_cursor.specs.Declarations.{said, declared_at}
 use Rattle.c_cursor.specs.declared.scope.Declared.{Declared}
 use Rattle.c_cursor.proofs.Cursors.{kind_within, next_at}
 
@@ -19,20 +19,6 @@ pub one_more_word : (allowed : AWord → Bool) (words : List AWord) (a : AWord) 
     → Words allowed words s m → allowed a ≡ true → Word a m t → Words allowed (words ++ a ∷ []) s t
 one_more_word allowed [] a s m t run is takes = (t, ((is, subst (λ i. Word a i t) run takes), refl))
 one_more_word allowed (b ∷ rest) a s m t run is takes = (run.0, (run.1.0, one_more_word allowed rest a run.0 m t run.1.1 is takes))
-
-pub one_more_redeclared : (ds : List (ℕ × Bool)) (d : ℕ × Bool) (i : Input) → redeclared (ds ++ d ∷ []) i ≡ declared_at d.0 d.1 (redeclared ds i)
-unfolding redeclared
-one_more_redeclared [] d i = refl
-one_more_redeclared (e ∷ es) d i = one_more_redeclared es d (declared_at e.0 e.1 i)
-
-same_prototype : (at : ℕ) (typedef : Bool) (i : Input) → (declared_at at typedef i).prototype ≡ i.prototype
-unfolding declared
-same_prototype at typedef i = cond_both (nat_lt at (length i.tokens.list)) (declared at typedef i) i (λ j. j.prototype ≡ i.prototype) (λ _. refl) (λ _. refl)
-
-pub prototype_stays : (ds : List (ℕ × Bool)) (i : Input) → (redeclared ds i).prototype ≡ i.prototype
-unfolding redeclared
-prototype_stays [] i = refl
-prototype_stays (e ∷ es) i = prototype_stays es (declared_at e.0 e.1 i) ∙ same_prototype e.0 e.1 i
 
 -- no keyword comes next, and so none that is allowed
 pub no_word : (allowed : AWord → Bool) (k : Option TokenKind) → word_of k ≡ None → allows allowed k ≡ false
@@ -45,7 +31,38 @@ next_word None a is = absurd (cc)
 next_word (Some (token.Keyword b)) a is = cc
 next_word (Some _) a is = absurd (cc)
 
+pub words_stop : (allowed : AWord → Bool) (n : ℕ) (found : List AWord) (i : Input) → allows allowed (kind i) ≡ false
+    → words_from allowed (suc n) found i ≡ Some (found, i)
+unfolding words_from
+words_stop allowed n found i none = rw none refl
+
+pub words_more : (allowed : AWord → Bool) (n : ℕ) (found : List AWord) (a : AWord) (i : Input) → kind i ≡ Some (token.Keyword a) → allowed a ≡ true
+    → words_from allowed (suc n) found i ≡ words_from allowed n (found ++ a ∷ []) (next i)
+unfolding words_from
+words_more allowed n found a i is more = rw (is, more) refl
+
+pub words_out : (allowed : AWord → Bool) (found : List AWord) (i : Input) → words_from allowed 0 found i ≡ None
+unfolding words_from
+words_out allowed found i = refl
+
+-- a keyword comes next that isn't allowed
+pub other_word : (allowed : AWord → Bool) (k : Option TokenKind) (a : AWord) → word_of k ≡ Some a → allowed a ≡ false → allows allowed k ≡ false
+other_word allowed k a is none = ap (allows allowed) (next_word k a is) ∙ none
+
 -- ---- string literals
+
+pub string_here : (k : Option TokenKind) → is_string k ≡ true → k ≡ Some token.StringLit
+string_here None is = absurd (cc)
+string_here (Some token.StringLit) is = refl
+string_here (Some _) is = absurd (cc)
+
+pub strings_stop : (n count : ℕ) (i : Input) → is_string (kind i) ≡ false → strings_from (suc n) count i ≡ Some (count, i)
+unfolding strings_from
+strings_stop n count i none = rw none refl
+
+pub strings_more : (n count : ℕ) (i : Input) → kind i ≡ Some token.StringLit → strings_from (suc n) count i ≡ strings_from n (count + 1) (next i)
+unfolding strings_from
+strings_more n count i is = rw is refl
 
 pub string_taken : (s m : Input) (turn : ℕ) → m ≡ record s { at = s.at + turn }
     → ((k : ℕ) → k < turn → kind_at s.tokens (s.at + k) ≡ Some token.StringLit) → kind m ≡ Some token.StringLit
@@ -66,11 +83,20 @@ string_taken s m turn to literals is =
 pub same_length : (ds es : List Declared) (p : List (ℕ × Bool)) → map said ds ≡ p → map said es ≡ p → length es ≡ length ds
 same_length ds es p d e = sym (length-map es said) ∙ ap length (e ∙ sym d) ∙ length-map ds said
 
-pub redeclared_more : (p : List (ℕ × Bool)) (i m new : Input) (k : ℕ) (x : Declared) (items : List Declared) → map said items ≡ p → k < length items
-    → x ≡ get_or items k x → m ≡ redeclared (take k p) i → new ≡ declared_at x.at x.typedef m → new ≡ redeclared (take (k + 1) p) i
-redeclared_more p i m new k x items all h is before now =
-    let long : k < length p = subst (λ q. k < length q) all (rw length-map h) in
-    let one : get_or p k (said x) ≡ said x =
-    subst (λ q. get_or q k (said x) ≡ said x) all (get_or-map said items k x (said x) h ∙ ap said (sym is)) in
-    now ∙ ap (declared_at x.at x.typedef) before ∙ sym (one_more_redeclared (take k p) (said x) i)
-    ∙ ap (λ d. redeclared (take k p ++ d ∷ []) i) (sym one) ∙ ap (λ q. redeclared q i) (sym (take_more p k (said x) long))
+-- the first of the parameters that are kept are in scope again
+abbrev pub with_first : ℕ → Input → Input
+with_first k i = record i { names = i.names ++ take k i.prototype }
+
+pub one_more_parameter : (p : List (ℕ × Bool)) (i m new : Input) (k : ℕ) (x : Declared) (items : List Declared) → map said items ≡ p → p ≡ i.prototype
+    → k < length items → x ≡ get_or items k x → x.at < length i.tokens.list → m ≡ with_first k i → new ≡ declared_at x.at x.typedef m
+    → new ≡ with_first (k + 1) i
+unfolding declared
+one_more_parameter p i m new k x items all kept h is within before now =
+    let long : k < length i.prototype = subst (λ q. k < length q) (all ∙ kept) (rw length-map h) in
+    let one : get_or i.prototype k (said x) ≡ said x =
+    subst (λ q. get_or q k (said x) ≡ said x) (all ∙ kept) (get_or-map said items k x (said x) h ∙ ap said (sym is)) in
+    let m2 : Input = with_first k i in
+    now ∙ ap (declared_at x.at x.typedef) before
+    ∙ cond-true (nat_lt x.at (length i.tokens.list)) (declared x.at x.typedef m2) m2 (lt-ltb x.at (length i.tokens.list) within)
+    ∙ ap (λ ns. record i { names = ns }) (append_assoc i.names (take k i.prototype) (said x ∷ [])
+    ∙ ap (λ d. i.names ++ (take k i.prototype ++ d ∷ [])) (sym one) ∙ ap (λ q. i.names ++ q) (sym (take_more i.prototype k (said x) long)))

@@ -1,6 +1,6 @@
 -- Declarations as they stand in scope, the newest last (6.2.1).
 use Rattle.std.specs.Prelude.{◌≡◌, ℕ, ◌<◌, ◌==◌, Bool, false, if◌then◌else◌, List, [], ◌∷◌, ◌++◌, length, take, drop, nat_lt, slice_index_or}
-use Rattle.c_lex.specs.TokenText.{text_at}
+use Rattle.c_lex.specs.TokenText.{TokenText, text_at}
 use Rattle.c_ast.specs.Input.{Input, declared, lookup}
 use Rattle.c_cursor.specs.declared.scope.Declared.{Declared}
 use Rattle.c_cursor.specs.declared.scope.Named.{Named}
@@ -11,6 +11,10 @@ said d = (d.at, d.typedef)
 
 abbrev pub said_of : Named → ℕ × Bool
 said_of n = said n.declared
+
+-- the declared name is a token of the text
+abbrev pub IsWithin : TokenText → Declared → Type 0
+IsWithin t d = d.at < length t.list
 
 -- names are numbers, and these are the numbers of tokens
 pub record InScope : Type 0 where
@@ -64,8 +68,3 @@ left_at count own saved i = record i {
   names = take count i.names;
   prototype = if own then drop count i.names else saved;
 }
-
--- these are declared again, one after another
-unfoldable pub redeclared : List (ℕ × Bool) → Input → Input
-redeclared [] i = i
-redeclared (d ∷ ds) i = redeclared ds (declared_at d.0 d.1 i)

@@ -1,12 +1,14 @@
 //! A cursor over tokens, with the names that are in scope.
 
-ghost use Rattle.std.specs.Prelude.{◌≡◌, ◌≢◌, ◌+◌, ◌<◌, ◌↔◌, false, [], length, map, drop, IfOk, IfErr, OnOk, OnErr, IsTrue};
+ghost use Rattle.std.specs.Prelude.{◌≡◌, ◌≢◌, ◌+◌, ◌<◌, [], length, map, drop, IfOk, IfErr, OnOk, OnErr, All};
 ghost use Rattle.c_lex.specs.declared.token.TokenKind.TheVariants as token;
 ghost use Rattle.c_ast.specs.Input.{start_of, kind, next, is_typedef};
-ghost use Rattle.c_cursor.specs.Declarations.{said, names_typedef, declared_at, closed_at, with_prototype, left_at, redeclared};
+ghost use Rattle.c_cursor.specs.Declarations.{IsWithin, said, names_typedef, declared_at, closed_at, with_prototype, left_at};
 ghost use Rattle.c_cursor.specs.Spelling.{IsSpelling};
 ghost use Rattle.parse_spec.specs.Operators.{tight_of};
-ghost use Rattle.parse_spec.specs.Steps.{turns, mark_of, word_of};
+ghost use Rattle.c_cursor.specs.Reads.{Reads};
+ghost use Rattle.parse_spec.specs.Steps as steps;
+ghost use Rattle.parse_spec.specs.Steps.{turns, mark_of, word_of, with_parameters};
 
 use crate::operators::tight;
 use crate::refusal::Refusal;
@@ -36,7 +38,7 @@ impl<'a> Model for Cursor<'a> {
 
     ghost view = { λ c. record { tokens = c.tokens.now; at = c.at; names = map said_of c.scope.names; prototype = map said c.prototype.items } };
 
-    ghost invariant = { λ c. IsCursor c.tokens.now c.at c.spelled.items c.scope };
+    ghost invariant = { λ c. IsCursor c.tokens.now c.at c.spelled.items c.scope c.prototype.items };
 }
 
 impl<'a> Cursor<'a> {
@@ -142,8 +144,9 @@ impl<'a> Cursor<'a> {
     }
 
     /// Whether the punctuator comes next.
+    #[tactic(auto, unfolding(parse_spec::specs::Steps::sees, parse_spec::specs::Steps::same_mark))]
     pub fn sees(&self, mark: Mark) -> bool
-        ensures { IsTrue result ↔ (kind self.now ≡ Some (token.Punct mark)) }
+        ensures { result ≡ steps.sees mark self.now }
     {
         match self.mark() {
             Some(found) => found == mark,
@@ -152,8 +155,9 @@ impl<'a> Cursor<'a> {
     }
 
     /// Whether the keyword comes next.
+    #[tactic(auto, unfolding(parse_spec::specs::Steps::sees_word, parse_spec::specs::Steps::same_word))]
     pub fn sees_word(&self, word: Word) -> bool
-        ensures { IsTrue result ↔ (kind self.now ≡ Some (token.Keyword word)) }
+        ensures { result ≡ steps.sees_word word self.now }
     {
         match self.word() {
             Some(found) => found == word,
@@ -162,10 +166,10 @@ impl<'a> Cursor<'a> {
     }
 
     /// Takes the punctuator, if it comes next.
+    #[tactic(auto, unfolding(parse_spec::specs::Steps::after))]
     pub fn eat(&mut self, mark: Mark) -> bool
-        ensures seen { IsTrue result ↔ (kind self.old ≡ Some (token.Punct mark)) }
-        ensures taken { IsTrue result → (self.new ≡ next self.old) }
-        ensures left { result ≡ false → (self.new ≡ self.old) }
+        ensures seen { result ≡ steps.sees mark self.old }
+        ensures left { self.new ≡ steps.after mark self.old }
     {
         let found = self.sees(mark);
         if found {
@@ -175,10 +179,10 @@ impl<'a> Cursor<'a> {
     }
 
     /// Takes the keyword, if it comes next.
+    #[tactic(auto, unfolding(parse_spec::specs::Steps::after_word))]
     pub fn eat_word(&mut self, word: Word) -> bool
-        ensures seen { IsTrue result ↔ (kind self.old ≡ Some (token.Keyword word)) }
-        ensures taken { IsTrue result → (self.new ≡ next self.old) }
-        ensures left { result ≡ false → (self.new ≡ self.old) }
+        ensures seen { result ≡ steps.sees_word word self.old }
+        ensures left { self.new ≡ steps.after_word word self.old }
     {
         let found = self.sees_word(word);
         if found {
@@ -188,11 +192,13 @@ impl<'a> Cursor<'a> {
     }
 
     /// Takes the punctuator.
+    #[tactic(auto, unfolding(parse_spec::specs::Steps::expect))]
     pub fn expect(&mut self, mark: Mark) -> Result<(), Refusal>
-        ensures ok { OnOk result ((kind self.old ≡ Some (token.Punct mark)) × (self.new ≡ next self.old)) }
-        ensures err { IfErr result (λ e. (kind self.old ≢ Some (token.Punct mark)) × (e ≡ Refusal.Syntax self.old.at) × (self.new ≡ self.old)) }
+        ensures reads { Reads (steps.expect mark self.old) result self.new }
+        ensures err { IfErr result (λ e. (e ≡ Refusal.Syntax self.old.at) × (self.new ≡ self.old)) }
     {
-        if self.eat(mark) {
+        if self.sees(mark) {
+            self.take();
             Ok(())
         } else {
             Err(self.refuse())
@@ -200,11 +206,13 @@ impl<'a> Cursor<'a> {
     }
 
     /// Takes the keyword.
+    #[tactic(auto, unfolding(parse_spec::specs::Steps::expect_word))]
     pub fn expect_word(&mut self, word: Word) -> Result<(), Refusal>
-        ensures ok { OnOk result ((kind self.old ≡ Some (token.Keyword word)) × (self.new ≡ next self.old)) }
-        ensures err { IfErr result (λ e. (kind self.old ≢ Some (token.Keyword word)) × (e ≡ Refusal.Syntax self.old.at) × (self.new ≡ self.old)) }
+        ensures reads { Reads (steps.expect_word word self.old) result self.new }
+        ensures err { IfErr result (λ e. (e ≡ Refusal.Syntax self.old.at) × (self.new ≡ self.old)) }
     {
-        if self.eat_word(word) {
+        if self.sees_word(word) {
+            self.take();
             Ok(())
         } else {
             Err(self.refuse())
@@ -279,6 +287,7 @@ impl<'a> Cursor<'a> {
     /// What the last prototype declares, which is then none.
     pub fn take_prototype(&mut self, alloc: Global) -> Vec<Declared>
         ensures taken { map said result.items ≡ self.old.prototype }
+        ensures within { All (IsWithin self.old.tokens) result.items }
         ensures none { self.new ≡ with_prototype [] self.old }
     {
         std::mem::replace(&mut self.prototype, Vec::new(alloc))
@@ -286,6 +295,7 @@ impl<'a> Cursor<'a> {
 
     /// What the last prototype declares is this.
     pub fn set_prototype(&mut self, names: Vec<Declared>)
+        requires { All (IsWithin self.now.tokens) names.items }
         ensures { self.new ≡ with_prototype (map said names.items) self.old }
     {
         self.prototype = names;
@@ -293,7 +303,8 @@ impl<'a> Cursor<'a> {
 
     /// The declarations behind the first `count`.
     fn declared_since(&self, alloc: Global, count: usize) -> Result<Vec<Declared>, Refusal>
-        ensures { IfOk result (λ v. map said v.items ≡ drop count self.now.names) }
+        ensures since { IfOk result (λ v. map said v.items ≡ drop count self.now.names) }
+        ensures within { IfOk result (λ v. All (IsWithin self.now.tokens) v.items) }
     {
         let found = declared_of(alloc, self.scope.since(count))?;
         Ok(found)
@@ -308,6 +319,7 @@ impl<'a> Cursor<'a> {
         own: bool,
         saved: Vec<Declared>,
     ) -> Result<(), Refusal>
+        requires { All (IsWithin self.now.tokens) saved.items }
         ensures { OnOk result (self.new ≡ left_at count own (map said saved.items) self.old) }
     {
         let kept = if own {
@@ -322,7 +334,7 @@ impl<'a> Cursor<'a> {
 
     /// Brings what the last prototype declares into scope again.
     pub fn open_prototype(&mut self) -> Result<(), Refusal>
-        ensures { OnOk result (self.new ≡ redeclared self.old.prototype self.old) }
+        ensures { OnOk result (self.new ≡ with_parameters self.old) }
     {
         for k in 0..self.prototype.len() {
             let declared = self.prototype[k];

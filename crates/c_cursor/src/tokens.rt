@@ -5,8 +5,9 @@ ghost use Rattle.c_lex.specs.declared.token.TokenKind.TheVariants as token;
 ghost use Rattle.c_ast.specs.Input.{kind, next, is_typedef};
 ghost use Rattle.c_grammar.specs.Rules as rules;
 ghost use Rattle.parse_spec.specs.Places as places;
-ghost use Rattle.parse_spec.specs.Steps.{allows};
+ghost use Rattle.parse_spec.specs.Steps as steps;
 ghost use Rattle.c_cursor.specs.Places.{mode_of, allowed_in};
+ghost use Rattle.c_cursor.specs.Reads.{Reads};
 ghost use Rattle.c_cursor.specs.Runs.{AreStringsTo};
 
 use crate::cursor::Cursor;
@@ -130,7 +131,9 @@ pub fn opens_parameters(mode: Mode, tokens: &Cursor<'_>) -> bool
 }
 
 /// The number of an identifier, whatever it is declared as.
+#[tactic(auto, unfolding(parse_spec::specs::Steps::identifier))]
 pub fn identifier(tokens: &mut Cursor<'_>) -> Result<u32, Refusal>
+    ensures reads { Reads (steps.identifier tokens.old) result tokens.new }
     ensures ok { IfOk result (λ at. rules.Identifier at tokens.old tokens.new) }
     ensures err { IfErr result (λ e. (kind tokens.old ≢ Some token.Name) × (e ≡ Refusal.Syntax tokens.old.at) × (tokens.new ≡ tokens.old)) }
 {
@@ -145,7 +148,9 @@ pub fn identifier(tokens: &mut Cursor<'_>) -> Result<u32, Refusal>
 }
 
 /// The number of an identifier, if one comes next.
+#[tactic(auto, unfolding(parse_spec::specs::Steps::maybe_identifier))]
 pub fn maybe_identifier(tokens: &mut Cursor<'_>) -> Option<u32>
+    ensures reads { steps.maybe_identifier tokens.old ≡ Some (result, tokens.new) }
     ensures found { rules.MaybeIdentifier result tokens.old tokens.new }
     ensures none { result ≡ None → kind tokens.old ≢ Some token.Name }
 {
@@ -159,19 +164,39 @@ pub fn maybe_identifier(tokens: &mut Cursor<'_>) -> Option<u32>
     }
 }
 
-/// How many string literals come next; at least one (6.4.5p5).
-pub fn strings(tokens: &mut Cursor<'_>) -> Result<u32, Refusal>
-    ensures ok { IfOk result (λ count. (0 < count) × AreStringsTo count tokens.old tokens.new) }
-    ensures err { IfErr result (λ e. (kind tokens.old ≢ Some token.StringLit) × (e ≡ Refusal.Syntax tokens.old.at) × (tokens.new ≡ tokens.old)) }
+fn is_literal(kind: Option<TokenKind>) -> bool
+    ensures { result ≡ steps.is_string kind }
+{
+    match kind {
+        Some(TokenKind::StringLit) => true,
+        _ => false,
+    }
+}
+
+/// How many string literals come next, maybe none.
+fn literals(tokens: &mut Cursor<'_>) -> u32
+    ensures reads { steps.strings_from (steps.turns tokens.old) 0 tokens.old ≡ Some (result, tokens.new) }
+    ensures run { AreStringsTo result tokens.old tokens.new }
+    ensures none { result ≡ 0 → kind tokens.old ≢ Some token.StringLit }
 {
     let first = tokens.at();
     for _turn in 0..tokens.turns() {
-        match tokens.peek() {
-            Some(TokenKind::StringLit) => tokens.take(),
-            _ => break,
+        if !is_literal(tokens.peek()) {
+            return tokens.at().saturating_sub(first);
         }
+        tokens.take();
     }
-    let count = tokens.at().saturating_sub(first);
+    tokens.at().saturating_sub(first)
+}
+
+/// How many string literals come next; at least one (6.4.5p5).
+#[tactic(auto, unfolding(parse_spec::specs::Steps::strings))]
+pub fn strings(tokens: &mut Cursor<'_>) -> Result<u32, Refusal>
+    ensures reads { Reads (steps.strings tokens.old) result tokens.new }
+    ensures ok { IfOk result (λ count. (0 < count) × AreStringsTo count tokens.old tokens.new) }
+    ensures err { IfErr result (λ e. (kind tokens.old ≢ Some token.StringLit) × (e ≡ Refusal.Syntax tokens.old.at) × (tokens.new ≡ tokens.old)) }
+{
+    let count = literals(tokens);
     if count == 0 {
         return Err(tokens.refuse());
     }
@@ -184,7 +209,8 @@ pub fn specifier_words(
     tokens: &mut Cursor<'_>,
     place: Place,
 ) -> Result<Items<Word>, Refusal>
-    ensures { IfOk result (λ words. rules.Words (allowed_in place) words tokens.old tokens.new × (allows (allowed_in place) (kind tokens.new) ≡ false)) }
+    ensures reads { Reads (steps.words (allowed_in place) tokens.old) result tokens.new }
+    ensures ok { IfOk result (λ words. rules.Words (allowed_in place) words tokens.old tokens.new × (steps.allows (allowed_in place) (kind tokens.new) ≡ false)) }
 {
     let mut found = Items::new(alloc);
     for _turn in 0..tokens.turns() {
@@ -204,7 +230,8 @@ pub fn specifier_words(
 
 /// The qualifiers behind a star (6.7.6).
 pub fn qualifiers(alloc: Global, tokens: &mut Cursor<'_>) -> Result<Items<Word>, Refusal>
-    ensures { IfOk result (λ words. rules.Words rules.is_qualifier words tokens.old tokens.new × (allows rules.is_qualifier (kind tokens.new) ≡ false)) }
+    ensures reads { Reads (steps.words rules.is_qualifier tokens.old) result tokens.new }
+    ensures ok { IfOk result (λ words. rules.Words rules.is_qualifier words tokens.old tokens.new × (steps.allows rules.is_qualifier (kind tokens.new) ≡ false)) }
 {
     let mut found = Items::new(alloc);
     for _turn in 0..tokens.turns() {
