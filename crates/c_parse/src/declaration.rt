@@ -1,20 +1,20 @@
 //! Declarations (6.7).
 
-use crate::behind::{kept, pushed, with};
-use crate::declarator::declare_named;
 use crate::initializer::initializer;
-use crate::knot::{Grammar, declarator, expr, specs};
+use crate::knot::{declarator, expr, specs};
 use c_ast::{Declaration, Declarator, Expr, Init, Part, Specs};
 use c_cursor::tokens::declares_typedef;
 use c_cursor::{Cursor, Mode, Place, Refusal};
 use c_lex::Mark;
+use parse_declarators::{Declarators, declare_named};
+use parse_nodes::behind::{kept, pushed, with};
 use std::alloc::Global;
 use ub_base::Items;
 
 /// A static assertion (6.7.10): its condition, and the first string literal of its message.
 pub fn assertion(alloc: Global, tokens: &mut Cursor<'_>) -> Result<(Expr, u32), Refusal> {
     let depth = tokens.turns();
-    Grammar {
+    Declarators {
         alloc,
         depth,
         expr,

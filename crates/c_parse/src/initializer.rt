@@ -1,12 +1,12 @@
 //! Initializers (6.7.9).
 
-use crate::behind::{before, kept, pushed, with};
 use crate::knot::expr;
 use c_ast::{Designator, Init, InitEntry};
 use c_cursor::operators::{ASSIGNMENT, CONDITIONAL};
 use c_cursor::tokens::identifier;
 use c_cursor::{Cursor, Refusal};
 use c_lex::Mark;
+use parse_nodes::behind::{before, kept, pushed, with};
 use std::alloc::Global;
 use ub_base::Items;
 

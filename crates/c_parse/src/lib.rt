@@ -1,15 +1,10 @@
 //! The syntax tree of a list of tokens (Annex A of ISO/IEC 9899:2011, in the profile).
 #![tactic(auto)]
 
-mod behind;
 mod declaration;
-mod declarator;
 mod error;
-mod expression;
 mod initializer;
 mod knot;
-mod make;
-mod specifiers;
 mod statement;
 mod unit;
 

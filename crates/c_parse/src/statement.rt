@@ -1,8 +1,7 @@
 //! Statements (6.8).
 
-ghost use Rattle.c_parse.specs.Nests.{NestsStmt};
+ghost use Rattle.parse_nodes.specs.Nests.{NestsStmt};
 
-use crate::behind::{before, kept, pushed, with};
 use crate::declaration::{assertion, declaration};
 use crate::knot::expr;
 use c_ast::{Entry, Expr, ForInit, Stmt};
@@ -10,6 +9,7 @@ use c_cursor::operators::{COMMA, CONDITIONAL};
 use c_cursor::tokens::{begins_declaration, identifier};
 use c_cursor::{Cursor, Refusal};
 use c_lex::{Mark, TokenKind, Word};
+use parse_nodes::behind::{before, kept, pushed, with};
 use std::alloc::Global;
 use ub_base::{Boxed, Items};
 

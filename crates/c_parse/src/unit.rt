@@ -3,7 +3,6 @@
 ghost use Rattle.std.specs.Prelude.{◌≡◌, ◌<◌, ◌⊎◌, ℕ, Err};
 ghost use Rattle.c_ast.specs.Nest.{nest_of};
 
-use crate::behind::{kept, pushed, with};
 use crate::declaration::{assertion, declaration_specs, more_parts, named_declarator};
 use crate::error::ParseFault;
 use crate::statement::body;
@@ -11,6 +10,7 @@ use c_ast::{Declaration, Declarator, Entry, Specs, Unit, UnitEntry, nest};
 use c_cursor::tokens::declares_typedef;
 use c_cursor::{Cursor, Refusal, spelled_by};
 use c_lex::{Mark, Tokens, Word};
+use parse_nodes::behind::{kept, pushed, with};
 use std::alloc::Global;
 use ub_base::Items;
 

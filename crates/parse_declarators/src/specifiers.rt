@@ -1,14 +1,19 @@
 //! Specifiers, and the structures, unions and enumerations among them (6.7.2).
 
-ghost use Rattle.c_parse.specs.Nests.{NestsExpr, NestsDeclarator, NestsSpecs};
+ghost use Rattle.std.specs.Prelude.{◌≡◌, Some, None};
+ghost use Rattle.c_cursor.specs.Places.{mode_of, allowed_in};
+ghost use Rattle.c_cursor.specs.Reads.{Reads};
+ghost use Rattle.parse_nodes.specs.Nests.{NestsExpr, NestsDeclarator, NestsSpecs};
+ghost use Rattle.parse_spec.specs.Specifiers as spec;
+ghost use Rattle.parse_spec.specs.Nested as nested;
 
-use crate::behind::{before, kept, pushed, with};
-use crate::knot::Grammar;
+use crate::nested::Declarators;
 use c_ast::{Base, Declarator, Enumerator, Expr, MemberEntry, Specs};
 use c_cursor::operators::CONDITIONAL;
 use c_cursor::tokens::{has_type_word, identifier, maybe_identifier, specifier_words, strings};
 use c_cursor::{Cursor, Mode, Place, Refusal};
 use c_lex::{Mark, TokenKind, Word};
+use parse_nodes::behind::{before, kept, pushed, with};
 use std::alloc::Global;
 use ub_base::Items;
 
@@ -58,7 +63,7 @@ impl<
     F: Fn(Global, &mut Cursor<'_>, usize, u8) -> Result<Expr, Refusal>,
     G: Fn(Global, &mut Cursor<'_>, usize, Mode) -> Result<Declarator, Refusal>,
     H: Fn(Global, &mut Cursor<'_>, usize, Place) -> Result<Specs, Refusal>,
-> Grammar<F, G, H> {
+> Declarators<F, G, H> {
     /// The condition of a static assertion, up to the comma.
     fn condition(&self, tokens: &mut Cursor<'_>) -> Result<Expr, Refusal>
         requires { NestsExpr self.now.depth (F.pre self.now.expr) (F.post self.now.expr) }

@@ -1,15 +1,20 @@
 //! Declarators (6.7.6) and abstract declarators (6.7.7).
 
-ghost use Rattle.c_parse.specs.Nests.{NestsExpr, NestsDeclarator, NestsSpecs};
+ghost use Rattle.std.specs.Prelude.{◌≡◌, Some, None};
+ghost use Rattle.c_cursor.specs.Places.{mode_of, allowed_in};
+ghost use Rattle.c_cursor.specs.Reads.{Reads};
+ghost use Rattle.parse_nodes.specs.Nests.{NestsExpr, NestsDeclarator, NestsSpecs};
+ghost use Rattle.parse_spec.specs.Declarators as spec;
+ghost use Rattle.parse_spec.specs.Nested as nested;
 
-use crate::behind::{before, kept, pushed, with};
-use crate::knot::Grammar;
-use crate::make;
+use crate::nested::Declarators;
 use c_ast::{Declarator, Expr, Param, Specs};
 use c_cursor::operators::ASSIGNMENT;
 use c_cursor::tokens::{opens_parameters, qualifiers};
 use c_cursor::{Cursor, Mode, Place, Refusal};
 use c_lex::{Mark, TokenKind};
+use parse_nodes::behind::{before, kept, pushed, with};
+use parse_nodes::make;
 use std::alloc::Global;
 use ub_base::Items;
 
@@ -72,7 +77,7 @@ impl<
     F: Fn(Global, &mut Cursor<'_>, usize, u8) -> Result<Expr, Refusal>,
     G: Fn(Global, &mut Cursor<'_>, usize, Mode) -> Result<Declarator, Refusal>,
     H: Fn(Global, &mut Cursor<'_>, usize, Place) -> Result<Specs, Refusal>,
-> Grammar<F, G, H> {
+> Declarators<F, G, H> {
     fn parameter_declarator(&self, tokens: &mut Cursor<'_>) -> Result<Declarator, Refusal>
         requires { NestsDeclarator self.now.depth (G.pre self.now.declarator) (G.post self.now.declarator) }
     {

@@ -1,10 +1,13 @@
 //! Expressions (6.5).
 
-ghost use Rattle.c_parse.specs.Nests.{NestsExpr, NestsDeclarator, NestsSpecs};
+ghost use Rattle.std.specs.Prelude.{◌≡◌, Some, None};
+ghost use Rattle.c_cursor.specs.Places.{mode_of, allowed_in};
+ghost use Rattle.c_cursor.specs.Reads.{Reads};
+ghost use Rattle.parse_nodes.specs.Nests.{NestsExpr, NestsDeclarator, NestsSpecs};
+ghost use Rattle.parse_spec.specs.Expressions as spec;
+ghost use Rattle.parse_spec.specs.Nested as nested;
 
-use crate::behind::{before, kept, pushed, with};
-use crate::knot::Grammar;
-use crate::make;
+use crate::nested::Expressions;
 use c_ast::{AssignOp, BinaryOp, Declarator, Expr, ExprNode, PostOp, Specs, TypeName, UnaryOp};
 use c_cursor::operators::{
     ASSIGNMENT, CAST, COMMA, CONDITIONAL, POSTFIX, UNARY, assign_op, binary_op, operand_level,
@@ -13,6 +16,8 @@ use c_cursor::operators::{
 use c_cursor::tokens::{begins_type_after, identifier, strings};
 use c_cursor::{Cursor, Mode, Place, Refusal};
 use c_lex::{Mark, TokenKind, Word};
+use parse_nodes::behind::{before, kept, pushed, with};
+use parse_nodes::make;
 use std::alloc::Global;
 use ub_base::Items;
 
@@ -62,7 +67,7 @@ impl<
     F: Fn(Global, &mut Cursor<'_>, usize, u8) -> Result<Expr, Refusal>,
     G: Fn(Global, &mut Cursor<'_>, usize, Mode) -> Result<Declarator, Refusal>,
     H: Fn(Global, &mut Cursor<'_>, usize, Place) -> Result<Specs, Refusal>,
-> Grammar<F, G, H> {
+> Expressions<F, G, H> {
     /// After the opening parenthesis.
     fn inside(&self, tokens: &mut Cursor<'_>) -> Result<Expr, Refusal>
         requires { NestsExpr self.now.depth (F.pre self.now.expr) (F.post self.now.expr) }
