@@ -1,5 +1,5 @@
 -- What a parser reads, over tokens that stay as they are: how that follows from its parts.
-use Rattle.std.proofs.Common.{◌≡◌, Bool, true, false, Option, Some, None, if◌then◌else◌, refl, subst, ◌∙◌}
+use Rattle.std.proofs.Common.{◌≡◌, Bool, true, false, Some, None, if◌then◌else◌, refl, subst, ◌∙◌}
 use Rattle.c_lex.specs.TokenText.{TokenText}
 use Rattle.c_ast.specs.Input.{Input}
 use Rattle.parse_spec.specs.Scopes.{OnlyAdds}

@@ -1,5 +1,5 @@
 -- The name of a declarator is a token.
-use Rattle.std.proofs.Common.{◌≡◌, ℕ, ◌<◌, length, Option, Some, None, refl, subst, ap}
+use Rattle.std.proofs.Common.{◌≡◌, ℕ, ◌<◌, length, Some, subst}
 use Rattle.c_lex.specs.TokenText.{TokenText}
 use Rattle.c_lex.specs.declared.token.TokenKind.TheVariants as token
 use Rattle.c_ast.specs.declared.declaration.Base.TheBlock.{Ident, Pointer', Array', Function', Row_of-Declarator, end_of-Declarator, more_of-Declarator}
