@@ -2,7 +2,7 @@
 
 ghost use Rattle.tree_names.specs.NameLaws.{TreesName};
 
-/// What the parser answers for tokens names tokens of theirs, each of the kind that its place asks for.
+/// In what the parser answers for tokens each name, literal and keyword is by the number of such a token.
 pub fn law_names()
     ensures { TreesName }
 {}

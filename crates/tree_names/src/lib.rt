@@ -1,4 +1,4 @@
-//! Each number in the tree of a list of tokens is that of a token of the kind that its place names.
+//! In the tree of a list of tokens each number that stands for a name, a literal or a keyword is that of such a token.
 #![tactic(auto)]
 
 mod laws;
