@@ -1,0 +1,4 @@
+pub mod Expressions
+pub mod Holding
+pub mod Operators
+pub mod Rows
