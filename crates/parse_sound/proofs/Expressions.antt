@@ -29,7 +29,7 @@ use Rattle.parse_spec.specs.Steps.{Parser, ◌>>◌, pure, refuse, take_token, t
 use Rattle.parse_spec.specs.Expressions.{made, leaf, name_expr, string_expr, tight, begins_cast, binary_sign, assignment_sign, inside, primary_by, primary, arguments_from, argument_list, arguments, subscript, post_by, post, posts_from, posts, type_name, casted, size, alignment, chained, bracketed, operated, operated_by, prefix_by, prefix, choice, assigned_by, assigned, joined_by, joined, step, climb, climbed, operators, commas_from, commas, whole, level}
 use Rattle.parse_sound.proofs.Holding.{Holds, holds, refused, bind_holds, weaken, if_holds, eat_holds, expect_holds, sees_is, sees_of, of_mark}
 use Rattle.parse_sound.proofs.Operators.{unary_is, binary_is, assign_is, tight_binary_is, tight_assign_is, level_low, level_high, operand_low, operand_high}
-use Rattle.parse_sound.proofs.Rows.{Comma, Each, Between, Extends, pushed, some_arguments, no_arguments, several, TypeNameRule, type_names}
+use Rattle.parse_sound.proofs.Rows.{Comma, Each, Between, Extends, longer, some_arguments, no_arguments, several, TypeNameRule, type_names}
 
 -- ---- single tokens
 
@@ -168,14 +168,8 @@ module _ (expr : ℕ → Parser Expr) (declarator : Mode → Parser Declarator) 
   unfolding arguments_from
   arguments_from_holds zero found i = refused
   arguments_from_holds (suc n) found i = bind_holds _ _ (ge 1 (omega arith) i) (λ e j h. eat_holds m.Comma _ _ j
-      (λ comma. weaken _ (arguments_from_holds n (found ++ e ∷ []) (next j)) (λ all k g. longer e j h.0 comma all k g))
+      (λ comma. weaken _ (arguments_from_holds n (found ++ e ∷ []) (next j)) (λ all k g. longer (IsExpr op.assignment) found e i j h.0 comma all k g))
       (λ none. holds (e ∷ [], (refl, (j, (h.0, refl))))))
-    where
-      longer : (e : Expr) (j : Input) → IsExpr op.assignment e i j → kind j ≡ Some (token.Punct m.Comma) → (all : List Expr) (k : Input)
-          → Extends (found ++ e ∷ []) (Between Comma (IsExpr op.assignment)) (next j) all k → Extends found (Between Comma (IsExpr op.assignment)) i all k
-      longer e j h comma all k ([], g) = absurd g.1
-      longer e j h comma all k (b ∷ more, (same, (x, (first, rest)))) =
-          (e ∷ b ∷ more, (pushed found e (b ∷ more) all same, (j, (h, (next j, ((comma, refl), (x, (first, rest))))))))
 
   argument_list_holds : (i : Input) → Holds (λ all j. Between Comma (IsExpr op.assignment) all i j) (argument_list expr declarator specs i)
   unfolding argument_list

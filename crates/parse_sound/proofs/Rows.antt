@@ -1,6 +1,7 @@
 -- Lists of trees, and the rows of the grammar that stand for them.
-use Rattle.std.proofs.Common.{◌≡◌, ℕ, Bool, true, false, List, [], ◌∷◌, ◌++◌, refl, subst, ◌∙◌, append_assoc}
+use Rattle.std.proofs.Common.{◌≡◌, ℕ, Bool, true, false, List, [], ◌∷◌, ◌++◌, Some, refl, subst, ◌∙◌, append_assoc}
 use denote.Hole.Carrier.{hidden}
+use Rattle.c_lex.specs.declared.token.TokenKind.TheVariants as token
 use Rattle.c_lex.specs.declared.token.Mark.TheVariants as m
 use Rattle.c_ast.specs.declared.declaration.Base.TheBlock.{hidden-the_row-Declarator-2, hidden-the_row-Declarator-5, hidden-the_row-Enumerator-1, hidden-the_row-Expr-3, hidden-the_row-Expr-6, hidden-the_row-MemberEntry-0, hidden-the_row-Param-4, hidden-the_row-TypeName-7}
 use Rattle.c_ast.specs.declared.declaration.Declarator.{Declarator}
@@ -14,7 +15,7 @@ use Rattle.c_ast.specs.declared.declaration.TypeName.{TypeName}
 use Rattle.c_ast.specs.declared.expression.Expr.{Expr}
 use Rattle.c_ast.specs.declared.statement.Entry.{Entry}
 use Rattle.c_ast.specs.declared.statement.Entry.TheBlock as s
-use Rattle.c_ast.specs.Input.{Input}
+use Rattle.c_ast.specs.Input.{Input, kind, next}
 use Rattle.c_grammar.specs.Operators as op
 use Rattle.c_grammar.specs.Rules.{Rule, ◌⨾◌, Nothing, Never, Mark, Declares, is_declaration_word, is_qualified_word}
 use Rattle.c_grammar.specs.Grammar.{Named, Abstract, Either, IsExpr, Specifiers, BaseRule, DeclaratorOperand, DeclaratorRule, name_of, Arguments, Several, MoreExprs, Members, MoreMembers, MemberRule, MemberNames, MoreNames, Enumerators, MoreEnumerators, EnumeratorRule, Parameters, MoreParameters, TypeNames, Designation, InitRule, InitEntries, MoreInits, Entries, EntryRule}
@@ -45,10 +46,32 @@ Extends {A} found R i all j = (more : List A) × ((all ≡ found ++ more) × R m
 pub pushed : {A : Type 0} (found : List A) (a : A) (more all : List A) → all ≡ (found ++ a ∷ []) ++ more → all ≡ found ++ a ∷ more
 pushed found a more all e = e ∙ append_assoc found (a ∷ []) more
 
--- ---- expressions
-
 abbrev pub Comma : Rule
 Comma = Mark m.Comma
+
+-- one more with a comma behind it, before those that were read then
+pub longer : {A : Type 0} (R : A → Rule) (found : List A) (a : A) (i j : Input) → R a i j → kind j ≡ Some (token.Punct m.Comma) → (all : List A) (k : Input)
+    → Extends (found ++ a ∷ []) (Between Comma R) (next j) all k → Extends found (Between Comma R) i all k
+longer R found a i j h comma all k ([], (same, g)) = absurd g
+longer R found a i j h comma all k (b ∷ more, (same, g)) = (a ∷ b ∷ more, (pushed found a (b ∷ more) all same, (j, (h, (next j, ((comma, refl), g))))))
+
+-- ..where something stands behind the last
+pub longer_then : {A : Type 0} (R : A → Rule) (last : Rule) (found : List A) (a : A) (i j : Input) → R a i j → kind j ≡ Some (token.Punct m.Comma) → (all : List A) (k : Input)
+    → Extends (found ++ a ∷ []) (λ more. Between Comma R more ⨾ last) (next j) all k → Extends found (λ more. Between Comma R more ⨾ last) i all k
+longer_then R last found a i j h comma all k ([], (same, (x, (g, l)))) = absurd g
+longer_then R last found a i j h comma all k (b ∷ more, (same, (x, (g, l)))) =
+    (a ∷ b ∷ more, (pushed found a (b ∷ more) all same, (x, ((j, (h, (next j, ((comma, refl), g)))), l))))
+
+pub at_least_then : {A : Type 0} (R : A → Rule) (last : Rule) (found : List A) (a : A) (i j : Input) → R a i j → (all : List A) (k : Input)
+    → Extends (found ++ a ∷ []) (λ more. AtLeastOne R more ⨾ last) j all k → Extends found (λ more. AtLeastOne R more ⨾ last) i all k
+at_least_then R last found a i j h all k ([], (same, (x, (g, l)))) = absurd g
+at_least_then R last found a i j h all k (b ∷ more, (same, (x, (g, l)))) = (a ∷ b ∷ more, (pushed found a (b ∷ more) all same, (x, ((j, (h, g)), l))))
+
+pub every_then : {A : Type 0} (R : A → Rule) (last : Rule) (found : List A) (a : A) (i j : Input) → R a i j → (all : List A) (k : Input)
+    → Extends (found ++ a ∷ []) (λ more. Every R more ⨾ last) j all k → Extends found (λ more. Every R more ⨾ last) i all k
+every_then R last found a i j h all k (more, (same, (x, (g, l)))) = (a ∷ more, (pushed found a more all same, (x, ((j, (h, g)), l))))
+
+-- ---- expressions
 
 pub more_exprs : (all : List Expr) (i j : Input) → Each Comma (IsExpr op.assignment) all i j → MoreExprs (hidden-the_row-Expr-6 all) i j
 unfolding hidden-the_row-Expr-6 hidden

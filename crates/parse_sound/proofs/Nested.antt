@@ -1,0 +1,34 @@
+-- What is read is spelled, however deep expressions, declarators and specifiers nest in one another.
+use Rattle.std.proofs.Common.{ℕ, zero, suc}
+use Rattle.parse_spec.specs.Nested.{expr, declarator, specs}
+use Rattle.parse_spec.proofs.AddingRules.{declarator_adds, specs_adds}
+use Rattle.parse_sound.specs.SoundLaws.{NestedSound}
+use Rattle.parse_sound.proofs.Declarators.{one_declarator_holds}
+use Rattle.parse_sound.proofs.Expressions.{ExprHolds, DeclaratorHolds, SpecsHold, level_holds}
+use Rattle.parse_sound.proofs.Holding.{refused, given}
+use Rattle.parse_sound.proofs.Specifiers.{specifiers_hold}
+
+mutual
+  unfolding expr
+
+  pub expr_holds : (depth : ℕ) → ExprHolds (expr depth)
+  expr_holds zero least low i = refused
+  expr_holds (suc depth) least low i =
+      level_holds (expr depth) (declarator depth) (specs depth) (expr_holds depth) (declarator_holds depth) (specs_hold depth) least low i
+
+  pub declarator_holds : (depth : ℕ) → DeclaratorHolds (declarator depth)
+  declarator_holds zero mode i = refused
+  declarator_holds (suc depth) mode i = one_declarator_holds (expr depth) (declarator depth) (specs depth) (expr_holds depth) (declarator_holds depth)
+      (specs_hold depth) (declarator_adds depth) (specs_adds depth) mode i
+
+  pub specs_hold : (depth : ℕ) → SpecsHold (specs depth)
+  specs_hold zero allowed i = refused
+  specs_hold (suc depth) allowed i =
+      specifiers_hold (expr depth) (declarator depth) (specs depth) (expr_holds depth) (declarator_holds depth) (specs_hold depth) allowed i
+
+pub nested_sound : NestedSound
+nested_sound = record {
+  expressions = λ depth least i j e low h. (given _ (expr depth least i) e j (expr_holds depth least low i) h).0;
+  declarators = λ depth mode i j d h. given _ (declarator depth mode i) d j (declarator_holds depth mode i) h;
+  specifiers = λ depth allowed i j s h. given _ (specs depth allowed i) s j (specs_hold depth allowed i) h;
+}
