@@ -1,7 +1,9 @@
 pub mod Adds
+pub mod Declarations
 pub mod Declarators
 pub mod Expressions
 pub mod Holding
+pub mod Initializers
 pub mod Nested
 pub mod Operators
 pub mod Rows
