@@ -69,6 +69,10 @@ pub sees_of : (mark : AMark) (i : Input) → kind i ≡ Some (token.Punct mark) 
 unfolding sees same_mark
 sees_of mark i e = ap (is_mark mark) e ∙ true_same mark_type mark mark refl
 
+pub sees_word_of : (word : AWord) (i : Input) → kind i ≡ Some (token.Keyword word) → sees_word word i ≡ true
+unfolding sees_word same_word
+sees_word_of word i e = ap (is_word word) e ∙ true_same word_type word word refl
+
 pub of_mark : (k : Option TokenKind) (mark : AMark) → mark_of k ≡ Some mark → k ≡ Some (token.Punct mark)
 of_mark (Some (token.Punct found)) mark e = ap (λ x. elim x as (λ _. Option TokenKind) [ | None ↦ None | Some y ↦ Some (token.Punct y) ]) e
 of_mark _ mark e = absurd (cc)

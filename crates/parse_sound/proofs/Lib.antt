@@ -8,3 +8,5 @@ pub mod Nested
 pub mod Operators
 pub mod Rows
 pub mod Specifiers
+pub mod StatementAdds
+pub mod Statements
