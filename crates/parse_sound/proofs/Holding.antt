@@ -37,9 +37,6 @@ pub weaken : {A : Type 0} {P Q : A → Input → Type 0} (o : Outcome A) → Hol
 weaken None h g = refused
 weaken (Some p) h g = holds (g p.0 p.1 h.held)
 
-pub given : {A : Type 0} (P : A → Input → Type 0) (o : Outcome A) (a : A) (j : Input) → Holds P o → o ≡ Some (a, j) → P a j
-given P o a j h e = (subst (Holds P) e h).held
-
 pub if_holds : {A : Type 0} {Q : A → Input → Type 0} (c : Bool) (p q : Parser A) (i : Input) → (c ≡ true → Holds Q (p i)) → (c ≡ false → Holds Q (q i))
     → Holds Q ((if c then p else q) i)
 if_holds true p q i f g = f refl

@@ -7,6 +7,8 @@ pub mod Initializers
 pub mod Nested
 pub mod Operators
 pub mod Rows
+pub mod Slides
 pub mod Specifiers
 pub mod StatementAdds
 pub mod Statements
+pub mod Units

@@ -2,10 +2,9 @@
 use Rattle.std.proofs.Common.{ℕ, zero, suc}
 use Rattle.parse_spec.specs.Nested.{expr, declarator, specs}
 use Rattle.parse_spec.proofs.AddingRules.{declarator_adds, specs_adds}
-use Rattle.parse_sound.specs.SoundLaws.{NestedSound}
 use Rattle.parse_sound.proofs.Declarators.{one_declarator_holds}
 use Rattle.parse_sound.proofs.Expressions.{ExprHolds, DeclaratorHolds, SpecsHold, level_holds}
-use Rattle.parse_sound.proofs.Holding.{refused, given}
+use Rattle.parse_sound.proofs.Holding.{refused}
 use Rattle.parse_sound.proofs.Specifiers.{specifiers_hold}
 
 mutual
@@ -25,10 +24,3 @@ mutual
   specs_hold zero allowed i = refused
   specs_hold (suc depth) allowed i =
       specifiers_hold (expr depth) (declarator depth) (specs depth) (expr_holds depth) (declarator_holds depth) (specs_hold depth) allowed i
-
-pub nested_sound : NestedSound
-nested_sound = record {
-  expressions = λ depth least i j e low h. (given _ (expr depth least i) e j (expr_holds depth least low i) h).0;
-  declarators = λ depth mode i j d h. given _ (declarator depth mode i) d j (declarator_holds depth mode i) h;
-  specifiers = λ depth allowed i j s h. given _ (specs depth allowed i) s j (specs_hold depth allowed i) h;
-}

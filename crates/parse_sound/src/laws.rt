@@ -1,8 +1,8 @@
-//! Laws about what the parser answers.
+//! The law that what the parser answers is in the grammar.
 
-ghost use Rattle.parse_sound.specs.SoundLaws.{NestedSound};
+ghost use Rattle.parse_sound.specs.SoundLaws.{TreesSpell};
 
-/// Expressions, declarators and specifiers that are read are spelled by the tokens that they are read from.
+/// The tree that the parser answers for tokens is one that the grammar of Annex A says they spell.
 pub fn law_sound()
-    ensures { NestedSound }
+    ensures { TreesSpell }
 {}
