@@ -1,12 +1,10 @@
 -- What is read as a declaration is spelled.
-use Rattle.std.proofs.Common.{◌≡◌, ℕ, zero, suc, Bool, true, false, List, [], ◌∷◌, ◌++◌, Option, Some, None, refl, sym, subst, append-nil}
+use Rattle.std.proofs.Common.{ℕ, zero, suc, Bool, List, [], ◌∷◌, ◌++◌, refl, sym, subst, append-nil}
 use Rattle.c_lex.specs.declared.token.Mark.TheVariants as m
-use Rattle.c_ast.specs.declared.declaration.Declaration.{Declaration}
 use Rattle.c_ast.specs.declared.declaration.Declarator.{Declarator}
 use Rattle.c_ast.specs.declared.declaration.Part.{Part}
-use Rattle.c_ast.specs.declared.declaration.Specs.{Specs}
-use Rattle.c_ast.specs.Input.{Input, kind, next}
-use Rattle.c_grammar.specs.Grammar.{Named, AssertionRule, MaybeInit, PartRule, MoreParts, Parts, DeclarationSpecifiers, DeclarationRule, DeclaratorOperand, DeclaratorRule, name_of}
+use Rattle.c_ast.specs.Input.{Input, next}
+use Rattle.c_grammar.specs.Grammar.{Named, AssertionRule, MaybeInit, PartRule, MoreParts, Parts, DeclarationSpecifiers, DeclarationRule, name_of}
 use Rattle.c_grammar.specs.Rules.{Rule, ◌⨾◌, Mark, Declares, is_declaration_word, declares_typedef}
 use Rattle.parse_spec.specs.Nested.{expr, declarator, specs}
 use Rattle.parse_spec.specs.Steps.{turns}
@@ -14,7 +12,7 @@ use Rattle.parse_spec.specs.Declarations.{assertion, declaration_specs, named_de
 use Rattle.parse_sound.proofs.Holding.{Holds, holds, refused, bind_holds, weaken, eat_holds, expect_holds, declares_is}
 use Rattle.parse_sound.proofs.Initializers.{initializer_holds}
 use Rattle.parse_sound.proofs.Nested.{expr_holds, declarator_holds, specs_hold}
-use Rattle.parse_sound.proofs.Rows.{Comma, Each, Extends, pushed, NamedRule}
+use Rattle.parse_sound.proofs.Rows.{Extends, pushed, NamedRule}
 use Rattle.parse_sound.proofs.Specifiers.{assertion_holds as any_assertion_holds}
 
 pub assertion_holds : (i : Input) → Holds (λ p j. AssertionRule p.0 p.1 i j) (assertion i)

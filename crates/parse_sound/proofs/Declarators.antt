@@ -1,5 +1,5 @@
 -- What is read as a declarator is spelled.
-use Rattle.std.proofs.Common.{◌≡◌, ◌≢◌, ◌⊎◌, ℕ, zero, suc, Bool, true, false, List, [], ◌∷◌, ◌++◌, Option, Some, None, if◌then◌else◌, refl, sym, ap, subst, ◌∙◌, inl, inr, ⊎_elim, arith}
+use Rattle.std.proofs.Common.{◌≡◌, ◌⊎◌, ℕ, zero, suc, Bool, true, false, List, [], ◌∷◌, ◌++◌, Option, Some, None, refl, sym, ap, subst, ◌∙◌, inl, inr, ⊎_elim, arith}
 use denote.Hole.Carrier.{hidden}
 use Rattle.c_lex.specs.declared.token.TokenKind.{TokenKind}
 use Rattle.c_lex.specs.declared.token.TokenKind.TheVariants as token
@@ -7,18 +7,17 @@ use Rattle.c_lex.specs.declared.token.Word.{Word as AWord}
 use Rattle.c_lex.specs.declared.token.Mark.TheVariants as m
 use Rattle.c_ast.specs.declared.declaration.Base.TheBlock.{Ident, Pointer', Array', Function', hidden-the_row-Declarator-2, hidden-the_row-Expr-3, hidden-the_row-Param-4}
 use Rattle.c_ast.specs.declared.declaration.Declarator.{Declarator}
-use Rattle.c_ast.specs.declared.declaration.Declarator.TheVariants as decl
 use Rattle.c_ast.specs.declared.declaration.Param.{Param}
 use Rattle.c_ast.specs.declared.declaration.Specs.{Specs}
 use Rattle.c_ast.specs.declared.expression.Expr.{Expr}
 use Rattle.c_ast.specs.Input.{Input, kind, next, is_typedef}
 use Rattle.c_grammar.specs.Operators as op
 use Rattle.c_grammar.specs.Grammar.{Mode, Named, Abstract, Either, HasName, NoParameters, StarMayStand, DeclaratorOperand, DeclaratorRule, IsExpr, Parameters, is_own_name as is_own_row, name_of}
-use Rattle.c_grammar.specs.Rules.{Rule, ◌⨾◌, Nothing, Mark, Apart, Prototype, is_declaration_word, is_qualifier}
+use Rattle.c_grammar.specs.Rules.{Rule, ◌⨾◌, Prototype, is_declaration_word, is_qualifier}
 use Rattle.parse_spec.specs.Scopes.{OnlyAdds}
 use Rattle.parse_spec.specs.Places.{opens_parameters, opens_by, opens_suffix}
-use Rattle.parse_spec.specs.Steps.{Parser, pure, turns, sees, apart, prototype, without_prototype}
-use Rattle.parse_spec.specs.Declarators.{is_own_name, no_parameters, nameless, named, one_parameter, parameters_from, parameters, array_suffix, function_suffix, one_suffix, suffixes_from, suffixes, nested, innermost_by, innermost, pointed, one_declarator}
+use Rattle.parse_spec.specs.Steps.{Parser, turns, sees, without_prototype}
+use Rattle.parse_spec.specs.Declarators.{is_own_name, nameless, named, one_parameter, parameters_from, parameters, array_suffix, function_suffix, one_suffix, suffixes_from, suffixes, nested, innermost_by, innermost, pointed, one_declarator}
 use Rattle.parse_sound.proofs.Adds.{parameters_adds}
 use Rattle.parse_sound.proofs.Holding.{Holds, holds, refused, bind_holds, weaken, if_holds, eat_holds, expect_holds, sees_of, declares_is, apart_holds, prototype_holds}
 use Rattle.parse_sound.proofs.Expressions.{ExprHolds, DeclaratorHolds, SpecsHold}

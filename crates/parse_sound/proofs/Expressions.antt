@@ -1,5 +1,5 @@
 -- What is read as an expression is spelled.
-use Rattle.std.proofs.Common.{◌≡◌, ℕ, zero, suc, ◌+◌, ◌==◌, ◌≤◌, Bool, true, false, not, nat_le, nat_lt, List, [], ◌∷◌, ◌++◌, Option, Some, None, if◌then◌else◌, refl, sym, ap, subst, ◌∙◌, append_assoc, append-nil, arith}
+use Rattle.std.proofs.Common.{◌≡◌, ℕ, zero, suc, ◌+◌, ◌==◌, ◌≤◌, Bool, true, false, not, nat_le, nat_lt, List, [], ◌∷◌, ◌++◌, Option, Some, None, refl, sym, ap, subst, ◌∙◌, append_assoc, append-nil, arith}
 use Rattle.std.proofs.lemmas.Bool.Decides.{nat_tests}
 use denote.Hole.Carrier.{hidden}
 use Rattle.c_lex.specs.declared.token.TokenKind.{TokenKind}
@@ -11,25 +11,23 @@ use Rattle.c_lex.specs.declared.token.Mark.TheVariants as m
 use Rattle.c_ast.specs.declared.declaration.Base.TheBlock.{hidden-the_row-Expr-3, hidden-the_row-Expr-6, hidden-the_row-TypeName-7}
 use Rattle.c_ast.specs.declared.declaration.Declarator.{Declarator}
 use Rattle.c_ast.specs.declared.declaration.Specs.{Specs}
-use Rattle.c_ast.specs.declared.declaration.TypeName.{TypeName}
 use Rattle.c_ast.specs.declared.expression.Expr.{Expr}
 use Rattle.c_ast.specs.declared.expression.ExprNode.{ExprNode}
 use Rattle.c_ast.specs.declared.expression.ExprNode.TheVariants as node
-use Rattle.c_ast.specs.declared.expression.PostOp.TheVariants as post-op
 use Rattle.c_ast.specs.declared.expression.UnaryOp.{UnaryOp}
 use Rattle.c_ast.specs.declared.expression.BinaryOp.{BinaryOp}
 use Rattle.c_ast.specs.declared.expression.AssignOp.{AssignOp}
 use Rattle.c_ast.specs.Input.{Input, kind, next, is_typedef}
 use Rattle.c_grammar.specs.Operators as op
 use Rattle.c_grammar.specs.Grammar.{Mode, Abstract, IsExpr, Arguments, Specifiers, BaseRule, DeclaratorOperand, DeclaratorRule, level as level_of_node}
-use Rattle.c_grammar.specs.Rules.{Rule, ◌⨾◌, Mark, MayStand, Identifier, Literals, Strings, is_qualified_word}
+use Rattle.c_grammar.specs.Rules.{◌⨾◌, Mark, MayStand, Identifier, Literals, Strings, is_qualified_word}
 use Rattle.parse_spec.specs.Operators.{unary_op, tight_of}
 use Rattle.parse_spec.specs.Places.{begins_type_after}
-use Rattle.parse_spec.specs.Steps.{Parser, ◌>>◌, pure, refuse, take_token, turns, mark_of, sees, identifier_by, identifier, is_string, strings_from, some_strings, strings}
+use Rattle.parse_spec.specs.Steps.{Parser, turns, mark_of, sees, identifier_by, identifier, is_string, strings_from, strings}
 use Rattle.parse_spec.specs.Expressions.{made, leaf, name_expr, string_expr, tight, begins_cast, binary_sign, assignment_sign, inside, primary_by, primary, arguments_from, argument_list, arguments, subscript, post_by, post, posts_from, posts, type_name, casted, size, alignment, chained, bracketed, operated, operated_by, prefix_by, prefix, choice, assigned_by, assigned, joined_by, joined, step, climb, climbed, operators, commas_from, commas, whole, level}
-use Rattle.parse_sound.proofs.Holding.{Holds, holds, refused, bind_holds, weaken, if_holds, eat_holds, expect_holds, sees_is, sees_of, of_mark}
-use Rattle.parse_sound.proofs.Operators.{unary_is, binary_is, assign_is, tight_binary_is, tight_assign_is, level_low, level_high, operand_low, operand_high}
-use Rattle.parse_sound.proofs.Rows.{Comma, Each, Between, Extends, longer, some_arguments, no_arguments, several, TypeNameRule, type_names}
+use Rattle.parse_sound.proofs.Holding.{Holds, holds, refused, bind_holds, weaken, if_holds, eat_holds, expect_holds, sees_of, of_mark}
+use Rattle.parse_sound.proofs.Operators.{unary_is, binary_is, assign_is, tight_binary_is, tight_assign_is, level_low, level_high, operand_high}
+use Rattle.parse_sound.proofs.Rows.{Comma, Each, Between, Extends, longer, some_arguments, no_arguments, several, TypeNameRule}
 
 -- ---- single tokens
 
@@ -274,9 +272,16 @@ module _ (expr : ℕ → Parser Expr) (declarator : Mode → Parser Declarator) 
       → Holds (Joins s i) (choice expr declarator specs s.at test (next i))
   unfolding choice hidden-the_row-Expr-3 hidden
   choice_holds s i test is l = bind_holds _ _ (ge 0 (omega arith) (next i)) (λ b j h. bind_holds _ _ (expect_holds m.Colon j) (λ _ x c.
-      bind_holds _ _ (ge 2 (omega arith) x) (λ e k g. holds (2, (omega (arith, tight_question i is),
-      ((0, (omega arith, (refl, (i, (l, (next i, ((is, refl), (j, (h.0, (x, (c, g.0))))))))))),
-      follows_of 2 2 k (g.1 (omega arith)) (omega arith) (λ low. low)))))))
+      bind_holds _ _ (ge 2 (omega arith) x) (λ e k g. holds (
+        2,
+        (
+          omega (arith, tight_question i is),
+          (
+            (0, (omega arith, (refl, (i, (l, (next i, ((is, refl), (j, (h.0, (x, (c, g.0))))))))))),
+            follows_of 2 2 k (g.1 (omega arith)) (omega arith) (λ low. low),
+          ),
+        ),
+      ))))
 
   assigned_by_holds : (s i : Input) (lone : Bool) (cur : ℕ) (left : Expr) (o : Option AssignOp) → (lone ≡ true → 14 ≤ cur) → IsExpr cur left s i
       → assignment_sign lone (mark_of (kind i)) ≡ o → Holds (Joins s i) (assigned_by expr declarator specs s.at left o i)
@@ -284,19 +289,47 @@ module _ (expr : ℕ → Parser Expr) (declarator : Mode → Parser Declarator) 
   assigned_by_holds s i lone cur left None only l e = refused
   assigned_by_holds s i lone cur left (Some o) only l e =
       let is = assign_is lone (mark_of (kind i)) o e in
-      bind_holds _ _ (ge 1 (omega arith) (next i)) (λ a j h. holds (1, (omega (arith, tight_assigned i o is.1),
-      ((0, (omega arith, (refl, (i, (looser 14 cur (only is.0) left s i l, (next i, ((of_mark (kind i) (op.assign_mark o) is.1, refl), h.0))))))),
-      follows_of 1 1 j (h.1 (omega arith)) (omega arith) (λ low. omega (arith, low))))))
+      bind_holds _ _ (ge 1 (omega arith) (next i)) (λ a j h. holds (
+        1,
+        (
+          omega (arith, tight_assigned i o is.1),
+          (
+            (0, (omega arith, (refl, (i, (looser 14 cur (only is.0) left s i l, (next i, ((of_mark (kind i) (op.assign_mark o) is.1, refl), h.0))))))),
+            follows_of 1 1 j (h.1 (omega arith)) (omega arith) (λ low. omega (arith, low)),
+          ),
+        ),
+      ))
 
   joined_by_holds : (s i : Input) (lone : Bool) (cur : ℕ) (left : Expr) (o : Option BinaryOp) → (lone ≡ true → 14 ≤ cur) → IsExpr cur left s i → Follows cur i
       → binary_sign (mark_of (kind i)) ≡ o → Holds (Joins s i) (joined_by expr declarator specs s.at lone left o i)
   unfolding assigned hidden-the_row-Expr-3 hidden
   joined_by_holds s i lone cur left None only l f e = assigned_by_holds s i lone cur left (assignment_sign lone (mark_of (kind i))) only l refl
   joined_by_holds s i lone cur left (Some o) only l f e =
-      bind_holds _ _ (ge (op.level_of o + 1) (omega (arith, level_high o)) (next i)) (λ a j h. holds (op.level_of o, (omega (arith, tight_sign i o e),
-      ((0, (omega arith, (refl, (i, (looser (op.level_of o) cur (f.binary o e) left s i l,
-      (next i, ((of_mark (kind i) (op.binary_mark o) (binary_is (mark_of (kind i)) o e), refl), h.0))))))),
-      follows_of (op.level_of o) (op.level_of o + 1) j (h.1 (omega arith)) (omega arith) (λ low. level_low o)))))
+      bind_holds _ _ (ge (op.level_of o + 1) (omega (arith, level_high o)) (next i)) (λ a j h. holds (
+        op.level_of o,
+        (
+          omega (arith, tight_sign i o e),
+          (
+            (
+              0,
+              (
+                omega arith,
+                (
+                  refl,
+                  (
+                    i,
+                    (
+                      looser (op.level_of o) cur (f.binary o e) left s i l,
+                      (next i, ((of_mark (kind i) (op.binary_mark o) (binary_is (mark_of (kind i)) o e), refl), h.0)),
+                    ),
+                  ),
+                ),
+              ),
+            ),
+            follows_of (op.level_of o) (op.level_of o + 1) j (h.1 (omega arith)) (omega arith) (λ low. level_low o),
+          ),
+        ),
+      ))
 
   step_holds : (s i : Input) (lone : Bool) (cur : ℕ) (left : Expr) → (lone ≡ true → 14 ≤ cur) → IsExpr cur left s i → Follows cur i
       → Holds (Joins s i) (step expr declarator specs s.at lone left i)

@@ -1,5 +1,5 @@
 -- What holds of an outcome, if there is one: how that follows from the parts of a parser.
-use Rattle.std.proofs.Common.{◌≡◌, ◌≢◌, ℕ, ◌==◌, Bool, true, false, if◌then◌else◌, length, take, drop, ◌++◌, Option, Some, None, refl, sym, ap, subst, append_assoc, rules, ◌∙◌}
+use Rattle.std.proofs.Common.{◌≡◌, ℕ, Bool, true, false, if◌then◌else◌, length, take, drop, ◌++◌, Option, Some, None, refl, ap, append_assoc, rules, ◌∙◌}
 use Rattle.std.proofs.Math.Seq.{take-append_seam}
 use denote.Enum.Bare.{same_true, true_same}
 use Rattle.c_lex.specs.declared.token.TokenKind.{TokenKind}
@@ -9,10 +9,10 @@ use Rattle.c_lex.specs.declared.token.Mark.{Mark as AMark}
 use Rattle.c_lex.specs.declared.token.Mark.TheVariants as m
 use Rattle.c_lex.specs.contracts.token.Mark.{the_type as mark_type}
 use Rattle.c_lex.specs.contracts.token.Word.{the_type as word_type}
-use Rattle.c_ast.specs.Input.{Input, kind, next, declared, back_to}
-use Rattle.c_grammar.specs.Rules.{Rule, ◌⨾◌, Mark, Word, Declares, Scoped, Prototype, Apart, InPrototype}
+use Rattle.c_ast.specs.Input.{Input, kind, next, back_to}
+use Rattle.c_grammar.specs.Rules.{Rule, ◌⨾◌, Mark, Word, Declares, Scoped, Prototype, Apart}
 use Rattle.parse_spec.specs.Scopes.{Adds, OnlyAdds}
-use Rattle.parse_spec.specs.Steps.{Outcome, Parser, and_then, same_mark, same_word, is_mark, is_word, sees, sees_word, after, after_word, expect, expect_word, mark_of, declare, declares, scoped, scoped_in, closed_to, in_prototype, with_parameters, without_prototype, prototype_back, with_prototype_of, apart, parameters_left, prototype_in, prototype}
+use Rattle.parse_spec.specs.Steps.{Outcome, Parser, and_then, same_mark, same_word, is_mark, is_word, sees, sees_word, after, after_word, expect, expect_word, mark_of, declare, scoped, scoped_in, closed_to, in_prototype, with_parameters, without_prototype, with_prototype_of, apart, prototype_in, prototype}
 
 -- this holds of what is read and of what is left then
 abbrev pub Held : {A : Type 0} → (A → Input → Type 0) → Outcome A → Type 0
@@ -71,7 +71,7 @@ unfolding sees_word same_word
 sees_word_of word i e = ap (is_word word) e ∙ true_same word_type word word refl
 
 pub of_mark : (k : Option TokenKind) (mark : AMark) → mark_of k ≡ Some mark → k ≡ Some (token.Punct mark)
-of_mark (Some (token.Punct found)) mark e = ap (λ x. elim x as (λ _. Option TokenKind) [ | None ↦ None | Some y ↦ Some (token.Punct y) ]) e
+of_mark (Some (token.Punct found)) mark e = ap (λ x. elim x as (λ _. Option TokenKind) [ None ↦ None | Some y ↦ Some (token.Punct y) ]) e
 of_mark _ mark e = absurd (cc)
 
 eat_case : {A : Type 0} {Q : A → Input → Type 0} (c : Bool) (p q : Parser A) (i : Input) → (c ≡ true → Holds Q (p (next i))) → (c ≡ false → Holds Q (q i))
@@ -124,13 +124,6 @@ pub closed_is : (s i : Input) → Adds s i → closed_to s i ≡ back_to s i
 unfolding back_to
 closed_is s i g = ap (λ n. record i { names = n }) (ap (take (length s.names)) g.names ∙ take-append_seam s.names g.more)
 
-adds_case : {A : Type 0} (p : Parser A) (i : Input) (o : Outcome A) → OnlyAdds p → p i ≡ o → Holds (λ a j. Adds i j) o
-adds_case p i None g e = refused
-adds_case p i (Some q) g e = holds (g.adds i q.1 q.0 e)
-
-pub adds_in : {A : Type 0} (p : Parser A) (i : Input) → OnlyAdds p → Holds (λ a j. Adds i j) (p i)
-adds_in p i g = adds_case p i (p i) g refl
-
 also_case : {A : Type 0} {Q : A → Input → Type 0} (p : Parser A) (i : Input) (o : Outcome A) → OnlyAdds p → p i ≡ o → Holds Q o
     → Holds (λ a j. Adds i j × Q a j) o
 also_case p i None g e h = refused
@@ -159,8 +152,14 @@ apart_holds R p i h = apart_out R i (p (without_prototype i)) h
 prototype_out : {A : Type 0} (own : Bool) (R : A → Rule) (i : Input) (o : Outcome A) → Holds (λ a j. Adds (without_prototype i) j × R a (without_prototype i) j) o
     → Holds (λ a j. Prototype own (R a) i j) (prototype_in own i o)
 prototype_out own R i None h = refused
-prototype_out own R i (Some q) h = holds (q.1, (h.held.1, ap (λ n. record q.1 { names = n; prototype = if own then drop (length i.names) q.1.names else i.prototype })
-    (ap (take (length i.names)) h.held.0.names ∙ take-append_seam i.names h.held.0.more)))
+prototype_out own R i (Some q) h = holds (
+  q.1,
+  (
+    h.held.1,
+    ap (λ n. record q.1 { names = n; prototype = if own then drop (length i.names) q.1.names else i.prototype })
+        (ap (take (length i.names)) h.held.0.names ∙ take-append_seam i.names h.held.0.more),
+  ),
+)
 
 pub prototype_holds : {A : Type 0} (own : Bool) (R : A → Rule) (p : Parser A) (i : Input) → OnlyAdds p
     → Holds (λ a j. R a (without_prototype i) j) (p (without_prototype i)) → Holds (λ a j. Prototype own (R a) i j) (prototype own p i)

@@ -1,21 +1,19 @@
 -- What is read as an initializer or a declaration is spelled.
-use Rattle.std.proofs.Common.{◌≡◌, ℕ, zero, suc, Bool, true, false, List, [], ◌∷◌, ◌++◌, Option, Some, None, if◌then◌else◌, refl, sym, ap, subst, inl, inr, arith}
+use Rattle.std.proofs.Common.{◌≡◌, ℕ, zero, suc, List, [], ◌∷◌, ◌++◌, Some, refl, sym, subst, inl, inr, arith}
 use denote.Hole.Carrier.{hidden}
 use Rattle.c_lex.specs.declared.token.TokenKind.TheVariants as token
 use Rattle.c_lex.specs.declared.token.Mark.TheVariants as m
 use Rattle.c_ast.specs.declared.declaration.Designator.{Designator}
-use Rattle.c_ast.specs.declared.declaration.Designator.TheVariants as designator
 use Rattle.c_ast.specs.declared.declaration.Init.{Init}
 use Rattle.c_ast.specs.declared.declaration.Init.TheBlock.{hidden-the_row-InitEntry-0}
 use Rattle.c_ast.specs.declared.declaration.Init.TheVariants as init
 use Rattle.c_ast.specs.declared.declaration.InitEntry.{InitEntry}
 use Rattle.c_ast.specs.Input.{Input, kind, next}
-use Rattle.c_grammar.specs.Operators as op
 use Rattle.c_grammar.specs.Grammar.{DesignatorRule, DesignatorList, Designation, InitRule}
 use Rattle.c_grammar.specs.Rules.{Rule, ◌⨾◌, Mark, MaybeMark}
 use Rattle.parse_spec.specs.Places.{opens_designator}
-use Rattle.parse_spec.specs.Steps.{Parser, pure, turns}
-use Rattle.parse_spec.specs.Initializers.{one_designator, designators_from, no_designators, designation, entry_of, entries_from, initializer_at, one_initializer, initializer}
+use Rattle.parse_spec.specs.Steps.{Parser, turns}
+use Rattle.parse_spec.specs.Initializers.{one_designator, designators_from, designation, entry_of, entries_from, initializer_at, one_initializer, initializer}
 use Rattle.parse_sound.proofs.Expressions.{identifier_holds}
 use Rattle.parse_sound.proofs.Holding.{Holds, holds, refused, bind_holds, weaken, if_holds, eat_holds, expect_holds}
 use Rattle.parse_sound.proofs.Nested.{expr_holds}

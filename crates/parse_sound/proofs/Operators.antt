@@ -1,5 +1,5 @@
 -- What the tables of operators say.
-use Rattle.std.proofs.Common.{◌≡◌, ℕ, ◌+◌, ◌≤◌, Bool, true, false, Option, Some, None, refl, sym, ap, ◌∙◌, arith}
+use Rattle.std.proofs.Common.{◌≡◌, ◌+◌, ◌≤◌, Bool, true, false, Option, Some, None, refl, sym, ap, ◌∙◌, arith}
 use Rattle.c_lex.specs.declared.token.Mark.{Mark as AMark}
 use Rattle.c_lex.specs.declared.token.Mark.TheVariants as m
 use Rattle.c_ast.specs.declared.expression.AssignOp.{AssignOp}
@@ -72,10 +72,6 @@ level_low _ = omega arith
 pub level_high : (o : BinaryOp) → op.level_of o ≤ 12
 level_high b.Or = omega arith
 level_high _ = omega arith
-
-pub operand_low : (o : UnaryOp) → 13 ≤ op.operand_level o
-operand_low u.Address = omega arith
-operand_low _ = omega arith
 
 pub operand_high : (o : UnaryOp) → op.operand_level o ≤ 14
 operand_high u.Address = omega arith

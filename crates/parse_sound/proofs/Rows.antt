@@ -1,12 +1,11 @@
 -- Lists of trees, and the rows of the grammar that stand for them.
-use Rattle.std.proofs.Common.{◌≡◌, ℕ, Bool, true, false, List, [], ◌∷◌, ◌++◌, Some, refl, subst, ◌∙◌, append_assoc}
+use Rattle.std.proofs.Common.{◌≡◌, Bool, true, false, List, [], ◌∷◌, ◌++◌, Some, refl, subst, ◌∙◌, append_assoc}
 use denote.Hole.Carrier.{hidden}
 use Rattle.c_lex.specs.declared.token.TokenKind.TheVariants as token
 use Rattle.c_lex.specs.declared.token.Mark.TheVariants as m
-use Rattle.c_ast.specs.declared.declaration.Base.TheBlock.{hidden-the_row-Declarator-2, hidden-the_row-Declarator-5, hidden-the_row-Enumerator-1, hidden-the_row-Expr-3, hidden-the_row-Expr-6, hidden-the_row-MemberEntry-0, hidden-the_row-Param-4, hidden-the_row-TypeName-7}
+use Rattle.c_ast.specs.declared.declaration.Base.TheBlock.{hidden-the_row-Declarator-5, hidden-the_row-Enumerator-1, hidden-the_row-Expr-6, hidden-the_row-MemberEntry-0, hidden-the_row-Param-4}
 use Rattle.c_ast.specs.declared.declaration.Declarator.{Declarator}
 use Rattle.c_ast.specs.declared.declaration.Enumerator.{Enumerator}
-use Rattle.c_ast.specs.declared.declaration.Init.{Init}
 use Rattle.c_ast.specs.declared.declaration.Init.TheBlock.{hidden-the_row-InitEntry-0}
 use Rattle.c_ast.specs.declared.declaration.InitEntry.{InitEntry}
 use Rattle.c_ast.specs.declared.declaration.MemberEntry.{MemberEntry}
@@ -18,7 +17,7 @@ use Rattle.c_ast.specs.declared.statement.Entry.TheBlock as s
 use Rattle.c_ast.specs.Input.{Input, kind, next}
 use Rattle.c_grammar.specs.Operators as op
 use Rattle.c_grammar.specs.Rules.{Rule, ◌⨾◌, Nothing, Never, Mark, Declares, is_declaration_word, is_qualified_word}
-use Rattle.c_grammar.specs.Grammar.{Named, Abstract, Either, IsExpr, Specifiers, BaseRule, DeclaratorOperand, DeclaratorRule, name_of, Arguments, Several, MoreExprs, Members, MoreMembers, MemberRule, MemberNames, MoreNames, Enumerators, MoreEnumerators, EnumeratorRule, Parameters, MoreParameters, TypeNames, Designation, InitRule, InitEntries, MoreInits, Entries, EntryRule}
+use Rattle.c_grammar.specs.Grammar.{Named, Abstract, Either, IsExpr, Specifiers, BaseRule, DeclaratorOperand, DeclaratorRule, name_of, Arguments, Several, MoreExprs, Members, MoreMembers, MemberRule, MemberNames, MoreNames, Enumerators, MoreEnumerators, EnumeratorRule, Parameters, MoreParameters, Designation, InitRule, InitEntries, MoreInits, Entries, EntryRule}
 
 -- each of them, with this before it
 abbrev pub Each : {A : Type 0} → Rule → (A → Rule) → List A → Rule
@@ -163,10 +162,6 @@ no_parameters i = refl
 abbrev pub TypeNameRule : TypeName → Rule
 TypeNameRule n = Specifiers is_qualified_word n.specs.base (BaseRule n.specs.base) n.specs.words
     ⨾ DeclaratorOperand Abstract 0 n.declarator (DeclaratorRule n.declarator Abstract)
-
-pub type_names : (n : TypeName) (i j : Input) → TypeNameRule n i j → TypeNames (hidden-the_row-TypeName-7 n) i j
-unfolding hidden-the_row-TypeName-7 hidden
-type_names n i j h = h
 
 -- ---- initializers
 

@@ -1,5 +1,5 @@
 -- What was kept of parameters before changes nothing of what tokens spell.
-use Rattle.std.proofs.Common.{◌≡◌, ℕ, zero, suc, Bool, true, false, List, [], ◌∷◌, ◌++◌, length, drop, Option, Some, None, if◌then◌else◌, refl, ap, inl, inr}
+use Rattle.std.proofs.Common.{◌≡◌, ℕ, zero, suc, Bool, true, false, List, [], ◌∷◌, ◌++◌, length, drop, Option, Some, None, if◌then◌else◌, ap, inl, inr}
 use Rattle.c_lex.specs.declared.token.TokenKind.{TokenKind}
 use Rattle.c_lex.specs.declared.token.TokenKind.TheVariants as token
 use Rattle.c_lex.specs.declared.token.Word.{Word as AWord}
@@ -15,8 +15,8 @@ use Rattle.c_ast.specs.declared.expression.ExprNode.{ExprNode}
 use Rattle.c_ast.specs.declared.expression.BinaryOp.{BinaryOp}
 use Rattle.c_ast.specs.Input.{Input, kind, next, is_typedef, declared}
 use Rattle.c_grammar.specs.Operators as op
-use Rattle.c_grammar.specs.Rules.{Rule, ◌⨾◌, Nothing, Never, Takes, Mark, Word, Numbered, Identifier, MaybeIdentifier, NameThat, NoTypedef, MaybeMark, Literals, Strings, Message, Within, From, MayStand, Operand, Declares, Prototype, Apart, Words, is_qualifier, is_qualified_word, has_type_word}
-use Rattle.c_grammar.specs.Grammar.{Mode, Named, Abstract, Either, HasName, NoParameters, WithinIn, StarMayStand, DeclaratorOperand, is_own_name, level, tag_word, Specifiers, Spells, Stands, StandsAbove, Arguments, Several, AnotherExpr, MoreExprs, TypeNames, BaseRule, TagMembers, Members, MoreMembers, MemberRule, MemberNames, MoreNames, TagEnumerators, Enumerators, MoreEnumerators, EnumeratorRule, ValueRule, DeclaratorRule, Declarators, SizeRule, Parameters}
+use Rattle.c_grammar.specs.Rules.{Rule, ◌⨾◌, Nothing, Never, Takes, Mark, Word, Numbered, Identifier, MaybeIdentifier, NameThat, NoTypedef, MaybeMark, Literals, Strings, Message, Within, From, Operand, Declares, Prototype, Apart, Words, is_qualifier, is_qualified_word, has_type_word}
+use Rattle.c_grammar.specs.Grammar.{Mode, Named, Abstract, Either, NoParameters, WithinIn, DeclaratorOperand, is_own_name, level, tag_word, Specifiers, Spells, Stands, StandsAbove, Arguments, Several, AnotherExpr, MoreExprs, TypeNames, BaseRule, TagMembers, Members, MoreMembers, MemberRule, MemberNames, MoreNames, TagEnumerators, Enumerators, MoreEnumerators, EnumeratorRule, ValueRule, DeclaratorRule, Declarators, SizeRule, Parameters}
 
 abbrev pub Kept : Type 0
 Kept = List (ℕ × Bool)

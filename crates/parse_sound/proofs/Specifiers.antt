@@ -1,29 +1,28 @@
 -- What is read as specifiers is spelled.
-use Rattle.std.proofs.Common.{◌≡◌, ℕ, zero, suc, ◌==◌, ◌≤◌, Bool, true, false, List, [], ◌∷◌, ◌++◌, Option, Some, None, if◌then◌else◌, refl, sym, ap, subst, ◌∙◌, append_assoc, append-nil, inl, inr, arith}
+use Rattle.std.proofs.Common.{◌≡◌, ℕ, zero, suc, ◌==◌, Bool, true, false, List, [], ◌∷◌, ◌++◌, Option, Some, None, refl, sym, ap, subst, ◌∙◌, append-nil, inl, inr, arith}
 use Rattle.std.proofs.lemmas.Bool.Decides.{nat_tests}
-use denote.Hole.Carrier.{hidden, roll}
+use denote.Hole.Carrier.{roll}
 use Rattle.c_lex.specs.declared.token.TokenKind.{TokenKind}
 use Rattle.c_lex.specs.declared.token.TokenKind.TheVariants as token
 use Rattle.c_lex.specs.declared.token.Word.{Word as AWord}
 use Rattle.c_lex.specs.declared.token.Word.TheVariants as w
 use Rattle.c_lex.specs.declared.token.Mark.TheVariants as m
 use Rattle.c_ast.specs.declared.declaration.Base.{Base}
-use Rattle.c_ast.specs.declared.declaration.Base.TheBlock.{Plain, Tagged', Enumerated', Typedef, hidden-the_row-Declarator-5, hidden-the_row-Enumerator-1, hidden-the_row-MemberEntry-0}
+use Rattle.c_ast.specs.declared.declaration.Base.TheBlock.{Plain, Tagged', Enumerated', Typedef, hidden-the_row-Declarator-5}
 use Rattle.c_ast.specs.declared.declaration.Base.TheVariants as base
 use Rattle.c_ast.specs.declared.declaration.Base.TheViews.{roll-Enumerator}
 use Rattle.c_ast.specs.declared.declaration.Declarator.{Declarator}
 use Rattle.c_ast.specs.declared.declaration.Enumerator.{Enumerator}
 use Rattle.c_ast.specs.declared.declaration.MemberEntry.{MemberEntry}
-use Rattle.c_ast.specs.declared.declaration.MemberEntry.TheVariants as member-entry
 use Rattle.c_ast.specs.declared.declaration.Specs.{Specs}
 use Rattle.c_ast.specs.declared.expression.Expr.{Expr}
 use Rattle.c_ast.specs.Input.{Input, kind, next, is_typedef, declared}
 use Rattle.c_grammar.specs.Operators as op
-use Rattle.c_grammar.specs.Grammar.{Mode, Named, IsExpr, Specifiers, BaseRule, DeclaratorOperand, DeclaratorRule, AssertionRule, MemberRule, MemberNames, EnumeratorRule, tag_word}
+use Rattle.c_grammar.specs.Grammar.{Mode, Named, IsExpr, Specifiers, BaseRule, AssertionRule, MemberRule, MemberNames, EnumeratorRule, tag_word}
 use Rattle.c_grammar.specs.Rules.{Rule, ◌⨾◌, Nothing, Mark, MaybeMark, Identifier, MaybeIdentifier, Message, Words, is_qualified_word, has_type_word}
-use Rattle.parse_spec.specs.Steps.{Parser, pure, turns, sees_word, allows, one_word, words_from, words, maybe_identifier_by, maybe_identifier}
-use Rattle.parse_spec.specs.Specifiers.{specs_of, message, assertion, names_from, member_names, one_member, members_from, tagged_by, tagged, enumerator_value, one_enumerator, enumerators_from, enumerated_by, enumerated, name_base, base_by, specifier_base, specifiers_behind, specifiers}
-use Rattle.parse_sound.proofs.Holding.{Holds, holds, refused, bind_holds, weaken, if_holds, eat_holds, eat_by_holds, expect_holds, expect_word_holds, sees_word_is}
+use Rattle.parse_spec.specs.Steps.{Parser, turns, sees_word, allows, one_word, words_from, words, maybe_identifier_by, maybe_identifier}
+use Rattle.parse_spec.specs.Specifiers.{message, assertion, names_from, member_names, one_member, members_from, tagged_by, tagged, enumerator_value, one_enumerator, enumerators_from, enumerated_by, enumerated, name_base, base_by, specifier_base, specifiers}
+use Rattle.parse_sound.proofs.Holding.{Holds, holds, refused, bind_holds, weaken, if_holds, eat_holds, eat_by_holds, expect_holds, expect_word_holds}
 use Rattle.parse_sound.proofs.Expressions.{ExprHolds, DeclaratorHolds, SpecsHold, identifier_holds, strings_holds}
 use Rattle.parse_sound.proofs.Rows.{Comma, Between, AtLeastOne, Extends, longer, longer_then, pushed, at_least_then, NamedRule, some_names, no_names, members, enumerators}
 

@@ -1,5 +1,5 @@
 -- What is read as a statement is spelled.
-use Rattle.std.proofs.Common.{◌≡◌, ◌≢◌, ℕ, zero, suc, Bool, true, false, not, ◌&&◌, List, [], ◌∷◌, ◌++◌, Option, Some, None, if◌then◌else◌, refl, sym, ap, subst, ◌∙◌, append-nil, arith}
+use Rattle.std.proofs.Common.{◌≡◌, ℕ, zero, suc, true, false, not, ◌&&◌, List, [], ◌∷◌, ◌++◌, Option, Some, None, refl, sym, subst, ◌∙◌, append-nil, arith}
 use denote.Hole.Carrier.{hidden}
 use Rattle.c_lex.specs.declared.token.TokenKind.{TokenKind}
 use Rattle.c_lex.specs.declared.token.TokenKind.TheVariants as token
@@ -9,9 +9,7 @@ use Rattle.c_lex.specs.declared.token.Mark.TheVariants as m
 use Rattle.c_ast.specs.declared.expression.Expr.{Expr}
 use Rattle.c_ast.specs.declared.statement.Entry.{Entry}
 use Rattle.c_ast.specs.declared.statement.Entry.TheBlock.{hidden-the_row-Entry-0, hidden-the_row-Stmt-1}
-use Rattle.c_ast.specs.declared.statement.Entry.TheVariants as entry
 use Rattle.c_ast.specs.declared.statement.ForInit.{ForInit}
-use Rattle.c_ast.specs.declared.statement.ForInit.TheVariants as for-init
 use Rattle.c_ast.specs.declared.statement.Stmt.{Stmt}
 use Rattle.c_ast.specs.declared.statement.Stmt.TheVariants as stmt
 use Rattle.c_ast.specs.Input.{Input, kind, next}
@@ -19,14 +17,14 @@ use Rattle.c_grammar.specs.Operators as op
 use Rattle.c_grammar.specs.Grammar.{IsExpr, MaybeExpr, InParentheses, ForStart, StmtRule, EntryRule}
 use Rattle.c_grammar.specs.Rules.{Rule, ◌⨾◌, Mark, Word, Identifier, NotNext, Scoped}
 use Rattle.parse_spec.specs.Places.{begins_declaration, is_label}
-use Rattle.parse_spec.specs.Steps.{Parser, ◌>>◌, pure, turns, take_token, sees_word, scoped}
+use Rattle.parse_spec.specs.Steps.{Parser, ◌>>◌, turns, take_token, sees_word, scoped}
 use Rattle.parse_spec.specs.Statements.{whole_expr, in_parentheses, maybe_expr, for_value, for_init, simple_stmt, plain_by, plain_stmt, case_value, else_part, if_stmt, switch_stmt, while_stmt, do_stmt, for_stmt, label_stmt, case_stmt, default_stmt, one_entry, entries_from, entries, block, unlabelled_by, one_stmt, statement, body}
 use Rattle.parse_spec.specs.Scopes.{OnlyAdds}
 use Rattle.parse_spec.proofs.Adding.{then_adds, take_adds}
 use Rattle.parse_spec.proofs.AddingUnits.{statement_adds}
 use Rattle.parse_sound.proofs.Declarations.{assertion_holds, declaration_holds}
 use Rattle.parse_sound.proofs.Expressions.{identifier_holds}
-use Rattle.parse_sound.proofs.Holding.{Holds, holds, refused, bind_holds, weaken, if_holds, eat_holds, eat_word_holds, expect_holds, expect_word_holds, sees_word_is, sees_word_of, scoped_holds, Braced, block_holds}
+use Rattle.parse_sound.proofs.Holding.{Holds, holds, refused, bind_holds, weaken, if_holds, eat_holds, eat_word_holds, expect_holds, expect_word_holds, sees_word_of, scoped_holds, Braced, block_holds}
 use Rattle.parse_sound.proofs.Nested.{expr_holds}
 use Rattle.parse_sound.proofs.Rows.{Every, Extends, every_then, entries as entries_row}
 use Rattle.parse_sound.proofs.StatementAdds.{if_stmt_adds, switch_stmt_adds, while_stmt_adds, do_stmt_adds, for_stmt_adds, entries_adds}
@@ -185,8 +183,13 @@ module _ (inner : Parser Stmt) (gi : StmtHolds inner) (only : OnlyAdds inner) wh
   unfolding for_stmt
   for_inside_holds i is = bind_holds _ _ (expect_holds m.OpenParen (next i)) (λ _ a h. bind_holds _ _ (for_init_holds a) (λ first b g.
       bind_holds _ _ (maybe_expr_holds m.Semicolon b) (λ test c l. bind_holds _ _ (maybe_expr_holds m.CloseParen c) (λ step d n.
-      bind_holds _ _ (sub_holds d) (λ body f o. holds ((first, (test, (step, body))), (refl,
-      (next i, ((is, refl), (a, (h, (b, (g, (l.0, (l.1.0, (c, (l.1.1, (n.0, (n.1.0, (d, (n.1.1, o)))))))))))))))))))))
+      bind_holds _ _ (sub_holds d) (λ body f o. holds (
+        (first, (test, (step, body))),
+        (
+          refl,
+          (next i, ((is, refl), (a, (h, (b, (g, (l.0, (l.1.0, (c, (l.1.1, (n.0, (n.1.0, (d, (n.1.1, o)))))))))))))),
+        ),
+      ))))))
 
   for_stmt_holds : (i : Input) → kind i ≡ Some (token.Keyword w.For) → Holds (λ a j. StmtRule a i j) (scoped (take_token >> for_stmt inner) i)
   unfolding hidden-the_row-Stmt-1 hidden

@@ -1,11 +1,10 @@
 -- What is read as a translation unit is spelled.
-use Rattle.std.proofs.Common.{◌≡◌, ℕ, zero, suc, Bool, true, List, [], ◌∷◌, ◌++◌, Option, Some, None, refl, sym, ap, subst, ◌∙◌, append-nil}
+use Rattle.std.proofs.Common.{◌≡◌, ℕ, zero, suc, Bool, true, List, [], ◌∷◌, ◌++◌, Option, Some, None, refl, sym, ap, subst, append-nil}
 use Rattle.c_lex.specs.TokenText.{TokenText}
 use Rattle.c_lex.specs.declared.token.TokenKind.{TokenKind}
 use Rattle.c_lex.specs.declared.token.TokenKind.TheVariants as token
 use Rattle.c_lex.specs.declared.token.Word.TheVariants as w
 use Rattle.c_lex.specs.declared.token.Mark.TheVariants as m
-use Rattle.c_ast.specs.declared.declaration.Base.{Base}
 use Rattle.c_ast.specs.declared.declaration.Declarator.{Declarator}
 use Rattle.c_ast.specs.declared.declaration.Designator.{Designator}
 use Rattle.c_ast.specs.declared.declaration.Designator.TheVariants.{Member, Element}
@@ -21,15 +20,15 @@ use Rattle.c_ast.specs.declared.statement.UnitEntry.TheVariants as unit
 use Rattle.c_ast.specs.Input.{Input, kind, next, start_of}
 use Rattle.c_grammar.specs.Operators as op
 use Rattle.c_grammar.specs.Grammar.{Named, IsExpr, Spells, BaseRule, DeclaratorRule, level, name_of, AssertionRule, DesignatorRule, DesignatorList, Designation, InitRule, InitEntries, MoreInits, MaybeInit, PartRule, MoreParts, Parts, DeclarationSpecifiers, EntryRule, Body, UnitEntryRule, UnitEntries, SpellsUnit}
-use Rattle.c_grammar.specs.Rules.{Rule, ◌⨾◌, Nothing, Mark, is_declaration_word, declares_typedef}
-use Rattle.parse_spec.specs.Steps.{Outcome, Parser, turns, sees_word, with_parameters, without_prototype}
+use Rattle.c_grammar.specs.Rules.{Rule, Mark, is_declaration_word, declares_typedef}
+use Rattle.parse_spec.specs.Steps.{Outcome, turns, sees_word, with_parameters, without_prototype}
 use Rattle.parse_spec.specs.Statements.{body}
-use Rattle.parse_spec.specs.Units.{function_body, declared_as, declared, unit_entry, unit_of, is_end, entries_from, whole_unit, read_of, tree_of}
+use Rattle.parse_spec.specs.Units.{function_body, declared_as, declared, unit_entry, is_end, entries_from, whole_unit, read_of, tree_of}
 use Rattle.parse_sound.specs.SoundLaws.{TreesSpell}
 use Rattle.parse_sound.proofs.Declarations.{assertion_holds, declaration_specs_hold, DeclaredRule, named_declarator_holds, PartsEnd, more_parts_hold}
 use Rattle.parse_sound.proofs.Holding.{Holds, holds, refused, bind_holds, weaken, if_holds, eat_holds, Braced, body_holds}
 use Rattle.parse_sound.proofs.Rows.{Every, Extends, pushed}
-use Rattle.parse_sound.proofs.Slides.{Kept, keeping, Slides, nothing_slides, never_slides, mark_slides, word_slides, numbered_slides, identifier_slides, maybe_mark_slides, message_slides, then_slides, operand_slides, declares_slides, declarator_operand_slides, specifiers_slide, spells_slides, base_slides, declarator_slides}
+use Rattle.parse_sound.proofs.Slides.{Kept, keeping, Slides, nothing_slides, never_slides, mark_slides, word_slides, identifier_slides, maybe_mark_slides, message_slides, then_slides, operand_slides, declares_slides, declarator_operand_slides, specifiers_slide, spells_slides, base_slides, declarator_slides}
 use Rattle.parse_sound.proofs.StatementAdds.{body_adds}
 use Rattle.parse_sound.proofs.Statements.{function_body_holds}
 
@@ -111,9 +110,40 @@ function_kept : (s : Specs) (d : Declarator) (all : List Entry) (i x y j : Input
     → DeclaredRule (declares_typedef s.words) d (without_prototype x) y → kind y ≡ Some (token.Punct m.OpenBrace)
     → Braced (Every EntryRule all) (with_parameters (next y)) (next y) j → AnyKept (unit.Function s d all) i j
 function_kept s d all i x y j h (z, (g, n)) is (v, ((u, (b, same)), c)) p =
-    let first = (declaration_specs_slide s).slides i x h p in
-    (j.prototype, (keeping x first.0, (first.1, (without_prototype x, (refl, (z, (g, (y, (n, (next y, ((is, refl),
-    (v, ((u, (body_of all (with_parameters (next y)) u b, same)), c)))))))))))))
+    let first = (declaration_specs_slide s).slides i x h p in (
+      j.prototype,
+      (
+        keeping x first.0,
+        (
+          first.1,
+          (
+            without_prototype x,
+            (
+              refl,
+              (
+                z,
+                (
+                  g,
+                  (
+                    y,
+                    (
+                      n,
+                      (
+                        next y,
+                        (
+                          (is, refl),
+                          (v, ((u, (body_of all (with_parameters (next y)) u b, same)), c)),
+                        ),
+                      ),
+                    ),
+                  ),
+                ),
+              ),
+            ),
+          ),
+        ),
+      ),
+    )
 
 -- the parameters that were kept are forgotten before the first declarator
 declaration_kept : (s : Specs) (all : List Part) (i x j : Input) → DeclarationSpecifiers s i x → PartsEnd (declares_typedef s.words) all (without_prototype x) j
