@@ -11,6 +11,6 @@ yes_branch expr = expr op.comma >>= followed m.Colon
 
 abbrev pub branches : (ℕ → Parser Expr) → Parser (Expr × Expr)
 branches expr = do
-  yes ← yes_branch expr
-  no ← expr op.conditional
-  pure (yes, no)
+  a ← yes_branch expr
+  b ← expr op.conditional
+  pure (a, b)

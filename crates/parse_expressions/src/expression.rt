@@ -316,7 +316,7 @@ impl<
     }
 
     /// A cast expression, and a unary expression where `least` asks for one.
-    #[tactic(auto, unfolding(parse_spec::specs::Expressions::prefix))]
+    #[tactic(auto, using(crate::proofs::Unary::unary_op_found), unfolding(parse_spec::specs::Expressions::prefix))]
     fn prefix(&self, tokens: &mut Cursor<'_>, least: u8) -> Result<Expr, Refusal>
         requires expr { NestsExpr self.now.depth (F.pre self.now.expr) (F.post self.now.expr) }
         requires declarator { NestsDeclarator self.now.depth (G.pre self.now.declarator) (G.post self.now.declarator) }
