@@ -315,8 +315,31 @@ impl<
         Ok(make::unary(self.alloc, at, op, operand)?)
     }
 
+    /// At this punctuator.
+    #[tactic(auto, using(crate::proofs::Unary::unary_op_found))]
+    fn marked(
+        &self,
+        tokens: &mut Cursor<'_>,
+        at: u32,
+        least: u8,
+        mark: Mark,
+    ) -> Result<Expr, Refusal>
+        requires expr { NestsExpr self.now.depth (F.pre self.now.expr) (F.post self.now.expr) }
+        requires declarator { NestsDeclarator self.now.depth (G.pre self.now.declarator) (G.post self.now.declarator) }
+        requires specs { NestsSpecs self.now.depth (H.pre self.now.specs) (H.post self.now.specs) }
+        ensures { Reads (spec.prefix_by (nested.expr self.now.depth) (nested.declarator self.now.depth) (nested.specs self.now.depth) at least (Some (token.Punct mark)) tokens.old) result tokens.new }
+    {
+        match mark {
+            Mark::OpenParen => self.bracketed(tokens, at, least),
+            _ => match unary_op(mark) {
+                Some(op) => self.operated(tokens, at, op),
+                None => Err(tokens.refuse()),
+            },
+        }
+    }
+
     /// A cast expression, and a unary expression where `least` asks for one.
-    #[tactic(auto, using(crate::proofs::Unary::unary_op_found), unfolding(parse_spec::specs::Expressions::prefix))]
+    #[tactic(auto, unfolding(parse_spec::specs::Expressions::prefix))]
     fn prefix(&self, tokens: &mut Cursor<'_>, least: u8) -> Result<Expr, Refusal>
         requires expr { NestsExpr self.now.depth (F.pre self.now.expr) (F.post self.now.expr) }
         requires declarator { NestsDeclarator self.now.depth (G.pre self.now.declarator) (G.post self.now.declarator) }
@@ -333,11 +356,7 @@ impl<
                 tokens.take();
                 self.alignment(tokens, at)
             }
-            Some(TokenKind::Punct(Mark::OpenParen)) => self.bracketed(tokens, at, least),
-            Some(TokenKind::Punct(mark)) => match unary_op(mark) {
-                Some(op) => self.operated(tokens, at, op),
-                None => Err(tokens.refuse()),
-            },
+            Some(TokenKind::Punct(mark)) => self.marked(tokens, at, least, mark),
             _ => self.chained(tokens, at),
         }
     }
