@@ -258,7 +258,7 @@ impl<
         requires specs { NestsSpecs self.now.depth (H.pre self.now.specs) (H.post self.now.specs) }
         ensures { Reads (spec.size (nested.expr self.now.depth) (nested.declarator self.now.depth) (nested.specs self.now.depth) at tokens.old) result tokens.new }
     {
-        if tokens.sees(Mark::OpenParen) && begins_type_after(tokens) {
+        if begins_cast(tokens) {
             let of = self.type_name(tokens)?;
             Ok(make::sizeof_type(self.alloc, at, of)?)
         } else {
@@ -387,6 +387,7 @@ impl<
         Ok(make::cond(self.alloc, at, test, yes, no)?)
     }
 
+    /// At an assignment operator, after a unary expression.
     fn assign_of(
         &self,
         tokens: &mut Cursor<'_>,
@@ -420,6 +421,7 @@ impl<
         }
     }
 
+    /// At a binary operator, whatever stands before it.
     fn binary_of(
         &self,
         tokens: &mut Cursor<'_>,
