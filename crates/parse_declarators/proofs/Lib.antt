@@ -1,2 +1,3 @@
+mod Enumerators
 pub mod Names
-pub mod Prototypes
+mod Prototypes
