@@ -1,10 +1,10 @@
 -- The name of an enumerator is a token, and so it comes into scope.
-use Rattle.std.proofs.Common.{◌≡◌, ℕ, ◌<◌, Bool, false, length, Option, Some, None, Ok, Err, sym, ap, subst, refl, ◌∙◌}
+use Rattle.std.proofs.Common.{◌≡◌, ℕ, ◌<◌, false, length, Option, Some, None, Ok, Err, sym, ap, subst, refl, ◌∙◌}
 use Rattle.std.specs.Prelude.{Result, nat_lt, OnOk}
 use Rattle.std.proofs.lemmas.Bool.{cond-true, lt-ltb}
 use Rattle.c_lex.specs.declared.token.TokenKind.TheVariants as token
 use Rattle.c_lex.specs.declared.token.Mark.TheVariants as m
-use Rattle.c_ast.specs.declared.declaration.Enumerator.{Enumerator, roll-Enumerator}
+use Rattle.c_ast.specs.declared.declaration.Enumerator.{roll-Enumerator}
 use Rattle.c_ast.specs.declared.expression.Expr.{Expr}
 use Rattle.c_ast.specs.Input.{Input, declared}
 use Rattle.c_ast.specs.Names.{IsName}

@@ -1,5 +1,5 @@
 -- The name of a declarator, and that it comes into scope.
-use Rattle.std.proofs.Common.{◌≡◌, ◌≢◌, ℕ, ◌<◌, Bool, false, List, length, Option, Some, None, Ok, Err, refl, sym, ap, subst, ◌∙◌}
+use Rattle.std.proofs.Common.{◌≡◌, ℕ, ◌<◌, Bool, false, List, length, Option, Some, None, Ok, Err, refl, sym, ap, subst, ◌∙◌}
 use Rattle.std.specs.Prelude.{Result, nat_lt, OnOk, IfErr}
 use Rattle.std.proofs.lemmas.Bool.{cond-true, lt-ltb}
 use denote.Hole.Carrier.{hidden}

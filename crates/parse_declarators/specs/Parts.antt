@@ -1,5 +1,5 @@
 -- Parts of the rules of declarators and specifiers.
-use Rattle.std.specs.Prelude.{ℕ, ◌==◌, Bool, false, if◌then◌else◌, List, ◌++◌, Option, Some}
+use Rattle.std.specs.Prelude.{ℕ, ◌==◌, Bool, false, if◌then◌else◌, List, ◌++◌, Some}
 use Rattle.c_lex.specs.declared.token.Word.{Word as AWord}
 use Rattle.c_lex.specs.declared.token.Word.TheVariants as w
 use Rattle.c_lex.specs.declared.token.Mark.TheVariants as m
