@@ -29,5 +29,5 @@ init_behind initializer n found = do
 pub entries_more : (initializer : Parser Init) (n : ℕ) (found : List InitEntry) (i : Input)
     → entries_from initializer (suc n) found i
     ≡ and_then (one_init_entry initializer i) (λ a. init_behind initializer n (found ++ a ∷ []))
-unfolding entries_from, one_init_entry
+unfolding entries_from one_init_entry
 entries_more initializer n found i = both_after (designation i) initializer entry_of (λ a. init_behind initializer n (found ++ a ∷ []))
