@@ -1,0 +1,9 @@
+pub mod Declarations
+pub mod Declarators
+pub mod Expressions
+pub mod Reading
+pub mod Specifiers
+pub mod Statements
+pub mod Tokens
+pub mod Units
+pub mod Within
