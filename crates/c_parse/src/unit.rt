@@ -1,10 +1,10 @@
 //! Translation units (6.9).
 
-ghost use Rattle.std.specs.Prelude.{◌≡◌, ◌≢◌, ◌<◌, ◌⊎◌, ℕ, Some, None, Err, [], IfOk, IfErr};
+ghost use Rattle.std.specs.Prelude.{◌≡◌, ◌≢◌, ◌<◌, ◌⊎◌, ℕ, Some, None, Err, [], IfOk, IfErr, OnOk};
 ghost use Rattle.c_ast.specs.Nest.{nest_of};
 ghost use Rattle.c_cursor.specs.Reads.{Reads};
 ghost use Rattle.parse_spec.specs.Declarations as declarations;
-ghost use Rattle.parse_spec.specs.Steps.{and_then, pure, turns};
+ghost use Rattle.parse_spec.specs.Steps.{and_then, pure, with_parameters};
 ghost use Rattle.parse_spec.specs.Units as spec;
 
 use crate::declaration::{assertion, declaration_specs, more_parts, named_declarator};
@@ -21,12 +21,23 @@ use ub_base::Items;
 /// How large `nest` may be.
 pub const NEST_LIMIT: u32 = 2000;
 
+/// Brings what the parameters declare into scope. It is refused only where memory ends.
+fn open_parameters(tokens: &mut Cursor<'_>) -> Result<(), Refusal>
+    ensures ok { OnOk result (tokens.new ≡ with_parameters tokens.old) }
+    ensures err { IfErr result (λ e. e ≡ Refusal.NoMemory) }
+{
+    match tokens.open_prototype() {
+        Ok(()) => Ok(()),
+        Err(_) => Err(Refusal::NoMemory),
+    }
+}
+
 /// A function's body, after the opening brace. What its parameters declare is in scope there (6.2.1p4).
 fn function_body(alloc: Global, tokens: &mut Cursor<'_>) -> Result<Items<Entry>, Refusal>
     ensures { Reads (spec.function_body tokens.old) result tokens.new }
 {
     let outer = tokens.open();
-    tokens.open_prototype()?;
+    open_parameters(tokens)?;
     let found = body(alloc, tokens);
     tokens.close(outer);
     found
