@@ -42,6 +42,7 @@ pub fn declaration_specs(alloc: Global, tokens: &mut Cursor<'_>) -> Result<Specs
 }
 
 /// A declarator with its name, which is in scope from its end on (6.2.1p7).
+#[tactic(auto, unfolding(parse_spec::specs::Declarations::named_declarator))]
 pub fn named_declarator(
     alloc: Global,
     tokens: &mut Cursor<'_>,

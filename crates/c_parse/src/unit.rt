@@ -1,10 +1,11 @@
 //! Translation units (6.9).
 
-ghost use Rattle.std.specs.Prelude.{◌≡◌, ◌≢◌, ◌<◌, ◌⊎◌, ℕ, Some, None, Err, [], IfOk, IfErr, OnOk};
+ghost use Rattle.std.specs.Prelude.{◌≡◌, ◌≢◌, ◌<◌, ◌⊎◌, ℕ, Some, None, Err, [], IfOk, IfErr};
 ghost use Rattle.c_ast.specs.Nest.{nest_of};
 ghost use Rattle.c_cursor.specs.Reads.{Reads};
+ghost use Rattle.c_parse.specs.Faults as faults;
 ghost use Rattle.parse_spec.specs.Declarations as declarations;
-ghost use Rattle.parse_spec.specs.Steps.{and_then, pure, with_parameters};
+ghost use Rattle.parse_spec.specs.Steps.{and_then, pure};
 ghost use Rattle.parse_spec.specs.Units as spec;
 
 use crate::declaration::{assertion, declaration_specs, more_parts, named_declarator};
@@ -21,13 +22,12 @@ use ub_base::Items;
 /// How large `nest` may be.
 pub const NEST_LIMIT: u32 = 2000;
 
-/// Brings what the parameters declare into scope. It is refused only where memory ends.
-fn open_parameters(tokens: &mut Cursor<'_>) -> Result<(), Refusal>
-    ensures ok { OnOk result (tokens.new ≡ with_parameters tokens.old) }
-    ensures err { IfErr result (λ e. e ≡ Refusal.NoMemory) }
+/// What is refused only where memory ends.
+fn in_memory<A: Drop>(found: Result<A, Refusal>) -> Result<A, Refusal>
+    ensures { result ≡ faults.in_memory found }
 {
-    match tokens.open_prototype() {
-        Ok(()) => Ok(()),
+    match found {
+        Ok(value) => Ok(value),
         Err(_) => Err(Refusal::NoMemory),
     }
 }
@@ -37,7 +37,7 @@ fn function_body(alloc: Global, tokens: &mut Cursor<'_>) -> Result<Items<Entry>,
     ensures { Reads (spec.function_body tokens.old) result tokens.new }
 {
     let outer = tokens.open();
-    open_parameters(tokens)?;
+    in_memory(tokens.open_prototype())?;
     let found = body(alloc, tokens);
     tokens.close(outer);
     found
@@ -145,8 +145,8 @@ fn tree(alloc: Global, tokens: &Tokens<'_>) -> Result<Unit, Refusal>
     ensures ok { IfOk result (λ u. spec.tree_of tokens.now ≡ Some u) }
     ensures err { IfErr result (λ e. e ≢ Refusal.NoMemory → spec.tree_of tokens.now ≡ None) }
 {
-    let spelled = spelled_by(alloc, tokens)?;
-    let mut cursor = Cursor::new(alloc, tokens, spelled)?;
+    let spelled = in_memory(spelled_by(alloc, tokens))?;
+    let mut cursor = in_memory(Cursor::new(alloc, tokens, spelled))?;
     unit(alloc, &mut cursor)
 }
 

@@ -14,9 +14,9 @@ returns-in-None c =
     let e = one_more (λ n. entries_from n c.loop-turn.found c.loop-turn.tokens) _ c.loop-turn._turn c.loop-turn-test.true c.loop-turn.invariant in
     first_of (search rules, grind (arith, common_steps))
 
-pub returns-in_err-found : goal.returns-in_err-found
+pub returns-in_err-found-in-Some : goal.returns-in_err-found-in-Some
 unfolding entries_from
-returns-in_err-found c =
+returns-in_err-found-in-Some c =
     let e = one_more (λ n. entries_from n c.loop-turn.found c.loop-turn.tokens) _ c.loop-turn._turn c.loop-turn-test.true c.loop-turn.invariant in
     first_of (search rules, grind (arith, common_steps))
 
