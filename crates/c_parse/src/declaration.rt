@@ -1,6 +1,6 @@
 //! Declarations (6.7).
 
-ghost use Rattle.std.specs.Prelude.{◌≡◌, ◌∷◌, []};
+ghost use Rattle.std.specs.Prelude.{◌∷◌, []};
 ghost use Rattle.c_cursor.specs.Reads.{Reads};
 ghost use Rattle.parse_spec.specs.Declarations as spec;
 ghost use Rattle.parse_spec.specs.Steps.{turns};

@@ -1,6 +1,6 @@
 //! Statements (6.8).
 
-ghost use Rattle.std.specs.Prelude.{◌≡◌, Some};
+ghost use Rattle.std.specs.Prelude.{◌≡◌};
 ghost use Rattle.c_ast.specs.Input.{kind, next};
 ghost use Rattle.c_cursor.specs.Reads.{Reads};
 ghost use Rattle.c_parse.specs.Parts.{held_by};

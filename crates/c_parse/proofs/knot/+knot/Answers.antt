@@ -1,4 +1,4 @@
-use Rattle.std.proofs.Common.{◌≡◌, ap, rules, arith}
+use Rattle.std.proofs.Common.{◌≡◌, ap, arith}
 use Rattle.c_cursor.proofs.Turns.{deeper}
 use Rattle.c_cursor.specs.Places.{mode_of, allowed_in}
 use Rattle.parse_spec.specs.Nested.{expr, declarator, specs}
