@@ -1,9 +1,10 @@
 //! Translation units (6.9).
 
 ghost use Rattle.std.specs.Prelude.{◌≡◌, ◌≢◌, ◌<◌, ◌⊎◌, ℕ, Some, None, Err, IfOk, IfErr};
+ghost use Rattle.c_ast.specs.Names.{Names};
 ghost use Rattle.c_ast.specs.Nest.{nest_of};
+ghost use Rattle.c_grammar.specs.Grammar.{SpellsUnit};
 ghost use Rattle.c_cursor.specs.Reads.{Reads};
-ghost use Rattle.c_parse.specs.Faults as faults;
 ghost use Rattle.parse_spec.specs.Declarations as declarations;
 ghost use Rattle.parse_spec.specs.Steps.{and_then, pure};
 ghost use Rattle.parse_spec.specs.Units as spec;
@@ -22,22 +23,12 @@ use ub_base::Items;
 /// How large `nest` may be.
 pub const NEST_LIMIT: u32 = 2000;
 
-/// What is refused only where memory ends.
-fn in_memory<A: Drop>(found: Result<A, Refusal>) -> Result<A, Refusal>
-    ensures { result ≡ faults.in_memory found }
-{
-    match found {
-        Ok(value) => Ok(value),
-        Err(_) => Err(Refusal::NoMemory),
-    }
-}
-
 /// A function's body, after the opening brace. What its parameters declare is in scope there (6.2.1p4).
 fn function_body(alloc: Global, tokens: &mut Cursor<'_>) -> Result<Items<Entry>, Refusal>
     ensures { Reads (spec.function_body tokens.old) result tokens.new }
 {
     let outer = tokens.open();
-    in_memory(tokens.open_prototype())?;
+    tokens.open_prototype()?;
     let found = body(alloc, tokens);
     tokens.close(outer);
     found
@@ -145,8 +136,8 @@ fn tree(alloc: Global, tokens: &Tokens<'_>) -> Result<Unit, Refusal>
     ensures ok { IfOk result (λ u. spec.tree_of tokens.now ≡ Some u) }
     ensures err { IfErr result (λ e. e ≢ Refusal.NoMemory → spec.tree_of tokens.now ≡ None) }
 {
-    let spelled = in_memory(spelled_by(alloc, tokens))?;
-    let mut cursor = in_memory(Cursor::new(alloc, tokens, spelled))?;
+    let spelled = spelled_by(alloc, tokens)?;
+    let mut cursor = Cursor::new(alloc, tokens, spelled)?;
     unit(alloc, &mut cursor)
 }
 
@@ -162,6 +153,10 @@ pub fn parse(alloc: Global, tokens: &Tokens<'_>) -> Result<Unit, ParseFault>
     ensures only { (count : ℕ) → result ≡ Err (ParseFault.TooDeep count) → (NEST_LIMIT < count) × (count ≡ nest_of tokens.now.list) }
     // The tree is that of the parser's function.
     ensures tree { IfOk result (λ u. spec.tree_of tokens.now ≡ Some u) }
+    // The tokens spell it, by the productions of Annex A.
+    ensures spells { IfOk result (λ u. SpellsUnit u tokens.now) }
+    // Each number in it that stands for a name, a literal or a keyword is that of such a token.
+    ensures names { IfOk result (λ u. Names tokens.now u) }
     // The syntax is refused just where the function has no tree.
     ensures refused { (at : ℕ) → result ≡ Err (ParseFault.Syntax at) → spec.tree_of tokens.now ≡ None }
 {

@@ -26,21 +26,3 @@ pub still_within : {A : Type 0} (p : Parser A) (o i j : Input) (r : Result A Ref
     → Reads (p i) r j → r ≡ Ok a → All (IsWithin o.tokens) kept → All (IsWithin j.tokens) kept
 still_within p o i j r a kept g none h is all =
     subst (λ t. All (IsWithin t) kept) (sym (tokens_stay p i j r a g h is ∙ ap (λ k. k.tokens) none)) all
-
--- ---- parameters only add declarations
-
-one_parameter_adds : (depth : ℕ) → OnlyAdds (one_parameter (expr depth) (declarator depth) (specs depth))
-unfolding one_parameter
-one_parameter_adds depth = bind_adds _ _ (specs_adds depth is_declaration_word) (λ s. bind_adds _ _ (declarator_adds depth Either) (λ p.
-    then_adds _ _ (declares_adds false (name_of p)) (pure_adds _)))
-
-parameters_from_adds : (depth n : ℕ) (found : List Param) → OnlyAdds (parameters_from (expr depth) (declarator depth) (specs depth) n found)
-unfolding parameters_from
-parameters_from_adds depth zero found = refuse_adds
-parameters_from_adds depth (suc n) found = bind_adds _ _ (one_parameter_adds depth) (λ p. bind_adds _ _ (eat_adds m.Comma) (λ more. if_adds more _ _
-    (bind_adds _ _ (eat_adds m.Ellipsis) (λ ellipsis. if_adds ellipsis _ _ (pure_adds (found ++ p ∷ [], true)) (parameters_from_adds depth n (found ++ p ∷ []))))
-    (pure_adds (found ++ p ∷ [], false))))
-
-pub parameters_adds : (depth : ℕ) → OnlyAdds (parameters (expr depth) (declarator depth) (specs depth))
-unfolding parameters
-parameters_adds depth = here_adds _ (λ i. if_adds (sees m.CloseParen i) _ _ (pure_adds no_parameters) (parameters_from_adds depth (turns i) []))

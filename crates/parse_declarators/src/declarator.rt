@@ -10,7 +10,6 @@ ghost use Rattle.c_cursor.specs.Places.{mode_of};
 ghost use Rattle.c_cursor.specs.Reads.{Reads};
 ghost use Rattle.parse_nodes.specs.Nests.{NestsExpr, NestsDeclarator, NestsSpecs};
 ghost use Rattle.parse_declarators.specs.Naming.{named_at};
-ghost use Rattle.parse_declarators.specs.Naming as naming;
 ghost use Rattle.parse_declarators.specs.Parts as parts;
 
 use crate::nested::Declarators;
@@ -46,18 +45,8 @@ pub fn declare_named(
     ensures err { IfErr result (λ e. e ≡ Refusal.NoMemory) }
 {
     match name_of(declarator) {
-        Some(at) => in_memory(tokens.declare(at, typedef)),
+        Some(at) => tokens.declare(at, typedef),
         None => Ok(()),
-    }
-}
-
-/// A name is refused only where memory ends.
-pub(crate) fn in_memory(declared: Result<(), Refusal>) -> Result<(), Refusal>
-    ensures { result ≡ naming.in_memory declared }
-{
-    match declared {
-        Ok(()) => Ok(()),
-        Err(_) => Err(Refusal::NoMemory),
     }
 }
 
@@ -203,7 +192,7 @@ impl<
         let outer = tokens.open();
         let saved = tokens.take_prototype(self.alloc);
         let found = self.parameters(tokens)?;
-        let left = in_memory(tokens.leave_prototype(self.alloc, outer, own, saved));
+        let left = tokens.leave_prototype(self.alloc, outer, own, saved);
         before(tokens, kept(found, left), Mark::CloseParen)
     }
 

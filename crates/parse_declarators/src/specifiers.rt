@@ -9,7 +9,6 @@ ghost use Rattle.c_cursor.specs.Reads.{Reads};
 ghost use Rattle.parse_nodes.specs.Nests.{NestsExpr, NestsDeclarator, NestsSpecs};
 ghost use Rattle.parse_declarators.specs.Parts as parts;
 
-use crate::declarator::in_memory;
 use crate::nested::Declarators;
 use c_ast::{Base, Declarator, Enumerator, Expr, MemberEntry, Specs};
 use c_cursor::operators::CONDITIONAL;
@@ -223,7 +222,7 @@ impl<
     {
         let name = identifier(tokens)?;
         let value = self.enumerator_value(tokens)?;
-        let value = kept(value, in_memory(tokens.declare(name, false)))?;
+        let value = kept(value, tokens.declare(name, false))?;
         Ok(Enumerator { name, value })
     }
 

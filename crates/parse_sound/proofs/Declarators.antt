@@ -18,7 +18,7 @@ use Rattle.parse_spec.specs.Scopes.{OnlyAdds}
 use Rattle.parse_spec.specs.Places.{opens_parameters, opens_by, opens_suffix}
 use Rattle.parse_spec.specs.Steps.{Parser, turns, sees, without_prototype}
 use Rattle.parse_spec.specs.Declarators.{is_own_name, nameless, named, one_parameter, parameters_from, parameters, array_suffix, function_suffix, one_suffix, suffixes_from, suffixes, nested, innermost_by, innermost, pointed, one_declarator}
-use Rattle.parse_sound.proofs.Adds.{parameters_adds}
+use Rattle.parse_spec.proofs.AddingRules.{parameters_adds}
 use Rattle.parse_sound.proofs.Holding.{Holds, holds, refused, bind_holds, weaken, if_holds, eat_holds, expect_holds, sees_of, declares_is, apart_holds, prototype_holds}
 use Rattle.parse_sound.proofs.Expressions.{ExprHolds, DeclaratorHolds, SpecsHold}
 use Rattle.parse_sound.proofs.Rows.{Comma, Between, Extends, longer_then, ParamRule, LastRule, some_parameters, no_parameters as no_parameter_row}
@@ -94,7 +94,7 @@ paren_is i opens none = ⊎_elim (λ is. absurd (let wrong : true ≡ false = sy
 
 module _ (expr : ℕ → Parser Expr) (declarator : Mode → Parser Declarator) (specs : (AWord → Bool) → Parser Specs)
     (ge : ExprHolds expr) (gd : DeclaratorHolds declarator) (gs : SpecsHold specs)
-    (only_d : (mode : Mode) → OnlyAdds (declarator mode)) (only_s : (allowed : AWord → Bool) → OnlyAdds (specs allowed)) where
+    (only_e : (least : ℕ) → OnlyAdds (expr least)) (only_d : (mode : Mode) → OnlyAdds (declarator mode)) (only_s : (allowed : AWord → Bool) → OnlyAdds (specs allowed)) where
   one_parameter_holds : (i : Input) → Holds (λ p j. ParamRule p i j) (one_parameter expr declarator specs i)
   unfolding one_parameter
   one_parameter_holds i = bind_holds _ _ (gs is_declaration_word i) (λ s j h. bind_holds _ _ (gd Either j) (λ p k g.
@@ -139,7 +139,7 @@ module _ (expr : ℕ → Parser Expr) (declarator : Mode → Parser Declarator) 
       → Holds (λ d j. DirectOf mode d s j) (function_suffix expr declarator specs inner (next i))
   unfolding function_suffix hidden-the_row-Declarator-2 hidden
   function_suffix_holds mode s i inner l is = bind_holds _ _
-      (prototype_holds (is_own_name inner) ParamsRule (parameters expr declarator specs) (next i) (parameters_adds expr declarator specs only_d only_s)
+      (prototype_holds (is_own_name inner) ParamsRule (parameters expr declarator specs) (next i) (parameters_adds expr declarator specs only_e only_d only_s)
       (parameters_hold (without_prototype (next i)))) (λ p j h. bind_holds _ _ (expect_holds m.CloseParen j) (λ _ k c.
       holds (0, (tt, (i, (l, (next i, ((is, refl), (j, (subst (λ own. Prototype own (ParamsRule p) (next i) j) (sym (own_same inner)) h, c))))))))))
 

@@ -1,4 +1,3 @@
-pub mod Adds
 pub mod Declarations
 pub mod Declarators
 pub mod Expressions
@@ -9,6 +8,5 @@ pub mod Operators
 pub mod Rows
 pub mod Slides
 pub mod Specifiers
-pub mod StatementAdds
 pub mod Statements
 pub mod Units

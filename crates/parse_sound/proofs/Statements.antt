@@ -21,13 +21,12 @@ use Rattle.parse_spec.specs.Steps.{Parser, ◌>>◌, turns, take_token, sees_wor
 use Rattle.parse_spec.specs.Statements.{whole_expr, in_parentheses, maybe_expr, for_value, for_init, simple_stmt, plain_by, plain_stmt, case_value, else_part, if_stmt, switch_stmt, while_stmt, do_stmt, for_stmt, label_stmt, case_stmt, default_stmt, one_entry, entries_from, entries, block, unlabelled_by, one_stmt, statement, body}
 use Rattle.parse_spec.specs.Scopes.{OnlyAdds}
 use Rattle.parse_spec.proofs.Adding.{then_adds, take_adds}
-use Rattle.parse_spec.proofs.AddingUnits.{statement_adds}
+use Rattle.parse_spec.proofs.AddingUnits.{if_stmt_adds, switch_stmt_adds, while_stmt_adds, do_stmt_adds, for_stmt_adds, entries_adds, statement_adds}
 use Rattle.parse_sound.proofs.Declarations.{assertion_holds, declaration_holds}
 use Rattle.parse_sound.proofs.Expressions.{identifier_holds}
 use Rattle.parse_sound.proofs.Holding.{Holds, holds, refused, bind_holds, weaken, if_holds, eat_holds, eat_word_holds, expect_holds, expect_word_holds, sees_word_of, scoped_holds, Braced, block_holds}
 use Rattle.parse_sound.proofs.Nested.{expr_holds}
 use Rattle.parse_sound.proofs.Rows.{Every, Extends, every_then, entries as entries_row}
-use Rattle.parse_sound.proofs.StatementAdds.{if_stmt_adds, switch_stmt_adds, while_stmt_adds, do_stmt_adds, for_stmt_adds, entries_adds}
 
 whole_expr_holds : (i : Input) → Holds (λ e j. IsExpr op.comma e i j) (whole_expr i)
 whole_expr_holds i = weaken _ (expr_holds (turns i) 0 (omega arith) i) (λ e j h. h.0)

@@ -29,7 +29,7 @@ use Rattle.parse_sound.proofs.Declarations.{assertion_holds, declaration_specs_h
 use Rattle.parse_sound.proofs.Holding.{Holds, holds, refused, bind_holds, weaken, if_holds, eat_holds, Braced, body_holds}
 use Rattle.parse_sound.proofs.Rows.{Every, Extends, pushed}
 use Rattle.parse_sound.proofs.Slides.{Kept, keeping, Slides, nothing_slides, never_slides, mark_slides, word_slides, identifier_slides, maybe_mark_slides, message_slides, then_slides, operand_slides, declares_slides, declarator_operand_slides, specifiers_slide, spells_slides, base_slides, declarator_slides}
-use Rattle.parse_sound.proofs.StatementAdds.{body_adds}
+use Rattle.parse_spec.proofs.AddingUnits.{body_adds}
 use Rattle.parse_sound.proofs.Statements.{function_body_holds}
 
 -- ---- initializers and declarations, whatever parameters were kept before
