@@ -1,5 +1,5 @@
 -- Operands one after another: what is made of those so far, and what is left, is what is made of all.
-use Rattle.std.proofs.Common.{◌≡◌, ℕ, ◌+◌, Bool, List, [], ◌∷◌, ◌++◌, length, map, Option, Some, None, refl, sym, ap, ◌∙◌, subst, arith}
+use Rattle.std.proofs.Common.{◌≡◌, ℕ, Bool, List, [], ◌∷◌, ◌++◌, length, map, Option, Some, None, refl, sym, ap, ◌∙◌, arith}
 use Rattle.c_types.specs.declared.tags.Tag.{Tag}
 use Rattle.c_types.specs.declared.ty.Ty.{Ty}
 use Rattle.c_types.specs.declared.ty.Qual.{Qual}
@@ -11,7 +11,7 @@ use Rattle.c_express.specs.declared.refused.Refused.TheVariants.{Constraint, NoM
 use Rattle.c_express.specs.Terms.{Term, Terms, none, more, term_of, terms_of, before, Expression, expression_of, Fails, ◌>>=◌}
 use Rattle.c_express.specs.Conversions.{discarded}
 use Rattle.c_express.specs.Calls.{argument, arguments, rest}
-use Rattle.c_express.specs.Choices.{Last, Sequence, alone, after, last, last_of, in_sequence, comma, sequenced, without_values}
+use Rattle.c_express.specs.Choices.{Last, Sequence, after, last, last_of, in_sequence, comma, sequenced, without_values}
 
 abbrev pub joined : List Typed → Option Terms → Option Terms
 joined [] x = x

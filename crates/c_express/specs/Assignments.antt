@@ -1,5 +1,5 @@
 -- Values as if assigned, assignments, increments and decrements (6.5.16, 6.5.2.4, 6.5.3.1), and the default argument promotions.
-use Rattle.std.specs.Prelude.{◌≡◌, ℕ, Bool, true, false, not, ◌&&◌, ◌||◌, if◌then◌else◌, pos, List, Option, Some, None}
+use Rattle.std.specs.Prelude.{ℕ, Bool, true, false, not, ◌&&◌, ◌||◌, if◌then◌else◌, pos, List, Option, Some, None}
 use Rattle.c_types.specs.declared.kind.IntKind.{IntKind}
 use Rattle.c_types.specs.declared.kind.IntKind.TheVariants.{Bool as Boolean, Int}
 use Rattle.c_types.specs.declared.kind.BinOp.{BinOp}
@@ -17,7 +17,7 @@ use Rattle.c_express.specs.declared.operand.Form.{Form}
 use Rattle.c_express.specs.declared.operand.Form.TheVariants as form
 use Rattle.c_express.specs.Same.{same, compatible}
 use Rattle.c_express.specs.Terms.{Term, term_of, type_at, line_at, constant, unary, binary, Expression, as_value, ◌>>=◌, unless_refused}
-use Rattle.c_express.specs.Conversions.{target_of, is_pointer, is_scalar, may_meet, value, access_of, to_kind, promoted, usual, usual_kind, converted}
+use Rattle.c_express.specs.Conversions.{target_of, is_pointer, is_scalar, may_meet, value, access_of, to_kind, promoted, usual, converted}
 use Rattle.c_express.specs.Constants.{is_null, null_pointer}
 use Rattle.c_express.specs.Operators.{step}
 

@@ -1,10 +1,10 @@
 -- Function calls (6.5.2.2).
-use Rattle.std.specs.Prelude.{◌≡◌, ℕ, Bool, true, false, List, [], ◌∷◌, Option, Some, None, is_some}
+use Rattle.std.specs.Prelude.{ℕ, Bool, true, false, List, [], ◌∷◌, Option, Some, None, is_some}
 use Rattle.c_types.specs.declared.tags.Tag.{Tag}
 use Rattle.c_types.specs.Layout.{extent, extents}
 use Rattle.c_types.specs.Types.{CType, void, array, function, Params, none as no_parameter, more as parameter, Signature}
 use Rattle.c_typed.specs.declared.tree.Node.TheOpen as shape
-use Rattle.c_express.specs.Terms.{Term, Terms, term, none, more, type_at, before, Expression, as_value, ◌>>=◌, unless_refused}
+use Rattle.c_express.specs.Terms.{Term, Terms, term, none, type_at, before, Expression, as_value, ◌>>=◌, unless_refused}
 use Rattle.c_express.specs.Conversions.{target_of, value}
 use Rattle.c_express.specs.Assignments.{as_if_assigned, default_promoted}
 

@@ -1,5 +1,5 @@
 -- Members of structures and unions (6.5.2.3).
-use Rattle.std.specs.Prelude.{◌≡◌, ℕ, Bool, false, ◌||◌, List, Option, Some, None}
+use Rattle.std.specs.Prelude.{ℕ, Bool, false, ◌||◌, List, Option, Some, None}
 use Rattle.c_types.specs.declared.tags.Tag.{Tag}
 use Rattle.c_types.specs.Types.{CType, pointer, array, struct, union, Qualified, type_of, qualified_of}
 use Rattle.c_typed.specs.declared.tree.Access.{Access}

@@ -1,5 +1,5 @@
 -- The operators of 6.5.3 to 6.5.14: the node that each makes of its operands, or that a constraint forbids it.
-use Rattle.std.specs.Prelude.{◌≡◌, ℕ, Bool, true, false, not, ◌&&◌, ◌||◌, if◌then◌else◌, List, Option, Some, None}
+use Rattle.std.specs.Prelude.{ℕ, Bool, true, false, not, ◌&&◌, ◌||◌, if◌then◌else◌, List, Option, Some, None}
 use Rattle.c_types.specs.declared.kind.IntKind.{IntKind}
 use Rattle.c_types.specs.declared.kind.IntKind.TheVariants.{Int, Long}
 use Rattle.c_types.specs.declared.kind.BinOp.{BinOp}

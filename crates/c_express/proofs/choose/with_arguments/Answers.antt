@@ -1,5 +1,4 @@
-use Rattle.std.proofs.Common.{◌≡◌, ◌∷◌, length, map, sym, ap, ◌∙◌, arith, rules}
-use Rattle.std.specs.Vec.Iter.{into_iter_items}
+use Rattle.std.proofs.Common.{length, map, sym, ap, ◌∙◌, arith, rules}
 use Rattle.c_types.specs.Types.{params_of, qualified_of}
 use Rattle.c_express.specs.Terms.{term_of, expression_of}
 use Rattle.c_express.specs.Calls.{operands}

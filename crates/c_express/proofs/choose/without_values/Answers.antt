@@ -1,5 +1,4 @@
-use Rattle.std.proofs.Common.{◌≡◌, ◌∷◌, length, map, sym, ap, ◌∙◌, arith, rules}
-use Rattle.std.specs.Vec.Iter.{into_iter_items}
+use Rattle.std.proofs.Common.{length, map, sym, ap, ◌∙◌, arith, rules}
 use Rattle.c_express.specs.Terms.{expression_of}
 use Rattle.c_express.specs.Choices.{without_values}
 use Rattle.c_express.proofs.Lists.{begun, value_dropped, drop_refused, values_dropped}
