@@ -1,0 +1,8 @@
+//! Whether a full expression of a typed program is lawful, so that all that runs may rely on it.
+#![tactic(auto)]
+
+mod expression;
+mod place;
+
+pub use expression::is_lawful_expression;
+pub use place::{Around, Purpose};
