@@ -3,6 +3,8 @@
 
 mod expression;
 mod place;
+mod same;
 
 pub use expression::is_lawful_expression;
 pub use place::{Around, Purpose};
+pub use same::{same_signature, same_type};
