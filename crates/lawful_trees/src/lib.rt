@@ -2,9 +2,13 @@
 #![tactic(auto)]
 
 mod expression;
+mod names;
+mod node_types;
 mod place;
 mod same;
+mod types;
 
 pub use expression::is_lawful_expression;
 pub use place::{Around, Purpose};
 pub use same::{same_signature, same_type};
+pub use types::is_sized;
