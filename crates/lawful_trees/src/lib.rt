@@ -2,8 +2,11 @@
 #![tactic(auto)]
 
 mod expression;
+mod lists;
 mod names;
 mod node_types;
+mod nodes;
+mod parts;
 mod place;
 mod same;
 mod types;
