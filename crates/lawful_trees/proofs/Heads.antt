@@ -6,7 +6,7 @@ use Rattle.c_typed.specs.declared.tree.Access.{Access}
 use Rattle.c_typed.specs.declared.tree.Change.{Change}
 use Rattle.c_typed.specs.declared.tree.Slot.{Slot}
 use Rattle.c_typed.specs.declared.program.Constant.{Constant}
-use Rattle.c_typed.specs.declared.tree.Node.{Node, fold-Node, fold-roll-Node}
+use Rattle.c_typed.specs.declared.tree.Node.{Node, fold-roll-Node}
 use Rattle.c_typed.specs.declared.tree.Node.TheOpen as shape
 use Rattle.c_typed.specs.declared.tree.Node.TheVariants as nodes
 use Rattle.c_typed.specs.Sites.{Head, Seen, SeenNode, seen_node, seen_tree}

@@ -98,9 +98,10 @@ pub fn is_lawful_tree(program: &Program, around: &[Around<'_>], tree: &Typed) ->
     ensures { IsTrue result → All (SiteIsLawful program.now (blocks_of no_block around.now)) (sites tree.now) }
 {
     let operands = tree.children.as_slice();
-    is_lawful_node(program, around, &tree.node, &tree.ty, operands)
-        && is_lawful_inside(program, around, &tree.node)
-        && are_lawful(program, around, operands)
+    if !is_lawful_node(program, around, &tree.node, &tree.ty, operands) {
+        return false;
+    }
+    is_lawful_inside(program, around, &tree.node) && are_lawful(program, around, operands)
 }
 
 // The same of the listed expression that a node holds.

@@ -1,4 +1,4 @@
-use Rattle.std.proofs.Common.{drop, arith}
+use Rattle.std.proofs.Common.{arith}
 use Rattle.c_typed.specs.Lawful.{Apart}
 use Rattle.lawful_trees.proofs.Steps.{All-drop_one}
 use Rattle.lawful_trees.proofs.parts.apart_from.Goals as goal
