@@ -12,6 +12,7 @@ mod same;
 mod types;
 
 pub use expression::is_lawful_expression;
+pub use parts::parts_fit;
 pub use place::{Around, Purpose};
 pub use same::{same_signature, same_type};
 pub use types::is_sized;

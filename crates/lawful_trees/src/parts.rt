@@ -1,7 +1,8 @@
 // The parts of an object: inside it, and none over another (6.7.9).
-ghost use Rattle.std.specs.Prelude.{◌≡◌, ◌≤◌, IsTrue};
+ghost use Rattle.std.specs.Prelude.{◌≡◌, ◌≤◌, ◌++◌, [], IsTrue, MatchOption, length};
 ghost use Rattle.std.specs.List.{All, AllPairs};
 ghost use Rattle.c_typed.specs.Lawful.{length_of, end_of, Apart, PartsFit};
+ghost use Rattle.lawful_trees.specs.Merged.{IsPicked};
 
 use c_typed::{Constant, Content};
 
@@ -24,16 +25,67 @@ fn ends_by(part: &Constant, offset: u64) -> bool
     length <= offset && part.at <= offset - length
 }
 
-// Whether each part begins where those before it end, or behind, and all end by the size.
-fn in_order(size: u64, parts: &[Constant]) -> bool
-    ensures { IsTrue result → PartsFit size parts.now }
+// How many parts stand in the order of their offsets, from the first on.
+fn run_length(parts: &[Constant]) -> usize
+    ensures { result ≤ length parts.now }
 {
+    let mut last = 0;
+    for (i, part) in parts.iter().enumerate() {
+        if part.at < last {
+            return i;
+        }
+        last = part.at;
+    }
+    parts.len()
+}
+
+// A part, and what is left of the two lists that it was taken from.
+#[derive(Clone, Copy)]
+struct Picked<'a> {
+    part: &'a Constant,
+    first: &'a [Constant],
+    second: &'a [Constant],
+}
+
+// The part at the head of two lists that begins first.
+fn first_of<'a>(first: &'a [Constant], second: &'a [Constant]) -> Option<Picked<'a>>
+    ensures { MatchOption result (first.now ++ second.now ≡ []) (λ p. IsPicked first.now second.now p) }
+{
+    let Some((a, rest)) = first.split_first() else {
+        let (part, second) = second.split_first()?;
+        return Some(Picked {
+            part,
+            first,
+            second,
+        });
+    };
+    match second.split_first() {
+        Some((part, second)) if part.at < a.at => Some(Picked {
+            part,
+            first,
+            second,
+        }),
+        _ => Some(Picked {
+            part: a,
+            first: rest,
+            second,
+        }),
+    }
+}
+
+// Whether two lists in the order of their offsets, taken together, have none of their parts over another.
+fn merge(size: u64, first: &[Constant], second: &[Constant]) -> bool
+    ensures { IsTrue result → PartsFit size (first.now ++ second.now) }
+{
+    let (mut left, mut right) = (first, second);
     let mut reached = 0;
-    for part in parts {
-        if part.at < reached || !ends_by(part, size) {
+    while let Some(next) = first_of(left, right) {
+        if next.part.at < reached || !ends_by(next.part, size) {
             return false;
         }
-        reached = part.at + length_of(&part.content);
+        reached = next.part.at + length_of(&next.part.content);
+        left = next.first;
+        right = next.second;
     }
     true
 }
@@ -79,9 +131,11 @@ fn all_apart(parts: &[Constant]) -> bool
     true
 }
 
-/// Whether the parts lie in an object of so many bytes, and none over another.
+/// Whether the parts lie in an object of so many bytes, and none over another. Two lists that are each in order, one behind the
+/// other, as strings and the zeros round them are, take one pass.
 pub fn parts_fit(size: u64, parts: &[Constant]) -> bool
     ensures { IsTrue result → PartsFit size parts.now }
 {
-    in_order(size, parts) || (all_inside(size, parts) && all_apart(parts))
+    let (first, second) = parts.split_at(run_length(parts));
+    merge(size, first, second) || (all_inside(size, parts) && all_apart(parts))
 }
