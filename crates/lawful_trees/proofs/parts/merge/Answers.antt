@@ -1,4 +1,4 @@
-use Rattle.std.proofs.Common.{◌≡◌, ℕ, ◌+◌, ◌++◌, sym, ap, subst, arith}
+use Rattle.std.proofs.Common.{◌≡◌, ℕ, ◌+◌, ◌++◌, ap, subst}
 use Rattle.c_typed.specs.Lawful.{end_of}
 use Rattle.lawful_trees.proofs.Merging.{Lies, Lies-nil, Lies-picked, PartsFit-from}
 use Rattle.lawful_trees.proofs.parts.merge.Goals as goal
