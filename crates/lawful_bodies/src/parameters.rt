@@ -1,0 +1,1 @@
+// The parameters at the head of a body block (6.9.1).
