@@ -6,7 +6,10 @@ use std::alloc::{AllocError, Global};
 use std::collections::BTreeSet;
 
 /// Whether no element stands twice in the list.
-pub(crate) fn are_distinct<K: Ord + Copy + Drop>(alloc: Global, items: &[K]) -> Result<bool, AllocError>
+pub(crate) fn are_distinct<K: Ord + Copy + Drop>(
+    alloc: Global,
+    items: &[K],
+) -> Result<bool, AllocError>
     ensures { IfOk result (λ b. IsTrue b → AllPairs ◌≢◌ items.now) }
 {
     let mut seen = BTreeSet::new(alloc);

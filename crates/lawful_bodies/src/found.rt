@@ -46,11 +46,17 @@ fn is_sized(tags: &Tags, ty: &Ty) -> bool
     }
 }
 
+fn is_sized_object(tags: &Tags, object: &Qual) -> bool
+    ensures { IsTrue result → IsSized tags.now (qualified_of object.now).ty }
+{
+    is_sized(tags, &object.ty)
+}
+
 fn are_sized(tags: &Tags, objects: &[Qual]) -> bool
     ensures { IsTrue result → All (λ q. IsSized tags.now q.ty) (map qualified_of objects.now) }
 {
     for object in objects {
-        if !is_sized(tags, &object.ty) {
+        if !is_sized_object(tags, object) {
             return false;
         }
     }

@@ -60,12 +60,7 @@ pub(crate) fn statement(
 }
 
 #[cycle(statement)]
-fn switch(
-    tags: &Tags,
-    found: &mut Found,
-    body: &Body,
-    inside: Inside,
-) -> Result<(), Stop>
+fn switch(tags: &Tags, found: &mut Found, body: &Body, inside: Inside) -> Result<(), Stop>
     ensures { OnOk result (Follows tags.now inside found.old (switched (summary body.now)) found.new) }
 {
     let outer = begin_switch(found);
@@ -78,12 +73,7 @@ fn switch(
 }
 
 #[cycle(statement)]
-fn loop_start(
-    tags: &Tags,
-    found: &mut Found,
-    start: &ForStart,
-    inside: Inside,
-) -> Result<(), Stop>
+fn loop_start(tags: &Tags, found: &mut Found, start: &ForStart, inside: Inside) -> Result<(), Stop>
     ensures { OnOk result (Follows tags.now inside found.old (start_found start.now) found.new) }
 {
     match start {
@@ -93,17 +83,13 @@ fn loop_start(
 }
 
 #[cycle(statement)]
-fn block_items(
-    tags: &Tags,
-    found: &mut Found,
-    block: &Block,
-    inside: Inside,
-) -> Result<(), Stop>
+fn block_items(tags: &Tags, found: &mut Found, block: &Block, inside: Inside) -> Result<(), Stop>
     ensures { OnOk result (Follows tags.now inside found.old (block_found block.now) found.new) }
 {
     begin_block(found, tags, block.number, block.objects.as_slice())?;
+    let objects = block.objects.len();
     for entry in block.entries.as_slice() {
-        block_item(tags, found, entry, block.objects.len(), inside)?;
+        block_item(tags, found, entry, objects, inside)?;
     }
     Ok(())
 }

@@ -1,0 +1,77 @@
+-- How what one part of a function's statements adds is joined to what the next one adds.
+use Rattle.std.proofs.Common.{◌≡◌, ◌≢◌, ℕ, ◌+◌, ◌<◌, ◌≤◌, Bool, true, false, List, [], ◌∷◌, ◌++◌, length, Result, Ok, Err, refl, sym, ap, ◌∙◌, subst, arith, append_assoc, length-append}
+use Rattle.std.specs.List.{All, AllPairs}
+use Rattle.std.specs.Result.{OnOk}
+use Rattle.std.proofs.lemmas.List.Elements.{All-append}
+use Rattle.c_types.specs.declared.tags.Tag.{Tag}
+use Rattle.c_typed.specs.Sites.{Summary, BlockRow, and, looped}
+use Rattle.c_typed.specs.Lawful.{NumberedFrom, BlockIsLawful, SwitchIsLawful}
+use Rattle.lawful_bodies.specs.declared.found.Found.{Found}
+use Rattle.lawful_bodies.specs.declared.found.Inside.{Inside}
+use Rattle.lawful_bodies.specs.Statements.{Follows, count_of}
+
+numbered_append : (n : ℕ) (xs ys : List BlockRow) → NumberedFrom n xs → NumberedFrom (n + length xs) ys → NumberedFrom n (xs ++ ys)
+numbered_append n [] ys p q =
+    let e : n + 0 ≡ n = omega arith in
+    subst (λ (k : ℕ). NumberedFrom k ys) e q
+numbered_append n (x ∷ xs) ys p q =
+    let e : n + length (x ∷ xs) ≡ (1 + n) + length xs = omega arith in
+    (p.0, numbered_append (1 + n) xs ys p.1 (subst (λ (k : ℕ). NumberedFrom k ys) e q))
+
+joined : {X : Type 0} (a b c s u : List X) → b ≡ a ++ s → c ≡ b ++ u → c ≡ a ++ (s ++ u)
+joined a b c s u p q = q ∙ (ap (λ (z : List _). z ++ u) p ∙ append_assoc a s u)
+
+added : (a b c s u : ℕ) → b ≡ a + s → c ≡ b + u → c ≡ a + (s + u)
+added a b c s u p q = omega arith
+
+none_of_both : (s u : ℕ) → s ≡ 0 → u ≡ 0 → s + u ≡ 0
+none_of_both s u p q = omega arith
+
+-- one part, and the next
+pub compose : (tags : List Tag) (inside : Inside) (a b c : Found) (s u : Summary) → Follows tags inside a s b → Follows tags inside b u c → Follows tags inside a (and s u) c
+compose tags inside a b c s u p q = record {
+  numbered = numbered_append a.next s.blocks u.blocks p.numbered (subst (λ (k : ℕ). NumberedFrom k u.blocks) p.next q.numbered);
+  next = added a.next b.next c.next (length s.blocks) (length u.blocks) p.next q.next ∙ ap (λ (k : ℕ). a.next + k) (sym (length-append s.blocks u.blocks));
+  blocks = All-append (BlockIsLawful tags) s.blocks u.blocks p.blocks q.blocks;
+  switches = All-append SwitchIsLawful s.switches u.switches p.switches q.switches;
+  labels = joined a.labels b.labels c.labels s.labels u.labels p.labels q.labels;
+  jumps = joined a.jumps b.jumps c.jumps s.jumps u.jumps p.jumps q.jumps;
+  cases = joined a.cases b.cases c.cases s.cases u.cases p.cases q.cases;
+  defaults = added (count_of a.has_default) (count_of b.has_default) (count_of c.has_default) s.defaults u.defaults p.defaults q.defaults;
+  breaks = λ e. none_of_both s.breaks u.breaks (p.breaks e) (q.breaks e);
+  continues = λ e. none_of_both s.continues u.continues (p.continues e) (q.continues e);
+}
+
+-- a loop takes the jumps out of its body
+pub loop : (tags : List Tag) (inside within : Inside) (a b : Found) (s : Summary) → Follows tags within a s b → Follows tags inside a (looped s) b
+loop tags inside within a b s p = record {
+  numbered = p.numbered;
+  next = p.next;
+  blocks = p.blocks;
+  switches = p.switches;
+  labels = p.labels;
+  jumps = p.jumps;
+  cases = p.cases;
+  defaults = p.defaults;
+  breaks = λ _. refl;
+  continues = λ _. refl;
+}
+
+behind : {X : Type 0} (a b : List X) (x : X) (s : List X) → b ≡ (a ++ x ∷ []) ++ s → b ≡ a ++ (x ∷ s)
+behind a b x s p = p ∙ append_assoc a (x ∷ []) s
+
+pub labelled : (tags : List Tag) (inside : Inside) (a m b : Found) (s : Summary) (label : ℕ) → m ≡ record a { labels = a.labels ++ label ∷ [] } → Follows tags inside m s b → Follows tags inside a (record s { labels = label ∷ s.labels }) b
+labelled tags inside a m b s label e q =
+    let p = subst (λ (z : Found). Follows tags inside z s b) e q in
+    record {
+      numbered = p.numbered;
+      next = p.next;
+      blocks = p.blocks;
+      switches = p.switches;
+      labels = behind a.labels b.labels label s.labels p.labels;
+      jumps = p.jumps;
+      cases = p.cases;
+      defaults = p.defaults;
+      breaks = p.breaks;
+      continues = p.continues;
+    }
