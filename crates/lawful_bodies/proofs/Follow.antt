@@ -1,10 +1,8 @@
 -- How what one part of a function's statements adds is joined to what the next one adds.
-use Rattle.std.proofs.Common.{◌≡◌, ◌≢◌, ℕ, ◌+◌, ◌<◌, ◌≤◌, Bool, true, false, List, [], ◌∷◌, ◌++◌, length, Result, Ok, Err, refl, sym, ap, ◌∙◌, subst, arith, append_assoc, length-append}
-use Rattle.std.specs.List.{All, AllPairs}
-use Rattle.std.specs.Result.{OnOk}
-use Rattle.std.proofs.lemmas.List.Elements.{All-append}
+use Rattle.std.proofs.Common.{◌≡◌, ℕ, ◌+◌, List, [], ◌∷◌, ◌++◌, length, refl, sym, ap, ◌∙◌, subst, arith, append_assoc, append-nil, length-append, ℤ}
+use Rattle.std.proofs.lemmas.List.Elements.{All-append, All-nil, All-cons}
 use Rattle.c_types.specs.declared.tags.Tag.{Tag}
-use Rattle.c_typed.specs.Sites.{Summary, BlockRow, and, looped}
+use Rattle.c_typed.specs.Sites.{Summary, BlockRow, and, looped, nothing}
 use Rattle.c_typed.specs.Lawful.{NumberedFrom, BlockIsLawful, SwitchIsLawful}
 use Rattle.lawful_bodies.specs.declared.found.Found.{Found}
 use Rattle.lawful_bodies.specs.declared.found.Inside.{Inside}
@@ -69,6 +67,56 @@ labelled tags inside a m b s label e q =
       blocks = p.blocks;
       switches = p.switches;
       labels = behind a.labels b.labels label s.labels p.labels;
+      jumps = p.jumps;
+      cases = p.cases;
+      defaults = p.defaults;
+      breaks = p.breaks;
+      continues = p.continues;
+    }
+
+pub cased : (tags : List Tag) (inside : Inside) (a m b : Found) (s : Summary) (value : ℤ) → m ≡ record a { cases = a.cases ++ value ∷ [] } → Follows tags inside m s b → Follows tags inside a (record s { cases = value ∷ s.cases }) b
+cased tags inside a m b s value e q =
+    let p = subst (λ (z : Found). Follows tags inside z s b) e q in
+    record {
+      numbered = p.numbered;
+      next = p.next;
+      blocks = p.blocks;
+      switches = p.switches;
+      labels = p.labels;
+      jumps = p.jumps;
+      cases = behind a.cases b.cases value s.cases p.cases;
+      defaults = p.defaults;
+      breaks = p.breaks;
+      continues = p.continues;
+    }
+
+-- what holds nothing changes nothing
+pub still : (tags : List Tag) (inside : Inside) (a : Found) → Follows tags inside a nothing a
+still tags inside a = record {
+  numbered = tt;
+  next = omega arith;
+  blocks = All-nil (BlockIsLawful tags);
+  switches = All-nil SwitchIsLawful;
+  labels = sym (append-nil a.labels);
+  jumps = sym (append-nil a.jumps);
+  cases = sym (append-nil a.cases);
+  defaults = omega arith;
+  breaks = λ _. refl;
+  continues = λ _. refl;
+}
+
+-- a block, and what is in it
+pub block : (tags : List Tag) (inside : Inside) (a m b : Found) (s : Summary) (row : BlockRow) → row.number ≡ a.next → m ≡ record a { next = a.next + 1 } → BlockIsLawful tags row → Follows tags inside m s b → Follows tags inside a (record s { blocks = row ∷ s.blocks }) b
+block tags inside a m b s row n e h q =
+    let p = subst (λ (z : Found). Follows tags inside z s b) e q in
+    let up : a.next + 1 ≡ 1 + a.next = omega arith in
+    let far : b.next ≡ a.next + 1 + length s.blocks = p.next in
+    record {
+      numbered = (n, subst (λ (k : ℕ). NumberedFrom k s.blocks) up p.numbered);
+      next = omega arith;
+      blocks = All-cons (BlockIsLawful tags) row s.blocks h p.blocks;
+      switches = p.switches;
+      labels = p.labels;
       jumps = p.jumps;
       cases = p.cases;
       defaults = p.defaults;

@@ -1,3 +1,4 @@
 pub mod Apart
 pub mod Follow
+pub mod Forms
 pub mod Sized

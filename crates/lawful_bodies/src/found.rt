@@ -117,10 +117,10 @@ pub(crate) fn add_jump(found: &mut Found, label: u32) -> Result<(), Stop>
     Ok(())
 }
 
-pub(crate) fn add_case(found: &mut Found, value: i128) -> Result<(), Stop>
-    ensures { OnOk result (found.new ≡ record found.old { cases = found.old.cases ++ value ∷ [] }) }
+pub(crate) fn add_case(found: &mut Found, value: &i128) -> Result<(), Stop>
+    ensures { OnOk result (found.new ≡ record found.old { cases = found.old.cases ++ value.now ∷ [] }) }
 {
-    found.cases.push(value)?;
+    found.cases.push(*value)?;
     Ok(())
 }
 

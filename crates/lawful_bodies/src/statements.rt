@@ -30,10 +30,12 @@ pub(crate) fn statement(
     match body {
         Body::Simple(_) | Body::Return(_) => Ok(()),
         Body::Block(block) => block_items(tags, found, block, inside),
-        Body::If(_, yes, None) => statement(tags, found, yes.get(), inside),
-        Body::If(_, yes, Some(no)) => {
+        Body::If(_, yes, no) => {
             statement(tags, found, yes.get(), inside)?;
-            statement(tags, found, no.get(), inside)
+            match no {
+                None => Ok(()),
+                Some(no) => statement(tags, found, no.get(), inside),
+            }
         }
         Body::Switch(_, body) => switch(tags, found, body.get(), inside),
         Body::While(_, body) | Body::Do(body, _) => statement(tags, found, body.get(), IN_LOOP),
@@ -49,7 +51,7 @@ pub(crate) fn statement(
             statement(tags, found, body.get(), inside)
         }
         Body::Case(value, body) => {
-            add_case(found, *value)?;
+            add_case(found, value)?;
             statement(tags, found, body.get(), inside)
         }
         Body::Default(body) => {

@@ -1,7 +1,6 @@
-use Rattle.std.proofs.Common.{◌≡◌, ◌≢◌, false, take, subst, rules, arith, take_all}
+use Rattle.std.proofs.Common.{◌≢◌, subst, rules, arith, take_all}
 use Rattle.std.specs.List.{AllPairs}
-use Rattle.std.specs.BTreeSet.{contains}
-use Rattle.lawful_bodies.proofs.Apart.{Seen, more}
+use Rattle.lawful_bodies.proofs.Apart.{more}
 use Rattle.lawful_bodies.proofs.distinct.are_distinct.Goals as goal
 
 pub loop-item-preserved : goal.loop-item-preserved

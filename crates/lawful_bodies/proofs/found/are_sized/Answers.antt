@@ -1,4 +1,4 @@
-use Rattle.std.proofs.Common.{map, rules, arith}
+use Rattle.std.proofs.Common.{rules, arith}
 use Rattle.c_types.specs.Types.{Qualified, qualified_of}
 use Rattle.c_typed.specs.Lawful.{IsSized}
 use Rattle.lawful_bodies.proofs.Sized.{more, whole}

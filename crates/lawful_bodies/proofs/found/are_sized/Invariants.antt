@@ -1,4 +1,4 @@
-use Rattle.std.proofs.Common.{map, take}
+use Rattle.std.proofs.Common.{take}
 use Rattle.std.specs.List.{All}
 use Rattle.c_types.specs.Types.{qualified_of}
 use Rattle.c_typed.specs.Lawful.{IsSized}
