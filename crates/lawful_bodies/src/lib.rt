@@ -3,7 +3,11 @@
 
 mod distinct;
 mod found;
+mod full;
+mod function;
 mod library;
 mod parameters;
 mod statements;
 mod stop;
+
+pub use function::is_lawful_function;
