@@ -1,11 +1,14 @@
 -- A set grows by each element of a list that has none twice.
-use Rattle.std.proofs.Common.{◌≡◌, ◌≢◌, ℕ, ◌+◌, ◌<◌, Bool, true, false, cond, List, [], ◌∷◌, ◌++◌, length, get_or, take, refl, sym, ap, ◌∙◌, subst}
-use Rattle.std.specs.List.{All, AllPairs}
+use Rattle.std.proofs.Common.{arith, ◌≡◌, ◌⊎◌, inl, inr, ◌≢◌, ℕ, ◌+◌, ◌<◌, Bool, true, false, cond, List, [], ◌∷◌, ◌++◌, length, get_or, take, refl, sym, ap, ◌∙◌, subst}
+use Rattle.std.specs.List.{All, AllPairs, Contains}
+use Rattle.std.specs.BTreeMap.{is_at}
+use Rattle.std.specs.Ordering.{nat_cmp}
+use Rattle.std.proofs.lemmas.Bool.Decides.{nat_tests}
 use Rattle.std.specs.BTreeSet.{BTreeSet, contains, Updates}
 use Rattle.std.specs.declared.cmp.Ordering.{Ordering}
 use Rattle.std.proofs.lemmas.Bool.{false≢true}
 use Rattle.std.proofs.lemmas.List.{take_more}
-use Rattle.std.proofs.lemmas.List.Elements.{All-push}
+use Rattle.std.proofs.lemmas.List.Elements.{All-push, Contains-push, Contains-append_left}
 use Rattle.std.proofs.lemmas.List.Quantifiers.{all_pairs_push}
 
 module _ {K : Type 0} (R : K → K → Ordering) where
@@ -29,3 +32,22 @@ module _ {K : Type 0} (R : K → K → Ordering) where
       let t : take (i + 1) xs ≡ take i xs ++ x ∷ [] =
       take_more xs i x l ∙ ap (λ (y : K). take i xs ++ y ∷ []) (sym e) in
       subst (Seen new) (sym t) (push (take i xs) x old new fresh u h)
+
+-- a set of numbers has no other than those put into it
+came : (b s : Bool) → cond b true s ≡ true → (b ≡ true) ⊎ (s ≡ true)
+came true s h = inl refl
+came false s h = inr h
+
+same_number : (x n : ℕ) → is_at (nat_cmp x) n ≡ true → x ≡ n
+same_number x n e = grind (arith, nat_tests, e)
+
+pub known_more : (xs : List ℕ) (i x : ℕ) (old new : BTreeSet ℕ) → i < length xs → x ≡ get_or xs i 0 → Updates nat_cmp old new x true →
+    ((n : ℕ) → contains nat_cmp old n ≡ true → Contains (take i xs) n) → (n : ℕ) → contains nat_cmp new n ≡ true → Contains (take (i + 1) xs) n
+known_more xs i x old new l e u h n c =
+    let t : take (i + 1) xs ≡ take i xs ++ x ∷ [] =
+    take_more xs i 0 l ∙ ap (λ (y : ℕ). take i xs ++ y ∷ []) (sym e) in
+    subst (λ (ys : List ℕ). Contains ys n) (sym t)
+    (elim (came (is_at (nat_cmp x) n) (contains nat_cmp old n) (sym (u.0 n) ∙ c)) as (λ z. Contains (take i xs ++ x ∷ []) n) [
+      | inl a ↦ subst (λ (y : ℕ). Contains (take i xs ++ x ∷ []) y) (same_number x n a) (Contains-push (take i xs) x)
+      | inr b ↦ Contains-append_left (take i xs) (x ∷ []) n (h n b)
+    ])

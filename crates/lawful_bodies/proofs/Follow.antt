@@ -1,9 +1,10 @@
 -- How what one part of a function's statements adds is joined to what the next one adds.
-use Rattle.std.proofs.Common.{◌≡◌, ℕ, ◌+◌, List, [], ◌∷◌, ◌++◌, length, refl, sym, ap, ◌∙◌, subst, arith, append_assoc, append-nil, length-append, ℤ}
+use Rattle.std.proofs.Common.{◌≡◌, ◌≢◌, ◌<◌, ◌^◌, false, ℕ, ◌+◌, List, [], ◌∷◌, ◌++◌, length, refl, sym, ap, ◌∙◌, subst, arith, append_assoc, append-nil, length-append, ℤ}
+use Rattle.std.specs.List.{All, AllPairs, Contains}
 use Rattle.std.proofs.lemmas.List.Elements.{All-append, All-nil, All-cons}
 use Rattle.c_types.specs.declared.tags.Tag.{Tag}
 use Rattle.c_typed.specs.Sites.{Summary, BlockRow, and, looped, nothing}
-use Rattle.c_typed.specs.Lawful.{NumberedFrom, BlockIsLawful, SwitchIsLawful}
+use Rattle.c_typed.specs.Lawful.{NumberedFrom, BlockIsLawful, SwitchIsLawful, StatementsAreLawful}
 use Rattle.lawful_bodies.specs.declared.found.Found.{Found}
 use Rattle.lawful_bodies.specs.declared.found.Inside.{Inside}
 use Rattle.lawful_bodies.specs.Statements.{Follows, count_of}
@@ -122,4 +123,29 @@ block tags inside a m b s row n e h q =
       defaults = p.defaults;
       breaks = p.breaks;
       continues = p.continues;
+    }
+
+-- all statements of a function
+pub statements : (tags : List Tag) (inside : Inside) (a b : Found) (s : Summary) → Follows tags inside a s b →
+    a.next ≡ 0 → a.labels ≡ [] → a.jumps ≡ [] → a.cases ≡ [] → a.has_default ≡ false → inside.breaks ≡ false → inside.continues ≡ false →
+    b.cases ≡ [] → b.has_default ≡ false → AllPairs ◌≢◌ b.labels → All (Contains b.labels) b.jumps → b.next < 2 ^ 32 → StatementsAreLawful tags s
+statements tags inside a b s p next labels jumps cases default breaks continues no_case no_default distinct defined few =
+    let named : b.labels ≡ s.labels = p.labels ∙ ap (λ (z : List ℕ). z ++ s.labels) labels in
+    let jumped : b.jumps ≡ s.jumps = p.jumps ∙ ap (λ (z : List ℕ). z ++ s.jumps) jumps in
+    let cased : b.cases ≡ s.cases = p.cases ∙ ap (λ (z : List ℤ). z ++ s.cases) cases in
+    let none : count_of b.has_default ≡ 0 = ap count_of no_default in
+    let first : count_of a.has_default ≡ 0 = ap count_of default in
+    let many : b.next ≡ a.next + length s.blocks = p.next in
+    let defaults : count_of b.has_default ≡ count_of a.has_default + s.defaults = p.defaults in
+    record {
+      numbered = subst (λ (k : ℕ). NumberedFrom k s.blocks) next p.numbered;
+      blocks = p.blocks;
+      few_blocks = omega arith;
+      switches = p.switches;
+      no_case = sym cased ∙ no_case;
+      no_default = omega arith;
+      no_break = p.breaks breaks;
+      no_continue = p.continues continues;
+      distinct = subst (AllPairs ◌≢◌) named distinct;
+      defined = subst (λ (z : List ℕ). All (Contains z) s.jumps) named (subst (All (Contains b.labels)) jumped defined);
     }

@@ -1,5 +1,5 @@
 -- How the full expressions of one part of a function's statements are joined to those of the next one.
-use Rattle.std.proofs.Common.{◌≡◌, ℕ, ◌+◌, ◌<◌, ◌≤◌, List, [], ◌∷◌, ◌++◌, length, get_or, take, drop, map, Option, Some, None, refl, sym, ap, ◌∙◌, subst, arith, length-append}
+use Rattle.std.proofs.Common.{◌≡◌, ℕ, ◌+◌, ◌<◌, ◌≤◌, List, [], ◌∷◌, ◌++◌, length, get_or, take, drop, map, Option, Some, refl, sym, ap, ◌∙◌, subst, arith, length-append}
 use Rattle.std.specs.List.{All}
 use Rattle.std.proofs.lemmas.List.{drop_more, drop_all, take_all}
 use Rattle.std.proofs.lemmas.List.Elements.{All-append, All-nil}
@@ -12,12 +12,11 @@ use Rattle.c_typed.specs.declared.statement.Body.TheVariants as bodies
 use Rattle.c_typed.specs.declared.statement.ForStart.{ForStart}
 use Rattle.c_typed.specs.declared.statement.Block.{Block, out-Block, fold_out-Block}
 use Rattle.c_typed.specs.declared.statement.Entry.{Entry}
-use Rattle.c_typed.specs.Sites.{Found, Opened, Blocks, Expression, one, perhaps, both, tested, unused, selects, inside, found_body, found_entry, found_start, found_block, found_entries}
+use Rattle.c_typed.specs.Sites.{Found, Opened, Blocks, Expression, one, perhaps, both, tested, unused, inside, found_body, found_entry, found_start, found_block, found_entries}
 use Rattle.c_typed.specs.Lawful.{ExpressionIsLawful}
 use Rattle.lawful_bodies.specs.declared.full.Place.{Place}
 use Rattle.lawful_bodies.specs.Full.{Passes, Opens, blocks_at, in_body, in_start, in_block, in_entry}
 use Rattle.lawful_trees.specs.Places.{blocks_of}
-use Rattle.lawful_trees.specs.declared.place.Around.{Around}
 use Rattle.c_typed.specs.Sites.{no_block}
 
 added : (a b c : ℕ) (s u : List Expression) → b ≡ a + length s → c ≡ b + length u → c ≡ a + length (s ++ u)

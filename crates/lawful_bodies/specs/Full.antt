@@ -1,5 +1,5 @@
 -- What the full expressions of a part of a function's statements are, and that they are lawful.
-use Rattle.std.specs.Prelude.{◌≡◌, ℕ, ◌+◌, ◌++◌, List, length, take}
+use Rattle.std.specs.Prelude.{◌≡◌, ◌+◌, length, take}
 use Rattle.std.specs.List.{All}
 use Rattle.c_types.specs.Types.{Signature}
 use Rattle.c_typed.specs.declared.program.Program.{Program}
@@ -9,7 +9,6 @@ use Rattle.c_typed.specs.declared.statement.Block.{Block, fold-Block}
 use Rattle.c_typed.specs.declared.statement.Entry.{Entry, fold-Entry}
 use Rattle.c_typed.specs.Sites.{Found, Opened, Blocks, no_block, found_body, found_entry, found_start, found_block}
 use Rattle.c_typed.specs.Lawful.{ExpressionIsLawful}
-use Rattle.lawful_trees.specs.declared.place.Around.{Around}
 use Rattle.lawful_trees.specs.Places.{blocks_of}
 use Rattle.lawful_bodies.specs.declared.full.Place.{Place}
 

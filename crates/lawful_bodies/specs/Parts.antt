@@ -1,5 +1,5 @@
 -- The types of the library functions, as the code has them.
-use Rattle.std.specs.Prelude.{Bool, true, false, ◌≡◌}
+use Rattle.std.specs.Prelude.{true, false}
 use Rattle.c_types.specs.Types.{CType, void, int, pointer}
 use Rattle.c_types.specs.declared.kind.IntKind.TheVariants.{Char, Int as Whole, ULong}
 use Rattle.lawful_bodies.specs.declared.library.Part.{Part}

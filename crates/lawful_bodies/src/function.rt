@@ -1,6 +1,6 @@
 // A function: its body, its type and its height (6.9.1, 7.1.4).
-ghost use Rattle.std.specs.Prelude.{◌≡◌, ◌<◌, ◌^◌, false, IsTrue, IfOk, OnOk, length};
-ghost use Rattle.std.specs.List.{All};
+ghost use Rattle.std.specs.Prelude.{◌≡◌, ◌≢◌, ◌<◌, ◌^◌, [], false, IsTrue, IfOk, OnOk, length};
+ghost use Rattle.std.specs.List.{All, AllPairs, Contains};
 ghost use Rattle.c_types.specs.Types.{signature_of};
 ghost use Rattle.c_typed.specs.Sites.{summary, expressions};
 ghost use Rattle.c_typed.specs.Height.{body_height};
@@ -60,7 +60,8 @@ fn lawful_body(alloc: Global, program: &Program, ty: &FuncTy, body: &Body) -> Re
     must(body_height(body) < u32::MAX)?;
     must(is_fixed(ty) && begins_with(ty, body))?;
     lawful_statements(alloc, &program.tags, body)?;
-    lawful_expressions(alloc, program, ty, body)
+    let _count = lawful_expressions(alloc, program, ty, body)?;
+    Ok(())
 }
 
 fn is_fixed(ty: &FuncTy) -> bool
@@ -95,23 +96,41 @@ fn lawful_statements(alloc: Global, tags: &Tags, body: &Body) -> Result<(), Stop
         continues: false,
     };
     statement(tags, &mut found, body, inside)?;
-    must(found.cases.is_empty() && !found.has_default)?;
-    must(are_distinct(alloc, found.labels.as_slice())?)?;
-    must(are_in(alloc, found.labels.as_slice(), found.jumps.as_slice())?)
+    nothing_open(alloc, &found)?;
+    Ok(())
 }
 
+/// Goes on only where no label of a `switch` is left, and where each label stands once and each jump names one.
+fn nothing_open(alloc: Global, found: &Found) -> Result<(), Stop>
+    ensures no_case { OnOk result (found.now.cases ≡ []) }
+    ensures no_default { OnOk result (found.now.has_default ≡ false) }
+    ensures distinct { OnOk result (AllPairs ◌≢◌ found.now.labels) }
+    ensures defined { OnOk result (All (Contains found.now.labels) found.now.jumps) }
+    ensures few { OnOk result (found.now.next < 2 ^ 32) }
+{
+    let labels = found.labels.as_slice();
+    must(found.cases.is_empty())?;
+    must(!found.has_default)?;
+    must(are_distinct(alloc, labels)?)?;
+    must(are_in(alloc, labels, found.jumps.as_slice())?)?;
+    let _next = found.next;
+    Ok(())
+}
+
+/// How many full expressions the body has, where each is lawful.
 fn lawful_expressions(
     alloc: Global,
     program: &Program,
     ty: &FuncTy,
     body: &Body,
-) -> Result<(), Stop>
+) -> Result<u32, Stop>
     ensures full { OnOk result (All (ExpressionIsLawful program.now (signature_of ty.now)) (expressions body.now)) }
-    ensures few { OnOk result (length (expressions body.now) < 2 ^ 32) }
+    ensures count { IfOk result (λ n. length (expressions body.now) ≡ n) }
 {
     let mut place = Place {
         around: Vec::new(alloc),
         count: 0,
     };
-    body_trees(body, &mut place, program, ty)
+    body_trees(body, &mut place, program, ty)?;
+    Ok(place.count)
 }

@@ -1,4 +1,4 @@
-use Rattle.std.proofs.Common.{◌≡◌, ap, ◌∙◌, sym, map}
+use Rattle.std.proofs.Common.{ap, ◌∙◌, map}
 use Rattle.c_types.specs.Types.{qualified_of}
 use Rattle.c_typed.specs.Sites.{inside, no_block}
 use Rattle.lawful_trees.specs.Places.{blocks_of, blocks_of-last}
