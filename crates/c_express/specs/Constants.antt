@@ -56,7 +56,7 @@ outcome (Err clause) = Valueless
 abbrev pub truth : Bool → Folded
 truth b = Number (if b then pos 1 else pos 0)
 
--- an operand that isn't a value of the operator's kind, which typing makes none of, has no value here
+-- an operand that isn't a value of the operator's kind is no constant here; typing makes none
 abbrev pub of_unary : UnOp → ℤ → Folded
 of_unary (unary_op.Minus kind) z = if holds kind z then outcome (arithmetic.negated kind z) else Unknown
 of_unary (unary_op.Complement kind) z = if holds kind z then Number (arithmetic.complemented kind z) else Unknown

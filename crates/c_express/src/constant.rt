@@ -347,7 +347,7 @@ fn element(size: u64, subtract: bool, base: Folded, extent: Option<Extent>, inde
     }
 }
 
-/// What no constant expression has: the value of an object, an assignment, an increment, a call (6.6p3, 6.6p6, 6.6p9).
+// What no constant expression has: the value of an object, an assignment, an increment, a call (6.6p3, 6.6p6, 6.6p9).
 fn never_constant(node: &Node) -> bool
     ensures { result ≡ spec.never_constant (seen_node node.now).head }
 {
