@@ -78,7 +78,7 @@ pub sees_word_by : (word : AWord) (i : Input) (k : Option TokenKind) → kind i 
 unfolding sees_word
 sees_word_by word i k e h = ap (is_word word) e ∙ h
 
-no_case : (b : Bool) → (b ≡ true → ⊥) → b ≡ false
+pub no_case : (b : Bool) → (b ≡ true → ⊥) → b ≡ false
 no_case true h = absurd (h refl)
 no_case false h = refl
 
