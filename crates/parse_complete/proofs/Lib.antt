@@ -5,3 +5,5 @@ pub mod Runs
 pub mod Steps
 pub mod Tables
 pub mod Trees
+pub mod Declarators
+pub mod Words
