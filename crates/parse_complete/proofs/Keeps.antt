@@ -1,5 +1,5 @@
--- A rule of the grammar takes no token back.
-use Rattle.std.proofs.Common.{◌≡◌, ℕ, zero, suc, ◌≤◌, ◌<◌, Bool, true, false, List, [], ◌∷◌, ◌++◌, Option, Some, None, ap, if◌then◌else◌, drop, length, subst, sym, refl, inl, inr, arith}
+-- A rule of the grammar takes no token back, and leaves the tokens as they are.
+use Rattle.std.proofs.Common.{◌≡◌, ℕ, zero, suc, ◌≤◌, ◌<◌, Bool, true, false, List, [], ◌∷◌, ◌++◌, Option, Some, None, ap, if◌then◌else◌, drop, length, subst, sym, refl, inl, inr, ◌∙◌, arith}
 use Rattle.c_lex.specs.declared.token.TokenKind.{TokenKind}
 use Rattle.c_lex.specs.declared.token.TokenKind.TheVariants as token
 use Rattle.c_lex.specs.declared.token.Word.{Word as AWord}
@@ -22,18 +22,23 @@ use Rattle.parse_complete.proofs.Steps.{takes_one}
 
 pub record Keeps (R : Rule) : Type 0 where
   pub keeps : (s t : Input) → R s t → left t ≤ left s
+  pub tokens : (s t : Input) → R s t → t.tokens ≡ s.tokens
 
 same_keeps : (s t : Input) → t ≡ s → left t ≤ left s
 same_keeps s t e = subst (λ x. left x ≤ left s) (sym e) (omega arith)
 
 pub nothing_keeps : Keeps Nothing
-nothing_keeps = record { keeps = λ s t h. same_keeps s t h }
+nothing_keeps = record { keeps = λ s t h. same_keeps s t h; tokens = λ s t h. ap (λ x. x.tokens) h }
 
 pub never_keeps : Keeps Never
-never_keeps = record { keeps = λ s t h. absurd h }
+never_keeps = record { keeps = λ s t h. absurd h; tokens = λ s t h. absurd h }
+
+tokens_next : (s : Input) → (next s).tokens ≡ s.tokens
+unfolding next
+tokens_next s = refl
 
 pub takes_keeps : (k : TokenKind) → Keeps (Takes k)
-takes_keeps k = record { keeps = λ s t h. omega (arith, takes_one k s t h) }
+takes_keeps k = record { keeps = λ s t h. omega (arith, takes_one k s t h); tokens = λ s t h. ap (λ x. x.tokens) h.1 ∙ tokens_next s }
 
 pub mark_keeps : (mark : AMark) → Keeps (Mark mark)
 mark_keeps mark = takes_keeps (token.Punct mark)
@@ -42,7 +47,7 @@ pub word_keeps : (word : AWord) → Keeps (Word word)
 word_keeps word = takes_keeps (token.Keyword word)
 
 pub numbered_keeps : (k : TokenKind) (n : ℕ) → Keeps (Numbered k n)
-numbered_keeps k n = record { keeps = λ s t h. (takes_keeps k).keeps s t h.1 }
+numbered_keeps k n = record { keeps = λ s t h. (takes_keeps k).keeps s t h.1; tokens = λ s t h. (takes_keeps k).tokens s t h.1 }
 
 pub identifier_keeps : (n : ℕ) → Keeps (Identifier n)
 identifier_keeps n = numbered_keeps token.Name n
@@ -52,56 +57,70 @@ maybe_identifier_keeps None = nothing_keeps
 maybe_identifier_keeps (Some n) = identifier_keeps n
 
 name_that_keeps : (typedef : Bool) (n : ℕ) → Keeps (NameThat typedef n)
-name_that_keeps typedef n = record { keeps = λ s t h. (identifier_keeps n).keeps s t h.1 }
+name_that_keeps typedef n = record { keeps = λ s t h. (identifier_keeps n).keeps s t h.1; tokens = λ s t h. (identifier_keeps n).tokens s t h.1 }
 
 no_typedef_keeps : Keeps NoTypedef
-no_typedef_keeps = record { keeps = λ s t h. same_keeps s t h.0 }
+no_typedef_keeps = record { keeps = λ s t h. same_keeps s t h.0; tokens = λ s t h. ap (λ x. x.tokens) h.0 }
 
 maybe_mark_case : (mark : AMark) (s t : Input) → MaybeMark mark s t → left t ≤ left s
 maybe_mark_case mark s t (inl same) = same_keeps s t same
 maybe_mark_case mark s t (inr h) = (mark_keeps mark).keeps s t h
 
+maybe_mark_tokens : (mark : AMark) (s t : Input) → MaybeMark mark s t → t.tokens ≡ s.tokens
+maybe_mark_tokens mark s t (inl same) = ap (λ x. x.tokens) same
+maybe_mark_tokens mark s t (inr h) = (mark_keeps mark).tokens s t h
+
 pub maybe_mark_keeps : (mark : AMark) → Keeps (MaybeMark mark)
-maybe_mark_keeps mark = record { keeps = λ s t h. maybe_mark_case mark s t h }
+maybe_mark_keeps mark = record { keeps = λ s t h. maybe_mark_case mark s t h; tokens = λ s t h. maybe_mark_tokens mark s t h }
 
 pub then_keeps : (R S : Rule) → Keeps R → Keeps S → Keeps (R ⨾ S)
-then_keeps R S f g = record { keeps = λ s t h. omega (arith, f.keeps s h.0 h.1.0, g.keeps h.0 t h.1.1) }
+then_keeps R S f g = record {
+  keeps = λ s t h. omega (arith, f.keeps s h.0 h.1.0, g.keeps h.0 t h.1.1);
+  tokens = λ s t h. g.tokens h.0 t h.1.1 ∙ f.tokens s h.0 h.1.0;
+}
 
 literals_keep : (count : ℕ) → Keeps (Literals count)
 literals_keep zero = nothing_keeps
 literals_keep (suc count) = then_keeps _ _ (takes_keeps token.StringLit) (literals_keep count)
 
 strings_keep : (n count : ℕ) → Keeps (Strings n count)
-strings_keep n zero = record { keeps = λ s t h. absurd h }
-strings_keep n (suc count) = record { keeps = λ s t h. (literals_keep (suc count)).keeps s t h.1 }
+strings_keep n zero = record { keeps = λ s t h. absurd h; tokens = λ s t h. absurd h }
+strings_keep n (suc count) = record { keeps = λ s t h. (literals_keep (suc count)).keeps s t h.1; tokens = λ s t h. (literals_keep (suc count)).tokens s t h.1 }
 
 pub message_keeps : (n : ℕ) → Keeps (Message n)
-message_keeps n = record { keeps = λ s t h. (strings_keep n h.0).keeps s t h.1 }
+message_keeps n = record { keeps = λ s t h. (strings_keep n h.0).keeps s t h.1; tokens = λ s t h. (strings_keep n h.0).tokens s t h.1 }
 
 allowed_keeps : (allowed : AWord → Bool) (a : AWord) → Keeps (λ s t. (allowed a ≡ true) × Word a s t)
-allowed_keeps allowed a = record { keeps = λ s t h. (word_keeps a).keeps s t h.1 }
+allowed_keeps allowed a = record { keeps = λ s t h. (word_keeps a).keeps s t h.1; tokens = λ s t h. (word_keeps a).tokens s t h.1 }
 
 pub words_keep : (allowed : AWord → Bool) (words : List AWord) → Keeps (Words allowed words)
 words_keep allowed [] = nothing_keeps
 words_keep allowed (a ∷ rest) = then_keeps _ _ (allowed_keeps allowed a) (words_keep allowed rest)
 
 from_keeps : (at : ℕ) (R : Rule) → Keeps R → Keeps (From at R)
-from_keeps at R f = record { keeps = λ s t h. f.keeps s t h.1 }
+from_keeps at R f = record { keeps = λ s t h. f.keeps s t h.1; tokens = λ s t h. f.tokens s t h.1 }
 
 within_keeps : (n : ℕ) (R : Rule) → Keeps R → Keeps (Within n R)
 within_keeps zero R f = f
 within_keeps (suc n) R f = then_keeps _ _ (mark_keeps m.OpenParen) (then_keeps _ _ (within_keeps n R f) (mark_keeps m.CloseParen))
 
 pub operand_keeps : (least own at : ℕ) (R : Rule) → Keeps R → Keeps (Operand least own at R)
-operand_keeps least own at R f = record { keeps = λ s t h. (within_keeps h.0 (From at R) (from_keeps at R f)).keeps s t h.1.1 }
+operand_keeps least own at R f = record { keeps = λ s t h. (within_keeps h.0 (From at R) (from_keeps at R f)).keeps s t h.1.1; tokens = λ s t h. (within_keeps h.0 (From at R) (from_keeps at R f)).tokens s t h.1.1 }
 
 left_declared : (n : ℕ) (typedef : Bool) (s : Input) → left (declared n typedef s) ≡ left s
 unfolding declared left
 left_declared n typedef s = refl
 
+tokens_declared : (n : ℕ) (typedef : Bool) (s : Input) → (declared n typedef s).tokens ≡ s.tokens
+unfolding declared
+tokens_declared n typedef s = refl
+
 pub declares_keeps : (typedef : Bool) (n : Option ℕ) → Keeps (Declares typedef n)
 declares_keeps typedef None = nothing_keeps
-declares_keeps typedef (Some n) = record { keeps = λ s t h. subst (λ x. left x ≤ left s) (sym h) (omega (arith, left_declared n typedef s)) }
+declares_keeps typedef (Some n) = record {
+  keeps = λ s t h. subst (λ x. left x ≤ left s) (sym h) (omega (arith, left_declared n typedef s));
+  tokens = λ s t h. ap (λ x. x.tokens) h ∙ tokens_declared n typedef s;
+}
 
 pub left_back : (s m : Input) → left (back_to s m) ≡ left m
 unfolding back_to left
@@ -115,19 +134,28 @@ left_with : (s : Input) (a b : List (ℕ × Bool)) → left (record s { names = 
 unfolding left
 left_with s a b = refl
 
+tokens_back : (s i : Input) → (back_to s i).tokens ≡ i.tokens
+unfolding back_to
+tokens_back s i = refl
+
 pub scoped_keeps : (R : Rule) → Keeps R → Keeps (Scoped R)
-scoped_keeps R f = record { keeps = λ s t h. subst (λ x. left x ≤ left s) (sym h.1.1) (omega (arith, left_back s h.0, f.keeps s h.0 h.1.0)) }
+scoped_keeps R f = record {
+  keeps = λ s t h. subst (λ x. left x ≤ left s) (sym h.1.1) (omega (arith, left_back s h.0, f.keeps s h.0 h.1.0));
+  tokens = λ s t h. ap (λ x. x.tokens) h.1.1 ∙ tokens_back s h.0 ∙ f.tokens s h.0 h.1.0;
+}
 
 pub apart_keeps : (R : Rule) → Keeps R → Keeps (Apart R)
 apart_keeps R f = record {
   keeps = λ s t h. subst (λ x. left x ≤ left s) (sym h.1.1)
       (omega (arith, left_kept s [], left_kept h.0 s.prototype, f.keeps (record s { prototype = [] }) h.0 h.1.0));
+  tokens = λ s t h. ap (λ x. x.tokens) h.1.1 ∙ f.tokens (record s { prototype = [] }) h.0 h.1.0;
 }
 
 pub prototype_keeps : (own : Bool) (R : Rule) → Keeps R → Keeps (Prototype own R)
 prototype_keeps own R f = record {
   keeps = λ s t h. subst (λ x. left x ≤ left s) (sym h.1.1)
       (omega (arith, left_kept s [], left_with h.0 s.names (if own then drop (length s.names) h.0.names else s.prototype), f.keeps (record s { prototype = [] }) h.0 h.1.0));
+  tokens = λ s t h. ap (λ x. x.tokens) h.1.1 ∙ f.tokens (record s { prototype = [] }) h.0 h.1.0;
 }
 
 no_parameters_keeps : (mode : Mode) → Keeps (NoParameters mode)
@@ -141,7 +169,7 @@ within_in_keeps mode (suc n) R f =
     then_keeps _ _ (mark_keeps m.OpenParen) (then_keeps _ _ (no_parameters_keeps mode) (then_keeps _ _ (within_in_keeps mode n R f) (mark_keeps m.CloseParen)))
 
 pub declarator_operand_keeps : (mode : Mode) (least : ℕ) (d : Declarator) (R : Rule) → Keeps R → Keeps (DeclaratorOperand mode least d R)
-declarator_operand_keeps mode least d R f = record { keeps = λ s t h. (within_in_keeps mode h.0 R f).keeps s t h.1.1 }
+declarator_operand_keeps mode least d R f = record { keeps = λ s t h. (within_in_keeps mode h.0 R f).keeps s t h.1.1; tokens = λ s t h. (within_in_keeps mode h.0 R f).tokens s t h.1.1 }
 
 abbrev Between : (AWord → Bool) → (Bool → Rule) → List AWord → Rule
 Between allowed R words s t =
@@ -152,17 +180,19 @@ between_keeps : (allowed : AWord → Bool) (R : Bool → Rule) (words : List AWo
 between_keeps allowed R words f = record {
   keeps = λ s t h.
       (then_keeps _ _ (words_keep allowed h.0) (then_keeps _ _ (f (has_type_word h.0)) (words_keep allowed h.1.0))).keeps s t h.1.1.1;
+  tokens = λ s t h.
+      (then_keeps _ _ (words_keep allowed h.0) (then_keeps _ _ (f (has_type_word h.0)) (words_keep allowed h.1.0))).tokens s t h.1.1.1;
 }
 
 pub specifiers_keep : (allowed : AWord → Bool) (b : Base) (R : Bool → Rule) (words : List AWord) → ((typed : Bool) → Keeps (R typed)) → Keeps (Specifiers allowed b R words)
-specifiers_keep allowed Plain R [] f = record { keeps = λ s t h. absurd h }
+specifiers_keep allowed Plain R [] f = record { keeps = λ s t h. absurd h; tokens = λ s t h. absurd h }
 specifiers_keep allowed Plain R (a ∷ rest) f = then_keeps _ _ (words_keep allowed (a ∷ rest)) (f (has_type_word (a ∷ rest)))
 specifiers_keep allowed (Typedef n) R words f = between_keeps allowed R words f
 specifiers_keep allowed (Tagged' union tag all) R words f = between_keeps allowed R words f
 specifiers_keep allowed (Enumerated' tag all) R words f = between_keeps allowed R words f
 
 ident_keeps : (n : Option ℕ) (mode : Mode) → Keeps (DeclaratorRule (Ident n) mode)
-ident_keeps n mode = record { keeps = λ s t h. (maybe_identifier_keeps n).keeps s t h.1 }
+ident_keeps n mode = record { keeps = λ s t h. (maybe_identifier_keeps n).keeps s t h.1; tokens = λ s t h. (maybe_identifier_keeps n).tokens s t h.1 }
 
 -- ---- the productions of expressions, specifiers and declarators
 
