@@ -2,6 +2,7 @@ pub mod Firsts
 pub mod Keeps
 pub mod Parens
 pub mod Runs
+pub mod Specifiers
 pub mod Steps
 pub mod Tables
 pub mod Trees

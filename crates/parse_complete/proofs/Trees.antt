@@ -1,11 +1,16 @@
 -- The cases of the tree, and that what the parser makes is the case that the grammar names.
 use Rattle.std.proofs.Common.{◌≡◌, ℕ, List, Bool, Option, Some, None, refl, sym, ap, ◌∙◌}
 use mathlib.Core.Former.{this, arity}
-use denote.Hole.Carrier.{hidden, shown}
+use denote.Hole.Carrier.{hidden, shown, roll}
 use Rattle.sqlite_items.specs.formers.items.Items.{the_former}
 use Rattle.c_lex.specs.declared.token.Word.{Word as AWord}
-use Rattle.c_ast.specs.declared.declaration.Base.TheBlock.{Pointer', Array', Function', Unary', Postfix', Binary', Assign', Cond', Comma', Call', Index', Dot', Arrow', Cast', SizeofExpr', SizeofType', AlignofType', Row_of-Expr, end_of-Expr, more_of-Expr, Row_of-Declarator, end_of-Declarator, more_of-Declarator, Row_of-TypeName, end_of-TypeName, more_of-TypeName, Row_of-Param, Declarator-Array-1-None', Declarator-Array-1-Some', items-the_row-Expr, items_shown-the_row-Expr-6, shown-the_row-Expr-6, hidden-the_row-Expr-3, shape-the_row-Expr-3, shown-the_row-Expr-3, hidden-the_row-TypeName-7, shape-the_row-TypeName-7, hidden-the_row-Declarator-2, shape-the_row-Declarator-2, shown-the_row-Declarator-2, items-the_row-Param, items_shown-the_row-Param-4, shown-the_row-Param-4}
+use Rattle.c_ast.specs.declared.declaration.Base.TheBlock.{Pointer', Array', Function', Unary', Postfix', Binary', Assign', Cond', Comma', Call', Index', Dot', Arrow', Cast', SizeofExpr', SizeofType', AlignofType', Row_of-Expr, end_of-Expr, more_of-Expr, Row_of-Declarator, end_of-Declarator, more_of-Declarator, Row_of-TypeName, end_of-TypeName, more_of-TypeName, Row_of-Param, Declarator-Array-1-None', Declarator-Array-1-Some', items-the_row-Expr, items_shown-the_row-Expr-6, shown-the_row-Expr-6, hidden-the_row-Expr-3, shape-the_row-Expr-3, shown-the_row-Expr-3, hidden-the_row-TypeName-7, shape-the_row-TypeName-7, hidden-the_row-Declarator-2, shape-the_row-Declarator-2, shown-the_row-Declarator-2, items-the_row-Param, items_shown-the_row-Param-4, shown-the_row-Param-4, Fields', Assertion', Enumerator-value-None', Enumerator-value-Some', Tagged', Base-Tagged-2-Some', Enumerated', Base-Enumerated-1-Some', Row_of-MemberEntry, Row_of-Enumerator, items-the_row-Declarator, items_shown-the_row-Declarator-5, shown-the_row-Declarator-5, items-the_row-MemberEntry, items_shown-the_row-MemberEntry-0, items-the_row-Enumerator, items_shown-the_row-Enumerator-1, backs-Base-Tagged-2, backs-Base-Enumerated-1}
 use Rattle.c_ast.specs.declared.declaration.Base.{Base}
+use Rattle.c_ast.specs.declared.declaration.Base.TheVariants as base
+use Rattle.c_ast.specs.declared.declaration.Base.TheViews.{roll-Enumerator}
+use Rattle.c_ast.specs.declared.declaration.Enumerator.{Enumerator, Enumerator'}
+use Rattle.c_ast.specs.declared.declaration.MemberEntry.{MemberEntry, roll-MemberEntry, roll-out-MemberEntry}
+use Rattle.c_ast.specs.declared.declaration.MemberEntry.TheVariants as member-entry
 use Rattle.c_ast.specs.declared.declaration.Declarator.{Declarator, roll-Declarator, roll-out-Declarator}
 use Rattle.c_ast.specs.declared.declaration.Declarator.TheVariants as declarator
 use Rattle.c_ast.specs.declared.declaration.Param.{Param}
@@ -159,3 +164,44 @@ unfolding shown-the_row-Declarator-2 shown
 function_is d n row ellipsis = ap (λ l. declarator.Function d l ellipsis) (sym (items_shown-the_row-Param-4 n row))
     ∙ (sym (declarator.rolls-Function d (shown-the_row-Param-4 n row) ellipsis)
     ∙ (ap roll-Declarator (sym (declarator.outs-Function' tt (more_of-Declarator d end_of-Declarator) n row ellipsis)) ∙ roll-out-Declarator (function d n row ellipsis)))
+
+-- ---- members and enumerators
+
+abbrev pub names : {n : _} → Row_of-Declarator n → List Declarator
+names {n} row = items-the_row-Declarator n row
+
+abbrev pub members_of : {n : _} → Row_of-MemberEntry n → List MemberEntry
+members_of {n} row = items-the_row-MemberEntry n row
+
+abbrev pub enumerators_of : {n : _} → Row_of-Enumerator n → List Enumerator
+enumerators_of {n} row = items-the_row-Enumerator n row
+
+abbrev pub specs_with : List AWord → Base → Specs
+specs_with words b = record { words = words; base = b }
+
+pub fields_is : (words : List AWord) (b : Base) (n : List (Unit {0})) (row : Row_of-Declarator (arity (the_former (this {0})) n))
+    → member-entry.Fields (specs_with words b) (names row) ≡ Fields' words b n row
+fields_is words b n row = ap (member-entry.Fields (specs_with words b)) (sym (items_shown-the_row-Declarator-5 n row))
+    ∙ (sym (member-entry.rolls-Fields (specs_with words b) (shown-the_row-Declarator-5 n row))
+    ∙ (ap roll-MemberEntry (sym (member-entry.outs-Fields' words b n row)) ∙ roll-out-MemberEntry (Fields' words b n row)))
+
+pub assertion_is : (i : ℕ) (a : ExprNode) (message : ℕ) → member-entry.Assertion (made i a) message ≡ Assertion' i a message
+assertion_is i a message = refl
+
+pub bare_enumerator_is : (n : ℕ) → roll-Enumerator (record { name = n; value = None }) ≡ Enumerator' n Enumerator-value-None'
+unfolding roll-Enumerator roll
+bare_enumerator_is n = refl
+
+pub valued_enumerator_is : (n i : ℕ) (a : ExprNode) → roll-Enumerator (record { name = n; value = Some (made i a) }) ≡ Enumerator' n (Enumerator-value-Some' i a)
+unfolding roll-Enumerator roll
+valued_enumerator_is n i a = refl
+
+pub tagged_is : (union : Bool) (tag : Option ℕ) (n : List (Unit {0})) (row : Row_of-MemberEntry (arity (the_former (this {0})) n))
+    → base.Tagged union tag (Some (members_of row)) ≡ Tagged' union tag (Base-Tagged-2-Some' n row)
+tagged_is union tag n row = ap (λ l. base.Tagged union tag (Some l)) (sym (items_shown-the_row-MemberEntry-0 n row))
+    ∙ ap (λ h. Tagged' union tag h) (backs-Base-Tagged-2 (Base-Tagged-2-Some' n row))
+
+pub enumerated_is : (tag : Option ℕ) (n : List (Unit {0})) (row : Row_of-Enumerator (arity (the_former (this {0})) n))
+    → base.Enumerated tag (Some (enumerators_of row)) ≡ Enumerated' tag (Base-Enumerated-1-Some' n row)
+enumerated_is tag n row = ap (λ l. base.Enumerated tag (Some l)) (sym (items_shown-the_row-Enumerator-1 n row))
+    ∙ ap (λ h. Enumerated' tag h) (backs-Base-Enumerated-1 (Base-Enumerated-1-Some' n row))
