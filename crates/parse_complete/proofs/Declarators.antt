@@ -343,3 +343,22 @@ pointer_found words e c mode = record {
       let all = words_read is_qualifier words x y h (no_word_first mode y t (first_any e mode 0 y t g) stop) in
       rw (sees_of m.Star s star.0, eat_yes m.Star s star.0, ← star.1, all, inner, pointer_is words e) refl;
 }
+
+first_stops : (mode : Mode) (s : Input) → First mode s → stops (kind s) ≡ false
+first_stops mode s (inl h) = rw h refl
+first_stops mode s (inr (inl h)) = rw h refl
+first_stops mode s (inr (inr (inl h))) = rw h refl
+first_stops mode s (inr (inr (inr h))) = rw h.0 refl
+
+named_first : (e : Declarator) (least : ℕ) (s t : Input) → DeclaratorOperand Named least e (DeclaratorRule e Named) s t → First Named s
+named_first e least s t (suc n, (may, h)) = inr (inl h.1.0.0)
+named_first (Ident None) least s t (zero, (may, h)) = absurd h.0
+named_first (Ident (Some n)) least s t (zero, (may, h)) = first_bare (Ident (Some n)) Named s t h (λ x. x)
+named_first (pointer words e) least s t (zero, (may, h)) = first_bare (pointer words e) Named s t h (λ x. x)
+named_first (array e) least s t (zero, (may, h)) = first_bare (array e) Named s t h (λ x. x)
+named_first (array_of e j a) least s t (zero, (may, h)) = first_bare (array_of e j a) Named s t h (λ x. x)
+named_first (function e q row more) least s t (zero, (may, h)) = first_bare (function e q row more) Named s t h (λ x. x)
+
+-- no declarator with a name begins with such a punctuator
+pub named_no_stop : (e : Declarator) (least : ℕ) (s t : Input) → DeclaratorOperand Named least e (DeclaratorRule e Named) s t → stops (kind s) ≡ false
+named_no_stop e least s t h = first_stops Named s (named_first e least s t h)

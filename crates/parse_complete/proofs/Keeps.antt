@@ -107,7 +107,7 @@ within_keeps (suc n) R f = then_keeps _ _ (mark_keeps m.OpenParen) (then_keeps _
 pub operand_keeps : (least own at : ℕ) (R : Rule) → Keeps R → Keeps (Operand least own at R)
 operand_keeps least own at R f = record { keeps = λ s t h. (within_keeps h.0 (From at R) (from_keeps at R f)).keeps s t h.1.1; tokens = λ s t h. (within_keeps h.0 (From at R) (from_keeps at R f)).tokens s t h.1.1 }
 
-left_declared : (n : ℕ) (typedef : Bool) (s : Input) → left (declared n typedef s) ≡ left s
+pub left_declared : (n : ℕ) (typedef : Bool) (s : Input) → left (declared n typedef s) ≡ left s
 unfolding declared left
 left_declared n typedef s = refl
 

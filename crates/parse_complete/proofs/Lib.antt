@@ -1,5 +1,6 @@
 pub mod Firsts
 pub mod Keeps
+pub mod Members
 pub mod Parens
 pub mod Runs
 pub mod Specifiers

@@ -108,7 +108,7 @@ moved s y same less =
     let ne : y.at ≢ s.at = λ at. omega (arith, at, e, less) in
     grind (arith, nat_tests, ne)
 
-specified_from : (b : Base) (words : List AWord) → ((allowed : AWord → Bool) → NoTags allowed → (s t : Input) → Specifiers allowed b (BaseRule b) words s t → ends_specs (kind t) ≡ true
+pub specified_from : (b : Base) (words : List AWord) → ((allowed : AWord → Bool) → NoTags allowed → (s t : Input) → Specifiers allowed b (BaseRule b) words s t → ends_specs (kind t) ≡ true
     → (d : ℕ) → left s ≤ d → specifiers (expr d) (declarator d) (specs d) allowed s ≡ Some (specs_with words b, t)) → IsSpecified b words
 unfolding specs
 specified_from b words f allowed tags s t h stop zero lt = absurd (omega arith)
@@ -169,7 +169,7 @@ unfolding same_mark
 behind_no_brace allowed [] y t h stop = ends_no_brace y (ap (λ x. ends_specs (kind x)) (sym h) ∙ stop)
 behind_no_brace allowed (a ∷ rest) y t h stop = sees_by m.OpenBrace y _ h.1.0.1.0 refl
 
-between_read : (b : Base) (words : List AWord) → IsBase b → (allowed : AWord → Bool) → NoTags allowed → (s t : Input) → Between allowed (BaseRule b) words s t
+pub between_read : (b : Base) (words : List AWord) → IsBase b → (allowed : AWord → Bool) → NoTags allowed → (s t : Input) → Between allowed (BaseRule b) words s t
     → ends_specs (kind t) ≡ true → (d : ℕ) → left s ≤ d → specifiers (expr d) (declarator d) (specs d) allowed s ≡ Some (specs_with words b, t)
 between_read b words c allowed tags s t (before, (behind, (all, (x, (h, (y, (g, k))))))) stop d le =
     let typed = has_type_word before in
