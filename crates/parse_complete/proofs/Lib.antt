@@ -5,6 +5,7 @@ pub mod Parens
 pub mod Runs
 pub mod Specifiers
 pub mod Steps
+pub mod Suffixes
 pub mod Tables
 pub mod Trees
 pub mod Declarators
