@@ -23,7 +23,7 @@ use Rattle.c_grammar.specs.Rules.{Rule, ◌⨾◌, Nothing, Mark, MaybeMark, Wor
 use Rattle.parse_spec.specs.Steps.{left, turns, maybe_identifier, same_mark, same_word, sees, sees_word, is_mark, is_word, allows}
 use Rattle.parse_spec.specs.Nested.{expr, declarator, specs}
 use Rattle.parse_spec.specs.Places.{begins_by}
-use Rattle.parse_spec.specs.Expressions.{made, tight}
+use Rattle.parse_spec.specs.Expressions.{made}
 use Rattle.parse_spec.specs.Specifiers.{message, assertion, names_from, member_names, one_member, members_from, tagged_by, tagged, enumerator_value, one_enumerator, enumerators_from, enumerated_by, enumerated, specifier_base}
 use Rattle.parse_sound.proofs.Holding.{sees_of, sees_word_of}
 use Rattle.parse_complete.proofs.Declarators.{stops, ends_specs, IsDeclared, declarator_read, declarator_less, declarator_ends, named_no_stop}
@@ -31,7 +31,7 @@ use Rattle.parse_complete.proofs.Keeps.{tag_members_keep, tag_enumerators_keep, 
 use Rattle.parse_complete.proofs.Parens.{IsRead, operand_expr, operand_less}
 use Rattle.parse_complete.proofs.Specifiers.{NoTags, qualified_tags, IsSpecified, IsBase, specifiers_less, specs_begin, specified_from, between_read}
 use Rattle.parse_complete.proofs.Steps.{mark_takes, word_takes, takes_one, expect_of, expect_word_of, eat_yes, eat_no, sees_by, sees_word_by, sees_not, sees_word_not}
-use Rattle.parse_complete.proofs.Tables.{tight_is}
+use Rattle.parse_complete.proofs.Tables.{grip, grip_is}
 use Rattle.parse_complete.proofs.Trees.{names, members_of, enumerators_of, specs_with, fields_is, assertion_is, bare_enumerator_is, valued_enumerator_is, tagged_is, enumerated_is}
 use Rattle.parse_complete.proofs.Words.{identifier_read, no_identifier, some_identifier, strings_read}
 
@@ -57,7 +57,7 @@ unfolding assertion
 assertion_read at a n c s t (x, (word, (y, (before, (z, (h, (u, (comma, (v, (text, (q, (close, end)))))))))))) d le =
     let p = word_takes w.StaticAssert s x word in
     let p2 = mark_takes m.OpenParen x y before in
-    let stop : tight z ≤ 1 = omega (arith, tight_is z m.Comma comma.0) in
+    let stop : grip z ≤ 1 = omega (arith, grip_is z m.Comma comma.0) in
     let inner = operand_expr a c at 2 (omega arith) y z h (omega arith) (omega arith) d (omega arith) in
     rw (expect_word_of w.StaticAssert s word.0, ← word.1, expect_of m.OpenParen x before.0, ← before.1, inner, expect_of m.Comma z comma.0, ← comma.1,
     message_read n u v q t text close end) refl
@@ -227,9 +227,9 @@ unfolding same_mark
 ends_equal t (inl is) = sees_by m.Equal t _ is refl
 ends_equal t (inr is) = sees_by m.Equal t _ is refl
 
-ends_tight : (t : Input) → EndsEnumerator t → tight t ≤ 1
-ends_tight t (inl is) = omega (arith, tight_is t m.Comma is)
-ends_tight t (inr is) = omega (arith, tight_is t m.CloseBrace is)
+ends_tight : (t : Input) → EndsEnumerator t → grip t ≤ 1
+ends_tight t (inl is) = omega (arith, grip_is t m.Comma is)
+ends_tight t (inr is) = omega (arith, grip_is t m.CloseBrace is)
 
 abbrev pub IsEnumerator : Enumerator → Type 0
 IsEnumerator a = (s t : Input) → EnumeratorRule a s t → EndsEnumerator t → (d : ℕ) → left s < d → one_enumerator (expr d) (declarator d) (specs d) s ≡ Some (a, t)

@@ -20,7 +20,7 @@ use Rattle.parse_spec.specs.Scopes.{Adds}
 use Rattle.parse_spec.specs.Steps.{left, turns, same_mark, sees, declare, without_prototype, parameters_left}
 use Rattle.parse_spec.specs.Nested.{expr, declarator, specs}
 use Rattle.parse_spec.specs.Places.{opens_parameters, opens_by, opens_suffix, begins_by}
-use Rattle.parse_spec.specs.Expressions.{made, tight}
+use Rattle.parse_spec.specs.Expressions.{made}
 use Rattle.parse_spec.specs.Declarators.{is_own_name, one_parameter, parameters_from, parameters, array_suffix, function_suffix, one_suffix}
 use Rattle.parse_spec.proofs.AddingRules.{declarator_adds, specs_adds}
 use Rattle.parse_sound.proofs.Adds.{parameters_adds}
@@ -31,7 +31,7 @@ use Rattle.parse_complete.proofs.Keeps.{left_kept, parameters_keep, more_paramet
 use Rattle.parse_complete.proofs.Parens.{IsRead, operand_expr}
 use Rattle.parse_complete.proofs.Specifiers.{declaration_tags, IsSpecified, specifiers_less, specs_begin}
 use Rattle.parse_complete.proofs.Steps.{mark_takes, expect_of, eat_yes, eat_no, sees_by, sees_not}
-use Rattle.parse_complete.proofs.Tables.{tight_is}
+use Rattle.parse_complete.proofs.Tables.{grip, grip_is}
 use Rattle.parse_complete.proofs.Trees.{pointer, array, array_of, function, params, specs_with, array_is, array_of_is, function_is}
 
 pub kind_kept : (s : Input) (p : List (ℕ × Bool)) → kind (record s { prototype = p }) ≡ kind s
@@ -69,7 +69,7 @@ array_of_found e j a c c2 mode = found_posts (array_of e j a) mode 0 (λ _. tt) 
     let p0 = declarator_less mode 1 e s x h in
     let p = mark_takes m.OpenBracket x y before in
     let at_end : kind q ≡ Some (token.Punct m.CloseBracket) = sym (ap kind kept ∙ kind_kept q y.prototype) ∙ behind.0 in
-    let stop : tight q ≤ 0 = omega (arith, tight_is q m.CloseBracket at_end) in
+    let stop : grip q ≤ 0 = omega (arith, grip_is q m.CloseBracket at_end) in
     let low : left inside < d = omega (arith, left_kept y [], p, p0, le) in
     let inner = operand_expr a c2 j 1 (omega arith) inside q g (omega (arith, stop)) (omega (arith, stop)) d low in
     let none = sees_not m.CloseBracket y (λ is. no_opening m.CloseBracket inside refl (expr_opens d 1 inside (made j a, q) inner) (kind_kept y [] ∙ is)) in

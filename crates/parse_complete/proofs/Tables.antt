@@ -14,7 +14,7 @@ use Rattle.c_ast.specs.declared.expression.UnaryOp.{UnaryOp}
 use Rattle.c_ast.specs.declared.expression.UnaryOp.TheVariants as u
 use Rattle.c_ast.specs.Input.{Input, kind}
 use Rattle.c_grammar.specs.Operators as op
-use Rattle.parse_spec.specs.Steps.{is_mark, mark_of, same_mark}
+use Rattle.parse_spec.specs.Steps.{is_mark, is_string, mark_of, same_mark}
 use Rattle.parse_spec.specs.Operators.{binary_op, assign_op, unary_op, tight_mark, tight_of}
 use Rattle.parse_spec.specs.Expressions.{tight}
 
@@ -51,8 +51,44 @@ pub tight_is : (i : Input) (mark : AMark) → kind i ≡ Some (token.Punct mark)
 unfolding tight
 tight_is i mark e = ap (λ k. tight_of (mark_of k)) e
 
+-- how tightly the next token binds, where a string literal goes on with those before it
+abbrev pub grip_by : Option TokenKind → ℕ
+grip_by (Some token.StringLit) = 17
+grip_by k = tight_of (mark_of k)
+
+abbrev pub grip : Input → ℕ
+grip i = grip_by (kind i)
+
+pub grip_is : (i : Input) (mark : AMark) → kind i ≡ Some (token.Punct mark) → grip i ≡ tight_mark mark
+grip_is i mark e = ap grip_by e
+
+grip_tight_by : (k : Option TokenKind) → tight_of (mark_of k) ≤ grip_by k
+grip_tight_by (Some token.StringLit) = omega arith
+grip_tight_by _ = omega arith
+
+pub grip_tight : (i : Input) → tight i ≤ grip i
+unfolding tight
+grip_tight i = grip_tight_by (kind i)
+
+no_string_by : (k : Option TokenKind) → grip_by k ≤ 16 → is_string k ≡ false
+no_string_by (Some token.StringLit) h = absurd (omega (arith, h))
+no_string_by _ h = refl
+
+pub no_string : (i : Input) → grip i ≤ 16 → is_string (kind i) ≡ false
+no_string i h = no_string_by (kind i) h
+
+pub tight_post : (o : PostOp) → tight_mark (op.post_mark o) ≡ 16
+tight_post p.Increment = refl
+tight_post p.Decrement = refl
+
 pub tight_at_binary : (i : Input) (o : BinaryOp) → kind i ≡ Some (token.Punct (op.binary_mark o)) → tight i ≡ op.level_of o + 1
 tight_at_binary i o e = tight_is i (op.binary_mark o) e ∙ tight_binary o
+
+pub grip_at_binary : (i : Input) (o : BinaryOp) → kind i ≡ Some (token.Punct (op.binary_mark o)) → grip i ≡ op.level_of o + 1
+grip_at_binary i o e = grip_is i (op.binary_mark o) e ∙ tight_binary o
+
+pub grip_at_assign : (i : Input) (o : AssignOp) → kind i ≡ Some (token.Punct (op.assign_mark o)) → grip i ≡ 2
+grip_at_assign i o e = grip_is i (op.assign_mark o) e ∙ tight_assign o
 
 pub tight_at_assign : (i : Input) (o : AssignOp) → kind i ≡ Some (token.Punct (op.assign_mark o)) → tight i ≡ 2
 tight_at_assign i o e = tight_is i (op.assign_mark o) e ∙ tight_assign o
