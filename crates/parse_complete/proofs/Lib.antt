@@ -1,3 +1,4 @@
+pub mod Expressions
 pub mod Firsts
 pub mod Keeps
 pub mod Members

@@ -106,7 +106,7 @@ paren_primary a i n w s t (x, (before, (y, (h, behind)))) d le =
       rw (← before.1) first,
     )
 
-and_false : (a b : Bool) → b ≡ false → (a && b) ≡ false
+pub and_false : (a b : Bool) → b ≡ false → (a && b) ≡ false
 and_false true b h = h
 and_false false b h = refl
 
