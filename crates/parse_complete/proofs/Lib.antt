@@ -2,6 +2,7 @@ pub mod Expressions
 pub mod Firsts
 pub mod Keeps
 pub mod Members
+pub mod Nested
 pub mod Parens
 pub mod Runs
 pub mod Specifiers
