@@ -5,10 +5,12 @@ pub mod Members
 pub mod Nested
 pub mod Parens
 pub mod Runs
+pub mod Slides
 pub mod Specifiers
 pub mod Steps
 pub mod Suffixes
 pub mod Tables
+pub mod Takes
 pub mod Trees
 pub mod Declarators
 pub mod Words
