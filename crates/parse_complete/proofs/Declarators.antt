@@ -362,3 +362,10 @@ named_first (function e q row more) least s t (zero, (may, h)) = first_bare (fun
 -- no declarator with a name begins with such a punctuator
 pub named_no_stop : (e : Declarator) (least : ℕ) (s t : Input) → DeclaratorOperand Named least e (DeclaratorRule e Named) s t → stops (kind s) ≡ false
 named_no_stop e least s t h = first_stops Named s (named_first e least s t h)
+
+pub named_ends : (e : Declarator) (least : ℕ) (s t : Input) → DeclaratorOperand Named least e (DeclaratorRule e Named) s t → ends_specs (kind s) ≡ true
+named_ends e least s t h = first_ends Named s (named_first e least s t h)
+
+-- ..nor with this one
+pub named_no_colon : (e : Declarator) (least : ℕ) (s t : Input) → DeclaratorOperand Named least e (DeclaratorRule e Named) s t → kind s ≢ Some (token.Punct m.Colon)
+named_no_colon e least s t h is = let g = named_no_stop e least s t h in let f = rw is at g in cc

@@ -1,5 +1,6 @@
 pub mod Expressions
 pub mod Firsts
+pub mod Initializers
 pub mod Keeps
 pub mod Members
 pub mod Nested
@@ -12,5 +13,6 @@ pub mod Suffixes
 pub mod Tables
 pub mod Takes
 pub mod Trees
+pub mod Declarations
 pub mod Declarators
 pub mod Words

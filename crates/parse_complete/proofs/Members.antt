@@ -219,7 +219,7 @@ unfolding kind declared
 kind_declared n typedef s = refl
 
 -- what follows an enumerator
-abbrev EndsEnumerator : Input → Type 0
+abbrev pub EndsEnumerator : Input → Type 0
 EndsEnumerator t = (kind t ≡ Some (token.Punct m.Comma)) ⊎ (kind t ≡ Some (token.Punct m.CloseBrace))
 
 ends_equal : (t : Input) → EndsEnumerator t → sees m.Equal t ≡ false
@@ -227,7 +227,7 @@ unfolding same_mark
 ends_equal t (inl is) = sees_by m.Equal t _ is refl
 ends_equal t (inr is) = sees_by m.Equal t _ is refl
 
-ends_tight : (t : Input) → EndsEnumerator t → grip t ≤ 1
+pub ends_tight : (t : Input) → EndsEnumerator t → grip t ≤ 1
 ends_tight t (inl is) = omega (arith, grip_is t m.Comma is)
 ends_tight t (inr is) = omega (arith, grip_is t m.CloseBrace is)
 
@@ -256,10 +256,10 @@ abbrev pub AreEnumerators : {n : _} → Row_of-Enumerator n → Type 0
 AreEnumerators end_of-Enumerator = Unit {0}
 AreEnumerators (more_of-Enumerator a rest) = IsEnumerator a × AreEnumerators rest
 
-abbrev ListEnd : Rule
+abbrev pub ListEnd : Rule
 ListEnd = MaybeMark m.Comma ⨾ Mark m.CloseBrace
 
-list_ends : (s t : Input) → ListEnd s t → EndsEnumerator s
+pub list_ends : (s t : Input) → ListEnd s t → EndsEnumerator s
 list_ends s t (x, (inl same, close)) = inr (ap kind (sym same) ∙ close.0)
 list_ends s t (x, (inr comma, close)) = inl comma.0
 
