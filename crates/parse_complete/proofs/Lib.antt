@@ -2,12 +2,15 @@ pub mod Expressions
 pub mod Firsts
 pub mod Initializers
 pub mod Keeps
+pub mod Labels
 pub mod Members
 pub mod Nested
 pub mod Parens
 pub mod Runs
 pub mod Slides
 pub mod Specifiers
+pub mod StatementTrees
+pub mod Statements
 pub mod Steps
 pub mod Suffixes
 pub mod Tables

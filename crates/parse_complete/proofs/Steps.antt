@@ -19,6 +19,9 @@ some_is h = cc
 pub first_is : {A : Type 0} (a b : A) (s t : Input) → ◌≡◌ {A = Option (A × Input)} (Some (a, s)) (Some (b, t)) → a ≡ b
 first_is {A} a b s t h = let e : ◌≡◌ {A = A × Input} (a, s) (b, t) = some_is h in ap (λ p. p.0) e
 
+pub second_is : {A : Type 0} (a b : A) (s t : Input) → ◌≡◌ {A = Option (A × Input)} (Some (a, s)) (Some (b, t)) → s ≡ t
+second_is {A} a b s t h = let e : ◌≡◌ {A = A × Input} (a, s) (b, t) = some_is h in ap (λ p. p.1) e
+
 within : (i : Input) (k : TokenKind) (o : Option Token) → slice_get i.tokens.list i.at ≡ o → option_map (λ x. x.kind) o ≡ Some k → i.at < length i.tokens.list
 within i k None e h = absurd (cc)
 within i k (Some x) e h = slice_get_within i.tokens.list i.at x e
