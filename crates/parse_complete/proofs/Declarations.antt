@@ -78,7 +78,7 @@ part_read : (d : Declarator) (a : Option Init) (s t : Input) → MaybeInit a s t
 unfolding part_of
 part_read d a s t h end = rw (maybe_init_read a s t h end) refl
 
-after_part : (typedef : Bool) (rest : List Part) (s q t : Input) → MoreParts typedef rest s q → Mark m.Semicolon q t → EndsPart s
+pub after_part : (typedef : Bool) (rest : List Part) (s q t : Input) → MoreParts typedef rest s q → Mark m.Semicolon q t → EndsPart s
 after_part typedef [] s q t h end = inr (ap kind (sym h) ∙ end.0)
 after_part typedef (p ∷ rest) s q t h end = inl h.1.0.0
 

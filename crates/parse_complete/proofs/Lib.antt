@@ -18,4 +18,5 @@ pub mod Takes
 pub mod Trees
 pub mod Declarations
 pub mod Declarators
+pub mod Units
 pub mod Words
