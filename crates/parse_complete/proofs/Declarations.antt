@@ -1,6 +1,5 @@
 -- Declarations that are spelled are read.
-use Rattle.std.proofs.Common.{◌≡◌, ◌≢◌, ℕ, zero, suc, ◌+◌, ◌-◌, ◌<◌, ◌≤◌, Bool, true, false, if◌then◌else◌, ◌⊎◌, inl, inr, List, [], ◌∷◌, ◌++◌, Option, Some, None, refl, sym, ap, ◌∙◌, subst, arith, append_assoc, append-nil}
-use Rattle.c_lex.specs.declared.token.TokenKind.{TokenKind}
+use Rattle.std.proofs.Common.{◌≡◌, ℕ, zero, suc, ◌<◌, ◌≤◌, Bool, true, false, ◌⊎◌, inl, inr, List, [], ◌∷◌, ◌++◌, Option, Some, None, refl, sym, ap, ◌∙◌, subst, arith, append_assoc, append-nil}
 use Rattle.c_lex.specs.declared.token.TokenKind.TheVariants as token
 use Rattle.c_lex.specs.declared.token.Mark.TheVariants as m
 use Rattle.c_ast.specs.declared.declaration.Declaration.{Declaration}
@@ -10,10 +9,9 @@ use Rattle.c_ast.specs.declared.declaration.Part.{Part}
 use Rattle.c_ast.specs.declared.declaration.Specs.{Specs}
 use Rattle.c_ast.specs.declared.expression.Expr.{Expr}
 use Rattle.c_ast.specs.Input.{Input, kind, next}
-use Rattle.c_grammar.specs.Grammar.{Named, AssertionRule, MaybeInit, PartRule, MoreParts, DeclarationSpecifiers, DeclarationRule, name_of}
-use Rattle.c_grammar.specs.Rules.{Rule, ◌⨾◌, Mark, Declares, is_declaration_word, declares_typedef}
+use Rattle.c_grammar.specs.Grammar.{Named, AssertionRule, MaybeInit, MoreParts, DeclarationSpecifiers, DeclarationRule, name_of}
+use Rattle.c_grammar.specs.Rules.{Mark, Declares, is_declaration_word, declares_typedef}
 use Rattle.parse_spec.specs.Steps.{left, turns, same_mark, sees}
-use Rattle.parse_spec.specs.Nested.{expr, declarator, specs}
 use Rattle.parse_spec.specs.Declarations.{assertion, declaration_specs, named_declarator, maybe_init, part_of, parts_from, more_parts, maybe_parts, declaration}
 use Rattle.parse_sound.proofs.Declarations.{PartsEnd}
 use Rattle.parse_sound.proofs.Holding.{sees_of}

@@ -1,23 +1,21 @@
 -- What reading finds of a declarator that is spelled, bare or in parentheses.
-use Rattle.std.proofs.Common.{◌≡◌, ◌≢◌, ℕ, zero, suc, ◌+◌, ◌-◌, ◌<◌, ◌≤◌, Bool, true, false, ◌||◌, if◌then◌else◌, ◌⊎◌, inl, inr, ⊎_elim, List, [], ◌∷◌, ◌++◌, Option, Some, None, refl, sym, ap, ◌∙◌, subst, arith, append_assoc}
+use Rattle.std.proofs.Common.{◌≡◌, ◌≢◌, ℕ, zero, suc, ◌<◌, ◌≤◌, Bool, true, false, ◌⊎◌, inl, inr, ⊎_elim, List, Option, Some, None, refl, sym, ap, ◌∙◌, subst, arith}
 use Rattle.c_lex.specs.declared.token.TokenKind.{TokenKind}
 use Rattle.c_lex.specs.declared.token.TokenKind.TheVariants as token
 use Rattle.c_lex.specs.declared.token.Word.{Word as AWord}
-use Rattle.c_lex.specs.declared.token.Word.TheVariants as w
-use Rattle.c_lex.specs.declared.token.Mark.{Mark as AMark}
 use Rattle.c_lex.specs.declared.token.Mark.TheVariants as m
 use Rattle.c_ast.specs.declared.declaration.Base.TheBlock.{Ident}
 use Rattle.c_ast.specs.declared.declaration.Declarator.{Declarator}
 use Rattle.c_ast.specs.declared.declaration.Declarator.TheVariants as decl
 use Rattle.c_ast.specs.Input.{Input, kind, next, is_typedef}
 use Rattle.c_grammar.specs.Grammar.{Mode, Named, Abstract, Either, HasName, NoParameters, WithinIn, StarMayStand, DeclaratorOperand, DeclaratorRule}
-use Rattle.c_grammar.specs.Rules.{is_declaration_word, is_qualifier}
+use Rattle.c_grammar.specs.Rules.{is_qualifier}
 use Rattle.parse_spec.specs.Steps.{Outcome, and_then, left, turns, same_mark, sees, allows}
 use Rattle.parse_spec.specs.Nested.{expr, declarator, specs}
-use Rattle.parse_spec.specs.Places.{opens_parameters, opens_by, begins_by, opens_suffix}
+use Rattle.parse_spec.specs.Places.{opens_parameters, opens_by, opens_suffix}
 use Rattle.parse_spec.specs.Declarators.{nameless, named, one_suffix, suffixes_from, suffixes, nested, innermost_by, innermost, pointed, one_declarator}
 use Rattle.parse_sound.proofs.Holding.{sees_of}
-use Rattle.parse_complete.proofs.Keeps.{words_keep, declarator_operand_keeps, declarator_keeps, within_in_keeps}
+use Rattle.parse_complete.proofs.Keeps.{words_keep, declarator_operand_keeps, declarator_keeps}
 use Rattle.parse_complete.proofs.Steps.{mark_takes, expect_of, eat_yes, eat_no, sees_by, sees_not}
 use Rattle.parse_complete.proofs.Trees.{pointer, array, array_of, function, pointer_is}
 use Rattle.parse_complete.proofs.Words.{words_read}

@@ -1,9 +1,8 @@
 -- What reading finds of each case of an expression.
-use Rattle.std.proofs.Common.{◌≡◌, ◌≢◌, ℕ, zero, suc, ◌+◌, ◌-◌, ◌<◌, ◌≤◌, Bool, true, false, not, ◌&&◌, if◌then◌else◌, nat_lt, List, [], ◌∷◌, ◌++◌, Option, Some, None, refl, sym, ap, ◌∙◌, subst, arith, append_assoc, append-nil}
+use Rattle.std.proofs.Common.{◌≡◌, ℕ, zero, suc, ◌+◌, ◌<◌, ◌≤◌, Bool, true, false, not, ◌&&◌, nat_lt, List, [], ◌∷◌, ◌++◌, Some, None, refl, sym, ap, ◌∙◌, arith, append_assoc, append-nil}
 use Rattle.std.proofs.lemmas.Bool.Decides.{nat_tests}
 use mathlib.Core.Former.{this, arity}
 use Rattle.sqlite_items.specs.formers.items.Items.{the_former}
-use Rattle.c_lex.specs.declared.token.TokenKind.{TokenKind}
 use Rattle.c_lex.specs.declared.token.TokenKind.TheVariants as token
 use Rattle.c_lex.specs.declared.token.Word.{Word as AWord}
 use Rattle.c_lex.specs.declared.token.Word.TheVariants as w
@@ -11,7 +10,6 @@ use Rattle.c_lex.specs.declared.token.Mark.TheVariants as m
 use Rattle.c_ast.specs.declared.declaration.Base.{Base}
 use Rattle.c_ast.specs.declared.declaration.Base.TheBlock.{Name, Number, CharLit, Strings as StringsNode, Comma', Row_of-Expr, end_of-Expr, more_of-Expr}
 use Rattle.c_ast.specs.declared.declaration.Declarator.{Declarator}
-use Rattle.c_ast.specs.declared.declaration.TypeName.{TypeName}
 use Rattle.c_ast.specs.declared.expression.Expr.{Expr}
 use Rattle.c_ast.specs.declared.expression.ExprNode.{ExprNode}
 use Rattle.c_ast.specs.declared.expression.ExprNode.TheVariants as node
@@ -21,25 +19,24 @@ use Rattle.c_ast.specs.declared.expression.PostOp.{PostOp}
 use Rattle.c_ast.specs.declared.expression.PostOp.TheVariants as p
 use Rattle.c_ast.specs.declared.expression.BinaryOp.{BinaryOp}
 use Rattle.c_ast.specs.declared.expression.AssignOp.{AssignOp}
-use Rattle.c_ast.specs.Input.{Input, kind, next, is_typedef}
+use Rattle.c_ast.specs.Input.{Input, kind, next}
 use Rattle.c_grammar.specs.Operators as op
-use Rattle.c_grammar.specs.Grammar.{Mode, Abstract, DeclaratorOperand, DeclaratorRule, Specifiers, BaseRule, Spells, Arguments, Several, MoreExprs, level as level_of_node}
+use Rattle.c_grammar.specs.Grammar.{Abstract, DeclaratorOperand, DeclaratorRule, Specifiers, BaseRule, Spells, Arguments, Several, MoreExprs, level as level_of_node}
 use Rattle.c_grammar.specs.Rules.{Rule, ◌⨾◌, Mark, Operand, is_qualified_word}
-use Rattle.parse_spec.specs.Steps.{Outcome, left, turns, sees, is_mark, same_mark, mark_of}
+use Rattle.parse_spec.specs.Steps.{left, turns, sees, same_mark}
 use Rattle.parse_spec.specs.Nested.{expr, declarator, specs}
-use Rattle.parse_spec.specs.Places.{begins_type_after, begins_by}
-use Rattle.parse_spec.specs.Operators.{tight_of}
-use Rattle.parse_spec.specs.Expressions.{made, tight, begins_cast, leaf, name_expr, string_expr, primary, arguments_from, argument_list, arguments, subscript, post, type_name, casted, size, alignment, chained, bracketed, operated, prefix_by, prefix, choice, assigned, joined, step, operators, commas_from, commas, whole, level}
+use Rattle.parse_spec.specs.Places.{begins_type_after}
+use Rattle.parse_spec.specs.Expressions.{made, tight, begins_cast, name_expr, string_expr, primary, arguments_from, argument_list, arguments, subscript, post, type_name, casted, size, alignment, bracketed, operated, prefix_by, prefix, choice, assigned, joined, step, operators, commas_from, commas, whole, level}
 use Rattle.parse_sound.proofs.Holding.{sees_of, sees_is}
 use Rattle.parse_sound.proofs.Operators.{level_low, level_high, operand_high}
 use Rattle.parse_complete.proofs.Declarators.{IsDeclared, declarator_read, declarator_less, declarator_ends}
 use Rattle.parse_complete.proofs.Firsts.{expr_opens, no_opening}
-use Rattle.parse_complete.proofs.Keeps.{identifier_keeps, arguments_keep, more_exprs_keep, operand_keeps, spells_keeps}
-use Rattle.parse_complete.proofs.Parens.{Ends, Bare, Reaches, Found, IsRead, whole_from, reaches_from, found_post, no_comma, whole_one, and_false, operand_post, operand_reach, operand_less, operand_expr}
-use Rattle.parse_complete.proofs.Runs.{Plain, PostsTo, posts_step, chain_from, climb_stop, climb_step, operators_from}
+use Rattle.parse_complete.proofs.Keeps.{identifier_keeps, arguments_keep}
+use Rattle.parse_complete.proofs.Parens.{Reaches, Found, IsRead, whole_from, reaches_from, found_post, no_comma, operand_post, operand_reach, operand_less, operand_expr}
+use Rattle.parse_complete.proofs.Runs.{Plain, posts_step, chain_from, climb_stop, climb_step, operators_from}
 use Rattle.parse_complete.proofs.Specifiers.{qualified_tags, IsSpecified, specifiers_less, specs_begin}
-use Rattle.parse_complete.proofs.Steps.{mark_takes, word_takes, expect_of, eat_yes, eat_no, sees_by, sees_not, no_case}
-use Rattle.parse_complete.proofs.Tables.{grip, grip_is, grip_tight, no_string, tight_is, tight_post, tight_at_binary, tight_at_assign, grip_at_binary, grip_at_assign, binary_op_of, assign_op_of, no_binary_op, unary_op_of, operand_low, no_question_binary, no_question_assign, no_paren_unary}
+use Rattle.parse_complete.proofs.Steps.{mark_takes, word_takes, expect_of, eat_yes, eat_no, sees_by, sees_not}
+use Rattle.parse_complete.proofs.Tables.{grip, grip_is, grip_tight, no_string, tight_is, tight_post, tight_at_binary, tight_at_assign, grip_at_binary, grip_at_assign, binary_op_of, assign_op_of, no_binary_op, operand_low, no_question_binary, no_question_assign, no_paren_unary}
 use Rattle.parse_complete.proofs.Trees.{unary, postfix, binary, assign, cond, index, dot, arrow, call, cast, sizeof_expr, sizeof_type, alignof_type, exprs, named_type, unary_is, postfix_is, binary_is, assign_is, cond_is, index_is, dot_is, arrow_is, comma_is, call_is, cast_is, sizeof_expr_is, sizeof_type_is, alignof_type_is}
 use Rattle.parse_complete.proofs.Words.{identifier_read, strings_read}
 
@@ -91,8 +88,7 @@ pub strings_found : (n count : ℕ) → IsRead (StringsNode n count)
 unfolding primary string_expr
 strings_found n zero i = found_post (StringsNode n zero) i 0 (omega arith) (omega arith) (λ _ s t h stop d le f t2 go. absurd h.1)
 strings_found n (suc count) i = found_post (StringsNode n (suc count)) i 0 (omega arith) (omega arith) (λ _ s t h stop d le f t2 go.
-    let is = h.1.1.1.0.0 in
-    (
+    let is = h.1.1.1.0.0 in (
       string_plain d s is,
       chain_from d s (made i (StringsNode n (suc count))) t f t2 (rw (is, strings_read n (suc count) s t h.1 (no_string t stop), h.0, h.1.0) refl) go,
     ))
@@ -169,8 +165,7 @@ unary_found o j a c i = found_reach (unary o j a) i (omega arith) (omega arith) 
     let p1 = mark_takes (op.unary_mark o) s x mark in
     let high = operand_high o in
     let low = operand_low o in
-    let inner = operand_expr a c j (op.operand_level o) high x t h (omega arith) stop d (omega arith) in
-    (
+    let inner = operand_expr a c j (op.operand_level o) high x t h (omega arith) stop d (omega arith) in (
       unary_at d o s.at least s mark.0 ∙ rw (← mark.1, inner, e, unary_is o j a) refl,
       no_cast s (sees_by m.OpenParen s _ mark.0 (no_paren_unary o)),
     )))

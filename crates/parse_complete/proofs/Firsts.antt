@@ -1,5 +1,5 @@
 -- The tokens with which an expression begins.
-use Rattle.std.proofs.Common.{◌≡◌, ℕ, zero, suc, ◌==◌, Bool, true, false, not, ◌&&◌, if◌then◌else◌, Option, Some, None, refl, sym, ap, ◌∙◌}
+use Rattle.std.proofs.Common.{◌≡◌, ℕ, zero, suc, ◌==◌, Bool, true, false, not, if◌then◌else◌, Option, Some, None, refl, sym, ap, ◌∙◌}
 use Rattle.c_lex.specs.declared.token.TokenKind.{TokenKind}
 use Rattle.c_lex.specs.declared.token.TokenKind.TheVariants as token
 use Rattle.c_lex.specs.declared.token.Word.{Word as AWord}
@@ -7,14 +7,13 @@ use Rattle.c_lex.specs.declared.token.Word.TheVariants as w
 use Rattle.c_lex.specs.declared.token.Mark.{Mark as AMark}
 use Rattle.c_lex.specs.declared.token.Mark.TheVariants as m
 use Rattle.c_ast.specs.declared.expression.Expr.{Expr}
-use Rattle.c_ast.specs.Input.{Input, kind, next, is_typedef}
+use Rattle.c_ast.specs.Input.{Input, kind, is_typedef}
 use Rattle.c_grammar.specs.Operators as op
 use Rattle.c_grammar.specs.Rules.{is_declaration_word, is_qualified_word}
-use Rattle.parse_spec.specs.Steps.{Outcome, Parser, and_then, is_mark, is_word, same_mark, same_word, sees, sees_word}
+use Rattle.parse_spec.specs.Steps.{Outcome, Parser, and_then}
 use Rattle.parse_spec.specs.Nested.{expr, declarator, specs}
-use Rattle.parse_spec.specs.Places.{begins_by, opens_designator, is_label_by}
+use Rattle.parse_spec.specs.Places.{begins_by, opens_designator}
 use Rattle.parse_spec.specs.Expressions.{prefix_by, prefix, chained, primary_by, primary, name_expr, operators, whole, level}
-use Rattle.parse_complete.proofs.Steps.{no_case}
 
 -- `typedef` says that a name would be a typedef name
 abbrev pub opens : Bool → Option TokenKind → Bool

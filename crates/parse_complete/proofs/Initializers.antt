@@ -1,9 +1,7 @@
 -- Initializers that are spelled are read.
-use Rattle.std.proofs.Common.{◌≡◌, ◌≢◌, ℕ, zero, suc, ◌+◌, ◌-◌, ◌<◌, ◌≤◌, Bool, true, false, if◌then◌else◌, ◌⊎◌, inl, inr, List, [], ◌∷◌, ◌++◌, Option, Some, None, refl, sym, ap, ◌∙◌, subst, arith, append_assoc}
+use Rattle.std.proofs.Common.{◌≡◌, ◌≢◌, ℕ, zero, suc, ◌<◌, ◌≤◌, true, false, inl, inr, List, [], ◌∷◌, ◌++◌, Some, refl, sym, ap, ◌∙◌, subst, arith, append_assoc}
 use mathlib.Core.Former.{this, arity}
-use denote.Hole.Carrier.{hidden, shown}
 use Rattle.sqlite_items.specs.formers.items.Items.{the_former}
-use Rattle.c_lex.specs.declared.token.TokenKind.{TokenKind}
 use Rattle.c_lex.specs.declared.token.TokenKind.TheVariants as token
 use Rattle.c_lex.specs.declared.token.Mark.TheVariants as m
 use Rattle.c_ast.specs.declared.declaration.Designator.{Designator}
@@ -13,11 +11,11 @@ use Rattle.c_ast.specs.declared.declaration.Init.TheBlock.{Single, Braced', Row_
 use Rattle.c_ast.specs.declared.declaration.Init.TheVariants as init
 use Rattle.c_ast.specs.declared.declaration.InitEntry.{InitEntry}
 use Rattle.c_ast.specs.declared.expression.Expr.{Expr}
-use Rattle.c_ast.specs.Input.{Input, kind, next, is_typedef}
+use Rattle.c_ast.specs.Input.{Input, kind, is_typedef}
 use Rattle.c_grammar.specs.Operators as op
 use Rattle.c_grammar.specs.Grammar.{IsExpr, DesignatorRule, DesignatorList, Designation, InitRule, InitEntries, MoreInits}
-use Rattle.c_grammar.specs.Rules.{Rule, ◌⨾◌, Mark, MaybeMark}
-use Rattle.parse_spec.specs.Steps.{left, turns, same_mark, sees}
+use Rattle.c_grammar.specs.Rules.{◌⨾◌, Mark}
+use Rattle.parse_spec.specs.Steps.{left, turns, same_mark}
 use Rattle.parse_spec.specs.Nested.{expr}
 use Rattle.parse_spec.specs.Places.{opens_designator}
 use Rattle.parse_spec.specs.Initializers.{one_designator, designators_from, designation, entry_of, entries_from, initializer_at, one_initializer, initializer}
@@ -28,7 +26,7 @@ use Rattle.parse_complete.proofs.Members.{EndsEnumerator, ListEnd, list_ends, en
 use Rattle.parse_complete.proofs.Nested.{expr_read}
 use Rattle.parse_complete.proofs.Steps.{mark_takes, expect_of, eat_yes, eat_no, sees_by, sees_not}
 use Rattle.parse_complete.proofs.Tables.{grip, grip_is}
-use Rattle.parse_complete.proofs.Takes.{expr_keeps, designator_keeps, designation_keeps, init_keeps, more_inits_keep}
+use Rattle.parse_complete.proofs.Takes.{expr_keeps, designation_keeps, init_keeps}
 use Rattle.parse_complete.proofs.Words.{identifier_read}
 
 -- an expression at the turns that the parser gives it

@@ -1,5 +1,5 @@
 -- A rule of the grammar takes no token back, and leaves the tokens as they are.
-use Rattle.std.proofs.Common.{◌≡◌, ℕ, zero, suc, ◌≤◌, ◌<◌, Bool, true, false, List, [], ◌∷◌, ◌++◌, Option, Some, None, ap, if◌then◌else◌, drop, length, subst, sym, refl, inl, inr, ◌∙◌, arith}
+use Rattle.std.proofs.Common.{◌≡◌, ℕ, zero, suc, ◌≤◌, Bool, true, false, List, [], ◌∷◌, ◌++◌, Option, Some, None, ap, if◌then◌else◌, drop, length, subst, sym, refl, inl, inr, ◌∙◌, arith}
 use Rattle.c_lex.specs.declared.token.TokenKind.{TokenKind}
 use Rattle.c_lex.specs.declared.token.TokenKind.TheVariants as token
 use Rattle.c_lex.specs.declared.token.Word.{Word as AWord}
@@ -13,10 +13,10 @@ use Rattle.c_ast.specs.declared.declaration.Declarator.{Declarator}
 use Rattle.c_ast.specs.declared.declaration.Enumerator.{Enumerator, Enumerator'}
 use Rattle.c_ast.specs.declared.expression.ExprNode.{ExprNode}
 use Rattle.c_ast.specs.declared.expression.BinaryOp.{BinaryOp}
-use Rattle.c_ast.specs.Input.{Input, kind, next, declared, back_to}
+use Rattle.c_ast.specs.Input.{Input, next, declared, back_to}
 use Rattle.c_grammar.specs.Operators as op
 use Rattle.c_grammar.specs.Rules.{Rule, ◌⨾◌, Nothing, Never, Takes, Mark, Word, Numbered, Identifier, MaybeIdentifier, NameThat, NoTypedef, MaybeMark, Literals, Strings, Message, Within, From, Operand, Declares, Scoped, Prototype, Apart, Words, is_qualifier, is_qualified_word, is_declaration_word, has_type_word}
-use Rattle.c_grammar.specs.Grammar.{Mode, Named, Abstract, Either, NoParameters, WithinIn, StarMayStand, DeclaratorOperand, HasName, name_of, is_own_name, level, tag_word, Specifiers, Spells, Stands, StandsAbove, Arguments, Several, AnotherExpr, MoreExprs, TypeNames, BaseRule, TagMembers, Members, MoreMembers, MemberRule, MemberNames, MoreNames, TagEnumerators, Enumerators, MoreEnumerators, EnumeratorRule, ValueRule, DeclaratorRule, Declarators, SizeRule, Parameters, MoreParameters}
+use Rattle.c_grammar.specs.Grammar.{Mode, Named, Abstract, Either, NoParameters, WithinIn, DeclaratorOperand, name_of, is_own_name, level, tag_word, Specifiers, Spells, Stands, StandsAbove, Arguments, Several, AnotherExpr, MoreExprs, TypeNames, BaseRule, TagMembers, Members, MoreMembers, MemberRule, MemberNames, MoreNames, TagEnumerators, Enumerators, MoreEnumerators, EnumeratorRule, ValueRule, DeclaratorRule, Declarators, SizeRule, Parameters, MoreParameters}
 use Rattle.parse_spec.specs.Steps.{left}
 use Rattle.parse_complete.proofs.Steps.{takes_one}
 

@@ -1,5 +1,5 @@
 -- What statements and declarations begin with, and which of them are labels.
-use Rattle.std.proofs.Common.{◌≡◌, ◌≢◌, ℕ, zero, suc, ◌+◌, ◌<◌, ◌≤◌, Bool, true, false, not, ◌&&◌, if◌then◌else◌, List, [], ◌∷◌, ◌++◌, Option, Some, None, refl, sym, ap, ◌∙◌, subst, arith}
+use Rattle.std.proofs.Common.{◌≡◌, ◌≢◌, ◌≤◌, Bool, true, false, not, ◌&&◌, List, [], ◌∷◌, Option, Some, None, refl, sym, ap, ◌∙◌, arith}
 use Rattle.c_lex.specs.declared.token.TokenKind.{TokenKind}
 use Rattle.c_lex.specs.declared.token.TokenKind.TheVariants as token
 use Rattle.c_lex.specs.declared.token.Word.{Word as AWord}
@@ -13,10 +13,9 @@ use Rattle.c_ast.specs.declared.expression.Expr.{Expr}
 use Rattle.c_ast.specs.declared.statement.Entry.TheBlock as stmt
 use Rattle.c_ast.specs.declared.statement.Stmt.{Stmt}
 use Rattle.c_ast.specs.Input.{Input, kind, next, is_typedef}
-use Rattle.c_grammar.specs.Grammar.{Specifiers, BaseRule, IsExpr, DeclarationRule, StmtRule, tag_word}
-use Rattle.c_grammar.specs.Rules.{Rule, ◌⨾◌, Words, Mark, is_declaration_word, has_type_word, declares_typedef}
-use Rattle.parse_spec.specs.Steps.{left, turns, same_mark, same_word, is_mark, is_word, sees, sees_word}
-use Rattle.parse_spec.specs.Nested.{expr}
+use Rattle.c_grammar.specs.Grammar.{Specifiers, BaseRule, IsExpr, DeclarationRule, StmtRule}
+use Rattle.c_grammar.specs.Rules.{◌⨾◌, Words, is_declaration_word, has_type_word, declares_typedef}
+use Rattle.parse_spec.specs.Steps.{same_mark, same_word, is_mark, is_word, sees, sees_word}
 use Rattle.parse_spec.specs.Places.{begins_by, begins_declaration, is_label_by, is_label}
 use Rattle.parse_spec.specs.Expressions.{made}
 use Rattle.parse_sound.proofs.Declarations.{PartsEnd}

@@ -1,38 +1,35 @@
 -- Structures, unions, enumerations and typedef names that are spelled are read.
-use Rattle.std.proofs.Common.{◌≡◌, ◌≢◌, ℕ, zero, suc, ◌+◌, ◌-◌, ◌<◌, ◌≤◌, Bool, true, false, if◌then◌else◌, ◌⊎◌, inl, inr, ⊎_elim, List, [], ◌∷◌, ◌++◌, Option, Some, None, refl, sym, ap, ◌∙◌, subst, arith, append_assoc, append-nil}
+use Rattle.std.proofs.Common.{◌≡◌, ◌≢◌, ℕ, zero, suc, ◌<◌, ◌≤◌, Bool, true, false, ◌⊎◌, inl, inr, List, [], ◌∷◌, ◌++◌, Option, Some, None, refl, sym, ap, ◌∙◌, subst, arith, append_assoc}
 use mathlib.Core.Former.{this, arity}
 use Rattle.sqlite_items.specs.formers.items.Items.{the_former}
 use Rattle.c_lex.specs.declared.token.TokenKind.{TokenKind}
 use Rattle.c_lex.specs.declared.token.TokenKind.TheVariants as token
 use Rattle.c_lex.specs.declared.token.Word.{Word as AWord}
 use Rattle.c_lex.specs.declared.token.Word.TheVariants as w
-use Rattle.c_lex.specs.declared.token.Mark.{Mark as AMark}
 use Rattle.c_lex.specs.declared.token.Mark.TheVariants as m
 use Rattle.c_ast.specs.declared.declaration.Base.{Base}
-use Rattle.c_ast.specs.declared.declaration.Base.TheBlock.{Plain, Typedef, Tagged', Base-Tagged-2-None', Base-Tagged-2-Some', Enumerated', Base-Enumerated-1-None', Base-Enumerated-1-Some', Fields', Assertion', Enumerator-value-None', Enumerator-value-Some', Row_of-Declarator, end_of-Declarator, more_of-Declarator, Row_of-MemberEntry, end_of-MemberEntry, more_of-MemberEntry, Row_of-Enumerator, end_of-Enumerator, more_of-Enumerator}
-use Rattle.c_ast.specs.declared.declaration.Base.TheVariants as base
+use Rattle.c_ast.specs.declared.declaration.Base.TheBlock.{Typedef, Tagged', Base-Tagged-2-None', Base-Tagged-2-Some', Enumerated', Base-Enumerated-1-None', Base-Enumerated-1-Some', Fields', Assertion', Enumerator-value-None', Enumerator-value-Some', Row_of-Declarator, end_of-Declarator, more_of-Declarator, Row_of-MemberEntry, end_of-MemberEntry, more_of-MemberEntry, Row_of-Enumerator, end_of-Enumerator, more_of-Enumerator}
 use Rattle.c_ast.specs.declared.declaration.Declarator.{Declarator}
 use Rattle.c_ast.specs.declared.declaration.Enumerator.{Enumerator, Enumerator'}
 use Rattle.c_ast.specs.declared.declaration.MemberEntry.{MemberEntry}
-use Rattle.c_ast.specs.declared.declaration.MemberEntry.TheVariants as member-entry
 use Rattle.c_ast.specs.declared.expression.ExprNode.{ExprNode}
 use Rattle.c_ast.specs.Input.{Input, kind, next, is_typedef, declared}
 use Rattle.c_grammar.specs.Operators as op
-use Rattle.c_grammar.specs.Grammar.{Mode, Named, DeclaratorOperand, DeclaratorRule, Specifiers, BaseRule, Members, MoreMembers, MemberRule, MemberNames, MoreNames, Enumerators, MoreEnumerators, EnumeratorRule, ValueRule, Spells, level, tag_word}
+use Rattle.c_grammar.specs.Grammar.{Named, DeclaratorOperand, DeclaratorRule, BaseRule, Members, MoreMembers, MemberRule, MemberNames, MoreNames, Enumerators, MoreEnumerators, EnumeratorRule, Spells, level, tag_word}
 use Rattle.c_grammar.specs.Rules.{Rule, ◌⨾◌, Nothing, Mark, MaybeMark, Word, Identifier, MaybeIdentifier, Message, Operand, Strings, is_qualified_word}
-use Rattle.parse_spec.specs.Steps.{left, turns, maybe_identifier, same_mark, same_word, sees, sees_word, is_mark, is_word, allows}
+use Rattle.parse_spec.specs.Steps.{left, turns, maybe_identifier, same_mark, sees, allows}
 use Rattle.parse_spec.specs.Nested.{expr, declarator, specs}
 use Rattle.parse_spec.specs.Places.{begins_by}
 use Rattle.parse_spec.specs.Expressions.{made}
-use Rattle.parse_spec.specs.Specifiers.{message, assertion, names_from, member_names, one_member, members_from, tagged_by, tagged, enumerator_value, one_enumerator, enumerators_from, enumerated_by, enumerated, specifier_base}
+use Rattle.parse_spec.specs.Specifiers.{message, assertion, names_from, member_names, one_member, members_from, tagged, enumerator_value, one_enumerator, enumerators_from, enumerated, specifier_base}
 use Rattle.parse_sound.proofs.Holding.{sees_of, sees_word_of}
 use Rattle.parse_complete.proofs.Declarators.{stops, ends_specs, IsDeclared, declarator_read, declarator_less, declarator_ends, named_no_stop}
-use Rattle.parse_complete.proofs.Keeps.{tag_members_keep, tag_enumerators_keep, then_keeps, mark_keeps, operand_keeps, spells_keeps, message_keeps, members_keep, more_members_keep, enumerators_keep, more_enumerators_keep, member_names_keep, more_names_keep, value_keeps, maybe_identifier_keeps, member_keeps, enumerator_keeps, maybe_mark_keeps, left_declared}
-use Rattle.parse_complete.proofs.Parens.{IsRead, operand_expr, operand_less}
+use Rattle.parse_complete.proofs.Keeps.{tag_members_keep, tag_enumerators_keep, then_keeps, mark_keeps, operand_keeps, spells_keeps, message_keeps, member_names_keep, maybe_identifier_keeps, enumerator_keeps}
+use Rattle.parse_complete.proofs.Parens.{IsRead, operand_expr}
 use Rattle.parse_complete.proofs.Specifiers.{NoTags, qualified_tags, IsSpecified, IsBase, specifiers_less, specs_begin, specified_from, between_read}
-use Rattle.parse_complete.proofs.Steps.{mark_takes, word_takes, takes_one, expect_of, expect_word_of, eat_yes, eat_no, sees_by, sees_word_by, sees_not, sees_word_not}
+use Rattle.parse_complete.proofs.Steps.{mark_takes, word_takes, takes_one, expect_of, expect_word_of, eat_yes, eat_no, sees_by, sees_not, sees_word_not}
 use Rattle.parse_complete.proofs.Tables.{grip, grip_is}
-use Rattle.parse_complete.proofs.Trees.{names, members_of, enumerators_of, specs_with, fields_is, assertion_is, bare_enumerator_is, valued_enumerator_is, tagged_is, enumerated_is}
+use Rattle.parse_complete.proofs.Trees.{names, members_of, enumerators_of, fields_is, assertion_is, bare_enumerator_is, valued_enumerator_is, tagged_is, enumerated_is}
 use Rattle.parse_complete.proofs.Words.{identifier_read, no_identifier, some_identifier, strings_read}
 
 -- ---- static assertions
@@ -59,8 +56,16 @@ assertion_read at a n c s t (x, (word, (y, (before, (z, (h, (u, (comma, (v, (tex
     let p2 = mark_takes m.OpenParen x y before in
     let stop : grip z ≤ 1 = omega (arith, grip_is z m.Comma comma.0) in
     let inner = operand_expr a c at 2 (omega arith) y z h (omega arith) (omega arith) d (omega arith) in
-    rw (expect_word_of w.StaticAssert s word.0, ← word.1, expect_of m.OpenParen x before.0, ← before.1, inner, expect_of m.Comma z comma.0, ← comma.1,
-    message_read n u v q t text close end) refl
+    rw (
+      expect_word_of w.StaticAssert s word.0,
+      ← word.1,
+      expect_of m.OpenParen x before.0,
+      ← before.1,
+      inner,
+      expect_of m.Comma z comma.0,
+      ← comma.1,
+      message_read n u v q t text close end,
+    ) refl
 
 -- ---- the declarators of a member
 

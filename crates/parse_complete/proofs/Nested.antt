@@ -1,5 +1,5 @@
 -- Every expression, declarator and list of specifiers that is spelled is read, wherever tokens for it are left.
-use Rattle.std.proofs.Common.{◌≡◌, ℕ, zero, suc, ◌<◌, ◌≤◌, Bool, true, false, List, [], ◌∷◌, Option, Some, None, arith}
+use Rattle.std.proofs.Common.{◌≡◌, ℕ, ◌<◌, ◌≤◌, List, [], ◌∷◌, Some, None, arith}
 use Rattle.c_lex.specs.declared.token.Word.{Word as AWord}
 use Rattle.c_ast.specs.declared.declaration.Base.{Base}
 use Rattle.c_ast.specs.declared.declaration.Base.TheBlock.{Plain, Tagged', Base-Tagged-2-None', Base-Tagged-2-Some', Enumerated', Base-Enumerated-1-None', Base-Enumerated-1-Some', Typedef, Fields', Assertion', Ident, Enumerator-value-None', Enumerator-value-Some', Name, Number, CharLit, Strings as StringsNode, Comma', Row_of-Expr, end_of-Expr, more_of-Expr, Row_of-Declarator, end_of-Declarator, more_of-Declarator, Row_of-Enumerator, end_of-Enumerator, more_of-Enumerator, Row_of-MemberEntry, end_of-MemberEntry, more_of-MemberEntry, Row_of-Param, end_of-Param, more_of-Param}

@@ -1,14 +1,14 @@
 -- What reading finds of an expression that is spelled, bare or in parentheses.
-use Rattle.std.proofs.Common.{◌≡◌, ◌≢◌, ℕ, zero, suc, ◌+◌, ◌-◌, ◌<◌, ◌≤◌, Bool, true, false, not, ◌&&◌, if◌then◌else◌, Option, Some, None, refl, sym, ap, ◌∙◌, subst, arith}
+use Rattle.std.proofs.Common.{◌≡◌, ℕ, zero, suc, ◌+◌, ◌<◌, ◌≤◌, Bool, true, false, not, ◌&&◌, Some, refl, ap, ◌∙◌, arith}
 use Rattle.std.proofs.Math.Dec.{eqb-suc-zero}
 use Rattle.c_lex.specs.declared.token.TokenKind.TheVariants as token
 use Rattle.c_lex.specs.declared.token.Mark.TheVariants as m
 use Rattle.c_ast.specs.declared.expression.Expr.{Expr}
 use Rattle.c_ast.specs.declared.expression.ExprNode.{ExprNode}
-use Rattle.c_ast.specs.Input.{Input, kind, next, is_typedef}
+use Rattle.c_ast.specs.Input.{Input, kind, is_typedef}
 use Rattle.c_grammar.specs.Grammar.{Spells, level as level_of_node}
-use Rattle.c_grammar.specs.Rules.{Mark, Within, From, MayStand, Operand}
-use Rattle.parse_spec.specs.Steps.{left, turns, sees}
+use Rattle.c_grammar.specs.Rules.{Within, From, MayStand, Operand}
+use Rattle.parse_spec.specs.Steps.{left, sees}
 use Rattle.parse_spec.specs.Nested.{expr, declarator, specs}
 use Rattle.parse_spec.specs.Places.{begins_type_after}
 use Rattle.parse_spec.specs.Expressions.{made, begins_cast, inside, primary, bracketed, prefix, operators, whole, level}
@@ -100,8 +100,7 @@ paren_primary a i n w s t (x, (before, (y, (h, behind)))) d le =
     let p = mark_takes m.OpenParen s x before in
     let stop : grip y ≤ 0 = omega (arith, grip_is y m.CloseParen behind.0) in
     let inner = inner_read a i n w x y h stop d (omega arith) in
-    let first = opens_no_type (is_typedef x) (kind x) (expr_opens d 0 x (made i a, y) inner) in
-    (
+    let first = opens_no_type (is_typedef x) (kind x) (expr_opens d 0 x (made i a, y) inner) in (
       rw (before.0, ← before.1, inner, expect_of m.CloseParen y behind.0, behind.1) refl,
       rw (← before.1) first,
     )

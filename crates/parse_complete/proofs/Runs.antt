@@ -1,8 +1,8 @@
 -- How the parser goes on from what it has read: each step, and where it stops.
-use Rattle.std.proofs.Common.{◌≡◌, ℕ, zero, suc, ◌+◌, ◌-◌, ◌<◌, ◌≤◌, Bool, true, false, not, nat_le, Option, Some, None, refl, sym, ap, ◌∙◌, arith}
+use Rattle.std.proofs.Common.{◌≡◌, ℕ, zero, suc, ◌<◌, ◌≤◌, Bool, false, not, Some, refl, arith}
 use Rattle.std.proofs.lemmas.Bool.{le-leb, lt-leb}
 use Rattle.c_ast.specs.declared.expression.Expr.{Expr}
-use Rattle.c_ast.specs.Input.{Input, kind}
+use Rattle.c_ast.specs.Input.{Input}
 use Rattle.parse_spec.specs.Steps.{Outcome, left, turns}
 use Rattle.parse_spec.specs.Nested.{expr, declarator, specs}
 use Rattle.parse_spec.specs.Expressions.{tight, begins_cast, primary, post, posts, posts_from, chained, prefix, step, climb, climbed, operators}

@@ -2,7 +2,6 @@
 use Rattle.std.proofs.Common.{◌≡◌, ℕ, Bool, List, [], ◌∷◌, Option, Some, None}
 use Rattle.c_lex.specs.declared.token.Word.TheVariants as w
 use Rattle.c_lex.specs.declared.token.Mark.TheVariants as m
-use Rattle.c_ast.specs.declared.declaration.Declarator.{Declarator}
 use Rattle.c_ast.specs.declared.declaration.Designator.{Designator}
 use Rattle.c_ast.specs.declared.declaration.Designator.TheVariants.{Member, Element}
 use Rattle.c_ast.specs.declared.declaration.Init.{Init}
@@ -10,7 +9,6 @@ use Rattle.c_ast.specs.declared.declaration.Init.TheBlock.{Single, Braced', Row_
 use Rattle.c_ast.specs.declared.declaration.Part.{Part}
 use Rattle.c_ast.specs.declared.declaration.Specs.{Specs}
 use Rattle.c_ast.specs.declared.expression.Expr.{Expr}
-use Rattle.c_ast.specs.Input.{Input}
 use Rattle.c_grammar.specs.Operators as op
 use Rattle.c_grammar.specs.Grammar.{Named, IsExpr, Spells, BaseRule, DeclaratorRule, level, name_of, AssertionRule, DesignatorRule, DesignatorList, Designation, InitRule, InitEntries, MoreInits, MaybeInit, PartRule, MoreParts, Parts, DeclarationSpecifiers}
 use Rattle.c_grammar.specs.Rules.{Mark, is_declaration_word}

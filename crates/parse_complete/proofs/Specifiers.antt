@@ -1,37 +1,26 @@
 -- Specifiers that are spelled are read.
-use Rattle.std.proofs.Common.{◌≡◌, ◌≢◌, ℕ, zero, suc, ◌+◌, ◌-◌, ◌<◌, ◌≤◌, ◌==◌, Bool, true, false, ◌||◌, if◌then◌else◌, ◌⊎◌, inl, inr, List, [], ◌∷◌, ◌++◌, length, Option, Some, None, refl, sym, ap, ◌∙◌, subst, arith, append_assoc, append-nil}
+use Rattle.std.proofs.Common.{◌≡◌, ◌≢◌, ℕ, zero, suc, ◌<◌, ◌≤◌, ◌==◌, Bool, true, false, ◌||◌, List, [], ◌∷◌, ◌++◌, length, Option, Some, refl, sym, ap, ◌∙◌, subst, arith, append-nil}
 use Rattle.std.proofs.lemmas.Bool.Decides.{nat_tests}
 use Rattle.c_lex.specs.declared.token.TokenKind.{TokenKind}
 use Rattle.c_lex.specs.declared.token.TokenKind.TheVariants as token
 use Rattle.c_lex.specs.declared.token.Word.{Word as AWord}
 use Rattle.c_lex.specs.declared.token.Word.TheVariants as w
-use Rattle.c_lex.specs.declared.token.Mark.{Mark as AMark}
 use Rattle.c_lex.specs.declared.token.Mark.TheVariants as m
 use Rattle.c_ast.specs.declared.declaration.Base.{Base}
-use Rattle.c_ast.specs.declared.declaration.Base.TheBlock.{Plain, Typedef, Tagged', Base-Tagged-2-None', Base-Tagged-2-Some', Enumerated', Base-Enumerated-1-None', Base-Enumerated-1-Some', Fields', Assertion', Enumerator-value-None', Enumerator-value-Some', Row_of-Declarator, end_of-Declarator, more_of-Declarator, Row_of-MemberEntry, end_of-MemberEntry, more_of-MemberEntry, Row_of-Enumerator, end_of-Enumerator, more_of-Enumerator}
+use Rattle.c_ast.specs.declared.declaration.Base.TheBlock.{Plain, Typedef, Tagged', Enumerated'}
 use Rattle.c_ast.specs.declared.declaration.Base.TheVariants as base
-use Rattle.c_ast.specs.declared.declaration.Declarator.{Declarator}
-use Rattle.c_ast.specs.declared.declaration.Enumerator.{Enumerator, Enumerator'}
-use Rattle.c_ast.specs.declared.declaration.MemberEntry.{MemberEntry}
-use Rattle.c_ast.specs.declared.declaration.MemberEntry.TheVariants as member-entry
-use Rattle.c_ast.specs.declared.expression.ExprNode.{ExprNode}
-use Rattle.c_ast.specs.Input.{Input, kind, next, is_typedef, declared}
-use Rattle.c_grammar.specs.Operators as op
-use Rattle.c_grammar.specs.Grammar.{Mode, Named, DeclaratorOperand, DeclaratorRule, Specifiers, BaseRule, TagMembers, Members, MoreMembers, MemberRule, MemberNames, MoreNames, TagEnumerators, Enumerators, MoreEnumerators, EnumeratorRule, ValueRule, Spells, level, tag_word}
-use Rattle.c_grammar.specs.Rules.{Rule, ◌⨾◌, Mark, MaybeMark, Word, Words, Identifier, MaybeIdentifier, NameThat, Message, Operand, is_qualified_word, is_declaration_word, has_type_word}
-use Rattle.parse_spec.specs.Steps.{Outcome, and_then, left, turns, same_mark, same_word, sees, sees_word, is_mark, is_word, allows, words, identifier, maybe_identifier, declare}
+use Rattle.c_ast.specs.Input.{Input, kind, is_typedef}
+use Rattle.c_grammar.specs.Grammar.{Specifiers, BaseRule, tag_word}
+use Rattle.c_grammar.specs.Rules.{Rule, ◌⨾◌, Words, is_qualified_word, is_declaration_word, has_type_word}
+use Rattle.parse_spec.specs.Steps.{Outcome, left, same_mark, sees, allows, words}
 use Rattle.parse_spec.specs.Nested.{expr, declarator, specs}
-use Rattle.parse_spec.specs.Places.{begins_by, is_tag_word}
-use Rattle.parse_spec.specs.Expressions.{made, tight}
-use Rattle.parse_spec.specs.Specifiers.{specs_of, message, assertion, names_from, member_names, one_member, members_from, tagged_by, tagged, enumerator_value, one_enumerator, enumerators_from, enumerated_by, enumerated, name_base, base_by, specifier_base, specifiers}
-use Rattle.parse_sound.proofs.Holding.{sees_of, sees_word_of}
-use Rattle.parse_complete.proofs.Declarators.{stops, ends_specs, ends_no_word, IsDeclared, declarator_read, declarator_less, declarator_ends}
-use Rattle.parse_complete.proofs.Keeps.{Keeps, specifiers_keep, base_keeps, words_keep, operand_keeps, spells_keeps, message_keeps, member_names_keep, more_names_keep, value_keeps, maybe_identifier_keeps, member_keeps, enumerator_keeps}
-use Rattle.parse_complete.proofs.Parens.{IsRead, operand_expr}
-use Rattle.parse_complete.proofs.Steps.{mark_takes, word_takes, takes_one, expect_of, expect_word_of, eat_yes, eat_no, sees_by, sees_word_by, sees_not, sees_word_not}
-use Rattle.parse_complete.proofs.Tables.{tight_is}
-use Rattle.parse_complete.proofs.Trees.{names, members_of, enumerators_of, specs_with, fields_is, assertion_is, bare_enumerator_is, valued_enumerator_is, tagged_is, enumerated_is}
-use Rattle.parse_complete.proofs.Words.{words_read, identifier_read, no_name, no_identifier, some_identifier, strings_read}
+use Rattle.parse_spec.specs.Places.{begins_by}
+use Rattle.parse_spec.specs.Specifiers.{base_by, specifier_base, specifiers}
+use Rattle.parse_complete.proofs.Declarators.{ends_specs, ends_no_word}
+use Rattle.parse_complete.proofs.Keeps.{specifiers_keep, base_keeps, words_keep}
+use Rattle.parse_complete.proofs.Steps.{word_takes, sees_by, sees_not}
+use Rattle.parse_complete.proofs.Trees.{specs_with}
+use Rattle.parse_complete.proofs.Words.{words_read}
 
 -- no keyword of a structure, a union or an enumeration is allowed as it stands
 pub record NoTags (allowed : AWord → Bool) : Type 0 where

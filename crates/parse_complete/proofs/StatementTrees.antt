@@ -1,7 +1,7 @@
 -- The cases of a statement, and that what the parser makes is the case that the grammar names.
 use Rattle.std.proofs.Common.{◌≡◌, ℕ, List, Option, Some, None, refl, sym, ap, ◌∙◌}
 use mathlib.Core.Former.{this, arity}
-use denote.Hole.Carrier.{hidden, shown}
+use denote.Hole.Carrier.{hidden}
 use Rattle.sqlite_items.specs.formers.items.Items.{the_former}
 use Rattle.c_ast.specs.declared.declaration.Declaration.{Declaration}
 use Rattle.c_ast.specs.declared.expression.Expr.{Expr}

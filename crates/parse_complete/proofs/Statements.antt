@@ -1,5 +1,5 @@
 -- Statements and block items that are spelled are read.
-use Rattle.std.proofs.Common.{◌≡◌, ◌≢◌, ℕ, zero, suc, ◌+◌, ◌-◌, ◌<◌, ◌≤◌, Bool, true, false, not, ◌&&◌, if◌then◌else◌, List, [], ◌∷◌, ◌++◌, Option, Some, None, refl, sym, ap, ◌∙◌, subst, arith, append_assoc, append-nil}
+use Rattle.std.proofs.Common.{◌≡◌, ◌≢◌, ℕ, zero, suc, ◌<◌, ◌≤◌, Bool, true, false, List, [], ◌∷◌, ◌++◌, Option, Some, None, refl, sym, ap, ◌∙◌, arith, append_assoc, append-nil}
 use mathlib.Core.Former.{this, arity}
 use Rattle.sqlite_items.specs.formers.items.Items.{the_former}
 use Rattle.c_lex.specs.declared.token.TokenKind.{TokenKind}
@@ -11,35 +11,33 @@ use Rattle.c_lex.specs.declared.token.Mark.TheVariants as m
 use Rattle.c_ast.specs.declared.declaration.Declaration.{Declaration}
 use Rattle.c_ast.specs.declared.expression.Expr.{Expr}
 use Rattle.c_ast.specs.declared.statement.Entry.{Entry}
-use Rattle.c_ast.specs.declared.statement.Entry.TheVariants as entry
 use Rattle.c_ast.specs.declared.statement.Entry.TheBlock as tree
 use Rattle.c_ast.specs.declared.statement.ForInit.{ForInit}
 use Rattle.c_ast.specs.declared.statement.ForInit.TheVariants as for-init
 use Rattle.c_ast.specs.declared.statement.Stmt.{Stmt}
-use Rattle.c_ast.specs.declared.statement.Stmt.TheVariants as stmt
 use Rattle.c_ast.specs.Input.{Input, kind, next, is_typedef, back_to}
 use Rattle.c_grammar.specs.Operators as op
-use Rattle.c_grammar.specs.Grammar.{IsExpr, MaybeExpr, InParentheses, ForStart, AtWord, StmtRule, Entries, EntryRule}
-use Rattle.c_grammar.specs.Rules.{Rule, ◌⨾◌, Mark, Word, Identifier, Scoped, NotNext, is_declaration_word}
+use Rattle.c_grammar.specs.Grammar.{IsExpr, MaybeExpr, InParentheses, ForStart, StmtRule, Entries, EntryRule}
+use Rattle.c_grammar.specs.Rules.{Mark, Word, Scoped, is_declaration_word}
 use Rattle.parse_spec.specs.Operators.{tight_mark}
-use Rattle.parse_spec.specs.Places.{begins_by, begins_declaration, is_label}
+use Rattle.parse_spec.specs.Places.{begins_by, begins_declaration}
 use Rattle.parse_spec.specs.Scopes.{OnlyAdds}
-use Rattle.parse_spec.specs.Statements.{whole_expr, in_parentheses, maybe_expr, for_value, for_init, simple_stmt, plain_by, plain_stmt, case_value, else_part, if_stmt, switch_stmt, while_stmt, do_stmt, for_stmt, label_stmt, case_stmt, default_stmt, one_entry, entries_from, entries, block, unlabelled_by, one_stmt, statement}
-use Rattle.parse_spec.specs.Steps.{Parser, ◌>>◌, left, turns, same_mark, same_word, take_token, sees, sees_word, scoped, scoped_in, closed_to}
+use Rattle.parse_spec.specs.Statements.{whole_expr, in_parentheses, maybe_expr, for_init, simple_stmt, plain_by, plain_stmt, case_value, else_part, if_stmt, switch_stmt, while_stmt, do_stmt, for_stmt, label_stmt, case_stmt, default_stmt, one_entry, entries_from, entries, block, unlabelled_by, one_stmt, statement}
+use Rattle.parse_spec.specs.Steps.{Parser, ◌>>◌, left, turns, same_mark, take_token, sees, scoped, scoped_in}
 use Rattle.parse_spec.proofs.Adding.{then_adds, take_adds}
 use Rattle.parse_spec.proofs.AddingUnits.{statement_adds}
 use Rattle.parse_sound.proofs.Holding.{sees_of, sees_word_of, closed_is}
 use Rattle.parse_sound.proofs.Rows.{Every}
 use Rattle.parse_sound.proofs.StatementAdds.{if_stmt_adds, switch_stmt_adds, while_stmt_adds, do_stmt_adds, for_stmt_adds, entries_adds}
 use Rattle.parse_complete.proofs.Declarations.{assertion_read, declaration_read}
-use Rattle.parse_complete.proofs.Firsts.{opens, opens_expr, opens_no_declaration, no_opening}
+use Rattle.parse_complete.proofs.Firsts.{opens, opens_no_declaration, no_opening}
 use Rattle.parse_complete.proofs.Initializers.{turns_read, begins_expr}
 use Rattle.parse_complete.proofs.Keeps.{scoped_keeps}
-use Rattle.parse_complete.proofs.Labels.{no_name_no_label, expr_no_label, declaration_no_label, declaration_begins, Starts, label_at, stmt_starts}
+use Rattle.parse_complete.proofs.Labels.{no_name_no_label, expr_no_label, declaration_no_label, declaration_begins, label_at, stmt_starts}
 use Rattle.parse_complete.proofs.StatementTrees.{if_only, if_else, switch_on, while_do, do_while, for_each, label, case_of, default_of, entries_of, if_only_is, if_else_is, switch_is, while_is, do_is, for_is, label_is, case_is, default_is, block_is, statement_is, declaration_is, entry_assertion_is}
-use Rattle.parse_complete.proofs.Steps.{mark_takes, word_takes, takes_one, expect_of, expect_word_of, eat_yes, eat_no, eat_word_yes, eat_word_no, sees_by, sees_word_by, sees_not, sees_word_not}
+use Rattle.parse_complete.proofs.Steps.{mark_takes, word_takes, takes_one, expect_of, expect_word_of, eat_yes, eat_no, eat_word_yes, eat_word_no, sees_by, sees_not, sees_word_not}
 use Rattle.parse_complete.proofs.Tables.{grip, grip_is}
-use Rattle.parse_complete.proofs.Takes.{takes_keep, expr_keeps, in_parentheses_keep, maybe_expr_keeps, for_start_keeps, stmt_takes, entry_takes, entries_keep}
+use Rattle.parse_complete.proofs.Takes.{takes_keep, expr_keeps, in_parentheses_keep, maybe_expr_keeps, for_start_keeps, stmt_takes, entry_takes}
 use Rattle.parse_complete.proofs.Words.{identifier_read}
 
 -- ---- expressions among statements
@@ -259,8 +257,15 @@ for_found i test step a c s t (v, ((x, (word, (y, (before, (z, (first, (u, (h, (
     let p6 = (maybe_expr_keeps step).keeps u2 q g in
     let p7 = mark_takes m.CloseParen q q2 behind in
     let inner : for_stmt (statement d) x ≡ Some (for_each i test step a, v) =
-    rw (expect_of m.OpenParen x before.0, ← before.1, for_init_read i y z first, maybe_expr_read m.Semicolon semicolon_ends test z u u2 h mark,
-    maybe_expr_read m.CloseParen paren_ends step u2 q q2 g behind, body_read a c q2 v body d (omega arith), for_is i test step a) refl in
+    rw (
+      expect_of m.OpenParen x before.0,
+      ← before.1,
+      for_init_read i y z first,
+      maybe_expr_read m.Semicolon semicolon_ends test z u u2 h mark,
+      maybe_expr_read m.CloseParen paren_ends step u2 q q2 g behind,
+      body_read a c q2 v body d (omega arith),
+      for_is i test step a,
+    ) refl in
     rw (no_label, word.0) (word_scoped (for_stmt (statement d)) (for_stmt_adds (statement d) (statement_adds d)) w.For (for_each i test step a) s x v t word inner out)
 
 -- ---- blocks
@@ -284,8 +289,7 @@ pub declaration_entry : (d : Declaration) → IsEntry (tree.Declaration d)
 unfolding one_entry
 declaration_entry a s t h d le =
     let begins = declaration_begins a s t h in
-    let never = sees_word_not w.StaticAssert s (declaration_no_assert (is_typedef s) (kind s) begins) in
-    (
+    let never = sees_word_not w.StaticAssert s (declaration_no_assert (is_typedef s) (kind s) begins) in (
       rw (never, begins, declaration_no_label a s t h, declaration_read a s t h, declaration_is a) refl,
       sees_not m.CloseBrace s (declaration_no_brace (is_typedef s) (kind s) begins),
     )

@@ -1,5 +1,5 @@
 -- Single tokens: what a step of the parser does where the token that comes next is known.
-use Rattle.std.proofs.Common.{◌≡◌, ◌≢◌, ℕ, zero, suc, ◌+◌, ◌-◌, ◌<◌, ◌≤◌, Bool, true, false, if◌then◌else◌, nat_lt, length, slice_get, Option, Some, None, refl, sym, ap, subst, ◌∙◌, arith, rules}
+use Rattle.std.proofs.Common.{◌≡◌, ◌≢◌, ℕ, ◌+◌, ◌-◌, ◌<◌, Bool, true, false, if◌then◌else◌, nat_lt, length, slice_get, Option, Some, None, refl, sym, ap, subst, ◌∙◌, arith}
 use Rattle.std.proofs.lemmas.Bool.Decides.{nat_tests}
 use Rattle.std.proofs.lemmas.Option.{slice_get_within}
 use Rattle.std.specs.Option.{option_map}
@@ -10,7 +10,7 @@ use Rattle.c_lex.specs.declared.token.Word.{Word as AWord}
 use Rattle.c_lex.specs.declared.token.Mark.{Mark as AMark}
 use Rattle.c_ast.specs.Input.{Input, kind, next}
 use Rattle.c_grammar.specs.Rules.{Takes, Mark, Word}
-use Rattle.parse_spec.specs.Steps.{Outcome, left, sees, sees_word, after, after_word, expect, expect_word, is_mark, is_word}
+use Rattle.parse_spec.specs.Steps.{left, sees, sees_word, after, after_word, expect, expect_word, is_mark, is_word}
 use Rattle.parse_sound.proofs.Holding.{sees_is, sees_word_is, sees_of, sees_word_of}
 
 pub some_is : {A : Type 0} {x y : A} → Some x ≡ Some y → x ≡ y

@@ -1,12 +1,11 @@
 -- Arrays, functions and their parameters that are spelled are read.
-use Rattle.std.proofs.Common.{◌≡◌, ◌≢◌, ℕ, zero, suc, ◌+◌, ◌-◌, ◌<◌, ◌≤◌, Bool, true, false, if◌then◌else◌, length, take, drop, List, [], ◌∷◌, ◌++◌, Option, Some, None, refl, sym, ap, ◌∙◌, subst, arith, append_assoc}
+use Rattle.std.proofs.Common.{◌≡◌, ◌≢◌, ℕ, zero, suc, ◌<◌, ◌≤◌, Bool, true, false, if◌then◌else◌, length, take, drop, List, [], ◌∷◌, ◌++◌, Option, Some, None, refl, sym, ap, ◌∙◌, subst, arith, append_assoc}
 use Rattle.std.proofs.Math.Seq.{take-append_seam}
 use mathlib.Core.Former.{this, arity}
 use Rattle.sqlite_items.specs.formers.items.Items.{the_former}
 use Rattle.c_lex.specs.declared.token.TokenKind.{TokenKind}
 use Rattle.c_lex.specs.declared.token.TokenKind.TheVariants as token
 use Rattle.c_lex.specs.declared.token.Word.{Word as AWord}
-use Rattle.c_lex.specs.declared.token.Word.TheVariants as w
 use Rattle.c_lex.specs.declared.token.Mark.TheVariants as m
 use Rattle.c_ast.specs.declared.declaration.Base.{Base}
 use Rattle.c_ast.specs.declared.declaration.Base.TheBlock.{Ident, Row_of-Param, end_of-Param, more_of-Param, end_of-Declarator, more_of-Declarator, Declarator-Array-1-Some', end_of-Expr, more_of-Expr}
@@ -14,10 +13,10 @@ use Rattle.c_ast.specs.declared.declaration.Declarator.{Declarator}
 use Rattle.c_ast.specs.declared.declaration.Param.{Param}
 use Rattle.c_ast.specs.declared.expression.ExprNode.{ExprNode}
 use Rattle.c_ast.specs.Input.{Input, kind, next, is_typedef, declared}
-use Rattle.c_grammar.specs.Grammar.{Mode, Named, Abstract, Either, HasName, DeclaratorOperand, DeclaratorRule, Specifiers, BaseRule, Parameters, MoreParameters, name_of, is_own_name as is_own_row, Spells, level}
-use Rattle.c_grammar.specs.Rules.{Declares, Operand, Prototype, is_declaration_word}
+use Rattle.c_grammar.specs.Grammar.{Mode, Named, Abstract, Either, HasName, DeclaratorOperand, DeclaratorRule, Specifiers, BaseRule, Parameters, MoreParameters, name_of, is_own_name as is_own_row}
+use Rattle.c_grammar.specs.Rules.{Declares, is_declaration_word}
 use Rattle.parse_spec.specs.Scopes.{Adds}
-use Rattle.parse_spec.specs.Steps.{left, turns, same_mark, sees, declare, without_prototype, parameters_left}
+use Rattle.parse_spec.specs.Steps.{left, turns, same_mark, declare, without_prototype, parameters_left}
 use Rattle.parse_spec.specs.Nested.{expr, declarator, specs}
 use Rattle.parse_spec.specs.Places.{opens_parameters, opens_by, opens_suffix, begins_by}
 use Rattle.parse_spec.specs.Expressions.{made}
@@ -25,9 +24,9 @@ use Rattle.parse_spec.specs.Declarators.{is_own_name, one_parameter, parameters_
 use Rattle.parse_spec.proofs.AddingRules.{declarator_adds, specs_adds}
 use Rattle.parse_sound.proofs.Adds.{parameters_adds}
 use Rattle.parse_sound.proofs.Holding.{sees_of}
-use Rattle.parse_complete.proofs.Declarators.{stops, ends_specs, IsDeclared, Found, SuffixTo, found_posts, suffix_step, operand_posts, empty_bracket, empty_paren, declarator_read, declarator_less, declarator_ends}
-use Rattle.parse_complete.proofs.Firsts.{expr_opens, opens_expr, no_opening}
-use Rattle.parse_complete.proofs.Keeps.{left_kept, parameters_keep, more_parameters_keep, declares_keeps, size_keeps, prototype_keeps}
+use Rattle.parse_complete.proofs.Declarators.{stops, ends_specs, IsDeclared, Found, found_posts, suffix_step, operand_posts, empty_bracket, empty_paren, declarator_read, declarator_less, declarator_ends}
+use Rattle.parse_complete.proofs.Firsts.{expr_opens, no_opening}
+use Rattle.parse_complete.proofs.Keeps.{left_kept, parameters_keep, declares_keeps, size_keeps, prototype_keeps}
 use Rattle.parse_complete.proofs.Parens.{IsRead, operand_expr}
 use Rattle.parse_complete.proofs.Specifiers.{declaration_tags, IsSpecified, specifiers_less, specs_begin}
 use Rattle.parse_complete.proofs.Steps.{mark_takes, expect_of, eat_yes, eat_no, sees_by, sees_not}

@@ -1,8 +1,7 @@
 -- Initializers, declarations and statements take no token back, and each statement takes one.
-use Rattle.std.proofs.Common.{◌≡◌, ℕ, ◌<◌, ◌≤◌, Bool, List, [], ◌∷◌, Option, Some, None, ap, sym, subst, refl, arith}
+use Rattle.std.proofs.Common.{◌≡◌, ℕ, ◌<◌, Bool, List, [], ◌∷◌, Option, Some, None, sym, subst, arith}
 use Rattle.c_lex.specs.declared.token.Word.TheVariants as w
 use Rattle.c_lex.specs.declared.token.Mark.TheVariants as m
-use Rattle.c_ast.specs.declared.declaration.Declarator.{Declarator}
 use Rattle.c_ast.specs.declared.declaration.Designator.{Designator}
 use Rattle.c_ast.specs.declared.declaration.Designator.TheVariants.{Member, Element}
 use Rattle.c_ast.specs.declared.declaration.Init.{Init}
@@ -24,10 +23,9 @@ use Rattle.c_ast.specs.declared.statement.Entry.TheBlock as s
 use Rattle.c_ast.specs.declared.statement.ForInit.{ForInit}
 use Rattle.c_ast.specs.declared.statement.ForInit.TheVariants as for_init
 use Rattle.c_ast.specs.declared.statement.Stmt.{Stmt}
-use Rattle.c_ast.specs.Input.{back_to}
 use Rattle.parse_spec.specs.Steps.{left}
 use Rattle.parse_sound.proofs.Declarations.{PartsEnd}
-use Rattle.parse_complete.proofs.Keeps.{Keeps, nothing_keeps, never_keeps, mark_keeps, word_keeps, numbered_keeps, identifier_keeps, maybe_mark_keeps, message_keeps, then_keeps, operand_keeps, declares_keeps, declarator_operand_keeps, specifiers_keep, spells_keeps, base_keeps, declarator_keeps, scoped_keeps, left_back}
+use Rattle.parse_complete.proofs.Keeps.{Keeps, nothing_keeps, never_keeps, mark_keeps, word_keeps, identifier_keeps, maybe_mark_keeps, message_keeps, then_keeps, operand_keeps, declares_keeps, declarator_operand_keeps, specifiers_keep, spells_keeps, base_keeps, declarator_keeps, scoped_keeps, left_back}
 use Rattle.parse_complete.proofs.Steps.{mark_takes, word_takes, takes_one}
 
 pub expr_keeps : (least : ℕ) (e : Expr) → Keeps (IsExpr least e)

@@ -4,7 +4,7 @@ use mathlib.Core.Former.{this, arity}
 use denote.Hole.Carrier.{hidden, shown, roll}
 use Rattle.sqlite_items.specs.formers.items.Items.{the_former}
 use Rattle.c_lex.specs.declared.token.Word.{Word as AWord}
-use Rattle.c_ast.specs.declared.declaration.Base.TheBlock.{Pointer', Array', Function', Unary', Postfix', Binary', Assign', Cond', Comma', Call', Index', Dot', Arrow', Cast', SizeofExpr', SizeofType', AlignofType', Row_of-Expr, end_of-Expr, more_of-Expr, Row_of-Declarator, end_of-Declarator, more_of-Declarator, Row_of-TypeName, end_of-TypeName, more_of-TypeName, Row_of-Param, Declarator-Array-1-None', Declarator-Array-1-Some', items-the_row-Expr, items_shown-the_row-Expr-6, shown-the_row-Expr-6, hidden-the_row-Expr-3, shape-the_row-Expr-3, shown-the_row-Expr-3, hidden-the_row-TypeName-7, shape-the_row-TypeName-7, hidden-the_row-Declarator-2, shape-the_row-Declarator-2, shown-the_row-Declarator-2, items-the_row-Param, items_shown-the_row-Param-4, shown-the_row-Param-4, Fields', Assertion', Enumerator-value-None', Enumerator-value-Some', Tagged', Base-Tagged-2-Some', Enumerated', Base-Enumerated-1-Some', Row_of-MemberEntry, Row_of-Enumerator, items-the_row-Declarator, items_shown-the_row-Declarator-5, shown-the_row-Declarator-5, items-the_row-MemberEntry, items_shown-the_row-MemberEntry-0, items-the_row-Enumerator, items_shown-the_row-Enumerator-1, backs-Base-Tagged-2, backs-Base-Enumerated-1}
+use Rattle.c_ast.specs.declared.declaration.Base.TheBlock.{Pointer', Array', Function', Unary', Postfix', Binary', Assign', Cond', Comma', Call', Index', Dot', Arrow', Cast', SizeofExpr', SizeofType', AlignofType', Row_of-Expr, end_of-Expr, more_of-Expr, Row_of-Declarator, end_of-Declarator, more_of-Declarator, end_of-TypeName, more_of-TypeName, Row_of-Param, Declarator-Array-1-None', Declarator-Array-1-Some', items-the_row-Expr, items_shown-the_row-Expr-6, shown-the_row-Expr-6, hidden-the_row-Expr-3, shape-the_row-Expr-3, shown-the_row-Expr-3, hidden-the_row-TypeName-7, shape-the_row-TypeName-7, hidden-the_row-Declarator-2, shape-the_row-Declarator-2, shown-the_row-Declarator-2, items-the_row-Param, items_shown-the_row-Param-4, shown-the_row-Param-4, Fields', Assertion', Enumerator-value-None', Enumerator-value-Some', Tagged', Base-Tagged-2-Some', Enumerated', Base-Enumerated-1-Some', Row_of-MemberEntry, Row_of-Enumerator, items-the_row-Declarator, items_shown-the_row-Declarator-5, shown-the_row-Declarator-5, items-the_row-MemberEntry, items_shown-the_row-MemberEntry-0, items-the_row-Enumerator, items_shown-the_row-Enumerator-1, backs-Base-Tagged-2, backs-Base-Enumerated-1}
 use Rattle.c_ast.specs.declared.declaration.Base.{Base}
 use Rattle.c_ast.specs.declared.declaration.Base.TheVariants as base
 use Rattle.c_ast.specs.declared.declaration.Base.TheViews.{roll-Enumerator}

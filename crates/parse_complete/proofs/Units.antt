@@ -1,27 +1,24 @@
 -- Translation units that are spelled are read.
-use Rattle.std.proofs.Common.{◌≡◌, ◌≢◌, ℕ, zero, suc, ◌+◌, ◌-◌, ◌<◌, ◌≤◌, Bool, true, false, if◌then◌else◌, ◌⊎◌, inl, inr, List, [], ◌∷◌, ◌++◌, Option, Some, None, refl, sym, ap, ◌∙◌, subst, arith, append_assoc, append-nil}
-use Rattle.c_lex.specs.TokenText.{TokenText}
+use Rattle.std.proofs.Common.{◌≡◌, ◌≢◌, ℕ, zero, suc, ◌<◌, ◌≤◌, Bool, true, false, inl, inr, List, [], ◌∷◌, ◌++◌, Option, Some, None, refl, sym, ap, ◌∙◌, subst, arith, append_assoc, append-nil}
 use Rattle.c_lex.specs.declared.token.TokenKind.{TokenKind}
 use Rattle.c_lex.specs.declared.token.TokenKind.TheVariants as token
 use Rattle.c_lex.specs.declared.token.Word.TheVariants as w
 use Rattle.c_lex.specs.declared.token.Mark.TheVariants as m
-use Rattle.c_ast.specs.declared.declaration.Declaration.{Declaration}
 use Rattle.c_ast.specs.declared.declaration.Declarator.{Declarator}
 use Rattle.c_ast.specs.declared.declaration.Init.{Init}
 use Rattle.c_ast.specs.declared.declaration.Part.{Part}
 use Rattle.c_ast.specs.declared.declaration.Specs.{Specs}
 use Rattle.c_ast.specs.declared.expression.Expr.{Expr}
 use Rattle.c_ast.specs.declared.statement.Entry.{Entry}
-use Rattle.c_ast.specs.declared.statement.Unit.{Unit as TheUnit}
 use Rattle.c_ast.specs.declared.statement.UnitEntry.{UnitEntry}
 use Rattle.c_ast.specs.declared.statement.UnitEntry.TheVariants as unit
 use Rattle.c_ast.specs.Input.{Input, kind, next, is_typedef, start_of, back_to}
-use Rattle.c_grammar.specs.Grammar.{Named, MaybeInit, MoreParts, DeclarationSpecifiers, EntryRule, Body, UnitEntryRule, UnitEntries, SpellsUnit, DeclarationRule, name_of}
+use Rattle.c_grammar.specs.Grammar.{Named, MaybeInit, DeclarationSpecifiers, EntryRule, Body, UnitEntryRule, UnitEntries, name_of}
 use Rattle.c_grammar.specs.Rules.{Mark, Declares, InPrototype, is_declaration_word, declares_typedef}
 use Rattle.parse_spec.specs.Places.{begins_by}
 use Rattle.parse_spec.specs.Scopes.{Adds}
-use Rattle.parse_spec.specs.Statements.{statement, body}
-use Rattle.parse_spec.specs.Steps.{Outcome, left, turns, same_mark, same_word, sees, sees_word, scoped_in, with_parameters, without_prototype}
+use Rattle.parse_spec.specs.Statements.{body}
+use Rattle.parse_spec.specs.Steps.{left, turns, same_mark, sees, scoped_in, with_parameters, without_prototype}
 use Rattle.parse_spec.specs.Units.{function_body, declared_as, declared, unit_entry, unit_of, is_end, entries_from, whole_unit, read_of, tree_of}
 use Rattle.parse_sound.proofs.Declarations.{PartsEnd}
 use Rattle.parse_sound.proofs.Holding.{sees_of, sees_word_of, closed_is}
@@ -29,13 +26,13 @@ use Rattle.parse_sound.proofs.Rows.{NamedRule, Every}
 use Rattle.parse_sound.proofs.Slides.{Kept, keeping, mark_slides}
 use Rattle.parse_sound.proofs.StatementAdds.{body_adds}
 use Rattle.parse_complete.specs.CompleteLaws.{TreesAreRead, TreesAreUnique, RefusedIsUnspelled}
-use Rattle.parse_complete.proofs.Declarations.{EndsPart, assertion_read, specs_read, named_read, more_parts_read, first_stops, parts_begin, after_part}
+use Rattle.parse_complete.proofs.Declarations.{EndsPart, assertion_read, specs_read, named_read, more_parts_read, first_stops, after_part}
 use Rattle.parse_complete.proofs.Declarators.{ends_specs, named_no_stop, named_ends, declarator_less}
 use Rattle.parse_complete.proofs.Keeps.{Keeps, nothing_keeps, then_keeps, declares_keeps, left_kept}
 use Rattle.parse_complete.proofs.Slides.{assertion_slides, parts_end_slides, declaration_specs_slide}
 use Rattle.parse_complete.proofs.Specifiers.{specs_begin}
 use Rattle.parse_complete.proofs.Statements.{AllEntries, entry_found, entries_read, brace_inside}
-use Rattle.parse_complete.proofs.Steps.{some_is, mark_takes, word_takes, expect_of, eat_yes, eat_no, sees_by, sees_word_by, sees_not, sees_word_not}
+use Rattle.parse_complete.proofs.Steps.{some_is, mark_takes, eat_yes, eat_no, sees_by, sees_not, sees_word_not}
 use Rattle.parse_complete.proofs.Suffixes.{kind_kept}
 use Rattle.parse_complete.proofs.Takes.{takes_keep, entry_takes, declaration_takes, assertion_takes, declaration_specs_keep}
 
@@ -117,11 +114,16 @@ function_read all d entries s x y z u v t h g n brace inner close =
     let ends : ends_specs (kind x) ≡ true = ap ends_specs (sym (kind_kept x [])) ∙ named_ends d 0 (without_prototype x) y g in
     let none : sees m.Semicolon x ≡ false = kept_semicolon x (named_no_semicolon d (without_prototype x) y g) in
     declared_from all s x h ends none
-    ∙ rw (named_read (declares_typedef all.words) d (without_prototype x) y z g n (rw brace.0 refl), sees_of m.OpenBrace z brace.0, eat_yes m.OpenBrace z brace.0, ← brace.1,
-    body_read entries u v t inner close) refl
+    ∙ rw (
+      named_read (declares_typedef all.words) d (without_prototype x) y z g n (rw brace.0 refl),
+      sees_of m.OpenBrace z brace.0,
+      eat_yes m.OpenBrace z brace.0,
+      ← brace.1,
+      body_read entries u v t inner close,
+    ) refl
 
 function_found : (all : Specs) (d : Declarator) (entries : List Entry) → IsUnitEntry (unit.Function all d entries)
-function_found all d entries s t (x, (h, (x2, (fresh, (y, (g, (z, (n, (u, (brace, (v, (inner, close))))))))))))  p =
+function_found all d entries s t (x, (h, (x2, (fresh, (y, (g, (z, (n, (u, (brace, (v, (inner, close)))))))))))) p =
     let more = (declaration_specs_slide all).slides s x h p in
     (t.prototype, function_read all d entries (keeping s p) (keeping x more.0) y z u v t more.1 (subst (λ i. NamedRule d i y) fresh g) n brace inner close)
 
@@ -140,8 +142,12 @@ parts_read all p rest s x t h (q, ((y, ((y0, (g, (z, (n, a)))), more)), end)) =
     let none : sees m.Semicolon x ≡ false = named_no_semicolon p.declarator (without_prototype x) y0 g in
     let no_brace = part_no_brace p.init z y a (after_part typedef rest y q t more end) in
     declared_from all s x h ends none
-    ∙ rw (named_read typedef p.declarator (without_prototype x) y0 z g n (first_stops typedef p rest z y q t a more end), no_brace, eat_no m.OpenBrace z no_brace,
-    more_parts_read typedef p rest z y q t a more end) refl
+    ∙ rw (
+      named_read typedef p.declarator (without_prototype x) y0 z g n (first_stops typedef p rest z y q t a more end),
+      no_brace,
+      eat_no m.OpenBrace z no_brace,
+      more_parts_read typedef p rest z y q t a more end,
+    ) refl
 
 none_read : (all : Specs) (s x t : Input) → DeclarationSpecifiers all s x → Mark m.Semicolon x t → unit_entry s ≡ Some (unit.Declaration (record { specs = all; parts = [] }), t)
 unfolding declared

@@ -1,12 +1,12 @@
 -- Keywords, identifiers and string literals that are spelled are read.
-use Rattle.std.proofs.Common.{◌≡◌, ℕ, zero, suc, ◌+◌, ◌<◌, ◌≤◌, ◌==◌, Bool, true, false, if◌then◌else◌, List, [], ◌∷◌, ◌++◌, Option, Some, None, refl, sym, ap, ◌∙◌, arith, append_assoc, append-nil}
+use Rattle.std.proofs.Common.{◌≡◌, ℕ, zero, suc, ◌+◌, ◌<◌, Bool, true, false, List, [], ◌∷◌, ◌++◌, Option, Some, None, refl, sym, ap, ◌∙◌, arith, append_assoc, append-nil}
 use Rattle.std.proofs.Math.Dec.{eqb-suc-zero}
 use Rattle.c_lex.specs.declared.token.TokenKind.{TokenKind}
 use Rattle.c_lex.specs.declared.token.TokenKind.TheVariants as token
 use Rattle.c_lex.specs.declared.token.Word.{Word as AWord}
-use Rattle.c_ast.specs.Input.{Input, kind, next}
-use Rattle.c_grammar.specs.Rules.{Words, Identifier, MaybeIdentifier, Literals, Strings}
-use Rattle.parse_spec.specs.Steps.{left, turns, allows, one_word, words_from, words, identifier, maybe_identifier_by, maybe_identifier, is_string, strings_from, some_strings, strings}
+use Rattle.c_ast.specs.Input.{Input, kind}
+use Rattle.c_grammar.specs.Rules.{Words, Identifier, Literals, Strings}
+use Rattle.parse_spec.specs.Steps.{left, turns, allows, words_from, words, identifier, maybe_identifier_by, maybe_identifier, is_string, strings_from, strings}
 use Rattle.parse_complete.proofs.Steps.{word_takes, takes_one}
 
 words_from_read : (allowed : AWord → Bool) (all : List AWord) (s t : Input) → Words allowed all s t → allows allowed (kind t) ≡ false → (n : ℕ) → left s < n
