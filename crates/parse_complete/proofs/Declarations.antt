@@ -113,7 +113,7 @@ pub first_stops : (typedef : Bool) (p : Part) (rest : List Part) (s y q t : Inpu
     → stops (kind s) ≡ true
 first_stops typedef p rest s y q t h g end = part_stops p.init s y h (after_part typedef rest y q t g end)
 
-pub parts_begin : (typedef : Bool) (all : List Part) (s t : Input) → PartsEnd typedef all s t → ends_specs (kind s) ≡ true
+parts_begin : (typedef : Bool) (all : List Part) (s t : Input) → PartsEnd typedef all s t → ends_specs (kind s) ≡ true
 parts_begin typedef [] s t h = rw (ap kind (sym h.1.0) ∙ h.1.1.0) refl
 parts_begin typedef (p ∷ rest) s t h = named_ends p.declarator 0 s h.1.0.1.0.0 h.1.0.1.0.1.0
 

@@ -43,7 +43,7 @@ stops_no_suffix _ h = refl
 stops_no_star : (k : Option TokenKind) → stops k ≡ true → k ≢ Some (token.Punct m.Star)
 stops_no_star k h e = let g = rw e at h in cc
 
-pub stops_no_word : (allowed : AWord → Bool) (k : Option TokenKind) → stops k ≡ true → allows allowed k ≡ false
+stops_no_word : (allowed : AWord → Bool) (k : Option TokenKind) → stops k ≡ true → allows allowed k ≡ false
 stops_no_word allowed (Some (token.Keyword word)) h = absurd (cc)
 stops_no_word allowed _ h = refl
 
@@ -52,13 +52,13 @@ ends_no_word allowed (Some (token.Keyword word)) h = absurd (cc)
 ends_no_word allowed _ h = refl
 
 module _ (d : ℕ) where
-  abbrev pub SuffixTo : Declarator → Input → Declarator → Input → Type 0
+  abbrev SuffixTo : Declarator → Input → Declarator → Input → Type 0
   SuffixTo e t f t2 = (n : ℕ) → left t < n → suffixes_from (expr d) (declarator d) (specs d) n e t ≡ Some (f, t2)
 
-  abbrev pub at_innermost : Mode → Input → Outcome Declarator
+  abbrev at_innermost : Mode → Input → Outcome Declarator
   at_innermost mode s = innermost (expr d) (declarator d) (specs d) mode s
 
-  abbrev pub chain_of : Mode → Input → Outcome Declarator
+  abbrev chain_of : Mode → Input → Outcome Declarator
   chain_of mode s = and_then (at_innermost mode s) (λ e. suffixes (expr d) (declarator d) (specs d) e)
 
   -- the token is no star, and what begins here is f
@@ -71,7 +71,7 @@ module _ (d : ℕ) where
     pub plain : sees m.Star s ≡ false
     pub inner : at_innermost mode s ≡ Some (decl.Ident None, s)
 
-  pub suffix_stop : (e : Declarator) (t : Input) → opens_suffix (kind t) ≡ false → SuffixTo e t e t
+  suffix_stop : (e : Declarator) (t : Input) → opens_suffix (kind t) ≡ false → SuffixTo e t e t
   unfolding suffixes_from
   suffix_stop e t h zero lt = absurd (omega arith)
   suffix_stop e t h (suc n) lt = rw h refl
@@ -105,12 +105,12 @@ module _ (d : ℕ) where
   stop_inner (Some (token.Punct m.OpenParen)) mode s h = absurd (cc)
   stop_inner _ mode s h = refl
 
-  pub empty_stop : (mode : Mode) (s : Input) → HasName mode None → stops (kind s) ≡ true → Empty mode s
+  empty_stop : (mode : Mode) (s : Input) → HasName mode None → stops (kind s) ≡ true → Empty mode s
   unfolding innermost
   empty_stop mode s h stop = record { plain = sees_not m.Star s (stops_no_star (kind s) stop); inner = stop_inner (kind s) mode s stop ∙ empty_gives mode s h }
 
 -- the declarator is empty, and in no parentheses
-abbrev pub IsEmpty : Declarator → ℕ → Type 0
+abbrev IsEmpty : Declarator → ℕ → Type 0
 IsEmpty (Ident None) zero = Unit {0}
 IsEmpty _ _ = ⊥
 
@@ -189,7 +189,7 @@ no_opening mode y name (inr (inl is)) = rw is refl
 no_opening mode y name (inr (inr (inl is))) = rw is refl
 no_opening mode y name (inr (inr (inr (is, ne)))) = rw (is, name is ne) refl
 
-pub nothing_typedef : (mode : Mode) (x y : Input) → NoParameters mode x y → y ≡ x
+nothing_typedef : (mode : Mode) (x y : Input) → NoParameters mode x y → y ≡ x
 nothing_typedef Named x y h = h
 nothing_typedef Abstract x y h = h
 nothing_typedef Either x y h = h.0

@@ -37,7 +37,7 @@ tokens_next : (s : Input) → (next s).tokens ≡ s.tokens
 unfolding next
 tokens_next s = refl
 
-pub takes_keeps : (k : TokenKind) → Keeps (Takes k)
+takes_keeps : (k : TokenKind) → Keeps (Takes k)
 takes_keeps k = record { keeps = λ s t h. omega (arith, takes_one k s t h); tokens = λ s t h. ap (λ x. x.tokens) h.1 ∙ tokens_next s }
 
 pub mark_keeps : (mark : AMark) → Keeps (Mark mark)
@@ -46,7 +46,7 @@ mark_keeps mark = takes_keeps (token.Punct mark)
 pub word_keeps : (word : AWord) → Keeps (Word word)
 word_keeps word = takes_keeps (token.Keyword word)
 
-pub numbered_keeps : (k : TokenKind) (n : ℕ) → Keeps (Numbered k n)
+numbered_keeps : (k : TokenKind) (n : ℕ) → Keeps (Numbered k n)
 numbered_keeps k n = record { keeps = λ s t h. (takes_keeps k).keeps s t h.1; tokens = λ s t h. (takes_keeps k).tokens s t h.1 }
 
 pub identifier_keeps : (n : ℕ) → Keeps (Identifier n)
@@ -107,7 +107,7 @@ within_keeps (suc n) R f = then_keeps _ _ (mark_keeps m.OpenParen) (then_keeps _
 pub operand_keeps : (least own at : ℕ) (R : Rule) → Keeps R → Keeps (Operand least own at R)
 operand_keeps least own at R f = record { keeps = λ s t h. (within_keeps h.0 (From at R) (from_keeps at R f)).keeps s t h.1.1; tokens = λ s t h. (within_keeps h.0 (From at R) (from_keeps at R f)).tokens s t h.1.1 }
 
-pub left_declared : (n : ℕ) (typedef : Bool) (s : Input) → left (declared n typedef s) ≡ left s
+left_declared : (n : ℕ) (typedef : Bool) (s : Input) → left (declared n typedef s) ≡ left s
 unfolding declared left
 left_declared n typedef s = refl
 
@@ -144,7 +144,7 @@ scoped_keeps R f = record {
   tokens = λ s t h. ap (λ x. x.tokens) h.1.1 ∙ tokens_back s h.0 ∙ f.tokens s h.0 h.1.0;
 }
 
-pub apart_keeps : (R : Rule) → Keeps R → Keeps (Apart R)
+apart_keeps : (R : Rule) → Keeps R → Keeps (Apart R)
 apart_keeps R f = record {
   keeps = λ s t h. subst (λ x. left x ≤ left s) (sym h.1.1)
       (omega (arith, left_kept s [], left_kept h.0 s.prototype, f.keeps (record s { prototype = [] }) h.0 h.1.0));
@@ -163,7 +163,7 @@ no_parameters_keeps Named = nothing_keeps
 no_parameters_keeps Abstract = nothing_keeps
 no_parameters_keeps Either = no_typedef_keeps
 
-pub within_in_keeps : (mode : Mode) (n : ℕ) (R : Rule) → Keeps R → Keeps (WithinIn mode n R)
+within_in_keeps : (mode : Mode) (n : ℕ) (R : Rule) → Keeps R → Keeps (WithinIn mode n R)
 within_in_keeps mode zero R f = f
 within_in_keeps mode (suc n) R f =
     then_keeps _ _ (mark_keeps m.OpenParen) (then_keeps _ _ (no_parameters_keeps mode) (then_keeps _ _ (within_in_keeps mode n R f) (mark_keeps m.CloseParen)))
@@ -223,11 +223,11 @@ mutual
   spells_keeps (Assign' o p a q b) = then_keeps _ _ (stands_keeps op.unary a) (then_keeps _ _ (mark_keeps (op.assign_mark o)) (stands_keeps op.assignment b))
   spells_keeps (Comma' p all) = several_keep all
 
-  pub stands_keeps : {n : _} (least : ℕ) (row : Row_of-Expr n) → Keeps (Stands least row)
+  stands_keeps : {n : _} (least : ℕ) (row : Row_of-Expr n) → Keeps (Stands least row)
   stands_keeps least end_of-Expr = never_keeps
   stands_keeps least (more_of-Expr at a rest) = operand_keeps least (level a) at (Spells a) (spells_keeps a)
 
-  pub stands_above_keeps : {n : _} (o : BinaryOp) (row : Row_of-Expr n) → Keeps (StandsAbove o row)
+  stands_above_keeps : {n : _} (o : BinaryOp) (row : Row_of-Expr n) → Keeps (StandsAbove o row)
   stands_above_keeps o end_of-Expr = never_keeps
   stands_above_keeps o (more_of-Expr at a rest) = operand_keeps _ (level a) at (Spells a) (spells_keeps a)
 
@@ -235,21 +235,21 @@ mutual
   arguments_keep end_of-Expr = nothing_keeps
   arguments_keep (more_of-Expr at a rest) = then_keeps _ _ (operand_keeps op.assignment (level a) at (Spells a) (spells_keeps a)) (more_exprs_keep rest)
 
-  pub several_keep : {n : _} (row : Row_of-Expr n) → Keeps (Several row)
+  several_keep : {n : _} (row : Row_of-Expr n) → Keeps (Several row)
   several_keep end_of-Expr = never_keeps
   several_keep (more_of-Expr at a rest) = then_keeps _ _ (operand_keeps op.assignment (level a) at (Spells a) (spells_keeps a)) (another_keeps rest)
 
-  pub another_keeps : {n : _} (row : Row_of-Expr n) → Keeps (AnotherExpr row)
+  another_keeps : {n : _} (row : Row_of-Expr n) → Keeps (AnotherExpr row)
   another_keeps end_of-Expr = never_keeps
   another_keeps (more_of-Expr at a rest) = then_keeps _ _ (mark_keeps m.Comma)
       (then_keeps _ _ (operand_keeps op.assignment (level a) at (Spells a) (spells_keeps a)) (more_exprs_keep rest))
 
-  pub more_exprs_keep : {n : _} (row : Row_of-Expr n) → Keeps (MoreExprs row)
+  more_exprs_keep : {n : _} (row : Row_of-Expr n) → Keeps (MoreExprs row)
   more_exprs_keep end_of-Expr = nothing_keeps
   more_exprs_keep (more_of-Expr at a rest) = then_keeps _ _ (mark_keeps m.Comma)
       (then_keeps _ _ (operand_keeps op.assignment (level a) at (Spells a) (spells_keeps a)) (more_exprs_keep rest))
 
-  pub type_names_keep : {n : _} (row : Row_of-TypeName n) → Keeps (TypeNames row)
+  type_names_keep : {n : _} (row : Row_of-TypeName n) → Keeps (TypeNames row)
   type_names_keep end_of-TypeName = never_keeps
   type_names_keep (more_of-TypeName words base d rest) = then_keeps _ _ (specifiers_keep is_qualified_word base (BaseRule base) words (λ typed. base_keeps base typed))
       (declarator_operand_keeps Abstract 0 d (DeclaratorRule d Abstract) (declarator_keeps d Abstract))
@@ -268,15 +268,15 @@ mutual
   tag_members_keep None (Base-Tagged-2-Some' p all) = then_keeps _ _ (mark_keeps m.OpenBrace) (then_keeps _ _ (members_keep all) (mark_keeps m.CloseBrace))
   tag_members_keep (Some n) (Base-Tagged-2-Some' p all) = then_keeps _ _ (mark_keeps m.OpenBrace) (then_keeps _ _ (members_keep all) (mark_keeps m.CloseBrace))
 
-  pub members_keep : {n : _} (row : Row_of-MemberEntry n) → Keeps (Members row)
+  members_keep : {n : _} (row : Row_of-MemberEntry n) → Keeps (Members row)
   members_keep end_of-MemberEntry = never_keeps
   members_keep (more_of-MemberEntry a rest) = then_keeps _ _ (member_keeps a) (more_members_keep rest)
 
-  pub more_members_keep : {n : _} (row : Row_of-MemberEntry n) → Keeps (MoreMembers row)
+  more_members_keep : {n : _} (row : Row_of-MemberEntry n) → Keeps (MoreMembers row)
   more_members_keep end_of-MemberEntry = nothing_keeps
   more_members_keep (more_of-MemberEntry a rest) = then_keeps _ _ (member_keeps a) (more_members_keep rest)
 
-  pub member_keeps : (a : MemberEntry) → Keeps (MemberRule a)
+  member_keeps : (a : MemberEntry) → Keeps (MemberRule a)
   member_keeps (Fields' words base p ds) = then_keeps _ _ (specifiers_keep is_qualified_word base (BaseRule base) words (λ typed. base_keeps base typed))
       (then_keeps _ _ (member_names_keep ds) (mark_keeps m.Semicolon))
   member_keeps (Assertion' at a message) = then_keeps _ _ (word_keeps w.StaticAssert) (then_keeps _ _ (mark_keeps m.OpenParen)
@@ -288,7 +288,7 @@ mutual
   member_names_keep (more_of-Declarator d rest) =
       then_keeps _ _ (declarator_operand_keeps Named 0 d (DeclaratorRule d Named) (declarator_keeps d Named)) (more_names_keep rest)
 
-  pub more_names_keep : {n : _} (row : Row_of-Declarator n) → Keeps (MoreNames row)
+  more_names_keep : {n : _} (row : Row_of-Declarator n) → Keeps (MoreNames row)
   more_names_keep end_of-Declarator = nothing_keeps
   more_names_keep (more_of-Declarator d rest) = then_keeps _ _ (mark_keeps m.Comma)
       (then_keeps _ _ (declarator_operand_keeps Named 0 d (DeclaratorRule d Named) (declarator_keeps d Named)) (more_names_keep rest))
@@ -301,18 +301,18 @@ mutual
   tag_enumerators_keep (Some n) (Base-Enumerated-1-Some' p all) = then_keeps _ _ (mark_keeps m.OpenBrace) (then_keeps _ _ (enumerators_keep all)
       (then_keeps _ _ (maybe_mark_keeps m.Comma) (mark_keeps m.CloseBrace)))
 
-  pub enumerators_keep : {n : _} (row : Row_of-Enumerator n) → Keeps (Enumerators row)
+  enumerators_keep : {n : _} (row : Row_of-Enumerator n) → Keeps (Enumerators row)
   enumerators_keep end_of-Enumerator = never_keeps
   enumerators_keep (more_of-Enumerator a rest) = then_keeps _ _ (enumerator_keeps a) (more_enumerators_keep rest)
 
-  pub more_enumerators_keep : {n : _} (row : Row_of-Enumerator n) → Keeps (MoreEnumerators row)
+  more_enumerators_keep : {n : _} (row : Row_of-Enumerator n) → Keeps (MoreEnumerators row)
   more_enumerators_keep end_of-Enumerator = nothing_keeps
   more_enumerators_keep (more_of-Enumerator a rest) = then_keeps _ _ (mark_keeps m.Comma) (then_keeps _ _ (enumerator_keeps a) (more_enumerators_keep rest))
 
   pub enumerator_keeps : (a : Enumerator) → Keeps (EnumeratorRule a)
   enumerator_keeps (Enumerator' n value) = then_keeps _ _ (identifier_keeps n) (then_keeps _ _ (value_keeps value) (declares_keeps false (Some n)))
 
-  pub value_keeps : (value : Held-Enumerator-value) → Keeps (ValueRule value)
+  value_keeps : (value : Held-Enumerator-value) → Keeps (ValueRule value)
   value_keeps Enumerator-value-None' = nothing_keeps
   value_keeps (Enumerator-value-Some' at a) = then_keeps _ _ (mark_keeps m.Equal) (operand_keeps op.conditional (level a) at (Spells a) (spells_keeps a))
 
@@ -324,7 +324,7 @@ mutual
   declarator_keeps (Function' p d q params ellipsis) mode = then_keeps _ _ (declarators_keep 1 d mode) (then_keeps _ _ (mark_keeps m.OpenParen)
       (then_keeps _ _ (prototype_keeps (is_own_name d) (Parameters params ellipsis) (parameters_keep params ellipsis)) (mark_keeps m.CloseParen)))
 
-  pub declarators_keep : {n : _} (least : ℕ) (row : Row_of-Declarator n) (mode : Mode) → Keeps (Declarators least row mode)
+  declarators_keep : {n : _} (least : ℕ) (row : Row_of-Declarator n) (mode : Mode) → Keeps (Declarators least row mode)
   declarators_keep least end_of-Declarator mode = never_keeps
   declarators_keep least (more_of-Declarator d rest) mode = declarator_operand_keeps mode least d (DeclaratorRule d mode) (declarator_keeps d mode)
 
@@ -339,7 +339,7 @@ mutual
       (then_keeps _ _ (declarator_operand_keeps Either 0 d (DeclaratorRule d Either) (declarator_keeps d Either))
       (then_keeps _ _ (declares_keeps false (name_of d)) (more_parameters_keep rest ellipsis)))
 
-  pub more_parameters_keep : {n : _} (row : Row_of-Param n) (ellipsis : Bool) → Keeps (MoreParameters row ellipsis)
+  more_parameters_keep : {n : _} (row : Row_of-Param n) (ellipsis : Bool) → Keeps (MoreParameters row ellipsis)
   more_parameters_keep end_of-Param true = then_keeps _ _ (mark_keeps m.Comma) (mark_keeps m.Ellipsis)
   more_parameters_keep end_of-Param false = nothing_keeps
   more_parameters_keep (more_of-Param words base d rest) ellipsis = then_keeps _ _ (mark_keeps m.Comma)

@@ -36,7 +36,7 @@ name_of_label : (k k2 : Option TokenKind) → is_label_by k k2 ≡ true → k �
 name_of_label (Some token.Name) k2 e = refl
 name_of_label _ k2 e = absurd (cc)
 
-pub no_colon_no_label : (i : Input) → kind (next i) ≢ Some (token.Punct m.Colon) → is_label i ≡ false
+no_colon_no_label : (i : Input) → kind (next i) ≢ Some (token.Punct m.Colon) → is_label i ≡ false
 no_colon_no_label i h = no_case (is_label i) (λ e. h (colon_of (kind i) (kind (next i)) e))
 
 pub no_name_no_label : (i : Input) (k : Option TokenKind) → kind i ≡ k → is_label_by k (kind (next i)) ≡ false → is_label i ≡ false

@@ -34,7 +34,7 @@ use Rattle.parse_complete.proofs.Words.{identifier_read, no_identifier, some_ide
 
 -- ---- static assertions
 
-abbrev pub AssertionOf : ℕ → ExprNode → ℕ → Rule
+abbrev AssertionOf : ℕ → ExprNode → ℕ → Rule
 AssertionOf at a n = Word w.StaticAssert ⨾ Mark m.OpenParen ⨾ Operand op.conditional (level a) at (Spells a) ⨾ Mark m.Comma ⨾ Message n
     ⨾ Mark m.CloseParen ⨾ Mark m.Semicolon
 

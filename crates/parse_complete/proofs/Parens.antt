@@ -50,7 +50,7 @@ module _ (a : ExprNode) (i n : ℕ) where
 pub no_comma : (t : Input) → grip t ≤ 0 → sees m.Comma t ≡ false
 no_comma t h = sees_not m.Comma t (λ e. absurd (let g = grip_is t m.Comma e in omega arith))
 
-pub whole_one : (d : ℕ) (s : Input) (e : Expr) (t : Input) → grip t ≤ 0 → operators (expr d) (declarator d) (specs d) 1 s ≡ Some (e, t)
+whole_one : (d : ℕ) (s : Input) (e : Expr) (t : Input) → grip t ≤ 0 → operators (expr d) (declarator d) (specs d) 1 s ≡ Some (e, t)
     → whole (expr d) (declarator d) (specs d) s ≡ Some (e, t)
 unfolding whole
 whole_one d s e t h p = rw (p, no_comma t h) refl
@@ -62,7 +62,7 @@ whole_from a i n may r s t h e d le = whole_one d s (made i a) t e
     (λ lone _. climb_stop d 1 s.at lone (made i a) t (omega (arith, grip_tight t))))
 
 -- what its prefix is, and that it begins no cast
-abbrev pub Prefixed : ℕ → ℕ → Input → Expr → Input → Type 0
+abbrev Prefixed : ℕ → ℕ → Input → Expr → Input → Type 0
 Prefixed d least s e t = (prefix (expr d) (declarator d) (specs d) least s ≡ Some (e, t)) × (begins_cast s ≡ false)
 
 -- what begins with its prefix is reached
@@ -72,7 +72,7 @@ reaches_from a i n p l low high may s t h e d le least le2 f t2 go =
     let q = p s t h e.within d le least in
     operators_from d least s (made i a) t f t2 q.0 (go (not (begins_cast s)) (λ _. ap not q.1))
 
-pub prefix_from : (a : ExprNode) (i n : ℕ) → MayStand 15 (level_of_node a) n → Posts a i n → (s t : Input) → Bare a i n s t → grip t ≤ 13 → (d : ℕ) → left s ≤ d
+prefix_from : (a : ExprNode) (i n : ℕ) → MayStand 15 (level_of_node a) n → Posts a i n → (s t : Input) → Bare a i n s t → grip t ≤ 13 → (d : ℕ) → left s ≤ d
     → (least : ℕ) → Prefixed d least s (made i a) t
 prefix_from a i n may p s t h low d le least =
     let x = p may s t h (omega (arith, low)) d le (made i a) t (posts_stop d s.at (made i a) t (omega (arith, low, grip_tight t))) in
@@ -82,11 +82,6 @@ pub found_post : (a : ExprNode) (i n : ℕ) → MayStand 15 (level_of_node a) n 
 found_post a i n may may2 p =
     let r : Reaches a i n = reaches_from a i n (prefix_from a i n may p) in
     record { posts = p; reaches = r; whole = whole_from a i n may2 r }
-
--- one more pair of parentheses
-whole_is : (d : ℕ) → level (expr d) (declarator d) (specs d) 0 ≡ whole (expr d) (declarator d) (specs d)
-unfolding level
-whole_is d = refl
 
 inner_read : (a : ExprNode) (i n : ℕ) → Wholes a i n → (s t : Input) → Bare a i n s t → grip t ≤ 0 → (d : ℕ) → left s < d → expr d 0 s ≡ Some (made i a, t)
 unfolding expr level
@@ -105,7 +100,7 @@ paren_primary a i n w s t (x, (before, (y, (h, behind)))) d le =
       rw (← before.1) first,
     )
 
-pub and_false : (a b : Bool) → b ≡ false → (a && b) ≡ false
+and_false : (a b : Bool) → b ≡ false → (a && b) ≡ false
 and_false true b h = h
 and_false false b h = refl
 

@@ -53,10 +53,6 @@ or_true : (b : Bool) → (b || true) ≡ true
 or_true true = refl
 or_true false = refl
 
-tag_begins : (allowed : AWord → Bool) (union : Bool) → begins_by allowed false (Some (token.Keyword (tag_word union))) ≡ true
-tag_begins allowed true = or_true (allowed w.Union)
-tag_begins allowed false = or_true (allowed w.Struct)
-
 tag_begins_any : (allowed : AWord → Bool) (typedef union : Bool) → begins_by allowed typedef (Some (token.Keyword (tag_word union))) ≡ true
 tag_begins_any allowed typedef true = or_true (allowed w.Union)
 tag_begins_any allowed typedef false = or_true (allowed w.Struct)

@@ -53,8 +53,8 @@ in_parentheses_read e s t (x, (before, (y, (h, behind)))) =
 
 -- a punctuator that ends an expression and begins none
 pub record EndsExpr (end : AMark) : Type 0 where
-  pub loose : tight_mark end ≡ 0
-  pub never : (typedef : Bool) → opens typedef (Some (token.Punct end)) ≡ false
+  loose : tight_mark end ≡ 0
+  never : (typedef : Bool) → opens typedef (Some (token.Punct end)) ≡ false
 
 semicolon_ends : EndsExpr m.Semicolon
 semicolon_ends = record { loose = refl; never = λ _. refl }
@@ -90,7 +90,7 @@ scoped_read p only s x t a h e = ap (scoped_in s) h ∙ ap (λ u. Some (a, u)) (
 
 -- ---- statements
 
-abbrev pub IsStmt : Stmt → Type 0
+abbrev IsStmt : Stmt → Type 0
 IsStmt a = (s t : Input) → StmtRule a s t → (d : ℕ) → left s ≤ d → one_stmt (statement d) s ≡ Some (a, t)
 
 stmt_read : (a : Stmt) → IsStmt a → (s t : Input) → StmtRule a s t → (d : ℕ) → left s < d → statement d s ≡ Some (a, t)
@@ -270,10 +270,10 @@ for_found i test step a c s t (v, ((x, (word, (y, (before, (z, (first, (u, (h, (
 
 -- ---- blocks
 
-abbrev pub IsEntry : Entry → Type 0
+abbrev IsEntry : Entry → Type 0
 IsEntry a = (s t : Input) → EntryRule a s t → (d : ℕ) → left s < d → (one_entry (statement d) s ≡ Some (a, t)) × (sees m.CloseBrace s ≡ false)
 
-pub statement_entry : (a : Stmt) → IsStmt a → IsEntry (tree.Statement a)
+statement_entry : (a : Stmt) → IsStmt a → IsEntry (tree.Statement a)
 unfolding one_entry
 statement_entry a c s t h d le =
     let begins = stmt_starts a s t h in
@@ -285,7 +285,7 @@ declaration_no_assert typedef k h is = let g = rw is at h in cc
 declaration_no_brace : (typedef : Bool) (k : Option TokenKind) → begins_by is_declaration_word typedef k ≡ true → k ≢ Some (token.Punct m.CloseBrace)
 declaration_no_brace typedef k h is = let g = rw is at h in cc
 
-pub declaration_entry : (d : Declaration) → IsEntry (tree.Declaration d)
+declaration_entry : (d : Declaration) → IsEntry (tree.Declaration d)
 unfolding one_entry
 declaration_entry a s t h d le =
     let begins = declaration_begins a s t h in
@@ -294,7 +294,7 @@ declaration_entry a s t h d le =
       sees_not m.CloseBrace s (declaration_no_brace (is_typedef s) (kind s) begins),
     )
 
-pub assertion_entry : (e : Expr) (n : ℕ) → IsEntry (tree.Assertion e n)
+assertion_entry : (e : Expr) (n : ℕ) → IsEntry (tree.Assertion e n)
 unfolding one_entry same_mark
 assertion_entry e n s t h d le = (rw (sees_word_of w.StaticAssert s h.1.0.0, assertion_read e n s t h, entry_assertion_is e n) refl, sees_by m.CloseBrace s _ h.1.0.0 refl)
 
@@ -337,7 +337,7 @@ row_every : {n : _} (row : tree.Row_of-Entry n) (s t : Input) → Entries row s 
 row_every tree.end_of-Entry s t h = h
 row_every (tree.more_of-Entry a rest) s t (x, (h, g)) = (x, (h, row_every rest x t g))
 
-abbrev pub AreEntries : {n : _} → tree.Row_of-Entry n → Type 0
+abbrev AreEntries : {n : _} → tree.Row_of-Entry n → Type 0
 AreEntries tree.end_of-Entry = Unit {0}
 AreEntries (tree.more_of-Entry a rest) = IsEntry a × AreEntries rest
 
@@ -358,7 +358,7 @@ block_found n row cs s t (x, (before, (y, ((q, (h, out)), behind)))) d le =
 -- ---- every statement and block item
 
 mutual
-  pub stmt_found : (a : Stmt) → IsStmt a
+  stmt_found : (a : Stmt) → IsStmt a
   stmt_found (tree.Simple None) = simple_none
   stmt_found (tree.Simple (Some e)) = simple_some e
   stmt_found (tree.Block' n row) = block_found n row (all_entries row)

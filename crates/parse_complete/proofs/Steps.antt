@@ -16,9 +16,6 @@ use Rattle.parse_sound.proofs.Holding.{sees_is, sees_word_is, sees_of, sees_word
 pub some_is : {A : Type 0} {x y : A} → Some x ≡ Some y → x ≡ y
 some_is h = cc
 
-pub first_is : {A : Type 0} (a b : A) (s t : Input) → ◌≡◌ {A = Option (A × Input)} (Some (a, s)) (Some (b, t)) → a ≡ b
-first_is {A} a b s t h = let e : ◌≡◌ {A = A × Input} (a, s) (b, t) = some_is h in ap (λ p. p.0) e
-
 pub second_is : {A : Type 0} (a b : A) (s t : Input) → ◌≡◌ {A = Option (A × Input)} (Some (a, s)) (Some (b, t)) → s ≡ t
 second_is {A} a b s t h = let e : ◌≡◌ {A = A × Input} (a, s) (b, t) = some_is h in ap (λ p. p.1) e
 

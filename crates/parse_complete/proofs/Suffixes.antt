@@ -41,10 +41,6 @@ kind_with : (s : Input) (a b : List (ℕ × Bool)) → kind (record s { names = 
 unfolding kind
 kind_with s a b = refl
 
-typedef_kept : (s : Input) (p : List (ℕ × Bool)) → is_typedef (record s { prototype = p }) ≡ is_typedef s
-unfolding is_typedef
-typedef_kept s p = refl
-
 -- ---- arrays
 
 pub array_found : (e : Declarator) → IsDeclared e → (mode : Mode) → Found (array e) mode 0

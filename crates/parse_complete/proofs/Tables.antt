@@ -15,7 +15,7 @@ use Rattle.c_ast.specs.declared.expression.UnaryOp.TheVariants as u
 use Rattle.c_ast.specs.Input.{Input, kind}
 use Rattle.c_grammar.specs.Operators as op
 use Rattle.parse_spec.specs.Steps.{is_mark, is_string, mark_of, same_mark}
-use Rattle.parse_spec.specs.Operators.{binary_op, assign_op, unary_op, tight_mark, tight_of}
+use Rattle.parse_spec.specs.Operators.{binary_op, assign_op, tight_mark, tight_of}
 use Rattle.parse_spec.specs.Expressions.{tight}
 
 pub binary_op_of : (o : BinaryOp) → binary_op (op.binary_mark o) ≡ Some o
@@ -29,10 +29,6 @@ assign_op_of _ = refl
 pub no_binary_op : (o : AssignOp) → binary_op (op.assign_mark o) ≡ None
 no_binary_op a.Plain = refl
 no_binary_op _ = refl
-
-pub unary_op_of : (o : UnaryOp) → unary_op (op.unary_mark o) ≡ Some o
-unary_op_of u.Address = refl
-unary_op_of _ = refl
 
 pub operand_low : (o : UnaryOp) → 13 ≤ op.operand_level o
 operand_low u.Address = omega arith
@@ -52,7 +48,7 @@ unfolding tight
 tight_is i mark e = ap (λ k. tight_of (mark_of k)) e
 
 -- how tightly the next token binds, where a string literal goes on with those before it
-abbrev pub grip_by : Option TokenKind → ℕ
+abbrev grip_by : Option TokenKind → ℕ
 grip_by (Some token.StringLit) = 17
 grip_by k = tight_of (mark_of k)
 

@@ -24,22 +24,17 @@ use Rattle.c_ast.specs.declared.statement.ForInit.{ForInit}
 use Rattle.c_ast.specs.declared.statement.ForInit.TheVariants as for_init
 use Rattle.c_ast.specs.declared.statement.Stmt.{Stmt}
 use Rattle.parse_spec.specs.Steps.{left}
-use Rattle.parse_sound.proofs.Declarations.{PartsEnd}
 use Rattle.parse_complete.proofs.Keeps.{Keeps, nothing_keeps, never_keeps, mark_keeps, word_keeps, identifier_keeps, maybe_mark_keeps, message_keeps, then_keeps, operand_keeps, declares_keeps, declarator_operand_keeps, specifiers_keep, spells_keeps, base_keeps, declarator_keeps, scoped_keeps, left_back}
 use Rattle.parse_complete.proofs.Steps.{mark_takes, word_takes, takes_one}
 
 pub expr_keeps : (least : ℕ) (e : Expr) → Keeps (IsExpr least e)
 expr_keeps least e = operand_keeps least (level e.node) e.at (Spells e.node) (spells_keeps e.node)
 
-pub assertion_keeps : (e : Expr) (message : ℕ) → Keeps (AssertionRule e message)
-assertion_keeps e message = then_keeps _ _ (word_keeps w.StaticAssert) (then_keeps _ _ (mark_keeps m.OpenParen) (then_keeps _ _ (expr_keeps op.conditional e)
-    (then_keeps _ _ (mark_keeps m.Comma) (then_keeps _ _ (message_keeps message) (then_keeps _ _ (mark_keeps m.CloseParen) (mark_keeps m.Semicolon))))))
-
-pub designator_keeps : (d : Designator) → Keeps (DesignatorRule d)
+designator_keeps : (d : Designator) → Keeps (DesignatorRule d)
 designator_keeps (Member n) = then_keeps _ _ (mark_keeps m.Dot) (identifier_keeps n)
 designator_keeps (Element e) = then_keeps _ _ (mark_keeps m.OpenBracket) (then_keeps _ _ (expr_keeps op.conditional e) (mark_keeps m.CloseBracket))
 
-pub designators_keep : (all : List Designator) → Keeps (DesignatorList all)
+designators_keep : (all : List Designator) → Keeps (DesignatorList all)
 designators_keep [] = nothing_keeps
 designators_keep (d ∷ rest) = then_keeps _ _ (designator_keeps d) (designators_keep rest)
 
@@ -47,7 +42,7 @@ pub designation_keeps : (all : List Designator) → Keeps (Designation all)
 designation_keeps [] = nothing_keeps
 designation_keeps (d ∷ rest) = then_keeps _ _ (designators_keep (d ∷ rest)) (mark_keeps m.Equal)
 
-pub brace_keeps : (at : ℕ) → Keeps (λ s t. (at ≡ s.at) × Mark m.OpenBrace s t)
+brace_keeps : (at : ℕ) → Keeps (λ s t. (at ≡ s.at) × Mark m.OpenBrace s t)
 brace_keeps at = record { keeps = λ s t h. (mark_keeps m.OpenBrace).keeps s t h.1; tokens = λ s t h. (mark_keeps m.OpenBrace).tokens s t h.1 }
 
 mutual
@@ -56,16 +51,16 @@ mutual
   init_keeps (Braced' at p entries) = then_keeps _ _ (brace_keeps at) (then_keeps _ _ (inits_keep entries)
       (then_keeps _ _ (maybe_mark_keeps m.Comma) (mark_keeps m.CloseBrace)))
 
-  pub inits_keep : {n : _} (row : Row_of-InitEntry n) → Keeps (InitEntries row)
+  inits_keep : {n : _} (row : Row_of-InitEntry n) → Keeps (InitEntries row)
   inits_keep end_of-InitEntry = never_keeps
   inits_keep (more_of-InitEntry designators i rest) = then_keeps _ _ (designation_keeps designators) (then_keeps _ _ (init_keeps i) (more_inits_keep rest))
 
-  pub more_inits_keep : {n : _} (row : Row_of-InitEntry n) → Keeps (MoreInits row)
+  more_inits_keep : {n : _} (row : Row_of-InitEntry n) → Keeps (MoreInits row)
   more_inits_keep end_of-InitEntry = nothing_keeps
   more_inits_keep (more_of-InitEntry designators i rest) = then_keeps _ _ (mark_keeps m.Comma)
       (then_keeps _ _ (designation_keeps designators) (then_keeps _ _ (init_keeps i) (more_inits_keep rest)))
 
-pub maybe_init_keeps : (a : Option Init) → Keeps (MaybeInit a)
+maybe_init_keeps : (a : Option Init) → Keeps (MaybeInit a)
 maybe_init_keeps None = nothing_keeps
 maybe_init_keeps (Some a) = then_keeps _ _ (mark_keeps m.Equal) (init_keeps a)
 
@@ -73,21 +68,18 @@ pub part_keeps : (typedef : Bool) (p : Part) → Keeps (PartRule typedef p)
 part_keeps typedef p = then_keeps _ _ (declarator_operand_keeps Named 0 p.declarator (DeclaratorRule p.declarator Named) (declarator_keeps p.declarator Named))
     (then_keeps _ _ (declares_keeps typedef (name_of p.declarator)) (maybe_init_keeps p.init))
 
-pub more_parts_keep : (typedef : Bool) (all : List Part) → Keeps (MoreParts typedef all)
+more_parts_keep : (typedef : Bool) (all : List Part) → Keeps (MoreParts typedef all)
 more_parts_keep typedef [] = nothing_keeps
 more_parts_keep typedef (p ∷ rest) = then_keeps _ _ (mark_keeps m.Comma) (then_keeps _ _ (part_keeps typedef p) (more_parts_keep typedef rest))
 
-pub parts_keep : (typedef : Bool) (all : List Part) → Keeps (Parts typedef all)
+parts_keep : (typedef : Bool) (all : List Part) → Keeps (Parts typedef all)
 parts_keep typedef [] = nothing_keeps
 parts_keep typedef (p ∷ rest) = then_keeps _ _ (part_keeps typedef p) (more_parts_keep typedef rest)
-
-pub parts_end_keeps : (typedef : Bool) (all : List Part) → Keeps (PartsEnd typedef all)
-parts_end_keeps typedef all = then_keeps _ _ (parts_keep typedef all) (mark_keeps m.Semicolon)
 
 pub declaration_specs_keep : (s : Specs) → Keeps (DeclarationSpecifiers s)
 declaration_specs_keep s = specifiers_keep is_declaration_word s.base (BaseRule s.base) s.words (λ typed. base_keeps s.base typed)
 
-pub declaration_keeps : (d : Declaration) → Keeps (DeclarationRule d)
+declaration_keeps : (d : Declaration) → Keeps (DeclarationRule d)
 declaration_keeps d = then_keeps _ _ (declaration_specs_keep d.specs) (then_keeps _ _ (parts_keep _ d.parts) (mark_keeps m.Semicolon))
 
 -- ---- statements
@@ -97,10 +89,10 @@ pub record Takes (R : Rule) : Type 0 where
   pub takes : (s t : Input) → R s t → left t < left s
   pub tokens : (s t : Input) → R s t → t.tokens ≡ s.tokens
 
-pub mark_takes_one : (mark : AMark) → Takes (Mark mark)
+mark_takes_one : (mark : AMark) → Takes (Mark mark)
 mark_takes_one mark = record { takes = λ s t h. mark_takes mark s t h; tokens = λ s t h. (mark_keeps mark).tokens s t h }
 
-pub word_takes_one : (word : AWord) → Takes (Word word)
+word_takes_one : (word : AWord) → Takes (Word word)
 word_takes_one word = record { takes = λ s t h. word_takes word s t h; tokens = λ s t h. (word_keeps word).tokens s t h }
 
 identifier_takes : (n : ℕ) → Takes (Identifier n)
@@ -112,13 +104,13 @@ at_word_takes word n = record { takes = λ s t h. word_takes word s t h.1; token
 pub takes_keep : (R : Rule) → Takes R → Keeps R
 takes_keep R f = record { keeps = λ s t h. omega (arith, f.takes s t h); tokens = λ s t h. f.tokens s t h }
 
-pub first_takes : (R S : Rule) → Takes R → Keeps S → Takes (R ⨾ S)
+first_takes : (R S : Rule) → Takes R → Keeps S → Takes (R ⨾ S)
 first_takes R S f g = record {
   takes = λ s t h. omega (arith, f.takes s h.0 h.1.0, g.keeps h.0 t h.1.1);
   tokens = λ s t h. (then_keeps R S (takes_keep R f) g).tokens s t h;
 }
 
-pub last_takes : (R S : Rule) → Keeps R → Takes S → Takes (R ⨾ S)
+last_takes : (R S : Rule) → Keeps R → Takes S → Takes (R ⨾ S)
 last_takes R S f g = record {
   takes = λ s t h. omega (arith, f.keeps s h.0 h.1.0, g.takes h.0 t h.1.1);
   tokens = λ s t h. (then_keeps R S f (takes_keep S g)).tokens s t h;
@@ -173,15 +165,15 @@ mutual
   stmt_takes (s.Case' n e p body) = first_takes _ _ (at_word_takes w.Case n) (then_keeps _ _ (expr_keeps op.conditional e) (then_keeps _ _ (mark_keeps m.Colon) (stmts_keep body)))
   stmt_takes (s.Default' n p body) = first_takes _ _ (at_word_takes w.Default n) (then_keeps _ _ (mark_keeps m.Colon) (stmts_keep body))
 
-  pub stmts_keep : {n : _} (row : s.Row_of-Stmt n) → Keeps (Stmts row)
+  stmts_keep : {n : _} (row : s.Row_of-Stmt n) → Keeps (Stmts row)
   stmts_keep s.end_of-Stmt = never_keeps
   stmts_keep (s.more_of-Stmt a rest) = takes_keep _ (stmt_takes a)
 
-  pub else_keeps : (other : s.Held-Stmt-If-2) → Keeps (ElseRule other)
+  else_keeps : (other : s.Held-Stmt-If-2) → Keeps (ElseRule other)
   else_keeps s.None' = not_next_keeps w.Else
   else_keeps (s.Some' p body) = then_keeps _ _ (word_keeps w.Else) (scoped_keeps _ (stmts_keep body))
 
-  pub entries_keep : {n : _} (row : s.Row_of-Entry n) → Keeps (Entries row)
+  entries_keep : {n : _} (row : s.Row_of-Entry n) → Keeps (Entries row)
   entries_keep s.end_of-Entry = nothing_keeps
   entries_keep (s.more_of-Entry a rest) = then_keeps _ _ (takes_keep _ (entry_takes a)) (entries_keep rest)
 

@@ -12,7 +12,7 @@ use Rattle.c_ast.specs.declared.expression.Expr.{Expr}
 use Rattle.c_ast.specs.declared.statement.Entry.{Entry}
 use Rattle.c_ast.specs.declared.statement.UnitEntry.{UnitEntry}
 use Rattle.c_ast.specs.declared.statement.UnitEntry.TheVariants as unit
-use Rattle.c_ast.specs.Input.{Input, kind, next, is_typedef, start_of, back_to}
+use Rattle.c_ast.specs.Input.{Input, kind, next, is_typedef, start_of}
 use Rattle.c_grammar.specs.Grammar.{Named, MaybeInit, DeclarationSpecifiers, EntryRule, Body, UnitEntryRule, UnitEntries, name_of}
 use Rattle.c_grammar.specs.Rules.{Mark, Declares, InPrototype, is_declaration_word, declares_typedef}
 use Rattle.parse_spec.specs.Places.{begins_by}
@@ -28,7 +28,7 @@ use Rattle.parse_sound.proofs.StatementAdds.{body_adds}
 use Rattle.parse_complete.specs.CompleteLaws.{TreesAreRead, TreesAreUnique, RefusedIsUnspelled}
 use Rattle.parse_complete.proofs.Declarations.{EndsPart, assertion_read, specs_read, named_read, more_parts_read, first_stops, after_part}
 use Rattle.parse_complete.proofs.Declarators.{ends_specs, named_no_stop, named_ends, declarator_less}
-use Rattle.parse_complete.proofs.Keeps.{Keeps, nothing_keeps, then_keeps, declares_keeps, left_kept}
+use Rattle.parse_complete.proofs.Keeps.{Keeps, nothing_keeps, then_keeps, declares_keeps, left_back, left_kept}
 use Rattle.parse_complete.proofs.Slides.{assertion_slides, parts_end_slides, declaration_specs_slide}
 use Rattle.parse_complete.proofs.Specifiers.{specs_begin}
 use Rattle.parse_complete.proofs.Statements.{AllEntries, entry_found, entries_read, brace_inside}
@@ -179,10 +179,6 @@ body_keeps (a ∷ rest) = then_keeps _ _ (takes_keep _ (entry_takes a)) (body_ke
 left_with : (s : Input) → left (with_parameters s) ≡ left s
 unfolding left
 left_with s = refl
-
-left_back : (s q : Input) → left (back_to s q) ≡ left q
-unfolding left back_to
-left_back s q = refl
 
 in_prototype_keeps : (all : List Entry) (s t : Input) → InPrototype (Body all) s t → left t ≤ left s
 in_prototype_keeps all s t (q, (h, out)) = omega (arith, (body_keeps all).keeps (with_parameters s) q h, left_with s, ap left out, left_back s q)

@@ -30,7 +30,7 @@ unfolding identifier
 identifier_read n s t (at, (is, same)) = rw (is, at, same) refl
 
 -- the next token is no name
-abbrev pub no_name : Option TokenKind → Bool
+abbrev no_name : Option TokenKind → Bool
 no_name (Some token.Name) = false
 no_name _ = true
 
