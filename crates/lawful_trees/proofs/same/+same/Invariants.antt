@@ -1,6 +1,6 @@
 use Rattle.std.proofs.Common.{◌+◌, map}
 use Rattle.c_types.specs.Types.{type_of, qualified_of, signature_of, params_of}
-use Rattle.lawful_trees.proofs.Nodes.{nodes, all_nodes}
+use Rattle.lawful_trees.proofs.Measure.{nodes, all_nodes}
 use Rattle.lawful_trees.proofs.same.+same.Given as goal
 
 abbrev pub decreases-same_type : goal.decreases-same_type
