@@ -2,7 +2,7 @@
 ghost use Rattle.std.specs.Prelude.{◌≡◌, ◌<◌, ◌↔◌, IsTrue, Some};
 ghost use Rattle.c_types.specs.Types.{type_of, qualified_of, kind_of, void, int, pointer, Compatible, SizesAgree};
 ghost use Rattle.c_types.specs.Layout.{extent, extents};
-ghost use Rattle.c_typed.specs.Lawful.{There, IsSized, IsScalar, IsInteger, AccessIs, PointsTo, IsConstant, StepsOver, LiesIn, IsTagged, MemberOf, IsFunctionType, IsPromoted, Comparable, OneKind, Related, literal_type};
+ghost use Rattle.c_typed.specs.Lawful.{There, IsSized, IsFirst, Gives, IsPointer, IsScalar, IsInteger, AccessIs, PointsTo, IsConstant, StepsOver, LiesIn, IsTagged, MemberOf, IsFunctionType, IsPromoted, Comparable, OneKind, Related, literal_type};
 
 use crate::same_type;
 use c_typed::Access;
@@ -142,6 +142,35 @@ fn agrees(known: Option<u64>, count: usize) -> bool
         Some(known) => known == count as u64,
         None => true,
     }
+}
+
+// Whether it points to the first element of the array that the other points to.
+fn is_first(own: &Ty, whole: &Ty) -> bool
+    ensures { IsTrue result → IsFirst (type_of own.now) (type_of whole.now) }
+{
+    match (own, whole) {
+        (Ty::Pointer(part), Ty::Pointer(array)) => match &array.get().ty {
+            Ty::Array(element, _) => {
+                let (part, element) = (part.get(), element.get());
+                part.constant == element.constant && same_type(&part.ty, &element.ty)
+            }
+            _ => false,
+        },
+        _ => false,
+    }
+}
+
+/// Whether it is the type of the value, or of a pointer to the first element of the array that it points to (6.3.2.1p3).
+pub fn gives(own: &Ty, value: &Ty) -> bool
+    ensures { IsTrue result → Gives (type_of own.now) (type_of value.now) }
+{
+    same_type(own, value) || is_first(own, value)
+}
+
+pub fn is_pointer(ty: &Ty) -> bool
+    ensures { IsTrue result → IsPointer (type_of ty.now) }
+{
+    matches!(ty, Ty::Pointer(_))
 }
 
 /// Whether it is a value of the type: an integer that it holds, or a null pointer (6.3.2.3p3).
