@@ -132,20 +132,26 @@ AccessIs tags (struct tag) a = There (extent (extents tags) (struct tag)) (λ e.
 AccessIs tags (union tag) a = There (extent (extents tags) (union tag)) (λ e. (0 < e.size) × (a ≡ access.Whole e.size e.align))
 AccessIs tags _ a = ⊥
 
+-- this type, with its qualifier, is that of the object, or, where that is an array, of its first element, and so on
+abbrev pub PointsInto : Bool → CType → Bool → CType → Type 0
+PointsInto c t d (array q element count) = ((c ≡ d) × Compatible t (array q element count)) ⊎ PointsInto c t q element
+PointsInto c t d object = (c ≡ d) × Compatible t object
+
 -- a pointer to an object of this type, or to the first element of one that is an array (6.3.2.1p3)
 abbrev pub PointsTo : CType → CType → Type 0
-PointsTo (pointer c t) (array d element count) = Compatible t (array d element count) ⊎ ((c ≡ d) × Compatible t element)
+PointsTo (pointer c t) (array d element count) = Compatible t (array d element count) ⊎ PointsInto c t d element
 PointsTo (pointer c t) object = Compatible t object
 PointsTo _ object = ⊥
 
--- a pointer to the first element of the array that the other points to
-abbrev pub IsFirst : CType → CType → Type 0
-IsFirst (pointer c element) (pointer d (array q t count)) = (c ≡ q) × (element ≡ t)
-IsFirst _ _ = ⊥
+-- a pointer to an object of this type, or, where it is an array, to its first element, and so on (6.3.2.1p3)
+abbrev pub FirstOf : CType → Bool → CType → Type 0
+FirstOf own c (array q t count) = (own ≡ pointer c (array q t count)) ⊎ FirstOf own q t
+FirstOf own c t = own ≡ pointer c t
 
--- a value of the other type; where that is a pointer whose array is used, it is a pointer to the first element (6.3.2.1p3)
+-- a value of the other type; where that is a pointer whose array is used, it is a pointer to the first element
 abbrev pub Gives : CType → CType → Type 0
-Gives own t = (own ≡ t) ⊎ IsFirst own t
+Gives own (pointer c t) = FirstOf own c t
+Gives own t = own ≡ t
 
 abbrev pub IsPointer : CType → Type 0
 IsPointer (pointer c t) = Unit {0}
