@@ -13,7 +13,7 @@ use crate::Around;
 use crate::names::object_at;
 use crate::parts::parts_fit;
 use crate::same::same_type;
-use crate::types::is_void;
+use crate::types::{gives, is_void};
 use c_typed::{Constant, Program, Slot, Typed};
 use c_types::{Qual, Ty};
 use layout::size;
@@ -23,7 +23,7 @@ pub fn last_is(own: &Ty, operands: &[Typed]) -> bool
     ensures { IsTrue result → LastIs (type_of own.now) (types_of operands.now) }
 {
     match operands.split_last() {
-        Some((last, _)) => same_type(own, &last.ty),
+        Some((last, _)) => gives(own, &last.ty),
         None => false,
     }
 }
@@ -59,7 +59,7 @@ fn calls(own: &Ty, called: &Ty, arguments: &[Typed]) -> bool
         Ty::Pointer(target) => match &target.get().ty {
             Ty::Function(function) => {
                 let function = function.get();
-                same_type(own, &function.result)
+                gives(own, &function.result)
                     && passed(function.params.as_slice(), function.variadic, arguments)
             }
             _ => false,

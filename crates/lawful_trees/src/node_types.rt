@@ -12,9 +12,9 @@ use crate::Around;
 use crate::names::{points_to_function, points_to_object};
 use crate::same::same_type;
 use crate::types::{
-    access_is, comparable, is_constant, is_function, is_int, is_integer, is_promoted, is_scalar,
-    is_tagged, is_void, kind_of, lies_in, member_of, one_kind, points_to, points_to_literal,
-    related, steps_over,
+    access_is, comparable, gives, is_constant, is_function, is_int, is_integer, is_pointer,
+    is_promoted, is_scalar, is_tagged, is_void, kind_of, lies_in, member_of, one_kind, points_to,
+    points_to_literal, related, steps_over,
 };
 use c_typed::{Access, Change, Conversion, Node, Program, UnOp};
 use c_types::{BinOp, IntKind, Qual, Tags, Ty};
@@ -111,7 +111,7 @@ fn load_types(program: &Program, access: Access, own: &Ty, place: &Ty) -> bool
     match place {
         Ty::Pointer(object) => {
             let object = &object.get().ty;
-            same_type(own, object) && access_is(&program.tags, object, access)
+            gives(own, object) && access_is(&program.tags, object, access)
         }
         _ => false,
     }
@@ -145,7 +145,7 @@ fn step_types(program: &Program, change: Change, own: &Ty, place: &Ty) -> bool
     match place {
         Ty::Pointer(object) => {
             let object = object.get();
-            same_type(own, &object.ty)
+            gives(own, &object.ty)
                 && !object.constant
                 && changes_by_one(&program.tags, change, &object.ty)
         }
@@ -159,7 +159,7 @@ fn update_types(program: &Program, change: Change, own: &Ty, place: &Ty, operand
     match place {
         Ty::Pointer(object) => {
             let object = object.get();
-            same_type(own, &object.ty)
+            gives(own, &object.ty)
                 && !object.constant
                 && changes_by(&program.tags, change, &object.ty, operand)
         }
@@ -175,7 +175,8 @@ pub fn unary_node_types(program: &Program, node: &Node, own: &Ty, operand: &Ty) 
     match node {
         Node::Load(access) => load_types(program, *access, own, operand),
         Node::Conv(conversion) => {
-            converts(tags, *conversion, operand, own) && !same_type(operand, own)
+            converts(tags, *conversion, operand, own)
+                && (!same_type(operand, own) || is_pointer(own))
         }
         Node::Un(op) => unary_types(*op, own, operand),
         Node::Member { offset } => member_of(tags, *offset, own, operand),
@@ -241,7 +242,7 @@ fn assignment_types(
     match place {
         Ty::Pointer(object) => {
             let object = object.get();
-            same_type(own, &object.ty)
+            gives(own, &object.ty)
                 && same_type(value, &object.ty)
                 && access_is(&program.tags, &object.ty, access)
                 && (initializing || !object.constant)
@@ -278,7 +279,7 @@ fn branch_is(own: &Ty, branch: &Ty) -> bool
 {
     match own {
         Ty::Void => true,
-        _ => same_type(branch, own),
+        _ => gives(own, branch),
     }
 }
 

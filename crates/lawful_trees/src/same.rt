@@ -42,8 +42,9 @@ pub fn same_type(a: &Ty, b: &Ty) -> bool
     }
 }
 
+/// The same with their top qualifiers.
 #[cycle(same)]
-fn same_qualified(a: &Qual, b: &Qual) -> bool
+pub fn same_qualified(a: &Qual, b: &Qual) -> bool
     ensures { IsTrue result ↔ (qualified_of a.now ≡ qualified_of b.now) }
 {
     a.constant == b.constant && same_type(&a.ty, &b.ty)

@@ -1,10 +1,10 @@
 // What a type is: scalar, integer, of so many bytes, a pointer to something (6.2.5, 6.3, 6.5).
-ghost use Rattle.std.specs.Prelude.{◌≡◌, ◌<◌, ◌↔◌, IsTrue, Some};
-ghost use Rattle.c_types.specs.Types.{type_of, qualified_of, kind_of, void, int, pointer, Compatible, SizesAgree};
+ghost use Rattle.std.specs.Prelude.{◌≡◌, ◌<◌, ◌↔◌, IsTrue, false, Some};
+ghost use Rattle.c_types.specs.Types.{type_of, qualified_of, kind_of, void, int, pointer, Alike, Compatible, SizesAgree};
 ghost use Rattle.c_types.specs.Layout.{extent, extents};
-ghost use Rattle.c_typed.specs.Lawful.{There, IsSized, IsScalar, IsInteger, AccessIs, PointsTo, IsConstant, StepsOver, LiesIn, IsTagged, MemberOf, IsFunctionType, IsPromoted, Comparable, OneKind, Related, literal_type};
+ghost use Rattle.c_typed.specs.Lawful.{There, IsSized, FirstOf, PointsInto, Gives, IsPointer, IsScalar, IsInteger, AccessIs, PointsTo, IsConstant, StepsOver, LiesIn, IsTagged, MemberOf, IsFunctionType, IsPromoted, Comparable, OneKind, Related, literal_type};
 
-use crate::same_type;
+use crate::same::{same_qualified, same_type};
 use c_typed::Access;
 use c_types::{IntKind, Qual, Tags, Ty, compatible, promote};
 use layout::size;
@@ -101,11 +101,25 @@ fn points_at(target: &Qual, object: &Ty) -> bool
 {
     match object {
         Ty::Array(element, _) => {
-            let element = element.get();
-            compatible(&target.ty, object)
-                || (target.constant == element.constant && compatible(&target.ty, &element.ty))
+            compatible(&target.ty, object) || points_into(target, element.get())
         }
         _ => compatible(&target.ty, object),
+    }
+}
+
+fn is_alike(target: &Qual, object: &Qual) -> bool
+    ensures { IsTrue result → Alike false (qualified_of target.now) (qualified_of object.now) }
+{
+    target.constant == object.constant && compatible(&target.ty, &object.ty)
+}
+
+// Whether the type is that of the object, or, where that is an array, of its first element, and so on.
+fn points_into(target: &Qual, object: &Qual) -> bool
+    ensures { IsTrue result → PointsInto (qualified_of target.now).constant (qualified_of target.now).ty (qualified_of object.now).constant (qualified_of object.now).ty }
+{
+    match &object.ty {
+        Ty::Array(element, _) => is_alike(target, object) || points_into(target, element.get()),
+        _ => is_alike(target, object),
     }
 }
 
@@ -142,6 +156,41 @@ fn agrees(known: Option<u64>, count: usize) -> bool
         Some(known) => known == count as u64,
         None => true,
     }
+}
+
+fn is_pointer_to(own: &Ty, target: &Qual) -> bool
+    ensures { IsTrue result → type_of own.now ≡ pointer (qualified_of target.now).constant (qualified_of target.now).ty }
+{
+    match own {
+        Ty::Pointer(t) => same_qualified(t.get(), target),
+        _ => false,
+    }
+}
+
+// Whether it points to an object of this type, or, where that is an array, to its first element, and so on.
+fn first_of(own: &Ty, target: &Qual) -> bool
+    ensures { IsTrue result → FirstOf (type_of own.now) (qualified_of target.now).constant (qualified_of target.now).ty }
+{
+    match &target.ty {
+        Ty::Array(element, _) => is_pointer_to(own, target) || first_of(own, element.get()),
+        _ => is_pointer_to(own, target),
+    }
+}
+
+/// Whether it is the type of the value, or of a pointer to the first element of the array that it points to (6.3.2.1p3).
+pub fn gives(own: &Ty, value: &Ty) -> bool
+    ensures { IsTrue result → Gives (type_of own.now) (type_of value.now) }
+{
+    match value {
+        Ty::Pointer(target) => first_of(own, target.get()),
+        _ => same_type(own, value),
+    }
+}
+
+pub fn is_pointer(ty: &Ty) -> bool
+    ensures { IsTrue result → IsPointer (type_of ty.now) }
+{
+    matches!(ty, Ty::Pointer(_))
 }
 
 /// Whether it is a value of the type: an integer that it holds, or a null pointer (6.3.2.3p3).
