@@ -1,8 +1,9 @@
 //! Translation units (6.9).
 
-ghost use Rattle.std.specs.Prelude.{◌≡◌, ◌≢◌, ◌<◌, ◌⊎◌, ℕ, Some, None, Err, IfOk, IfErr};
+ghost use Rattle.std.specs.Prelude.{◌≡◌, ◌≢◌, ◌<◌, ◌⊎◌, ℕ, ⊥, Some, None, Err, IfOk, IfErr};
 ghost use Rattle.c_ast.specs.Names.{Names};
 ghost use Rattle.c_ast.specs.Nest.{nest_of};
+ghost use Rattle.c_ast.specs.declared.statement.Unit.{Unit as SyntaxTree};
 ghost use Rattle.c_grammar.specs.Grammar.{SpellsUnit};
 ghost use Rattle.c_cursor.specs.Reads.{Reads};
 ghost use Rattle.parse_spec.specs.Declarations as declarations;
@@ -151,14 +152,13 @@ pub fn parse(alloc: Global, tokens: &Tokens<'_>) -> Result<Unit, ParseFault>
     // Where the rules nest too deep, this is said before all else, and nowhere else.
     ensures deep { NEST_LIMIT < nest_of tokens.now.list → (result ≡ Err (ParseFault.TooDeep (nest_of tokens.now.list))) ⊎ (result ≡ Err ParseFault.NoMemory) }
     ensures only { (count : ℕ) → result ≡ Err (ParseFault.TooDeep count) → (NEST_LIMIT < count) × (count ≡ nest_of tokens.now.list) }
-    // The tree is that of the parser's function.
-    ensures tree { IfOk result (λ u. spec.tree_of tokens.now ≡ Some u) }
-    // The tokens spell it, by the productions of Annex A.
+    // The tokens spell the tree, by the productions of Annex A, and no other one.
     ensures spells { IfOk result (λ u. SpellsUnit u tokens.now) }
+    ensures unique { IfOk result (λ u. (other : SyntaxTree) → SpellsUnit other tokens.now → other ≡ u) }
     // Each number in it that stands for a name, a literal or a keyword is that of such a token.
     ensures names { IfOk result (λ u. Names tokens.now u) }
-    // The syntax is refused just where the function has no tree.
-    ensures refused { (at : ℕ) → result ≡ Err (ParseFault.Syntax at) → spec.tree_of tokens.now ≡ None }
+    // The syntax is refused only where the tokens spell none.
+    ensures refused { (at : ℕ) → result ≡ Err (ParseFault.Syntax at) → (u : SyntaxTree) → SpellsUnit u tokens.now → ⊥ }
 {
     let nest = nest(alloc, tokens)?;
     if nest > NEST_LIMIT {

@@ -25,10 +25,9 @@ use Rattle.parse_spec.specs.Scopes.{OnlyAdds}
 use Rattle.parse_spec.specs.Statements.{whole_expr, in_parentheses, maybe_expr, for_init, simple_stmt, plain_by, plain_stmt, case_value, else_part, if_stmt, switch_stmt, while_stmt, do_stmt, for_stmt, label_stmt, case_stmt, default_stmt, one_entry, entries_from, entries, block, unlabelled_by, one_stmt, statement}
 use Rattle.parse_spec.specs.Steps.{Parser, ◌>>◌, left, turns, same_mark, take_token, sees, scoped, scoped_in}
 use Rattle.parse_spec.proofs.Adding.{then_adds, take_adds}
-use Rattle.parse_spec.proofs.AddingUnits.{statement_adds}
 use Rattle.parse_sound.proofs.Holding.{sees_of, sees_word_of, closed_is}
 use Rattle.parse_sound.proofs.Rows.{Every}
-use Rattle.parse_sound.proofs.StatementAdds.{if_stmt_adds, switch_stmt_adds, while_stmt_adds, do_stmt_adds, for_stmt_adds, entries_adds}
+use Rattle.parse_spec.proofs.AddingUnits.{if_stmt_adds, switch_stmt_adds, while_stmt_adds, do_stmt_adds, for_stmt_adds, entries_adds, statement_adds}
 use Rattle.parse_complete.proofs.Declarations.{assertion_read, declaration_read}
 use Rattle.parse_complete.proofs.Firsts.{opens, opens_no_declaration, no_opening}
 use Rattle.parse_complete.proofs.Initializers.{turns_read, begins_expr}

@@ -21,8 +21,7 @@ use Rattle.parse_spec.specs.Nested.{expr, declarator, specs}
 use Rattle.parse_spec.specs.Places.{opens_parameters, opens_by, opens_suffix, begins_by}
 use Rattle.parse_spec.specs.Expressions.{made}
 use Rattle.parse_spec.specs.Declarators.{is_own_name, one_parameter, parameters_from, parameters, array_suffix, function_suffix, one_suffix}
-use Rattle.parse_spec.proofs.AddingRules.{declarator_adds, specs_adds}
-use Rattle.parse_sound.proofs.Adds.{parameters_adds}
+use Rattle.parse_spec.proofs.AddingRules.{parameters_adds, expr_adds, declarator_adds, specs_adds}
 use Rattle.parse_sound.proofs.Holding.{sees_of}
 use Rattle.parse_complete.proofs.Declarators.{stops, ends_specs, IsDeclared, Found, found_posts, suffix_step, operand_posts, empty_bracket, empty_paren, declarator_read, declarator_less, declarator_ends}
 use Rattle.parse_complete.proofs.Firsts.{expr_opens, no_opening}
@@ -212,7 +211,7 @@ function_found e n row ellipsis c cs mode = found_posts (function e n row ellips
     let low : left inside < d = omega (arith, left_kept y [], p, p0, le) in
     let last : kind q ≡ Some (token.Punct m.CloseParen) = sym (ap kind kept ∙ kind_with q _ _) ∙ behind.0 in
     let inner = parameters_read row ellipsis cs inside q g last d low in
-    let adds = (parameters_adds (expr d) (declarator d) (specs d) (declarator_adds d) (specs_adds d)).adds inside q (params row, ellipsis) inner in
+    let adds = (parameters_adds (expr d) (declarator d) (specs d) (expr_adds d) (declarator_adds d) (specs_adds d)).adds inside q (params row, ellipsis) inner in
     let over : parameters_left (is_own_name e) y q ≡ z = left_is _ _ y q (own_same e) adds ∙ sym kept in
     let r = (prototype_keeps _ (Parameters row ellipsis) (parameters_keep row ellipsis)).keeps y z (q, (g, kept)) in
     let u = mark_takes m.CloseParen z t behind in

@@ -24,7 +24,7 @@ use Rattle.parse_sound.proofs.Declarations.{PartsEnd}
 use Rattle.parse_sound.proofs.Holding.{sees_of, sees_word_of, closed_is}
 use Rattle.parse_sound.proofs.Rows.{NamedRule, Every}
 use Rattle.parse_sound.proofs.Slides.{Kept, keeping, mark_slides}
-use Rattle.parse_sound.proofs.StatementAdds.{body_adds}
+use Rattle.parse_spec.proofs.AddingUnits.{body_adds}
 use Rattle.parse_complete.specs.CompleteLaws.{TreesAreRead, TreesAreUnique, RefusedIsUnspelled}
 use Rattle.parse_complete.proofs.Declarations.{EndsPart, assertion_read, specs_read, named_read, more_parts_read, first_stops, after_part}
 use Rattle.parse_complete.proofs.Declarators.{ends_specs, named_no_stop, named_ends, declarator_less}
