@@ -1,6 +1,6 @@
 //! Translation units (6.9).
 
-ghost use Rattle.std.specs.Prelude.{◌≡◌, ◌≢◌, ◌<◌, ◌⊎◌, ℕ, ⊥, Some, None, Err, IfOk, IfErr};
+ghost use Rattle.std.specs.Prelude.{◌≡◌, ◌≢◌, ◌<◌, ◌⊎◌, ℕ, Some, None, Err, IfOk, IfErr};
 ghost use Rattle.c_ast.specs.Names.{Names};
 ghost use Rattle.c_ast.specs.Nest.{nest_of};
 ghost use Rattle.c_ast.specs.declared.statement.Unit.{Unit as SyntaxTree};
