@@ -469,14 +469,20 @@ abbrev pub ContentIsLawful : Program → Content → Type 0
 ContentIsLawful p (content.Address target offset) = AddressIsLawful p target offset
 ContentIsLawful p _ = Unit {0}
 
--- what stands where the object has this scalar: an address only in a pointer, and aligned for what it points to
-abbrev pub SuitsType : Program → CType → Content → Type 0
-SuitsType p (pointer constant t) (content.Address target offset) = AddressSuits p (align_of p.tags t) target offset
-SuitsType p t (content.Address target offset) = ⊥
-SuitsType p t _ = Unit {0}
+-- an address stands only where the type is a pointer, and is aligned for what that points to
+abbrev pub SuitsType : Program → CType → Target → ℕ → Type 0
+SuitsType p (pointer constant t) target offset = AddressSuits p (align_of p.tags t) target offset
+SuitsType p t target offset = ⊥
 
-abbrev pub ContentSuits : Program → Scalar → Constant → Type 0
-ContentSuits p scalar c = scalar.offset ≡ c.at → SuitsType p scalar.ty c.content
+-- some of these scalars begins here and has a type that the address suits; in a union more than one may begin here
+abbrev pub SuitsSome : Program → Target → ℕ → ℕ → List Scalar → Type 0
+SuitsSome p target offset at [] = ⊥
+SuitsSome p target offset at (scalar ∷ scalars) =
+    ((scalar.offset ≡ at) × SuitsType p scalar.ty target offset) ⊎ SuitsSome p target offset at scalars
+
+abbrev pub ContentSuits : Program → List Scalar → ℕ → Content → Type 0
+ContentSuits p scalars at (content.Address target offset) = SuitsSome p target offset at scalars
+ContentSuits p scalars at _ = Unit {0}
 
 -- the object's type is complete (6.9.2p3)
 abbrev pub IsComplete : List Tag → Static → Type 0
@@ -486,7 +492,7 @@ pub record StaticIsLawful (p : Program) (s : Static) : Type 0 where
   pub sized : IsSized p.tags (qualified_of s.qual).ty
   pub fits : PartsFit (size_of p.tags (qualified_of s.qual).ty) s.constants
   pub contents : All (λ c. ContentIsLawful p c.content) s.constants
-  pub aligned : All (λ c. All (λ scalar. ContentSuits p scalar c) (scalars p.tags (qualified_of s.qual).ty)) s.constants
+  pub aligned : All (λ c. ContentSuits p (scalars p.tags (qualified_of s.qual).ty) c.at c.content) s.constants
 
 -- 8. The whole program.
 

@@ -1,4 +1,3 @@
-pub mod Beginnings
 pub mod Following
 pub mod Found
 pub mod Loops

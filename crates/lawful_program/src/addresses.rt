@@ -2,7 +2,6 @@
 ghost use Rattle.std.specs.Prelude.{IsTrue};
 ghost use Rattle.c_types.specs.Types.{type_of};
 ghost use Rattle.c_typed.specs.declared.tree.Target.TheVariants as to;
-ghost use Rattle.c_typed.specs.declared.program.Content.TheVariants as holding;
 ghost use Rattle.c_typed.specs.Lawful.{CanBeCalled, AddressIsLawful, ContentIsLawful, Divides, AddressSuits, SuitsType};
 
 use c_typed::{Content, Function, Program, Target};
@@ -93,7 +92,7 @@ fn address_suits(program: &Program, align: u64, target: Target, offset: u64) -> 
 
 /// Whether a scalar of this type may be the address: only a pointer may, to what it is aligned for.
 pub fn suits_scalar(program: &Program, ty: &Ty, target: Target, offset: u64) -> bool
-    ensures { IsTrue result → SuitsType program.now (type_of ty.now) (holding.Address target offset) }
+    ensures { IsTrue result → SuitsType program.now (type_of ty.now) target offset }
 {
     match ty {
         Ty::Pointer(pointed) => {

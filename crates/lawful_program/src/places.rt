@@ -1,10 +1,10 @@
-// Whether an address may stand at an offset of a type (6.2.5p20, 6.3.2.3p7).
-ghost use Rattle.std.specs.Prelude.{ℕ, ◌<◌, IsTrue, IfSome, IfNone};
+// Where an address may stand in a type (6.2.5p20, 6.3.2.3p7).
+ghost use Rattle.std.specs.Prelude.{ℕ, ◌<◌, IsTrue, IfSome};
 ghost use Rattle.c_types.specs.Types.{type_of, qualified_of};
 ghost use Rattle.c_types.specs.Layout.{size_of, type_of_member};
 ghost use Rattle.c_types.specs.Leaves.{shifted, scalars_by};
-ghost use Rattle.c_typed.specs.Lawful.{IsScalar};
-ghost use Rattle.lawful_program.specs.Places.{TakesAt, scalars_within, IsBare, LooksOn, IsBareArray, LooksOnElement, IsOfTag};
+ghost use Rattle.c_typed.specs.Lawful.{IsScalar, SuitsSome};
+ghost use Rattle.lawful_program.specs.Places.{scalars_within, LooksOn, LooksOnElement, IsOfTag};
 
 use crate::addresses::suits_scalar;
 use c_typed::{Program, Target};
@@ -21,10 +21,8 @@ struct Inner<'t> {
 // The offset in the element that holds an offset of an array of so many; none where there is no such element.
 fn in_element(program: &Program, element: &Qual, count: u64, at: u64) -> Option<u64>
     requires { 0 < size_of program.now.tags (qualified_of element.now).ty }
-    ensures none { IfNone result (IsBareArray program.now (qualified_of element.now) count at) }
-    ensures some { IfSome result (λ further. LooksOnElement program.now (qualified_of element.now) count at further) }
+    ensures { IfSome result (λ further. LooksOnElement program.now (qualified_of element.now) count at further) }
 {
-    program.tags.law_extents();
     let step = size(&program.tags, &element.ty);
     if at / step < count {
         Some(at % step)
@@ -36,14 +34,13 @@ fn in_element(program: &Program, element: &Qual, count: u64, at: u64) -> Option<
 // The element of an array, and of arrays in it, that holds the offset, which is counted from its begin; another type itself.
 // None where there is no such element.
 fn element_at<'t>(program: &Program, ty: &'t Ty, at: u64) -> Option<Inner<'t>>
-    ensures none { IfNone result (IsBare program.now (type_of ty.now) at) }
-    ensures some { IfSome result (λ i. LooksOn program.now (type_of ty.now) at (type_of i.ty.now) i.at) }
+    ensures { IfSome result (λ i. LooksOn program.now (type_of ty.now) at (type_of i.ty.now) i.at) }
 {
     match ty {
         Ty::Array(element, Some(count)) => {
             let element = element.get();
             if size(&program.tags, &element.ty) == 0 {
-                return Some(Inner { ty, at });
+                return None;
             }
             match in_element(program, element, *count, at) {
                 None => None,
@@ -54,14 +51,14 @@ fn element_at<'t>(program: &Program, ty: &'t Ty, at: u64) -> Option<Inner<'t>>
     }
 }
 
-/// Whether each scalar of the type that begins at the offset may be the address, with at most so many structures and unions one
+/// Whether some scalar of the type that begins at the offset may be the address, with at most so many structures and unions one
 /// inside the other.
 #[cycle(takes)]
 pub fn type_takes(program: &Program, depth: usize, address: (Target, u64), ty: &Ty, at: u64) -> bool
-    ensures { IsTrue result → TakesAt program.now address.0 address.1 at (scalars_within depth program.now.tags (type_of ty.now)) }
+    ensures { IsTrue result → SuitsSome program.now address.0 address.1 at (scalars_within depth program.now.tags (type_of ty.now)) }
 {
     let Some(inner) = element_at(program, ty, at) else {
-        return true;
+        return false;
     };
     match tag_of(inner.ty) {
         Some(tag) => tag_takes(program, depth, address, tag, inner.at),
@@ -86,32 +83,29 @@ fn is_scalar(ty: &Ty) -> bool
 }
 
 fn scalar_takes(program: &Program, address: (Target, u64), ty: &Ty, at: u64) -> bool
-    ensures { IsTrue result → (depth : ℕ) → TakesAt program.now address.0 address.1 at (scalars_within depth program.now.tags (type_of ty.now)) }
+    ensures { IsTrue result → (depth : ℕ) → SuitsSome program.now address.0 address.1 at (scalars_within depth program.now.tags (type_of ty.now)) }
 {
-    if !is_scalar(ty) {
-        return false;
-    }
-    at != 0 || suits_scalar(program, ty, address.0, address.1)
+    at == 0 && is_scalar(ty) && suits_scalar(program, ty, address.0, address.1)
 }
 
 #[cycle(takes)]
 fn tag_takes(program: &Program, depth: usize, address: (Target, u64), tag: u32, at: u64) -> bool
-    ensures { IsTrue result → TakesAt program.now address.0 address.1 at (scalars_by depth program.now.tags tag) }
+    ensures { IsTrue result → SuitsSome program.now address.0 address.1 at (scalars_by depth program.now.tags tag) }
 {
     if depth == 0 {
-        return true;
+        return false;
     }
     let Some(content) = program.tags.get(tag) else {
-        return true;
+        return false;
     };
     let members = content.members.as_slice();
     for (i, member) in members.iter().enumerate() {
         let offset = offset_of(&program.tags, tag, i);
-        if !member_takes(program, depth - 1, address, member, offset, at) {
-            return false;
+        if member_takes(program, depth - 1, address, member, offset, at) {
+            return true;
         }
     }
-    true
+    false
 }
 
 // The same of a member that stands at an offset.
@@ -124,25 +118,19 @@ fn member_takes(
     offset: u64,
     at: u64,
 ) -> bool
-    ensures { IsTrue result → TakesAt program.now address.0 address.1 at (shifted offset (scalars_within depth program.now.tags (type_of_member member.now))) }
+    ensures { IsTrue result → SuitsSome program.now address.0 address.1 at (shifted offset (scalars_within depth program.now.tags (type_of_member member.now))) }
 {
-    if at < offset {
-        return true;
-    }
-    if ends_before(program, member, at - offset) {
-        return true;
+    if at < offset || ends_before(program, member, at - offset) {
+        return false;
     }
     type_takes(program, depth, address, &member.qual.ty, at - offset)
 }
 
-// Whether all scalars of the member begin before the offset in it.
-fn ends_before(program: &Program, member: &Member, at: u64) -> bool
-    ensures { IsTrue result → IsBare program.now (type_of_member member.now) at }
-{
-    program.tags.law_extents();
+// Whether the member ends before the offset in it, so that none of its parts needs to be looked at.
+fn ends_before(program: &Program, member: &Member, at: u64) -> bool {
     let extent: Option<Extent> = program.tags.extent(&member.qual.ty);
     match extent {
         Some(extent) => extent.size <= at,
-        None => false,
+        None => true,
     }
 }

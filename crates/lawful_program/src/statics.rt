@@ -36,7 +36,7 @@ fn are_lawful_contents(program: &Program, constants: &[Constant]) -> bool
 
 // Whether an address stands only where the type has a pointer, to what the address is aligned for.
 fn is_aligned(program: &Program, ty: &Ty, constant: &Constant) -> bool
-    ensures { IsTrue result → All (λ scalar. ContentSuits program.now scalar constant.now) (scalars program.now.tags (type_of ty.now)) }
+    ensures { IsTrue result → ContentSuits program.now (scalars program.now.tags (type_of ty.now)) constant.now.at constant.now.content }
 {
     match &constant.content {
         Content::Zeros(_) | Content::Bytes(_) => true,
@@ -48,7 +48,7 @@ fn is_aligned(program: &Program, ty: &Ty, constant: &Constant) -> bool
 }
 
 fn are_aligned(program: &Program, ty: &Ty, constants: &[Constant]) -> bool
-    ensures { IsTrue result → All (λ c. All (λ scalar. ContentSuits program.now scalar c) (scalars program.now.tags (type_of ty.now))) constants.now }
+    ensures { IsTrue result → All (λ c. ContentSuits program.now (scalars program.now.tags (type_of ty.now)) c.at c.content) constants.now }
 {
     for constant in constants {
         if !is_aligned(program, ty, constant) {

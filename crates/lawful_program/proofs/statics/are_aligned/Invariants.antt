@@ -6,4 +6,4 @@ use Rattle.c_typed.specs.Lawful.{ContentSuits}
 use Rattle.lawful_program.proofs.statics.are_aligned.Given as goal
 
 abbrev pub invariant-loop-constant : goal.invariant-loop-constant
-invariant-loop-constant l = All (λ c. All (λ scalar. ContentSuits l.program scalar c) (scalars l.program.tags (type_of l.ty))) (take l.constant-index l.constants)
+invariant-loop-constant l = All (λ c. ContentSuits l.program (scalars l.program.tags (type_of l.ty)) c.at c.content) (take l.constant-index l.constants)
