@@ -43,7 +43,8 @@ impl<'p, 'c> Machine<'p, 'c> {
         match &node.tree.node {
             Node::Load(access) => {
                 let place = self.pointer(first);
-                let ty = &node.tree.ty;
+                // What the node gives may be used as another pointer (6.3.2.1p3).
+                let ty = target(first_child(node.tree));
                 let t = &mut self.items;
                 Ok(Outcome::Value(load(&mut self.memory, *access, ty, event, place, t)?))
             }

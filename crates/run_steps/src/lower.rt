@@ -394,9 +394,10 @@ fn value_act<'p>(info: &NodeInfo<'p>, number: u32, nodes: &[NodeInfo<'p>]) -> Ac
     let tree = info.tree;
     match &tree.node {
         Node::Const(_) | Node::Obj(_) | Node::Func(_) | Node::Str(_) => Act::Same(info.operand),
+        // What the node gives may be used as another pointer (6.3.2.1p3), so the type is that of the object at its place.
         Node::Load(access) => Act::Load {
             access: *access,
-            ty: &tree.ty,
+            ty: target(first_child(tree)),
             place: first,
         },
         Node::Conv(conversion) => Act::Convert(*conversion, first),
