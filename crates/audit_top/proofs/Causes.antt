@@ -1,7 +1,6 @@
 -- Why an answer comes.
 use Rattle.std.proofs.Common.{◌≡◌, ◌⊎◌, ℕ, ℤ, List, [], length, Option, Some, None, Result, Ok, Err, refl, sym, subst, ◌∙◌, inl, inr, option_copied}
 use Rattle.c_lex.specs.Tokens.{lexed}
-use Rattle.c_lex.specs.declared.token.Token.{Token}
 use Rattle.c_lex.specs.declared.token.LexFault.{LexFault}
 use Rattle.c_lex.specs.declared.token.LexFault.TheVariants as LexFault
 use Rattle.ub_base.specs.Held.{Held, IsKept, OthersStay, WhereTold}
@@ -18,7 +17,7 @@ use Rattle.command.specs.declared.request.CheckRequest.{CheckRequest}
 use Rattle.command.specs.declared.request.SelfRequest.{SelfRequest}
 use Rattle.command.specs.declared.request.Request.{Request}
 use Rattle.command.specs.declared.request.Request.TheVariants.{Audit, Check, SelfAudit}
-use Rattle.audit_top.specs.Answer.{HasTokens, HasVerdict, Refuses, judged, lex_refusal, verdict}
+use Rattle.audit_top.specs.Answer.{HasTree, HasVerdict, Refuses, judged, lex_refusal, verdict}
 use Rattle.audit_top.specs.Value.{value}
 use Rattle.audit_top.specs.Finding.{IsFound}
 use Rattle.audit_top.specs.Words.{TakesWords}
@@ -53,15 +52,15 @@ bad_number_is_not_memory : (at : ℕ) → LexFault.BadNumber at ≡ LexFault.NoM
 bad_number_is_not_memory at e = cc
 
 -- a text without tokens is refused for its first piece that is none
-pub lex_refuses : (tokens : Result (List Token) LexFault) (fault : LexFault) (refusal : Refusal) → Some refusal ≡ lex_refusal fault
-    → ((fault ≡ LexFault.NoMemory → ⊥) → tokens ≡ Err fault) → Refuses tokens refusal
-lex_refuses tokens (LexFault.Stray at) refusal is why =
-    subst (Refuses tokens) (sym (same_refusal refusal (Refusal.Stray at) is)) (why (stray_is_not_memory at))
-lex_refuses tokens (LexFault.OpenLiteral at) refusal is why =
-    subst (Refuses tokens) (sym (same_refusal refusal (Refusal.OpenLiteral at) is)) (why (open_literal_is_not_memory at))
-lex_refuses tokens (LexFault.BadNumber at) refusal is why =
-    subst (Refuses tokens) (sym (same_refusal refusal (Refusal.BadNumber at) is)) (why (bad_number_is_not_memory at))
-lex_refuses tokens LexFault.NoMemory refusal is why = absurd (no_memory_refuses_nothing refusal is)
+pub lex_refuses : (text : List ℕ) (fault : LexFault) (refusal : Refusal) → Some refusal ≡ lex_refusal fault
+    → ((fault ≡ LexFault.NoMemory → ⊥) → lexed text ≡ Err fault) → Refuses text refusal
+lex_refuses text (LexFault.Stray at) refusal is why =
+    subst (Refuses text) (sym (same_refusal refusal (Refusal.Stray at) is)) (why (stray_is_not_memory at))
+lex_refuses text (LexFault.OpenLiteral at) refusal is why =
+    subst (Refuses text) (sym (same_refusal refusal (Refusal.OpenLiteral at) is)) (why (open_literal_is_not_memory at))
+lex_refuses text (LexFault.BadNumber at) refusal is why =
+    subst (Refuses text) (sym (same_refusal refusal (Refusal.BadNumber at) is)) (why (bad_number_is_not_memory at))
+lex_refuses text LexFault.NoMemory refusal is why = absurd (no_memory_refuses_nothing refusal is)
 
 -- the verdict on a unit is the answer to its text
 by_value : (request : AuditRequest) (before now : ℕ) (text : List ℕ) (line : ℕ) (answer : Answer) (found : Result ℤ Clause) → UsesForm request
@@ -138,22 +137,22 @@ memory_cause words old new answer (inr h) =
 
 -- what is kept of a finding is the answer to its text
 pub kept_text : (request : AuditRequest) (before now : ℕ) (text : List ℕ) (s : ℕ) (bytes : List ℕ) (answer : Answer) → IsRun request text
-    → HasTokens (lexed text) → IsFound request.steps s bytes → KeptCause s bytes before now answer → TextCause request before now text answer
-kept_text request before now text n bytes (Clean s) run tokens found why = absurd why
-kept_text request before now text n bytes (Undefined c l) run tokens found why = absurd why
-kept_text request before now text n bytes (Found s b) run tokens found why =
-    (record { run = run; tokens = tokens }, subst (λ m. IsFound request.steps m b) (sym why.0) (subst (λ r. IsFound request.steps n r) (sym why.1) found))
-kept_text request before now text n bytes (Generated m s b) run tokens found why = absurd why
-kept_text request before now text n bytes (GeneratedRefused m r) run tokens found why = absurd why
-kept_text request before now text n bytes (Checked v) run tokens found why = absurd why
-kept_text request before now text n bytes (Bad b) run tokens found why = absurd why
-kept_text request before now text n bytes Usage run tokens found why = absurd why
-kept_text request before now text n bytes (TooLong role) run tokens found why = absurd why
-kept_text request before now text n bytes (Refused r) run tokens found why = absurd why
-kept_text request before now text n bytes CertificateTooLong run tokens found why = record { run = run; tokens = tokens }
-kept_text request before now text n bytes NotKept run tokens found why = (record { run = run; tokens = tokens }, why)
-kept_text request before now text n bytes ReadFault run tokens found why = absurd why
-kept_text request before now text n bytes NoMemory run tokens found why = tt
+    → HasTree text → IsFound request.steps s bytes → KeptCause s bytes before now answer → TextCause request before now text answer
+kept_text request before now text n bytes (Clean s) run tree found why = absurd why
+kept_text request before now text n bytes (Undefined c l) run tree found why = absurd why
+kept_text request before now text n bytes (Found s b) run tree found why =
+    (record { run = run; tree = tree }, subst (λ m. IsFound request.steps m b) (sym why.0) (subst (λ r. IsFound request.steps n r) (sym why.1) found))
+kept_text request before now text n bytes (Generated m s b) run tree found why = absurd why
+kept_text request before now text n bytes (GeneratedRefused m r) run tree found why = absurd why
+kept_text request before now text n bytes (Checked v) run tree found why = absurd why
+kept_text request before now text n bytes (Bad b) run tree found why = absurd why
+kept_text request before now text n bytes Usage run tree found why = absurd why
+kept_text request before now text n bytes (TooLong role) run tree found why = absurd why
+kept_text request before now text n bytes (Refused r) run tree found why = absurd why
+kept_text request before now text n bytes CertificateTooLong run tree found why = record { run = run; tree = tree }
+kept_text request before now text n bytes NotKept run tree found why = (record { run = run; tree = tree }, why)
+kept_text request before now text n bytes ReadFault run tree found why = absurd why
+kept_text request before now text n bytes NoMemory run tree found why = tt
 
 -- a text that was judged has the cause of its audit
 pub judged_audit : (old new : Disk) (request : AuditRequest) (answer : Answer) → IsJudged old new request answer → AuditCause old new request answer

@@ -21,7 +21,8 @@ use Rattle.c_ast.specs.Nest.{nest_of}
 use Rattle.c_lex.specs.Tokens.{lexed}
 use Rattle.c_lex.specs.declared.token.Token.{Token}
 use Rattle.c_lex.specs.declared.token.LexFault.{LexFault}
-use Rattle.audit_top.specs.Answer.{HasNoForm, HasTokens, HasVerdict, Refuses, RefusesEarly, verdict}
+use Rattle.audit_top.specs.Answer.{AreTokens, HasNoForm, HasVerdict, Refuses, RefusesEarly, max_nest, verdict}
+use Rattle.c_lex.specs.TokenText.{TokenText}
 use Rattle.audit_top.specs.Cause.{AuditCause, Disk, HasCause, IsJudged, IsStopped, Leaves, RequestCause, TextCause, UsesForm, WordsCause, stopped}
 use Rattle.audit_top.specs.Report.{Ends, EndsWith, report, status}
 use Rattle.audit_top.specs.Told.{IsAsked, IsGiven}
@@ -48,69 +49,76 @@ same_list a b e = cc
 not_both : (fault : LexFault) (list : List Token) → ◌≡◌ {A = Result (List Token) LexFault} (Err fault) (Ok list) → ⊥
 not_both fault list e = cc
 
+-- the text has tokens that don't nest too deep
+abbrev IsReadOn : List ℕ → Type 0
+IsReadOn text = (list : List Token) × (lexed text ≡ Ok list) × (nest_of list ≤ max_nest)
+
+on : (text : List ℕ) (tokens : TokenText) → AreTokens text tokens → IsReadOn text
+on text tokens are = (tokens.list, are.1, are.2)
+
 -- tokens that refuse a text aren't those of a text that is read on
-not_read_on : (tokens : Result (List Token) LexFault) (s : Refusal) → HasTokens tokens → RefusesEarly tokens s → ⊥
-not_read_on tokens (Stray b) p q = not_both _ p.0 (sym q ∙ p.1)
-not_read_on tokens (OpenLiteral b) p q = not_both _ p.0 (sym q ∙ p.1)
-not_read_on tokens (BadNumber b) p q = not_both _ p.0 (sym q ∙ p.1)
-not_read_on tokens (TooDeep b) p q =
-    let same = ap nest_of (same_list p.0 q.0 (sym p.1 ∙ q.1)) in let count = q.2 in let deep = q.3 in let flat = p.2 in absurd (omega arith)
-not_read_on tokens (TooHigh b) p q = q
-not_read_on tokens (Syntax t l) p q = q
-not_read_on tokens (NotTyped l) p q = q
+not_read_on : (text : List ℕ) (s : Refusal) → IsReadOn text → RefusesEarly text s → ⊥
+not_read_on text (Stray b) p q = not_both _ p.0 (sym q ∙ p.1)
+not_read_on text (OpenLiteral b) p q = not_both _ p.0 (sym q ∙ p.1)
+not_read_on text (BadNumber b) p q = not_both _ p.0 (sym q ∙ p.1)
+not_read_on text (TooDeep b) p q =
+    let same = ap nest_of (same_list p.0 q.0.list (sym p.1 ∙ q.1)) in let count = q.2 in let deep = q.3 in let flat = p.2 in absurd (omega arith)
+not_read_on text (TooHigh b) p q = q
+not_read_on text (Syntax t l) p q = q
+not_read_on text (NotTyped l) p q = q
 
 -- a text is refused early for one reason
-early_unique : (tokens : Result (List Token) LexFault) (r s : Refusal) → Refuses tokens r → RefusesEarly tokens s → r ≡ s
-early_unique tokens (Stray a) (Stray b) p q = let e = sym p ∙ q in cc
-early_unique tokens (Stray a) (OpenLiteral b) p q = let e = sym p ∙ q in absurd (cc)
-early_unique tokens (Stray a) (BadNumber b) p q = let e = sym p ∙ q in absurd (cc)
-early_unique tokens (Stray a) (TooDeep b) p q = absurd (not_both _ q.0 (sym p ∙ q.1))
-early_unique tokens (Stray a) (TooHigh b) p q = absurd q
-early_unique tokens (Stray a) (Syntax u m) p q = absurd q
-early_unique tokens (Stray a) (NotTyped m) p q = absurd q
-early_unique tokens (OpenLiteral a) (Stray b) p q = let e = sym p ∙ q in absurd (cc)
-early_unique tokens (OpenLiteral a) (OpenLiteral b) p q = let e = sym p ∙ q in cc
-early_unique tokens (OpenLiteral a) (BadNumber b) p q = let e = sym p ∙ q in absurd (cc)
-early_unique tokens (OpenLiteral a) (TooDeep b) p q = absurd (not_both _ q.0 (sym p ∙ q.1))
-early_unique tokens (OpenLiteral a) (TooHigh b) p q = absurd q
-early_unique tokens (OpenLiteral a) (Syntax u m) p q = absurd q
-early_unique tokens (OpenLiteral a) (NotTyped m) p q = absurd q
-early_unique tokens (BadNumber a) (Stray b) p q = let e = sym p ∙ q in absurd (cc)
-early_unique tokens (BadNumber a) (OpenLiteral b) p q = let e = sym p ∙ q in absurd (cc)
-early_unique tokens (BadNumber a) (BadNumber b) p q = let e = sym p ∙ q in cc
-early_unique tokens (BadNumber a) (TooDeep b) p q = absurd (not_both _ q.0 (sym p ∙ q.1))
-early_unique tokens (BadNumber a) (TooHigh b) p q = absurd q
-early_unique tokens (BadNumber a) (Syntax u m) p q = absurd q
-early_unique tokens (BadNumber a) (NotTyped m) p q = absurd q
-early_unique tokens (TooDeep a) (Stray b) p q = absurd (not_both _ p.0 (sym q ∙ p.1))
-early_unique tokens (TooDeep a) (OpenLiteral b) p q = absurd (not_both _ p.0 (sym q ∙ p.1))
-early_unique tokens (TooDeep a) (BadNumber b) p q = absurd (not_both _ p.0 (sym q ∙ p.1))
-early_unique tokens (TooDeep a) (TooDeep b) p q =
-    let same = same_list p.0 q.0 (sym p.1 ∙ q.1) in ap TooDeep (p.2 ∙ ap nest_of same ∙ sym q.2)
-early_unique tokens (TooDeep a) (TooHigh b) p q = absurd q
-early_unique tokens (TooDeep a) (Syntax u m) p q = absurd q
-early_unique tokens (TooDeep a) (NotTyped m) p q = absurd q
-early_unique tokens (TooHigh a) (Stray b) p q = absurd (not_read_on tokens (Stray b) p q)
-early_unique tokens (TooHigh a) (OpenLiteral b) p q = absurd (not_read_on tokens (OpenLiteral b) p q)
-early_unique tokens (TooHigh a) (BadNumber b) p q = absurd (not_read_on tokens (BadNumber b) p q)
-early_unique tokens (TooHigh a) (TooDeep b) p q = absurd (not_read_on tokens (TooDeep b) p q)
-early_unique tokens (TooHigh a) (TooHigh b) p q = absurd q
-early_unique tokens (TooHigh a) (Syntax u m) p q = absurd q
-early_unique tokens (TooHigh a) (NotTyped m) p q = absurd q
-early_unique tokens (Syntax t l) (Stray b) p q = absurd (not_read_on tokens (Stray b) p q)
-early_unique tokens (Syntax t l) (OpenLiteral b) p q = absurd (not_read_on tokens (OpenLiteral b) p q)
-early_unique tokens (Syntax t l) (BadNumber b) p q = absurd (not_read_on tokens (BadNumber b) p q)
-early_unique tokens (Syntax t l) (TooDeep b) p q = absurd (not_read_on tokens (TooDeep b) p q)
-early_unique tokens (Syntax t l) (TooHigh b) p q = absurd q
-early_unique tokens (Syntax t l) (Syntax u m) p q = absurd q
-early_unique tokens (Syntax t l) (NotTyped m) p q = absurd q
-early_unique tokens (NotTyped l) (Stray b) p q = absurd (not_read_on tokens (Stray b) p q)
-early_unique tokens (NotTyped l) (OpenLiteral b) p q = absurd (not_read_on tokens (OpenLiteral b) p q)
-early_unique tokens (NotTyped l) (BadNumber b) p q = absurd (not_read_on tokens (BadNumber b) p q)
-early_unique tokens (NotTyped l) (TooDeep b) p q = absurd (not_read_on tokens (TooDeep b) p q)
-early_unique tokens (NotTyped l) (TooHigh b) p q = absurd q
-early_unique tokens (NotTyped l) (Syntax u m) p q = absurd q
-early_unique tokens (NotTyped l) (NotTyped m) p q = absurd q
+early_unique : (text : List ℕ) (r s : Refusal) → Refuses text r → RefusesEarly text s → r ≡ s
+early_unique text (Stray a) (Stray b) p q = let e = sym p ∙ q in cc
+early_unique text (Stray a) (OpenLiteral b) p q = let e = sym p ∙ q in absurd (cc)
+early_unique text (Stray a) (BadNumber b) p q = let e = sym p ∙ q in absurd (cc)
+early_unique text (Stray a) (TooDeep b) p q = absurd (not_both _ q.0 (sym p ∙ q.1))
+early_unique text (Stray a) (TooHigh b) p q = absurd q
+early_unique text (Stray a) (Syntax u m) p q = absurd q
+early_unique text (Stray a) (NotTyped m) p q = absurd q
+early_unique text (OpenLiteral a) (Stray b) p q = let e = sym p ∙ q in absurd (cc)
+early_unique text (OpenLiteral a) (OpenLiteral b) p q = let e = sym p ∙ q in cc
+early_unique text (OpenLiteral a) (BadNumber b) p q = let e = sym p ∙ q in absurd (cc)
+early_unique text (OpenLiteral a) (TooDeep b) p q = absurd (not_both _ q.0 (sym p ∙ q.1))
+early_unique text (OpenLiteral a) (TooHigh b) p q = absurd q
+early_unique text (OpenLiteral a) (Syntax u m) p q = absurd q
+early_unique text (OpenLiteral a) (NotTyped m) p q = absurd q
+early_unique text (BadNumber a) (Stray b) p q = let e = sym p ∙ q in absurd (cc)
+early_unique text (BadNumber a) (OpenLiteral b) p q = let e = sym p ∙ q in absurd (cc)
+early_unique text (BadNumber a) (BadNumber b) p q = let e = sym p ∙ q in cc
+early_unique text (BadNumber a) (TooDeep b) p q = absurd (not_both _ q.0 (sym p ∙ q.1))
+early_unique text (BadNumber a) (TooHigh b) p q = absurd q
+early_unique text (BadNumber a) (Syntax u m) p q = absurd q
+early_unique text (BadNumber a) (NotTyped m) p q = absurd q
+early_unique text (TooDeep a) (Stray b) p q = absurd (not_both _ p.0 (sym q ∙ p.1))
+early_unique text (TooDeep a) (OpenLiteral b) p q = absurd (not_both _ p.0 (sym q ∙ p.1))
+early_unique text (TooDeep a) (BadNumber b) p q = absurd (not_both _ p.0 (sym q ∙ p.1))
+early_unique text (TooDeep a) (TooDeep b) p q =
+    let same = same_list p.0.list q.0.list (sym p.1 ∙ q.1) in ap TooDeep (p.2 ∙ ap nest_of same ∙ sym q.2)
+early_unique text (TooDeep a) (TooHigh b) p q = absurd q
+early_unique text (TooDeep a) (Syntax u m) p q = absurd q
+early_unique text (TooDeep a) (NotTyped m) p q = absurd q
+early_unique text (TooHigh a) (Stray b) p q = absurd (not_read_on text (Stray b) (on text p.0 p.1) q)
+early_unique text (TooHigh a) (OpenLiteral b) p q = absurd (not_read_on text (OpenLiteral b) (on text p.0 p.1) q)
+early_unique text (TooHigh a) (BadNumber b) p q = absurd (not_read_on text (BadNumber b) (on text p.0 p.1) q)
+early_unique text (TooHigh a) (TooDeep b) p q = absurd (not_read_on text (TooDeep b) (on text p.0 p.1) q)
+early_unique text (TooHigh a) (TooHigh b) p q = absurd q
+early_unique text (TooHigh a) (Syntax u m) p q = absurd q
+early_unique text (TooHigh a) (NotTyped m) p q = absurd q
+early_unique text (Syntax t l) (Stray b) p q = absurd (not_read_on text (Stray b) (on text p.0 p.1) q)
+early_unique text (Syntax t l) (OpenLiteral b) p q = absurd (not_read_on text (OpenLiteral b) (on text p.0 p.1) q)
+early_unique text (Syntax t l) (BadNumber b) p q = absurd (not_read_on text (BadNumber b) (on text p.0 p.1) q)
+early_unique text (Syntax t l) (TooDeep b) p q = absurd (not_read_on text (TooDeep b) (on text p.0 p.1) q)
+early_unique text (Syntax t l) (TooHigh b) p q = absurd q
+early_unique text (Syntax t l) (Syntax u m) p q = absurd q
+early_unique text (Syntax t l) (NotTyped m) p q = absurd q
+early_unique text (NotTyped l) (Stray b) p q = absurd (not_read_on text (Stray b) (on text p.0 p.1) q)
+early_unique text (NotTyped l) (OpenLiteral b) p q = absurd (not_read_on text (OpenLiteral b) (on text p.0 p.1) q)
+early_unique text (NotTyped l) (BadNumber b) p q = absurd (not_read_on text (BadNumber b) (on text p.0 p.1) q)
+early_unique text (NotTyped l) (TooDeep b) p q = absurd (not_read_on text (TooDeep b) (on text p.0 p.1) q)
+early_unique text (NotTyped l) (TooHigh b) p q = absurd q
+early_unique text (NotTyped l) (Syntax u m) p q = absurd q
+early_unique text (NotTyped l) (NotTyped m) p q = absurd q
 
 words_only : (words : List (List ℕ)) (answer wanted : Answer) → TakesWords words → WordsCause words answer → IsOnly answer wanted
 words_only words (Clean s) wanted taken why = absurd why
@@ -169,19 +177,19 @@ text_verdict request before now text unit NoMemory uses form why = inl refl
 
 -- its refusal is the only answer to a text that its tokens refuse
 text_refused : (request : AuditRequest) (before now : ℕ) (text : List ℕ) (refusal : Refusal) (answer : Answer) → HasNoForm text
-    → RefusesEarly (lexed text) refusal → TextCause request before now text answer → IsOnly answer (Refused refusal)
+    → RefusesEarly text refusal → TextCause request before now text answer → IsOnly answer (Refused refusal)
 text_refused request before now text refusal (Clean s) none early why = absurd (none why.1.unit why.1.form)
 text_refused request before now text refusal (Undefined c l) none early why = absurd (none why.1.unit why.1.form)
-text_refused request before now text refusal (Found s b) none early why = absurd (not_read_on (lexed text) refusal why.0.tokens early)
+text_refused request before now text refusal (Found s b) none early why = absurd (not_read_on text refusal (on text why.0.tree.0 why.0.tree.1) early)
 text_refused request before now text refusal (Generated m s b) none early why = absurd why
 text_refused request before now text refusal (GeneratedRefused m r) none early why = absurd why
 text_refused request before now text refusal (Checked v) none early why = absurd why
 text_refused request before now text refusal (Bad b) none early why = absurd why
 text_refused request before now text refusal Usage none early why = absurd why
 text_refused request before now text refusal (TooLong role) none early why = absurd why
-text_refused request before now text refusal (Refused r) none early why = inr (ap Refused (early_unique (lexed text) r refusal why.1 early))
-text_refused request before now text refusal CertificateTooLong none early why = absurd (not_read_on (lexed text) refusal why.tokens early)
-text_refused request before now text refusal NotKept none early why = absurd (not_read_on (lexed text) refusal why.0.tokens early)
+text_refused request before now text refusal (Refused r) none early why = inr (ap Refused (early_unique text r refusal why.1 early))
+text_refused request before now text refusal CertificateTooLong none early why = absurd (not_read_on text refusal (on text why.tree.0 why.tree.1) early)
+text_refused request before now text refusal NotKept none early why = absurd (not_read_on text refusal (on text why.0.tree.0 why.0.tree.1) early)
 text_refused request before now text refusal ReadFault none early why = absurd why
 text_refused request before now text refusal NoMemory none early why = inl refl
 
@@ -274,7 +282,7 @@ only_verdict words old new request files text unit answer h calm uses form cause
     (λ own same why. text_verdict own old.writes new.writes text unit answer (uses_same request own same uses) form why)
 
 pub only_refused : (words : List (List ℕ)) (old new : Disk) (request : AuditRequest) (files : Held) (text : List ℕ) (refusal : Refusal) (answer : Answer)
-    → IsGiven words old.held request files text → (Rose old.reads new.reads → ⊥) → HasNoForm text → RefusesEarly (lexed text) refusal
+    → IsGiven words old.held request files text → (Rose old.reads new.reads → ⊥) → HasNoForm text → RefusesEarly text refusal
     → HasCause words old new answer → IsOnly answer (Refused refusal)
 only_refused words old new request files text refusal answer h calm none early cause =
     only_given words old new request files text answer (Refused refusal) h calm cause

@@ -1,5 +1,5 @@
 -- The answers to a text.
-use Rattle.std.specs.Prelude.{◌≡◌, ℕ, ◌≤◌, ◌<◌, ℤ, List, Option, Some, None, Result, Ok, Err, ⊤}
+use Rattle.std.specs.Prelude.{◌≡◌, ℕ, ◌≤◌, ◌<◌, ℤ, List, Option, Some, None, IsSome, Result, Ok, Err, ⊤}
 use Rattle.ub_base.specs.declared.clause.Clause.{Clause}
 use Rattle.first_form.specs.Form.{IsFirstForm}
 use Rattle.first_form.specs.declared.tree.ReturnUnit.{ReturnUnit}
@@ -9,7 +9,9 @@ use Rattle.audit_top.specs.declared.answer.Answer.TheVariants.{Clean, Undefined,
 use Rattle.audit_top.specs.declared.answer.Refusal.{Refusal}
 use Rattle.audit_top.specs.declared.answer.Refusal.TheVariants.{Stray, OpenLiteral, BadNumber, TooDeep, TooHigh, Syntax, NotTyped}
 use Rattle.c_ast.specs.Nest.{nest_of}
-use Rattle.c_lex.specs.declared.token.Token.{Token}
+use Rattle.c_lex.specs.TokenText.{TokenText}
+use Rattle.c_lex.specs.Tokens.{lexed}
+use Rattle.parse_spec.specs.Units.{tree_of}
 use Rattle.c_lex.specs.declared.token.LexFault.{LexFault}
 use Rattle.c_lex.specs.declared.token.LexFault.TheVariants.{Stray as StrayAt, OpenLiteral as OpenLiteralAt, BadNumber as BadNumberAt, NoMemory as LexMemory}
 
@@ -42,26 +44,34 @@ lex_refusal LexMemory = None
 abbrev pub max_nest : ℕ
 max_nest = 2000
 
--- the text has these tokens, which don't nest too deep
-abbrev pub HasTokens : Result (List Token) LexFault → Type 0
-HasTokens tokens = (list : List Token) × (tokens ≡ Ok list) × (nest_of list ≤ max_nest)
+-- these are the text's tokens, which don't nest too deep
+abbrev pub AreTokens : List ℕ → TokenText → Type 0
+AreTokens text tokens = (tokens.source ≡ text) × (lexed text ≡ Ok tokens.list) × (nest_of tokens.list ≤ max_nest)
 
--- why a text is refused, by what its tokens are
-abbrev pub Refuses : Result (List Token) LexFault → Refusal → Type 0
-Refuses tokens (Stray at) = tokens ≡ Err (StrayAt at)
-Refuses tokens (OpenLiteral at) = tokens ≡ Err (OpenLiteralAt at)
-Refuses tokens (BadNumber at) = tokens ≡ Err (BadNumberAt at)
-Refuses tokens (TooDeep count) = (list : List Token) × (tokens ≡ Ok list) × (count ≡ nest_of list) × (max_nest < count)
-Refuses tokens (TooHigh count) = HasTokens tokens
-Refuses tokens (Syntax token line) = HasTokens tokens
-Refuses tokens (NotTyped line) = HasTokens tokens
+-- its tokens have a syntax tree, by the rules of Annex A
+abbrev pub HasTree : List ℕ → Type 0
+HasTree text = (tokens : TokenText) × AreTokens text tokens × IsSome (tree_of tokens)
+
+-- by these rules they have none
+abbrev pub HasNoTree : List ℕ → Type 0
+HasNoTree text = (tokens : TokenText) × AreTokens text tokens × (tree_of tokens ≡ None)
+
+-- why a text is refused
+abbrev pub Refuses : List ℕ → Refusal → Type 0
+Refuses text (Stray at) = lexed text ≡ Err (StrayAt at)
+Refuses text (OpenLiteral at) = lexed text ≡ Err (OpenLiteralAt at)
+Refuses text (BadNumber at) = lexed text ≡ Err (BadNumberAt at)
+Refuses text (TooDeep count) = (tokens : TokenText) × (lexed text ≡ Ok tokens.list) × (count ≡ nest_of tokens.list) × (max_nest < count)
+Refuses text (TooHigh count) = HasTree text
+Refuses text (Syntax token line) = HasNoTree text
+Refuses text (NotTyped line) = HasTree text
 
 -- the tokens alone refuse the text
-abbrev pub RefusesEarly : Result (List Token) LexFault → Refusal → Type 0
-RefusesEarly tokens (Stray at) = tokens ≡ Err (StrayAt at)
-RefusesEarly tokens (OpenLiteral at) = tokens ≡ Err (OpenLiteralAt at)
-RefusesEarly tokens (BadNumber at) = tokens ≡ Err (BadNumberAt at)
-RefusesEarly tokens (TooDeep count) = (list : List Token) × (tokens ≡ Ok list) × (count ≡ nest_of list) × (max_nest < count)
-RefusesEarly tokens (TooHigh count) = ⊥
-RefusesEarly tokens (Syntax token line) = ⊥
-RefusesEarly tokens (NotTyped line) = ⊥
+abbrev pub RefusesEarly : List ℕ → Refusal → Type 0
+RefusesEarly text (Stray at) = lexed text ≡ Err (StrayAt at)
+RefusesEarly text (OpenLiteral at) = lexed text ≡ Err (OpenLiteralAt at)
+RefusesEarly text (BadNumber at) = lexed text ≡ Err (BadNumberAt at)
+RefusesEarly text (TooDeep count) = (tokens : TokenText) × (lexed text ≡ Ok tokens.list) × (count ≡ nest_of tokens.list) × (max_nest < count)
+RefusesEarly text (TooHigh count) = ⊥
+RefusesEarly text (Syntax token line) = ⊥
+RefusesEarly text (NotTyped line) = ⊥

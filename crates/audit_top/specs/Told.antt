@@ -46,7 +46,7 @@ OnFirstForm words held EndsBy = (request : AuditRequest) (files : Held) (text : 
 -- a text that its tokens refuse is answered by that refusal
 abbrev pub OnRefused : List (List ℕ) → Option Held → (Answer → Type 0) → Type 0
 OnRefused words held EndsBy = (request : AuditRequest) (files : Held) (text : List ℕ) (refusal : Refusal) → IsGiven words held request files text
-    → HasNoForm text → RefusesEarly (lexed text) refusal → EndsBy (Refused refusal)
+    → HasNoForm text → RefusesEarly text refusal → EndsBy (Refused refusal)
 
 -- an audit that no certificate is asked of leaves the files as they were
 abbrev pub StaysUncertified : List (List ℕ) → Option Held → Option Held → Type 0

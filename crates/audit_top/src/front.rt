@@ -1,8 +1,7 @@
 // From bytes to a program.
-ghost use Rattle.std.specs.Prelude.{◌≡◌, ◌≤◌, ◌^◌, length, IfErr, OnOk};
-ghost use Rattle.audit_top.specs.Answer.{HasTokens, lex_refusal};
+ghost use Rattle.std.specs.Prelude.{◌≡◌, ◌≤◌, ◌^◌, length, IfOk, IfErr, OnOk};
+ghost use Rattle.audit_top.specs.Answer.{AreTokens, HasTree, lex_refusal};
 ghost use Rattle.audit_top.specs.Front.{WhyRefused};
-ghost use Rattle.c_lex.specs.Tokens.{lexed};
 
 use crate::answer::Refusal;
 use c_ast::nest;
@@ -39,8 +38,8 @@ fn lex_refusal(fault: LexFault) -> Option<Refusal>
 // The tokens of a text, which don't nest too deep.
 fn tokens_of<'a>(alloc: Global, text: &'a [u8]) -> Result<Tokens<'a>, FrontFault>
     requires { length text.now ≤ 2 ^ 20 }
-    ensures read { OnOk result (HasTokens (lexed text.now)) }
-    ensures refused { IfErr result (WhyRefused (lexed text.now)) }
+    ensures read { IfOk result (AreTokens text.now) }
+    ensures refused { IfErr result (WhyRefused text.now) }
 {
     let tokens = match lex(alloc, text) {
         Ok(tokens) => tokens,
@@ -71,8 +70,8 @@ fn line_of(tokens: &Tokens<'_>, token: u32) -> u32 {
 /// The program of a text, whose tree is at most 1,000 high.
 pub fn program_of(alloc: Global, text: &[u8]) -> Result<Program, FrontFault>
     requires { length text.now ≤ 2 ^ 20 }
-    ensures read { OnOk result (HasTokens (lexed text.now)) }
-    ensures refused { IfErr result (WhyRefused (lexed text.now)) }
+    ensures read { OnOk result (HasTree text.now) }
+    ensures refused { IfErr result (WhyRefused text.now) }
 {
     let tokens = tokens_of(alloc, text)?;
     let unit = match parse(alloc, &tokens) {
