@@ -49,7 +49,8 @@ impl<'a> Cursor<'a> {
         spelled: Vec<u32>,
     ) -> Result<Cursor<'a>, Refusal>
         requires { IsSpelling tokens.now spelled.items }
-        ensures { IfOk result (λ c. c ≡ start_of tokens.now) }
+        ensures ok { IfOk result (λ c. c ≡ start_of tokens.now) }
+        ensures memory { IfErr result (λ e. e ≡ Refusal.NoMemory) }
     {
         Ok(Cursor {
             tokens,
@@ -261,6 +262,7 @@ impl<'a> Cursor<'a> {
     pub fn declare(&mut self, at: u32, typedef: bool) -> Result<(), Refusal>
         ensures ok { OnOk result (self.new ≡ declared_at at typedef self.old) }
         ensures err { OnErr result (self.new ≡ self.old) }
+        ensures memory { IfErr result (λ e. e ≡ Refusal.NoMemory) }
     {
         if (at as usize) < self.spelled.len() {
             let name = self.spelled[at as usize];
@@ -305,6 +307,7 @@ impl<'a> Cursor<'a> {
     fn declared_since(&self, alloc: Global, count: usize) -> Result<Vec<Declared>, Refusal>
         ensures since { IfOk result (λ v. map said v.items ≡ drop count self.now.names) }
         ensures within { IfOk result (λ v. All (IsWithin self.now.tokens) v.items) }
+        ensures memory { IfErr result (λ e. e ≡ Refusal.NoMemory) }
     {
         let found = declared_of(alloc, self.scope.since(count))?;
         Ok(found)
@@ -320,7 +323,8 @@ impl<'a> Cursor<'a> {
         saved: Vec<Declared>,
     ) -> Result<(), Refusal>
         requires { All (IsWithin self.now.tokens) saved.items }
-        ensures { OnOk result (self.new ≡ left_at count own (map said saved.items) self.old) }
+        ensures ok { OnOk result (self.new ≡ left_at count own (map said saved.items) self.old) }
+        ensures memory { IfErr result (λ e. e ≡ Refusal.NoMemory) }
     {
         let kept = if own {
             self.declared_since(alloc, count)?
@@ -334,7 +338,8 @@ impl<'a> Cursor<'a> {
 
     /// Brings what the last prototype declares into scope again.
     pub fn open_prototype(&mut self) -> Result<(), Refusal>
-        ensures { OnOk result (self.new ≡ with_parameters self.old) }
+        ensures ok { OnOk result (self.new ≡ with_parameters self.old) }
+        ensures memory { IfErr result (λ e. e ≡ Refusal.NoMemory) }
     {
         for k in 0..self.prototype.len() {
             let declared = self.prototype[k];

@@ -1,11 +1,12 @@
 //! Which names are typedef names (6.2.1, 6.2.3).
 
-ghost use Rattle.std.specs.Prelude.{◌≡◌, ◌-◌, [], length, map, drop, IfOk, OnOk, OnErr};
+ghost use Rattle.std.specs.Prelude.{◌≡◌, ◌-◌, [], length, map, drop, IfOk, IfErr, OnOk, OnErr};
 ghost use Rattle.c_cursor.specs.Declarations as spec;
 
 use crate::refusal::Refusal;
 use std::alloc::{AllocError, Global};
 use std::marker::Model;
+use ub_base::NoMemory;
 
 /// A declaration of an ordinary identifier.
 #[derive(Clone, Copy, Debug)]
@@ -44,7 +45,7 @@ impl Model for Scope {
 }
 
 /// This many names, of which none is a typedef name.
-fn no_typedefs(alloc: Global, count: u32) -> Result<Vec<bool>, Refusal>
+fn no_typedefs(alloc: Global, count: u32) -> Result<Vec<bool>, NoMemory>
     ensures known { IfOk result (λ v. spec.AreKnown v.items []) }
     ensures count { IfOk result (λ v. length v.items ≡ count) }
 {
@@ -65,7 +66,8 @@ pub fn declared_of(alloc: Global, names: &[Named]) -> Result<Vec<Declared>, Allo
 impl Scope {
     /// No declaration yet, where names are numbers below `count`.
     pub fn new(alloc: Global, count: u32) -> Result<Scope, Refusal>
-        ensures { IfOk result (λ s. s ≡ record { count = count; names = [] }) }
+        ensures ok { IfOk result (λ s. s ≡ record { count = count; names = [] }) }
+        ensures memory { IfErr result (λ e. e ≡ Refusal.NoMemory) }
     {
         Ok(Scope {
             names: Vec::new(alloc),
@@ -88,6 +90,7 @@ impl Scope {
     pub fn declare(&mut self, declared: Declared, name: u32) -> Result<(), Refusal>
         ensures ok { OnOk result (self.new ≡ spec.with_name declared name self.old) }
         ensures err { OnErr result (self.new ≡ self.old) }
+        ensures memory { IfErr result (λ e. e ≡ Refusal.NoMemory) }
     {
         let hidden = self.is_typedef(name);
         self.names.push(Named {

@@ -1,10 +1,10 @@
 -- The tests of equal and of compatible types tell them.
-use Rattle.std.proofs.Common.{◌≡◌, ℕ, Bool, true, false, ◌&&◌, ◌==◌, ◌↔◌, IsTrue, Option, Some, None, refl, sym, ap, subst, rules, arith}
+use Rattle.std.proofs.Common.{◌≡◌, ℕ, Bool, true, false, ◌&&◌, ◌==◌, ◌↔◌, IsTrue, Option, Some, None, refl, sym, ap, rules, arith}
 use denote.Enum.Bare.{same_true, true_same}
 use Rattle.c_types.specs.declared.kind.IntKind.{IntKind}
 use Rattle.c_types.specs.declared.kind.IntKind.TheVariants.{Int}
 use Rattle.c_types.specs.contracts.kind.IntKind.{the_type as kind_type}
-use Rattle.c_types.specs.Types.{CType, Params, void, int, enumeration, pointer, array, struct, union, function, none, more, Matches, EachMatches, SizesAgree, Compatible}
+use Rattle.c_types.specs.Types.{CType, Params, void, int, enumeration, pointer, array, struct, union, function, none, more, Matches, EachMatches, SizesAgree}
 use Rattle.c_express.specs.Same.{same_kind, same_qualifier, same_count, same, each_same, sizes_agree, compatible, each_compatible}
 
 both : (b c : Bool) (P Q : Type 0) → IsTrue b ↔ P → IsTrue c ↔ Q → IsTrue (b && c) ↔ (P × Q)

@@ -1,2 +1,4 @@
 pub mod Compatible
+pub mod Lists
 pub mod Nodes
+pub mod Worths

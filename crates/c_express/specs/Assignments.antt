@@ -1,7 +1,7 @@
--- Assignments, increments and decrements (6.5.16, 6.5.2.4, 6.5.3.1).
-use Rattle.std.specs.Prelude.{◌≡◌, ℕ, Bool, true, false, not, ◌&&◌, if◌then◌else◌, pos, List, Option, Some, None}
+-- Values as if assigned, assignments, increments and decrements (6.5.16, 6.5.2.4, 6.5.3.1), and the default argument promotions.
+use Rattle.std.specs.Prelude.{ℕ, Bool, true, false, not, ◌&&◌, ◌||◌, if◌then◌else◌, pos, List, Option, Some, None}
 use Rattle.c_types.specs.declared.kind.IntKind.{IntKind}
-use Rattle.c_types.specs.declared.kind.IntKind.TheVariants.{Int}
+use Rattle.c_types.specs.declared.kind.IntKind.TheVariants.{Bool as Boolean, Int}
 use Rattle.c_types.specs.declared.kind.BinOp.{BinOp}
 use Rattle.c_types.specs.declared.kind.BinOp.TheVariants.{Add, Sub}
 use Rattle.c_types.specs.declared.tags.Tag.{Tag}
@@ -15,9 +15,69 @@ use Rattle.c_typed.specs.declared.tree.Typed.{Typed}
 use Rattle.c_typed.specs.Lawful.{is_shift}
 use Rattle.c_express.specs.declared.operand.Form.{Form}
 use Rattle.c_express.specs.declared.operand.Form.TheVariants as form
-use Rattle.c_express.specs.Terms.{Term, term_of, type_at, constant, unary, binary, Expression, as_value, ◌>>=◌, unless_refused}
-use Rattle.c_express.specs.Conversions.{target_of, is_pointer, value, access_of, to_kind, promoted, usual, usual_kind, as_if_assigned, is_undecided}
+use Rattle.c_express.specs.Same.{same, compatible}
+use Rattle.c_express.specs.Terms.{Term, term_of, type_at, line_at, constant, unary, binary, Expression, as_value, ◌>>=◌, unless_refused}
+use Rattle.c_express.specs.Conversions.{target_of, is_pointer, is_scalar, may_meet, value, access_of, to_kind, promoted, usual, converted}
+use Rattle.c_express.specs.Constants.{is_null, null_pointer}
 use Rattle.c_express.specs.Operators.{step}
+
+-- 1. As if by assignment (6.5.16.1).
+
+-- no qualifier is lost (6.5.16.1p1)
+abbrev pub may_point : Qualified → Qualified → Bool
+may_point from to = (not from.constant || to.constant) && may_meet from.ty to.ty
+
+abbrev pub is_integer : CType → Bool
+is_integer (int kind) = true
+is_integer (enumeration tag) = true
+is_integer _ = false
+
+abbrev pub points : Option Qualified → Qualified → Bool
+points None to = false
+points (Some from) to = may_point from to
+
+-- a value of the first type may be assigned to an object of the second (6.5.16.1p1)
+abbrev pub may_assign : CType → CType → Bool
+may_assign from (int Boolean) = is_scalar from
+may_assign from (int kind) = is_integer from
+may_assign from (enumeration tag) = is_integer from
+may_assign from (pointer constant target) = points (target_of from) (record { constant = constant; ty = target })
+may_assign from (struct tag) = compatible from (struct tag)
+may_assign from (union tag) = compatible from (union tag)
+may_assign from _ = false
+
+-- a structure or union stays as it is
+abbrev pub assigned_value : List Tag → CType → Term → Option Term
+assigned_value tags (struct tag) t = Some t
+assigned_value tags (union tag) t = Some t
+assigned_value tags to t = converted tags to t
+
+-- a null pointer constant becomes a pointer of the type (6.3.2.3p3)
+abbrev pub takes_null : Expression → CType → Bool
+takes_null e to = is_pointer to && (not (same (type_at e.tree) to) && is_null e)
+
+abbrev pub put_as : List Tag → CType → Term → Option Term
+put_as tags to t = if may_assign (type_at t) to then assigned_value tags to t else None
+
+-- an operand as if assigned to an object of this type (6.5.16.1p2)
+unfoldable pub as_if_assigned : List Tag → CType → Expression → Option Term
+as_if_assigned tags to e =
+    if takes_null e to then Some (null_pointer to (line_at e.tree))
+    else (value tags e >>= λ t. put_as tags to t)
+
+-- the default argument promotions (6.5.2.2p6)
+abbrev pub promoted_type : CType → Term → Option Term
+promoted_type (int kind) t = promoted t >>= λ p. Some p.term
+promoted_type (enumeration tag) t = promoted t >>= λ p. Some p.term
+promoted_type (pointer constant target) t = Some t
+promoted_type (struct tag) t = Some t
+promoted_type (union tag) t = Some t
+promoted_type _ t = None
+
+unfoldable pub default_promoted : List Tag → Expression → Option Term
+default_promoted tags e = value tags e >>= λ t. promoted_type (type_at t) t
+
+-- 2. What may be assigned (6.3.2.1p1).
 
 -- which structures and unions have a const member, directly or in a member (6.3.2.1p1)
 abbrev pub Constants : Type 0
@@ -54,7 +114,7 @@ modifiable_as constants _ t = None
 unfoldable pub modifiable : Constants → Expression → Option Place
 modifiable constants e = modifiable_as constants e.form e.tree
 
--- 2. Compound assignments (6.5.16.2).
+-- 3. Compound assignments (6.5.16.2).
 
 -- the type in which an integer object is worked on: of a shift its own promoted one (6.5.7p3)
 pub record Work : Type 0 where
@@ -108,7 +168,7 @@ compound tags constants op a b line = do
   right ← value tags b
   compound_of tags op place right line
 
--- 3. Increments and decrements (6.5.2.4, 6.5.3.1).
+-- 4. Increments and decrements (6.5.2.4, 6.5.3.1).
 
 -- the change of an object by one, and the type of the constant 1
 pub record Step : Type 0 where
@@ -140,7 +200,7 @@ incremented tags constants op e line = do
   by ← change_by_one tags op place.ty
   Some (as_value (unary (shape.Update by.change true) place.ty line place.term))
 
--- 4. Simple assignment (6.5.16.1).
+-- 5. Simple assignment (6.5.16.1).
 
 -- the store of a value as if assigned; an initialization is one too (6.7.9p11)
 unfoldable pub stored : List Tag → Bool → Term → CType → Expression → ℕ → Option Term
@@ -155,8 +215,3 @@ assigned tags constants a b line = do
   place ← modifiable constants a
   t ← stored tags false place.term place.ty b line
   Some (as_value t)
-
--- it isn't an integer that is assigned to a pointer, whose value decides
-abbrev pub is_decided : Option Place → Expression → Bool
-is_decided None b = true
-is_decided (Some place) b = not (is_undecided b.form (type_at b.tree) place.ty)

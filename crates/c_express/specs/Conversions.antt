@@ -1,5 +1,5 @@
--- Conversions (6.3): of lvalues, arrays and functions to values, of integers, of pointers, and as if by assignment.
-use Rattle.std.specs.Prelude.{◌≡◌, ℕ, Bool, true, false, not, ◌&&◌, ◌||◌, if◌then◌else◌, ℤ, pos, List, Option, Some, None, Result, IfOk}
+-- Conversions (6.3): of lvalues, arrays and functions to values, of integers, of pointers, and to no value.
+use Rattle.std.specs.Prelude.{Bool, true, false, not, if◌then◌else◌, List, Option, Some, None}
 use Rattle.std.specs.Borrow.{Bor}
 use Rattle.c_types.specs.declared.kind.IntKind.{IntKind}
 use Rattle.c_types.specs.declared.kind.IntKind.TheVariants.{Bool as Boolean, Int}
@@ -18,10 +18,10 @@ use Rattle.c_express.specs.declared.operand.Form.{Form}
 use Rattle.c_express.specs.declared.operand.Form.TheVariants as form
 use Rattle.c_express.specs.declared.operand.Used.{Used}
 use Rattle.c_express.specs.declared.operand.Used.TheVariants as use_of
-use Rattle.c_express.specs.declared.refused.Refused.{Refused}
 use Rattle.c_express.specs.Same.{same, compatible}
 use Rattle.c_typed.specs.declared.tree.Typed.{Typed}
-use Rattle.c_express.specs.Terms.{Term, term_of, type_at, line_at, retyped, constant, over, Expression, ◌>>=◌, unless_refused}
+use Rattle.c_typed.specs.Sites.{Head}
+use Rattle.c_express.specs.Terms.{Term, Seen, term, term_of, type_at, retyped, over, Expression, ◌>>=◌, unless_refused}
 
 -- what a reference to a type with its qualifier shows
 abbrev pub target_seen : Option (Bor Qual) → Option Qualified
@@ -189,88 +189,49 @@ converted tags to t =
     if same (type_at t) to then Some t
     else conversion_to tags (type_at t) to >>= λ c. Some (over (shape.Conv c) to t)
 
--- 4. As if by assignment (6.5.16.1).
-
--- two pointers to compatible types, or one to `void` and one to an object type
+-- two pointers to compatible types, or one to `void` and one to an object type (6.5.9p2, 6.5.15p3, 6.5.16.1p1)
 abbrev pub may_meet : CType → CType → Bool
 may_meet a b =
     if is_void a then not (is_function b)
     else if is_void b then not (is_function a)
     else compatible a b
 
--- no qualifier is lost (6.5.16.1p1)
-abbrev pub may_point : Qualified → Qualified → Bool
-may_point from to = (not from.constant || to.constant) && may_meet from.ty to.ty
+-- 4. Values that aren't used, and void expressions (6.3.2.2, 6.8.3p2).
 
-abbrev pub is_integer : CType → Bool
-is_integer (int kind) = true
-is_integer (enumeration tag) = true
-is_integer _ = false
+-- the result of a call that is discarded
+abbrev pub unused : Head → Head
+unused (shape.Call discarded) = shape.Call true
+unused head = head
 
-abbrev pub points : Option Qualified → Qualified → Bool
-points None to = false
-points (Some from) to = may_point from to
+abbrev pub unused_node : Seen → Seen
+unused_node n = record n { head = unused n.head }
 
--- a value of the first type may be assigned to an object of the second (6.5.16.1p1)
-abbrev pub may_assign : CType → CType → Bool
-may_assign from (int Boolean) = is_scalar from
-may_assign from (int kind) = is_integer from
-may_assign from (enumeration tag) = is_integer from
-may_assign from (pointer constant target) = points (target_of from) (record { constant = constant; ty = target })
-may_assign from (struct tag) = compatible from (struct tag)
-may_assign from (union tag) = compatible from (union tag)
-may_assign from _ = false
+abbrev pub without_use : Term → Term
+without_use (term head own ty line operands) = term (unused head) own ty line operands
 
--- a structure or union stays as it is
-abbrev pub assigned_value : List Tag → CType → Term → Option Term
-assigned_value tags (struct tag) t = Some t
-assigned_value tags (union tag) t = Some t
-assigned_value tags to t = converted tags to t
+abbrev pub is_void_target : Option Qualified → Bool
+is_void_target None = false
+is_void_target (Some object) = is_void object.ty
 
-abbrev pub null_pointer : CType → ℕ → Term
-null_pointer ty line = constant (pos 0) ty line
+abbrev pub discarded_value : List Tag → Form → Term → Option Term
+discarded_value tags form t = value_as tags form t >>= λ x. Some (without_use x)
 
--- what may be a null pointer constant: `(void *)0`, or an integer, which is one where it is a constant expression of value 0
--- (6.3.2.3p3)
-abbrev pub may_be_null : Form → CType → Bool
-may_be_null form.NullPointer ty = true
-may_be_null form.Value ty = is_integer ty
-may_be_null _ ty = false
+abbrev pub discarded_as : List Tag → Form → Term → Option Term
+discarded_as tags (form.Place register) t =
+    if is_void_target (target_of (type_at t)) then Some t else discarded_value tags (form.Place register) t
+discarded_as tags form.Void t = Some t
+discarded_as tags form t = discarded_value tags form t
 
--- an integer value where a pointer is wanted: its value decides
-abbrev pub is_undecided : Form → CType → CType → Bool
-is_undecided form.Value from to = is_pointer to && is_integer from
-is_undecided _ from to = false
+-- an expression whose value isn't used: an object is read all the same (own), one of type `void` isn't
+unfoldable pub discarded : List Tag → Expression → Option Term
+discarded tags e = discarded_as tags e.form e.tree
 
-abbrev pub is_null_form : Form → Bool
-is_null_form form.NullPointer = true
-is_null_form _ = false
+abbrev pub void_as : Form → Term → Bool
+void_as form.Void t = true
+void_as form.Value t = is_void (type_at t)
+void_as (form.Place register) t = is_void_target (target_of (type_at t))
+void_as _ t = false
 
--- the null pointer constant becomes a pointer of the type (6.3.2.3p3)
-abbrev pub takes_null : Expression → CType → Bool
-takes_null e to = is_null_form e.form && (is_pointer to && not (same (type_at e.tree) to))
-
-abbrev pub put_as : List Tag → CType → Term → Option Term
-put_as tags to t = if may_assign (type_at t) to then assigned_value tags to t else None
-
--- an operand, that isn't an integer where a pointer is wanted, as if assigned to an object of this type (6.5.16.1p2)
-unfoldable pub as_if_assigned : List Tag → CType → Expression → Option Term
-as_if_assigned tags to e =
-    if takes_null e to then Some (null_pointer to (line_at e.tree))
-    else (value tags e >>= λ t. put_as tags to t)
-
--- such an integer: only a null pointer constant goes
-abbrev pub NullOnly : CType → Expression → Result Typed Refused → Type 0
-NullOnly to e result = IfOk result (λ t. term_of t ≡ null_pointer to (line_at e.tree))
-
--- the default argument promotions (6.5.2.2p6)
-abbrev pub promoted_type : CType → Term → Option Term
-promoted_type (int kind) t = promoted t >>= λ p. Some p.term
-promoted_type (enumeration tag) t = promoted t >>= λ p. Some p.term
-promoted_type (pointer constant target) t = Some t
-promoted_type (struct tag) t = Some t
-promoted_type (union tag) t = Some t
-promoted_type _ t = None
-
-unfoldable pub default_promoted : List Tag → Expression → Option Term
-default_promoted tags e = value tags e >>= λ t. promoted_type (type_at t) t
+-- a void expression, which has no value (6.3.2.2)
+abbrev pub is_void_expression : Expression → Bool
+is_void_expression e = void_as e.form e.tree

@@ -1,12 +1,12 @@
 -- The operators of 6.5.3 to 6.5.14: the node that each makes of its operands, or that a constraint forbids it.
-use Rattle.std.specs.Prelude.{◌≡◌, ℕ, Bool, true, false, not, ◌&&◌, ◌||◌, if◌then◌else◌, List, Option, Some, None}
+use Rattle.std.specs.Prelude.{ℕ, Bool, true, false, not, ◌&&◌, ◌||◌, if◌then◌else◌, List, Option, Some, None}
 use Rattle.c_types.specs.declared.kind.IntKind.{IntKind}
 use Rattle.c_types.specs.declared.kind.IntKind.TheVariants.{Int, Long}
 use Rattle.c_types.specs.declared.kind.BinOp.{BinOp}
 use Rattle.c_types.specs.declared.kind.BinOp.TheVariants.{Add, Sub}
 use Rattle.c_types.specs.declared.tags.Tag.{Tag}
 use Rattle.c_types.specs.Layout.{extent, extents}
-use Rattle.c_types.specs.Types.{CType, int, pointer, Qualified, kind_of}
+use Rattle.c_types.specs.Types.{CType, void, int, pointer, Qualified, kind_of}
 use Rattle.c_typed.specs.declared.tree.RelOp.{RelOp}
 use Rattle.c_typed.specs.declared.tree.EqOp.{EqOp}
 use Rattle.c_typed.specs.declared.tree.UnOp.{UnOp}
@@ -17,8 +17,9 @@ use Rattle.c_typed.specs.declared.tree.Typed.{Typed}
 use Rattle.c_express.specs.declared.operand.Form.{Form}
 use Rattle.c_express.specs.declared.operand.Form.TheVariants as form
 use Rattle.c_express.specs.Same.{compatible}
-use Rattle.c_express.specs.Terms.{Term, term_of, type_at, unary, binary, Expression, as_value, as_place, ◌>>=◌, unless_refused}
-use Rattle.c_express.specs.Conversions.{target_of, is_function, is_pointer, is_scalar, value, promoted, Balanced, balanced}
+use Rattle.c_express.specs.Terms.{Term, term_of, type_at, line_at, unary, binary, Expression, as_value, as_place, ◌>>=◌, unless_refused}
+use Rattle.c_express.specs.Conversions.{target_of, is_void, is_function, is_pointer, is_scalar, may_meet, value, promoted, Balanced, balanced, converted, discarded}
+use Rattle.c_express.specs.Constants.{is_null, null_as, null_pointer}
 
 abbrev pub balanced_of : Typed × Typed × IntKind → Balanced
 balanced_of p = record { left = term_of p.0; right = term_of p.1; kind = p.2 }
@@ -200,3 +201,64 @@ dereferenced tags a = do
   x ← value tags a
   target ← target_of (type_at x)
   Some (pointed_to x target)
+
+-- 4. `==` and `!=`, and casts.
+
+-- a null pointer constant beside a pointer gets its type (6.3.2.3p3, 6.5.9p5)
+abbrev pub beside : Form → Term → CType → Term
+beside form t other = if is_pointer other && null_as form t then null_pointer other (line_at t) else t
+
+-- two values, by the forms of their operands: the second one beside the first, and the first one beside that
+abbrev pub matched : Form → Term → Form → Term → Term × Term
+matched f x g y = let z = beside g y (type_at x) in (beside f x (type_at z), z)
+
+-- pointers to compatible types, or one to `void` and one to an object type (6.5.9p2)
+abbrev pub met : Option Qualified → Option Qualified → Term × Term → Option (Term × Term)
+met (Some s) (Some t) p = unless_refused (may_meet s.ty t.ty) p
+met _ _ p = None
+
+abbrev pub met_pointers : Term × Term → Option (Term × Term)
+met_pointers p = met (target_of (type_at p.0)) (target_of (type_at p.1)) p
+
+abbrev pub equal_operands : Form → Term → Form → Term → Option (Term × Term)
+equal_operands f x g y =
+    if is_pointer (type_at x) || is_pointer (type_at y) then met_pointers (matched f x g y)
+    else alike false x y
+
+-- `==` and `!=`: two integers, two pointers, or a pointer and a null pointer constant; the result is an `int` (6.5.9p2,
+-- 6.5.9p3)
+unfoldable pub equated : List Tag → EqOp → Expression → Expression → ℕ → Option Expression
+equated tags op a b line = do
+  x ← value tags a
+  y ← value tags b
+  p ← equal_operands a.form x b.form y
+  Some (as_value (binary (shape.Eq op) (int Int) line p.0 p.1))
+
+-- an integer constant expression of value 0, cast to `void *`, is a null pointer constant again (6.3.2.3p3)
+abbrev pub is_void_pointer : CType → Bool
+is_void_pointer (pointer false void) = true
+is_void_pointer _ = false
+
+abbrev pub null_form : Form → CType → Form
+null_form form.Value to = if is_void_pointer to then form.NullPointer else form.Value
+null_form _ to = form.Value
+
+abbrev pub null_cast : Expression → CType → Expression
+null_cast e to = record { tree = null_pointer to (line_at e.tree); form = null_form e.form to }
+
+unfoldable pub scalar_cast : List Tag → CType → Expression → Option Expression
+scalar_cast tags to e = do
+  x ← value tags e
+  from ← unless_refused (is_scalar (type_at x) && is_scalar to) x
+  t ← converted tags to from
+  Some (as_value t)
+
+unfoldable pub void_cast : List Tag → Expression → Option Expression
+void_cast tags e = discarded tags e >>= λ t. Some (record { tree = t; form = form.Void })
+
+-- a cast: to `void`, of which no value is left, or from one scalar type to another (6.5.4p2, 6.5.4p3, 6.3.2.2)
+abbrev pub cast : List Tag → CType → Expression → Option Expression
+cast tags to e =
+    if is_void to then void_cast tags e
+    else if is_pointer to && is_null e then Some (null_cast e to)
+    else scalar_cast tags to e

@@ -1,5 +1,5 @@
 -- Typed trees as contracts see them, and what a call answers that makes one or says that a constraint forbids it.
-use Rattle.std.specs.Prelude.{◌≡◌, ℕ, ℤ, Bool, if◌then◌else◌, List, [], ◌∷◌, Option, Some, None, Result, Ok, Err}
+use Rattle.std.specs.Prelude.{◌≡◌, ℕ, ℤ, Bool, if◌then◌else◌, List, [], ◌∷◌, map, Option, Some, None, Result, Ok, Err}
 use Rattle.c_types.specs.Types.{CType, type_of}
 use Rattle.c_typed.specs.declared.tree.Node.{Node, fold-Node}
 use Rattle.c_typed.specs.declared.tree.Typed.{Typed, fold-Typed}
@@ -41,6 +41,14 @@ tree_step t = term t.node.head t.node.own (type_of t.ty) t.line (terms_from t.ch
 
 abbrev pub term_of : Typed → Term
 term_of = fold-Typed Seen Term node_step tree_step
+
+abbrev pub terms_of : List Typed → Terms
+terms_of ts = terms_from (map term_of ts)
+
+-- a tree before others, where both are found
+abbrev pub before : Option Term → Option Terms → Option Terms
+before (Some t) (Some ts) = Some (more t ts)
+before _ _ = None
 
 -- a node as it is built
 abbrev pub seen_node : Node → Seen

@@ -3,11 +3,11 @@ ghost use Rattle.std.specs.Prelude.{◌≡◌};
 ghost use Rattle.c_types.specs.Types.{type_of, qualified_of};
 ghost use Rattle.c_express.specs.Same.{compatible};
 ghost use Rattle.c_express.specs.Terms.{term_of, expression_of, Gives};
-ghost use Rattle.c_express.specs.Conversions as conversions;
 ghost use Rattle.c_express.specs.Operators as spec;
 
 use crate::Refused;
 use crate::binary::arithmetic;
+use crate::convert::is_pointer;
 use crate::operand::{Form, Operand, kind_of, object_of, place, value, value_of, with_children};
 use crate::same::are_compatible;
 use c_typed::{Node, Typed};
@@ -42,12 +42,6 @@ fn moved(
     };
     let node = Node::PtrAdd { size, subtract };
     with_children(alloc, node, ty, line, pointer, index)
-}
-
-fn is_pointer(ty: &Ty) -> bool
-    ensures { result ≡ conversions.is_pointer (type_of ty.now) }
-{
-    matches!(ty, Ty::Pointer(_))
 }
 
 /// `a + b`: of two integers, or of a pointer and an integer in either order (6.5.6p2).

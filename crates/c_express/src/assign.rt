@@ -1,9 +1,8 @@
 // Assignments, increments and decrements (6.5.16, 6.5.2.4, 6.5.3.1).
-ghost use Rattle.std.specs.Prelude.{◌≡◌, true, false};
+ghost use Rattle.std.specs.Prelude.{◌≡◌};
 ghost use Rattle.c_types.specs.Types.{type_of, qualified_of};
 ghost use Rattle.c_typed.specs.Lawful as lawful;
-ghost use Rattle.c_express.specs.Terms.{term_of, type_at, expression_of, map_option, Gives};
-ghost use Rattle.c_express.specs.Conversions.{is_undecided};
+ghost use Rattle.c_express.specs.Terms.{term_of, expression_of, map_option, Gives};
 ghost use Rattle.c_express.specs.Assignments.{place_of, work_of, step_of};
 ghost use Rattle.c_express.specs.Assignments as spec;
 
@@ -73,7 +72,7 @@ pub fn stored(
     operand: Operand,
     line: u32,
 ) -> Result<Typed, Refused>
-    ensures { is_undecided operand.form (type_at (term_of operand.tree)) (type_of ty) ≡ false → Gives term_of result (spec.stored tags.now initializing (term_of place) (type_of ty) (expression_of operand) line) }
+    ensures { Gives term_of result (spec.stored tags.now initializing (term_of place) (type_of ty) (expression_of operand) line) }
 {
     let Some(access) = access_of(tags, &ty) else {
         return Err(Refused::Constraint);
@@ -96,7 +95,7 @@ pub fn assigned<C: Constants>(
     b: Operand,
     line: u32,
 ) -> Result<Operand, Refused>
-    ensures { spec.is_decided (spec.modifiable (C.is_constant constants.now) (expression_of a)) (expression_of b) ≡ true → Gives expression_of result (spec.assigned tags.now (C.is_constant constants.now) (expression_of a) (expression_of b) line) }
+    ensures { Gives expression_of result (spec.assigned tags.now (C.is_constant constants.now) (expression_of a) (expression_of b) line) }
 {
     let (place, ty) = modifiable(alloc, constants, a)?;
     Ok(value(stored(alloc, tags, false, place, ty, b, line)?))

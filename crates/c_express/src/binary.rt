@@ -1,17 +1,18 @@
 // Multiplicative, shift, relational, equality, bitwise and logical operators (6.5.5, 6.5.7 to 6.5.14).
-ghost use Rattle.std.specs.Prelude.{◌≡◌};
+ghost use Rattle.std.specs.Prelude.{◌≡◌, Some};
 ghost use Rattle.c_types.specs.Types.{type_of, qualified_of};
 ghost use Rattle.c_express.specs.Terms.{term_of, expression_of, Gives};
 ghost use Rattle.c_express.specs.Conversions as conversions;
-ghost use Rattle.c_express.specs.Operators.{balanced_of};
+ghost use Rattle.c_express.specs.Operators.{balanced_of, pair_of};
 ghost use Rattle.c_express.specs.Operators as spec;
 
 use crate::Refused;
-use crate::convert::{is_null_constant, null_pointer, promoted, to_kind, truth, usual_kind};
+use crate::constant::{is_null, null_pointer};
+use crate::convert::{is_pointer, may_meet, promoted, to_kind, truth, usual_kind};
 use crate::operand::{Form, Operand, object_of, value, value_of, with_children};
 use crate::same::are_compatible;
 use c_typed::{EqOp, Node, RelOp, Typed};
-use c_types::{BinOp, IntKind, Qual, Tags, Ty, compatible};
+use c_types::{BinOp, IntKind, Qual, Tags, Ty};
 use std::alloc::Global;
 
 // Both values in the type of the usual arithmetic conversions.
@@ -112,51 +113,63 @@ pub fn compared(
     Ok(value(tree))
 }
 
-// Whether pointers to these may be compared for equality (6.5.9p2).
-fn are_equatable(a: &Qual, b: &Qual) -> bool {
-    match (&a.ty, &b.ty) {
-        (Ty::Void, Ty::Function(_)) | (Ty::Function(_), Ty::Void) => false,
-        (Ty::Void, _) | (_, Ty::Void) => true,
-        (a, b) => compatible(a, b),
+// The value of this form beside one of another type: a null pointer constant gets a pointer's type (6.3.2.3p3).
+fn beside(alloc: Global, form: Form, tree: Typed, other: &Ty) -> Result<Typed, Refused>
+    ensures { Gives term_of result (Some (spec.beside form (term_of tree) (type_of other.now))) }
+{
+    if is_pointer(other) && is_null(form, &tree) {
+        null_pointer(alloc, other, tree.line)
+    } else {
+        Ok(tree)
     }
 }
 
-// The two values as `==` takes them: a null pointer constant gets the other operand's pointer type.
+// Two values, by the forms of their operands, where a null pointer constant has the other's pointer type.
 pub fn matched(
     alloc: Global,
-    tags: &Tags,
-    a: Operand,
-    b: Operand,
-) -> Result<(Typed, Typed), Refused> {
-    let a_null = is_null_constant(&a);
-    let b_null = is_null_constant(&b);
-    let a = value_of(alloc, tags, a)?;
-    let b = value_of(alloc, tags, b)?;
-    if b_null && matches!(a.ty, Ty::Pointer(_)) {
-        let b = null_pointer(alloc, &a.ty, b.line)?;
-        return Ok((a, b));
-    }
-    if a_null && matches!(b.ty, Ty::Pointer(_)) {
-        let a = null_pointer(alloc, &b.ty, a.line)?;
-        return Ok((a, b));
-    }
+    f: Form,
+    a: Typed,
+    g: Form,
+    b: Typed,
+) -> Result<(Typed, Typed), Refused>
+    ensures { Gives pair_of result (Some (spec.matched f (term_of a) g (term_of b))) }
+{
+    let b = beside(alloc, g, b, &a.ty)?;
+    let a = beside(alloc, f, a, &b.ty)?;
     Ok((a, b))
 }
 
-fn is_pointer_operand(operand: &Operand) -> bool {
-    match operand.form {
-        Form::Value => matches!(operand.tree.ty, Ty::Pointer(_)),
-        Form::NullPointer | Form::Designator => true,
-        Form::Place { register: _ } => match object_of(&operand.tree.ty) {
-            Some(object) => matches!(object.ty, Ty::Pointer(_) | Ty::Array(_, _)),
-            None => false,
-        },
-        Form::Void => false,
+// Two pointers that may be compared for equality (6.5.9p2).
+fn met_pointers(a: Typed, b: Typed) -> Result<(Typed, Typed), Refused>
+    ensures { Gives pair_of result (spec.met_pointers (term_of a, term_of b)) }
+{
+    match (object_of(&a.ty), object_of(&b.ty)) {
+        (Some(x), Some(y)) if may_meet(&x.ty, &y.ty) => Ok((a, b)),
+        _ => Err(Refused::Constraint),
+    }
+}
+
+fn equal_operands(
+    alloc: Global,
+    f: Form,
+    a: Typed,
+    g: Form,
+    b: Typed,
+) -> Result<(Typed, Typed), Refused>
+    ensures { Gives pair_of result (spec.equal_operands f (term_of a) g (term_of b)) }
+{
+    if is_pointer(&a.ty) || is_pointer(&b.ty) {
+        let (a, b) = matched(alloc, f, a, g, b)?;
+        met_pointers(a, b)
+    } else {
+        let (a, b, _kind) = balanced(alloc, a, b)?;
+        Ok((a, b))
     }
 }
 
 /// `==` and `!=`: two integers; two pointers to compatible types; a pointer to an object type and one to `void`; a
 /// pointer and a null pointer constant (6.5.9p2).
+#[tactic(auto, unfolding(crate::specs::Operators::equated))]
 pub fn equated(
     alloc: Global,
     tags: &Tags,
@@ -164,19 +177,13 @@ pub fn equated(
     a: Operand,
     b: Operand,
     line: u32,
-) -> Result<Operand, Refused> {
-    let (a, b) = if is_pointer_operand(&a) || is_pointer_operand(&b) {
-        let (a, b) = matched(alloc, tags, a, b)?;
-        match (object_of(&a.ty), object_of(&b.ty)) {
-            (Some(x), Some(y)) if are_equatable(x, y) => (a, b),
-            _ => return Err(Refused::Constraint),
-        }
-    } else {
-        let a = value_of(alloc, tags, a)?;
-        let b = value_of(alloc, tags, b)?;
-        let (a, b, _kind) = balanced(alloc, a, b)?;
-        (a, b)
-    };
+) -> Result<Operand, Refused>
+    ensures { Gives expression_of result (spec.equated tags.now op (expression_of a) (expression_of b) line) }
+{
+    let (f, g) = (a.form, b.form);
+    let a = value_of(alloc, tags, a)?;
+    let b = value_of(alloc, tags, b)?;
+    let (a, b) = equal_operands(alloc, f, a, g, b)?;
     let tree = with_children(alloc, Node::Eq(op), Ty::Int(IntKind::Int), line, a, b)?;
     Ok(value(tree))
 }

@@ -1,22 +1,27 @@
 // Calls, conditionals and commas (6.5.2.2, 6.5.15, 6.5.17).
-ghost use Rattle.std.specs.Prelude.{◌≡◌, false, map, slice_get};
-ghost use Rattle.c_types.specs.Types.{qualified_of};
-ghost use Rattle.c_express.specs.Terms.{term_of, expression_of, Gives};
-ghost use Rattle.c_express.specs.Conversions.{target_seen};
-ghost use Rattle.c_express.specs.Calls.{is_undecided_for};
+ghost use Rattle.std.specs.Prelude.{◌≡◌, Some, map};
+ghost use Rattle.c_types.specs.Types.{type_of, qualified_of, signature_of, params_of};
+ghost use Rattle.c_express.specs.Terms.{term_of, terms_of, expression_of, Gives};
+ghost use Rattle.c_express.specs.Conversions.{is_void_expression};
 ghost use Rattle.c_express.specs.Calls as calls;
+ghost use Rattle.c_express.specs.Choices as spec;
 
 use crate::Refused;
 use crate::binary::{balanced, matched};
-use crate::convert::{as_if_assigned, converted, promoted_argument, truth};
-use crate::operand::{Form, Operand, discarded, object_of, tree_of, value, value_of};
+use crate::convert::{as_if_assigned, converted, may_meet, promoted_argument, truth};
+use crate::operand::{
+    Form, Operand, discarded, is_void_place, object_of, tree_of, value, value_of,
+};
+use crate::same::are_compatible;
 use c_typed::{Node, Typed};
-use c_types::{FuncTy, Qual, Shared, Tags, Ty, compatible, composite, copied};
+use c_types::{FuncTy, Qual, Shared, Tags, Ty, composite, copied};
 use std::alloc::Global;
 use ub_base::Items;
 
 // Whether a call may give a value of this type: `void`, or a complete object type that is no array (6.5.2.2p1).
-fn may_return(tags: &Tags, ty: &Ty) -> bool {
+fn may_return(tags: &Tags, ty: &Ty) -> bool
+    ensures { result ≡ calls.may_return tags.now (type_of ty.now) }
+{
     match ty {
         Ty::Void => true,
         Ty::Array(_, _) | Ty::Function(_) => false,
@@ -24,57 +29,61 @@ fn may_return(tags: &Tags, ty: &Ty) -> bool {
     }
 }
 
-// The parameter at this place, where there is one.
-fn parameter(params: &[Qual], at: usize) -> Option<&Qual>
-    ensures { target_seen result ≡ slice_get (map qualified_of params.now) at }
-{
-    params.get(at)
-}
-
-// One argument: converted to the type of its parameter, or by the default promotions where the ellipsis takes it
+// The next argument: converted to the type of its parameter, or by the default promotions where the ellipsis takes it
 // (6.5.2.2p7).
 fn argument(
     alloc: Global,
     tags: &Tags,
+    variadic: bool,
     params: &[Qual],
-    at: usize,
     operand: Operand,
 ) -> Result<Typed, Refused>
-    ensures { is_undecided_for (slice_get (map qualified_of params.now) at) (expression_of operand) ≡ false → Gives term_of result (calls.argument tags.now (slice_get (map qualified_of params.now) at) (expression_of operand)) }
+    ensures { Gives term_of result (calls.argument tags.now variadic (params_of (map qualified_of params.now)) (expression_of operand)) }
 {
-    match parameter(params, at) {
-        Some(param) => as_if_assigned(alloc, tags, operand, &param.ty),
-        None => promoted_argument(alloc, tags, operand),
+    match params.split_first() {
+        Some((param, _)) => as_if_assigned(alloc, tags, operand, &param.ty),
+        None if variadic => promoted_argument(alloc, tags, operand),
+        None => Err(Refused::Constraint),
     }
 }
 
-// Whether so many arguments fit the function (6.5.2.2p2).
-fn fits(f: &FuncTy, count: usize) -> bool {
-    if f.variadic {
-        f.params.len() <= count
-    } else {
-        f.params.len() == count
+// The parameters behind the first.
+fn further(params: &[Qual]) -> &[Qual]
+    ensures { params_of (map qualified_of result.now) ≡ calls.rest (params_of (map qualified_of params.now)) }
+{
+    match params.split_first() {
+        Some((_, rest)) => rest,
+        None => params,
     }
 }
 
+// The function and its arguments, as many as it takes (6.5.2.2p2).
 fn with_arguments(
     alloc: Global,
     tags: &Tags,
-    f: &FuncTy,
+    variadic: bool,
+    params: &[Qual],
     designator: Typed,
     arguments: Vec<Operand>,
-) -> Result<Items<Typed>, Refused> {
+) -> Result<Items<Typed>, Refused>
+    ensures { Gives terms_of result (calls.operands tags.now (term_of designator) variadic (params_of (map qualified_of params.now)) (map expression_of arguments.items)) }
+{
     let mut children = Items::new(alloc);
     children.push(designator)?;
-    let mut at = 0usize;
+    let mut left = params;
     for operand in arguments {
-        children.push(argument(alloc, tags, f.params.as_slice(), at, operand)?)?;
-        at = at.saturating_add(1);
+        children.push(argument(alloc, tags, variadic, left, operand)?)?;
+        left = further(left);
     }
-    Ok(children)
+    match left.split_first() {
+        Some(_) => Err(Refused::Constraint),
+        None => Ok(children),
+    }
 }
 
-fn copied_target(alloc: Global, ty: &Ty) -> Result<Shared<FuncTy>, Refused> {
+fn callee(alloc: Global, ty: &Ty) -> Result<Shared<FuncTy>, Refused>
+    ensures { Gives signature_of result (calls.callee (type_of ty.now)) }
+{
     match object_of(ty) {
         Some(target) => match copied(alloc, &target.ty)? {
             Ty::Function(f) => Ok(f),
@@ -85,21 +94,25 @@ fn copied_target(alloc: Global, ty: &Ty) -> Result<Shared<FuncTy>, Refused> {
 }
 
 /// `f(arguments)`: through a pointer to a function (6.5.2.2).
+#[tactic(auto, unfolding(crate::specs::Calls::called))]
 pub fn called(
     alloc: Global,
     tags: &Tags,
     designator: Operand,
     arguments: Vec<Operand>,
     line: u32,
-) -> Result<Operand, Refused> {
+) -> Result<Operand, Refused>
+    ensures { Gives expression_of result (calls.called tags.now (expression_of designator) (map expression_of arguments.items) line) }
+{
     let designator = value_of(alloc, tags, designator)?;
-    let f = copied_target(alloc, &designator.ty)?;
+    let f = callee(alloc, &designator.ty)?;
     let f = f.get();
-    if !fits(f, arguments.len()) || !may_return(tags, &f.result) {
+    if !may_return(tags, &f.result) {
         return Err(Refused::Constraint);
     }
     let ty = copied(alloc, &f.result)?;
-    let children = with_arguments(alloc, tags, f, designator, arguments)?;
+    let params = f.params.as_slice();
+    let children = with_arguments(alloc, tags, f.variadic, params, designator, arguments)?;
     let node = Node::Call { discarded: false };
     Ok(value(Typed {
         node,
@@ -110,30 +123,31 @@ pub fn called(
 }
 
 /// Whether the operand is a void expression (6.3.2.2).
-pub fn is_void(operand: &Operand) -> bool {
+pub fn is_void(operand: &Operand) -> bool
+    ensures { result ≡ is_void_expression (expression_of operand.now) }
+{
     match operand.form {
         Form::Void => true,
         Form::Value => matches!(operand.tree.ty, Ty::Void),
-        Form::Place { register: _ } => match object_of(&operand.tree.ty) {
-            Some(object) => matches!(object.ty, Ty::Void),
-            None => false,
-        },
+        Form::Place { register: _ } => is_void_place(&operand.tree.ty),
         Form::NullPointer | Form::Designator => false,
     }
 }
 
-fn three(
+fn choice(
     alloc: Global,
     ty: Ty,
     line: u32,
-    a: Typed,
-    b: Typed,
-    c: Typed,
-) -> Result<Operand, Refused> {
+    test: Typed,
+    yes: Typed,
+    no: Typed,
+) -> Result<Operand, Refused>
+    ensures { Gives expression_of result (Some (spec.choice (type_of ty) line (term_of test) (term_of yes) (term_of no))) }
+{
     let mut children = Items::new(alloc);
-    children.push(a)?;
-    children.push(b)?;
-    children.push(c)?;
+    children.push(test)?;
+    children.push(yes)?;
+    children.push(no)?;
     Ok(value(Typed {
         node: Node::Cond,
         ty,
@@ -142,32 +156,40 @@ fn three(
     }))
 }
 
-// The target of the pointer that a conditional gives: `void` where one is, otherwise the composite type, with the
-// qualifiers of both (6.5.15p6).
-fn joint_target(alloc: Global, a: &Qual, b: &Qual) -> Result<Qual, Refused> {
-    let constant = a.constant || b.constant;
-    let ty = match (&a.ty, &b.ty) {
-        (Ty::Void, Ty::Function(_)) | (Ty::Function(_), Ty::Void) => {
-            return Err(Refused::Constraint);
-        }
-        (Ty::Void, _) | (_, Ty::Void) => Ty::Void,
-        (x, y) => {
-            if !compatible(x, y) {
-                return Err(Refused::Constraint);
-            }
-            composite(alloc, x, y)?
-        }
-    };
-    Ok(Qual { ty, constant })
+fn joint_type(alloc: Global, a: &Ty, b: &Ty) -> Result<Ty, Refused>
+    ensures { Gives type_of result (Some (spec.joint_type (type_of a.now) (type_of b.now))) }
+{
+    match (a, b) {
+        (Ty::Void, _) | (_, Ty::Void) => Ok(Ty::Void),
+        (a, b) => Ok(composite(alloc, a, b)?),
+    }
 }
 
-fn joint_pointer(alloc: Global, a: &Ty, b: &Ty) -> Result<Ty, Refused> {
+// The target of the pointer that a conditional gives: `void` where one is, otherwise the composite type, with the
+// qualifiers of both (6.5.15p6).
+fn joint_target(alloc: Global, a: &Qual, b: &Qual) -> Result<Qual, Refused>
+    ensures { Gives qualified_of result (spec.joint_target (qualified_of a.now) (qualified_of b.now)) }
+{
+    if !may_meet(&a.ty, &b.ty) {
+        return Err(Refused::Constraint);
+    }
+    let ty = joint_type(alloc, &a.ty, &b.ty)?;
+    Ok(Qual {
+        ty,
+        constant: a.constant || b.constant,
+    })
+}
+
+fn joint_pointer(alloc: Global, a: &Ty, b: &Ty) -> Result<Ty, Refused>
+    ensures { Gives type_of result (spec.joint_pointer (type_of a.now) (type_of b.now)) }
+{
     match (object_of(a), object_of(b)) {
         (Some(x), Some(y)) => Ok(Ty::Pointer(Shared::new(alloc, joint_target(alloc, x, y)?)?)),
         _ => Err(Refused::Constraint),
     }
 }
 
+#[tactic(auto, unfolding(crate::specs::Choices::chosen_pointer))]
 fn chosen_pointer(
     alloc: Global,
     tags: &Tags,
@@ -175,11 +197,43 @@ fn chosen_pointer(
     yes: Typed,
     no: Typed,
     line: u32,
-) -> Result<Operand, Refused> {
+) -> Result<Operand, Refused>
+    ensures { Gives expression_of result (spec.chosen_pointer tags.now (term_of test) (term_of yes) (term_of no) line) }
+{
     let ty = joint_pointer(alloc, &yes.ty, &no.ty)?;
     let yes = converted(alloc, tags, yes, &ty)?;
     let no = converted(alloc, tags, no, &ty)?;
-    three(alloc, ty, line, test, yes, no)
+    choice(alloc, ty, line, test, yes, no)
+}
+
+#[tactic(auto, unfolding(crate::specs::Choices::chosen_integer))]
+fn chosen_integer(
+    alloc: Global,
+    test: Typed,
+    yes: Typed,
+    no: Typed,
+    line: u32,
+) -> Result<Operand, Refused>
+    ensures { Gives expression_of result (spec.chosen_integer (term_of test) (term_of yes) (term_of no) line) }
+{
+    let (yes, no, kind) = balanced(alloc, yes, no)?;
+    choice(alloc, Ty::Int(kind), line, test, yes, no)
+}
+
+fn chosen_whole(
+    alloc: Global,
+    test: Typed,
+    yes: Typed,
+    no: Typed,
+    line: u32,
+) -> Result<Operand, Refused>
+    ensures { Gives expression_of result (spec.chosen_whole (term_of test) (term_of yes) (term_of no) line) }
+{
+    if !are_compatible(&yes.ty, &no.ty) {
+        return Err(Refused::Constraint);
+    }
+    let ty = copied(alloc, &yes.ty)?;
+    choice(alloc, ty, line, test, yes, no)
 }
 
 fn chosen_value(
@@ -189,24 +243,37 @@ fn chosen_value(
     yes: Typed,
     no: Typed,
     line: u32,
-) -> Result<Operand, Refused> {
+) -> Result<Operand, Refused>
+    ensures { Gives expression_of result (spec.chosen_value tags.now (term_of test) (term_of yes) (term_of no) line) }
+{
     match (&yes.ty, &no.ty) {
         (Ty::Pointer(_), Ty::Pointer(_)) => chosen_pointer(alloc, tags, test, yes, no, line),
-        (Ty::Struct(_), Ty::Struct(_)) | (Ty::Union(_), Ty::Union(_)) => {
-            if !compatible(&yes.ty, &no.ty) {
-                return Err(Refused::Constraint);
-            }
-            let ty = copied(alloc, &yes.ty)?;
-            three(alloc, ty, line, test, yes, no)
-        }
-        _ => {
-            let (yes, no, kind) = balanced(alloc, yes, no)?;
-            three(alloc, Ty::Int(kind), line, test, yes, no)
-        }
+        (Ty::Struct(_), Ty::Struct(_)) => chosen_whole(alloc, test, yes, no, line),
+        (Ty::Union(_), Ty::Union(_)) => chosen_whole(alloc, test, yes, no, line),
+        _ => chosen_integer(alloc, test, yes, no, line),
     }
 }
 
+#[tactic(auto, unfolding(crate::specs::Choices::chosen_values))]
+fn chosen_values(
+    alloc: Global,
+    tags: &Tags,
+    test: Typed,
+    yes: Operand,
+    no: Operand,
+    line: u32,
+) -> Result<Operand, Refused>
+    ensures { Gives expression_of result (spec.chosen_values tags.now (term_of test) (expression_of yes) (expression_of no) line) }
+{
+    let (f, g) = (yes.form, no.form);
+    let yes = value_of(alloc, tags, yes)?;
+    let no = value_of(alloc, tags, no)?;
+    let (yes, no) = matched(alloc, f, yes, g, no)?;
+    chosen_value(alloc, tags, test, yes, no, line)
+}
+
 /// `test ? yes : no` (6.5.15).
+#[tactic(auto, unfolding(crate::specs::Choices::chosen))]
 pub fn chosen(
     alloc: Global,
     tags: &Tags,
@@ -214,58 +281,70 @@ pub fn chosen(
     yes: Operand,
     no: Operand,
     line: u32,
-) -> Result<Operand, Refused> {
+) -> Result<Operand, Refused>
+    ensures { Gives expression_of result (spec.chosen tags.now (expression_of test) (expression_of yes) (expression_of no) line) }
+{
     let test = truth(alloc, tags, test)?;
     match (is_void(&yes), is_void(&no)) {
-        (true, true) => three(alloc, Ty::Void, line, test, tree_of(yes), tree_of(no)),
-        (false, false) => {
-            let (yes, no) = matched(alloc, tags, yes, no)?;
-            chosen_value(alloc, tags, test, yes, no, line)
-        }
+        (true, true) => choice(alloc, Ty::Void, line, test, tree_of(yes), tree_of(no)),
+        (false, false) => chosen_values(alloc, tags, test, yes, no, line),
         _ => Err(Refused::Constraint),
     }
+}
+
+// The last operand of a comma with its type: its value, or a void expression (6.5.17p2).
+#[tactic(auto, unfolding(crate::specs::Choices::last))]
+fn last(alloc: Global, tags: &Tags, operand: Operand) -> Result<(Typed, Ty), Refused>
+    ensures { Gives spec.last_of result (spec.last tags.now (expression_of operand)) }
+{
+    if is_void(&operand) {
+        return Ok((tree_of(operand), Ty::Void));
+    }
+    let tree = value_of(alloc, tags, operand)?;
+    let ty = copied(alloc, &tree.ty)?;
+    Ok((tree, ty))
+}
+
+// The operands of a comma but the last (6.5.17p2).
+fn without_values(
+    alloc: Global,
+    tags: &Tags,
+    operands: Vec<Operand>,
+) -> Result<Items<Typed>, Refused>
+    ensures { Gives terms_of result (spec.without_values tags.now (map expression_of operands.items)) }
+{
+    let mut children = Items::new(alloc);
+    for operand in operands {
+        children.push(discarded(alloc, tags, operand)?)?;
+    }
+    Ok(children)
+}
+
+fn comma(ty: Ty, line: u32, children: Items<Typed>) -> Operand
+    ensures { expression_of result ≡ spec.comma (type_of ty) line (terms_of children) }
+{
+    value(Typed {
+        node: Node::Comma,
+        ty,
+        line,
+        children,
+    })
 }
 
 /// `a, b, ..`: the value of the last operand (6.5.17). At least one operand.
 pub fn sequenced(
     alloc: Global,
     tags: &Tags,
-    operands: Vec<Operand>,
+    mut operands: Vec<Operand>,
     line: u32,
-) -> Result<Operand, Refused> {
-    let mut children = Items::new(alloc);
-    let count = operands.len();
-    let mut at = 0usize;
-    for operand in operands {
-        at = at.saturating_add(1);
-        if at < count {
-            children.push(discarded(alloc, tags, operand)?)?;
-        } else {
-            return last(alloc, tags, children, operand, line);
-        }
-    }
-    Err(Refused::Constraint)
-}
-
-fn last(
-    alloc: Global,
-    tags: &Tags,
-    mut children: Items<Typed>,
-    operand: Operand,
-    line: u32,
-) -> Result<Operand, Refused> {
-    let (tree, ty) = if is_void(&operand) {
-        (tree_of(operand), Ty::Void)
-    } else {
-        let tree = value_of(alloc, tags, operand)?;
-        let ty = copied(alloc, &tree.ty)?;
-        (tree, ty)
+) -> Result<Operand, Refused>
+    ensures { Gives expression_of result (spec.sequenced tags.now (map expression_of operands.items) line) }
+{
+    let Some(operand) = operands.pop() else {
+        return Err(Refused::Constraint);
     };
+    let mut children = without_values(alloc, tags, operands)?;
+    let (tree, ty) = last(alloc, tags, operand)?;
     children.push(tree)?;
-    Ok(value(Typed {
-        node: Node::Comma,
-        ty,
-        line,
-        children,
-    }))
+    Ok(comma(ty, line, children))
 }

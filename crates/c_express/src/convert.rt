@@ -1,17 +1,17 @@
 // Conversions (6.3, 6.5.4, 6.5.16.1).
-ghost use Rattle.std.specs.Prelude.{◌≡◌, true, false};
+ghost use Rattle.std.specs.Prelude.{◌≡◌, Some};
 ghost use Rattle.c_types.specs.Types.{type_of, qualified_of};
 ghost use Rattle.c_types.specs.Layout.{align_of};
-ghost use Rattle.c_express.specs.Terms.{term_of, type_at, expression_of, Gives};
+ghost use Rattle.c_express.specs.Terms.{term_of, expression_of, Gives};
 ghost use Rattle.c_express.specs.Conversions.{integer_of};
+ghost use Rattle.c_express.specs.Constants.{is_null};
+ghost use Rattle.c_express.specs.Assignments as assignments;
 ghost use Rattle.c_express.specs.Conversions as spec;
 ghost use Rattle.c_express.specs.Operators as operators;
 
 use crate::Refused;
-use crate::constant::integer_constant;
-use crate::operand::{
-    Form, Operand, discarded, kind_of, leaf, object_of, value, value_of, with_child,
-};
+use crate::constant::{is_null, null_pointer};
+use crate::operand::{Form, Operand, discarded, kind_of, object_of, value, value_of, with_child};
 use crate::same::{are_compatible, same_type};
 use c_typed::{Conversion, Node, Typed};
 use c_types::{IntKind, Qual, Tags, Ty, copied, promote, usual};
@@ -63,9 +63,9 @@ pub fn usual_kind(a: &Ty, b: &Ty) -> Option<IntKind>
 }
 
 /// An argument after the default argument promotions (6.5.2.2p6).
-#[tactic(auto, unfolding(crate::specs::Conversions::default_promoted))]
+#[tactic(auto, unfolding(crate::specs::Assignments::default_promoted))]
 pub fn promoted_argument(alloc: Global, tags: &Tags, operand: Operand) -> Result<Typed, Refused>
-    ensures { Gives term_of result (spec.default_promoted tags.now (expression_of operand)) }
+    ensures { Gives term_of result (assignments.default_promoted tags.now (expression_of operand)) }
 {
     let tree = value_of(alloc, tags, operand)?;
     match &tree.ty {
@@ -95,6 +95,12 @@ pub fn is_function(ty: &Ty) -> bool
     ensures { result ≡ spec.is_function (type_of ty.now) }
 {
     matches!(ty, Ty::Function(_))
+}
+
+pub fn is_pointer(ty: &Ty) -> bool
+    ensures { result ≡ spec.is_pointer (type_of ty.now) }
+{
+    matches!(ty, Ty::Pointer(_))
 }
 
 fn alignment(tags: &Tags, target: &Ty) -> u64
@@ -175,27 +181,11 @@ pub fn converted(alloc: Global, tags: &Tags, tree: Typed, to: &Ty) -> Result<Typ
     }
 }
 
-/// Whether the operand is a null pointer constant: an integer constant expression of value 0, or one cast to `void *`
-/// (6.3.2.3p3).
+/// Whether the operand is a null pointer constant (6.3.2.3p3).
 pub fn is_null_constant(operand: &Operand) -> bool
-    ensures null { operand.now.form ≡ Form.NullPointer → result ≡ true }
-    ensures other { spec.may_be_null operand.now.form (type_at (term_of operand.now.tree)) ≡ false → result ≡ false }
+    ensures { result ≡ is_null (expression_of operand.now) }
 {
-    match operand.form {
-        Form::NullPointer => true,
-        Form::Value => match kind_of(&operand.tree.ty) {
-            None => false,
-            Some(_) => integer_constant(&operand.tree) == Some(0),
-        },
-        Form::Place { register: _ } | Form::Designator | Form::Void => false,
-    }
-}
-
-/// A null pointer of this type.
-pub fn null_pointer(alloc: Global, ty: &Ty, line: u32) -> Result<Typed, Refused>
-    ensures { Gives term_of result (Some (spec.null_pointer (type_of ty.now) line)) }
-{
-    Ok(leaf(alloc, Node::Const(0), copied(alloc, ty)?, line))
+    is_null(operand.form, &operand.tree)
 }
 
 /// Whether pointers to these types go together: they are compatible, or one is void and the other an object type
@@ -214,14 +204,14 @@ pub fn may_meet(a: &Ty, b: &Ty) -> bool
 
 // Whether a pointer may be assigned: the targets go together, and no qualifier is lost (6.5.16.1p1).
 fn may_point(from: &Qual, to: &Qual) -> bool
-    ensures { result ≡ spec.may_point (qualified_of from.now) (qualified_of to.now) }
+    ensures { result ≡ assignments.may_point (qualified_of from.now) (qualified_of to.now) }
 {
     (!from.constant || to.constant) && may_meet(&from.ty, &to.ty)
 }
 
 // Whether a value of the first type may be assigned to an object of the second (6.5.16.1p1).
 fn may_assign(from: &Ty, to: &Ty) -> bool
-    ensures { result ≡ spec.may_assign (type_of from.now) (type_of to.now) }
+    ensures { result ≡ assignments.may_assign (type_of from.now) (type_of to.now) }
 {
     match to {
         Ty::Int(IntKind::Bool) => is_scalar(from),
@@ -237,14 +227,14 @@ fn may_assign(from: &Ty, to: &Ty) -> bool
 
 // Whether the operand is a null pointer constant that becomes a pointer of this type (6.3.2.3p3).
 fn takes_null(operand: &Operand, to: &Ty) -> bool
-    ensures { spec.is_undecided operand.now.form (type_at (term_of operand.now.tree)) (type_of to.now) ≡ false → result ≡ spec.takes_null (expression_of operand.now) (type_of to.now) }
+    ensures { result ≡ assignments.takes_null (expression_of operand.now) (type_of to.now) }
 {
     matches!(to, Ty::Pointer(_)) && !same_type(&operand.tree.ty, to) && is_null_constant(operand)
 }
 
 // A value put into an object of this type; a structure or union stays as it is.
 fn put_as(alloc: Global, tags: &Tags, tree: Typed, to: &Ty) -> Result<Typed, Refused>
-    ensures { Gives term_of result (spec.put_as tags.now (type_of to.now) (term_of tree)) }
+    ensures { Gives term_of result (assignments.put_as tags.now (type_of to.now) (term_of tree)) }
 {
     if !may_assign(&tree.ty, to) {
         return Err(Refused::Constraint);
@@ -256,15 +246,14 @@ fn put_as(alloc: Global, tags: &Tags, tree: Typed, to: &Ty) -> Result<Typed, Ref
 }
 
 /// The operand converted as if by assignment to an object of this type (6.5.16.1p2).
-#[tactic(auto, unfolding(crate::specs::Conversions::as_if_assigned, crate::specs::Conversions::value))]
+#[tactic(auto, unfolding(crate::specs::Assignments::as_if_assigned))]
 pub fn as_if_assigned(
     alloc: Global,
     tags: &Tags,
     operand: Operand,
     to: &Ty,
 ) -> Result<Typed, Refused>
-    ensures exact { spec.is_undecided operand.form (type_at (term_of operand.tree)) (type_of to.now) ≡ false → Gives term_of result (spec.as_if_assigned tags.now (type_of to.now) (expression_of operand)) }
-    ensures null { spec.is_undecided operand.form (type_at (term_of operand.tree)) (type_of to.now) ≡ true → spec.NullOnly (type_of to.now) (expression_of operand) result }
+    ensures { Gives term_of result (assignments.as_if_assigned tags.now (type_of to.now) (expression_of operand)) }
 {
     if takes_null(&operand, to) {
         return null_pointer(alloc, to, operand.tree.line);
@@ -273,35 +262,43 @@ pub fn as_if_assigned(
     put_as(alloc, tags, tree, to)
 }
 
-fn is_void_pointer(ty: &Ty) -> bool {
+fn is_void_pointer(ty: &Ty) -> bool
+    ensures { result ≡ operators.is_void_pointer (type_of ty.now) }
+{
     match object_of(ty) {
         Some(target) => matches!(target.ty, Ty::Void) && !target.constant,
         None => false,
     }
 }
 
-/// The operand cast to the type: to `void`, or between scalar types (6.5.4p2, 6.5.4p3).
-pub fn cast(alloc: Global, tags: &Tags, operand: Operand, to: &Ty) -> Result<Operand, Refused> {
-    if matches!(to, Ty::Void) {
-        return Ok(Operand {
-            tree: discarded(alloc, tags, operand)?,
-            form: Form::Void,
-        });
-    }
-    if matches!(to, Ty::Pointer(_)) && is_null_constant(&operand) {
-        return null_cast(alloc, operand, to);
-    }
+#[tactic(auto, unfolding(crate::specs::Operators::void_cast))]
+fn void_cast(alloc: Global, tags: &Tags, operand: Operand) -> Result<Operand, Refused>
+    ensures { Gives expression_of result (operators.void_cast tags.now (expression_of operand)) }
+{
+    Ok(Operand {
+        tree: discarded(alloc, tags, operand)?,
+        form: Form::Void,
+    })
+}
+
+#[tactic(auto, unfolding(crate::specs::Operators::scalar_cast))]
+fn scalar_cast(alloc: Global, tags: &Tags, operand: Operand, to: &Ty) -> Result<Operand, Refused>
+    ensures { Gives expression_of result (operators.scalar_cast tags.now (type_of to.now) (expression_of operand)) }
+{
     let tree = value_of(alloc, tags, operand)?;
-    if !is_scalar(&tree.ty) || !is_scalar(to) {
-        return Err(Refused::Constraint);
+    if is_scalar(&tree.ty) && is_scalar(to) {
+        Ok(value(converted(alloc, tags, tree, to)?))
+    } else {
+        Err(Refused::Constraint)
     }
-    Ok(value(converted(alloc, tags, tree, to)?))
 }
 
 // Of an integer constant expression of value 0, a cast to `void *` is a null pointer constant again; of `(void *)0` it
 // is none.
-fn null_cast(alloc: Global, operand: Operand, to: &Ty) -> Result<Operand, Refused> {
-    let again = operand.form == Form::Value && is_void_pointer(to);
+fn null_cast(alloc: Global, operand: Operand, to: &Ty) -> Result<Operand, Refused>
+    ensures { Gives expression_of result (Some (operators.null_cast (expression_of operand) (type_of to.now))) }
+{
+    let again = matches!(operand.form, Form::Value) && is_void_pointer(to);
     let tree = null_pointer(alloc, to, operand.tree.line)?;
     Ok(Operand {
         tree,
@@ -311,4 +308,15 @@ fn null_cast(alloc: Global, operand: Operand, to: &Ty) -> Result<Operand, Refuse
             Form::Value
         },
     })
+}
+
+/// The operand cast to the type: to `void`, or between scalar types (6.5.4p2, 6.5.4p3).
+pub fn cast(alloc: Global, tags: &Tags, operand: Operand, to: &Ty) -> Result<Operand, Refused>
+    ensures { Gives expression_of result (operators.cast tags.now (type_of to.now) (expression_of operand)) }
+{
+    match to {
+        Ty::Void => void_cast(alloc, tags, operand),
+        Ty::Pointer(_) if is_null_constant(&operand) => null_cast(alloc, operand, to),
+        to => scalar_cast(alloc, tags, operand, to),
+    }
 }

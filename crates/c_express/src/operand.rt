@@ -2,9 +2,9 @@
 ghost use Rattle.std.specs.Prelude.{◌≡◌, [], ◌∷◌, IfOk};
 ghost use Rattle.c_types.specs.Types.{type_of, qualified_of, int};
 ghost use Rattle.c_types.specs.Types as types;
-ghost use Rattle.c_express.specs.Terms.{term_of, expression_of, made, constant, as_value, as_place, Gives};
+ghost use Rattle.c_express.specs.Terms.{term_of, seen_node, expression_of, made, constant, as_value, as_place, Gives};
 ghost use Rattle.c_express.specs.Terms as spec;
-ghost use Rattle.c_express.specs.Conversions.{target_seen, target_of, use_seen, use_at};
+ghost use Rattle.c_express.specs.Conversions.{target_seen, target_of, is_void_target, use_seen, use_at};
 ghost use Rattle.c_express.specs.Conversions as conversions;
 
 use crate::Refused;
@@ -241,17 +241,26 @@ pub fn value_of(alloc: Global, tags: &Tags, operand: Operand) -> Result<Typed, R
     }
 }
 
-fn without_use(tree: Typed) -> Typed {
+// The node, a call as discarded.
+fn unused(node: Node) -> Node
+    ensures { seen_node result ≡ conversions.unused_node (seen_node node) }
+{
+    match node {
+        Node::Call { discarded: _ } => Node::Call { discarded: true },
+        node => node,
+    }
+}
+
+fn without_use(tree: Typed) -> Typed
+    ensures { term_of result ≡ conversions.without_use (term_of tree) }
+{
     let Typed {
         node,
         ty,
         line,
         children,
     } = tree;
-    let node = match node {
-        Node::Call { discarded: _ } => Node::Call { discarded: true },
-        node => node,
-    };
+    let node = unused(node);
     Typed {
         node,
         ty,
@@ -260,7 +269,10 @@ fn without_use(tree: Typed) -> Typed {
     }
 }
 
-fn is_void_place(ty: &Ty) -> bool {
+// Whether the pointer points to `void`.
+pub fn is_void_place(ty: &Ty) -> bool
+    ensures { result ≡ is_void_target (target_of (type_of ty.now)) }
+{
     match object_of(ty) {
         Some(object) => matches!(object.ty, Ty::Void),
         None => false,
@@ -269,7 +281,10 @@ fn is_void_place(ty: &Ty) -> bool {
 
 /// The operand where its value isn't used (6.8.3p2): a call is marked as discarded, and a place is loaded all the same;
 /// one of type `void` stays as it is.
-pub fn discarded(alloc: Global, tags: &Tags, operand: Operand) -> Result<Typed, Refused> {
+#[tactic(auto, unfolding(crate::specs::Conversions::discarded, crate::specs::Conversions::value))]
+pub fn discarded(alloc: Global, tags: &Tags, operand: Operand) -> Result<Typed, Refused>
+    ensures { Gives term_of result (conversions.discarded tags.now (expression_of operand)) }
+{
     match operand.form {
         Form::Place { register: _ } if is_void_place(&operand.tree.ty) => Ok(tree_of(operand)),
         Form::Void => Ok(tree_of(operand)),
@@ -278,7 +293,9 @@ pub fn discarded(alloc: Global, tags: &Tags, operand: Operand) -> Result<Typed, 
 }
 
 /// The operand's node alone.
-pub fn tree_of(operand: Operand) -> Typed {
+pub fn tree_of(operand: Operand) -> Typed
+    ensures { term_of result ≡ (expression_of operand).tree }
+{
     let Operand { tree, form: _ } = operand;
     tree
 }

@@ -11,6 +11,7 @@ use c_ast::{
 use c_express::{Operand, integer_constant};
 use c_scope::{Meaning, Source, State, TypeFault};
 use c_types::Qual;
+use c_values::enumerator;
 use ub_base::Items;
 
 /// An expression (6.5). What follows a first operand is read by a function of its own that isn't inlined, so that a level of
@@ -378,7 +379,7 @@ fn enumerated(
             None => None,
             Some(value) => Some(constant(source, state, value)?),
         };
-        let Some(number) = tag::enumerator(value, before) else {
+        let Some(number) = enumerator(value, before) else {
             return Err(source.fault(e.name));
         };
         state.declare(source, e.name, Meaning::Constant(i128::from(number)))?;

@@ -1,7 +1,4 @@
 // Structures, unions and enumerations (6.7.2.1 to 6.7.2.3).
-ghost use Rattle.std.specs.Prelude.{◌≡◌};
-ghost use Rattle.c_expression.specs.Enumerators as spec;
-
 use crate::declarator::Declared;
 use crate::words::{Storage, Words};
 use c_ast::{Base, Specs};
@@ -285,19 +282,4 @@ pub fn close_enumeration(state: &mut State, number: u32) -> Ty {
         *complete = true;
     }
     Ty::Enum(number)
-}
-
-/// The value of an enumeration constant: that of its expression, otherwise one more than the one before it, of the first one 0
-/// (6.7.2.2p3). `None` where it isn't one of `int` (6.7.2.2p2).
-pub fn enumerator(value: Option<i128>, before: Option<i32>) -> Option<i32>
-    ensures { result ≡ spec.enumerator value before }
-{
-    let number = match value {
-        Some(number) => number,
-        None => match before {
-            Some(before) => i128::from(before) + 1,
-            None => 0,
-        },
-    };
-    i32::try_from(number).ok()
 }

@@ -1,7 +1,4 @@
 // Initializers (6.7.9).
-ghost use Rattle.std.specs.Prelude.{◌≡◌};
-ghost use Rattle.c_initial.specs.Texts.{text_in};
-
 use crate::cursor::{Choice, Cursor, Spot, next_spot};
 use crate::statics::static_content;
 use c_ast::{Designator, Expr, ExprNode, Init, InitEntry};
@@ -11,6 +8,7 @@ use c_expression::literal::literal_bytes;
 use c_scope::{Source, State, TypeFault};
 use c_typed::Content;
 use c_types::{Ty, copied};
+use c_values::text_of;
 use std::alloc::Global;
 use ub_base::{Bytes, NoMemory};
 
@@ -60,25 +58,6 @@ pub fn is_text_array(ty: &Ty) -> bool {
             _ => false,
         },
         _ => false,
-    }
-}
-
-// The bytes that a string gives an array of so many characters: its zero only where there is room (6.7.9p14).
-fn text_of(bytes: Bytes, count: Option<u64>) -> Option<Bytes>
-    ensures { result ≡ text_in bytes count }
-{
-    let Some(count) = count else {
-        return Some(bytes);
-    };
-    let length = bytes.len() as u64;
-    if length <= count {
-        Some(bytes)
-    } else if length - 1 == count {
-        let mut bytes = bytes;
-        bytes.truncate(length as usize - 1);
-        Some(bytes)
-    } else {
-        None
     }
 }
 

@@ -1,16 +1,26 @@
 //! Initializers (6.7.9).
 
+ghost use Rattle.std.specs.Prelude.{◌≡◌, []};
+ghost use Rattle.c_cursor.specs.Reads.{Reads};
+ghost use Rattle.c_parse.specs.Parts.{one_init_entry};
+ghost use Rattle.parse_spec.specs.Initializers as spec;
+ghost use Rattle.parse_spec.specs.Places.{opens_designator};
+ghost use Rattle.parse_spec.specs.Steps.{turns};
+
 use crate::knot::expr;
 use c_ast::{Designator, Init, InitEntry};
 use c_cursor::operators::{ASSIGNMENT, CONDITIONAL};
 use c_cursor::tokens::identifier;
 use c_cursor::{Cursor, Refusal};
-use c_lex::Mark;
+use c_lex::{Mark, TokenKind};
 use parse_nodes::behind::{before, kept, pushed, with};
 use std::alloc::Global;
 use ub_base::Items;
 
-fn designator(alloc: Global, tokens: &mut Cursor<'_>) -> Result<Designator, Refusal> {
+#[tactic(auto, unfolding(parse_spec::specs::Initializers::one_designator))]
+fn designator(alloc: Global, tokens: &mut Cursor<'_>) -> Result<Designator, Refusal>
+    ensures { Reads (spec.one_designator tokens.old) result tokens.new }
+{
     if tokens.eat(Mark::Dot) {
         return Ok(Designator::Member(identifier(tokens)?));
     }
@@ -20,19 +30,24 @@ fn designator(alloc: Global, tokens: &mut Cursor<'_>) -> Result<Designator, Refu
     Ok(Designator::Element(before(tokens, index, Mark::CloseBracket)?))
 }
 
-fn is_designator(mark: Option<Mark>) -> bool {
-    match mark {
-        Some(Mark::Dot | Mark::OpenBracket) => true,
+/// Whether a token of this kind begins a designator.
+fn is_designator(kind: Option<TokenKind>) -> bool
+    ensures { result ≡ opens_designator kind }
+{
+    match kind {
+        Some(TokenKind::Punct(Mark::Dot | Mark::OpenBracket)) => true,
         _ => false,
     }
 }
 
 /// At least one designator, and the `=` behind them.
-fn designator_list(alloc: Global, tokens: &mut Cursor<'_>) -> Result<Items<Designator>, Refusal> {
+fn designator_list(alloc: Global, tokens: &mut Cursor<'_>) -> Result<Items<Designator>, Refusal>
+    ensures { Reads (spec.designators_from (turns tokens.old) [] tokens.old) result tokens.new }
+{
     let mut found = Items::new(alloc);
     for _turn in 0..tokens.turns() {
         found = pushed(found, designator(alloc, tokens))?;
-        if !is_designator(tokens.mark()) {
+        if !is_designator(tokens.peek()) {
             return kept(found, tokens.expect(Mark::Equal));
         }
     }
@@ -40,8 +55,11 @@ fn designator_list(alloc: Global, tokens: &mut Cursor<'_>) -> Result<Items<Desig
 }
 
 /// The designation before an initializer, if there is one.
-fn designation(alloc: Global, tokens: &mut Cursor<'_>) -> Result<Items<Designator>, Refusal> {
-    if is_designator(tokens.mark()) {
+#[tactic(auto, unfolding(parse_spec::specs::Initializers::designation))]
+fn designation(alloc: Global, tokens: &mut Cursor<'_>) -> Result<Items<Designator>, Refusal>
+    ensures { Reads (spec.designation tokens.old) result tokens.new }
+{
+    if is_designator(tokens.peek()) {
         designator_list(alloc, tokens)
     } else {
         Ok(Items::new(alloc))
@@ -49,7 +67,10 @@ fn designation(alloc: Global, tokens: &mut Cursor<'_>) -> Result<Items<Designato
 }
 
 #[cycle(init)]
-fn init_entry(alloc: Global, tokens: &mut Cursor<'_>, depth: usize) -> Result<InitEntry, Refusal> {
+#[tactic(auto, unfolding(crate::specs::Parts::one_init_entry))]
+fn init_entry(alloc: Global, tokens: &mut Cursor<'_>, depth: usize) -> Result<InitEntry, Refusal>
+    ensures { Reads (one_init_entry (spec.initializer depth) tokens.old) result tokens.new }
+{
     let designators = designation(alloc, tokens)?;
     let (designators, init) = with(designators, initializer(alloc, tokens, depth))?;
     Ok(InitEntry { designators, init })
@@ -61,7 +82,9 @@ fn init_entries(
     alloc: Global,
     tokens: &mut Cursor<'_>,
     depth: usize,
-) -> Result<Items<InitEntry>, Refusal> {
+) -> Result<Items<InitEntry>, Refusal>
+    ensures { Reads (spec.entries_from (spec.initializer depth) (turns tokens.old) [] tokens.old) result tokens.new }
+{
     let mut found = Items::new(alloc);
     for _turn in 0..tokens.turns() {
         found = pushed(found, init_entry(alloc, tokens, depth))?;
@@ -77,7 +100,9 @@ fn init_entries(
 
 /// An initializer, in which others nest no deeper than `depth`.
 #[cycle(init)]
-pub fn initializer(alloc: Global, tokens: &mut Cursor<'_>, depth: usize) -> Result<Init, Refusal> {
+pub fn initializer(alloc: Global, tokens: &mut Cursor<'_>, depth: usize) -> Result<Init, Refusal>
+    ensures { Reads (spec.initializer depth tokens.old) result tokens.new }
+{
     if depth == 0 {
         return Err(tokens.refuse());
     }

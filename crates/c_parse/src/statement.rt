@@ -1,6 +1,16 @@
 //! Statements (6.8).
 
+ghost use Rattle.std.specs.Prelude.{◌≡◌};
+ghost use Rattle.c_ast.specs.Input.{kind, next};
+ghost use Rattle.c_cursor.specs.Reads.{Reads};
+ghost use Rattle.c_parse.specs.Parts.{held_by};
+ghost use Rattle.parse_nodes.specs.Behind.{followed};
 ghost use Rattle.parse_nodes.specs.Nests.{NestsStmt};
+ghost use Rattle.parse_spec.specs.Declarations as declared;
+ghost use Rattle.parse_spec.specs.Places as places;
+ghost use Rattle.parse_spec.specs.Statements as spec;
+ghost use Rattle.parse_spec.specs.Steps as steps;
+ghost use Rattle.parse_spec.specs.Steps.{and_then, pure, scoped};
 
 use crate::declaration::{assertion, declaration};
 use crate::knot::expr;
@@ -13,32 +23,39 @@ use parse_nodes::behind::{before, kept, pushed, with};
 use std::alloc::Global;
 use ub_base::{Boxed, Items};
 
-fn whole_expr(alloc: Global, tokens: &mut Cursor<'_>) -> Result<Expr, Refusal> {
+fn whole_expr(alloc: Global, tokens: &mut Cursor<'_>) -> Result<Expr, Refusal>
+    ensures { Reads (spec.whole_expr tokens.old) result tokens.new }
+{
     let turns = tokens.turns();
     expr(alloc, tokens, turns, COMMA)
 }
 
-fn in_parentheses(alloc: Global, tokens: &mut Cursor<'_>) -> Result<Expr, Refusal> {
+#[tactic(auto, unfolding(parse_spec::specs::Statements::in_parentheses))]
+fn in_parentheses(alloc: Global, tokens: &mut Cursor<'_>) -> Result<Expr, Refusal>
+    ensures { Reads (spec.in_parentheses tokens.old) result tokens.new }
+{
     tokens.expect(Mark::OpenParen)?;
-    expr_before(alloc, tokens, Mark::CloseParen)
-}
-
-/// An expression, and then this punctuator.
-fn expr_before(alloc: Global, tokens: &mut Cursor<'_>, end: Mark) -> Result<Expr, Refusal> {
     let value = whole_expr(alloc, tokens);
-    before(tokens, value, end)
+    before(tokens, value, Mark::CloseParen)
 }
 
 /// An expression or none, and then this punctuator.
-fn maybe_expr(alloc: Global, tokens: &mut Cursor<'_>, end: Mark) -> Result<Option<Expr>, Refusal> {
+#[tactic(auto, unfolding(parse_spec::specs::Statements::maybe_expr))]
+fn maybe_expr(alloc: Global, tokens: &mut Cursor<'_>, end: Mark) -> Result<Option<Expr>, Refusal>
+    ensures { Reads (spec.maybe_expr end tokens.old) result tokens.new }
+{
     if tokens.eat(end) {
         return Ok(None);
     }
-    Ok(Some(expr_before(alloc, tokens, end)?))
+    let value = whole_expr(alloc, tokens);
+    Ok(Some(before(tokens, value, end)?))
 }
 
 /// The first part of `for`, and its semicolon.
-fn for_init(alloc: Global, tokens: &mut Cursor<'_>) -> Result<ForInit, Refusal> {
+#[tactic(auto, unfolding(parse_spec::specs::Statements::for_init))]
+fn for_init(alloc: Global, tokens: &mut Cursor<'_>) -> Result<ForInit, Refusal>
+    ensures { Reads (spec.for_init tokens.old) result tokens.new }
+{
     if begins_declaration(tokens) {
         return Ok(ForInit::Declared(declaration(alloc, tokens)?));
     }
@@ -48,97 +65,92 @@ fn for_init(alloc: Global, tokens: &mut Cursor<'_>) -> Result<ForInit, Refusal> 
     }
 }
 
+fn boxed_init(alloc: Global, tokens: &mut Cursor<'_>) -> Result<Boxed<ForInit>, Refusal>
+    ensures { Reads (spec.for_init tokens.old) result tokens.new }
+{
+    let init = for_init(alloc, tokens)?;
+    Ok(Boxed::new(alloc, init)?)
+}
+
 /// After `goto`.
-fn goto_stmt(tokens: &mut Cursor<'_>) -> Result<Stmt, Refusal> {
+fn goto_stmt(tokens: &mut Cursor<'_>) -> Result<Stmt, Refusal>
+    ensures { Reads (and_then (steps.identifier tokens.old) (λ label. followed Mark.Semicolon (Stmt.Goto label))) result tokens.new }
+{
     let label = identifier(tokens)?;
-    tokens.expect(Mark::Semicolon)?;
-    Ok(Stmt::Goto(label))
+    kept(Stmt::Goto(label), tokens.expect(Mark::Semicolon))
 }
 
-/// At `continue`.
-fn continue_stmt(tokens: &mut Cursor<'_>) -> Result<Stmt, Refusal> {
-    let at = tokens.at();
-    tokens.take();
-    tokens.expect(Mark::Semicolon)?;
-    Ok(Stmt::Continue(at))
-}
-
-/// At `break`.
-fn break_stmt(tokens: &mut Cursor<'_>) -> Result<Stmt, Refusal> {
-    let at = tokens.at();
-    tokens.take();
-    tokens.expect(Mark::Semicolon)?;
-    Ok(Stmt::Break(at))
-}
-
-/// At `return`.
-fn return_stmt(alloc: Global, tokens: &mut Cursor<'_>) -> Result<Stmt, Refusal> {
-    let at = tokens.at();
-    tokens.take();
+/// After `return`, which stands at `at`.
+fn return_stmt(alloc: Global, tokens: &mut Cursor<'_>, at: u32) -> Result<Stmt, Refusal>
+    ensures { Reads (and_then (spec.maybe_expr Mark.Semicolon tokens.old) (λ value. pure (Stmt.Return at value))) result tokens.new }
+{
     let value = maybe_expr(alloc, tokens, Mark::Semicolon)?;
     Ok(Stmt::Return(at, value))
 }
 
-fn simple_stmt(alloc: Global, tokens: &mut Cursor<'_>) -> Result<Stmt, Refusal> {
+#[tactic(auto, unfolding(parse_spec::specs::Statements::simple_stmt))]
+fn simple_stmt(alloc: Global, tokens: &mut Cursor<'_>) -> Result<Stmt, Refusal>
+    ensures { Reads (spec.simple_stmt tokens.old) result tokens.new }
+{
     let value = maybe_expr(alloc, tokens, Mark::Semicolon)?;
     Ok(Stmt::Simple(value))
 }
 
 /// A statement that holds no other.
-fn plain_stmt(alloc: Global, tokens: &mut Cursor<'_>) -> Result<Stmt, Refusal> {
-    match tokens.word() {
-        Some(Word::Goto) => {
+#[tactic(auto, unfolding(parse_spec::specs::Statements::plain_stmt))]
+fn plain_stmt(alloc: Global, tokens: &mut Cursor<'_>) -> Result<Stmt, Refusal>
+    ensures { Reads (spec.plain_stmt tokens.old) result tokens.new }
+{
+    let at = tokens.at();
+    match tokens.peek() {
+        Some(TokenKind::Keyword(Word::Goto)) => {
             tokens.take();
             goto_stmt(tokens)
         }
-        Some(Word::Continue) => continue_stmt(tokens),
-        Some(Word::Break) => break_stmt(tokens),
-        Some(Word::Return) => return_stmt(alloc, tokens),
+        Some(TokenKind::Keyword(Word::Continue)) => {
+            tokens.take();
+            kept(Stmt::Continue(at), tokens.expect(Mark::Semicolon))
+        }
+        Some(TokenKind::Keyword(Word::Break)) => {
+            tokens.take();
+            kept(Stmt::Break(at), tokens.expect(Mark::Semicolon))
+        }
+        Some(TokenKind::Keyword(Word::Return)) => {
+            tokens.take();
+            return_stmt(alloc, tokens, at)
+        }
         _ => simple_stmt(alloc, tokens),
     }
 }
 
-/// The `while` of a `do`, its condition and the semicolon.
-fn do_test(alloc: Global, tokens: &mut Cursor<'_>) -> Result<Expr, Refusal> {
-    tokens.expect_word(Word::While)?;
-    let test = in_parentheses(alloc, tokens);
-    before(tokens, test, Mark::Semicolon)
-}
-
-/// The condition and the last part of `for`, and the parenthesis.
-fn for_tests(
-    alloc: Global,
-    tokens: &mut Cursor<'_>,
-) -> Result<(Option<Expr>, Option<Expr>), Refusal> {
-    let test = maybe_expr(alloc, tokens, Mark::Semicolon)?;
-    with(test, maybe_expr(alloc, tokens, Mark::CloseParen))
-}
-
-/// The opening parenthesis and the first part of `for`.
-fn for_start(alloc: Global, tokens: &mut Cursor<'_>) -> Result<Boxed<ForInit>, Refusal> {
-    tokens.expect(Mark::OpenParen)?;
-    let init = for_init(alloc, tokens)?;
-    Ok(Boxed::new(alloc, init)?)
-}
-
 /// The value of a `case` and the colon.
-fn case_value(alloc: Global, tokens: &mut Cursor<'_>) -> Result<Expr, Refusal> {
+#[tactic(auto, unfolding(parse_spec::specs::Statements::case_value))]
+fn case_value(alloc: Global, tokens: &mut Cursor<'_>) -> Result<Expr, Refusal>
+    ensures { Reads (spec.case_value tokens.old) result tokens.new }
+{
     let turns = tokens.turns();
     let value = expr(alloc, tokens, turns, CONDITIONAL);
     before(tokens, value, Mark::Colon)
 }
 
-fn assertion_entry(alloc: Global, tokens: &mut Cursor<'_>) -> Result<Entry, Refusal> {
+fn assertion_entry(alloc: Global, tokens: &mut Cursor<'_>) -> Result<Entry, Refusal>
+    ensures { Reads (and_then (declared.assertion tokens.old) (λ p. pure (Entry.Assertion p.0 p.1))) result tokens.new }
+{
     let (condition, message) = assertion(alloc, tokens)?;
     Ok(Entry::Assertion(condition, message))
 }
 
-fn declaration_entry(alloc: Global, tokens: &mut Cursor<'_>) -> Result<Entry, Refusal> {
+fn declaration_entry(alloc: Global, tokens: &mut Cursor<'_>) -> Result<Entry, Refusal>
+    ensures { Reads (and_then (declared.declaration tokens.old) (λ found. pure (Entry.Declaration found))) result tokens.new }
+{
     let found = declaration(alloc, tokens)?;
     Ok(Entry::Declaration(found))
 }
 
-fn is_label(tokens: &Cursor<'_>) -> bool {
+/// Whether a name and a colon come next.
+fn is_label(tokens: &Cursor<'_>) -> bool
+    ensures { result ≡ places.is_label tokens.now }
+{
     match (tokens.peek(), tokens.peek_after()) {
         (Some(TokenKind::Name), Some(TokenKind::Punct(Mark::Colon))) => true,
         _ => false,
@@ -157,6 +169,7 @@ pub struct Statements<S> {
 impl<S: Fn(Global, &mut Cursor<'_>, usize) -> Result<Stmt, Refusal>> Statements<S> {
     fn stmt(&self, tokens: &mut Cursor<'_>) -> Result<Stmt, Refusal>
         requires { NestsStmt self.now.depth (S.pre self.now.stmt) (S.post self.now.stmt) }
+        ensures { Reads (spec.statement self.now.depth tokens.old) result tokens.new }
     {
         (self.stmt)(self.alloc, tokens, self.depth)
     }
@@ -164,6 +177,7 @@ impl<S: Fn(Global, &mut Cursor<'_>, usize) -> Result<Stmt, Refusal>> Statements<
     /// A statement that is a block of its own: what is declared in it ends with it (6.8.4p3, 6.8.5p5).
     fn sub_stmt(&self, tokens: &mut Cursor<'_>) -> Result<Stmt, Refusal>
         requires { NestsStmt self.now.depth (S.pre self.now.stmt) (S.post self.now.stmt) }
+        ensures { Reads (scoped (spec.statement self.now.depth) tokens.old) result tokens.new }
     {
         let outer = tokens.open();
         let found = self.stmt(tokens);
@@ -173,6 +187,7 @@ impl<S: Fn(Global, &mut Cursor<'_>, usize) -> Result<Stmt, Refusal>> Statements<
 
     fn boxed_sub(&self, tokens: &mut Cursor<'_>) -> Result<Boxed<Stmt>, Refusal>
         requires { NestsStmt self.now.depth (S.pre self.now.stmt) (S.post self.now.stmt) }
+        ensures { Reads (scoped (spec.statement self.now.depth) tokens.old) result tokens.new }
     {
         let body = self.sub_stmt(tokens)?;
         Ok(Boxed::new(self.alloc, body)?)
@@ -180,14 +195,17 @@ impl<S: Fn(Global, &mut Cursor<'_>, usize) -> Result<Stmt, Refusal>> Statements<
 
     fn boxed_stmt(&self, tokens: &mut Cursor<'_>) -> Result<Boxed<Stmt>, Refusal>
         requires { NestsStmt self.now.depth (S.pre self.now.stmt) (S.post self.now.stmt) }
+        ensures { Reads (spec.statement self.now.depth tokens.old) result tokens.new }
     {
         let body = self.stmt(tokens)?;
         Ok(Boxed::new(self.alloc, body)?)
     }
 
     /// An `else` goes with the nearest `if` (6.8.4.1p3).
+    #[tactic(auto, unfolding(parse_spec::specs::Statements::else_part))]
     fn else_part(&self, tokens: &mut Cursor<'_>) -> Result<Option<Boxed<Stmt>>, Refusal>
         requires { NestsStmt self.now.depth (S.pre self.now.stmt) (S.post self.now.stmt) }
+        ensures { Reads (spec.else_part (spec.statement self.now.depth) tokens.old) result tokens.new }
     {
         if tokens.eat_word(Word::Else) {
             Ok(Some(self.boxed_sub(tokens)?))
@@ -196,28 +214,23 @@ impl<S: Fn(Global, &mut Cursor<'_>, usize) -> Result<Stmt, Refusal>> Statements<
         }
     }
 
-    fn if_branches(
-        &self,
-        tokens: &mut Cursor<'_>,
-    ) -> Result<(Boxed<Stmt>, Option<Boxed<Stmt>>), Refusal>
-        requires { NestsStmt self.now.depth (S.pre self.now.stmt) (S.post self.now.stmt) }
-    {
-        let yes = self.boxed_sub(tokens)?;
-        with(yes, self.else_part(tokens))
-    }
-
     /// After `if`.
+    #[tactic(auto, unfolding(parse_spec::specs::Statements::if_stmt))]
     fn if_stmt(&self, tokens: &mut Cursor<'_>) -> Result<Stmt, Refusal>
         requires { NestsStmt self.now.depth (S.pre self.now.stmt) (S.post self.now.stmt) }
+        ensures { Reads (spec.if_stmt (spec.statement self.now.depth) tokens.old) result tokens.new }
     {
         let test = in_parentheses(self.alloc, tokens)?;
-        let (test, (yes, no)) = with(test, self.if_branches(tokens))?;
+        let held = with(test, self.boxed_sub(tokens))?;
+        let ((test, yes), no) = with(held, self.else_part(tokens))?;
         Ok(Stmt::If(test, yes, no))
     }
 
     /// After `switch`.
+    #[tactic(auto, unfolding(parse_spec::specs::Statements::switch_stmt))]
     fn switch_stmt(&self, tokens: &mut Cursor<'_>) -> Result<Stmt, Refusal>
         requires { NestsStmt self.now.depth (S.pre self.now.stmt) (S.post self.now.stmt) }
+        ensures { Reads (spec.switch_stmt (spec.statement self.now.depth) tokens.old) result tokens.new }
     {
         let test = in_parentheses(self.alloc, tokens)?;
         let (test, body) = with(test, self.boxed_sub(tokens))?;
@@ -225,8 +238,10 @@ impl<S: Fn(Global, &mut Cursor<'_>, usize) -> Result<Stmt, Refusal>> Statements<
     }
 
     /// After `while`.
+    #[tactic(auto, unfolding(parse_spec::specs::Statements::while_stmt))]
     fn while_stmt(&self, tokens: &mut Cursor<'_>) -> Result<Stmt, Refusal>
         requires { NestsStmt self.now.depth (S.pre self.now.stmt) (S.post self.now.stmt) }
+        ensures { Reads (spec.while_stmt (spec.statement self.now.depth) tokens.old) result tokens.new }
     {
         let test = in_parentheses(self.alloc, tokens)?;
         let (test, body) = with(test, self.boxed_sub(tokens))?;
@@ -234,52 +249,53 @@ impl<S: Fn(Global, &mut Cursor<'_>, usize) -> Result<Stmt, Refusal>> Statements<
     }
 
     /// After `do`.
+    #[tactic(auto, unfolding(parse_spec::specs::Statements::do_stmt))]
     fn do_stmt(&self, tokens: &mut Cursor<'_>) -> Result<Stmt, Refusal>
         requires { NestsStmt self.now.depth (S.pre self.now.stmt) (S.post self.now.stmt) }
+        ensures { Reads (spec.do_stmt (spec.statement self.now.depth) tokens.old) result tokens.new }
     {
         let body = self.boxed_sub(tokens)?;
-        let (body, test) = with(body, do_test(self.alloc, tokens))?;
+        let body = kept(body, tokens.expect_word(Word::While))?;
+        let held = with(body, in_parentheses(self.alloc, tokens))?;
+        let (body, test) = kept(held, tokens.expect(Mark::Semicolon))?;
         Ok(Stmt::Do(body, test))
     }
 
     /// After `for`.
+    #[tactic(auto, unfolding(parse_spec::specs::Statements::for_stmt))]
     fn for_stmt(&self, tokens: &mut Cursor<'_>) -> Result<Stmt, Refusal>
         requires { NestsStmt self.now.depth (S.pre self.now.stmt) (S.post self.now.stmt) }
+        ensures { Reads (spec.for_stmt (spec.statement self.now.depth) tokens.old) result tokens.new }
     {
-        let init = for_start(self.alloc, tokens)?;
-        let (init, ((test, step), body)) = with(init, self.for_rest(tokens))?;
+        tokens.expect(Mark::OpenParen)?;
+        let init = boxed_init(self.alloc, tokens)?;
+        let held = with(init, maybe_expr(self.alloc, tokens, Mark::Semicolon))?;
+        let held = with(held, maybe_expr(self.alloc, tokens, Mark::CloseParen))?;
+        let (((init, test), step), body) = with(held, self.boxed_sub(tokens))?;
         Ok(Stmt::For(init, test, step, body))
-    }
-
-    /// Behind the first part of `for`.
-    fn for_rest(
-        &self,
-        tokens: &mut Cursor<'_>,
-    ) -> Result<((Option<Expr>, Option<Expr>), Boxed<Stmt>), Refusal>
-        requires { NestsStmt self.now.depth (S.pre self.now.stmt) (S.post self.now.stmt) }
-    {
-        let tests = for_tests(self.alloc, tokens)?;
-        with(tests, self.boxed_sub(tokens))
     }
 
     /// A selection or an iteration statement (6.8.4, 6.8.5).
     fn held_stmt(&self, tokens: &mut Cursor<'_>) -> Result<Stmt, Refusal>
         requires { NestsStmt self.now.depth (S.pre self.now.stmt) (S.post self.now.stmt) }
+        ensures { Reads (held_by (spec.statement self.now.depth) (kind tokens.old) (next tokens.old)) result tokens.new }
     {
-        let word = tokens.word();
+        let kind = tokens.peek();
         tokens.take();
-        match word {
-            Some(Word::If) => self.if_stmt(tokens),
-            Some(Word::Switch) => self.switch_stmt(tokens),
-            Some(Word::Do) => self.do_stmt(tokens),
-            Some(Word::For) => self.for_stmt(tokens),
+        match kind {
+            Some(TokenKind::Keyword(Word::If)) => self.if_stmt(tokens),
+            Some(TokenKind::Keyword(Word::Switch)) => self.switch_stmt(tokens),
+            Some(TokenKind::Keyword(Word::Do)) => self.do_stmt(tokens),
+            Some(TokenKind::Keyword(Word::For)) => self.for_stmt(tokens),
             _ => self.while_stmt(tokens),
         }
     }
 
     /// After the name of a label.
+    #[tactic(auto, unfolding(parse_spec::specs::Statements::label_stmt))]
     fn label_stmt(&self, tokens: &mut Cursor<'_>, label: u32) -> Result<Stmt, Refusal>
         requires { NestsStmt self.now.depth (S.pre self.now.stmt) (S.post self.now.stmt) }
+        ensures { Reads (spec.label_stmt (spec.statement self.now.depth) label tokens.old) result tokens.new }
     {
         tokens.expect(Mark::Colon)?;
         let body = self.boxed_stmt(tokens)?;
@@ -287,8 +303,10 @@ impl<S: Fn(Global, &mut Cursor<'_>, usize) -> Result<Stmt, Refusal>> Statements<
     }
 
     /// After `case`, which stands at `at`.
+    #[tactic(auto, unfolding(parse_spec::specs::Statements::case_stmt))]
     fn case_stmt(&self, tokens: &mut Cursor<'_>, at: u32) -> Result<Stmt, Refusal>
         requires { NestsStmt self.now.depth (S.pre self.now.stmt) (S.post self.now.stmt) }
+        ensures { Reads (spec.case_stmt (spec.statement self.now.depth) at tokens.old) result tokens.new }
     {
         let value = case_value(self.alloc, tokens)?;
         let (value, body) = with(value, self.boxed_stmt(tokens))?;
@@ -296,8 +314,10 @@ impl<S: Fn(Global, &mut Cursor<'_>, usize) -> Result<Stmt, Refusal>> Statements<
     }
 
     /// After `default`, which stands at `at`.
+    #[tactic(auto, unfolding(parse_spec::specs::Statements::default_stmt))]
     fn default_stmt(&self, tokens: &mut Cursor<'_>, at: u32) -> Result<Stmt, Refusal>
         requires { NestsStmt self.now.depth (S.pre self.now.stmt) (S.post self.now.stmt) }
+        ensures { Reads (spec.default_stmt (spec.statement self.now.depth) at tokens.old) result tokens.new }
     {
         tokens.expect(Mark::Colon)?;
         let body = self.boxed_stmt(tokens)?;
@@ -306,13 +326,17 @@ impl<S: Fn(Global, &mut Cursor<'_>, usize) -> Result<Stmt, Refusal>> Statements<
 
     fn statement_entry(&self, tokens: &mut Cursor<'_>) -> Result<Entry, Refusal>
         requires { NestsStmt self.now.depth (S.pre self.now.stmt) (S.post self.now.stmt) }
+        ensures { Reads (and_then (spec.statement self.now.depth tokens.old) (λ found. pure (Entry.Statement found))) result tokens.new }
     {
         let found = self.stmt(tokens)?;
         Ok(Entry::Statement(found))
     }
 
+    /// A block item (6.8.2). A name and a colon are a label, whatever the name is declared as.
+    #[tactic(auto, unfolding(parse_spec::specs::Statements::one_entry))]
     fn entry(&self, tokens: &mut Cursor<'_>) -> Result<Entry, Refusal>
         requires { NestsStmt self.now.depth (S.pre self.now.stmt) (S.post self.now.stmt) }
+        ensures { Reads (spec.one_entry (spec.statement self.now.depth) tokens.old) result tokens.new }
     {
         if tokens.sees_word(Word::StaticAssert) {
             assertion_entry(self.alloc, tokens)
@@ -326,6 +350,7 @@ impl<S: Fn(Global, &mut Cursor<'_>, usize) -> Result<Stmt, Refusal>> Statements<
     /// After the opening brace: the block items and the closing brace (6.8.2).
     pub fn entries(&self, tokens: &mut Cursor<'_>) -> Result<Items<Entry>, Refusal>
         requires { NestsStmt self.now.depth (S.pre self.now.stmt) (S.post self.now.stmt) }
+        ensures { Reads (spec.entries (spec.statement self.now.depth) tokens.old) result tokens.new }
     {
         let mut found = Items::new(self.alloc);
         for _turn in 0..tokens.turns() {
@@ -337,9 +362,11 @@ impl<S: Fn(Global, &mut Cursor<'_>, usize) -> Result<Stmt, Refusal>> Statements<
         kept(found, Err(tokens.refuse()))
     }
 
-    /// After the opening brace.
+    /// After the opening brace. What is declared in a block ends with it (6.2.1p4).
+    #[tactic(auto, unfolding(parse_spec::specs::Statements::block))]
     fn block(&self, tokens: &mut Cursor<'_>) -> Result<Stmt, Refusal>
         requires { NestsStmt self.now.depth (S.pre self.now.stmt) (S.post self.now.stmt) }
+        ensures { Reads (spec.block (spec.statement self.now.depth) tokens.old) result tokens.new }
     {
         let outer = tokens.open();
         let found = self.entries(tokens)?;
@@ -350,6 +377,7 @@ impl<S: Fn(Global, &mut Cursor<'_>, usize) -> Result<Stmt, Refusal>> Statements<
     /// A selection or an iteration statement. What is declared in it ends with it (6.8.4p3, 6.8.5p5).
     fn scoped_stmt(&self, tokens: &mut Cursor<'_>) -> Result<Stmt, Refusal>
         requires { NestsStmt self.now.depth (S.pre self.now.stmt) (S.post self.now.stmt) }
+        ensures { Reads (scoped (λ i. held_by (spec.statement self.now.depth) (kind i) (next i)) tokens.old) result tokens.new }
     {
         let outer = tokens.open();
         let found = self.held_stmt(tokens);
@@ -360,6 +388,7 @@ impl<S: Fn(Global, &mut Cursor<'_>, usize) -> Result<Stmt, Refusal>> Statements<
     /// A statement whose first token is no name that is a label.
     fn unlabelled(&self, tokens: &mut Cursor<'_>) -> Result<Stmt, Refusal>
         requires { NestsStmt self.now.depth (S.pre self.now.stmt) (S.post self.now.stmt) }
+        ensures { Reads (spec.unlabelled_by (spec.statement self.now.depth) tokens.old.at (kind tokens.old) tokens.old) result tokens.new }
     {
         let at = tokens.at();
         match tokens.peek() {
@@ -382,12 +411,13 @@ impl<S: Fn(Global, &mut Cursor<'_>, usize) -> Result<Stmt, Refusal>> Statements<
         }
     }
 
+    #[tactic(auto, unfolding(parse_spec::specs::Statements::one_stmt))]
     pub fn one_stmt(&self, tokens: &mut Cursor<'_>) -> Result<Stmt, Refusal>
         requires { NestsStmt self.now.depth (S.pre self.now.stmt) (S.post self.now.stmt) }
+        ensures { Reads (spec.one_stmt (spec.statement self.now.depth) tokens.old) result tokens.new }
     {
         if is_label(tokens) {
-            let label = tokens.at();
-            tokens.take();
+            let label = identifier(tokens)?;
             self.label_stmt(tokens, label)
         } else {
             self.unlabelled(tokens)
@@ -396,7 +426,9 @@ impl<S: Fn(Global, &mut Cursor<'_>, usize) -> Result<Stmt, Refusal>> Statements<
 }
 
 /// A statement, in which others nest no deeper than `depth`.
-pub fn stmt(alloc: Global, tokens: &mut Cursor<'_>, depth: usize) -> Result<Stmt, Refusal> {
+pub fn stmt(alloc: Global, tokens: &mut Cursor<'_>, depth: usize) -> Result<Stmt, Refusal>
+    ensures { Reads (spec.statement depth tokens.old) result tokens.new }
+{
     if depth == 0 {
         return Err(tokens.refuse());
     }
@@ -409,7 +441,10 @@ pub fn stmt(alloc: Global, tokens: &mut Cursor<'_>, depth: usize) -> Result<Stmt
 }
 
 /// After the opening brace of a function's body: the block items and the closing brace.
-pub fn body(alloc: Global, tokens: &mut Cursor<'_>) -> Result<Items<Entry>, Refusal> {
+#[tactic(auto, unfolding(parse_spec::specs::Statements::body))]
+pub fn body(alloc: Global, tokens: &mut Cursor<'_>) -> Result<Items<Entry>, Refusal>
+    ensures { Reads (spec.body tokens.old) result tokens.new }
+{
     let depth = tokens.turns();
     Statements { alloc, depth, stmt }.entries(tokens)
 }

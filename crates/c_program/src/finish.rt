@@ -1,13 +1,14 @@
 // The program, once all is declared (6.9p3, 6.9p5, 6.9.2).
-ghost use Rattle.std.specs.Prelude.{IfOk, IsTrue};
+ghost use Rattle.std.specs.Prelude.{IfOk};
 ghost use Rattle.std.specs.List.{All};
-ghost use Rattle.c_typed.specs.Lawful.{HasMain, MainHasType, IsExternal, LibraryIsExternal, HasBytes, LiteralsHaveBytes, StaticsAreComplete, IsNumbered};
+ghost use Rattle.c_typed.specs.Lawful.{HasMain, MainHasType, IsExternal, LibraryIsExternal, HasBytes, LiteralsHaveBytes, StaticsAreComplete, IsNumbered, IsLawful};
 
 use crate::lines::earlier;
 use crate::startup::main_of;
 use crate::statics::{Checked, program_statics};
 use c_scope::{Definition, FunctionRow, Literal, Source, State, TypeFault};
 use c_typed::{Function, Program};
+use lawful_program::is_lawful;
 use std::alloc::Global;
 use ub_base::{Bytes, Items, NoMemory};
 
@@ -99,20 +100,8 @@ fn program_literals(alloc: Global, rows: Vec<Literal>) -> Result<Items<Bytes>, N
     Ok(literals)
 }
 
-const MOST: usize = u32::MAX as usize;
-
-// Whether a number of 32 bits is left for each thing that has one.
-fn is_numbered(p: &Program) -> bool
-    ensures { IsTrue result → IsNumbered p.now }
-{
-    p.functions.len() <= MOST
-        && p.statics.len() <= MOST
-        && p.literals.len() <= MOST
-        && p.tags.len() <= MOST
-}
-
 /// The program of all that is declared; faulty where something that is used isn't defined, where something that is defined is
-/// incomplete, where there is no `main` (5.1.2.2.1, 6.9p5), or where there is more than numbers are left for (own).
+/// incomplete, where there is no `main` (5.1.2.2.1, 6.9p5), or where the program isn't lawful (own).
 pub fn finished(alloc: Global, source: &Source<'_>, state: State) -> Result<Program, TypeFault>
     ensures main { IfOk result HasMain }
     ensures main_type { IfOk result MainHasType }
@@ -120,6 +109,7 @@ pub fn finished(alloc: Global, source: &Source<'_>, state: State) -> Result<Prog
     ensures literals { IfOk result LiteralsHaveBytes }
     ensures complete { IfOk result StaticsAreComplete }
     ensures numbered { IfOk result IsNumbered }
+    ensures lawful { IfOk result IsLawful }
 {
     let State {
         alloc: _,
@@ -156,7 +146,7 @@ pub fn finished(alloc: Global, source: &Source<'_>, state: State) -> Result<Prog
         tags,
         main,
     };
-    if is_numbered(&program) {
+    if is_lawful(alloc, &program)? {
         Ok(program)
     } else {
         Err(TypeFault::NotTyped(source.last_line()))

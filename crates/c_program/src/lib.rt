@@ -7,4 +7,4 @@ mod startup;
 mod statics;
 
 pub use finish::{final_order, finished};
-pub use startup::is_main_type;
+pub use lawful_program::is_main_type;

@@ -1,6 +1,6 @@
 // External definitions (6.9).
 ghost use Rattle.std.specs.Prelude.{IfOk};
-ghost use Rattle.c_typed.specs.Lawful.{HasMain, MainHasType, LibraryIsExternal, LiteralsHaveBytes, StaticsAreComplete, IsNumbered};
+ghost use Rattle.c_typed.specs.Lawful.{HasMain, MainHasType, LibraryIsExternal, LiteralsHaveBytes, StaticsAreComplete, IsNumbered, IsLawful};
 
 use crate::block::{begun, function_type, named_part, near, no_initializer};
 use crate::statement::block_items;
@@ -299,6 +299,7 @@ pub fn resolve(alloc: Global, tokens: &Tokens<'_>, unit: &Unit) -> Result<Progra
     ensures literals { IfOk result LiteralsHaveBytes }
     ensures complete { IfOk result StaticsAreComplete }
     ensures numbered { IfOk result IsNumbered }
+    ensures lawful { IfOk result IsLawful }
 {
     let source = Source::new(alloc, tokens)?;
     let state = all_declared(alloc, &source, unit, Vec::new(alloc))?;

@@ -1,9 +1,4 @@
 // Statements (6.8).
-ghost use Rattle.std.specs.Prelude.{◌≡◌, ◌||◌, ◌==◌, ℕ, not, IfOk, OnOk};
-ghost use Rattle.std.specs.BTreeSet.{contains};
-ghost use Rattle.std.specs.Ordering.{nat_cmp};
-ghost use Rattle.c_resolve.specs.Labels.{number_of};
-
 use crate::block::{local_declaration, loop_declaration};
 use c_arith::convert;
 use c_ast::{Entry as SyntaxEntry, Expr, ForInit, Stmt};
@@ -13,8 +8,9 @@ use c_expression::expression::{constant, expression};
 use c_scope::{OpenSwitch, Source, State, TypeFault, placed};
 use c_typed::{Block, Body, Entry, ForStart, Typed};
 use c_types::{IntKind, Ty};
+use c_values::take_label;
 use std::collections::BTreeSet;
-use ub_base::{Boxed, Items, NoMemory};
+use ub_base::{Boxed, Items};
 
 // A full expression whose value isn't used (6.8.3p2).
 fn unused(source: &Source<'_>, state: &mut State, e: &Expr) -> Result<Typed, TypeFault> {
@@ -94,21 +90,6 @@ fn define_label(source: &Source<'_>, state: &mut State, at: u32) -> Result<u32, 
     }
 }
 
-// The number that stands for the value of a label in the set of a `switch`.
-fn number_of(value: i128) -> u64
-    ensures { result ≡ number_of value }
-{
-    u64::try_from(convert(IntKind::ULong, value)).unwrap_or(0)
-}
-
-// Takes the value of a label; false where another label of the `switch` has it already (6.8.4.2p3).
-fn take_label(switch: &mut OpenSwitch, value: i128) -> Result<bool, NoMemory>
-    ensures fresh { IfOk result (λ fresh. fresh ≡ not (contains nat_cmp switch.old.values (number_of value))) }
-    ensures taken { OnOk result ((n : ℕ) → contains nat_cmp switch.new.values n ≡ (contains nat_cmp switch.old.values n || n == number_of value)) }
-{
-    Ok(switch.values.insert(number_of(value))?)
-}
-
 // The value of a case label in the promoted type of its `switch`, where no other label has it (6.8.4.2p3, 6.8.4.2p5).
 fn case_value(
     source: &Source<'_>,
@@ -121,7 +102,7 @@ fn case_value(
         return Err(source.fault(at));
     };
     let number = convert(switch.kind, number);
-    if take_label(switch, number)? {
+    if take_label(&mut switch.values, number)? {
         Ok(number)
     } else {
         Err(source.fault(at))

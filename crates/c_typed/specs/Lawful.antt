@@ -132,11 +132,30 @@ AccessIs tags (struct tag) a = There (extent (extents tags) (struct tag)) (λ e.
 AccessIs tags (union tag) a = There (extent (extents tags) (union tag)) (λ e. (0 < e.size) × (a ≡ access.Whole e.size e.align))
 AccessIs tags _ a = ⊥
 
+-- this type, with its qualifier, is that of the object, or, where that is an array, of its first element, and so on
+abbrev pub PointsInto : Bool → CType → Bool → CType → Type 0
+PointsInto c t d (array q element count) = ((c ≡ d) × Compatible t (array q element count)) ⊎ PointsInto c t q element
+PointsInto c t d object = (c ≡ d) × Compatible t object
+
 -- a pointer to an object of this type, or to the first element of one that is an array (6.3.2.1p3)
 abbrev pub PointsTo : CType → CType → Type 0
-PointsTo (pointer c t) (array d element count) = Compatible t (array d element count) ⊎ ((c ≡ d) × Compatible t element)
+PointsTo (pointer c t) (array d element count) = Compatible t (array d element count) ⊎ PointsInto c t d element
 PointsTo (pointer c t) object = Compatible t object
 PointsTo _ object = ⊥
+
+-- a pointer to an object of this type, or, where it is an array, to its first element, and so on (6.3.2.1p3)
+abbrev pub FirstOf : CType → Bool → CType → Type 0
+FirstOf own c (array q t count) = (own ≡ pointer c (array q t count)) ⊎ FirstOf own q t
+FirstOf own c t = own ≡ pointer c t
+
+-- a value of the other type; where that is a pointer whose array is used, it is a pointer to the first element
+abbrev pub Gives : CType → CType → Type 0
+Gives own (pointer c t) = FirstOf own c t
+Gives own t = own ≡ t
+
+abbrev pub IsPointer : CType → Type 0
+IsPointer (pointer c t) = Unit {0}
+IsPointer _ = ⊥
 
 -- an integer that its type holds, or a null pointer (6.3.2.3p3)
 abbrev pub IsConstant : CType → ℤ → Type 0
@@ -171,7 +190,8 @@ IsFunctionType _ = ⊥
 abbrev pub NoFunction : CType → Type 0
 NoFunction t = IsFunctionType t → ⊥
 
--- a conversion between scalar types that aren't equal (6.3.1, 6.3.2.3)
+-- a conversion between scalar types, which aren't equal but where the array that a pointer is converted to is used
+-- (6.3.1, 6.3.2.3)
 abbrev pub Converts : List Tag → Conversion → CType → CType → Type 0
 Converts tags (conversion.Integer kind) from to = IsInteger from × (kind_of to ≡ Some kind)
 Converts tags (conversion.Address kind) (pointer c t) to = NoFunction t × (kind_of to ≡ Some kind) × (kind ≢ Boolean)
@@ -228,17 +248,17 @@ Passed (more c param ps) variadic [] = ⊥
 Passed (more c param ps) variadic (a ∷ arguments) = (a ≡ param) × Passed ps variadic arguments
 
 abbrev pub CallTypes : CType → CType → List CType → Type 0
-CallTypes own (pointer c (function result params variadic)) arguments = (own ≡ result) × Passed params variadic arguments
+CallTypes own (pointer c (function result params variadic)) arguments = Gives own result × Passed params variadic arguments
 CallTypes own _ arguments = ⊥
 
--- a branch of `?:` has the type of the whole, where that isn't `void` (6.5.15p5)
+-- a branch of `?:` gives what the whole gives, where that isn't `void` (6.5.15p5)
 abbrev pub BranchIs : CType → CType → Type 0
 BranchIs void branch = Unit {0}
-BranchIs own branch = branch ≡ own
+BranchIs own branch = Gives own branch
 
 abbrev pub LastIs : CType → List CType → Type 0
 LastIs own [] = ⊥
-LastIs own (t ∷ []) = own ≡ t
+LastIs own (t ∷ []) = Gives own t
 LastIs own (t ∷ ts) = LastIs own ts
 
 -- the parts of an object of so many bytes: inside it, and none over another
@@ -271,8 +291,8 @@ TypesAre p blocks (shape.Const z) own [] = IsConstant own z
 TypesAre p blocks (shape.Obj slot) own [] = There (object_at p blocks slot) (λ object. PointsTo own object.ty)
 TypesAre p blocks (shape.Func number) own [] = FunctionIs (slice_get p.functions number) own
 TypesAre p blocks (shape.Str number) own [] = There (slice_get p.literals number) (λ bytes. PointsTo own (literal_type (length bytes)))
-TypesAre p blocks (shape.Load a) own (pointer c t ∷ []) = (own ≡ t) × AccessIs p.tags t a
-TypesAre p blocks (shape.Conv c) own (from ∷ []) = Converts p.tags c from own × (from ≢ own)
+TypesAre p blocks (shape.Load a) own (pointer c t ∷ []) = Gives own t × AccessIs p.tags t a
+TypesAre p blocks (shape.Conv c) own (from ∷ []) = Converts p.tags c from own × ((from ≢ own) ⊎ IsPointer own)
 TypesAre p blocks (shape.Un op) own (t ∷ []) = UnaryTypes op own t
 TypesAre p blocks (shape.Bin op kind) own (left ∷ right ∷ []) =
     IsPromoted kind × (left ≡ int kind) × RightIs (is_shift op) kind right × (own ≡ int kind)
@@ -287,8 +307,8 @@ TypesAre p blocks (shape.Member offset) own (t ∷ []) = MemberOf p.tags offset 
 TypesAre p blocks (shape.Part offset a) own (t ∷ []) = IsTagged t × LiesIn p.tags offset own t × AccessIs p.tags own a
 -- only an initialization stores to what is const (6.5.16p2)
 TypesAre p blocks (shape.Assign initializing a) own (pointer c t ∷ value ∷ []) =
-    (own ≡ t) × (value ≡ t) × AccessIs p.tags t a × (IsTrue c → IsTrue initializing)
-TypesAre p blocks (shape.Update change old) own (pointer c t ∷ rest) = (own ≡ t) × (c ≡ false) × UpdateTypes p.tags change t rest
+    Gives own t × (value ≡ t) × AccessIs p.tags t a × (IsTrue c → IsTrue initializing)
+TypesAre p blocks (shape.Update change old) own (pointer c t ∷ rest) = Gives own t × (c ≡ false) × UpdateTypes p.tags change t rest
 TypesAre p blocks shape.And own (a ∷ b ∷ []) = (own ≡ int Int) × IsScalar a × IsScalar b
 TypesAre p blocks shape.Or own (a ∷ b ∷ []) = (own ≡ int Int) × IsScalar a × IsScalar b
 TypesAre p blocks shape.Cond own (test ∷ a ∷ b ∷ []) = IsScalar test × BranchIs own a × BranchIs own b

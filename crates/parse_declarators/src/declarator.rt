@@ -1,11 +1,16 @@
 //! Declarators (6.7.6) and abstract declarators (6.7.7).
 
-ghost use Rattle.std.specs.Prelude.{◌≡◌, Some, None};
-ghost use Rattle.c_cursor.specs.Places.{mode_of, allowed_in};
-ghost use Rattle.c_cursor.specs.Reads.{Reads};
-ghost use Rattle.parse_nodes.specs.Nests.{NestsExpr, NestsDeclarator, NestsSpecs};
+ghost use Rattle.std.specs.Prelude.{◌≡◌, [], OnOk, IfErr};
+ghost use Rattle.c_grammar.specs.Grammar as grammar;
 ghost use Rattle.parse_spec.specs.Declarators as spec;
 ghost use Rattle.parse_spec.specs.Nested as nested;
+ghost use Rattle.parse_spec.specs.Places.{opens_suffix};
+ghost use Rattle.parse_spec.specs.Steps.{turns};
+ghost use Rattle.c_cursor.specs.Places.{mode_of};
+ghost use Rattle.c_cursor.specs.Reads.{Reads};
+ghost use Rattle.parse_nodes.specs.Nests.{NestsExpr, NestsDeclarator, NestsSpecs};
+ghost use Rattle.parse_declarators.specs.Naming.{named_at};
+ghost use Rattle.parse_declarators.specs.Parts as parts;
 
 use crate::nested::Declarators;
 use c_ast::{Declarator, Expr, Param, Specs};
@@ -19,7 +24,9 @@ use std::alloc::Global;
 use ub_base::Items;
 
 /// The name that a declarator declares.
-pub fn name_of(declarator: &Declarator) -> Option<u32> {
+pub fn name_of(declarator: &Declarator) -> Option<u32>
+    ensures { result ≡ grammar.name_of declarator.now }
+{
     match declarator {
         Declarator::Ident(name) => *name,
         Declarator::Pointer(_, inner) => name_of(inner.get()),
@@ -33,36 +40,47 @@ pub fn declare_named(
     tokens: &mut Cursor<'_>,
     declarator: &Declarator,
     typedef: bool,
-) -> Result<(), Refusal> {
+) -> Result<(), Refusal>
+    ensures ok { OnOk result (tokens.new ≡ named_at typedef (grammar.name_of declarator.now) tokens.old) }
+    ensures err { IfErr result (λ e. e ≡ Refusal.NoMemory) }
+{
     match name_of(declarator) {
         Some(at) => tokens.declare(at, typedef),
         None => Ok(()),
     }
 }
 
-fn is_suffix(mark: Option<Mark>) -> bool {
-    match mark {
-        Some(Mark::OpenBracket | Mark::OpenParen) => true,
+fn is_suffix(kind: Option<TokenKind>) -> bool
+    ensures { result ≡ opens_suffix kind }
+{
+    match kind {
+        Some(TokenKind::Punct(Mark::OpenBracket | Mark::OpenParen)) => true,
         _ => false,
     }
 }
 
 /// Whether the parameters that follow are those of the function that the declarator names.
-fn is_own_name(declarator: &Declarator) -> bool {
+fn is_own_name(declarator: &Declarator) -> bool
+    ensures { result ≡ spec.is_own_name declarator.now }
+{
     match declarator {
         Declarator::Ident(Some(_)) => true,
         _ => false,
     }
 }
 
-fn no_name(mode: Mode, tokens: &Cursor<'_>) -> Result<Declarator, Refusal> {
+fn no_name(mode: Mode, tokens: &Cursor<'_>) -> Result<Declarator, Refusal>
+    ensures { Reads (spec.nameless (mode_of mode) tokens.now) result tokens.now }
+{
     match mode {
         Mode::Named => Err(tokens.refuse()),
         _ => Ok(Declarator::Ident(None)),
     }
 }
 
-fn name(mode: Mode, tokens: &mut Cursor<'_>) -> Result<Declarator, Refusal> {
+fn name(mode: Mode, tokens: &mut Cursor<'_>) -> Result<Declarator, Refusal>
+    ensures { Reads (spec.named (mode_of mode) tokens.old) result tokens.new }
+{
     match mode {
         Mode::Abstract => Ok(Declarator::Ident(None)),
         _ => {
@@ -80,15 +98,18 @@ impl<
 > Declarators<F, G, H> {
     fn parameter_declarator(&self, tokens: &mut Cursor<'_>) -> Result<Declarator, Refusal>
         requires { NestsDeclarator self.now.depth (G.pre self.now.declarator) (G.post self.now.declarator) }
+        ensures { Reads (parts.parameter_declarator (nested.declarator self.now.depth) tokens.old) result tokens.new }
     {
         let found = self.declarator(tokens, Mode::Either)?;
         let declared = declare_named(tokens, &found, false);
         kept(found, declared)
     }
 
+    #[tactic(auto, unfolding(parse_spec::specs::Declarators::one_parameter))]
     fn parameter(&self, tokens: &mut Cursor<'_>) -> Result<Param, Refusal>
         requires declarator { NestsDeclarator self.now.depth (G.pre self.now.declarator) (G.post self.now.declarator) }
         requires specs { NestsSpecs self.now.depth (H.pre self.now.specs) (H.post self.now.specs) }
+        ensures { Reads (spec.one_parameter (nested.expr self.now.depth) (nested.declarator self.now.depth) (nested.specs self.now.depth) tokens.old) result tokens.new }
     {
         let specs = self.specs(tokens, Place::Declaration)?;
         let (specs, declarator) = with(specs, self.parameter_declarator(tokens))?;
@@ -99,6 +120,7 @@ impl<
     fn parameter_list(&self, tokens: &mut Cursor<'_>) -> Result<(Items<Param>, bool), Refusal>
         requires declarator { NestsDeclarator self.now.depth (G.pre self.now.declarator) (G.post self.now.declarator) }
         requires specs { NestsSpecs self.now.depth (H.pre self.now.specs) (H.post self.now.specs) }
+        ensures { Reads (spec.parameters_from (nested.expr self.now.depth) (nested.declarator self.now.depth) (nested.specs self.now.depth) (turns tokens.old) [] tokens.old) result tokens.new }
     {
         let mut found = Items::new(self.alloc);
         for _turn in 0..tokens.turns() {
@@ -113,9 +135,11 @@ impl<
         with(found, Err(tokens.refuse()))
     }
 
+    #[tactic(auto, unfolding(parse_spec::specs::Declarators::parameters))]
     fn parameters(&self, tokens: &mut Cursor<'_>) -> Result<(Items<Param>, bool), Refusal>
         requires declarator { NestsDeclarator self.now.depth (G.pre self.now.declarator) (G.post self.now.declarator) }
         requires specs { NestsSpecs self.now.depth (H.pre self.now.specs) (H.post self.now.specs) }
+        ensures { Reads (spec.parameters (nested.expr self.now.depth) (nested.declarator self.now.depth) (nested.specs self.now.depth) tokens.old) result tokens.new }
     {
         if tokens.sees(Mark::CloseParen) {
             Ok((Items::new(self.alloc), false))
@@ -126,27 +150,31 @@ impl<
 
     fn array_size(&self, tokens: &mut Cursor<'_>) -> Result<Expr, Refusal>
         requires { NestsExpr self.now.depth (F.pre self.now.expr) (F.post self.now.expr) }
+        ensures { Reads (parts.array_size (nested.expr self.now.depth) tokens.old) result tokens.new }
     {
         let prototype = tokens.take_prototype(self.alloc);
-        let size = self.expr(tokens, ASSIGNMENT);
+        let size = self.expr(tokens, ASSIGNMENT)?;
         tokens.set_prototype(prototype);
-        before(tokens, size, Mark::CloseBracket)
+        before(tokens, Ok(size), Mark::CloseBracket)
     }
 
     fn sized(&self, tokens: &mut Cursor<'_>, inner: Declarator) -> Result<Declarator, Refusal>
         requires { NestsExpr self.now.depth (F.pre self.now.expr) (F.post self.now.expr) }
+        ensures { Reads (parts.sized (nested.expr self.now.depth) inner tokens.old) result tokens.new }
     {
         let (inner, size) = with(inner, self.array_size(tokens))?;
         Ok(make::array_of(self.alloc, inner, size)?)
     }
 
     /// After the opening bracket.
+    #[tactic(auto, unfolding(parse_spec::specs::Declarators::array_suffix))]
     fn array_suffix(
         &self,
         tokens: &mut Cursor<'_>,
         inner: Declarator,
     ) -> Result<Declarator, Refusal>
         requires { NestsExpr self.now.depth (F.pre self.now.expr) (F.post self.now.expr) }
+        ensures { Reads (spec.array_suffix (nested.expr self.now.depth) (nested.declarator self.now.depth) (nested.specs self.now.depth) inner tokens.old) result tokens.new }
     {
         if tokens.eat(Mark::CloseBracket) {
             Ok(make::array(self.alloc, inner)?)
@@ -159,6 +187,7 @@ impl<
     fn prototype(&self, tokens: &mut Cursor<'_>, own: bool) -> Result<(Items<Param>, bool), Refusal>
         requires declarator { NestsDeclarator self.now.depth (G.pre self.now.declarator) (G.post self.now.declarator) }
         requires specs { NestsSpecs self.now.depth (H.pre self.now.specs) (H.post self.now.specs) }
+        ensures { Reads (parts.closed_prototype own (spec.parameters (nested.expr self.now.depth) (nested.declarator self.now.depth) (nested.specs self.now.depth)) tokens.old) result tokens.new }
     {
         let outer = tokens.open();
         let saved = tokens.take_prototype(self.alloc);
@@ -168,6 +197,7 @@ impl<
     }
 
     /// After the opening parenthesis.
+    #[tactic(auto, unfolding(parse_spec::specs::Declarators::function_suffix))]
     fn function_suffix(
         &self,
         tokens: &mut Cursor<'_>,
@@ -175,16 +205,19 @@ impl<
     ) -> Result<Declarator, Refusal>
         requires declarator { NestsDeclarator self.now.depth (G.pre self.now.declarator) (G.post self.now.declarator) }
         requires specs { NestsSpecs self.now.depth (H.pre self.now.specs) (H.post self.now.specs) }
+        ensures { Reads (spec.function_suffix (nested.expr self.now.depth) (nested.declarator self.now.depth) (nested.specs self.now.depth) inner tokens.old) result tokens.new }
     {
         let own = is_own_name(&inner);
         let (inner, (params, ellipsis)) = with(inner, self.prototype(tokens, own))?;
         Ok(make::function(self.alloc, inner, params, ellipsis)?)
     }
 
+    #[tactic(auto, unfolding(parse_spec::specs::Declarators::one_suffix))]
     fn suffix(&self, tokens: &mut Cursor<'_>, inner: Declarator) -> Result<Declarator, Refusal>
         requires expr { NestsExpr self.now.depth (F.pre self.now.expr) (F.post self.now.expr) }
         requires declarator { NestsDeclarator self.now.depth (G.pre self.now.declarator) (G.post self.now.declarator) }
         requires specs { NestsSpecs self.now.depth (H.pre self.now.specs) (H.post self.now.specs) }
+        ensures { Reads (spec.one_suffix (nested.expr self.now.depth) (nested.declarator self.now.depth) (nested.specs self.now.depth) inner tokens.old) result tokens.new }
     {
         if tokens.eat(Mark::OpenBracket) {
             self.array_suffix(tokens, inner)
@@ -202,9 +235,10 @@ impl<
         requires expr { NestsExpr self.now.depth (F.pre self.now.expr) (F.post self.now.expr) }
         requires declarator { NestsDeclarator self.now.depth (G.pre self.now.declarator) (G.post self.now.declarator) }
         requires specs { NestsSpecs self.now.depth (H.pre self.now.specs) (H.post self.now.specs) }
+        ensures { Reads (spec.suffixes (nested.expr self.now.depth) (nested.declarator self.now.depth) (nested.specs self.now.depth) inner tokens.old) result tokens.new }
     {
         for _turn in 0..tokens.turns() {
-            if !is_suffix(tokens.mark()) {
+            if !is_suffix(tokens.peek()) {
                 return Ok(inner);
             }
             inner = self.suffix(tokens, inner)?;
@@ -213,15 +247,19 @@ impl<
     }
 
     /// After the opening parenthesis.
+    #[tactic(auto, unfolding(parse_spec::specs::Declarators::nested))]
     fn nested(&self, tokens: &mut Cursor<'_>, mode: Mode) -> Result<Declarator, Refusal>
         requires { NestsDeclarator self.now.depth (G.pre self.now.declarator) (G.post self.now.declarator) }
+        ensures { Reads (spec.nested (nested.expr self.now.depth) (nested.declarator self.now.depth) (nested.specs self.now.depth) (mode_of mode) tokens.old) result tokens.new }
     {
         let inner = self.declarator(tokens, mode);
         before(tokens, inner, Mark::CloseParen)
     }
 
+    #[tactic(auto, unfolding(parse_spec::specs::Declarators::innermost))]
     fn base(&self, tokens: &mut Cursor<'_>, mode: Mode) -> Result<Declarator, Refusal>
         requires { NestsDeclarator self.now.depth (G.pre self.now.declarator) (G.post self.now.declarator) }
+        ensures { Reads (spec.innermost (nested.expr self.now.depth) (nested.declarator self.now.depth) (nested.specs self.now.depth) (mode_of mode) tokens.old) result tokens.new }
     {
         match tokens.peek() {
             Some(TokenKind::Name) => name(mode, tokens),
@@ -237,18 +275,22 @@ impl<
     }
 
     /// After the star.
+    #[tactic(auto, unfolding(parse_spec::specs::Declarators::pointed))]
     fn pointed(&self, tokens: &mut Cursor<'_>, mode: Mode) -> Result<Declarator, Refusal>
         requires { NestsDeclarator self.now.depth (G.pre self.now.declarator) (G.post self.now.declarator) }
+        ensures { Reads (spec.pointed (nested.expr self.now.depth) (nested.declarator self.now.depth) (nested.specs self.now.depth) (mode_of mode) tokens.old) result tokens.new }
     {
         let words = qualifiers(self.alloc, tokens)?;
         let (words, inner) = with(words, self.declarator(tokens, mode))?;
         Ok(make::pointer(self.alloc, words, inner)?)
     }
 
+    #[tactic(auto, unfolding(parse_spec::specs::Declarators::one_declarator))]
     pub fn one_declarator(&self, tokens: &mut Cursor<'_>, mode: Mode) -> Result<Declarator, Refusal>
         requires expr { NestsExpr self.now.depth (F.pre self.now.expr) (F.post self.now.expr) }
         requires declarator { NestsDeclarator self.now.depth (G.pre self.now.declarator) (G.post self.now.declarator) }
         requires specs { NestsSpecs self.now.depth (H.pre self.now.specs) (H.post self.now.specs) }
+        ensures { Reads (spec.one_declarator (nested.expr self.now.depth) (nested.declarator self.now.depth) (nested.specs self.now.depth) (mode_of mode) tokens.old) result tokens.new }
     {
         if tokens.eat(Mark::Star) {
             self.pointed(tokens, mode)

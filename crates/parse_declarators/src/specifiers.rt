@@ -1,11 +1,13 @@
 //! Specifiers, and the structures, unions and enumerations among them (6.7.2).
 
-ghost use Rattle.std.specs.Prelude.{◌≡◌, Some, None};
-ghost use Rattle.c_cursor.specs.Places.{mode_of, allowed_in};
+ghost use Rattle.std.specs.Prelude.{[]};
+ghost use Rattle.parse_spec.specs.Nested as nested;
+ghost use Rattle.parse_spec.specs.Specifiers as spec;
+ghost use Rattle.parse_spec.specs.Steps.{turns};
+ghost use Rattle.c_cursor.specs.Places.{allowed_in};
 ghost use Rattle.c_cursor.specs.Reads.{Reads};
 ghost use Rattle.parse_nodes.specs.Nests.{NestsExpr, NestsDeclarator, NestsSpecs};
-ghost use Rattle.parse_spec.specs.Specifiers as spec;
-ghost use Rattle.parse_spec.specs.Nested as nested;
+ghost use Rattle.parse_declarators.specs.Parts as parts;
 
 use crate::nested::Declarators;
 use c_ast::{Base, Declarator, Enumerator, Expr, MemberEntry, Specs};
@@ -18,7 +20,10 @@ use std::alloc::Global;
 use ub_base::Items;
 
 /// The message of a static assertion, the parenthesis and the semicolon.
-fn message(tokens: &mut Cursor<'_>) -> Result<u32, Refusal> {
+#[tactic(auto, unfolding(parse_spec::specs::Specifiers::message))]
+fn message(tokens: &mut Cursor<'_>) -> Result<u32, Refusal>
+    ensures { Reads (spec.message tokens.old) result tokens.new }
+{
     let message = tokens.at();
     strings(tokens)?;
     tokens.expect(Mark::CloseParen)?;
@@ -32,7 +37,9 @@ fn words_behind(
     tokens: &mut Cursor<'_>,
     place: Place,
     words: Items<Word>,
-) -> Result<Items<Word>, Refusal> {
+) -> Result<Items<Word>, Refusal>
+    ensures { Reads (parts.words_behind (allowed_in place) words tokens.old) result tokens.new }
+{
     let (mut words, more) = with(words, specifier_words(alloc, tokens, place))?;
     words.append(more)?;
     Ok(words)
@@ -45,13 +52,17 @@ fn specs_behind(
     place: Place,
     words: Items<Word>,
     base: Base,
-) -> Result<Specs, Refusal> {
+) -> Result<Specs, Refusal>
+    ensures { Reads (parts.specs_behind (allowed_in place) words base tokens.old) result tokens.new }
+{
     let (base, words) = with(base, words_behind(alloc, tokens, place, words))?;
     Ok(Specs { words, base })
 }
 
 /// At least one token was taken since this one.
-fn taken(tokens: &Cursor<'_>, first: u32) -> Result<(), Refusal> {
+fn taken(tokens: &Cursor<'_>, first: u32) -> Result<(), Refusal>
+    ensures { Reads (parts.taken first tokens.now) result tokens.now }
+{
     if tokens.at() == first {
         Err(tokens.refuse())
     } else {
@@ -67,6 +78,7 @@ impl<
     /// The condition of a static assertion, up to the comma.
     fn condition(&self, tokens: &mut Cursor<'_>) -> Result<Expr, Refusal>
         requires { NestsExpr self.now.depth (F.pre self.now.expr) (F.post self.now.expr) }
+        ensures { Reads (parts.condition (nested.expr self.now.depth) tokens.old) result tokens.new }
     {
         tokens.expect_word(Word::StaticAssert)?;
         tokens.expect(Mark::OpenParen)?;
@@ -75,8 +87,10 @@ impl<
     }
 
     /// A static assertion (6.7.10): its condition, and the first string literal of its message.
+    #[tactic(auto, unfolding(parse_spec::specs::Specifiers::assertion))]
     pub fn assertion(&self, tokens: &mut Cursor<'_>) -> Result<(Expr, u32), Refusal>
         requires { NestsExpr self.now.depth (F.pre self.now.expr) (F.post self.now.expr) }
+        ensures { Reads (spec.assertion (nested.expr self.now.depth) (nested.declarator self.now.depth) (nested.specs self.now.depth) tokens.old) result tokens.new }
     {
         let condition = self.condition(tokens)?;
         with(condition, message(tokens))
@@ -84,6 +98,7 @@ impl<
 
     fn member_assertion(&self, tokens: &mut Cursor<'_>) -> Result<MemberEntry, Refusal>
         requires { NestsExpr self.now.depth (F.pre self.now.expr) (F.post self.now.expr) }
+        ensures { Reads (parts.member_assertion (spec.assertion (nested.expr self.now.depth) (nested.declarator self.now.depth) (nested.specs self.now.depth)) tokens.old) result tokens.new }
     {
         let (condition, message) = self.assertion(tokens)?;
         Ok(MemberEntry::Assertion(condition, message))
@@ -91,6 +106,7 @@ impl<
 
     fn member_names(&self, tokens: &mut Cursor<'_>) -> Result<Items<Declarator>, Refusal>
         requires { NestsDeclarator self.now.depth (G.pre self.now.declarator) (G.post self.now.declarator) }
+        ensures { Reads (spec.names_from (nested.expr self.now.depth) (nested.declarator self.now.depth) (nested.specs self.now.depth) (turns tokens.old) [] tokens.old) result tokens.new }
     {
         let mut found = Items::new(self.alloc);
         for _turn in 0..tokens.turns() {
@@ -103,8 +119,10 @@ impl<
     }
 
     /// The declarators of members, or none, and the semicolon.
+    #[tactic(auto, unfolding(parse_spec::specs::Specifiers::member_names))]
     fn maybe_names(&self, tokens: &mut Cursor<'_>) -> Result<Items<Declarator>, Refusal>
         requires { NestsDeclarator self.now.depth (G.pre self.now.declarator) (G.post self.now.declarator) }
+        ensures { Reads (spec.member_names (nested.expr self.now.depth) (nested.declarator self.now.depth) (nested.specs self.now.depth) tokens.old) result tokens.new }
     {
         if tokens.eat(Mark::Semicolon) {
             return Ok(Items::new(self.alloc));
@@ -116,16 +134,19 @@ impl<
     fn fields(&self, tokens: &mut Cursor<'_>) -> Result<MemberEntry, Refusal>
         requires declarator { NestsDeclarator self.now.depth (G.pre self.now.declarator) (G.post self.now.declarator) }
         requires specs { NestsSpecs self.now.depth (H.pre self.now.specs) (H.post self.now.specs) }
+        ensures { Reads (parts.fields (nested.specs self.now.depth) (spec.member_names (nested.expr self.now.depth) (nested.declarator self.now.depth) (nested.specs self.now.depth)) tokens.old) result tokens.new }
     {
         let specs = self.specs(tokens, Place::Qualified)?;
         let (specs, names) = with(specs, self.maybe_names(tokens))?;
         Ok(MemberEntry::Fields(specs, names))
     }
 
+    #[tactic(auto, unfolding(parse_spec::specs::Specifiers::one_member))]
     fn member(&self, tokens: &mut Cursor<'_>) -> Result<MemberEntry, Refusal>
         requires expr { NestsExpr self.now.depth (F.pre self.now.expr) (F.post self.now.expr) }
         requires declarator { NestsDeclarator self.now.depth (G.pre self.now.declarator) (G.post self.now.declarator) }
         requires specs { NestsSpecs self.now.depth (H.pre self.now.specs) (H.post self.now.specs) }
+        ensures { Reads (spec.one_member (nested.expr self.now.depth) (nested.declarator self.now.depth) (nested.specs self.now.depth) tokens.old) result tokens.new }
     {
         if tokens.sees_word(Word::StaticAssert) {
             self.member_assertion(tokens)
@@ -139,6 +160,7 @@ impl<
         requires expr { NestsExpr self.now.depth (F.pre self.now.expr) (F.post self.now.expr) }
         requires declarator { NestsDeclarator self.now.depth (G.pre self.now.declarator) (G.post self.now.declarator) }
         requires specs { NestsSpecs self.now.depth (H.pre self.now.specs) (H.post self.now.specs) }
+        ensures { Reads (spec.members_from (nested.expr self.now.depth) (nested.declarator self.now.depth) (nested.specs self.now.depth) (turns tokens.old) [] tokens.old) result tokens.new }
     {
         let mut found = Items::new(self.alloc);
         for _turn in 0..tokens.turns() {
@@ -151,10 +173,12 @@ impl<
     }
 
     /// After `struct` or `union`.
+    #[tactic(auto, unfolding(parse_spec::specs::Specifiers::tagged))]
     fn tagged(&self, tokens: &mut Cursor<'_>, union: bool) -> Result<Base, Refusal>
         requires expr { NestsExpr self.now.depth (F.pre self.now.expr) (F.post self.now.expr) }
         requires declarator { NestsDeclarator self.now.depth (G.pre self.now.declarator) (G.post self.now.declarator) }
         requires specs { NestsSpecs self.now.depth (H.pre self.now.specs) (H.post self.now.specs) }
+        ensures { Reads (spec.tagged (nested.expr self.now.depth) (nested.declarator self.now.depth) (nested.specs self.now.depth) union tokens.old) result tokens.new }
     {
         let tag = maybe_identifier(tokens);
         if tokens.eat(Mark::OpenBrace) {
@@ -178,8 +202,10 @@ impl<
         }
     }
 
+    #[tactic(auto, unfolding(parse_spec::specs::Specifiers::enumerator_value))]
     fn enumerator_value(&self, tokens: &mut Cursor<'_>) -> Result<Option<Expr>, Refusal>
         requires { NestsExpr self.now.depth (F.pre self.now.expr) (F.post self.now.expr) }
+        ensures { Reads (spec.enumerator_value (nested.expr self.now.depth) (nested.declarator self.now.depth) (nested.specs self.now.depth) tokens.old) result tokens.new }
     {
         if tokens.eat(Mark::Equal) {
             Ok(Some(self.expr(tokens, CONDITIONAL)?))
@@ -189,8 +215,10 @@ impl<
     }
 
     /// An enumeration constant is in scope behind its enumerator (6.2.1p7).
+    #[tactic(auto, unfolding(parse_spec::specs::Specifiers::one_enumerator))]
     fn enumerator(&self, tokens: &mut Cursor<'_>) -> Result<Enumerator, Refusal>
         requires { NestsExpr self.now.depth (F.pre self.now.expr) (F.post self.now.expr) }
+        ensures { Reads (spec.one_enumerator (nested.expr self.now.depth) (nested.declarator self.now.depth) (nested.specs self.now.depth) tokens.old) result tokens.new }
     {
         let name = identifier(tokens)?;
         let value = self.enumerator_value(tokens)?;
@@ -201,6 +229,7 @@ impl<
     /// After the opening brace: at least one, and the closing brace.
     fn enumerators(&self, tokens: &mut Cursor<'_>) -> Result<Items<Enumerator>, Refusal>
         requires { NestsExpr self.now.depth (F.pre self.now.expr) (F.post self.now.expr) }
+        ensures { Reads (spec.enumerators_from (nested.expr self.now.depth) (nested.declarator self.now.depth) (nested.specs self.now.depth) (turns tokens.old) [] tokens.old) result tokens.new }
     {
         let mut found = Items::new(self.alloc);
         for _turn in 0..tokens.turns() {
@@ -216,8 +245,10 @@ impl<
     }
 
     /// After `enum`.
+    #[tactic(auto, unfolding(parse_spec::specs::Specifiers::enumerated))]
     fn enumerated(&self, tokens: &mut Cursor<'_>) -> Result<Base, Refusal>
         requires { NestsExpr self.now.depth (F.pre self.now.expr) (F.post self.now.expr) }
+        ensures { Reads (spec.enumerated (nested.expr self.now.depth) (nested.declarator self.now.depth) (nested.specs self.now.depth) tokens.old) result tokens.new }
     {
         let tag = maybe_identifier(tokens);
         if tokens.eat(Mark::OpenBrace) {
@@ -234,10 +265,12 @@ impl<
     }
 
     /// The specifier that is no keyword, if one comes next. Behind a type specifier no name is a typedef name (6.7.8p3).
+    #[tactic(auto, unfolding(parse_spec::specs::Specifiers::specifier_base))]
     fn specifier_base(&self, tokens: &mut Cursor<'_>, typed: bool) -> Result<Base, Refusal>
         requires expr { NestsExpr self.now.depth (F.pre self.now.expr) (F.post self.now.expr) }
         requires declarator { NestsDeclarator self.now.depth (G.pre self.now.declarator) (G.post self.now.declarator) }
         requires specs { NestsSpecs self.now.depth (H.pre self.now.specs) (H.post self.now.specs) }
+        ensures { Reads (spec.specifier_base (nested.expr self.now.depth) (nested.declarator self.now.depth) (nested.specs self.now.depth) typed tokens.old) result tokens.new }
     {
         match tokens.peek() {
             Some(TokenKind::Keyword(Word::Struct)) => {
@@ -265,10 +298,12 @@ impl<
     }
 
     /// At least one specifier.
+    #[tactic(auto, unfolding(parse_spec::specs::Specifiers::specifiers))]
     pub fn specifiers(&self, tokens: &mut Cursor<'_>, place: Place) -> Result<Specs, Refusal>
         requires expr { NestsExpr self.now.depth (F.pre self.now.expr) (F.post self.now.expr) }
         requires declarator { NestsDeclarator self.now.depth (G.pre self.now.declarator) (G.post self.now.declarator) }
         requires specs { NestsSpecs self.now.depth (H.pre self.now.specs) (H.post self.now.specs) }
+        ensures { Reads (spec.specifiers (nested.expr self.now.depth) (nested.declarator self.now.depth) (nested.specs self.now.depth) (allowed_in place) tokens.old) result tokens.new }
     {
         let first = tokens.at();
         let words = specifier_words(self.alloc, tokens, place)?;

@@ -1,11 +1,15 @@
 //! Expressions (6.5).
 
-ghost use Rattle.std.specs.Prelude.{◌≡◌, Some, None};
-ghost use Rattle.c_cursor.specs.Places.{mode_of, allowed_in};
+ghost use Rattle.std.specs.Prelude.{◌≡◌, Some, true, IfOk, IfErr};
+ghost use Rattle.c_lex.specs.declared.token.TokenKind.TheVariants as token;
+ghost use Rattle.c_ast.specs.Input.{kind, next};
 ghost use Rattle.c_cursor.specs.Reads.{Reads};
 ghost use Rattle.parse_nodes.specs.Nests.{NestsExpr, NestsDeclarator, NestsSpecs};
 ghost use Rattle.parse_spec.specs.Expressions as spec;
+ghost use Rattle.parse_spec.specs.Expressions.{made};
 ghost use Rattle.parse_spec.specs.Nested as nested;
+ghost use Rattle.parse_spec.specs.Steps.{mark_of};
+ghost use Rattle.parse_expressions.specs.Branches as conditional;
 
 use crate::nested::Expressions;
 use c_ast::{AssignOp, BinaryOp, Declarator, Expr, ExprNode, PostOp, Specs, TypeName, UnaryOp};
@@ -22,7 +26,9 @@ use std::alloc::Global;
 use ub_base::Items;
 
 /// The assignment operator that comes next, where one may stand.
-fn assignment_sign(tokens: &Cursor<'_>, lone: bool) -> Option<AssignOp> {
+fn assignment_sign(tokens: &Cursor<'_>, lone: bool) -> Option<AssignOp>
+    ensures { result ≡ spec.assignment_sign lone (mark_of (kind tokens.now)) }
+{
     match tokens.mark() {
         Some(mark) => { if lone { assign_op(mark) } else { None } }
         None => None,
@@ -30,7 +36,9 @@ fn assignment_sign(tokens: &Cursor<'_>, lone: bool) -> Option<AssignOp> {
 }
 
 /// The binary operator that comes next.
-fn binary_sign(tokens: &Cursor<'_>) -> Option<BinaryOp> {
+fn binary_sign(tokens: &Cursor<'_>) -> Option<BinaryOp>
+    ensures { result ≡ spec.binary_sign (mark_of (kind tokens.now)) }
+{
     match tokens.mark() {
         Some(mark) => binary_op(mark),
         None => None,
@@ -38,13 +46,20 @@ fn binary_sign(tokens: &Cursor<'_>) -> Option<BinaryOp> {
 }
 
 /// The expression that the next token is alone.
-fn leaf(tokens: &mut Cursor<'_>, node: ExprNode) -> Expr {
+fn leaf(tokens: &mut Cursor<'_>, node: ExprNode) -> Expr
+    ensures tree { result ≡ made tokens.old.at node }
+    ensures left { tokens.new ≡ next tokens.old }
+{
     let at = tokens.at();
     tokens.take();
     Expr { at, node }
 }
 
-fn name_expr(tokens: &mut Cursor<'_>) -> Result<Expr, Refusal> {
+#[tactic(auto, unfolding(parse_spec::specs::Expressions::name_expr))]
+fn name_expr(tokens: &mut Cursor<'_>) -> Result<Expr, Refusal>
+    requires { kind tokens.now ≡ Some token.Name }
+    ensures { Reads (spec.name_expr tokens.old) result tokens.new }
+{
     if tokens.is_typedef() {
         return Err(tokens.refuse());
     }
@@ -52,14 +67,19 @@ fn name_expr(tokens: &mut Cursor<'_>) -> Result<Expr, Refusal> {
     Ok(leaf(tokens, ExprNode::Name(at)))
 }
 
-fn string_expr(tokens: &mut Cursor<'_>) -> Result<Expr, Refusal> {
+#[tactic(auto, unfolding(parse_spec::specs::Expressions::string_expr))]
+fn string_expr(tokens: &mut Cursor<'_>) -> Result<Expr, Refusal>
+    ensures { Reads (spec.string_expr tokens.old) result tokens.new }
+{
     let at = tokens.at();
     let node = ExprNode::Strings(at, strings(tokens)?);
     Ok(Expr { at, node })
 }
 
 /// Whether a cast comes next.
-fn begins_cast(tokens: &Cursor<'_>) -> bool {
+fn begins_cast(tokens: &Cursor<'_>) -> bool
+    ensures { result ≡ spec.begins_cast tokens.now }
+{
     tokens.sees(Mark::OpenParen) && begins_type_after(tokens)
 }
 
@@ -69,15 +89,19 @@ impl<
     H: Fn(Global, &mut Cursor<'_>, usize, Place) -> Result<Specs, Refusal>,
 > Expressions<F, G, H> {
     /// After the opening parenthesis.
+    #[tactic(auto, unfolding(parse_spec::specs::Expressions::inside))]
     fn inside(&self, tokens: &mut Cursor<'_>) -> Result<Expr, Refusal>
         requires { NestsExpr self.now.depth (F.pre self.now.expr) (F.post self.now.expr) }
+        ensures { Reads (spec.inside (nested.expr self.now.depth) (nested.declarator self.now.depth) (nested.specs self.now.depth) tokens.old) result tokens.new }
     {
         let inner = self.expr(tokens, COMMA);
         before(tokens, inner, Mark::CloseParen)
     }
 
+    #[tactic(auto, unfolding(parse_spec::specs::Expressions::primary))]
     fn primary(&self, tokens: &mut Cursor<'_>) -> Result<Expr, Refusal>
         requires { NestsExpr self.now.depth (F.pre self.now.expr) (F.post self.now.expr) }
+        ensures { Reads (spec.primary (nested.expr self.now.depth) (nested.declarator self.now.depth) (nested.specs self.now.depth) tokens.old) result tokens.new }
     {
         let at = tokens.at();
         match tokens.peek() {
@@ -95,6 +119,7 @@ impl<
 
     fn argument_list(&self, tokens: &mut Cursor<'_>) -> Result<Items<Expr>, Refusal>
         requires { NestsExpr self.now.depth (F.pre self.now.expr) (F.post self.now.expr) }
+        ensures { Reads (spec.argument_list (nested.expr self.now.depth) (nested.declarator self.now.depth) (nested.specs self.now.depth) tokens.old) result tokens.new }
     {
         let mut found = Items::new(self.alloc);
         for _turn in 0..tokens.turns() {
@@ -106,8 +131,10 @@ impl<
         kept(found, Err(tokens.refuse()))
     }
 
+    #[tactic(auto, unfolding(parse_spec::specs::Expressions::arguments))]
     fn arguments(&self, tokens: &mut Cursor<'_>) -> Result<Items<Expr>, Refusal>
         requires { NestsExpr self.now.depth (F.pre self.now.expr) (F.post self.now.expr) }
+        ensures { Reads (spec.arguments (nested.expr self.now.depth) (nested.declarator self.now.depth) (nested.specs self.now.depth) tokens.old) result tokens.new }
     {
         if tokens.eat(Mark::CloseParen) {
             return Ok(Items::new(self.alloc));
@@ -119,14 +146,17 @@ impl<
     /// After the opening parenthesis of a call.
     fn call_of(&self, tokens: &mut Cursor<'_>, at: u32, left: Expr) -> Result<Expr, Refusal>
         requires { NestsExpr self.now.depth (F.pre self.now.expr) (F.post self.now.expr) }
+        ensures { Reads (spec.post_by (nested.expr self.now.depth) (nested.declarator self.now.depth) (nested.specs self.now.depth) at left (Some Mark.OpenParen) tokens.old) result tokens.new }
     {
         let (left, found) = with(left, self.arguments(tokens))?;
         Ok(make::call(self.alloc, at, left, found)?)
     }
 
     /// After the opening bracket of a subscript.
+    #[tactic(auto, unfolding(parse_spec::specs::Expressions::subscript))]
     fn subscript(&self, tokens: &mut Cursor<'_>) -> Result<Expr, Refusal>
         requires { NestsExpr self.now.depth (F.pre self.now.expr) (F.post self.now.expr) }
+        ensures { Reads (spec.subscript (nested.expr self.now.depth) (nested.declarator self.now.depth) (nested.specs self.now.depth) tokens.old) result tokens.new }
     {
         let inner = self.expr(tokens, COMMA);
         before(tokens, inner, Mark::CloseBracket)
@@ -134,30 +164,40 @@ impl<
 
     fn index_of(&self, tokens: &mut Cursor<'_>, at: u32, left: Expr) -> Result<Expr, Refusal>
         requires { NestsExpr self.now.depth (F.pre self.now.expr) (F.post self.now.expr) }
+        ensures { Reads (spec.post_by (nested.expr self.now.depth) (nested.declarator self.now.depth) (nested.specs self.now.depth) at left (Some Mark.OpenBracket) tokens.old) result tokens.new }
     {
         let (left, inner) = with(left, self.subscript(tokens))?;
         Ok(make::index(self.alloc, at, left, inner)?)
     }
 
     /// After the dot.
-    fn dot_of(&self, tokens: &mut Cursor<'_>, at: u32, left: Expr) -> Result<Expr, Refusal> {
+    fn dot_of(&self, tokens: &mut Cursor<'_>, at: u32, left: Expr) -> Result<Expr, Refusal>
+        ensures { Reads (spec.post_by (nested.expr self.now.depth) (nested.declarator self.now.depth) (nested.specs self.now.depth) at left (Some Mark.Dot) tokens.old) result tokens.new }
+    {
         let (left, member) = with(left, identifier(tokens))?;
         Ok(make::dot(self.alloc, at, left, member)?)
     }
 
     /// After the arrow.
-    fn arrow_of(&self, tokens: &mut Cursor<'_>, at: u32, left: Expr) -> Result<Expr, Refusal> {
+    fn arrow_of(&self, tokens: &mut Cursor<'_>, at: u32, left: Expr) -> Result<Expr, Refusal>
+        ensures { Reads (spec.post_by (nested.expr self.now.depth) (nested.declarator self.now.depth) (nested.specs self.now.depth) at left (Some Mark.Arrow) tokens.old) result tokens.new }
+    {
         let (left, member) = with(left, identifier(tokens))?;
         Ok(make::arrow(self.alloc, at, left, member)?)
     }
 
-    fn stepped(&self, at: u32, op: PostOp, left: Expr) -> Result<Expr, Refusal> {
+    fn stepped(&self, at: u32, op: PostOp, left: Expr) -> Result<Expr, Refusal>
+        ensures ok { IfOk result (λ e. e ≡ made at (ExprNode.Postfix op left)) }
+        ensures memory { IfErr result (λ e. e ≡ Refusal.NoMemory) }
+    {
         Ok(make::postfix(self.alloc, at, op, left)?)
     }
 
     /// One more postfix operator.
+    #[tactic(auto, unfolding(parse_spec::specs::Expressions::post))]
     fn post(&self, tokens: &mut Cursor<'_>, at: u32, left: Expr) -> Result<Expr, Refusal>
         requires { NestsExpr self.now.depth (F.pre self.now.expr) (F.post self.now.expr) }
+        ensures { Reads (spec.post (nested.expr self.now.depth) (nested.declarator self.now.depth) (nested.specs self.now.depth) at left tokens.old) result tokens.new }
     {
         let mark = tokens.mark();
         tokens.take();
@@ -173,6 +213,7 @@ impl<
 
     fn posts(&self, tokens: &mut Cursor<'_>, at: u32, mut left: Expr) -> Result<Expr, Refusal>
         requires { NestsExpr self.now.depth (F.pre self.now.expr) (F.post self.now.expr) }
+        ensures { Reads (spec.posts (nested.expr self.now.depth) (nested.declarator self.now.depth) (nested.specs self.now.depth) at left tokens.old) result tokens.new }
     {
         for _turn in 0..tokens.turns() {
             if tokens.tight() <= POSTFIX {
@@ -184,9 +225,11 @@ impl<
     }
 
     /// A type name in parentheses.
+    #[tactic(auto, unfolding(parse_spec::specs::Expressions::type_name))]
     fn type_name(&self, tokens: &mut Cursor<'_>) -> Result<TypeName, Refusal>
         requires declarator { NestsDeclarator self.now.depth (G.pre self.now.declarator) (G.post self.now.declarator) }
         requires specs { NestsSpecs self.now.depth (H.pre self.now.specs) (H.post self.now.specs) }
+        ensures { Reads (spec.type_name (nested.expr self.now.depth) (nested.declarator self.now.depth) (nested.specs self.now.depth) tokens.old) result tokens.new }
     {
         tokens.expect(Mark::OpenParen)?;
         let specs = self.specs(tokens, Place::Qualified)?;
@@ -195,10 +238,12 @@ impl<
         Ok(TypeName { specs, declarator })
     }
 
+    #[tactic(auto, unfolding(parse_spec::specs::Expressions::casted))]
     fn casted(&self, tokens: &mut Cursor<'_>, at: u32) -> Result<Expr, Refusal>
         requires expr { NestsExpr self.now.depth (F.pre self.now.expr) (F.post self.now.expr) }
         requires declarator { NestsDeclarator self.now.depth (G.pre self.now.declarator) (G.post self.now.declarator) }
         requires specs { NestsSpecs self.now.depth (H.pre self.now.specs) (H.post self.now.specs) }
+        ensures { Reads (spec.casted (nested.expr self.now.depth) (nested.declarator self.now.depth) (nested.specs self.now.depth) at tokens.old) result tokens.new }
     {
         let to = self.type_name(tokens)?;
         let (to, value) = with(to, self.expr(tokens, CAST))?;
@@ -206,12 +251,14 @@ impl<
     }
 
     /// After `sizeof`.
+    #[tactic(auto, unfolding(parse_spec::specs::Expressions::size))]
     fn size(&self, tokens: &mut Cursor<'_>, at: u32) -> Result<Expr, Refusal>
         requires expr { NestsExpr self.now.depth (F.pre self.now.expr) (F.post self.now.expr) }
         requires declarator { NestsDeclarator self.now.depth (G.pre self.now.declarator) (G.post self.now.declarator) }
         requires specs { NestsSpecs self.now.depth (H.pre self.now.specs) (H.post self.now.specs) }
+        ensures { Reads (spec.size (nested.expr self.now.depth) (nested.declarator self.now.depth) (nested.specs self.now.depth) at tokens.old) result tokens.new }
     {
-        if tokens.sees(Mark::OpenParen) && begins_type_after(tokens) {
+        if begins_cast(tokens) {
             let of = self.type_name(tokens)?;
             Ok(make::sizeof_type(self.alloc, at, of)?)
         } else {
@@ -220,27 +267,33 @@ impl<
         }
     }
 
+    #[tactic(auto, unfolding(parse_spec::specs::Expressions::chained))]
     fn chained(&self, tokens: &mut Cursor<'_>, at: u32) -> Result<Expr, Refusal>
         requires { NestsExpr self.now.depth (F.pre self.now.expr) (F.post self.now.expr) }
+        ensures { Reads (spec.chained (nested.expr self.now.depth) (nested.declarator self.now.depth) (nested.specs self.now.depth) at tokens.old) result tokens.new }
     {
         let first = self.primary(tokens)?;
         self.posts(tokens, at, first)
     }
 
     /// After `_Alignof`.
+    #[tactic(auto, unfolding(parse_spec::specs::Expressions::alignment))]
     fn alignment(&self, tokens: &mut Cursor<'_>, at: u32) -> Result<Expr, Refusal>
         requires declarator { NestsDeclarator self.now.depth (G.pre self.now.declarator) (G.post self.now.declarator) }
         requires specs { NestsSpecs self.now.depth (H.pre self.now.specs) (H.post self.now.specs) }
+        ensures { Reads (spec.alignment (nested.expr self.now.depth) (nested.declarator self.now.depth) (nested.specs self.now.depth) at tokens.old) result tokens.new }
     {
         let of = self.type_name(tokens)?;
         Ok(make::alignof_type(self.alloc, at, of)?)
     }
 
     /// At an opening parenthesis. A cast is no unary expression.
+    #[tactic(auto, unfolding(parse_spec::specs::Expressions::bracketed))]
     fn bracketed(&self, tokens: &mut Cursor<'_>, at: u32, least: u8) -> Result<Expr, Refusal>
         requires expr { NestsExpr self.now.depth (F.pre self.now.expr) (F.post self.now.expr) }
         requires declarator { NestsDeclarator self.now.depth (G.pre self.now.declarator) (G.post self.now.declarator) }
         requires specs { NestsSpecs self.now.depth (H.pre self.now.specs) (H.post self.now.specs) }
+        ensures { Reads (spec.bracketed (nested.expr self.now.depth) (nested.declarator self.now.depth) (nested.specs self.now.depth) at least tokens.old) result tokens.new }
     {
         if !begins_type_after(tokens) {
             return self.chained(tokens, at);
@@ -252,19 +305,46 @@ impl<
     }
 
     /// At a unary operator.
+    #[tactic(auto, unfolding(parse_spec::specs::Expressions::operated))]
     fn operated(&self, tokens: &mut Cursor<'_>, at: u32, op: UnaryOp) -> Result<Expr, Refusal>
         requires { NestsExpr self.now.depth (F.pre self.now.expr) (F.post self.now.expr) }
+        ensures { Reads (spec.operated (nested.expr self.now.depth) (nested.declarator self.now.depth) (nested.specs self.now.depth) at op tokens.old) result tokens.new }
     {
         tokens.take();
         let operand = self.expr(tokens, operand_level(op))?;
         Ok(make::unary(self.alloc, at, op, operand)?)
     }
 
+    /// At this punctuator.
+    #[tactic(auto, using(crate::proofs::Unary::unary_op_found))]
+    fn marked(
+        &self,
+        tokens: &mut Cursor<'_>,
+        at: u32,
+        least: u8,
+        mark: Mark,
+    ) -> Result<Expr, Refusal>
+        requires expr { NestsExpr self.now.depth (F.pre self.now.expr) (F.post self.now.expr) }
+        requires declarator { NestsDeclarator self.now.depth (G.pre self.now.declarator) (G.post self.now.declarator) }
+        requires specs { NestsSpecs self.now.depth (H.pre self.now.specs) (H.post self.now.specs) }
+        ensures { Reads (spec.prefix_by (nested.expr self.now.depth) (nested.declarator self.now.depth) (nested.specs self.now.depth) at least (Some (token.Punct mark)) tokens.old) result tokens.new }
+    {
+        match mark {
+            Mark::OpenParen => self.bracketed(tokens, at, least),
+            _ => match unary_op(mark) {
+                Some(op) => self.operated(tokens, at, op),
+                None => Err(tokens.refuse()),
+            },
+        }
+    }
+
     /// A cast expression, and a unary expression where `least` asks for one.
+    #[tactic(auto, unfolding(parse_spec::specs::Expressions::prefix))]
     fn prefix(&self, tokens: &mut Cursor<'_>, least: u8) -> Result<Expr, Refusal>
         requires expr { NestsExpr self.now.depth (F.pre self.now.expr) (F.post self.now.expr) }
         requires declarator { NestsDeclarator self.now.depth (G.pre self.now.declarator) (G.post self.now.declarator) }
         requires specs { NestsSpecs self.now.depth (H.pre self.now.specs) (H.post self.now.specs) }
+        ensures { Reads (spec.prefix (nested.expr self.now.depth) (nested.declarator self.now.depth) (nested.specs self.now.depth) least tokens.old) result tokens.new }
     {
         let at = tokens.at();
         match tokens.peek() {
@@ -276,17 +356,14 @@ impl<
                 tokens.take();
                 self.alignment(tokens, at)
             }
-            Some(TokenKind::Punct(Mark::OpenParen)) => self.bracketed(tokens, at, least),
-            Some(TokenKind::Punct(mark)) => match unary_op(mark) {
-                Some(op) => self.operated(tokens, at, op),
-                None => Err(tokens.refuse()),
-            },
+            Some(TokenKind::Punct(mark)) => self.marked(tokens, at, least, mark),
             _ => self.chained(tokens, at),
         }
     }
 
     fn yes_branch(&self, tokens: &mut Cursor<'_>) -> Result<Expr, Refusal>
         requires { NestsExpr self.now.depth (F.pre self.now.expr) (F.post self.now.expr) }
+        ensures { Reads (conditional.yes_branch (nested.expr self.now.depth) tokens.old) result tokens.new }
     {
         let yes = self.expr(tokens, COMMA);
         before(tokens, yes, Mark::Colon)
@@ -294,19 +371,23 @@ impl<
 
     fn branches(&self, tokens: &mut Cursor<'_>) -> Result<(Expr, Expr), Refusal>
         requires { NestsExpr self.now.depth (F.pre self.now.expr) (F.post self.now.expr) }
+        ensures { Reads (conditional.branches (nested.expr self.now.depth) tokens.old) result tokens.new }
     {
         let yes = self.yes_branch(tokens)?;
         with(yes, self.expr(tokens, CONDITIONAL))
     }
 
     /// After the `?`.
+    #[tactic(auto, unfolding(parse_spec::specs::Expressions::choice))]
     fn choice(&self, tokens: &mut Cursor<'_>, at: u32, test: Expr) -> Result<Expr, Refusal>
         requires { NestsExpr self.now.depth (F.pre self.now.expr) (F.post self.now.expr) }
+        ensures { Reads (spec.choice (nested.expr self.now.depth) (nested.declarator self.now.depth) (nested.specs self.now.depth) at test tokens.old) result tokens.new }
     {
         let (test, (yes, no)) = with(test, self.branches(tokens))?;
         Ok(make::cond(self.alloc, at, test, yes, no)?)
     }
 
+    /// At an assignment operator, after a unary expression.
     fn assign_of(
         &self,
         tokens: &mut Cursor<'_>,
@@ -315,6 +396,7 @@ impl<
         left: Expr,
     ) -> Result<Expr, Refusal>
         requires { NestsExpr self.now.depth (F.pre self.now.expr) (F.post self.now.expr) }
+        ensures { Reads (spec.assigned_by (nested.expr self.now.depth) (nested.declarator self.now.depth) (nested.specs self.now.depth) at left (Some op) tokens.old) result tokens.new }
     {
         tokens.take();
         let (left, value) = with(left, self.expr(tokens, ASSIGNMENT))?;
@@ -322,6 +404,7 @@ impl<
     }
 
     /// Only a unary expression stands before an assignment operator (6.5.16).
+    #[tactic(auto, unfolding(parse_spec::specs::Expressions::assigned))]
     fn assigned(
         &self,
         tokens: &mut Cursor<'_>,
@@ -330,6 +413,7 @@ impl<
         left: Expr,
     ) -> Result<Expr, Refusal>
         requires { NestsExpr self.now.depth (F.pre self.now.expr) (F.post self.now.expr) }
+        ensures { Reads (spec.assigned (nested.expr self.now.depth) (nested.declarator self.now.depth) (nested.specs self.now.depth) at lone left tokens.old) result tokens.new }
     {
         match assignment_sign(tokens, lone) {
             Some(op) => self.assign_of(tokens, at, op, left),
@@ -337,6 +421,7 @@ impl<
         }
     }
 
+    /// At a binary operator, whatever stands before it.
     fn binary_of(
         &self,
         tokens: &mut Cursor<'_>,
@@ -345,6 +430,7 @@ impl<
         left: Expr,
     ) -> Result<Expr, Refusal>
         requires { NestsExpr self.now.depth (F.pre self.now.expr) (F.post self.now.expr) }
+        ensures { Reads (spec.joined_by (nested.expr self.now.depth) (nested.declarator self.now.depth) (nested.specs self.now.depth) at true left (Some op) tokens.old) result tokens.new }
     {
         tokens.take();
         let (left, right) = with(left, self.expr(tokens, right_level_of(op)))?;
@@ -352,6 +438,7 @@ impl<
     }
 
     /// A binary operator or an assignment, after what stands before it.
+    #[tactic(auto, unfolding(parse_spec::specs::Expressions::joined))]
     fn joined(
         &self,
         tokens: &mut Cursor<'_>,
@@ -360,6 +447,7 @@ impl<
         left: Expr,
     ) -> Result<Expr, Refusal>
         requires { NestsExpr self.now.depth (F.pre self.now.expr) (F.post self.now.expr) }
+        ensures { Reads (spec.joined (nested.expr self.now.depth) (nested.declarator self.now.depth) (nested.specs self.now.depth) at lone left tokens.old) result tokens.new }
     {
         match binary_sign(tokens) {
             Some(op) => self.binary_of(tokens, at, op, left),
@@ -368,6 +456,7 @@ impl<
     }
 
     /// One more operator, after what stands before it; `lone` says that this is a unary expression.
+    #[tactic(auto, unfolding(parse_spec::specs::Expressions::step))]
     fn step(
         &self,
         tokens: &mut Cursor<'_>,
@@ -376,6 +465,7 @@ impl<
         left: Expr,
     ) -> Result<Expr, Refusal>
         requires { NestsExpr self.now.depth (F.pre self.now.expr) (F.post self.now.expr) }
+        ensures { Reads (spec.step (nested.expr self.now.depth) (nested.declarator self.now.depth) (nested.specs self.now.depth) at lone left tokens.old) result tokens.new }
     {
         if tokens.eat(Mark::Question) {
             self.choice(tokens, at, left)
@@ -393,6 +483,7 @@ impl<
         mut left: Expr,
     ) -> Result<Expr, Refusal>
         requires { NestsExpr self.now.depth (F.pre self.now.expr) (F.post self.now.expr) }
+        ensures { Reads (spec.climbed (nested.expr self.now.depth) (nested.declarator self.now.depth) (nested.specs self.now.depth) least at lone left tokens.old) result tokens.new }
     {
         for _turn in 0..tokens.turns() {
             if tokens.tight() <= least {
@@ -404,10 +495,12 @@ impl<
         kept(left, Err(tokens.refuse()))
     }
 
+    #[tactic(auto, unfolding(parse_spec::specs::Expressions::operators))]
     fn operators(&self, tokens: &mut Cursor<'_>, least: u8) -> Result<Expr, Refusal>
         requires expr { NestsExpr self.now.depth (F.pre self.now.expr) (F.post self.now.expr) }
         requires declarator { NestsDeclarator self.now.depth (G.pre self.now.declarator) (G.post self.now.declarator) }
         requires specs { NestsSpecs self.now.depth (H.pre self.now.specs) (H.post self.now.specs) }
+        ensures { Reads (spec.operators (nested.expr self.now.depth) (nested.declarator self.now.depth) (nested.specs self.now.depth) least tokens.old) result tokens.new }
     {
         let at = tokens.at();
         let lone = !begins_cast(tokens);
@@ -415,35 +508,31 @@ impl<
         self.climb(tokens, least, at, lone, first)
     }
 
-    /// The first operand of commas, and those behind it.
-    fn operands(&self, tokens: &mut Cursor<'_>, first: Expr) -> Result<Items<Expr>, Refusal>
-        requires expr { NestsExpr self.now.depth (F.pre self.now.expr) (F.post self.now.expr) }
-        requires declarator { NestsDeclarator self.now.depth (G.pre self.now.declarator) (G.post self.now.declarator) }
-        requires specs { NestsSpecs self.now.depth (H.pre self.now.specs) (H.post self.now.specs) }
-    {
-        let mut found = pushed(Items::new(self.alloc), Ok(first))?;
-        for _turn in 0..tokens.turns() {
-            if !tokens.eat(Mark::Comma) {
-                return Ok(found);
-            }
-            found = pushed(found, self.operators(tokens, ASSIGNMENT))?;
-        }
-        kept(found, Err(tokens.refuse()))
-    }
-
+    /// The operands that commas join, of which this is the first.
     fn commas(&self, tokens: &mut Cursor<'_>, at: u32, first: Expr) -> Result<Expr, Refusal>
         requires expr { NestsExpr self.now.depth (F.pre self.now.expr) (F.post self.now.expr) }
         requires declarator { NestsDeclarator self.now.depth (G.pre self.now.declarator) (G.post self.now.declarator) }
         requires specs { NestsSpecs self.now.depth (H.pre self.now.specs) (H.post self.now.specs) }
+        ensures { Reads (spec.commas (nested.expr self.now.depth) (nested.declarator self.now.depth) (nested.specs self.now.depth) at first tokens.old) result tokens.new }
     {
-        let node = ExprNode::Comma(self.operands(tokens, first)?);
-        Ok(Expr { at, node })
+        let mut found = pushed(Items::new(self.alloc), Ok(first))?;
+        for _turn in 0..tokens.turns() {
+            if !tokens.eat(Mark::Comma) {
+                let node = ExprNode::Comma(found);
+                return Ok(Expr { at, node });
+            }
+            found = pushed(found, self.operators(tokens, ASSIGNMENT))?;
+        }
+        let node = ExprNode::Comma(found);
+        kept(Expr { at, node }, Err(tokens.refuse()))
     }
 
+    #[tactic(auto, unfolding(parse_spec::specs::Expressions::whole))]
     fn whole(&self, tokens: &mut Cursor<'_>) -> Result<Expr, Refusal>
         requires expr { NestsExpr self.now.depth (F.pre self.now.expr) (F.post self.now.expr) }
         requires declarator { NestsDeclarator self.now.depth (G.pre self.now.declarator) (G.post self.now.declarator) }
         requires specs { NestsSpecs self.now.depth (H.pre self.now.specs) (H.post self.now.specs) }
+        ensures { Reads (spec.whole (nested.expr self.now.depth) (nested.declarator self.now.depth) (nested.specs self.now.depth) tokens.old) result tokens.new }
     {
         let at = tokens.at();
         let first = self.operators(tokens, ASSIGNMENT)?;
@@ -455,10 +544,12 @@ impl<
     }
 
     /// An expression of this level or a tighter one.
+    #[tactic(auto, unfolding(parse_spec::specs::Expressions::level))]
     pub fn level(&self, tokens: &mut Cursor<'_>, least: u8) -> Result<Expr, Refusal>
         requires expr { NestsExpr self.now.depth (F.pre self.now.expr) (F.post self.now.expr) }
         requires declarator { NestsDeclarator self.now.depth (G.pre self.now.declarator) (G.post self.now.declarator) }
         requires specs { NestsSpecs self.now.depth (H.pre self.now.specs) (H.post self.now.specs) }
+        ensures { Reads (spec.level (nested.expr self.now.depth) (nested.declarator self.now.depth) (nested.specs self.now.depth) least tokens.old) result tokens.new }
     {
         if least == COMMA {
             self.whole(tokens)

@@ -295,7 +295,7 @@ module _ (expr : ℕ → Parser Expr) (declarator : Mode → Parser Declarator) 
   unfolding tagged
   tagged_adds union = bind_adds _ _ maybe_identifier_adds (λ tag. bind_adds _ _ (eat_adds m.OpenBrace) (λ more. tagged_by_adds union tag more))
 
-  enumerator_value_adds : OnlyAdds (enumerator_value expr declarator specs)
+  pub enumerator_value_adds : OnlyAdds (enumerator_value expr declarator specs)
   unfolding enumerator_value
   enumerator_value_adds = bind_adds _ _ (eat_adds m.Equal) (λ more. if_adds more _ _ (bind_adds _ _ (ge op.conditional) (λ e. pure_adds (Some e))) (pure_adds None))
 
@@ -354,7 +354,7 @@ module _ (expr : ℕ → Parser Expr) (declarator : Mode → Parser Declarator) 
       (bind_adds _ _ (eat_adds m.Ellipsis) (λ ellipsis. if_adds ellipsis _ _ (pure_adds (found ++ p ∷ [], true)) (parameters_from_adds n (found ++ p ∷ []))))
       (pure_adds (found ++ p ∷ [], false))))
 
-  parameters_adds : OnlyAdds (parameters expr declarator specs)
+  pub parameters_adds : OnlyAdds (parameters expr declarator specs)
   unfolding parameters
   parameters_adds = here_adds _ (λ i. if_adds (sees m.CloseParen i) _ _ (pure_adds no_parameters) (parameters_from_adds (turns i) []))
 

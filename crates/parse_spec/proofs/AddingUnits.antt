@@ -165,23 +165,23 @@ module _ (inner : Parser Stmt) (gi : OnlyAdds inner) where
   unfolding else_part
   else_part_adds = bind_adds _ _ (eat_word_adds w.Else) (λ more. if_adds more _ _ (bind_adds _ _ sub_adds (λ a. pure_adds (Some a))) (pure_adds None))
 
-  if_stmt_adds : OnlyAdds (if_stmt inner)
+  pub if_stmt_adds : OnlyAdds (if_stmt inner)
   unfolding if_stmt
   if_stmt_adds = bind_adds _ _ in_parentheses_adds (λ e. bind_adds _ _ sub_adds (λ a. bind_adds _ _ else_part_adds (λ other. pure_adds _)))
 
-  switch_stmt_adds : OnlyAdds (switch_stmt inner)
+  pub switch_stmt_adds : OnlyAdds (switch_stmt inner)
   unfolding switch_stmt
   switch_stmt_adds = bind_adds _ _ in_parentheses_adds (λ e. bind_adds _ _ sub_adds (λ a. pure_adds _))
 
-  while_stmt_adds : OnlyAdds (while_stmt inner)
+  pub while_stmt_adds : OnlyAdds (while_stmt inner)
   unfolding while_stmt
   while_stmt_adds = bind_adds _ _ in_parentheses_adds (λ e. bind_adds _ _ sub_adds (λ a. pure_adds _))
 
-  do_stmt_adds : OnlyAdds (do_stmt inner)
+  pub do_stmt_adds : OnlyAdds (do_stmt inner)
   unfolding do_stmt
   do_stmt_adds = bind_adds _ _ sub_adds (λ a. then_adds _ _ (expect_word_adds w.While) (bind_adds _ _ in_parentheses_adds (λ e. then_adds _ _ (expect_adds m.Semicolon) (pure_adds _))))
 
-  for_stmt_adds : OnlyAdds (for_stmt inner)
+  pub for_stmt_adds : OnlyAdds (for_stmt inner)
   unfolding for_stmt
   for_stmt_adds = then_adds _ _ (expect_adds m.OpenParen) (bind_adds _ _ for_init_adds (λ first. bind_adds _ _ (maybe_expr_adds m.Semicolon) (λ test.
       bind_adds _ _ (maybe_expr_adds m.CloseParen) (λ step. bind_adds _ _ sub_adds (λ a. pure_adds _)))))
@@ -210,7 +210,7 @@ module _ (inner : Parser Stmt) (gi : OnlyAdds inner) where
   entries_from_adds (suc n) found = bind_adds _ _ (eat_adds m.CloseBrace) (λ done. if_adds done _ _ (pure_adds found)
       (bind_adds _ _ one_entry_adds (λ a. entries_from_adds n (found ++ a ∷ []))))
 
-  entries_adds : OnlyAdds (entries inner)
+  pub entries_adds : OnlyAdds (entries inner)
   unfolding entries
   entries_adds = here_adds _ (λ i. entries_from_adds (turns i) [])
 
@@ -238,7 +238,7 @@ unfolding statement
 statement_adds zero = refuse_adds
 statement_adds (suc depth) = one_stmt_adds (statement depth) (statement_adds depth)
 
-body_adds : OnlyAdds body
+pub body_adds : OnlyAdds body
 unfolding body
 body_adds = here_adds _ (λ i. entries_adds (statement (turns i)) (statement_adds (turns i)))
 

@@ -1,4 +1,6 @@
-use Rattle.std.proofs.Common.{◌*◌, ◌+◌}
+use Rattle.std.proofs.Common.{◌≡◌, ◌*◌, ◌+◌, ◌-◌, []}
+use Rattle.parse_spec.specs.Initializers.{initializer, entries_from}
+use Rattle.parse_spec.specs.Steps.{turns}
 use Rattle.c_parse.proofs.initializer.+init.Given as goal
 
 abbrev pub decreases-init_entries : goal.decreases-init_entries
@@ -9,3 +11,7 @@ decreases-init_entry l = 3 * l.depth + 1
 
 abbrev pub decreases-initializer : goal.decreases-initializer
 decreases-initializer l = 3 * l.depth
+
+abbrev pub invariant-init_entries-loop-turn : goal.invariant-init_entries-loop-turn
+invariant-init_entries-loop-turn l =
+    entries_from (initializer l.depth) (turns l.fn.tokens) [] l.fn.tokens ≡ entries_from (initializer l.depth) (l._turn-end - l._turn) l.found l.tokens

@@ -1,0 +1,3 @@
+pub mod Enumerators
+pub mod Labels
+pub mod Texts

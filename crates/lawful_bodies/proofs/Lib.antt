@@ -1,0 +1,5 @@
+pub mod Apart
+pub mod Follow
+pub mod Forms
+pub mod Pass
+pub mod Sized

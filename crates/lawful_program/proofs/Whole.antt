@@ -1,0 +1,51 @@
+-- Objects with static storage, and the program, put together.
+use Rattle.std.proofs.Common.{◌≡◌, ℕ, ◌<◌, List, get_or, All, Option, Some, None, IsSome, sym, subst}
+use Rattle.c_types.specs.Types.{CType, type_of, qualified_of}
+use Rattle.c_types.specs.Layout.{extent, extents, size_of}
+use Rattle.c_types.specs.Leaves.{scalars}
+use Rattle.c_types.specs.declared.tags.Extent.{Extent}
+use Rattle.c_typed.specs.declared.program.Constant.{Constant}
+use Rattle.c_typed.specs.declared.program.Function.{Function}
+use Rattle.c_typed.specs.declared.program.Static.{Static}
+use Rattle.c_typed.specs.declared.program.Program.{Program}
+use Rattle.c_typed.specs.Lawful.{There, IsSized, IsComplete, ContentIsLawful, ContentSuits, PartsFit, StaticIsLawful, HasMain, MainHasType, IsExternal, HasBytes, IsNumbered, FunctionIsLawful, IsLawful}
+use Rattle.lawful_program.proofs.Seen.{qualified_of-seen}
+
+lawful_of : (p : Program) (s : Static) (t : CType) → t ≡ (qualified_of s.qual).ty → IsSized p.tags t → All (λ c. ContentIsLawful p c.content) s.constants →
+    All (λ c. All (λ scalar. ContentSuits p scalar c) (scalars p.tags t)) s.constants → PartsFit (size_of p.tags t) s.constants → StaticIsLawful p s
+lawful_of p s t is sized contents aligned fits =
+    record {
+      sized = subst (IsSized p.tags) is sized;
+      fits = subst (λ u. PartsFit (size_of p.tags u) s.constants) is fits;
+      contents = contents;
+      aligned = subst (λ u. All (λ c. All (λ scalar. ContentSuits p scalar c) (scalars p.tags u)) s.constants) is aligned;
+    }
+
+pub static_lawful : (p : Program) (s : Static) (ks : List Constant) (size : ℕ) → ks ≡ s.constants → size ≡ size_of p.tags (type_of s.qual.ty) → IsSized p.tags (type_of s.qual.ty) →
+    All (λ c. ContentIsLawful p c.content) ks → All (λ c. All (λ scalar. ContentSuits p scalar c) (scalars p.tags (type_of s.qual.ty))) ks → PartsFit size ks → StaticIsLawful p s
+static_lawful p s ks size all is sized contents aligned fits =
+    lawful_of p s (type_of s.qual.ty) (sym (qualified_of-seen s.qual)) sized (subst (All (λ c. ContentIsLawful p c.content)) all contents)
+    (subst (All (λ c. All (λ scalar. ContentSuits p scalar c) (scalars p.tags (type_of s.qual.ty)))) all aligned)
+    (subst (PartsFit (size_of p.tags (type_of s.qual.ty))) all (subst (λ n. PartsFit n ks) is fits))
+
+there_some : (o : Option Extent) → There o (λ e. 0 < e.size) → IsSome o
+there_some None h = absurd h
+there_some (Some e) h = search
+
+complete : (p : Program) (ss : List Static) → All (StaticIsLawful p) ss → All (IsComplete p.tags) ss
+complete p ss h i d lt = let s = h i d lt in there_some (extent (extents p.tags) (qualified_of (get_or ss i d).qual).ty) s.sized
+
+pub program_lawful : (p : Program) (fs : List Function) (ls : List (List ℕ)) (ss : List Static) → HasMain p → MainHasType p → IsNumbered p → fs ≡ p.functions → ls ≡ p.literals → ss ≡ p.statics →
+    All IsExternal fs → All HasBytes ls → All (StaticIsLawful p) ss → All (FunctionIsLawful p) fs → IsLawful p
+program_lawful p fs ls ss main main_type numbered f l s external bytes statics functions =
+    let objects = subst (All (StaticIsLawful p)) s statics in
+    record {
+      main = main;
+      main_type = main_type;
+      functions = subst (All (FunctionIsLawful p)) f functions;
+      library = subst (All IsExternal) f external;
+      literals = subst (All HasBytes) l bytes;
+      complete = complete p p.statics objects;
+      statics = objects;
+      numbered = numbered;
+    }

@@ -1,0 +1,15 @@
+use Rattle.std.proofs.Common.{sym, subst, arith}
+use Rattle.c_types.specs.Types.{CType, signature_of}
+use Rattle.c_typed.specs.Lawful.{UseFits}
+use Rattle.lawful_trees.specs.Places.{use_of}
+use Rattle.lawful_trees.proofs.Operands.{type_at-root}
+use Rattle.lawful_trees.proofs.expression.is_lawful_expression.Goals as goal
+
+pub returns-then-use_fits : goal.returns-then-use_fits
+returns-then-use_fits c = λ h.
+    let P : CType → Type 0 = UseFits c.args.program.now (signature_of c.args.owner.now) (use_of c.args.purpose) in
+    record {
+      nodes = c.is_lawful_tree.ensures h;
+      fits = subst P (sym (type_at-root c.args.tree.now)) (c.use_fits.ensures c.if-use_fits.true c.args.program.now);
+      few = omega arith;
+    }

@@ -1,0 +1,18 @@
+//! Whether a full expression of a typed program is lawful, so that all that runs may rely on it.
+#![tactic(auto)]
+
+mod expression;
+mod lists;
+mod names;
+mod node_types;
+mod nodes;
+mod parts;
+mod place;
+mod same;
+mod types;
+
+pub use expression::is_lawful_expression;
+pub use parts::parts_fit;
+pub use place::{Around, Purpose};
+pub use same::{same_signature, same_type};
+pub use types::is_sized;

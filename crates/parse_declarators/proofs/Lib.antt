@@ -1,0 +1,3 @@
+mod Enumerators
+pub mod Names
+mod Prototypes

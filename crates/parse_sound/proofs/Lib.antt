@@ -1,0 +1,12 @@
+pub mod Declarations
+pub mod Declarators
+pub mod Expressions
+pub mod Holding
+pub mod Initializers
+pub mod Nested
+pub mod Operators
+pub mod Rows
+pub mod Slides
+pub mod Specifiers
+pub mod Statements
+pub mod Units
