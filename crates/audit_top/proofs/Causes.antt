@@ -1,5 +1,8 @@
 -- Why an answer comes.
 use Rattle.std.proofs.Common.{◌≡◌, ◌⊎◌, ℕ, ℤ, List, [], length, Option, Some, None, Result, Ok, Err, refl, sym, subst, ◌∙◌, inl, inr, option_copied}
+use Rattle.c_ast.specs.declared.statement.Unit.{Unit as SyntaxTree}
+use Rattle.c_grammar.specs.Grammar.{SpellsUnit}
+use Rattle.c_lex.specs.TokenText.{TokenText}
 use Rattle.c_lex.specs.Tokens.{lexed}
 use Rattle.c_lex.specs.declared.token.LexFault.{LexFault}
 use Rattle.c_lex.specs.declared.token.LexFault.TheVariants as LexFault
@@ -17,7 +20,7 @@ use Rattle.command.specs.declared.request.CheckRequest.{CheckRequest}
 use Rattle.command.specs.declared.request.SelfRequest.{SelfRequest}
 use Rattle.command.specs.declared.request.Request.{Request}
 use Rattle.command.specs.declared.request.Request.TheVariants.{Audit, Check, SelfAudit}
-use Rattle.audit_top.specs.Answer.{HasTree, HasVerdict, Refuses, judged, lex_refusal, verdict}
+use Rattle.audit_top.specs.Answer.{AreTokens, HasNoTree, HasTree, HasVerdict, Refuses, judged, lex_refusal, verdict}
 use Rattle.audit_top.specs.Value.{value}
 use Rattle.audit_top.specs.Finding.{IsFound}
 use Rattle.audit_top.specs.Words.{TakesWords}
@@ -61,6 +64,13 @@ lex_refuses text (LexFault.OpenLiteral at) refusal is why =
 lex_refuses text (LexFault.BadNumber at) refusal is why =
     subst (Refuses text) (sym (same_refusal refusal (Refusal.BadNumber at) is)) (why (bad_number_is_not_memory at))
 lex_refuses text LexFault.NoMemory refusal is why = absurd (no_memory_refuses_nothing refusal is)
+
+-- a text whose tokens spell a tree has one
+pub has_tree : (text : List ℕ) (tokens : TokenText) (unit : SyntaxTree) → AreTokens text tokens → SpellsUnit unit tokens → HasTree text
+has_tree text tokens unit are spells = (tokens, are, (unit, spells))
+
+pub has_no_tree : (text : List ℕ) (tokens : TokenText) → AreTokens text tokens → ((unit : SyntaxTree) → SpellsUnit unit tokens → ⊥) → HasNoTree text
+has_no_tree text tokens are none = (tokens, are, none)
 
 -- the verdict on a unit is the answer to its text
 by_value : (request : AuditRequest) (before now : ℕ) (text : List ℕ) (line : ℕ) (answer : Answer) (found : Result ℤ Clause) → UsesForm request

@@ -1,5 +1,5 @@
 -- The answers to a text.
-use Rattle.std.specs.Prelude.{◌≡◌, ℕ, ◌≤◌, ◌<◌, ℤ, List, Option, Some, None, IsSome, Result, Ok, Err, ⊤}
+use Rattle.std.specs.Prelude.{◌≡◌, ℕ, ◌≤◌, ◌<◌, ℤ, List, Option, Some, None, Result, Ok, Err, ⊤}
 use Rattle.ub_base.specs.declared.clause.Clause.{Clause}
 use Rattle.first_form.specs.Form.{IsFirstForm}
 use Rattle.first_form.specs.declared.tree.ReturnUnit.{ReturnUnit}
@@ -11,7 +11,8 @@ use Rattle.audit_top.specs.declared.answer.Refusal.TheVariants.{Stray, OpenLiter
 use Rattle.c_ast.specs.Nest.{nest_of}
 use Rattle.c_lex.specs.TokenText.{TokenText}
 use Rattle.c_lex.specs.Tokens.{lexed}
-use Rattle.parse_spec.specs.Units.{tree_of}
+use Rattle.c_ast.specs.declared.statement.Unit.{Unit as SyntaxTree}
+use Rattle.c_grammar.specs.Grammar.{SpellsUnit}
 use Rattle.c_lex.specs.declared.token.LexFault.{LexFault}
 use Rattle.c_lex.specs.declared.token.LexFault.TheVariants.{Stray as StrayAt, OpenLiteral as OpenLiteralAt, BadNumber as BadNumberAt, NoMemory as LexMemory}
 
@@ -48,13 +49,13 @@ max_nest = 2000
 abbrev pub AreTokens : List ℕ → TokenText → Type 0
 AreTokens text tokens = (tokens.source ≡ text) × (lexed text ≡ Ok tokens.list) × (nest_of tokens.list ≤ max_nest)
 
--- its tokens have a syntax tree, by the rules of Annex A
+-- its tokens spell a syntax tree, by the productions of Annex A
 abbrev pub HasTree : List ℕ → Type 0
-HasTree text = (tokens : TokenText) × AreTokens text tokens × IsSome (tree_of tokens)
+HasTree text = (tokens : TokenText) × AreTokens text tokens × ((unit : SyntaxTree) × SpellsUnit unit tokens)
 
--- by these rules they have none
+-- they spell none
 abbrev pub HasNoTree : List ℕ → Type 0
-HasNoTree text = (tokens : TokenText) × AreTokens text tokens × (tree_of tokens ≡ None)
+HasNoTree text = (tokens : TokenText) × AreTokens text tokens × ((unit : SyntaxTree) → SpellsUnit unit tokens → ⊥)
 
 -- why a text is refused
 abbrev pub Refuses : List ℕ → Refusal → Type 0
