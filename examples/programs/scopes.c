@@ -29,3 +29,4 @@ int main(void) {
 x:
   return GREEN;
 }
+// Hidden names (6.2.1p4).

@@ -24,3 +24,4 @@ int main(void) {
   printf("%d %d %ld\n", first, second, nested.in.l);
   return nested.n;
 }
+// Static objects and their initializers (6.2.4p3, 6.7.9p4, 6.7.9p10).

@@ -158,3 +158,4 @@ int main(void) {
     sizeof((unsigned long long)0 + (unsigned long long)0), ((unsigned long long)0 + (unsigned long long)0) - 1 < 0 ? 's' : 'u');
   return 0;
 }
+// Conversions between integer kinds (6.3.1.2, 6.3.1.3).

@@ -123,3 +123,4 @@ int main(void) {
   printf("39: %zu %zu %td %td %td\n", sizeof(T39), _Alignof(T39), (char *)&x39.m0 - (char *)&x39, (char *)&x39.m1 - (char *)&x39, (char *)&x39.m2 - (char *)&x39);
   return 0;
 }
+// Alignments, offsets and padding (6.2.8, 6.7.2.1p14 to p17).

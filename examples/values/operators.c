@@ -2139,3 +2139,4 @@ int main(void) {
   printf("%lx %d %hhd %hd %u\n", (unsigned long)~v13, !v13, (signed char)v13, (short)v13, (unsigned)(_Bool)v13);
   return 0;
 }
+// Integer promotions and usual arithmetic conversions (6.3.1.1, 6.3.1.8), operators at their bounds (6.5.5 to 6.5.14).

@@ -1,3 +1,4 @@
+pub mod Conflicts
 pub mod Tests
 pub mod RowLists
 pub mod Found

@@ -1,2 +1,3 @@
+pub mod Conflict
 pub mod Rows
 pub mod Sound

@@ -10,10 +10,10 @@ use Rattle.first_form.specs.Form.{IsFirstForm}
 use Rattle.first_form.specs.declared.fault.FormFault.{FormFault}
 use Rattle.first_form.specs.declared.fault.FormFault.TheVariants as FormFault
 use Rattle.first_form.specs.declared.tree.ReturnUnit.{ReturnUnit}
-use Rattle.sources.specs.declared.fetch.FetchFault.{FetchFault}
-use Rattle.sources.specs.declared.fetch.FetchFault.TheVariants as Fault
+use Rattle.audit_sources.specs.declared.fetch.FetchFault.{FetchFault}
+use Rattle.audit_sources.specs.declared.fetch.FetchFault.TheVariants as Fault
 use Rattle.command.specs.declared.request.AuditRequest.{AuditRequest}
-use Rattle.generator.specs.Text.{text as generated_text}
+use Rattle.audit_generator.specs.Text.{text as generated_text}
 use Rattle.command.specs.declared.request.CheckRequest.{CheckRequest}
 use Rattle.command.specs.declared.request.SelfRequest.{SelfRequest}
 use Rattle.command.specs.declared.request.Request.{Request}

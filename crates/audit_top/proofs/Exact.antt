@@ -8,12 +8,12 @@ use Rattle.first_form.proofs.Sentences.{unit_unique}
 use Rattle.first_form.specs.Grammar.{Spells}
 use Rattle.first_form.specs.declared.tree.ReturnUnit.{ReturnUnit}
 use Rattle.first_form.specs.Form.{IsFirstForm}
-use Rattle.sources.proofs.Told.{absent_stops, absent_whole, not_stopped, too_long_stops, too_long_whole, whole_is}
-use Rattle.sources.specs.Fetching.{AreHeld, IsWhole, Stops, input_wanted, wanted}
-use Rattle.sources.specs.Role.{most}
-use Rattle.sources.specs.declared.fetch.FetchFault.{FetchFault}
-use Rattle.sources.specs.declared.fetch.FetchFault.TheVariants as Fault
-use Rattle.sources.specs.declared.role.Role.TheVariants.{Source}
+use Rattle.audit_sources.proofs.Told.{absent_stops, absent_whole, not_stopped, too_long_stops, too_long_whole, whole_is}
+use Rattle.audit_sources.specs.Fetching.{AreHeld, IsWhole, Stops, input_wanted, wanted}
+use Rattle.audit_sources.specs.Role.{most}
+use Rattle.audit_sources.specs.declared.fetch.FetchFault.{FetchFault}
+use Rattle.audit_sources.specs.declared.fetch.FetchFault.TheVariants as Fault
+use Rattle.audit_sources.specs.declared.role.Role.TheVariants.{Source}
 use Rattle.command.specs.declared.request.AuditRequest.{AuditRequest}
 use Rattle.command.specs.declared.request.Request.{Request}
 use Rattle.command.specs.declared.request.Request.TheVariants.{Audit, Check, SelfAudit}

@@ -2,12 +2,12 @@
 use Rattle.std.specs.Prelude.{◌≡◌, ◌⊎◌, ◌↔◌, ℕ, ◌≤◌, List, [], length, true, Option, Some, None, option_copied, ⊤}
 use Rattle.ub_base.specs.Causes.{Rose}
 use Rattle.ub_base.specs.Held.{Held, IsKept, OthersStay, WhereTold}
-use Rattle.sources.specs.Fetching.{HasInput, IsWhole, Stops, check_wanted, wanted}
-use Rattle.sources.specs.Role.{most}
-use Rattle.sources.specs.declared.fetch.FetchFault.{FetchFault}
-use Rattle.sources.specs.declared.fetch.FetchFault.TheVariants as Fault
-use Rattle.sources.specs.declared.role.Role.TheVariants.{Source, Certificate}
-use Rattle.generator.specs.Text.{text as generated_text}
+use Rattle.audit_sources.specs.Fetching.{HasInput, IsWhole, Stops, check_wanted, wanted}
+use Rattle.audit_sources.specs.Role.{most}
+use Rattle.audit_sources.specs.declared.fetch.FetchFault.{FetchFault}
+use Rattle.audit_sources.specs.declared.fetch.FetchFault.TheVariants as Fault
+use Rattle.audit_sources.specs.declared.role.Role.TheVariants.{Source, Certificate}
+use Rattle.audit_generator.specs.Text.{text as generated_text}
 use Rattle.c_lex.specs.Tokens.{lexed}
 use Rattle.command.specs.declared.request.AuditRequest.{AuditRequest}
 use Rattle.command.specs.declared.request.CheckRequest.{CheckRequest}

@@ -1,7 +1,7 @@
 -- The report of an answer, and its status.
 use Rattle.std.specs.Prelude.{◌≡◌, ◌⊎◌, ℕ, List, [], ◌++◌, codes, decimal, Option}
-use Rattle.sources.specs.declared.role.Role.{Role}
-use Rattle.sources.specs.declared.role.Role.TheVariants.{Source, Certificate, Input}
+use Rattle.audit_sources.specs.declared.role.Role.{Role}
+use Rattle.audit_sources.specs.declared.role.Role.TheVariants.{Source, Certificate, Input}
 use Rattle.cert_check.specs.declared.answer.Answer.{Answer as Verdict}
 use Rattle.cert_check.specs.declared.answer.Answer.TheVariants.{Yes, No}
 use Rattle.cert_check.specs.declared.answer.Part.TheVariants.{Map, Order, Claim}

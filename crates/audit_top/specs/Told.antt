@@ -3,9 +3,9 @@ use Rattle.std.specs.Prelude.{◌≡◌, ◌<◌, ℕ, List, length, Option, Som
 use Rattle.ub_base.specs.Held.{Held, bytes_under}
 use Rattle.first_form.specs.Form.{IsFirstForm}
 use Rattle.first_form.specs.declared.tree.ReturnUnit.{ReturnUnit}
-use Rattle.sources.specs.Fetching.{AreHeld, wanted}
-use Rattle.sources.specs.Role.{most}
-use Rattle.sources.specs.declared.role.Role.TheVariants.{Source}
+use Rattle.audit_sources.specs.Fetching.{AreHeld, wanted}
+use Rattle.audit_sources.specs.Role.{most}
+use Rattle.audit_sources.specs.declared.role.Role.TheVariants.{Source}
 use Rattle.c_lex.specs.Tokens.{lexed}
 use Rattle.command.specs.declared.request.AuditRequest.{AuditRequest}
 use Rattle.command.specs.declared.request.Request.TheVariants.{Audit}

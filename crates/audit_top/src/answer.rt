@@ -2,10 +2,10 @@
 ghost use Rattle.std.specs.Prelude.{◌≡◌, ◌++◌, IfOk};
 ghost use Rattle.audit_top.specs.Report.{numbered, syntax_report, clean_report, undefined_report, refusal_report, too_long_report, summary_report, verdict_report, verdict_status, bad_word, bad_report};
 
+use audit_sources::Role;
 use cert_check::{Answer as Verdict, Part};
 use certificate::Field;
 use itoa::Buffer;
-use sources::Role;
 use std::alloc::Global;
 use ub_base::{Bytes, Clause, NoMemory};
 

@@ -8,10 +8,10 @@ use crate::front::{FrontFault, program_of};
 use crate::run::{Found, Setting, audited};
 use crate::value::verdict;
 use addr_map::Mode;
+use audit_generator::generated;
+use audit_sources::{KeepFault, Sources};
 use command::{AuditRequest, SelfRequest};
 use first_form::{FormFault, read_unit};
-use generator::generated;
-use sources::{KeepFault, Sources};
 use std::alloc::Global;
 use ub_base::{Files, NoMemory};
 

@@ -10,8 +10,8 @@ use crate::answer::Answer;
 use crate::judge::{judged, self_audit};
 use crate::weigh::weighed;
 use crate::words::asked;
+use audit_sources::{FetchFault, fetch_check_sources, fetch_sources};
 use command::{AuditRequest, CheckRequest, Request, WordFault};
-use sources::{FetchFault, fetch_check_sources, fetch_sources};
 use std::alloc::Global;
 use ub_base::{Failed, Files, Sink, put_all};
 

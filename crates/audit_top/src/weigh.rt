@@ -5,10 +5,10 @@ ghost use Rattle.certificate.specs.Reading.{States};
 
 use crate::answer::{Answer, BadCertificate};
 use crate::front::{FrontFault, program_of};
+use audit_sources::CheckSources;
 use c_typed::Program;
 use cert_check::check;
 use certificate::{Cert, CertFault, from_json};
-use sources::CheckSources;
 use std::alloc::Global;
 use ub_base::NoMemory;
 

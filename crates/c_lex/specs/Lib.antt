@@ -1,6 +1,6 @@
 pub mod Bytes
+pub mod Integers
 pub mod Marks
-pub mod Numbers
 pub mod Pieces
 pub mod Runs
 pub mod TokenText

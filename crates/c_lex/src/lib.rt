@@ -3,16 +3,17 @@
 
 mod bytes;
 mod directive;
+mod integer;
 mod laws;
 mod lexer;
 mod marks;
-mod numbers;
 mod piece;
 mod runs;
 mod token;
 mod token_list;
 mod words;
 
+pub use integer::{IntegerParts, Suffix, digit_value, integer_of, is_digit, radix_len};
 pub use laws::law_literals_close;
 pub use lexer::lex;
 pub use token::{LexFault, Mark, Token, TokenKind, Word};

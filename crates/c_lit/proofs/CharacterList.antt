@@ -1,7 +1,6 @@
 -- The characters so far, and those of what is left.
-use Rattle.std.proofs.Common.{◌≡◌, ℕ, zero, suc, ◌<◌, ◌≤◌, List, [], ◌∷◌, ◌++◌, length, take, drop, Option, Some, None, refl, ap, sym, ◌∙◌, arith, append_assoc, length-drop}
+use Rattle.std.proofs.Common.{◌≡◌, ℕ, zero, suc, ◌<◌, ◌≤◌, List, [], ◌∷◌, ◌++◌, length, drop, Option, Some, None, refl, ap, sym, ◌∙◌, arith, append_assoc, length-drop}
 use Rattle.std.proofs.lemmas.List.{append-nil}
-use Rattle.std.proofs.Math.Seq.{take-append_seam}
 use Rattle.std.specs.Option.{option_map}
 use Rattle.c_lit.specs.Characters.{character, characters, characters_from, before}
 use Rattle.c_lit.specs.Literals.{GainsCharacters}
@@ -77,11 +76,3 @@ fault_from given rest zero b bs enough is none = let len = ap length is in absur
 fault_from given rest (suc pieces) b bs enough is none =
     ap (λ r. option_map (λ cs. given ++ cs) (characters_from (suc pieces) r)) is
     ∙ ap (λ q. option_map (λ cs. given ++ cs) (before (characters_from pieces) (b ∷ bs) q)) (sym none)
-
--- where no character stands, there are none in all
-pub no_character : {old new body rest : List ℕ} (b : ℕ) (bs : List ℕ) → SoFar old new body rest → rest ≡ b ∷ bs → None ≡ character b bs → characters body ≡ None
-no_character {old = old} {new = new} {body = body} {rest = rest} b bs s is none = s.is ∙ fault_from s.given rest s.pieces b bs s.enough is none
-
--- the old ones still stand in front
-pub old_in_front : {old new body rest : List ℕ} → SoFar old new body rest → take (length old) new ≡ old
-old_in_front {old = old} s = ap (take (length old)) s.new_is ∙ take-append_seam old s.given

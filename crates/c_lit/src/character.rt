@@ -2,7 +2,8 @@
 ghost use Rattle.std.specs.Prelude.{◌≡◌, ◌≤◌, ◌<◌, ◌+◌, ◌∷◌, length, IfSome};
 ghost use Rattle.c_lit.specs.Characters.{simple_escape, held, octal, hexadecimal, simple, escape, character};
 
-use crate::digits::{digits_len, is_digit, value};
+use crate::digits::value;
+use c_lex::{is_digit, radix_len};
 
 /// The value of a character, and how many bytes spell it.
 #[derive(Clone, Copy, Debug, PartialEq, Eq)]
@@ -52,7 +53,7 @@ fn octal(tail: &[u8]) -> Option<Character>
     ensures value { result ≡ octal tail.now }
     ensures within { IfSome result (λ c. (0 < c.len) × (c.len ≤ length tail.now + 1)) }
 {
-    let len = digits_len(tail, 8).min(3);
+    let len = radix_len(tail, 8).min(3);
     let (digits, _) = tail.split_at(len);
     held(digits, 8, len + 1)
 }
@@ -62,7 +63,7 @@ fn hexadecimal(rest: &[u8], behind: &[u8]) -> Option<Character>
     ensures value { result ≡ hexadecimal behind.now }
     ensures within { IfSome result (λ c. (0 < c.len) × (c.len ≤ length rest.now)) }
 {
-    let len = digits_len(behind, 16);
+    let len = radix_len(behind, 16);
     if len == 0 {
         return None;
     }

@@ -1,13 +1,12 @@
 -- What the descent finds is closed under the rules and under their composition.
-use Rattle.std.proofs.Common.{◌≡◌, ℕ, suc, ◌+◌, ◌<◌, ◌≤◌, Bool, true, false, not, ◌&&◌, ◌||◌, ◌==◌, nat_lt, if◌then◌else◌, IsTrue, is_some, Option, Some, None, refl, sym, ap, subst, ◌∙◌, ◌⊎◌, ◌↔◌, inl, inr, true≢false, arith}
-use Rattle.std.proofs.lemmas.Bool.Decides.{nat_tests}
+use Rattle.std.proofs.Common.{◌≡◌, ℕ, suc, ◌+◌, ◌<◌, Bool, true, false, not, ◌&&◌, ◌||◌, ◌==◌, nat_lt, if◌then◌else◌, is_some, Option, Some, None, refl, sym, subst, ◌∙◌, ◌⊎◌, inl, inr, true≢false, arith}
 use Rattle.ub_base.specs.declared.clause.Kind.{Kind}
 use Rattle.ub_base.specs.declared.clause.Kind.TheVariants.{Val, Eff, Body}
 use Rattle.c_typed.specs.declared.tree.Place.{Place}
 use Rattle.c_typed.specs.declared.class.Class.{Class}
-use Rattle.c_typed.specs.declared.class.Class.TheVariants.{Update, Choice, Comma, Call}
+use Rattle.c_typed.specs.declared.class.Class.TheVariants.{Update, Choice, Comma}
 use Rattle.c_typed.specs.Tree.{Tree, node, Trees, none, more, size, sizes, is_quiet, kinds_of}
-use Rattle.c_typed.specs.Order.{Taken, goes, place, events, has, is_due, is_val, is_body, is_number, across, upward, is_last, own_rule, in_later, comes, operand_rules, Before, rule, chain}
+use Rattle.c_typed.specs.Order.{Taken, goes, events, has, is_due, is_val, is_body, is_number, across, upward, is_last, own_rule, in_later, comes, operand_rules, Before, rule, chain}
 use Rattle.c_typed.specs.Decide.{has_kind, due_in, due_among, lifts, crosses, is_before, rises, to_val, between}
 use Rattle.c_model.proofs.Ranks.{eq_of, lt_lt, ge_lt, if_true, if_false, or_cases, and_l, and_r, In, events_in, later_in, size_pos, eq_eq}
 use Rattle.c_model.proofs.Decided.{and_b, or_a, or_b, or_map, and_map, ne_eq, has_due, sound}

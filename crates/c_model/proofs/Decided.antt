@@ -1,16 +1,16 @@
 -- Going down to the operand that holds an event decides the closure of the rules.
-use Rattle.std.proofs.Common.{◌≡◌, ℕ, suc, ◌+◌, ◌<◌, ◌≤◌, Bool, true, false, not, ◌&&◌, ◌||◌, ◌==◌, nat_lt, if◌then◌else◌, IsTrue, is_some, List, [], ◌∷◌, ◌++◌, map, Option, Some, None, refl, sym, ap, subst, ◌∙◌, ◌⊎◌, inl, inr, true≢false, arith}
+use Rattle.std.proofs.Common.{◌≡◌, ℕ, suc, ◌+◌, ◌<◌, ◌≤◌, Bool, true, false, not, ◌&&◌, ◌||◌, ◌==◌, nat_lt, if◌then◌else◌, List, [], ◌∷◌, ◌++◌, map, Option, refl, sym, ap, subst, ◌∙◌, ◌⊎◌, inl, inr, true≢false, arith}
 use Rattle.std.proofs.lemmas.Bool.Decides.{nat_tests}
 use Rattle.ub_base.specs.declared.clause.Kind.{Kind}
 use Rattle.ub_base.specs.declared.clause.Kind.TheVariants.{Val, Eff, Body}
 use Rattle.ub_base.specs.Names.{same_kind}
 use Rattle.c_typed.specs.declared.tree.Place.{Place}
 use Rattle.c_typed.specs.declared.class.Class.{Class}
-use Rattle.c_typed.specs.declared.class.Class.TheVariants.{Object, Constant, Plain, Store, Update, Choice, Comma, Call, Isolated}
+use Rattle.c_typed.specs.declared.class.Class.TheVariants.{Object, Constant, Update, Call}
 use Rattle.c_typed.specs.Tree.{Tree, node, Trees, none, more, size, sizes, is_quiet, is_quiet_class, kinds_of}
-use Rattle.c_typed.specs.Order.{Taken, goes, place, same_place, own_events, events, operand_events, has, is_due, is_val, is_body, is_number, across, upward, is_last, own_rule, in_later, comes, operand_rules, Before, rule, chain}
+use Rattle.c_typed.specs.Order.{Taken, goes, place, same_place, own_events, events, operand_events, has, is_val, is_body, across, upward, is_last, own_rule, in_later, comes, operand_rules}
 use Rattle.c_typed.specs.Decide.{has_kind, due_in, due_among, lifts, crosses, is_before, rises, to_val, between}
-use Rattle.c_model.proofs.Ranks.{eq_of, lt_lt, ge_lt, if_true, if_false, or_cases, and_l, and_r, In, events_in, operands_in, later_in, size_pos, eq_eq}
+use Rattle.c_model.proofs.Ranks.{eq_of, if_true, or_cases, and_l, and_r, In, events_in, operands_in, eq_eq}
 
 pub and_b : (a b : Bool) → a ≡ true → b ≡ true → (a && b) ≡ true
 and_b true b h k = k

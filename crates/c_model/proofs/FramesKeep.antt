@@ -1,23 +1,20 @@
 -- The frames of a program keep the laws of the frame, of the order and of updates.
-use Rattle.std.proofs.Common.{◌≡◌, ◌≢◌, ℕ, zero, suc, ◌+◌, ◌<◌, ◌≤◌, Bool, true, false, not, ◌&&◌, ◌||◌, ◌==◌, nat_lt, if◌then◌else◌, true≢false, List, ◌∷◌, Option, Some, None, is_some, refl, sym, ap, ap₂, ◌∙◌, subst, ◌⊎◌, inl, inr, arith}
+use Rattle.std.proofs.Common.{◌≡◌, ◌≢◌, ℕ, zero, suc, ◌+◌, ◌<◌, ◌≤◌, Bool, true, false, not, ◌&&◌, ◌||◌, ◌==◌, nat_lt, if◌then◌else◌, true≢false, List, Option, Some, None, is_some, refl, sym, ap, ap₂, ◌∙◌, subst, ◌⊎◌, inl, inr, arith}
 use Rattle.std.proofs.lemmas.Bool.Decides.{nat_tests}
 use Rattle.std.specs.List.{list_all}
 use Rattle.ub_base.specs.declared.clause.Kind.{Kind}
 use Rattle.ub_base.specs.declared.clause.Kind.TheVariants.{Val, Eff, Body}
-use Rattle.ub_base.specs.declared.names.Event.{Event}
-use Rattle.addr_map.specs.declared.map.Row.{Row}
-use Rattle.c_types.specs.declared.library.LibFunc.{LibFunc}
-use Rattle.c_types.specs.Types.{CType}
 use Rattle.c_typed.specs.declared.tree.Place.{Place}
 use Rattle.c_typed.specs.declared.class.Class.{Class}
 use Rattle.c_typed.specs.Tree.{Tree, node, Trees, none, more, size, sizes}
 use Rattle.c_typed.specs.Order.{Taken, place, same_place, is_val, is_body}
 use Rattle.c_typed.specs.Decide.{due_in, due_among}
-use Rattle.prov_memory.specs.Script.{Script, run}
-use Rattle.c_model.specs.Program.{Program, Head, Call, Isolated, Expr, expr, tree_of, Stmt, Function}
-use Rattle.c_model.specs.Values.{Value, Fun}
+use Rattle.mem_spec.specs.Script.{run}
+use Rattle.c_model.specs.Program.{Head, Call, Isolated, Expr, expr, tree_of, Stmt, Function}
+use Rattle.c_model.specs.Values.{Value, later_values}
+use Rattle.c_model.specs.World.{World}
 use Rattle.c_model.specs.Moves.{Move, Stay, Start, End}
-use Rattle.c_model.specs.Steps.{Scene, Local, Begun, Pick, Control, Ev, with_given, taken_by, at_node, function_of, body_frame, start_call, started, move_of, does, move, next}
+use Rattle.c_model.specs.Steps.{Scene, Local, Begun, Pick, Control, Ev, with_given, taken_by, at_node, called_by, own_body, body_frame, start_call, started, move_of, does, move, next}
 use Rattle.c_model.specs.Moments.{places_from}
 use Rattle.c_model.specs.MachineLaws.{FrameLaws, OrderLaws, UpdateLaws}
 use Rattle.c_model.specs.ChoiceLaws.{IsNext, IsReached, due_now, before_now, update_at}
@@ -51,7 +48,7 @@ and_b : (a b : Bool) → a ≡ true → b ≡ true → (a && b) ≡ true
 and_b true b h k = k
 and_b false b h k = h
 
-implied : (a c : Bool) → (not a || c) ≡ true → a ≡ true → c ≡ true
+pub implied : (a c : Bool) → (not a || c) ≡ true → a ≡ true → c ≡ true
 implied true c h k = h
 implied false c h k = absurd (true≢false (sym k))
 
@@ -75,7 +72,7 @@ fewer : (a b : Bool) → (a ≡ true → b ≡ true) → b ≡ false → a ≡ f
 fewer false b h k = refl
 fewer true b h k = absurd (true≢false (sym (h refl) ∙ k))
 
-left_of : (o : Option Value) → not (is_some o) ≡ true → o ≡ None
+pub left_of : (o : Option Value) → not (is_some o) ≡ true → o ≡ None
 left_of None h = refl
 left_of (Some v) h = absurd (cc)
 
@@ -101,10 +98,10 @@ all_put p k zero h = refl
 all_put p k (suc n) h =
     and_b _ _ (h (place k Val) (omega arith)) (and_b _ _ (h (place k Eff) (omega arith)) (and_b _ _ (h (place k Body) (omega arith)) (all_put p (suc k) n (λ u l. h u (omega (arith, l))))))
 
-get : (p : Place → Bool) (n : ℕ) → every p n ≡ true → (u : Place) → u.node < n → p u ≡ true
+pub get : (p : Place → Bool) (n : ℕ) → every p n ≡ true → (u : Place) → u.node < n → p u ≡ true
 get p n h u l = all_get p 0 n h u (omega arith) (omega (arith, l))
 
-all : (p : Place → Bool) (n : ℕ) → ((u : Place) → u.node < n → p u ≡ true) → every p n ≡ true
+pub all : (p : Place → Bool) (n : ℕ) → ((u : Place) → u.node < n → p u ≡ true) → every p n ≡ true
 all p n h = all_put p 0 n (λ u l. h u (omega (arith, l)))
 
 -- a due event is one of the tree
@@ -118,7 +115,7 @@ among_lt true x y t ts m u e f h = let q = lt_of u.node (m + size t) e in omega 
 among_lt false x y t ts m u e f h = let r = f h in omega (arith, r)
 
 mutual
-  due_lt : (taken : Taken) (t : Tree) (k : ℕ) (u : Place) → due_in taken k t u ≡ true → u.node < k + size t
+  pub due_lt : (taken : Taken) (t : Tree) (k : ℕ) (u : Place) → due_in taken k t u ≡ true → u.node < k + size t
   due_lt taken (node class ts) k u h = root_lt (u.node == k) _ _ ts k u refl (due_among_lt taken ts class (taken k) 0 (suc k) u) h
 
   due_among_lt : (taken : Taken) (ts : Trees) (class : Class) (c : Option ℕ) (i m : ℕ) (u : Place) → due_among taken class c i m ts u ≡ true → u.node < m + sizes ts
@@ -140,12 +137,12 @@ given_on e u v w h = go (same_place u v)
     go false = h
 
 -- that no update is open
-none_get : (e : Begun) → none_open e ≡ true → (m : ℕ) → m < nodes e → update_at 0 (tree_of e.root) m ≡ true → is_some (e.given (place m Val)) ≡ true → is_some (e.given (place m Eff)) ≡ true
+pub none_get : (e : Begun) → none_open e ≡ true → (m : ℕ) → m < nodes e → update_at 0 (tree_of e.root) m ≡ true → is_some (e.given (place m Val)) ≡ true → is_some (e.given (place m Eff)) ≡ true
 none_get e h m l up g =
     implied (update_at 0 (tree_of e.root) m && is_some (e.given (place m Val))) _
     (get (λ u. not (update_at 0 (tree_of e.root) u.node && is_some (e.given (place u.node Val))) || is_some (e.given (place u.node Eff))) (nodes e) h (place m Val) l) (and_b _ _ up g)
 
-none_put : (e : Begun) → ((m : ℕ) → m < nodes e → update_at 0 (tree_of e.root) m ≡ true → is_some (e.given (place m Val)) ≡ true → is_some (e.given (place m Eff)) ≡ true) → none_open e ≡ true
+pub none_put : (e : Begun) → ((m : ℕ) → m < nodes e → update_at 0 (tree_of e.root) m ≡ true → is_some (e.given (place m Val)) ≡ true → is_some (e.given (place m Eff)) ≡ true) → none_open e ≡ true
 none_put e h =
     all (λ u. not (update_at 0 (tree_of e.root) u.node && is_some (e.given (place u.node Val))) || is_some (e.given (place u.node Eff))) (nodes e)
     (λ u l. put _ _ (λ a. h u.node l (and_l (update_at 0 (tree_of e.root) u.node) _ a) (and_r (update_at 0 (tree_of e.root) u.node) _ a)))
@@ -192,60 +189,60 @@ if_never : (b : Bool) (mv : Move Local) → (mv ≡ End → ⊥) → (if b then 
 if_never true mv f h = f h
 if_never false mv f h = cc
 
-module _ (program : Program) (rows : List Row) (agree : CType → CType → Bool) (library : LibFunc → Event → List CType → List Value → Script Value) where
+module _ (world : World) where
   abbrev due : Scene → Begun → Place → Bool
-  due = due_now program rows agree library
+  due = due_now world
 
   abbrev before : Scene → Begun → Place → Place → Bool
-  before = before_now program rows agree library
+  before = before_now world
 
   abbrev Next : Scene → Begun → Place → Type 0
-  Next = IsNext program rows agree library
+  Next = IsNext world
 
   abbrev Reached : Scene → Begun → Place → Type 0
-  Reached = IsReached program rows agree library
+  Reached = IsReached world
 
   abbrev reached_b : Scene → Begun → Place → Bool
-  reached_b = is_reached program rows agree library
+  reached_b = is_reached world
 
   abbrev R : Scene → Option Begun → Pick → Type 0
-  R sc o p = ready_in program rows agree library sc o p ≡ true
+  R sc o p = ready_in world sc o p ≡ true
 
   abbrev nxt : Local → Option Begun → Pick → Value → Local
-  nxt = next program rows agree library
+  nxt = next world
 
-  in_range : (f : Scene) (e : Begun) (u : Place) → due f e u ≡ true → u.node < nodes e
-  in_range f e u h = let r = due_lt (taken_by program rows agree library f e) (tree_of e.root) 0 u h in omega (arith, r)
+  pub in_range : (f : Scene) (e : Begun) (u : Place) → due f e u ≡ true → u.node < nodes e
+  in_range f e u h = let r = due_lt (taken_by world f e) (tree_of e.root) 0 u h in omega (arith, r)
 
-  reached_of : (f : Scene) (e : Begun) (u : Place) → reached_b f e u ≡ true → Reached f e u
+  pub reached_of : (f : Scene) (e : Begun) (u : Place) → reached_b f e u ≡ true → Reached f e u
   reached_of f e u h = record {
     due = and_l (due f e u) _ h;
     earlier = λ v dv bv.
         implied (due f e v && before f e v u) _ (get (λ v. not (due f e v && before f e v u) || is_some (e.given v)) (nodes e) (and_r (due f e u) _ h) v (in_range f e v dv)) (and_b _ _ dv bv);
   }
 
-  b_of_reached : (f : Scene) (e : Begun) (u : Place) → Reached f e u → reached_b f e u ≡ true
+  pub b_of_reached : (f : Scene) (e : Begun) (u : Place) → Reached f e u → reached_b f e u ≡ true
   b_of_reached f e u r =
       and_b _ _ r.due (all (λ v. not (due f e v && before f e v u) || is_some (e.given v)) (nodes e) (λ v l. put _ _ (λ a. r.earlier v (and_l (due f e v) _ a) (and_r (due f e v) _ a))))
 
-  next_of : (f : Scene) (e : Begun) (u : Place) → R f (Some e) (Ev u) → Next f e u
+  pub next_of : (f : Scene) (e : Begun) (u : Place) → R f (Some e) (Ev u) → Next f e u
   next_of f e u h =
       let a = and_l (reached_b f e u && not (is_some (e.given u))) _ h in
       let r = reached_of f e u (and_l (reached_b f e u) _ a) in
       record { due = r.due; left = left_of (e.given u) (and_r (reached_b f e u) _ a); earlier = r.earlier }
 
-  closed_of : (f : Scene) (e : Begun) (u : Place) → R f (Some e) (Ev u) → (v : Place) → v.node < nodes e → is_some (e.given v) ≡ true → Reached f e v
+  pub closed_of : (f : Scene) (e : Begun) (u : Place) → R f (Some e) (Ev u) → (v : Place) → v.node < nodes e → is_some (e.given v) ≡ true → Reached f e v
   closed_of f e u h v l g =
       reached_of f e v (implied (is_some (e.given v)) _ (get (λ v. not (is_some (e.given v)) || reached_b f e v) (nodes e) (and_r (reached_b f e u && not (is_some (e.given u))) _ h) v l) g)
 
-  ready_b : (f : Scene) (e : Begun) (u : Place) → Next f e u → ((v : Place) → v.node < nodes e → is_some (e.given v) ≡ true → Reached f e v) → R f (Some e) (Ev u)
+  pub ready_b : (f : Scene) (e : Begun) (u : Place) → Next f e u → ((v : Place) → v.node < nodes e → is_some (e.given v) ≡ true → Reached f e v) → R f (Some e) (Ev u)
   ready_b f e u n closed =
       and_b _ _ (and_b _ _ (b_of_reached f e u (record { due = n.due; earlier = n.earlier })) (not_some (e.given u) n.left))
       (all (λ v. not (is_some (e.given v)) || reached_b f e v) (nodes e) (λ v l. put _ _ (λ g. b_of_reached f e v (closed v l g))))
 
   -- what is done after a ready pick was reached
   after_closed : (f : Scene) (e : Begun) (u : Place) (w : Value) → R f (Some e) (Ev u) → (v : Place) → v.node < nodes e → is_some ((with_given e u w).given v) ≡ true → Reached f (with_given e u w) v
-  after_closed f e u w h v l g = closed_at program rows agree library f e u w (next_of f e u h) v (closed_of f e u h v l) g
+  after_closed f e u w h v l g = closed_at world f e u w (next_of f e u h) v (closed_of f e u h v l) g
 
   control_clash : (f : Scene) (e : Begun) (v : Place) → R f (Some e) Control → R f (Some e) (Ev v) → ⊥
   control_clash f e v h r =
@@ -260,7 +257,7 @@ module _ (program : Program) (rows : List Row) (agree : CType → CType → Bool
   keeps_in f (Some e) Control (Ev v) w rx rq ne = absurd (control_clash f.scene e v rx rq)
   keeps_in f (Some e) (Ev u) Control w rx rq ne = absurd (control_clash f.scene e u rq rx)
   keeps_in f (Some e) (Ev u) (Ev v) w rx rq ne =
-      ready_b f.scene (with_given e u w) v (keeps_ready program rows agree library f.scene e u v w (next_of f.scene e u rx) (next_of f.scene e v rq) (λ q. ne (ap Ev q))) (after_closed f.scene e u w rx)
+      ready_b f.scene (with_given e u w) v (keeps_ready world f.scene e u v w (next_of f.scene e u rx) (next_of f.scene e v rq) (λ q. ne (ap Ev q))) (after_closed f.scene e u w rx)
 
   swaps_in : (f : Local) (o : Option Begun) (x q : Pick) (w v : Value) → R f.scene o x → R f.scene o q → x ≢ q
       → nxt (nxt f o x w) (nxt f o x w).begun q v ≡ nxt (nxt f o q v) (nxt f o q v).begun x w
@@ -273,24 +270,24 @@ module _ (program : Program) (rows : List Row) (agree : CType → CType → Bool
   swaps_in f (Some e) (Ev u) (Ev q) w v rx rq ne = frame_swap f e u q w v (λ p. ne (ap Ev p))
 
   script_in : (f : Local) (o : Option Begun) (x q : Pick) (w : Value) → R f.scene o x → R f.scene o q → x ≢ q
-      → does program rows agree library (nxt f o x w) (nxt f o x w).begun q ≡ does program rows agree library f o q
+      → does world (nxt f o x w) (nxt f o x w).begun q ≡ does world f o q
   script_in f None Control Control w rx rq ne = absurd (ne refl)
   script_in f None Control (Ev v) w rx rq ne = absurd (no_test rq)
   script_in f None (Ev u) q w rx rq ne = absurd (no_test rx)
   script_in f (Some e) Control Control w rx rq ne = absurd (ne refl)
   script_in f (Some e) Control (Ev v) w rx rq ne = absurd (control_clash f.scene e v rx rq)
   script_in f (Some e) (Ev u) Control w rx rq ne = absurd (control_clash f.scene e u rq rx)
-  script_in f (Some e) (Ev u) (Ev v) w rx rq ne = event_same program rows agree library f.scene e u v w (next_of f.scene e u rx) (next_of f.scene e v rq) (λ q. ne (ap Ev q))
+  script_in f (Some e) (Ev u) (Ev v) w rx rq ne = event_same world f.scene e u v w (next_of f.scene e u rx) (next_of f.scene e v rq) (λ q. ne (ap Ev q))
 
   move_in : (f : Local) (o : Option Begun) (x q : Pick) (w : Value) → R f.scene o x → R f.scene o q → x ≢ q
-      → move program rows agree library (nxt f o x w) (nxt f o x w).begun q ≡ move program rows agree library f o q
+      → move world (nxt f o x w) (nxt f o x w).begun q ≡ move world f o q
   move_in f None Control Control w rx rq ne = absurd (ne refl)
   move_in f None Control (Ev v) w rx rq ne = absurd (no_test rq)
   move_in f None (Ev u) q w rx rq ne = absurd (no_test rx)
   move_in f (Some e) Control Control w rx rq ne = absurd (ne refl)
   move_in f (Some e) Control (Ev v) w rx rq ne = absurd (control_clash f.scene e v rx rq)
   move_in f (Some e) (Ev u) Control w rx rq ne = absurd (control_clash f.scene e u rq rx)
-  move_in f (Some e) (Ev u) (Ev v) w rx rq ne = frames_same program rows agree library f.scene e u v w (next_of f.scene e u rx) (next_of f.scene e v rq) (λ q. ne (ap Ev q))
+  move_in f (Some e) (Ev u) (Ev v) w rx rq ne = frames_same world f.scene e u v w (next_of f.scene e u rx) (next_of f.scene e v rq) (λ q. ne (ap Ev q))
 
   opens_same : (f : Local) (o : Option Begun) (x q : Pick) (w : Value) → R f.scene o x → R f.scene o q → x ≢ q → opens_in (nxt f o x w).begun q ≡ opens_in o q
   opens_same f None Control Control w rx rq ne = absurd (ne refl)
@@ -302,29 +299,28 @@ module _ (program : Program) (rows : List Row) (agree : CType → CType → Bool
   opens_same f (Some e) (Ev u) (Ev v) w rx rq ne = refl
 
   -- no event ends its frame
-  frame_never : (f : Scene) (k n : ℕ) (vs : List Value) (b : Option Stmt) → body_frame program rows agree library f k n vs b ≡ End → ⊥
+  frame_never : (f : Scene) (k n : ℕ) (vs : List Value) (b : Option Stmt) → body_frame world f k n vs b ≡ End → ⊥
   frame_never f k n vs None h = cc
   frame_never f k n vs (Some s) h = cc
 
-  call_never : (f : Scene) (k : ℕ) (vs : List Value) (c : Option (ℕ × Function)) → start_call program rows agree library f k vs c ≡ End → ⊥
+  call_never : (f : Scene) (k : ℕ) (vs : List Value) (c : Option (ℕ × Function)) → start_call world f k vs c ≡ End → ⊥
   call_never f k vs None h = cc
-  call_never f k vs (Some c) h = frame_never f k c.0 vs c.1.body h
+  call_never f k vs (Some c) h = frame_never f k c.0 vs (own_body c.1) h
 
-  started_never : (f : Scene) (k : ℕ) (h : Head) (vs : List Value) → started program rows agree library f k h vs ≡ End → ⊥
-  started_never f k (Call d) (Fun a ∷ vs) q = call_never f k vs (function_of program.functions 0 a) q
-  started_never f k (Call d) _ q = cc
+  started_never : (f : Scene) (k : ℕ) (h : Head) (vs : List Value) → started world f k h vs ≡ End → ⊥
+  started_never f k (Call d) vs q = call_never f k (later_values vs) (called_by world vs) q
   started_never f k (Isolated e) vs q = cc
   started_never f k _ vs q = cc
 
-  move_never : (f : Scene) (e : Begun) (u : Place) (o : Option Expr) → move_of program rows agree library f e u o ≡ End → ⊥
+  move_never : (f : Scene) (e : Begun) (u : Place) (o : Option Expr) → move_of world f e u o ≡ End → ⊥
   move_never f e u None q = cc
-  move_never f e u (Some (expr h ty es)) q = if_never (is_body u.kind) _ (started_never f u.node h _) q
+  move_never f e u (Some (expr h ty line es)) q = if_never (is_body u.kind) _ (started_never f u.node h _) q
 
   leave_in : (f : Local) (o : Option Begun) (l : Pick) → R f.scene o l
-      → start_where (gives (does program rows agree library f o l)) (move program rows agree library f o l) ≡ End → is_control l ≡ true
+      → start_where (gives (does world f o l)) (move world f o l) ≡ End → is_control l ≡ true
   leave_in f o Control r h = refl
   leave_in f None (Ev u) r h = absurd (no_test r)
-  leave_in f (Some e) (Ev u) r h = absurd (start_never (gives (does program rows agree library f (Some e) (Ev u))) _ (move_never f.scene e u (at_node 0 e.root u.node)) h)
+  leave_in f (Some e) (Ev u) r h = absurd (start_never (gives (does world f (Some e) (Ev u))) _ (move_never f.scene e u (at_node 0 e.root u.node)) h)
 
   alone_in : (f : Scene) (o : Option Begun) (c q : Pick) → R f o c → is_control c ≡ true → R f o q → c ≡ q
   alone_in f o (Ev u) q rc k rq = absurd (no_test k)
@@ -333,10 +329,10 @@ module _ (program : Program) (rows : List Row) (agree : CType → CType → Bool
   alone_in f (Some e) Control (Ev v) rc k rq = absurd (control_clash f e v rc rq)
 
   abbrev B : Scene → Option Begun → Pick → Pick → Type 0
-  B f o p q = beside_in program rows agree library f o p q ≡ true
+  B f o p q = beside_in world f o p q ≡ true
 
   abbrev L : Scene → Option Begun → Pick → Pick → Type 0
-  L f o p q = level_in program rows agree library f o p q ≡ true
+  L f o p q = level_in world f o p q ≡ true
 
   level_put : (f : Scene) (e : Begun) (u v : Place) → Reached f e u → Reached f e v → before f e u v ≡ false → before f e v u ≡ false → L f (Some e) (Ev u) (Ev v)
   level_put f e u v ru rv b c = and_b _ _ (and_b _ _ (b_of_reached f e u ru) (b_of_reached f e v rv)) (and_b _ _ (to_not _ b) (to_not _ c))
@@ -352,7 +348,7 @@ module _ (program : Program) (rows : List Row) (agree : CType → CType → Bool
   level_ready_in f (Some e) Control (Ev v) rp rq ne = absurd (control_clash f e v rp rq)
   level_ready_in f (Some e) (Ev u) Control rp rq ne = absurd (control_clash f e u rq rp)
   level_ready_in f (Some e) (Ev u) (Ev v) rp rq ne =
-      level_put f e u v (reached_ready f e u rp) (reached_ready f e v rq) (not_before program rows agree library f e u v (next_of f e u rp) (next_of f e v rq)) (not_before program rows agree library f e v u (next_of f e v rq) (next_of f e u rp))
+      level_put f e u v (reached_ready f e u rp) (reached_ready f e v rq) (not_before world f e u v (next_of f e u rp) (next_of f e v rq)) (not_before world f e v u (next_of f e v rq) (next_of f e u rp))
 
   level_next_in : (f : Local) (o : Option Begun) (p q x : Pick) (w : Value) → L f.scene o p q → R f.scene o x → is_control x ≡ false → L (nxt f o x w).scene (nxt f o x w).begun p q
   level_next_in f None p q x w l rx cx = absurd (no_test l)
@@ -367,8 +363,8 @@ module _ (program : Program) (rows : List Row) (agree : CType → CType → Bool
       let rv = reached_of f.scene e v (and_r (reached_b f.scene e u) _ both) in
       let b = not_of _ (and_l (not (before f.scene e u v)) _ apart) in
       let c = not_of _ (and_r (not (before f.scene e u v)) _ apart) in
-      level_put f.scene (with_given e z w) u v (reached_next program rows agree library f.scene e z u w n ru) (reached_next program rows agree library f.scene e z v w n rv)
-      (before_stays program rows agree library f.scene e z u v w n ru rv b) (before_stays program rows agree library f.scene e z v u w n rv ru c)
+      level_put f.scene (with_given e z w) u v (reached_next world f.scene e z u w n ru) (reached_next world f.scene e z v w n rv)
+      (before_stays world f.scene e z u v w n ru rv b) (before_stays world f.scene e z v u w n rv ru c)
 
   level_beside_in : (f : Scene) (o : Option Begun) (p q : Pick) → L f o p q → B f o p q
   level_beside_in f None p q l = absurd (no_test l)
@@ -386,9 +382,9 @@ module _ (program : Program) (rows : List Row) (agree : CType → CType → Bool
   beside_before_in f (Some e) Control (Ev u) (Ev z) v rq rx ne b = absurd (no_test b)
   beside_before_in f (Some e) (Ev y) (Ev u) (Ev z) v rq rx ne b =
       let n = next_of f.scene e z rq in
-      let k = choices_kept program rows agree library f.scene e z v n.due n.left in
-      let T = taken_by program rows agree library f.scene e in
-      let T' = taken_by program rows agree library f.scene (with_given e z v) in
+      let k = choices_kept world f.scene e z v n.due n.left in
+      let T = taken_by world f.scene e in
+      let T' = taken_by world f.scene (with_given e z v) in
       and_b _ _ (to_not _ (fewer _ _ (before_kept T T' k (tree_of e.root) 0 y u) (not_of _ (and_l (not (before f.scene (with_given e z v) y u)) _ b))))
       (to_not _ (fewer _ _ (before_kept T T' k (tree_of e.root) 0 u y) (not_of _ (and_r (not (before f.scene (with_given e z v) y u)) _ b))))
 
@@ -443,7 +439,7 @@ module _ (program : Program) (rows : List Row) (agree : CType → CType → Bool
   half_at f e m v up r =
       let n = next_of f e (place m Val) r in
       ready_b f (with_given e (place m Val) v) (place m Eff)
-      (effect_next program rows agree library f e m v up n (closed_of f e (place m Val) r (place m Eff) (in_range f e (place m Val) n.due)))
+      (effect_next world f e m v up n (closed_of f e (place m Val) r (place m Eff) (in_range f e (place m Val) n.due)))
       (after_closed f e (place m Val) v r)
 
   half_ready_in : (f : Local) (o : Option Begun) (q : Pick) (v : Value) → R f.scene o q → opens_in o q ≡ true → R (nxt f o q v).scene (nxt f o q v).begun (half q)
@@ -460,7 +456,7 @@ module _ (program : Program) (rows : List Row) (agree : CType → CType → Bool
   half_later_in f (Some e) (Ev u) rq oq rt =
       let n = next_of f e (place u.node Val) (subst (λ z. R f (Some e) (Ev z)) (val_is e u oq) rq) in
       none_some (e.given (place u.node Val)) n.left
-      ((next_of f e (place u.node Eff) rt).earlier (place u.node Val) n.due (halves (taken_by program rows agree library f e) u.node (tree_of e.root) 0 (and_r (is_val u.kind) _ oq)))
+      ((next_of f e (place u.node Eff) rt).earlier (place u.node Val) n.due (halves (taken_by world f e) u.node (tree_of e.root) 0 (and_r (is_val u.kind) _ oq)))
 
   half_event_in : (o : Option Begun) (q : Pick) → opens_in o q ≡ true → is_control (half q) ≡ false
   half_event_in o Control h = absurd (no_opens o h)
@@ -489,7 +485,7 @@ module _ (program : Program) (rows : List Row) (agree : CType → CType → Bool
   half_beside_in f None q v h b = no_test h
   half_beside_in f (Some e) Control v h b = no_test h
   half_beside_in f (Some e) (Ev u) v h b =
-      let hv = halves (taken_by program rows agree library f.scene (with_given e u v)) u.node (tree_of e.root) 0 (and_r (is_val u.kind) _ h) in
+      let hv = halves (taken_by world f.scene (with_given e u v)) u.node (tree_of e.root) 0 (and_r (is_val u.kind) _ h) in
       let hu = subst (λ z. before f.scene (with_given e u v) z (place u.node Eff) ≡ true) (sym (val_is e u h)) hv in
       true≢false (sym hu ∙ not_of _ (and_l (not (before f.scene (with_given e u v) u (place u.node Eff))) _ b))
 
@@ -501,15 +497,15 @@ module _ (program : Program) (rows : List Row) (agree : CType → CType → Bool
   start_pair_in f (Some e) (Ev u) (Ev z) v w rx rq oq ne ok = or_keep (not (is_body u.kind)) _ _ (none_pair e z v w) ok
 
   module _ {Part Seen Fact : Type 0} (parts : StorePart Part Seen Fact) where
-    pub frame_laws : FrameLaws (frame_machine program rows agree library parts)
+    pub frame_laws : FrameLaws (frame_machine world parts)
     frame_laws = record {
       keeps = λ f x q w rx rq ne. keeps_in f f.begun x q w rx rq ne;
       swaps = λ f x q w v rx rq ne. swaps_in f f.begun x q w v rx rq ne;
       same_move = λ f x q w rx rq ne. ap₂ (λ s mv. start_where (gives s) mv) (script_in f f.begun x q w rx rq ne) (move_in f f.begun x q w rx rq ne);
-      same_does = λ f x q w rx rq ne. ap (λ sc s. done_by (run rows sc s)) (script_in f f.begun x q w rx rq ne);
+      same_does = λ f x q w rx rq ne. ap (λ sc s. done_by (run world.rows sc s)) (script_in f f.begun x q w rx rq ne);
     }
 
-    pub order_laws : OrderLaws (frame_machine program rows agree library parts)
+    pub order_laws : OrderLaws (frame_machine world parts)
     order_laws = record {
       same_opens = λ f x q w rx rq ne. opens_same f f.begun x q w rx rq ne;
       leave_control = λ f l r h. leave_in f f.begun l r h;
@@ -527,7 +523,7 @@ module _ (program : Program) (rows : List Row) (agree : CType → CType → Bool
       start_next = λ f x q v oq rx rq ne ok. start_next_in f f.begun x q v oq rx rq ne ok;
     }
 
-    pub update_laws : UpdateLaws (frame_machine program rows agree library parts)
+    pub update_laws : UpdateLaws (frame_machine world parts)
     update_laws = record {
       half_ready = λ f q v rq oq. half_ready_in f f.begun q v rq oq;
       half_later = λ f q rq oq rt. half_later_in f.scene f.begun q rq oq rt;

@@ -1,18 +1,14 @@
 -- The two halves of an update, in a full expression of which some events are done.
-use Rattle.std.proofs.Common.{◌≡◌, ◌≢◌, ℕ, Bool, true, false, ◌&&◌, if◌then◌else◌, true≢false, List, Option, Some, None, is_some, refl, sym, ap, ◌∙◌, subst, inl, inr, arith}
+use Rattle.std.proofs.Common.{◌≡◌, ◌≢◌, ℕ, Bool, true, false, ◌&&◌, if◌then◌else◌, true≢false, Option, Some, None, is_some, refl, sym, ap, ◌∙◌, subst, inl, inr, arith}
 use Rattle.std.proofs.lemmas.Bool.Decides.{nat_tests}
 use Rattle.ub_base.specs.declared.clause.Kind.{Kind}
 use Rattle.ub_base.specs.declared.clause.Kind.TheVariants.{Val, Eff, Body}
-use Rattle.ub_base.specs.declared.names.Event.{Event}
 use Rattle.ub_base.specs.Names.{same_kind}
-use Rattle.addr_map.specs.declared.map.Row.{Row}
-use Rattle.c_types.specs.declared.library.LibFunc.{LibFunc}
-use Rattle.c_types.specs.Types.{CType}
 use Rattle.c_typed.specs.declared.tree.Place.{Place}
 use Rattle.c_typed.specs.Order.{Taken, place, same_place}
-use Rattle.prov_memory.specs.Script.{Script}
-use Rattle.c_model.specs.Program.{Program, tree_of}
+use Rattle.c_model.specs.Program.{tree_of}
 use Rattle.c_model.specs.Values.{Value}
+use Rattle.c_model.specs.World.{World}
 use Rattle.c_model.specs.Steps.{Scene, Begun, with_given, taken_by}
 use Rattle.c_model.specs.ChoiceLaws.{IsNext, IsReached, update_at}
 use Rattle.c_model.proofs.LaterChoices.{due_kept}
@@ -38,23 +34,23 @@ given_at e u v w q = go (same_place u v) refl
     go true s = refl
     go false s = absurd (true≢false (sym (subst (λ z. same_place u z ≡ true) q (refl_place u)) ∙ s))
 
-module _ (program : Program) (rows : List Row) (agree : CType → CType → Bool) (library : LibFunc → Event → List CType → List Value → Script Value) where
-  pub closed_at : (sc : Scene) (e : Begun) (u : Place) (w : Value) → IsNext program rows agree library sc e u → (v : Place)
-      → (is_some (e.given v) ≡ true → IsReached program rows agree library sc e v)
+module _ (world : World) where
+  pub closed_at : (sc : Scene) (e : Begun) (u : Place) (w : Value) → IsNext world sc e u → (v : Place)
+      → (is_some (e.given v) ≡ true → IsReached world sc e v)
       → is_some ((with_given e u w).given v) ≡ true
-      → IsReached program rows agree library sc (with_given e u w) v
+      → IsReached world sc (with_given e u w) v
   closed_at sc e u w n v closed h = go (same_place u v) refl
     where
-      go : (b : Bool) → same_place u v ≡ b → IsReached program rows agree library sc (with_given e u w) v
-      go true eq = subst (λ z. IsReached program rows agree library sc (with_given e u w) z) (same_place-eq u v eq) (reached_made program rows agree library sc e u w n)
-      go false eq = reached_next program rows agree library sc e u v w n (closed (subst (λ b. is_some (if b then Some w else e.given v) ≡ true) eq h))
+      go : (b : Bool) → same_place u v ≡ b → IsReached world sc (with_given e u w) v
+      go true eq = subst (λ z. IsReached world sc (with_given e u w) z) (same_place-eq u v eq) (reached_made world sc e u w n)
+      go false eq = reached_next world sc e u v w n (closed (subst (λ b. is_some (if b then Some w else e.given v) ≡ true) eq h))
 
-  module _ (sc : Scene) (e : Begun) (m : ℕ) (w : Value) (up : update_at 0 (tree_of e.root) m ≡ true) (n : IsNext program rows agree library sc e (place m Val)) (closed : is_some (e.given (place m Eff)) ≡ true → IsReached program rows agree library sc e (place m Eff)) where
+  module _ (sc : Scene) (e : Begun) (m : ℕ) (w : Value) (up : update_at 0 (tree_of e.root) m ≡ true) (n : IsNext world sc e (place m Val)) (closed : is_some (e.given (place m Eff)) ≡ true → IsReached world sc e (place m Eff)) where
     abbrev T : Taken
-    T = taken_by program rows agree library sc e
+    T = taken_by world sc e
 
     abbrev T' : Taken
-    T' = taken_by program rows agree library sc (with_given e (place m Val) w)
+    T' = taken_by world sc (with_given e (place m Val) w)
 
     -- the effect wasn't done before the value
     eff_left : e.given (place m Eff) ≡ None
@@ -69,17 +65,17 @@ module _ (program : Program) (rows : List Row) (agree : CType → CType → Bool
     val_not_eff : place m Val ≢ place m Eff
     val_not_eff q = cc (ap (λ z. z.kind) q)
 
-    pub effect_next : IsNext program rows agree library sc (with_given e (place m Val) w) (place m Eff)
+    pub effect_next : IsNext world sc (with_given e (place m Val) w) (place m Eff)
     effect_next =
-        let k = choices_kept program rows agree library sc e (place m Val) w n.due n.left in
+        let k = choices_kept world sc e (place m Val) w n.due n.left in
         let due = due_kept T T' k (tree_of e.root) 0 (place m Eff) (due_halves T m (tree_of e.root) 0 up n.due) in
         record {
           due = due;
-          left = given_other program rows agree library sc e (place m Val) w (place m Eff) val_not_eff ∙ eff_left;
+          left = given_other world sc e (place m Val) w (place m Eff) val_not_eff ∙ eff_left;
           earlier = λ z d b. elim (halves_back T' m (tree_of e.root) 0 z up b) [
             | inl q ↦ given_at e (place m Val) z w (sym q)
-            | inr b2 ↦ (elim (old_or_u program rows agree library sc e (place m Val) w z (place m Val) n.due n.left b2 d n.due) [
-              | inl a ↦ still_given program rows agree library sc e (place m Val) z w (n.earlier z a.1 a.0)
+            | inr b2 ↦ (elim (old_or_u world sc e (place m Val) w z (place m Val) n.due n.left b2 d n.due) [
+              | inl a ↦ still_given world sc e (place m Val) z w (n.earlier z a.1 a.0)
               | inr a ↦ absurd (none_some (e.given (place m Val)) n.left (n.earlier (place m Val) n.due a))
             ])
           ];

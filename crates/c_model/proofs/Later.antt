@@ -6,9 +6,9 @@ use Rattle.c_typed.specs.declared.tree.Place.{Place}
 use Rattle.c_typed.specs.declared.class.Class.{Class}
 use Rattle.c_typed.specs.declared.class.Class.TheVariants.{Object, Constant, Choice}
 use Rattle.c_typed.specs.Tree.{Tree, node, Trees, none, more, size, sizes, is_quiet, is_quiet_class, kinds_of}
-use Rattle.c_typed.specs.Order.{Taken, goes, place, events, has, is_due, is_choice, is_body, across, is_last, own_rule, is_val, Before}
+use Rattle.c_typed.specs.Order.{Taken, goes, place, is_due, is_choice, is_body, across, is_last, own_rule, is_val, Before}
 use Rattle.c_typed.specs.Decide.{has_kind, due_in, due_among, lifts, crosses, is_before, rises, to_val, between}
-use Rattle.c_model.proofs.Ranks.{lt_lt, ge_lt, if_true, if_false, or_cases, and_l, and_r, In, size_pos, eq_eq}
+use Rattle.c_model.proofs.Ranks.{lt_lt, ge_lt, if_true, if_false, or_cases, and_l, and_r, size_pos, eq_eq}
 use Rattle.c_model.proofs.Decided.{and_b, or_a, or_b, ne_eq, has_due, among_range}
 use Rattle.c_model.proofs.Closed.{before_due, before_found, found_before}
 

@@ -3,18 +3,15 @@ use Rattle.std.proofs.Common.{◌≡◌, ◌≢◌, ℕ, zero, suc, ◌+◌, Boo
 use Rattle.std.proofs.lemmas.Bool.Decides.{nat_tests}
 use Rattle.ub_base.specs.declared.clause.Kind.{Kind}
 use Rattle.ub_base.specs.declared.clause.Kind.TheVariants.{Val, Eff, Body}
-use Rattle.ub_base.specs.declared.names.Event.{Event}
 use Rattle.ub_base.specs.Names.{same_kind}
-use Rattle.addr_map.specs.declared.map.Row.{Row}
-use Rattle.c_types.specs.declared.library.LibFunc.{LibFunc}
 use Rattle.c_types.specs.Types.{CType}
 use Rattle.c_typed.specs.declared.tree.Place.{Place}
 use Rattle.c_typed.specs.Tree.{Tree, Trees, class_of, operands, size, is_quiet}
 use Rattle.c_typed.specs.Order.{Taken, place, same_place, is_choice, is_last}
 use Rattle.c_typed.specs.Decide.{due_in, is_before}
-use Rattle.prov_memory.specs.Script.{Script}
-use Rattle.c_model.specs.Program.{Program, Head, And, Or, Cond, Expr, expr, Exprs, none, more, tree_of, trees_of, head_class}
+use Rattle.c_model.specs.Program.{Head, And, Or, Cond, Expr, expr, Exprs, none, more, tree_of, trees_of, head_class}
 use Rattle.c_model.specs.Values.{Value, or_nothing}
+use Rattle.c_model.specs.World.{World}
 use Rattle.c_model.specs.Steps.{Scene, Begun, with_given, taken_by, choice_in, choice_by, values_of, at_node, at_node_among, quiet_value}
 use Rattle.c_model.specs.ChoiceLaws.{IsNext, IsReached}
 use Rattle.c_model.proofs.LaterChoices.{due_kept, x, chooses, chooses_among, Held, old_before}
@@ -108,52 +105,52 @@ and_true : (a : Bool) → a ≡ true → a && true ≡ true
 and_true true h = refl
 and_true false h = h
 
-root_case : (b : Bool) (e0 : Expr) (o : Option Expr) (d : Bool) (h : Head) (ty : CType) (t1 : Expr) (ts1 : Exprs) → (o ≡ Some (expr h ty (more t1 ts1)) → d ≡ true)
-    → (if b then Some e0 else o) ≡ Some (expr h ty (more t1 ts1)) → is_choice (head_class h (trees_of (more t1 ts1))) ≡ true → (if b then is_first (tree_of e0) else d) ≡ true
-root_case true e0 o d h ty t1 ts1 g q c = subst (λ z. is_first (tree_of z) ≡ true) (sym (some_inj q)) (and_true _ c)
-root_case false e0 o d h ty t1 ts1 g q c = g q
+root_case : (b : Bool) (e0 : Expr) (o : Option Expr) (d : Bool) (h : Head) (ty : CType) (line : ℕ) (t1 : Expr) (ts1 : Exprs) → (o ≡ Some (expr h ty line (more t1 ts1)) → d ≡ true)
+    → (if b then Some e0 else o) ≡ Some (expr h ty line (more t1 ts1)) → is_choice (head_class h (trees_of (more t1 ts1))) ≡ true → (if b then is_first (tree_of e0) else d) ≡ true
+root_case true e0 o d h ty line t1 ts1 g q c = subst (λ z. is_first (tree_of z) ≡ true) (sym (some_inj q)) (and_true _ c)
+root_case false e0 o d h ty line t1 ts1 g q c = g q
 
-module _ (program : Program) (rows : List Row) (agree : CType → CType → Bool) (library : LibFunc → Event → List CType → List Value → Script Value) (f : Scene) (e : Begun) (u : Place) (w : Value) where
+module _ (world : World) (f : Scene) (e : Begun) (u : Place) (w : Value) where
   abbrev e' : Begun
   e' = with_given e u w
 
   abbrev T : Taken
-  T = taken_by program rows agree library f e
+  T = taken_by world f e
 
   abbrev T' : Taken
-  T' = taken_by program rows agree library f e'
+  T' = taken_by world f e'
 
   pub given_other : (v : Place) → u ≢ v → e'.given v ≡ e.given v
   given_other v ne = if_no _ _ _ (same_place-no u v ne)
 
-  first_value : (t : Expr) (k : ℕ) → u ≢ val_at k → (if is_quiet (tree_of t) then quiet_value program rows agree library f t else or_nothing (e'.given (val_at k))) ≡ (if is_quiet (tree_of t) then quiet_value program rows agree library f t else or_nothing (e.given (val_at k)))
-  first_value t k ne = ap (λ z. if is_quiet (tree_of t) then quiet_value program rows agree library f t else or_nothing z) (given_other (val_at k) ne)
+  first_value : (t : Expr) (k : ℕ) → u ≢ val_at k → (if is_quiet (tree_of t) then quiet_value world f t else or_nothing (e'.given (val_at k))) ≡ (if is_quiet (tree_of t) then quiet_value world f t else or_nothing (e.given (val_at k)))
+  first_value t k ne = ap (λ z. if is_quiet (tree_of t) then quiet_value world f t else or_nothing z) (given_other (val_at k) ne)
 
   -- a choice whose first operand's value isn't u's stays
-  choice_same : (k : ℕ) (o : Option Expr) → u ≢ val_at (suc k) → choice_in program rows agree library f e'.given k o ≡ choice_in program rows agree library f e.given k o
+  choice_same : (k : ℕ) (o : Option Expr) → u ≢ val_at (suc k) → choice_in world f e'.given k o ≡ choice_in world f e.given k o
   choice_same k None ne = refl
-  choice_same k (Some (expr h ty none)) ne = refl
-  choice_same k (Some (expr h ty (more t ts))) ne =
+  choice_same k (Some (expr h ty line none)) ne = refl
+  choice_same k (Some (expr h ty line (more t ts))) ne =
       let known = ap (λ z. is_quiet (tree_of t) || is_some z) (given_other (val_at (suc k)) ne) in
-      choice_head h _ _ (values_of program rows agree library f e.given (suc k + size (tree_of t)) ts) _
-      ∙ ap₂ (λ z b. choice_by h (z ∷ values_of program rows agree library f e.given (suc k + size (tree_of t)) ts) b) (first_value t (suc k) ne) known
+      choice_head h _ _ (values_of world f e.given (suc k + size (tree_of t)) ts) _
+      ∙ ap₂ (λ z b. choice_by h (z ∷ values_of world f e.given (suc k + size (tree_of t)) ts) b) (first_value t (suc k) ne) known
 
   -- nor does one whose first operand is quiet, or a node that is no choice
-  quiet_same : (k : ℕ) (h : Head) (ty : CType) (t : Expr) (ts : Exprs) → is_quiet (tree_of t) ≡ true → choice_in program rows agree library f e'.given k (Some (expr h ty (more t ts))) ≡ choice_in program rows agree library f e.given k (Some (expr h ty (more t ts)))
-  quiet_same k h ty t ts q =
+  quiet_same : (k : ℕ) (h : Head) (ty : CType) (line : ℕ) (t : Expr) (ts : Exprs) → is_quiet (tree_of t) ≡ true → choice_in world f e'.given k (Some (expr h ty line (more t ts))) ≡ choice_in world f e.given k (Some (expr h ty line (more t ts)))
+  quiet_same k h ty line t ts q =
       let known = ap (λ a. a || is_some (e'.given (val_at (suc k)))) q in
       let known' = ap (λ a. a || is_some (e.given (val_at (suc k)))) q in
-      let v = if_yes (is_quiet (tree_of t)) (quiet_value program rows agree library f t) (or_nothing (e'.given (val_at (suc k)))) q in
-      let v' = if_yes (is_quiet (tree_of t)) (quiet_value program rows agree library f t) (or_nothing (e.given (val_at (suc k)))) q in
-      choice_head h _ _ (values_of program rows agree library f e.given (suc k + size (tree_of t)) ts) _
-      ∙ ap₂ (λ z b. choice_by h (z ∷ values_of program rows agree library f e.given (suc k + size (tree_of t)) ts) b) (v ∙ sym v') (known ∙ sym known')
+      let v = if_yes (is_quiet (tree_of t)) (quiet_value world f t) (or_nothing (e'.given (val_at (suc k)))) q in
+      let v' = if_yes (is_quiet (tree_of t)) (quiet_value world f t) (or_nothing (e.given (val_at (suc k)))) q in
+      choice_head h _ _ (values_of world f e.given (suc k + size (tree_of t)) ts) _
+      ∙ ap₂ (λ z b. choice_by h (z ∷ values_of world f e.given (suc k + size (tree_of t)) ts) b) (v ∙ sym v') (known ∙ sym known')
     where
       if_yes : {A : Type 0} (b : Bool) (p q : A) → b ≡ true → (if b then p else q) ≡ p
       if_yes true p q h = refl
       if_yes false p q h = absurd (cc)
 
-  no_choice_same : (k : ℕ) (h : Head) (ty : CType) (ts : Exprs) → is_choice (head_class h (trees_of ts)) ≡ false → choice_in program rows agree library f e'.given k (Some (expr h ty ts)) ≡ choice_in program rows agree library f e.given k (Some (expr h ty ts))
-  no_choice_same k h ty ts q = no_choice h (trees_of ts) _ _ q ∙ sym (no_choice h (trees_of ts) _ _ q)
+  no_choice_same : (k : ℕ) (h : Head) (ty : CType) (line : ℕ) (ts : Exprs) → is_choice (head_class h (trees_of ts)) ≡ false → choice_in world f e'.given k (Some (expr h ty line ts)) ≡ choice_in world f e.given k (Some (expr h ty line ts))
+  no_choice_same k h ty line ts q = no_choice h (trees_of ts) _ _ q ∙ sym (no_choice h (trees_of ts) _ _ q)
 
   -- the pick makes no choice, or that of one node
   data Change : Type 0 where
@@ -162,17 +159,17 @@ module _ (program : Program) (rows : List Row) (agree : CType → CType → Bool
 
   mutual
     -- a choice that is in the tree is found there
-    found : (n0 : ℕ) (agree' : (k : ℕ) → k ≢ n0 → T' k ≡ T k) (fresh : T n0 ≡ None) (t : Expr) (k : ℕ) (h : Head) (ty : CType) (t1 : Expr) (ts1 : Exprs) → at_node k t n0 ≡ Some (expr h ty (more t1 ts1))
+    found : (n0 : ℕ) (agree' : (k : ℕ) → k ≢ n0 → T' k ≡ T k) (fresh : T n0 ≡ None) (t : Expr) (k : ℕ) (h : Head) (ty : CType) (line : ℕ) (t1 : Expr) (ts1 : Exprs) → at_node k t n0 ≡ Some (expr h ty line (more t1 ts1))
         → is_choice (head_class h (trees_of (more t1 ts1))) ≡ true → chooses T T' n0 agree' fresh k (tree_of t) ≡ true
-    found n0 agree' fresh (expr m my ts) k h ty t1 ts1 q c =
-        subst (λ b. (if b then is_first (tree_of (expr m my ts)) else chooses_among T T' n0 agree' fresh (suc k) (trees_of ts)) ≡ true) (flip_eq k n0)
-        (root_case (k == n0) (expr m my ts) (at_node_among (suc k) ts n0) _ h ty t1 ts1 (λ z. found_among n0 agree' fresh ts (suc k) h ty t1 ts1 z c) q c)
+    found n0 agree' fresh (expr m my ml ts) k h ty line t1 ts1 q c =
+        subst (λ b. (if b then is_first (tree_of (expr m my ml ts)) else chooses_among T T' n0 agree' fresh (suc k) (trees_of ts)) ≡ true) (flip_eq k n0)
+        (root_case (k == n0) (expr m my ml ts) (at_node_among (suc k) ts n0) _ h ty line t1 ts1 (λ z. found_among n0 agree' fresh ts (suc k) h ty line t1 ts1 z c) q c)
 
-    found_among : (n0 : ℕ) (agree' : (k : ℕ) → k ≢ n0 → T' k ≡ T k) (fresh : T n0 ≡ None) (ts : Exprs) (k : ℕ) (h : Head) (ty : CType) (t1 : Expr) (ts1 : Exprs) → at_node_among k ts n0 ≡ Some (expr h ty (more t1 ts1))
+    found_among : (n0 : ℕ) (agree' : (k : ℕ) → k ≢ n0 → T' k ≡ T k) (fresh : T n0 ≡ None) (ts : Exprs) (k : ℕ) (h : Head) (ty : CType) (line : ℕ) (t1 : Expr) (ts1 : Exprs) → at_node_among k ts n0 ≡ Some (expr h ty line (more t1 ts1))
         → is_choice (head_class h (trees_of (more t1 ts1))) ≡ true → chooses_among T T' n0 agree' fresh k (trees_of ts) ≡ true
-    found_among n0 agree' fresh none k h ty t1 ts1 q c = absurd (cc)
-    found_among n0 agree' fresh (more t ts) k h ty t1 ts1 q c =
-        among_case (nat_lt n0 (k + size (tree_of t))) _ _ _ _ (λ z. found n0 agree' fresh t k h ty t1 ts1 z c) (λ z. found_among n0 agree' fresh ts (k + size (tree_of t)) h ty t1 ts1 z c) q
+    found_among n0 agree' fresh none k h ty line t1 ts1 q c = absurd (cc)
+    found_among n0 agree' fresh (more t ts) k h ty line t1 ts1 q c =
+        among_case (nat_lt n0 (k + size (tree_of t))) _ _ _ _ (λ z. found n0 agree' fresh t k h ty line t1 ts1 z c) (λ z. found_among n0 agree' fresh ts (k + size (tree_of t)) h ty line t1 ts1 z c) q
 
   all_same : ((k : ℕ) → T' k ≡ T k) → T' ≡ T
   all_same h = λ i k. h k i
@@ -193,21 +190,21 @@ module _ (program : Program) (rows : List Row) (agree : CType → CType → Bool
 
   -- what a pick changes of the choices
   change_at : (n0 : ℕ) → u ≡ val_at (suc n0) → due_in T 0 (tree_of e.root) u ≡ true → e.given u ≡ None → (o : Option Expr) → at_node 0 e.root n0 ≡ o → Change
-  change_at n0 eu du gu None q = none_made (same_all n0 eu (ap (choice_in program rows agree library f e'.given n0) q ∙ sym (ap (choice_in program rows agree library f e.given n0) q)))
-  change_at n0 eu du gu (Some (expr h ty none)) q = none_made (same_all n0 eu (ap (choice_in program rows agree library f e'.given n0) q ∙ sym (ap (choice_in program rows agree library f e.given n0) q)))
-  change_at n0 eu du gu (Some (expr h ty (more t ts))) q = go (is_choice (head_class h (trees_of (more t ts)))) (is_quiet (tree_of t)) refl refl
+  change_at n0 eu du gu None q = none_made (same_all n0 eu (ap (choice_in world f e'.given n0) q ∙ sym (ap (choice_in world f e.given n0) q)))
+  change_at n0 eu du gu (Some (expr h ty line none)) q = none_made (same_all n0 eu (ap (choice_in world f e'.given n0) q ∙ sym (ap (choice_in world f e.given n0) q)))
+  change_at n0 eu du gu (Some (expr h ty line (more t ts))) q = go (is_choice (head_class h (trees_of (more t ts)))) (is_quiet (tree_of t)) refl refl
     where
       go : (b c : Bool) → is_choice (head_class h (trees_of (more t ts))) ≡ b → is_quiet (tree_of t) ≡ c → Change
-      go false c eb ec = none_made (same_all n0 eu (ap (choice_in program rows agree library f e'.given n0) q ∙ no_choice_same n0 h ty (more t ts) eb ∙ sym (ap (choice_in program rows agree library f e.given n0) q)))
-      go true true eb ec = none_made (same_all n0 eu (ap (choice_in program rows agree library f e'.given n0) q ∙ quiet_same n0 h ty t ts ec ∙ sym (ap (choice_in program rows agree library f e.given n0) q)))
+      go false c eb ec = none_made (same_all n0 eu (ap (choice_in world f e'.given n0) q ∙ no_choice_same n0 h ty line (more t ts) eb ∙ sym (ap (choice_in world f e.given n0) q)))
+      go true true eb ec = none_made (same_all n0 eu (ap (choice_in world f e'.given n0) q ∙ quiet_same n0 h ty line t ts ec ∙ sym (ap (choice_in world f e.given n0) q)))
       go true false eb ec =
           let known : (is_quiet (tree_of t) || is_some (e.given (val_at (suc n0)))) ≡ false =
           ap (λ z. z || is_some (e.given (val_at (suc n0)))) ec ∙ ap is_some (subst (λ z. e.given z ≡ None) eu gu) in
-          let fr : T n0 ≡ None = ap (choice_in program rows agree library f e.given n0) q ∙ ap (choice_by h (values_of program rows agree library f e.given (suc n0) (more t ts))) known ∙ not_known h _ in
+          let fr : T n0 ≡ None = ap (choice_in world f e.given n0) q ∙ ap (choice_by h (values_of world f e.given (suc n0) (more t ts))) known ∙ not_known h _ in
           let ag = agree_at n0 eu in
           made n0 ag fr eu (record {
             due = λ l r. subst (λ z. due_in T 0 (tree_of e.root) z ≡ true) eu du;
-            choice = λ l r. found n0 ag fr e.root 0 h ty t ts q eb;
+            choice = λ l r. found n0 ag fr e.root 0 h ty line t ts q eb;
           })
 
   no_value : (u ≢ val_at u.node) ⊎ (u.node ≡ 0) → Change
@@ -248,12 +245,12 @@ pub none_some : {A : Type 0} (o : Option A) → o ≡ None → is_some o ≡ tru
 none_some None e h = true≢false (sym h)
 none_some (Some a) e h = absurd (cc)
 
-module _ (program : Program) (rows : List Row) (agree : CType → CType → Bool) (library : LibFunc → Event → List CType → List Value → Script Value) (f : Scene) (e : Begun) where
+module _ (world : World) (f : Scene) (e : Begun) where
   abbrev pub before : Place → Place → Bool
-  before u v = is_before (taken_by program rows agree library f e) 0 (tree_of e.root) u v
+  before u v = is_before (taken_by world f e) 0 (tree_of e.root) u v
 
   -- of two ready picks neither comes before the other
-  pub not_before : (u q : Place) → IsNext program rows agree library f e u → IsNext program rows agree library f e q → before u q ≡ false
+  pub not_before : (u q : Place) → IsNext world f e u → IsNext world f e q → before u q ≡ false
   not_before u q ru rq = go (before u q) refl
     where
       go : (b : Bool) → before u q ≡ b → before u q ≡ false
@@ -268,37 +265,37 @@ module _ (program : Program) (rows : List Row) (agree : CType → CType → Bool
       go false = h
 
   -- what is reached stays reached
-  pub reached_next : (u p : Place) (w : Value) → IsNext program rows agree library f e u → IsReached program rows agree library f e p → IsReached program rows agree library f (with_given e u w) p
+  pub reached_next : (u p : Place) (w : Value) → IsNext world f e u → IsReached world f e p → IsReached world f (with_given e u w) p
   reached_next u p w ru rp = record {
-    due = due_kept (taken_by program rows agree library f e) (taken_by program rows agree library f (with_given e u w)) (choices_kept program rows agree library f e u w ru.due ru.left) (tree_of e.root) 0 p rp.due;
-    earlier = λ v d b. elim (old_or_u program rows agree library f e u w v p ru.due ru.left b d rp.due) [
+    due = due_kept (taken_by world f e) (taken_by world f (with_given e u w)) (choices_kept world f e u w ru.due ru.left) (tree_of e.root) 0 p rp.due;
+    earlier = λ v d b. elim (old_or_u world f e u w v p ru.due ru.left b d rp.due) [
       | inl a ↦ still_given u v w (rp.earlier v a.1 a.0)
       | inr a ↦ absurd (none_some (e.given u) ru.left (rp.earlier u ru.due a))
     ];
   }
 
-  pub ready_reached : (u : Place) → IsNext program rows agree library f e u → IsReached program rows agree library f e u
+  pub ready_reached : (u : Place) → IsNext world f e u → IsReached world f e u
   ready_reached u r = record { due = r.due; earlier = r.earlier }
 
   -- a pick that was made is reached
-  pub reached_made : (u : Place) (w : Value) → IsNext program rows agree library f e u → IsReached program rows agree library f (with_given e u w) u
+  pub reached_made : (u : Place) (w : Value) → IsNext world f e u → IsReached world f (with_given e u w) u
   reached_made u w ru = reached_next u u w ru (ready_reached u ru)
 
   -- a pick keeps another ready
-  pub keeps_ready : (u q : Place) (w : Value) → IsNext program rows agree library f e u → IsNext program rows agree library f e q → u ≢ q → IsNext program rows agree library f (with_given e u w) q
+  pub keeps_ready : (u q : Place) (w : Value) → IsNext world f e u → IsNext world f e q → u ≢ q → IsNext world f (with_given e u w) q
   keeps_ready u q w ru rq ne =
       let r = reached_next u q w ru (ready_reached q rq) in
-      record { due = r.due; earlier = r.earlier; left = given_other program rows agree library f e u w q ne ∙ rq.left }
+      record { due = r.due; earlier = r.earlier; left = given_other world f e u w q ne ∙ rq.left }
 
   -- order among reached events stays as it is
-  pub before_stays : (u p q : Place) (w : Value) → IsNext program rows agree library f e u → IsReached program rows agree library f e p → IsReached program rows agree library f e q → before p q ≡ false → is_before (taken_by program rows agree library f (with_given e u w)) 0 (tree_of e.root) p q ≡ false
-  before_stays u p q w ru rp rq h = go (is_before (taken_by program rows agree library f (with_given e u w)) 0 (tree_of e.root) p q) refl
+  pub before_stays : (u p q : Place) (w : Value) → IsNext world f e u → IsReached world f e p → IsReached world f e q → before p q ≡ false → is_before (taken_by world f (with_given e u w)) 0 (tree_of e.root) p q ≡ false
+  before_stays u p q w ru rp rq h = go (is_before (taken_by world f (with_given e u w)) 0 (tree_of e.root) p q) refl
     where
-      go : (b : Bool) → is_before (taken_by program rows agree library f (with_given e u w)) 0 (tree_of e.root) p q ≡ b → is_before (taken_by program rows agree library f (with_given e u w)) 0 (tree_of e.root) p q ≡ false
+      go : (b : Bool) → is_before (taken_by world f (with_given e u w)) 0 (tree_of e.root) p q ≡ b → is_before (taken_by world f (with_given e u w)) 0 (tree_of e.root) p q ≡ false
       go false eq = eq
       go true eq =
-          let d' = due_kept (taken_by program rows agree library f e) (taken_by program rows agree library f (with_given e u w)) (choices_kept program rows agree library f e u w ru.due ru.left) (tree_of e.root) 0 p rp.due in
-          elim (old_or_u program rows agree library f e u w p q ru.due ru.left eq d' rq.due) [
+          let d' = due_kept (taken_by world f e) (taken_by world f (with_given e u w)) (choices_kept world f e u w ru.due ru.left) (tree_of e.root) 0 p rp.due in
+          elim (old_or_u world f e u w p q ru.due ru.left eq d' rq.due) [
             | inl a ↦ absurd (true≢false (sym a.0 ∙ h))
             | inr a ↦ absurd (none_some (e.given u) ru.left (rq.earlier u ru.due a))
           ]

@@ -4,12 +4,17 @@ pub mod Closed
 pub mod Listed
 pub mod Later
 mod Reach
-mod MachineRuns
-mod MachineOrders
+pub mod MachineRuns
+pub mod MachineOrders
 mod LaterChoices
 mod LaterPicks
 mod Operands
 mod TwoEvents
-mod Updates
-mod Halves
-mod FramesKeep
+pub mod Updates
+pub mod Halves
+mod Numbers
+mod ReturnZero
+pub mod FramesKeep
+pub mod GoesOn
+pub mod FindingsTrue
+pub mod OpenKeeps

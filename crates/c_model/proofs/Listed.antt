@@ -1,7 +1,6 @@
 -- The listing climbs in post-order: it has each due event once, what comes before an event stands before it, and the
 -- canonical order goes along it.
-use Rattle.std.proofs.Common.{◌≡◌, ℕ, suc, ◌+◌, ◌*◌, ◌<◌, ◌≤◌, Bool, true, false, not, ◌&&◌, ◌||◌, ◌==◌, nat_lt, if◌then◌else◌, List, [], ◌∷◌, ◌++◌, map, Option, Some, None, refl, sym, ap, subst, ◌∙◌, ◌⊎◌, inl, inr, true≢false, arith}
-use Rattle.std.proofs.lemmas.Bool.Decides.{nat_tests}
+use Rattle.std.proofs.Common.{◌≡◌, ℕ, suc, ◌+◌, ◌*◌, ◌<◌, ◌≤◌, Bool, true, false, not, ◌&&◌, ◌||◌, ◌==◌, if◌then◌else◌, List, [], ◌∷◌, ◌++◌, map, Option, Some, None, refl, sym, ap, subst, ◌∙◌, ◌⊎◌, inl, inr, true≢false, arith}
 use Rattle.std.specs.List.{list_all}
 use Rattle.ub_base.specs.declared.clause.Kind.{Kind}
 use Rattle.ub_base.specs.declared.clause.Kind.TheVariants.{Val, Eff, Body}
@@ -10,8 +9,8 @@ use Rattle.c_typed.specs.declared.tree.Place.{Place}
 use Rattle.c_typed.specs.declared.class.Class.{Class}
 use Rattle.c_typed.specs.declared.class.Class.TheVariants.{Object, Constant, Plain, Store, Update, Choice, Comma, Call, Isolated}
 use Rattle.c_typed.specs.Tree.{Tree, node, Trees, none, more, size, sizes, kinds_of}
-use Rattle.c_typed.specs.Order.{Taken, goes, place, same_place, own_events, events, operand_events, has, is_due, is_body, own_rule, update_is_open, operand_is_open, Before}
-use Rattle.c_typed.specs.Decide.{due_in, is_before, earlier_done, is_ready, is_permitted, first_place, canonical}
+use Rattle.c_typed.specs.Order.{Taken, goes, place, same_place, own_events, events, operand_events, has, is_body, own_rule, update_is_open, operand_is_open, Before}
+use Rattle.c_typed.specs.Decide.{due_in, is_before, is_ready, is_permitted, first_place, canonical}
 use Rattle.c_model.proofs.Ranks.{eq_of, eq_eq, or_cases, and_l, and_r, In, rank_in, kind_rank, post_in, post_among, before_rank, post_first, post_rest, post_root, post_below}
 use Rattle.c_model.proofs.Decided.{and_b, or_a, or_b, not_true, has_or, has_due}
 use Rattle.c_model.proofs.Closed.{found_before}

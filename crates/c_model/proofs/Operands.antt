@@ -22,7 +22,7 @@ is_operand m none c = false
 is_operand m (more t ts) c = ((m == c) && not (is_quiet (tree_of t))) || is_operand (m + size (tree_of t)) ts c
 
 size_pos : (t : Expr) → 1 ≤ size (tree_of t)
-size_pos (expr h ty ts) = omega arith
+size_pos (expr h ty line ts) = omega arith
 
 eq_of : (a b : ℕ) → (a == b) ≡ true → a ≡ b
 eq_of a b h = grind (arith, nat_tests, h)
@@ -101,8 +101,8 @@ among_in false t ts p o k m e f g h = let r = g h in (omega (arith, r.0), omega 
 
 mutual
   node_in : (t : Expr) (k m : ℕ) (e : Expr) → at_node k t m ≡ Some e → InAt k m e (k + size (tree_of t))
-  node_in (expr h ty ts) k m e q =
-      root_in (k == m) (expr h ty ts) (at_node_among (suc k) ts m) k m e refl (λ z. let r = node_among_in ts (suc k) m e z in (r.0, omega (arith, r.1))) q
+  node_in (expr h ty line ts) k m e q =
+      root_in (k == m) (expr h ty line ts) (at_node_among (suc k) ts m) k m e refl (λ z. let r = node_among_in ts (suc k) m e z in (r.0, omega (arith, r.1))) q
 
   node_among_in : (ts : Exprs) (k m : ℕ) (e : Expr) → at_node_among k ts m ≡ Some e → InAt k m e (k + sizes (trees_of ts))
   node_among_in none k m e q = absurd (cc)
@@ -110,7 +110,7 @@ mutual
       among_in (nat_lt m (k + size (tree_of t))) t ts (at_node k t m) (at_node_among (k + size (tree_of t)) ts m) k m e (node_in t k m e) (node_among_in ts (k + size (tree_of t)) m e) q
 
 -- the value of an operand comes before the events of its node, but before a body only in a call
-module _ (taken : Taken) (m c : ℕ) (kind : Kind) (h : Head) (ty : CType) (us : Exprs) (operand : is_operand (suc m) us c ≡ true) (calls : kind ≡ Body → is_call (head_class h (trees_of us)) ≡ true) where
+module _ (taken : Taken) (m c : ℕ) (kind : Kind) (h : Head) (ty : CType) (line : ℕ) (us : Exprs) (operand : is_operand (suc m) us c ≡ true) (calls : kind ≡ Body → is_call (head_class h (trees_of us)) ≡ true) where
   abbrev class : Class
   class = head_class h (trees_of us)
 
@@ -119,7 +119,7 @@ module _ (taken : Taken) (m c : ℕ) (kind : Kind) (h : Head) (ty : CType) (us :
   call_lifts _ choice i last q = absurd (cc)
 
   val_itself : (t : Expr) (k : ℕ) → to_val taken k (tree_of t) (place k Val) ≡ true
-  val_itself (expr p py ts) k = if_true (k == k) _ _ (eq_eq k)
+  val_itself (expr p py pl ts) k = if_true (k == k) _ _ (eq_eq k)
 
   reaches : (kind : Kind) → (kind ≡ Body → is_call class ≡ true) → (choice : Option ℕ) (i : ℕ) (last q : Bool) (t : Expr) (k : ℕ) → q ≡ true
       → lifts class choice i last kind || (not (is_body kind) && (q && to_val taken k (tree_of t) (place k Val))) ≡ true
@@ -141,72 +141,72 @@ module _ (taken : Taken) (m c : ℕ) (kind : Kind) (h : Head) (ty : CType) (us :
   ]
 
   -- in the tree of the node itself, whatever number it has
-  at_root : (e0 : Expr) (k : ℕ) → e0 ≡ expr h ty us → k ≡ m → is_before taken k (tree_of e0) (place c Val) (place m kind) ≡ true
+  at_root : (e0 : Expr) (k : ℕ) → e0 ≡ expr h ty line us → k ≡ m → is_before taken k (tree_of e0) (place c Val) (place m kind) ≡ true
   at_root e0 k q e =
       let r = operand_in us (suc m) c operand in
-      let here : is_before taken m (tree_of (expr h ty us)) (place c Val) (place m kind) ≡ true =
+      let here : is_before taken m (tree_of (expr h ty line us)) (place c Val) (place m kind) ≡ true =
       if_false (c == m) _ _ (ne_ne c m (omega (arith, r.0))) ∙ (if_true (m == m) _ _ (eq_eq m) ∙ operand_rises us (taken m) 0 (suc m) operand) in
       subst (λ z. is_before taken z (tree_of e0) (place c Val) (place m kind) ≡ true) (sym e) (subst (λ z. is_before taken m (tree_of z) (place c Val) (place m kind) ≡ true) (sym q) here)
 
-  root_operand : (b : Bool) (p : Head) (py : CType) (ts : Exprs) (k : ℕ) → (k == m) ≡ b
-      → (at_node_among (suc k) ts m ≡ Some (expr h ty us) → between taken (head_class p (trees_of ts)) (taken k) 0 (suc k) (trees_of ts) (place c Val) (place m kind) ≡ true)
-      → (if b then Some (expr p py ts) else at_node_among (suc k) ts m) ≡ Some (expr h ty us) → is_before taken k (tree_of (expr p py ts)) (place c Val) (place m kind) ≡ true
-  root_operand true p py ts k e f q = at_root (expr p py ts) k (some_inj q) (eq_of k m e)
-  root_operand false p py ts k e f q =
+  root_operand : (b : Bool) (p : Head) (py : CType) (pl : ℕ) (ts : Exprs) (k : ℕ) → (k == m) ≡ b
+      → (at_node_among (suc k) ts m ≡ Some (expr h ty line us) → between taken (head_class p (trees_of ts)) (taken k) 0 (suc k) (trees_of ts) (place c Val) (place m kind) ≡ true)
+      → (if b then Some (expr p py pl ts) else at_node_among (suc k) ts m) ≡ Some (expr h ty line us) → is_before taken k (tree_of (expr p py pl ts)) (place c Val) (place m kind) ≡ true
+  root_operand true p py pl ts k e f q = at_root (expr p py pl ts) k (some_inj q) (eq_of k m e)
+  root_operand false p py pl ts k e f q =
       let r = operand_in us (suc m) c operand in
-      let z = node_among_in ts (suc k) m (expr h ty us) q in
+      let z = node_among_in ts (suc k) m (expr h ty line us) q in
       if_false (c == k) _ _ (ne_ne c k (omega (arith, r.0, z.0))) ∙ (if_false (m == k) _ _ (ne_ne m k (omega (arith, z.0))) ∙ f q)
 
   among_operand : (b : Bool) (p : Class) (choice : Option ℕ) (i : ℕ) (t : Expr) (ts : Exprs) (k : ℕ) → nat_lt m (k + size (tree_of t)) ≡ b
-      → (at_node k t m ≡ Some (expr h ty us) → is_before taken k (tree_of t) (place c Val) (place m kind) ≡ true)
-      → (at_node_among (k + size (tree_of t)) ts m ≡ Some (expr h ty us) → between taken p choice (suc i) (k + size (tree_of t)) (trees_of ts) (place c Val) (place m kind) ≡ true)
-      → (if b then at_node k t m else at_node_among (k + size (tree_of t)) ts m) ≡ Some (expr h ty us) → between taken p choice i k (trees_of (more t ts)) (place c Val) (place m kind) ≡ true
+      → (at_node k t m ≡ Some (expr h ty line us) → is_before taken k (tree_of t) (place c Val) (place m kind) ≡ true)
+      → (at_node_among (k + size (tree_of t)) ts m ≡ Some (expr h ty line us) → between taken p choice (suc i) (k + size (tree_of t)) (trees_of ts) (place c Val) (place m kind) ≡ true)
+      → (if b then at_node k t m else at_node_among (k + size (tree_of t)) ts m) ≡ Some (expr h ty line us) → between taken p choice i k (trees_of (more t ts)) (place c Val) (place m kind) ≡ true
   among_operand true p choice i t ts k e f g q =
       let r = operand_in us (suc m) c operand in
-      let z = node_in t k m (expr h ty us) q in
+      let z = node_in t k m (expr h ty line us) q in
       if_true (nat_lt c (k + size (tree_of t))) _ _ (lt_lt _ _ (omega (arith, r.1, z.1))) ∙ (if_true (nat_lt m (k + size (tree_of t))) _ _ e ∙ f q)
   among_operand false p choice i t ts k e f g q =
       let r = operand_in us (suc m) c operand in
-      let z = node_among_in ts (k + size (tree_of t)) m (expr h ty us) q in
+      let z = node_among_in ts (k + size (tree_of t)) m (expr h ty line us) q in
       if_false (nat_lt c (k + size (tree_of t))) _ _ (ge_lt _ _ (omega (arith, r.0, z.0))) ∙ (if_false (nat_lt m (k + size (tree_of t))) _ _ e ∙ g q)
 
   mutual
-    pub operand_before : (t : Expr) (k : ℕ) → at_node k t m ≡ Some (expr h ty us) → is_before taken k (tree_of t) (place c Val) (place m kind) ≡ true
-    operand_before (expr p py ts) k q = root_operand (k == m) p py ts k refl (λ g. operand_between ts (suc k) 0 (head_class p (trees_of ts)) (taken k) g) q
+    pub operand_before : (t : Expr) (k : ℕ) → at_node k t m ≡ Some (expr h ty line us) → is_before taken k (tree_of t) (place c Val) (place m kind) ≡ true
+    operand_before (expr p py pl ts) k q = root_operand (k == m) p py pl ts k refl (λ g. operand_between ts (suc k) 0 (head_class p (trees_of ts)) (taken k) g) q
 
-    operand_between : (ts : Exprs) (k i : ℕ) (p : Class) (choice : Option ℕ) → at_node_among k ts m ≡ Some (expr h ty us) → between taken p choice i k (trees_of ts) (place c Val) (place m kind) ≡ true
+    operand_between : (ts : Exprs) (k i : ℕ) (p : Class) (choice : Option ℕ) → at_node_among k ts m ≡ Some (expr h ty line us) → between taken p choice i k (trees_of ts) (place c Val) (place m kind) ≡ true
     operand_between none k i p choice q = absurd (cc)
     operand_between (more t ts) k i p choice q =
         among_operand (nat_lt m (k + size (tree_of t))) p choice i t ts k refl (operand_before t k) (operand_between ts (k + size (tree_of t)) (suc i) p choice) q
 
 -- of two events of one node, the one that the node's own rule puts first comes before
-module _ (taken : Taken) (m : ℕ) (first second : Kind) (h : Head) (ty : CType) (us : Exprs) (own : own_rule (head_class h (trees_of us)) first second ≡ true) where
-  own_at_root : (e0 : Expr) (k : ℕ) → e0 ≡ expr h ty us → k ≡ m → is_before taken k (tree_of e0) (place m first) (place m second) ≡ true
+module _ (taken : Taken) (m : ℕ) (first second : Kind) (h : Head) (ty : CType) (line : ℕ) (us : Exprs) (own : own_rule (head_class h (trees_of us)) first second ≡ true) where
+  own_at_root : (e0 : Expr) (k : ℕ) → e0 ≡ expr h ty line us → k ≡ m → is_before taken k (tree_of e0) (place m first) (place m second) ≡ true
   own_at_root e0 k q e =
-      let here : is_before taken m (tree_of (expr h ty us)) (place m first) (place m second) ≡ true = if_true (m == m) _ _ (eq_eq m) ∙ and_b _ _ (eq_eq m) own in
+      let here : is_before taken m (tree_of (expr h ty line us)) (place m first) (place m second) ≡ true = if_true (m == m) _ _ (eq_eq m) ∙ and_b _ _ (eq_eq m) own in
       subst (λ z. is_before taken z (tree_of e0) (place m first) (place m second) ≡ true) (sym e) (subst (λ z. is_before taken m (tree_of z) (place m first) (place m second) ≡ true) (sym q) here)
 
-  own_root : (b : Bool) (p : Head) (py : CType) (ts : Exprs) (k : ℕ) → (k == m) ≡ b
-      → (at_node_among (suc k) ts m ≡ Some (expr h ty us) → between taken (head_class p (trees_of ts)) (taken k) 0 (suc k) (trees_of ts) (place m first) (place m second) ≡ true)
-      → (if b then Some (expr p py ts) else at_node_among (suc k) ts m) ≡ Some (expr h ty us) → is_before taken k (tree_of (expr p py ts)) (place m first) (place m second) ≡ true
-  own_root true p py ts k e f q = own_at_root (expr p py ts) k (some_inj q) (eq_of k m e)
-  own_root false p py ts k e f q =
-      let z = node_among_in ts (suc k) m (expr h ty us) q in
+  own_root : (b : Bool) (p : Head) (py : CType) (pl : ℕ) (ts : Exprs) (k : ℕ) → (k == m) ≡ b
+      → (at_node_among (suc k) ts m ≡ Some (expr h ty line us) → between taken (head_class p (trees_of ts)) (taken k) 0 (suc k) (trees_of ts) (place m first) (place m second) ≡ true)
+      → (if b then Some (expr p py pl ts) else at_node_among (suc k) ts m) ≡ Some (expr h ty line us) → is_before taken k (tree_of (expr p py pl ts)) (place m first) (place m second) ≡ true
+  own_root true p py pl ts k e f q = own_at_root (expr p py pl ts) k (some_inj q) (eq_of k m e)
+  own_root false p py pl ts k e f q =
+      let z = node_among_in ts (suc k) m (expr h ty line us) q in
       let ne : (m == k) ≡ false = ne_ne m k (omega (arith, z.0)) in
       if_false (m == k) _ _ ne ∙ (if_false (m == k) _ _ ne ∙ f q)
 
   own_among : (b : Bool) (p : Class) (choice : Option ℕ) (i : ℕ) (t : Expr) (ts : Exprs) (k : ℕ) → nat_lt m (k + size (tree_of t)) ≡ b
-      → (at_node k t m ≡ Some (expr h ty us) → is_before taken k (tree_of t) (place m first) (place m second) ≡ true)
-      → (at_node_among (k + size (tree_of t)) ts m ≡ Some (expr h ty us) → between taken p choice (suc i) (k + size (tree_of t)) (trees_of ts) (place m first) (place m second) ≡ true)
-      → (if b then at_node k t m else at_node_among (k + size (tree_of t)) ts m) ≡ Some (expr h ty us) → between taken p choice i k (trees_of (more t ts)) (place m first) (place m second) ≡ true
+      → (at_node k t m ≡ Some (expr h ty line us) → is_before taken k (tree_of t) (place m first) (place m second) ≡ true)
+      → (at_node_among (k + size (tree_of t)) ts m ≡ Some (expr h ty line us) → between taken p choice (suc i) (k + size (tree_of t)) (trees_of ts) (place m first) (place m second) ≡ true)
+      → (if b then at_node k t m else at_node_among (k + size (tree_of t)) ts m) ≡ Some (expr h ty line us) → between taken p choice i k (trees_of (more t ts)) (place m first) (place m second) ≡ true
   own_among true p choice i t ts k e f g q = if_true (nat_lt m (k + size (tree_of t))) _ _ e ∙ (if_true (nat_lt m (k + size (tree_of t))) _ _ e ∙ f q)
   own_among false p choice i t ts k e f g q = if_false (nat_lt m (k + size (tree_of t))) _ _ e ∙ (if_false (nat_lt m (k + size (tree_of t))) _ _ e ∙ g q)
 
   mutual
-    pub own_before : (t : Expr) (k : ℕ) → at_node k t m ≡ Some (expr h ty us) → is_before taken k (tree_of t) (place m first) (place m second) ≡ true
-    own_before (expr p py ts) k q = own_root (k == m) p py ts k refl (λ g. own_between ts (suc k) 0 (head_class p (trees_of ts)) (taken k) g) q
+    pub own_before : (t : Expr) (k : ℕ) → at_node k t m ≡ Some (expr h ty line us) → is_before taken k (tree_of t) (place m first) (place m second) ≡ true
+    own_before (expr p py pl ts) k q = own_root (k == m) p py pl ts k refl (λ g. own_between ts (suc k) 0 (head_class p (trees_of ts)) (taken k) g) q
 
-    own_between : (ts : Exprs) (k i : ℕ) (p : Class) (choice : Option ℕ) → at_node_among k ts m ≡ Some (expr h ty us) → between taken p choice i k (trees_of ts) (place m first) (place m second) ≡ true
+    own_between : (ts : Exprs) (k i : ℕ) (p : Class) (choice : Option ℕ) → at_node_among k ts m ≡ Some (expr h ty line us) → between taken p choice i k (trees_of ts) (place m first) (place m second) ≡ true
     own_between none k i p choice q = absurd (cc)
     own_between (more t ts) k i p choice q =
         own_among (nat_lt m (k + size (tree_of t))) p choice i t ts k refl (own_before t k) (own_between ts (k + size (tree_of t)) (suc i) p choice) q

@@ -1,27 +1,23 @@
 -- What a pick keeps of the other events of its full expression (own).
-use Rattle.std.specs.Prelude.{◌≡◌, ◌≢◌, ◌⊎◌, ℕ, suc, ◌+◌, ◌==◌, nat_lt, Bool, true, false, List, Some, None, is_some, if◌then◌else◌}
+use Rattle.std.specs.Prelude.{◌≡◌, ◌≢◌, ◌⊎◌, ℕ, suc, ◌+◌, ◌==◌, nat_lt, Bool, true, false, Some, None, is_some, if◌then◌else◌}
 use Rattle.ub_base.specs.declared.clause.Kind.TheVariants.{Val, Eff}
-use Rattle.ub_base.specs.declared.names.Event.{Event}
-use Rattle.addr_map.specs.declared.map.Row.{Row}
-use Rattle.c_types.specs.declared.library.LibFunc.{LibFunc}
-use Rattle.c_types.specs.Types.{CType}
 use Rattle.c_typed.specs.declared.tree.Place.{Place}
 use Rattle.c_typed.specs.declared.class.Class.{Class}
 use Rattle.c_typed.specs.declared.class.Class.TheVariants.{Update}
 use Rattle.c_typed.specs.Tree.{Tree, node, Trees, none, more, size}
 use Rattle.c_typed.specs.Order.{Taken, place}
 use Rattle.c_typed.specs.Decide.{due_in, is_before}
-use Rattle.prov_memory.specs.Script.{Script}
-use Rattle.c_model.specs.Program.{Program, tree_of}
+use Rattle.c_model.specs.Program.{tree_of}
 use Rattle.c_model.specs.Values.{Value}
+use Rattle.c_model.specs.World.{World}
 use Rattle.c_model.specs.Steps.{Scene, Begun, with_given, taken_by}
 
-module _ (program : Program) (rows : List Row) (agree : CType → CType → Bool) (library : LibFunc → Event → List CType → List Value → Script Value) where
+module _ (world : World) where
   abbrev pub due_now : Scene → Begun → Place → Bool
-  due_now f e u = due_in (taken_by program rows agree library f e) 0 (tree_of e.root) u
+  due_now f e u = due_in (taken_by world f e) 0 (tree_of e.root) u
 
   abbrev pub before_now : Scene → Begun → Place → Place → Bool
-  before_now f e u v = is_before (taken_by program rows agree library f e) 0 (tree_of e.root) u v
+  before_now f e u v = is_before (taken_by world f e) 0 (tree_of e.root) u v
 
   -- due, and all that comes before it is done
   pub record IsReached (f : Scene) (e : Begun) (u : Place) : Type 0 where
@@ -37,24 +33,24 @@ module _ (program : Program) (rows : List Row) (agree : CType → CType → Bool
 -- a pick that may come next leaves reached what was reached
 abbrev pub ReachedStays : Type 0
 ReachedStays =
-    (program : Program) (rows : List Row) (agree : CType → CType → Bool) (library : LibFunc → Event → List CType → List Value → Script Value)
-    (f : Scene) (e : Begun) (u p : Place) (w : Value) → IsNext program rows agree library f e u → IsReached program rows agree library f e p
-    → IsReached program rows agree library f (with_given e u w) p
+    (world : World)
+    (f : Scene) (e : Begun) (u p : Place) (w : Value) → IsNext world f e u → IsReached world f e p
+    → IsReached world f (with_given e u w) p
 
 -- it puts nothing new before what was reached, whatever operand is chosen by it
 abbrev pub NothingNewBefore : Type 0
 NothingNewBefore =
-    (program : Program) (rows : List Row) (agree : CType → CType → Bool) (library : LibFunc → Event → List CType → List Value → Script Value)
-    (f : Scene) (e : Begun) (u p q : Place) (w : Value) → IsNext program rows agree library f e u
-    → IsReached program rows agree library f e p → IsReached program rows agree library f e q
-    → before_now program rows agree library f e p q ≡ false → before_now program rows agree library f (with_given e u w) p q ≡ false
+    (world : World)
+    (f : Scene) (e : Begun) (u p q : Place) (w : Value) → IsNext world f e u
+    → IsReached world f e p → IsReached world f e q
+    → before_now world f e p q ≡ false → before_now world f (with_given e u w) p q ≡ false
 
 -- of two picks that may come next either leaves the other so, and neither comes before the other
 abbrev pub EitherNext : Type 0
 EitherNext =
-    (program : Program) (rows : List Row) (agree : CType → CType → Bool) (library : LibFunc → Event → List CType → List Value → Script Value)
-    (f : Scene) (e : Begun) (u q : Place) (w : Value) → IsNext program rows agree library f e u → IsNext program rows agree library f e q → u ≢ q
-    → IsNext program rows agree library f (with_given e u w) q × (before_now program rows agree library f e u q ≡ false)
+    (world : World)
+    (f : Scene) (e : Begun) (u q : Place) (w : Value) → IsNext world f e u → IsNext world f e q → u ≢ q
+    → IsNext world f (with_given e u w) q × (before_now world f e u q ≡ false)
 
 -- and the two leave the same in either order
 abbrev pub EitherOrder : Type 0
@@ -75,22 +71,22 @@ abbrev mutual
   update_among k (more t ts) m = if nat_lt m (k + size t) then update_at k t m else update_among (k + size t) ts m
 
 -- all that is done was reached, as after each list of picks that come next one after the other
-abbrev pub IsClosed : (program : Program) (rows : List Row) (agree : CType → CType → Bool) (library : LibFunc → Event → List CType → List Value → Script Value) → Scene → Begun → Type 0
-IsClosed program rows agree library f e = (v : Place) → is_some (e.given v) ≡ true → IsReached program rows agree library f e v
+abbrev pub IsClosed : (world : World) → Scene → Begun → Type 0
+IsClosed world f e = (v : Place) → is_some (e.given v) ≡ true → IsReached world f e v
 
 -- which each pick that may come next keeps
 abbrev pub StaysClosed : Type 0
 StaysClosed =
-    (program : Program) (rows : List Row) (agree : CType → CType → Bool) (library : LibFunc → Event → List CType → List Value → Script Value)
-    (f : Scene) (e : Begun) (u : Place) (w : Value) → IsNext program rows agree library f e u → IsClosed program rows agree library f e
-    → IsClosed program rows agree library f (with_given e u w)
+    (world : World)
+    (f : Scene) (e : Begun) (u : Place) (w : Value) → IsNext world f e u → IsClosed world f e
+    → IsClosed world f (with_given e u w)
 
 -- once the value of an update is taken, its effect may come next
 abbrev pub EffectComesNext : Type 0
 EffectComesNext =
-    (program : Program) (rows : List Row) (agree : CType → CType → Bool) (library : LibFunc → Event → List CType → List Value → Script Value)
-    (f : Scene) (e : Begun) (m : ℕ) (w : Value) → update_at 0 (tree_of e.root) m ≡ true → IsNext program rows agree library f e (place m Val)
-    → IsClosed program rows agree library f e → IsNext program rows agree library f (with_given e (place m Val) w) (place m Eff)
+    (world : World)
+    (f : Scene) (e : Begun) (m : ℕ) (w : Value) → update_at 0 (tree_of e.root) m ≡ true → IsNext world f e (place m Val)
+    → IsClosed world f e → IsNext world f (with_given e (place m Val) w) (place m Eff)
 
 -- and not before: the value comes before the effect, and what comes before the effect is the value or comes before it
 abbrev pub ValueThenEffect : Type 0

@@ -1,5 +1,5 @@
 -- Small programs, and what the definitions give for them.
-use Rattle.std.specs.Prelude.{◌≡◌, ℕ, zero, suc, ◌+◌, Bool, true, false, List, [], ◌∷◌, ◌++◌, length, map, Option, Some, None, pos}
+use Rattle.std.specs.Prelude.{◌≡◌, ℕ, zero, suc, ◌+◌, Bool, true, false, List, [], ◌∷◌, ◌++◌, length, Option, Some, None, pos}
 use Rattle.ub_base.specs.declared.names.ObjName.{ObjName}
 use Rattle.ub_base.specs.declared.names.ObjName.TheVariants.{Static, Auto, Heap, Lit}
 use Rattle.ub_base.specs.declared.names.Item.{Item}
@@ -19,19 +19,22 @@ use Rattle.c_typed.specs.declared.tree.EqOp.TheVariants as equality
 use Rattle.c_typed.specs.declared.tree.Place.{Place}
 use Rattle.addr_map.specs.declared.map.Row.{Row}
 use Rattle.addr_map.specs.declared.map.Mode.TheVariants.{Spaced}
-use Rattle.c_model.specs.Program.{Head, Number, Obj, Func, Str, Load, Conv, Rel, Eq, Member, Bin, Assign, Update, And, Comma, Call, Listed, Isolated, Expr, expr, Exprs, none, more, Decl, Stmt, Value, Empty, Declare, Block, If_only, Switch, While, For, Goto, Continue, Break, Return, Label, Case, Default, Stmts, end, and_then, Function, Standing, Program}
-use Rattle.c_model.specs.Values.{int_bytes}
+use Rattle.c_model.specs.Program.{Filling, Zeros, Bytes, Head, Number, Obj, Func, Str, Load, Conv, Rel, Eq, Member, Bin, Assign, Update, And, Comma, Call, Listed, Isolated, Expr, expr, Exprs, none, more, Decl, Stmt, Value, Empty, Declare, Block, If_only, Switch, While, For, Goto, Continue, Break, Return, Label, Case, Default, Stmts, end, and_then, Function, Standing, Program}
+use Rattle.c_model.specs.World.{World, profile_limits}
+use Rattle.c_model.specs.Numbering.{frame_number}
 use Rattle.c_model.specs.Control.{Todo, Enter, Leave, Unwrite, Begin, ready_work}
 use Rattle.c_model.specs.Steps.{Local, Begun, Pick, Control, Ev}
-use Rattle.c_model.specs.Runs.{Entry, Outcome, Raises, Ends, Running, start, step, canonical_pick, canonical_after, on_running}
+use Rattle.c_model.specs.Runs.{Entry, Outcome, Running, trace_of, start, step, canonical_pick, canonical_after, on_running}
 use Rattle.c_model.specs.Findings.{Race, Quarrel, EndQuarrel}
 use Rattle.c_model.specs.FirstFinding.{Finding, Pair, first_finding}
 use Rattle.c_model.specs.Placement.{IsPlacement}
 use Rattle.c_model.specs.Libraries.{library}
-use Rattle.libc_spec.specs.Library.{plain}
 
 abbrev pub int_type : CType
 int_type = types.int kind.Int
+
+abbrev pub int_pointer : CType
+int_pointer = types.pointer false int_type
 
 abbrev pub int_function : CType
 int_function = types.function int_type types.none false
@@ -40,22 +43,25 @@ abbrev pub int_decl : Decl
 int_decl = record { size = 4; align = 4; constant = false; form = Some (leaf int_type); access = access.Integer kind.Int; ty = int_type }
 
 abbrev pub number : ℕ → Expr
-number n = expr (Number (pos n)) int_type none
+number n = expr (Number (pos n)) int_type 1 none
 
 abbrev pub one : Head → Expr → Expr
-one h a = expr h int_type (more a none)
+one h a = expr h int_type 1 (more a none)
 
 abbrev pub two : Head → Expr → Expr → Expr
-two h a b = expr h int_type (more a (more b none))
+two h a b = expr h int_type 1 (more a (more b none))
 
 abbrev pub load : Expr → Expr
 load p = one (Load (access.Integer kind.Int)) p
 
 abbrev pub local : Expr
-local = expr (Obj (slot.Auto 0 0)) int_type none
+local = expr (Obj (slot.Auto 0 0)) int_pointer 1 none
+
+abbrev pub second_local : Expr
+second_local = expr (Obj (slot.Auto 0 1)) int_pointer 1 none
 
 abbrev pub global : Expr
-global = expr (Obj (slot.Static 0)) int_type none
+global = expr (Obj (slot.Static 0)) int_pointer 1 none
 
 abbrev pub assign : Bool → Expr → Expr → Expr
 assign first p v = two (Assign first (access.Integer kind.Int)) p v
@@ -67,7 +73,7 @@ abbrev pub increment : Expr → Expr
 increment p = one (Update (change.Integer op.Add kind.Int kind.Int) true) p
 
 abbrev pub call : ℕ → Exprs → Expr
-call f es = expr (Call false) int_type (more (expr (Func f) int_function none) es)
+call f es = expr (Call false) int_type 1 (more (expr (Func f) int_function 1 none) es)
 
 abbrev pub statements : List Stmt → Stmts
 statements [] = end
@@ -80,9 +86,13 @@ defined ds ss = record { ty = int_function; void = false; library = None; body =
 abbrev pub library_function : CType → LibFunc → Function
 library_function ty f = record { ty = ty; void = false; library = Some f; body = None }
 
+-- an object that is filled with zeros
+abbrev pub zeros : ℕ → List Filling
+zeros n = record { offset = 0; content = Zeros n } ∷ []
+
 -- `int i;` at file level
 abbrev pub global_int : Standing
-global_int = record { name = Static 0; decl = int_decl; literal = false; bytes = int_bytes kind.Int (pos 0) }
+global_int = record { name = Static 0; decl = int_decl; literal = false; fillings = zeros 4 }
 
 abbrev pub main_local : ObjName
 main_local = Auto (record { 0 = 0 }) 1 0
@@ -103,24 +113,27 @@ any_type a b = true
 abbrev pub program_of : List Function → List Standing → Program
 program_of fs os = record { functions = fs; main = 0; standing = os }
 
+abbrev pub world_of : Program → List Row → World
+world_of p rows = record { program = p; rows = rows; agree = any_type; library = library rows; number = frame_number; limits = profile_limits }
+
 -- after so many canonical picks from the start
 abbrev pub canonical_run : Program → List Row → ℕ → Outcome
-canonical_run p rows n = on_running (start p rows any_type (library rows) [] []) (canonical_after p rows any_type (library rows) n)
+canonical_run p rows n = on_running (start (world_of p rows) [] []) (canonical_after (world_of p rows) n)
 
 -- the first finding within a budget, on this input, without arguments
 abbrev pub audit_on : List ℕ → Program → List Row → ℕ → Finding
-audit_on input p rows budget = first_finding p rows any_type (library rows) budget input []
+audit_on input p rows budget = first_finding (world_of p rows) budget input []
 
 abbrev pub audit : Program → List Row → ℕ → Finding
 audit p rows budget = audit_on [] p rows budget
 
 -- so many picks of the canonical order need these rows
 abbrev pub NeedsRows : Program → List Row → ℕ → Type 0
-NeedsRows p rows n = IsPlacement Spaced p rows any_type (library rows) [] [] n
+NeedsRows p rows n = IsPlacement Spaced (world_of p rows) [] [] n
 
--- two evaluations of `main`, with their least conflicting items
+-- two evaluations of `main`, both on line 1, with their least conflicting items
 abbrev pub pair_of : (turn : ℕ) → Place → Place → Item → Item → Pair
-pair_of turn u v i j = record { path = []; turn = turn; event = u; other = v; items = Some (i, j) }
+pair_of turn u v i j = record { path = []; turn = turn; event = u; line = 1; other = v; other_line = 1; items = Some (i, j) }
 
 -- what a pick is called
 pub data Called : Type 0 where
@@ -145,36 +158,29 @@ called f None Control = step_called (ready_work f.todo)
 called f (Some e) Control = settle
 
 -- the picks of the canonical order, at most so many
-abbrev pub picks_from : Program → List Row → ℕ → Outcome → List Called
-picks_from p rows zero o = []
-picks_from p rows (suc n) (Running st) =
-    called st.top st.top.begun (canonical_pick p rows any_type (library rows) st.top st.top.begun)
-    ∷ picks_from p rows n (step p rows any_type (library rows) st (canonical_pick p rows any_type (library rows) st.top st.top.begun))
-picks_from p rows (suc n) o = []
+abbrev pub picks_from : World → ℕ → Outcome → List Called
+picks_from world zero o = []
+picks_from world (suc n) (Running st) =
+    called st.top st.top.begun (canonical_pick world st.top st.top.begun) ∷ picks_from world n (step world st (canonical_pick world st.top st.top.begun))
+picks_from world (suc n) o = []
 
 abbrev pub picks_of : Program → List Row → ℕ → List Called
-picks_of p rows n = picks_from p rows n (start p rows any_type (library rows) [] [])
-
-abbrev pub trace_of : Outcome → List Entry
-trace_of (Ends n out trace) = trace
-trace_of (Raises c trace) = trace
-trace_of (Running st) = st.trace
-trace_of _ = []
+picks_of p rows n = picks_from (world_of p rows) n (start (world_of p rows) [] [])
 
 -- the trace holds a race of these two events of a turn of `main`, the newer one first (6.5p2)
-pub record HoldsRace (rows : List Row) (o : Outcome) (turn : ℕ) (u v : Place) : Type 0 where
+pub record HoldsRace (world : World) (o : Outcome) (turn : ℕ) (u v : Place) : Type 0 where
   pub newer : Entry
   pub older : Entry
   pub of_main : newer.path ≡ []
   pub of_turn : newer.turn ≡ turn
-  pub race : Race rows (trace_of o) newer u older v
+  pub race : Race world (trace_of o) newer u older v
 
-pub record HoldsQuarrel (rows : List Row) (o : Outcome) (turn : ℕ) (u v : Place) : Type 0 where
+pub record HoldsQuarrel (world : World) (o : Outcome) (turn : ℕ) (u v : Place) : Type 0 where
   pub newer : Entry
   pub older : Entry
   pub of_main : newer.path ≡ []
   pub of_turn : newer.turn ≡ turn
-  pub quarrel : Quarrel rows (trace_of o) newer u older v
+  pub quarrel : Quarrel world (trace_of o) newer u older v
 
 -- the first of the events ends the run, and the other is due beside it
 pub record HoldsEndQuarrel (o : Outcome) (turn : ℕ) (u v : Place) : Type 0 where
@@ -224,7 +230,7 @@ quit_beside = program_of (defined [] (Return (add (load global) (call 1 none)) �
 -- int i;int h(int a,int b){return a+b;}int main(void){return h(i++,i);}
 abbrev pub pass_both : Program
 pass_both = program_of (defined [] (Return (call 1 (more (increment global) (more (load global) none))) ∷ [])
-    ∷ defined (int_decl ∷ int_decl ∷ []) (Return (add (load local) (load (expr (Obj (slot.Auto 0 1)) int_type none))) ∷ []) ∷ []) (global_int ∷ [])
+    ∷ defined (int_decl ∷ int_decl ∷ []) (Return (add (load local) (load second_local)) ∷ []) ∷ []) (global_int ∷ [])
 
 -- int main(void){int i=1;return (i++,i)+1;}
 abbrev pub comma_between : Program
@@ -234,8 +240,8 @@ comma_between = program_of (defined (int_decl ∷ [])
 -- int main(void){int x=0,y=1;x=x++&&y;return x;}, and with another first value
 abbrev pub and_beside : ℕ → Program
 and_beside first = program_of (defined (int_decl ∷ int_decl ∷ [])
-    (Value (assign true local (number first)) ∷ Value (assign true (expr (Obj (slot.Auto 0 1)) int_type none) (number 1))
-    ∷ Value (assign false local (two And (increment local) (load (expr (Obj (slot.Auto 0 1)) int_type none)))) ∷ Return (load local) ∷ []) ∷ []) []
+    (Value (assign true local (number first)) ∷ Value (assign true second_local (number 1))
+    ∷ Value (assign false local (two And (increment local) (load second_local))) ∷ Return (load local) ∷ []) ∷ []) []
 
 abbrev pub both_rows : List Row
 both_rows = row_of main_local 16777232 4 ∷ row_of (Auto (record { 0 = 0 }) 1 1) 16777264 4 ∷ []
@@ -244,15 +250,18 @@ both_rows = row_of main_local 16777232 4 ∷ row_of (Auto (record { 0 = 0 }) 1 1
 abbrev pub array_decl : Decl
 array_decl = record { size = 8; align = 4; constant = false; form = Some (repeat 2 4 (leaf int_type)); access = access.Whole 8 4; ty = types.array false int_type (Some 2) }
 
+-- the place of a member of `a`
+abbrev pub element_place : ℕ → Expr
+element_place offset = expr (Member offset) int_pointer 1 (more second_local none)
+
 abbrev pub element : ℕ → Expr → Expr
-element offset e =
-    expr (Isolated (assign true (one (Member offset) (expr (Obj (slot.Auto 0 1)) int_type none)) e)) int_type none
+element offset e = expr (Isolated (assign true (element_place offset) e)) int_type 1 none
 
 abbrev pub list_both : Program
 list_both = program_of (defined (int_decl ∷ array_decl ∷ [])
     (Value (assign true local (number 0))
-    ∷ Value (expr (Listed (slot.Auto 0 1) []) int_type (more (element 0 (increment local)) (more (element 4 (load local)) none)))
-    ∷ Return (load (one (Member 0) (expr (Obj (slot.Auto 0 1)) int_type none))) ∷ []) ∷ []) []
+    ∷ Value (expr (Listed (slot.Auto 0 1) []) int_type 1 (more (element 0 (increment local)) (more (element 4 (load local)) none)))
+    ∷ Return (load (element_place 0)) ∷ []) ∷ []) []
 
 abbrev pub list_rows : List Row
 list_rows = row_of main_local 16777232 4 ∷ row_of (Auto (record { 0 = 0 }) 1 1) 16777264 8 ∷ []
@@ -283,7 +292,7 @@ unwritten_load = program_of (defined (int_decl ∷ []) (Declare 0 ∷ Return (lo
 -- const int c=1;int main(void){*(int*)&c=2;return 0;}
 abbrev pub store_to_const : Program
 store_to_const = program_of (defined [] (Value (assign false (one (Conv (conversion.Pointer 4)) global) (number 2)) ∷ Return (number 0) ∷ []) ∷ [])
-    (record { name = Static 0; decl = record int_decl { constant = true }; literal = false; bytes = int_bytes kind.Int (pos 1) } ∷ [])
+    (record { name = Static 0; decl = record int_decl { constant = true }; literal = false; fillings = record { offset = 0; content = Bytes (1 ∷ 0 ∷ 0 ∷ 0 ∷ []) } ∷ [] } ∷ [])
 
 -- int f(void){}int main(void){return f();}
 abbrev pub missing_value : Program
@@ -291,14 +300,11 @@ missing_value = program_of (defined [] (Return (call 1 none) ∷ []) ∷ defined
 
 -- int f(void){}int main(void){f();return 0;}
 abbrev pub value_unused : Program
-value_unused = program_of (defined [] (Value (expr (Call true) int_type (more (expr (Func 1) int_function none) none)) ∷ Return (number 0) ∷ []) ∷ defined [] [] ∷ []) []
+value_unused = program_of (defined [] (Value (expr (Call true) int_type 1 (more (expr (Func 1) int_function 1 none) none)) ∷ Return (number 0) ∷ []) ∷ defined [] [] ∷ []) []
 
 -- int getchar(void);int main(void){return getchar()-getchar();}
 abbrev pub read_both : Program
 read_both = program_of (defined [] (Return (subtract (call 1 none) (call 1 none)) ∷ []) ∷ library_function int_function lib.Getchar ∷ []) []
-
-abbrev pub second_local : Expr
-second_local = expr (Obj (slot.Auto 0 1)) int_type none
 
 -- int getchar(void);int main(void){int c=getchar();int d=getchar();return d-c;}
 abbrev pub read_in_turn : Program
@@ -345,10 +351,10 @@ large_block = program_of (defined (large_decl ∷ []) (Declare 0 ∷ Return (num
 
 -- int a[100000000];int main(void){return 0;}
 abbrev pub large_static : Program
-large_static = program_of (defined [] (Return (number 0) ∷ []) ∷ []) (record { name = Static 0; decl = large_decl; literal = false; bytes = [] } ∷ [])
+large_static = program_of (defined [] (Return (number 0) ∷ []) ∷ []) (record { name = Static 0; decl = large_decl; literal = false; fillings = [] } ∷ [])
 
 abbrev pub discarded_call : ℕ → Exprs → Expr
-discarded_call f es = expr (Call true) types.void (more (expr (Func f) int_function none) es)
+discarded_call f es = expr (Call true) types.void 1 (more (expr (Func f) int_function 1 none) es)
 
 -- int putchar(int);int main(void){return putchar(353);}
 abbrev pub print_low : Program
@@ -363,7 +369,7 @@ literal_text k cs = record {
   name = Lit k;
   decl = record { size = length cs + 1; align = 1; constant = false; form = Some (repeat (length cs + 1) 1 (leaf char_type)); access = access.Whole (length cs + 1) 1; ty = types.array false char_type (Some (length cs + 1)) };
   literal = true;
-  bytes = map plain (cs ++ 0 ∷ []);
+  fillings = record { offset = 0; content = Bytes (cs ++ 0 ∷ []) } ∷ [];
 }
 
 abbrev pub text_row : Row
@@ -371,30 +377,32 @@ text_row = record { name = Lit 0; base = 16777232; size = 4; align = 1 }
 
 -- int printf(const char*,...);int main(void){return printf("%d\n",E);}
 abbrev pub print_as_int : Expr → Program
-print_as_int e = program_of (defined [] (Return (call 1 (more (expr (Str 0) (types.pointer false char_type) none) (more e none))) ∷ [])
+print_as_int e = program_of (defined [] (Return (call 1 (more (expr (Str 0) (types.pointer false char_type) 1 none) (more e none))) ∷ [])
     ∷ library_function int_function lib.Printf ∷ []) (literal_text 0 (37 ∷ 100 ∷ 10 ∷ []) ∷ [])
 
 abbrev pub long_number : ℕ → Expr
-long_number n = expr (Number (pos n)) (types.int kind.Long) none
-
-abbrev pub int_pointer : CType
-int_pointer = types.pointer false int_type
+long_number n = expr (Number (pos n)) (types.int kind.Long) 1 none
 
 abbrev pub pointer_decl : Decl
 pointer_decl = record { size = 8; align = 8; constant = false; form = Some (leaf int_pointer); access = access.Pointer; ty = int_pointer }
 
+-- the place of a pointer, and the pointer
+abbrev pub pointer_local : Expr
+pointer_local = expr (Obj (slot.Auto 0 0)) (types.pointer false int_pointer) 1 none
+
 abbrev pub local_pointer : Expr
-local_pointer = expr (Load access.Pointer) int_pointer (more local none)
+local_pointer = expr (Load access.Pointer) int_pointer 1 (more pointer_local none)
 
 -- p=malloc(4), for a declared p
 abbrev pub allocate : Stmt
-allocate = Value (expr (Assign true access.Pointer) int_pointer (more local
-    (more (expr (Conv (conversion.Pointer 4)) int_pointer
-    (more (expr (Call false) (types.pointer false types.void) (more (expr (Func 1) int_function none) (more (expr (Number (pos 4)) (types.int kind.ULong) none) none))) none)) none)))
+allocate = Value (expr (Assign true access.Pointer) int_pointer 1 (more pointer_local
+    (more (expr (Conv (conversion.Pointer 4)) int_pointer 1
+    (more (expr (Call false) (types.pointer false types.void) 1
+    (more (expr (Func 1) int_function 1 none) (more (expr (Number (pos 4)) (types.int kind.ULong) 1 none) none))) none)) none)))
 
 -- free(E)
 abbrev pub release : Expr → Stmt
-release e = Value (discarded_call 2 (more (expr (Conv (conversion.Pointer 1)) (types.pointer false types.void) (more e none)) none))
+release e = Value (discarded_call 2 (more (expr (Conv (conversion.Pointer 1)) (types.pointer false types.void) 1 (more e none)) none))
 
 -- void*malloc(unsigned long);void free(void*);
 abbrev pub with_heap : Function → Program
@@ -424,7 +432,7 @@ wide_decl = record array_decl { size = 67108848; form = Some (repeat 16777212 4 
 -- int main(void){int a[16777212];malloc(N);return 0;}
 abbrev pub allocate_beside : ℕ → Program
 allocate_beside n = with_heap (defined (wide_decl ∷ [])
-    (Declare 0 ∷ Value (discarded_call 1 (more (expr (Number (pos n)) (types.int kind.ULong) none) none)) ∷ Return (number 0) ∷ []))
+    (Declare 0 ∷ Value (discarded_call 1 (more (expr (Number (pos n)) (types.int kind.ULong) 1 none) none)) ∷ Return (number 0) ∷ []))
 
 -- the array alone has a row
 abbrev pub wide_rows : List Row

@@ -1,62 +1,21 @@
 -- Races and quarrels of a trace, and which clauses it meets.
-use Rattle.std.specs.Prelude.{◌≡◌, ℕ, ◌+◌, Bool, true, false, not, ◌&&◌, ◌||◌, ◌==◌, nat_lt, List, [], ◌∷◌, ◌++◌, Option, Some, None, if◌then◌else◌, IsTrue}
+use Rattle.std.specs.Prelude.{◌≡◌, ℕ, Bool, true, false, not, ◌&&◌, ◌||◌, ◌==◌, List, [], ◌∷◌, ◌++◌, Option, Some, None, if◌then◌else◌, IsTrue}
 use Rattle.ub_base.specs.declared.clause.Clause.{Clause}
 use Rattle.ub_base.specs.declared.clause.Clause.TheVariants.{Unsequenced}
-use Rattle.ub_base.specs.declared.names.ObjName.{ObjName}
 use Rattle.ub_base.specs.declared.names.Item.{Item}
-use Rattle.ub_base.specs.declared.names.Item.TheVariants.{Read, Write, Born, Dies, Alive, Expose, Lookup, Narrow, Input, Output, Ending, Any}
-use Rattle.ub_base.specs.Names.{same_event, same_object}
+use Rattle.ub_base.specs.declared.names.Item.TheVariants.{Ending}
 use Rattle.ub_base.specs.Frames.{Path}
 use Rattle.c_typed.specs.declared.tree.Place.{Place}
 use Rattle.c_typed.specs.Tree.{Tree}
 use Rattle.c_typed.specs.Order.{Taken, same_place, is_body, is_due, IsApart}
 use Rattle.addr_map.specs.declared.map.Row.{Row}
-use Rattle.addr_map.specs.Rows.{contains, is_past}
-use Rattle.c_model.specs.Runs.{Entry, Outcome, Raises}
+use Rattle.addr_map.specs.Conflict.{items_conflict, stands_at, is_access, some_conflict}
+use Rattle.c_model.specs.World.{World}
+use Rattle.c_model.specs.Runs.{Entry, Outcome, Raises, trace_of}
 
--- two ranges of one object have a byte in common
-abbrev pub share : ObjName → ℕ → ℕ → ObjName → ℕ → ℕ → Bool
-share x a m y b n = same_object x y && ((nat_lt a (b + n) && nat_lt b (a + m)) && (nat_lt 0 m && nat_lt 0 n))
-
--- the object contains the address or has it one past
-abbrev pub meets : List Row → ObjName → ℕ → Bool
-meets [] x a = false
-meets (r ∷ rs) x a = (same_object r.name x && (contains r a || is_past r a)) || meets rs x a
-
--- the pairs of items that conflict, one way round (own)
-abbrev pub against : List Row → Item → Item → Bool
-against rows (Read x a m) (Write y b n) = share x a m y b n
-against rows (Write x a m) (Write y b n) = share x a m y b n
-against rows (Born x) (Alive y) = same_object x y
-against rows (Born x) (Expose y) = same_object x y
-against rows (Dies x) (Alive y) = same_object x y
-against rows (Dies x) (Born y) = same_object x y
-against rows (Dies x) (Dies y) = same_object x y
-against rows (Expose x) (Lookup a) = meets rows x a
-against rows (Dies x) (Lookup a) = meets rows x a
-against rows (Narrow d x) (Narrow e y) = same_event d e && not (same_object x y)
-against rows Input Input = true
-against rows Output Output = true
-against rows Ending Any = true
-against rows _ _ = false
-
+-- two items conflict (own; 6.5p2 for accesses)
 abbrev pub clash : List Row → Item → Item → Bool
-clash rows i j = against rows i j || against rows j i
-
-abbrev pub clash_one : List Row → Item → List Item → Bool
-clash_one rows i [] = false
-clash_one rows i (j ∷ js) = clash rows i j || clash_one rows i js
-
--- two lists of items have a conflicting pair
-abbrev pub conflict : List Row → List Item → List Item → Bool
-conflict rows [] js = false
-conflict rows (i ∷ is) js = clash_one rows i js || conflict rows is js
-
--- read with write, or write with write (6.5p2)
-abbrev pub is_access : Item → Bool
-is_access (Read x a n) = true
-is_access (Write x a n) = true
-is_access _ = false
+clash rows i j = items_conflict (stands_at rows) i j
 
 abbrev pub accesses : List Item → List Item
 accesses [] = []
@@ -102,23 +61,23 @@ AreApart None u v = ⊥
 AreApart (Some e) u v = IsApart e.0 e.1 u v
 
 -- two unsequenced accesses of one byte, one of them a write (6.5p2); a body is only indeterminately sequenced (6.5.2.2p10)
-pub record Race (rows : List Row) (trace : List Entry) (d : Entry) (u : Place) (e : Entry) (v : Place) : Type 0 where
+pub record Race (world : World) (trace : List Entry) (d : Entry) (u : Place) (e : Entry) (v : Place) : Type 0 where
   pub both : Both trace d u e v
   pub apart : AreApart d.begun u v
   pub bodiless : (is_body u.kind || is_body v.kind) ≡ false
-  pub clash : IsTrue (conflict rows (accesses d.items) (accesses e.items))
+  pub clash : IsTrue (some_conflict world.rows (accesses d.items) (accesses e.items))
 
--- a trace meets a clause where its last pick raises it, or where it is 6.5p2 and the trace holds a race
-pub data Meets (rows : List Row) : Outcome → List Entry → Clause → Type 0 where
-  raised : (c : Clause) (trace : List Entry) → Meets rows (Raises c trace) trace c
-  raced : (o : Outcome) (trace : List Entry) (d e : Entry) (u v : Place) → Race rows trace d u e v → Meets rows o trace Unsequenced
+-- an order meets a clause where its last pick raises it, or where it is 6.5p2 and its trace holds a race
+pub data Meets (world : World) : Outcome → Clause → Type 0 where
+  raised : (c : Clause) (trace : List Entry) → Meets world (Raises c trace) c
+  raced : (o : Outcome) (d e : Entry) (u v : Place) → Race world (trace_of o) d u e v → Meets world o Unsequenced
 
 -- two evaluations that may come in either order and whose items conflict, without being a race (own)
-pub record Quarrel (rows : List Row) (trace : List Entry) (d : Entry) (u : Place) (e : Entry) (v : Place) : Type 0 where
+pub record Quarrel (world : World) (trace : List Entry) (d : Entry) (u : Place) (e : Entry) (v : Place) : Type 0 where
   pub both : Both trace d u e v
   pub apart : AreApart d.begun u v
-  pub clash : IsTrue (conflict rows (items_of trace d u) (items_of trace e v))
-  pub no_race : Race rows trace d u e v → ⊥
+  pub clash : IsTrue (some_conflict world.rows (items_of trace d u) (items_of trace e v))
+  pub no_race : Race world trace d u e v → ⊥
 
 abbrev pub is_due_in : Option (Tree × Taken) → Place → Bool
 is_due_in None v = false

@@ -7,8 +7,7 @@ use Rattle.ub_base.specs.declared.names.ObjName.TheVariants.{Static, Lit, Argv, 
 use Rattle.ub_base.specs.declared.names.Item.{Item}
 use Rattle.ub_base.specs.declared.names.Item.TheVariants.{Read, Write, Born, Dies, Alive, Expose, Lookup, Narrow, Input, Output, Ending, Any}
 use Rattle.ub_base.specs.Frames.{Path}
-use Rattle.addr_map.specs.declared.map.Row.{Row}
-use Rattle.c_model.specs.Steps.{frame_number}
+use Rattle.c_model.specs.World.{World}
 use Rattle.c_model.specs.Runs.{Entry}
 use Rattle.c_model.specs.Findings.{clash}
 
@@ -27,12 +26,12 @@ abbrev pub path_key : Path → List ℕ → List ℕ
 path_key [] rest = rest
 path_key (s ∷ f) rest = path_key f (suc s.0 ∷ s.1 ∷ rest)
 
--- the frame of this number, which is among those of the trace where an object or an ambiguity is named by it
-abbrev pub path_in : List Entry → ℕ → Path
-path_in [] n = []
-path_in (e ∷ es) n = if frame_number e.path == n then e.path else path_in es n
+module _ (world : World) (trace : List Entry) where
+  -- the frame of this number, which is among those of the trace where an object or an ambiguity is named by it
+  abbrev pub path_in : List Entry → ℕ → Path
+  path_in [] n = []
+  path_in (e ∷ es) n = if world.number e.path == n then e.path else path_in es n
 
-module _ (trace : List Entry) where
   abbrev pub frame_key : ℕ → List ℕ → List ℕ
   frame_key n rest = path_key (path_in trace n) (0 ∷ rest)
 
@@ -63,13 +62,13 @@ module _ (trace : List Entry) where
   lesser p None = p
   lesser p (Some q) = if comes_first (item_key q.0 ++ item_key q.1) (item_key p.0 ++ item_key p.1) then q else p
 
-  abbrev pub least_beside : List Row → Item → List Item → Option (Item × Item) → Option (Item × Item)
-  least_beside rows i [] best = best
-  least_beside rows i (j ∷ js) best = least_beside rows i js (if clash rows i j then Some (lesser (i, j) best) else best)
+  abbrev pub least_beside : Item → List Item → Option (Item × Item) → Option (Item × Item)
+  least_beside i [] best = best
+  least_beside i (j ∷ js) best = least_beside i js (if clash world.rows i j then Some (lesser (i, j) best) else best)
 
-  abbrev pub least_among : List Row → List Item → List Item → Option (Item × Item) → Option (Item × Item)
-  least_among rows [] js best = best
-  least_among rows (i ∷ is) js best = least_among rows is js (least_beside rows i js best)
+  abbrev pub least_among : List Item → List Item → Option (Item × Item) → Option (Item × Item)
+  least_among [] js best = best
+  least_among (i ∷ is) js best = least_among is js (least_beside i js best)
 
 -- a range stands for one item a byte
 abbrev pub each_byte : (ℕ → Item) → ℕ → ℕ → List Item
@@ -86,5 +85,5 @@ all_by_bytes [] = []
 all_by_bytes (i ∷ is) = by_bytes i ++ all_by_bytes is
 
 -- the least conflicting pair of items of two events
-abbrev pub least_items : List Entry → List Row → List Item → List Item → Option (Item × Item)
-least_items trace rows is js = least_among trace rows (all_by_bytes is) (all_by_bytes js) None
+abbrev pub least_items : World → List Entry → List Item → List Item → Option (Item × Item)
+least_items world trace is js = least_among world trace (all_by_bytes is) (all_by_bytes js) None

@@ -1,5 +1,7 @@
 pub mod Program
 pub mod Values
+pub mod World
+pub mod Numbering
 pub mod Nodes
 pub mod Control
 pub mod Moves
@@ -12,10 +14,16 @@ pub mod Keys
 pub mod Moments
 pub mod FirstFinding
 pub mod Placement
+pub mod Completions
+pub mod Claims
+pub mod Certificates
 pub mod Libraries
 pub mod Examples
+pub mod ControlExamples
+pub mod OpenBlocks
 pub mod ChoiceLaws
 pub mod EventLaws
+pub mod FindingLaws
 pub mod ModelMachine
 pub mod Laws
 pub mod OrderLaws

@@ -7,7 +7,7 @@ use Rattle.c_types.specs.declared.library.LibFunc.{LibFunc}
 use Rattle.c_types.specs.declared.library.LibFunc.TheVariants.{Printf}
 use Rattle.c_types.specs.Types.{CType}
 use Rattle.addr_map.specs.declared.map.Row.{Row}
-use Rattle.prov_memory.specs.Script.{Script, Give, ◌>>=◌}
+use Rattle.mem_spec.specs.Script.{Script, Give, ◌>>=◌}
 use Rattle.libc_spec.specs.Library as scripts
 use Rattle.libc_spec.specs.Library.{LibValue, number, pointer, nothing, argument_at, asked, is_given}
 use Rattle.libc_spec.specs.Print.{Argument, printf}

@@ -2,18 +2,15 @@
 use Rattle.std.specs.Prelude.{◌≡◌, ℕ, ◌+◌, Bool, true, false, not, ◌&&◌, ◌||◌, nat_lt, List, length, Option, Some, None, is_some}
 use Rattle.std.specs.List.{list_all}
 use Rattle.ub_base.specs.declared.clause.Kind.TheVariants.{Val, Eff}
-use Rattle.ub_base.specs.declared.names.Event.{Event}
 use Rattle.ub_base.specs.declared.names.Item.{Item}
-use Rattle.addr_map.specs.declared.map.Row.{Row}
-use Rattle.c_types.specs.declared.library.LibFunc.{LibFunc}
-use Rattle.c_types.specs.Types.{CType}
 use Rattle.c_typed.specs.declared.tree.Place.{Place}
 use Rattle.c_typed.specs.Tree.{size}
 use Rattle.c_typed.specs.Order.{place, is_val, is_body}
-use Rattle.prov_memory.specs.Store.{Store}
-use Rattle.prov_memory.specs.Script.{Script, Give, Act, Done, run}
-use Rattle.c_model.specs.Program.{Program, tree_of}
+use Rattle.mem_spec.specs.Store.{Store}
+use Rattle.mem_spec.specs.Script.{Script, Give, Act, Done, run}
+use Rattle.c_model.specs.Program.{tree_of}
 use Rattle.c_model.specs.Values.{Value}
+use Rattle.c_model.specs.World.{World}
 use Rattle.c_model.specs.Moves.{Move, Stay, Start}
 use Rattle.c_model.specs.Steps.{Scene, Local, Begun, Pick, Control, Ev, move, does, next}
 use Rattle.c_model.specs.Moments.{places_from}
@@ -77,12 +74,12 @@ abbrev pub done_in : Option Begun → Pick → Bool
 done_in (Some e) (Ev u) = is_some (e.given u) && nat_lt u.node (nodes e)
 done_in _ _ = true
 
-module _ (program : Program) (rows : List Row) (agree : CType → CType → Bool) (library : LibFunc → Event → List CType → List Value → Script Value) where
+module _ (world : World) where
   -- due, and all that comes before it done
   abbrev pub is_reached : Scene → Begun → Place → Bool
   is_reached f e u =
-      due_now program rows agree library f e u
-      && every (λ v. not (due_now program rows agree library f e v && before_now program rows agree library f e v u) || is_some (e.given v)) (nodes e)
+      due_now world f e u
+      && every (λ v. not (due_now world f e v && before_now world f e v u) || is_some (e.given v)) (nodes e)
 
   abbrev pub is_closed : Scene → Begun → Bool
   is_closed f e = every (λ v. not (is_some (e.given v)) || is_reached f e v) (nodes e)
@@ -90,11 +87,11 @@ module _ (program : Program) (rows : List Row) (agree : CType → CType → Bool
   abbrev pub ready_in : Scene → Option Begun → Pick → Bool
   ready_in f None Control = true
   ready_in f None (Ev u) = false
-  ready_in f (Some e) Control = every (λ u. not (due_now program rows agree library f e u) || is_some (e.given u)) (nodes e)
+  ready_in f (Some e) Control = every (λ u. not (due_now world f e u) || is_some (e.given u)) (nodes e)
   ready_in f (Some e) (Ev u) = (is_reached f e u && not (is_some (e.given u))) && is_closed f e
 
   abbrev pub beside_in : Scene → Option Begun → Pick → Pick → Bool
-  beside_in f (Some e) (Ev u) (Ev v) = not (before_now program rows agree library f e u v) && not (before_now program rows agree library f e v u)
+  beside_in f (Some e) (Ev u) (Ev v) = not (before_now world f e u v) && not (before_now world f e v u)
   beside_in f _ _ _ = false
 
   abbrev pub level_in : Scene → Option Begun → Pick → Pick → Bool
@@ -106,9 +103,9 @@ module _ (program : Program) (rows : List Row) (agree : CType → CType → Bool
   frame_machine parts = record {
     ready = λ f p. ready_in f.scene f.begun p;
     may_start = λ f p. may_start_in f.begun p;
-    move = λ f p. start_where (gives (does program rows agree library f f.begun p)) (move program rows agree library f f.begun p);
-    next = λ f p v. next program rows agree library f f.begun p v;
-    does = λ f p s. done_by (run rows (does program rows agree library f f.begun p) s);
+    move = λ f p. start_where (gives (does world f f.begun p)) (move world f f.begun p);
+    next = λ f p v. next world f f.begun p v;
+    does = λ f p s. done_by (run world.rows (does world f f.begun p) s);
     is_control = is_control;
     opens = λ f p. opens_in f.begun p;
     half = half;
@@ -127,17 +124,17 @@ module _ (program : Program) (rows : List Row) (agree : CType → CType → Bool
 -- the frames of every program keep the laws of the frame, of the order and of updates
 abbrev pub FramesKeepLaws : (Part Seen Fact : Type 0) → Type 0
 FramesKeepLaws Part Seen Fact =
-    (program : Program) (rows : List Row) (agree : CType → CType → Bool) (library : LibFunc → Event → List CType → List Value → Script Value)
+    (world : World)
     (parts : StorePart Part Seen Fact)
-    → FrameLaws (frame_machine program rows agree library parts) × OrderLaws (frame_machine program rows agree library parts)
-    × UpdateLaws (frame_machine program rows agree library parts)
+    → FrameLaws (frame_machine world parts) × OrderLaws (frame_machine world parts)
+    × UpdateLaws (frame_machine world parts)
 
 -- So where the acts keep the laws of the store, for what is looked at there: from frames and a store from which one run goes on without
 -- conflicts to its end, every permitted order has at most as many picks, goes on until the run is over, and ends with that value and store.
 abbrev pub FramesEndAlike : (Part Seen Fact : Type 0) → Type 0
 FramesEndAlike Part Seen Fact =
-    (program : Program) (rows : List Row) (agree : CType → CType → Bool) (library : LibFunc → Event → List CType → List Value → Script Value)
-    (parts : StorePart Part Seen Fact) → StoreLaws (frame_machine program rows agree library parts)
+    (world : World)
+    (parts : StorePart Part Seen Fact) → StoreLaws (frame_machine world parts)
     → (a b : State Local Pick Value Store) (ps : List Pick) (gs : List (Rest Pick Value Item)) (v : Value) (s : Store)
-    → RemainsAt (frame_machine program rows agree library parts) a gs v s → Order (frame_machine program rows agree library parts) a ps b
-    → (n : ℕ) × (length ps + n ≡ all_picks gs) × GoesOnTo (frame_machine program rows agree library parts) b n v s
+    → RemainsAt (frame_machine world parts) a gs v s → Order (frame_machine world parts) a ps b
+    → (n : ℕ) × (length ps + n ≡ all_picks gs) × GoesOnTo (frame_machine world parts) b n v s

@@ -8,6 +8,8 @@ use Rattle.ub_base.specs.Frames.{Path}
 use Rattle.c_typed.specs.declared.tree.Place.{Place}
 use Rattle.c_typed.specs.Tree.{Tree, node, Trees, none, more, size}
 use Rattle.c_typed.specs.Order.{Taken, place, same_place, events}
+use Rattle.c_model.specs.Program.{Expr, tree_of}
+use Rattle.c_model.specs.Steps.{line_of}
 use Rattle.c_model.specs.Runs.{Entry}
 use Rattle.c_model.specs.Findings.{same_path, items_of}
 
@@ -38,11 +40,12 @@ complete_for due done n u v =
 abbrev pub has_shown : Tree → Taken → (Place → Bool) → Place → Place → Bool
 has_shown tree taken done u v = complete_for (events taken 0 tree) done (least 0 tree u.node v.node) u v
 
--- an open full expression at a pick: its due events, the items that each has, and which pairs show, if they conflict
+-- an open full expression at a pick: the lines of its nodes, the items that each event has, and which pairs show, if they conflict
 pub record Open : Type 0 where
   pub path : Path
   pub turn : ℕ
   pub tree : Tree
+  pub line : ℕ → ℕ
   pub taken : Taken
   pub items : Place → List Item
   pub shows : Place → Place → Bool
@@ -60,22 +63,24 @@ items_by trace [] path turn u = []
 items_by trace (e ∷ es) path turn u = if is_of path turn u e then items_of trace e u else items_by trace es path turn u
 
 -- on the way: what is complete has shown
-abbrev pub on_the_way : List Entry → Path → ℕ → Tree → Taken → (Place → Bool) → Open
-on_the_way trace path turn tree taken done = record {
+abbrev pub on_the_way : List Entry → Path → ℕ → Expr → Taken → (Place → Bool) → Open
+on_the_way trace path turn root taken done = record {
   path = path;
   turn = turn;
-  tree = tree;
+  tree = tree_of root;
+  line = line_of root;
   taken = taken;
   items = items_by trace trace path turn;
-  shows = has_shown tree taken done;
+  shows = has_shown (tree_of root) taken done;
 }
 
 -- where the run ends inside the expression: each pair shows, and each due event, done or pending, has the item `any`
-abbrev pub as_it_ends : List Entry → Path → ℕ → Tree → Taken → Open
-as_it_ends trace path turn tree taken = record {
+abbrev pub as_it_ends : List Entry → Path → ℕ → Expr → Taken → Open
+as_it_ends trace path turn root taken = record {
   path = path;
   turn = turn;
-  tree = tree;
+  tree = tree_of root;
+  line = line_of root;
   taken = taken;
   items = λ u. items_by trace trace path turn u ++ (Any ∷ []);
   shows = λ u v. true;

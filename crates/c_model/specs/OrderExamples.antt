@@ -1,9 +1,9 @@
 -- How the events of some full expressions stand to one another, each pair of the listing.
-use Rattle.std.specs.Prelude.{ℕ, ◌==◌, ◌||◌, List, [], ◌∷◌, map, Option, Some, None, if◌then◌else◌}
+use Rattle.std.specs.Prelude.{ℕ, ◌==◌, ◌||◌, List, [], ◌∷◌, map, Some, None, if◌then◌else◌}
 use Rattle.c_typed.specs.declared.tree.Place.{Place}
 use Rattle.c_typed.specs.declared.class.Class.{Class}
 use Rattle.c_typed.specs.declared.class.Class.TheVariants.{Object, Constant, Plain, Store, Update, Choice, Comma, Call}
-use Rattle.c_typed.specs.Tree.{Tree, node, Trees, none, more}
+use Rattle.c_typed.specs.Tree.{Tree, node, none, more}
 use Rattle.c_typed.specs.Order.{Taken, events, is_body}
 use Rattle.c_typed.specs.Decide.{is_before}
 

@@ -1,17 +1,14 @@
 -- Where the objects of a run stand (own).
 use Rattle.std.specs.Prelude.{◌≡◌, ℕ, Bool, true, ◌&&◌, ◌==◌, List, [], ◌∷◌, ◌++◌, map}
-use Rattle.ub_base.specs.declared.names.Event.{Event}
 use Rattle.ub_base.specs.declared.names.ObjName.{ObjName}
 use Rattle.ub_base.specs.declared.names.Item.{Item}
 use Rattle.ub_base.specs.declared.names.Item.TheVariants.{Born}
-use Rattle.c_types.specs.declared.library.LibFunc.{LibFunc}
-use Rattle.c_types.specs.Types.{CType}
 use Rattle.addr_map.specs.declared.map.Row.{Row}
 use Rattle.addr_map.specs.declared.map.Mode.{Mode}
 use Rattle.addr_map.specs.Rows.{base_of}
-use Rattle.prov_memory.specs.Script.{Script}
 use Rattle.c_model.specs.Program.{Program, Standing}
 use Rattle.c_model.specs.Values.{Value}
+use Rattle.c_model.specs.World.{World}
 use Rattle.c_model.specs.Runs.{Entry, Outcome, Raises, Ends, Running, start, canonical_after, on_running}
 
 abbrev pub born_in : List Item → List ObjName
@@ -42,7 +39,6 @@ follow mode before (r ∷ rs) = (r.base == base_of mode before r.align) && follo
 -- The rows are those of the objects created by so many picks of the canonical order, in the order of their creation, each where its
 -- mode puts it. A creation asks for a row of its size and alignment, so these are right as well. A row whose object isn't created yet
 -- changes no act, so the run under all rows is the run under a map that grows.
-pub record IsPlacement (mode : Mode) (program : Program) (rows : List Row) (agree : CType → CType → Bool)
-    (library : LibFunc → Event → List CType → List Value → Script Value) (input : List ℕ) (vs : List Value) (picks : ℕ) : Type 0 where
-  pub placed : follow mode [] rows ≡ true
-  pub created : map (λ r. r.name) rows ≡ objects_of program (on_running (start program rows agree library input vs) (canonical_after program rows agree library picks))
+pub record IsPlacement (mode : Mode) (world : World) (input : List ℕ) (vs : List Value) (picks : ℕ) : Type 0 where
+  pub placed : follow mode [] world.rows ≡ true
+  pub created : map (λ r. r.name) world.rows ≡ objects_of world.program (on_running (start world input vs) (canonical_after world picks))

@@ -1,5 +1,5 @@
 -- A program as the model sees it: plain trees of expressions and statements.
-use Rattle.std.specs.Prelude.{ℕ, Bool, List, Option, ℤ}
+use Rattle.std.specs.Prelude.{ℕ, Bool, List, Option, Some, None, ℤ}
 use Rattle.ub_base.specs.declared.names.ObjName.{ObjName}
 use Rattle.c_types.specs.declared.kind.IntKind.{IntKind}
 use Rattle.c_types.specs.declared.kind.BinOp.{BinOp}
@@ -17,7 +17,19 @@ use Rattle.c_typed.specs.declared.class.Class.{Class}
 use Rattle.c_typed.specs.declared.class.Class.TheVariants as class
 use Rattle.c_typed.specs.Tree as order
 use Rattle.c_typed.specs.Tree.{Tree, Trees, first_class, member_class, conversion_class}
-use Rattle.prov_memory.specs.Store.{TaggedByte}
+
+-- what an initialization puts at a place of an object: zeros, bytes, the address of an object or a function (6.6p9, 6.7.9), or the null
+-- pointer behind the arguments of `main` (5.1.2.2.1p2)
+pub data Content : Type 0 where
+  Zeros : ℕ → Content
+  Bytes : List ℕ → Content
+  Object_at : ObjName → (offset : ℕ) → Content
+  Function_at : (function : ℕ) → Content
+  No_object : Content
+
+pub record Filling : Type 0 where
+  pub offset : ℕ
+  pub content : Content
 
 mutual
   -- a node with the values that it holds
@@ -44,12 +56,12 @@ mutual
     Cond : Head
     Comma : Head
     Call : (discarded : Bool) → Head
-    Listed : Slot → (bytes : List (ℕ × List TaggedByte)) → Head
+    Listed : Slot → List Filling → Head
     Isolated : Expr → Head
 
-  -- an expression, with the type of the value that it gives
+  -- an expression, with the type of the value that it gives, and the line of its first token
   pub data Expr : Type 0 where
-    expr : Head → (ty : CType) → Exprs → Expr
+    expr : Head → (ty : CType) → (line : ℕ) → Exprs → Expr
 
   pub data Exprs : Type 0 where
     none : Exprs
@@ -70,14 +82,14 @@ head_class Or ts = class.Choice
 head_class Cond ts = class.Choice
 head_class Comma ts = class.Comma
 head_class (Call discarded) ts = class.Call
-head_class (Listed slot bytes) ts = class.Store
+head_class (Listed slot fillings) ts = class.Store
 head_class (Isolated e) ts = class.Isolated
 head_class _ ts = class.Plain
 
 abbrev mutual
   -- the tree that orders the events of an expression
   pub tree_of : Expr → Tree
-  tree_of (expr h ty es) = order.node (head_class h (trees_of es)) (trees_of es)
+  tree_of (expr h ty line es) = order.node (head_class h (trees_of es)) (trees_of es)
 
   pub trees_of : Exprs → Trees
   trees_of none = order.none
@@ -102,7 +114,6 @@ mutual
     If : Expr → Stmt → Stmt → Stmt
     If_only : Expr → Stmt → Stmt
     Switch : Expr → Stmt → Stmt
-    While : Expr → Stmt → Stmt
     Do : Stmt → Expr → Stmt
     For : (start test step : Option Expr) → Stmt → Stmt
     Goto : (label : ℕ) → Stmt
@@ -118,18 +129,22 @@ mutual
     end : Stmts
     and_then : Stmt → Stmts → Stmts
 
+-- `while` is `for` with a test alone (6.8.5.1, 6.8.5.3)
+abbrev pub While : Expr → Stmt → Stmt
+While e s = For None (Some e) None s
+
 pub record Function : Type 0 where
   pub ty : CType
   pub void : Bool  -- it gives no value (6.9.1)
   pub library : Option LibFunc
   pub body : Option Stmt
 
--- an object that stands before the first pick, with its bytes: with static storage, a literal, or an argument of `main`
+-- an object that stands before the first pick, with what fills it: with static storage, a literal, or an argument of `main`
 pub record Standing : Type 0 where
   pub name : ObjName
   pub decl : Decl
   pub literal : Bool
-  pub bytes : List TaggedByte
+  pub fillings : List Filling
 
 pub record Program : Type 0 where
   pub functions : List Function

@@ -1,5 +1,5 @@
 -- The state of a frame, and what a pick does in it.
-use Rattle.std.specs.Prelude.{◌≡◌, ℕ, suc, ◌+◌, ◌*◌, ◌/◌, Bool, true, false, not, ◌&&◌, ◌||◌, ◌==◌, nat_lt, List, [], ◌∷◌, Option, Some, None, is_some, is_none, if◌then◌else◌, ℤ, pos, slice_get}
+use Rattle.std.specs.Prelude.{◌≡◌, ℕ, suc, ◌+◌, Bool, true, false, not, ◌&&◌, ◌||◌, ◌==◌, nat_lt, List, [], ◌∷◌, Option, Some, None, is_some, is_none, if◌then◌else◌, pos, slice_get}
 use Rattle.ub_base.specs.declared.clause.Kind.{Kind}
 use Rattle.ub_base.specs.declared.clause.Kind.TheVariants.{Val, Eff, Body}
 use Rattle.ub_base.specs.declared.clause.Clause.TheVariants.{InvalidPointer, IncompatibleCall}
@@ -8,33 +8,26 @@ use Rattle.ub_base.specs.declared.names.ObjName.{ObjName}
 use Rattle.ub_base.specs.declared.names.ObjName.TheVariants as object
 use Rattle.ub_base.specs.Frames.{Path}
 use Rattle.c_types.specs.declared.library.LibFunc.{LibFunc}
-use Rattle.c_types.specs.Types.{CType}
+use Rattle.c_types.specs.Types.{CType, void, pointer, function}
+use Rattle.c_arith.specs.Operators.{conv}
 use Rattle.c_typed.specs.declared.tree.Place.{Place}
 use Rattle.c_typed.specs.declared.tree.Slot.{Slot}
 use Rattle.c_typed.specs.declared.tree.Slot.TheVariants as slot
+use Rattle.c_typed.specs.declared.tree.Conversion.TheVariants as conversion
 use Rattle.c_typed.specs.Tree.{size, is_quiet}
 use Rattle.c_typed.specs.Order.{Taken, place, same_place, is_body, events, IsPermitted}
 use Rattle.c_typed.specs.Decide.{first_place}
-use Rattle.addr_map.specs.declared.map.Row.{Row}
 use Rattle.addr_map.specs.Rows.{row_of}
 use Rattle.exposure.specs.declared.prov.Prov.TheVariants as prov
-use Rattle.prov_memory.specs.declared.object.ObjKind.{ObjKind}
-use Rattle.prov_memory.specs.Script.{Script, Give, Raise, require, ◌>>=◌, ◌>>◌}
-use Rattle.prov_memory.specs.Acts.{base_in, create, kill, unwrite}
-use Rattle.c_model.specs.Program.{Head, Number, Null, Obj, Func, Str, Member, Conv, And, Or, Cond, Call, Listed, Isolated, Expr, expr, Exprs, none, more, tree_of, Decl, Stmt, Function, Program}
-use Rattle.c_model.specs.Values.{Value, Int, Ptr, Fun, Missing, Nothing, or_nothing, truth}
-use Rattle.c_model.specs.Nodes.{act_of, convert, put}
-use Rattle.c_model.specs.Control.{Use, Unused, To_branch, To_enter, To_select, To_go_round, To_go_again, Result, Break_here, Continue_here, Again, Enter, Leave, Unwrite, Begin, Go_to, Go_out, Go_on, Go_back, Todo, opened, round, ready_work, out_of, on_with, leaves, to_label, Found, find, selected, gone_to}
+use Rattle.mem_spec.specs.declared.kind.ObjKind.{ObjKind}
+use Rattle.mem_spec.specs.Script.{Script, Give, Raise, require, ◌>>◌}
+use Rattle.mem_spec.specs.Acts.{base_in, create, kill, unwrite}
+use Rattle.c_model.specs.Program.{Head, Number, Null, Obj, Func, Str, Member, Conv, And, Or, Cond, Call, Listed, Isolated, Expr, expr, Exprs, none, more, tree_of, Decl, Stmt, Function}
+use Rattle.c_model.specs.Values.{Value, Int, Ptr, Fun, Missing, Nothing, Pointer, null, pointer_value, integer_of, pointer_of, function_in, or_nothing, truth, value_at, later_values, function_address, address_after}
+use Rattle.c_model.specs.World.{World}
+use Rattle.c_model.specs.Nodes.{act_of, put}
+use Rattle.c_model.specs.Control.{Use, Unused, Result, Enter, Leave, Unwrite, Begin, Go_to, Go_out, Go_on, Go_back, To_do, Todo, ready_work, out_of, on_with, leaves, to_label, find, gone_to, work_after}
 use Rattle.c_model.specs.Moves.{Move, Stay, Start, End}
-
--- a number for each pair of numbers
-abbrev pub pair_number : ℕ → ℕ → ℕ
-pair_number a b = (a + b) * (a + b + 1) / 2 + b
-
--- a number for each path, 0 for `main`: in the model a frame is known by how it was reached, whatever the order
-abbrev pub frame_number : Path → ℕ
-frame_number [] = 0
-frame_number (s ∷ f) = suc (pair_number (pair_number s.0 s.1) (frame_number f))
 
 -- a full expression that has begun, and what its picks gave
 pub record Begun : Type 0 where
@@ -69,7 +62,7 @@ turn_of (b ∷ bs) block = if b.0 == block then b.1 else turn_of bs block
 abbrev mutual
   -- the expression whose number is m in the one whose root has the number k
   pub at_node : ℕ → Expr → ℕ → Option Expr
-  at_node k (expr h ty es) m = if k == m then Some (expr h ty es) else at_node_among (suc k) es m
+  at_node k (expr h ty line es) m = if k == m then Some (expr h ty line es) else at_node_among (suc k) es m
 
   pub at_node_among : ℕ → Exprs → ℕ → Option Expr
   at_node_among k none m = None
@@ -94,16 +87,6 @@ abbrev pub own_kind : Kind → Kind
 own_kind Eff = Val
 own_kind _ = Body
 
-abbrev pub event_of : Scene → Place → Event
-event_of f u = record { frame = record { 0 = frame_number f.path }; turn = f.turn; node = u.node; kind = u.kind }
-
-abbrev pub auto_name : Scene → ℕ → ℕ → ObjName
-auto_name f turn k = object.Auto (record { 0 = frame_number f.home }) turn k
-
-abbrev pub name_of : Scene → Slot → ObjName
-name_of f (slot.Static k) = object.Static k
-name_of f (slot.Auto block decl) = auto_name f (turn_of f.blocks block) decl
-
 abbrev pub object_kind : Bool → ObjKind
 object_kind constant = record { heap = false; literal = false; constant = constant }
 
@@ -118,47 +101,79 @@ abbrev pub without_block : List (ℕ × ℕ) → ℕ → List (ℕ × ℕ)
 without_block [] b = []
 without_block (o ∷ os) b = if o.0 == b then os else o ∷ without_block os b
 
--- the address of a function of this number (own)
-abbrev pub function_address : ℕ → ℕ
-function_address n = 4096 + 16 * n
-
 abbrev pub function_of : List Function → ℕ → ℕ → Option (ℕ × Function)
 function_of [] n a = None
 function_of (f ∷ fs) n a = if function_address n == a then Some (n, f) else function_of fs (suc n) a
 
 abbrev pub types_of : Exprs → List CType
 types_of none = []
-types_of (more (expr h ty es) rest) = ty ∷ types_of rest
+types_of (more (expr h ty line es) rest) = ty ∷ types_of rest
 
 -- of a call's operands, those behind its designator
 abbrev pub argument_types : Exprs → List CType
 argument_types none = []
 argument_types (more e rest) = types_of rest
 
--- the program, its address map, which function types are compatible, and what the library does for a call's arguments with their types
-module _ (program : Program) (rows : List Row) (agree : CType → CType → Bool) (library : LibFunc → Event → List CType → List Value → Script Value) where
+-- the type of the object or function that an operand of this type designates
+abbrev pub target : CType → CType
+target (pointer constant ty) = ty
+target ty = ty
+
+abbrev pub first_type : Exprs → CType
+first_type none = void
+first_type (more (expr h ty line es) rest) = ty
+
+-- the function type that a call goes by (6.5.2.2p1)
+abbrev pub function_type : CType → Option CType
+function_type (function result params variadic) = Some (function result params variadic)
+function_type _ = None
+
+-- a null pointer to an object or to a function (6.3.2.3p3)
+abbrev pub null_of : CType → Value
+null_of (function result params variadic) = Fun 0
+null_of _ = pointer_value null
+
+-- a function that the program defines starts a frame (6.5.2.2p10)
+abbrev pub own_body : Function → Option Stmt
+own_body c = if is_some c.library then None else c.body
+
+abbrev pub line_at : Option Expr → ℕ
+line_at None = 0
+line_at (Some (expr h ty line es)) = line
+
+-- the line of a node
+abbrev pub line_of : Expr → ℕ → ℕ
+line_of root n = line_at (at_node 0 root n)
+
+module _ (world : World) where
+  abbrev pub event_of : Scene → Place → Event
+  event_of f u = record { frame = record { 0 = world.number f.path }; turn = f.turn; node = u.node; kind = u.kind }
+
+  abbrev pub auto_name : Scene → ℕ → ℕ → ObjName
+  auto_name f turn k = object.Auto (record { 0 = world.number f.home }) turn k
+
+  abbrev pub name_of : Scene → Slot → ObjName
+  name_of f (slot.Static k) = object.Static k
+  name_of f (slot.Auto block decl) = auto_name f (turn_of f.blocks block) decl
+
   abbrev pub pointer_to : ObjName → Value
-  pointer_to x = Ptr (base_in (row_of rows x)) (prov.Whole x)
+  pointer_to x = Ptr (base_in (row_of world.rows x)) (prov.Whole x)
 
   -- the value that a move of a quiet place gives
   abbrev pub moved_place : ℕ → Value → Value
-  moved_place offset (Ptr a p) = Ptr (a + offset) p
+  moved_place offset (Ptr a p) = Ptr (address_after a offset) p
   moved_place offset v = v
-
-  abbrev pub given_value : Script Value → Value
-  given_value (Give v) = v
-  given_value _ = Nothing
 
   abbrev mutual
     -- the value of a quiet node, which no event gives
     pub quiet_value : Scene → Expr → Value
-    quiet_value f (expr (Number z) ty es) = Int z
-    quiet_value f (expr Null ty es) = Ptr 0 prov.Empty
-    quiet_value f (expr (Obj s) ty es) = pointer_to (name_of f s)
-    quiet_value f (expr (Func n) ty es) = Fun (function_address n)
-    quiet_value f (expr (Str k) ty es) = pointer_to (object.Lit k)
-    quiet_value f (expr (Member offset) ty es) = moved_place offset (first_quiet f es)
-    quiet_value f (expr (Conv c) ty es) = given_value (convert (event_of f (place 0 Val)) c (first_quiet f es))
+    quiet_value f (expr (Number z) ty line es) = Int z
+    quiet_value f (expr Null ty line es) = null_of (target ty)
+    quiet_value f (expr (Obj s) ty line es) = pointer_to (name_of f s)
+    quiet_value f (expr (Func n) ty line es) = Fun (function_address n)
+    quiet_value f (expr (Str k) ty line es) = pointer_to (object.Lit k)
+    quiet_value f (expr (Member offset) ty line es) = moved_place offset (first_quiet f es)
+    quiet_value f (expr (Conv (conversion.Integer k)) ty line es) = Int (conv k (integer_of (first_quiet f es)))
     quiet_value f _ = Nothing
 
     pub first_quiet : Scene → Exprs → Value
@@ -172,12 +187,12 @@ module _ (program : Program) (rows : List Row) (agree : CType → CType → Bool
       (if is_quiet (tree_of e) then quiet_value f e else or_nothing (given (place k Val))) ∷ values_of f given (k + size (tree_of e)) es
 
   abbrev pub operand_values : Scene → (Place → Option Value) → ℕ → Head → Exprs → List Value
-  operand_values f given k (Listed s bytes) es = pointer_to (name_of f s) ∷ []
+  operand_values f given k (Listed s fillings) es = pointer_to (name_of f s) ∷ []
   operand_values f given k h es = values_of f given k es
 
   abbrev pub choice_in : Scene → (Place → Option Value) → ℕ → Option Expr → Option ℕ
   choice_in f given k None = None
-  choice_in f given k (Some (expr h ty es)) = choice_by h (values_of f given (suc k) es) (first_known given (suc k) es)
+  choice_in f given k (Some (expr h ty line es)) = choice_by h (values_of f given (suc k) es) (first_known given (suc k) es)
 
   abbrev pub taken_by : Scene → Begun → Taken
   taken_by f e k = choice_in f e.given k (at_node 0 e.root k)
@@ -199,18 +214,22 @@ module _ (program : Program) (rows : List Row) (agree : CType → CType → Bool
     scene = record { path = (f.turn, k) ∷ f.path; home = (f.turn, k) ∷ f.path; turn = 0; blocks = [] };
     function = Some n;
     arguments = vs;
-    todo = opened s [];
+    todo = To_do s ∷ [];
     begun = None;
     result = None;
   })
 
   abbrev pub start_call : Scene → ℕ → List Value → Option (ℕ × Function) → Move Local
   start_call f k vs None = Stay
-  start_call f k vs (Some c) = body_frame f k c.0 vs c.1.body
+  start_call f k vs (Some c) = body_frame f k c.0 vs (own_body c.1)
+
+  -- the function that a call's designator leads to
+  abbrev pub called_by : List Value → Option (ℕ × Function)
+  called_by vs = function_of world.program.functions 0 (function_in (value_at vs 0))
 
   -- the body of a call starts the function's frame, and that of an isolated initializer one of its own (6.7.9p23)
   abbrev pub started : Scene → ℕ → Head → List Value → Move Local
-  started f k (Call discarded) (Fun a ∷ vs) = start_call f k vs (function_of program.functions 0 a)
+  started f k (Call discarded) vs = start_call f k (later_values vs) (called_by vs)
   started f k (Isolated e) vs = Start (record {
     scene = record { path = (f.turn, k) ∷ f.path; home = f.home; turn = 0; blocks = f.blocks };
     function = None;
@@ -223,43 +242,48 @@ module _ (program : Program) (rows : List Row) (agree : CType → CType → Bool
 
   abbrev pub move_of : Scene → Begun → Place → Option Expr → Move Local
   move_of f e u None = Stay
-  move_of f e u (Some (expr h ty es)) = if is_body u.kind then started f u.node h (values_of f e.given (suc u.node) es) else Stay
+  move_of f e u (Some (expr h ty line es)) = if is_body u.kind then started f u.node h (values_of f e.given (suc u.node) es) else Stay
 
   abbrev pub library_act : Event → List CType → List Value → Option LibFunc → Script Value
   library_act who ts vs None = Give Nothing
-  library_act who ts vs (Some g) = library g who ts vs
+  library_act who ts vs (Some g) = world.library g who ts vs
 
   -- what the body of a call does by itself: that of a library function; a call of none raises (6.5.3.2p4, 6.5.2.2p9)
   abbrev pub call_by : Event → CType → List CType → List Value → Option (ℕ × Function) → Script Value
   call_by who ty ts vs None = Raise InvalidPointer
   call_by who ty ts vs (Some c) =
-      require (is_some c.1.body || is_some c.1.library) InvalidPointer >> (require (agree c.1.ty ty) IncompatibleCall >> library_act who ts vs c.1.library)
+      require (is_some c.1.body || is_some c.1.library) InvalidPointer
+      >> (require (world.agree c.1.ty ty) IncompatibleCall >> library_act who ts vs c.1.library)
 
-  abbrev pub type_of_first : Exprs → CType → CType
-  type_of_first none ty = ty
-  type_of_first (more (expr h ty es) rest) other = ty
+  abbrev pub call_through : Event → Option CType → List CType → List Value → Script Value
+  call_through who None ts vs = Raise InvalidPointer
+  call_through who (Some ty) ts vs = call_by who ty ts (later_values vs) (called_by vs)
 
-  abbrev pub call_act : Event → Head → CType → List CType → List Value → Script Value
-  call_act who (Call discarded) ty ts (Fun a ∷ vs) = call_by who ty ts vs (function_of program.functions 0 a)
-  call_act who (Call discarded) ty ts vs = Raise InvalidPointer
-  call_act who h ty ts vs = Give Nothing
+  abbrev pub call_act : Event → Head → Exprs → List Value → Script Value
+  call_act who (Call discarded) es vs = call_through who (function_type (target (first_type es))) (argument_types es) vs
+  call_act who h es vs = Give Nothing
 
   -- what an event does to the store
   abbrev pub event_act : Scene → Begun → Place → Option Expr → Script Value
   event_act f e u None = Give Nothing
-  event_act f e u (Some (expr h ty es)) =
-      if is_body u.kind then call_act (event_of f u) h (type_of_first es ty) (argument_types es) (values_of f e.given (suc u.node) es)
-      else act_of rows (event_of f u) h ty u.kind (operand_values f e.given (suc u.node) h es) (or_nothing (e.given (place u.node (own_kind u.kind))))
+  event_act f e u (Some (expr h ty line es)) =
+      if is_body u.kind then call_act (event_of f u) h es (values_of f e.given (suc u.node) es)
+      else act_of world.rows (event_of f u) h (target (first_type es)) u.kind (operand_values f e.given (suc u.node) h es)
+      (or_nothing (e.given (place u.node (own_kind u.kind))))
 
-  -- objects are created in order, those of a function's parameters with the arguments (6.5.2.2p4, 6.9.1p9)
-  abbrev pub bear_all : Scene → ℕ → ℕ → List Decl → List Value → Script Value
-  bear_all f turn k [] vs = Give Nothing
-  bear_all f turn k (d ∷ ds) [] =
-      create rows (auto_name f turn k) d.size d.align (object_kind d.constant) d.form >> bear_all f turn (suc k) ds []
-  bear_all f turn k (d ∷ ds) (v ∷ vs) =
-      (create rows (auto_name f turn k) d.size d.align (object_kind d.constant) d.form
-      >>= (λ a. put rows true d.access d.ty (Ptr a (prov.Whole (auto_name f turn k))) v))
-      >> bear_all f turn (suc k) ds vs
+  abbrev pub object_at : Scene → ℕ → ℕ → Pointer
+  object_at f turn k = pointer_of (pointer_to (auto_name f turn k))
+
+  -- the objects of a function's parameters take the arguments (6.5.2.2p4, 6.9.1p10)
+  abbrev pub pass_all : Scene → ℕ → ℕ → List Decl → List Value → Script Value
+  pass_all f turn k (d ∷ ds) (v ∷ vs) = put world.rows true d.access d.ty (object_at f turn k) v >> pass_all f turn (suc k) ds vs
+  pass_all f turn k ds vs = Give Nothing
+
+  -- a block is entered: its objects are created, in order, and then the first ones take the arguments (6.2.4p6)
+  abbrev pub bear_all : Scene → ℕ → ℕ → List Decl → Script Value → Script Value
+  bear_all f turn k [] rest = rest
+  bear_all f turn k (d ∷ ds) rest =
+      create world.rows (auto_name f turn k) d.size d.align (object_kind d.constant) d.form >> bear_all f turn (suc k) ds rest
 
   abbrev pub kill_all : Scene → ℕ → ℕ → List Decl → Script Value → Script Value
   kill_all f turn k [] rest = rest
@@ -276,13 +300,13 @@ module _ (program : Program) (rows : List Row) (agree : CType → CType → Bool
       result_in : Option ℕ → Option Value → Value
       result_in n (Some v) = v
       result_in None None = Nothing
-      result_in (Some n) None = left_by (slice_get program.functions n) (n == program.main)
+      result_in (Some n) None = left_by (slice_get world.program.functions n) (n == world.program.main)
 
   -- what the control step at this work does to the store
   abbrev pub control_act : Local → Todo → Script Value
-  control_act f (Enter b ds ∷ rest) = bear_all f.scene (suc f.scene.turn) 0 ds f.arguments
+  control_act f (Enter b ds ∷ rest) = bear_all f.scene (suc f.scene.turn) 0 ds (pass_all f.scene (suc f.scene.turn) 0 ds f.arguments)
   control_act f (Leave b ds ∷ rest) = kill_all f.scene (turn_of f.scene.blocks b) 0 ds (Give (result_of f))
-  control_act f (Unwrite d ∷ rest) = unwrite rows (innermost f.scene f.scene.blocks d) >> Give Nothing
+  control_act f (Unwrite d ∷ rest) = unwrite world.rows (innermost f.scene f.scene.blocks d) >> Give Nothing
     where
       innermost : Scene → List (ℕ × ℕ) → ℕ → ObjName
       innermost f [] d = auto_name f 0 d
@@ -310,42 +334,28 @@ module _ (program : Program) (rows : List Row) (agree : CType → CType → Bool
   move f (Some e) Control = if is_none f.function && ends_with (ready_work f.todo) then End else Stay
   move f (Some e) (Ev u) = move_of f.scene e u (at_node 0 e.root u.node)
 
-  abbrev pub int_of : Value → ℤ
-  int_of (Int z) = z
-  int_of _ = pos 0
-
-  -- what is left to do after a full expression that had this value (6.8.4 to 6.8.6)
-  abbrev pub work_after : Value → Use → Todo → Todo
-  work_after v Unused rest = rest
-  work_after v (To_branch s t) rest = if truth v then opened s rest else opened t rest
-  work_after v (To_enter s) rest = if truth v then opened s rest else rest
-  work_after v (To_select s) rest = selected (int_of v) s (Break_here ∷ rest)
-  work_after v (To_go_round test step s) rest = if truth v then round test step s rest else rest
-  work_after v (To_go_again e s) rest = if truth v then opened s (Continue_here ∷ Again e s ∷ rest) else rest
-  work_after v Result rest = leaves rest
-
   abbrev pub is_result : Use → Bool
   is_result Result = true
   is_result _ = false
 
   -- the value of a full expression is used (6.8p4)
   abbrev pub settled : Local → Value → Use → Local
-  settled f v what = record f { begun = None; todo = work_after v what f.todo; result = if is_result what then Some v else f.result }
+  settled f v what = record f { begun = None; todo = work_after (truth v) (integer_of v) what f.todo; result = if is_result what then Some v else f.result }
 
   abbrev pub root_value : Local → Begun → Value
   root_value f e = if is_quiet (tree_of e.root) then quiet_value f.scene e.root else or_nothing (e.given (place 0 Val))
 
   abbrev pub body_of : Option ℕ → Option Stmt
   body_of None = None
-  body_of (Some n) = stmt_of (slice_get program.functions n)
+  body_of (Some n) = stmt_of (slice_get world.program.functions n)
     where
       stmt_of : Option Function → Option Stmt
       stmt_of None = None
       stmt_of (Some fun) = fun.body
 
-  abbrev pub found_label : ℕ → Option Stmt → Option Found
+  abbrev pub found_label : ℕ → Option Stmt → Option Todo
   found_label k None = None
-  found_label k (Some s) = find (to_label k) s []
+  found_label k (Some s) = find (to_label k) s
 
   abbrev pub control_next : Local → Todo → Local
   control_next f [] = f
@@ -353,7 +363,7 @@ module _ (program : Program) (rows : List Row) (agree : CType → CType → Bool
       record f { scene = record f.scene { turn = suc f.scene.turn; blocks = (b, suc f.scene.turn) ∷ f.scene.blocks }; arguments = []; todo = rest }
   control_next f (Leave b ds ∷ rest) = record f { scene = record f.scene { blocks = without_block f.scene.blocks b }; todo = rest }
   control_next f (Begin e what ∷ rest) = begin f e what rest
-  control_next f (Go_to k ∷ rest) = record f { todo = gone_to f.scene.blocks rest (found_label k (body_of f.function)) }
+  control_next f (Go_to k ∷ rest) = record f { todo = gone_to rest (found_label k (body_of f.function)) }
   control_next f (Go_out ∷ rest) = record f { todo = out_of rest }
   control_next f (Go_on ∷ rest) = record f { todo = on_with rest }
   control_next f (Go_back ∷ rest) = record f { todo = leaves rest }

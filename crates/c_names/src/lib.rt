@@ -13,6 +13,3 @@ pub use laws::{law_numbers, law_texts};
 pub use order::{cmp_events, cmp_objects};
 pub use read::{read_event, read_object};
 pub use write::{write_event, write_object};
-
-#[cfg(test)]
-mod tests;

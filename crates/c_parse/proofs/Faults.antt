@@ -1,7 +1,7 @@
 -- Which refusals are of syntax.
 use Rattle.std.proofs.Common.{◌≡◌, ◌≢◌, ℕ}
-use Rattle.c_cursor.specs.declared.refusal.Refusal.{Refusal}
-use Rattle.c_cursor.specs.declared.refusal.Refusal.TheVariants as refusal
+use Rattle.parse_cursor.specs.declared.refusal.Refusal.{Refusal}
+use Rattle.parse_cursor.specs.declared.refusal.Refusal.TheVariants as refusal
 use Rattle.c_parse.specs.Faults.{fault_of}
 use Rattle.c_parse.specs.declared.error.ParseFault.TheVariants as fault
 

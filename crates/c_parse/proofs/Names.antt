@@ -7,9 +7,9 @@ use Rattle.c_grammar.specs.Grammar.{Named, name_of}
 use Rattle.parse_spec.specs.Declarations.{named_declarator}
 use Rattle.parse_spec.specs.Nested.{declarator}
 use Rattle.parse_spec.specs.Steps.{turns, declare}
-use Rattle.c_cursor.specs.Reads.{Reads}
-use Rattle.c_cursor.specs.declared.refusal.Refusal.{Refusal}
-use Rattle.c_cursor.specs.declared.refusal.Refusal.TheVariants.{NoMemory}
+use Rattle.parse_cursor.specs.Reads.{Reads}
+use Rattle.parse_cursor.specs.declared.refusal.Refusal.{Refusal}
+use Rattle.parse_cursor.specs.declared.refusal.Refusal.TheVariants.{NoMemory}
 use Rattle.parse_nodes.specs.Behind.{held}
 use Rattle.parse_declarators.specs.Naming.{named_at}
 use Rattle.parse_declarators.proofs.Names.{named_declared}

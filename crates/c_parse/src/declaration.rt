@@ -1,16 +1,16 @@
 //! Declarations (6.7).
 
 ghost use Rattle.std.specs.Prelude.{◌∷◌, []};
-ghost use Rattle.c_cursor.specs.Reads.{Reads};
+ghost use Rattle.parse_cursor.specs.Reads.{Reads};
 ghost use Rattle.parse_spec.specs.Declarations as spec;
 ghost use Rattle.parse_spec.specs.Steps.{turns};
 
 use crate::initializer::initializer;
 use crate::knot::{declarator, expr, specs};
 use c_ast::{Declaration, Declarator, Expr, Init, Part, Specs};
-use c_cursor::tokens::declares_typedef;
-use c_cursor::{Cursor, Mode, Place, Refusal};
 use c_lex::Mark;
+use parse_cursor::tokens::declares_typedef;
+use parse_cursor::{Cursor, Mode, Place, Refusal};
 use parse_declarators::{Declarators, declare_named};
 use parse_nodes::behind::{kept, pushed, with};
 use std::alloc::Global;

@@ -2,7 +2,7 @@
 
 ghost use Rattle.std.specs.Prelude.{◌≡◌};
 
-use c_cursor::Refusal;
+use parse_cursor::Refusal;
 use ub_base::NoMemory;
 
 #[derive(Clone, Copy, Debug, PartialEq, Eq)]

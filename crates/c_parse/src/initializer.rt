@@ -1,7 +1,7 @@
 //! Initializers (6.7.9).
 
 ghost use Rattle.std.specs.Prelude.{◌≡◌, []};
-ghost use Rattle.c_cursor.specs.Reads.{Reads};
+ghost use Rattle.parse_cursor.specs.Reads.{Reads};
 ghost use Rattle.c_parse.specs.Parts.{one_init_entry};
 ghost use Rattle.parse_spec.specs.Initializers as spec;
 ghost use Rattle.parse_spec.specs.Places.{opens_designator};
@@ -9,10 +9,10 @@ ghost use Rattle.parse_spec.specs.Steps.{turns};
 
 use crate::knot::expr;
 use c_ast::{Designator, Init, InitEntry};
-use c_cursor::operators::{ASSIGNMENT, CONDITIONAL};
-use c_cursor::tokens::identifier;
-use c_cursor::{Cursor, Refusal};
 use c_lex::{Mark, TokenKind};
+use parse_cursor::operators::{ASSIGNMENT, CONDITIONAL};
+use parse_cursor::tokens::identifier;
+use parse_cursor::{Cursor, Refusal};
 use parse_nodes::behind::{before, kept, pushed, with};
 use std::alloc::Global;
 use ub_base::Items;

@@ -1,11 +1,11 @@
 //! The rules that need each other: expressions, declarators and specifiers.
 
-ghost use Rattle.c_cursor.specs.Places.{mode_of, allowed_in};
-ghost use Rattle.c_cursor.specs.Reads.{Reads};
+ghost use Rattle.parse_cursor.specs.Places.{mode_of, allowed_in};
+ghost use Rattle.parse_cursor.specs.Reads.{Reads};
 ghost use Rattle.parse_spec.specs.Nested as nested;
 
 use c_ast::{Declarator, Expr, Specs};
-use c_cursor::{Cursor, Mode, Place, Refusal};
+use parse_cursor::{Cursor, Mode, Place, Refusal};
 use parse_declarators::Declarators;
 use parse_expressions::Expressions;
 use std::alloc::Global;

@@ -2,7 +2,7 @@
 
 ghost use Rattle.std.specs.Prelude.{◌≡◌};
 ghost use Rattle.c_ast.specs.Input.{kind, next};
-ghost use Rattle.c_cursor.specs.Reads.{Reads};
+ghost use Rattle.parse_cursor.specs.Reads.{Reads};
 ghost use Rattle.c_parse.specs.Parts.{held_by};
 ghost use Rattle.parse_nodes.specs.Behind.{followed};
 ghost use Rattle.parse_nodes.specs.Nests.{NestsStmt};
@@ -15,10 +15,10 @@ ghost use Rattle.parse_spec.specs.Steps.{and_then, pure, scoped};
 use crate::declaration::{assertion, declaration};
 use crate::knot::expr;
 use c_ast::{Entry, Expr, ForInit, Stmt};
-use c_cursor::operators::{COMMA, CONDITIONAL};
-use c_cursor::tokens::{begins_declaration, identifier};
-use c_cursor::{Cursor, Refusal};
 use c_lex::{Mark, TokenKind, Word};
+use parse_cursor::operators::{COMMA, CONDITIONAL};
+use parse_cursor::tokens::{begins_declaration, identifier};
+use parse_cursor::{Cursor, Refusal};
 use parse_nodes::behind::{before, kept, pushed, with};
 use std::alloc::Global;
 use ub_base::{Boxed, Items};

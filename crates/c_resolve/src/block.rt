@@ -1,14 +1,14 @@
 // Declarations (6.7).
 
 use c_ast::{Base, Declaration, Declarator, Init, Part, Specs};
-use c_expression::declarator::{Declared, copy, name_of};
-use c_expression::expression::{declared, specified};
-use c_expression::words::{Storage, Words};
-use c_initial::{automatic, initialize};
-use c_scope::{Linkage, Meaning, Source, State, TypeFault, copied_function};
 use c_typed::{Entry, Slot};
 use c_types::{FuncTy, Qual, Ty, copied_qual};
 use std::alloc::Global;
+use type_expressions::declarator::{Declared, copy, name_of};
+use type_expressions::expression::{declared, specified};
+use type_expressions::words::{Storage, Words};
+use type_initializers::{automatic, initialize};
+use type_scope::{Linkage, Meaning, Source, State, TypeFault, copied_function};
 use ub_base::{Items, NoMemory};
 
 /// A token near a declaration: the first name that it declares, or a tag or typedef name in its specifiers.
@@ -58,7 +58,8 @@ fn declares_alone(specs: &Specs) -> bool {
     )
 }
 
-/// What the specifiers of a declaration say and the type that they give, with a token near it.
+/// What the specifiers of a declaration say and the type that they give, with a token near it. Where no declarator follows,
+/// they declare something, and no function (6.7p2, 6.7.4p2).
 pub fn begun(
     source: &Source<'_>,
     state: &mut State,
@@ -67,7 +68,7 @@ pub fn begun(
     let at = near(&d.specs, first_declarator(d));
     let alone = d.parts.is_empty();
     let (words, base) = specified(source, state, &d.specs, at, alone)?;
-    if alone && !declares_alone(&d.specs) {
+    if alone && (words.function || !declares_alone(&d.specs)) {
         return Err(source.fault(at));
     }
     Ok((words, base, at))
@@ -88,6 +89,27 @@ pub fn named_part(
         Some(name) => Ok((name, qual)),
         None => Err(source.fault(at)),
     }
+}
+
+/// Declares a typedef name, which has no initializer and no function specifier (6.7.4p2, 6.7.8).
+pub fn typedef_name(
+    source: &Source<'_>,
+    state: &mut State,
+    words: &Words,
+    part: &Part,
+    name: u32,
+    qual: Qual,
+) -> Result<(), TypeFault> {
+    no_initializer(source, part, name)?;
+    if words.function {
+        return Err(source.fault(name));
+    }
+    state.declare_typedef(source, name, qual)
+}
+
+/// Whether the declaration of this name may have such words: that of `main` has no function specifier (6.7.4p4).
+pub fn may_say(source: &Source<'_>, words: &Words, name: u32) -> bool {
+    !words.function || source.spelling(name) != b"main".as_slice()
 }
 
 /// Without an initializer (6.7.9p3): a typedef name, a function or an `extern` object of block scope has none.
@@ -174,7 +196,7 @@ fn local_function(
     name: u32,
     ty: FuncTy,
 ) -> Result<(), TypeFault> {
-    if !matches!(words.storage, Storage::None | Storage::Extern) {
+    if !matches!(words.storage, Storage::None | Storage::Extern) || !may_say(source, words, name) {
         return Err(source.fault(name));
     }
     let _number = state.declare_function(source, name, ty, Linkage::Extern)?;
@@ -192,8 +214,7 @@ fn local_part(
 ) -> Result<Option<Entry>, TypeFault> {
     let (name, qual) = named_part(source, state, part, base, at)?;
     if words.storage == Storage::Typedef {
-        no_initializer(source, part, name)?;
-        state.declare_typedef(source, name, qual)?;
+        typedef_name(source, state, words, part, name, qual)?;
         return Ok(None);
     }
     if let Some(ty) = function_type(state.alloc, &qual)? {

@@ -2,19 +2,19 @@
 ghost use Rattle.std.specs.Prelude.{IfOk};
 ghost use Rattle.c_typed.specs.Lawful.{HasMain, MainHasType, LibraryIsExternal, LiteralsHaveBytes, StaticsAreComplete, IsNumbered, IsLawful};
 
-use crate::block::{begun, function_type, named_part, near, no_initializer};
+use crate::block::{begun, function_type, may_say, named_part, near, no_initializer, typedef_name};
 use crate::statement::block_items;
 use c_ast::{Declaration, Declarator, Entry as SyntaxEntry, Param, Part, Specs, Unit, UnitEntry};
-use c_expression::declarator::{Declared, assertion, is_name};
-use c_expression::expression::{constant, declared, specified};
-use c_expression::words::{Storage, Words};
-use c_initial::initialize;
 use c_lex::Tokens;
-use c_program::{final_order, finished, is_main_type};
-use c_scope::{Definition, Linkage, Source, State, Task, TypeFault, copied_function};
 use c_typed::{Block, Body, Program};
 use c_types::{FuncTy, Qual, Ty, copied, copied_qual};
 use std::alloc::Global;
+use type_expressions::declarator::{Declared, assertion, is_name};
+use type_expressions::expression::{constant, declared, specified};
+use type_expressions::words::{Storage, Words};
+use type_initializers::initialize;
+use type_program::{final_order, finished, is_main_type};
+use type_scope::{Definition, Linkage, Source, State, Task, TypeFault, copied_function};
 use ub_base::Items;
 
 fn linkage_of(storage: Storage) -> Option<Linkage> {
@@ -34,7 +34,8 @@ fn function_linkage(storage: Storage) -> Option<Linkage> {
     }
 }
 
-// An object of file scope; without initializer and `extern` its definition is tentative (6.9.2).
+// An object of file scope; without initializer and `extern` its definition is tentative (6.9.2). The type of a tentative
+// definition with internal linkage is complete (6.9.2p3).
 fn global_object(
     source: &Source<'_>,
     state: &mut State,
@@ -46,7 +47,7 @@ fn global_object(
     let Some(linkage) = linkage_of(words.storage) else {
         return Err(source.fault(name));
     };
-    if words.function || matches!(qual.ty, Ty::Void) {
+    if words.function {
         return Err(source.fault(name));
     }
     let copy = copied_qual(state.alloc, &qual)?;
@@ -54,10 +55,17 @@ fn global_object(
     if part.init.is_some() || words.storage != Storage::Extern {
         state.define_object(number, source.line(name));
     }
-    if let Some(init) = &part.init {
-        let qual = joined_type(state, number, qual)?;
-        let qual = initialize(source, state, number, qual, init, name)?;
-        state.complete_object(source.symbol(name), number, &qual)?;
+    let qual = joined_type(state, number, qual)?;
+    match &part.init {
+        Some(init) => {
+            let qual = initialize(source, state, number, qual, init, name)?;
+            state.complete_object(source.symbol(name), number, &qual)?;
+        }
+        None => {
+            if words.storage == Storage::Static && state.tags.extent(&qual.ty).is_none() {
+                return Err(source.fault(name));
+            }
+        }
     }
     Ok(())
 }
@@ -82,7 +90,7 @@ fn global_function(
         return Err(source.fault(name));
     };
     let main = source.spelling(name) == b"main".as_slice();
-    if main && (words.function || !is_main_type(&ty)) {
+    if !may_say(source, words, name) || (main && !is_main_type(&ty)) {
         return Err(source.fault(name));
     }
     let number = state.declare_function(source, name, ty, linkage)?;
@@ -102,11 +110,7 @@ fn global_part(
 ) -> Result<(), TypeFault> {
     let (name, qual) = named_part(source, state, part, base, at)?;
     if words.storage == Storage::Typedef {
-        no_initializer(source, part, name)?;
-        if words.function {
-            return Err(source.fault(name));
-        }
-        return state.declare_typedef(source, name, qual);
+        return typedef_name(source, state, words, part, name, qual);
     }
     match function_type(state.alloc, &qual)? {
         Some(ty) => {
@@ -151,7 +155,7 @@ fn own_params(d: &Declarator) -> Option<&[Param]> {
 
 fn are_named(params: &[Param]) -> bool {
     for param in params {
-        if c_expression::declarator::name_of(&param.declarator).is_none() {
+        if type_expressions::declarator::name_of(&param.declarator).is_none() {
             return false;
         }
     }

@@ -6,5 +6,5 @@ mod block;
 mod external;
 mod statement;
 
-pub use c_scope::TypeFault;
 pub use external::resolve;
+pub use type_scope::TypeFault;

@@ -2,14 +2,14 @@
 use crate::block::{local_declaration, loop_declaration};
 use c_arith::convert;
 use c_ast::{Entry as SyntaxEntry, Expr, ForInit, Stmt};
-use c_express::{as_if_assigned, discarded, promoted, truth, value_of};
-use c_expression::declarator::assertion;
-use c_expression::expression::{constant, expression};
-use c_scope::{OpenSwitch, Source, State, TypeFault, placed};
 use c_typed::{Block, Body, Entry, ForStart, Typed};
 use c_types::{IntKind, Ty};
-use c_values::take_label;
 use std::collections::BTreeSet;
+use type_expressions::declarator::assertion;
+use type_expressions::expression::{constant, expression};
+use type_operators::{as_if_assigned, discarded, promoted, truth, value_of};
+use type_scope::{OpenSwitch, Source, State, TypeFault, placed};
+use type_values::take_label;
 use ub_base::{Boxed, Items};
 
 // A full expression whose value isn't used (6.8.3p2).

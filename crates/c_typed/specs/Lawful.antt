@@ -1,14 +1,14 @@
 -- Which programs are lawful: what all that runs may rely on (5.1.2.2.1, 6.2 to 6.9; the parts that say so are own).
 use Rattle.std.specs.Prelude.{◌≡◌, ◌≢◌, ℕ, ◌+◌, ◌*◌, ◌%◌, ◌^◌, ◌<◌, ◌≤◌, ℤ, pos, Bool, true, false, ◌⊎◌, IsTrue, IsSome, List, [], ◌∷◌, ◌++◌, map, length, slice_get, Option, Some, None, if◌then◌else◌, nat_le, ◌==◌}
 use Rattle.std.specs.List.{All, AllPairs, Contains, sum}
-use Rattle.c_types.specs.Kinds.{holds, promoted}
+use Rattle.c_types.specs.Kinds.{holds, promoted, common}
 use Rattle.c_types.specs.Types.{CType, void, int, enumeration, pointer, array, struct, union, function, Params, none, more, Qualified, Signature, type_of, qualified_of, signature_of, kind_of, Compatible, SameSignature}
 use Rattle.c_types.specs.Layout.{extent, extents, size_of, align_of}
 use Rattle.c_types.specs.Leaves.{Scalar, scalars}
 use Rattle.c_types.specs.declared.kind.IntKind.{IntKind}
 use Rattle.c_types.specs.declared.kind.IntKind.TheVariants.{Bool as Boolean, Char, Int, Long, ULong}
 use Rattle.c_types.specs.declared.kind.BinOp.{BinOp}
-use Rattle.c_types.specs.declared.kind.BinOp.TheVariants.{Shl, Shr}
+use Rattle.c_types.specs.declared.kind.BinOp.TheVariants.{Add, Sub, Shl, Shr}
 use Rattle.c_types.specs.declared.library.LibFunc.{LibFunc}
 use Rattle.c_types.specs.declared.library.LibFunc.TheVariants as libc
 use Rattle.c_types.specs.declared.tags.Extent.{Extent}
@@ -26,7 +26,10 @@ use Rattle.c_typed.specs.declared.tree.UnOp.{UnOp}
 use Rattle.c_typed.specs.declared.tree.UnOp.TheVariants as unary
 use Rattle.c_typed.specs.declared.tree.Change.{Change}
 use Rattle.c_typed.specs.declared.tree.Change.TheVariants as change
+use Rattle.c_typed.specs.declared.tree.Node.{Node, out-Node}
 use Rattle.c_typed.specs.declared.tree.Node.TheOpen as shape
+use Rattle.c_typed.specs.declared.tree.Node.TheOpen.{Node-F}
+use Rattle.c_typed.specs.declared.tree.Typed.{Typed, out-Typed}
 use Rattle.c_typed.specs.declared.statement.Body.{Body}
 use Rattle.c_typed.specs.declared.statement.Body.TheVariants as body
 use Rattle.c_typed.specs.declared.program.Content.{Content}
@@ -59,7 +62,7 @@ object_of_block (Some objects) decl = slice_get objects decl
 -- an object that the text names: with static storage, or of a block round the place (6.2.1, 6.2.4)
 abbrev pub object_at : Program → Blocks → Slot → Option Qualified
 object_at p blocks (slot.Static number) = object_of_static (slice_get p.statics number)
-object_at p blocks (slot.Auto block decl) = object_of_block (blocks block) decl
+object_at p blocks (slot.Auto block decl) = object_of_block (blocks.objects block) decl
 
 -- 1. What a node names is there.
 
@@ -190,6 +193,17 @@ IsFunctionType _ = ⊥
 abbrev pub NoFunction : CType → Type 0
 NoFunction t = IsFunctionType t → ⊥
 
+-- a type that may have been completed only behind the place where the text names it
+abbrev pub EndsInTag : CType → Type 0
+EndsInTag (struct tag) = Unit {0}
+EndsInTag (union tag) = Unit {0}
+EndsInTag (array c t count) = EndsInTag t
+EndsInTag _ = ⊥
+
+-- what a pointer to the type is aligned to (6.3.2.3p7): to 1 where the type isn't complete, or wasn't yet (own)
+abbrev pub AlignsTo : List Tag → CType → ℕ → Type 0
+AlignsTo tags t align = (align ≡ align_of tags t) ⊎ ((align ≡ 1) × EndsInTag t)
+
 -- a conversion between scalar types, which aren't equal but where the array that a pointer is converted to is used
 -- (6.3.1, 6.3.2.3)
 abbrev pub Converts : List Tag → Conversion → CType → CType → Type 0
@@ -197,7 +211,7 @@ Converts tags (conversion.Integer kind) from to = IsInteger from × (kind_of to 
 Converts tags (conversion.Address kind) (pointer c t) to = NoFunction t × (kind_of to ≡ Some kind) × (kind ≢ Boolean)
 Converts tags conversion.NotNull (pointer c t) to = NoFunction t × (to ≡ int Boolean)
 Converts tags conversion.Lookup from (pointer c t) = IsInteger from × NoFunction t
-Converts tags (conversion.Pointer align) (pointer c s) (pointer d t) = NoFunction s × NoFunction t
+Converts tags (conversion.Pointer align) (pointer c s) (pointer d t) = NoFunction s × NoFunction t × AlignsTo tags t align
 Converts tags conversion.Function (pointer c s) (pointer d t) = IsFunctionType s × IsFunctionType t
 Converts tags _ from to = ⊥
 
@@ -206,59 +220,99 @@ is_shift Shl = true
 is_shift Shr = true
 is_shift _ = false
 
--- of a shift the right operand keeps its own promoted type (6.5.7p3)
-abbrev pub RightIs : (shift : Bool) → IntKind → CType → Type 0
-RightIs true kind right = IsInteger right
-RightIs false kind right = right ≡ int kind
-
 -- no operand that is worked with has a type below `int` (6.3.1.1p2)
 abbrev pub IsPromoted : IntKind → Type 0
 IsPromoted kind = promoted kind ≡ kind
+
+-- an integer type that the promotions leave as it is
+abbrev pub IsPromotedType : CType → Type 0
+IsPromotedType (int kind) = IsPromoted kind
+IsPromotedType _ = ⊥
+
+-- of a shift the right operand keeps its own promoted type (6.5.7p3)
+abbrev pub RightIs : (shift : Bool) → IntKind → CType → Type 0
+RightIs true kind right = IsPromotedType right
+RightIs false kind right = right ≡ int kind
 
 abbrev pub UnaryTypes : UnOp → CType → CType → Type 0
 UnaryTypes (unary.Minus kind) own t = IsPromoted kind × (t ≡ int kind) × (own ≡ int kind)
 UnaryTypes (unary.Complement kind) own t = IsPromoted kind × (t ≡ int kind) × (own ≡ int kind)
 UnaryTypes unary.Not own t = IsScalar t × (own ≡ int Int)
 
--- two pointers to compatible types, or one to `void` (6.5.8p2, 6.5.9p2)
+-- two pointers to compatible object types (6.5.6p3, 6.5.8p2)
+abbrev pub Ordered : CType → CType → Type 0
+Ordered (pointer c s) (pointer d t) = NoFunction s × Compatible s t
+Ordered _ _ = ⊥
+
+-- two pointers to compatible types, or one to an object and one to `void` (6.5.9p2)
 abbrev pub Comparable : CType → CType → Type 0
-Comparable (pointer c s) (pointer d t) = Compatible s t ⊎ ((s ≡ void) ⊎ (t ≡ void))
+Comparable (pointer c s) (pointer d t) = Compatible s t ⊎ (((s ≡ void) × NoFunction t) ⊎ ((t ≡ void) × NoFunction s))
 Comparable _ _ = ⊥
 
 abbrev pub OneKind : CType → CType → Type 0
 OneKind a b = (a ≡ b) × IsInteger a
 
 abbrev pub Related : (pointers : Bool) → CType → CType → Type 0
-Related true a b = Comparable a b
+Related true a b = Ordered a b
 Related false a b = OneKind a b
+
+abbrev pub IsStep : BinOp → Type 0
+IsStep Add = Unit {0}
+IsStep Sub = Unit {0}
+IsStep _ = ⊥
+
+-- the kind in which an object of the first kind is worked on: of a shift its own promoted kind, otherwise its common kind with
+-- a right operand that has been converted to that (6.5.7p3, 6.3.1.8p1)
+abbrev pub WorksIn : (shift : Bool) → IntKind → IntKind → Type 0
+WorksIn true kind work = work ≡ promoted kind
+WorksIn false kind work = common (promoted kind) (promoted work) ≡ work
 
 -- the operands of an update behind its place, whose type this is (6.5.2.4, 6.5.3.1, 6.5.16.2)
 abbrev pub UpdateTypes : List Tag → Change → CType → List CType → Type 0
-UpdateTypes tags (change.Integer op kind work) t [] = kind_of t ≡ Some kind
-UpdateTypes tags (change.Integer op kind work) t (right ∷ []) = (kind_of t ≡ Some kind) × RightIs (is_shift op) work right
+UpdateTypes tags (change.Integer op kind work) t [] = (kind_of t ≡ Some kind) × IsStep op × (work ≡ promoted kind)
+UpdateTypes tags (change.Integer op kind work) t (right ∷ []) =
+    (kind_of t ≡ Some kind) × WorksIn (is_shift op) kind work × RightIs (is_shift op) work right
 UpdateTypes tags (change.Pointer size subtract) t [] = StepsOver tags t size
 UpdateTypes tags (change.Pointer size subtract) t (index ∷ []) = StepsOver tags t size × IsInteger index
 UpdateTypes tags _ t _ = ⊥
 
--- the arguments have the types of the parameters; those behind an ellipsis are scalars or objects (6.5.2.2p4, 6.5.2.2p6)
-abbrev pub Passed : Params → Bool → List CType → Type 0
-Passed none variadic [] = Unit {0}
-Passed none variadic (a ∷ arguments) = IsTrue variadic
-Passed (more c param ps) variadic [] = ⊥
-Passed (more c param ps) variadic (a ∷ arguments) = (a ≡ param) × Passed ps variadic arguments
+-- an argument behind an ellipsis, after the default argument promotions: a promoted integer, a pointer, a structure or union
+-- (6.5.2.2p6, 6.5.2.2p7)
+abbrev pub IsArgument : List Tag → CType → Type 0
+IsArgument tags (int kind) = IsPromoted kind
+IsArgument tags (pointer c t) = Unit {0}
+IsArgument tags (struct tag) = IsSized tags (struct tag)
+IsArgument tags (union tag) = IsSized tags (union tag)
+IsArgument tags _ = ⊥
 
-abbrev pub CallTypes : CType → CType → List CType → Type 0
-CallTypes own (pointer c (function result params variadic)) arguments = Gives own result × Passed params variadic arguments
-CallTypes own _ arguments = ⊥
+-- the arguments have the types of the parameters (6.5.2.2p4)
+abbrev pub Passed : List Tag → Params → Bool → List CType → Type 0
+Passed tags none variadic [] = Unit {0}
+Passed tags none variadic (a ∷ arguments) = IsTrue variadic × IsArgument tags a × Passed tags none variadic arguments
+Passed tags (more c param ps) variadic [] = ⊥
+Passed tags (more c param ps) variadic (a ∷ arguments) = (a ≡ param) × Passed tags ps variadic arguments
 
--- a branch of `?:` gives what the whole gives, where that isn't `void` (6.5.15p5)
-abbrev pub BranchIs : CType → CType → Type 0
-BranchIs void branch = Unit {0}
-BranchIs own branch = Gives own branch
+-- what a call gives: nothing, or a value of a complete type (6.5.2.2p1)
+abbrev pub IsResult : List Tag → CType → Type 0
+IsResult tags void = Unit {0}
+IsResult tags (array c t count) = ⊥
+IsResult tags (function r ps v) = ⊥
+IsResult tags t = IsSized tags t
+
+abbrev pub CallTypes : List Tag → CType → CType → List CType → Type 0
+CallTypes tags own (pointer c (function result params variadic)) arguments =
+    Gives own result × IsResult tags result × Passed tags params variadic arguments
+CallTypes tags own _ arguments = ⊥
+
+-- an operand whose value is that of the whole gives what the whole gives: a branch of `?:`, the last operand of a comma. Where
+-- that is `void` it may have any type, since a cast to `void` adds no node (6.5.15p5, 6.5.17p2)
+abbrev pub ValueIs : CType → CType → Type 0
+ValueIs void operand = Unit {0}
+ValueIs own operand = Gives own operand
 
 abbrev pub LastIs : CType → List CType → Type 0
 LastIs own [] = ⊥
-LastIs own (t ∷ []) = Gives own t
+LastIs own (t ∷ []) = ValueIs own t
 LastIs own (t ∷ ts) = LastIs own ts
 
 -- the parts of an object of so many bytes: inside it, and none over another
@@ -299,7 +353,7 @@ TypesAre p blocks (shape.Bin op kind) own (left ∷ right ∷ []) =
 TypesAre p blocks (shape.PtrAdd size subtract) own (pointer c t ∷ index ∷ []) =
     StepsOver p.tags (pointer c t) size × IsInteger index × PointsTo own t
 TypesAre p blocks (shape.PtrDiff size) own (a ∷ b ∷ []) =
-    StepsOver p.tags a size × StepsOver p.tags b size × Comparable a b × (own ≡ int Long)
+    StepsOver p.tags a size × StepsOver p.tags b size × Ordered a b × (own ≡ int Long)
 TypesAre p blocks (shape.Rel op pointers) own (a ∷ b ∷ []) =
     (own ≡ int Int) × Related pointers a b
 TypesAre p blocks (shape.Eq op) own (a ∷ b ∷ []) = (own ≡ int Int) × (OneKind a b ⊎ Comparable a b)
@@ -311,15 +365,108 @@ TypesAre p blocks (shape.Assign initializing a) own (pointer c t ∷ value ∷ [
 TypesAre p blocks (shape.Update change old) own (pointer c t ∷ rest) = Gives own t × (c ≡ false) × UpdateTypes p.tags change t rest
 TypesAre p blocks shape.And own (a ∷ b ∷ []) = (own ≡ int Int) × IsScalar a × IsScalar b
 TypesAre p blocks shape.Or own (a ∷ b ∷ []) = (own ≡ int Int) × IsScalar a × IsScalar b
-TypesAre p blocks shape.Cond own (test ∷ a ∷ b ∷ []) = IsScalar test × BranchIs own a × BranchIs own b
+TypesAre p blocks shape.Cond own (test ∷ a ∷ b ∷ []) = IsScalar test × ValueIs own a × ValueIs own b
 TypesAre p blocks shape.Comma own ts = LastIs own ts
-TypesAre p blocks (shape.Call discarded) own (f ∷ arguments) = CallTypes own f arguments
-TypesAre p blocks (shape.List slot bytes) own ts =
-    (own ≡ void) × All (λ t. t ≡ void) ts × There (object_at p blocks slot) (λ object. PartsFit (size_of p.tags object.ty) bytes)
+TypesAre p blocks (shape.Call discarded) own (f ∷ arguments) = CallTypes p.tags own f arguments
+TypesAre p blocks (shape.List slot bytes) own ts = (own ≡ void) × All (λ t. t ≡ void) ts
 TypesAre p blocks (shape.Isolated tree) own [] = own ≡ void
 TypesAre p blocks _ own ts = ⊥
 
--- 4. Full expressions, by what they are for (6.8.3 to 6.8.6).
+-- 4. Initializers (6.7.9).
+
+-- a node that initializes nothing
+abbrev pub IsPlain : Head → Type 0
+IsPlain (shape.Assign initializing access) = initializing ≡ false
+IsPlain (shape.List slot bytes) = ⊥
+IsPlain (shape.Isolated tree) = ⊥
+IsPlain _ = Unit {0}
+
+abbrev pub IsPlainTree : Typed → Type 0
+IsPlainTree t = All (λ s. IsPlain s.head) (sites t)
+
+abbrev pub Root : Type 0
+Root = Node-F Node Typed
+
+-- a node, with the trees below it
+abbrev pub root_of : Typed → Root
+root_of t = out-Node (out-Typed t).node
+
+abbrev pub operands_of : Typed → List Typed
+operands_of t = (out-Typed t).children
+
+-- the whole object
+abbrev pub IsObject : Slot → Root → Type 0
+IsObject slot (shape.Obj named) = named ≡ slot
+IsObject slot _ = ⊥
+
+-- a part of the object
+abbrev pub IsPart : Slot → Root → List Typed → Type 0
+IsPart slot (shape.Member offset) (object ∷ []) = IsObject slot (root_of object)
+IsPart slot _ _ = ⊥
+
+abbrev pub StoresPart : Slot → Root → List Typed → Type 0
+StoresPart slot (shape.Assign initializing access) (place ∷ value ∷ []) =
+    IsTrue initializing × IsPart slot (root_of place) (operands_of place) × IsPlainTree value
+StoresPart slot _ _ = ⊥
+
+-- a listed expression: a full expression of its own that is stored in a part of the list's object (6.7.9p23)
+abbrev pub IsListed : Slot → Root → Type 0
+IsListed slot (shape.Isolated tree) = StoresPart slot (root_of tree) (operands_of tree)
+IsListed slot _ = ⊥
+
+-- where a part begins, and how many bytes it has
+abbrev pub Span : Type 0
+Span = ℕ × ℕ
+
+abbrev pub target_size : List Tag → CType → ℕ
+target_size tags (pointer c t) = size_of tags t
+target_size tags _ = 0
+
+abbrev pub member_span : List Tag → CType → Root → Span
+member_span tags ty (shape.Member offset) = (offset, target_size tags ty)
+member_span tags ty _ = (0, 0)
+
+abbrev pub stored_span : List Tag → Root → List Typed → Span
+stored_span tags (shape.Assign initializing access) (place ∷ value ∷ []) = member_span tags (type_of (out-Typed place).ty) (root_of place)
+stored_span tags _ _ = (0, 0)
+
+-- the part that a listed expression is stored in; none of anything else
+abbrev pub listed_span : List Tag → Root → Span
+listed_span tags (shape.Isolated tree) = stored_span tags (root_of tree) (operands_of tree)
+listed_span tags _ = (0, 0)
+
+abbrev pub zeros_in : Span → Constant
+zeros_in span = record { at = span.0; content = content.Zeros span.1 }
+
+-- the parts that a list gives: its constant bytes, and the places of its expressions
+abbrev pub given_parts : List Tag → List Constant → List Typed → List Constant
+given_parts tags bytes operands = bytes ++ map (λ t. zeros_in (listed_span tags (root_of t))) operands
+
+-- an object of the block in which the initializer stands
+abbrev pub IsOwn : Blocks → Slot → Type 0
+IsOwn blocks (slot.Auto block decl) = blocks.innermost ≡ Some block
+IsOwn blocks (slot.Static number) = ⊥
+
+abbrev pub IsOwnObject : Blocks → Root → Type 0
+IsOwnObject blocks (shape.Obj named) = IsOwn blocks named
+IsOwnObject blocks _ = ⊥
+
+-- one expression for the whole object, or a list of parts of it, each inside it and none over another (6.7.9p11, 6.7.9p13,
+-- 6.7.9p14, 6.7.9p16)
+abbrev pub Initializes : Program → Blocks → Root → List Typed → Type 0
+Initializes p blocks (shape.Assign initializing access) (place ∷ value ∷ []) =
+    IsTrue initializing × IsOwnObject blocks (root_of place) × IsPlainTree value
+Initializes p blocks (shape.List slot bytes) operands =
+    IsOwn blocks slot × All (λ t. IsListed slot (root_of t)) operands
+    × There (object_at p blocks slot) (λ object. PartsFit (size_of p.tags object.ty) (given_parts p.tags bytes operands))
+Initializes p blocks _ _ = ⊥
+
+-- only the entries of blocks that say so initialize
+abbrev pub InitialFits : Program → Blocks → Use → Typed → Type 0
+InitialFits p blocks initializes t = Initializes p blocks (root_of t) (operands_of t)
+InitialFits p blocks _ t = IsPlainTree t
+
+-- 5. Full expressions, by what they are for (6.8.3 to 6.8.6).
 
 abbrev pub UseFits : Program → Signature → Use → CType → Type 0
 UseFits p f unused t = Unit {0}
@@ -336,10 +483,11 @@ pub record SiteIsLawful (p : Program) (blocks : Blocks) (s : Site) : Type 0 wher
 pub record ExpressionIsLawful (p : Program) (f : Signature) (e : Expression) : Type 0 where
   pub nodes : All (SiteIsLawful p e.blocks) (sites e.tree)
   pub fits : UseFits p f e.for_use (type_at e.tree)
+  pub initial : InitialFits p e.blocks e.for_use e.tree
   -- so that a u32 numbers its nodes
   pub few : length (sites e.tree) < 2 ^ 32
 
--- 5. Statements (6.8.1 to 6.8.6).
+-- 6. Statements (6.8.1 to 6.8.6).
 
 -- one label of a value in a `switch`, and at most one `default` (6.8.4.2p3)
 pub record SwitchIsLawful (s : SwitchRow) : Type 0 where
@@ -371,7 +519,7 @@ pub record StatementsAreLawful (tags : List Tag) (s : Summary) : Type 0 where
   pub distinct : AllPairs ◌≢◌ s.labels
   pub defined : All (Contains s.labels) s.jumps
 
--- 6. Functions (6.9.1, 7.1.3).
+-- 7. Functions (6.9.1, 7.1.3).
 
 abbrev pub size_type : CType
 size_type = int ULong
@@ -446,7 +594,7 @@ pub record FunctionIsLawful (p : Program) (f : Function) : Type 0 where
   pub library : Where (LibraryFits f) f.library
   pub height : function_height f < 2 ^ 32
 
--- 7. Objects with static storage (6.7.9, 6.9.2).
+-- 8. Objects with static storage (6.7.9, 6.9.2).
 
 -- an address lies in its object or one past it (6.5.6p8), is one of a function where its offset is 0
 abbrev pub AddressIsLawful : Program → Target → ℕ → Type 0
@@ -494,7 +642,7 @@ pub record StaticIsLawful (p : Program) (s : Static) : Type 0 where
   pub contents : All (λ c. ContentIsLawful p c.content) s.constants
   pub aligned : All (λ c. ContentSuits p (scalars p.tags (qualified_of s.qual).ty) c.at c.content) s.constants
 
--- 8. The whole program.
+-- 9. The whole program.
 
 -- `int argc, char **argv`, each with or without a const of its own
 abbrev pub HasArguments : Params → Type 0

@@ -95,15 +95,19 @@ pub data Use : Type 0 where
   returned : Use
   initializes : Use
 
--- the types of the objects of the blocks round a place, by the block's number
-abbrev pub Blocks : Type 0
-Blocks = ℕ → Option (List Qualified)
+-- the blocks round a place: the types of the objects of each, by the block's number, and the number of the innermost
+pub record Blocks : Type 0 where
+  pub objects : ℕ → Option (List Qualified)
+  pub innermost : Option ℕ
 
 abbrev pub no_block : Blocks
-no_block number = None
+no_block = record { objects = λ number. None; innermost = None }
 
 abbrev pub inside : ℕ → List Qualified → Blocks → Blocks
-inside number objects blocks other = if other == number then Some objects else blocks other
+inside number objects blocks = record {
+  objects = λ other. if other == number then Some objects else blocks.objects other;
+  innermost = Some number;
+}
 
 -- a full expression with the blocks round it
 pub record Expression : Type 0 where

@@ -6,3 +6,4 @@ pub mod Joined
 pub mod Laid
 pub mod Nodes
 pub mod Rows
+pub mod SameTests

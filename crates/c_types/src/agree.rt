@@ -1,6 +1,7 @@
 // Compatible types (6.2.7).
-ghost use Rattle.std.specs.Prelude.{◌≡◌, ◌↔◌, IsTrue, map};
+ghost use Rattle.std.specs.Prelude.{◌≡◌, ◌↔◌, IsTrue, false, map};
 ghost use Rattle.c_types.specs.Types.{type_of, qualified_of, signature_of, params_of, Compatible, Matches, EachMatches, SameEnumeration, SizesAgree, Alike, SameSignature, Agrees, kind_of, are_forms, is_character, is_character_kind};
+ghost use Rattle.c_types.specs.Same as tests;
 
 use crate::{FuncTy, IntKind, Qual, Ty};
 
@@ -21,9 +22,18 @@ fn same_enumeration(as_int: bool, m: u32, n: u32) -> bool
 
 /// Whether the types are compatible (6.2.7p1).
 pub fn compatible(a: &Ty, b: &Ty) -> bool
-    ensures { IsTrue result ↔ Compatible (type_of a.now) (type_of b.now) }
+    ensures compatible { IsTrue result ↔ Compatible (type_of a.now) (type_of b.now) }
+    ensures test { result ≡ tests.compatible (type_of a.now) (type_of b.now) }
 {
     matches(false, a, b)
+}
+
+/// Whether two function types are compatible (6.7.6.3p15), as a call asks of the designator's type and the function's (6.5.2.2p9).
+pub fn compatible_functions(f: &FuncTy, g: &FuncTy) -> bool
+    ensures compatible { IsTrue result ↔ SameSignature false (signature_of f.now) (signature_of g.now) }
+    ensures test { result ≡ tests.compatible_functions (signature_of f.now) (signature_of g.now) }
+{
+    same_signature(false, f, g)
 }
 
 // Whether the types are compatible, enumerations being read as they are declared, or as int.
@@ -122,6 +132,13 @@ fn are_forms(a: Option<IntKind>, b: Option<IntKind>) -> bool
 /// each enumeration read as int, they are compatible, or the signed and the unsigned form of one rank. That a character type
 /// may meet anything is not part of it.
 pub fn agrees(a: &Ty, e: &Ty) -> bool
+    ensures agrees { IsTrue result ↔ Agrees (type_of a.now) (type_of e.now) }
+    ensures test { result ≡ tests.agrees (type_of a.now) (type_of e.now) }
+{
+    meets(a, e)
+}
+
+fn meets(a: &Ty, e: &Ty) -> bool
     ensures { IsTrue result ↔ Agrees (type_of a.now) (type_of e.now) }
 {
     matches(true, a, e) || are_forms(kind_of(a), kind_of(e))

@@ -4,30 +4,28 @@ ghost use Rattle.cert_check.specs.Parts.{NamesRace};
 
 use crate::findings::Findings;
 use crate::pair::{Pair, Sought};
+use crate::run::{Course, Run};
+use c_typed::Typed;
 use certificate::Claim;
-use check_run::{Halt, Machine, Told};
+use run_machine::{Halt, Machine, Pick};
 use std::alloc::Global;
 use ub_base::{Cause, Clause, NoMemory};
 
-// How far an order has led: it can go on, its last pick ended the run or raised a clause, or it breaks a rule.
-#[derive(Clone, Copy, Debug, PartialEq, Eq)]
-pub enum Course {
-    Going,
-    Ended(u8),
-    Raised(Clause),
-    Broken,
-}
-
 // What of the picks the claim needs.
 #[derive(Drop)]
-pub enum Witness {
+pub enum Witness<'p> {
     Nothing,
     Pair(Pair),
-    Findings(Findings),
+    Findings(Findings<'p>),
 }
 
-impl Witness {
-    pub fn of(alloc: Global, claim: &Claim) -> Result<Witness, NoMemory> {
+impl<'p> Witness<'p> {
+    // Of a program with these full expressions.
+    pub fn of(
+        alloc: Global,
+        roots: &'p [&'p Typed],
+        claim: &Claim,
+    ) -> Result<Witness<'p>, NoMemory> {
         match claim {
             Claim::Undefined {
                 clause: _,
@@ -41,15 +39,18 @@ impl Witness {
                 let pair = (*event, *against);
                 Ok(Witness::Pair(Pair::new(alloc, Sought::Quarrel, pair)))
             }
-            _ => Ok(Witness::Findings(Findings::new(alloc)?)),
+            _ => Ok(Witness::Findings(Findings::new(alloc, roots)?)),
         }
     }
 
-    pub fn tell(&mut self, machine: &Machine, told: Told) -> Result<(), NoMemory> {
+    pub fn tell(&mut self, run: &Run, pick: Pick) -> Result<(), NoMemory> {
         match self {
             Witness::Nothing => Ok(()),
-            Witness::Pair(pair) => pair.tell(machine, told),
-            Witness::Findings(findings) => findings.tell(machine, told),
+            Witness::Pair(pair) => pair.tell(&run.machine, pick),
+            Witness::Findings(findings) => {
+                let view = run.machine.view(run.frames);
+                findings.tell(&view, pick, run.machine.items.items())
+            }
         }
     }
 

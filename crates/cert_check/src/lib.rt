@@ -1,10 +1,11 @@
-//! Whether a certificate holds: a machine over the typed tree that follows the order of a certificate.
+//! Whether a certificate holds: the machine of a run follows its order.
 #![tactic(auto)]
 
 mod answer;
 mod claim;
 mod findings;
 mod pair;
+mod run;
 mod verdict;
 
 pub use answer::{Answer, Part};

@@ -2,27 +2,18 @@
 
 use addr_map::AddrMap;
 use c_typed::Place;
-use check_run::{Machine, Open, Taking, Told, Work};
-use check_steps::{Expression, Listed};
 use footprint::{Foot, conflicts, races};
-use seq_order::{Relation, relation};
+use run_machine::{Begun, Machine, Pick};
+use seq_order::{Relation, due, relation};
 use std::alloc::Global;
-use ub_base::{Event, Frame, Item, NoMemory};
-
-#[derive(Clone, Copy, Debug, PartialEq, Eq)]
-enum State {
-    // Not done so far.
-    Pending,
-    // The frame that it started is open.
-    Open,
-    Done,
-}
+use ub_base::{Event, Item, NoMemory};
 
 // An evaluation and what it has touched so far.
 #[derive(Drop)]
 struct Side {
     event: Event,
-    state: State,
+    // How many frames are open below that which it started, while that is open.
+    open: Option<usize>,
     foot: Foot,
 }
 
@@ -30,28 +21,32 @@ impl Side {
     fn new(alloc: Global, event: Event) -> Side {
         Side {
             event,
-            state: State::Pending,
+            open: None,
             foot: Foot::new(alloc),
         }
     }
 
-    // A body touches what its frame and the frames below touch.
-    fn tell(&mut self, told: Told, items: &[Item]) -> Result<(), NoMemory> {
-        if self.state == State::Open && told.frame == self.event.frame {
-            self.state = State::Done;
+    // A body touches what its frame and the frames started from it touch; the pick that ends the frame is one of these.
+    fn tell(&mut self, pick: Pick, height: usize, items: &[Item]) -> Result<(), NoMemory> {
+        let own = match pick {
+            Pick::Step(_) => false,
+            Pick::Starts(event) | Pick::Event(event, _, _) => event == self.event,
+        };
+        if own || self.open.is_some() {
+            add_all(&mut self.foot, items)?;
         }
-        if let Taking::Event { event, starts, .. } = told.taking {
-            if event == self.event {
-                self.state = if starts.is_some() {
-                    State::Open
-                } else {
-                    State::Done
-                };
-                return add_all(&mut self.foot, items);
+        match (self.open, pick) {
+            (Some(open), _) => {
+                if height < open {
+                    self.open = None;
+                }
             }
-        }
-        if self.state == State::Open {
-            return add_all(&mut self.foot, items);
+            (None, Pick::Starts(_)) => {
+                if own {
+                    self.open = Some(height);
+                }
+            }
+            _ => {}
         }
         Ok(())
     }
@@ -83,6 +78,8 @@ pub struct Pair {
     sought: Sought,
     first: Side,
     second: Side,
+    // How many full expressions were open at the last pick.
+    begun: usize,
     // Whether they are, once their full expression is settled.
     settled: Option<bool>,
 }
@@ -93,84 +90,63 @@ impl Pair {
             sought,
             first: Side::new(alloc, events.0),
             second: Side::new(alloc, events.1),
+            begun: 0,
             settled: None,
         }
     }
 
-    pub fn tell(&mut self, machine: &Machine, told: Told) -> Result<(), NoMemory> {
+    pub fn tell(&mut self, machine: &Machine, pick: Pick) -> Result<(), NoMemory> {
         if self.settled.is_some() {
             return Ok(());
         }
         let items = machine.items.items();
-        self.first.tell(told, items)?;
-        self.second.tell(told, items)?;
-        if let Taking::Settle { expression, height } = told.taking {
-            if self.is_of(told.frame, told.turn) {
-                self.settled = Some(self.holds_in(machine, expression, height));
+        let height = machine.below.len();
+        self.first.tell(pick, height, items)?;
+        self.second.tell(pick, height, items)?;
+        let begun = machine.shown().len();
+        if begun < self.begun {
+            if let Some(expression) = machine.settled() {
+                if self.is_of(expression) {
+                    self.settled = Some(self.holds_in(machine.memory.map(), expression));
+                }
             }
         }
+        self.begun = begun;
         Ok(())
     }
 
-    // Whether the first evaluation is one of this full expression.
-    fn is_of(&self, frame: Frame, turn: u64) -> bool {
-        frame == self.first.event.frame && turn == self.first.event.turn
+    // Whether the two evaluations are of this full expression.
+    fn is_of(&self, begun: &Begun) -> bool {
+        let (a, b) = (self.first.event, self.second.event);
+        begun.frame == a.frame
+            && begun.turn == a.turn
+            && (begun.frame == b.frame && begun.turn == b.turn)
     }
 
     // Whether they are what is sought, at the end of the order.
     pub fn holds(&self, machine: &Machine) -> bool {
-        match self.settled {
-            Some(holds) => holds,
-            None => self.holds_in_open(machine),
+        if let Some(holds) = self.settled {
+            return holds;
         }
-    }
-
-    fn holds_in_open(&self, machine: &Machine) -> bool {
-        for (height, open) in machine.below.iter().enumerate() {
-            if self.is_of(open.frame, open.turn) {
-                return self.holds_in_frame(machine, open, height);
+        for begun in machine.shown() {
+            if self.is_of(begun) {
+                return self.holds_in(machine.memory.map(), begun);
             }
         }
-        let top = &machine.top;
-        self.is_of(top.frame, top.turn) && self.holds_in_frame(machine, top, machine.below.len())
+        false
     }
 
-    fn holds_in_frame(&self, machine: &Machine, open: &Open, height: usize) -> bool {
-        match open.stage {
-            Some(stage) => self.holds_in(machine, stage.expression, height),
-            None => false,
-        }
-    }
-
-    fn holds_in(&self, machine: &Machine, expression: u32, height: usize) -> bool {
-        let (a, b) = (self.first.event, self.second.event);
-        if a.frame != b.frame || a.turn != b.turn {
-            return false;
-        }
-        let Some(expression) = machine.expression(expression) else {
-            return false;
-        };
-        match machine.work.get(height) {
-            Some(work) => self.holds_of(machine, expression, work),
-            None => false,
-        }
-    }
-
-    fn holds_of(&self, machine: &Machine, expression: &Expression, work: &Work) -> bool {
+    fn holds_in(&self, map: &AddrMap, begun: &Begun) -> bool {
         let (u, v) = (self.first.place(), self.second.place());
-        if u == v || !is_due(machine, expression, work, u) {
+        let (root, taken) = (begun.root, &begun.taken);
+        if u == v || (!due(root, u, taken) || !due(root, v, taken)) {
             return false;
         }
-        if !is_due(machine, expression, work, v) {
-            return false;
-        }
-        let relation = relation(expression.root, u, v, &work.taken);
+        let relation = relation(root, u, v, taken);
         let race = relation == Relation::Unsequenced && races(&self.first.foot, &self.second.foot);
         match self.sought {
             Sought::Race => race,
-            Sought::Quarrel => {
-                !race && relation != Relation::Sequenced && self.quarrel(machine.memory.map())
-            }
+            Sought::Quarrel => !race && (relation != Relation::Sequenced && self.quarrel(map)),
         }
     }
 
@@ -179,29 +155,4 @@ impl Pair {
         let (a, b) = (&self.first.foot, &self.second.foot);
         conflicts(a, b, map) || (a.has_ending() || b.has_ending())
     }
-}
-
-// Whether the event is one of those that are evaluated.
-fn is_due(machine: &Machine, expression: &Expression, work: &Work, place: Place) -> bool {
-    let range = expression.listing;
-    let mut behind = range.first;
-    for number in 0..range.count {
-        let at = range.first.saturating_add(number);
-        if at >= behind {
-            match machine.code.listing.get(at as usize) {
-                Some(Listed::Event(event)) => {
-                    if *event == place {
-                        return true;
-                    }
-                }
-                Some(Listed::Operand { node, operand, end }) => {
-                    if work.taken.chosen(*node) != Some(*operand) {
-                        behind = *end;
-                    }
-                }
-                None => return false,
-            }
-        }
-    }
-    false
 }

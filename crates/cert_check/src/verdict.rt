@@ -5,15 +5,17 @@ ghost use Rattle.cert_check.specs.declared.answer.Part.TheVariants.{Map};
 ghost use Rattle.cert_check.specs.Parts.{NamesRace, added, is_formed, is_none, is_of_form, is_one, is_within, picks_of};
 
 use crate::answer::{Answer, Part};
-use crate::claim::{Course, Witness, claim_holds};
+use crate::claim::{Witness, claim_holds};
+use crate::run::{Course, Run};
 use addr_map::{AddrMap, Row};
-use c_typed::{Place, Program};
+use c_typed::{Place, Program, Typed};
 use certificate::{Cert, Claim, Segment};
-use check_run::{Halt, MOST_CREATED, Machine, Setting, Told, prepare};
-use check_steps::code_of;
-use node_acts::start_bytes;
+use elaborate::{elaborate, roots_of};
+use prov_memory::Memory;
+use run_acts::start_bytes;
+use run_machine::{Halt, MOST_CREATED, Machine, code_of, prepare};
 use std::alloc::Global;
-use ub_base::{Cause, NoMemory, ObjName};
+use ub_base::{Bytes, Cause, NoMemory, ObjName};
 
 // How many picks an order may have (own).
 const MOST_PICKS: u64 = 100_000_000;
@@ -44,16 +46,13 @@ pub fn check(
     if reached > MOST_CREATED {
         return Ok(unstarted(c, reached));
     }
-    let code = code_of(alloc, p)?;
-    let setting = Setting {
-        alloc,
-        program: p,
-        code: &code,
-        frames: &c.frames,
-        input,
-        args,
-    };
-    answer_of(prepare(setting, map), c)
+    let lowered = elaborate(alloc, p)?;
+    let code = code_of(alloc, p, lowered.terms.items.as_slice())?;
+    let roots = roots_of(alloc, p)?;
+    let memory = Memory::with_map(alloc, map, None);
+    let input = Bytes::from_slice(alloc, input)?;
+    let prepared = prepare(alloc, p, &code, input, args, memory);
+    answer_of(alloc, roots.as_slice(), prepared, c)
 }
 
 // The map of these rows, None where one of them breaks a rule.
@@ -167,28 +166,37 @@ fn unstarted(c: &Cert, reached: u64) -> Answer
     }
 }
 
-fn answer_of(prepared: Result<Machine, Halt>, c: &Cert) -> Result<Answer, NoMemory>
+fn answer_of(
+    alloc: Global,
+    roots: &[&Typed],
+    prepared: Result<Machine, Halt>,
+    c: &Cert,
+) -> Result<Answer, NoMemory>
     ensures map { IfOk result (λ a. a ≢ No Map) }
     ensures race { IfOk result (λ a. a ≡ Yes → NamesRace c.now.claim) }
 {
     match prepared {
-        Ok(machine) => follow(machine, c),
+        Ok(machine) => follow(alloc, roots, machine, c),
         Err(Halt::NoMemory) => Err(NoMemory),
         Err(_) => Ok(Answer::No(Part::Order)),
     }
 }
 
-fn follow(machine: Machine, c: &Cert) -> Result<Answer, NoMemory>
+fn follow(alloc: Global, roots: &[&Typed], machine: Machine, c: &Cert) -> Result<Answer, NoMemory>
     ensures map { IfOk result (λ a. a ≢ No Map) }
     ensures race { IfOk result (λ a. a ≡ Yes → NamesRace c.now.claim) }
 {
-    let mut machine = machine;
-    let mut witness = Witness::of(machine.alloc, &c.claim)?;
-    let course = led(&mut machine, &mut witness, c.order.as_slice())?;
+    let mut witness = Witness::of(alloc, roots, &c.claim)?;
+    let mut run = Run {
+        machine,
+        frames: &c.frames,
+        last: c.frames.len(),
+    };
+    let course = led(&mut run, &mut witness, c.order.as_slice())?;
     if course == Course::Broken {
         return Ok(Answer::No(Part::Order));
     }
-    if claim_holds(machine, &witness, course, &c.claim)? {
+    if claim_holds(run.machine, &witness, course, &c.claim)? {
         Ok(Answer::Yes)
     } else {
         Ok(Answer::No(Part::Claim))
@@ -196,21 +204,17 @@ fn follow(machine: Machine, c: &Cert) -> Result<Answer, NoMemory>
 }
 
 // How far the order leads.
-fn led(
-    machine: &mut Machine,
-    witness: &mut Witness,
-    order: &[Segment],
-) -> Result<Course, NoMemory> {
+fn led(run: &mut Run, witness: &mut Witness, order: &[Segment]) -> Result<Course, NoMemory> {
     let mut course = Course::Going;
     for segment in order {
         course = match segment {
-            Segment::Canonical(count) => stretch(machine, witness, course, *count)?,
+            Segment::Canonical(count) => run.stretch(witness, course, *count)?,
             Segment::Pick { node, kind } => {
                 let place = Place {
                     node: *node,
                     kind: *kind,
                 };
-                single(machine, witness, course, place)?
+                run.single(witness, course, place)?
             }
         };
         if course == Course::Broken {
@@ -218,58 +222,4 @@ fn led(
         }
     }
     Ok(course)
-}
-
-// So many canonical picks.
-fn stretch(
-    machine: &mut Machine,
-    witness: &mut Witness,
-    course: Course,
-    count: u64,
-) -> Result<Course, NoMemory> {
-    let mut course = course;
-    for _ in 0..count {
-        if course != Course::Going {
-            return Ok(Course::Broken);
-        }
-        let taken = machine.canonical();
-        course = course_of(machine, witness, taken)?;
-    }
-    Ok(course)
-}
-
-fn single(
-    machine: &mut Machine,
-    witness: &mut Witness,
-    course: Course,
-    place: Place,
-) -> Result<Course, NoMemory> {
-    if course != Course::Going {
-        return Ok(Course::Broken);
-    }
-    match machine.single(place) {
-        Ok(None) => Ok(Course::Broken),
-        Ok(Some(told)) => course_of(machine, witness, Ok(told)),
-        Err(halt) => course_of(machine, witness, Err(halt)),
-    }
-}
-
-// Where a pick leads.
-fn course_of(
-    machine: &Machine,
-    witness: &mut Witness,
-    taken: Result<Told, Halt>,
-) -> Result<Course, NoMemory> {
-    match taken {
-        Ok(told) => {
-            witness.tell(machine, told)?;
-            Ok(match told.status {
-                Some(status) => Course::Ended(status),
-                None => Course::Going,
-            })
-        }
-        Err(Halt::Raise(clause)) => Ok(Course::Raised(clause)),
-        Err(Halt::Over(_, _) | Halt::Unplaced) => Ok(Course::Broken),
-        Err(Halt::NoMemory) => Err(NoMemory),
-    }
 }

@@ -1,1 +1,4 @@
-pub mod Depth
+pub mod Calls
+pub mod Ends
+pub mod Steps
+pub mod Told

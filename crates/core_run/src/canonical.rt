@@ -1,163 +1,266 @@
-// A run before its first pick.
+// A run from its start to its end.
+ghost use Rattle.std.specs.Prelude.{◌≡◌, ◌≤◌, ◌<◌, ◌+◌, ◌^◌, ◌++◌, ◌∷◌, ◌⊎◌, [], length, IfOk, OnOk};
+ghost use Rattle.core_run.specs.Calls.{GoesOn, FollowsPick, Tells, completions, calls_of, AnswersEnd, StartedBy};
+ghost use Rattle.core_run.specs.Ends.{picks_of, told_of, IsOutOfSteps};
+ghost use Rattle.core_run.specs.Steps.{told_by, told_at_end, taken_by, EndsAfter, EndsRun, AnswersNext, IsUnstopped, GoesUnstopped, Grows};
+ghost use Rattle.core_run.specs.Told.{more};
 
-use crate::machine::{Machine, Open};
-use addr_map::Mode;
-use c_typed::{Access, Program};
-use node_acts::{Filling, Places, Started, fillings, start};
-use prov_memory::{Memory, Streams, Touched, TypeId, Value, Via};
-use run_steps::Code;
+use crate::watch::{Go, Ran, RunState, Watch};
+use addr_map::{AddrMap, Mode};
+use core_ir::CoreProgram;
+use prov_memory::Memory;
+use run_acts::start_bytes;
+use run_machine::{Completed, Halt, MOST_CREATED, Machine, Pick, View, code_of, prepare};
 use std::alloc::Global;
-use ub_base::{Bytes, Frame, Items, NoMemory};
+use ub_base::{Bytes, Cause, Event, Frame, Frames, NoMemory};
 
-// The vias of the stores.
-fn vias_of(alloc: Global, code: &Code, memory: &mut Memory) -> Result<Vec<Via>, NoMemory> {
-    let mut vias = Vec::new(alloc);
-    for store in &code.stores {
-        let via = match store.access {
-            Access::Integer(kind) => Via::Scalar(TypeId::of_kind(kind)),
-            Access::Pointer | Access::Function => Via::Scalar(memory.type_id(store.ty)?),
-            Access::Whole { .. } => Via::Whole,
-        };
-        vias.push(via)?;
-    }
-    Ok(vias)
-}
-
-fn fillings_of(
+/// Follows the canonical order of a program for at most `budget` picks, and tells `watch` each of them: `pick`, then
+/// `node_done` of the node that it completes, then `operands_done` of the node above where that awaits nothing more. A pick
+/// that raises or would pass a limit isn't told. Needs a lawful program with the terms of its full expressions.
+pub fn run<W: Watch>(
     alloc: Global,
-    code: &Code,
-    memory: &mut Memory,
-    places: &Places,
-) -> Result<Vec<Items<Filling>>, NoMemory> {
-    let mut all = Vec::new(alloc);
-    for constants in &code.constants {
-        all.push(fillings(alloc, memory, places, *constants)?)?;
-    }
-    Ok(all)
-}
-
-// The frame of `main` before its first step.
-fn first_frame(program: &Program, code: &Code) -> Open {
-    let mut at = u32::MAX;
-    let mut objects = 0;
-    if let Some(Some(main)) = code.functions.get(program.main as usize) {
-        at = main.entry;
-        objects = main.objects as usize;
-    }
-    Open {
-        frame: Frame(0),
-        turn: 0,
-        at,
-        base: 0,
-        rooms: 0,
-        locals: 0,
-        above: objects,
-        function: Some(program.main),
-        node: 0,
-    }
-}
-
-// Memory with the objects before the first pick, where they stand, and the arguments of `main`.
-#[derive(Drop)]
-struct Placed {
-    memory: Memory,
-    places: Places,
-    values: Vec<Value>,
-}
-
-fn placed_objects(
-    alloc: Global,
-    program: &Program,
+    p: &CoreProgram,
+    input: &[u8],
     args: &[String],
     mode: Mode,
-) -> Result<Placed, NoMemory> {
-    let mut memory = Memory::new(alloc, mode);
-    let Ok(started) = start(alloc, program, args, &mut memory) else {
+    budget: u64,
+    watch: &mut W,
+) -> Result<RunState, NoMemory>
+    requires budget { budget ≤ 100000000 }
+
+    // The last call that the watch had, if any, was answered by On.
+    requires ready { GoesOn (W.heard watch.old) }
+
+    // The watch was told each pick but one that raised.
+    ensures told { IfOk result (λ s. W.told watch.new ≡ more (told_of s.ran) (W.told watch.old)) }
+    ensures within { IfOk result (λ s. picks_of s.ran ≤ budget) }
+    ensures out_of_steps { IfOk result (λ s. IsOutOfSteps s.ran → picks_of s.ran ≡ budget) }
+    ensures frames { IfOk result (λ s. length s.frames ≤ picks_of s.ran) }
+
+    // Stopped comes exactly where the watch answered Stop, and no call follows.
+    ensures answers { IfOk result (λ s. AnswersEnd s.ran (W.heard watch.new)) }
+
+    // The frames are those of events that were told, in that order.
+    ensures started { IfOk result (λ s. StartedBy (W.heard watch.new) s.frames) }
+
+    // The trees that the watch was given are there as before.
+    ensures trees { OnOk result (W.trees watch.new ≡ W.trees watch.old) }
+{
+    let program = p.program;
+    let reached = start_bytes(program, args);
+    if reached > MOST_CREATED {
+        return Ok(unstarted(alloc, reached, budget));
+    }
+    let code = code_of(alloc, program, p.terms.items.as_slice())?;
+    let input = Bytes::from_slice(alloc, input)?;
+    let memory = Memory::new(alloc, mode);
+    let Ok(mut machine) = prepare(alloc, program, &code, input, args, memory) else {
         return Err(NoMemory);
     };
-    let Started {
-        places,
-        count,
-        vector,
-    } = started;
-    let mut values = Vec::new(alloc);
-    values.push(count)?;
-    values.push(vector)?;
-    Ok(Placed {
-        memory,
-        places,
-        values,
+    let mut frames = Frames::new(alloc);
+    let ran = follow(&mut machine, &mut frames, budget, watch)?;
+    let (output, map) = machine.into_output_and_map();
+    Ok(RunState {
+        ran,
+        output,
+        map,
+        frames,
     })
 }
 
-// What a pick touches, and what one act of it touches.
-#[derive(Drop)]
-struct TouchedItems {
-    pick: Touched,
-    act: Touched,
-}
-
-fn no_items(alloc: Global) -> Result<TouchedItems, NoMemory> {
-    let pick = Touched::new(alloc)?;
-    let act = Touched::new(alloc)?;
-    Ok(TouchedItems { pick, act })
-}
-
-/// The machine of a program before its first pick.
-pub fn prepare<'p, 'c>(
-    alloc: Global,
-    program: &'p Program,
-    code: &'c Code<'p>,
-    input: Bytes,
-    args: &[String],
-    mode: Mode,
-) -> Result<Machine<'p, 'c>, NoMemory> {
-    let mut first = placed_objects(alloc, program, args, mode)?;
-    let vias = vias_of(alloc, code, &mut first.memory)?;
-    let fillings = fillings_of(alloc, code, &mut first.memory, &first.places)?;
-    let items = no_items(alloc)?;
-    let streams = Streams::new(alloc, input);
-    let mut machine = assembled(alloc, program, code, streams, first, vias, fillings, items);
-    let objects = machine.top.above;
-    machine.grow_locals(objects)?;
-    Ok(machine)
-}
-
-fn assembled<'p, 'c>(
-    alloc: Global,
-    program: &'p Program,
-    code: &'c Code<'p>,
-    streams: Streams,
-    first: Placed,
-    vias: Vec<Via>,
-    fillings: Vec<Items<Filling>>,
-    items: TouchedItems,
-) -> Machine<'p, 'c> {
-    let Placed {
-        memory,
-        places,
-        values,
-    } = first;
-    let TouchedItems { pick, act } = items;
-    Machine {
-        alloc,
-        program,
-        code,
-        vias,
-        fillings,
-        places,
-        memory,
-        streams,
-        below: Vec::new(alloc),
-        top: first_frame(program, code),
-        depth: 1,
-        begun: Vec::new(alloc),
-        open: 0,
-        values,
-        awaited: Vec::new(alloc),
-        locals: Vec::new(alloc),
-        left: None,
-        items: pick,
-        spare: act,
+// The start would pass the limit on created bytes.
+fn unstarted(alloc: Global, number: u64, budget: u64) -> RunState
+    ensures told { told_of result.ran ≡ 0 }
+    ensures picks { picks_of result.ran ≡ 0 }
+    ensures out_of_steps { IsOutOfSteps result.ran → budget ≡ 0 }
+    ensures frames { result.frames ≡ [] }
+    ensures unstopped { IsUnstopped result.ran }
+{
+    let ran = if budget == 0 {
+        Ran::OutOfSteps { picks: 0 }
+    } else {
+        Ran::Outside {
+            cause: Cause::Created,
+            number,
+            picks: 0,
+        }
+    };
+    RunState {
+        ran,
+        output: Bytes::from_vec(Vec::new(alloc)),
+        map: AddrMap::new(alloc),
+        frames: Frames::new(alloc),
     }
+}
+
+// Where a pick starts a frame, the frame gets its number.
+fn start_frame(machine: &mut Machine, frames: &mut Frames, told: Pick) -> Result<(), NoMemory>
+    ensures items { machine.new.items ≡ machine.old.items }
+    ensures rows { OnOk result (Grows told frames.old frames.new) }
+{
+    let Pick::Starts(event) = told else {
+        return Ok(());
+    };
+    let count = frames.len();
+    if count == u32::MAX || event.frame.0 > count {
+        return Err(NoMemory);
+    }
+    let frame = match frames.find(event.frame, event.turn, event.node) {
+        Some(frame) => frame,
+        None => frames.call(event.frame, event.turn, event.node)?,
+    };
+    machine.start(frame);
+    Ok(())
+}
+
+// Tells what a pick of this event completes.
+fn tell_completed<W: Watch>(
+    view: &View,
+    event: Event,
+    completed: Completed,
+    watch: &mut W,
+) -> Result<Go, NoMemory>
+    requires { FollowsPick event.frame event.turn event.node (W.heard watch.old) }
+    ensures told { OnOk result (W.told watch.new ≡ W.told watch.old) }
+    ensures trees { OnOk result (W.trees watch.new ≡ W.trees watch.old) }
+    ensures calls { IfOk result (λ go. Tells (completions event completed) go (W.heard watch.old) (W.heard watch.new)) }
+{
+    match completed {
+        Completed::Nothing => Ok(Go::On),
+        Completed::Node => watch.node_done(view, event.frame, event.turn, event.node),
+        Completed::Operands(above) => {
+            match watch.node_done(view, event.frame, event.turn, event.node)? {
+                Go::Stop => Ok(Go::Stop),
+                Go::On => watch.operands_done(view, event.frame, event.turn, above),
+            }
+        }
+    }
+}
+
+// Tells a pick of this event with what it touched.
+fn tell<W: Watch>(
+    machine: &Machine,
+    frames: &Frames,
+    told: Pick,
+    watch: &mut W,
+) -> Result<Go, NoMemory>
+    requires { GoesOn (W.heard watch.old) }
+    ensures told { OnOk result (W.told watch.new ≡ more 1 (W.told watch.old)) }
+    ensures trees { OnOk result (W.trees watch.new ≡ W.trees watch.old) }
+    ensures calls { IfOk result (λ go. Tells (calls_of told machine.now.items) go (W.heard watch.old) (W.heard watch.new)) }
+{
+    let view = machine.view(frames);
+    match told {
+        Pick::Step(_) => watch.pick(&view, None, &machine.items),
+        Pick::Starts(event) => watch.pick(&view, Some(event), &machine.items),
+        Pick::Event(event, completed, _) => {
+            match watch.pick(&view, Some(event), &machine.items)? {
+                Go::Stop => Ok(Go::Stop),
+                Go::On => tell_completed(&view, event, completed, watch),
+            }
+        }
+    }
+}
+
+// Whether the run goes on.
+enum Next {
+    On,
+    End(Ran),
+}
+
+// The pick after so many.
+fn advance<W: Watch>(
+    machine: &mut Machine,
+    frames: &mut Frames,
+    picks: u64,
+    watch: &mut W,
+) -> Result<Next, NoMemory>
+    requires few { picks < 2 ^ 32 }
+    requires ready { GoesOn (W.heard watch.old) }
+    ensures rows { IfOk result (λ next. length frames.new ≤ length frames.old + taken_by next) }
+    ensures told { IfOk result (λ next. W.told watch.new ≡ more (told_by next) (W.told watch.old)) }
+    ensures trees { OnOk result (W.trees watch.new ≡ W.trees watch.old) }
+    ensures end { IfOk result (λ next. EndsAfter next picks) }
+    ensures answers { IfOk result (λ next. AnswersNext next (W.heard watch.new)) }
+    ensures started { StartedBy (W.heard watch.old) frames.old → OnOk result (StartedBy (W.heard watch.new) frames.new) }
+{
+    let told = match machine.canonical() {
+        Ok(told) => told,
+        Err(halt) => return Ok(Next::End(ended_by(halt, picks)?)),
+    };
+    start_frame(machine, frames, told)?;
+    match tell(machine, frames, told, watch)? {
+        Go::Stop => Ok(Next::End(Ran::Stopped { picks: picks + 1 })),
+        Go::On => Ok(after(told, picks)),
+    }
+}
+
+// The end of a run whose next pick isn't taken.
+fn ended_by(halt: Halt, picks: u64) -> Result<Ran, NoMemory>
+    requires { picks < 2 ^ 32 }
+    ensures end { IfOk result (λ ran. EndsRun ran picks) }
+    ensures told { IfOk result (λ ran. told_at_end ran ≡ 0) }
+    ensures unstopped { IfOk result (λ ran. IsUnstopped ran) }
+{
+    match halt {
+        Halt::Raised {
+            event,
+            line,
+            clause,
+        } => Ok(Ran::Raised {
+            event,
+            line,
+            clause,
+            picks: picks + 1,
+        }),
+        Halt::Over(cause, number) => Ok(Ran::Outside {
+            cause,
+            number,
+            picks,
+        }),
+        Halt::Unplaced | Halt::NoMemory => Err(NoMemory),
+    }
+}
+
+// What follows a pick that was told.
+fn after(told: Pick, picks: u64) -> Next
+    requires { picks < 2 ^ 32 }
+    ensures told { told_by result ≡ 1 }
+    ensures taken { taken_by result ≡ 1 }
+    ensures end { EndsAfter result picks }
+    ensures unstopped { GoesUnstopped result }
+{
+    match told {
+        Pick::Step(Some(status)) | Pick::Event(_, _, Some(status)) => Next::End(Ran::Ended {
+            status,
+            picks: picks + 1,
+        }),
+        _ => Next::On,
+    }
+}
+
+fn follow<W: Watch>(
+    machine: &mut Machine,
+    frames: &mut Frames,
+    budget: u64,
+    watch: &mut W,
+) -> Result<Ran, NoMemory>
+    requires budget { budget ≤ 100000000 }
+    requires first { frames.old ≡ [] }
+    requires ready { GoesOn (W.heard watch.old) }
+    ensures rows { IfOk result (λ ran. length frames.new ≤ picks_of ran) }
+    ensures told { IfOk result (λ ran. W.told watch.new ≡ more (told_of ran) (W.told watch.old)) }
+    ensures trees { OnOk result (W.trees watch.new ≡ W.trees watch.old) }
+    ensures within { IfOk result (λ ran. picks_of ran ≤ budget) }
+    ensures out_of_steps { IfOk result (λ ran. IsOutOfSteps ran → picks_of ran ≡ budget) }
+    ensures answers { IfOk result (λ ran. AnswersEnd ran (W.heard watch.new)) }
+    ensures started { OnOk result (StartedBy (W.heard watch.new) frames.new) }
+{
+    for picks in 0..budget {
+        match advance(machine, frames, picks, watch)? {
+            Next::On => {}
+            Next::End(ran) => return Ok(ran),
+        }
+    }
+    Ok(Ran::OutOfSteps { picks: budget })
 }

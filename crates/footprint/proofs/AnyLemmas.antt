@@ -27,7 +27,7 @@ use Rattle.addr_map.specs.Rows.{covers, past}
 use Rattle.footprint.specs.declared.foot.Foot.{Foot}
 use Rattle.footprint.specs.declared.state.State.{State}
 use Rattle.footprint.specs.States.{or_nothing, state_in}
-use Rattle.footprint.specs.Conflicts.{conflicts_one, stands_at, is_object}
+use Rattle.addr_map.specs.Conflict.{conflicts_one, stands_at, is_object}
 use Rattle.footprint.specs.Found.{ConflictIn, SomeConflict, SomeRace}
 use Rattle.footprint.specs.Holds.{narrow_cmp}
 use Rattle.footprint.specs.Meets.{states_meet, states_conflict, SomeStates, is_hit, is_met, SomeLookup, settled_otherwise, SettledBelow, SettledAbove, SomeNarrow, streams_meet}

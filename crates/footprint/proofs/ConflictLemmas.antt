@@ -13,7 +13,7 @@ use Rattle.addr_map.specs.declared.map.Row.{Row as Place}
 use Rattle.footprint.specs.declared.foot.Foot.{Foot}
 use Rattle.footprint.specs.declared.state.State.{State}
 use Rattle.footprint.specs.States.{nothing, state_in, only_at, said_by}
-use Rattle.footprint.specs.Conflicts.{items_conflict, stands_at}
+use Rattle.addr_map.specs.Conflict.{items_conflict, stands_at}
 use Rattle.footprint.specs.Found.{AtObject, AtAddress}
 use Rattle.footprint.specs.Holds.{holds}
 use Rattle.footprint.specs.Least.{pair_cmp, IsLeast, lesser}

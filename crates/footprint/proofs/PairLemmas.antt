@@ -18,7 +18,8 @@ use Rattle.addr_map.specs.Rows.{covers, past}
 use Rattle.footprint.specs.declared.foot.Foot.{Foot}
 use Rattle.footprint.specs.declared.state.State.{State}
 use Rattle.footprint.specs.States.{nothing, state_in, only_at, listed, said_by}
-use Rattle.footprint.specs.Conflicts.{items_conflict, stands_at, is_object, is_state, is_lookup, is_narrow, is_stream, is_access, MayConflict}
+use Rattle.addr_map.specs.Conflict.{items_conflict, stands_at, is_object, is_access}
+use Rattle.footprint.specs.Conflicts.{is_state, is_lookup, is_narrow, is_stream, MayConflict}
 use Rattle.footprint.specs.Found.{ConflictIn, ConflictOf, AtObject, NarrowIn, SettledIn, RaceIn}
 use Rattle.footprint.specs.Holds.{holds, narrow_cmp}
 use Rattle.footprint.specs.Least.{IsLeast, lesser}

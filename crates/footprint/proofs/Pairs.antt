@@ -7,7 +7,8 @@ use Rattle.ub_base.specs.declared.names.Event.{Event}
 use Rattle.ub_base.specs.declared.names.ObjName.{ObjName}
 use Rattle.ub_base.specs.declared.names.Item.TheVariants.{Read, Write, Born, Dies, Alive, Expose, Narrow}
 use Rattle.ub_base.proofs.NameLemmas.{same_object_refl, same_object_is, same_event_refl}
-use Rattle.footprint.specs.Conflicts.{MayConflict, overlap}
+use Rattle.addr_map.specs.Conflict.{overlap}
+use Rattle.footprint.specs.Conflicts.{MayConflict}
 
 byte_shared : (x : ObjName) (a : ℕ) → (same_object x x && overlap a 1 a 1) ≡ true
 byte_shared x a = rw (same_object_refl x) (grind (arith, nat_tests))

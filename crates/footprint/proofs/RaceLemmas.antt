@@ -15,7 +15,8 @@ use Rattle.ub_base.proofs.NameLemmas.{same_object_is}
 use Rattle.footprint.specs.declared.foot.Foot.{Foot}
 use Rattle.footprint.specs.declared.span.Byte.{Byte}
 use Rattle.footprint.specs.Ranges.{has_byte, Meet}
-use Rattle.footprint.specs.Conflicts.{is_access, overlap, MayConflict}
+use Rattle.addr_map.specs.Conflict.{is_access, overlap}
+use Rattle.footprint.specs.Conflicts.{MayConflict}
 use Rattle.footprint.specs.Found.{RaceIn, SomeRace}
 use Rattle.footprint.specs.Least.{no_event, item_cmp, pair_cmp, IsLeast, lesser, byte_cmp, IsLeastShared, read_at, write_at, paired}
 use Rattle.footprint.proofs.Pairs.{read_written, written_read, written_twice}

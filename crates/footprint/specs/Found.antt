@@ -8,7 +8,8 @@ use Rattle.footprint.specs.declared.state.State.{State}
 use Rattle.footprint.specs.States.{only_at, said_by}
 use Rattle.addr_map.specs.declared.map.Row.{Row}
 use Rattle.footprint.specs.declared.foot.Foot.{Foot}
-use Rattle.footprint.specs.Conflicts.{items_conflict, stands_at, is_access, is_lookup, is_narrow}
+use Rattle.addr_map.specs.Conflict.{items_conflict, stands_at, is_access}
+use Rattle.footprint.specs.Conflicts.{is_lookup, is_narrow}
 use Rattle.footprint.specs.Holds.{holds}
 
 -- an item of a and one of b that conflict, under the address map

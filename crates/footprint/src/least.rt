@@ -1,7 +1,8 @@
 // The least conflicting pair of items of two footprints.
 ghost use Rattle.std.specs.Prelude.{◌≡◌, true, IfSome};
 ghost use Rattle.footprint.specs.Candidates.{stream_pair};
-ghost use Rattle.footprint.specs.Conflicts.{MayConflict, is_access};
+ghost use Rattle.addr_map.specs.Conflict.{is_access};
+ghost use Rattle.footprint.specs.Conflicts.{MayConflict};
 ghost use Rattle.footprint.specs.Found.{ConflictIn, RaceIn};
 ghost use Rattle.footprint.specs.Least.{IsLeast, read_at, write_at, paired};
 

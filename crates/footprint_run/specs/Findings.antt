@@ -4,12 +4,12 @@ use Rattle.ub_base.specs.declared.clause.Clause.{Clause}
 use Rattle.ub_base.specs.declared.clause.Clause.TheVariants.{Unsequenced}
 use Rattle.ub_base.specs.declared.names.Event.{Event}
 use Rattle.footprint.specs.Conflicts.{MayConflict}
-use Rattle.evaluations.specs.FoundItems.{IsUnsequencedPair}
+use Rattle.run_evaluations.specs.FoundItems.{IsUnsequencedPair}
 use Rattle.footprint_run.specs.declared.finding.Finding.{Finding}
 use Rattle.footprint_run.specs.declared.finding.Finding.TheVariants.{Clean, Undefined, OrderDependent, OutOfSteps, Outside}
 use Rattle.footprint_run.specs.declared.finding.Race.{Race}
-use Rattle.canonical_run.specs.declared.watch.Ran.{Ran}
-use Rattle.canonical_run.specs.declared.watch.Ran.TheVariants as ran
+use Rattle.core_run.specs.declared.watch.Ran.{Ran}
+use Rattle.core_run.specs.declared.watch.Ran.TheVariants as ran
 
 abbrev pub picks_of : Finding → ℕ
 picks_of (Clean status picks) = picks

@@ -1,6 +1,6 @@
 -- How many picks were told.
 use Rattle.std.specs.Prelude.{ℕ, ◌+◌, [], ◌∷◌}
-use Rattle.canonical_run.specs.Calls.{Call, picked, node_done, operands_done, Heard}
+use Rattle.core_run.specs.Calls.{Call, picked, node_done, operands_done, Heard}
 
 abbrev pub and_call : Call → ℕ → ℕ
 and_call (picked event items) n = n + 1

@@ -1,10 +1,10 @@
 -- The calls of a watch, as they are recorded.
 use Rattle.std.specs.Prelude.{[], ◌∷◌, Option, Some, None, IsSome}
-use Rattle.canonical_run.specs.Calls.{picked, node_done, operands_done, Heard}
-use Rattle.canonical_run.specs.declared.watch.Go.{Go}
-use Rattle.canonical_run.specs.declared.watch.Go.TheVariants.{On, Stop}
-use Rattle.canonical_run.specs.declared.watch.Ran.{Ran}
-use Rattle.canonical_run.specs.declared.watch.Ran.TheVariants as ran
+use Rattle.core_run.specs.Calls.{picked, node_done, operands_done, Heard}
+use Rattle.core_run.specs.declared.watch.Go.{Go}
+use Rattle.core_run.specs.declared.watch.Go.TheVariants.{On, Stop}
+use Rattle.core_run.specs.declared.watch.Ran.{Ran}
+use Rattle.core_run.specs.declared.watch.Ran.TheVariants as ran
 use Rattle.footprint_run.specs.declared.seen.Seen.{Seen}
 use Rattle.footprint_run.specs.declared.calls.Last.{Last}
 use Rattle.footprint_run.specs.declared.calls.Last.TheVariants.{Nothing, Picked, NodeDone, OperandsDone}

@@ -1,7 +1,7 @@
 // The audit of a run.
 ghost use Rattle.std.specs.Prelude.{◌≡◌, ◌≤◌, length, IfOk, List, Some};
-ghost use Rattle.canonical_run.specs.Calls.{AnswersEnd, StartedBy};
-ghost use Rattle.canonical_run.specs.Ends as ends;
+ghost use Rattle.core_run.specs.Calls.{AnswersEnd, StartedBy};
+ghost use Rattle.core_run.specs.Ends as ends;
 ghost use Rattle.c_typed.specs.Tree.{Tree};
 ghost use Rattle.elaborate.specs.Expressions.{program_trees};
 ghost use Rattle.footprint_run.specs.Apart.{AreApart, SeenApart, StandsApart};
@@ -13,8 +13,8 @@ use crate::finding::{Audit, Finding, Race};
 use crate::seen::Seen;
 use crate::watcher::Watcher;
 use addr_map::Mode;
-use canonical_run::{Ran, RunState, run};
 use core_ir::CoreProgram;
+use core_run::{Ran, RunState, run};
 use elaborate::roots_of;
 use std::alloc::Global;
 use ub_base::{Clause, NoMemory};

@@ -1,8 +1,8 @@
 // The calls of a watch.
 ghost use Rattle.std.specs.Prelude.{◌≡◌, ◌∷◌, []};
-ghost use Rattle.canonical_run.specs.Calls.{picked, node_done, operands_done};
+ghost use Rattle.core_run.specs.Calls.{picked, node_done, operands_done};
 
-use canonical_run::Go;
+use core_run::Go;
 use prov_memory::Touched;
 use std::marker::Model;
 use std::snapshot::Snapshot;
@@ -28,7 +28,7 @@ enum Last {
 
 impl Model for Calls {
     ghost use Rattle.std.specs.Prelude.{length};
-    ghost use Rattle.canonical_run.specs.Calls.{Heard};
+    ghost use Rattle.core_run.specs.Calls.{Heard};
 
     ghost Value = { Heard };
 

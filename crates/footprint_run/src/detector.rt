@@ -3,16 +3,16 @@ ghost use Rattle.std.specs.Prelude.{◌≡◌, IfOk, IsTrue};
 ghost use Rattle.c_typed.specs.Tree.{tree_of};
 ghost use Rattle.elaborate.specs.Roots.{trees_at};
 ghost use Rattle.seq_order.specs.Marked.{taken_in};
-ghost use Rattle.evaluations.specs.FoundItems.{ItemsConflict};
+ghost use Rattle.run_evaluations.specs.FoundItems.{ItemsConflict};
 ghost use Rattle.footprint_run.specs.Apart.{AreApart, IsApart, SeenApart, place_of};
 
 use crate::seen::Seen;
 use c_typed::{Place, Typed};
-use canonical_run::View;
-use evaluations::{Evaluations, Found, Rule, Rules, first_of, last_operand_of, line_of};
+use core_run::View;
+use run_evaluations::{Evaluations, Found, Rule, Rules, first_of, last_operand_of, line_of};
 use seq_order::{Relation, Taken, due, relation};
 use std::alloc::Global;
-use ub_base::{Event, Frame, Item, Kind, NoMemory};
+use ub_base::{Event, Item, Kind, NoMemory};
 
 /// Keeps the open evaluations of a run, and finds its first conflict.
 #[derive(Drop)]
@@ -21,8 +21,7 @@ pub struct Detector {
     open: Evaluations,
     // the rules of each tree that has begun once, by its number
     trees: Vec<Rules>,
-    // how many frames had started, and how many full expressions were open, at the last pick
-    frames: u32,
+    // how many full expressions were open at the last pick
     begun: usize,
 }
 
@@ -32,7 +31,6 @@ impl Detector {
             alloc,
             open: Evaluations::new(alloc)?,
             trees: Vec::new(alloc),
-            frames: 0,
             begun: 0,
         })
     }
@@ -154,10 +152,8 @@ impl Detector {
         let (rule, chosen) = self.rule(v, event.node);
         self.open
             .event(event.node, event.kind, items, rule, chosen)?;
-        let frames = v.frames.len();
-        if event.kind == Kind::Body && frames > self.frames {
-            self.frames = frames;
-            self.open.enter(Frame(frames))?;
+        if v.top != event.frame {
+            self.open.enter(v.top)?;
         }
         Ok(())
     }

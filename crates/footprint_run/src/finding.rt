@@ -2,7 +2,7 @@
 
 use crate::calls::Calls;
 use addr_map::AddrMap;
-use canonical_run::Ran;
+use core_run::Ran;
 use ub_base::{Bytes, Cause, Clause, Event, Frames, Item};
 
 /// The first finding along the canonical order, with the number of picks that lead to it.

@@ -10,4 +10,6 @@ mod watcher;
 
 pub use audit::audit_run;
 pub use calls::Calls;
+pub use detector::Detector;
 pub use finding::{Audit, Finding, Race};
+pub use seen::Seen;

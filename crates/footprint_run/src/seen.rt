@@ -1,7 +1,7 @@
 // What a watch stops a run at.
-ghost use Rattle.evaluations.specs.FoundItems.{IsConflict};
+ghost use Rattle.run_evaluations.specs.FoundItems.{IsConflict};
 
-use evaluations::Found;
+use run_evaluations::Found;
 
 /// Two evaluations that conflict, and their lines.
 #[derive(Clone, Copy, Debug)]

@@ -1,6 +1,6 @@
 // The watch of an audit.
 ghost use Rattle.std.specs.Prelude.{◌≡◌, [], IfOk, Some, IsSome};
-ghost use Rattle.canonical_run.specs.Calls.{HasStopped};
+ghost use Rattle.core_run.specs.Calls.{HasStopped};
 ghost use Rattle.elaborate.specs.Roots.{trees_at};
 ghost use Rattle.footprint_run.specs.Apart.{SeenApart};
 ghost use Rattle.footprint_run.specs.Picks.{picks_in};
@@ -10,7 +10,7 @@ use crate::calls::Calls;
 use crate::detector::Detector;
 use crate::seen::Seen;
 use c_typed::Typed;
-use canonical_run::{Go, View, Watch};
+use core_run::{Go, View, Watch};
 use prov_memory::Touched;
 use std::alloc::Global;
 use ub_base::{Event, Frame, NoMemory};

@@ -10,10 +10,12 @@ use crate::stop::{Stop, must};
 use c_typed::{Block, Body, Entry, ForStart, Program, Typed};
 use c_types::FuncTy;
 use lawful_trees::{Around, Purpose, is_lawful_expression};
+use std::alloc::Global;
 
 /// The blocks round a place, the innermost last, and how many full expressions stand before it.
 #[derive(Drop)]
 pub(crate) struct Place<'a> {
+    pub alloc: Global,
     pub around: Vec<Around<'a>>,
     pub count: u32,
 }
@@ -29,7 +31,7 @@ fn full(
 {
     must(place.count < u32::MAX)?;
     let around = place.around.as_slice();
-    must(is_lawful_expression(program, owner, around, tree, purpose))?;
+    must(is_lawful_expression(place.alloc, program, owner, around, tree, purpose)?)?;
     place.count += 1;
     Ok(())
 }

@@ -128,6 +128,7 @@ fn lawful_expressions(
     ensures count { IfOk result (λ n. length (expressions body.now) ≡ n) }
 {
     let mut place = Place {
+        alloc,
         around: Vec::new(alloc),
         count: 0,
     };

@@ -1,6 +1,4 @@
-pub mod Following
 pub mod Found
 pub mod Loops
-pub mod Permuted
 pub mod Seen
 pub mod Whole

@@ -3,7 +3,6 @@
 #![tactic(auto)]
 
 mod addresses;
-mod parts;
 mod places;
 mod program;
 mod startup;

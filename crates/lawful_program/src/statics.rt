@@ -6,10 +6,10 @@ ghost use Rattle.c_types.specs.Leaves.{scalars};
 ghost use Rattle.c_typed.specs.Lawful.{IsSized, ContentIsLawful, ContentSuits, StaticIsLawful};
 
 use crate::addresses::is_lawful_content;
-use crate::parts::parts_fit;
 use crate::places::type_takes;
 use c_typed::{Constant, Content, Program, Static};
 use c_types::{Tags, Ty};
+use lawful_trees::parts_fit;
 use layout::size;
 use std::alloc::Global;
 use ub_base::NoMemory;

@@ -1,3 +1,3 @@
-pub mod Merged
+pub mod Parts
 pub mod Places
 pub mod Views

@@ -2,12 +2,14 @@
 #![tactic(auto)]
 
 mod expression;
+mod initial;
 mod lists;
 mod names;
 mod node_types;
 mod nodes;
 mod parts;
 mod place;
+mod plain;
 mod same;
 mod types;
 

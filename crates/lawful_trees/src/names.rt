@@ -15,7 +15,7 @@ use c_types::{Qual, Ty};
 
 // The innermost block of this number round a place.
 fn block_at<'a>(around: &'a [Around<'a>], number: u32) -> Option<&'a Around<'a>>
-    ensures { block_seen result ≡ blocks_of no_block around.now number }
+    ensures { block_seen result ≡ (blocks_of no_block around.now).objects number }
 {
     let mut found = None;
     for block in around {

@@ -2,7 +2,7 @@
 ghost use Rattle.std.specs.Prelude.{◌≡◌, Bool, IsTrue, [], ◌∷◌};
 ghost use Rattle.c_types.specs.Types.{type_of, qualified_of};
 ghost use Rattle.c_typed.specs.declared.tree.Node.TheOpen as shape;
-ghost use Rattle.c_typed.specs.Lawful.{TypesAre, Converts, NoFunction, RightIs, UnaryTypes, UpdateTypes, BranchIs};
+ghost use Rattle.c_typed.specs.Lawful.{TypesAre, Converts, NoFunction, RightIs, UnaryTypes, IsStep, WorksIn, UpdateTypes};
 ghost use Rattle.c_typed.specs.Lawful as lawful;
 ghost use Rattle.c_typed.specs.Sites.{Blocks, no_block};
 ghost use Rattle.lawful_trees.specs.Places.{blocks_of};
@@ -12,12 +12,12 @@ use crate::Around;
 use crate::names::{points_to_function, points_to_object};
 use crate::same::same_type;
 use crate::types::{
-    access_is, comparable, gives, is_constant, is_function, is_int, is_integer, is_pointer,
-    is_promoted, is_scalar, is_tagged, is_void, kind_of, lies_in, member_of, one_kind, points_to,
-    points_to_literal, related, steps_over,
+    access_is, aligns_to, comparable, gives, is_constant, is_function, is_int, is_integer,
+    is_pointer, is_promoted, is_promoted_type, is_scalar, is_tagged, is_void, kind_of, lies_in,
+    member_of, one_kind, ordered, points_to, points_to_literal, related, steps_over, value_is,
 };
 use c_typed::{Access, Change, Conversion, Node, Program, UnOp};
-use c_types::{BinOp, IntKind, Qual, Tags, Ty};
+use c_types::{BinOp, IntKind, Qual, Tags, Ty, promote, usual};
 
 fn is_object(target: &Qual) -> bool
     ensures { IsTrue result → NoFunction (qualified_of target.now).ty }
@@ -50,8 +50,8 @@ fn converts(tags: &Tags, conversion: Conversion, from: &Ty, to: &Ty) -> bool
         (Conversion::Lookup, _, Ty::Pointer(target)) => {
             is_integer(from) && is_object(target.get())
         }
-        (Conversion::Pointer { .. }, Ty::Pointer(s), Ty::Pointer(t)) => {
-            is_object(s.get()) && is_object(t.get())
+        (Conversion::Pointer { align }, Ty::Pointer(s), Ty::Pointer(t)) => {
+            is_object(s.get()) && is_object(t.get()) && aligns_to(tags, &t.get().ty, align)
         }
         (Conversion::Function, Ty::Pointer(s), Ty::Pointer(t)) => {
             is_function(&s.get().ty) && is_function(&t.get().ty)
@@ -71,7 +71,7 @@ fn right_is(shift: bool, kind: IntKind, right: &Ty) -> bool
     ensures { IsTrue result → RightIs shift kind (type_of right.now) }
 {
     if shift {
-        is_integer(right)
+        is_promoted_type(right)
     } else {
         is_int(right, kind)
     }
@@ -117,12 +117,31 @@ fn load_types(program: &Program, access: Access, own: &Ty, place: &Ty) -> bool
     }
 }
 
+fn is_step(op: BinOp) -> bool
+    ensures { IsTrue result → IsStep op }
+{
+    matches!(op, BinOp::Add | BinOp::Sub)
+}
+
+// Whether an object of the first kind is worked on in the second (6.5.7p3, 6.3.1.8p1).
+fn works_in(shift: bool, kind: IntKind, work: IntKind) -> bool
+    ensures { IsTrue result → WorksIn shift kind work }
+{
+    if shift {
+        work == promote(kind)
+    } else {
+        usual(kind, work) == work
+    }
+}
+
 // A change of the object, whose type this is, by one.
 fn changes_by_one(tags: &Tags, change: Change, object: &Ty) -> bool
     ensures { IsTrue result → UpdateTypes tags.now change (type_of object.now) [] }
 {
     match change {
-        Change::Integer { kind, .. } => kind_of(object) == Some(kind),
+        Change::Integer { op, kind, work } => {
+            kind_of(object) == Some(kind) && is_step(op) && work == promote(kind)
+        }
         Change::Pointer { size, .. } => steps_over(tags, object, size),
     }
 }
@@ -133,7 +152,9 @@ fn changes_by(tags: &Tags, change: Change, object: &Ty, operand: &Ty) -> bool
 {
     match change {
         Change::Integer { op, kind, work } => {
-            kind_of(object) == Some(kind) && right_is(is_shift(op), work, operand)
+            kind_of(object) == Some(kind)
+                && works_in(is_shift(op), kind, work)
+                && right_is(is_shift(op), work, operand)
         }
         Change::Pointer { size, .. } => steps_over(tags, object, size) && is_integer(operand),
     }
@@ -224,7 +245,7 @@ fn difference_types(program: &Program, size: u64, own: &Ty, left: &Ty, right: &T
 {
     steps_over(&program.tags, left, size)
         && steps_over(&program.tags, right, size)
-        && comparable(left, right)
+        && ordered(left, right)
         && is_int(own, IntKind::Long)
 }
 
@@ -273,22 +294,12 @@ pub fn binary_node_types(program: &Program, node: &Node, own: &Ty, left: &Ty, ri
     }
 }
 
-// A branch of `?:` has the type of the whole, where that isn't `void` (6.5.15p5).
-fn branch_is(own: &Ty, branch: &Ty) -> bool
-    ensures { IsTrue result → BranchIs (type_of own.now) (type_of branch.now) }
-{
-    match own {
-        Ty::Void => true,
-        _ => gives(own, branch),
-    }
-}
-
 // A node over three operands.
 pub fn choice_types(program: &Program, node: &Node, own: &Ty, test: &Ty, yes: &Ty, no: &Ty) -> bool
     ensures { IsTrue result → (blocks : Blocks) → TypesAre program.now blocks (head_at node.now) (type_of own.now) (type_of test.now ∷ type_of yes.now ∷ type_of no.now ∷ []) }
 {
     match node {
-        Node::Cond => is_scalar(test) && branch_is(own, yes) && branch_is(own, no),
+        Node::Cond => is_scalar(test) && value_is(own, yes) && value_is(own, no),
         _ => false,
     }
 }

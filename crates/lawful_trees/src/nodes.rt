@@ -69,10 +69,8 @@ fn types_are(
 {
     match node {
         Node::Comma => last_is(own, operands),
-        Node::Call { .. } => call_types(own, operands),
-        Node::List { object, bytes } => {
-            list_types(program, around, *object, bytes.as_slice(), own, operands)
-        }
+        Node::Call { .. } => call_types(program, own, operands),
+        Node::List { .. } => list_types(own, operands),
         _ => few_types(program, around, node, own, operands),
     }
 }

@@ -2,12 +2,12 @@
 ghost use Rattle.std.specs.Prelude.{◌≡◌, ◌<◌, ◌↔◌, IsTrue, false, Some};
 ghost use Rattle.c_types.specs.Types.{type_of, qualified_of, kind_of, void, int, pointer, Alike, Compatible, SizesAgree};
 ghost use Rattle.c_types.specs.Layout.{extent, extents};
-ghost use Rattle.c_typed.specs.Lawful.{There, IsSized, FirstOf, PointsInto, Gives, IsPointer, IsScalar, IsInteger, AccessIs, PointsTo, IsConstant, StepsOver, LiesIn, IsTagged, MemberOf, IsFunctionType, IsPromoted, Comparable, OneKind, Related, literal_type};
+ghost use Rattle.c_typed.specs.Lawful.{There, IsSized, FirstOf, PointsInto, Gives, ValueIs, IsPointer, IsScalar, IsInteger, AccessIs, PointsTo, IsConstant, StepsOver, LiesIn, IsTagged, MemberOf, IsFunctionType, NoFunction, EndsInTag, AlignsTo, IsPromoted, IsPromotedType, IsArgument, IsResult, Ordered, Comparable, OneKind, Related, literal_type};
 
 use crate::same::{same_qualified, same_type};
 use c_typed::Access;
 use c_types::{IntKind, Qual, Tags, Ty, compatible, promote};
-use layout::size;
+use layout::{align, size};
 
 /// Whether the type is complete and has at least one byte.
 pub fn is_sized(tags: &Tags, ty: &Ty) -> bool
@@ -187,6 +187,16 @@ pub fn gives(own: &Ty, value: &Ty) -> bool
     }
 }
 
+/// Whether an operand's value is that of the whole: it has the type of the whole, where that isn't `void` (6.5.15p5, 6.5.17p2).
+pub fn value_is(own: &Ty, operand: &Ty) -> bool
+    ensures { IsTrue result → ValueIs (type_of own.now) (type_of operand.now) }
+{
+    match own {
+        Ty::Void => true,
+        _ => gives(own, operand),
+    }
+}
+
 pub fn is_pointer(ty: &Ty) -> bool
     ensures { IsTrue result → IsPointer (type_of ty.now) }
 {
@@ -263,14 +273,86 @@ pub fn is_promoted(kind: IntKind) -> bool
     promote(kind) == kind
 }
 
-/// Whether they are two pointers to compatible types, or one to `void` (6.5.8p2, 6.5.9p2).
+/// Whether an integer type that the promotions leave as it is.
+pub fn is_promoted_type(ty: &Ty) -> bool
+    ensures { IsTrue result → IsPromotedType (type_of ty.now) }
+{
+    match ty {
+        Ty::Int(kind) => is_promoted(*kind),
+        _ => false,
+    }
+}
+
+/// Whether an argument behind an ellipsis may have the type (6.5.2.2p6).
+pub fn is_argument(tags: &Tags, ty: &Ty) -> bool
+    ensures { IsTrue result → IsArgument tags.now (type_of ty.now) }
+{
+    match ty {
+        Ty::Int(kind) => is_promoted(*kind),
+        Ty::Pointer(_) => true,
+        Ty::Struct(_) | Ty::Union(_) => is_sized(tags, ty),
+        Ty::Void | Ty::Enum(_) | Ty::Array(_, _) | Ty::Function(_) => false,
+    }
+}
+
+/// Whether a call may give it: `void`, or a complete type that is no array (6.5.2.2p1).
+pub fn is_result(tags: &Tags, ty: &Ty) -> bool
+    ensures { IsTrue result → IsResult tags.now (type_of ty.now) }
+{
+    match ty {
+        Ty::Void => true,
+        Ty::Array(_, _) | Ty::Function(_) => false,
+        ty => is_sized(tags, ty),
+    }
+}
+
+// Whether the type may have been completed only behind the place where the text names it.
+fn ends_in_tag(ty: &Ty) -> bool
+    ensures { IsTrue result → EndsInTag (type_of ty.now) }
+{
+    match ty {
+        Ty::Struct(_) | Ty::Union(_) => true,
+        Ty::Array(element, _) => ends_in_tag(&element.get().ty),
+        _ => false,
+    }
+}
+
+/// Whether a pointer to the type is aligned to so many bytes: to 1 where the type wasn't complete yet (6.3.2.3p7).
+pub fn aligns_to(tags: &Tags, target: &Ty, bytes: u64) -> bool
+    ensures { IsTrue result → AlignsTo tags.now (type_of target.now) bytes }
+{
+    bytes == align(tags, target) || (bytes == 1 && ends_in_tag(target))
+}
+
+fn is_object_type(ty: &Ty) -> bool
+    ensures { IsTrue result → NoFunction (type_of ty.now) }
+{
+    !is_function(ty)
+}
+
+/// Whether they are two pointers to compatible object types (6.5.6p3, 6.5.8p2).
+pub fn ordered(a: &Ty, b: &Ty) -> bool
+    ensures { IsTrue result → Ordered (type_of a.now) (type_of b.now) }
+{
+    match (a, b) {
+        (Ty::Pointer(x), Ty::Pointer(y)) => {
+            let (x, y) = (&x.get().ty, &y.get().ty);
+            is_object_type(x) && compatible(x, y)
+        }
+        _ => false,
+    }
+}
+
+/// Whether they are two pointers to compatible types, or one to an object and one to `void` (6.5.9p2).
 pub fn comparable(a: &Ty, b: &Ty) -> bool
     ensures { IsTrue result → Comparable (type_of a.now) (type_of b.now) }
 {
     match (a, b) {
         (Ty::Pointer(x), Ty::Pointer(y)) => {
             let (x, y) = (&x.get().ty, &y.get().ty);
-            compatible(x, y) || is_void(x) || is_void(y)
+            compatible(x, y)
+                || (is_void(x) && is_object_type(y))
+                || (is_void(y) && is_object_type(x))
         }
         _ => false,
     }
@@ -287,7 +369,7 @@ pub fn related(pointers: bool, a: &Ty, b: &Ty) -> bool
     ensures { IsTrue result → Related pointers (type_of a.now) (type_of b.now) }
 {
     if pointers {
-        comparable(a, b)
+        ordered(a, b)
     } else {
         one_kind(a, b)
     }

@@ -5,9 +5,10 @@ use Rattle.std.specs.Option.{option_map}
 use Rattle.std.specs.Str.{bytes_eq}
 use Rattle.c_types.specs.declared.tags.Member.{Member}
 use Rattle.c_types.specs.declared.tags.Tag.{Tag}
-use Rattle.c_types.specs.Layout.{member_offset}
-use Rattle.layout.specs.Names.{Named, Place, place, farther, brought, member_names, tag_names, names_by, named}
-use Rattle.layout.specs.Listed.{nearer}
+use Rattle.c_types.specs.Types.{qualified_of}
+use Rattle.c_types.specs.Layout.{member_offset, type_of_member}
+use Rattle.layout.specs.Names.{Named, Place, place, farther, also_const, itself, inside, if_named, brought, member_names, tag_names, names_by, named}
+use Rattle.layout.specs.Listed.{nearer, const_place}
 
 -- the same place, further on
 abbrev pub further : ℕ → Place → Place
@@ -25,6 +26,36 @@ picked false o n x y h = h
 named-farther : (name : List ℕ) (o : ℕ) (ns : List Named) → named name (map (farther o) ns) ≡ option_map (further o) (named name ns)
 named-farther name o [] = refl
 named-farther name o (n ∷ ns) = picked (bytes_eq n.name name) o n (named name (map (farther o) ns)) (named name ns) (named-farther name o ns)
+
+picked_const : (b c : Bool) (n : Named) (x y : Option Place) → x ≡ option_map (const_place c) y →
+    (if b then Some (place (also_const c n)) else x) ≡ option_map (const_place c) (if b then Some (place n) else y)
+picked_const true c n x y h = refl
+picked_const false c n x y h = h
+
+named-const : (name : List ℕ) (c : Bool) (ns : List Named) → named name (map (also_const c) ns) ≡ option_map (const_place c) (named name ns)
+named-const name c [] = refl
+named-const name c (n ∷ ns) = picked_const (bytes_eq n.name name) c n (named name (map (also_const c) ns)) (named name ns) (named-const name c ns)
+
+const_nearer : (c : Bool) (x : Option Place) → option_map nearer (option_map (const_place c) x) ≡ option_map (const_place c) (option_map nearer x)
+const_nearer c None = refl
+const_nearer c (Some p) = refl
+
+near_const : (name : List ℕ) (c : Bool) (ns : List Named) →
+    option_map nearer (named name (map (also_const c) ns)) ≡ option_map (const_place c) (option_map nearer (named name ns))
+near_const name c ns = ap (option_map nearer) (named-const name c ns) ∙ const_nearer c (named name ns)
+
+unnamed : (text name : List ℕ) (c : Bool) (own ns inner : List Named) (r s : Option Place) → length text ≡ 0 → inner ≡ ns →
+    r ≡ option_map nearer (named name ns) → s ≡ option_map (const_place c) r → s ≡ option_map nearer (named name (if_named text own (map (also_const c) inner)))
+unnamed [] name c own ns inner r s z i e k =
+    let at : List Named → Option Place = λ l. option_map nearer (named name (map (also_const c) l)) in
+    k ∙ (ap (option_map (const_place c)) e ∙ (sym (near_const name c ns) ∙ ap at (sym i)))
+unnamed (x ∷ xs) name c own ns inner r s z i e k = absurd (omega (arith, z))
+
+-- the first of a name inside an unnamed structure or union
+pub found_inside :
+    (name : List ℕ) (f : ℕ → List Named) (m : Member) (ns : List Named) (r s : Option Place) → length m.name ≡ 0 → inside f (type_of_member m) ≡ ns →
+    r ≡ option_map nearer (named name ns) → s ≡ option_map (const_place (qualified_of m.qual).constant) r → s ≡ option_map nearer (named name (brought f m))
+found_inside name f m ns r s z i e k = unnamed m.name name (qualified_of m.qual).constant (itself m ∷ []) ns (inside f (type_of_member m)) r s z i e k
 
 chosen : (b : Bool) (p : Place) (x y z : Option Place) → x ≡ or_else y z → (if b then Some p else x) ≡ or_else (if b then Some p else y) z
 chosen true p x y z h = refl
@@ -58,8 +89,8 @@ hit o None y p h = absurd (cc)
 hit o (Some q) y p h =
     let is : nearer q ≡ p = cc in
     let same : min (o + q.offset) (2 ^ 64 - 1) ≡ min (o + min q.offset (2 ^ 64 - 1)) (2 ^ 64 - 1) = omega arith in
-    let at : ℕ → Option Place = λ n. Some (record { offset = n; qual = q.qual }) in
-    let on : Place → Option Place = λ r. Some (record { offset = min (o + r.offset) (2 ^ 64 - 1); qual = r.qual }) in
+    let at : ℕ → Option Place = λ n. Some (record q { offset = n }) in
+    let on : Place → Option Place = λ r. Some (record r { offset = min (o + r.offset) (2 ^ 64 - 1) }) in
     ap at same ∙ ap on is
 
 miss : (o : ℕ) (x y : Option Place) → option_map nearer x ≡ None → or_else (option_map (further o) x) y ≡ y

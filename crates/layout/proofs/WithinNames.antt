@@ -6,10 +6,10 @@ use Rattle.std.specs.Str.{bytes_eq}
 use Rattle.c_types.specs.declared.tags.Member.{Member}
 use Rattle.c_types.specs.declared.tags.Tag.{Tag}
 use Rattle.c_types.specs.declared.tags.Extent.{Extent}
-use Rattle.c_types.specs.Types.{CType, void, int, enumeration, pointer, array, struct, union, function}
+use Rattle.c_types.specs.Types.{CType, void, int, enumeration, pointer, array, struct, union, function, qualified_of}
 use Rattle.c_types.specs.Layout.{extent, extents, type_of_member, member_offset}
 use Rattle.c_types.specs.Table.{IsSettled}
-use Rattle.layout.specs.Names.{Named, Place, place, farther, itself, inside, if_named, brought, member_names, tag_names, names_by, names, named}
+use Rattle.layout.specs.Names.{Named, Place, place, farther, itself, also_const, inside, if_named, brought, member_names, tag_names, names_by, names, named}
 use Rattle.layout.specs.Listed.{nearer}
 use Rattle.layout.proofs.Slots.{Fits, fits, tag_small}
 use Rattle.layout.proofs.Within.{at_next}
@@ -30,6 +30,10 @@ under_farther o n m (x ∷ xs) h u = let here : x.offset ≤ n = u.0 in (omega a
 under_more : (n m : ℕ) (xs : List Named) → n ≤ m → Under n xs → Under m xs
 under_more n m [] h u = tt
 under_more n m (x ∷ xs) h u = let here : x.offset ≤ n = u.0 in (omega arith, under_more n m xs h u.1)
+
+under_const : (size : ℕ) (c : Bool) (ns : List Named) → Under size ns → Under size (map (also_const c) ns)
+under_const size c [] u = tt
+under_const size c (n ∷ ns) u = (u.0, under_const size c ns u.1)
 
 under_brought : (size : ℕ) (name : List ℕ) (own : Named) (inner : List Named) → own.offset ≡ 0 → Under size inner → Under size (if_named name (own ∷ []) inner)
 under_brought size [] own inner e u = u
@@ -54,9 +58,11 @@ module _ (tags : List Tag) (settled : IsSettled tags) (of_tag : ℕ → List Nam
       let same : i + 0 ≡ i = omega arith in
       let ends : member_offset tags tag i + here.own.size ≤ e.size = subst (λ k. member_offset tags tag k + here.own.size ≤ e.size) same here.ends in
       let one : List Named = brought of_tag m in
+      let c : Bool = (qualified_of m.qual).constant in
       under_append e.size (map (farther (member_offset tags tag i)) one) (member_names of_tag tags tag (i + 1) ms)
       (under_farther (member_offset tags tag i) here.own.size e.size one ends
-      (under_brought here.own.size m.name (itself m) (inside of_tag (type_of_member m)) refl (under_inside (type_of_member m) here.own here.owns)))
+      (under_brought here.own.size m.name (itself m) (map (also_const c) (inside of_tag (type_of_member m))) refl
+      (under_const here.own.size c (inside of_tag (type_of_member m)) (under_inside (type_of_member m) here.own here.owns))))
       (under_members tag e (i + 1) ms (λ j x at. subst (λ k. Fits tags tag k x e.size) (sym (at_next i j)) (f (suc j) x at)))
 
   under_content : (tag : ℕ) (o : Option Tag) (e : Extent) → slice_get tags tag ≡ o → extents tags tag ≡ Some e → Under e.size (tag_names of_tag tags tag o)
@@ -82,7 +88,7 @@ module _ (tags : List Tag) (settled : IsSettled tags) where
 
   near_pick : (b : Bool) (n : Named) (x : Option Place) → min n.offset (2 ^ 64 - 1) ≡ n.offset → option_map nearer x ≡ x →
       option_map nearer (if b then Some (place n) else x) ≡ (if b then Some (place n) else x)
-  near_pick true n x e h = let f : ℕ → Option Place = λ k. Some (record { offset = k; qual = n.qual }) in ap f e
+  near_pick true n x e h = let f : ℕ → Option Place = λ k. Some (record { offset = k; qual = n.qual; constant = n.constant }) in ap f e
   near_pick false n x e h = h
 
   near_named : (name : List ℕ) (ns : List Named) → Under (2 ^ 40) ns → option_map nearer (named name ns) ≡ named name ns

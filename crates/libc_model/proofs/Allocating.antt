@@ -10,9 +10,9 @@ use Rattle.exposure.specs.declared.prov.Prov.TheVariants.{Whole}
 use Rattle.prov_memory.specs.declared.value.Value.TheVariants.{Ptr}
 use Rattle.prov_memory.specs.declared.answer.LibAnswer.{LibAnswer}
 use Rattle.prov_memory.specs.declared.answer.LibAnswer.TheVariants as answers
-use Rattle.prov_memory.specs.Store.{Store}
-use Rattle.prov_memory.specs.Script.{Act, Done, Raised, Ended, Outside, Unplaced, Give, run}
-use Rattle.prov_memory.specs.Acts.{create}
+use Rattle.mem_spec.specs.Store.{Store}
+use Rattle.mem_spec.specs.Script.{Act, Done, Raised, Ended, Outside, Unplaced, Give, run}
+use Rattle.mem_spec.specs.Acts.{create}
 use Rattle.libc_spec.specs.Library.{LibValue, pointer, is_given, heap_name, heap_kind, new_object, malloc, created_with, created_within}
 use Rattle.libc_model.specs.declared.arguments.Pointer.{Pointer}
 use Rattle.libc_model.specs.Answers.{Does, given_value}

@@ -13,10 +13,10 @@ use Rattle.exposure.specs.Cells.{Cells}
 use Rattle.c_types.specs.Shapes.{Form}
 use Rattle.prov_memory.specs.declared.cell.Cell.{Cell}
 use Rattle.prov_memory.specs.declared.cell.Via.TheVariants as vias
-use Rattle.prov_memory.specs.Store.{Store, TaggedByte, Life, fresh, is_live, range_from, with_bytes, born, buried}
-use Rattle.prov_memory.specs.Script.{Done, run}
-use Rattle.prov_memory.specs.Acts.{whole, create, kill, retagged, declared_of, stored_from, in_row, offset_in, base_in, size_in}
-use Rattle.prov_memory.specs.Streams.{Io}
+use Rattle.mem_spec.specs.Store.{Store, TaggedByte, Life, fresh, is_live, range_from, with_bytes, born, buried}
+use Rattle.mem_spec.specs.Script.{Done, run}
+use Rattle.mem_spec.specs.Acts.{whole, create, kill, retagged, declared_of, stored_from, in_row, offset_in, base_in, size_in}
+use Rattle.mem_spec.specs.Streams.{Io}
 use Rattle.prov_memory.specs.Held.{Held, held_of}
 use Rattle.prov_memory.specs.Memory.{Kept, AreKnown, ObjectsKnown, IsBorn, newborn, store_of, life_in}
 use Rattle.prov_memory.specs.Made.{Settling, CanSettle, after_settling}

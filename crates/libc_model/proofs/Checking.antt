@@ -15,10 +15,10 @@ use Rattle.ub_base.specs.Names.{same_object}
 use Rattle.exposure.specs.declared.prov.Prov.{Prov}
 use Rattle.exposure.specs.Cells.{has_cell, is_other}
 use Rattle.prov_memory.specs.declared.answer.LibAnswer.{LibAnswer}
-use Rattle.prov_memory.specs.Store.{Store, Life, TaggedByte, is_live, range_from}
-use Rattle.prov_memory.specs.Script.{Script, require, ◌>>=◌, ◌>>◌, Act, Done, Raised, touched, run}
-use Rattle.prov_memory.specs.Acts.{Accessed, in_row, offset_in, size_in, argument_object, argument_in, argument}
-use Rattle.prov_memory.specs.Streams.{Io}
+use Rattle.mem_spec.specs.Store.{Store, Life, TaggedByte, is_live, range_from}
+use Rattle.mem_spec.specs.Script.{Script, require, ◌>>=◌, ◌>>◌, Act, Done, Raised, touched, run}
+use Rattle.mem_spec.specs.Acts.{Accessed, in_row, offset_in, size_in, argument_object, argument_in, argument}
+use Rattle.mem_spec.specs.Streams.{Io}
 use Rattle.prov_memory.specs.Held.{held_of}
 use Rattle.prov_memory.specs.Memory.{Kept, life_in, store_of}
 use Rattle.libc_spec.specs.Library.{Text, text_at, text_from, text, until_zero, joined, is_zero}

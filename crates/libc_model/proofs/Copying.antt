@@ -17,10 +17,10 @@ use Rattle.c_types.specs.declared.library.LibFunc.TheVariants.{Strcpy}
 use Rattle.prov_memory.specs.declared.value.Value.TheVariants.{Ptr}
 use Rattle.prov_memory.specs.declared.answer.LibAnswer.{LibAnswer}
 use Rattle.prov_memory.specs.declared.answer.LibAnswer.TheVariants as answers
-use Rattle.prov_memory.specs.Store.{Store, TaggedByte, range_from, with_bytes}
-use Rattle.prov_memory.specs.Script.{Get, Put, Script, Give, touch, require, ◌>>=◌, ◌>>◌, Act, Done, Raised, run}
-use Rattle.prov_memory.specs.Acts.{Accessed, whole, declared_of, stored_from, retagged, argument, check_writable, copy_between}
-use Rattle.prov_memory.specs.Streams.{Io}
+use Rattle.mem_spec.specs.Store.{Store, TaggedByte, range_from, with_bytes}
+use Rattle.mem_spec.specs.Script.{Get, Put, Script, Give, touch, require, ◌>>=◌, ◌>>◌, Act, Done, Raised, run}
+use Rattle.mem_spec.specs.Acts.{Accessed, whole, declared_of, stored_from, retagged, argument, check_writable, copy_between}
+use Rattle.mem_spec.specs.Streams.{Io}
 use Rattle.prov_memory.specs.Held.{held_of}
 use Rattle.prov_memory.specs.Memory.{Kept, act_of, life_in, store_of}
 use Rattle.libc_spec.specs.Library.{LibValue, pointer, pointer_in, address_in, prov_in, argument_at, integer_in, size_of_value, Text, text, overlap, read_numbers, number_of_byte, check_target, write_numbers, memmove, strcpy, joined, called}
@@ -338,7 +338,7 @@ copy_gives m new io is js to p from q ns target within fills g more store =
     let items : js ≡ joined (g.items ++ write_items target) =
     more ∙ ap (λ (ks : List Item). ks ++ write_items target) g.added ∙ ap (λ (ks : List Item). joined g.items ++ ks) (sym (writes_joined target)) ∙ sym (joined_append g.items (write_items target) (writes_apart target)) in
     subst (λ (act : Act LibValue). Answers (answers.Value (Ptr to p)) js (store_of new io) (limited (store_of m io) act)) (sym all)
-    (answers_of (Ok (Ptr to p)) js (store_of new io) (Done (pointer to p) (joined (g.items ++ write_items target)) (overwritten target ns (after is (store_of m io)))) within.taken within.written
+    (answers_of (Ok (Ptr to p)) js (store_of new io) (Done (pointer to p) (joined (g.items ++ write_items target)) (overwritten target ns (after is (store_of m io)))) within
     (refl, items, store (g.able tt)))
 
 pub copy_fails : {B : Type 0} (seen : B → Copied) (m : Kept) (io : Io) (is : List Item) (to : ℕ) (p : Prov) (from : ℕ) (q : Prov) (e : LibAnswer) → Follows false seen (Err e) m io [] is (string_to_copy m.rows to p from q) →

@@ -9,9 +9,9 @@ use Rattle.c_types.specs.declared.library.LibFunc.TheVariants.{Strlen, Strcmp, S
 use Rattle.prov_memory.specs.declared.value.Value.{Value}
 use Rattle.prov_memory.specs.declared.answer.LibAnswer.{LibAnswer}
 use Rattle.prov_memory.specs.declared.answer.LibAnswer.TheVariants as answers
-use Rattle.prov_memory.specs.Store.{Store, TaggedByte, range_from}
-use Rattle.prov_memory.specs.Script.{Script, Give, ◌>>=◌, Act, Done, run}
-use Rattle.prov_memory.specs.Streams.{Io}
+use Rattle.mem_spec.specs.Store.{Store, TaggedByte, range_from}
+use Rattle.mem_spec.specs.Script.{Script, Give, ◌>>=◌, Act, Done, run}
+use Rattle.mem_spec.specs.Streams.{Io}
 use Rattle.prov_memory.specs.Memory.{Kept, HasCell, store_of}
 use Rattle.libc_spec.specs.Library.{LibValue, number, pointer, pointer_in, address_in, prov_in, argument_at, Text, text, read_numbers, order_of, low_byte, place_of, pointer_behind, integer_in, number_of_byte, strlen, strcmp, strchr, joined, called}
 use Rattle.libc_model.specs.declared.arguments.Range.{Range}
@@ -34,7 +34,7 @@ pub finish_gives : (v : Value) (m new : Kept) (io : Io) (is : List Item) (script
 finish_gives v m new io is script within passed g rows settled =
     let act : run new.rows (script new.rows) (store_of m io) ≡ Done (value_seen v) g.items (after is (store_of m io)) = ap (λ (rs : List Row). run rs (script rs) (store_of m io)) rows ∙ g.done in
     subst (λ (act : Act LibValue). Answers (answers.Value v) is (store_of new io) (limited (store_of m io) act)) (sym act)
-    (answers_of (Ok v) is (store_of new io) (Done (value_seen v) (joined g.items) (after is (store_of m io))) within.taken within.written (passed, g.added, settled (g.able tt)))
+    (answers_of (Ok v) is (store_of new io) (Done (value_seen v) (joined g.items) (after is (store_of m io))) within (passed, g.added, settled (g.able tt)))
 
 -- it gives none
 pub finish_fails : (e : LibAnswer) (m : Kept) (io : Io) (is : List Item) (script : List Row → Script LibValue) → Follows false value_seen (Err e) m io [] is (script m.rows) →

@@ -10,10 +10,10 @@ use Rattle.addr_map.specs.declared.map.Row.{Row}
 use Rattle.addr_map.specs.Rows.{row_of}
 use Rattle.exposure.specs.declared.prov.Prov.TheVariants.{Whole, Either}
 use Rattle.exposure.specs.Cells.{kept_in, is_other}
-use Rattle.prov_memory.specs.Store.{Store, buried, settled}
-use Rattle.prov_memory.specs.Script.{Done, run}
-use Rattle.prov_memory.specs.Acts.{kill}
-use Rattle.prov_memory.specs.Streams.{Io}
+use Rattle.mem_spec.specs.Store.{Store, buried, settled}
+use Rattle.mem_spec.specs.Script.{Done, run}
+use Rattle.mem_spec.specs.Acts.{kill}
+use Rattle.mem_spec.specs.Streams.{Io}
 use Rattle.prov_memory.specs.Held.{held_of}
 use Rattle.prov_memory.specs.Memory.{Kept, store_of, life_in}
 use Rattle.libc_spec.specs.Library.{is_heap_start, free}

@@ -14,10 +14,10 @@ use Rattle.c_types.specs.declared.library.LibFunc.TheVariants.{Memcmp}
 use Rattle.prov_memory.specs.declared.value.Value.{Value}
 use Rattle.prov_memory.specs.declared.answer.LibAnswer.{LibAnswer}
 use Rattle.prov_memory.specs.declared.answer.LibAnswer.TheVariants as answers
-use Rattle.prov_memory.specs.Store.{Store, TaggedByte, range_from}
-use Rattle.prov_memory.specs.Script.{Get, Script, Give, touch, ◌>>=◌, Act, Done, Raised, run}
-use Rattle.prov_memory.specs.Acts.{Accessed, argument}
-use Rattle.prov_memory.specs.Streams.{Io}
+use Rattle.mem_spec.specs.Store.{Store, TaggedByte, range_from}
+use Rattle.mem_spec.specs.Script.{Get, Script, Give, touch, ◌>>=◌, Act, Done, Raised, run}
+use Rattle.mem_spec.specs.Acts.{Accessed, argument}
+use Rattle.mem_spec.specs.Streams.{Io}
 use Rattle.prov_memory.specs.Memory.{Kept, store_of}
 use Rattle.libc_spec.specs.Library.{LibValue, number, pointer, pointer_in, address_in, prov_in, argument_at, size_of_value, joins, joined, bytes_at, read_numbers, order_of, memcmp, called}
 use Rattle.libc_model.specs.declared.arguments.Range.{Range}
@@ -95,7 +95,7 @@ pub tells_value : (v : Value) (m new : Kept) (io : Io) (is : List Item) (script 
 tells_value v m new io is script within passed g rows settled =
     let act : run new.rows (script new.rows) (store_of m io) ≡ Done (value_seen v) g.items (after is (store_of m io)) = ap (λ (rs : List Row). run rs (script rs) (store_of m io)) rows ∙ g.done in
     subst (λ (act : Act LibValue). Answers (answers.Value v) is (store_of new io) (within_limits (store_of m io) act)) (sym act)
-    (answers_of (Ok v) is (store_of new io) (Done (value_seen v) g.items (after is (store_of m io))) within.taken within.written (passed, g.added, settled (g.able tt)))
+    (answers_of (Ok v) is (store_of new io) (Done (value_seen v) g.items (after is (store_of m io))) within (passed, g.added, settled (g.able tt)))
 
 -- it gives none
 pub tells_none : (e : LibAnswer) (m : Kept) (io : Io) (is : List Item) (script : List Row → Script LibValue) → Tells value_seen (Err e) m io [] is (script m.rows) →

@@ -5,11 +5,11 @@ use Rattle.ub_base.specs.declared.names.Item.{Item}
 use Rattle.ub_base.specs.declared.names.Item.TheVariants.{Expose}
 use Rattle.ub_base.specs.declared.names.ObjName.{ObjName}
 use Rattle.exposure.specs.declared.prov.Prov.TheVariants.{Whole}
-use Rattle.prov_memory.specs.Store.{Store, shown}
-use Rattle.prov_memory.specs.Script.{Done, run}
-use Rattle.prov_memory.specs.Acts.{expose}
+use Rattle.mem_spec.specs.Store.{Store, shown}
+use Rattle.mem_spec.specs.Script.{Done, run}
+use Rattle.mem_spec.specs.Acts.{expose}
 use Rattle.prov_memory.specs.Held.{held_of}
-use Rattle.prov_memory.specs.Streams.{Io}
+use Rattle.mem_spec.specs.Streams.{Io}
 use Rattle.prov_memory.specs.Memory.{Kept, life_in, store_of}
 use Rattle.prov_memory.specs.Tags.{AreTagged, ObjectsTagged}
 use Rattle.libc_model.specs.Parts.{IsSettled}

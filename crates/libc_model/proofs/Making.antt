@@ -28,10 +28,10 @@ use Rattle.prov_memory.specs.declared.cell.Via.{Via}
 use Rattle.prov_memory.specs.declared.cell.Via.TheVariants as vias
 use Rattle.prov_memory.specs.declared.value.Value.{Value}
 use Rattle.prov_memory.specs.declared.value.Value.TheVariants.{Ptr}
-use Rattle.prov_memory.specs.Store.{Store, Life, TaggedByte, born, with_bytes, is_live}
-use Rattle.prov_memory.specs.Script.{Ask, Put, Bear, Script, Give, Misplace, touch, ◌>>=◌, ◌>>◌, Act, Done, Raised, Ended, Outside, Unplaced, run}
-use Rattle.prov_memory.specs.Acts.{Accessed, Seen, scalar, whole, bytes, access, in_row, offset_in, is_aligned, suits_store, stored_from, store, create, has_place, base_in}
-use Rattle.prov_memory.specs.Streams.{Io}
+use Rattle.mem_spec.specs.Store.{Store, Life, TaggedByte, born, with_bytes, is_live}
+use Rattle.mem_spec.specs.Script.{Ask, Put, Bear, Script, Give, Misplace, touch, ◌>>=◌, ◌>>◌, Act, Done, Raised, Ended, Outside, Unplaced, run}
+use Rattle.mem_spec.specs.Acts.{Accessed, Seen, scalar, whole, bytes, access, in_row, offset_in, is_aligned, suits_store, stored_from, store, create, has_place, base_in}
+use Rattle.mem_spec.specs.Streams.{Io}
 use Rattle.prov_memory.specs.Cells.{plain_cell}
 use Rattle.prov_memory.specs.Held.{held_of}
 use Rattle.prov_memory.specs.Memory.{Kept, HasCell, CellsKnown, store_of, life_in, no_place, base_by, rows_with, cannot_create}

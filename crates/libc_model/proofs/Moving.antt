@@ -18,11 +18,11 @@ use Rattle.prov_memory.specs.declared.answer.LibAnswer.TheVariants as answers
 use Rattle.prov_memory.specs.declared.answer.MemFault.{MemFault}
 use Rattle.prov_memory.specs.declared.answer.MemFault.TheVariants as faults
 use Rattle.prov_memory.specs.declared.cell.Cell.{Cell}
-use Rattle.prov_memory.specs.Store.{Store, Life, TaggedByte, is_live, range_from, with_bytes}
-use Rattle.prov_memory.specs.Script.{Answer, Touch, Ask, Get, Put, Bear, Bury, Show, Find, Settle, Take, Print, item_of, refuses, refused, answer, left, Script, Give, Raise, Finish, Exceed, Misplace, Do, touch, require, ◌>>=◌, ◌>>◌, Act, Done, Raised, Ended, Outside, Unplaced, touched, run}
-use Rattle.prov_memory.specs.Acts as acts
-use Rattle.prov_memory.specs.Acts.{Accessed, whole, in_row, offset_in, is_literal, is_constant, declared_of, stored_from, retagged, settle_by, the_one_in, argument_object, argument_in, argument, check_writable}
-use Rattle.prov_memory.specs.Streams.{Io}
+use Rattle.mem_spec.specs.Store.{Store, Life, TaggedByte, is_live, range_from, with_bytes}
+use Rattle.mem_spec.specs.Script.{Answer, Touch, Ask, Get, Put, Bear, Bury, Show, Find, Settle, Take, Print, item_of, refuses, refused, answer, left, Script, Give, Raise, Finish, Exceed, Misplace, Do, touch, require, ◌>>=◌, ◌>>◌, Act, Done, Raised, Ended, Outside, Unplaced, touched, run}
+use Rattle.mem_spec.specs.Acts as acts
+use Rattle.mem_spec.specs.Acts.{Accessed, whole, in_row, offset_in, is_literal, is_constant, declared_of, stored_from, retagged, settle_by, the_one_in, argument_object, argument_in, argument, check_writable}
+use Rattle.mem_spec.specs.Streams.{Io}
 use Rattle.prov_memory.specs.Held.{held_of}
 use Rattle.prov_memory.specs.Memory.{Kept, AreKnown, ObjectsKnown, life_in, store_of}
 use Rattle.prov_memory.specs.Stores.{tagged_all}
@@ -271,7 +271,7 @@ move_gives m new io is js may to p from q n r u within range source able tagged 
     let items : is ≡ g.items = quiet_items Ranged m io [] is (ranges_to_copy m.rows may to p from q n) (accessed_if m r, accessed_if m u) g in
     let none : has_expose is ≡ false = ap has_expose items ∙ listed_none (run m.rows (ranges_to_copy m.rows may to p from q n) (store_of m io)) (accessed_if m r, accessed_if m u) g.items (after is (store_of m io)) g.done (run_none m.rows (ranges_to_copy m.rows may to p from q n) (store_of m io) (ranges_none m.rows may to p from q n)) in
     subst (λ (act : Act LibValue). Answers (answers.Value (Ptr to p)) js (store_of new io) (within_limits (store_of m io) act)) (sym (memmove_done m io is may to p from q n r u range source able g))
-    (answers_of (Ok (Ptr to p)) js (store_of new io) (Done (pointer to p) (g.items ++ moved_items r u) (moved m r u (after is (store_of m io)))) within.taken within.written
+    (answers_of (Ok (Ptr to p)) js (store_of new io) (Done (pointer to p) (g.items ++ moved_items r u) (moved m r u (after is (store_of m io)))) within
     (refl, more ∙ ap (λ (ks : List Item). ks ++ moved_items r u) items, store none tagged (g.able tt)))
 
 pub move_fails : {B : Type 0} (seen : B → Ranged) (m : Kept) (io : Io) (is : List Item) (may : Bool) (to : ℕ) (p : Prov) (from : ℕ) (q : Prov) (n : ℕ) (e : LibAnswer) → Follows true seen (Err e) m io [] is (ranges_to_copy m.rows may to p from q n) →

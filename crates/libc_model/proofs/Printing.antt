@@ -12,9 +12,9 @@ use Rattle.c_types.specs.declared.library.LibFunc.TheVariants.{Puts}
 use Rattle.prov_memory.specs.declared.value.Value.TheVariants.{Int}
 use Rattle.prov_memory.specs.declared.answer.LibAnswer.{LibAnswer}
 use Rattle.prov_memory.specs.declared.answer.LibAnswer.TheVariants as answers
-use Rattle.prov_memory.specs.Store.{Store}
-use Rattle.prov_memory.specs.Script.{Script, Give, ◌>>=◌, Act, Done, Outside, run}
-use Rattle.prov_memory.specs.Streams.{Io}
+use Rattle.mem_spec.specs.Store.{Store}
+use Rattle.mem_spec.specs.Script.{Script, Give, ◌>>=◌, Act, Done, Outside, run}
+use Rattle.mem_spec.specs.Streams.{Io}
 use Rattle.prov_memory.specs.Memory.{Kept, store_of}
 use Rattle.libc_spec.specs.Library.{LibValue, number, pointer, pointer_in, address_in, prov_in, argument_at, Text, text, read_numbers, without_zero, puts, joined, called, output_within}
 use Rattle.libc_model.specs.Seen.{value_seen}
@@ -104,7 +104,7 @@ print_gives m new io out is js bs script within fits g more put rows settled =
     let size : length (io.output ++ bs) ≤ 2 ^ 24 = omega (arith, fits, length-append io.output bs) in
     subst (λ (act : Act LibValue). Answers (answers.Value (Int (pos 1))) js (store_of new out) (limited (store_of m io) act)) (sym (prints m new.rows io is bs script rows g))
     (answers_of (Ok (Int (pos 1))) js (store_of new out) (Done (number (pos 1)) (joined (g.items ++ Output ∷ [])) (wrote (after is (store_of m io)) bs))
-    (subst (λ (o : Io). o.position ≤ length o.input) (sym put) within.taken) (subst (λ (o : Io). length o.output ≤ 2 ^ 24) (sym put) size) (refl, items, store))
+    (subst (λ (o : Io). length o.output ≤ 2 ^ 24) (sym put) size) (refl, items, store))
 
 -- the output would pass its limit
 past_split : (b : Bool) (n : ℕ) (e : LibAnswer) (r : Result (Unit {0}) LibAnswer) → r ≡ Err e → r ≡ cond b (Err (answers.Outside PastOutput n)) (Ok tt) → (b ≡ true) × (e ≡ answers.Outside PastOutput n)

@@ -6,11 +6,11 @@ use Rattle.ub_base.specs.declared.names.Item.{Item}
 use Rattle.ub_base.specs.declared.names.Item.TheVariants.{Expose}
 use Rattle.prov_memory.specs.declared.answer.LibAnswer.{LibAnswer}
 use Rattle.prov_memory.specs.declared.answer.LibAnswer.TheVariants as answers
-use Rattle.prov_memory.specs.Store.{TaggedByte, range_from}
-use Rattle.prov_memory.specs.Acts.{is_written, all_written, origins_in}
+use Rattle.mem_spec.specs.Store.{TaggedByte, range_from}
+use Rattle.mem_spec.specs.Acts.{is_written, all_written, origins_in}
 use Rattle.prov_memory.specs.Loads.{origins_of}
-use Rattle.prov_memory.specs.Script.{Raised}
-use Rattle.prov_memory.specs.Streams.{Io}
+use Rattle.mem_spec.specs.Script.{Raised}
+use Rattle.mem_spec.specs.Streams.{Io}
 use Rattle.prov_memory.specs.Memory.{Kept, store_of}
 use Rattle.libc_spec.specs.Library.{numbers, number_of_byte, read_numbers}
 use Rattle.libc_model.specs.Parts.{after, Gives, Follows, ReadsByte, ReadsAll}

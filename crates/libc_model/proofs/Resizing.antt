@@ -23,10 +23,10 @@ use Rattle.prov_memory.specs.declared.answer.LibAnswer.TheVariants as answers
 use Rattle.prov_memory.specs.declared.cell.Cell.{Cell}
 use Rattle.prov_memory.specs.declared.value.Value.{Value}
 use Rattle.prov_memory.specs.declared.value.Value.TheVariants.{Ptr}
-use Rattle.prov_memory.specs.Store.{Store, TaggedByte, Life, is_live, range_from, with_bytes, born, dead, buried, settled}
-use Rattle.prov_memory.specs.Script.{Ask, Get, Put, Bury, Settle, Script, Give, touch, require, ◌>>=◌, ◌>>◌, Act, Done, Raised, Ended, Outside, Unplaced, touched, run}
-use Rattle.prov_memory.specs.Acts.{access, load_block, create, kill, retagged, declared_of, offset_in, has_place, base_in, size_in}
-use Rattle.prov_memory.specs.Streams.{Io}
+use Rattle.mem_spec.specs.Store.{Store, TaggedByte, Life, is_live, range_from, with_bytes, born, dead, buried, settled}
+use Rattle.mem_spec.specs.Script.{Ask, Get, Put, Bury, Settle, Script, Give, touch, require, ◌>>=◌, ◌>>◌, Act, Done, Raised, Ended, Outside, Unplaced, touched, run}
+use Rattle.mem_spec.specs.Acts.{access, load_block, create, kill, retagged, declared_of, offset_in, has_place, base_in, size_in}
+use Rattle.mem_spec.specs.Streams.{Io}
 use Rattle.prov_memory.specs.Held.{Held, held_of}
 use Rattle.prov_memory.specs.Memory.{Kept, HasCell, CellsKnown, store_of, life_in, tagged_in_object, no_place, base_by, rows_with, cannot_create}
 use Rattle.prov_memory.specs.Made.{Settling, CanSettle, after_settling, settling_items}

@@ -8,10 +8,10 @@ use Rattle.ub_base.specs.declared.names.Event.{Event}
 use Rattle.ub_base.specs.declared.names.ObjName.{ObjName}
 use Rattle.exposure.specs.declared.prov.Prov.TheVariants.{Whole}
 use Rattle.exposure.specs.Cells.{Cells, kept_in, has_cell, is_other, Settles}
-use Rattle.prov_memory.specs.Store.{Store, settled, shown}
-use Rattle.prov_memory.specs.Script.{Done, run}
-use Rattle.prov_memory.specs.Acts.{expose}
-use Rattle.prov_memory.specs.Streams.{Io}
+use Rattle.mem_spec.specs.Store.{Store, settled, shown}
+use Rattle.mem_spec.specs.Script.{Done, run}
+use Rattle.mem_spec.specs.Acts.{expose}
+use Rattle.mem_spec.specs.Streams.{Io}
 use Rattle.prov_memory.specs.Memory.{Kept, AreKnown, ObjectsKnown, store_of}
 use Rattle.libc_model.specs.Parts.{effect, after, CanDo, CanFollow, IsSettled, AreSettled}
 

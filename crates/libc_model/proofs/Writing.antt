@@ -21,12 +21,12 @@ use Rattle.prov_memory.specs.declared.answer.LibAnswer.TheVariants as answers
 use Rattle.prov_memory.specs.declared.cell.Cell.{Cell}
 use Rattle.prov_memory.specs.declared.cell.Via.{Via}
 use Rattle.prov_memory.specs.declared.cell.Via.TheVariants as vias
-use Rattle.prov_memory.specs.Store.{Store, Life, TaggedByte, is_live, with_bytes}
-use Rattle.prov_memory.specs.Script.{Script, Give, require, ◌>>=◌, ◌>>◌, Act, Done, Raised, run}
-use Rattle.prov_memory.specs.Acts as acts
-use Rattle.prov_memory.specs.Acts.{Accessed, Seen, whole, bytes, in_row, offset_in, is_literal, is_constant, declared_of, stored_from, argument, check_writable}
+use Rattle.mem_spec.specs.Store.{Store, Life, TaggedByte, is_live, with_bytes}
+use Rattle.mem_spec.specs.Script.{Script, Give, require, ◌>>=◌, ◌>>◌, Act, Done, Raised, run}
+use Rattle.mem_spec.specs.Acts as acts
+use Rattle.mem_spec.specs.Acts.{Accessed, Seen, whole, bytes, in_row, offset_in, is_literal, is_constant, declared_of, stored_from, argument, check_writable}
 use Rattle.prov_memory.specs.Cells.{plain_cell}
-use Rattle.prov_memory.specs.Streams.{Io}
+use Rattle.mem_spec.specs.Streams.{Io}
 use Rattle.prov_memory.specs.Held.{held_of}
 use Rattle.prov_memory.specs.Memory.{Kept, CellsKnown, HasCell, act_of, life_in, store_of}
 use Rattle.prov_memory.specs.Stores.{Sees, tagged_all}
@@ -293,7 +293,7 @@ fill_gives m new io is js a p c n k b target within byte range fills g more stor
     (write_run m.rows m (replicate n (low_byte c)) target (after is (store_of m io)) (fills_all n (low_byte c) target range) (λ x. after_life is (store_of m io) x)) in
     let items : js ≡ g.items ++ write_items target = more ∙ ap (λ (ks : List Item). ks ++ write_items target) (quiet_items (Option Accessed) m io [] is (target_at m.rows n a p) (accessed_if m target) g) in
     subst (λ (act : Act LibValue). Answers (answers.Value (Ptr a p)) js (store_of new io) (within_limits (store_of m io) act)) (sym all)
-    (answers_of (Ok (Ptr a p)) js (store_of new io) (Done (pointer a p) (g.items ++ write_items target) (overwritten target (replicate n (low_byte c)) (after is (store_of m io)))) within.taken within.written
+    (answers_of (Ok (Ptr a p)) js (store_of new io) (Done (pointer a p) (g.items ++ write_items target) (overwritten target (replicate n (low_byte c)) (after is (store_of m io)))) within
     (refl, items, store (g.able tt) ∙ same_numbers target k n b (low_byte c) (after is (store_of m io)) fills range byte))
 
 pub fill_fails : (m : Kept) (io : Io) (is : List Item) (a : ℕ) (p : Prov) (c : ℤ) (n : ℕ) (e : LibAnswer) → Follows true (accessed_if m) (Err e) m io [] is (target_at m.rows n a p) →

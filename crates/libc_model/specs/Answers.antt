@@ -1,5 +1,5 @@
 -- What a call answers, against the act that the definitions give it.
-use Rattle.std.specs.Prelude.{◌≡◌, ℕ, ◌≤◌, ◌^◌, min, Bool, true, false, ◌&&◌, List, [], ◌∷◌, length, None, IfSome, Result, Ok, Err}
+use Rattle.std.specs.Prelude.{◌≡◌, ℕ, ◌≤◌, ◌^◌, Bool, true, false, ◌&&◌, List, [], ◌∷◌, length, None, IfSome, Result, Ok, Err}
 use Rattle.ub_base.specs.declared.names.Item.{Item}
 use Rattle.ub_base.specs.declared.names.ObjName.{ObjName}
 use Rattle.addr_map.specs.declared.map.Row.{Row}
@@ -12,9 +12,9 @@ use Rattle.prov_memory.specs.declared.value.Value.{Value}
 use Rattle.prov_memory.specs.declared.value.Value.TheVariants.{Int, Ptr, Nothing}
 use Rattle.prov_memory.specs.declared.answer.LibAnswer.{LibAnswer}
 use Rattle.prov_memory.specs.declared.answer.LibAnswer.TheVariants as answers
-use Rattle.prov_memory.specs.Store.{Store}
-use Rattle.prov_memory.specs.Script.{Act, Done, Raised, Ended, Outside, Unplaced}
-use Rattle.prov_memory.specs.Streams.{Io}
+use Rattle.mem_spec.specs.Store.{Store}
+use Rattle.mem_spec.specs.Script.{Act, Done, Raised, Ended, Outside, Unplaced}
+use Rattle.mem_spec.specs.Streams.{Io}
 use Rattle.prov_memory.specs.Held.{held_of}
 use Rattle.prov_memory.specs.Memory.{Kept, AreKnown, HasCell, life_in}
 use Rattle.prov_memory.specs.Tags.{AreTagged}
@@ -26,14 +26,9 @@ given_value (number n) = Int n
 given_value (pointer a p) = Ptr a p
 given_value nothing = Nothing
 
--- no more was taken than the input has, and the output is within its limit
-pub record AreWithin (io : Io) : Type 0 where
-  pub taken : io.position ≤ length io.input
-  pub written : length io.output ≤ 2 ^ 24
-
--- at the end of the input a call takes nothing (own)
-abbrev pub clipped : Store → Store
-clipped s = record s { position = min s.position (length s.input) }
+-- the output is within its limit (own)
+abbrev pub AreWithin : Io → Type 0
+AreWithin io = length io.output ≤ 2 ^ 24
 
 -- the answer of a part of a call, its items and the store after it are those of an act; where memory is wanted nothing is said
 abbrev pub Does : {A B : Type 0} → (B → A) → Result A LibAnswer → List Item → Store → Act B → Type 0
@@ -47,8 +42,8 @@ Does f r is s act = ⊥
 -- the answer of a call, its items and the store after it are those of an act; where memory is wanted nothing is said
 abbrev pub Answers : LibAnswer → List Item → Store → Act LibValue → Type 0
 Answers answers.NoMemory is s act = Unit {0}
-Answers (answers.Value v) is s (Done w js u) = (v ≡ given_value w) × (is ≡ js) × (s ≡ clipped u)
-Answers (answers.End n) is s (Ended k js u) = (n ≡ k) × (is ≡ js) × (s ≡ clipped u)
+Answers (answers.Value v) is s (Done w js u) = (v ≡ given_value w) × (is ≡ js) × (s ≡ u)
+Answers (answers.End n) is s (Ended k js u) = (n ≡ k) × (is ≡ js) × (s ≡ u)
 Answers (answers.Raise c) is s (Raised d) = c ≡ d
 Answers (answers.Outside c n) is s (Outside d k) = (c ≡ d) × (n ≡ k)
 Answers answers.Unplaced is s Unplaced = Unit {0}

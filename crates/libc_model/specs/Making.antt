@@ -9,9 +9,9 @@ use Rattle.addr_map.specs.Sound.{Above}
 use Rattle.exposure.specs.declared.prov.Prov.{Prov}
 use Rattle.exposure.specs.declared.prov.Prov.TheVariants.{Empty, Whole, Either}
 use Rattle.exposure.specs.Cells.{Cells, kept_in, is_other}
-use Rattle.prov_memory.specs.Store.{Life, Store, TaggedByte, range_from, with_bytes, born, buried}
-use Rattle.prov_memory.specs.Script.{Script, Give, ◌>>=◌, ◌>>◌}
-use Rattle.prov_memory.specs.Acts.{size_in}
+use Rattle.mem_spec.specs.Store.{Life, Store, TaggedByte, range_from, with_bytes, born, buried}
+use Rattle.mem_spec.specs.Script.{Script, Give, ◌>>=◌, ◌>>◌}
+use Rattle.mem_spec.specs.Acts.{size_in}
 use Rattle.prov_memory.specs.Held.{held_of}
 use Rattle.prov_memory.specs.Memory.{Kept, AreKnown, life_in, cannot_create, base_by, rows_with}
 use Rattle.prov_memory.specs.Made.{Settling}

@@ -13,11 +13,11 @@ use Rattle.exposure.specs.Cells.{Cells, has_cell, is_other}
 use Rattle.prov_memory.specs.declared.value.Value.{Value}
 use Rattle.prov_memory.specs.declared.answer.LibAnswer.{LibAnswer}
 use Rattle.prov_memory.specs.declared.answer.LibAnswer.TheVariants as answers
-use Rattle.prov_memory.specs.Store.{Store, TaggedByte, range_from, settled, shown}
-use Rattle.prov_memory.specs.Script.{Settle, Print, Script, Give, touch, ◌>>=◌, ◌>>◌, Act, Done, Raised, run}
-use Rattle.prov_memory.specs.Acts.{Accessed, settle_by, the_one_in, in_row, offset_in, is_written, all_written, origins_in}
+use Rattle.mem_spec.specs.Store.{Store, TaggedByte, range_from, settled, shown}
+use Rattle.mem_spec.specs.Script.{Settle, Print, Script, Give, touch, ◌>>=◌, ◌>>◌, Act, Done, Raised, run}
+use Rattle.mem_spec.specs.Acts.{Accessed, settle_by, the_one_in, in_row, offset_in, is_written, all_written, origins_in}
 use Rattle.prov_memory.specs.Loads.{origins_of}
-use Rattle.prov_memory.specs.Streams.{Io}
+use Rattle.mem_spec.specs.Streams.{Io}
 use Rattle.prov_memory.specs.Held.{held_of}
 use Rattle.prov_memory.specs.Memory.{Kept, AreKnown, store_of, life_in, tagged_in_object}
 use Rattle.libc_spec.specs.Library.{LibValue, number, Text, text, is_zero, numbers, number_of_byte, read_numbers, without_zero, joined, in_ranges, created_within, output_within}

@@ -2,14 +2,14 @@
 ghost use Rattle.std.specs.Prelude.{◌≡◌, ℕ, ◌++◌, ◌∷◌, List, [], length, map, replicate, false, Some, IfOk, IfSome, OnOk, OnErr};
 ghost use Rattle.addr_map.specs.declared.map.Row.{Row};
 ghost use Rattle.ub_base.specs.declared.names.Item.TheVariants.{Expose};
-ghost use Rattle.prov_memory.specs.Acts.{Seen, candidates, declared_of, stored_from};
+ghost use Rattle.mem_spec.specs.Acts.{Seen, candidates, declared_of, stored_from};
 ghost use Rattle.prov_memory.specs.Cells.{plain_cell};
 ghost use Rattle.prov_memory.specs.Held.{held_of};
-ghost use Rattle.prov_memory.specs.Store.{with_bytes};
+ghost use Rattle.mem_spec.specs.Store.{with_bytes};
 ghost use Rattle.prov_memory.specs.Stores.{tagged_all};
 ghost use Rattle.prov_memory.specs.Tags.{AreTagged};
-ghost use Rattle.prov_memory.specs.Streams.{Io};
-ghost use Rattle.prov_memory.specs.Script.{Script, run};
+ghost use Rattle.mem_spec.specs.Streams.{Io};
+ghost use Rattle.mem_spec.specs.Script.{Script, run};
 ghost use Rattle.prov_memory.specs.Memory.{AreKnown, CellsKnown, life_in, store_of};
 ghost use Rattle.libc_spec.specs.Library.{LibValue};
 ghost use Rattle.libc_model.specs.Seen.{value_seen};

@@ -3,9 +3,9 @@ ghost use Rattle.std.specs.Prelude.{◌≡◌, ◌≢◌, ℕ, ◌<◌, ◌≤�
 ghost use Rattle.c_types.specs.declared.library.LibFunc.TheVariants.{Malloc, Free, Getchar, Putchar, Puts, Exit, Abort, Printf};
 ghost use Rattle.ub_base.specs.declared.clause.Cause.TheVariants.{Output};
 ghost use Rattle.addr_map.specs.declared.map.Row.{Row};
-ghost use Rattle.prov_memory.specs.Script.{Script, run};
+ghost use Rattle.mem_spec.specs.Script.{Script, run};
 ghost use Rattle.prov_memory.specs.Memory.{Kept, AreKnown, HasCell, store_of};
-ghost use Rattle.prov_memory.specs.Streams.{Io};
+ghost use Rattle.mem_spec.specs.Streams.{Io};
 ghost use Rattle.prov_memory.specs.declared.answer.LibAnswer.TheVariants as answers;
 ghost use Rattle.libc_spec.specs.Library.{LibValue, called, byte_or_end, integer_in, argument_at};
 ghost use Rattle.ub_base.specs.declared.names.Event.{Event};

@@ -6,14 +6,14 @@ ghost use Rattle.ub_base.specs.declared.names.Item.TheVariants.{Read, Born, Aliv
 ghost use Rattle.exposure.specs.declared.prov.Prov.TheVariants.{Whole, Either};
 ghost use Rattle.exposure.specs.Cells.{has_cell, kept_in, is_other};
 ghost use Rattle.prov_memory.specs.declared.answer.LibAnswer.TheVariants as answers;
-ghost use Rattle.prov_memory.specs.Acts.{Seen, create, base_in, size_in, stored_from};
+ghost use Rattle.mem_spec.specs.Acts.{Seen, create, base_in, size_in, stored_from};
 ghost use Rattle.prov_memory.specs.Held.{held_of};
 ghost use Rattle.prov_memory.specs.Memory.{AreKnown, CellsKnown, HasCell, IsBorn, life_in, store_of};
 ghost use Rattle.prov_memory.specs.Made.{CanSettle, after_settling, settling_items};
-ghost use Rattle.prov_memory.specs.Script.{run};
-ghost use Rattle.prov_memory.specs.Store.{Store, with_bytes};
+ghost use Rattle.mem_spec.specs.Script.{run};
+ghost use Rattle.mem_spec.specs.Store.{Store, with_bytes};
 ghost use Rattle.prov_memory.specs.Stores.{Sees, IsShort, tagged_all};
-ghost use Rattle.prov_memory.specs.Streams.{Io};
+ghost use Rattle.mem_spec.specs.Streams.{Io};
 ghost use Rattle.addr_map.specs.Rows.{row_of};
 ghost use Rattle.addr_map.specs.Sound.{Above};
 ghost use Rattle.c_types.specs.declared.library.LibFunc.TheVariants.{Calloc, Realloc};

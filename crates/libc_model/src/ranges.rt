@@ -4,9 +4,9 @@ ghost use Rattle.std.specs.Prelude.{◌≡◌, ◌++◌, ◌||◌, [], length, t
 ghost use Rattle.ub_base.specs.declared.names.Event.{Event};
 ghost use Rattle.ub_base.specs.declared.clause.Clause.TheVariants.{MemcpyOverlap};
 ghost use Rattle.c_types.specs.declared.library.LibFunc.TheVariants.{Memset, Memcmp};
-ghost use Rattle.prov_memory.specs.Acts.{declared_of, retagged};
+ghost use Rattle.mem_spec.specs.Acts.{declared_of, retagged};
 ghost use Rattle.prov_memory.specs.Held.{held_of};
-ghost use Rattle.prov_memory.specs.Streams.{Io};
+ghost use Rattle.mem_spec.specs.Streams.{Io};
 ghost use Rattle.prov_memory.specs.Memory.{AreKnown, CellsKnown, HasCell, life_in, store_of};
 ghost use Rattle.prov_memory.specs.Stores.{tagged_all};
 ghost use Rattle.prov_memory.specs.Tags.{AreTagged};

@@ -4,7 +4,7 @@ ghost use Rattle.std.specs.Prelude.{◌≡◌, ◌==◌, [], length, false, IfOk
 ghost use Rattle.std.specs.List.{position};
 ghost use Rattle.ub_base.specs.declared.names.Event.{Event};
 ghost use Rattle.c_types.specs.declared.library.LibFunc.TheVariants.{Strlen, Strcpy, Strcmp, Strchr};
-ghost use Rattle.prov_memory.specs.Streams.{Io};
+ghost use Rattle.mem_spec.specs.Streams.{Io};
 ghost use Rattle.prov_memory.specs.Memory.{AreKnown, HasCell, store_of};
 ghost use Rattle.libc_spec.specs.Library.{called, strlen, strcmp, strchr};
 ghost use Rattle.libc_model.specs.Seen.{value_seen, values_seen};

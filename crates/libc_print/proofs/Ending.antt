@@ -11,9 +11,9 @@ use Rattle.exposure.specs.Cells.{Cells}
 use Rattle.prov_memory.specs.declared.value.Value.TheVariants.{Int}
 use Rattle.prov_memory.specs.declared.answer.LibAnswer.{LibAnswer}
 use Rattle.prov_memory.specs.declared.answer.LibAnswer.TheVariants as answers
-use Rattle.prov_memory.specs.Store.{Store}
-use Rattle.prov_memory.specs.Script.{Script, ◌>>=◌, Act, Done, Outside, run}
-use Rattle.prov_memory.specs.Streams.{Io}
+use Rattle.mem_spec.specs.Store.{Store}
+use Rattle.mem_spec.specs.Script.{Script, ◌>>=◌, Act, Done, Outside, run}
+use Rattle.mem_spec.specs.Streams.{Io}
 use Rattle.prov_memory.specs.Memory.{Kept, store_of}
 use Rattle.libc_spec.specs.Library.{LibValue, number, pointer, pointer_in, address_in, prov_in, argument_at, text, read_numbers, joined, output_within}
 use Rattle.libc_spec.specs.Print.{Argument, printf}
@@ -88,7 +88,7 @@ print_gives m new io out is js bs script within fits g more put rows settled =
     let size : length (io.output ++ bs) ≤ 2 ^ 24 = omega (arith, fits, length-append io.output bs) in
     subst (λ (act : Act LibValue). Answers (answers.Value (Int (pos (length bs)))) js (store_of new out) (limited act)) (sym (prints m new.rows io is bs script rows g))
     (answers_of (Ok (Int (pos (length bs)))) js (store_of new out) (Done (number (pos (length bs))) (joined (g.items ++ Output ∷ [])) (wrote (after is (store_of m io)) bs))
-    (subst (λ (o : Io). o.position ≤ length o.input) (sym put) within.taken) (subst (λ (o : Io). length o.output ≤ 2 ^ 24) (sym put) size) (refl, items, store))
+    (subst (λ (o : Io). length o.output ≤ 2 ^ 24) (sym put) size) (refl, items, store))
 
 -- the output would pass its limit
 past_split : (b : Bool) (n : ℕ) (e : LibAnswer) (r : Result (Unit {0}) LibAnswer) → r ≡ Err e → r ≡ cond b (Err (answers.Outside PastOutput n)) (Ok tt) → (b ≡ true) × (e ≡ answers.Outside PastOutput n)

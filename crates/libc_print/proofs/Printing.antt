@@ -6,8 +6,8 @@ use Rattle.addr_map.specs.declared.map.Row.{Row}
 use Rattle.exposure.specs.declared.prov.Prov.{Prov}
 use Rattle.prov_memory.specs.declared.answer.LibAnswer.{LibAnswer}
 use Rattle.prov_memory.specs.declared.answer.LibAnswer.TheVariants as answers
-use Rattle.prov_memory.specs.Script.{Script, ◌>>=◌, Act, Outside, touched, run}
-use Rattle.prov_memory.specs.Streams.{Io}
+use Rattle.mem_spec.specs.Script.{Script, ◌>>=◌, Act, Outside, touched, run}
+use Rattle.mem_spec.specs.Streams.{Io}
 use Rattle.prov_memory.specs.Memory.{Kept, store_of}
 use Rattle.libc_spec.specs.Library.{Text, text, read_numbers, without_zero}
 use Rattle.libc_spec.specs.Print.{Argument, text_of}

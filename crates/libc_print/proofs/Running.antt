@@ -10,10 +10,10 @@ use Rattle.exposure.specs.declared.prov.Prov.{Prov}
 use Rattle.exposure.specs.Cells.{Cells}
 use Rattle.prov_memory.specs.declared.answer.LibAnswer.{LibAnswer}
 use Rattle.prov_memory.specs.declared.answer.LibAnswer.TheVariants as answers
-use Rattle.prov_memory.specs.Store.{Store}
-use Rattle.prov_memory.specs.Script.{Script, Give, Raise as RaiseOf, Exceed, ◌>>=◌, Done, Raised, Outside as ActOutside, touched, run}
-use Rattle.prov_memory.specs.Acts.{candidates, show_each, expose}
-use Rattle.prov_memory.specs.Streams.{Io}
+use Rattle.mem_spec.specs.Store.{Store}
+use Rattle.mem_spec.specs.Script.{Script, Give, Raise as RaiseOf, Exceed, ◌>>=◌, Done, Raised, Outside as ActOutside, touched, run}
+use Rattle.mem_spec.specs.Acts.{candidates, show_each, expose}
+use Rattle.mem_spec.specs.Streams.{Io}
 use Rattle.prov_memory.specs.Memory.{Kept, store_of}
 use Rattle.libc_spec.specs.Library.{Text, text, read_numbers, without_zero, joined}
 use Rattle.libc_spec.specs.Directives as directives

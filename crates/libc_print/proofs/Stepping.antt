@@ -3,7 +3,7 @@ use Rattle.std.proofs.Common.{◌≡◌, ℕ, suc, ◌+◌, ◌-◌, ◌≤◌, 
 use Rattle.std.proofs.lemmas.Bool.{ne_eqb}
 use Rattle.std.proofs.lemmas.List.{length-drop}
 use Rattle.addr_map.specs.declared.map.Row.{Row}
-use Rattle.prov_memory.specs.Script.{Script, Give, ◌>>=◌}
+use Rattle.mem_spec.specs.Script.{Script, Give, ◌>>=◌}
 use Rattle.libc_spec.specs.Directives as directives
 use Rattle.libc_spec.specs.Directives.{directive_of, form, Form, taken, left_out, invalid}
 use Rattle.libc_spec.specs.Print.{Argument, Taken, Step, put_formed, step_by, step}

@@ -3,7 +3,7 @@ use Rattle.std.proofs.Common.{◌≡◌, ℕ, zero, suc, ◌+◌, ◌-◌, ◌/�
 use Rattle.std.proofs.lemmas.Bool.{ne_eqb}
 use Rattle.std.proofs.lemmas.List.{append-nil, replicate-append-replicate, reverse-append}
 use Rattle.ub_base.specs.declared.clause.Clause.{Clause}
-use Rattle.prov_memory.specs.Script.{Script, Give, Raise as RaiseOf, Exceed, ◌>>=◌}
+use Rattle.mem_spec.specs.Script.{Script, Give, Raise as RaiseOf, Exceed, ◌>>=◌}
 use Rattle.libc_spec.specs.Directives.{Flags}
 use Rattle.libc_spec.specs.Print.{Argument, Taken, integer_parts, Field, field, one, digit, digits_by}
 use Rattle.libc_print.specs.declared.refusal.Refusal.{Refusal}

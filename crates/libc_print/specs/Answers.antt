@@ -5,7 +5,7 @@ use Rattle.ub_base.specs.declared.clause.Clause.TheVariants.{Conversion}
 use Rattle.ub_base.specs.declared.clause.Cause.TheVariants.{Directive as PastDirective}
 use Rattle.prov_memory.specs.declared.answer.LibAnswer.{LibAnswer}
 use Rattle.prov_memory.specs.declared.answer.LibAnswer.TheVariants as answers
-use Rattle.prov_memory.specs.Script.{Script, Give, Raise as RaiseOf, Exceed}
+use Rattle.mem_spec.specs.Script.{Script, Give, Raise as RaiseOf, Exceed}
 use Rattle.libc_spec.specs.Directives as directives
 use Rattle.libc_spec.specs.Directives.{form}
 use Rattle.libc_spec.specs.Print.{Argument, Taken, Step}

@@ -1,6 +1,6 @@
 -- A whole call of printf, against its definition.
 use Rattle.std.specs.Prelude.{ℕ, List, length, pos}
-use Rattle.prov_memory.specs.Script.{Print, Script, Give, touch, ◌>>=◌, ◌>>◌, Act}
+use Rattle.mem_spec.specs.Script.{Print, Script, Give, touch, ◌>>=◌, ◌>>◌, Act}
 use Rattle.libc_spec.specs.Library.{LibValue, number, in_ranges, output_within}
 
 -- bytes are printed and counted

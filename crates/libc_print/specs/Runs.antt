@@ -3,11 +3,11 @@ use Rattle.std.specs.Prelude.{◌≡◌, ℕ, ◌++◌, length, false, List, Res
 use Rattle.ub_base.specs.declared.names.Item.{Item}
 use Rattle.prov_memory.specs.declared.answer.LibAnswer.{LibAnswer}
 use Rattle.prov_memory.specs.declared.answer.LibAnswer.TheVariants as answers
-use Rattle.prov_memory.specs.Streams.{Io}
+use Rattle.mem_spec.specs.Streams.{Io}
 use Rattle.prov_memory.specs.Memory.{Kept, store_of}
 use Rattle.addr_map.specs.declared.map.Row.{Row}
 use Rattle.exposure.specs.declared.prov.Prov.{Prov}
-use Rattle.prov_memory.specs.Script.{Script, ◌>>=◌, Raised, Outside, run}
+use Rattle.mem_spec.specs.Script.{Script, ◌>>=◌, Raised, Outside, run}
 use Rattle.libc_model.specs.Parts.{Gives, after}
 use Rattle.libc_spec.specs.Library.{text, read_numbers, without_zero}
 use Rattle.libc_spec.specs.Print.{Argument, Taken, Step, text_of}

@@ -2,9 +2,9 @@
 use Rattle.std.specs.Prelude.{ℕ, zero, suc, min, List, Option, Some, None, if◌then◌else◌}
 use Rattle.addr_map.specs.declared.map.Row.{Row}
 use Rattle.exposure.specs.declared.prov.Prov.{Prov}
-use Rattle.prov_memory.specs.Store.{TaggedByte}
-use Rattle.prov_memory.specs.Script.{Script, ◌>>=◌}
-use Rattle.prov_memory.specs.Acts.{argument}
+use Rattle.mem_spec.specs.Store.{TaggedByte}
+use Rattle.mem_spec.specs.Script.{Script, ◌>>=◌}
+use Rattle.mem_spec.specs.Acts.{argument}
 use Rattle.libc_spec.specs.Library.{is_zero}
 use Rattle.libc_spec.specs.Print.{bounded_from}
 use Rattle.libc_model.specs.Parts.{one_more}

@@ -12,8 +12,8 @@ ghost use Rattle.libc_print.specs.Seen.{directive_seen, width_seen, left, typed}
 ghost use Rattle.libc_print.specs.Answers.{Puts, IsFormed, is_pointed};
 ghost use Rattle.libc_print.specs.Runs.{Prints, printed_text, Adds, directive_bytes, step_bytes};
 ghost use Rattle.libc_print.specs.Calls.{printing, limited};
-ghost use Rattle.prov_memory.specs.Script.{Script, run};
-ghost use Rattle.prov_memory.specs.Streams.{Io};
+ghost use Rattle.mem_spec.specs.Script.{Script, run};
+ghost use Rattle.mem_spec.specs.Streams.{Io};
 ghost use Rattle.prov_memory.specs.Memory.{Kept, HasCell, AreKnown, store_of};
 
 use crate::directive::{Directive, Form, behind, directive_of};

@@ -17,10 +17,10 @@ use Rattle.exposure.specs.declared.prov.Prov.{Prov}
 use Rattle.exposure.specs.declared.prov.Prov.TheVariants.{Empty, Whole, Either}
 use Rattle.c_types.specs.declared.library.LibFunc.{LibFunc}
 use Rattle.c_types.specs.declared.library.LibFunc.TheVariants.{Malloc, Calloc, Realloc, Free, Memcpy, Memmove, Memset, Memcmp, Strlen, Strcpy, Strcmp, Strchr, Getchar, Putchar, Puts, Printf, Exit, Abort}
-use Rattle.prov_memory.specs.declared.object.ObjKind.{ObjKind}
-use Rattle.prov_memory.specs.Store.{Byte, written, TaggedByte, Life, Store}
-use Rattle.prov_memory.specs.Script.{Ask, Get, Put, Bury, Settle, Take, Print, Script, Give, Raise, Finish, touch, require, ◌>>=◌, ◌>>◌, Act, Done, Raised, Outside, run}
-use Rattle.prov_memory.specs.Acts.{Accessed, argument, check_writable, copy_between, create, declared_of, stored_from, bytes, all_written, number_in, show_pieces, size_in, base_in}
+use Rattle.mem_spec.specs.declared.kind.ObjKind.{ObjKind}
+use Rattle.mem_spec.specs.Store.{Byte, written, TaggedByte, Life, Store}
+use Rattle.mem_spec.specs.Script.{Ask, Get, Put, Bury, Settle, Take, Print, Script, Give, Raise, Finish, touch, require, ◌>>=◌, ◌>>◌, Act, Done, Raised, Outside, run}
+use Rattle.mem_spec.specs.Acts.{Accessed, argument, check_writable, copy_between, create, declared_of, stored_from, bytes, all_written, number_in, show_pieces, size_in, base_in}
 
 -- an argument, or what a function gives
 pub data LibValue : Type 0 where

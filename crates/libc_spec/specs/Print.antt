@@ -10,9 +10,9 @@ use Rattle.ub_base.specs.declared.clause.Cause.TheVariants.{Conversion as PastCo
 use Rattle.ub_base.specs.declared.names.ObjName.{ObjName}
 use Rattle.addr_map.specs.declared.map.Row.{Row}
 use Rattle.addr_map.specs.Rows.{row_of}
-use Rattle.prov_memory.specs.Store.{TaggedByte, Store}
-use Rattle.prov_memory.specs.Script.{Get, Print, Script, Give, Raise, Exceed, touch, require, ◌>>=◌, ◌>>◌, Act, run}
-use Rattle.prov_memory.specs.Acts.{Accessed, argument, expose, size_in}
+use Rattle.mem_spec.specs.Store.{TaggedByte, Store}
+use Rattle.mem_spec.specs.Script.{Get, Print, Script, Give, Raise, Exceed, touch, require, ◌>>=◌, ◌>>◌, Act, run}
+use Rattle.mem_spec.specs.Acts.{Accessed, argument, expose, size_in}
 use Rattle.libc_spec.specs.Library.{LibValue, number, pointer_in, address_in, prov_in, integer_in, low_byte, read_numbers, without_zero, text, ends_in_zero, in_ranges, output_within}
 use Rattle.libc_spec.specs.Directives.{Flags, Count, absent, count, Length, hh, h, l, ll, j, z, t, Directive, most, directive_of, Form, taken, left_out, invalid, form, is_in}
 use Rattle.libc_spec.specs.Directives as directives

@@ -14,8 +14,8 @@ use Rattle.c_types.specs.declared.kind.IntKind.{IntKind}
 use Rattle.c_types.specs.declared.kind.IntKind.TheVariants.{Char, Int, UInt, Long, ULong}
 use Rattle.c_types.specs.Types.{CType, void, int}
 use Rattle.c_types.specs.Types as types
-use Rattle.prov_memory.specs.Store.{TaggedByte, fresh, Life, Store}
-use Rattle.prov_memory.specs.Script.{Act, Done, Raised, Outside}
+use Rattle.mem_spec.specs.Store.{TaggedByte, fresh, Life, Store}
+use Rattle.mem_spec.specs.Script.{Act, Done, Raised, Outside}
 use Rattle.libc_spec.specs.Library.{LibValue, number, pointer, plain}
 use Rattle.libc_spec.specs.Print.{Argument, printed_by}
 

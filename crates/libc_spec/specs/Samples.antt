@@ -12,8 +12,8 @@ use Rattle.addr_map.specs.declared.map.Row.{Row}
 use Rattle.exposure.specs.declared.prov.Prov.TheVariants.{Whole}
 use Rattle.c_types.specs.declared.library.LibFunc.{LibFunc}
 use Rattle.c_types.specs.declared.library.LibFunc.TheVariants.{Malloc, Free, Memcpy, Memset, Strlen, Strcpy, Strcmp, Strchr, Getchar, Putchar, Puts, Exit}
-use Rattle.prov_memory.specs.Store.{TaggedByte, fresh, Life, Store}
-use Rattle.prov_memory.specs.Script.{Act, Done, Raised, Ended}
+use Rattle.mem_spec.specs.Store.{TaggedByte, fresh, Life, Store}
+use Rattle.mem_spec.specs.Script.{Act, Done, Raised, Ended}
 use Rattle.libc_spec.specs.Library.{LibValue, number, pointer, null, plain, called}
 
 -- static 0 has "ab" in four bytes, the last of them unwritten, at 16777216; static 1 has two bytes without a zero, const, at 16777248

@@ -15,11 +15,11 @@ use Rattle.parse_spec.specs.Specifiers.{enumerator_value, one_enumerator}
 use Rattle.parse_spec.specs.Steps.{identifier}
 use Rattle.parse_spec.proofs.Adding.{pure_adds, bind_adds, if_adds, eat_adds}
 use Rattle.parse_spec.proofs.AddingRules.{identifier_adds, enumerator_value_adds, expr_adds, declarator_adds, specs_adds}
-use Rattle.c_cursor.specs.Declarations.{declared_at}
-use Rattle.c_cursor.specs.declared.refusal.Refusal.{Refusal}
+use Rattle.parse_cursor.specs.Declarations.{declared_at}
+use Rattle.parse_cursor.specs.declared.refusal.Refusal.{Refusal}
 use Rattle.parse_nodes.specs.Behind.{held}
-use Rattle.tree_names.proofs.Reading.{given}
-use Rattle.tree_names.proofs.Tokens.{identifier_reads, kind_within}
+use Rattle.parse_names.proofs.Reading.{given}
+use Rattle.parse_names.proofs.Tokens.{identifier_reads, kind_within}
 
 name_within : (depth : ℕ) (i j k : Input) (n : ℕ) (v : Option Expr) → identifier i ≡ Some (n, j)
     → enumerator_value (expr depth) (declarator depth) (specs depth) j ≡ Some (v, k) → n < length k.tokens.list

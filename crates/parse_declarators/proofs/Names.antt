@@ -13,11 +13,11 @@ use Rattle.c_ast.specs.Input.{Input, declared}
 use Rattle.c_grammar.specs.Grammar.{Mode, Either, name_of}
 use Rattle.parse_spec.specs.Nested.{declarator}
 use Rattle.parse_spec.specs.Steps.{declare}
-use Rattle.c_cursor.specs.Reads.{Reads}
-use Rattle.c_cursor.specs.declared.refusal.Refusal.{Refusal}
-use Rattle.c_cursor.specs.declared.refusal.Refusal.TheVariants.{NoMemory}
+use Rattle.parse_cursor.specs.Reads.{Reads}
+use Rattle.parse_cursor.specs.declared.refusal.Refusal.{Refusal}
+use Rattle.parse_cursor.specs.declared.refusal.Refusal.TheVariants.{NoMemory}
 use Rattle.parse_nodes.specs.Behind.{held}
-use Rattle.tree_names.proofs.Declarators.{declarator_names, declarator_name_within}
+use Rattle.parse_names.proofs.Declarators.{declarator_names, declarator_name_within}
 use Rattle.parse_declarators.specs.Naming.{named_at}
 use Rattle.parse_declarators.specs.Parts.{parameter_declarator}
 

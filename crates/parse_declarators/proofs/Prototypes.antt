@@ -12,10 +12,10 @@ use Rattle.parse_spec.specs.Scopes.{OnlyAdds}
 use Rattle.parse_spec.specs.Steps.{Parser, turns, sees}
 use Rattle.parse_spec.proofs.Adding.{pure_adds, refuse_adds, bind_adds, then_adds, if_adds, here_adds, eat_adds, declares_adds}
 use Rattle.parse_spec.proofs.AddingRules.{declarator_adds, specs_adds}
-use Rattle.c_cursor.specs.Declarations.{IsWithin, with_prototype}
-use Rattle.c_cursor.specs.Reads.{Reads}
-use Rattle.c_cursor.specs.declared.refusal.Refusal.{Refusal}
-use Rattle.c_cursor.specs.declared.scope.Declared.{Declared}
+use Rattle.parse_cursor.specs.Declarations.{IsWithin, with_prototype}
+use Rattle.parse_cursor.specs.Reads.{Reads}
+use Rattle.parse_cursor.specs.declared.refusal.Refusal.{Refusal}
+use Rattle.parse_cursor.specs.declared.scope.Declared.{Declared}
 
 tokens_stay : {A : Type 0} (p : Parser A) (i j : Input) (r : Result A Refusal) (a : A) → OnlyAdds p → Reads (p i) r j → r ≡ Ok a → j.tokens ≡ i.tokens
 tokens_stay p i j (Ok b) a g h is = (g.adds i j b h).tokens

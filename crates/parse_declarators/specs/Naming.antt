@@ -1,7 +1,7 @@
 -- The name of a declarator comes into scope.
 use Rattle.std.specs.Prelude.{ℕ, Bool, Option, Some, None}
 use Rattle.c_ast.specs.Input.{Input}
-use Rattle.c_cursor.specs.Declarations.{declared_at}
+use Rattle.parse_cursor.specs.Declarations.{declared_at}
 
 -- where there is one, and its number is that of a token
 abbrev pub named_at : Bool → Option ℕ → Input → Input

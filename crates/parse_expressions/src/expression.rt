@@ -3,7 +3,7 @@
 ghost use Rattle.std.specs.Prelude.{◌≡◌, Some, true, IfOk, IfErr};
 ghost use Rattle.c_lex.specs.declared.token.TokenKind.TheVariants as token;
 ghost use Rattle.c_ast.specs.Input.{kind, next};
-ghost use Rattle.c_cursor.specs.Reads.{Reads};
+ghost use Rattle.parse_cursor.specs.Reads.{Reads};
 ghost use Rattle.parse_nodes.specs.Nests.{NestsExpr, NestsDeclarator, NestsSpecs};
 ghost use Rattle.parse_spec.specs.Expressions as spec;
 ghost use Rattle.parse_spec.specs.Expressions.{made};
@@ -13,13 +13,13 @@ ghost use Rattle.parse_expressions.specs.Branches as conditional;
 
 use crate::nested::Expressions;
 use c_ast::{AssignOp, BinaryOp, Declarator, Expr, ExprNode, PostOp, Specs, TypeName, UnaryOp};
-use c_cursor::operators::{
+use c_lex::{Mark, TokenKind, Word};
+use parse_cursor::operators::{
     ASSIGNMENT, CAST, COMMA, CONDITIONAL, POSTFIX, UNARY, assign_op, binary_op, operand_level,
     right_level_of, unary_op,
 };
-use c_cursor::tokens::{begins_type_after, identifier, strings};
-use c_cursor::{Cursor, Mode, Place, Refusal};
-use c_lex::{Mark, TokenKind, Word};
+use parse_cursor::tokens::{begins_type_after, identifier, strings};
+use parse_cursor::{Cursor, Mode, Place, Refusal};
 use parse_nodes::behind::{before, kept, pushed, with};
 use parse_nodes::make;
 use std::alloc::Global;

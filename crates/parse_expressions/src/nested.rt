@@ -1,13 +1,13 @@
 //! The parsers that the rules nest in one another.
 
 ghost use Rattle.std.specs.Prelude.{◌≡◌, Some, None};
-ghost use Rattle.c_cursor.specs.Places.{mode_of, allowed_in};
-ghost use Rattle.c_cursor.specs.Reads.{Reads};
+ghost use Rattle.parse_cursor.specs.Places.{mode_of, allowed_in};
+ghost use Rattle.parse_cursor.specs.Reads.{Reads};
 ghost use Rattle.parse_nodes.specs.Nests.{NestsExpr, NestsDeclarator, NestsSpecs};
 ghost use Rattle.parse_spec.specs.Nested as nested;
 
 use c_ast::{Declarator, Expr, Specs};
-use c_cursor::{Cursor, Mode, Place, Refusal};
+use parse_cursor::{Cursor, Mode, Place, Refusal};
 use std::alloc::Global;
 
 /// The rules take the parsers that lead back to them as parameters, so that each is proved by itself.

@@ -2,7 +2,7 @@
 use Rattle.std.specs.Prelude.{Result, Ok, Err}
 use Rattle.c_lex.specs.declared.token.Mark.{Mark as AMark}
 use Rattle.parse_spec.specs.Steps.{Parser, ◌>>◌, pure, expect}
-use Rattle.c_cursor.specs.declared.refusal.Refusal.{Refusal}
+use Rattle.parse_cursor.specs.declared.refusal.Refusal.{Refusal}
 
 abbrev pub paired : {A B : Type 0} → A → Result B Refusal → Result (A × B) Refusal
 paired a (Ok b) = Ok (a, b)

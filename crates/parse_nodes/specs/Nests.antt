@@ -9,11 +9,11 @@ use Rattle.c_ast.specs.declared.statement.Stmt.{Stmt}
 use Rattle.c_ast.specs.Input.{Input}
 use Rattle.parse_spec.specs.Nested.{expr, declarator, specs}
 use Rattle.parse_spec.specs.Statements.{statement}
-use Rattle.c_cursor.specs.Places.{mode_of, allowed_in}
-use Rattle.c_cursor.specs.Reads.{Reads}
-use Rattle.c_cursor.specs.declared.place.Mode.{Mode}
-use Rattle.c_cursor.specs.declared.place.Place.{Place}
-use Rattle.c_cursor.specs.declared.refusal.Refusal.{Refusal}
+use Rattle.parse_cursor.specs.Places.{mode_of, allowed_in}
+use Rattle.parse_cursor.specs.Reads.{Reads}
+use Rattle.parse_cursor.specs.declared.place.Mode.{Mode}
+use Rattle.parse_cursor.specs.declared.place.Place.{Place}
+use Rattle.parse_cursor.specs.declared.refusal.Refusal.{Refusal}
 
 pub record NestsExpr (depth : ℕ) (pre : Global → MutBor Input → ℕ → ℕ → Type 0)
     (post : Global → MutBor Input → ℕ → ℕ → Result Expr Refusal → MutBor Input → Type 0) : Type 0 where

@@ -2,11 +2,11 @@
 //! since each kind of node is a case there.
 
 ghost use Rattle.std.specs.Prelude.{◌≡◌, ◌++◌, ◌∷◌, [], Err, IfOk, IfErr};
-ghost use Rattle.c_cursor.specs.Reads.{Reads};
+ghost use Rattle.parse_cursor.specs.Reads.{Reads};
 ghost use Rattle.parse_nodes.specs.Behind.{paired, held, followed};
 
-use c_cursor::{Cursor, Refusal};
 use c_lex::Mark;
+use parse_cursor::{Cursor, Refusal};
 use ub_base::Items;
 
 /// The value, and what was read behind it.

@@ -13,11 +13,11 @@ use Rattle.addr_map.specs.Rows.{row_of}
 use Rattle.exposure.specs.declared.prov.Prov.{Prov}
 use Rattle.exposure.specs.declared.prov.Prov.TheVariants.{Either}
 use Rattle.exposure.specs.Cells.{kept_in, is_other}
-use Rattle.prov_memory.specs.Store.{Store, Life, settled, is_live}
-use Rattle.prov_memory.specs.Script.{Script, Give, Raise, Finish, Exceed, Misplace, Do, Touch, Ask, Get, Put, Bear, Bury, Show, Find, Settle, Take, Print, Act, Done, Raised, Ended, Outside, Unplaced, run, touched, refused, refuses, answer, left, item_of, touch, ◌>>=◌, ◌>>◌}
+use Rattle.mem_spec.specs.Store.{Store, Life, settled, is_live}
+use Rattle.mem_spec.specs.Script.{Script, Give, Raise, Finish, Exceed, Misplace, Do, Touch, Ask, Get, Put, Bear, Bury, Show, Find, Settle, Take, Print, Act, Done, Raised, Ended, Outside, Unplaced, run, touched, refused, refuses, answer, left, item_of, touch, ◌>>=◌, ◌>>◌}
 use Rattle.prov_memory.specs.declared.memory.access.Accessed.{Accessed as Found}
-use Rattle.prov_memory.specs.Acts.{Accessed, in_row, offset_in, is_aligned, object_of, access}
-use Rattle.prov_memory.specs.Streams.{Io}
+use Rattle.mem_spec.specs.Acts.{Accessed, in_row, offset_in, is_aligned, object_of, access}
+use Rattle.mem_spec.specs.Streams.{Io}
 use Rattle.prov_memory.specs.Held.{Held, held_of, has_range, name_at}
 use Rattle.prov_memory.proofs.HeldLemmas.{named_at}
 use Rattle.prov_memory.specs.Memory.{Kept, store_of, life_in, IsRowOf}

@@ -15,7 +15,7 @@ use Rattle.exposure.specs.declared.prov.Prov.TheVariants.{Empty, Whole}
 use Rattle.c_types.specs.Types.{type_of}
 use Rattle.c_types.specs.Shapes.{form_of}
 use Rattle.c_types.specs.declared.shape.Shape.{Shape}
-use Rattle.prov_memory.specs.declared.object.ObjKind.{ObjKind}
+use Rattle.mem_spec.specs.declared.kind.ObjKind.{ObjKind}
 use Rattle.prov_memory.specs.declared.cell.Origin.{Origin}
 use Rattle.prov_memory.specs.declared.cell.State.{State}
 use Rattle.prov_memory.specs.declared.cell.State.TheVariants as states
@@ -24,10 +24,10 @@ use Rattle.std.specs.Bool.{OnTrue}
 use Rattle.ub_base.specs.declared.names.Event.{Event}
 use Rattle.c_types.specs.declared.ty.Ty.{Ty}
 use Rattle.prov_memory.specs.declared.cell.Cell.{Cell}
-use Rattle.prov_memory.specs.Store.{Store, Byte, written, TaggedByte, fresh, with_bytes, born, settled}
-use Rattle.prov_memory.specs.Script.{Done, run}
-use Rattle.prov_memory.specs.Acts.{candidates, expose, kill, unwrite, size_in, create, has_place, base_in}
-use Rattle.prov_memory.specs.Streams.{Io}
+use Rattle.mem_spec.specs.Store.{Store, Byte, written, TaggedByte, fresh, with_bytes, born, settled}
+use Rattle.mem_spec.specs.Script.{Done, run}
+use Rattle.mem_spec.specs.Acts.{candidates, expose, kill, unwrite, size_in, create, has_place, base_in}
+use Rattle.mem_spec.specs.Streams.{Io}
 use Rattle.prov_memory.specs.Cells.{no_cell, cell_at, byte_in_state, tag_in, tagged_in, prov_numbered}
 use Rattle.prov_memory.specs.Held.{Held, held_of, changed, emptied, killed, uncovered, Fits}
 use Rattle.prov_memory.specs.Memory.{Kept, store_of, life_in, is_shown, tagged_in_object, IsRowOf, HaveRows, uncovered_each, CellsKnown, ObjectsKnown, AreKnown, newborn, IsBorn}

@@ -3,11 +3,12 @@ use Rattle.std.proofs.Common.{◌≡◌, ℕ, suc, zero, ◌-◌, ◌<◌, ◌�
 use Rattle.std.specs.Prelude.{◌==◌, ◌/◌, ◌%◌, ◌↔◌, IsTrue, nat_lt, nat_le, slice_get, option_map}
 use Rattle.std.proofs.lemmas.Bool.Decides.{nat_tests}
 use Rattle.c_types.specs.declared.kind.IntKind.{IntKind}
-use Rattle.c_types.specs.declared.kind.IntKind.TheVariants as kinds
-use Rattle.c_types.specs.Types.{CType, type_of, void, int, enumeration, pointer, array, struct, union, function, Params, none, more, Matches, EachMatches, SizesAgree, Agrees, kind_of, are_forms, is_character}
+use Rattle.c_types.specs.Types.{CType, type_of, int, Agrees, is_character}
 use Rattle.c_types.specs.Shapes.{Form, leaf, repeat, parts, Forms, LeafAgrees, SomeAgrees, Suits}
 use Rattle.c_types.specs.Shapes as shapes
-use Rattle.prov_memory.specs.Agreement.{number_of_kind, same_bool, same_sizes, matches, each_matches, agrees, leaf_agrees, some_agrees, suits_form}
+use Rattle.c_types.specs.Same.{agrees}
+use Rattle.c_types.proofs.SameTests.{agrees_tells}
+use Rattle.mem_spec.specs.Agreement.{leaf_agrees, some_agrees, suits_form}
 use Rattle.c_types.specs.declared.ty.Ty.{Ty}
 use Rattle.prov_memory.specs.Cells.{kind_numbered, integer_or}
 use Rattle.prov_memory.specs.Memory.{Kept}
@@ -47,117 +48,11 @@ number_is m n e = grind (arith, nat_tests)
 number_same : (m n : ℕ) → m ≡ n → (m == n) ≡ true
 number_same m n e = grind (arith, nat_tests)
 
-kind_back : (k : IntKind) → kind_numbered (number_of_kind k) ≡ Some k
-kind_back kinds.Bool = refl
-kind_back kinds.Char = refl
-kind_back kinds.SChar = refl
-kind_back kinds.UChar = refl
-kind_back kinds.Short = refl
-kind_back kinds.UShort = refl
-kind_back kinds.Int = refl
-kind_back kinds.UInt = refl
-kind_back kinds.Long = refl
-kind_back kinds.ULong = refl
-kind_back kinds.LLong = refl
-kind_back kinds.ULLong = refl
-
-some_is : (a b : IntKind) → Some a ≡ Some b → a ≡ b
-some_is a b h = cc
-
-kind_is : (j k : IntKind) → (number_of_kind j == number_of_kind k) ≡ true → j ≡ k
-kind_is j k e = some_is j k (sym (kind_back j) ∙ ap kind_numbered (number_is (number_of_kind j) (number_of_kind k) e) ∙ kind_back k)
-
-kind_same : (j k : IntKind) → j ≡ k → (number_of_kind j == number_of_kind k) ≡ true
-kind_same j k e = number_same (number_of_kind j) (number_of_kind k) (ap number_of_kind e)
-
-int_is : (k : IntKind) → (number_of_kind k == 7) ≡ true → k ≡ kinds.Int
-int_is k e = kind_is k kinds.Int e
-
-int_same : (k : IntKind) → k ≡ kinds.Int → (number_of_kind k == 7) ≡ true
-int_same k e = kind_same k kinds.Int e
-
-bool_is : (c d : Bool) → same_bool c d ≡ true → c ≡ d
-bool_is true true e = refl
-bool_is true false e = absurd (cc)
-bool_is false true e = absurd (cc)
-bool_is false false e = refl
-
-bool_same : (c d : Bool) → c ≡ d → same_bool c d ≡ true
-bool_same true true e = refl
-bool_same true false e = absurd (cc)
-bool_same false true e = absurd (cc)
-bool_same false false e = refl
-
-sizes_are : (m n : Option ℕ) → same_sizes m n ≡ true → SizesAgree m n
-sizes_are (Some m) (Some n) e = number_is m n e
-sizes_are (Some m) None e = tt
-sizes_are None n e = tt
-
-sizes_same : (m n : Option ℕ) → SizesAgree m n → same_sizes m n ≡ true
-sizes_same (Some m) (Some n) e = number_same m n e
-sizes_same (Some m) None e = refl
-sizes_same None n e = refl
-
-mutual
-  matches_is : (a b : CType) → matches a b ≡ true → Matches true a b
-  matches_is void void e = tt
-  matches_is (int j) (int k) e = kind_is j k e
-  matches_is (int k) (enumeration n) e = int_is k e
-  matches_is (enumeration n) (int k) e = int_is k e
-  matches_is (enumeration m) (enumeration n) e = tt
-  matches_is (pointer c a) (pointer d b) e =
-      let p = both (same_bool c d) (matches a b) e in
-      (bool_is c d p.0, matches_is a b p.1)
-  matches_is (array c a m) (array d b n) e =
-      let p = both (same_bool c d) (matches a b && same_sizes m n) e in
-      let q = both (matches a b) (same_sizes m n) p.1 in
-      (bool_is c d p.0, matches_is a b q.0, sizes_are m n q.1)
-  matches_is (struct m) (struct n) e = number_is m n e
-  matches_is (union m) (union n) e = number_is m n e
-  matches_is (function r ps v) (function s qs w) e =
-      let p = both (matches r s) (each_matches ps qs && same_bool v w) e in
-      let q = both (each_matches ps qs) (same_bool v w) p.1 in
-      (matches_is r s p.0, each_is ps qs q.0, bool_is v w q.1)
-  matches_is a b e = absurd (cc)
-
-  each_is : (ps qs : Params) → each_matches ps qs ≡ true → EachMatches true ps qs
-  each_is none none e = tt
-  each_is (more c a ps) (more d b qs) e =
-      let p = both (matches a b) (each_matches ps qs) e in
-      (matches_is a b p.0, each_is ps qs p.1)
-  each_is ps qs e = absurd (cc)
-
-mutual
-  matches_hold : (a b : CType) → Matches true a b → matches a b ≡ true
-  matches_hold void void h = refl
-  matches_hold (int j) (int k) h = kind_same j k h
-  matches_hold (int k) (enumeration n) h = int_same k h
-  matches_hold (enumeration n) (int k) h = int_same k h
-  matches_hold (enumeration m) (enumeration n) h = refl
-  matches_hold (pointer c a) (pointer d b) h = join (same_bool c d) (matches a b) (bool_same c d h.0) (matches_hold a b h.1)
-  matches_hold (array c a m) (array d b n) h =
-      join (same_bool c d) (matches a b && same_sizes m n) (bool_same c d h.0) (join (matches a b) (same_sizes m n) (matches_hold a b h.1) (sizes_same m n h.2))
-  matches_hold (struct m) (struct n) h = number_same m n h
-  matches_hold (union m) (union n) h = number_same m n h
-  matches_hold (function r ps v) (function s qs w) h =
-      join (matches r s) (each_matches ps qs && same_bool v w) (matches_hold r s h.0) (join (each_matches ps qs) (same_bool v w) (each_hold ps qs h.1) (bool_same v w h.2))
-  matches_hold a b h = absurd h
-
-  each_hold : (ps qs : Params) → EachMatches true ps qs → each_matches ps qs ≡ true
-  each_hold none none h = refl
-  each_hold (more c a ps) (more d b qs) h = join (matches a b) (each_matches ps qs) (matches_hold a b h.0) (each_hold ps qs h.1)
-  each_hold ps qs h = absurd h
-
-agreed : (a e : CType) (s : (matches a e ≡ true) ⊎ (are_forms (kind_of a) (kind_of e) ≡ true)) → Agrees a e
-agreed a e (inl m) = inl (matches_is a e m)
-agreed a e (inr f) = inr (true_is (are_forms (kind_of a) (kind_of e)) f)
-
 agrees_is : (a e : CType) → agrees a e ≡ true → Agrees a e
-agrees_is a e t = agreed a e (either (matches a e) (are_forms (kind_of a) (kind_of e)) t)
+agrees_is a e t = (agrees_tells a e).0 t
 
 agrees_hold : (a e : CType) → Agrees a e → agrees a e ≡ true
-agrees_hold a e (inl m) = first_or (matches a e) (are_forms (kind_of a) (kind_of e)) (matches_hold a e m)
-agrees_hold a e (inr f) = second_or (matches a e) (are_forms (kind_of a) (kind_of e)) (is_true (are_forms (kind_of a) (kind_of e)) f)
+agrees_hold a e h = (agrees_tells a e).1 h
 
 same_test : (r t : Bool) → (r ≡ true → t ≡ true) → (t ≡ true → r ≡ true) → r ≡ t
 same_test true true f g = refl
@@ -170,10 +65,6 @@ same_test false true f g = absurd (not_both (g refl))
     not_both : false ≡ true → ⊥
     not_both e = cc
 same_test false false f g = refl
-
--- the test of the types is that of the definitions
-pub agrees_test : (r : Bool) (a e : CType) → (IsTrue r ↔ Agrees a e) → r ≡ agrees a e
-agrees_test r a e h = same_test r (agrees a e) (λ t. agrees_hold a e (h.0 (true_is r t))) (λ t. is_true r (h.1 (agrees_is a e t)))
 
 less_is : (m n : ℕ) → nat_lt m n ≡ true → m < n
 less_is m n e = grind (arith, nat_tests)

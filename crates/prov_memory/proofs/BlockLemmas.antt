@@ -9,10 +9,10 @@ use Rattle.exposure.specs.Cells.{Cells}
 use Rattle.c_types.specs.Shapes.{form_of}
 use Rattle.prov_memory.specs.declared.cell.Cell.{Cell}
 use Rattle.prov_memory.specs.declared.memory.access.Accessed.{Accessed as Found}
-use Rattle.prov_memory.specs.Store.{Store, TaggedByte}
-use Rattle.prov_memory.specs.Script.{Script, Give, Get, Done, Raised, run, touch, ◌>>=◌}
-use Rattle.prov_memory.specs.Acts.{Accessed, access, declared_of, retagged, load_block}
-use Rattle.prov_memory.specs.Streams.{Io}
+use Rattle.mem_spec.specs.Store.{Store, TaggedByte}
+use Rattle.mem_spec.specs.Script.{Script, Give, Get, Done, Raised, run, touch, ◌>>=◌}
+use Rattle.mem_spec.specs.Acts.{Accessed, access, declared_of, retagged, load_block}
+use Rattle.mem_spec.specs.Streams.{Io}
 use Rattle.prov_memory.specs.Held.{Held, held_of}
 use Rattle.prov_memory.specs.Memory.{Kept, HasCell, store_of, life_in}
 use Rattle.prov_memory.specs.Made.{CanSettle, after_settling, settling_items}

@@ -13,10 +13,10 @@ use Rattle.addr_map.specs.declared.map.Row.{Row}
 use Rattle.exposure.specs.declared.prov.Prov.{Prov}
 use Rattle.exposure.specs.declared.prov.Prov.TheVariants.{Empty, Whole, Either}
 use Rattle.exposure.specs.Cells.{Cells, kept_in, has_cell, is_other}
-use Rattle.prov_memory.specs.Store.{Store, settled}
-use Rattle.prov_memory.specs.Script.{Act, Done, Raised, Settle, touch, ◌>>◌, run, touched}
-use Rattle.prov_memory.specs.Acts.{settle_to, settle_common, diff, is_multiple, in_common, candidates}
-use Rattle.prov_memory.specs.Streams.{Io}
+use Rattle.mem_spec.specs.Store.{Store, settled}
+use Rattle.mem_spec.specs.Script.{Act, Done, Raised, Settle, touch, ◌>>◌, run, touched}
+use Rattle.mem_spec.specs.Acts.{settle_to, settle_common, diff, is_multiple, in_common, candidates}
+use Rattle.mem_spec.specs.Streams.{Io}
 use Rattle.prov_memory.specs.Memory.{Kept, store_of}
 use Rattle.prov_memory.specs.Made.{Settling, CanSettle, settling_items, after_settling, IsMade}
 use Rattle.prov_memory.specs.Comparing.{settling_of, both_settlings, common_settling}

@@ -18,11 +18,11 @@ use Rattle.prov_memory.specs.declared.cell.Cell.{Cell}
 use Rattle.prov_memory.specs.declared.cell.State.{State}
 use Rattle.prov_memory.specs.declared.cell.State.TheVariants as states
 use Rattle.prov_memory.specs.declared.memory.access.Accessed.{Accessed as Found}
-use Rattle.prov_memory.specs.Agreement.{number_of_kind, bytes_of_kind}
-use Rattle.prov_memory.specs.Store.{Store, Life, TaggedByte, range_from}
-use Rattle.prov_memory.specs.Script.{Script, Give, Get, Raised, run, touch, require, ◌>>=◌, ◌>>◌}
-use Rattle.prov_memory.specs.Acts.{Accessed, access, declared_of, tag_agrees, tags_agree, is_written, number_in, all_written, number_of, suits_load, show_pieces, value_of, load_int, load_func}
-use Rattle.prov_memory.specs.Streams.{Io}
+use Rattle.mem_spec.specs.Agreement.{number_of_kind, bytes_of_kind}
+use Rattle.mem_spec.specs.Store.{Store, Life, TaggedByte, range_from}
+use Rattle.mem_spec.specs.Script.{Script, Give, Get, Raised, run, touch, require, ◌>>=◌, ◌>>◌}
+use Rattle.mem_spec.specs.Acts.{Accessed, access, declared_of, tag_agrees, tags_agree, is_written, number_in, all_written, number_of, suits_load, show_pieces, value_of, load_int, load_func}
+use Rattle.mem_spec.specs.Streams.{Io}
 use Rattle.prov_memory.specs.Cells.{byte_in, byte_in_state, kind_numbered, integer_or, type_numbered, tag_in}
 use Rattle.prov_memory.specs.Held.{Held, held_of}
 use Rattle.prov_memory.specs.Memory.{Kept, store_of, life_in, tagged_in_object}

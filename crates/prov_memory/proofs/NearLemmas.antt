@@ -7,7 +7,7 @@ use Rattle.ub_base.specs.declared.names.ObjName.{ObjName}
 use Rattle.ub_base.specs.Names.{same_object}
 use Rattle.addr_map.specs.declared.map.Row.{Row}
 use Rattle.addr_map.specs.Rows.{row_of, free_of}
-use Rattle.prov_memory.specs.Acts.{in_bounds}
+use Rattle.mem_spec.specs.Acts.{in_bounds}
 use Rattle.prov_memory.specs.Held.{Held, is_near}
 use Rattle.prov_memory.specs.Memory.{IsRowOf}
 use Rattle.prov_memory.specs.Made.{IsAddress}

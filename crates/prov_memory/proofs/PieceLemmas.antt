@@ -9,14 +9,15 @@ use Rattle.exposure.specs.declared.prov.Prov.TheVariants.{Empty, Whole}
 use Rattle.c_types.specs.Types.{CType}
 use Rattle.prov_memory.specs.declared.cell.Cell.{Cell}
 use Rattle.prov_memory.specs.declared.cell.Origin.{Origin}
-use Rattle.prov_memory.specs.Store.{TaggedByte, written}
+use Rattle.mem_spec.specs.Store.{TaggedByte, written}
 use Rattle.prov_memory.specs.Cells.{plain_cell, piece_cell, tagged_in, prov_numbered}
-use Rattle.prov_memory.specs.Acts.{same_prov}
+use Rattle.mem_spec.specs.Acts.{same_prov}
 use Rattle.prov_memory.specs.Held.{Held, held_of, changed, uncovered}
 use Rattle.prov_memory.specs.Memory.{uncovered_each, CellsKnown}
 use Rattle.prov_memory.specs.Made.{EachNamed}
 use Rattle.prov_memory.proofs.ProvLemmas.{number_stays, prov_last}
-use Rattle.prov_memory.specs.Pieces.{number_bytes, pointer_bytes, plain_cells, piece_cells}
+use Rattle.mem_spec.specs.Bytes.{number_bytes, pointer_bytes}
+use Rattle.prov_memory.specs.Pieces.{plain_cells, piece_cells}
 
 pub seen_pieces : (ps : List Prov) (ts : List CType) (k i : ℕ) (o : Origin) (n : ℕ) → map (tagged_in ps ts) (piece_cells k i o n) ≡ pointer_bytes k i (prov_numbered ps o.number) n
 seen_pieces ps ts zero i o n = refl

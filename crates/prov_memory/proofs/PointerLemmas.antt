@@ -17,10 +17,10 @@ use Rattle.c_types.specs.Types.{CType}
 use Rattle.prov_memory.specs.declared.answer.MemFault.{MemFault}
 use Rattle.prov_memory.specs.declared.answer.MemFault.TheVariants as faults
 use Rattle.prov_memory.specs.declared.memory.access.Accessed.{Accessed as Found}
-use Rattle.prov_memory.specs.Store.{Store, TaggedByte, range_from, is_live, findable}
-use Rattle.prov_memory.specs.Script.{Script, Give, Act, Done, Raised, run, ◌>>◌}
-use Rattle.prov_memory.specs.Acts.{access, candidates, number_of, is_piece, are_pieces, pointer_in, from_int, target_lives, pointer_or_number, load_ptr}
-use Rattle.prov_memory.specs.Streams.{Io}
+use Rattle.mem_spec.specs.Store.{Store, TaggedByte, range_from, is_live, findable}
+use Rattle.mem_spec.specs.Script.{Script, Give, Act, Done, Raised, run, ◌>>◌}
+use Rattle.mem_spec.specs.Acts.{access, candidates, number_of, is_piece, are_pieces, pointer_in, from_int, target_lives, pointer_or_number, load_ptr}
+use Rattle.mem_spec.specs.Streams.{Io}
 use Rattle.prov_memory.specs.Held.{Held}
 use Rattle.prov_memory.specs.Memory.{Kept, HasCell, AreKnown, store_of}
 use Rattle.prov_memory.specs.Access.{CanSettleOf, IsReached, reached, bytes_in}

@@ -11,7 +11,7 @@ use Rattle.ub_base.specs.Names.{same_event, same_object}
 use Rattle.ub_base.proofs.NameLemmas.{tie_event, tie_object, same_event_is, same_event_refl, same_object_is, same_object_refl}
 use Rattle.exposure.specs.declared.prov.Prov.{Prov}
 use Rattle.exposure.specs.declared.prov.Prov.TheVariants.{Empty, Whole, Either}
-use Rattle.prov_memory.specs.Acts.{same_prov}
+use Rattle.mem_spec.specs.Acts.{same_prov}
 use Rattle.prov_memory.specs.Cells.{prov_numbered}
 use Rattle.prov_memory.specs.Made.{prov_cmp, is_ambiguous, HasNumber, AreNumbered, Extends}
 

@@ -12,10 +12,10 @@ use Rattle.addr_map.specs.Rows.{row_of}
 use Rattle.exposure.specs.declared.prov.Prov.{Prov}
 use Rattle.exposure.specs.declared.prov.Prov.TheVariants.{Empty, Whole, Either}
 use Rattle.exposure.specs.Cells.{Cells, kept_in, has_cell, is_other, Settles}
-use Rattle.prov_memory.specs.Store.{Store}
-use Rattle.prov_memory.specs.Script.{Act, Done, Raised, Give, Settle, touch, require, ◌>>◌, run}
-use Rattle.prov_memory.specs.Acts.{in_bounds, settle_by, shift}
-use Rattle.prov_memory.specs.Streams.{Io}
+use Rattle.mem_spec.specs.Store.{Store}
+use Rattle.mem_spec.specs.Script.{Act, Done, Raised, Give, Settle, touch, require, ◌>>◌, run}
+use Rattle.mem_spec.specs.Acts.{in_bounds, settle_by, shift}
+use Rattle.mem_spec.specs.Streams.{Io}
 use Rattle.prov_memory.specs.Held.{held_of}
 use Rattle.prov_memory.specs.Memory.{Kept, store_of}
 use Rattle.prov_memory.specs.Made.{Settling, settling_by, shift_settling, CanSettle, settling_items, after_settling, IsMade, HasNumber}

@@ -16,11 +16,11 @@ use Rattle.c_types.specs.Types.{CType, int, type_of}
 use Rattle.c_types.specs.Shapes.{form_of}
 use Rattle.prov_memory.specs.declared.cell.Cell.{Cell}
 use Rattle.prov_memory.specs.declared.memory.access.Accessed.{Accessed as Found}
-use Rattle.prov_memory.specs.Agreement.{number_of_kind, bytes_of_kind}
-use Rattle.prov_memory.specs.Store.{Store, Byte, unwritten, written, Life, TaggedByte, range_from}
-use Rattle.prov_memory.specs.Script.{Script, Give, Act, Done, touched, run, ◌>>=◌, ◌>>◌}
-use Rattle.prov_memory.specs.Acts.{Accessed, access, candidates, show_each, show_pieces, origins_in, all_written, number_of, suits_load, value_of, load_int, load_func}
-use Rattle.prov_memory.specs.Streams.{Io}
+use Rattle.mem_spec.specs.Agreement.{number_of_kind, bytes_of_kind}
+use Rattle.mem_spec.specs.Store.{Store, Byte, unwritten, written, Life, TaggedByte, range_from}
+use Rattle.mem_spec.specs.Script.{Script, Give, Act, Done, touched, run, ◌>>=◌, ◌>>◌}
+use Rattle.mem_spec.specs.Acts.{Accessed, access, candidates, show_each, show_pieces, origins_in, all_written, number_of, suits_load, value_of, load_int, load_func}
+use Rattle.mem_spec.specs.Streams.{Io}
 use Rattle.prov_memory.specs.Cells.{cell_at, byte_in, tagged_in}
 use Rattle.prov_memory.specs.Held.{Held, changed, uncovered}
 use Rattle.prov_memory.specs.Memory.{Kept, HasCell, store_of, life_in, uncovered_each}

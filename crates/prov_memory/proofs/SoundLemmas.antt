@@ -13,7 +13,7 @@ use Rattle.exposure.specs.declared.prov.Prov.{Prov}
 use Rattle.exposure.specs.declared.prov.Prov.TheVariants.{Empty, Whole, Either}
 use Rattle.exposure.specs.Cells.{Cells, has_cell, Settles}
 use Rattle.c_types.specs.declared.shape.Shape.{Shape}
-use Rattle.prov_memory.specs.declared.object.ObjKind.{ObjKind}
+use Rattle.mem_spec.specs.declared.kind.ObjKind.{ObjKind}
 use Rattle.prov_memory.specs.declared.cell.Cell.{Cell}
 use Rattle.prov_memory.specs.declared.cell.Origin.{Origin}
 use Rattle.prov_memory.specs.declared.cell.Via.{Via}
@@ -21,14 +21,14 @@ use Rattle.prov_memory.specs.declared.memory.access.Accessed.{Accessed as Found}
 use Rattle.prov_memory.specs.declared.cell.State.{State}
 use Rattle.prov_memory.specs.declared.cell.State.TheVariants as states
 use Rattle.prov_memory.specs.Pieces.{piece_cells}
-use Rattle.prov_memory.specs.Acts.{same_prov, origin_in, pointer_if, pointer_in, are_pieces}
+use Rattle.mem_spec.specs.Acts.{same_prov, origin_in, pointer_if, pointer_in, are_pieces}
 use Rattle.prov_memory.specs.Cells.{prov_numbered, byte_in_state, cell_at}
 use Rattle.prov_memory.specs.Held.{Held, IsWritten, held_of, changed, uncovered, holding}
 use Rattle.prov_memory.specs.Memory.{Kept, empty, AreKnown, CellsKnown, ObjectsKnown, uncovered_each, newborn, IsBorn}
 use Rattle.prov_memory.specs.Made.{IsMade, AreNamed, EachNamed, HasMore, Extends}
 use Rattle.prov_memory.specs.Access.{IsReached, bytes_in}
 use Rattle.prov_memory.specs.Sound.{AllMade, AreMade, IsSound}
-use Rattle.prov_memory.specs.Store.{TaggedByte}
+use Rattle.mem_spec.specs.Store.{TaggedByte}
 use Rattle.prov_memory.proofs.ProvLemmas.{has_number_more, extends_none}
 use Rattle.prov_memory.proofs.PieceLemmas.{named_changed, named_uncovered, named_longer}
 use Rattle.prov_memory.proofs.StoreLemmas.{part_kept}

@@ -10,10 +10,10 @@ use Rattle.addr_map.specs.Rows.{row_of, first_row, insert_row, free_of, row_at}
 use Rattle.exposure.specs.declared.prov.Prov.{Prov}
 use Rattle.exposure.specs.Cells.{kept_in}
 use Rattle.c_types.specs.declared.ty.Ty.{Ty}
-use Rattle.prov_memory.specs.Store.{Store, fresh, dead, buried, shown}
-use Rattle.prov_memory.specs.Script.{Done, run, touched}
-use Rattle.prov_memory.specs.Acts.{show_each}
-use Rattle.prov_memory.specs.Streams.{Io}
+use Rattle.mem_spec.specs.Store.{Store, fresh, dead, buried, shown}
+use Rattle.mem_spec.specs.Script.{Done, run, touched}
+use Rattle.mem_spec.specs.Acts.{show_each}
+use Rattle.mem_spec.specs.Streams.{Io}
 use Rattle.prov_memory.specs.Held.{Held, held_of, changed, emptied, killed, uncovered}
 use Rattle.prov_memory.specs.Memory.{Kept, store_of, life_in, is_shown, tagged_in_object, IsRowOf, HaveRows, uncovered_each}
 

@@ -13,10 +13,10 @@ use Rattle.ub_base.specs.declared.names.ObjName.{ObjName}
 use Rattle.ub_base.specs.Names.{same_object}
 use Rattle.exposure.specs.Cells.{kept_in}
 use Rattle.prov_memory.specs.declared.types.Spanned.{Spanned}
-use Rattle.prov_memory.specs.Agreement.{Tag, spanning, spanning_parts}
-use Rattle.prov_memory.specs.Store.{TaggedByte, range_from}
-use Rattle.prov_memory.specs.Acts.{retagged}
-use Rattle.prov_memory.specs.Streams.{Io}
+use Rattle.mem_spec.specs.Agreement.{Tag, spanning, spanning_parts}
+use Rattle.mem_spec.specs.Store.{TaggedByte, range_from}
+use Rattle.mem_spec.specs.Acts.{retagged}
+use Rattle.mem_spec.specs.Streams.{Io}
 use Rattle.prov_memory.specs.Cells.{cell_at, byte_in, kind_numbered, integer_or, type_numbered, tagged_in}
 use Rattle.prov_memory.specs.Held.{Held, held_of}
 use Rattle.prov_memory.specs.Memory.{Kept, store_of, life_in, is_shown, tagged_in_object}

@@ -24,11 +24,11 @@ use Rattle.prov_memory.specs.declared.cell.TypeId.{TypeId}
 use Rattle.prov_memory.specs.declared.cell.Via.{Via}
 use Rattle.prov_memory.specs.declared.cell.Via.TheVariants as vias
 use Rattle.prov_memory.specs.declared.memory.access.Accessed.{Accessed as Found}
-use Rattle.prov_memory.specs.Agreement.{Tag, read_as_int}
-use Rattle.prov_memory.specs.Store.{Store, Byte, Life, TaggedByte, fresh, with_bytes, settled}
-use Rattle.prov_memory.specs.Script.{Script, Put, Act, Done, Raised, run, touch, require, ◌>>◌}
-use Rattle.prov_memory.specs.Acts.{Accessed, Seen, scalar, whole, bytes, access, store, tag_left, stored_from, suits_store, declared_of, check_writable}
-use Rattle.prov_memory.specs.Streams.{Io}
+use Rattle.mem_spec.specs.Agreement.{Tag, read_as_int}
+use Rattle.mem_spec.specs.Store.{Store, Byte, Life, TaggedByte, fresh, with_bytes, settled}
+use Rattle.mem_spec.specs.Script.{Script, Put, Act, Done, Raised, run, touch, require, ◌>>◌}
+use Rattle.mem_spec.specs.Acts.{Accessed, Seen, scalar, whole, bytes, access, store, tag_left, stored_from, suits_store, declared_of, check_writable}
+use Rattle.mem_spec.specs.Streams.{Io}
 use Rattle.prov_memory.specs.Cells.{cell_at, cell_left, cell_put, untagged, is_character_numbered, byte_in, byte_in_state, tag_in, tagged_in, type_numbered}
 use Rattle.prov_memory.specs.Held.{Held, held_of, changed, holding, IsWritten}
 use Rattle.prov_memory.specs.Memory.{Kept, store_of, life_in, is_shown, tagged_in_object, HasCell, CellsKnown, ObjectsKnown, AreKnown}

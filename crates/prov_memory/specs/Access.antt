@@ -9,9 +9,9 @@ use Rattle.addr_map.specs.Rows.{row_of}
 use Rattle.exposure.specs.declared.prov.Prov.{Prov}
 use Rattle.c_types.specs.Types.{type_of}
 use Rattle.prov_memory.specs.declared.memory.access.Accessed.{Accessed as Found}
-use Rattle.prov_memory.specs.Store.{TaggedByte, range_from, is_live}
-use Rattle.prov_memory.specs.Script.{Script, Give, Ask, touch, require, ◌>>=◌, ◌>>◌}
-use Rattle.prov_memory.specs.Acts.{Accessed, in_row, offset_in, is_aligned}
+use Rattle.mem_spec.specs.Store.{TaggedByte, range_from, is_live}
+use Rattle.mem_spec.specs.Script.{Script, Give, Ask, touch, require, ◌>>=◌, ◌>>◌}
+use Rattle.mem_spec.specs.Acts.{Accessed, in_row, offset_in, is_aligned}
 use Rattle.prov_memory.specs.Cells.{cell_at, tagged_in}
 use Rattle.prov_memory.specs.Held.{Held, held_of, has_range, Fits}
 use Rattle.prov_memory.specs.Memory.{Kept, HasCell, life_in}

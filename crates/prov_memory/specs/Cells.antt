@@ -13,8 +13,8 @@ use Rattle.prov_memory.specs.declared.cell.Via.{Via}
 use Rattle.prov_memory.specs.declared.cell.Via.TheVariants as vias
 use Rattle.prov_memory.specs.declared.cell.MemByte.{MemByte}
 use Rattle.prov_memory.specs.declared.cell.MemByte.TheVariants as mem
-use Rattle.prov_memory.specs.Agreement.{Tag}
-use Rattle.prov_memory.specs.Store.{Byte, unwritten, written, TaggedByte}
+use Rattle.mem_spec.specs.Agreement.{Tag}
+use Rattle.mem_spec.specs.Store.{Byte, unwritten, written, TaggedByte}
 
 -- an unwritten cell
 abbrev pub no_cell : Cell

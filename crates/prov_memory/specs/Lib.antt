@@ -1,9 +1,4 @@
 pub mod Access
-pub mod Agreement
-pub mod Store
-pub mod Script
-pub mod Acts
-pub mod Streams
 pub mod Cells
 pub mod Held
 pub mod Memory

@@ -16,9 +16,9 @@ use Rattle.prov_memory.specs.declared.cell.State.{State}
 use Rattle.prov_memory.specs.declared.cell.State.TheVariants as states
 use Rattle.prov_memory.specs.declared.value.Value.{Value}
 use Rattle.prov_memory.specs.declared.value.Value.TheVariants as values
-use Rattle.prov_memory.specs.Store.{Store, TaggedByte, is_live}
-use Rattle.prov_memory.specs.Acts.{suits_load, all_written, number_of, origins_in, candidates}
-use Rattle.prov_memory.specs.Streams.{Io}
+use Rattle.mem_spec.specs.Store.{Store, TaggedByte, is_live}
+use Rattle.mem_spec.specs.Acts.{suits_load, all_written, number_of, origins_in, candidates}
+use Rattle.mem_spec.specs.Streams.{Io}
 use Rattle.prov_memory.specs.Memory.{Kept, store_of, uncovered_each}
 use Rattle.prov_memory.specs.Made.{Settling, CanSettle, after_settling, look_up_items}
 

@@ -14,8 +14,8 @@ use Rattle.exposure.specs.declared.prov.Prov.{Prov}
 use Rattle.exposure.specs.declared.prov.Prov.TheVariants.{Empty, Whole, Either}
 use Rattle.exposure.specs.contracts.prov.ProvOrd.TheImpl as prov_ord
 use Rattle.exposure.specs.Cells.{Cells, kept_in, has_cell, is_other}
-use Rattle.prov_memory.specs.Store.{Store, settled}
-use Rattle.prov_memory.specs.Acts.{in_bounds}
+use Rattle.mem_spec.specs.Store.{Store, settled}
+use Rattle.mem_spec.specs.Acts.{in_bounds}
 use Rattle.prov_memory.specs.Cells.{prov_numbered}
 use Rattle.prov_memory.specs.Held.{Held, held_of}
 use Rattle.prov_memory.specs.Memory.{Kept}

@@ -13,15 +13,15 @@ use Rattle.c_types.specs.declared.ty.Ty.{Ty}
 use Rattle.c_types.specs.Types.{type_of}
 use Rattle.c_types.specs.declared.shape.Shape.{Shape}
 use Rattle.c_types.specs.Shapes.{form_of}
-use Rattle.prov_memory.specs.declared.object.ObjKind.{ObjKind}
+use Rattle.mem_spec.specs.declared.kind.ObjKind.{ObjKind}
 use Rattle.prov_memory.specs.declared.object.ObjState.{ObjState}
 use Rattle.prov_memory.specs.declared.cell.Cell.{Cell}
 use Rattle.prov_memory.specs.declared.cell.Origin.{Origin}
 use Rattle.prov_memory.specs.declared.cell.MemByte.{MemByte}
 use Rattle.prov_memory.specs.declared.cell.MemByte.TheVariants as mem
-use Rattle.prov_memory.specs.Store.{Store, Life, TaggedByte, fresh}
-use Rattle.prov_memory.specs.Script.{Act, Done, Raised}
-use Rattle.prov_memory.specs.Streams.{Io}
+use Rattle.mem_spec.specs.Store.{Store, Life, TaggedByte, fresh}
+use Rattle.mem_spec.specs.Script.{Act, Done, Raised}
+use Rattle.mem_spec.specs.Streams.{Io}
 use Rattle.prov_memory.specs.Cells.{byte_of, cell_at, tagged_in}
 use Rattle.prov_memory.specs.Held.{Held, held_of, changed, uncovered}
 

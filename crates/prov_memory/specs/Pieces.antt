@@ -1,28 +1,18 @@
--- The bytes that hold a value (own: little-endian).
-use Rattle.std.specs.Prelude.{ℕ, zero, suc, ◌/◌, ◌%◌, ◌^◌, min, List, [], ◌∷◌, map, Some, None, ℤ, pos, unsigned_abs}
-use Rattle.std.specs.Int.{int_rem_euclid}
+-- The bytes that hold a value, as a memory keeps them (own: little-endian).
+use Rattle.std.specs.Prelude.{ℕ, zero, suc, ◌/◌, ◌%◌, min, List, [], ◌∷◌, map}
 use Rattle.exposure.specs.declared.prov.Prov.{Prov}
 use Rattle.c_types.specs.Types.{type_of}
 use Rattle.prov_memory.specs.declared.cell.Cell.{Cell}
 use Rattle.prov_memory.specs.declared.cell.Origin.{Origin}
 use Rattle.prov_memory.specs.declared.value.Value.{Value}
 use Rattle.prov_memory.specs.declared.value.Value.TheVariants as values
-use Rattle.prov_memory.specs.Store.{TaggedByte, written}
+use Rattle.mem_spec.specs.Store.{TaggedByte}
+use Rattle.mem_spec.specs.Bytes.{number_bytes, pointer_bytes, low_bits}
 use Rattle.prov_memory.specs.Cells.{plain_cell, piece_cell, tagged_in}
 use Rattle.prov_memory.specs.Memory.{Kept}
 use Rattle.prov_memory.specs.Made.{IsMade}
 
--- so many bytes of a number, the least first
-abbrev pub number_bytes : ℕ → ℕ → List TaggedByte
-number_bytes zero n = []
-number_bytes (suc k) n = record { byte = written (n % 256) None; tag = None } ∷ number_bytes k (n / 256)
-
--- the pieces from this one on of a pointer
-abbrev pub pointer_bytes : ℕ → ℕ → Prov → ℕ → List TaggedByte
-pointer_bytes zero i prov n = []
-pointer_bytes (suc k) i prov n = record { byte = written (n % 256) (Some (prov, i)); tag = None } ∷ pointer_bytes k (suc i) prov (n / 256)
-
--- the same as a memory keeps them
+-- so many bytes of a number, the least first, as a memory keeps them
 abbrev pub plain_cells : ℕ → ℕ → List Cell
 plain_cells zero n = []
 plain_cells (suc k) n = plain_cell (n % 256) ∷ plain_cells k (n / 256)
@@ -34,10 +24,6 @@ piece_cells (suc k) i origin n = piece_cell (n % 256) origin i ∷ piece_cells k
 -- the bytes that cells stand for
 abbrev pub seen : Kept → List Cell → List TaggedByte
 seen m cs = map (tagged_in m.origins (map type_of m.types)) cs
-
--- a number modulo 2^64
-abbrev pub low_bits : ℤ → ℕ
-low_bits z = unsigned_abs (int_rem_euclid z (pos (2 ^ 64)))
 
 -- up to eight bytes of an integer, eight of a pointer, those of a structure or union
 abbrev pub value_bytes : Kept → ℕ → Value → List TaggedByte

@@ -6,10 +6,10 @@ use Rattle.c_types.specs.Types.{CType, type_of, is_character}
 use Rattle.prov_memory.specs.declared.cell.Cell.{Cell}
 use Rattle.prov_memory.specs.declared.cell.Via.{Via}
 use Rattle.prov_memory.specs.declared.cell.Via.TheVariants as vias
-use Rattle.prov_memory.specs.declared.object.ObjKind.{ObjKind}
-use Rattle.prov_memory.specs.Agreement.{read_as_int}
-use Rattle.prov_memory.specs.Store.{Life, TaggedByte}
-use Rattle.prov_memory.specs.Acts.{Seen, scalar, whole, bytes, suits_store}
+use Rattle.mem_spec.specs.declared.kind.ObjKind.{ObjKind}
+use Rattle.mem_spec.specs.Agreement.{read_as_int}
+use Rattle.mem_spec.specs.Store.{Life, TaggedByte}
+use Rattle.mem_spec.specs.Acts.{Seen, scalar, whole, bytes, suits_store}
 use Rattle.prov_memory.specs.Cells.{is_character_numbered, tagged_in, type_numbered}
 use Rattle.prov_memory.specs.Memory.{Kept}
 

@@ -5,9 +5,9 @@ use Rattle.c_types.specs.Types.{CType, void, int, enumeration, pointer, array, s
 use Rattle.c_types.specs.Shapes.{Form}
 use Rattle.prov_memory.specs.declared.types.Spanned.{Spanned}
 use Rattle.prov_memory.specs.declared.types.Spanned.TheVariants as spans
-use Rattle.prov_memory.specs.Agreement.{Tag, read_as_int, declared_tag}
-use Rattle.prov_memory.specs.Store.{TaggedByte}
-use Rattle.prov_memory.specs.Acts.{retagged}
+use Rattle.mem_spec.specs.Agreement.{Tag, read_as_int, declared_tag}
+use Rattle.mem_spec.specs.Store.{TaggedByte}
+use Rattle.mem_spec.specs.Acts.{retagged}
 use Rattle.prov_memory.specs.declared.cell.Cell.{Cell}
 use Rattle.prov_memory.specs.Held.{Held}
 use Rattle.prov_memory.specs.Memory.{Kept}

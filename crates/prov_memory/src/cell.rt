@@ -1,7 +1,8 @@
 // Bytes as they stand in memory: 12 bytes of the host for each.
 ghost use Rattle.std.specs.Prelude.{◌≡◌, ◌+◌, ◌-ℤ◌, pos, nat_le, if◌then◌else◌};
-ghost use Rattle.prov_memory.specs.Acts.{value_of};
-ghost use Rattle.prov_memory.specs.Pieces.{low_bits, plain_cells, piece_cells};
+ghost use Rattle.mem_spec.specs.Acts.{value_of};
+ghost use Rattle.mem_spec.specs.Bytes.{low_bits};
+ghost use Rattle.prov_memory.specs.Pieces.{plain_cells, piece_cells};
 
 use c_types::IntKind;
 
@@ -24,7 +25,7 @@ pub struct TypeId {
 }
 
 impl TypeId {
-    ghost use Rattle.prov_memory.specs.Agreement.{number_of_kind};
+    ghost use Rattle.mem_spec.specs.Agreement.{number_of_kind};
     ghost use Rattle.prov_memory.specs.Cells.{kind_numbered, is_character_numbered};
 
     /// No type.

@@ -5,18 +5,11 @@ ghost use Rattle.prov_memory.specs.Cells.{byte_of, cell_at, cell_left, cell_put}
 use crate::cell::Cell;
 use crate::{MemByte, Origin, TypeId, Via};
 use c_types::Shape;
+use mem_spec::ObjKind;
 use std::alloc::Global;
 use std::marker::Model;
 use std::rc::Rc;
 use ub_base::ObjName;
-
-/// What an object is: allocated by the library, a string literal, defined const.
-#[derive(Clone, Copy, Debug, PartialEq, Eq)]
-pub struct ObjKind {
-    pub heap: bool,
-    pub literal: bool,
-    pub constant: bool,
-}
 
 /// An object's life and exposure.
 #[derive(Clone, Copy, Debug, PartialEq, Eq)]

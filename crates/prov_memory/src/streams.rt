@@ -15,7 +15,7 @@ pub struct Streams {
 
 impl Model for Streams {
     ghost use Rattle.std.specs.Prelude.{◌≤◌, length};
-    ghost use Rattle.prov_memory.specs.Streams.{Io};
+    ghost use Rattle.mem_spec.specs.Streams.{Io};
 
     ghost Value = { Io };
 

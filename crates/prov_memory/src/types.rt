@@ -3,7 +3,7 @@ ghost use Rattle.std.specs.Prelude.{◌≡◌, ℕ, ◌+◌, ◌-◌, ◌≤◌,
 ghost use Rattle.std.specs.Option.{option_copied};
 ghost use Rattle.c_types.specs.Types.{CType, type_of, qualified_of, signature_of, params_of, int};
 ghost use Rattle.c_types.specs.Shapes.{form_of, put_of, forms_of};
-ghost use Rattle.prov_memory.specs.Agreement.{Tag, read_as_int, scalar_size, spanning, spanning_parts};
+ghost use Rattle.mem_spec.specs.Agreement.{Tag, read_as_int, scalar_size, spanning, spanning_parts};
 ghost use Rattle.prov_memory.specs.Cells.{type_numbered};
 ghost use Rattle.prov_memory.specs.Tags.{IsSame, AreSame, Alike, SameSignature, Spans};
 

@@ -2,24 +2,17 @@
 use Rattle.std.proofs.Common.{◌≡◌, ℕ, Bool, true, false, not, ◌&&◌, ◌||◌, if◌then◌else◌, List, [], ◌∷◌, Option, Some, None, Result, Ok, Err, refl, sym, ap, subst, ◌∙◌, true≢false}
 use Rattle.std.specs.List.{list_all}
 use Rattle.std.specs.Result.{result_err}
+use Rattle.ub_base.proofs.Tests.{or_right, some_is, if_true, if_false, and_false, and_both}
 use Rattle.c_typed.specs.declared.tree.Place.{Place}
 use Rattle.c_typed.specs.Tree.{Tree}
 use Rattle.c_typed.specs.Order.{Taken, is_body, events, update_is_open}
 use Rattle.c_typed.specs.Decide.{is_before, due_in, earlier_done, is_permitted, first_place, canonical}
 use Rattle.seq_order.specs.Walks.{walked, is_left, is_free, is_free_beside}
-use Rattle.seq_order.proofs.Located.{if_true, if_false}
-use Rattle.seq_order.proofs.Listing.{and_false, both_true, Each, no_more, and_then, Ordered, in_order, first, Due, listed_due, listed_ordered}
-
-or_true : (a b : Bool) → b ≡ true → (a || b) ≡ true
-or_true true b h = refl
-or_true false b h = h
-
-same_some : (u v : Place) → Some u ≡ Some v → u ≡ v
-same_some u v h = cc
+use Rattle.seq_order.proofs.Listing.{Each, no_more, and_then, Ordered, in_order, first, Due, listed_due, listed_ordered}
 
 not_later : (B : Place → Place → Bool) (done : Place → Bool) (u : Place) (us : List Place) → Each (λ w. B w u ≡ false) us → list_all (λ w. done w || not (B w u)) us ≡ true
 not_later B done u _ no_more = refl
-not_later B done u _ (and_then w ws p h) = both_true (done w || not (B w u)) _ (or_true (done w) (not (B w u)) (ap not p)) (not_later B done u ws h)
+not_later B done u _ (and_then w ws p h) = and_both (done w || not (B w u)) _ (or_right (done w) (not (B w u)) (ap not p)) (not_later B done u ws h)
 
 -- all that comes before the first event that isn't done is done
 free_first : (B : Place → Place → Bool) (done : Place → Bool) (v : Place) (vs : List Place) → Ordered B vs → first_place (is_left done) vs ≡ Some v → list_all (λ w. done w || not (B w v)) vs ≡ true
@@ -30,15 +23,15 @@ free_first B done v _ (first u us a b g) h = step (done u) (free_first B done v 
         → (if not d then Some u else first_place (is_left done) us) ≡ Some v → ((d || not (B u v)) && list_all (λ w. done w || not (B w v)) us) ≡ true
     step true f h = f h
     step false f h =
-        let e : u ≡ v = same_some u v h in
-        both_true (not (B u v)) _ (ap not (subst (λ z. B u z ≡ false) e a)) (subst (λ z. list_all (λ w. done w || not (B w z)) us ≡ true) e (not_later B done u us b))
+        let e : u ≡ v = some_is u v h in
+        and_both (not (B u v)) _ (ap not (subst (λ z. B u z ≡ false) e a)) (subst (λ z. list_all (λ w. done w || not (B w z)) us ≡ true) e (not_later B done u us b))
 
 first_where : (P : Place → Type 0) (test : Place → Bool) (v : Place) (vs : List Place) → Each P vs → first_place test vs ≡ Some v → P v × (test v ≡ true)
 first_where P test v _ no_more h = absurd (cc)
 first_where P test v _ (and_then u us p g) h = step (test u) refl (first_where P test v us g) h
   where
     step : (b : Bool) → test u ≡ b → (first_place test us ≡ Some v → P v × (test v ≡ true)) → (if b then Some u else first_place test us) ≡ Some v → P v × (test v ≡ true)
-    step true e f h = subst (λ z. P z × (test z ≡ true)) (same_some u v h) (p, e)
+    step true e f h = subst (λ z. P z × (test z ≡ true)) (some_is u v h) (p, e)
     step false e f h = f h
 
 none_first : (p q : Place → Bool) (vs : List Place) → ((u : Place) → p u ≡ false → q u ≡ false) → first_place p vs ≡ None → first_place q vs ≡ None
@@ -54,7 +47,7 @@ some_first p q v [] f t h = absurd (cc)
 some_first p q v (u ∷ us) f t h = step (p u) refl (some_first p q v us f t) h
   where
     step : (b : Bool) → p u ≡ b → (first_place p us ≡ Some v → first_place q us ≡ Some v) → (if b then Some u else first_place p us) ≡ Some v → (if q u then Some u else first_place q us) ≡ Some v
-    step true e g h = if_true (q u) _ _ (subst (λ z. q z ≡ true) (sym (same_some u v h)) t) ∙ h
+    step true e g h = if_true (q u) _ _ (subst (λ z. q z ≡ true) (sym (some_is u v h)) t) ∙ h
     step false e g h = if_false (q u) _ _ (f u e) ∙ g h
 
 same_first : (P : Place → Type 0) (p q : Place → Bool) (vs : List Place) → Each P vs → ((u : Place) → P u → p u ≡ q u) → first_place p vs ≡ first_place q vs
@@ -68,7 +61,7 @@ dropped true false e s h = refl
 dropped false n e s h = refl
 
 all_four : (d n e s : Bool) → d ≡ true → n ≡ true → e ≡ true → s ≡ false → ((d && (n && e)) && not s) ≡ true
-all_four d n e s h k l m = both_true (d && (n && e)) (not s) (both_true d (n && e) h (both_true n e k l)) (ap not m)
+all_four d n e s h k l m = and_both (d && (n && e)) (not s) (and_both d (n && e) h (and_both n e k l)) (ap not m)
 
 beside : (d f b o : Bool) → d ≡ true → o ≡ true → ((d && f) && not (b && o)) ≡ (not b && f)
 beside true true true true h k = refl

@@ -1,5 +1,5 @@
 -- Both halves of a test.
-use Rattle.std.proofs.Common.{◌≡◌, Bool, true, false, ◌&&◌, ◌||◌, refl, sym, ◌∙◌, true≢false}
+use Rattle.std.proofs.Common.{◌≡◌, Bool, true, false, ◌&&◌, ◌||◌, sym, ◌∙◌, true≢false}
 
 pub both : (g d r : Bool) → g ≡ true → r ≡ d → r ≡ (g && d)
 both true d r h e = e
@@ -21,11 +21,3 @@ pub third : (a b d r : Bool) → r ≡ (a && b) → r ≡ false → r ≡ (a && 
 third true true d r e h = absurd (true≢false (sym e ∙ h))
 third true false d r e h = h
 third false b d r e h = h
-
-pub fst_of : (a b : Bool) → (a && b) ≡ true → a ≡ true
-fst_of true b h = refl
-fst_of false b h = h
-
-pub snd_of : (a b : Bool) → (a && b) ≡ true → b ≡ true
-snd_of true b h = h
-snd_of false b h = absurd (true≢false (sym h))

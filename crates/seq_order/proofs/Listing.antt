@@ -1,5 +1,6 @@
 -- The listing of a tree's due events goes along the order: no event comes before one that stands earlier in it.
 use Rattle.std.proofs.Common.{◌≡◌, ℕ, suc, ◌+◌, ◌<◌, ◌≤◌, Bool, true, false, ◌&&◌, ◌==◌, if◌then◌else◌, List, [], ◌∷◌, ◌++◌, Option, refl, ap, ◌∙◌, arith}
+use Rattle.ub_base.proofs.Tests.{and_false, and_both, number_equal, number_other, less_test, not_less_test, if_true, if_false}
 use Rattle.ub_base.specs.declared.clause.Kind.{Kind}
 use Rattle.ub_base.specs.declared.clause.Kind.TheVariants.{Val, Eff, Body}
 use Rattle.c_typed.specs.declared.tree.Place.{Place}
@@ -8,7 +9,6 @@ use Rattle.c_typed.specs.declared.class.Class.TheVariants.{Object, Constant, Pla
 use Rattle.c_typed.specs.Tree.{Tree, node, Trees, none, more, size, sizes, kinds_of}
 use Rattle.c_typed.specs.Order.{Taken, goes, place, own_events, events, operand_events, own_rule}
 use Rattle.c_typed.specs.Decide.{has_kind, due_in, due_among, is_before, between}
-use Rattle.seq_order.proofs.Located.{eq_eq, ne_eq, lt_lt, ge_lt, if_true, if_false}
 
 pub data Each (P : Place → Type 0) : List Place → Type 0 where
   no_more : Each P []
@@ -39,14 +39,6 @@ ordered_map : (B C : Place → Place → Bool) (P : Place → Type 0) (us : List
 ordered_map B C P _ f no_more in_order = in_order
 ordered_map B C P _ f (and_then u us p h) (first _ _ a b g) =
     first u us (f u u p p ∙ a) (each_both P (λ w. B w u ≡ false) (λ w. C w u ≡ false) us (λ w q e. f w u q p ∙ e) h b) (ordered_map B C P us f h g)
-
-pub and_false : (a b : Bool) → b ≡ false → (a && b) ≡ false
-and_false true b h = h
-and_false false b h = refl
-
-pub both_true : (a b : Bool) → a ≡ true → b ≡ true → (a && b) ≡ true
-both_true true b h k = k
-both_true false b h k = h
 
 -- an event of the tree, due there
 pub record Due (taken : Taken) (k : ℕ) (t : Tree) (u : Place) : Type 0 where
@@ -87,10 +79,10 @@ mutual
   listed_due taken (node class ts) k =
       each_append (Due taken k (node class ts)) (operand_events taken class (taken k) 0 (suc k) ts) (own_events k class)
       (each_map (DueAmong taken class (taken k) 0 (suc k) ts) (Due taken k (node class ts)) (operand_events taken class (taken k) 0 (suc k) ts)
-      (λ u d. let l = d.low in let h = d.high in record { low = omega (arith, l); high = omega (arith, h); due = if_false _ _ _ (ne_eq u.node k (above k u.node l)) ∙ d.due })
+      (λ u d. let l = d.low in let h = d.high in record { low = omega (arith, l); high = omega (arith, h); due = if_false _ _ _ (number_other u.node k (above k u.node l)) ∙ d.due })
       (operands_due taken class (taken k) ts 0 (suc k)))
       (each_map (Own class k) (Due taken k (node class ts)) (own_events k class)
-      (λ u d. let e = d.at in record { low = omega (arith, e); high = omega (arith, e); due = if_true _ _ _ (eq_eq u.node k e) ∙ d.has })
+      (λ u d. let e = d.at in record { low = omega (arith, e); high = omega (arith, e); due = if_true _ _ _ (number_equal u.node k e) ∙ d.has })
       (own_at class k))
 
   operands_due : (taken : Taken) (class : Class) (choice : Option ℕ) (ts : Trees) (i m : ℕ) → Each (DueAmong taken class choice i m ts) (operand_events taken class choice i m ts)
@@ -99,15 +91,15 @@ mutual
       each_append (DueAmong taken class choice i m (more t ts)) (if goes class choice i then events taken m t else []) (operand_events taken class choice (suc i) (m + size t) ts)
       (each_if (DueAmong taken class choice i m (more t ts)) (goes class choice i) (events taken m t) (λ g.
       each_map (Due taken m t) (DueAmong taken class choice i m (more t ts)) (events taken m t)
-      (λ u d. let h = d.high in record { low = d.low; high = omega (arith, h); due = if_true _ _ _ (lt_lt u.node (m + size t) h) ∙ both_true _ _ g d.due })
+      (λ u d. let h = d.high in record { low = d.low; high = omega (arith, h); due = if_true _ _ _ (less_test u.node (m + size t) h) ∙ and_both _ _ g d.due })
       (listed_due taken t m)))
       (each_map (DueAmong taken class choice (suc i) (m + size t) ts) (DueAmong taken class choice i m (more t ts)) (operand_events taken class choice (suc i) (m + size t) ts)
-      (λ u d. let l = d.low in let h = d.high in record { low = omega (arith, l); high = omega (arith, h); due = if_false _ _ _ (ge_lt u.node (m + size t) l) ∙ d.due })
+      (λ u d. let l = d.low in let h = d.high in record { low = omega (arith, l); high = omega (arith, h); due = if_false _ _ _ (not_less_test u.node (m + size t) l) ∙ d.due })
       (operands_due taken class choice ts (suc i) (m + size t)))
 
 module _ (taken : Taken) where
   own_after : (k : ℕ) (class : Class) (ts : Trees) (a b : Kind) → own_rule class a b ≡ false → is_before taken k (node class ts) (place k a) (place k b) ≡ false
-  own_after k class ts a b h = if_true _ _ _ (eq_eq k k refl) ∙ and_false (k == k) (own_rule class a b) h
+  own_after k class ts a b h = if_true _ _ _ (number_equal k k refl) ∙ and_false (k == k) (own_rule class a b) h
 
   one_own : (k : ℕ) (class : Class) (ts : Trees) (a : Kind) → own_rule class a a ≡ false → Ordered (is_before taken k (node class ts)) (place k a ∷ [])
   one_own k class ts a h = first (place k a) [] (own_after k class ts a a h) no_more in_order
@@ -132,20 +124,20 @@ module _ (taken : Taken) where
 
   -- an event of the root doesn't come before one of an operand
   root_last : (k : ℕ) (class : Class) (ts : Trees) (u v : Place) → u.node ≡ k → suc k ≤ v.node → is_before taken k (node class ts) u v ≡ false
-  root_last k class ts u v e l = if_true _ _ _ (eq_eq u.node k e) ∙ ap (λ z. z && own_rule class u.kind v.kind) (ne_eq v.node k (above k v.node l))
+  root_last k class ts u v e l = if_true _ _ _ (number_equal u.node k e) ∙ ap (λ z. z && own_rule class u.kind v.kind) (number_other v.node k (above k v.node l))
 
   inside : (k : ℕ) (class : Class) (ts : Trees) (u v : Place) → suc k ≤ u.node → suc k ≤ v.node → is_before taken k (node class ts) u v ≡ between taken class (taken k) 0 (suc k) ts u v
-  inside k class ts u v l h = if_false _ _ _ (ne_eq u.node k (above k u.node l)) ∙ if_false _ _ _ (ne_eq v.node k (above k v.node h))
+  inside k class ts u v l h = if_false _ _ _ (number_other u.node k (above k u.node l)) ∙ if_false _ _ _ (number_other v.node k (above k v.node h))
 
   module _ (class : Class) (choice : Option ℕ) where
     in_first : (i m : ℕ) (t : Tree) (ts : Trees) (u v : Place) → u.node < m + size t → v.node < m + size t → between taken class choice i m (more t ts) u v ≡ is_before taken m t u v
-    in_first i m t ts u v l h = if_true _ _ _ (lt_lt u.node (m + size t) l) ∙ if_true _ _ _ (lt_lt v.node (m + size t) h)
+    in_first i m t ts u v l h = if_true _ _ _ (less_test u.node (m + size t) l) ∙ if_true _ _ _ (less_test v.node (m + size t) h)
 
     in_rest : (i m : ℕ) (t : Tree) (ts : Trees) (u v : Place) → m + size t ≤ u.node → m + size t ≤ v.node → between taken class choice i m (more t ts) u v ≡ between taken class choice (suc i) (m + size t) ts u v
-    in_rest i m t ts u v l h = if_false _ _ _ (ge_lt u.node (m + size t) l) ∙ if_false _ _ _ (ge_lt v.node (m + size t) h)
+    in_rest i m t ts u v l h = if_false _ _ _ (not_less_test u.node (m + size t) l) ∙ if_false _ _ _ (not_less_test v.node (m + size t) h)
 
     later_first : (i m : ℕ) (t : Tree) (ts : Trees) (u v : Place) → m + size t ≤ u.node → v.node < m + size t → between taken class choice i m (more t ts) u v ≡ false
-    later_first i m t ts u v l h = if_false _ _ _ (ge_lt u.node (m + size t) l) ∙ if_true _ _ _ (lt_lt v.node (m + size t) h)
+    later_first i m t ts u v l h = if_false _ _ _ (not_less_test u.node (m + size t) l) ∙ if_true _ _ _ (less_test v.node (m + size t) h)
 
   mutual
     -- no event of the listing comes before one that stands earlier

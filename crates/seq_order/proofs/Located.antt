@@ -1,6 +1,7 @@
 -- What the definitions that go down to the operand that holds a node find there.
 use Rattle.std.proofs.Common.{◌≡◌, ℕ, zero, suc, ◌+◌, ◌^◌, ◌<◌, ◌≤◌, Bool, true, false, not, ◌&&◌, ◌||◌, ◌==◌, nat_lt, if◌then◌else◌, Option, Some, None, refl, sym, ap, ◌∙◌, arith}
 use Rattle.std.proofs.lemmas.Bool.Decides.{nat_tests}
+use Rattle.ub_base.proofs.Tests.{number_other, less_test, not_less_test, if_true, if_false, some_is}
 use Rattle.ub_base.specs.declared.clause.Kind.{Kind}
 use Rattle.c_typed.specs.declared.tree.Place.{Place}
 use Rattle.c_typed.specs.declared.class.Class.{Class}
@@ -26,39 +27,6 @@ count (more t ts) = suc (count ts)
 next_plain : (m c : ℕ) → m + c < 2 ^ 32 → next_number m c ≡ m + c
 next_plain m c h = omega (arith, h)
 
-pub eq_eq : (a b : ℕ) → a ≡ b → (a == b) ≡ true
-eq_eq a b h = grind (arith, nat_tests, h)
-
-pub ne_eq : (a b : ℕ) → (a ≡ b → ⊥) → (a == b) ≡ false
-ne_eq a b h = grind (arith, nat_tests, h)
-
-pub lt_lt : (a b : ℕ) → a < b → nat_lt a b ≡ true
-lt_lt a b h = grind (arith, nat_tests, h)
-
-pub ge_lt : (a b : ℕ) → b ≤ a → nat_lt a b ≡ false
-ge_lt a b h = grind (arith, nat_tests, h)
-
-suc_eq : (a b : ℕ) → (suc a == suc b) ≡ (a == b)
-suc_eq a b = go (a == b) refl
-  where
-    go : (c : Bool) → (a == b) ≡ c → (suc a == suc b) ≡ c
-    go true h = grind (arith, nat_tests, h)
-    go false h = grind (arith, nat_tests, h)
-
-pub if_true : {A : Type 0} (b : Bool) (p q : A) → b ≡ true → (if b then p else q) ≡ p
-if_true true p q h = refl
-if_true false p q h = absurd (cc)
-
-pub if_false : {A : Type 0} (b : Bool) (p q : A) → b ≡ false → (if b then p else q) ≡ q
-if_false false p q h = refl
-if_false true p q h = absurd (cc)
-
-some_same : (x y : Spot) → Some x ≡ Some y → x ≡ y
-some_same x y h = cc
-
-some_tree : (x y : Tree) → Some x ≡ Some y → x ≡ y
-some_tree x y h = cc
-
 -- the same with numbers that have no end
 abbrev pub plain_among : ℕ → ℕ → Trees → ℕ → Option Spot
 plain_among i m none n = None
@@ -76,7 +44,7 @@ pub data Walk (n : ℕ) (a : Spot) (x : Tree) : ℕ → ℕ → Trees → Type 0
   on : (i m : ℕ) (t : Tree) (ts : Trees) → nat_lt n (m + size t) ≡ false → Walk n a x (suc i) (m + size t) ts → Walk n a x i m (more t ts)
 
 spot_step : (b : Bool) (i m : ℕ) (o : Option Spot) (a : Spot) {C : Type 0} → (if b then Some (spot_at i m) else o) ≡ Some a → (b ≡ true → a ≡ spot_at i m → C) → (b ≡ false → o ≡ Some a → C) → C
-spot_step true i m o a h f g = f refl (sym (some_same (spot_at i m) a h))
+spot_step true i m o a h f g = f refl (sym (some_is (spot_at i m) a h))
 spot_step false i m o a h f g = g refl h
 
 index_low : (ts : Trees) (i m n : ℕ) (a : Spot) → plain_among i m ts n ≡ Some a → i ≤ a.index
@@ -90,7 +58,7 @@ pub walk_of : (ts : Trees) (i m n j : ℕ) (a : Spot) (x : Tree) → plain_among
 walk_of none i m n j a x h e s = absurd (cc)
 walk_of (more t ts) i m n zero a x h e s =
     spot_step (nat_lt n (m + size t)) i m (plain_among (suc i) (m + size t) ts n) a h
-    (λ b q. here i m t ts b q (some_tree x t (sym s)))
+    (λ b q. here i m t ts b q (some_is x t (sym s)))
     (λ b q. absurd (let l = index_low ts (suc i) (m + size t) n a q in omega (arith, l, e)))
 walk_of (more t ts) i m n (suc j) a x h e s =
     spot_step (nat_lt n (m + size t)) i m (plain_among (suc i) (m + size t) ts n) a h
@@ -120,7 +88,7 @@ module _ (taken : Taken) (class : Class) (choice : Option ℕ) where
 
   last_is : (ts : Trees) → is_last ts ≡ (1 == suc (count ts))
   last_is none = refl
-  last_is (more t ts) = sym (ne_eq 1 (suc (suc (count ts))) (λ e. omega (arith, e)))
+  last_is (more t ts) = sym (number_other 1 (suc (suc (count ts))) (λ e. omega (arith, e)))
 
   pub walk_rise : (u : Place) (kind : Kind) (a : Spot) (x : Tree) (i m : ℕ) (ts : Trees) → Walk u.node a x i m ts
       → rises taken class choice i m ts u kind ≡ (lifts class choice a.index (suc a.index == i + count ts) kind || (not (is_body kind) && (not (is_quiet x) && to_val taken a.number x u)))
@@ -157,7 +125,7 @@ module _ (taken : Taken) (class : Class) (choice : Option ℕ) where
       step : (c : Bool) → (plain_among (suc j) (m + size t) ts n ≡ Some b → crosses class choice h (suc j) (m + size t) ts n ≡ across class choice h b.index)
           → (if c then Some (spot_at j m) else plain_among (suc j) (m + size t) ts n) ≡ Some b
           → (if c then across class choice h j else crosses class choice h (suc j) (m + size t) ts n) ≡ across class choice h b.index
-      step true f e = ap (λ (z : Spot). across class choice h z.index) (some_same (spot_at j m) b e)
+      step true f e = ap (λ (z : Spot). across class choice h z.index) (some_is (spot_at j m) b e)
       step false f e = f e
 
   crosses_lost : (h : ℕ) (ts : Trees) (j m n : ℕ) → plain_among j m ts n ≡ None → crosses class choice h j m ts n ≡ false
@@ -222,13 +190,13 @@ module _ (taken : Taken) (class : Class) (choice : Option ℕ) where
           → (plain_among (suc i) (m + size t) ts v.node ≡ Some b → suc i ≤ b.index)
           → (plain_among (suc i) (m + size t) ts u.node ≡ Some a → suc i ≤ a.index)
           → (if c then (if d then x else crosses class choice i (suc i) (m + size t) ts v.node) else (if d then false else between taken class choice (suc i) (m + size t) ts u v)) ≡ (nat_lt a.index b.index && across class choice a.index b.index)
-      step true true x h g f k l p = absurd (ne (ap (λ (z : Spot). z.index) (sym (some_same (spot_at i m) a h) ∙ some_same (spot_at i m) b g)))
+      step true true x h g f k l p = absurd (ne (ap (λ (z : Spot). z.index) (sym (some_is (spot_at i m) a h) ∙ some_is (spot_at i m) b g)))
       step true false x h g f k l p =
-          let e : i ≡ a.index = ap (λ (z : Spot). z.index) (some_same (spot_at i m) a h) in
+          let e : i ≡ a.index = ap (λ (z : Spot). z.index) (some_is (spot_at i m) a h) in
           let q = l g in
-          k g ∙ (ap (λ z. across class choice z b.index) e ∙ ap (λ z. z && across class choice a.index b.index) (sym (lt_lt a.index b.index (omega (arith, e, q)))))
+          k g ∙ (ap (λ z. across class choice z b.index) e ∙ ap (λ z. z && across class choice a.index b.index) (sym (less_test a.index b.index (omega (arith, e, q)))))
       step false true x h g f k l p =
-          let e : i ≡ b.index = ap (λ (z : Spot). z.index) (some_same (spot_at i m) b g) in
+          let e : i ≡ b.index = ap (λ (z : Spot). z.index) (some_is (spot_at i m) b g) in
           let q = p h in
-          ap (λ z. z && across class choice a.index b.index) (sym (ge_lt a.index b.index (omega (arith, e, q))))
+          ap (λ z. z && across class choice a.index b.index) (sym (not_less_test a.index b.index (omega (arith, e, q))))
       step false false x h g f k l p = f h g ne

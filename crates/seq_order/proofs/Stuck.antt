@@ -1,7 +1,7 @@
 -- Where an update is open and what comes before a done event is done, its effect is ready.
 use Rattle.std.proofs.Common.{◌≡◌, ℕ, suc, ◌+◌, ◌<◌, ◌≤◌, Bool, true, false, not, ◌&&◌, ◌||◌, ◌==◌, nat_lt, if◌then◌else◌, List, [], ◌∷◌, ◌++◌, Option, Some, None, refl, sym, ap, ◌∙◌, ◌⊎◌, inl, inr, true≢false, arith}
-use Rattle.std.proofs.lemmas.Bool.Decides.{nat_tests}
 use Rattle.std.specs.List.{list_all}
+use Rattle.ub_base.proofs.Tests.{number_is, or_cases, and_left, and_right, not_true, or_left, or_right, number_equal, number_other, less_test, not_less_test, if_true, if_false, and_both}
 use Rattle.ub_base.specs.declared.clause.Kind.{Kind}
 use Rattle.ub_base.specs.declared.clause.Kind.TheVariants.{Val, Eff, Body}
 use Rattle.c_typed.specs.declared.tree.Place.{Place}
@@ -12,28 +12,8 @@ use Rattle.c_typed.specs.Order.{Taken, goes, place, own_events, events, operand_
 use Rattle.c_typed.specs.Decide.{due_in, is_before, rises, between, earlier_done, first_place, canonical}
 use Rattle.seq_order.specs.Walks.{walked, is_left, is_free_beside}
 use Rattle.seq_order.specs.Closed.{IsClosed}
-use Rattle.seq_order.proofs.Located.{eq_eq, ne_eq, lt_lt, ge_lt, if_true, if_false}
-use Rattle.seq_order.proofs.Listing.{both_true, Each, no_more, and_then, Due, listed_due}
+use Rattle.seq_order.proofs.Listing.{Each, no_more, and_then, Due, listed_due}
 use Rattle.seq_order.proofs.Canonical.{first_beside, body_next}
-
-eq_of : (a b : ℕ) → (a == b) ≡ true → a ≡ b
-eq_of a b h = grind (arith, nat_tests, h)
-
-or_cases : (a b : Bool) → (a || b) ≡ true → (a ≡ true) ⊎ (b ≡ true)
-or_cases true b h = inl refl
-or_cases false b h = inr h
-
-and_l : (a b : Bool) → (a && b) ≡ true → a ≡ true
-and_l true b h = refl
-and_l false b h = h
-
-and_r : (a b : Bool) → (a && b) ≡ true → b ≡ true
-and_r true b h = h
-and_r false b h = absurd (true≢false (sym h))
-
-not_of : (b : Bool) → not b ≡ true → b ≡ false
-not_of true h = absurd (true≢false (sym h))
-not_of false h = refl
 
 data Among (u : Place) : List Place → Type 0 where
   now : (us : List Place) → Among u (u ∷ us)
@@ -100,10 +80,10 @@ module _ (taken : Taken) (done : Place → Bool) where
   led_own k ts w h = step (w.node == k) refl
     where
       step : (b : Bool) → (w.node == k) ≡ b → (w ≡ place k Val) ⊎ (is_before taken k (node Update ts) w (place k Val) ≡ true)
-      step true e = inl (same_place w k Val (eq_of w.node k e) (val_only w.kind (and_r (k == k) (own_rule Update w.kind Eff) (sym (if_true (w.node == k) _ _ e) ∙ h))))
+      step true e = inl (same_place w k Val (number_is w.node k e) (val_only w.kind (and_right (k == k) (own_rule Update w.kind Eff) (sym (if_true (w.node == k) _ _ e) ∙ h))))
       step false e =
-          let up : rises taken Update (taken k) 0 (suc k) ts w Eff ≡ true = sym (if_false (w.node == k) _ _ e ∙ if_true (k == k) _ _ (eq_eq k k refl)) ∙ h in
-          inr (if_false (w.node == k) _ _ e ∙ (if_true (k == k) _ _ (eq_eq k k refl) ∙ (sym (same_rise (taken k) ts 0 (suc k) w) ∙ up)))
+          let up : rises taken Update (taken k) 0 (suc k) ts w Eff ≡ true = sym (if_false (w.node == k) _ _ e ∙ if_true (k == k) _ _ (number_equal k k refl)) ∙ h in
+          inr (if_false (w.node == k) _ _ e ∙ (if_true (k == k) _ _ (number_equal k k refl) ∙ (sym (same_rise (taken k) ts 0 (suc k) w) ∙ up)))
 
   stuck_own : (class : Class) (k : ℕ) (ts : Trees) → (own_rule class Val Eff && (done (place k Val) && not (done (place k Eff)))) ≡ true
       → Stuck k (size (node class ts)) (events taken k (node class ts)) (is_before taken k (node class ts))
@@ -111,8 +91,8 @@ module _ (taken : Taken) (done : Place → Bool) where
     number = k;
     low = omega arith;
     high = omega arith;
-    value = and_l _ _ h;
-    effect = not_of _ (and_r (done (place k Val)) _ h);
+    value = and_left _ _ h;
+    effect = not_true _ (and_right (done (place k Val)) _ h);
     has_value = among_right (place k Val) (operand_events taken Update (taken k) 0 (suc k) ts) (own_events k Update) (now (place k Eff ∷ []));
     has_effect = among_right (place k Eff) (operand_events taken Update (taken k) 0 (suc k) ts) (own_events k Update) (later (place k Val) (place k Eff ∷ []) (now []));
     led = led_own k ts;
@@ -126,7 +106,7 @@ module _ (taken : Taken) (done : Place → Bool) where
   led_below k n class ts l f w h = step (w.node == k) refl
     where
       apart : (n == k) ≡ false
-      apart = ne_eq n k (λ e. omega (arith, e, l))
+      apart = number_other n k (λ e. omega (arith, e, l))
 
       step : (b : Bool) → (w.node == k) ≡ b → (w ≡ place n Val) ⊎ (is_before taken k (node class ts) w (place n Val) ≡ true)
       step true e = absurd (true≢false (sym h ∙ (if_true (w.node == k) _ _ e ∙ ap (λ z. z && own_rule class w.kind Eff) apart)))
@@ -141,7 +121,7 @@ module _ (taken : Taken) (done : Place → Bool) where
     led_first l f w h = step (nat_lt w.node (m + size t)) refl
       where
         near : nat_lt n (m + size t) ≡ true
-        near = lt_lt n (m + size t) l
+        near = less_test n (m + size t) l
 
         step : (b : Bool) → nat_lt w.node (m + size t) ≡ b → (w ≡ place n Val) ⊎ (between taken class choice i m (more t ts) w (place n Val) ≡ true)
         step true e = elim (f w (sym (if_true (nat_lt w.node (m + size t)) _ _ e ∙ if_true (nat_lt n (m + size t)) _ _ near) ∙ h)) [
@@ -156,7 +136,7 @@ module _ (taken : Taken) (done : Place → Bool) where
     led_rest l f w h = step (nat_lt w.node (m + size t)) refl
       where
         far : nat_lt n (m + size t) ≡ false
-        far = ge_lt n (m + size t) l
+        far = not_less_test n (m + size t) l
 
         step : (b : Bool) → nat_lt w.node (m + size t) ≡ b → (w ≡ place n Val) ⊎ (between taken class choice i m (more t ts) w (place n Val) ≡ true)
         step true e =
@@ -192,7 +172,7 @@ module _ (taken : Taken) (done : Place → Bool) where
     stuck_among class choice none i m h = absurd (true≢false (sym h))
     stuck_among class choice (more t ts) i m h = elim (or_cases (goes class choice i && update_is_open taken done m t) _ h) [
       | inl a ↦
-          (let s = stuck_in t m (and_r (goes class choice i) _ a) in
+          (let s = stuck_in t m (and_right (goes class choice i) _ a) in
           let g = s.high in
           let here = if goes class choice i then events taken m t else [] in
           let rest = operand_events taken class choice (suc i) (m + size t) ts in
@@ -202,8 +182,8 @@ module _ (taken : Taken) (done : Place → Bool) where
             high = omega (arith, g);
             value = s.value;
             effect = s.effect;
-            has_value = among_left (place s.number Val) here rest (among_if (place s.number Val) (goes class choice i) (events taken m t) (and_l _ _ a) s.has_value);
-            has_effect = among_left (place s.number Eff) here rest (among_if (place s.number Eff) (goes class choice i) (events taken m t) (and_l _ _ a) s.has_effect);
+            has_value = among_left (place s.number Val) here rest (among_if (place s.number Val) (goes class choice i) (events taken m t) (and_left _ _ a) s.has_value);
+            has_effect = among_left (place s.number Eff) here rest (among_if (place s.number Eff) (goes class choice i) (events taken m t) (and_left _ _ a) s.has_effect);
             led = led_first class choice i m s.number t ts g s.led;
           })
       | inr a ↦
@@ -226,15 +206,7 @@ module _ (taken : Taken) (done : Place → Bool) where
 
 all_listed : (P : Place → Type 0) (test : Place → Bool) (us : List Place) → ((u : Place) → P u → test u ≡ true) → Each P us → list_all test us ≡ true
 all_listed P test _ f no_more = refl
-all_listed P test _ f (and_then u us p h) = both_true (test u) _ (f u p) (all_listed P test us f h)
-
-or_a : (a b : Bool) → a ≡ true → (a || b) ≡ true
-or_a true b h = refl
-or_a false b h = absurd (true≢false (sym h))
-
-or_b : (a b : Bool) → b ≡ true → (a || b) ≡ true
-or_b true b h = refl
-or_b false b h = h
+all_listed P test _ f (and_then u us p h) = and_both (test u) _ (f u p) (all_listed P test us f h)
 
 none_undone : (done : Place → Bool) (us : List Place) → first_place (is_left done) us ≡ None → list_all done us ≡ true
 none_undone done [] h = refl
@@ -253,7 +225,7 @@ module _ (root : Tree) (taken : Taken) (done : Place → Bool) (closed : IsClose
       let dv = each_at (Due taken 0 root) v (events taken 0 root) (listed_due taken root 0) s.has_value in
       let ready : earlier_done root taken done u (events taken 0 root) ≡ true =
       all_listed (Due taken 0 root) (λ w. done w || not (is_before taken 0 root w u)) (events taken 0 root) (λ w d. before_done w d.due s.number s.value dv.due s.led) (listed_due taken root 0) in
-      let free : is_free_beside root taken done u ≡ true = both_true (not (done u)) _ (ap not s.effect) ready in
+      let free : is_free_beside root taken done u ≡ true = and_both (not (done u)) _ (ap not s.effect) ready in
       true≢false (sym free ∙ none_of (is_free_beside root taken done) u (events taken 0 root) (first_beside root taken done h ∙ over) s.has_effect)
     where
       before_done : (w : Place) → due_in taken 0 root w ≡ true → (n : ℕ) → done (place n Val) ≡ true → due_in taken 0 root (place n Val) ≡ true
@@ -262,8 +234,8 @@ module _ (root : Tree) (taken : Taken) (done : Place → Bool) (closed : IsClose
       before_done w d n vd dv led = step (is_before taken 0 root w (place n Eff)) refl
         where
           step : (c : Bool) → is_before taken 0 root w (place n Eff) ≡ c → (done w || not c) ≡ true
-          step false e = or_b (done w) true refl
-          step true e = or_a (done w) false (elim (led w e) [
+          step false e = or_right (done w) true refl
+          step true e = or_left (done w) false (elim (led w e) [
             | inl a ↦ ap done a ∙ vd
             | inr a ↦ closed w (place n Val) d dv a vd
           ])

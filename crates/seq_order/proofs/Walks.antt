@@ -21,16 +21,6 @@ first_append test (u ∷ us) vs = step (test u) (first_append test us vs)
     step true e = refl
     step false e = e
 
--- a node's events in two parts
-pub first_parts : (test : Place → Bool) (es us vs : List Place) → es ≡ us ++ vs → first_place test es ≡ or_else (first_place test us) (first_place test vs)
-first_parts test es us vs e = ap (first_place test) e ∙ first_append test us vs
-
-pub part_first : (test : Place → Bool) (es us vs : List Place) (u : Place) → es ≡ us ++ vs → Some u ≡ first_place test us → Some u ≡ first_place test es
-part_first test es us vs u e h = sym (first_parts test es us vs e ∙ ap (λ z. or_else z (first_place test vs)) (sym h))
-
-pub part_second : (test : Place → Bool) (es us vs : List Place) (o : Option Place) → es ≡ us ++ vs → None ≡ first_place test us → o ≡ first_place test vs → o ≡ first_place test es
-part_second test es us vs o e h g = g ∙ sym (first_parts test es us vs e ∙ ap (λ z. or_else z (first_place test vs)) (sym h))
-
 -- the listing from an operand on: its numbers, and what is found there is what is found at all
 pub record Walking (test : Place → Bool) (taken : Taken) (k : ℕ) (tree : Tree) (i number : ℕ) (ts : Trees) : Type 0 where
   pub room : number + sizes ts ≡ k + size tree

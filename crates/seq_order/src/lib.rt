@@ -11,13 +11,11 @@ mod rules;
 mod sequence;
 mod spot;
 mod taken;
-#[cfg(test)]
-mod tests;
 
 pub use done::{Done, Marks};
 pub use laws::law_canonical_end;
 pub use next::canonical_next;
-pub use ready::{due, permitted};
+pub use ready::{due, is_permitted, is_ready};
 pub use relations::Relation;
 pub use sequence::{before, relation};
 pub use taken::Taken;

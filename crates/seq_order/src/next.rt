@@ -63,7 +63,7 @@ fn first_left(
 }
 
 /// Some update stands between its value and its effect.
-fn update_is_open(tree: &Typed, k: u32, evaluated: bool, taken: &Taken, done: &Done) -> bool
+pub fn update_is_open(tree: &Typed, k: u32, evaluated: bool, taken: &Taken, done: &Done) -> bool
     ensures { k + nodes_of (tree_of tree.now) < 2 ^ 32 → result ≡ (evaluated && update_is_open (taken_in taken.now) (done_in done.now) k (tree_of tree.now)) }
 {
     if !evaluated {

@@ -1,20 +1,29 @@
 // Which events are ready.
 ghost use Rattle.std.specs.Prelude.{◌≡◌, ◌+◌, ◌<◌, ◌^◌};
 ghost use Rattle.c_typed.specs.Tree.{tree_of, size as nodes_of};
-ghost use Rattle.c_typed.specs.Decide.{due_in, first_place, is_ready};
+ghost use Rattle.c_typed.specs.Decide.{due_in, first_place, is_ready, is_permitted};
 ghost use Rattle.seq_order.specs.Marked.{taken_in, done_in};
 ghost use Rattle.seq_order.specs.Walks.{walked, events_if, hinders, is_free};
 
+use crate::next::update_is_open;
 use crate::own::own_hindrance;
-use crate::rules::{goes, has_kind};
+use crate::rules::{goes, has_kind, is_body};
 use crate::spot::locate;
 use crate::{Done, Taken};
 use c_typed::{Place, Typed, class_of, size};
 
-/// Whether the event is ready: due, not done, and all that is sequenced before it done. It doesn't ask that a body stays
-/// clear of the halves of an update. It costs a walk over the whole tree, with a look at the order for each event that
-/// isn't done.
-pub fn permitted(root: &Typed, p: Place, taken: &Taken, done: &Done) -> bool
+/// Whether the event may be picked next: it is ready, and no body that would come between the halves of an update, which
+/// is one evaluation with respect to a call (6.5.2.4p2, 6.5.16.2p3). It costs what `is_ready` does.
+pub fn is_permitted(root: &Typed, p: Place, taken: &Taken, done: &Done) -> bool
+    ensures { nodes_of (tree_of root.now) < 2 ^ 32 → result ≡ is_permitted (tree_of root.now) (taken_in taken.now) (done_in done.now) p }
+{
+    is_ready(root, p, taken, done)
+        && !(is_body(p.kind) && update_is_open(root, 0, true, taken, done))
+}
+
+/// Whether the event is ready: due, not done, and all that is sequenced before it done. It costs a walk over the whole
+/// tree, with a look at the order for each event that isn't done.
+pub fn is_ready(root: &Typed, p: Place, taken: &Taken, done: &Done) -> bool
     ensures { nodes_of (tree_of root.now) < 2 ^ 32 → result ≡ is_ready (tree_of root.now) (taken_in taken.now) (done_in done.now) p }
 {
     is_due(root, 0, p, taken) && is_free(root, p, taken, done)

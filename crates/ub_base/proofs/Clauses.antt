@@ -80,7 +80,7 @@ found_step true y x rest p is e more = let same : y ≡ x = cc in ap p (sym same
 found_step false y x rest p is e more = more e
 
 -- what is found passes the test
-found_passes : (p : Clause → Bool) (xs : List Clause) (x : Clause) → find p xs ≡ Some x → p x ≡ true
+pub found_passes : (p : Clause → Bool) (xs : List Clause) (x : Clause) → find p xs ≡ Some x → p x ≡ true
 found_passes p [] x e = absurd (none-some x e)
 found_passes p (y ∷ ys) x e = found_step (p y) y x (find p ys) p refl e (found_passes p ys x)
 

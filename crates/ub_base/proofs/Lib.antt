@@ -3,3 +3,4 @@ pub mod Puts
 pub mod FrameLemmas
 pub mod NameLemmas
 pub mod Paths
+pub mod Tests

@@ -1,5 +1,5 @@
 -- Two names tie in their order exactly where they are one.
-use Rattle.std.proofs.Common.{◌≡◌, ℕ, Bool, true, false, ◌&&◌, refl, sym, ◌∙◌, ap, arith}
+use Rattle.std.proofs.Common.{◌≡◌, ℕ, Bool, true, ◌&&◌, refl, sym, ◌∙◌, arith}
 use Rattle.std.specs.declared.cmp.Ordering.{Ordering}
 use Rattle.std.specs.declared.cmp.Ordering.TheVariants.{Less, Equal, Greater}
 use Rattle.std.proofs.lemmas.Bool.Decides.{nat_tests}
@@ -13,6 +13,7 @@ use Rattle.ub_base.specs.declared.names.ObjName.{ObjName}
 use Rattle.ub_base.specs.declared.names.ObjName.TheVariants.{Static, Lit, Argv, Arg, Auto, Heap}
 use Rattle.ub_base.specs.Names.{same_kind, same_event, same_object}
 use Rattle.ub_base.specs.NameOrders.{kind_cmp, event_cmp, object_cmp}
+use Rattle.ub_base.proofs.Tests.{and_parts, number_is}
 
 pub same_object_refl : (x : ObjName) → same_object x x ≡ true
 same_object_refl (Static k) = grind (arith, nat_tests)
@@ -31,15 +32,15 @@ same_object_is (Auto f t k) (Auto g u l) h = grind (arith, nat_tests)
 same_object_is (Heap f t k) (Heap g u l) h = grind (arith, nat_tests)
 same_object_is _ _ h = absurd (cc)
 
-is_eq-then : (o p : Ordering) → is_eq (ordering_then o p) ≡ is_eq o && is_eq p
+pub is_eq-then : (o p : Ordering) → is_eq (ordering_then o p) ≡ is_eq o && is_eq p
 is_eq-then Less p = refl
 is_eq-then Equal p = refl
 is_eq-then Greater p = refl
 
-then_ties : (o p : Ordering) (b c : Bool) → is_eq o ≡ b → is_eq p ≡ c → is_eq (ordering_then o p) ≡ b && c
+pub then_ties : (o p : Ordering) (b c : Bool) → is_eq o ≡ b → is_eq p ≡ c → is_eq (ordering_then o p) ≡ b && c
 then_ties o p b c e f = rw (is_eq-then, e, f)
 
-numbers_tie : (m n : ℕ) → is_eq (nat_cmp m n) ≡ (m == n)
+pub numbers_tie : (m n : ℕ) → is_eq (nat_cmp m n) ≡ (m == n)
 numbers_tie m n = sym (unsigned_ties m n)
 
 three_ties : (a b c d e f : ℕ) → is_eq (ordering_then (nat_cmp a b) (ordering_then (nat_cmp c d) (nat_cmp e f))) ≡ (a == b) && ((c == d) && (e == f))
@@ -69,18 +70,11 @@ same_kind_is _ _ h = absurd (cc)
 pub same_event_refl : (e : Event) → same_event e e ≡ true
 same_event_refl e = grind (arith, nat_tests, same_kind_refl e.kind)
 
-both : (a b : Bool) → (a && b) ≡ true → (a ≡ true) × (b ≡ true)
-both true b h = (refl, h)
-both false b h = absurd (cc)
-
-number_is : (m n : ℕ) → (m == n) ≡ true → m ≡ n
-number_is m n h = grind (arith, nat_tests)
-
 pub same_event_is : (d e : Event) → same_event d e ≡ true → d ≡ e
 same_event_is d e h =
-    let frames = both _ _ h in
-    let turns = both _ _ frames.1 in
-    let nodes = both _ _ turns.1 in
+    let frames = and_parts _ _ h in
+    let turns = and_parts _ _ frames.1 in
+    let nodes = and_parts _ _ turns.1 in
     let f = number_is _ _ frames.0 in
     let t = number_is _ _ turns.0 in
     let n = number_is _ _ nodes.0 in

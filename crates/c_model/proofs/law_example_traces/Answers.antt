@@ -2,17 +2,17 @@ use Rattle.std.proofs.Common.{ℕ, zero, suc, Bool, ◌||◌, List, [], ◌∷�
 use Rattle.ub_base.specs.declared.clause.Kind.TheVariants.{Val, Eff, Body}
 use Rattle.c_typed.specs.declared.tree.Place.{Place}
 use Rattle.c_typed.specs.Order.{place, same_place}
-use Rattle.c_model.specs.Runs.{Entry}
+use Rattle.c_model.specs.Runs.{Entry, trace_of}
 use Rattle.c_model.specs.Findings.{first, later, newest, older, raised, raced}
-use Rattle.c_model.specs.Examples.{canonical_run, trace_of, local_rows, global_rows, self_increment, print_both, increment_and_call, quit_beside, HoldsRace}
+use Rattle.c_model.specs.Examples.{world_of, canonical_run, local_rows, global_rows, self_increment, print_both, increment_and_call, quit_beside, HoldsRace}
 use Rattle.c_model.proofs.Reach.{apart_by}
 use Rattle.c_model.proofs.law_example_traces.Goals as goal
 
 nothing : Entry
-nothing = record { path = []; turn = 0; place = None; begun = None; items = [] }
+nothing = record { path = []; turn = 0; place = None; begun = None; line = 0; items = [] }
 
 abbrev nth : ℕ → List Entry → Entry
-nth n [] = record { path = []; turn = 0; place = None; begun = None; items = [] }
+nth n [] = record { path = []; turn = 0; place = None; begun = None; line = 0; items = [] }
 nth zero (e ∷ es) = e
 nth (suc n) (e ∷ es) = nth n es
 
@@ -29,7 +29,7 @@ or_three u v w p = same_place u p || (same_place v p || same_place w p)
 abbrev self : List Entry
 self = trace_of (canonical_run self_increment local_rows 10)
 
-race : HoldsRace local_rows (canonical_run self_increment local_rows 10) 3 (place 0 Eff) (place 2 Eff)
+race : HoldsRace (world_of self_increment local_rows) (canonical_run self_increment local_rows 10) 3 (place 0 Eff) (place 2 Eff)
 race = record {
   newer = nth 0 self;
   older = nth 2 self;
@@ -47,7 +47,7 @@ pub returns-clause-self_increment : goal.returns-clause-self_increment
 returns-clause-self_increment c = race
 
 pub returns-clause-meets : goal.returns-clause-meets
-returns-clause-meets c = raced (canonical_run self_increment local_rows 10) self race.newer race.older (place 0 Eff) (place 2 Eff) race.race
+returns-clause-meets c = raced (canonical_run self_increment local_rows 10) race.newer race.older (place 0 Eff) (place 2 Eff) race.race
 
 abbrev prints : List Entry
 prints = trace_of (canonical_run print_both [] 6)

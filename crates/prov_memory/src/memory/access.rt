@@ -3,11 +3,11 @@ ghost use Rattle.std.specs.Prelude.{◌≡◌, ◌++◌, ◌∷◌, [], IfOk, If
 ghost use Rattle.ub_base.specs.declared.names.Item.TheVariants.{Alive};
 ghost use Rattle.addr_map.specs.Rows.{row_of};
 ghost use Rattle.exposure.specs.Cells.{kept_in, has_cell, is_other};
-ghost use Rattle.prov_memory.specs.Acts as acts;
-ghost use Rattle.prov_memory.specs.Acts.{in_row};
-ghost use Rattle.prov_memory.specs.Store.{Store};
-ghost use Rattle.prov_memory.specs.Script.{run, Done, Raised};
-ghost use Rattle.prov_memory.specs.Streams.{Io};
+ghost use Rattle.mem_spec.specs.Acts as acts;
+ghost use Rattle.mem_spec.specs.Acts.{in_row};
+ghost use Rattle.mem_spec.specs.Store.{Store};
+ghost use Rattle.mem_spec.specs.Script.{run, Done, Raised};
+ghost use Rattle.mem_spec.specs.Streams.{Io};
 ghost use Rattle.prov_memory.specs.Held.{held_of};
 ghost use Rattle.prov_memory.specs.Memory.{Kept, store_of, life_in};
 ghost use Rattle.prov_memory.specs.Made.{CanSettle, after_settling, settling_items};

@@ -3,14 +3,15 @@ ghost use Rattle.std.specs.Prelude.{◌≡◌, ℕ, ◌+◌, ◌<◌, ◌≤◌,
 ghost use Rattle.ub_base.specs.Names.{same_event, same_object};
 ghost use Rattle.ub_base.specs.declared.names.Item.TheVariants.{Alive, Expose, Read};
 ghost use Rattle.c_types.specs.Types.{type_of};
+ghost use Rattle.c_types.specs.Same.{agrees};
 ghost use Rattle.c_types.specs.Shapes.{form_of};
-ghost use Rattle.prov_memory.specs.Agreement as agreement;
-ghost use Rattle.prov_memory.specs.Agreement.{suits_form};
-ghost use Rattle.prov_memory.specs.Acts as acts;
-ghost use Rattle.prov_memory.specs.Acts.{candidates, origins_in, tag_agrees, tags_agree};
-ghost use Rattle.prov_memory.specs.Script.{run, Done, Raised};
-ghost use Rattle.prov_memory.specs.Store.{is_live};
-ghost use Rattle.prov_memory.specs.Streams.{Io};
+ghost use Rattle.mem_spec.specs.Agreement as agreement;
+ghost use Rattle.mem_spec.specs.Agreement.{suits_form};
+ghost use Rattle.mem_spec.specs.Acts as acts;
+ghost use Rattle.mem_spec.specs.Acts.{candidates, origins_in, tag_agrees, tags_agree};
+ghost use Rattle.mem_spec.specs.Script.{run, Done, Raised};
+ghost use Rattle.mem_spec.specs.Store.{is_live};
+ghost use Rattle.mem_spec.specs.Streams.{Io};
 ghost use Rattle.prov_memory.specs.Cells.{byte_in, cell_at, tag_in};
 ghost use Rattle.prov_memory.specs.Held.{Held, held_of};
 ghost use Rattle.prov_memory.specs.Memory.{Kept, HasCell, AreKnown, life_in, store_of, uncovered_each};
@@ -24,7 +25,7 @@ use super::access::Accessed;
 use super::*;
 use crate::cell::{State, value_of};
 use crate::{MemFault, Value};
-use c_types::IntKind;
+use c_types::{IntKind, agrees};
 use ub_base::Clause;
 
 impl Memory {
@@ -433,13 +434,7 @@ fn fits_shape(shape: &Shape, ty: &Ty, from: u64) -> bool
 
 /// Whether the tag is that of this byte of a scalar of the type, with which the access agrees.
 fn fits_tag(ty: &Ty, known: &Ty, tag_index: u8, index: u64) -> bool
-    ensures { result ≡ (tag_index == index && agreement.agrees (type_of ty.now) (type_of known.now)) }
+    ensures { result ≡ (tag_index == index && agrees (type_of ty.now) (type_of known.now)) }
 {
     u64::from(tag_index) == index && agrees(ty, known)
-}
-
-fn agrees(ty: &Ty, known: &Ty) -> bool
-    ensures { result ≡ agreement.agrees (type_of ty.now) (type_of known.now) }
-{
-    c_types::agrees(ty, known)
 }

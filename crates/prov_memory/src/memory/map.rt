@@ -6,10 +6,10 @@ ghost use Rattle.prov_memory.specs.declared.answer.CreateFault.TheVariants.{Unpl
 ghost use Rattle.c_types.specs.Shapes.{form_of};
 ghost use Rattle.exposure.specs.declared.prov.Prov.{Prov};
 ghost use Rattle.exposure.specs.declared.prov.Prov.TheVariants.{Whole};
-ghost use Rattle.prov_memory.specs.Acts as acts;
-ghost use Rattle.prov_memory.specs.Acts.{candidates};
-ghost use Rattle.prov_memory.specs.Script.{run, Done};
-ghost use Rattle.prov_memory.specs.Streams.{Io};
+ghost use Rattle.mem_spec.specs.Acts as acts;
+ghost use Rattle.mem_spec.specs.Acts.{candidates};
+ghost use Rattle.mem_spec.specs.Script.{run, Done};
+ghost use Rattle.mem_spec.specs.Streams.{Io};
 ghost use Rattle.prov_memory.specs.Held.{changed, uncovered};
 ghost use Rattle.prov_memory.specs.Made.{AreNamed, IsMade};
 ghost use Rattle.prov_memory.specs.Sound.{IsSound};

@@ -5,7 +5,8 @@ ghost use Rattle.prov_memory.specs.Cells.{tagged_in};
 ghost use Rattle.prov_memory.specs.Made.{AreNamed, IsMade};
 ghost use Rattle.prov_memory.specs.Loads.{IfPointer};
 ghost use Rattle.prov_memory.specs.Sound.{IsSound};
-ghost use Rattle.prov_memory.specs.Pieces.{IsMadeValue, seen, value_bytes, number_bytes, pointer_bytes, piece_cells, plain_cells};
+ghost use Rattle.mem_spec.specs.Bytes.{number_bytes, pointer_bytes};
+ghost use Rattle.prov_memory.specs.Pieces.{IsMadeValue, seen, value_bytes, piece_cells, plain_cells};
 
 use super::*;
 use crate::cell::{low_bits, number_of, pointer_in, value_of};

@@ -2,7 +2,7 @@
 ghost use Rattle.std.specs.Prelude.{◌≡◌, ◌≤◌, ◌+◌, [], Some, length, map, option_map, IfOk, IfSome, OnOk};
 ghost use Rattle.c_types.specs.Types.{type_of};
 ghost use Rattle.c_types.specs.Shapes.{form_of};
-ghost use Rattle.prov_memory.specs.Agreement.{read_as_int};
+ghost use Rattle.mem_spec.specs.Agreement.{read_as_int};
 ghost use Rattle.prov_memory.specs.Cells.{tagged_in, type_numbered};
 ghost use Rattle.exposure.specs.declared.prov.Prov.{Prov};
 ghost use Rattle.prov_memory.specs.Made.{IsMade};

@@ -1,9 +1,9 @@
 // Loads of structures and unions.
 ghost use Rattle.std.specs.Prelude.{◌≡◌, ◌+◌, ◌≤◌, ◌^◌, [], Some, length, slice_get, option_map, IfOk, IfErr, OnOk};
 ghost use Rattle.c_types.specs.Shapes.{form_of};
-ghost use Rattle.prov_memory.specs.Acts as acts;
-ghost use Rattle.prov_memory.specs.Script.{run, Done, Raised};
-ghost use Rattle.prov_memory.specs.Streams.{Io};
+ghost use Rattle.mem_spec.specs.Acts as acts;
+ghost use Rattle.mem_spec.specs.Script.{run, Done, Raised};
+ghost use Rattle.mem_spec.specs.Streams.{Io};
 ghost use Rattle.prov_memory.specs.Held.{Held};
 ghost use Rattle.prov_memory.specs.Memory.{HasCell, AreKnown, CellsKnown, store_of};
 ghost use Rattle.prov_memory.specs.Made.{IsMade};

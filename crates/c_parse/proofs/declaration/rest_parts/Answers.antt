@@ -1,6 +1,6 @@
 use Rattle.std.proofs.Common.{rules, arith}
 use Rattle.std.proofs.lemmas.Grind.{common_steps}
-use Rattle.c_cursor.proofs.Turns.{one_more, no_more}
+use Rattle.parse_cursor.proofs.Turns.{one_more, no_more}
 use Rattle.parse_spec.specs.Declarations.{parts_from}
 use Rattle.c_parse.proofs.declaration.rest_parts.Goals as goal
 

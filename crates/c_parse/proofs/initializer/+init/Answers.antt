@@ -1,6 +1,6 @@
 use Rattle.std.proofs.Common.{◌≡◌, ◌∙◌, ap, rules, arith}
 use Rattle.std.proofs.lemmas.Grind.{common_steps}
-use Rattle.c_cursor.proofs.Turns.{one_more, no_more, deeper}
+use Rattle.parse_cursor.proofs.Turns.{one_more, no_more, deeper}
 use Rattle.parse_spec.specs.Initializers.{initializer, one_initializer, initializer_at, entries_from}
 use Rattle.c_parse.proofs.Steps.{entries_more}
 use Rattle.c_parse.proofs.initializer.+init.Goals as goal

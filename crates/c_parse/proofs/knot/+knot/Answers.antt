@@ -1,6 +1,6 @@
 use Rattle.std.proofs.Common.{◌≡◌, ap, arith}
-use Rattle.c_cursor.proofs.Turns.{deeper}
-use Rattle.c_cursor.specs.Places.{mode_of, allowed_in}
+use Rattle.parse_cursor.proofs.Turns.{deeper}
+use Rattle.parse_cursor.specs.Places.{mode_of, allowed_in}
 use Rattle.parse_spec.specs.Nested.{expr, declarator, specs}
 use Rattle.c_parse.proofs.knot.+knot.Goals as goal
 

@@ -1,5 +1,5 @@
 use Rattle.std.proofs.Common.{◌≡◌, ap, arith}
-use Rattle.c_cursor.proofs.Turns.{deeper}
+use Rattle.parse_cursor.proofs.Turns.{deeper}
 use Rattle.parse_spec.specs.Statements.{statement}
 use Rattle.c_parse.proofs.statement.+stmt.Goals as goal
 

@@ -2,7 +2,7 @@ use Rattle.std.proofs.Common.{arith}
 use Rattle.c_parse.proofs.Faults.{syntax_is_not_memory}
 use Rattle.parse_complete.proofs.Units.{trees_are_unique, refused_is_unspelled}
 use Rattle.parse_sound.proofs.Units.{trees_spell}
-use Rattle.tree_names.proofs.Units.{trees_name}
+use Rattle.parse_names.proofs.Units.{trees_name}
 use Rattle.c_parse.proofs.unit.parse.Goals as goal
 
 pub returns-clause-spells : goal.returns-clause-spells

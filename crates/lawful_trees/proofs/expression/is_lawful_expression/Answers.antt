@@ -5,11 +5,12 @@ use Rattle.lawful_trees.specs.Places.{use_of}
 use Rattle.lawful_trees.proofs.Operands.{type_at-root}
 use Rattle.lawful_trees.proofs.expression.is_lawful_expression.Goals as goal
 
-pub returns-then-use_fits : goal.returns-then-use_fits
-returns-then-use_fits c = λ h.
+pub returns-then-initial : goal.returns-then-initial
+returns-then-initial c = λ h.
     let P : CType → Type 0 = UseFits c.args.program.now (signature_of c.args.owner.now) (use_of c.args.purpose) in
     record {
       nodes = c.is_lawful_tree.ensures h;
-      fits = subst P (sym (type_at-root c.args.tree.now)) (c.use_fits.ensures c.if-use_fits.true c.args.program.now);
+      fits = subst P (sym (type_at-root c.args.tree.now)) (c.use_fits.ensures c.if-not-use_fits.false c.args.program.now);
+      initial = c.in_ok-initial.ensures c.if-initial.true;
       few = omega arith;
     }

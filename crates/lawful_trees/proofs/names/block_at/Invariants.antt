@@ -6,4 +6,4 @@ use Rattle.lawful_trees.proofs.names.block_at.Given as goal
 
 -- what is found and what is left give the block
 abbrev pub invariant-loop-block : goal.invariant-loop-block
-invariant-loop-block l = block_from (block_seen l.found) l.number (drop l.block-index l.around) ≡ blocks_of no_block l.around l.number
+invariant-loop-block l = block_from (block_seen l.found) l.number (drop l.block-index l.around) ≡ (blocks_of no_block l.around).objects l.number

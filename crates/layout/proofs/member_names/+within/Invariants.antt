@@ -5,10 +5,13 @@ use Rattle.layout.specs.Listed.{nearer}
 use Rattle.layout.proofs.member_names.+within.Given as goal
 
 abbrev pub decreases-find_within : goal.decreases-find_within
-decreases-find_within l = 2 * l.depth
+decreases-find_within l = 3 * l.depth
 
 abbrev pub decreases-found_at : goal.decreases-found_at
-decreases-found_at l = 2 * l.depth + 1
+decreases-found_at l = 3 * l.depth + 2
+
+abbrev pub decreases-find_inside : goal.decreases-find_inside
+decreases-find_inside l = 3 * l.depth + 1
 
 -- what is left decides
 abbrev pub invariant-find_within-loop-i : goal.invariant-find_within-loop-i

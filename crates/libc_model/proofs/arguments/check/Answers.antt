@@ -1,6 +1,6 @@
 use Rattle.std.proofs.Common.{◌≤◌, true, arith, subst, Option}
 use Rattle.std.proofs.lemmas.Result.{err_from_is_err_and}
-use Rattle.prov_memory.specs.Acts.{argument_object}
+use Rattle.mem_spec.specs.Acts.{argument_object}
 use Rattle.ub_base.specs.declared.names.ObjName.{ObjName}
 use Rattle.libc_model.specs.Parts.{Gives}
 use Rattle.libc_model.proofs.Checking.{no_object, open_object, no_range, one_range, grows_by}

@@ -1,7 +1,7 @@
 use Rattle.std.proofs.Common.{◌<◌, ◌∙◌, ◌++◌, ◌∷◌, [], true, ap, length, refl, subst, Option}
 use Rattle.ub_base.specs.declared.names.Item.{Item}
 use Rattle.std.specs.Prelude.{IfSome}
-use Rattle.prov_memory.specs.Acts.{Accessed, argument}
+use Rattle.mem_spec.specs.Acts.{Accessed, argument}
 use Rattle.libc_model.specs.declared.arguments.Range.{Range}
 use Rattle.libc_model.specs.Parts.{Gives, accessed_if}
 use Rattle.std.proofs.lemmas.Result.{err_from_is_err_and}

@@ -1,7 +1,7 @@
 use Rattle.std.proofs.Common.{◌≡◌, ◌-◌, ◌+◌, ◌∙◌, ap, sym, Option, Some, arith, ℕ}
 use Rattle.addr_map.specs.declared.map.Row.{Row}
 use Rattle.addr_map.specs.Rows.{row_of}
-use Rattle.prov_memory.specs.Acts.{size_in}
+use Rattle.mem_spec.specs.Acts.{size_in}
 use Rattle.libc_model.specs.Parts.{byte_at, string_size}
 use Rattle.libc_model.proofs.Checking.{more_by, more_none, size_goes_on, size_here, size_ends}
 use Rattle.libc_model.proofs.arguments.string_size.Goals as goal

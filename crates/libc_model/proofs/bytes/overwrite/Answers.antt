@@ -1,6 +1,6 @@
 use Rattle.std.proofs.Common.{List, length, sym, subst}
 use Rattle.prov_memory.specs.declared.cell.Cell.{Cell}
-use Rattle.prov_memory.specs.Acts.{bytes}
+use Rattle.mem_spec.specs.Acts.{bytes}
 use Rattle.prov_memory.specs.Memory.{CellsKnown}
 use Rattle.libc_model.proofs.Writing.{overwrite_done, plain_known}
 use Rattle.libc_model.proofs.bytes.overwrite.Goals as goal

@@ -7,7 +7,7 @@ pub returns-in_err-check_output-clause-exact : goal.returns-in_err-check_output-
 returns-in_err-check_output-clause-exact c =
     let p = err_from_is_err_and c.from_residual.result c.from_residual.ensures.1 in
     rw (p.1, p.2) (λ script within g.
-    let past : length c.args.io.now.output + length c.args.bytes.now < 2 ^ 64 = omega (arith, within.written) in
+    let past : length c.args.io.now.output + length c.args.bytes.now < 2 ^ 64 = omega (arith, within) in
     print_past c.args.m.now c.args.io.now c.args.t.now c.args.bytes.now script c.in_err-check_output.field-0.0 c.check_output.result g c.in_err-check_output.was (c.check_output.ensures.past past))
 
 pub returns-clause-exact : goal.returns-clause-exact

@@ -11,12 +11,12 @@ use Rattle.libc_model.proofs.calls.value_of.Goals as goal
 pub returns-in-Malloc-clause-exact : goal.returns-in-Malloc-clause-exact
 returns-in-Malloc-clause-exact c =
     arm c.args.f Malloc c.allocate.new.m.rows (values_seen c.args.args.now) c.args.who c.args.m.now c.args.io.now (answer_in c.allocate.result) c.allocate.new.t (store_of c.allocate.new.m c.args.io.now) (store_of c.args.m.now c.args.io.now) c.in-Malloc.is
-    (λ call. malloc_called c.allocate.new.m.rows (values_seen c.args.args.now) c.args.who c.size_at.result (store_of c.args.m.now c.args.io.now) (store_of c.allocate.new.m c.args.io.now) c.allocate.result c.allocate.new.t call.streams.taken call.streams.written (c.size_at.ensures (first_size (values_seen c.args.args.now) call.sizes)) (c.allocate.ensures.exact c.args.io.now call.known))
+    (λ call. malloc_called c.allocate.new.m.rows (values_seen c.args.args.now) c.args.who c.size_at.result (store_of c.args.m.now c.args.io.now) (store_of c.allocate.new.m c.args.io.now) c.allocate.result c.allocate.new.t call.streams (c.size_at.ensures (first_size (values_seen c.args.args.now) call.sizes)) (c.allocate.ensures.exact c.args.io.now call.known))
 
 pub returns-in-Calloc-clause-exact : goal.returns-in-Calloc-clause-exact
 returns-in-Calloc-clause-exact c =
     arm c.args.f Calloc c.allocate_zeros.new.m.rows (values_seen c.args.args.now) c.args.who c.args.m.now c.args.io.now (answer_in c.allocate_zeros.result) c.allocate_zeros.new.t (store_of c.allocate_zeros.new.m c.args.io.now) (store_of c.args.m.now c.args.io.now) c.in-Calloc.is
-    (λ call. calloc_called c.allocate_zeros.new.m.rows (values_seen c.args.args.now) c.args.who (store_of c.args.m.now c.args.io.now) (store_of c.allocate_zeros.new.m c.args.io.now) c.allocate_zeros.result c.allocate_zeros.new.t call.streams.taken call.streams.written (c.allocate_zeros.ensures.exact c.args.io.now call.sizes call.known call.high))
+    (λ call. calloc_called c.allocate_zeros.new.m.rows (values_seen c.args.args.now) c.args.who (store_of c.args.m.now c.args.io.now) (store_of c.allocate_zeros.new.m c.args.io.now) c.allocate_zeros.result c.allocate_zeros.new.t call.streams (c.allocate_zeros.ensures.exact c.args.io.now call.sizes call.known call.high))
 
 pub returns-in-Strlen-clause-exact : goal.returns-in-Strlen-clause-exact
 returns-in-Strlen-clause-exact c =
@@ -86,4 +86,4 @@ returns-in-Memmove-clause-exact c =
 pub returns-in-Realloc-clause-exact : goal.returns-in-Realloc-clause-exact
 returns-in-Realloc-clause-exact c =
     arm c.args.f Realloc c.reallocate.new.m.rows (values_seen c.args.args.now) c.args.who c.args.m.now c.args.io.now (answer_in c.reallocate.result) c.reallocate.new.t (store_of c.reallocate.new.m c.args.io.now) (store_of c.args.m.now c.args.io.now) c.in-Realloc.is
-    (λ call. realloc_called c.reallocate.new.m.rows (values_seen c.args.args.now) c.args.who (store_of c.args.m.now c.args.io.now) (store_of c.reallocate.new.m c.args.io.now) c.reallocate.result c.reallocate.new.t call.streams.taken call.streams.written (c.reallocate.ensures.exact c.args.io.now call))
+    (λ call. realloc_called c.reallocate.new.m.rows (values_seen c.args.args.now) c.args.who (store_of c.args.m.now c.args.io.now) (store_of c.reallocate.new.m c.args.io.now) c.reallocate.result c.reallocate.new.t call.streams (c.reallocate.ensures.exact c.args.io.now call))

@@ -1,7 +1,7 @@
 use Rattle.std.proofs.Common.{None}
-use Rattle.prov_memory.specs.Acts.{create}
+use Rattle.mem_spec.specs.Acts.{create}
 use Rattle.prov_memory.specs.Memory.{store_of}
-use Rattle.prov_memory.specs.Script.{run}
+use Rattle.mem_spec.specs.Script.{run}
 use Rattle.libc_spec.specs.Library.{heap_kind}
 use Rattle.libc_model.proofs.Allocating.{created_done}
 use Rattle.libc_model.proofs.heap.created.Goals as goal

@@ -2,7 +2,7 @@ use Rattle.std.proofs.Common.{◌≡◌, ◌∙◌, ap, min, ℕ, List}
 use Rattle.std.proofs.lemmas.Result.{err_from_is_err_and}
 use Rattle.addr_map.specs.declared.map.Row.{Row}
 use Rattle.addr_map.specs.Rows.{row_of}
-use Rattle.prov_memory.specs.Acts.{size_in}
+use Rattle.mem_spec.specs.Acts.{size_in}
 use Rattle.prov_memory.specs.Memory.{Kept, store_of}
 use Rattle.libc_model.proofs.Moving.{kept_known}
 use Rattle.libc_model.proofs.Making.{made_value}

@@ -9,7 +9,7 @@ use Rattle.c_types.specs.declared.library.LibFunc.TheVariants.{Memset}
 use Rattle.prov_memory.specs.declared.value.Value.{Value}
 use Rattle.prov_memory.specs.declared.value.Value.TheVariants.{Ptr}
 use Rattle.prov_memory.specs.declared.answer.LibAnswer.TheVariants as answers
-use Rattle.prov_memory.specs.Acts.{Accessed}
+use Rattle.mem_spec.specs.Acts.{Accessed}
 use Rattle.prov_memory.specs.Memory.{store_of}
 use Rattle.libc_spec.specs.Library.{called}
 use Rattle.libc_model.specs.Seen.{values_seen}

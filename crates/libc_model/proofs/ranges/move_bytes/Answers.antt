@@ -1,6 +1,6 @@
 use Rattle.std.proofs.Common.{◌∙◌, ap, subst, sym, Option}
 use Rattle.std.specs.Prelude.{IfSome}
-use Rattle.prov_memory.specs.Acts.{whole}
+use Rattle.mem_spec.specs.Acts.{whole}
 use Rattle.prov_memory.specs.Memory.{Kept}
 use Rattle.libc_model.specs.declared.arguments.Range.{Range}
 use Rattle.libc_model.specs.Writes.{IsPlace}

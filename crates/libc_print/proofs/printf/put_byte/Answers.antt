@@ -1,7 +1,7 @@
 use Rattle.std.proofs.Common.{◌≡◌, ◌∙◌, ◌∷◌, [], ap, to_z, of_z, rules}
 use Rattle.std.specs.Int.{w128}
 use Rattle.std.proofs.lemmas.Int.{to_z-of_z}
-use Rattle.prov_memory.specs.Script.{◌>>=◌}
+use Rattle.mem_spec.specs.Script.{◌>>=◌}
 use Rattle.libc_spec.specs.Library.{low_byte}
 use Rattle.libc_spec.specs.Print.{next_int, bare, spaced, field, one}
 use Rattle.libc_print.specs.Seen.{left, flags_seen, width_seen}

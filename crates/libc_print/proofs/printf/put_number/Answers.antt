@@ -1,7 +1,7 @@
 use Rattle.std.proofs.Common.{◌≡◌, ◌∙◌, ap, to_z, of_z, rules}
 use Rattle.std.specs.Int.{w128}
 use Rattle.std.proofs.lemmas.Int.{to_z-of_z}
-use Rattle.prov_memory.specs.Script.{◌>>=◌}
+use Rattle.mem_spec.specs.Script.{◌>>=◌}
 use Rattle.libc_spec.specs.Print.{next_integer, is_signed_conversion, integer_parts, integer_field, field, one}
 use Rattle.libc_print.specs.Seen.{left, flags_seen, length_seen, width_seen}
 use Rattle.libc_print.proofs.Writing.{puts_refused, puts_taken, puts_one, integer_opened}

@@ -5,7 +5,7 @@ use Rattle.std.proofs.lemmas.Result.{err_from_is_err_and}
 use Rattle.prov_memory.specs.declared.value.Value.TheVariants.{Int}
 use Rattle.prov_memory.specs.declared.answer.LibAnswer.TheVariants as answers
 use Rattle.prov_memory.specs.Memory.{store_of}
-use Rattle.prov_memory.specs.Script.{run}
+use Rattle.mem_spec.specs.Script.{run}
 use Rattle.libc_model.specs.Answers.{Answers}
 use Rattle.libc_print.specs.Calls.{printing, limited}
 use Rattle.libc_print.proofs.Ending.{print_past, print_gives}
@@ -15,7 +15,7 @@ pub returns-in_err-check_output-clause-exact : goal.returns-in_err-check_output-
 returns-in_err-check_output-clause-exact c =
     let p = err_from_is_err_and c.from_residual.result c.from_residual.ensures.1 in
     rw (p.1, p.2) (λ script within g.
-    let past : length c.args.io.now.output + length c.args.bytes.now < 2 ^ 64 = omega (arith, within.written) in
+    let past : length c.args.io.now.output + length c.args.bytes.now < 2 ^ 64 = omega (arith, within) in
     print_past c.args.m.now c.args.io.now c.args.t.now c.args.bytes.now script c.in_err-check_output.field-0.0 c.check_output.result g c.in_err-check_output.was (c.check_output.ensures.past past))
 
 pub returns-clause-exact : goal.returns-clause-exact

@@ -1,7 +1,7 @@
 use Rattle.std.proofs.Common.{true, Ok, Err}
 use Rattle.std.proofs.lemmas.Result.{err_from_is_err_and}
-use Rattle.prov_memory.specs.Script.{◌>>=◌, ◌>>◌}
-use Rattle.prov_memory.specs.Acts.{expose}
+use Rattle.mem_spec.specs.Script.{◌>>=◌, ◌>>◌}
+use Rattle.mem_spec.specs.Acts.{expose}
 use Rattle.libc_spec.specs.Library.{address_in, prov_in}
 use Rattle.libc_spec.specs.Print.{next_pointer, address_parts, field, spaced, one}
 use Rattle.libc_model.specs.Seen.{pointer_seen}

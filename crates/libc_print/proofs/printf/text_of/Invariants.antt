@@ -1,6 +1,6 @@
 -- What is left of the format leads to its text.
 use Rattle.std.proofs.Common.{◌≡◌, ◌≤◌, ◌+◌, ◌-◌, suc, length, drop}
-use Rattle.prov_memory.specs.Streams.{Io}
+use Rattle.mem_spec.specs.Streams.{Io}
 use Rattle.libc_spec.specs.Print.{text_of}
 use Rattle.libc_model.specs.Seen.{values_seen}
 use Rattle.libc_model.specs.Answers.{HaveCells}

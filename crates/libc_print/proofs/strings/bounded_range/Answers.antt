@@ -1,7 +1,7 @@
 use Rattle.std.proofs.Common.{◌<◌, true, ℕ, length, subst, Option, Some, None}
 use Rattle.std.specs.Prelude.{Err, IfSome}
 use Rattle.std.proofs.lemmas.Result.{err_from_is_err_and}
-use Rattle.prov_memory.specs.Acts.{Accessed, argument}
+use Rattle.mem_spec.specs.Acts.{Accessed, argument}
 use Rattle.libc_model.specs.declared.arguments.Range.{Range}
 use Rattle.libc_model.specs.Parts.{Gives, Follows, accessed_if}
 use Rattle.libc_print.proofs.Bounded.{no_bounded, open_bounded, short_bounded, bounded_gives}

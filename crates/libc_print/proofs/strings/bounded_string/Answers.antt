@@ -1,7 +1,7 @@
 use Rattle.std.specs.Prelude.{IfSome}
 use Rattle.std.proofs.Common.{false, ℕ, List, Vec, Global, Option, Some, sym, subst}
 use Rattle.std.proofs.lemmas.Result.{err_from_is_err_and}
-use Rattle.prov_memory.specs.Store.{TaggedByte}
+use Rattle.mem_spec.specs.Store.{TaggedByte}
 use Rattle.libc_spec.specs.Library.{pointer}
 use Rattle.libc_spec.specs.Print.{string_bytes}
 use Rattle.libc_model.specs.declared.arguments.Range.{Range}

@@ -1,8 +1,9 @@
 use Rattle.std.proofs.Common.{◌≡◌, Some, sym, ap, ◌∙◌}
+use Rattle.ub_base.proofs.Tests.{less_test, not_less_test}
 use Rattle.c_typed.specs.Tree.{tree_of, operands, class_of}
 use Rattle.c_typed.specs.Order.{across}
 use Rattle.seq_order.specs.Marked.{taken_in}
-use Rattle.seq_order.proofs.Located.{nth, lt_lt, ge_lt}
+use Rattle.seq_order.proofs.Located.{nth}
 use Rattle.seq_order.proofs.Descend.{below_room, no_before_left, no_before_right, same_before, apart_before}
 use Rattle.seq_order.proofs.Children.{child_of}
 use Rattle.seq_order.proofs.Halves.{both, first_fails}
@@ -31,7 +32,7 @@ returns-then-a-b-2 t c = λ h.
     let b = c.in-Some-locate.b in
     let s = sym c.in-Some.ensures.value in
     let p = sym c.in-Some-locate.ensures.value in
-    both _ _ _ (lt_lt a.index b.index c.if-a-b-2.true)
+    both _ _ _ (less_test a.index b.index c.if-a-b-2.true)
     (c.across.ensures ∙ (ap (λ z. across z c.chosen.result a.index b.index) c.class_of-then-a-b-2.ensures ∙ ap (λ z. across (class_of (tree_of c.args.tree.now)) z a.index b.index) c.chosen.ensures))
     ∙ sym (apart_before c.args.k (taken_in c.args.taken.now) (tree_of c.args.tree.now) c.args.u c.args.v a b h c.if-u-k.false c.if-v-k-2.false s p c.if-a-b.false)
 
@@ -41,6 +42,6 @@ returns-else-a-b-2 t c = λ h.
     let b = c.in-Some-locate.b in
     let s = sym c.in-Some.ensures.value in
     let p = sym c.in-Some-locate.ensures.value in
-    let f = ge_lt a.index b.index c.if-a-b-2.false in
+    let f = not_less_test a.index b.index c.if-a-b-2.false in
     first_fails _ _ _ f f
     ∙ sym (apart_before c.args.k (taken_in c.args.taken.now) (tree_of c.args.tree.now) c.args.u c.args.v a b h c.if-u-k.false c.if-v-k-2.false s p c.if-a-b.false)

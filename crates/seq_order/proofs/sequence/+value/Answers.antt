@@ -1,4 +1,5 @@
 use Rattle.std.proofs.Common.{◌≡◌, ℕ, suc, ◌+◌, ◌==◌, ◌&&◌, not, sym, ap, ◌∙◌, arith}
+use Rattle.ub_base.proofs.Tests.{and_left, and_right}
 use Rattle.c_typed.specs.Tree.{tree_of, operands, class_of, is_quiet_class}
 use Rattle.c_typed.specs.Order.{is_body}
 use Rattle.c_typed.specs.Decide.{lifts}
@@ -6,7 +7,7 @@ use Rattle.seq_order.specs.Marked.{taken_in}
 use Rattle.seq_order.proofs.Located.{count}
 use Rattle.seq_order.proofs.Descend.{below_room, no_rise, below_rise}
 use Rattle.seq_order.proofs.Children.{child_of, counted}
-use Rattle.seq_order.proofs.Halves.{both, first_holds, second, third, fst_of, snd_of}
+use Rattle.seq_order.proofs.Halves.{both, first_holds, second, third}
 use Rattle.seq_order.proofs.sequence.+value.Goals as goal
 
 -- whether an operand is the last one
@@ -42,7 +43,7 @@ rises-returns-then-value_leads t c = λ h.
     ∙ ap (λ z. lifts (class_of tree) (taken_in c.args.taken.now c.args.k) a.index z c.args.kind) (last_as a.index (count (operands tree)) c.len.result (counted c.args.tree.now ∙ sym c.len.ensures)))) in
     let v = sym (c.value_leads.ensures ∙ ap (λ z. not (is_body c.args.kind) && not (is_quiet_class z)) c.class_of-else-lifts.ensures) ∙ c.if-value_leads.true in
     second _ _ _ (sym l ∙ c.if-lifts.false)
-    (both _ _ _ (fst_of (not (is_body c.args.kind)) _ v) (both _ _ _ (snd_of (not (is_body c.args.kind)) _ v) (c.to_value.ensures (below_room c.args.k tree x c.args.u.node a h s e))))
+    (both _ _ _ (and_left (not (is_body c.args.kind)) _ v) (both _ _ _ (and_right (not (is_body c.args.kind)) _ v) (c.to_value.ensures (below_room c.args.k tree x c.args.u.node a h s e))))
     ∙ sym (below_rise c.args.k (taken_in c.args.taken.now) tree x c.args.u c.args.kind a h s e)
 
 pub rises-returns-else-value_leads : goal.rises-returns-else-value_leads

@@ -2,7 +2,7 @@ use Rattle.std.proofs.Common.{rules, arith}
 use Rattle.std.proofs.lemmas.Grind.{common_steps}
 use Rattle.parse_spec.specs.Nested.{expr, declarator, specs}
 use Rattle.parse_spec.specs.Specifiers.{names_from}
-use Rattle.c_cursor.proofs.Turns.{one_more, no_more}
+use Rattle.parse_cursor.proofs.Turns.{one_more, no_more}
 use Rattle.parse_declarators.proofs.nested.Declarators.member_names.Goals as goal
 
 pub returns-in_err-found : goal.returns-in_err-found

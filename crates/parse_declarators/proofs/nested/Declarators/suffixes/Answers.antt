@@ -2,7 +2,7 @@ use Rattle.std.proofs.Common.{rules, arith}
 use Rattle.std.proofs.lemmas.Grind.{common_steps}
 use Rattle.parse_spec.specs.Nested.{expr, declarator, specs}
 use Rattle.parse_spec.specs.Declarators.{suffixes, suffixes_from}
-use Rattle.c_cursor.proofs.Turns.{one_more, no_more}
+use Rattle.parse_cursor.proofs.Turns.{one_more, no_more}
 use Rattle.parse_declarators.proofs.nested.Declarators.suffixes.Goals as goal
 
 pub loop-turn-init : goal.loop-turn-init

@@ -2,7 +2,7 @@ use Rattle.std.proofs.Common.{rules, arith}
 use Rattle.std.proofs.lemmas.Grind.{common_steps}
 use Rattle.parse_spec.specs.Expressions.{argument_list, arguments_from}
 use Rattle.parse_spec.specs.Nested.{expr, declarator, specs}
-use Rattle.c_cursor.proofs.Turns.{one_more, no_more}
+use Rattle.parse_cursor.proofs.Turns.{one_more, no_more}
 use Rattle.parse_expressions.proofs.nested.Expressions.argument_list.Goals as goal
 
 pub loop-turn-init : goal.loop-turn-init

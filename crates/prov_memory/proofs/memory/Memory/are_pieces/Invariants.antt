@@ -1,5 +1,5 @@
 use Rattle.std.proofs.Common.{◌≡◌, ◌+◌, ◌-◌}
-use Rattle.prov_memory.specs.Acts.{are_pieces}
+use Rattle.mem_spec.specs.Acts.{are_pieces}
 use Rattle.prov_memory.specs.Access.{bytes_in}
 use Rattle.prov_memory.proofs.memory.Memory.are_pieces.Given as goal
 

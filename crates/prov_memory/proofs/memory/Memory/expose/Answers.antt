@@ -1,5 +1,5 @@
 use Rattle.std.proofs.Common.{length, ap, []}
-use Rattle.prov_memory.specs.Acts.{candidates}
+use Rattle.mem_spec.specs.Acts.{candidates}
 use Rattle.prov_memory.specs.Memory.{Kept}
 use Rattle.prov_memory.proofs.ActLemmas.{first_noted_all, exposed_act, known_uncovered}
 use Rattle.prov_memory.proofs.PieceLemmas.{named_uncovered}

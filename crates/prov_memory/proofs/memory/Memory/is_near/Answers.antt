@@ -1,7 +1,7 @@
 use Rattle.std.proofs.Common.{◌≡◌, ◌∙◌, sym, ap, subst, ℤ, pos, ◌+ℤ◌, to_z, of_z, to_z-of_z}
 use Rattle.std.specs.Int.{w128}
 use Rattle.addr_map.specs.Rows.{row_of}
-use Rattle.prov_memory.specs.Acts.{in_bounds}
+use Rattle.mem_spec.specs.Acts.{in_bounds}
 use Rattle.prov_memory.specs.Held.{is_near}
 use Rattle.prov_memory.specs.Memory.{Kept, HaveRows}
 use Rattle.prov_memory.proofs.ActLemmas.{row_found}

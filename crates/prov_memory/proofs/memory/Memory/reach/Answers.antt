@@ -3,8 +3,8 @@ use Rattle.std.specs.Prelude.{slice_get}
 use Rattle.std.proofs.lemmas.Result.{err_from_is_err_and}
 use Rattle.addr_map.specs.Rows.{row_of}
 use Rattle.ub_base.specs.declared.names.Item.TheVariants.{Alive}
-use Rattle.prov_memory.specs.Store.{is_live}
-use Rattle.prov_memory.specs.Script.{Done}
+use Rattle.mem_spec.specs.Store.{is_live}
+use Rattle.mem_spec.specs.Script.{Done}
 use Rattle.prov_memory.specs.Held.{Held, held_of}
 use Rattle.prov_memory.specs.Memory.{Kept, HaveRows, IsRowOf, life_in}
 use Rattle.prov_memory.specs.contracts.memory.Memory.{the_view}

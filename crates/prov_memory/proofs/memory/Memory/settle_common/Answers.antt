@@ -1,7 +1,7 @@
 use Rattle.std.proofs.Common.{◌∙◌, ap, sym}
 use Rattle.std.specs.Prelude.{Result}
 use Rattle.ub_base.specs.declared.clause.Clause.{Clause}
-use Rattle.prov_memory.specs.Acts.{in_common, candidates}
+use Rattle.mem_spec.specs.Acts.{in_common, candidates}
 use Rattle.prov_memory.specs.Memory.{act_of, store_of}
 use Rattle.prov_memory.proofs.SettleLemmas.{err_is}
 use Rattle.prov_memory.proofs.CompareLemmas.{common_done, common_raised}

@@ -1,5 +1,5 @@
 use Rattle.std.proofs.Common.{refl}
-use Rattle.prov_memory.specs.Acts.{candidates}
+use Rattle.mem_spec.specs.Acts.{candidates}
 use Rattle.prov_memory.proofs.SoundLemmas.{shown_made, shown_sound}
 use Rattle.prov_memory.proofs.memory.Memory.show_cells.Goals as goal
 

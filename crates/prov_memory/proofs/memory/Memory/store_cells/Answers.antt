@@ -2,7 +2,7 @@ use Rattle.std.proofs.Common.{◌≡◌, ◌++◌, ◌∷◌, [], ◌∙◌, ap,
 use Rattle.std.specs.Prelude.{slice_get, Err, Ok}
 use Rattle.std.proofs.lemmas.Result.{err_from_is_err_and}
 use Rattle.ub_base.specs.declared.names.Item.TheVariants.{Alive}
-use Rattle.prov_memory.specs.Acts.{Seen}
+use Rattle.mem_spec.specs.Acts.{Seen}
 use Rattle.prov_memory.specs.Held.{held_of}
 use Rattle.prov_memory.specs.Memory.{Kept, life_in}
 use Rattle.prov_memory.specs.Made.{settling_items}

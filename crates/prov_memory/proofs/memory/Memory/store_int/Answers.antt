@@ -1,7 +1,8 @@
 use Rattle.std.proofs.Common.{◌≡◌, ◌∙◌, ap, take, to_z, of_z, to_z-of_z}
 use Rattle.std.specs.Int.{w128}
-use Rattle.prov_memory.specs.Agreement.{bytes_of_kind}
-use Rattle.prov_memory.specs.Pieces.{low_bits, number_bytes, plain_cells}
+use Rattle.mem_spec.specs.Agreement.{bytes_of_kind}
+use Rattle.mem_spec.specs.Bytes.{low_bits, number_bytes}
+use Rattle.prov_memory.specs.Pieces.{plain_cells}
 use Rattle.prov_memory.proofs.LoadLemmas.{same_bytes}
 use Rattle.prov_memory.proofs.ValueLemmas.{first_bytes, number_seen, number_short, stored_as, unstored_as}
 use Rattle.prov_memory.proofs.memory.Memory.store_int.Goals as goal

@@ -2,7 +2,7 @@ use Rattle.std.proofs.Common.{List, length, sym, subst}
 use Rattle.prov_memory.specs.declared.cell.Cell.{Cell}
 use Rattle.prov_memory.specs.Memory.{CellsKnown}
 use Rattle.prov_memory.proofs.SoundLemmas.{pieces_known}
-use Rattle.prov_memory.specs.Pieces.{pointer_bytes}
+use Rattle.mem_spec.specs.Bytes.{pointer_bytes}
 use Rattle.prov_memory.proofs.ValueLemmas.{pieces_seen, pieces_short, stored_as, unstored_as}
 use Rattle.prov_memory.proofs.memory.Memory.store_ptr.Goals as goal
 

@@ -2,7 +2,7 @@ use Rattle.std.proofs.Common.{ℕ, ◌∙◌, ap}
 use Rattle.std.specs.Prelude.{slice_get}
 use Rattle.c_types.specs.Types.{CType, type_of}
 use Rattle.c_types.specs.Shapes.{form_of}
-use Rattle.prov_memory.specs.Agreement.{suits_form}
+use Rattle.mem_spec.specs.Agreement.{suits_form}
 use Rattle.prov_memory.proofs.AgreementLemmas.{suits_test, kind_type, other_type, no_type}
 use Rattle.prov_memory.proofs.memory.Memory.suits_shape.Goals as goal
 

@@ -1,7 +1,7 @@
 use Rattle.std.proofs.Common.{◌≡◌, ◌<◌, ◌∙◌, ap, true, false, map, arith, rules}
 use Rattle.c_types.specs.Types.{type_of}
 use Rattle.prov_memory.specs.declared.cell.Cell.{Cell}
-use Rattle.prov_memory.specs.Acts.{tag_agrees, tags_agree}
+use Rattle.mem_spec.specs.Acts.{tag_agrees, tags_agree}
 use Rattle.prov_memory.specs.Cells.{cell_at, tag_in, tagged_in}
 use Rattle.prov_memory.specs.Access.{bytes_in}
 use Rattle.prov_memory.proofs.LoadLemmas.{tags_pass, tags_fail}

@@ -4,8 +4,8 @@ use Rattle.addr_map.specs.Rows.{row_of}
 use Rattle.exposure.specs.declared.prov.Prov.{Prov}
 use Rattle.ub_base.specs.declared.clause.Clause.TheVariants.{OutOfBounds}
 use Rattle.ub_base.specs.declared.names.ObjName.{ObjName}
-use Rattle.prov_memory.specs.Acts.{in_row, object_of}
-use Rattle.prov_memory.specs.Script.{Script, Give, Settle, run, touch, ◌>>◌}
+use Rattle.mem_spec.specs.Acts.{in_row, object_of}
+use Rattle.mem_spec.specs.Script.{Script, Give, Settle, run, touch, ◌>>◌}
 use Rattle.prov_memory.specs.Memory.{store_of}
 use Rattle.prov_memory.specs.Access.{CanSettleOf}
 use Rattle.prov_memory.proofs.AccessLemmas.{found_settled, refused_settled, can_settled, past_holds, start_holds}

@@ -1,2 +1,0 @@
-mod Touches
-mod Scripts

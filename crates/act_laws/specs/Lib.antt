@@ -1,2 +1,0 @@
-pub mod Conflict
-pub mod Frame

@@ -1,0 +1,56 @@
+-- What is fetched, and why a fetch stops (own).
+use Rattle.std.specs.Prelude.{◌≡◌, ◌⊎◌, ◌≤◌, ℕ, length, List, [], ◌∷◌, Option, Some, None, ⊤}
+use Rattle.ub_base.specs.Causes.{Rose}
+use Rattle.ub_base.specs.Held.{Held, bytes_under, Fetches}
+use Rattle.ub_base.specs.declared.files.Fetched.TheVariants.{Whole, TooLong}
+use Rattle.audit_sources.specs.Role.{most}
+use Rattle.audit_sources.specs.declared.fetch.FetchFault.{FetchFault}
+use Rattle.audit_sources.specs.declared.fetch.FetchFault.TheVariants as Fault
+use Rattle.audit_sources.specs.declared.role.Role.{Role}
+use Rattle.audit_sources.specs.declared.role.Role.TheVariants.{Source, Certificate, Input}
+
+-- the bytes of a file, within its limit
+abbrev pub IsWhole : Option Held → Role × List ℕ → List ℕ → Type 0
+IsWhole held file bytes = Fetches held file.1 (most file.0) (Whole bytes)
+
+-- the file isn't there, or a read failed while the count of read faults went from before to now
+abbrev pub IsUnread : Option Held → List ℕ → ℕ → ℕ → Type 0
+IsUnread held name before now = ((files : Held) × (held ≡ Some files) × (bytes_under files name ≡ None)) ⊎ Rose before now
+
+-- why a file isn't fetched
+abbrev pub Misses : Option Held → ℕ → ℕ → Role × List ℕ → FetchFault → Type 0
+Misses held before now file Fault.ReadFault = IsUnread held file.1 before now
+Misses held before now file (Fault.TooLong role) = (role ≡ file.0) × Fetches held file.1 (most file.0) TooLong
+Misses held before now file Fault.NoMemory = ⊤
+
+-- the first of the files that isn't fetched stops them
+abbrev pub Stops : Option Held → ℕ → ℕ → List (Role × List ℕ) → FetchFault → Type 0
+Stops held before now [] fault = ⊥
+Stops held before now (file ∷ files) fault =
+    Misses held before now file fault ⊎ ((bytes : List ℕ) × IsWhole held file bytes × Stops held before now files fault)
+
+-- the file of the input, where one is named
+abbrev pub input_wanted : Option (List ℕ) → List (Role × List ℕ)
+input_wanted None = []
+input_wanted (Some name) = (Input, name) ∷ []
+
+-- the files of an audit, in the order in which they are fetched
+abbrev pub wanted : List ℕ → Option (List ℕ) → List (Role × List ℕ)
+wanted source input = (Source, source) ∷ input_wanted input
+
+-- the files of a check behind the source, and all of them, in the order in which they are fetched
+abbrev pub certificate_wanted : List ℕ → Option (List ℕ) → List (Role × List ℕ)
+certificate_wanted certificate input = (Certificate, certificate) ∷ input_wanted input
+
+abbrev pub check_wanted : List ℕ → List ℕ → Option (List ℕ) → List (Role × List ℕ)
+check_wanted source certificate input = (Source, source) ∷ certificate_wanted certificate input
+
+-- the input of the program: none, or that of the named file
+abbrev pub HasInput : Option Held → Option (List ℕ) → List ℕ → Type 0
+HasInput held None bytes = bytes ≡ []
+HasInput held (Some name) bytes = IsWhole held (Input, name) bytes
+
+-- each of these files is held, within its limit
+abbrev pub AreHeld : Held → List (Role × List ℕ) → Type 0
+AreHeld files [] = ⊤
+AreHeld files (file ∷ rest) = ((bytes : List ℕ) × (bytes_under files file.1 ≡ Some bytes) × (length bytes ≤ most file.0)) × AreHeld files rest

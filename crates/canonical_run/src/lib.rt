@@ -1,9 +1,0 @@
-//! A run in canonical order over the whole program, which tells a watch each of its picks.
-#![tactic(auto)]
-
-mod canonical;
-mod watch;
-
-pub use canonical::run;
-pub use core_run::{Begun, View};
-pub use watch::{Go, Ran, RunState, Watch};

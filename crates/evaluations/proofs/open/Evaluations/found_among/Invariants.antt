@@ -1,6 +1,0 @@
--- The items of the first conflict so far conflict.
-use Rattle.evaluations.specs.FoundItems.{ItemsConflict}
-use Rattle.evaluations.proofs.open.Evaluations.found_among.Given as goal
-
-abbrev pub invariant-loop-i : goal.invariant-loop-i
-invariant-loop-i l = ItemsConflict l.best

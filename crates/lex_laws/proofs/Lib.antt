@@ -1,0 +1,10 @@
+pub mod Back
+pub mod Closings
+pub mod Lines
+pub mod Markers
+pub mod Marks
+pub mod Numbers
+pub mod Parts
+pub mod Pieces
+pub mod Readings
+pub mod Words

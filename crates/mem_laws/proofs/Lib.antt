@@ -1,0 +1,2 @@
+mod Touches
+pub mod Scripts

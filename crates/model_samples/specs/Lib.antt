@@ -1,0 +1,15 @@
+pub mod Build
+pub mod Operators
+pub mod Accesses
+pub mod Pointers
+pub mod Updates
+pub mod Statements
+pub mod Calls
+pub mod Initializers
+pub mod Functions
+pub mod Limits
+pub mod Conflicts
+pub mod Pairs
+pub mod Definitions
+pub mod Completed
+pub mod Traces

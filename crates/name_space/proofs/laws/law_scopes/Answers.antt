@@ -1,5 +1,0 @@
-use Rattle.name_space.proofs.Scopes.{hides, restores}
-use Rattle.name_space.proofs.laws.law_scopes.Goals as goal
-
-pub returns : goal.returns
-returns g c = record { hides = hides; restores = restores }

@@ -1,0 +1,16 @@
+pub mod Orders
+pub mod Cuts
+pub mod EveryOrder
+pub mod QuietOrders
+pub mod Limits
+pub mod Small
+pub mod FrameEnds
+pub mod ToldConflicts
+pub mod StrictItems
+pub mod StoreParts
+pub mod Asking
+pub mod LibraryAsks
+pub mod ProgramTells
+pub mod PermittedPicks
+pub mod EveryRun
+pub mod CleanFinding

@@ -1,0 +1,98 @@
+//! Laws of every permitted order of the picks of frames, over the definitions of c_model.
+#![tactic(auto)]
+
+ghost use Rattle.order_laws.specs.EveryOrder.{EveryOrderEndsAlike};
+ghost use Rattle.order_laws.specs.QuietOrders.{QuietOrdersRun};
+ghost use Rattle.order_laws.specs.Limits.{DepthKeepsLaws, EveryOrderStaysInDepth, EveryOrderStaysWithin};
+ghost use Rattle.order_laws.specs.FrameEnds.{FramesEnd, ProgramOrdersEndAlike};
+ghost use Rattle.order_laws.specs.ToldConflicts.{EveryOrderTells};
+ghost use Rattle.order_laws.specs.StrictItems.{ToldIsEnough, MeddlingIsStricter};
+ghost use Rattle.order_laws.specs.ProgramTells.{ActsKeepLaws, LibraryOrdersTell, ProgramOrdersTell};
+ghost use Rattle.order_laws.specs.Asking.{ProgramActsAsk};
+ghost use Rattle.order_laws.specs.PermittedPicks.{CanonicalIsPermitted, PicksAgree};
+ghost use Rattle.order_laws.specs.EveryRun.{CleanRunSpeaks, LibraryRunSpeaks};
+ghost use Rattle.order_laws.specs.CleanFinding.{CleanInEveryOrder, CleanIsRun};
+ghost use Rattle.order_laws.specs.LibraryAsks.{LibraryAsks};
+ghost use Rattle.order_laws.specs.Small.{SmallKeeps, SmallRuns, SmallOther};
+
+/// From a frame from which one run goes on without conflicts to its end, also where a pick inside it ends the run: at whatever state a
+/// permitted order leads to no events conflict, every permitted pick can be done, one is permitted until the run is over, and the run
+/// ends with the same result and store after as many picks.
+pub fn law_every_order<F, P, V, N, S, I, Part, Seen, Fact>()
+    ensures { EveryOrderEndsAlike F P V N S I Part Seen Fact }
+{}
+
+/// An order of picks in which no two events of a full expression conflict by its end, where neither is before the other, is such a run.
+pub fn law_quiet_order<F, P, V, N, S, I, Part, Seen, Fact>()
+    ensures { QuietOrdersRun F P V N S I Part Seen Fact }
+{}
+
+/// A limit on the depth of frames keeps the laws of a machine, so a run without conflicts within it stays so in every permitted order; and
+/// where the store at the end is within limits that grow with each pick, so is every store on the way.
+pub fn law_limits<F, P, V, N, S, I, Part, Seen, Fact>()
+    ensures keep { DepthKeepsLaws F P V N S I Part Seen Fact }
+    ensures depth { EveryOrderStaysInDepth F P V N S I Part Seen Fact }
+    ensures within { EveryOrderStaysWithin F P V N S I Part Seen Fact }
+{}
+
+/// A small machine keeps the laws and has such runs, one that a pick ends inside a body and one that goes on to the end; and what the law
+/// says of the other order of its two writes.
+pub fn law_small_machine()
+    ensures keep { SmallKeeps }
+    ensures runs { SmallRuns }
+    ensures other { SmallOther }
+{}
+
+/// The frames of every program keep the laws of picks that end the run, whatever is looked at in the store; so where its acts keep those of
+/// the store, a run without conflicts within the limit on depth speaks for every permitted order.
+pub fn law_program_orders<Part, Seen, Fact>()
+    ensures ends { FramesEnd Part Seen Fact }
+    ensures orders { ProgramOrdersEndAlike Part Seen Fact }
+{}
+
+/// Where a machine's conflicts are stricter than those that are told, a run without told ones speaks for every permitted order, if its items
+/// are backed and no object is born twice.
+pub fn law_told_conflicts<F, P, V, N, S, I, Part, Seen, Fact, Name>()
+    ensures { EveryOrderTells F P V N S I Part Seen Fact Name }
+{}
+
+/// Of backed items the conflicts that findings tell are those that the laws of acts ask for.
+pub fn law_items_tell()
+    ensures enough { ToldIsEnough }
+    ensures stricter { MeddlingIsStricter }
+{}
+
+/// The acts of every program keep the laws of the store, if the library's scripts ask for the life of what they access and create objects
+/// as their rows say, as those of libc_spec do. So one run without conflicts as the findings tell them speaks for every permitted order.
+pub fn law_program_tells()
+    ensures store { ActsKeepLaws }
+    ensures orders { ProgramOrdersTell }
+    ensures library { LibraryOrdersTell }
+{}
+
+/// The acts of every program ask for the life of what they access and create what their births count, if the library's scripts do; and
+/// those of libc_spec do.
+pub fn law_acts_ask()
+    ensures acts { ProgramActsAsk }
+    ensures library { LibraryAsks }
+{}
+
+/// At the states of a run the picks that are permitted in the model are the machine's, and the next one of the canonical order is permitted.
+pub fn law_permitted_picks()
+    ensures picks { PicksAgree }
+    ensures canonical { CanonicalIsPermitted }
+{}
+
+/// Where one run of a program goes from its start to its end without conflicts as findings tell them, and within the limits, every order
+/// that C permits ends alike, without undefined behaviour, after at most as many picks.
+pub fn law_clean_run()
+    ensures speaks { CleanRunSpeaks }
+    ensures library { LibraryRunSpeaks }
+{}
+
+/// Where the first finding along the canonical order is clean, that order is a run without conflicts, and every order that C permits ends with
+/// its status and output, without undefined behaviour, after at most as many picks.
+pub fn law_clean_in_every_order()
+    ensures run { CleanIsRun }
+    ensures alike { CleanInEveryOrder }
+{}

@@ -1,0 +1,10 @@
+use Rattle.std.proofs.Common.{◌≡◌, ◌++◌, length, map, drop}
+use Rattle.core_ir.specs.Term.{term_of, terms_from}
+use Rattle.run_code.specs.Listings.{entries_of, flat, all_flat}
+use Rattle.run_code.proofs.draft.Draft.+term.Given as goal
+
+-- the entries so far, and those of the parts that are left
+abbrev pub invariant-term-loop-part : goal.invariant-term-loop-part
+invariant-term-loop-part l =
+    entries_of l.self.code.listing.items ++ all_flat (length l.nodes) (terms_from (map term_of (drop l.part-index l.part-items)))
+    ≡ entries_of l.fn.self.code.listing.items ++ flat (length l.nodes) (term_of l.core)

@@ -1,0 +1,18 @@
+//! A program laid out once, from its typed trees and its terms: flat control steps, and the listings of its full expressions.
+#![tactic(auto)]
+
+mod choices;
+mod draft;
+mod laws;
+mod lower;
+mod nodes;
+mod objects;
+mod statements;
+mod steps;
+
+pub use laws::law_listing;
+pub use statements::code_of;
+pub use steps::{
+    Act, BlockCode, CallCode, Choice, Code, Due, Expression, FunctionCode, Listed, ObjectCode,
+    Operand, Range, Step, StoreCode, SwitchCode, Use, Way,
+};

@@ -1,0 +1,395 @@
+// Whether evaluations conflict, as operands and nodes are completed.
+ghost use Rattle.std.specs.Prelude.{IfOk};
+ghost use Rattle.run_evaluations.specs.FoundItems.{ItemsConflict};
+
+use crate::found::Found;
+use crate::log::Logged;
+use crate::open::{Evaluations, LARGE, add_all};
+use crate::rules::Rule;
+use crate::search::Under;
+use addr_map::AddrMap;
+use footprint::{Foot, conflicts, items_conflict};
+use ub_base::{Frames, Item, Kind, NoMemory};
+
+/// Operands of at most so many items together are compared item by item.
+const FEW: usize = 32;
+
+/// At most so many events that come after no value below are compared one by one.
+const FEW_LOOSE: usize = 16;
+
+impl Evaluations {
+    /// The operands of this node of the top frame's full expression are complete. Gives the first conflict between two of
+    /// them.
+    pub fn operands_done(
+        &mut self,
+        frames: &Frames,
+        map: &AddrMap,
+        node: u32,
+        rule: Rule,
+        chosen: bool,
+    ) -> Result<Option<Found>, NoMemory>
+        ensures { IfOk result ItemsConflict }
+    {
+        let at = self.operands(node);
+        if at.saturating_add(1) < self.segments.len() {
+            return self.several_done(Under { frames, map }, at, node, rule, chosen);
+        }
+        self.gather(node, rule, chosen);
+        Ok(None)
+    }
+
+    // The same for several operands, whose segments begin at this one.
+    fn several_done(
+        &mut self,
+        under: Under<'_>,
+        at: usize,
+        node: u32,
+        rule: Rule,
+        chosen: bool,
+    ) -> Result<Option<Found>, NoMemory>
+        ensures { IfOk result ItemsConflict }
+    {
+        if !is_unsequenced(rule) {
+            self.gather(node, rule, chosen);
+            return Ok(None);
+        }
+        if self.has_conflict(under.map, at)? {
+            return self.found_between(under, at);
+        }
+        let foot = self.take_foot(at);
+        self.gather(node, rule, chosen);
+        self.put_foot(at, foot);
+        Ok(None)
+    }
+
+    fn take_foot(&mut self, at: usize) -> Option<Box<Foot>> {
+        match self.segments.get_mut(at) {
+            Some(segment) => segment.foot.take(),
+            None => None,
+        }
+    }
+
+    fn put_foot(&mut self, at: usize, foot: Option<Box<Foot>>) {
+        if let Some(segment) = self.segments.get_mut(at) {
+            segment.foot = foot;
+        }
+    }
+
+    // Whether two of the operands whose segments begin at this one conflict.
+    fn has_conflict(&mut self, map: &AddrMap, at: usize) -> Result<bool, NoMemory> {
+        if self.all_harmless(at) {
+            return Ok(false);
+        }
+        if self.are_few(at) {
+            return Ok(self.some_items_conflict(map, at));
+        }
+        self.gathered_conflict(map, at)
+    }
+
+    fn all_harmless(&self, at: usize) -> bool {
+        match self.segments.get(at..) {
+            Some(segments) => segments.iter().all(|segment| segment.harmless),
+            None => true,
+        }
+    }
+
+    // Whether no body of a frame stands among the operands' events, and few items.
+    fn are_few(&self, at: usize) -> bool {
+        let Some(segment) = self.segments.get(at) else {
+            return true;
+        };
+        if self.items.len().saturating_sub(segment.items) > FEW {
+            return false;
+        }
+        match self.events.get(segment.first..) {
+            Some(events) => events.iter().all(has_items_alone),
+            None => true,
+        }
+    }
+
+    fn some_items_conflict(&self, map: &AddrMap, at: usize) -> bool {
+        for group in at..self.segments.len() {
+            let (from, to) = (
+                self.items_start(group),
+                self.items_start(group.saturating_add(1)),
+            );
+            for i in from..to {
+                if self.item_meets_some(map, i, to) {
+                    return true;
+                }
+            }
+        }
+        false
+    }
+
+    fn items_start(&self, group: usize) -> usize {
+        match self.segments.get(group) {
+            Some(segment) => segment.items,
+            None => self.items.len(),
+        }
+    }
+
+    // Whether the item conflicts with one from there on.
+    fn item_meets_some(&self, map: &AddrMap, i: usize, from: usize) -> bool {
+        let Some(item) = self.items.get(i) else {
+            return false;
+        };
+        match self.items.get(from..) {
+            Some(others) => others.iter().any(|other| items_conflict(item, other, map)),
+            None => false,
+        }
+    }
+
+    // The same for many items, by sets. Where no two conflict, the first segment keeps the set of them all.
+    fn gathered_conflict(&mut self, map: &AddrMap, at: usize) -> Result<bool, NoMemory> {
+        let mut all = self.segment_foot(at)?;
+        for group in at.saturating_add(1)..self.segments.len() {
+            let foot = self.segment_foot(group)?;
+            if conflicts(&all, &foot, map) || self.large_conflict(map, at, group, &all, &foot) {
+                return Ok(true);
+            }
+            all.absorb(foot)?;
+        }
+        let all = Box::new(self.alloc, all)?;
+        self.put_foot(at, Some(all));
+        Ok(false)
+    }
+
+    // The set of the items and small bodies of a segment's events.
+    fn segment_foot(&mut self, group: usize) -> Result<Foot, NoMemory> {
+        if let Some(foot) = self.take_foot(group) {
+            return Ok(Box::into_inner(foot));
+        }
+        let mut foot = Foot::new(self.alloc);
+        for at in self.event_range(group).0..self.event_range(group).1 {
+            if self.is_small(at) {
+                self.add_event(&mut foot, at)?;
+            }
+        }
+        Ok(foot)
+    }
+
+    fn event_range(&self, group: usize) -> (usize, usize) {
+        (
+            self.segment_start(group),
+            self.segment_start(group.saturating_add(1)),
+        )
+    }
+
+    fn is_small(&self, at: usize) -> bool {
+        match self.events.get(at) {
+            Some(event) => match &event.foot {
+                Some(foot) => foot.size() <= LARGE,
+                None => true,
+            },
+            None => false,
+        }
+    }
+
+    // Whether a large body of this segment conflicts with the segments before it from `at` on, or one of theirs with it.
+    fn large_conflict(
+        &self,
+        map: &AddrMap,
+        at: usize,
+        group: usize,
+        all: &Foot,
+        foot: &Foot,
+    ) -> bool {
+        let (from, to) = (self.large_start(at), self.large_start(group));
+        let end = self.large_start(group.saturating_add(1));
+        self.some_large_meets(map, from, to, foot)
+            || (self.some_large_meets(map, to, end, all)
+                || self.larges_conflict(map, from, to, end))
+    }
+
+    fn large_start(&self, group: usize) -> usize {
+        match self.segments.get(group) {
+            Some(segment) => segment.large,
+            None => self.large.len(),
+        }
+    }
+
+    fn some_large_meets(&self, map: &AddrMap, from: usize, to: usize, foot: &Foot) -> bool {
+        for i in from..to {
+            if let Some(body) = self.large_foot(i) {
+                if conflicts(body, foot, map) {
+                    return true;
+                }
+            }
+        }
+        false
+    }
+
+    fn larges_conflict(&self, map: &AddrMap, from: usize, to: usize, end: usize) -> bool {
+        for i in from..to {
+            if let Some(body) = self.large_foot(i) {
+                if self.some_large_meets(map, to, end, body) {
+                    return true;
+                }
+            }
+        }
+        false
+    }
+
+    // The set of a large body, by its place in the list of those.
+    fn large_foot(&self, i: usize) -> Option<&Foot> {
+        let at = *self.large.get(i)?;
+        match &self.events.get(at)?.foot {
+            Some(foot) => Some(foot),
+            None => None,
+        }
+    }
+
+    /// This node of the top frame's full expression is complete. Gives the first conflict between one of its own events
+    /// and one below it that comes before its value in no order.
+    pub fn node_done(
+        &mut self,
+        frames: &Frames,
+        map: &AddrMap,
+        node: u32,
+    ) -> Result<Option<Found>, NoMemory>
+        ensures { IfOk result ItemsConflict }
+    {
+        let loose = match self.segments.last() {
+            Some(segment) => segment.loose,
+            None => self.loose.len(),
+        };
+        let count = self.events.len();
+        let own = self.own_events(node);
+        if self.has_items_from(own) {
+            self.gather_loose(loose)?;
+        }
+        let mut found = None;
+        for at in own..count {
+            if self.meets_loose(map, at, loose)? {
+                found = self.found_among(Under { frames, map }, at, loose, found)?;
+            }
+        }
+        self.add_loose(node)?;
+        Ok(found)
+    }
+
+    // The first of the node's own events, which are the last ones.
+    fn own_events(&self, node: u32) -> usize {
+        let count = self.events.len();
+        let mut at = count;
+        for i in count.saturating_sub(2)..count {
+            if self.is_of(i, node) && i < at {
+                at = i;
+            }
+        }
+        at
+    }
+
+    fn is_of(&self, at: usize, node: u32) -> bool {
+        match self.events.get(at) {
+            Some(event) => event.node == node,
+            None => false,
+        }
+    }
+
+    // Whether this event or one behind it has items.
+    fn has_items_from(&self, at: usize) -> bool {
+        match self.events.get(at) {
+            Some(event) => event.from < self.items.len(),
+            None => false,
+        }
+    }
+
+    // Where many events are in the list from there on, the top segment keeps the set of their items.
+    fn gather_loose(&mut self, loose: usize) -> Result<(), NoMemory> {
+        if self.loose.len().saturating_sub(loose) <= FEW_LOOSE || self.loose_foot().is_some() {
+            return Ok(());
+        }
+        let mut foot = Foot::new(self.alloc);
+        for i in loose..self.loose.len() {
+            if let Some(at) = self.loose.get(i) {
+                self.add_event(&mut foot, *at)?;
+            }
+        }
+        let foot = Box::new(self.alloc, foot)?;
+        if let Some(segment) = self.segments.last_mut() {
+            segment.loose_foot = Some(foot);
+        }
+        Ok(())
+    }
+
+    fn loose_foot(&self) -> Option<&Foot> {
+        match &self.segments.last()?.loose_foot {
+            Some(foot) => Some(foot),
+            None => None,
+        }
+    }
+
+    // Whether an item of the event conflicts with one of the events of the list.
+    fn meets_loose(&self, map: &AddrMap, at: usize, loose: usize) -> Result<bool, NoMemory> {
+        let Some(below) = self.loose_foot() else {
+            return Ok(self.meets_few(map, at, loose));
+        };
+        let foot = self.event_foot(at)?;
+        Ok(conflicts(&foot, below, map))
+    }
+
+    fn meets_few(&self, map: &AddrMap, at: usize, loose: usize) -> bool {
+        let Some(event) = self.events.get(at) else {
+            return false;
+        };
+        let Some(below) = self.loose.get(loose..) else {
+            return false;
+        };
+        for i in event.from..event.to {
+            if let Some(item) = self.items.get(i) {
+                for other in below {
+                    if self.item_meets_event(map, item, *other) {
+                        return true;
+                    }
+                }
+            }
+        }
+        false
+    }
+
+    fn item_meets_event(&self, map: &AddrMap, item: &Item, at: usize) -> bool {
+        let Some(event) = self.events.get(at) else {
+            return false;
+        };
+        for i in event.from..event.to {
+            if let Some(other) = self.items.get(i) {
+                if items_conflict(item, other, map) {
+                    return true;
+                }
+            }
+        }
+        false
+    }
+
+    // The node's side effect comes before no value of a parent.
+    fn add_loose(&mut self, node: u32) -> Result<(), NoMemory> {
+        let at = self.events.len().saturating_sub(1);
+        let Some(event) = self.events.last() else {
+            return Ok(());
+        };
+        if event.kind != Kind::Eff || event.node != node {
+            return Ok(());
+        }
+        self.loose.push(at)?;
+        if let (Some(segment), Some(items)) = (
+            self.segments.last_mut(),
+            self.items.get(event.from..event.to),
+        ) {
+            return add_all(&mut segment.loose_foot, items);
+        }
+        Ok(())
+    }
+}
+
+fn is_unsequenced(rule: Rule) -> bool {
+    match rule {
+        Rule::Open | Rule::Closed => true,
+        _ => false,
+    }
+}
+
+fn has_items_alone(event: &Logged) -> bool {
+    event.foot.is_none()
+}

@@ -1,0 +1,163 @@
+// An end of the run beside evaluations that it isn't sequenced with.
+ghost use Rattle.std.specs.Prelude.{IfOk, IfSome};
+ghost use Rattle.footprint.specs.Conflicts.{MayConflict};
+ghost use Rattle.run_evaluations.specs.FoundItems.{AreOfOne, ItemsConflict};
+
+use crate::found::{Found, first_of};
+use crate::open::{Evaluations, named};
+use crate::rules::{Rule, Rules};
+use crate::search::{Sought, Under, least_items};
+use crate::trees::step_to;
+use addr_map::AddrMap;
+use c_typed::Typed;
+use std::alloc::Global;
+use ub_base::{Event, Frames, Item, Kind, NoMemory};
+
+/// The way from the root of a full expression to a node: the nodes above it, from the root on, and the nodes whose value
+/// the node isn't sequenced with: the first before it, and the first behind it.
+#[derive(Drop)]
+struct Way {
+    above: Vec<u32>,
+    before: Option<u32>,
+    behind: Option<u32>,
+}
+
+impl Evaluations {
+    /// The last event of the top frame's full expression, whose tree this is, ended the run or started the frame that
+    /// did. Gives the first of all conflicts that have both sides by now: it meets every event, done or pending, that it
+    /// isn't sequenced with.
+    pub fn ended(
+        &mut self,
+        frames: &Frames,
+        map: &AddrMap,
+        root: &Typed,
+        rules: &Rules,
+    ) -> Result<Option<Found>, NoMemory>
+        ensures { IfOk result ItemsConflict }
+    {
+        let Some(last) = self.events.last() else {
+            return Ok(None);
+        };
+        let way = way_to(self.alloc, root, rules, last.node)?;
+        let under = Under { frames, map };
+        let beside = match way.before.or(way.behind) {
+            Some(node) => self.found_beside(under, node)?,
+            None => None,
+        };
+        let open = self.found_on_way(under, &way, rules)?;
+        Ok(first_of(frames, beside, open))
+    }
+
+    // The conflict of the last event with the value of this node, done or pending.
+    fn found_beside(&self, under: Under<'_>, node: u32) -> Result<Option<Found>, NoMemory>
+        ensures { IfOk result ItemsConflict }
+    {
+        let last = self.events.len().saturating_sub(1);
+        let (from, end) = match self.events.get(last) {
+            Some(event) => (event.node, event.kind),
+            None => return Ok(None),
+        };
+        let mut foot = match self.done(node) {
+            Some(at) => self.event_foot(at)?,
+            None => footprint::Foot::new(self.alloc),
+        };
+        foot.add(Item::Any)?;
+        let ending = self.event_foot(last)?;
+        let place = self.place();
+        let value = named(place, node, Kind::Val);
+        let body = named(place, from, end);
+        Ok(if node < from {
+            dependence(value, body, least_items(under, Sought::Any, &foot, &ending))
+        } else {
+            dependence(body, value, least_items(under, Sought::Any, &ending, &foot))
+        })
+    }
+
+    // The value of this node, if it is done.
+    fn done(&self, node: u32) -> Option<usize> {
+        let from = match self.levels.last() {
+            Some(level) => level.events,
+            None => return None,
+        };
+        for at in from..self.events.len() {
+            if let Some(event) = self.events.get(at) {
+                if event.node == node && event.kind == Kind::Val {
+                    return Some(at);
+                }
+            }
+        }
+        None
+    }
+
+    // The first conflict between operands of a node on the way that isn't complete.
+    fn found_on_way(
+        &mut self,
+        under: Under<'_>,
+        way: &Way,
+        rules: &Rules,
+    ) -> Result<Option<Found>, NoMemory>
+        ensures { IfOk result ItemsConflict }
+    {
+        let mut best = None;
+        for node in way.above.iter().rev() {
+            let rule = rules.get(*node);
+            let at = self.operands(*node);
+            if at.saturating_add(1) < self.segments.len() && is_unsequenced(rule) {
+                let found = self.found_between(under, at)?;
+                best = first_of(under.frames, best, found);
+            }
+            self.gather(*node, rule, true);
+        }
+        Ok(best)
+    }
+}
+
+fn is_unsequenced(rule: Rule) -> bool {
+    match rule {
+        Rule::Open | Rule::Closed => true,
+        _ => false,
+    }
+}
+
+// A dependence on the order of these two evaluations, where items of theirs conflict.
+fn dependence(event: Event, against: Event, items: Option<(Item, Item)>) -> Option<Found>
+    requires one { AreOfOne event against }
+    requires may { IfSome items (λ p. MayConflict p.0 p.1) }
+    ensures { ItemsConflict result }
+{
+    let items = items?;
+    Some(Found {
+        race: false,
+        event,
+        against,
+        items,
+    })
+}
+
+// The way from the root to the node of this number.
+fn way_to(alloc: Global, root: &Typed, rules: &Rules, target: u32) -> Result<Way, NoMemory> {
+    let mut way = Way {
+        above: Vec::new(alloc),
+        before: None,
+        behind: None,
+    };
+    let mut tree = root;
+    let mut number = 0;
+    for _ in 0..target {
+        if number >= target {
+            return Ok(way);
+        }
+        way.above.push(number)?;
+        let step = step_to(tree, number, target);
+        if is_unsequenced(rules.get(number)) {
+            way.before = way.before.or(step.before);
+            way.behind = step.behind.or(way.behind);
+        }
+        match step.next {
+            Some(next) => tree = next,
+            None => return Ok(way),
+        }
+        number = step.number;
+    }
+    Ok(way)
+}

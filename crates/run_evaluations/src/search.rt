@@ -1,0 +1,282 @@
+// The least conflicting pair of events, sought once where a conflict is known.
+ghost use Rattle.std.specs.Prelude.{◌≡◌, ◌≢◌, IfOk, IfSome, true};
+ghost use Rattle.ub_base.specs.declared.clause.Kind.TheVariants.{Body};
+ghost use Rattle.addr_map.specs.Conflict.{is_access};
+ghost use Rattle.footprint.specs.Conflicts.{MayConflict};
+ghost use Rattle.run_evaluations.specs.declared.search.Sought.TheVariants.{Races};
+ghost use Rattle.run_evaluations.specs.FoundItems.{ItemsConflict};
+
+use crate::found::{Found, first_of};
+use crate::open::{Evaluations, named};
+use addr_map::AddrMap;
+use footprint::{Foot, access_pair, conflict, conflicts, races};
+use ub_base::{Frames, Item, Kind, NoMemory};
+
+/// What conflicts are sought under: the order of frames, and where objects stand.
+#[derive(Clone, Copy)]
+pub struct Under<'u> {
+    pub frames: &'u Frames,
+    pub map: &'u AddrMap,
+}
+
+/// Which conflicts are sought: races, which no body has a part in, or any.
+#[derive(Clone, Copy, Debug, PartialEq, Eq)]
+pub enum Sought {
+    Races,
+    Any,
+}
+
+fn meet(under: Under<'_>, sought: Sought, a: &Foot, b: &Foot) -> bool {
+    match sought {
+        Sought::Races => races(a, b),
+        Sought::Any => conflicts(a, b, under.map),
+    }
+}
+
+/// The least pair of items, if two sets conflict.
+pub fn least_items(under: Under<'_>, sought: Sought, a: &Foot, b: &Foot) -> Option<(Item, Item)>
+    ensures may { IfSome result (λ p. MayConflict p.0 p.1) }
+    ensures races { sought ≡ Races → IfSome result (λ p. (is_access p.0 ≡ true) × (is_access p.1 ≡ true)) }
+{
+    match sought {
+        Sought::Races => access_pair(under.frames, a, b),
+        Sought::Any => conflict(under.frames, a, b, under.map),
+    }
+}
+
+// Whether conflicting accesses are a race: a body is sequenced before or after what it isn't sequenced with.
+fn is_race(sought: Sought, a: Kind, b: Kind) -> bool
+    ensures { result ≡ true → (sought ≡ Races) × (a ≢ Body) × (b ≢ Body) }
+{
+    match sought {
+        Sought::Races => a != Kind::Body && b != Kind::Body,
+        Sought::Any => false,
+    }
+}
+
+impl Evaluations {
+    /// The set of the event's items.
+    pub(crate) fn event_foot(&self, at: usize) -> Result<Foot, NoMemory> {
+        let mut foot = Foot::new(self.alloc);
+        self.add_event(&mut foot, at)?;
+        Ok(foot)
+    }
+
+    pub(crate) fn add_event(&self, foot: &mut Foot, at: usize) -> Result<(), NoMemory> {
+        let Some(event) = self.events.get(at) else {
+            return Ok(());
+        };
+        for i in event.from..event.to {
+            if let Some(item) = self.items.get(i) {
+                foot.add(*item)?;
+            }
+        }
+        if let Some(body) = &event.foot {
+            foot.merge(body)?;
+        }
+        Ok(())
+    }
+
+    // The set of the items of the events of a range; of no body, where races are sought.
+    fn foot_of_range(&self, sought: Sought, from: usize, to: usize) -> Result<Foot, NoMemory> {
+        let mut foot = Foot::new(self.alloc);
+        for at in from..to {
+            if self.is_sought(sought, at) {
+                self.add_event(&mut foot, at)?;
+            }
+        }
+        Ok(foot)
+    }
+
+    fn is_sought(&self, sought: Sought, at: usize) -> bool {
+        match self.events.get(at) {
+            Some(event) => sought == Sought::Any || event.kind != Kind::Body,
+            None => false,
+        }
+    }
+
+    /// The first conflict between the operands whose segments begin at this one: a race, or else another.
+    pub(crate) fn found_between(
+        &self,
+        under: Under<'_>,
+        at: usize,
+    ) -> Result<Option<Found>, NoMemory>
+        ensures { IfOk result ItemsConflict }
+    {
+        let race = self.least_between(under, Sought::Races, at)?;
+        if race.is_some() {
+            return Ok(race);
+        }
+        self.least_between(under, Sought::Any, at)
+    }
+
+    // The least pair of events of two operands that conflict: the first event stands in the first operand that
+    // conflicts with one behind it.
+    fn least_between(
+        &self,
+        under: Under<'_>,
+        sought: Sought,
+        at: usize,
+    ) -> Result<Option<Found>, NoMemory>
+        ensures { IfOk result ItemsConflict }
+    {
+        let Some(group) = self.first_group(under, sought, at)? else {
+            return Ok(None);
+        };
+        let from = self.segment_start(group);
+        let behind = self.segment_start(group.saturating_add(1));
+        let rest = self.foot_of_range(sought, behind, self.events.len())?;
+        let mut last = None;
+        for _ in from..behind {
+            let Some(event) = self.next_event(from, behind, last) else {
+                return Ok(None);
+            };
+            if self.is_sought(sought, event) {
+                let foot = self.event_foot(event)?;
+                if meet(under, sought, &foot, &rest) {
+                    return self.least_against(under, sought, event, &foot, behind);
+                }
+            }
+            last = Some(event);
+        }
+        Ok(None)
+    }
+
+    // The first of these segments that conflicts with those behind it.
+    fn first_group(
+        &self,
+        under: Under<'_>,
+        sought: Sought,
+        at: usize,
+    ) -> Result<Option<usize>, NoMemory> {
+        let mut best = None;
+        let mut rest = Foot::new(self.alloc);
+        for group in (at..self.segments.len()).rev() {
+            let from = self.segment_start(group);
+            let to = self.segment_start(group.saturating_add(1));
+            let foot = self.foot_of_range(sought, from, to)?;
+            if meet(under, sought, &foot, &rest) {
+                best = Some(group);
+            }
+            rest.absorb(foot)?;
+        }
+        Ok(best)
+    }
+
+    // Where the events of a segment begin; behind the last one, where the events end.
+    pub(crate) fn segment_start(&self, group: usize) -> usize {
+        match self.segments.get(group) {
+            Some(segment) => segment.first,
+            None => self.events.len(),
+        }
+    }
+
+    // The least event of the range, by node and kind, that is greater than this one.
+    fn next_event(&self, from: usize, to: usize, last: Option<usize>) -> Option<usize> {
+        let mut best = None;
+        for at in from..to {
+            if self.is_less(last, Some(at)) && (best.is_none() || self.is_less(Some(at), best)) {
+                best = Some(at);
+            }
+        }
+        best
+    }
+
+    fn is_less(&self, a: Option<usize>, b: Option<usize>) -> bool {
+        let Some(a) = a else {
+            return true;
+        };
+        let Some(b) = b else {
+            return false;
+        };
+        match (self.events.get(a), self.events.get(b)) {
+            (Some(a), Some(b)) => a.node < b.node || (a.node == b.node && a.kind < b.kind),
+            _ => false,
+        }
+    }
+
+    // The pair of this event and the least one from there on that it conflicts with.
+    fn least_against(
+        &self,
+        under: Under<'_>,
+        sought: Sought,
+        event: usize,
+        foot: &Foot,
+        behind: usize,
+    ) -> Result<Option<Found>, NoMemory>
+        ensures { IfOk result ItemsConflict }
+    {
+        let mut last = None;
+        for _ in behind..self.events.len() {
+            let Some(other) = self.next_event(behind, self.events.len(), last) else {
+                return Ok(None);
+            };
+            if self.is_sought(sought, other) {
+                let other_foot = self.event_foot(other)?;
+                if let Some(items) = least_items(under, sought, foot, &other_foot) {
+                    return Ok(self.found(sought, event, other, items));
+                }
+            }
+            last = Some(other);
+        }
+        Ok(None)
+    }
+
+    fn found(&self, sought: Sought, a: usize, b: usize, items: (Item, Item)) -> Option<Found>
+        requires may { MayConflict items.0 items.1 }
+        requires races { sought ≡ Races → (is_access items.0 ≡ true) × (is_access items.1 ≡ true) }
+        ensures { ItemsConflict result }
+    {
+        let place = self.place();
+        match (self.events.get(a), self.events.get(b)) {
+            (Some(a), Some(b)) => Some(Found {
+                race: is_race(sought, a.kind, b.kind),
+                event: named(place, a.node, a.kind),
+                against: named(place, b.node, b.kind),
+                items,
+            }),
+            _ => None,
+        }
+    }
+
+    /// The first conflict of two events, neither of them a body, the smaller one first.
+    pub(crate) fn found_of_two(
+        &self,
+        under: Under<'_>,
+        a: usize,
+        b: usize,
+    ) -> Result<Option<Found>, NoMemory>
+        ensures { IfOk result ItemsConflict }
+    {
+        let foot_a = self.event_foot(a)?;
+        let foot_b = self.event_foot(b)?;
+        if let Some(items) = least_items(under, Sought::Races, &foot_a, &foot_b) {
+            return Ok(self.found(Sought::Races, a, b, items));
+        }
+        match least_items(under, Sought::Any, &foot_a, &foot_b) {
+            Some(items) => Ok(self.found(Sought::Any, a, b, items)),
+            None => Ok(None),
+        }
+    }
+
+    /// The first conflict of this event with those of the list, which stand below it.
+    pub(crate) fn found_among(
+        &self,
+        under: Under<'_>,
+        event: usize,
+        loose: usize,
+        best: Option<Found>,
+    ) -> Result<Option<Found>, NoMemory>
+        requires { ItemsConflict best }
+        ensures { IfOk result ItemsConflict }
+    {
+        let mut best = best;
+        for i in loose..self.loose.len() {
+            if let Some(other) = self.loose.get(i) {
+                let found = self.found_of_two(under, event, *other)?;
+                best = first_of(under.frames, best, found);
+            }
+        }
+        Ok(best)
+    }
+}

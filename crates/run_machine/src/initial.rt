@@ -1,0 +1,162 @@
+// A run before its first pick.
+
+use crate::halt::Halt;
+use crate::machine::{Machine, Open};
+use c_typed::{Access, Program};
+use prov_memory::{Memory, Streams, Touched, TypeId, Value, Via};
+use run_acts::{Filling, Places, Started, fillings, start};
+use run_code::Code;
+use std::alloc::Global;
+use ub_base::{Bytes, Frame, Items, NoMemory};
+
+// The vias of the stores.
+fn vias_of(alloc: Global, code: &Code, memory: &mut Memory) -> Result<Vec<Via>, NoMemory> {
+    let mut vias = Vec::new(alloc);
+    for store in &code.stores {
+        let via = match store.access {
+            Access::Integer(kind) => Via::Scalar(TypeId::of_kind(kind)),
+            Access::Pointer | Access::Function => Via::Scalar(memory.type_id(store.ty)?),
+            Access::Whole { .. } => Via::Whole,
+        };
+        vias.push(via)?;
+    }
+    Ok(vias)
+}
+
+fn fillings_of(
+    alloc: Global,
+    code: &Code,
+    memory: &mut Memory,
+    places: &Places,
+) -> Result<Vec<Items<Filling>>, NoMemory> {
+    let mut all = Vec::new(alloc);
+    for constants in &code.constants {
+        all.push(fillings(alloc, memory, places, *constants)?)?;
+    }
+    Ok(all)
+}
+
+// The frame of `main` before its first step.
+fn first_frame(program: &Program, code: &Code) -> Result<Open, NoMemory> {
+    let Some(Some(main)) = code.functions.get(program.main as usize) else {
+        return Err(NoMemory);
+    };
+    Ok(Open {
+        frame: Frame(0),
+        turn: 0,
+        at: main.entry,
+        stage: None,
+        base: 0,
+        rooms: 0,
+        locals: 0,
+        above: main.objects as usize,
+        function: Some(program.main),
+        node: 0,
+    })
+}
+
+// Where the objects stand that stand before the first pick, and the arguments of `main`.
+#[derive(Drop)]
+struct Placed {
+    memory: Memory,
+    places: Places,
+    values: Vec<Value>,
+}
+
+fn placed_objects(
+    alloc: Global,
+    program: &Program,
+    args: &[String],
+    memory: Memory,
+) -> Result<Placed, Halt> {
+    let mut memory = memory;
+    let started = start(alloc, program, args, &mut memory)?;
+    let Started {
+        places,
+        count,
+        vector,
+    } = started;
+    let mut values = Vec::new(alloc);
+    values.push(count).map_err(NoMemory::from)?;
+    values.push(vector).map_err(NoMemory::from)?;
+    Ok(Placed {
+        memory,
+        places,
+        values,
+    })
+}
+
+// What a pick touches, and what one act of it touches.
+#[derive(Drop)]
+struct TouchedItems {
+    pick: Touched,
+    act: Touched,
+}
+
+fn no_items(alloc: Global) -> Result<TouchedItems, NoMemory> {
+    let pick = Touched::new(alloc)?;
+    let act = Touched::new(alloc)?;
+    Ok(TouchedItems { pick, act })
+}
+
+/// The machine of a program before its first pick, on this input, with these arguments behind the program's name. Its
+/// objects are placed in this memory, in which nothing was created.
+pub fn prepare<'p, 'c>(
+    alloc: Global,
+    program: &'p Program,
+    code: &'c Code<'p>,
+    input: Bytes,
+    args: &[String],
+    memory: Memory,
+) -> Result<Machine<'p, 'c>, Halt> {
+    let mut first = placed_objects(alloc, program, args, memory)?;
+    let vias = vias_of(alloc, code, &mut first.memory)?;
+    let fillings = fillings_of(alloc, code, &mut first.memory, &first.places)?;
+    let items = no_items(alloc)?;
+    let streams = Streams::new(alloc, input);
+    let top = first_frame(program, code)?;
+    let mut machine = assembled(
+        alloc, program, code, streams, first, vias, fillings, items, top,
+    );
+    machine.grow_locals(top.above)?;
+    Ok(machine)
+}
+
+fn assembled<'p, 'c>(
+    alloc: Global,
+    program: &'p Program,
+    code: &'c Code<'p>,
+    streams: Streams,
+    first: Placed,
+    vias: Vec<Via>,
+    fillings: Vec<Items<Filling>>,
+    items: TouchedItems,
+    top: Open,
+) -> Machine<'p, 'c> {
+    let Placed {
+        memory,
+        places,
+        values,
+    } = first;
+    let TouchedItems { pick, act } = items;
+    Machine {
+        alloc,
+        program,
+        code,
+        vias,
+        fillings,
+        places,
+        memory,
+        streams,
+        below: Vec::new(alloc),
+        top,
+        depth: 1,
+        begun: Vec::new(alloc),
+        strayed: Vec::new(alloc),
+        values,
+        locals: Vec::new(alloc),
+        left: None,
+        items: pick,
+        spare: act,
+    }
+}

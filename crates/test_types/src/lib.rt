@@ -1,0 +1,5 @@
+//! Compatible, agreeing and composite types against the standard.
+#![tactic(auto)]
+
+#[cfg(test)]
+mod types;

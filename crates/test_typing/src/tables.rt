@@ -1,0 +1,57 @@
+// Tables of texts, one a line.
+use crate::constraints::{Answer, answer_to};
+use crate::{jumps, scopes, specifiers};
+use std::alloc::Global;
+use ub_base::NoMemory;
+
+// The text, in which `$` ends a line.
+fn text_of(alloc: Global, row: &str) -> Result<String, NoMemory> {
+    let mut text = String::new(alloc);
+    for c in row.chars() {
+        text.push(if c == '$' { '\n' } else { c })?;
+    }
+    Ok(text)
+}
+
+// The row with the line on which its text isn't typed, or 0 where it is typed.
+fn answered(alloc: Global, row: &str) -> Result<String, NoMemory> {
+    let Some((paragraph, rest)) = row.split_once(' ') else {
+        return Ok(String::from_str(alloc, "no paragraph")?);
+    };
+    let Some((_, text)) = rest.split_once(' ') else {
+        return Ok(String::from_str(alloc, "no line")?);
+    };
+    let source = text_of(alloc, text)?;
+    let line = match answer_to(alloc, source.as_str()) {
+        Answer::Typed(_) => 0,
+        Answer::NotTyped(line) => line,
+        Answer::NoUnit => return Ok(String::from_str(alloc, "no unit")?),
+        Answer::NoMemory => return Err(NoMemory),
+    };
+    Ok(format!(in alloc; "{paragraph} {line} {text}")?)
+}
+
+/// The first row that should read otherwise, as it should; an empty text where there is none. A row is a paragraph, the line on
+/// which its text isn't typed or 0 where it is typed, and the text, in which `$` ends a line.
+pub fn first_other(alloc: Global, rows: &str) -> Result<String, NoMemory> {
+    for row in rows.lines() {
+        let given = if row.is_empty() {
+            String::new(alloc)
+        } else {
+            answered(alloc, row)?
+        };
+        if given.as_str() != row {
+            return Ok(given);
+        }
+    }
+    Ok(String::new(alloc))
+}
+
+#[test]
+fn texts_are_typed_by_the_paragraph(rt: HostRuntime) -> Result<(), NoMemory> {
+    for rows in [scopes::ROWS, specifiers::ROWS, jumps::ROWS] {
+        let other = first_other(rt.alloc(), rows)?;
+        assert_eq!(rt; other.as_str(), "");
+    }
+    Ok(())
+}

@@ -1,5 +1,0 @@
-use Rattle.tree_names.proofs.Units.{trees_name}
-use Rattle.tree_names.proofs.laws.law_names.Goals as goal
-
-pub returns : goal.returns
-returns c = trees_name

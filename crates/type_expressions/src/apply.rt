@@ -1,0 +1,328 @@
+// Each form of expression, from its operands (6.5).
+
+use c_ast::{AssignOp, BinaryOp, PostOp, UnaryOp};
+use c_typed::{EqOp, Node, RelOp, Slot};
+use c_types::{BinOp, IntKind, Qual, Shared, Ty, copied, copied_qual};
+use std::alloc::Global;
+use type_operators as express;
+use type_operators::{Form, Operand, integer, leaf, object_of, place, value};
+use type_scope::{Meaning, Source, State, TypeFault, placed};
+use ub_base::NoMemory;
+
+fn object_operand(
+    state: &mut State,
+    slot: Slot,
+    qual: Qual,
+    register: bool,
+    line: u32,
+) -> Result<Operand, TypeFault> {
+    if let Slot::Static(number) = slot {
+        state.use_object(number, &qual.ty, line);
+    }
+    let ty = Ty::Pointer(Shared::new(state.alloc, qual)?);
+    Ok(place(leaf(state.alloc, Node::Obj(slot), ty, line), register))
+}
+
+fn function_operand(
+    state: &mut State,
+    number: u32,
+    ty: Ty,
+    line: u32,
+) -> Result<Operand, TypeFault> {
+    state.use_function(number, line);
+    let target = Qual {
+        ty,
+        constant: false,
+    };
+    let ty = Ty::Pointer(Shared::new(state.alloc, target)?);
+    Ok(Operand {
+        tree: leaf(state.alloc, Node::Func(number), ty, line),
+        form: Form::Designator,
+        line,
+    })
+}
+
+// A copy of what the name means.
+enum NameMeaning {
+    Object(Slot, Qual, bool),
+    Function(u32, Ty),
+    Constant(i128),
+    Nothing,
+}
+
+fn meaning_of(alloc: Global, state: &State, symbol: u32) -> Result<NameMeaning, NoMemory> {
+    let Some(binding) = state.ordinary.find(symbol) else {
+        return Ok(NameMeaning::Nothing);
+    };
+    match &binding.meaning {
+        Meaning::Object {
+            slot,
+            qual,
+            register,
+        } => Ok(NameMeaning::Object(*slot, copied_qual(alloc, qual)?, *register)),
+        Meaning::Function { number, ty } => Ok(NameMeaning::Function(*number, copied(alloc, ty)?)),
+        Meaning::Constant(number) => Ok(NameMeaning::Constant(*number)),
+        Meaning::Typedef(_) => Ok(NameMeaning::Nothing),
+    }
+}
+
+/// An identifier: an object, a function or an enumeration constant that is in scope (6.5.1p2, 6.7.2.2p3).
+#[inline(never)]
+pub fn named(source: &Source<'_>, state: &mut State, at: u32) -> Result<Operand, TypeFault> {
+    let line = source.line(at);
+    match meaning_of(state.alloc, state, source.symbol(at))? {
+        NameMeaning::Object(slot, qual, register) => object_operand(
+            state, slot, qual, register, line,
+        ),
+        NameMeaning::Function(number, ty) => function_operand(state, number, ty, line),
+        NameMeaning::Constant(number) => Ok(value(integer(
+            state.alloc,
+            number,
+            IntKind::Int,
+            line,
+        ))),
+        NameMeaning::Nothing => Err(TypeFault::NotTyped(line)),
+    }
+}
+
+/// A unary operator (6.5.3).
+#[inline(never)]
+pub fn unary(state: &State, op: UnaryOp, a: Operand, line: u32) -> Result<Operand, TypeFault> {
+    let alloc = state.alloc;
+    let tags = &state.tags;
+    placed(
+        line,
+        match op {
+            UnaryOp::Address => express::addressed(a),
+            UnaryOp::Deref => express::dereferenced(alloc, tags, a, line),
+            UnaryOp::Plus => express::plus(alloc, tags, a),
+            UnaryOp::Minus => express::negated(alloc, tags, a, line),
+            UnaryOp::Tilde => express::complemented(alloc, tags, a, line),
+            UnaryOp::Not => express::inverted(alloc, tags, a, line),
+            UnaryOp::Increment => express::stepped(alloc, tags, state, BinOp::Add, a, line),
+            UnaryOp::Decrement => express::stepped(alloc, tags, state, BinOp::Sub, a, line),
+        },
+    )
+}
+
+/// `++` and `--` behind their operand (6.5.2.4).
+#[inline(never)]
+pub fn postfix(state: &State, op: PostOp, a: Operand, line: u32) -> Result<Operand, TypeFault> {
+    let op = match op {
+        PostOp::Increment => BinOp::Add,
+        PostOp::Decrement => BinOp::Sub,
+    };
+    placed(
+        line,
+        express::incremented(state.alloc, &state.tags, state, op, a, line),
+    )
+}
+
+// What a binary operator does.
+enum BinaryForm {
+    Common(BinOp),
+    Add,
+    Sub,
+    Shift(BinOp),
+    Compare(RelOp),
+    Equate(EqOp),
+    Join(bool),
+}
+
+fn binary_of(op: BinaryOp) -> BinaryForm {
+    match op {
+        BinaryOp::Mul => BinaryForm::Common(BinOp::Mul),
+        BinaryOp::Div => BinaryForm::Common(BinOp::Div),
+        BinaryOp::Rem => BinaryForm::Common(BinOp::Rem),
+        BinaryOp::Add => BinaryForm::Add,
+        BinaryOp::Sub => BinaryForm::Sub,
+        BinaryOp::Shl => BinaryForm::Shift(BinOp::Shl),
+        BinaryOp::Shr => BinaryForm::Shift(BinOp::Shr),
+        BinaryOp::Less => BinaryForm::Compare(RelOp::Less),
+        BinaryOp::Greater => BinaryForm::Compare(RelOp::Greater),
+        BinaryOp::LessEq => BinaryForm::Compare(RelOp::LessEq),
+        BinaryOp::GreaterEq => BinaryForm::Compare(RelOp::GreaterEq),
+        BinaryOp::Eq => BinaryForm::Equate(EqOp::Equal),
+        BinaryOp::Ne => BinaryForm::Equate(EqOp::NotEqual),
+        BinaryOp::BitAnd => BinaryForm::Common(BinOp::BitAnd),
+        BinaryOp::BitXor => BinaryForm::Common(BinOp::BitXor),
+        BinaryOp::BitOr => BinaryForm::Common(BinOp::BitOr),
+        BinaryOp::And => BinaryForm::Join(false),
+        BinaryOp::Or => BinaryForm::Join(true),
+    }
+}
+
+/// A binary operator (6.5.5 to 6.5.14).
+#[inline(never)]
+pub fn binary(
+    state: &State,
+    op: BinaryOp,
+    a: Operand,
+    b: Operand,
+    line: u32,
+) -> Result<Operand, TypeFault> {
+    let alloc = state.alloc;
+    let tags = &state.tags;
+    placed(
+        line,
+        match binary_of(op) {
+            BinaryForm::Common(op) => express::multiplied(alloc, tags, op, a, b, line),
+            BinaryForm::Add => express::added(alloc, tags, a, b, line),
+            BinaryForm::Sub => express::subtracted(alloc, tags, a, b, line),
+            BinaryForm::Shift(op) => express::shifted(alloc, tags, op, a, b, line),
+            BinaryForm::Compare(op) => express::compared(alloc, tags, op, a, b, line),
+            BinaryForm::Equate(op) => express::equated(alloc, tags, op, a, b, line),
+            BinaryForm::Join(either) => express::joined(alloc, tags, either, a, b, line),
+        },
+    )
+}
+
+fn operator_of(op: AssignOp) -> Option<BinOp> {
+    match op {
+        AssignOp::Plain => None,
+        AssignOp::Mul => Some(BinOp::Mul),
+        AssignOp::Div => Some(BinOp::Div),
+        AssignOp::Rem => Some(BinOp::Rem),
+        AssignOp::Add => Some(BinOp::Add),
+        AssignOp::Sub => Some(BinOp::Sub),
+        AssignOp::Shl => Some(BinOp::Shl),
+        AssignOp::Shr => Some(BinOp::Shr),
+        AssignOp::BitAnd => Some(BinOp::BitAnd),
+        AssignOp::BitXor => Some(BinOp::BitXor),
+        AssignOp::BitOr => Some(BinOp::BitOr),
+    }
+}
+
+/// An assignment (6.5.16).
+#[inline(never)]
+pub fn assignment(
+    state: &State,
+    op: AssignOp,
+    a: Operand,
+    b: Operand,
+    line: u32,
+) -> Result<Operand, TypeFault> {
+    let alloc = state.alloc;
+    let tags = &state.tags;
+    placed(
+        line,
+        match operator_of(op) {
+            None => express::assigned(alloc, tags, state, a, b, line),
+            Some(op) => express::compound(alloc, tags, state, op, a, b, line),
+        },
+    )
+}
+
+/// `? :` (6.5.15).
+#[inline(never)]
+pub fn conditional(
+    state: &State,
+    a: Operand,
+    b: Operand,
+    c: Operand,
+    line: u32,
+) -> Result<Operand, TypeFault> {
+    placed(
+        line,
+        express::chosen(state.alloc, &state.tags, a, b, c, line),
+    )
+}
+
+/// A comma expression (6.5.17).
+#[inline(never)]
+pub fn sequence(state: &State, operands: Vec<Operand>, line: u32) -> Result<Operand, TypeFault> {
+    placed(
+        line,
+        express::sequenced(state.alloc, &state.tags, operands, line),
+    )
+}
+
+/// A call (6.5.2.2).
+#[inline(never)]
+pub fn call(
+    state: &State,
+    designator: Operand,
+    arguments: Vec<Operand>,
+    line: u32,
+) -> Result<Operand, TypeFault> {
+    placed(
+        line,
+        express::called(state.alloc, &state.tags, designator, arguments, line),
+    )
+}
+
+/// A subscript (6.5.2.1).
+#[inline(never)]
+pub fn subscript(state: &State, a: Operand, b: Operand, line: u32) -> Result<Operand, TypeFault> {
+    placed(line, express::indexed(state.alloc, &state.tags, a, b, line))
+}
+
+/// `E.name`, or `E->name` where `arrow` is true (6.5.2.3).
+#[inline(never)]
+pub fn member(
+    source: &Source<'_>,
+    state: &State,
+    arrow: bool,
+    a: Operand,
+    name: u32,
+    line: u32,
+) -> Result<Operand, TypeFault> {
+    let alloc = state.alloc;
+    let tags = &state.tags;
+    let name = source.spelling(name);
+    placed(
+        line,
+        if arrow {
+            express::member_of_pointer(alloc, tags, a, name, line)
+        } else {
+            express::member_of_value(alloc, tags, a, name, line)
+        },
+    )
+}
+
+// The type of an operand that isn't evaluated (6.5.3.4p2).
+fn operand_type(a: &Operand) -> Option<&Ty> {
+    match a.form {
+        Form::Value | Form::NullPointer => Some(&a.tree.ty),
+        Form::Place { register: _ } => {
+            let object = object_of(&a.tree.ty)?;
+            Some(&object.ty)
+        }
+        Form::Designator | Form::Void => None,
+    }
+}
+
+/// `sizeof E`: of a complete object type (6.5.3.4p1).
+#[inline(never)]
+pub fn size_of_operand(state: &State, a: Operand, line: u32) -> Result<Operand, TypeFault> {
+    match operand_type(&a) {
+        Some(ty) => size_of_type(state, ty, line),
+        None => Err(TypeFault::NotTyped(line)),
+    }
+}
+
+fn unsigned_long(alloc: Global, number: u64, line: u32) -> Operand {
+    value(integer(alloc, i128::from(number), IntKind::ULong, line))
+}
+
+/// `sizeof(type)`: of a complete object type (6.5.3.4p1).
+pub fn size_of_type(state: &State, ty: &Ty, line: u32) -> Result<Operand, TypeFault> {
+    match state.tags.extent(ty) {
+        Some(e) => Ok(unsigned_long(state.alloc, e.size, line)),
+        None => Err(TypeFault::NotTyped(line)),
+    }
+}
+
+/// `_Alignof(type)`: of a complete object type (6.5.3.4p1).
+pub fn alignment_of_type(state: &State, ty: &Ty, line: u32) -> Result<Operand, TypeFault> {
+    match state.tags.extent(ty) {
+        Some(e) => Ok(unsigned_long(state.alloc, e.align, line)),
+        None => Err(TypeFault::NotTyped(line)),
+    }
+}
+
+/// A cast (6.5.4).
+#[inline(never)]
+pub fn cast(state: &State, a: Operand, to: &Ty, line: u32) -> Result<Operand, TypeFault> {
+    placed(line, express::cast(state.alloc, &state.tags, a, to, line))
+}

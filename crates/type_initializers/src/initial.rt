@@ -1,0 +1,398 @@
+// Initializers (6.7.9).
+use crate::cursor::{Choice, Cursor, Spot, next_spot};
+use crate::statics::static_content;
+use c_ast::{Designator, Expr, ExprNode, Init, InitEntry};
+use c_typed::Content;
+use c_types::Ty;
+use std::alloc::Global;
+use type_expressions::expression::{constant, expression};
+use type_expressions::literal::literal_bytes;
+use type_operators::{Form, Operand, is_scalar, object_of};
+use type_scope::{Source, State, TypeFault};
+use type_values::text_of;
+use ub_base::{Bytes, NoMemory};
+
+/// What initializes a part: an expression, or bytes that are known now.
+#[derive(Drop)]
+pub enum Given {
+    Value(Operand),
+    Content(Content),
+}
+
+/// A part that the list names, in the order of the text: its offset, its type, how many bytes it has, its line, and what
+/// initializes it.
+#[derive(Drop)]
+pub struct Listed {
+    pub offset: u64,
+    pub size: u64,
+    pub ty: Ty,
+    pub line: u32,
+    pub given: Given,
+}
+
+/// A part that braces or a string give as a whole, where parts before it in the text reach behind its start: its bytes, and
+/// how many parts stand before it in the text.
+#[derive(Clone, Copy)]
+pub struct Whole {
+    pub start: u64,
+    pub end: u64,
+    pub before: u64,
+}
+
+/// All that a list names, and which members of unions. `fixed` says that the object has static storage: each value is then
+/// constant (6.7.9p4). `furthest` is where the part ends that reaches furthest.
+#[derive(Drop)]
+pub struct Listing {
+    pub parts: Vec<Listed>,
+    pub choices: Vec<Choice>,
+    pub wholes: Vec<Whole>,
+    pub fixed: bool,
+    pub furthest: u64,
+}
+
+impl Listing {
+    /// Nothing yet.
+    pub fn new(alloc: Global, fixed: bool) -> Listing {
+        Listing {
+            parts: Vec::new(alloc),
+            choices: Vec::new(alloc),
+            wholes: Vec::new(alloc),
+            fixed,
+            furthest: 0,
+        }
+    }
+
+    /// Adds a part.
+    pub fn add(&mut self, part: Listed) -> Result<(), NoMemory> {
+        self.furthest = self.furthest.max(part.offset.saturating_add(part.size));
+        self.parts.push(part)?;
+        Ok(())
+    }
+
+    // Notes that braces or a string give a part of so many bytes as a whole.
+    fn note_whole(&mut self, offset: u64, size: u64) -> Result<(), NoMemory> {
+        if offset < self.furthest {
+            self.wholes.push(Whole {
+                start: offset,
+                end: offset.saturating_add(size),
+                before: self.parts.len() as u64,
+            })?;
+        }
+        Ok(())
+    }
+}
+
+/// Whether the type is an array of a character type (6.7.9p14).
+pub fn is_text_array(ty: &Ty) -> bool {
+    match ty {
+        Ty::Array(element, _) => match &element.get().ty {
+            Ty::Int(kind) => kind.is_character(),
+            _ => false,
+        },
+        _ => false,
+    }
+}
+
+/// The string that initializes an array of characters; faulty where it is too long (6.7.9p2).
+pub fn text(
+    source: &Source<'_>,
+    alloc: Global,
+    first: u32,
+    count: u32,
+    ty: &Ty,
+) -> Result<Bytes, TypeFault> {
+    let bytes = literal_bytes(alloc, source, first, count)?;
+    let room = match ty {
+        Ty::Array(_, room) => *room,
+        _ => None,
+    };
+    match text_of(bytes, room) {
+        Some(bytes) => Ok(bytes),
+        None => Err(source.fault(first)),
+    }
+}
+
+// The structure or union that the operand gives.
+fn tag_of(ty: &Ty) -> Option<u32> {
+    match ty {
+        Ty::Struct(tag) | Ty::Union(tag) => Some(*tag),
+        _ => None,
+    }
+}
+
+fn operand_tag(operand: &Operand) -> Option<u32> {
+    match operand.form {
+        Form::Value => tag_of(&operand.tree.ty),
+        Form::Place { register: _ } => {
+            let object = object_of(&operand.tree.ty)?;
+            tag_of(&object.ty)
+        }
+        Form::NullPointer | Form::Designator | Form::Void => None,
+    }
+}
+
+// What stands in a list without braces round it.
+#[derive(Clone, Copy)]
+enum Wanted {
+    Text,
+    Tagged(u32),
+    Scalar,
+}
+
+fn is_wanted_tag(tag: u32, wanted: Wanted) -> bool {
+    match wanted {
+        Wanted::Tagged(given) => tag == given,
+        Wanted::Text | Wanted::Scalar => false,
+    }
+}
+
+// Whether it initializes a part of this type itself, and not the first part of it (6.7.9p13, 6.7.9p14, 6.7.9p20).
+fn suits(ty: &Ty, wanted: Wanted) -> bool {
+    match ty {
+        Ty::Array(_, _) => matches!(wanted, Wanted::Text) && is_text_array(ty),
+        Ty::Struct(tag) | Ty::Union(tag) => is_wanted_tag(*tag, wanted),
+        ty => is_scalar(ty),
+    }
+}
+
+const DEEPEST: u32 = u32::MAX;
+
+// The part that it initializes: the next one, or the first of its parts that it suits.
+fn settle(
+    source: &Source<'_>,
+    state: &State,
+    cursor: &mut Cursor,
+    wanted: Wanted,
+    at: u32,
+) -> Result<Spot, TypeFault> {
+    for _ in 0..DEEPEST {
+        let spot = next_spot(source, state, cursor, at)?;
+        if suits(&spot.ty, wanted) {
+            return Ok(spot);
+        }
+        if is_scalar(&spot.ty) {
+            return Err(source.fault(at));
+        }
+        cursor.enter(spot)?;
+    }
+    Err(source.fault(at))
+}
+
+fn size_of(state: &State, ty: &Ty) -> u64 {
+    match state.tags.extent(ty) {
+        Some(extent) => extent.size,
+        None => 0,
+    }
+}
+
+// Adds a part that an expression initializes.
+fn add_value(
+    source: &Source<'_>,
+    state: &mut State,
+    listing: &mut Listing,
+    spot: Spot,
+    e: &Expr,
+    operand: Operand,
+) -> Result<(), TypeFault> {
+    let line = source.line(e.at);
+    let size = size_of(state, &spot.ty);
+    let Spot { ty, offset } = spot;
+    let given = if listing.fixed {
+        Given::Content(static_content(state, operand, &ty, size, line)?)
+    } else {
+        Given::Value(operand)
+    };
+    listing.add(Listed {
+        offset,
+        size,
+        ty,
+        line,
+        given,
+    })?;
+    Ok(())
+}
+
+fn add_text(
+    state: &State,
+    listing: &mut Listing,
+    spot: Spot,
+    bytes: Bytes,
+    line: u32,
+) -> Result<(), NoMemory> {
+    let Spot { ty, offset } = spot;
+    listing.note_whole(offset, size_of(state, &ty))?;
+    listing.add(Listed {
+        offset,
+        size: bytes.len() as u64,
+        ty,
+        line,
+        given: Given::Content(Content::Bytes(bytes)),
+    })
+}
+
+// An expression without braces.
+fn single(
+    source: &Source<'_>,
+    state: &mut State,
+    e: &Expr,
+    listing: &mut Listing,
+    cursor: &mut Cursor,
+) -> Result<(), TypeFault> {
+    if let ExprNode::Strings(first, count) = &e.node {
+        let spot = settle(source, state, cursor, Wanted::Text, e.at)?;
+        if is_text_array(&spot.ty) {
+            let bytes = text(source, state.alloc, *first, *count, &spot.ty)?;
+            return Ok(add_text(state, listing, spot, bytes, source.line(e.at))?);
+        }
+        let mark = state.mark();
+        let operand = expression(source, state, e)?;
+        add_value(source, state, listing, spot, e, operand)?;
+        return Ok(keep(state, listing, mark)?);
+    }
+    let mark = state.mark();
+    let operand = expression(source, state, e)?;
+    let wanted = match operand_tag(&operand) {
+        Some(tag) => Wanted::Tagged(tag),
+        None => Wanted::Scalar,
+    };
+    let spot = settle(source, state, cursor, wanted, e.at)?;
+    add_value(source, state, listing, spot, e, operand)?;
+    Ok(keep(state, listing, mark)?)
+}
+
+// Of the literals of a constant expression keeps the one whose address it is.
+fn keep(state: &mut State, listing: &mut Listing, mark: type_scope::Mark) -> Result<(), NoMemory> {
+    if !listing.fixed {
+        return Ok(());
+    }
+    match listing.parts.last_mut() {
+        Some(
+            Listed {
+                offset: _,
+                size: _,
+                ty: _,
+                line: _,
+                given: Given::Content(content),
+            },
+        ) => crate::statics::keep_literal(state, mark, content),
+        _ => Ok(()),
+    }
+}
+
+// The one expression in braces round a scalar or a string.
+fn lone(entries: &[InitEntry]) -> Option<&Expr> {
+    match entries {
+        [entry] if entry.designators.is_empty() => match &entry.init {
+            Init::Single(e) => Some(e),
+            Init::Braced { at: _, entries: _ } => None,
+        },
+        _ => None,
+    }
+}
+
+/// The one string in braces round an array of characters.
+pub fn lone_text(entries: &[InitEntry]) -> Option<(u32, u32)> {
+    match &lone(entries)?.node {
+        ExprNode::Strings(first, count) => Some((*first, *count)),
+        _ => None,
+    }
+}
+
+/// The one expression in braces round a scalar (6.7.9p11).
+pub fn lone_expression(entries: &[InitEntry]) -> Option<&Expr> {
+    lone(entries)
+}
+
+// Goes to the part that the designators name (6.7.9p6, 6.7.9p7).
+fn designated(
+    source: &Source<'_>,
+    state: &mut State,
+    cursor: &mut Cursor,
+    designators: &[Designator],
+) -> Result<(), TypeFault> {
+    cursor.restart();
+    for (i, designator) in designators.iter().enumerate() {
+        let (at, inside) = place_of(source, designator);
+        if i > 0 && !cursor.enter_next(state)? {
+            return Err(inside);
+        }
+        let found = match designator {
+            Designator::Member(name) => {
+                cursor.to_member(state, source.spelling(*name), source.symbol(*name))?
+            }
+            Designator::Element(e) => {
+                let number = constant(source, state, e)?;
+                cursor.to_element(number)
+            }
+        };
+        if !found {
+            return Err(source.fault(at));
+        }
+    }
+    Ok(())
+}
+
+fn place_of(source: &Source<'_>, designator: &Designator) -> (u32, TypeFault) {
+    let at = match designator {
+        Designator::Member(name) => *name,
+        Designator::Element(e) => e.at,
+    };
+    (at, source.fault(at))
+}
+
+/// The entries of a list for an aggregate or union; the answer is how many elements of it were reached (6.7.9p16 to
+/// 6.7.9p21).
+#[cycle(initial)]
+pub fn braced(
+    source: &Source<'_>,
+    state: &mut State,
+    entries: &[InitEntry],
+    listing: &mut Listing,
+    spot: Spot,
+) -> Result<u64, TypeFault> {
+    listing.note_whole(spot.offset, size_of(state, &spot.ty))?;
+    let mut cursor = Cursor::new(state.alloc, spot)?;
+    for entry in entries {
+        if !entry.designators.is_empty() {
+            designated(source, state, &mut cursor, entry.designators.as_slice())?;
+        }
+        entry_at(source, state, &entry.init, listing, &mut cursor)?;
+        cursor.pass(&mut listing.choices)?;
+    }
+    Ok(cursor.reached())
+}
+
+// One entry, at the cursor's next part.
+#[cycle(initial)]
+fn entry_at(
+    source: &Source<'_>,
+    state: &mut State,
+    init: &Init,
+    listing: &mut Listing,
+    cursor: &mut Cursor,
+) -> Result<(), TypeFault> {
+    match init {
+        Init::Single(e) => single(source, state, e, listing, cursor),
+        Init::Braced { at, entries } => {
+            let spot = next_spot(source, state, cursor, *at)?;
+            let entries = entries.as_slice();
+            if is_scalar(&spot.ty) {
+                return match lone_expression(entries) {
+                    Some(e) => single(source, state, e, listing, cursor),
+                    None => Err(source.fault(*at)),
+                };
+            }
+            if is_text_array(&spot.ty)
+                && let Some((first, count)) = lone_text(entries)
+            {
+                let bytes = text(source, state.alloc, first, count, &spot.ty)?;
+                return Ok(add_text(state, listing, spot, bytes, source.line(first))?);
+            }
+            if entries.is_empty() {
+                return Err(source.fault(*at));
+            }
+            let _reached = braced(source, state, entries, listing, spot)?;
+            Ok(())
+        }
+    }
+}

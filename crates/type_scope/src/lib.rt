@@ -1,0 +1,22 @@
+//! What is declared where: the names of a text, their scopes and name spaces, linkage, and the functions and static objects
+//! of the program so far (ISO/IEC 9899:2011, 6.2.1 to 6.2.3).
+#![tactic(auto)]
+
+mod fault;
+mod library;
+mod linkage;
+mod literals;
+mod rows;
+mod source;
+mod state;
+mod task;
+
+pub use fault::{TypeFault, placed};
+pub use library::{library_function, library_type};
+pub use linkage::{Linkage, copied_function};
+pub use literals::Literal;
+pub use rows::{CountedUse, Definition, FunctionRow, Meaning, ObjectRow, TagMeaning, TagRow};
+pub use source::Source;
+pub use state::{Lifted, Mark, State};
+pub use task::{Label, OpenBlock, OpenSwitch, Task};
+pub use type_name_space::{Binding, Space};

@@ -1,0 +1,124 @@
+// What names stand for.
+
+use c_typed::{Body, Constant, Slot};
+use c_types::{FuncTy, LibFunc, Qual, TagKind, Ty};
+use std::alloc::Global;
+use ub_base::Items;
+
+/// What an ordinary identifier stands for (6.2.3).
+#[derive(Drop)]
+pub enum Meaning {
+    /// An object, with its type as far as this declaration tells, and whether it was declared `register`.
+    Object {
+        slot: Slot,
+        qual: Qual,
+        register: bool,
+    },
+    /// A function, by number, with its type as far as this declaration tells.
+    Function {
+        number: u32,
+        ty: Ty,
+    },
+    /// An enumeration constant.
+    Constant(i128),
+    Typedef(Qual),
+}
+
+/// What a tag stands for.
+#[derive(Clone, Copy, Debug, PartialEq, Eq)]
+pub enum TagMeaning {
+    Tagged(TagKind, u32),
+    Enumerated(u32),
+}
+
+/// What else is known of a structure or union: whether it has a const member, itself or in a member; and the symbols of its
+/// members, those of unnamed structures and unions included.
+#[derive(Drop)]
+pub struct TagRow {
+    pub constant: bool,
+    pub symbols: Vec<u32>,
+}
+
+/// An object with static storage.
+#[derive(Drop)]
+pub struct ObjectRow {
+    /// The type of its identifier by its declarations at file scope so far (6.2.7p4, 6.9.2p2); before the first of them that of
+    /// its first declaration.
+    pub qual: Qual,
+    /// The types that its declarations gave it, each once.
+    pub types: Items<Qual>,
+    /// Whether its identifier has linkage, and then whether it is internal.
+    pub linked: bool,
+    pub internal: bool,
+    /// Its place among the objects with static storage, in the order of their first definitions.
+    pub defined: Option<u32>,
+    /// The line of that definition.
+    pub line: u32,
+    pub initialized: bool,
+    pub constants: Items<Constant>,
+    /// The line of its first use.
+    pub used: Option<u32>,
+    /// Its first use as an array of known size.
+    pub counted: Option<CountedUse>,
+}
+
+/// A use of an object as an array of so many elements, and its line.
+#[derive(Clone, Copy, Debug, PartialEq, Eq)]
+pub struct CountedUse {
+    pub count: u64,
+    pub line: u32,
+}
+
+/// Where a function is defined.
+#[derive(Drop)]
+pub enum Definition {
+    /// Nowhere so far.
+    Nowhere,
+    /// In the library, and so not in the unit (7.1.3p2).
+    Library(LibFunc),
+    /// In the unit, with this type, and with its body once that is read.
+    Own(FuncTy, Option<Body>),
+}
+
+/// A function.
+#[derive(Drop)]
+pub struct FunctionRow {
+    /// The composite of its types so far.
+    pub ty: FuncTy,
+    /// The types that its declarations gave it, each once.
+    pub types: Items<Qual>,
+    pub internal: bool,
+    pub definition: Definition,
+    /// The line of its first use.
+    pub used: Option<u32>,
+}
+
+impl ObjectRow {
+    /// An object of this type that isn't defined yet.
+    pub fn new(alloc: Global, qual: Qual, linked: bool, internal: bool) -> ObjectRow {
+        ObjectRow {
+            qual,
+            types: Items::new(alloc),
+            linked,
+            internal,
+            defined: None,
+            line: 1,
+            initialized: false,
+            constants: Items::new(alloc),
+            used: None,
+            counted: None,
+        }
+    }
+
+    /// Notes a use on this line, as an array of so many elements where that is known.
+    pub fn use_on(&mut self, line: u32, count: Option<u64>) {
+        if self.used.is_none() {
+            self.used = Some(line);
+        }
+        if let Some(count) = count
+            && self.counted.is_none()
+        {
+            self.counted = Some(CountedUse { count, line });
+        }
+    }
+}

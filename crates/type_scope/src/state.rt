@@ -1,0 +1,341 @@
+// All that is declared so far.
+ghost use Rattle.std.specs.Prelude.{◌≡◌, OnOk};
+ghost use Rattle.c_typed.specs.Lawful.{HasBytes};
+ghost use Rattle.type_name_space.specs.Scopes.{left};
+
+use crate::literals::Literal;
+use crate::rows::{FunctionRow, Meaning, ObjectRow, TagMeaning, TagRow};
+use crate::{Binding, Source, Space, Task};
+use c_typed::Target;
+use c_types::{Extent, Qual, TagKind, Tags, Ty};
+use std::alloc::Global;
+use type_operators::{Constants, Objects};
+use ub_base::{Bytes, NoMemory};
+
+/// The declarations of a unit so far.
+#[derive(Drop)]
+pub struct State {
+    pub alloc: Global,
+    pub ordinary: Space<Meaning>,
+    pub tag_names: Space<TagMeaning>,
+    /// How many scopes enclose this one: 0 at file scope.
+    pub depth: u32,
+    /// The declarations in the parameter list of a function definition, while the rest of its declarator is read (6.2.1p4).
+    pub prototype: Lifted,
+    pub tags: Tags,
+    pub tag_rows: Vec<TagRow>,
+    /// Which enumerations are complete, by number.
+    pub enumerations: Vec<bool>,
+    pub objects: Vec<ObjectRow>,
+    /// How many objects with static storage have been declared, and how many defined.
+    pub declared: usize,
+    pub defined: u32,
+    /// Where an object stands in `objects`, by the order of first declarations; the same place where it is empty.
+    pub order: Vec<u32>,
+    pub functions: Vec<FunctionRow>,
+    /// The object or function that a name with linkage stands for, by symbol.
+    pub linked: Vec<Option<Target>>,
+    pub literals: Vec<Literal>,
+    /// How many operands that aren't evaluated are open.
+    pub unevaluated: u32,
+    /// The function that is called at program startup (5.1.2.2.1).
+    pub main: Option<u32>,
+    pub task: Task,
+}
+
+/// The declarations of a scope that was taken away, the newest first.
+#[derive(Drop)]
+pub struct Lifted {
+    ordinary: Vec<Binding<Meaning>>,
+    tag_names: Vec<Binding<TagMeaning>>,
+}
+
+impl Lifted {
+    // No declarations.
+    fn new(alloc: Global) -> Lifted {
+        Lifted {
+            ordinary: Vec::new(alloc),
+            tag_names: Vec::new(alloc),
+        }
+    }
+}
+
+/// How many string literals were there before an operand that isn't evaluated.
+#[derive(Clone, Copy, Debug, PartialEq, Eq)]
+pub struct Mark(usize);
+
+impl State {
+    /// Nothing declared; `order` as the field says.
+    pub fn new(alloc: Global, source: &Source<'_>, order: Vec<u32>) -> Result<State, NoMemory> {
+        let symbols = source.symbol_count();
+        let mut linked = Vec::new(alloc);
+        for _ in 0..symbols {
+            linked.push(None)?;
+        }
+        let mut objects = Vec::new(alloc);
+        for _ in 0..order.len() {
+            objects.push(ObjectRow::new(alloc, no_type(), false, false))?;
+        }
+        Ok(State {
+            alloc,
+            ordinary: Space::new(alloc, symbols)?,
+            tag_names: Space::new(alloc, symbols)?,
+            depth: 0,
+            prototype: Lifted::new(alloc),
+            tags: Tags::new(alloc),
+            tag_rows: Vec::new(alloc),
+            enumerations: Vec::new(alloc),
+            objects,
+            declared: 0,
+            defined: 0,
+            order,
+            functions: Vec::new(alloc),
+            linked,
+            literals: Vec::new(alloc),
+            unevaluated: 0,
+            main: None,
+            task: Task::new(alloc, Ty::Void),
+        })
+    }
+
+    /// Begins a scope.
+    pub fn enter_scope(&mut self) {
+        self.depth = self.depth.saturating_add(1);
+    }
+
+    /// Ends the innermost scope.
+    pub fn leave_scope(&mut self)
+        ensures ordinary { self.new.ordinary ≡ left self.old.depth self.old.ordinary }
+        ensures tags { self.new.tag_names ≡ left self.old.depth self.old.tag_names }
+    {
+        self.ordinary.leave(self.depth);
+        self.tag_names.leave(self.depth);
+        self.depth = self.depth.saturating_sub(1);
+    }
+
+    /// Takes the declarations of the innermost scope away, and ends it.
+    pub fn lift_scope(&mut self) -> Result<Lifted, NoMemory>
+        ensures ordinary { OnOk result (self.new.ordinary ≡ left self.old.depth self.old.ordinary) }
+        ensures tags { OnOk result (self.new.tag_names ≡ left self.old.depth self.old.tag_names) }
+    {
+        let ordinary = self.ordinary.lift(self.alloc, self.depth)?;
+        let tag_names = self.tag_names.lift(self.alloc, self.depth)?;
+        self.depth = self.depth.saturating_sub(1);
+        Ok(Lifted {
+            ordinary,
+            tag_names,
+        })
+    }
+
+    /// Begins a scope with these declarations.
+    pub fn lower_scope(&mut self, lifted: Lifted) -> Result<(), NoMemory> {
+        let Lifted {
+            ordinary,
+            tag_names,
+        } = lifted;
+        self.enter_scope();
+        self.ordinary.lower(self.depth, ordinary)?;
+        self.tag_names.lower(self.depth, tag_names)
+    }
+
+    /// Ends the innermost scope, that of the parameters of a function definition, and keeps what it declares for the body.
+    pub fn lift_prototype(&mut self) -> Result<(), NoMemory> {
+        self.prototype = self.lift_scope()?;
+        Ok(())
+    }
+
+    /// Begins the scope of a body, with what the parameter list declares.
+    pub fn lower_prototype(&mut self) -> Result<(), NoMemory> {
+        let none = Lifted::new(self.alloc);
+        let kept = std::mem::replace(&mut self.prototype, none);
+        self.lower_scope(kept)
+    }
+
+    /// Begins an operand that isn't evaluated: its literals are no objects, and it uses no name (6.9p3).
+    pub fn suspend(&mut self) -> Mark {
+        self.unevaluated = self.unevaluated.saturating_add(1);
+        Mark(self.literals.len())
+    }
+
+    /// Ends it.
+    pub fn resume(&mut self, mark: Mark) {
+        self.unevaluated = self.unevaluated.saturating_sub(1);
+        self.forget_literals(mark);
+    }
+
+    /// The literals so far.
+    pub fn mark(&self) -> Mark {
+        Mark(self.literals.len())
+    }
+
+    /// Forgets the literals since then.
+    pub fn forget_literals(&mut self, mark: Mark) {
+        for _ in mark.0..self.literals.len() {
+            let _last = self.literals.pop();
+        }
+    }
+
+    /// Forgets the literals since then but this one, which gets the first of their numbers.
+    pub fn keep_literal(&mut self, mark: Mark, number: u32) -> Result<u32, NoMemory> {
+        if number as usize >= self.literals.len() {
+            return Ok(number);
+        }
+        let kept = self.literals.remove(number as usize);
+        self.forget_literals(mark);
+        self.push_literal(kept)
+    }
+
+    fn push_literal(&mut self, literal: Literal) -> Result<u32, NoMemory> {
+        let number = u32::try_from(self.literals.len()).unwrap_or(u32::MAX);
+        self.literals.push(literal)?;
+        Ok(number)
+    }
+
+    /// A further string literal; the answer is its number.
+    pub fn add_literal(&mut self, bytes: Bytes) -> Result<u32, NoMemory>
+        requires { HasBytes bytes }
+    {
+        self.push_literal(Literal { bytes })
+    }
+
+    /// A further object with static storage; the answer is its number.
+    pub fn add_object(&mut self, row: ObjectRow) -> Result<u32, NoMemory> {
+        let at = self.declared;
+        self.declared = at.saturating_add(1);
+        match self.order.get(at) {
+            Some(place) => {
+                let place = *place;
+                self.put_object(place, row);
+                Ok(place)
+            }
+            None => {
+                let place = u32::try_from(self.objects.len()).unwrap_or(u32::MAX);
+                self.objects.push(row)?;
+                Ok(place)
+            }
+        }
+    }
+
+    fn put_object(&mut self, place: u32, row: ObjectRow) {
+        if (place as usize) < self.objects.len() {
+            self.objects[place as usize] = row;
+        }
+    }
+
+    /// Notes the first definition of an object.
+    pub fn define_object(&mut self, number: u32, line: u32) {
+        let next = self.defined;
+        if let Some(row) = self.objects.get_mut(number as usize)
+            && row.defined.is_none()
+        {
+            row.defined = Some(next);
+            row.line = line;
+            self.defined = next.saturating_add(1);
+        }
+    }
+
+    /// Notes a use of an object by an identifier of this type.
+    pub fn use_object(&mut self, number: u32, ty: &Ty, line: u32) {
+        if self.unevaluated == 0
+            && let Some(row) = self.objects.get_mut(number as usize)
+        {
+            row.use_on(line, known_count(ty));
+        }
+    }
+
+    /// Notes a use of a function.
+    pub fn use_function(&mut self, number: u32, line: u32) {
+        if self.unevaluated == 0
+            && let Some(row) = self.functions.get_mut(number as usize)
+            && row.used.is_none()
+        {
+            row.used = Some(line);
+        }
+    }
+
+    /// Declares a new structure or union; the answer is its number.
+    pub fn add_tag(&mut self, kind: TagKind) -> Result<u32, NoMemory> {
+        if self.tags.is_full() {
+            return Err(NoMemory);
+        }
+        self.tag_rows.push(TagRow {
+            constant: false,
+            symbols: Vec::new(self.alloc),
+        })?;
+        self.tags.declare(self.alloc, kind)
+    }
+
+    /// Declares a new enumeration; the answer is its number.
+    pub fn add_enumeration(&mut self) -> Result<u32, NoMemory> {
+        let number = u32::try_from(self.enumerations.len()).unwrap_or(u32::MAX);
+        self.enumerations.push(false)?;
+        Ok(number)
+    }
+
+    fn static_extent(&self, number: u32) -> Option<Extent> {
+        let row = self.objects.get(number as usize)?;
+        match self.tags.extent(&row.qual.ty) {
+            Some(extent) => Some(extent),
+            None => Some(Extent {
+                size: u64::MAX,
+                align: self.element_alignment(&row.qual.ty),
+            }),
+        }
+    }
+
+    // Of an array whose size isn't known yet the alignment of its elements.
+    fn element_alignment(&self, ty: &Ty) -> u64 {
+        match ty {
+            Ty::Array(element, _) => match self.tags.extent(&element.get().ty) {
+                Some(extent) => extent.align,
+                None => 1,
+            },
+            _ => 1,
+        }
+    }
+}
+
+// The number of elements of an array of known size.
+fn known_count(ty: &Ty) -> Option<u64> {
+    match ty {
+        Ty::Array(_, count) => *count,
+        _ => None,
+    }
+}
+
+/// A type for a row that isn't filled yet.
+fn no_type() -> Qual {
+    Qual {
+        ty: Ty::Void,
+        constant: false,
+    }
+}
+
+impl Objects for State {
+    fn extent_of(&self, target: Target) -> Option<Extent> {
+        match target {
+            Target::Static(number) => self.static_extent(number),
+            Target::Literal(number) => {
+                let literal = self.literals.get(number as usize)?;
+                Some(Extent {
+                    size: literal.bytes.len() as u64,
+                    align: 1,
+                })
+            }
+            Target::Function(_) => None,
+        }
+    }
+}
+
+impl Constants for State {
+    ghost use Rattle.type_scope.specs.Tagged.{has_constant};
+
+    ghost is_constant = { has_constant };
+
+    fn has_constant(&self, tag: u32) -> bool {
+        match self.tag_rows.get(tag as usize) {
+            Some(row) => row.constant,
+            None => false,
+        }
+    }
+}

@@ -1,0 +1,6 @@
+int main(void) {
+  int *q = 0;
+  return
+  *
+  q;
+}

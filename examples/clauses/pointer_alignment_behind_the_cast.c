@@ -1,0 +1,7 @@
+int main(void) {
+  char d[8];
+  int *p =
+  (int *)
+  (d + 1);
+  return p != 0;
+}

@@ -1,0 +1,1 @@
+int z;int main(void){return (z=1)+1/z;}

@@ -1,0 +1,1 @@
+void exit(int);int quit(void){exit(3);return 0;}int a;int main(void){return quit()+a;}

@@ -1,0 +1,1 @@
+char a[67108865];int main(void){return 0;}

@@ -1,0 +1,3 @@
+int x;
+_Bool there = &x;
+int main(void) { return there; }

@@ -1,0 +1,3 @@
+char bytes[64];
+int *p = (int *)bytes;
+int main(void) { return p == 0; }

@@ -1,0 +1,4 @@
+int main(void) {
+  char s[] = ("abc");
+  return sizeof s;
+}

@@ -1,1 +1,0 @@
-int main(void){int i=1;i=i++;return i;}

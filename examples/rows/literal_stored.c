@@ -1,1 +1,0 @@
-int main(void){"ab"[0]='c';return 0;}

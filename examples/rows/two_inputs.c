@@ -1,1 +1,0 @@
-int getchar(void);int main(void){return getchar()-getchar();}

@@ -1,1 +1,0 @@
-int f(void){}int main(void){return f();}

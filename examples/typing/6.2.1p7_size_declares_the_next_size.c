@@ -1,0 +1,1 @@
+enum{N=5};int main(void){int q[sizeof(enum{N=2})][N];return sizeof q[0]/sizeof(int);}

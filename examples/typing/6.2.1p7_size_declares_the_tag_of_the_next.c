@@ -1,0 +1,1 @@
+int main(void){int a[sizeof(struct U{int x[2];})][sizeof(struct U)];return sizeof a/sizeof(int);}

@@ -1,0 +1,1 @@
+struct W{const struct{int q;};struct{int r;};};int main(void){struct W z={{1},{2}};z.r=3;return z.q+z.r;}

@@ -1,0 +1,2 @@
+struct S{int a;};int main(void){struct S;
+return sizeof(struct S);}

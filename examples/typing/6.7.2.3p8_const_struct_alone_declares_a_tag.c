@@ -1,0 +1,1 @@
+int main(void){const struct S;{struct S*p=0;return p!=0;}}

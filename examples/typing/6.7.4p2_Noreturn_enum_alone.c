@@ -1,0 +1,1 @@
+_Noreturn enum{A};int main(void){return 0;}

@@ -1,0 +1,2 @@
+int main(void){
+typedef _Noreturn void F(void);return 0;}

@@ -1,0 +1,1 @@
+inline struct S{int a;};int main(void){return 0;}

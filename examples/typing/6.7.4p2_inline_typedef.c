@@ -1,0 +1,2 @@
+int main(void){
+typedef inline int T;return 0;}

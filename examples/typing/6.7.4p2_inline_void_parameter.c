@@ -1,0 +1,1 @@
+int h(inline void);int main(void){return 0;}

@@ -1,0 +1,2 @@
+int main(void){
+inline int main(void);return 0;}

@@ -1,0 +1,1 @@
+extern void v;int main(void){extern void v;return 0;}

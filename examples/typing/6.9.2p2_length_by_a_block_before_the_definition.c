@@ -1,0 +1,1 @@
+void f(void){extern int a[5];}int a[]={1};int main(void){return sizeof a;}

@@ -1,0 +1,1 @@
+static int a[];static int a[3];int main(void){return 0;}

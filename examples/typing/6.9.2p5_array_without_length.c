@@ -1,0 +1,1 @@
+int a[];int main(void){return a[0];}

@@ -1,0 +1,1 @@
+int a[][2];int main(void){a[0][1]=8;return a[0][0]+a[0][1];}

@@ -1,1 +1,0 @@
-inline int main(void){return 0;}

@@ -1,1 +1,0 @@
-int a[];int main(void){return 0;}

@@ -1,0 +1,1 @@
+typedef int*restrict P;typedef int*P;int x;extern P p;int*p=&x;int main(void){return*p;}
