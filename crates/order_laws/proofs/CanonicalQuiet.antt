@@ -1,5 +1,5 @@
 -- The canonical order of a run whose first finding is clean is an order of the machine without conflicts.
-use Rattle.std.proofs.Common.{◌≡◌, ◌≢◌, ℕ, zero, suc, ◌+◌, ◌<◌, ◌≤◌, Bool, true, false, if◌then◌else◌, true≢false, List, [], ◌∷◌, ◌++◌, length, Option, Some, None, is_some, refl, sym, ap, ap₂, ◌∙◌, subst, ◌⊎◌, inl, inr, arith}
+use Rattle.std.proofs.Common.{◌≡◌, ℕ, zero, suc, ◌+◌, ◌≤◌, Bool, true, false, if◌then◌else◌, List, [], ◌∷◌, ◌++◌, length, Option, Some, None, is_some, refl, sym, ap, ◌∙◌, subst, inl, inr, arith}
 use Rattle.std.specs.Prelude.{nat_lt, nat_le}
 use Rattle.std.proofs.lemmas.Bool.Decides.{nat_tests}
 use Rattle.ub_base.specs.Frames.{Path}
@@ -7,9 +7,8 @@ use Rattle.ub_base.specs.declared.clause.Cause.{Cause}
 use Rattle.ub_base.specs.declared.clause.Cause.TheVariants.{Depth, Created, Output}
 use Rattle.ub_base.specs.declared.names.Item.{Item}
 use Rattle.c_typed.specs.declared.tree.Place.{Place}
-use Rattle.c_typed.specs.Order.{is_body}
 use Rattle.mem_spec.specs.Store.{Store}
-use Rattle.mem_spec.specs.Script.{Script, Give, Raise, Act, Done, Raised, Ended, Outside, Unplaced, run, Touch, Bury, item_of, refuses, left}
+use Rattle.mem_spec.specs.Script.{Give, Act, Done, Raised, Ended, Outside, Unplaced, run, Touch, Bury, item_of, refuses, left}
 use Rattle.mem_laws.specs.Frame.{gives as gives_value}
 use Rattle.mem_laws.proofs.Scripts.{stepped}
 use Rattle.c_model.specs.Program.{Decl}
@@ -21,13 +20,11 @@ use Rattle.c_model.specs.World.{World}
 use Rattle.c_model.specs.Values.{Value}
 use Rattle.c_model.specs.Moves.{Move, Stay, Start, End}
 use Rattle.c_model.specs.Steps.{Scene, Local, Begun, Pick, Control, Ev, does, move, next, auto_name, kill_all, turn_of, result_of, control_act, control_move}
-use Rattle.c_model.specs.Runs.{Entry, State, Outcome, Raises, Over, No_row, Ends, Running, depth_of, limit_passed, limited, within, enter_passes, allocation_passes, pick_allocates, without_row, entry_of, back, moved, acted, step, status_of, canonical_pick}
+use Rattle.c_model.specs.Runs.{Entry, State, No_row, Ends, Running, depth_of, limit_passed, limited, within, enter_passes, allocation_passes, pick_allocates, entry_of, back, moved, acted, step, status_of, canonical_pick}
 use Rattle.c_model.specs.Findings.{is_under}
-use Rattle.c_model.specs.FirstFinding.{Pair, Finding, Clean, raced_or, quarrel_or, races, quarrels, least_pair, found_in, open_on_top, ends_in, all_open, shown_at, found_from}
+use Rattle.c_model.specs.FirstFinding.{Pair, Finding, Clean, raced_or, quarrel_or, races, quarrels, least_pair, open_on_top, ends_in, all_open, shown_at, found_from}
 use Rattle.c_model.specs.Machine.{Machine, Does}
-use Rattle.c_model.specs.MachineLaws.{OrderLaws}
-use Rattle.c_model.specs.ModelMachine.{done_by, gives, start_where, is_control, done_in, ready_in, beside_in, frame_machine}
-use Rattle.c_model.proofs.FramesKeep.{order_laws}
+use Rattle.c_model.specs.ModelMachine.{done_by, gives, start_where, done_in, ready_in, beside_in, frame_machine}
 use Rattle.order_laws.specs.Orders as orders
 use Rattle.order_laws.specs.Orders.{going, over, ended, added, May, stay, enter, leave, stop, Quiet, HeldQuiet, NoneBeside, Alone, AllAlone}
 use Rattle.order_laws.specs.Cuts.{Result, gave, said}
@@ -40,10 +37,10 @@ use Rattle.order_laws.specs.EveryRun.{EndsWith}
 use Rattle.order_laws.specs.QuietOrders.{LooksAt, QuietOrder, is_over, is_ended, goes}
 use Rattle.order_laws.proofs.Permitted.{picks_agree, canonical_is_permitted}
 use Rattle.order_laws.proofs.RunSteps.{Plain, start_plain, starts_fresh}
-use Rattle.order_laws.proofs.Traces.{Event, Held, AllDone, Moved, moves, path_refl}
+use Rattle.order_laws.proofs.Traces.{Event, Held, AllDone, moves}
 use Rattle.order_laws.proofs.TraceItems.{Logged, other_frame, other_place, logged_new, logged_more}
 use Rattle.order_laws.proofs.FrameEvents.{depth_same, order_of, done_on, event_scene, event_function, event_closed, event_no_end}
-use Rattle.order_laws.proofs.QuietFrames.{AllLogged, LevelAll, levels_on, level_now, quiet_frame, free_settled, free_ends, EndsFree, AllEndFree, all_end_free, top_ends_free, HasEnd, lone_event, ready_begun, left_pick, HeldAlong, HeldAll, all_logged, under_refl, under_tail, held_on, held_keep, held_end, run_has_end}
+use Rattle.order_laws.proofs.QuietFrames.{AllLogged, LevelAll, levels_on, level_now, quiet_frame, free_settled, free_ends, EndsFree, all_end_free, top_ends_free, HasEnd, lone_event, ready_begun, left_pick, HeldAll, all_logged, under_refl, under_tail, held_on, held_keep, held_end, run_has_end}
 
 -- what stands behind the limits of a pick that passes none
 pub fits_of : (world : World) (d : ℕ) (s : Store) → limit_passed world.limits d s ≡ None → Within world.limits.created world.limits.output s

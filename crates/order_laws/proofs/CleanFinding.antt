@@ -1,20 +1,17 @@
 -- A first finding *clean* is a run without conflicts.
-use Rattle.std.proofs.Common.{◌≡◌, ℕ, List, [], refl}
-use Rattle.mem_spec.specs.Store.{Store}
+use Rattle.std.proofs.Common.{◌≡◌, ℕ, List, refl}
 use Rattle.c_model.specs.World.{World}
 use Rattle.c_model.specs.Values.{Value}
-use Rattle.c_model.specs.Runs.{State, Outcome, Refused, Raises, Over, No_row, Ends, Running, depth_of, start}
-use Rattle.c_model.specs.FirstFinding.{Clean, found_after, first_finding}
+use Rattle.c_model.specs.Runs.{Outcome, Refused, Raises, Over, No_row, Ends, Running, depth_of, start}
+use Rattle.c_model.specs.FirstFinding.{Clean, found_after}
 use Rattle.c_model.specs.MachineLaws.{OrderLaws}
-use Rattle.order_laws.specs.StoreParts.{store_parts}
-use Rattle.order_laws.specs.FrameEnds.{program_machine}
 use Rattle.order_laws.specs.Asking.{LibraryAsked}
 use Rattle.order_laws.specs.ProgramTells.{told_machine, told_ends}
 use Rattle.order_laws.specs.CleanFinding.{CleanIsRun}
 use Rattle.order_laws.specs.EveryRun.{CleanRun}
 use Rattle.order_laws.proofs.ProgramLaws.{keeps}
 use Rattle.order_laws.proofs.Nested.{quiet_order_runs}
-use Rattle.order_laws.proofs.EveryRun.{Started, started_as}
+use Rattle.order_laws.proofs.EveryRun.{started_as}
 use Rattle.order_laws.proofs.CanonicalQuiet.{fits_of, first_ran}
 
 -- the laws of the order look at no conflicts

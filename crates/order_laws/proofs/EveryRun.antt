@@ -12,14 +12,16 @@ use Rattle.c_model.specs.World.{World}
 use Rattle.c_model.specs.Values.{Value}
 use Rattle.c_model.specs.Steps.{Pick}
 use Rattle.c_model.specs.Runs.{Entry, State, Outcome, Refused, Raises, Over, No_row, Ends, Running, is_running, trace_of, depth_of, within, limit_passed, stand, nothing_stands, main_frame, started_run, start, After}
-use Rattle.c_model.specs.Findings.{Has, first, later, Both, newest, older, Meets, raised, raced}
+use Rattle.c_model.specs.Findings.{Has, first, later, Both, Meets, raised, raced}
 use Rattle.c_model.specs.Claims.{ComesTo, starts, stops, refuses, GoesWell}
 use Rattle.order_laws.specs.Orders.{going, here}
 use Rattle.order_laws.specs.Asking.{LibraryAsked}
 use Rattle.order_laws.specs.PermittedPicks.{ClosedIn}
-use Rattle.order_laws.specs.EveryRun.{CleanRun, CleanRunSpeaks}
+use Rattle.order_laws.specs.EveryRun.{CleanRun, CleanRunSpeaks, IsQuiet, CleanRunQuiet}
 use Rattle.order_laws.proofs.ProgramLaws.{orders_tell, stays_fit}
-use Rattle.order_laws.proofs.Traces.{RaceFree, RootedAt, HeldOk}
+use Rattle.order_laws.proofs.Traces.{none_begun}
+use Rattle.order_laws.proofs.OpenFrames.{newer_of, RootedAt, AllRooted, HeldOk}
+use Rattle.order_laws.proofs.QuietTraces.{Endless, no_race, no_quarrel}
 use Rattle.order_laws.proofs.Follows.{Reach, Alike, follow}
 
 -- the first state of a run
@@ -66,8 +68,7 @@ has_some _ _ v (first _ es _ p) q = cc (q)
 has_some _ e v (later d _ es _ h) q = cc (q)
 
 both_some : (trace : List Entry) (d : Entry) (u : Place) (e : Entry) (v : Place) → Both trace d u e v → trace ≡ [] → ⊥
-both_some _ _ u e v (newest _ _ es _ _ p h s t) q = cc (q)
-both_some _ d u e v (older c _ _ es _ _ b) q = cc (q)
+both_some trace d u e v b q = has_some trace d u (newer_of trace d u e v b) q
 
 none_traced : (o : Outcome) → (trace_of o ≡ []) ⊎ (o ≢ Refused)
 none_traced Refused = inl refl
@@ -92,12 +93,19 @@ module _ (world : World) (asked : LibraryAsked world) (small : world.limits.crea
     order = here (going (st.top, depth) [] [] st.store);
     deep = sd.deep;
     closed = subst (ClosedIn world st.top) (sym sd.begun) tt;
-    ok = record { covers = λ e v h. absurd (has_some st.trace e v h sd.trace); old = λ e v h. absurd (has_some st.trace e v h sd.trace) };
+    ok = record {
+      covers = λ e v h. absurd (has_some st.trace e v h sd.trace);
+      pairs = λ d e u v b. absurd (both_some st.trace d u e v b sd.trace);
+      old = λ e v h. absurd (has_some st.trace e v h sd.trace);
+    };
     done = tt;
+    seen = λ v d. absurd (none_begun st.top.begun sd.begun v d);
+    stood = tt;
     held = subst (λ z. HeldOk world st.trace z [] st.top.scene.path) (sym sd.held) sd.path;
-    root = subst (RootedAt st.trace) (sym sd.path) tt;
-    rooted = λ e v h. absurd (has_some st.trace e v h sd.trace);
-    raceless = λ d e u v r. both_some st.trace d u e v r.both sd.trace;
+    root = subst (RootedAt world st.trace) (sym sd.path) tt;
+    rooted = subst (λ z. AllRooted world st.trace z) (sym sd.trace) tt;
+    free = λ d e u v b. absurd (both_some st.trace d u e v b sd.trace);
+    endless = subst Endless (sym sd.trace) tt;
   }
 
   follows : (ps : List Pick) (o : Outcome) → After world st ps o → o ≢ Refused → Alike world small (st.top, depth) st.store picks c.result c.last
@@ -113,22 +121,37 @@ module _ (world : World) (asked : LibraryAsked world) (small : world.limits.crea
   record Good (n : ℕ) (o : Outcome) : Type 0 where
     goes_well : GoesWell world status output o
     bounded : n ≤ picks
-    raceless : RaceFree world (trace_of o)
+    quiet : IsQuiet world (trace_of o)
 
   every : (ps : List Pick) (o : Outcome) → ComesTo world input vs ps o → o ≢ Refused → Good (length ps) o
   every _ _ (starts st2 ps o h af) ne =
       let same = running_is st2 st (sym h ∙ c.starts) in
       let a = follows ps o (subst (λ z. After world z ps o) same af) ne in
-      record { goes_well = a.goes_well; bounded = (let b = a.bounded in omega (arith, b)); raceless = a.raceless }
+      record {
+        goes_well = a.goes_well;
+        bounded = (let b = a.bounded in omega (arith, b));
+        quiet = record { no_race = no_race world (trace_of o) a.free; no_quarrel = no_quarrel world (trace_of o) a.free; no_end_quarrel = a.ends_apart };
+      }
   every _ _ (stops o h nr) ne = absurd (true≢false (sym (ap is_running (sym h ∙ c.starts)) ∙ nr))
   every _ _ (refuses p ps nr) ne = absurd (ne refl)
 
+  -- one that is refused has no trace
+  untraced : (trace : List Entry) → trace ≡ [] → IsQuiet world trace
+  untraced trace t = record {
+    no_race = λ d e u v r. both_some trace d u e v r.both t;
+    no_quarrel = λ d e u v q. both_some trace d u e v q.both t;
+    no_end_quarrel = λ d u v q. has_some trace d u q.here t;
+  }
+
+  traced : (ps : List Pick) (o : Outcome) → ComesTo world input vs ps o → IsQuiet world (trace_of o)
+  traced ps o h = elim (none_traced o) [
+    | inl t ↦ untraced (trace_of o) t
+    | inr ne ↦ (every ps o h ne).quiet
+  ]
+
   never : (ps : List Pick) (o : Outcome) (cl : Clause) → ComesTo world input vs ps o → Meets world o cl → ⊥
   never ps _ _ h (raised cl trace) = (every ps (Raises cl trace) h (λ e. cc)).goes_well
-  never ps o _ h (raced _ d e u v race) = elim (none_traced o) [
-    | inl t ↦ both_some (trace_of o) d u e v race.both t
-    | inr ne ↦ (every ps o h ne).raceless d e u v race
-  ]
+  never ps o _ h (raced _ d e u v race) = (traced ps o h).no_race d e u v race
 
 pub clean_run_speaks : CleanRunSpeaks
 clean_run_speaks world input vs status output picks asked small c = record {
@@ -136,3 +159,6 @@ clean_run_speaks world input vs status output picks asked small c = record {
   bounded = λ ps o h ne. (every world asked small input vs status output picks c ps o h ne).bounded;
   defined = λ ps o cl h m. never world asked small input vs status output picks c ps o cl h m;
 }
+
+pub clean_run_quiet : CleanRunQuiet
+clean_run_quiet world input vs status output picks asked small c = traced world asked small input vs status output picks c

@@ -1,6 +1,7 @@
 -- What a pick does to the frame that it is of.
-use Rattle.std.proofs.Common.{◌≡◌, ℕ, ◌+◌, Bool, true, false, true≢false, if◌then◌else◌, List, [], ◌∷◌, Option, Some, None, is_some, refl, sym, ap, ap₂, ◌∙◌, subst}
+use Rattle.std.proofs.Common.{◌≡◌, ◌+◌, Bool, true, false, true≢false, if◌then◌else◌, List, [], ◌∷◌, Option, Some, None, is_some, refl, sym, ap, ◌∙◌}
 use Rattle.c_typed.specs.declared.tree.Place.{Place}
+use Rattle.c_typed.specs.Order.{same_place}
 use Rattle.c_model.specs.World.{World}
 use Rattle.c_model.specs.Values.{Value}
 use Rattle.c_model.specs.Moves.{End}
@@ -9,10 +10,12 @@ use Rattle.c_model.specs.Runs.{depth_of}
 use Rattle.c_model.specs.MachineLaws.{OrderLaws}
 use Rattle.c_model.specs.ModelMachine.{gives, start_where, is_control, ready_in, frame_machine}
 use Rattle.c_model.proofs.Halves.{closed_at}
+use Rattle.c_model.proofs.Listed.{same_place_eq}
 use Rattle.c_model.proofs.FramesKeep.{next_of, order_laws}
 use Rattle.order_laws.specs.StoreParts.{store_parts}
 use Rattle.order_laws.specs.PermittedPicks.{ClosedIn}
 use Rattle.order_laws.proofs.Traces.{Event, AllDone}
+use Rattle.order_laws.proofs.OpenFrames.{Among, among_first, among_later, AllSeen}
 
 module _ (world : World) where
   pub depth_same : (f g : Local) (ms : List (Local × Place)) → f.function ≡ g.function → depth_of f ms ≡ depth_of g ms
@@ -50,3 +53,13 @@ module _ (world : World) where
       end_where : (b : Bool) → start_where b End ≡ End
       end_where true = refl
       end_where false = refl
+
+  -- what is done behind an event is that event or was done before
+  pub event_seen : (f : Local) (o : Option Begun) (u : Place) (v : Value) (y : Event) (es : List Event) → y.pick ≡ Ev u → ready_in world f.scene o (Ev u) ≡ true → AllSeen world o es
+      → AllSeen world (next world f o (Ev u) v).begun (y ∷ es)
+  event_seen f None u v y es yp r seen w d = absurd (cc (r))
+  event_seen f (Some e) u v y es yp r seen w d = go (same_place u w) refl d
+    where
+      go : (b : Bool) → same_place u w ≡ b → is_some (if b then Some v else e.given w) ≡ true → Among (λ z. z.pick ≡ Ev w) (y ∷ es)
+      go true k d = among_first y es (yp ∙ ap Ev (same_place_eq u w k))
+      go false k d = among_later y es (seen w d)

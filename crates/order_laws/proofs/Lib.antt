@@ -25,10 +25,12 @@ mod RunLimits
 mod ProgramLaws
 mod RunSteps
 mod Traces
-mod FrameEvents
-mod Follows
-mod EveryRun
 mod TraceItems
 mod QuietFrames
+mod OpenFrames
+mod FrameEvents
+mod QuietTraces
+mod Follows
+mod EveryRun
 mod CanonicalQuiet
 mod CleanFinding

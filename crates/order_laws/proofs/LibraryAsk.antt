@@ -1,5 +1,5 @@
 -- The scripts of libc_spec ask before they read or write.
-use Rattle.std.proofs.Common.{◌≡◌, ℕ, zero, suc, ◌-◌, ◌*◌, Bool, true, false, not, ◌||◌, if◌then◌else◌, List, [], ◌∷◌, ◌++◌, length, Option, Some, None, ap, ◌⊎◌, inl, inr, refl}
+use Rattle.std.proofs.Common.{◌≡◌, ℕ, zero, suc, ◌-◌, ◌*◌, Bool, true, false, not, ◌||◌, if◌then◌else◌, List, [], ◌∷◌, ◌++◌, length, Option, Some, None, ap, inl, inr, refl}
 use Rattle.std.specs.Prelude.{◌==◌, min, replicate, ℤ, pos}
 use Rattle.ub_base.specs.declared.clause.Clause.{Clause}
 use Rattle.ub_base.specs.declared.clause.Clause.TheVariants.{LibraryArgument, DeadObject, MemcpyOverlap, StrcpyOverlap, Indeterminate, Realloc as ReallocOfOther, Free as FreeOfOther}

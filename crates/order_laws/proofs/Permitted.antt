@@ -230,7 +230,7 @@ none_first test (v ∷ us) f = go (test v) (f v (or_a _ _ (same_place_itself v))
     go false e h = h
     go true e h = absurd (cc)
 
-first_some : (test : Place → Bool) (us : List Place) (u : Place) → first_place test us ≡ Some u → (test u ≡ true) × (has us u ≡ true)
+pub first_some : (test : Place → Bool) (us : List Place) (u : Place) → first_place test us ≡ Some u → (test u ≡ true) × (has us u ≡ true)
 first_some test [] u h = absurd (cc)
 first_some test (v ∷ us) u h = go (test v) refl h (first_some test us u)
   where

@@ -1,5 +1,5 @@
 -- The script of printf, and each of the library, asks before it reads or writes.
-use Rattle.std.proofs.Common.{◌≡◌, ℕ, zero, suc, ◌+◌, ◌-◌, Bool, true, false, if◌then◌else◌, List, [], ◌∷◌, ◌++◌, length, drop, Option, Some, None, ◌⊎◌, inl, inr, ap}
+use Rattle.std.proofs.Common.{◌≡◌, ℕ, zero, suc, ◌+◌, ◌-◌, Bool, true, false, if◌then◌else◌, List, [], ◌∷◌, ◌++◌, length, drop, Option, Some, None, inl, inr, ap}
 use Rattle.std.specs.Prelude.{◌==◌, nat_lt, min, map, pos, int_lt, unsigned_abs}
 use Rattle.ub_base.specs.declared.clause.Clause.TheVariants.{Conversion}
 use Rattle.ub_base.specs.declared.clause.Cause.TheVariants.{Conversion as PastConversion}

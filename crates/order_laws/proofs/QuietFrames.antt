@@ -1,12 +1,10 @@
 -- Of the frames that are open along an order: their events are done, stand beside one another as they did, and have their items in the trace.
-use Rattle.std.proofs.Common.{◌≡◌, ◌≢◌, ℕ, suc, ◌+◌, ◌<◌, ◌≤◌, Bool, true, false, not, ◌&&◌, ◌||◌, if◌then◌else◌, true≢false, List, [], ◌∷◌, ◌++◌, length, Option, Some, None, is_some, refl, sym, ap, ap₂, ◌∙◌, subst, ◌⊎◌, inl, inr, arith}
-use Rattle.std.specs.List.{list_all}
+use Rattle.std.proofs.Common.{◌≡◌, ◌≢◌, ℕ, ◌≤◌, Bool, true, false, not, if◌then◌else◌, true≢false, List, [], ◌∷◌, ◌++◌, length, Option, Some, None, is_some, refl, sym, ap, ◌∙◌, subst, ◌⊎◌, inl, inr, arith}
 use Rattle.ub_base.specs.Frames.{Path}
 use Rattle.ub_base.specs.declared.names.Item.{Item}
 use Rattle.ub_base.specs.declared.names.Item.TheVariants.{Any, Ending}
 use Rattle.c_typed.specs.declared.tree.Place.{Place}
-use Rattle.c_typed.specs.Tree.{size}
-use Rattle.c_typed.specs.Order.{place, is_body, has, events, is_due}
+use Rattle.c_typed.specs.Order.{is_body, has, events, is_due}
 use Rattle.c_typed.specs.Decide.{is_before}
 use Rattle.mem_spec.specs.Store.{Store}
 use Rattle.mem_spec.specs.Script.{Script, Give, Raise, Finish, Exceed, Misplace, Do, item_of, refuses, answer, left, Ended, run}
@@ -15,16 +13,16 @@ use Rattle.mem_laws.proofs.Scripts.{stepped}
 use Rattle.c_model.specs.Program.{tree_of}
 use Rattle.c_model.specs.World.{World}
 use Rattle.c_model.specs.Values.{Value}
-use Rattle.c_model.specs.Steps.{Scene, Local, Begun, Pick, Control, Ev, is_done, taken_by, is_settled, next}
+use Rattle.c_model.specs.Steps.{Scene, Local, Begun, Pick, Control, Ev, is_done, taken_by, next}
 use Rattle.c_model.specs.Runs.{Entry, depth_of}
 use Rattle.addr_map.specs.Conflict.{conflicts_with as clash_one, some_conflict as conflict}
 use Rattle.c_model.specs.Findings.{clash, is_under, same_path}
-use Rattle.c_model.specs.Moments.{Open, is_of, items_by, complete, complete_for, has_shown, least, on_the_way, as_it_ends, places_from}
-use Rattle.c_model.specs.FirstFinding.{quarrels, least_pair, pair_among, due_only, open_on_top, ends_in, all_open}
+use Rattle.c_model.specs.Moments.{Open, is_of, items_by, complete, has_shown, on_the_way, as_it_ends}
+use Rattle.c_model.specs.FirstFinding.{quarrels, least_pair, open_on_top, ends_in, all_open}
 use Rattle.c_model.specs.Machine.{Machine}
 use Rattle.c_model.specs.MachineLaws.{OrderLaws}
 use Rattle.c_model.specs.ModelMachine.{is_control, done_in, ready_in, beside_in, level_in, frame_machine}
-use Rattle.c_model.specs.ChoiceLaws.{IsClosed, due_now, before_now}
+use Rattle.c_model.specs.ChoiceLaws.{before_now}
 use Rattle.c_model.proofs.FramesKeep.{next_of, order_laws}
 use Rattle.order_laws.specs.Orders as orders
 use Rattle.order_laws.specs.Orders.{Quiet, QuietWith, HeldQuiet, NoneBeside, Alone, AllAlone}
@@ -32,9 +30,9 @@ use Rattle.order_laws.specs.StoreParts.{Part, Seen, Fact, store_parts}
 use Rattle.order_laws.specs.ProgramTells.{told_machine, told_ends}
 use Rattle.order_laws.specs.PermittedPicks.{ClosedIn}
 use Rattle.order_laws.proofs.ProgramTold.{any_told}
-use Rattle.order_laws.proofs.Permitted.{and_l, and_r, and_b, or_a, or_b, or_cases, not_of, all_of, first_none, of_due, to_due, settled_done}
+use Rattle.order_laws.proofs.Permitted.{and_l, and_r, or_a, or_b, or_cases, not_of, all_of, of_due, to_due, settled_done}
 use Rattle.order_laws.proofs.Traces.{path_is, path_refl, conflict_swap, Event, Held, AllDone}
-use Rattle.order_laws.proofs.TraceItems.{Logged, logged_on, logged_new, logged_more, logged_apart, other_frame, other_place, left_free, right_free, none_here, quiet_open}
+use Rattle.order_laws.proofs.TraceItems.{Logged, logged_on, logged_more, logged_apart, other_frame, left_free, right_free, none_here, quiet_open}
 
 module _ (world : World) where
   abbrev M : Machine (Local × ℕ) Pick Value Store Item Part Seen Fact

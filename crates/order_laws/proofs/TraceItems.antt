@@ -15,11 +15,11 @@ use Rattle.c_model.specs.Runs.{Entry}
 use Rattle.addr_map.specs.Conflict.{conflicts_with as clash_one, some_conflict as conflict}
 use Rattle.c_model.specs.Findings.{same_path, is_under, items_under, items_of}
 use Rattle.c_model.specs.Moments.{Open, is_of, items_by, places_from}
-use Rattle.c_model.specs.FirstFinding.{Pair, are_apart, quarrels, first_or, pair_among, due_only, with_items, least_pair}
+use Rattle.c_model.specs.FirstFinding.{quarrels, first_or, pair_among, due_only, with_items, least_pair}
 use Rattle.c_model.proofs.Decided.{has_due}
 use Rattle.c_model.proofs.Listed.{same_place_eq, same_place_itself}
 use Rattle.c_model.proofs.FramesKeep.{due_lt}
-use Rattle.order_laws.proofs.Permitted.{and_l, and_r, and_b, or_cases, or_a, or_b, first_none}
+use Rattle.order_laws.proofs.Permitted.{and_b, or_cases, or_a, or_b, first_none}
 use Rattle.order_laws.proofs.Traces.{path_is, path_refl, conflict_swap}
 
 neither : (a b : Bool) → a ≡ false → b ≡ false → (a || b) ≡ false

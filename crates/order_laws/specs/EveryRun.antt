@@ -1,11 +1,14 @@
 -- What one run without conflicts says of every permitted order of a program, in the terms of reports.
 use Rattle.std.specs.Prelude.{◌≡◌, ◌<◌, ◌^◌, ◌≤◌, ℕ, List, length}
+use Rattle.c_typed.specs.declared.tree.Place.{Place}
 use Rattle.mem_spec.specs.Store.{Store}
 use Rattle.c_model.specs.Values.{Value}
 use Rattle.c_model.specs.World.{World}
 use Rattle.c_model.specs.Libraries as libc
-use Rattle.c_model.specs.Runs.{Running, State, depth_of, status_of, start}
-use Rattle.c_model.specs.Claims.{EveryOrderAlike}
+use Rattle.c_model.specs.Steps.{Pick}
+use Rattle.c_model.specs.Runs.{Entry, Outcome, Running, State, depth_of, status_of, trace_of, start}
+use Rattle.c_model.specs.Findings.{Race, Quarrel, EndQuarrel}
+use Rattle.c_model.specs.Claims.{ComesTo, EveryOrderAlike}
 use Rattle.order_laws.specs.Cuts.{Result, gave, said, RunsTo}
 use Rattle.order_laws.specs.Asking.{LibraryAsked}
 use Rattle.order_laws.specs.ProgramTells.{told_machine, told_ends}
@@ -38,3 +41,19 @@ abbrev pub LibraryRunSpeaks : Type 0
 LibraryRunSpeaks =
     (world : World) (input : List ℕ) (vs : List Value) (status : ℕ) (output : List ℕ) (picks : ℕ) → world.library ≡ libc.library world.rows
     → world.limits.created < 2 ^ 62 → CleanRun world input vs status output picks → EveryOrderAlike world input vs status output picks
+
+-- a trace that holds no race and no quarrel, and no event that ends the run beside another one
+pub record IsQuiet (world : World) (trace : List Entry) : Type 0 where
+  pub no_race : (d e : Entry) (u v : Place) → Race world trace d u e v → ⊥
+  pub no_quarrel : (d e : Entry) (u v : Place) → Quarrel world trace d u e v → ⊥
+  pub no_end_quarrel : (d : Entry) (u v : Place) → EndQuarrel trace d u v → ⊥
+
+-- that of each order from the start is such a one
+abbrev pub EveryTraceQuiet : World → List ℕ → List Value → Type 0
+EveryTraceQuiet world input vs = (ps : List Pick) (o : Outcome) → ComesTo world input vs ps o → IsQuiet world (trace_of o)
+
+-- Nor do two events of any order race or quarrel, or one end the run beside another one.
+abbrev pub CleanRunQuiet : Type 0
+CleanRunQuiet =
+    (world : World) (input : List ℕ) (vs : List Value) (status : ℕ) (output : List ℕ) (picks : ℕ) → LibraryAsked world → world.limits.created < 2 ^ 62
+    → CleanRun world input vs status output picks → EveryTraceQuiet world input vs

@@ -10,8 +10,8 @@ ghost use Rattle.order_laws.specs.StrictItems.{ToldIsEnough, MeddlingIsStricter}
 ghost use Rattle.order_laws.specs.ProgramTells.{ActsKeepLaws, LibraryOrdersTell, ProgramOrdersTell};
 ghost use Rattle.order_laws.specs.Asking.{ProgramActsAsk};
 ghost use Rattle.order_laws.specs.PermittedPicks.{CanonicalIsPermitted, PicksAgree};
-ghost use Rattle.order_laws.specs.EveryRun.{CleanRunSpeaks, LibraryRunSpeaks};
-ghost use Rattle.order_laws.specs.CleanFinding.{CleanInEveryOrder, CleanIsRun};
+ghost use Rattle.order_laws.specs.EveryRun.{CleanRunQuiet, CleanRunSpeaks, LibraryRunSpeaks};
+ghost use Rattle.order_laws.specs.CleanFinding.{CleanInEveryOrder, CleanIsQuiet, CleanIsRun};
 ghost use Rattle.order_laws.specs.LibraryAsks.{LibraryAsks};
 ghost use Rattle.order_laws.specs.Small.{SmallKeeps, SmallRuns, SmallOther};
 
@@ -84,15 +84,19 @@ pub fn law_permitted_picks()
 {}
 
 /// Where one run of a program goes from its start to its end without conflicts as findings tell them, and within the limits, every order
-/// that C permits ends alike, without undefined behaviour, after at most as many picks.
+/// that C permits ends alike, without undefined behaviour, after at most as many picks, and no order's trace holds a race or a quarrel, or an
+/// event that ends the run beside another one.
 pub fn law_clean_run()
     ensures speaks { CleanRunSpeaks }
     ensures library { LibraryRunSpeaks }
+    ensures quiet { CleanRunQuiet }
 {}
 
 /// Where the first finding along the canonical order is clean, that order is a run without conflicts, and every order that C permits ends with
-/// its status and output, without undefined behaviour, after at most as many picks.
+/// its status and output, without undefined behaviour, after at most as many picks, and holds no race and no quarrel, and no event that ends
+/// the run beside another one.
 pub fn law_clean_in_every_order()
     ensures run { CleanIsRun }
     ensures alike { CleanInEveryOrder }
+    ensures quiet { CleanIsQuiet }
 {}
