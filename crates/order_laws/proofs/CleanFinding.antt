@@ -1,17 +1,19 @@
 -- A first finding *clean* is a run without conflicts.
-use Rattle.std.proofs.Common.{◌≡◌, ℕ, List, refl}
+use Rattle.std.proofs.Common.{◌≡◌, ℕ, List, refl, sym, subst}
 use Rattle.c_model.specs.World.{World}
+use Rattle.c_model.specs.Libraries as libc
+use Rattle.order_laws.proofs.PrintAsks.{library_asks}
 use Rattle.c_model.specs.Values.{Value}
 use Rattle.c_model.specs.Runs.{Outcome, Refused, Raises, Over, No_row, Ends, Running, depth_of, start}
 use Rattle.c_model.specs.FirstFinding.{Clean, found_after}
 use Rattle.c_model.specs.MachineLaws.{OrderLaws}
-use Rattle.order_laws.specs.Asking.{LibraryAsked}
+use Rattle.order_laws.specs.Asking.{AskedOrEnds, LibraryAsked}
 use Rattle.order_laws.specs.ProgramTells.{told_machine, told_ends}
-use Rattle.order_laws.specs.CleanFinding.{CleanIsRun}
+use Rattle.order_laws.specs.CleanFinding.{CleanInEveryOrder, CleanIsQuiet, CleanIsRun}
 use Rattle.order_laws.specs.EveryRun.{CleanRun}
 use Rattle.order_laws.proofs.ProgramLaws.{keeps}
 use Rattle.order_laws.proofs.Nested.{quiet_order_runs}
-use Rattle.order_laws.proofs.EveryRun.{started_as}
+use Rattle.order_laws.proofs.EveryRun.{clean_run_quiet, clean_run_speaks, started_as}
 use Rattle.order_laws.proofs.CanonicalQuiet.{fits_of, first_ran}
 
 -- the laws of the order look at no conflicts
@@ -58,3 +60,14 @@ module _ (world : World) (budget : ℕ) (input : List ℕ) (vs : List Value) (st
 
 pub clean_is_run : CleanIsRun
 clean_is_run world budget input vs status output picks asked h = quiet_from world budget input vs status output picks asked (start world input vs) refl h
+
+asked_by : (world : World) → world.library ≡ libc.library world.rows → LibraryAsked world
+asked_by world e g who ts vs bs = subst (λ l. AskedOrEnds world.rows (l g who ts vs) bs) (sym e) (library_asks world.rows g who ts vs bs)
+
+pub clean_in_every_order : CleanInEveryOrder
+clean_in_every_order world budget input vs status output picks e small h =
+    clean_run_speaks world input vs status output picks (asked_by world e) small (clean_is_run world budget input vs status output picks (asked_by world e) h)
+
+pub clean_is_quiet : CleanIsQuiet
+clean_is_quiet world budget input vs status output picks e small h =
+    clean_run_quiet world input vs status output picks (asked_by world e) small (clean_is_run world budget input vs status output picks (asked_by world e) h)

@@ -34,3 +34,4 @@ mod Follows
 mod EveryRun
 mod CanonicalQuiet
 mod CleanFinding
+mod Passes

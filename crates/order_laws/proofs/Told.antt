@@ -73,7 +73,7 @@ module _ {F P V N S I Part Seen Fact Name : Type 0} (m : Machine F P V S I Part 
       | inr a ↦ not_again r (m.next f p (value u)) s1 s' x h (on_in u f p s s1 x mk l) a
     ]
 
-    not_again_in : (u : Block P V I) (f : F) (p : P) (s s' : S) (x : Name) → Made m u f p s s' → Lives x s → Bears (its u) x → ⊥
+    pub not_again_in : (u : Block P V I) (f : F) (p : P) (s s' : S) (x : Name) → Made m u f p s s' → Lives x s → Bears (its u) x → ⊥
     not_again_in (act v is) f p s s' x (mv, dn) l b = (let a = (born_new f p s v is s' x dn b).0 in cc (a, l))
     not_again_in (body t q v is) f p s s' x (g, mv, rl, ml, (s1, h, dn)) l b = elim (bears_joined (items t) is x b) [
       | inl a ↦ not_again t g s s1 x h l a
@@ -89,7 +89,7 @@ module _ {F P V N S I Part Seen Fact Name : Type 0} (m : Machine F P V S I Part 
       | inr a ↦ born r (m.next f p (value u)) s1 s' x h a
     ]
 
-    born_in : (u : Block P V I) (f : F) (p : P) (s s' : S) (x : Name) → Made m u f p s s' → Bears (its u) x → Lives x s'
+    pub born_in : (u : Block P V I) (f : F) (p : P) (s s' : S) (x : Name) → Made m u f p s s' → Bears (its u) x → Lives x s'
     born_in (act v is) f p s s' x (mv, dn) b = (born_new f p s v is s' x dn b).1
     born_in (body t q v is) f p s s' x (g, mv, rl, ml, (s1, h, dn)) b = elim (bears_joined (items t) is x b) [
       | inl a ↦ lives_on (after m t g) q s1 v is s' x dn (born t g s s1 x h a)
@@ -101,7 +101,7 @@ module _ {F P V N S I Part Seen Fact Name : Type 0} (m : Machine F P V S I Part 
     backed nil f s s' h = backed_nil
     backed (put p u r) f s s' (rd, (s1, mk, h)) = backed_joined (its u) (items r) (backed_in u f p s s1 mk) (backed r (m.next f p (value u)) s1 s' h)
 
-    backed_in : (u : Block P V I) (f : F) (p : P) (s s' : S) → Made m u f p s s' → Backed (its u)
+    pub backed_in : (u : Block P V I) (f : F) (p : P) (s s' : S) → Made m u f p s s' → Backed (its u)
     backed_in (act v is) f p s s' (mv, dn) = backed_act f p s v is s' dn
     backed_in (body t q v is) f p s s' (g, mv, rl, ml, (s1, h, dn)) = backed_joined (items t) is (backed t g s s1 h) (backed_act (after m t g) q s1 v is s' dn)
 

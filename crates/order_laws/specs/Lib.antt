@@ -14,3 +14,5 @@ pub mod ProgramTells
 pub mod PermittedPicks
 pub mod EveryRun
 pub mod CleanFinding
+pub mod CleanPrograms
+pub mod Passes

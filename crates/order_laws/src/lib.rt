@@ -12,7 +12,12 @@ ghost use Rattle.order_laws.specs.Asking.{ProgramActsAsk};
 ghost use Rattle.order_laws.specs.PermittedPicks.{CanonicalIsPermitted, PicksAgree};
 ghost use Rattle.order_laws.specs.EveryRun.{CleanRunQuiet, CleanRunSpeaks, LibraryRunSpeaks};
 ghost use Rattle.order_laws.specs.CleanFinding.{CleanInEveryOrder, CleanIsQuiet, CleanIsRun};
+ghost use Rattle.std.specs.Prelude.{[]};
+ghost use Rattle.c_model.specs.Claims.{EveryOrderAlike};
+ghost use Rattle.c_model.specs.Examples.{world_of, local_rows, quit_alone};
+ghost use Rattle.order_laws.specs.CleanPrograms.{call_beside};
 ghost use Rattle.order_laws.specs.LibraryAsks.{LibraryAsks};
+ghost use Rattle.order_laws.specs.Passes.{TwoFramesSwap, TwoStepsSwap, BodyPasses, UpdateIsWhole, UpdatePasses};
 ghost use Rattle.order_laws.specs.Small.{SmallKeeps, SmallRuns, SmallOther};
 
 /// From a frame from which one run goes on without conflicts to its end, also where a pick inside it ends the run: at whatever state a
@@ -99,4 +104,30 @@ pub fn law_clean_in_every_order()
     ensures run { CleanIsRun }
     ensures alike { CleanInEveryOrder }
     ensures quiet { CleanIsQuiet }
+{}
+
+/// There are such programs: of one with a call beside an update, and of one that exits inside a call, by their first findings every order ends
+/// alike.
+pub fn law_clean_programs()
+    ensures call_beside { EveryOrderAlike (world_of call_beside local_rows) [] [] 2 [] 17 }
+    ensures quit_alone { EveryOrderAlike (world_of quit_alone local_rows) [] [] 3 [] 7 }
+{}
+
+/// Two steps that don't conflict do the same in either order, and leave one store: of two frames, or of one in which both are ready at once,
+/// which they leave the same. It is so at any frames and store, whether or not the run goes on to an end.
+pub fn law_two_steps()
+    ensures frames { TwoFramesSwap }
+    ensures steps { TwoStepsSwap }
+{}
+
+/// So it is of two evaluations of one frame, each a step or a whole body with the picks of all frames that it starts.
+pub fn law_body_past()
+    ensures { BodyPasses }
+{}
+
+/// An evaluation that comes before both halves of an update does the same behind them, and may start there if it might before. Between them no
+/// body may start.
+pub fn law_update_past()
+    ensures past { UpdatePasses }
+    ensures whole { UpdateIsWhole }
 {}
