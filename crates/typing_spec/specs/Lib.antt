@@ -1,0 +1,10 @@
+pub mod Env
+pub mod Expressions
+pub mod Externals
+pub mod Initializers
+pub mod Names
+pub mod Seen
+pub mod Statements
+pub mod Tags
+pub mod Units
+pub mod Words

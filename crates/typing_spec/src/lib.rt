@@ -1,0 +1,6 @@
+//! What the typed program of a syntax tree is (ISO/IEC 9899:2011, 6.2 and 6.5 to 6.9, in the profile), as a definition that computes.
+#![tactic(auto)]
+
+mod laws;
+
+pub use laws::{law_one_program, law_tags};
