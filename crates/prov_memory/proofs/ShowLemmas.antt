@@ -268,3 +268,17 @@ int_all m new f kind is_bool a n prov number value t items size bool is makes r 
 pub int_exact : (m acc new : Kept) (f : Found) (given : CType) (kind : IntKind) (is_bool : Bool) (a n : ℕ) (prov : Prov) (number : ℕ) (value : ℤ) (t items : List Item) → acc ≡ m → given ≡ int kind → n ≡ bytes_of_kind kind → is_bool ≡ (number_of_kind kind == 1) → value ≡ value_of kind number → Makes m f n n a prov → IsReached m.objects f n → CanSettleOf m prov f.settles → t ≡ settling_items f.settles ++ Alive f.name ∷ [] → Reads acc f given is_bool n number → Loads acc new f n → Notes acc f n t items → HasCell m prov → (io : Io) → run m.rows (load_int m.rows kind a prov) (store_of m io) ≡ Done value items (store_of new io)
 int_exact m acc new f given kind is_bool a n prov number value t items same named size bool is makes r can first reads loads notes =
     int_all m new f kind is_bool a n prov number value t items size bool is makes r can first (subst (λ (ty : CType). Reads m f ty is_bool n number) named (subst (λ (k : Kept). Reads k f given is_bool n number) same reads)) (subst (λ (k : Kept). Loads k new f n) same loads) (subst (λ (k : Kept). Notes k f n t items) same notes)
+
+-- ---- what a load or a store leaves as it was
+abbrev pub Besides : Kept → Kept → Type 0
+Besides old new = record new { objects = []; cells = [] } ≡ record old { objects = []; cells = [] }
+
+pub besides_after : (old acc new : Kept) → acc ≡ old → Besides acc new → Besides old new
+besides_after old acc new same rest = rest ∙ ap (λ (k : Kept). record k { objects = []; cells = [] }) same
+
+pub besides_put : (old mid new : Kept) (hs : List Held) → mid ≡ record old { objects = hs } → record new { cells = [] } ≡ record mid { cells = [] } → Besides old new
+besides_put old mid new hs put rest = ap (λ (k : Kept). record k { objects = [] }) rest ∙ ap (λ (k : Kept). record k { objects = []; cells = [] }) put
+
+pub besides_looked : (old acc looked new : Kept) → acc ≡ old → record looked { cells = []; origins = [] } ≡ record acc { cells = []; origins = [] } → record new { cells = [] } ≡ record looked { cells = [] } → record new { origins = []; cells = [] } ≡ record old { origins = []; cells = [] }
+besides_looked old acc looked new same more rest =
+    ap (λ (k : Kept). record k { origins = [] }) rest ∙ more ∙ ap (λ (k : Kept). record k { origins = []; cells = [] }) same

@@ -15,7 +15,7 @@ ghost use Rattle.mem_spec.specs.Streams.{Io};
 ghost use Rattle.prov_memory.specs.Cells.{byte_in, cell_at, tag_in};
 ghost use Rattle.prov_memory.specs.Held.{Held, held_of};
 ghost use Rattle.prov_memory.specs.Memory.{Kept, HasCell, AreKnown, life_in, store_of, uncovered_each};
-ghost use Rattle.prov_memory.specs.Made.{HasMore, IsMade};
+ghost use Rattle.prov_memory.specs.Made.{Extends, HasMore, IsMade};
 ghost use Rattle.prov_memory.specs.Sound.{IsSound};
 ghost use Rattle.prov_memory.specs.Access.{IsReached, bytes_in};
 ghost use Rattle.prov_memory.specs.Loads as loads;
@@ -75,6 +75,7 @@ impl Memory {
         ensures exact { IfOk result (λ value. HasCell self.old prov → (io : Io) → run self.old.rows (acts.load_int self.old.rows kind addr prov) (store_of self.old io) ≡ Done value t.new (store_of self.new io)) }
         ensures raises { IfErr result (λ c. (io : Io) → run self.old.rows (acts.load_int self.old.rows kind addr prov) (store_of self.old io) ≡ Raised c) }
         ensures same { OnErr result (self.new ≡ self.old) }
+        ensures rest { record self.new { objects = []; cells = [] } ≡ record self.old { objects = []; cells = [] } }
         ensures made { (p : Prov) → IsMade self.old p → IsMade self.new p }
         ensures sound { IsSound self.old → IsSound self.new }
     {
@@ -97,6 +98,7 @@ impl Memory {
         ensures exact { IfOk result (λ target. HasCell self.old prov → (io : Io) → run self.old.rows (acts.load_func self.old.rows (type_of ty.now) addr prov) (store_of self.old io) ≡ Done target t.new (store_of self.new io)) }
         ensures raises { IfErr result (λ c. (io : Io) → run self.old.rows (acts.load_func self.old.rows (type_of ty.now) addr prov) (store_of self.old io) ≡ Raised c) }
         ensures same { OnErr result (self.new ≡ self.old) }
+        ensures rest { record self.new { objects = []; cells = [] } ≡ record self.old { objects = []; cells = [] } }
         ensures made { (p : Prov) → IsMade self.old p → IsMade self.new p }
         ensures sound { IsSound self.old → IsSound self.new }
     {
@@ -161,6 +163,7 @@ impl Memory {
         ensures items { OnOk result ((h : Held) → slice_get self.old.objects found.object ≡ Some h → length t.old + 17 < 32 → t.new ≡ (t.old ++ Read found.name found.from len ∷ []) ++ map Expose (origins_of (bytes_in self.old h found.from len))) }
         ensures raises { IfErr result (λ c. (h : Held) → slice_get self.old.objects found.object ≡ Some h → Err c ≡ number_read (type_of ty.now) is_bool (option_map form_of h.declared) found.from (bytes_in self.old h found.from len)) }
         ensures same { OnErr result (self.new ≡ self.old) }
+        ensures rest { record self.new { objects = []; cells = [] } ≡ record self.old { objects = []; cells = [] } }
         ensures made { (p : Prov) → IsMade self.old p → IsMade self.new p }
         ensures sound { IsSound self.old → IsSound self.new }
     {
@@ -200,6 +203,8 @@ impl Memory {
         ensures exact { IfOk result (λ value. IfPointer value (λ a p. HasCell self.old prov → AreKnown self.old → (io : Io) → run self.old.rows (acts.load_ptr self.old.rows (type_of ty.now) who align addr prov) (store_of self.old io) ≡ Done (a, p) t.new (store_of self.new io))) }
         ensures raises { IfErr result (λ fault. IfRaise fault (λ c. (io : Io) → run self.old.rows (acts.load_ptr self.old.rows (type_of ty.now) who align addr prov) (store_of self.old io) ≡ Raised c)) }
         ensures same { IfErr result (λ fault. IfRaise fault (λ c. self.new ≡ self.old)) }
+        ensures rest { record self.new { origins = []; cells = [] } ≡ record self.old { origins = []; cells = [] } }
+        ensures origins { Extends self.old.origins self.new.origins }
         ensures value { IfOk result (λ value. IfPointer value (λ a p. IsSound self.old → IsMade self.new p)) }
         ensures made { (p : Prov) → IsMade self.old p → IsMade self.new p }
         ensures sound { OnOk result (IsSound self.old → IsSound self.new) }
