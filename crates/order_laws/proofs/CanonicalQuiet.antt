@@ -25,16 +25,16 @@ use Rattle.c_model.specs.Findings.{is_under}
 use Rattle.c_model.specs.FirstFinding.{Pair, Finding, Clean, raced_or, quarrel_or, races, quarrels, least_pair, open_on_top, ends_in, all_open, shown_at, found_from}
 use Rattle.c_model.specs.Machine.{Machine, Does}
 use Rattle.c_model.specs.ModelMachine.{done_by, gives, start_where, done_in, ready_in, beside_in, frame_machine}
-use Rattle.order_laws.specs.Orders as orders
-use Rattle.order_laws.specs.Orders.{going, over, ended, added, May, stay, enter, leave, stop, Quiet, HeldQuiet, NoneBeside, Alone, AllAlone}
-use Rattle.order_laws.specs.Cuts.{Result, gave, said}
-use Rattle.order_laws.specs.Limits as limits
+use Rattle.machine_laws.specs.Orders as orders
+use Rattle.machine_laws.specs.Orders.{going, over, ended, added, May, stay, enter, leave, stop, Quiet, HeldQuiet, NoneBeside, Alone, AllAlone}
+use Rattle.machine_laws.specs.Cuts.{Result, gave, said}
+use Rattle.machine_laws.specs.Limits as limits
 use Rattle.order_laws.specs.FrameEnds.{weight, frame_ends, ended_by}
 use Rattle.order_laws.specs.StoreParts.{Part, Seen, Fact, store_parts}
 use Rattle.order_laws.specs.ProgramTells.{told_machine, told_ends}
 use Rattle.order_laws.specs.PermittedPicks.{ClosedIn}
 use Rattle.order_laws.specs.EveryRun.{EndsWith}
-use Rattle.order_laws.specs.QuietOrders.{LooksAt, QuietOrder, is_over, is_ended, goes}
+use Rattle.machine_laws.specs.QuietOrders.{LooksAt, QuietOrder, is_over, is_ended, goes}
 use Rattle.order_laws.proofs.Permitted.{picks_agree, canonical_is_permitted}
 use Rattle.order_laws.proofs.RunSteps.{Plain, start_plain, starts_fresh}
 use Rattle.order_laws.proofs.Traces.{Event, Held, AllDone, moves}

@@ -12,7 +12,7 @@ use Rattle.order_laws.specs.ProgramTells.{told_machine, told_ends}
 use Rattle.order_laws.specs.CleanFinding.{CleanInEveryOrder, CleanIsQuiet, CleanIsRun}
 use Rattle.order_laws.specs.EveryRun.{CleanRun}
 use Rattle.order_laws.proofs.ProgramLaws.{keeps}
-use Rattle.order_laws.proofs.Nested.{quiet_order_runs}
+use Rattle.machine_laws.proofs.Nested.{quiet_order_runs}
 use Rattle.order_laws.proofs.EveryRun.{clean_run_quiet, clean_run_speaks, started_as}
 use Rattle.order_laws.proofs.CanonicalQuiet.{fits_of, first_ran}
 

@@ -14,7 +14,7 @@ use Rattle.c_model.specs.Steps.{Pick}
 use Rattle.c_model.specs.Runs.{Entry, State, Outcome, Refused, Raises, Over, No_row, Ends, Running, is_running, trace_of, depth_of, within, limit_passed, stand, nothing_stands, main_frame, started_run, start, After}
 use Rattle.c_model.specs.Findings.{Has, first, later, Both, Meets, raised, raced}
 use Rattle.c_model.specs.Claims.{ComesTo, starts, stops, refuses, GoesWell}
-use Rattle.order_laws.specs.Orders.{going, here}
+use Rattle.machine_laws.specs.Orders.{going, here}
 use Rattle.order_laws.specs.Asking.{LibraryAsked}
 use Rattle.order_laws.specs.PermittedPicks.{ClosedIn}
 use Rattle.order_laws.specs.EveryRun.{CleanRun, CleanRunSpeaks, IsQuiet, CleanRunQuiet}

@@ -19,11 +19,11 @@ use Rattle.c_model.specs.Claims.{GoesWell}
 use Rattle.c_model.specs.Machine.{Machine, Does}
 use Rattle.c_model.specs.ModelMachine.{done_in, ready_in}
 use Rattle.order_laws.specs.StoreParts.{Part, Seen, Fact}
-use Rattle.order_laws.specs.Orders as orders
-use Rattle.order_laws.specs.Orders.{going, over, ended, added, May, Order, pick, stay, enter, leave, stop, Alone}
-use Rattle.order_laws.specs.Cuts.{Result, gave, said}
-use Rattle.order_laws.specs.EveryOrder.{IsFine}
-use Rattle.order_laws.specs.Limits.{store_of}
+use Rattle.machine_laws.specs.Orders as orders
+use Rattle.machine_laws.specs.Orders.{going, over, ended, added, May, Order, pick, stay, enter, leave, stop, Alone}
+use Rattle.machine_laws.specs.Cuts.{Result, gave, said}
+use Rattle.machine_laws.specs.EveryOrder.{IsFine}
+use Rattle.machine_laws.specs.Limits.{store_of}
 use Rattle.order_laws.specs.FrameEnds.{weight, ended_by}
 use Rattle.order_laws.specs.ProgramTells.{told_machine, told_ends}
 use Rattle.order_laws.specs.PermittedPicks.{ClosedIn}

@@ -8,7 +8,7 @@ use Rattle.ub_base.proofs.NameLemmas.{same_object_is, same_object_refl}
 use Rattle.addr_map.specs.declared.map.Row.{Row}
 use Rattle.addr_map.specs.Conflict.{conflicts_one, items_conflict, stands_at, conflicts_with, some_conflict}
 use Rattle.mem_laws.specs.Frame.{any_of, bears, mixes, meddles, meddle_one, meddle}
-use Rattle.order_laws.specs.ToldConflicts.{bear}
+use Rattle.machine_laws.specs.ToldConflicts.{bear}
 use Rattle.order_laws.specs.StrictItems.{asks, backed_by, all_backed, backed}
 
 or_l : (a b : Bool) → (a || b) ≡ false → a ≡ false

@@ -1,14 +1,5 @@
-mod Remaining
-mod NextPick
-mod AllOrders
-mod Nested
-mod Depth
-mod Within
-mod SmallLaws
-mod SmallRuns
 mod NoEnd
 mod ProgramEnds
-mod Told
 mod ItemsTell
 mod Lives
 mod ProgramTold

@@ -9,7 +9,7 @@ use Rattle.mem_spec.specs.Store.{Store, Life, dead}
 use Rattle.mem_spec.specs.Script.{Touch, Ask, Get, Put, Bear, Bury, Show, Find, Settle, Take, Print, item_of, refuses, answer, left, Script, Give, Raise, Finish, Exceed, Misplace, Do, Done, run}
 use Rattle.mem_laws.specs.Frame.{gives, bears}
 use Rattle.mem_laws.proofs.Scripts.{Stepped, stepped}
-use Rattle.order_laws.specs.ToldConflicts.{bear}
+use Rattle.machine_laws.specs.ToldConflicts.{bear}
 
 abbrev Knows : Store → ObjName → Type 0
 Knows s x = is_some (s.life x) ≡ true

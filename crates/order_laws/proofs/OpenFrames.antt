@@ -12,7 +12,7 @@ use Rattle.c_model.specs.Steps.{Local, Begun, Ev}
 use Rattle.c_model.specs.Runs.{Entry, depth_of, begun_of}
 use Rattle.c_model.specs.Findings.{same_path, is_under, items_under, items_of, Has, first, later, Both, newest, older}
 use Rattle.c_model.specs.ModelMachine.{done_in, ready_in}
-use Rattle.order_laws.specs.Orders as orders
+use Rattle.machine_laws.specs.Orders as orders
 use Rattle.order_laws.specs.PermittedPicks.{ClosedIn}
 use Rattle.order_laws.proofs.Permitted.{or_cases}
 use Rattle.order_laws.proofs.Traces.{path_is, has_cases, IsNewest, both_cases, given_in, Event, Held, AllDone, Moved}

@@ -9,8 +9,8 @@ use Rattle.c_model.specs.Values.{Value}
 use Rattle.c_model.specs.Moves.{Move, Stay, Start, End}
 use Rattle.c_model.specs.Steps.{Local, Begun, Pick, Control, Ev, does, move}
 use Rattle.c_model.specs.ModelMachine.{StorePart, done_by, gives, start_where, opens_in, half, frame_machine}
-use Rattle.order_laws.specs.Orders.{Stopped}
-use Rattle.order_laws.specs.EveryOrder.{EndLaws}
+use Rattle.machine_laws.specs.Orders.{Stopped}
+use Rattle.machine_laws.specs.EveryOrder.{EndLaws}
 use Rattle.order_laws.specs.FrameEnds.{ended_by, frame_ends}
 use Rattle.order_laws.proofs.NoEnd.{no_end_run, does_goes_on, effect_stays}
 

@@ -15,23 +15,23 @@ use Rattle.c_model.specs.Machine.{Does}
 use Rattle.c_model.specs.MachineLaws.{Keeps}
 use Rattle.c_model.specs.ModelMachine.{frame_machine}
 use Rattle.c_model.proofs.FramesKeep.{frame_laws, order_laws, update_laws}
-use Rattle.order_laws.specs.Orders as orders
-use Rattle.order_laws.specs.Orders.{going, Order}
-use Rattle.order_laws.specs.Cuts.{Result, RunsTo}
-use Rattle.order_laws.specs.EveryOrder.{EndLaws}
-use Rattle.order_laws.specs.Limits.{store_of, Shrinks}
+use Rattle.machine_laws.specs.Orders as orders
+use Rattle.machine_laws.specs.Orders.{going, Order}
+use Rattle.machine_laws.specs.Cuts.{Result, RunsTo}
+use Rattle.machine_laws.specs.EveryOrder.{EndLaws}
+use Rattle.machine_laws.specs.Limits.{store_of, Shrinks}
 use Rattle.order_laws.specs.FrameEnds.{weight, ended_by, frame_ends, program_machine, program_ends}
 use Rattle.order_laws.specs.StrictItems.{backed}
 use Rattle.order_laws.specs.StoreParts.{store_parts}
 use Rattle.order_laws.specs.Asking.{LibraryAsked}
 use Rattle.order_laws.specs.ProgramTells.{ActsKeepLaws, ProgramOrdersTell, told_machine, told_ends}
-use Rattle.order_laws.proofs.Depth.{was, deep_store, deep_frame, deep_order, deep_update, deep_end}
+use Rattle.machine_laws.proofs.Depth.{was, deep_store, deep_frame, deep_order, deep_update, deep_end}
 use Rattle.order_laws.proofs.ProgramAsks.{acts_ask, acts_count}
 use Rattle.order_laws.proofs.ProgramEnds.{end_laws}
 use Rattle.order_laws.proofs.ProgramTold.{done_was, tells}
 use Rattle.order_laws.proofs.StoreKeeps.{store_laws}
-use Rattle.order_laws.proofs.Told.{as_runs, as_order, every_order_tells}
-use Rattle.order_laws.proofs.Within.{stays_within}
+use Rattle.machine_laws.proofs.Told.{as_runs, as_order, every_order_tells}
+use Rattle.machine_laws.proofs.Within.{stays_within}
 use Rattle.order_laws.proofs.RunLimits.{Fits, script_grows}
 
 pub acts_keep : ActsKeepLaws

@@ -15,11 +15,11 @@ use Rattle.c_model.specs.Machine as machine
 use Rattle.c_model.specs.Machine.{Did, Machine, Does}
 use Rattle.c_model.specs.ModelMachine.{done_by, frame_machine}
 use Rattle.order_laws.specs.FrameEnds.{weight, frame_ends, program_machine}
-use Rattle.order_laws.specs.ToldConflicts.{telling, Tells}
+use Rattle.machine_laws.specs.ToldConflicts.{telling, Tells}
 use Rattle.order_laws.specs.StrictItems.{asks, backed_by, all_backed, backed}
 use Rattle.order_laws.specs.StoreParts.{Part, Seen, Fact, store_parts}
 use Rattle.order_laws.specs.Asking.{ActsAsk}
-use Rattle.order_laws.proofs.Depth.{was}
+use Rattle.machine_laws.proofs.Depth.{was}
 use Rattle.order_laws.proofs.ItemsTell.{told_is_enough, stricter}
 use Rattle.order_laws.proofs.Lives.{run_knows, run_born}
 

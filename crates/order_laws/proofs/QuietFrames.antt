@@ -24,8 +24,8 @@ use Rattle.c_model.specs.MachineLaws.{OrderLaws}
 use Rattle.c_model.specs.ModelMachine.{is_control, done_in, ready_in, beside_in, level_in, frame_machine}
 use Rattle.c_model.specs.ChoiceLaws.{before_now}
 use Rattle.c_model.proofs.FramesKeep.{next_of, order_laws}
-use Rattle.order_laws.specs.Orders as orders
-use Rattle.order_laws.specs.Orders.{Quiet, QuietWith, HeldQuiet, NoneBeside, Alone, AllAlone}
+use Rattle.machine_laws.specs.Orders as orders
+use Rattle.machine_laws.specs.Orders.{Quiet, QuietWith, HeldQuiet, NoneBeside, Alone, AllAlone}
 use Rattle.order_laws.specs.StoreParts.{Part, Seen, Fact, store_parts}
 use Rattle.order_laws.specs.ProgramTells.{told_machine, told_ends}
 use Rattle.order_laws.specs.PermittedPicks.{ClosedIn}

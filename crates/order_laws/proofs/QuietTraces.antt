@@ -27,8 +27,8 @@ use Rattle.c_model.proofs.Ranks.{lt_lt, rank_in, before_rank}
 use Rattle.c_model.proofs.Closed.{found_before}
 use Rattle.c_model.proofs.Listed.{same_place_itself}
 use Rattle.c_model.proofs.FramesKeep.{next_of, due_lt, ready_b}
-use Rattle.order_laws.specs.Orders as orders
-use Rattle.order_laws.specs.Orders.{Quiet, QuietWith, HeldQuiet, NoneBeside, Alone, AllAlone, then_past}
+use Rattle.machine_laws.specs.Orders as orders
+use Rattle.machine_laws.specs.Orders.{Quiet, QuietWith, HeldQuiet, NoneBeside, Alone, AllAlone, then_past}
 use Rattle.order_laws.specs.StoreParts.{Part, Seen, Fact}
 use Rattle.order_laws.specs.ProgramTells.{told_machine, told_ends}
 use Rattle.order_laws.specs.PermittedPicks.{ClosedIn}

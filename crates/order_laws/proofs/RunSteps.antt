@@ -20,11 +20,11 @@ use Rattle.c_model.specs.Control.{Todo, Leave, ready_work}
 use Rattle.c_model.specs.Steps.{Scene, Local, Begun, Pick, Control, Ev, at_node, event_of, target, first_type, function_type, argument_types, values_of, own_body, body_frame, start_call, called_by, started, move_of, library_act, call_by, call_through, call_act, event_act, does, move, control_move, ends_with}
 use Rattle.c_model.specs.Machine.{Did, Machine}
 use Rattle.c_model.specs.ModelMachine.{done_by, gives, start_where, frame_machine}
-use Rattle.order_laws.specs.Orders.{Stopped}
+use Rattle.machine_laws.specs.Orders.{Stopped}
 use Rattle.order_laws.specs.StoreParts.{Part, Seen, Fact, store_parts}
-use Rattle.order_laws.specs.Limits as limits
+use Rattle.machine_laws.specs.Limits as limits
 use Rattle.order_laws.specs.FrameEnds.{weight, frame_ends}
-use Rattle.order_laws.proofs.Depth.{was}
+use Rattle.machine_laws.proofs.Depth.{was}
 use Rattle.order_laws.proofs.ProgramTold.{done_was}
 
 -- a script that gives a value at once, or raises at once

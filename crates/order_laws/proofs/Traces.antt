@@ -13,7 +13,7 @@ use Rattle.c_model.specs.Runs.{Entry}
 use Rattle.addr_map.specs.Conflict.{conflicts_one, stands_at, is_access, conflicts_with as clash_one, some_conflict as conflict}
 use Rattle.c_model.specs.Findings.{clash, accesses, same_path, Has, first, later, Both, newest, older}
 use Rattle.c_model.specs.ModelMachine.{done_in}
-use Rattle.order_laws.specs.Orders as orders
+use Rattle.machine_laws.specs.Orders as orders
 use Rattle.order_laws.specs.PermittedPicks.{ClosedIn}
 
 -- paths

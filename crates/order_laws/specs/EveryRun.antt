@@ -9,7 +9,7 @@ use Rattle.c_model.specs.Steps.{Pick}
 use Rattle.c_model.specs.Runs.{Entry, Outcome, Running, State, depth_of, status_of, trace_of, start}
 use Rattle.c_model.specs.Findings.{Race, Quarrel, EndQuarrel}
 use Rattle.c_model.specs.Claims.{ComesTo, EveryOrderAlike}
-use Rattle.order_laws.specs.Cuts.{Result, gave, said, RunsTo}
+use Rattle.machine_laws.specs.Cuts.{Result, gave, said, RunsTo}
 use Rattle.order_laws.specs.Asking.{LibraryAsked}
 use Rattle.order_laws.specs.ProgramTells.{told_machine, told_ends}
 

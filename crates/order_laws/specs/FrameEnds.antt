@@ -9,10 +9,10 @@ use Rattle.c_model.specs.Steps.{Local, Pick, does}
 use Rattle.c_model.specs.Machine.{Machine}
 use Rattle.c_model.specs.MachineLaws.{StoreLaws}
 use Rattle.c_model.specs.ModelMachine.{StorePart, frame_machine}
-use Rattle.order_laws.specs.Orders.{Stopped, State, going, Order}
-use Rattle.order_laws.specs.Cuts.{Result, RunsTo}
-use Rattle.order_laws.specs.EveryOrder.{EndLaws, IsFine}
-use Rattle.order_laws.specs.Limits.{deep, deep_ends}
+use Rattle.machine_laws.specs.Orders.{Stopped, State, going, Order}
+use Rattle.machine_laws.specs.Cuts.{Result, RunsTo}
+use Rattle.machine_laws.specs.EveryOrder.{EndLaws, IsFine}
+use Rattle.machine_laws.specs.Limits.{deep, deep_ends}
 
 -- what an act did that ended the run
 abbrev pub ended_by : Act Value → Option (Stopped ℕ Store Item)

@@ -1,11 +1,4 @@
-pub mod Orders
-pub mod Cuts
-pub mod EveryOrder
-pub mod QuietOrders
-pub mod Limits
-pub mod Small
 pub mod FrameEnds
-pub mod ToldConflicts
 pub mod StrictItems
 pub mod StoreParts
 pub mod Asking

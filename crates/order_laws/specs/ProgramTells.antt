@@ -10,11 +10,11 @@ use Rattle.c_model.specs.Libraries as libc
 use Rattle.c_model.specs.Machine.{Machine}
 use Rattle.c_model.specs.MachineLaws.{StoreLaws}
 use Rattle.c_model.specs.ModelMachine.{frame_machine}
-use Rattle.order_laws.specs.Orders.{Stopped, State, going, Order}
-use Rattle.order_laws.specs.Cuts.{Result, RunsTo}
-use Rattle.order_laws.specs.EveryOrder.{IsFine}
+use Rattle.machine_laws.specs.Orders.{Stopped, State, going, Order}
+use Rattle.machine_laws.specs.Cuts.{Result, RunsTo}
+use Rattle.machine_laws.specs.EveryOrder.{IsFine}
 use Rattle.order_laws.specs.FrameEnds.{program_machine, program_ends}
-use Rattle.order_laws.specs.ToldConflicts.{telling}
+use Rattle.machine_laws.specs.ToldConflicts.{telling}
 use Rattle.order_laws.specs.StoreParts.{Part, Seen, Fact, store_parts}
 use Rattle.order_laws.specs.Asking.{LibraryAsked}
 

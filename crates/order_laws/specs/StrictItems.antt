@@ -8,7 +8,7 @@ use Rattle.addr_map.specs.declared.map.Row.{Row}
 use Rattle.mem_laws.specs.Frame.{any_of, bears, meddles, meddle}
 use Rattle.addr_map.specs.Conflict.{some_conflict as conflict}
 use Rattle.c_model.specs.Findings.{clash}
-use Rattle.order_laws.specs.ToldConflicts.{bear}
+use Rattle.machine_laws.specs.ToldConflicts.{bear}
 
 abbrev pub asks : Item → ObjName → Bool
 asks (Alive y) x = same_object y x

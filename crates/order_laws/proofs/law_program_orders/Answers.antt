@@ -1,8 +1,8 @@
 use Rattle.c_model.specs.ModelMachine.{frame_machine}
 use Rattle.c_model.proofs.FramesKeep.{frame_laws, order_laws, update_laws}
 use Rattle.order_laws.specs.FrameEnds.{weight, frame_ends, program_machine, program_ends}
-use Rattle.order_laws.proofs.AllOrders.{every_order_ends_alike}
-use Rattle.order_laws.proofs.Depth.{deep_store, deep_frame, deep_order, deep_update, deep_end}
+use Rattle.machine_laws.proofs.AllOrders.{every_order_ends_alike}
+use Rattle.machine_laws.proofs.Depth.{deep_store, deep_frame, deep_order, deep_update, deep_end}
 use Rattle.order_laws.proofs.ProgramEnds.{end_laws}
 use Rattle.order_laws.proofs.law_program_orders.Goals as goal
 

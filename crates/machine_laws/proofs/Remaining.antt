@@ -5,8 +5,8 @@ use Rattle.c_model.specs.MachineLaws.{StoreLaws, FrameLaws, OrderLaws, UpdateLaw
 use Rattle.c_model.proofs.MachineRuns as runs
 use Rattle.c_model.proofs.MachineOrders as orders
 use Rattle.c_model.proofs.MachineOrders.{same, front, under, both}
-use Rattle.order_laws.specs.Orders.{Stopped, Event as Event_of, Held as Held_of, State as State_of, going, over, ended, added, with_pick, then_past as then_past_m, QuietWith as QuietWith_m, Quiet as Quiet_m, HeldQuiet as HeldQuiet_m, NoneBeside as NoneBeside_m, AllAlone as AllAlone_m}
-use Rattle.order_laws.specs.Cuts.{Cut, stops, inside, cut_picks, Result, gave, said, NoControl as NoControl_m, CutAt as CutAt_m}
+use Rattle.machine_laws.specs.Orders.{Stopped, Event as Event_of, Held as Held_of, State as State_of, going, over, ended, added, with_pick, then_past as then_past_m, QuietWith as QuietWith_m, Quiet as Quiet_m, HeldQuiet as HeldQuiet_m, NoneBeside as NoneBeside_m, AllAlone as AllAlone_m}
+use Rattle.machine_laws.specs.Cuts.{Cut, stops, inside, cut_picks, Result, gave, said, NoControl as NoControl_m, CutAt as CutAt_m}
 
 -- what is left of the open frames: those that end, the top one first, and the one in which the run ends
 pub data Left (P V N I : Type 0) : Type 0 where

@@ -2,8 +2,8 @@
 use Rattle.std.specs.Prelude.{◌≡◌, ℕ, suc, true, List, [], Option}
 use Rattle.c_model.specs.Machine.{Machine}
 use Rattle.c_model.specs.MachineLaws.{OrderLaws}
-use Rattle.order_laws.specs.Orders.{Stopped, Event, Held, State, going, over, ended, May, Step, Ends, Quiet, HeldQuiet, Alone, AllAlone}
-use Rattle.order_laws.specs.Cuts.{Result, gave, said, RunsTo}
+use Rattle.machine_laws.specs.Orders.{Stopped, Event, Held, State, going, over, ended, May, Step, Ends, Quiet, HeldQuiet, Alone, AllAlone}
+use Rattle.machine_laws.specs.Cuts.{Result, gave, said, RunsTo}
 
 module _ {F P V N S I Part Seen Fact : Type 0} (m : Machine F P V S I Part Seen Fact) (ends : F → P → S → Option (Stopped N S I)) where
   -- what is looked at before a pick: at a control step no two events of the full expression conflict where neither is before the other; at

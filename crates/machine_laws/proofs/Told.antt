@@ -3,11 +3,11 @@ use Rattle.std.proofs.Common.{◌≡◌, ℕ, ◌+◌, length, Bool, true, false
 use Rattle.c_model.specs.Moves.{Start, End}
 use Rattle.c_model.specs.Machine.{Machine, FrameRun as Trace, nil, put, Evaluation as Block, act, body, Rest, value, items, its, after, Valid, Made, Calm, CalmIn, Free, Clear, ClearIn, Good, Finishes, Apart, clash_one, clash_any}
 use Rattle.c_model.specs.MachineLaws.{Keeps}
-use Rattle.order_laws.specs.Orders.{Stopped, Event, Held, State, going, over, ended, Order, here, pick, Step, stay, enter, leave, stop, Ends, QuietWith, Quiet, HeldQuiet, NoneBeside, Alone, AllAlone, then_past}
-use Rattle.order_laws.specs.Cuts.{Cut, stops, inside, Result, NoControl, NoneAside, Reaches, CutAt, RunsTo, finishes, is_cut}
-use Rattle.order_laws.specs.EveryOrder.{EndLaws, IsFine}
-use Rattle.order_laws.specs.ToldConflicts.{bear, telling, Tells}
-use Rattle.order_laws.proofs.AllOrders.{every_order_ends_alike}
+use Rattle.machine_laws.specs.Orders.{Stopped, Event, Held, State, going, over, ended, Order, here, pick, Step, stay, enter, leave, stop, Ends, QuietWith, Quiet, HeldQuiet, NoneBeside, Alone, AllAlone, then_past}
+use Rattle.machine_laws.specs.Cuts.{Cut, stops, inside, Result, NoControl, NoneAside, Reaches, CutAt, RunsTo, finishes, is_cut}
+use Rattle.machine_laws.specs.EveryOrder.{EndLaws, IsFine}
+use Rattle.machine_laws.specs.ToldConflicts.{bear, telling, Tells}
+use Rattle.machine_laws.proofs.AllOrders.{every_order_ends_alike}
 
 or_false : (a b : Bool) → (a || b) ≡ true → (a ≡ true) ⊎ (b ≡ true)
 or_false true b h = inl refl

@@ -3,11 +3,11 @@ use Rattle.std.proofs.Common.{◌≡◌, ℕ, suc, ◌+◌, Bool, true, false, �
 use Rattle.c_model.specs.Moves.{Start, End}
 use Rattle.c_model.specs.Machine.{Machine, FrameRun as Trace, nil, put, Evaluation as Block, act, body, value, items, its, count, picks, Does, after, Made, Calm, CalmIn, Free, Clear, ClearIn, Good, Apart, clash_one, clash_any}
 use Rattle.c_model.specs.MachineLaws.{OrderLaws}
-use Rattle.order_laws.specs.Orders.{Stopped, State as State_of, going, over, ended, added, with_pick, May, stay, enter, leave, stop, Ends, Quiet, QuietWith, HeldQuiet, NoneBeside, Alone, AllAlone}
-use Rattle.order_laws.specs.Cuts.{stops, inside, Result, gave, said, NoControl, NoneAside, Reaches, RunsTo, finishes, is_cut}
-use Rattle.order_laws.specs.QuietOrders.{LooksAt, QuietOrder, is_over, is_ended, goes}
-use Rattle.order_laws.proofs.Remaining as left
-use Rattle.order_laws.proofs.Remaining.{Left, none, frame, cuts, all, trace_of, pick_of}
+use Rattle.machine_laws.specs.Orders.{Stopped, State as State_of, going, over, ended, added, with_pick, May, stay, enter, leave, stop, Ends, Quiet, QuietWith, HeldQuiet, NoneBeside, Alone, AllAlone}
+use Rattle.machine_laws.specs.Cuts.{stops, inside, Result, gave, said, NoControl, NoneAside, Reaches, RunsTo, finishes, is_cut}
+use Rattle.machine_laws.specs.QuietOrders.{LooksAt, QuietOrder, is_over, is_ended, goes}
+use Rattle.machine_laws.proofs.Remaining as left
+use Rattle.machine_laws.proofs.Remaining.{Left, none, frame, cuts, all, trace_of, pick_of}
 
 module _ {F P V N S I Part Seen Fact : Type 0} (machine : Machine F P V S I Part Seen Fact) (ends : F → P → S → Option (Stopped N S I))
     (order_laws : OrderLaws machine) where
