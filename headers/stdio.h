@@ -1,21 +1,148 @@
-/* 7.21, in part */
+/* 7.21, in part: standard input and standard output. */
 #ifndef _CUB_STDIO_H
 #define _CUB_STDIO_H
 
-#ifndef _CUB_SIZE_T
-#define _CUB_SIZE_T
-typedef unsigned long size_t;
-#endif
-
-#ifndef NULL
-#define NULL ((void*)0)
-#endif
+#include <_cub_base.h>
 
 #define EOF (-1)
+#define BUFSIZ 1024
 
 int getchar(void);
 int putchar(int c);
 int puts(const char *s);
 int printf(const char *f, ...);
+
+/* _back is 1 more than the byte that was pushed back, or 0; _last is what the last read gave. */
+typedef struct _cub_file { int _back, _last, _wrong; } FILE;
+
+static FILE _cub_stdin, _cub_stdout;
+
+#define stdin (&_cub_stdin)
+#define stdout (&_cub_stdout)
+
+/* The stream isn't the one that a function is for: it is the other one, or no stream (7.1.4p1). */
+static inline int _cub_other(FILE *_stream, FILE *_other)
+{
+    if (_stream != _other)
+        puts(0);
+    _other->_wrong = 1;
+    return EOF;
+}
+
+/* 7.21.7.6 */
+static inline int _cub_getchar(void)
+{
+    if (!_cub_stdin._back)
+        return _cub_stdin._last = getchar();
+    _cub_stdin._last = _cub_stdin._back - 1;
+    _cub_stdin._back = 0;
+    return _cub_stdin._last;
+}
+
+/* 7.21.7.1, 7.21.7.5 */
+static inline int fgetc(FILE *_stream) { return _stream == stdin ? _cub_getchar() : _cub_other(_stream, stdout); }
+static inline int getc(FILE *_stream) { return _stream == stdin ? _cub_getchar() : _cub_other(_stream, stdout); }
+
+/* 7.21.7.10: one byte can be pushed back. */
+static inline int ungetc(int _c, FILE *_stream)
+{
+    if (_stream != stdin)
+        return _cub_other(_stream, stdout);
+    if (_c == EOF || _cub_stdin._back)
+        return EOF;
+    _cub_stdin._last = (unsigned char)_c;
+    _cub_stdin._back = _cub_stdin._last + 1;
+    return _cub_stdin._last;
+}
+
+/* 7.21.7.2: n is at least 1. */
+static inline char *fgets(char *_s, int _n, FILE *_stream)
+{
+    int _i = 0, _c = 0;
+    if (!_s || _n <= 0)
+        puts(0);
+    if (_stream != stdin) {
+        _cub_other(_stream, stdout);
+        return NULL;
+    }
+    while (_i < _n - 1 && _c != '\n' && (_c = _cub_getchar()) != EOF)
+        _s[_i++] = _c;
+    if (_c == EOF && _i == 0)
+        return NULL;
+    _s[_i] = 0;
+    return _s;
+}
+
+/* 7.21.7.3, 7.21.7.7 */
+static inline int fputc(int _c, FILE *_stream) { return _stream == stdout ? putchar(_c) : _cub_other(_stream, stdin); }
+static inline int putc(int _c, FILE *_stream) { return _stream == stdout ? putchar(_c) : _cub_other(_stream, stdin); }
+
+/* 7.21.7.4, in pieces that one conversion may have */
+static inline int fputs(const char *_s, FILE *_stream)
+{
+    if (_stream != stdout)
+        return _cub_other(_stream, stdin);
+    while (printf("%.4095s", _s) == 4095)
+        _s += 4095;
+    return 1;
+}
+
+/* 7.21.8.1 */
+static inline size_t fread(void *_p, size_t _size, size_t _n, FILE *_stream)
+{
+    unsigned char *_byte = _p;
+    size_t _i, _j;
+    int _c;
+    if (!_p)
+        puts(0);
+    if (_stream != stdin) {
+        _cub_other(_stream, stdout);
+        return 0;
+    }
+    for (_i = 0; _size && _i < _n; _i++)
+        for (_j = 0; _j < _size; _j++) {
+            if ((_c = _cub_getchar()) == EOF)
+                return _i;
+            *_byte++ = _c;
+        }
+    return _i;
+}
+
+/* 7.21.8.2 */
+static inline size_t fwrite(const void *_p, size_t _size, size_t _n, FILE *_stream)
+{
+    const unsigned char *_byte = _p;
+    size_t _i, _j;
+    if (!_p)
+        puts(0);
+    if (_stream != stdout) {
+        _cub_other(_stream, stdin);
+        return 0;
+    }
+    for (_i = 0; _size && _i < _n; _i++)
+        for (_j = 0; _j < _size; _j++)
+            putchar(*_byte++);
+    return _i;
+}
+
+/* 7.21.5.2: of standard input it is undefined. */
+static inline int fflush(FILE *_stream)
+{
+    if (_stream && _stream != stdout)
+        puts(0);
+    return 0;
+}
+
+/* 7.21.10 */
+static inline int feof(FILE *_stream) { return _stream->_last == EOF; }
+static inline int ferror(FILE *_stream) { return _stream->_wrong; }
+
+static inline void clearerr(FILE *_stream)
+{
+    _stream->_last = 0;
+    _stream->_wrong = 0;
+}
+
+#define getchar() _cub_getchar()
 
 #endif

@@ -1,0 +1,178 @@
+# 0 "7.24.1p2_memchr_of_nothing_in_null.c"
+# 0 "<built-in>"
+# 0 "<command-line>"
+# 1 "7.24.1p2_memchr_of_nothing_in_null.c"
+# 1 "headers/string.h" 1
+
+
+
+
+# 1 "headers/_cub_base.h" 1
+
+
+
+
+typedef unsigned long size_t;
+# 6 "headers/string.h" 2
+
+void *memcpy(void *d, const void *s, size_t n);
+void *memmove(void *d, const void *s, size_t n);
+void *memset(void *d, int c, size_t n);
+int memcmp(const void *a, const void *b, size_t n);
+size_t strlen(const char *s);
+char *strcpy(char *d, const char *s);
+int strcmp(const char *a, const char *b);
+char *strchr(const char *s, int c);
+
+
+
+
+static inline char *strncpy(char *_d, const char *_s, size_t _n)
+{
+    size_t _k = 0;
+    memcmp(_d, _s, 0);
+    while (_k < _n && _s[_k])
+        _k++;
+    memcpy(_d, _s, _k < _n ? _k + 1 : _k);
+    memset(_d + _k, 0, _n - _k);
+    return _d;
+}
+
+
+static inline char *strcat(char *_d, const char *_s)
+{
+    strcpy(_d + strlen(_d), _s);
+    return _d;
+}
+
+
+static inline char *strncat(char *_d, const char *_s, size_t _n)
+{
+    char *_end = _d + strlen(_d);
+    size_t _k = 0;
+    memcmp(_s, _s, 0);
+    while (_k < _n && _s[_k])
+        _k++;
+    memcpy(_end, _s, _k < _n ? _k + 1 : _k);
+    _end[_k] = 0;
+    return _d;
+}
+
+
+static inline int strcoll(const char *_a, const char *_b) { return strcmp(_a, _b); }
+
+static inline size_t strxfrm(char *_d, const char *_s, size_t _n)
+{
+    size_t _k = strlen(_s);
+    if (_n)
+        memcpy(_d, _s, _k < _n ? _k + 1 : _n);
+    return _k;
+}
+
+
+static inline int strncmp(const char *_a, const char *_b, size_t _n)
+{
+    memcmp(_a, _b, 0);
+    while (_n && *_a == *_b && *_a)
+        _a++, _b++, _n--;
+    return _n == 0 || *_a == *_b ? 0 : (unsigned char)*_a < (unsigned char)*_b ? -1 : 1;
+}
+
+
+static inline void *memchr(const void *_s, int _c, size_t _n)
+{
+    const unsigned char *_p = _s;
+    memcmp(_s, _s, 0);
+    for (; _n; _p++, _n--)
+        if (*_p == (unsigned char)_c)
+            return (void *)_p;
+    return ((void*)0);
+}
+
+
+static inline char *strrchr(const char *_s, int _c)
+{
+    size_t _n = strlen(_s) + 1;
+    while (_n--)
+        if (_s[_n] == (char)_c)
+            return (char *)_s + _n;
+    return ((void*)0);
+}
+
+
+static inline size_t strspn(const char *_s, const char *_set)
+{
+    size_t _n = 0;
+    strlen(_s), strlen(_set);
+    while (_s[_n] && strchr(_set, _s[_n]))
+        _n++;
+    return _n;
+}
+
+
+static inline size_t strcspn(const char *_s, const char *_set)
+{
+    size_t _n = 0;
+    strlen(_s), strlen(_set);
+    while (!strchr(_set, _s[_n]))
+        _n++;
+    return _n;
+}
+
+
+static inline char *strpbrk(const char *_s, const char *_set)
+{
+    _s += strcspn(_s, _set);
+    return *_s ? (char *)_s : ((void*)0);
+}
+
+
+static inline char *strstr(const char *_s, const char *_word)
+{
+    size_t _n = strlen(_word);
+    const char *_end = _s + strlen(_s);
+    while (_s && (size_t)(_end - _s) >= _n) {
+        if (memcmp(_s, _word, _n) == 0)
+            return (char *)_s;
+        _s = strchr(_s + 1, *_word);
+    }
+    return ((void*)0);
+}
+
+
+static char *_cub_token;
+
+static inline char *strtok(char *_s, const char *_set)
+{
+    if (!_s)
+        _s = _cub_token;
+    _s += strspn(_s, _set);
+    _cub_token = _s + strcspn(_s, _set);
+    if (_s == _cub_token)
+        return ((void*)0);
+    if (*_cub_token)
+        *_cub_token++ = 0;
+    return _s;
+}
+
+
+static inline char *strerror(int _n)
+{
+    switch (_n) {
+    case 0:
+        return "Success";
+    case 33:
+        return "Numerical argument out of domain";
+    case 34:
+        return "Numerical result out of range";
+    case 84:
+        return "Invalid or incomplete multibyte or wide character";
+    default:
+        return "Unknown error";
+    }
+}
+# 2 "7.24.1p2_memchr_of_nothing_in_null.c" 2
+int main(void)
+{
+    return memchr(((void*)0), 'c', 0) == ((void*)0);
+}

@@ -1,0 +1,426 @@
+# 0 "hexdump.c"
+# 0 "<built-in>"
+# 0 "<command-line>"
+# 1 "hexdump.c"
+
+# 1 "headers/ctype.h" 1
+
+
+
+
+
+static const unsigned short _cub_classes[257] = {
+    0,
+    2, 2, 2, 2, 2, 2, 2, 2, 2, 8195, 8194, 8194, 8194, 8194, 2, 2, 2, 2, 2, 2, 2, 2, 2, 2, 2, 2, 2, 2, 2, 2,
+    2, 2, 24577, 49156, 49156, 49156, 49156, 49156, 49156, 49156, 49156, 49156, 49156, 49156, 49156, 49156,
+    49156, 49156, 55304, 55304, 55304, 55304, 55304, 55304, 55304, 55304, 55304, 55304, 49156, 49156, 49156,
+    49156, 49156, 49156, 49156, 54536, 54536, 54536, 54536, 54536, 54536, 50440, 50440, 50440, 50440, 50440,
+    50440, 50440, 50440, 50440, 50440, 50440, 50440, 50440, 50440, 50440, 50440, 50440, 50440, 50440, 50440,
+    49156, 49156, 49156, 49156, 49156, 49156, 54792, 54792, 54792, 54792, 54792, 54792, 50696, 50696, 50696,
+    50696, 50696, 50696, 50696, 50696, 50696, 50696, 50696, 50696, 50696, 50696, 50696, 50696, 50696, 50696,
+    50696, 50696, 49156, 49156, 49156, 49156, 2,
+};
+
+static const short _cub_upper[257] = {
+    -1,
+    0, 1, 2, 3, 4, 5, 6, 7, 8, 9, 10, 11, 12, 13, 14, 15, 16, 17, 18, 19, 20, 21, 22, 23, 24, 25, 26, 27, 28,
+    29, 30, 31, 32, 33, 34, 35, 36, 37, 38, 39, 40, 41, 42, 43, 44, 45, 46, 47, 48, 49, 50, 51, 52, 53, 54,
+    55, 56, 57, 58, 59, 60, 61, 62, 63, 64, 65, 66, 67, 68, 69, 70, 71, 72, 73, 74, 75, 76, 77, 78, 79, 80,
+    81, 82, 83, 84, 85, 86, 87, 88, 89, 90, 91, 92, 93, 94, 95, 96, 65, 66, 67, 68, 69, 70, 71, 72, 73, 74,
+    75, 76, 77, 78, 79, 80, 81, 82, 83, 84, 85, 86, 87, 88, 89, 90, 123, 124, 125, 126, 127, 128, 129, 130,
+    131, 132, 133, 134, 135, 136, 137, 138, 139, 140, 141, 142, 143, 144, 145, 146, 147, 148, 149, 150, 151,
+    152, 153, 154, 155, 156, 157, 158, 159, 160, 161, 162, 163, 164, 165, 166, 167, 168, 169, 170, 171, 172,
+    173, 174, 175, 176, 177, 178, 179, 180, 181, 182, 183, 184, 185, 186, 187, 188, 189, 190, 191, 192, 193,
+    194, 195, 196, 197, 198, 199, 200, 201, 202, 203, 204, 205, 206, 207, 208, 209, 210, 211, 212, 213, 214,
+    215, 216, 217, 218, 219, 220, 221, 222, 223, 224, 225, 226, 227, 228, 229, 230, 231, 232, 233, 234, 235,
+    236, 237, 238, 239, 240, 241, 242, 243, 244, 245, 246, 247, 248, 249, 250, 251, 252, 253, 254, 255,
+};
+
+static const short _cub_lower[257] = {
+    -1,
+    0, 1, 2, 3, 4, 5, 6, 7, 8, 9, 10, 11, 12, 13, 14, 15, 16, 17, 18, 19, 20, 21, 22, 23, 24, 25, 26, 27, 28,
+    29, 30, 31, 32, 33, 34, 35, 36, 37, 38, 39, 40, 41, 42, 43, 44, 45, 46, 47, 48, 49, 50, 51, 52, 53, 54,
+    55, 56, 57, 58, 59, 60, 61, 62, 63, 64, 97, 98, 99, 100, 101, 102, 103, 104, 105, 106, 107, 108, 109, 110,
+    111, 112, 113, 114, 115, 116, 117, 118, 119, 120, 121, 122, 91, 92, 93, 94, 95, 96, 97, 98, 99, 100, 101,
+    102, 103, 104, 105, 106, 107, 108, 109, 110, 111, 112, 113, 114, 115, 116, 117, 118, 119, 120, 121, 122,
+    123, 124, 125, 126, 127, 128, 129, 130, 131, 132, 133, 134, 135, 136, 137, 138, 139, 140, 141, 142, 143,
+    144, 145, 146, 147, 148, 149, 150, 151, 152, 153, 154, 155, 156, 157, 158, 159, 160, 161, 162, 163, 164,
+    165, 166, 167, 168, 169, 170, 171, 172, 173, 174, 175, 176, 177, 178, 179, 180, 181, 182, 183, 184, 185,
+    186, 187, 188, 189, 190, 191, 192, 193, 194, 195, 196, 197, 198, 199, 200, 201, 202, 203, 204, 205, 206,
+    207, 208, 209, 210, 211, 212, 213, 214, 215, 216, 217, 218, 219, 220, 221, 222, 223, 224, 225, 226, 227,
+    228, 229, 230, 231, 232, 233, 234, 235, 236, 237, 238, 239, 240, 241, 242, 243, 244, 245, 246, 247, 248,
+    249, 250, 251, 252, 253, 254, 255,
+};
+
+static inline int isalnum(int _c) { return _cub_classes[_c + 1] & 8; }
+static inline int isalpha(int _c) { return _cub_classes[_c + 1] & 1024; }
+static inline int isblank(int _c) { return _cub_classes[_c + 1] & 1; }
+static inline int iscntrl(int _c) { return _cub_classes[_c + 1] & 2; }
+static inline int isdigit(int _c) { return _cub_classes[_c + 1] & 2048; }
+static inline int isgraph(int _c) { return _cub_classes[_c + 1] & 32768; }
+static inline int islower(int _c) { return _cub_classes[_c + 1] & 512; }
+static inline int isprint(int _c) { return _cub_classes[_c + 1] & 16384; }
+static inline int ispunct(int _c) { return _cub_classes[_c + 1] & 4; }
+static inline int isspace(int _c) { return _cub_classes[_c + 1] & 8192; }
+static inline int isupper(int _c) { return _cub_classes[_c + 1] & 256; }
+static inline int isxdigit(int _c) { return _cub_classes[_c + 1] & 4096; }
+static inline int tolower(int _c) { return _cub_lower[_c + 1]; }
+static inline int toupper(int _c) { return _cub_upper[_c + 1]; }
+# 3 "hexdump.c" 2
+# 1 "headers/stdio.h" 1
+
+
+
+
+# 1 "headers/_cub_base.h" 1
+
+
+
+
+typedef unsigned long size_t;
+# 6 "headers/stdio.h" 2
+
+
+
+
+int getchar(void);
+int putchar(int c);
+int puts(const char *s);
+int printf(const char *f, ...);
+
+
+typedef struct _cub_file { int _back, _last, _wrong; } FILE;
+
+static FILE _cub_stdin, _cub_stdout;
+
+
+
+
+
+static inline int _cub_other(FILE *_stream, FILE *_other)
+{
+    if (_stream != _other)
+        puts(0);
+    _other->_wrong = 1;
+    return (-1);
+}
+
+
+static inline int _cub_getchar(void)
+{
+    if (!_cub_stdin._back)
+        return _cub_stdin._last = getchar();
+    _cub_stdin._last = _cub_stdin._back - 1;
+    _cub_stdin._back = 0;
+    return _cub_stdin._last;
+}
+
+
+static inline int fgetc(FILE *_stream) { return _stream == (&_cub_stdin) ? _cub_getchar() : _cub_other(_stream, (&_cub_stdout)); }
+static inline int getc(FILE *_stream) { return _stream == (&_cub_stdin) ? _cub_getchar() : _cub_other(_stream, (&_cub_stdout)); }
+
+
+static inline int ungetc(int _c, FILE *_stream)
+{
+    if (_stream != (&_cub_stdin))
+        return _cub_other(_stream, (&_cub_stdout));
+    if (_c == (-1) || _cub_stdin._back)
+        return (-1);
+    _cub_stdin._last = (unsigned char)_c;
+    _cub_stdin._back = _cub_stdin._last + 1;
+    return _cub_stdin._last;
+}
+
+
+static inline char *fgets(char *_s, int _n, FILE *_stream)
+{
+    int _i = 0, _c = 0;
+    if (!_s || _n <= 0)
+        puts(0);
+    if (_stream != (&_cub_stdin)) {
+        _cub_other(_stream, (&_cub_stdout));
+        return ((void*)0);
+    }
+    while (_i < _n - 1 && _c != '\n' && (_c = _cub_getchar()) != (-1))
+        _s[_i++] = _c;
+    if (_c == (-1) && _i == 0)
+        return ((void*)0);
+    _s[_i] = 0;
+    return _s;
+}
+
+
+static inline int fputc(int _c, FILE *_stream) { return _stream == (&_cub_stdout) ? putchar(_c) : _cub_other(_stream, (&_cub_stdin)); }
+static inline int putc(int _c, FILE *_stream) { return _stream == (&_cub_stdout) ? putchar(_c) : _cub_other(_stream, (&_cub_stdin)); }
+
+
+static inline int fputs(const char *_s, FILE *_stream)
+{
+    if (_stream != (&_cub_stdout))
+        return _cub_other(_stream, (&_cub_stdin));
+    while (printf("%.4095s", _s) == 4095)
+        _s += 4095;
+    return 1;
+}
+
+
+static inline size_t fread(void *_p, size_t _size, size_t _n, FILE *_stream)
+{
+    unsigned char *_byte = _p;
+    size_t _i, _j;
+    int _c;
+    if (!_p)
+        puts(0);
+    if (_stream != (&_cub_stdin)) {
+        _cub_other(_stream, (&_cub_stdout));
+        return 0;
+    }
+    for (_i = 0; _size && _i < _n; _i++)
+        for (_j = 0; _j < _size; _j++) {
+            if ((_c = _cub_getchar()) == (-1))
+                return _i;
+            *_byte++ = _c;
+        }
+    return _i;
+}
+
+
+static inline size_t fwrite(const void *_p, size_t _size, size_t _n, FILE *_stream)
+{
+    const unsigned char *_byte = _p;
+    size_t _i, _j;
+    if (!_p)
+        puts(0);
+    if (_stream != (&_cub_stdout)) {
+        _cub_other(_stream, (&_cub_stdin));
+        return 0;
+    }
+    for (_i = 0; _size && _i < _n; _i++)
+        for (_j = 0; _j < _size; _j++)
+            putchar(*_byte++);
+    return _i;
+}
+
+
+static inline int fflush(FILE *_stream)
+{
+    if (_stream && _stream != (&_cub_stdout))
+        puts(0);
+    return 0;
+}
+
+
+static inline int feof(FILE *_stream) { return _stream->_last == (-1); }
+static inline int ferror(FILE *_stream) { return _stream->_wrong; }
+
+static inline void clearerr(FILE *_stream)
+{
+    _stream->_last = 0;
+    _stream->_wrong = 0;
+}
+# 4 "hexdump.c" 2
+# 1 "headers/string.h" 1
+
+
+
+
+
+
+void *memcpy(void *d, const void *s, size_t n);
+void *memmove(void *d, const void *s, size_t n);
+void *memset(void *d, int c, size_t n);
+int memcmp(const void *a, const void *b, size_t n);
+size_t strlen(const char *s);
+char *strcpy(char *d, const char *s);
+int strcmp(const char *a, const char *b);
+char *strchr(const char *s, int c);
+
+
+
+
+static inline char *strncpy(char *_d, const char *_s, size_t _n)
+{
+    size_t _k = 0;
+    memcmp(_d, _s, 0);
+    while (_k < _n && _s[_k])
+        _k++;
+    memcpy(_d, _s, _k < _n ? _k + 1 : _k);
+    memset(_d + _k, 0, _n - _k);
+    return _d;
+}
+
+
+static inline char *strcat(char *_d, const char *_s)
+{
+    strcpy(_d + strlen(_d), _s);
+    return _d;
+}
+
+
+static inline char *strncat(char *_d, const char *_s, size_t _n)
+{
+    char *_end = _d + strlen(_d);
+    size_t _k = 0;
+    memcmp(_s, _s, 0);
+    while (_k < _n && _s[_k])
+        _k++;
+    memcpy(_end, _s, _k < _n ? _k + 1 : _k);
+    _end[_k] = 0;
+    return _d;
+}
+
+
+static inline int strcoll(const char *_a, const char *_b) { return strcmp(_a, _b); }
+
+static inline size_t strxfrm(char *_d, const char *_s, size_t _n)
+{
+    size_t _k = strlen(_s);
+    if (_n)
+        memcpy(_d, _s, _k < _n ? _k + 1 : _n);
+    return _k;
+}
+
+
+static inline int strncmp(const char *_a, const char *_b, size_t _n)
+{
+    memcmp(_a, _b, 0);
+    while (_n && *_a == *_b && *_a)
+        _a++, _b++, _n--;
+    return _n == 0 || *_a == *_b ? 0 : (unsigned char)*_a < (unsigned char)*_b ? -1 : 1;
+}
+
+
+static inline void *memchr(const void *_s, int _c, size_t _n)
+{
+    const unsigned char *_p = _s;
+    memcmp(_s, _s, 0);
+    for (; _n; _p++, _n--)
+        if (*_p == (unsigned char)_c)
+            return (void *)_p;
+    return ((void*)0);
+}
+
+
+static inline char *strrchr(const char *_s, int _c)
+{
+    size_t _n = strlen(_s) + 1;
+    while (_n--)
+        if (_s[_n] == (char)_c)
+            return (char *)_s + _n;
+    return ((void*)0);
+}
+
+
+static inline size_t strspn(const char *_s, const char *_set)
+{
+    size_t _n = 0;
+    strlen(_s), strlen(_set);
+    while (_s[_n] && strchr(_set, _s[_n]))
+        _n++;
+    return _n;
+}
+
+
+static inline size_t strcspn(const char *_s, const char *_set)
+{
+    size_t _n = 0;
+    strlen(_s), strlen(_set);
+    while (!strchr(_set, _s[_n]))
+        _n++;
+    return _n;
+}
+
+
+static inline char *strpbrk(const char *_s, const char *_set)
+{
+    _s += strcspn(_s, _set);
+    return *_s ? (char *)_s : ((void*)0);
+}
+
+
+static inline char *strstr(const char *_s, const char *_word)
+{
+    size_t _n = strlen(_word);
+    const char *_end = _s + strlen(_s);
+    while (_s && (size_t)(_end - _s) >= _n) {
+        if (memcmp(_s, _word, _n) == 0)
+            return (char *)_s;
+        _s = strchr(_s + 1, *_word);
+    }
+    return ((void*)0);
+}
+
+
+static char *_cub_token;
+
+static inline char *strtok(char *_s, const char *_set)
+{
+    if (!_s)
+        _s = _cub_token;
+    _s += strspn(_s, _set);
+    _cub_token = _s + strcspn(_s, _set);
+    if (_s == _cub_token)
+        return ((void*)0);
+    if (*_cub_token)
+        *_cub_token++ = 0;
+    return _s;
+}
+
+
+static inline char *strerror(int _n)
+{
+    switch (_n) {
+    case 0:
+        return "Success";
+    case 33:
+        return "Numerical argument out of domain";
+    case 34:
+        return "Numerical result out of range";
+    case 84:
+        return "Invalid or incomplete multibyte or wide character";
+    default:
+        return "Unknown error";
+    }
+}
+# 5 "hexdump.c" 2
+
+
+
+static void line(unsigned long offset, const unsigned char *p, size_t n)
+{
+    printf("%08lx  ", offset);
+    for (size_t i = 0; i < 16; i++) {
+        if (i < n)
+            printf("%02x ", p[i]);
+        else
+            printf("   ");
+        if (i == 16 / 2 - 1)
+            putchar(' ');
+    }
+    printf(" |");
+    for (size_t i = 0; i < n; i++)
+        putchar((_cub_classes[(int)(p[i]) + 1] & 16384) ? p[i] : '.');
+    printf("|\n");
+}
+
+int main(void)
+{
+    unsigned char now[16], before[16];
+    unsigned long offset = 0;
+    size_t n;
+    int starred = 0;
+    while ((n = fread(now, 1, 16, (&_cub_stdin))) > 0) {
+        if (offset > 0 && n == 16 && memcmp(now, before, 16) == 0) {
+            if (!starred)
+                puts("*");
+            starred = 1;
+        } else {
+            line(offset, now, n);
+            starred = 0;
+        }
+        memcpy(before, now, n);
+        offset += n;
+    }
+    printf("%08lx\n", offset);
+    return ferror((&_cub_stdin)) ? 1 : 0;
+}

@@ -1,0 +1,422 @@
+# 0 "sha256.c"
+# 0 "<built-in>"
+# 0 "<command-line>"
+# 1 "sha256.c"
+
+# 1 "headers/stdint.h" 1
+
+
+
+
+typedef signed char int8_t;
+typedef short int16_t;
+typedef int int32_t;
+typedef long int64_t;
+typedef unsigned char uint8_t;
+typedef unsigned short uint16_t;
+typedef unsigned int uint32_t;
+typedef unsigned long uint64_t;
+
+typedef signed char int_least8_t;
+typedef short int_least16_t;
+typedef int int_least32_t;
+typedef long int_least64_t;
+typedef unsigned char uint_least8_t;
+typedef unsigned short uint_least16_t;
+typedef unsigned int uint_least32_t;
+typedef unsigned long uint_least64_t;
+
+typedef signed char int_fast8_t;
+typedef long int_fast16_t;
+typedef long int_fast32_t;
+typedef long int_fast64_t;
+typedef unsigned char uint_fast8_t;
+typedef unsigned long uint_fast16_t;
+typedef unsigned long uint_fast32_t;
+typedef unsigned long uint_fast64_t;
+
+typedef long intptr_t;
+typedef unsigned long uintptr_t;
+typedef long intmax_t;
+typedef unsigned long uintmax_t;
+# 3 "sha256.c" 2
+# 1 "headers/stdio.h" 1
+
+
+
+
+# 1 "headers/_cub_base.h" 1
+
+
+
+
+typedef unsigned long size_t;
+# 6 "headers/stdio.h" 2
+
+
+
+
+int getchar(void);
+int putchar(int c);
+int puts(const char *s);
+int printf(const char *f, ...);
+
+
+typedef struct _cub_file { int _back, _last, _wrong; } FILE;
+
+static FILE _cub_stdin, _cub_stdout;
+
+
+
+
+
+static inline int _cub_other(FILE *_stream, FILE *_other)
+{
+    if (_stream != _other)
+        puts(0);
+    _other->_wrong = 1;
+    return (-1);
+}
+
+
+static inline int _cub_getchar(void)
+{
+    if (!_cub_stdin._back)
+        return _cub_stdin._last = getchar();
+    _cub_stdin._last = _cub_stdin._back - 1;
+    _cub_stdin._back = 0;
+    return _cub_stdin._last;
+}
+
+
+static inline int fgetc(FILE *_stream) { return _stream == (&_cub_stdin) ? _cub_getchar() : _cub_other(_stream, (&_cub_stdout)); }
+static inline int getc(FILE *_stream) { return _stream == (&_cub_stdin) ? _cub_getchar() : _cub_other(_stream, (&_cub_stdout)); }
+
+
+static inline int ungetc(int _c, FILE *_stream)
+{
+    if (_stream != (&_cub_stdin))
+        return _cub_other(_stream, (&_cub_stdout));
+    if (_c == (-1) || _cub_stdin._back)
+        return (-1);
+    _cub_stdin._last = (unsigned char)_c;
+    _cub_stdin._back = _cub_stdin._last + 1;
+    return _cub_stdin._last;
+}
+
+
+static inline char *fgets(char *_s, int _n, FILE *_stream)
+{
+    int _i = 0, _c = 0;
+    if (!_s || _n <= 0)
+        puts(0);
+    if (_stream != (&_cub_stdin)) {
+        _cub_other(_stream, (&_cub_stdout));
+        return ((void*)0);
+    }
+    while (_i < _n - 1 && _c != '\n' && (_c = _cub_getchar()) != (-1))
+        _s[_i++] = _c;
+    if (_c == (-1) && _i == 0)
+        return ((void*)0);
+    _s[_i] = 0;
+    return _s;
+}
+
+
+static inline int fputc(int _c, FILE *_stream) { return _stream == (&_cub_stdout) ? putchar(_c) : _cub_other(_stream, (&_cub_stdin)); }
+static inline int putc(int _c, FILE *_stream) { return _stream == (&_cub_stdout) ? putchar(_c) : _cub_other(_stream, (&_cub_stdin)); }
+
+
+static inline int fputs(const char *_s, FILE *_stream)
+{
+    if (_stream != (&_cub_stdout))
+        return _cub_other(_stream, (&_cub_stdin));
+    while (printf("%.4095s", _s) == 4095)
+        _s += 4095;
+    return 1;
+}
+
+
+static inline size_t fread(void *_p, size_t _size, size_t _n, FILE *_stream)
+{
+    unsigned char *_byte = _p;
+    size_t _i, _j;
+    int _c;
+    if (!_p)
+        puts(0);
+    if (_stream != (&_cub_stdin)) {
+        _cub_other(_stream, (&_cub_stdout));
+        return 0;
+    }
+    for (_i = 0; _size && _i < _n; _i++)
+        for (_j = 0; _j < _size; _j++) {
+            if ((_c = _cub_getchar()) == (-1))
+                return _i;
+            *_byte++ = _c;
+        }
+    return _i;
+}
+
+
+static inline size_t fwrite(const void *_p, size_t _size, size_t _n, FILE *_stream)
+{
+    const unsigned char *_byte = _p;
+    size_t _i, _j;
+    if (!_p)
+        puts(0);
+    if (_stream != (&_cub_stdout)) {
+        _cub_other(_stream, (&_cub_stdin));
+        return 0;
+    }
+    for (_i = 0; _size && _i < _n; _i++)
+        for (_j = 0; _j < _size; _j++)
+            putchar(*_byte++);
+    return _i;
+}
+
+
+static inline int fflush(FILE *_stream)
+{
+    if (_stream && _stream != (&_cub_stdout))
+        puts(0);
+    return 0;
+}
+
+
+static inline int feof(FILE *_stream) { return _stream->_last == (-1); }
+static inline int ferror(FILE *_stream) { return _stream->_wrong; }
+
+static inline void clearerr(FILE *_stream)
+{
+    _stream->_last = 0;
+    _stream->_wrong = 0;
+}
+# 4 "sha256.c" 2
+# 1 "headers/string.h" 1
+
+
+
+
+
+
+void *memcpy(void *d, const void *s, size_t n);
+void *memmove(void *d, const void *s, size_t n);
+void *memset(void *d, int c, size_t n);
+int memcmp(const void *a, const void *b, size_t n);
+size_t strlen(const char *s);
+char *strcpy(char *d, const char *s);
+int strcmp(const char *a, const char *b);
+char *strchr(const char *s, int c);
+
+
+
+
+static inline char *strncpy(char *_d, const char *_s, size_t _n)
+{
+    size_t _k = 0;
+    memcmp(_d, _s, 0);
+    while (_k < _n && _s[_k])
+        _k++;
+    memcpy(_d, _s, _k < _n ? _k + 1 : _k);
+    memset(_d + _k, 0, _n - _k);
+    return _d;
+}
+
+
+static inline char *strcat(char *_d, const char *_s)
+{
+    strcpy(_d + strlen(_d), _s);
+    return _d;
+}
+
+
+static inline char *strncat(char *_d, const char *_s, size_t _n)
+{
+    char *_end = _d + strlen(_d);
+    size_t _k = 0;
+    memcmp(_s, _s, 0);
+    while (_k < _n && _s[_k])
+        _k++;
+    memcpy(_end, _s, _k < _n ? _k + 1 : _k);
+    _end[_k] = 0;
+    return _d;
+}
+
+
+static inline int strcoll(const char *_a, const char *_b) { return strcmp(_a, _b); }
+
+static inline size_t strxfrm(char *_d, const char *_s, size_t _n)
+{
+    size_t _k = strlen(_s);
+    if (_n)
+        memcpy(_d, _s, _k < _n ? _k + 1 : _n);
+    return _k;
+}
+
+
+static inline int strncmp(const char *_a, const char *_b, size_t _n)
+{
+    memcmp(_a, _b, 0);
+    while (_n && *_a == *_b && *_a)
+        _a++, _b++, _n--;
+    return _n == 0 || *_a == *_b ? 0 : (unsigned char)*_a < (unsigned char)*_b ? -1 : 1;
+}
+
+
+static inline void *memchr(const void *_s, int _c, size_t _n)
+{
+    const unsigned char *_p = _s;
+    memcmp(_s, _s, 0);
+    for (; _n; _p++, _n--)
+        if (*_p == (unsigned char)_c)
+            return (void *)_p;
+    return ((void*)0);
+}
+
+
+static inline char *strrchr(const char *_s, int _c)
+{
+    size_t _n = strlen(_s) + 1;
+    while (_n--)
+        if (_s[_n] == (char)_c)
+            return (char *)_s + _n;
+    return ((void*)0);
+}
+
+
+static inline size_t strspn(const char *_s, const char *_set)
+{
+    size_t _n = 0;
+    strlen(_s), strlen(_set);
+    while (_s[_n] && strchr(_set, _s[_n]))
+        _n++;
+    return _n;
+}
+
+
+static inline size_t strcspn(const char *_s, const char *_set)
+{
+    size_t _n = 0;
+    strlen(_s), strlen(_set);
+    while (!strchr(_set, _s[_n]))
+        _n++;
+    return _n;
+}
+
+
+static inline char *strpbrk(const char *_s, const char *_set)
+{
+    _s += strcspn(_s, _set);
+    return *_s ? (char *)_s : ((void*)0);
+}
+
+
+static inline char *strstr(const char *_s, const char *_word)
+{
+    size_t _n = strlen(_word);
+    const char *_end = _s + strlen(_s);
+    while (_s && (size_t)(_end - _s) >= _n) {
+        if (memcmp(_s, _word, _n) == 0)
+            return (char *)_s;
+        _s = strchr(_s + 1, *_word);
+    }
+    return ((void*)0);
+}
+
+
+static char *_cub_token;
+
+static inline char *strtok(char *_s, const char *_set)
+{
+    if (!_s)
+        _s = _cub_token;
+    _s += strspn(_s, _set);
+    _cub_token = _s + strcspn(_s, _set);
+    if (_s == _cub_token)
+        return ((void*)0);
+    if (*_cub_token)
+        *_cub_token++ = 0;
+    return _s;
+}
+
+
+static inline char *strerror(int _n)
+{
+    switch (_n) {
+    case 0:
+        return "Success";
+    case 33:
+        return "Numerical argument out of domain";
+    case 34:
+        return "Numerical result out of range";
+    case 84:
+        return "Invalid or incomplete multibyte or wide character";
+    default:
+        return "Unknown error";
+    }
+}
+# 5 "sha256.c" 2
+
+static const uint32_t k[64] = {
+    0x428a2f98, 0x71374491, 0xb5c0fbcf, 0xe9b5dba5, 0x3956c25b, 0x59f111f1, 0x923f82a4, 0xab1c5ed5, 0xd807aa98, 0x12835b01, 0x243185be,
+    0x550c7dc3, 0x72be5d74, 0x80deb1fe, 0x9bdc06a7, 0xc19bf174, 0xe49b69c1, 0xefbe4786, 0x0fc19dc6, 0x240ca1cc, 0x2de92c6f, 0x4a7484aa,
+    0x5cb0a9dc, 0x76f988da, 0x983e5152, 0xa831c66d, 0xb00327c8, 0xbf597fc7, 0xc6e00bf3, 0xd5a79147, 0x06ca6351, 0x14292967, 0x27b70a85,
+    0x2e1b2138, 0x4d2c6dfc, 0x53380d13, 0x650a7354, 0x766a0abb, 0x81c2c92e, 0x92722c85, 0xa2bfe8a1, 0xa81a664b, 0xc24b8b70, 0xc76c51a3,
+    0xd192e819, 0xd6990624, 0xf40e3585, 0x106aa070, 0x19a4c116, 0x1e376c08, 0x2748774c, 0x34b0bcb5, 0x391c0cb3, 0x4ed8aa4a, 0x5b9cca4f,
+    0x682e6ff3, 0x748f82ee, 0x78a5636f, 0x84c87814, 0x8cc70208, 0x90befffa, 0xa4506ceb, 0xbef9a3f7, 0xc67178f2,
+};
+
+
+
+static void block(uint32_t h[8], const uint8_t *p)
+{
+    uint32_t w[64], v[8];
+    for (int i = 0; i < 16; i++)
+        w[i] = (uint32_t)p[4 * i] << 24 | (uint32_t)p[4 * i + 1] << 16 | (uint32_t)p[4 * i + 2] << 8 | p[4 * i + 3];
+    for (int i = 16; i < 64; i++) {
+        uint32_t a = ((w[i - 15]) >> (7) | (w[i - 15]) << (32 - (7))) ^ ((w[i - 15]) >> (18) | (w[i - 15]) << (32 - (18))) ^ w[i - 15] >> 3;
+        uint32_t b = ((w[i - 2]) >> (17) | (w[i - 2]) << (32 - (17))) ^ ((w[i - 2]) >> (19) | (w[i - 2]) << (32 - (19))) ^ w[i - 2] >> 10;
+        w[i] = w[i - 16] + a + w[i - 7] + b;
+    }
+    memcpy(v, h, sizeof v);
+    for (int i = 0; i < 64; i++) {
+        uint32_t t = v[7] + (((v[4]) >> (6) | (v[4]) << (32 - (6))) ^ ((v[4]) >> (11) | (v[4]) << (32 - (11))) ^ ((v[4]) >> (25) | (v[4]) << (32 - (25)))) + ((v[4] & v[5]) ^ (~v[4] & v[6])) + k[i] + w[i];
+        uint32_t u = (((v[0]) >> (2) | (v[0]) << (32 - (2))) ^ ((v[0]) >> (13) | (v[0]) << (32 - (13))) ^ ((v[0]) >> (22) | (v[0]) << (32 - (22)))) + ((v[0] & v[1]) ^ (v[0] & v[2]) ^ (v[1] & v[2]));
+        memmove(v + 1, v, 7 * sizeof *v);
+        v[4] += t;
+        v[0] = t + u;
+    }
+    for (int i = 0; i < 8; i++)
+        h[i] += v[i];
+}
+
+static void sha256(const void *data, size_t n, char *hex)
+{
+    uint32_t h[8] = {0x6a09e667, 0xbb67ae85, 0x3c6ef372, 0xa54ff53a, 0x510e527f, 0x9b05688c, 0x1f83d9ab, 0x5be0cd19};
+    const uint8_t *p = data;
+    uint8_t last[128] = {0};
+    size_t left = n;
+    for (; left >= 64; left -= 64, p += 64)
+        block(h, p);
+    memcpy(last, p, left);
+    last[left] = 0x80;
+    size_t size = left < 56 ? 64 : 128;
+    for (int i = 0; i < 8; i++)
+        last[size - 1 - i] = (uint8_t)((uint64_t)n * 8 >> 8 * i);
+    for (size_t i = 0; i < size; i += 64)
+        block(h, last + i);
+    for (int i = 0; i < 64; i++)
+        hex[i] = "0123456789abcdef"[h[i / 8] >> (28 - i % 8 * 4) & 15];
+    hex[64] = '\0';
+}
+
+int main(void)
+{
+    static const char *const messages[] = {"", "abc", "abcdbcdecdefdefgefghfghighijhijkijkljklmklmnlmnomnopnopq"};
+    for (size_t i = 0; i < sizeof messages / sizeof messages[0]; i++) {
+        char hex[65];
+        sha256(messages[i], strlen(messages[i]), hex);
+        printf("%s\n", hex);
+    }
+    return 0;
+}

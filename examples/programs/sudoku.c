@@ -1,0 +1,401 @@
+# 0 "sudoku.c"
+# 0 "<built-in>"
+# 0 "<command-line>"
+# 1 "sudoku.c"
+
+# 1 "headers/stdio.h" 1
+
+
+
+
+# 1 "headers/_cub_base.h" 1
+
+
+
+
+typedef unsigned long size_t;
+# 6 "headers/stdio.h" 2
+
+
+
+
+int getchar(void);
+int putchar(int c);
+int puts(const char *s);
+int printf(const char *f, ...);
+
+
+typedef struct _cub_file { int _back, _last, _wrong; } FILE;
+
+static FILE _cub_stdin, _cub_stdout;
+
+
+
+
+
+static inline int _cub_other(FILE *_stream, FILE *_other)
+{
+    if (_stream != _other)
+        puts(0);
+    _other->_wrong = 1;
+    return (-1);
+}
+
+
+static inline int _cub_getchar(void)
+{
+    if (!_cub_stdin._back)
+        return _cub_stdin._last = getchar();
+    _cub_stdin._last = _cub_stdin._back - 1;
+    _cub_stdin._back = 0;
+    return _cub_stdin._last;
+}
+
+
+static inline int fgetc(FILE *_stream) { return _stream == (&_cub_stdin) ? _cub_getchar() : _cub_other(_stream, (&_cub_stdout)); }
+static inline int getc(FILE *_stream) { return _stream == (&_cub_stdin) ? _cub_getchar() : _cub_other(_stream, (&_cub_stdout)); }
+
+
+static inline int ungetc(int _c, FILE *_stream)
+{
+    if (_stream != (&_cub_stdin))
+        return _cub_other(_stream, (&_cub_stdout));
+    if (_c == (-1) || _cub_stdin._back)
+        return (-1);
+    _cub_stdin._last = (unsigned char)_c;
+    _cub_stdin._back = _cub_stdin._last + 1;
+    return _cub_stdin._last;
+}
+
+
+static inline char *fgets(char *_s, int _n, FILE *_stream)
+{
+    int _i = 0, _c = 0;
+    if (!_s || _n <= 0)
+        puts(0);
+    if (_stream != (&_cub_stdin)) {
+        _cub_other(_stream, (&_cub_stdout));
+        return ((void*)0);
+    }
+    while (_i < _n - 1 && _c != '\n' && (_c = _cub_getchar()) != (-1))
+        _s[_i++] = _c;
+    if (_c == (-1) && _i == 0)
+        return ((void*)0);
+    _s[_i] = 0;
+    return _s;
+}
+
+
+static inline int fputc(int _c, FILE *_stream) { return _stream == (&_cub_stdout) ? putchar(_c) : _cub_other(_stream, (&_cub_stdin)); }
+static inline int putc(int _c, FILE *_stream) { return _stream == (&_cub_stdout) ? putchar(_c) : _cub_other(_stream, (&_cub_stdin)); }
+
+
+static inline int fputs(const char *_s, FILE *_stream)
+{
+    if (_stream != (&_cub_stdout))
+        return _cub_other(_stream, (&_cub_stdin));
+    while (printf("%.4095s", _s) == 4095)
+        _s += 4095;
+    return 1;
+}
+
+
+static inline size_t fread(void *_p, size_t _size, size_t _n, FILE *_stream)
+{
+    unsigned char *_byte = _p;
+    size_t _i, _j;
+    int _c;
+    if (!_p)
+        puts(0);
+    if (_stream != (&_cub_stdin)) {
+        _cub_other(_stream, (&_cub_stdout));
+        return 0;
+    }
+    for (_i = 0; _size && _i < _n; _i++)
+        for (_j = 0; _j < _size; _j++) {
+            if ((_c = _cub_getchar()) == (-1))
+                return _i;
+            *_byte++ = _c;
+        }
+    return _i;
+}
+
+
+static inline size_t fwrite(const void *_p, size_t _size, size_t _n, FILE *_stream)
+{
+    const unsigned char *_byte = _p;
+    size_t _i, _j;
+    if (!_p)
+        puts(0);
+    if (_stream != (&_cub_stdout)) {
+        _cub_other(_stream, (&_cub_stdin));
+        return 0;
+    }
+    for (_i = 0; _size && _i < _n; _i++)
+        for (_j = 0; _j < _size; _j++)
+            putchar(*_byte++);
+    return _i;
+}
+
+
+static inline int fflush(FILE *_stream)
+{
+    if (_stream && _stream != (&_cub_stdout))
+        puts(0);
+    return 0;
+}
+
+
+static inline int feof(FILE *_stream) { return _stream->_last == (-1); }
+static inline int ferror(FILE *_stream) { return _stream->_wrong; }
+
+static inline void clearerr(FILE *_stream)
+{
+    _stream->_last = 0;
+    _stream->_wrong = 0;
+}
+# 3 "sudoku.c" 2
+# 1 "headers/string.h" 1
+
+
+
+
+
+
+void *memcpy(void *d, const void *s, size_t n);
+void *memmove(void *d, const void *s, size_t n);
+void *memset(void *d, int c, size_t n);
+int memcmp(const void *a, const void *b, size_t n);
+size_t strlen(const char *s);
+char *strcpy(char *d, const char *s);
+int strcmp(const char *a, const char *b);
+char *strchr(const char *s, int c);
+
+
+
+
+static inline char *strncpy(char *_d, const char *_s, size_t _n)
+{
+    size_t _k = 0;
+    memcmp(_d, _s, 0);
+    while (_k < _n && _s[_k])
+        _k++;
+    memcpy(_d, _s, _k < _n ? _k + 1 : _k);
+    memset(_d + _k, 0, _n - _k);
+    return _d;
+}
+
+
+static inline char *strcat(char *_d, const char *_s)
+{
+    strcpy(_d + strlen(_d), _s);
+    return _d;
+}
+
+
+static inline char *strncat(char *_d, const char *_s, size_t _n)
+{
+    char *_end = _d + strlen(_d);
+    size_t _k = 0;
+    memcmp(_s, _s, 0);
+    while (_k < _n && _s[_k])
+        _k++;
+    memcpy(_end, _s, _k < _n ? _k + 1 : _k);
+    _end[_k] = 0;
+    return _d;
+}
+
+
+static inline int strcoll(const char *_a, const char *_b) { return strcmp(_a, _b); }
+
+static inline size_t strxfrm(char *_d, const char *_s, size_t _n)
+{
+    size_t _k = strlen(_s);
+    if (_n)
+        memcpy(_d, _s, _k < _n ? _k + 1 : _n);
+    return _k;
+}
+
+
+static inline int strncmp(const char *_a, const char *_b, size_t _n)
+{
+    memcmp(_a, _b, 0);
+    while (_n && *_a == *_b && *_a)
+        _a++, _b++, _n--;
+    return _n == 0 || *_a == *_b ? 0 : (unsigned char)*_a < (unsigned char)*_b ? -1 : 1;
+}
+
+
+static inline void *memchr(const void *_s, int _c, size_t _n)
+{
+    const unsigned char *_p = _s;
+    memcmp(_s, _s, 0);
+    for (; _n; _p++, _n--)
+        if (*_p == (unsigned char)_c)
+            return (void *)_p;
+    return ((void*)0);
+}
+
+
+static inline char *strrchr(const char *_s, int _c)
+{
+    size_t _n = strlen(_s) + 1;
+    while (_n--)
+        if (_s[_n] == (char)_c)
+            return (char *)_s + _n;
+    return ((void*)0);
+}
+
+
+static inline size_t strspn(const char *_s, const char *_set)
+{
+    size_t _n = 0;
+    strlen(_s), strlen(_set);
+    while (_s[_n] && strchr(_set, _s[_n]))
+        _n++;
+    return _n;
+}
+
+
+static inline size_t strcspn(const char *_s, const char *_set)
+{
+    size_t _n = 0;
+    strlen(_s), strlen(_set);
+    while (!strchr(_set, _s[_n]))
+        _n++;
+    return _n;
+}
+
+
+static inline char *strpbrk(const char *_s, const char *_set)
+{
+    _s += strcspn(_s, _set);
+    return *_s ? (char *)_s : ((void*)0);
+}
+
+
+static inline char *strstr(const char *_s, const char *_word)
+{
+    size_t _n = strlen(_word);
+    const char *_end = _s + strlen(_s);
+    while (_s && (size_t)(_end - _s) >= _n) {
+        if (memcmp(_s, _word, _n) == 0)
+            return (char *)_s;
+        _s = strchr(_s + 1, *_word);
+    }
+    return ((void*)0);
+}
+
+
+static char *_cub_token;
+
+static inline char *strtok(char *_s, const char *_set)
+{
+    if (!_s)
+        _s = _cub_token;
+    _s += strspn(_s, _set);
+    _cub_token = _s + strcspn(_s, _set);
+    if (_s == _cub_token)
+        return ((void*)0);
+    if (*_cub_token)
+        *_cub_token++ = 0;
+    return _s;
+}
+
+
+static inline char *strerror(int _n)
+{
+    switch (_n) {
+    case 0:
+        return "Success";
+    case 33:
+        return "Numerical argument out of domain";
+    case 34:
+        return "Numerical result out of range";
+    case 84:
+        return "Invalid or incomplete multibyte or wide character";
+    default:
+        return "Unknown error";
+    }
+}
+# 4 "sudoku.c" 2
+
+static char grid[81];
+static unsigned rows[9], columns[9], boxes[9];
+static long tries;
+
+static int box(int cell) { return cell / 27 * 3 + cell % 9 / 3; }
+
+static void set(int cell, int digit)
+{
+    unsigned bit = 1u << digit;
+    grid[cell] = (char)('0' + digit);
+    rows[cell / 9] |= bit;
+    columns[cell % 9] |= bit;
+    boxes[box(cell)] |= bit;
+}
+
+static void clear(int cell)
+{
+    unsigned bit = 1u << (grid[cell] - '0');
+    grid[cell] = '.';
+    rows[cell / 9] &= ~bit;
+    columns[cell % 9] &= ~bit;
+    boxes[box(cell)] &= ~bit;
+}
+
+static int bits(unsigned set)
+{
+    int n = 0;
+    for (; set; set &= set - 1)
+        n++;
+    return n;
+}
+
+
+static int narrowest(void)
+{
+    int best = -1, fewest = 10;
+    for (int cell = 0; cell < 81 && fewest > 1; cell++) {
+        if (grid[cell] != '.')
+            continue;
+        int n = 9 - bits(rows[cell / 9] | columns[cell % 9] | boxes[box(cell)]);
+        if (n < fewest) {
+            fewest = n;
+            best = cell;
+        }
+    }
+    return best;
+}
+
+static int solve(void)
+{
+    int cell = narrowest();
+    if (cell < 0)
+        return 1;
+    unsigned taken = rows[cell / 9] | columns[cell % 9] | boxes[box(cell)];
+    for (int digit = 1; digit <= 9; digit++) {
+        if (taken & 1u << digit)
+            continue;
+        tries++;
+        set(cell, digit);
+        if (solve())
+            return 1;
+        clear(cell);
+    }
+    return 0;
+}
+
+int main(void)
+{
+    const char *puzzle = "53..7...." "6..195..." ".98....6." "8...6...3" "4..8.3..1" "7...2...6" ".6....28." "...419..5" "....8..79";
+    memset(grid, '.', sizeof grid);
+    for (int cell = 0; cell < 81; cell++)
+        if (puzzle[cell] != '.')
+            set(cell, puzzle[cell] - '0');
+    printf("%s\n", solve() ? "solved" : "no solution");
+    for (int row = 0; row < 9; row++)
+        printf("%.9s\n", grid + 9 * row);
+    printf("%ld tries\n", tries);
+    return 0;
+}
