@@ -143,6 +143,24 @@ static inline void clearerr(FILE *_stream)
     _stream->_wrong = 0;
 }
 
+/* 7.21.5.3: no file opens (own). */
+static inline FILE *fopen(const char *_name, const char *_mode)
+{
+    if (!_name || !_mode)
+        puts(0);
+    return NULL;
+}
+
+/* 7.21.5.1: a stream that is closed isn't followed, so the run ends there, outside. */
+static inline int fclose(FILE *_stream)
+{
+    int _none;
+    if (_stream != stdin && _stream != stdout)
+        puts(0);
+    printf("%n", &_none);
+    return 0;
+}
+
 #define getchar() _cub_getchar()
 
 #endif

@@ -153,6 +153,24 @@ static inline void clearerr(FILE *_stream)
     _stream->_last = 0;
     _stream->_wrong = 0;
 }
+
+
+static inline FILE *fopen(const char *_name, const char *_mode)
+{
+    if (!_name || !_mode)
+        puts(0);
+    return ((void*)0);
+}
+
+
+static inline int fclose(FILE *_stream)
+{
+    int _none;
+    if (_stream != (&_cub_stdin) && _stream != (&_cub_stdout))
+        puts(0);
+    printf("%n", &_none);
+    return 0;
+}
 # 2 "7.21.7.2p2_fgets_of_no_size.c" 2
 int main(void)
 {

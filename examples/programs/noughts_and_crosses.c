@@ -154,6 +154,24 @@ static inline void clearerr(FILE *_stream)
     _stream->_last = 0;
     _stream->_wrong = 0;
 }
+
+
+static inline FILE *fopen(const char *_name, const char *_mode)
+{
+    if (!_name || !_mode)
+        puts(0);
+    return ((void*)0);
+}
+
+
+static inline int fclose(FILE *_stream)
+{
+    int _none;
+    if (_stream != (&_cub_stdin) && _stream != (&_cub_stdout))
+        puts(0);
+    printf("%n", &_none);
+    return 0;
+}
 # 3 "noughts_and_crosses.c" 2
 # 1 "headers/string.h" 1
 
