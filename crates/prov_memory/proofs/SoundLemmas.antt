@@ -1,5 +1,6 @@
 -- What was made stays made, and a sound memory stays sound.
-use Rattle.std.proofs.Common.{◌≡◌, ℕ, zero, suc, ◌+◌, ◌≤◌, ◌<◌, ◌/◌, Bool, true, false, cond, refl, sym, ap, ◌∙◌, subst, arith, List, [], ◌∷◌, ◌++◌, length, Option, Some, None}
+use Rattle.std.proofs.Common.{◌≡◌, ℕ, zero, suc, ◌+◌, ◌≤◌, ◌<◌, ◌/◌, Bool, true, false, cond, refl, sym, ap, ◌∙◌, subst, arith, List, []}
+use Rattle.std.proofs.Common.{◌∷◌, ◌++◌, length, Option, Some, None}
 use Rattle.std.specs.Prelude.{is_some, option_map, slice_get, slice_index_or, IfSome, IfOk, OnOk, Result, Ok, Err}
 use Rattle.std.specs.Bool.{OnTrue, OnFalse}
 use Rattle.std.proofs.lemmas.List.{length-append}
@@ -23,7 +24,7 @@ use Rattle.prov_memory.specs.declared.cell.State.TheVariants as states
 use Rattle.prov_memory.specs.Pieces.{piece_cells}
 use Rattle.mem_spec.specs.Acts.{same_prov, origin_in, pointer_if, pointer_in, are_pieces}
 use Rattle.prov_memory.specs.Cells.{prov_numbered, byte_in_state, cell_at}
-use Rattle.prov_memory.specs.Held.{Held, IsWritten, held_of, changed, uncovered, holding}
+use Rattle.prov_memory.specs.Held.{Held, held_of, changed, uncovered, holding}
 use Rattle.prov_memory.specs.Memory.{Kept, empty, AreKnown, CellsKnown, ObjectsKnown, uncovered_each, newborn, IsBorn}
 use Rattle.prov_memory.specs.Made.{IsMade, AreNamed, EachNamed, HasMore, Extends}
 use Rattle.prov_memory.specs.Access.{IsReached, bytes_in}
@@ -34,7 +35,7 @@ use Rattle.prov_memory.proofs.PieceLemmas.{named_changed, named_uncovered, named
 use Rattle.prov_memory.proofs.StoreLemmas.{part_kept}
 use Rattle.prov_memory.proofs.SettleLemmas.{stays_made}
 use Rattle.prov_memory.proofs.ActLemmas.{born_known, known_uncovered, objects_more, known_at}
-use Rattle.prov_memory.proofs.WriteLemmas.{held_known, written_known, holding_known}
+use Rattle.prov_memory.proofs.WriteLemmas.{held_known}
 
 -- what was made stays so
 abbrev pub StayMade : Kept → Kept → Type 0
@@ -326,34 +327,3 @@ no_prov rows mode (suc n) = tt
 
 pub empty_sound : (rows : List Row) (mode : Option Mode) → IsSound (empty rows mode)
 empty_sound rows mode = record { known = tt; named = tt; made = no_prov rows mode }
-
--- ---- copies
--- there is an object at the place
-pub there_is : (o : Option Held) → is_some o ≡ true → (h : Held) × (o ≡ Some h)
-there_is None e = absurd (clash e)
-  where
-    clash : false ≡ true → ⊥
-    clash f = cc
-there_is (Some h) e = (h, refl)
-
-pub some_of : (o : Option Found) (x : Found) (P : Found → Type 0) → o ≡ Some x → IfSome o P → P x
-some_of o x P e h = some_is (subst (λ (q : Option Found). IfSome q P) e h)
-  where
-    some_is : IfSome (Some x) P → P x
-    some_is p = p
-
--- what a write leaves of an object of the memory
-abbrev pub Puts : Kept → Kept → Held → ℕ → Via → List Cell → Type 0
-Puts mid new h from via cs = (g : Held) × (new ≡ record mid { objects = changed (holding g.cells) h.name mid.objects }) × IsWritten h g from via cs
-
-pub copied_made : (old mid new : Kept) (h : Held) (from : ℕ) (via : Via) (cs : List Cell) → record mid { types = [] } ≡ record old { types = [] } → Puts mid new h from via cs → StayMade old new
-copied_made old mid new h from via cs types put p made =
-    stored_made mid mid new new put.0 h.name refl put.1 refl (λ e. refl) p (typed_made old mid types p made)
-
-pub copied_sound : (old mid new : Kept) (h : Held) (at from : ℕ) (via : Via) (cs : List Cell) → slice_get mid.objects at ≡ Some h → record mid { types = [] } ≡ record old { types = [] } → Puts mid new h from via cs → (AreKnown old → CellsKnown (length old.origins) cs) → IsSound old → IsSound new
-copied_sound old mid new h at from via cs there types put cells s =
-    let n = length mid.origins in
-    let t = typed_sound old mid types s in
-    let fresh_known : CellsKnown n cs = subst (λ (m : Kept). CellsKnown (length m.origins) cs) (sym types) (cells s.known) in
-    let known : AreKnown new = subst (λ (m : Kept). AreKnown m) (sym put.1) (holding_known n put.0.cells h.name mid.objects (written_known n h put.0 from via cs put.2 (held_known n mid.objects at h there t.known) fresh_known) t.known) in
-    stored_sound mid mid new new put.0 h.name refl put.1 refl (λ e. refl) known t

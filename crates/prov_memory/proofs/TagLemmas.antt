@@ -1,11 +1,12 @@
 -- The tags of bytes by the types that a memory names by number.
-use Rattle.std.proofs.Common.{◌≡◌, ℕ, zero, suc, ◌+◌, ◌-◌, ◌<◌, ◌≤◌, Bool, true, false, cond, refl, sym, ap, ap₂, ◌∙◌, subst, arith, append_assoc, length-append, List, [], ◌∷◌, ◌++◌, length, map, drop, get_or, slice_get, Option, Some, None}
+use Rattle.std.proofs.Common.{◌≡◌, ℕ, zero, suc, ◌+◌, ◌-◌, ◌<◌, ◌≤◌, Bool, true, false, cond, refl, sym, ap, ap₂, ◌∙◌, subst, arith}
+use Rattle.std.proofs.Common.{append_assoc, length-append, List, [], ◌∷◌, ◌++◌, length, map, drop, get_or, slice_get, Option, Some, None}
 use Rattle.std.specs.Prelude.{Result, Ok, Err, IfOk, OnOk, nat_le, option_map, ◌==◌, ◌^◌}
 use Rattle.std.proofs.lemmas.Bool.Decides.{nat_tests}
 use Rattle.std.proofs.lemmas.List.{map-append}
 use Rattle.exposure.specs.declared.prov.Prov.{Prov}
 use Rattle.c_types.specs.declared.ty.Ty.{Ty}
-use Rattle.c_types.specs.Types.{CType, void, int, enumeration, pointer, array, struct, union, function, Params, none, more, type_of}
+use Rattle.c_types.specs.Types.{CType, type_of}
 use Rattle.c_types.specs.Shapes.{Form, form_of, forms_of, Put, put_of}
 use Rattle.c_types.specs.declared.shape.Placed.{Placed}
 use Rattle.prov_memory.specs.declared.cell.Cell.{Cell}
@@ -22,25 +23,7 @@ use Rattle.prov_memory.specs.Held.{Held, held_of}
 use Rattle.prov_memory.specs.Memory.{Kept, store_of, life_in, is_shown, tagged_in_object}
 use Rattle.prov_memory.specs.Access.{bytes_in}
 use Rattle.prov_memory.specs.Stores.{tagged_all}
-use Rattle.prov_memory.specs.Tags.{IsSame, AreSame, Spans, retagged_byte, AddsTypes, IsTagged, CellsTagged, ObjectsTagged, AreTagged, IsTaken}
-
--- ---- one type
-mutual
-  pub same_is : (a b : CType) → IsSame a b → a ≡ b
-  same_is void void h = refl
-  same_is (int j) (int k) h = ap int h
-  same_is (enumeration m) (enumeration n) h = ap enumeration h
-  same_is (pointer c a) (pointer d b) h = ap₂ pointer h.0 (same_is a b h.1)
-  same_is (array c a m) (array d b n) h = ap₂ (λ x y. array x y m) h.0.0 (same_is a b h.0.1) ∙ ap (array d b) h.1
-  same_is (struct m) (struct n) h = ap struct h
-  same_is (union m) (union n) h = ap union h
-  same_is (function r ps v) (function s qs w) h = ap₂ (λ x y. function x y v) (same_is r s h.0) (are_same_is ps qs h.1) ∙ ap (function s qs) h.2
-  same_is a b h = absurd h
-
-  are_same_is : (ps qs : Params) → AreSame ps qs → ps ≡ qs
-  are_same_is none none h = refl
-  are_same_is (more c a ps) (more d b qs) h = ap₂ (λ x y. more x y ps) h.0 (same_is a b h.1) ∙ ap (more d b) (are_same_is ps qs h.2)
-  are_same_is ps qs h = absurd h
+use Rattle.prov_memory.specs.Tags.{Spans, retagged_byte, AddsTypes, IsTagged, CellsTagged, ObjectsTagged, AreTagged, IsTaken}
 
 -- ---- types by their numbers
 mapped_at : (ts : List Ty) (k : ℕ) → slice_get (map type_of ts) k ≡ option_map type_of (slice_get ts k)
@@ -48,8 +31,8 @@ mapped_at [] k = refl
 mapped_at (t ∷ ts) zero = refl
 mapped_at (t ∷ ts) (suc k) = mapped_at ts k
 
-pub listed_at : (ts : List Ty) (k : ℕ) (t : Ty) (ty : CType) → Some t ≡ slice_get ts k → IsSame (type_of t) ty → slice_get (map type_of ts) k ≡ Some ty
-listed_at ts k t ty at same = mapped_at ts k ∙ ap (option_map type_of) (sym at) ∙ ap Some (same_is (type_of t) ty same)
+pub listed_at : (ts : List Ty) (k : ℕ) (t : Ty) (ty : CType) → Some t ≡ slice_get ts k → type_of t ≡ ty → slice_get (map type_of ts) k ≡ Some ty
+listed_at ts k t ty at same = mapped_at ts k ∙ ap (option_map type_of) (sym at) ∙ ap Some same
 
 apart : (n m : ℕ) → m < n → (n == m) ≡ false
 apart n m lt = grind (arith, nat_tests)

@@ -1,7 +1,7 @@
 -- The tags of declared types as a memory finds them (own).
 use Rattle.std.specs.Prelude.{◌≡◌, ℕ, ◌≤◌, ◌+◌, List, [], ◌∷◌, ◌++◌, length, Option, Some, None}
 use Rattle.c_types.specs.declared.ty.Ty.{Ty}
-use Rattle.c_types.specs.Types.{CType, void, int, enumeration, pointer, array, struct, union, function, Params, none, more, Qualified, Signature, type_of}
+use Rattle.c_types.specs.Types.{type_of}
 use Rattle.c_types.specs.Shapes.{Form}
 use Rattle.prov_memory.specs.declared.types.Spanned.{Spanned}
 use Rattle.prov_memory.specs.declared.types.Spanned.TheVariants as spans
@@ -13,30 +13,6 @@ use Rattle.prov_memory.specs.Held.{Held}
 use Rattle.prov_memory.specs.Memory.{Kept}
 use Rattle.prov_memory.specs.Access.{bytes_in}
 use Rattle.prov_memory.specs.Stores.{tagged_all}
-
-abbrev mutual
-  -- one type
-  pub IsSame : CType → CType → Type 0
-  IsSame void void = Unit {0}
-  IsSame (int j) (int k) = j ≡ k
-  IsSame (enumeration m) (enumeration n) = m ≡ n
-  IsSame (pointer c a) (pointer d b) = (c ≡ d) × IsSame a b
-  IsSame (array c a m) (array d b n) = ((c ≡ d) × IsSame a b) × (m ≡ n)
-  IsSame (struct m) (struct n) = m ≡ n
-  IsSame (union m) (union n) = m ≡ n
-  IsSame (function r ps v) (function s qs w) = IsSame r s × AreSame ps qs × (v ≡ w)
-  IsSame _ _ = ⊥
-
-  pub AreSame : Params → Params → Type 0
-  AreSame none none = Unit {0}
-  AreSame (more c a ps) (more d b qs) = (c ≡ d) × IsSame a b × AreSame ps qs
-  AreSame _ _ = ⊥
-
-abbrev pub Alike : Qualified → Qualified → Type 0
-Alike p q = (p.constant ≡ q.constant) × IsSame p.ty q.ty
-
-abbrev pub SameSignature : Signature → Signature → Type 0
-SameSignature f g = IsSame f.result g.result × AreSame f.params g.params × (f.variadic ≡ g.variadic)
 
 -- what was found of the scalars that span a byte
 abbrev pub Spans : Spanned → List Tag → Type 0

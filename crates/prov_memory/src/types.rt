@@ -1,91 +1,18 @@
 // The scalar types that tags name.
-ghost use Rattle.std.specs.Prelude.{◌≡◌, ℕ, ◌+◌, ◌-◌, ◌≤◌, ◌++◌, ◌↔◌, IsTrue, List, [], ◌∷◌, Some, None, map, true, slice_get, IfOk, IfSome, if◌then◌else◌, nat_le};
+ghost use Rattle.std.specs.Prelude.{◌≡◌, ℕ, ◌+◌, ◌-◌, ◌≤◌, ◌++◌, List, [], ◌∷◌, Some, None, map, true, slice_get, IfOk, IfSome, if◌then◌else◌, nat_le};
 ghost use Rattle.std.specs.Option.{option_copied};
-ghost use Rattle.c_types.specs.Types.{CType, type_of, qualified_of, signature_of, params_of, int};
+ghost use Rattle.c_types.specs.Types.{CType, type_of, int};
 ghost use Rattle.c_types.specs.Shapes.{form_of, put_of, forms_of};
 ghost use Rattle.mem_spec.specs.Agreement.{Tag, read_as_int, scalar_size, spanning, spanning_parts};
 ghost use Rattle.prov_memory.specs.Cells.{type_numbered};
-ghost use Rattle.prov_memory.specs.Tags.{IsSame, AreSame, Alike, SameSignature, Spans};
+ghost use Rattle.prov_memory.specs.Tags.{Spans};
 
 use crate::TypeId;
-use c_types::{FuncTy, IntKind, Placed, Qual, Shape, Ty};
+use c_types::{IntKind, Placed, Shape, Ty, same_type};
 use ub_base::NoMemory;
 
 /// The first number of a type that isn't an integer type.
 pub(crate) const FIRST: u32 = 13;
-
-/// Whether it is the same type, enumerations of one number among them.
-#[cycle(same)]
-pub(crate) fn is_same(a: &Ty, b: &Ty) -> bool
-    ensures { IsTrue result ↔ IsSame (type_of a.now) (type_of b.now) }
-{
-    match a {
-        Ty::Void => matches!(b, Ty::Void),
-        Ty::Int(j) => match b {
-            Ty::Int(k) => j == k,
-            _ => false,
-        },
-        Ty::Enum(m) => match b {
-            Ty::Enum(n) => m == n,
-            _ => false,
-        },
-        Ty::Pointer(x) => match b {
-            Ty::Pointer(y) => is_same_qual(x.get(), y.get()),
-            _ => false,
-        },
-        Ty::Array(x, m) => match b {
-            Ty::Array(y, n) => is_same_qual(x.get(), y.get()) && is_same_count(*m, *n),
-            _ => false,
-        },
-        Ty::Struct(m) => match b {
-            Ty::Struct(n) => m == n,
-            _ => false,
-        },
-        Ty::Union(m) => match b {
-            Ty::Union(n) => m == n,
-            _ => false,
-        },
-        Ty::Function(f) => match b {
-            Ty::Function(g) => is_same_function(f.get(), g.get()),
-            _ => false,
-        },
-    }
-}
-
-fn is_same_count(m: Option<u64>, n: Option<u64>) -> bool
-    ensures { IsTrue result ↔ (m ≡ n) }
-{
-    m == n
-}
-
-#[cycle(same)]
-fn is_same_qual(a: &Qual, b: &Qual) -> bool
-    ensures { IsTrue result ↔ Alike (qualified_of a.now) (qualified_of b.now) }
-{
-    a.constant == b.constant && is_same(&a.ty, &b.ty)
-}
-
-#[cycle(same)]
-fn is_same_function(f: &FuncTy, g: &FuncTy) -> bool
-    ensures { IsTrue result ↔ SameSignature (signature_of f.now) (signature_of g.now) }
-{
-    is_same(&f.result, &g.result)
-        && are_same(f.params.as_slice(), g.params.as_slice())
-        && f.variadic == g.variadic
-}
-
-#[cycle(same)]
-fn are_same(a: &[Qual], b: &[Qual]) -> bool
-    ensures { IsTrue result ↔ AreSame (params_of (map qualified_of a.now)) (params_of (map qualified_of b.now)) }
-{
-    let Some((x, a)) = a.split_first() else {
-        return b.is_empty();
-    };
-    let Some((y, b)) = b.split_first() else {
-        return false;
-    };
-    x.constant == y.constant && is_same(&x.ty, &y.ty) && are_same(a, b)
-}
 
 /// The number of an integer type, an enumeration read as int.
 pub(crate) fn kind_id(ty: &Ty) -> Option<TypeId>
@@ -159,7 +86,7 @@ fn is_at(types: &[Ty], at: usize, ty: &Ty) -> bool
 {
     match type_at(types, at) {
         None => false,
-        Some(known) => is_same(known, ty),
+        Some(known) => same_type(known, ty),
     }
 }
 

@@ -1,11 +1,11 @@
-// Loads, stores and copies: unwritten bytes, `_Bool`, lives, what may not be stored to, effective types, and places.
+// Loads and stores: unwritten bytes, `_Bool`, lives, what may not be stored to, effective types, and places.
 
 use crate::show::first_wrong;
 use addr_map::Mode;
 use std::test::Fail;
 
 // What a sequence shows, and its calls with what each gives.
-const SEQUENCES: [(&str, &str); 13] = [
+const SEQUENCES: [(&str, &str); 12] = [
     (
         "a declaration without initializer leaves the object unwritten",
         "create x 4 4 int = 16777232; born x
@@ -81,8 +81,8 @@ const SEQUENCES: [(&str, &str); 13] = [
         store int 2 16777232:x = 6.7.3p6
         store short 2 16777232:x = 6.5p7
         clear 4 16777232:x = 6.7.3p6
-        copy 16777232:x 16777264:h 4 = 6.7.3p6
-        copy 16777232:x 16777264:h 0 = done; alive x, alive h
+        load-block 4 4 16777264:h = done; alive h, read h 0 4
+        store-block 4 16777232:x = 6.7.3p6
         load int 16777232:x = 1; alive x, read x 0 4",
     ),
     (
@@ -91,7 +91,8 @@ const SEQUENCES: [(&str, &str); 13] = [
         initialize char 97 16777232:g = done; alive g, write g 0 1
         store char 99 16777232:g = 6.4.5p7
         clear 1 16777232:g = 6.4.5p7
-        copy 16777232:g 16777232:g 1 = 6.4.5p7
+        load-block 1 1 16777232:g = done; alive g, read g 0 1
+        store-block 1 16777232:g = 6.4.5p7
         load char 16777232:g = 97; alive g, read g 0 1",
     ),
     (
@@ -127,37 +128,24 @@ const SEQUENCES: [(&str, &str); 13] = [
         load short 16777236:h = 0; alive h, read h 4 2",
     ),
     (
-        "bytes are copied as by way of a buffer",
+        "a block is stored over the bytes that it was loaded from",
         "create h 8 16 allocated = 16777232; born h
         store uchar 1 16777232:h = done; alive h, write h 0 1
         store uchar 2 16777233:h = done; alive h, write h 1 1
         store uchar 3 16777234:h = done; alive h, write h 2 1
-        copy 16777233:h 16777232:h 4 = done; alive h, alive h, read h 0 4, write h 1 4
+        load-block 4 1 16777232:h = done; alive h, read h 0 4
+        store-block 1 16777233:h = done; alive h, write h 1 4
         load uchar 16777232:h = 1; alive h, read h 0 1
         load uchar 16777233:h = 1; alive h, read h 1 1
         load uchar 16777234:h = 2; alive h, read h 2 1
         load uchar 16777235:h = 3; alive h, read h 3 1
         load uchar 16777236:h = J.2-indeterminate
-        copy 16777232:h 16777234:h 3 = done; alive h, alive h, read h 2 3, write h 0 3
+        load-block 3 1 16777234:h = done; alive h, read h 2 3
+        store-block 1 16777232:h = done; alive h, write h 0 3
         load uchar 16777232:h = 2; alive h, read h 0 1
         load uchar 16777233:h = 3; alive h, read h 1 1
         load uchar 16777234:h = J.2-indeterminate
         load uchar 16777235:h = 3; alive h, read h 3 1",
-    ),
-    (
-        "the arguments of a copy are checked from left to right, dead objects before ranges",
-        "create h 8 16 allocated = 16777232; born h
-        create g 8 16 allocated = 16777264; born g
-        copy 16777232:h 16777232:h 0 = done; alive h, alive h
-        copy 16777240:h 16777264:g 0 = done; alive h, alive g
-        copy 16777241:h 16777264:g 0 = 7.1.4p1
-        copy 16777233:h 16777264:g 8 = 7.1.4p1
-        copy 16777232:h 0:none 0 = 7.1.4p1
-        copy 16777232:h 16777264:none 4 = 7.1.4p1
-        kill g = done; dies g
-        copy 16777232:h 16777265:g 8 = 6.2.4p2
-        copy 16777264:g 0:none 4 = 6.2.4p2
-        copy 16777241:h 16777264:g 4 = 7.1.4p1",
     ),
     (
         "objects are placed with gaps, and each counts as at least 16 bytes",

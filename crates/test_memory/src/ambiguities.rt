@@ -186,21 +186,19 @@ const SEQUENCES: [(&str, &str); 12] = [
         load int 16777216:a|b@3 = 6.2.4p2",
     ),
     (
-        "a copy settles its arguments, and no bytes leave both objects open",
+        "a load and a store of a block settle their pointers as other accesses do",
         "create a 4 4 int = 16777216; born a
         create b 4 4 int = 16777220; born b
-        create c 4 4 int = 16777224; born c
         expose a = done; expose a
         expose b = done; expose b
-        initialize int 1 16777216:a = done; alive a, write a 0 4
+        initialize int 1 16777220:b = done; alive b, write b 0 4
         cast 3 16777220 = a|b@3; lookup 16777220
-        copy 16777224:c 16777220:a|b@3 0 = done; alive c
-        copy 16777220:a|b@3 16777216:a|b@3 4 = 7.1.4p1
-        copy 16777220:a|b@3 16777216:a 4 = done; narrow @3 to b, alive b, alive a, read a 0 4, write b 0 4
-        load int 16777220:b = 1; alive b, read b 0 4
-        copy 16777216:a|b@3 16777220:b 4 = 7.1.4p1
-        copy 16777224:c 16777220:a|b@3 4 = done; alive c, narrow @3 to b, alive b, read b 0 4, write c 0 4
-        load int 16777224:c = 1; alive c, read c 0 4",
+        load-block 4 4 16777220:a|b@3 = done; narrow @3 to b, alive b, read b 0 4
+        store-block 4 16777216:a|b@3 = 6.5.6p8
+        cast 4 16777220 = a|b@4; lookup 16777220
+        store-block 4 16777216:a|b@4 = done; narrow @4 to a, alive a, write a 0 4
+        load int 16777216:a = 1; alive a, read a 0 4
+        load-block 4 4 16777220:a|b@4 = 6.5.6p8",
     ),
 ];
 

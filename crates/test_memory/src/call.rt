@@ -48,8 +48,6 @@ pub enum Call {
     StoreFunction(u64, Pointer),
     /// So many zeros, as a library function writes them.
     Clear(u64, Pointer),
-    /// Target, source, count.
-    Copy(Pointer, Pointer, u64),
     /// Size and alignment of a structure or union; its bytes are kept for the three calls below.
     LoadBlock(u64, u64, Pointer),
     StoreBlock(u64, Pointer),
@@ -278,14 +276,6 @@ impl Calls {
         Ok(self.store_bytes(Via::Bytes, 1, at, &zeros))
     }
 
-    fn copy(&mut self, to: Pointer, from: Pointer, count: u64) -> Result<Outcome, NoMemory> {
-        let t = &mut self.touched;
-        match self.memory.copy(to.0, to.1, from.0, from.1, count, t) {
-            Ok(()) => Ok(Outcome::Done),
-            Err(fault) => of_fault(fault),
-        }
-    }
-
     fn load_block(&mut self, size: u64, align: u64, at: Pointer) -> Result<Outcome, NoMemory> {
         let t = &mut self.touched;
         match self.memory.load_block(size, align, at.0, at.1, t) {
@@ -370,7 +360,6 @@ impl Calls {
             Call::StorePointer(value, at) => self.store_pointer(*value, *at)?,
             Call::StoreFunction(value, at) => self.store_function(*value, *at)?,
             Call::Clear(count, at) => self.clear(*count, *at)?,
-            Call::Copy(to, from, count) => self.copy(*to, *from, *count)?,
             Call::StoreBlock(align, at) => self.store_block(*align, *at)?,
             _ => return Ok(None),
         };

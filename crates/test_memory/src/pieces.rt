@@ -1,4 +1,4 @@
-// The bytes of pointers: loaded and copied one by one, in the wrong order, half overwritten, in structures.
+// The bytes of pointers: loaded and stored one by one, in the wrong order, half overwritten, in structures.
 
 use crate::show::first_wrong;
 use addr_map::Mode;
@@ -41,26 +41,36 @@ const SEQUENCES: [(&str, &str); 11] = [
         create p 8 8 pointer = 16777224; born p
         create q 8 8 pointer = 16777232; born q
         store-pointer 16777216:x 16777224:p = done; alive p, write p 0 8
-        copy 16777239:q 16777224:p 1 = done; alive q, alive p, read p 0 1, write q 7 1
-        copy 16777238:q 16777225:p 1 = done; alive q, alive p, read p 1 1, write q 6 1
-        copy 16777237:q 16777226:p 1 = done; alive q, alive p, read p 2 1, write q 5 1
-        copy 16777236:q 16777227:p 1 = done; alive q, alive p, read p 3 1, write q 4 1
-        copy 16777235:q 16777228:p 1 = done; alive q, alive p, read p 4 1, write q 3 1
-        copy 16777234:q 16777229:p 1 = done; alive q, alive p, read p 5 1, write q 2 1
-        copy 16777233:q 16777230:p 1 = done; alive q, alive p, read p 6 1, write q 1 1
-        copy 16777232:q 16777231:p 1 = done; alive q, alive p, read p 7 1, write q 0 1
+        load-block 1 1 16777224:p = done; alive p, read p 0 1
+        store-block 1 16777239:q = done; alive q, write q 7 1
+        load-block 1 1 16777225:p = done; alive p, read p 1 1
+        store-block 1 16777238:q = done; alive q, write q 6 1
+        load-block 1 1 16777226:p = done; alive p, read p 2 1
+        store-block 1 16777237:q = done; alive q, write q 5 1
+        load-block 1 1 16777227:p = done; alive p, read p 3 1
+        store-block 1 16777236:q = done; alive q, write q 4 1
+        load-block 1 1 16777228:p = done; alive p, read p 4 1
+        store-block 1 16777235:q = done; alive q, write q 3 1
+        load-block 1 1 16777229:p = done; alive p, read p 5 1
+        store-block 1 16777234:q = done; alive q, write q 2 1
+        load-block 1 1 16777230:p = done; alive p, read p 6 1
+        store-block 1 16777233:q = done; alive q, write q 1 1
+        load-block 1 1 16777231:p = done; alive p, read p 7 1
+        store-block 1 16777232:q = done; alive q, write q 0 1
         load-pointer 3 16777232:q = 4294967296:none; alive q, read q 0 8, lookup 4294967296
         load int 4294967296:none = 6.5.3.2p4",
     ),
     (
-        "a copy keeps pieces and exposes nothing, and one piece out of place leaves a number",
+        "a block keeps pieces and exposes nothing, and one piece out of place leaves a number",
         "create x 4 4 int = 16777216; born x
         create p 8 8 pointer = 16777224; born p
         create q 8 8 pointer = 16777232; born q
         store-pointer 16777216:x 16777224:p = done; alive p, write p 0 8
-        copy 16777232:q 16777224:p 8 = done; alive q, alive p, read p 0 8, write q 0 8
+        load-block 8 1 16777224:p = done; alive p, read p 0 8
+        store-block 1 16777232:q = done; alive q, write q 0 8
         load-pointer 3 16777232:q = 16777216:x; alive q, read q 0 8, alive x
-        copy 16777232:q 16777225:p 1 = done; alive q, alive p, read p 1 1, write q 0 1
+        load-block 1 1 16777225:p = done; alive p, read p 1 1
+        store-block 1 16777232:q = done; alive q, write q 0 1
         load-pointer 4 16777232:q = 16777216:none; alive q, read q 0 8, lookup 16777216
         expose x = done; expose x
         load-pointer 5 16777232:q = 16777216:x; alive q, read q 0 8, lookup 16777216",
@@ -85,7 +95,8 @@ const SEQUENCES: [(&str, &str); 11] = [
         create q 8 8 pointer = 16777232; born q
         store-pointer 16777220:a 16777224:p = done; alive p, write p 0 8
         store-pointer 16777220:b 16777232:q = done; alive q, write q 0 8
-        copy 16777236:q 16777228:p 4 = done; alive q, alive p, read p 4 4, write q 4 4
+        load-block 4 1 16777228:p = done; alive p, read p 4 4
+        store-block 1 16777236:q = done; alive q, write q 4 4
         load-pointer 3 16777232:q = 16777220:none; alive q, read q 0 8, lookup 16777220
         load uchar 16777232:q = 4; alive q, read q 0 1, expose b
         load-pointer 4 16777232:q = 16777220:b; alive q, read q 0 8, lookup 16777220
@@ -180,13 +191,16 @@ const SEQUENCES: [(&str, &str); 11] = [
         "create x 4 4 int = 16777216; born x
         create h 8 16 allocated = 16777232; born h
         initialize int 5 16777216:x = done; alive x, write x 0 4
-        copy 16777232:h 16777216:x 4 = done; alive h, alive x, read x 0 4, write h 0 4
+        load-block 4 1 16777216:x = done; alive x, read x 0 4
+        store-block 1 16777232:h = done; alive h, write h 0 4
         load short 16777232:h = 6.5p7
         load int 16777232:h = 5; alive h, read h 0 4
-        copy 16777236:h 16777234:h 2 = done; alive h, alive h, read h 2 2, write h 4 2
+        load-block 2 1 16777234:h = done; alive h, read h 2 2
+        store-block 1 16777236:h = done; alive h, write h 4 2
         load int 16777236:h = 6.5p7
         load uchar 16777236:h = 0; alive h, read h 4 1
-        copy 16777236:h 16777232:h 4 = done; alive h, alive h, read h 0 4, write h 4 4
+        load-block 4 1 16777232:h = done; alive h, read h 0 4
+        store-block 1 16777236:h = done; alive h, write h 4 4
         load int 16777236:h = 5; alive h, read h 4 4",
     ),
 ];

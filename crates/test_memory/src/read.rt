@@ -156,9 +156,6 @@ fn of_store(word: &str, a: &str, b: &str, c: &str) -> Option<Call> {
     if word == "clear" {
         return Some(Call::Clear(number(a)?, pointer(b)?));
     }
-    if word == "copy" {
-        return Some(Call::Copy(pointer(a)?, pointer(b)?, number(c)?));
-    }
     if word == "store-block" {
         return Some(Call::StoreBlock(number(a)?, pointer(b)?));
     }

@@ -1,7 +1,7 @@
 // Pointer arithmetic, comparison and casts.
 ghost use Rattle.std.specs.Ordering.{nat_cmp};
 ghost use Rattle.ub_base.specs.Names.{same_object};
-ghost use Rattle.std.specs.Prelude.{◌≡◌, ◌++◌, ◌∷◌, ◌<◌, ◌/◌, ◌+ℤ◌, ◌-ℤ◌, [], pos, true, if◌then◌else◌, IfOk, IfSome, is_some, slice_get, OnOk, OnErr, length};
+ghost use Rattle.std.specs.Prelude.{◌≡◌, ◌++◌, ◌∷◌, ◌<◌, ◌/◌, ◌+ℤ◌, ◌-ℤ◌, [], pos, true, if◌then◌else◌, IfOk, OnOk, OnErr, length};
 ghost use Rattle.addr_map.specs.Rows.{row_of};
 ghost use Rattle.exposure.specs.declared.prov.Prov.TheVariants.{Either};
 ghost use Rattle.prov_memory.specs.Sound.{AllMade, IsSound};
@@ -11,12 +11,10 @@ ghost use Rattle.mem_spec.specs.Acts.{in_bounds, candidates, in_common, is_among
 ghost use Rattle.mem_spec.specs.Script.{run, Done};
 ghost use Rattle.mem_spec.specs.Store.{findable, can_find};
 ghost use Rattle.mem_spec.specs.Streams.{Io};
-ghost use Rattle.prov_memory.specs.Held.{FallsIn};
 ghost use Rattle.prov_memory.specs.Memory.{Kept, store_of, act_of, AreKnown};
 ghost use Rattle.prov_memory.specs.Made.{IsAddress, IsMade, AreCreated, HasMore, look_up_items, CanSettle, settling_by, settling_to, shift_settling, settling_items, after_settling, address_result};
 ghost use Rattle.prov_memory.specs.Comparing.{settling_of, both_settlings, common_settling, common_in, done_result};
 
-use super::access::Accessed;
 use super::*;
 use crate::object::is_within;
 use addr_map::Row;
@@ -326,76 +324,6 @@ impl Memory {
         self.origins.add_ambiguity(id, past, start)?;
         self.narrowed.make(id)
     }
-
-    /// A pointer argument of a library function that reads or writes `len` bytes (7.1.4p1), settled as by an access, or for no
-    /// bytes as by arithmetic. None where no bytes leave an ambiguity open. Nothing is changed; `pending` is what an earlier argument will settle.
-    pub(super) fn argument(
-        &mut self,
-        addr: u64,
-        prov: Prov,
-        len: u64,
-        pending: Option<(Event, ObjName)>,
-        t: &mut Touched,
-    ) -> Result<Option<Accessed>, Clause>
-        ensures same { self.new ≡ self.old }
-        ensures range { IfOk result (λ found. IfSome found (λ place. FallsIn self.old.objects place.object place.from len)) }
-        ensures there { IfOk result (λ found. IfSome found (λ place. is_some (slice_get self.old.objects place.object) ≡ true)) }
-    {
-        if addr == 0 {
-            return Err(Clause::LibraryArgument);
-        }
-        let (name, settles) = match self.argument_object(addr, prov, len)? {
-            None => return Ok(None),
-            Some(found) => found,
-        };
-        if differ(pending, settles) {
-            return Err(Clause::LibraryArgument);
-        }
-        if let Some((id, keep)) = settles {
-            t.note(Item::Narrow { id, keep });
-        }
-        t.note(Item::Alive(name));
-        let Some(at) = self.find(name) else {
-            return Err(Clause::DeadObject);
-        };
-        let Some(object) = self.objects.get(at) else {
-            return Err(Clause::DeadObject);
-        };
-        if !object.state.live {
-            return Err(Clause::DeadObject);
-        }
-        if !object.has_range(addr, len) {
-            return Err(Clause::LibraryArgument);
-        }
-        Ok(Some(Accessed {
-            object: at,
-            name,
-            from: addr.saturating_sub(object.base),
-            settles,
-        }))
-    }
-
-    fn argument_object(
-        &self,
-        addr: u64,
-        prov: Prov,
-        len: u64,
-    ) -> Result<Option<(ObjName, Option<(Event, ObjName)>)>, Clause> {
-        let clause = Clause::LibraryArgument;
-        match prov {
-            Prov::Empty => Err(clause),
-            Prov::Whole(name) => Ok(Some((name, None))),
-            Prov::Either { id, past, start } => {
-                let here = self.has_range(past, addr, len);
-                let there = self.has_range(start, addr, len);
-                let settles = self.settled_by(here, there, id, past, start, clause)?;
-                match settles {
-                    None => Ok(None),
-                    Some((_, keep)) => Ok(Some((keep, settles))),
-                }
-            }
-        }
-    }
 }
 
 // The objects that both may have been made from.
@@ -455,14 +383,6 @@ fn is_multiple(size: u64, a: u64, b: u64) -> bool
     ensures some { result ≡ true → 0 < size }
 {
     size != 0 && a % size == b % size
-}
-
-// Whether one ambiguity is settled to two objects.
-fn differ(a: Option<(Event, ObjName)>, b: Option<(Event, ObjName)>) -> bool {
-    match (a, b) {
-        (Some((id, keep)), Some((other_id, other_keep))) => id == other_id && keep != other_keep,
-        _ => false,
-    }
 }
 
 // Whether the address lies in the place of an object that isn't created yet, or one past it, once it has moved.

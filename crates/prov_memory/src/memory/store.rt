@@ -1,5 +1,5 @@
 // Stores.
-ghost use Rattle.std.specs.Prelude.{◌≡◌, ℕ, ◌<◌, ◌+◌, ◌++◌, ◌∷◌, [], Some, length, slice_get, OnOk, OnErr, IfErr, IfSome, is_some, true, option_map};
+ghost use Rattle.std.specs.Prelude.{◌≡◌, ℕ, ◌<◌, ◌+◌, ◌++◌, ◌∷◌, [], Some, length, slice_get, OnOk, OnErr, IfErr, option_map};
 ghost use Rattle.std.specs.Option.{option_copied};
 ghost use Rattle.ub_base.specs.declared.names.Item.TheVariants.{Write};
 ghost use Rattle.c_types.specs.Types.{CType};
@@ -18,7 +18,6 @@ ghost use Rattle.mem_spec.specs.Bytes.{low_bits, number_bytes, pointer_bytes};
 ghost use Rattle.prov_memory.specs.Stores.{Sees, IsShort, IsTypeOf, tagged_all, checked_store, writable};
 
 use super::access::Accessed;
-use super::load::note_read;
 use super::*;
 use crate::cell::{low_bits, number_cells, pointer_cells};
 use crate::{Block, MemFault, Via};
@@ -184,74 +183,6 @@ impl Memory {
             len: cells.len() as u64,
         });
     }
-
-    /// Copies bytes as by way of a buffer, with their pieces and tags: what `memmove` does once its arguments are checked as
-    /// those of a library function are (7.1.4p1).
-    pub fn copy(
-        &mut self,
-        to: u64,
-        to_prov: Prov,
-        from: u64,
-        from_prov: Prov,
-        len: u64,
-        t: &mut Touched,
-    ) -> Result<(), MemFault>
-        ensures made { (p : Prov) → IsMade self.old p → IsMade self.new p }
-        ensures sound { IsSound self.old → IsSound self.new }
-    {
-        t.clear();
-        let target = self.argument(to, to_prov, len, None, t)?;
-        let source = self.argument(from, from_prov, len, settled_at(target), t)?;
-        self.copy_found(target, source, len, t)?;
-        self.settle_argument(target);
-        self.settle_argument(source);
-        Ok(())
-    }
-
-    // Copies bytes from where one argument falls to where the other does.
-    fn copy_found(
-        &mut self,
-        target: Option<Accessed>,
-        source: Option<Accessed>,
-        len: u64,
-        t: &mut Touched,
-    ) -> Result<(), MemFault>
-        requires range { IfSome target (λ place. FallsIn self.old.objects place.object place.from len) }
-        requires there { IfSome target (λ place. is_some (slice_get self.old.objects place.object) ≡ true) }
-        requires source { IfSome source (λ place. is_some (slice_get self.old.objects place.object) ≡ true) }
-        ensures made { (p : Prov) → IsMade self.old p → IsMade self.new p }
-        ensures sound { IsSound self.old → IsSound self.new }
-    {
-        let (Some(target), Some(source)) = (target, source) else {
-            return Ok(());
-        };
-        if len == 0 {
-            return Ok(());
-        }
-        self.check_target(target)?;
-        let cells = self.cells_of(source.object, source.from, len)?;
-        note_read(source, len, t);
-        self.write(target, Via::Whole, cells.as_slice(), t);
-        Ok(())
-    }
-
-    // Whether what a copy writes to may be stored to.
-    fn check_target(&self, target: Accessed) -> Result<(), Clause> {
-        match self.objects.get(target.object) {
-            None => Ok(()),
-            Some(object) => check_writable(object, false),
-        }
-    }
-
-    /// Settles what an argument settles.
-    fn settle_argument(&mut self, found: Option<Accessed>)
-        ensures made { (p : Prov) → IsMade self.old p → IsMade self.new p }
-        ensures sound { IsSound self.old → IsSound self.new }
-    {
-        if let Some(found) = found {
-            self.settle(found.settles);
-        }
-    }
 }
 
 /// Whether the object may be stored to.
@@ -268,9 +199,4 @@ fn check_writable(object: &Object, first: bool) -> Result<(), Clause>
         return Err(Clause::StoreToConst);
     }
     Ok(())
-}
-
-// What an argument settles.
-fn settled_at(found: Option<Accessed>) -> Option<(Event, ObjName)> {
-    found?.settles
 }
