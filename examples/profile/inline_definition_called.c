@@ -1,0 +1,2 @@
+inline int three(void){return 3;}
+int main(void){return three();}

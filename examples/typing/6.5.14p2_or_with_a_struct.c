@@ -1,0 +1,2 @@
+struct S{int a;};int main(void){struct S s={1};
+return 0||s;}

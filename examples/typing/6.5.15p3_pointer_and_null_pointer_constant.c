@@ -1,0 +1,1 @@
+int main(void){int a=7;int*p=&a;return *(a?p:0);}

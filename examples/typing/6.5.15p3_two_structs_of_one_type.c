@@ -1,0 +1,1 @@
+struct S{int a;};int main(void){struct S s={1},t={2};return (s.a?t:s).a;}

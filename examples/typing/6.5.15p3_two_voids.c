@@ -1,0 +1,1 @@
+void f(void){}int main(void){int a=1;a?f():(void)a;return a;}

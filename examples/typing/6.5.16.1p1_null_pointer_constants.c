@@ -1,0 +1,1 @@
+enum{Z};int main(void){int*p;p=0;p=(void*)0;p=Z;p='\0';p=1-1;p=(char)0;return p==0;}

@@ -1,0 +1,1 @@
+int main(void){int a=0;_Bool b;b=&a;return b;}

@@ -1,0 +1,3 @@
+int main(void){int z=0;int*p;
+p=z;
+return p==0;}

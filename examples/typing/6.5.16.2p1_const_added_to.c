@@ -1,0 +1,3 @@
+int main(void){const int a=1;
+a+=1;
+return a;}

@@ -1,0 +1,3 @@
+struct S{int a;};int main(void){struct S s={1};
+--s;
+return s.a;}

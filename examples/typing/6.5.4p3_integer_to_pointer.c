@@ -1,0 +1,1 @@
+int main(void){long a=4;int*p=(int*)a;return p==0;}

@@ -1,0 +1,2 @@
+int x;enum{A=
+(x=1)};int main(void){return A;}

@@ -1,0 +1,1 @@
+int f(void);int a[sizeof f()];int main(void){return sizeof a/sizeof*a;}

@@ -1,0 +1,1 @@
+int x=3;enum{A=sizeof(x++)};int main(void){return A+x;}

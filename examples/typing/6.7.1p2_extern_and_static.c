@@ -1,0 +1,2 @@
+
+extern static int a;int main(void){return 0;}

@@ -1,0 +1,2 @@
+
+typedef static int T;int main(void){return 0;}

@@ -1,0 +1,2 @@
+enum{A=
+(int*)0};int main(void){return 0;}

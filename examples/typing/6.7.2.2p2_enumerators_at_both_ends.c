@@ -1,0 +1,1 @@
+enum{A=-2147483647-1,B=2147483647};int main(void){return A<B;}

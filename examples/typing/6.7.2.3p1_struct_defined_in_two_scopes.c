@@ -1,0 +1,1 @@
+struct S{int a;};int main(void){struct S{int a,b;};return sizeof(struct S)/4;}

@@ -1,0 +1,2 @@
+int f(
+extern int a);int main(void){return 0;}

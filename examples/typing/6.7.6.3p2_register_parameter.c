@@ -1,0 +1,1 @@
+int f(register int a){return a;}int main(void){return f(3);}

@@ -1,0 +1,1 @@
+int main(void){_Bool b=1;switch(b){case 0:return 2;case 1:return 3;}return 4;}

@@ -1,0 +1,2 @@
+struct S{int a;};int main(void){struct S s={0};switch(
+s){default:return 1;}}

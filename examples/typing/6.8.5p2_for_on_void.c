@@ -1,0 +1,2 @@
+void f(void){}int main(void){for(;
+f();)return 1;return 0;}

@@ -1,0 +1,1 @@
+int main(void){int i=0;while(i<3)switch(i++){default:continue;}return i;}

@@ -1,0 +1,2 @@
+
+auto int f(void){return 0;}int main(void){return 0;}
