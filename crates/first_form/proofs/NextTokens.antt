@@ -69,7 +69,8 @@ same_next {at = at} {line = line} {rest = rest} {t = t} {u = u} n m =
     let after : n.after ≡ m.after =
     sym (drop_at n.spelling n.after _ refl) ∙ ap (drop (length n.spelling)) fronts ∙ drop_at m.spelling m.after _ (sym lens) in
     let blanks : n.blank ≡ m.blank =
-    sym (take_at n.blank (n.spelling ++ n.after) _ refl) ∙ ap (take (length n.blank)) (sym n.text ∙ m.text) ∙ take_at m.blank (m.spelling ++ m.after) _ (b.blank ∙ sym a.blank) in
+    sym (take_at n.blank (n.spelling ++ n.after) _ refl) ∙ ap (take (length n.blank)) (sym n.text ∙ m.text)
+    ∙ take_at m.blank (m.spelling ++ m.after) _ (b.blank ∙ sym a.blank) in
     let kind : t.kind ≡ u.kind = kinds_agree t.kind u.kind m.spelling (subst (IsSpelling t.kind) spelled n.lexeme.spelled) m.lexeme.spelled in
     let start : t.start ≡ u.start = n.start ∙ ap (λ xs. at + length xs) blanks ∙ sym m.start in
     let end : t.end ≡ u.end = n.end ∙ ap (λ k. t.start + k) lens ∙ ap (λ k. k + length m.spelling) start ∙ sym m.end in

@@ -1,5 +1,6 @@
 -- The tokens so far, and those of what is left.
-use Rattle.std.proofs.Common.{◌≡◌, ℕ, ◌+◌, ◌-◌, ◌≤◌, true, List, [], ◌∷◌, ◌++◌, length, take, drop, refl, ap, sym, subst, ◌∙◌, arith, append_assoc, length-drop, Some, None, Ok, Err, Option, Result}
+use Rattle.std.proofs.Common.{◌≡◌, ℕ, ◌+◌, ◌-◌, ◌≤◌, true, List, [], ◌∷◌, ◌++◌, length, take, drop, refl, ap, sym, subst, ◌∙◌, arith}
+use Rattle.std.proofs.Common.{append_assoc, length-drop, Some, None, Ok, Err, Option, Result}
 use Rattle.std.specs.Prelude.{◌==◌}
 use Rattle.std.specs.List.{list_all}
 use Rattle.std.proofs.lemmas.List.{append-nil, drop-drop, take_rest}
@@ -75,7 +76,8 @@ none_lexes : (at line : ℕ) (rest : List ℕ) (more : List Token) (fault : Form
 none_lexes at line rest [] fault lexes none = none.1 lexes
 none_lexes at line rest (m ∷ ms) fault lexes none = none.2 m lexes.0
 
-pub none_has_tokens : (text : List ℕ) (given : List Token) (at line : ℕ) (fault : FormFault) → SoFar text given at line → GivesNext at line (drop at text) (Err fault)
+pub none_has_tokens : (text : List ℕ) (given : List Token) (at line : ℕ) (fault : FormFault) → SoFar text given at line
+    → GivesNext at line (drop at text) (Err fault)
     → (tokens : List Token) → Lexes text tokens → ⊥
 none_has_tokens text given at line fault so_far none tokens lexes =
     let old = so_far.only tokens lexes in none_lexes at line (drop at text) old.0 fault old.2 none

@@ -63,5 +63,6 @@ unit_unique text tokens u v a b =
     let op = op_unique (kinds tokens) (op_of u.rest) (op_of v.rest) a.order b.order in
     unit_ext u v (a.line ∙ ap (λ (t : Token). t.line) left.1 ∙ sym b.line) left.0 (rest_unique text tokens u.rest v.rest op a.right b.right)
 
-pub get_there : (tokens : List Token) (place : ℕ) (token : Token) → place < length tokens → token ≡ get_or tokens place token → slice_get tokens place ≡ Some token
+pub get_there : (tokens : List Token) (place : ℕ) (token : Token) → place < length tokens → token ≡ get_or tokens place token
+    → slice_get tokens place ≡ Some token
 get_there tokens place token within is = slice_get_read tokens (length tokens) place token refl within is

@@ -43,7 +43,8 @@ digits_shape : (text : List ℕ) → all_ascii_digits text ≡ true → 0 < leng
 digits_shape [] all some = absurd (omega arith)
 digits_shape (d ∷ ds) all some =
     let parts = both (is_ascii_digit d) (all_ascii_digits ds) all in
-    let same : is_number_byte ≡ run_of d = ap {B = ℕ → Bool} (λ (b : Bool) (x : ℕ). if b then is_number_byte x else (if is_name_byte d then is_name_byte x else false)) (sym parts.0) in
+    let same : is_number_byte ≡ run_of d =
+    ap {B = ℕ → Bool} (λ (b : Bool) (x : ℕ). if b then is_number_byte x else (if is_name_byte d then is_name_byte x else false)) (sym parts.0) in
     record { first = d; tail = ds; is = refl; black = digit_is_black d parts.0; run = ap (λ p. list_all p ds) (sym same) ∙ digits_run ds parts.1; same = same }
 
 read_on : ℕ → List ℕ → ℕ

@@ -1,5 +1,6 @@
 -- The tokens of a text of the first form (6.4).
-use Rattle.std.specs.Prelude.{◌≡◌, ◌≢◌, ℕ, ◌+◌, ◌≤◌, Bool, true, false, List, [], ◌∷◌, ◌++◌, length, codes, decimal, count_by, ◌==◌, ◌-◌, ◌<◌, drop, Option, Some, None, Result, Ok, Err}
+use Rattle.std.specs.Prelude.{◌≡◌, ◌≢◌, ℕ, ◌+◌, ◌≤◌, Bool, true, false, List, [], ◌∷◌, ◌++◌, length, codes, decimal, count_by, ◌==◌, ◌-◌}
+use Rattle.std.specs.Prelude.{◌<◌, drop, Option, Some, None, Result, Ok, Err}
 use Rattle.std.specs.List.{list_all}
 use Rattle.first_form.specs.Bytes.{is_white, is_name_byte, is_number_byte, begins}
 use Rattle.first_form.specs.declared.token.Token.{Token}
@@ -79,7 +80,8 @@ Lexes text tokens = LexesFrom 0 1 text tokens
 -- what the next token of what is left is: none at the end, or this one, or none that the first form has
 abbrev pub GivesNext : ℕ → ℕ → List ℕ → Result (Option Token) FormFault → Type 0
 GivesNext at line rest (Ok None) = list_all is_white rest ≡ true
-GivesNext at line rest (Ok (Some token)) = (next : IsNext at line rest token) × (next.after ≡ drop (token.end - at) rest) × (at < token.end) × (token.end ≤ at + length rest)
+GivesNext at line rest (Ok (Some token)) =
+    (next : IsNext at line rest token) × (next.after ≡ drop (token.end - at) rest) × (at < token.end) × (token.end ≤ at + length rest)
 GivesNext at line rest (Err fault) = (fault ≡ NotFirstForm) × (list_all is_white rest ≢ true) × ((token : Token) → IsNext at line rest token → ⊥)
 
 -- these tokens are given, unless memory ran out

@@ -5,7 +5,8 @@ use Rattle.first_form.proofs.lexer.lex.Goals as goal
 pub returns-in_err-token-clause-only : goal.returns-in_err-token-clause-only
 returns-in_err-token-clause-only c = λ tokens lexes.
     let none = read_at c.args.src.now c.loop-list.at c.loop-list.line {r = Err c.in_err-token.field-0.0} refl c.in_err-token.ensures in
-    absurd (none_has_tokens c.args.src.now c.loop-list.list.items c.loop-list.at c.loop-list.line c.in_err-token.field-0.0 c.loop-list.invariant none tokens lexes)
+    absurd (none_has_tokens c.args.src.now c.loop-list.list.items c.loop-list.at c.loop-list.line c.in_err-token.field-0.0
+    c.loop-list.invariant none tokens lexes)
 
 pub loop-list-preserved : goal.loop-list-preserved
 loop-list-preserved c =

@@ -7,7 +7,8 @@ returns-in_default c =
 
 pub returns-in_default-kind_of : goal.returns-in_default-kind_of
 returns-in_default-kind_of c =
-    let reads : Reads c.args.rest.now c.split_at.result.0.now c.split_at.result.1.now c.split_at-2.result.0.now c.in-Some.tail.now c.white_len-blank.result c.run_len-len.result c.in-Some.first.now
+    let reads : Reads c.args.rest.now c.split_at.result.0.now c.split_at.result.1.now c.split_at-2.result.0.now c.in-Some.tail.now
+    c.white_len-blank.result c.run_len-len.result c.in-Some.first.now
     = record {
       blank_is = c.white_len-blank.ensures.run;
       white_is = c.split_at.ensures.front;
@@ -20,7 +21,8 @@ returns-in_default-kind_of c =
 
 pub returns : goal.returns
 returns c =
-    let reads : Reads c.args.rest.now c.split_at.result.0.now c.split_at.result.1.now c.split_at-2.result.0.now c.in-Some.tail.now c.white_len-blank.result c.run_len-len.result c.in-Some.first.now
+    let reads : Reads c.args.rest.now c.split_at.result.0.now c.split_at.result.1.now c.split_at-2.result.0.now c.in-Some.tail.now
+    c.white_len-blank.result c.run_len-len.result c.in-Some.first.now
     = record {
       blank_is = c.white_len-blank.ensures.run;
       white_is = c.split_at.ensures.front;

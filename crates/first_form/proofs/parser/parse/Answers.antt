@@ -26,7 +26,11 @@ returns-clause-found c =
     let right = c.in-Some-number_at-2.ensures.found in
     let op = c.in-Some-op_between.ensures.found in
     subst (λ list. Spells c.args.tokens.now.text.now list
-    (record { line = c.in-Some-number_at.line; left = c.in-Some-number_at.left; rest = Some (c.in-Some-op_between.op, c.in-Some-number_at-2.right) })) c.as_slice-list.ensures.value
+    (record {
+      line = c.in-Some-number_at.line;
+      left = c.in-Some-number_at.left;
+      rest = Some (c.in-Some-op_between.op, c.in-Some-number_at-2.right);
+    })) c.as_slice-list.ensures.value
     (record { order = op; left = left.0; line = left.1; right = right.0 })
 
 pub returns-clause-only : goal.returns-clause-only

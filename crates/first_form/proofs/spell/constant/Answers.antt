@@ -14,6 +14,7 @@ pub returns-else-n-le-MAX_INT-clause-none : goal.returns-else-n-le-MAX_INT-claus
 returns-else-n-le-MAX_INT-clause-none c = λ n k.
     let same : c.in-Ok-parse.n ≡ n = constant_is_read _ _ n _ _ c.in-Ok.ensures.cases.0 c.parse.ensures.value.0 c.in-Ok-parse.is k in
     elim c.else-n-le-MAX_INT.branch [
-      | else-n-le-MAX_INT-via-then-n-le-MAX_INT+else-eq w ↦ constant_is_written _ _ n _ k same (w.as_bytes.ensures.value ∙ w.format.ensures.text) (sym w.eq.ensures ∙ w.if-eq.false)
+      | else-n-le-MAX_INT-via-then-n-le-MAX_INT+else-eq w ↦
+          constant_is_written _ _ n _ k same (w.as_bytes.ensures.value ∙ w.format.ensures.text) (sym w.eq.ensures ∙ w.if-eq.false)
       | else-n-le-MAX_INT-via-else-n-le-MAX_INT w ↦ omega (arith, k.small)
     ]
