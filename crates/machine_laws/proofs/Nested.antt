@@ -1,9 +1,11 @@
 -- An order without conflicts nests into a run, from its end backwards.
 use Rattle.std.proofs.Common.{◌≡◌, ℕ, suc, ◌+◌, Bool, true, false, ◌||◌, List, [], ◌∷◌, ◌++◌, Option, refl, sym, ap, ap₂, ◌∙◌, subst, append_assoc, arith}
 use Rattle.c_model.specs.Moves.{Start, End}
-use Rattle.c_model.specs.Machine.{Machine, FrameRun as Trace, nil, put, Evaluation as Block, act, body, value, items, its, count, picks, Does, after, Made, Calm, CalmIn, Free, Clear, ClearIn, Good, Apart, clash_one, clash_any}
+use Rattle.c_model.specs.Machine.{Machine, FrameRun as Trace, nil, put, Evaluation as Block, act, body, value, items, its, count, picks, Does, after}
+use Rattle.c_model.specs.Machine.{Made, Calm, CalmIn, Free, Clear, ClearIn, Good, Apart, clash_one, clash_any}
 use Rattle.c_model.specs.MachineLaws.{OrderLaws}
-use Rattle.machine_laws.specs.Orders.{Stopped, State as State_of, going, over, ended, added, with_pick, May, stay, enter, leave, stop, Ends, Quiet, QuietWith, HeldQuiet, NoneBeside, Alone, AllAlone}
+use Rattle.machine_laws.specs.Orders.{Stopped, State as State_of, going, over, ended, added, with_pick, May, stay, enter, leave, stop, Ends, Quiet}
+use Rattle.machine_laws.specs.Orders.{QuietWith, HeldQuiet, NoneBeside, Alone, AllAlone}
 use Rattle.machine_laws.specs.Cuts.{stops, inside, Result, gave, said, NoControl, NoneAside, Reaches, RunsTo, finishes, is_cut}
 use Rattle.machine_laws.specs.QuietOrders.{LooksAt, QuietOrder, is_over, is_ended, goes}
 use Rattle.machine_laws.proofs.Remaining as left
@@ -84,10 +86,12 @@ module _ {F P V N S I Part Seen Fact : Type 0} (machine : Machine F P V S I Part
       go true c p = record { quiet = look c; free = none_free q u t f es c; done = d }
       go false c p = record { quiet = p.quiet.1; free = one_free q u t f es p.quiet.0 p.free.1; done = d }
 
-  own_free : (u : Block P V I) (f : F) (es : List Event) (q : P) (t : Trace P V I) → Past (then_past f q (its u) es) t (next f q (value u)) → Free machine (its u) q t (next f q (value u))
+  own_free : (u : Block P V I) (f : F) (es : List Event) (q : P) (t : Trace P V I) → Past (then_past f q (its u) es) t (next f q (value u))
+      → Free machine (its u) q t (next f q (value u))
   own_free u f es q t p = go (is_control q) refl p
     where
-      go : (b : Bool) → is_control q ≡ b → Past (with_pick b (record { frame = f; pick = q; items = its u }) es) t (next f q (value u)) → Free machine (its u) q t (next f q (value u))
+      go : (b : Bool) → is_control q ≡ b → Past (with_pick b (record { frame = f; pick = q; items = its u }) es) t (next f q (value u))
+          → Free machine (its u) q t (next f q (value u))
       go true c p = control_free (its u) q t (next f q (value u)) c
       go false c p = p.free.0
 
@@ -130,7 +134,8 @@ module _ {F P V N S I Part Seen Fact : Type 0} (machine : Machine F P V S I Part
   quiet_fewer f p is a [] q = tt
   quiet_fewer f p is a (e ∷ es) (q, qs) = ((λ b. fewer e.items is a (q b)), quiet_fewer f p is a es qs)
 
-  past_fewer : (b : Bool) (f : F) (p : P) (is a : List I) (es : List Event) → Quiet machine ends (with_pick b (record { frame = f; pick = p; items = is ++ a }) es)
+  past_fewer : (b : Bool) (f : F) (p : P) (is a : List I) (es : List Event)
+      → Quiet machine ends (with_pick b (record { frame = f; pick = p; items = is ++ a }) es)
       → Quiet machine ends (with_pick b (record { frame = f; pick = p; items = is }) es)
   past_fewer true f p is a es q = tt
   past_fewer false f p is a es (q, qs) = (quiet_fewer f p is a es q, qs)
@@ -147,7 +152,8 @@ module _ {F P V N S I Part Seen Fact : Type 0} (machine : Machine F P V S I Part
     calm : CalmIn machine u f q
     clear : ClearIn machine u f q
 
-  good_front : (u : Block P V I) (f : F) (es : List Event) (q : P) (t : Trace P V I) (s s1 s2 : S) → Evaluates u f q s s1 → Past (then_past f q (its u) es) t (next f q (value u))
+  good_front : (u : Block P V I) (f : F) (es : List Event) (q : P) (t : Trace P V I) (s s1 s2 : S) → Evaluates u f q s s1
+      → Past (then_past f q (its u) es) t (next f q (value u))
       → Good machine t (next f q (value u)) s1 s2 → Good machine (put q u t) f s s2
   good_front u f es q t s s1 s2 v p g = record {
     valid = (v.is_ready, (s1, v.made, g.valid));
@@ -156,7 +162,8 @@ module _ {F P V N S I Part Seen Fact : Type 0} (machine : Machine F P V S I Part
   }
 
   -- of a frame that is cut
-  aside_front : (u : Block P V I) (f e : F) (es : List Event) (q p : P) (t : Trace P V I) → (NoControl machine ends t → NoneBeside machine ends e p (then_past f q (its u) es))
+  aside_front : (u : Block P V I) (f e : F) (es : List Event) (q p : P) (t : Trace P V I)
+      → (NoControl machine ends t → NoneBeside machine ends e p (then_past f q (its u) es))
       → NoneAside machine ends e p t → NoneAside machine ends e p (put q u t)
   aside_front u f e es q p t h n = ((λ nc. go (is_control q) refl (h nc)), n)
     where
@@ -168,15 +175,18 @@ module _ {F P V N S I Part Seen Fact : Type 0} (machine : Machine F P V S I Part
           not_beside false k = k
           not_beside true k = absurd (order_laws.control_beside e q p c k)
 
-  beside_front : (u : Block P V I) (f e : F) (es : List Event) (q p : P) (t : Trace P V I) → (NoControl machine ends t → NoneBeside machine ends e p (then_past f q (its u) es))
+  beside_front : (u : Block P V I) (f e : F) (es : List Event) (q p : P) (t : Trace P V I)
+      → (NoControl machine ends t → NoneBeside machine ends e p (then_past f q (its u) es))
       → NoControl machine ends (put q u t) → NoneBeside machine ends e p es
   beside_front u f e es q p t h (c, nc) = go (is_control q) c (h nc)
     where
-      go : (b : Bool) → b ≡ false → NoneBeside machine ends e p (with_pick b (record { frame = f; pick = q; items = its u }) es) → NoneBeside machine ends e p es
+      go : (b : Bool) → b ≡ false → NoneBeside machine ends e p (with_pick b (record { frame = f; pick = q; items = its u }) es)
+          → NoneBeside machine ends e p es
       go false c k = k.1
       go true c k = absurd (cc)
 
-  reaches_front : (u : Block P V I) (f : F) (es : List Event) (q p : P) (t : Trace P V I) (s s1 s2 : S) → Evaluates u f q s s1 → Past (then_past f q (its u) es) t (next f q (value u))
+  reaches_front : (u : Block P V I) (f : F) (es : List Event) (q p : P) (t : Trace P V I) (s s1 s2 : S) → Evaluates u f q s s1
+      → Past (then_past f q (its u) es) t (next f q (value u))
       → (NoControl machine ends t → NoneBeside machine ends (after machine t (next f q (value u))) p (then_past f q (its u) es))
       → Reaches machine ends t p (next f q (value u)) s1 s2 → Reaches machine ends (put q u t) p f s s2
   reaches_front u f es q p t s s1 s2 v past h r = record {
@@ -285,8 +295,10 @@ module _ {F P V N S I Part Seen Fact : Type 0} (machine : Machine F P V S I Part
       go false c x = x.1
 
   -- before the pick that ends a frame
-  left_frame : (f : F) (es : List Event) (hs : List Held) (s : S) (q : P) (v : V) (is : List I) (s1 : S) (l : Left P V N I) (k : ℕ) (o : Result V N) (s' : S) → May machine ends f q
-      → move f q ≡ End → Does machine f q s v is s1 → Quiet machine ends es → DonePast es f → left.below machine ends (Remains l) l (added is hs) v s1 o s' → all l ≡ k
+  left_frame : (f : F) (es : List Event) (hs : List Held) (s : S) (q : P) (v : V) (is : List I) (s1 : S) (l : Left P V N I) (k : ℕ) (o : Result V N)
+      (s' : S) → May machine ends f q
+      → move f q ≡ End → Does machine f q s v is s1 → Quiet machine ends es → DonePast es f → left.below machine ends (Remains l) l (added is hs) v s1 o s'
+      → all l ≡ k
       → Result_at (going f es hs s) (suc k) o s'
   left_frame f es hs s q v is s1 l k o s' may mv dn quiet d be e = (
     frame (record { t = nil; l = q; v = v; is = is }) l,
@@ -302,7 +314,8 @@ module _ {F P V N S I Part Seen Fact : Type 0} (machine : Machine F P V S I Part
   nested _ _ _ _ (is_ended n s) d = (none, (refl, refl, refl), refl)
   nested _ _ _ _ (goes f es hs s q _ k o s' may (stay v is s1 mv dn) look later) (d, dh) =
       let r = nested (going (next f q v) (then_past f q is es) (added is hs) s1) k o s' later (then_done f q v is es may.0 d, added_done is hs dh) in
-      let b = before (act v is) f es hs q s s1 r.0 o s' (record { is_ready = may.0; starts = may.1; made = (mv, dn); calm = tt; clear = tt }) look.control d r.1 in
+      let b = before (act v is) f es hs q s s1 r.0 o s' (record { is_ready = may.0; starts = may.1; made = (mv, dn); calm = tt; clear = tt }) look.control d
+      r.1 in
       (b.0, b.1, (let c = b.2 in let e = r.2 in omega (arith, c, e)))
   nested _ _ _ _ (goes f es hs s q _ k o s' may (enter g mv) look later) (d, dh) =
       let r = nested (going g [] (record { frame = f; pick = q; items = []; past = es } ∷ hs) s) k o s' later (tt, (d, may.0, dh)) in
@@ -333,7 +346,8 @@ module _ {F P V N S I Part Seen Fact : Type 0} (machine : Machine F P V S I Part
   runs_of f s k o s' none r e = absurd r
   runs_of f s k o s' (frame g l) (p, (s1, fin, (en, eo, es))) e =
       subst (λ z. RunsTo machine ends f s k z s') (sym eo)
-      (subst (λ z. RunsTo machine ends f s z (gave g.v) s') (let a = ap all en in omega (arith, a, e)) (subst (λ z. RunsTo machine ends f s (suc (count g.t)) (gave g.v) z) es (finishes g s1 fin)))
+      (subst (λ z. RunsTo machine ends f s z (gave g.v) s') (let a = ap all en in omega (arith, a, e))
+      (subst (λ z. RunsTo machine ends f s (suc (count g.t)) (gave g.v) z) es (finishes g s1 fin)))
   runs_of f s k o s' (cuts c) (p, aside, (n, on, at), al, hq) e =
       subst (λ z. RunsTo machine ends f s k z s') (sym on) (subst (λ z. RunsTo machine ends f s z (said n) s') e (is_cut c n s' at))
 

@@ -1,11 +1,14 @@
 -- What remains of a run, from a state inside it, and how little its conditions look at items.
 use Rattle.std.proofs.Common.{◌≡◌, ℕ, suc, ◌+◌, Bool, true, false, List, [], ◌∷◌, ◌++◌, Option}
-use Rattle.c_model.specs.Machine.{Machine, FrameRun as Trace, nil, put, Evaluation as Block, Rest, value, items, its, count, Finishes as Finishes_m, Free as Free_m}
+use Rattle.c_model.specs.Machine.{Machine, FrameRun as Trace, nil, put, Evaluation as Block, Rest, value, items, its, count, Finishes as Finishes_m}
+use Rattle.c_model.specs.Machine.{Free as Free_m}
 use Rattle.c_model.specs.MachineLaws.{StoreLaws, FrameLaws, OrderLaws, UpdateLaws}
 use Rattle.c_model.proofs.MachineRuns as runs
 use Rattle.c_model.proofs.MachineOrders as orders
 use Rattle.c_model.proofs.MachineOrders.{same, front, under, both}
-use Rattle.machine_laws.specs.Orders.{Stopped, Event as Event_of, Held as Held_of, State as State_of, going, over, ended, added, with_pick, then_past as then_past_m, QuietWith as QuietWith_m, Quiet as Quiet_m, HeldQuiet as HeldQuiet_m, NoneBeside as NoneBeside_m, AllAlone as AllAlone_m}
+use Rattle.machine_laws.specs.Orders.{Stopped, Event as Event_of, Held as Held_of, State as State_of, going, over, ended, added, with_pick}
+use Rattle.machine_laws.specs.Orders.{then_past as then_past_m, QuietWith as QuietWith_m, Quiet as Quiet_m, HeldQuiet as HeldQuiet_m}
+use Rattle.machine_laws.specs.Orders.{NoneBeside as NoneBeside_m, AllAlone as AllAlone_m}
 use Rattle.machine_laws.specs.Cuts.{Cut, stops, inside, cut_picks, Result, gave, said, NoControl as NoControl_m, CutAt as CutAt_m}
 
 -- what is left of the open frames: those that end, the top one first, and the one in which the run ends
@@ -178,7 +181,8 @@ module _ {F P V N S I Part Seen Fact : Type 0} (machine : Machine F P V S I Part
     less_held _ _ (less_frame f p is js es hs ks s l) (q, qs) =
         (less_quiet (then_past f p is es) (then_past f p js es) (less_with (machine.is_control p) f p is js es es s (same_past es)) q, less_held hs ks l qs)
 
-    pub below_less : (l : Left P V N I) (o : Result V N) (s' : S) → ((hs ks : List Held) (f : F) (es ds : List Event) (s : S) → LessHeld hs ks → LessPast es ds → Remains l ks f ds s o s' → Remains l hs f es s o s')
+    pub below_less : (l : Left P V N I) (o : Result V N) (s' : S) →
+        ((hs ks : List Held) (f : F) (es ds : List Event) (s : S) → LessHeld hs ks → LessPast es ds → Remains l ks f ds s o s' → Remains l hs f es s o s')
         → (v : V) (m : S) (hs ks : List Held) → LessHeld hs ks → below (Remains l) l ks v m o s' → below (Remains l) l hs v m o s'
     below_less l o s' again v m _ _ no_frames b = b
     below_less l o s' again v m _ _ (less_frame f p is js es hs ks s lh) b =
@@ -197,8 +201,14 @@ module _ {F P V N S I Part Seen Fact : Type 0} (machine : Machine F P V S I Part
             (added (items g.t ++ g.is) hs) (added (items g.t ++ g.is) ks) (less_added (items g.t ++ g.is) hs ks lh) be,
       ),
     )
-    less_remains (cuts c) hs ks f es ds s o s' lh lp (p, aside, at, alone, quiet) =
-        (less_past es ds (trace_of c) f lp p, (λ n. less_beside es ds (runs.after machine (trace_of c) f) (pick_of c) lp (aside n)), at, less_alone hs ks lh alone, less_held hs ks lh quiet)
+    less_remains (cuts c) hs ks f es ds s o s' lh lp (p, aside, at, alone, quiet) = (
+      less_past es ds (trace_of c) f lp p,
+      (λ n. less_beside es ds (runs.after machine (trace_of c) f) (pick_of c) lp (aside n)),
+      at,
+      less_alone hs ks lh
+          alone,
+      less_held hs ks lh quiet,
+    )
 
     pub less_of_added : (a : List I) (hs : List Held) → LessHeld hs (added a hs)
     less_of_added a [] = no_frames
@@ -214,7 +224,8 @@ module _ {F P V N S I Part Seen Fact : Type 0} (machine : Machine F P V S I Part
         parts x = λ ks k.
             let first = runs.apart_left machine x c ks k in
             let rest = s ks (runs.apart_right machine x c ks k) in
-            runs.apart_both machine (x ++ a) b ks (runs.apart_both machine x a ks first (runs.apart_left machine a b ks rest)) (runs.apart_right machine a b ks rest)
+            runs.apart_both machine (x ++ a) b ks (runs.apart_both machine x a ks first (runs.apart_left machine a b ks rest))
+            (runs.apart_right machine a b ks rest)
 
     below_quiet : (l : Left P V N I) (o : Result V N) (s' : S)
         → ((hs : List Held) (f : F) (es : List Event) (s : S) → Remains l hs f es s o s' → Quiet_m machine ends es × HeldQuiet_m machine ends hs)

@@ -38,21 +38,27 @@ module _ {F P V S I Part Seen Fact : Type 0} (m : Machine F P V S I Part Seen Fa
   module _ (fl : FrameLaws m) where
     open fl use {keeps as keeps_ready, swaps, same_does}
 
-    pub steps_swap : (f : F) (p q : P) (v w : V) (is js : List I) (s s1 s2 : S) → m.ready f p ≡ true → m.ready f q ≡ true → p ≢ q → Does m f p s v is s1 → Does m (m.next f p v) q s1 w js s2
+    pub steps_swap : (f : F) (p q : P) (v w : V) (is js : List I) (s s1 s2 : S) → m.ready f p ≡ true → m.ready f q ≡ true → p ≢ q → Does m f p s v is s1
+        → Does m (m.next f p v) q s1 w js s2
         → Apart m is js → (t : S) × Does m f q s w js t × Does m (m.next f q w) p t v is s2 × (m.next (m.next f p v) q w ≡ m.next (m.next f q w) p v)
     steps_swap f p q v w is js s s1 s2 rp rq ne a b free =
         let b' : Does m f q s1 w js s2 = sym (ap (λ h. h s1) (same_does f p q v rp rq ne)) ∙ b in
         let r = acts_swap f f p q v w is js s s1 s2 a b' free in
         (r.0, r.1, ap (λ h. h r.0) (same_does f q p w rq rp (λ e. ne (sym e))) ∙ r.2, swaps f p q v w rp rq ne)
 
-    pub evaluations_swap : (f : F) (p q : P) (b c : Evaluation P V I) (s s1 s2 : S) → m.ready f p ≡ true → m.ready f q ≡ true → p ≢ q → Made m b f p s s1 → Made m c (m.next f p (value b)) q s1 s2
-        → Apart m (its b) (its c) → (t : S) × Made m c f q s t × Made m b (m.next f q (value c)) p t s2 × (m.next (m.next f p (value b)) q (value c) ≡ m.next (m.next f q (value c)) p (value b))
+    pub evaluations_swap : (f : F) (p q : P) (b c : Evaluation P V I) (s s1 s2 : S) → m.ready f p ≡ true → m.ready f q ≡ true → p ≢ q → Made m b f p s s1
+        → Made m c (m.next f p (value b)) q s1 s2
+        → Apart m (its b) (its c) → (t : S) × Made m c f q s t × Made m b (m.next f q (value c)) p t s2
+        × (m.next (m.next f p (value b)) q (value c) ≡ m.next (m.next f q (value c)) p (value b))
     evaluations_swap f p q b c s s1 s2 rp rq ne hb hc free =
-        let r = front m sl fl (put p b nil) nil f q c s s2 (rp, (s1, hb, (keeps_ready f p q (value b) rp rq ne, (s2, hc, refl)))) rq (ne, tt) (subst (λ z. Apart m z (its c)) (sym (append-nil (its b))) free) in
+        let r = front m sl fl (put p b nil) nil f q c s s2 (rp, (s1, hb, (keeps_ready f p q (value b) rp rq ne, (s2, hc, refl)))) rq (ne, tt)
+        (subst (λ z. Apart m z (its c)) (sym (append-nil (its b))) free) in
         (r.1.0, r.1.1, subst (Made m b (m.next f q (value c)) p r.1.0) r.1.2.1.2 r.1.2.1.1, swaps f p q (value b) (value c) rp rq ne)
 
-    pub update_first : UpdateLaws m → (f : F) (p q : P) (b : Evaluation P V I) (v w : V) (is js : List I) (s s1 s2 s3 : S) → m.ready f p ≡ true → m.ready f q ≡ true → p ≢ q → m.opens f q ≡ true
-        → Made m b f p s s1 → Made m (act v is) (m.next f p (value b)) q s1 s2 → Made m (act w js) (m.next (m.next f p (value b)) q v) (m.half q) s2 s3 → Apart m (its b) is → Apart m (its b) js
+    pub update_first : UpdateLaws m → (f : F) (p q : P) (b : Evaluation P V I) (v w : V) (is js : List I) (s s1 s2 s3 : S) → m.ready f p ≡ true
+        → m.ready f q ≡ true → p ≢ q → m.opens f q ≡ true
+        → Made m b f p s s1 → Made m (act v is) (m.next f p (value b)) q s1 s2 → Made m (act w js) (m.next (m.next f p (value b)) q v) (m.half q) s2 s3
+        → Apart m (its b) is → Apart m (its b) js
         → (t1 t2 : S) × Made m (act v is) f q s t1 × Made m (act w js) (m.next f q v) (m.half q) t1 t2 × Made m b (m.next (m.next f q v) (m.half q) w) p t2 s3
         × (m.next (m.next (m.next f p (value b)) q v) (m.half q) w ≡ m.next (m.next (m.next f q v) (m.half q) w) p (value b))
         × (m.may_start f p ≡ true → m.may_start (m.next (m.next f q v) (m.half q) w) p ≡ true)

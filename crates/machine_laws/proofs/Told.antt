@@ -1,9 +1,11 @@
 -- A run without told conflicts has none for the machine, and what is quiet for the machine is so as told.
 use Rattle.std.proofs.Common.{◌≡◌, ℕ, ◌+◌, length, Bool, true, false, ◌||◌, List, [], ◌∷◌, ◌++◌, Option, Some, refl, sym, ap, ◌∙◌, subst, ◌⊎◌, inl, inr}
 use Rattle.c_model.specs.Moves.{Start, End}
-use Rattle.c_model.specs.Machine.{Machine, FrameRun as Trace, nil, put, Evaluation as Block, act, body, Rest, value, items, its, after, Valid, Made, Calm, CalmIn, Free, Clear, ClearIn, Good, Finishes, Apart, clash_one, clash_any}
+use Rattle.c_model.specs.Machine.{Machine, FrameRun as Trace, nil, put, Evaluation as Block, act, body, Rest, value, items, its, after, Valid, Made, Calm}
+use Rattle.c_model.specs.Machine.{CalmIn, Free, Clear, ClearIn, Good, Finishes, Apart, clash_one, clash_any}
 use Rattle.c_model.specs.MachineLaws.{Keeps}
-use Rattle.machine_laws.specs.Orders.{Stopped, Event, Held, State, going, over, ended, Order, here, pick, Step, stay, enter, leave, stop, Ends, QuietWith, Quiet, HeldQuiet, NoneBeside, Alone, AllAlone, then_past}
+use Rattle.machine_laws.specs.Orders.{Stopped, Event, Held, State, going, over, ended, Order, here, pick, Step, stay, enter, leave, stop, Ends, QuietWith}
+use Rattle.machine_laws.specs.Orders.{Quiet, HeldQuiet, NoneBeside, Alone, AllAlone, then_past}
 use Rattle.machine_laws.specs.Cuts.{Cut, stops, inside, Result, NoControl, NoneAside, Reaches, CutAt, RunsTo, finishes, is_cut}
 use Rattle.machine_laws.specs.EveryOrder.{EndLaws, IsFine}
 use Rattle.machine_laws.specs.ToldConflicts.{bear, telling, Tells}
@@ -25,7 +27,8 @@ or_r : (a b : Bool) → (a || b) ≡ false → b ≡ false
 or_r false b h = h
 or_r true b h = absurd (cc)
 
-module _ {F P V N S I Part Seen Fact Name : Type 0} (m : Machine F P V S I Part Seen Fact) (ends : F → P → S → Option (Stopped N S I)) (told : I → I → Bool) (bears : I → Name → Bool) (lives : Name → S → Bool) (is_backed : List I → Bool) (tells : Tells m told bears lives is_backed) where
+module _ {F P V N S I Part Seen Fact Name : Type 0} (m : Machine F P V S I Part Seen Fact) (ends : F → P → S → Option (Stopped N S I)) (told : I → I → Bool)
+    (bears : I → Name → Bool) (lives : Name → S → Bool) (is_backed : List I → Bool) (tells : Tells m told bears lives is_backed) where
   open tells use {stricter, backed_nil, backed_joined, backed_act, born_new, lives_on, apart}
 
   abbrev w : Machine F P V S I Part Seen Fact
@@ -118,8 +121,13 @@ module _ {F P V N S I Part Seen Fact Name : Type 0} (m : Machine F P V S I Part 
     as_made : (u : Block P V I) (f : F) (p : P) (s s' : S) → Made w u f p s s' → Made m u f p s s'
     as_made (act v is) f p s s' mk = mk
     as_made (body t q v is) f p s s' (g, mv, rl, ml, (s1, h, dn)) =
-        let e = same_after t g in
-        (g, mv, subst (λ x. m.ready x q ≡ true) e rl, subst (λ x. m.move x q ≡ End) e ml, (s1, as_valid t g s s1 h, subst (λ x. m.does x q s1 ≡ Some (record { value = v; items = is; store = s' })) e dn))
+        let e = same_after t g in (
+          g,
+          mv,
+          subst (λ x. m.ready x q ≡ true) e rl,
+          subst (λ x. m.move x q ≡ End) e ml,
+          (s1, as_valid t g s s1 h, subst (λ x. m.does x q s1 ≡ Some (record { value = v; items = is; store = s' })) e dn),
+        )
 
   mutual
     as_calm : (t : Trace P V I) (f : F) → Calm w t f → Calm m t f
@@ -131,7 +139,8 @@ module _ {F P V N S I Part Seen Fact Name : Type 0} (m : Machine F P V S I Part 
     as_calm_in (body t q v is) f p c = λ g mv. as_calm t g (c g mv)
 
   -- no told conflict is none for the machine
-  as_free : (is : List I) (p : P) (r : Trace P V I) (f : F) (s s' : S) → Backed is → ((x : Name) → Bears is x → Lives x s) → Valid m r f s s' → Free w is p r f → Free m is p r f
+  as_free : (is : List I) (p : P) (r : Trace P V I) (f : F) (s s' : S) → Backed is → ((x : Name) → Bears is x → Lives x s) → Valid m r f s s'
+      → Free w is p r f → Free m is p r f
   as_free is p nil f s s' bk lv h fr = tt
   as_free is p (put q b r) f s s' bk lv (rd, (s1, mk, h)) fr = λ c.
       let a = fr c in (
@@ -193,20 +202,26 @@ module _ {F P V N S I Part Seen Fact Name : Type 0} (m : Machine F P V S I Part 
 
   as_cut : (c : Cut P V N I) (f : F) (s : S) (n : N) (s' : S) → CutAt w ends c f s n s' → CutAt m ends c f s n s'
   as_cut (stops t q k is) f s n s' (s1, r, en, e) = (s1, as_reaches t q f s s1 r, subst (λ x. Ends m ends x q s1 k is s') (same_after t f) en, e)
-  as_cut (inside t q c) f s n s' (s1, r, (g, mv, at)) = (s1, as_reaches t q f s s1 r, (g, subst (λ x. m.move x q ≡ Start g) (same_after t f) mv, as_cut c g s1 n s' at))
+  as_cut (inside t q c) f s n s' (s1, r, (g, mv, at)) = (
+    s1,
+    as_reaches t q f s s1 r,
+    (g, subst (λ x. m.move x q ≡ Start g) (same_after t f) mv, as_cut c g s1 n s' at),
+  )
 
   pub as_runs : (f : F) (s : S) (k : ℕ) (o : Result V N) (s' : S) → RunsTo w ends f s k o s' → RunsTo m ends f s k o s'
   as_runs f s _ _ s' (finishes g _ fin) = finishes g s' (as_finishes g f s s' fin)
   as_runs f s _ _ s' (is_cut c n _ at) = is_cut c n s' (as_cut c f s n s' at)
 
-  as_step : (f : F) (es : List (Event F P I)) (hs : List (Held F P I)) (s : S) (q : P) (a : State F P V N S I) → Step w ends f es hs s q a → Step m ends f es hs s q a
+  as_step : (f : F) (es : List (Event F P I)) (hs : List (Held F P I)) (s : S) (q : P) (a : State F P V N S I) → Step w ends f es hs s q a
+      → Step m ends f es hs s q a
   as_step f es hs s q _ (stay v is s1 mv d) = stay v is s1 mv d
   as_step f es hs s q _ (enter g mv) = enter g mv
   as_step f es (h ∷ hs) s q _ (leave v is s1 mv d) = leave v is s1 mv d
   as_step f es [] s q _ (leave v is s1 mv d) = leave v is s1 mv d
   as_step f es hs s q _ (stop n is s1 e) = stop n is s1 e
 
-  told_step : (f : F) (es : List (Event F P I)) (hs : List (Held F P I)) (s : S) (q : P) (a : State F P V N S I) → Step m ends f es hs s q a → Step w ends f es hs s q a
+  told_step : (f : F) (es : List (Event F P I)) (hs : List (Held F P I)) (s : S) (q : P) (a : State F P V N S I) → Step m ends f es hs s q a
+      → Step w ends f es hs s q a
   told_step f es hs s q _ (stay v is s1 mv d) = stay v is s1 mv d
   told_step f es hs s q _ (enter g mv) = enter g mv
   told_step f es (h ∷ hs) s q _ (leave v is s1 mv d) = leave v is s1 mv d
@@ -220,12 +235,14 @@ module _ {F P V N S I Part Seen Fact Name : Type 0} (m : Machine F P V S I Part 
   -- and what is quiet for the machine is so as told
   one_told : (i : I) (js : List I) → clash_one m i js ≡ false → clash_one w i js ≡ false
   one_told i [] h = refl
-  one_told i (j ∷ js) h = neither (told i j) (clash_one w i js) (stricter i j (or_l (m.clash i j) (clash_one m i js) h)) (one_told i js (or_r (m.clash i j) (clash_one m i js) h))
+  one_told i (j ∷ js) h = neither (told i j) (clash_one w i js) (stricter i j (or_l (m.clash i j) (clash_one m i js) h))
+      (one_told i js (or_r (m.clash i j) (clash_one m i js) h))
 
   told_apart : (is js : List I) → Apart m is js → Apart w is js
   told_apart [] js h = refl
   told_apart (i ∷ is) js h =
-      neither (clash_one w i js) (clash_any w is js) (one_told i js (or_l (clash_one m i js) (clash_any m is js) h)) (told_apart is js (or_r (clash_one m i js) (clash_any m is js) h))
+      neither (clash_one w i js) (clash_any w is js) (one_told i js (or_l (clash_one m i js) (clash_any m is js) h))
+      (told_apart is js (or_r (clash_one m i js) (clash_any m is js) h))
 
   told_quiet_with : (e : Event F P I) (es : List (Event F P I)) → QuietWith m ends e es → QuietWith w ends e es
   told_quiet_with e [] q = tt

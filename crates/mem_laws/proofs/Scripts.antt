@@ -10,9 +10,11 @@ use Rattle.ub_base.specs.Names.{same_object}
 use Rattle.addr_map.specs.declared.map.Row.{Row}
 use Rattle.addr_map.specs.Conflict.{conflicts_with}
 use Rattle.mem_spec.specs.Store.{Store}
-use Rattle.mem_spec.specs.Script.{Touch, Ask, Get, Put, Bear, Bury, Show, Find, Settle, Take, Print, item_of, refuses, refused, answer, left, Script, Give, Raise, Finish, Exceed, Misplace, Do, Act, Done, Raised, Ended, Outside, Unplaced, touched, run}
+use Rattle.mem_spec.specs.Script.{Touch, Ask, Get, Put, Bear, Bury, Show, Find, Settle, Take, Print, item_of, refuses, refused, answer, left, Script}
+use Rattle.mem_spec.specs.Script.{Give, Raise, Finish, Exceed, Misplace, Do, Act, Done, Raised, Ended, Outside, Unplaced, touched, run}
 use Rattle.mem_laws.specs.Frame.{ActEnd, gives, finishes, acted, Diff, any_of, bears, ends_life, meddles, meddle_one, meddle}
-use Rattle.mem_laws.proofs.Touches.{diff_refl, diff_trans, diff_left, diff_right, Extra, same_answer, same_refuses, left_diff, changes, or_left, or_right, or_both, or_true', same_flip}
+use Rattle.mem_laws.proofs.Touches.{diff_refl, diff_trans, diff_left, diff_right, Extra, same_answer, same_refuses, left_diff, changes, or_left, or_right}
+use Rattle.mem_laws.proofs.Touches.{or_both, or_true', same_flip}
 
 module _ {V : Type 0} where
   -- what the first touch of an act did, and how the act ended
@@ -46,7 +48,8 @@ module _ {V : Type 0} where
   not_done Take e is s1 h = not_placed e is s1 h
   not_done (Print bs) e is s1 h = not_placed e is s1 h
 
-  pub stepped : (b : Bool) (t : Touch) (i : Item) (a : Act V) (e : ActEnd V) (is : List Item) (s1 : Store) → (if b then refused t else touched i a) ≡ acted e is s1 → Stepped b i a e is s1
+  pub stepped : (b : Bool) (t : Touch) (i : Item) (a : Act V) (e : ActEnd V) (is : List Item) (s1 : Store)
+      → (if b then refused t else touched i a) ≡ acted e is s1 → Stepped b i a e is s1
   stepped true t i a e is s1 h = absurd (not_done t e is s1 h)
   stepped false t i (Done w js s2) (gives v) is s1 h =
       let e0 : w ≡ v = cc in
@@ -69,11 +72,13 @@ module _ (map : List Row) where
   clash_of i [] h = refl
   clash_of i (j ∷ js) h = or_both _ _ (or_left _ _ (or_left _ _ h)) (clash_of i js (or_right _ _ h))
 
-  free_if : (b : Bool) (f : Item → Bool) (it i : Item) (rest : Bool) → f i ≡ b → (f i ≡ true → meddles map it i ≡ true) → meddles map it i ≡ false → rest ≡ false → b || rest ≡ false
+  free_if : (b : Bool) (f : Item → Bool) (it i : Item) (rest : Bool) → f i ≡ b → (f i ≡ true → meddles map it i ≡ true) → meddles map it i ≡ false
+      → rest ≡ false → b || rest ≡ false
   free_if false f it i rest e g h r = r
   free_if true f it i rest e g h r = absurd (true≢false (sym (g e) ∙ h))
 
-  free_of : (f : Item → Bool) (it : Item) (j : List Item) → ((i : Item) → f i ≡ true → meddles map it i ≡ true) → meddle_one map it j ≡ false → any_of f j ≡ false
+  free_of : (f : Item → Bool) (it : Item) (j : List Item) → ((i : Item) → f i ≡ true → meddles map it i ≡ true) → meddle_one map it j ≡ false
+      → any_of f j ≡ false
   free_of f it [] g h = refl
   free_of f it (i ∷ j) g h = free_if (f i) f it i (any_of f j) refl (g i) (or_left _ _ h) (free_of f it j g (or_right _ _ h))
 
@@ -104,7 +109,8 @@ module _ (map : List Row) where
     touched_acted i (gives v) is s1 = refl
     touched_acted i (finishes n) is s1 = refl
 
-    go_on : (b : Bool) (t : Touch) (i : Item) (a : Act V) (e : ActEnd V) (is : List Item) (s1 : Store) → b ≡ false → a ≡ acted e is s1 → (if b then refused t else touched i a) ≡ acted e (i ∷ is) s1
+    go_on : (b : Bool) (t : Touch) (i : Item) (a : Act V) (e : ActEnd V) (is : List Item) (s1 : Store) → b ≡ false → a ≡ acted e is s1
+        → (if b then refused t else touched i a) ≡ acted e (i ∷ is) s1
     go_on true t i a e is s1 h k = absurd (cc)
     go_on false t i a e is s1 h k = ap (touched i) k ∙ touched_acted i e is s1
 
@@ -127,11 +133,13 @@ module _ (map : List Row) where
         let e1 : item.Ending ∷ [] ≡ is = cc in
         record { same = cc; does = λ u. ap₂ (λ x y. Ended x y u) e0 e1 }
 
-    still_same : (sc : Script V) (s u s1 : Store) (e : ActEnd V) (is j : List Item) → Still sc s e is s1 → Diff j s u → (u1 : Store) × (run map sc u ≡ acted e is u1) × Diff j s1 u1
+    still_same : (sc : Script V) (s u s1 : Store) (e : ActEnd V) (is j : List Item) → Still sc s e is s1 → Diff j s u
+        → (u1 : Store) × (run map sc u ≡ acted e is u1) × Diff j s1 u1
     still_same sc s u s1 e is j st d = (u, st.does u, subst (λ z. Diff j z u) st.same d)
 
     -- an act ends in the same way with the same items, and changes the same, in a store that differs by what doesn't conflict
-    pub script_same : (sc : Script V) (s u s1 : Store) (e : ActEnd V) (is j : List Item) → run map sc s ≡ acted e is s1 → Diff j s u → meddle map is j ≡ false → (u1 : Store) × (run map sc u ≡ acted e is u1) × Diff j s1 u1
+    pub script_same : (sc : Script V) (s u s1 : Store) (e : ActEnd V) (is j : List Item) → run map sc s ≡ acted e is s1 → Diff j s u
+        → meddle map is j ≡ false → (u1 : Store) × (run map sc u ≡ acted e is u1) × Diff j s1 u1
     script_same (Give w) s u s1 e is j h d fr = still_same (Give w) s u s1 e is j (still_give w s e is s1 h) d
     script_same (Raise c) s u s1 e is j h d fr = absurd (not_acted c e is s1 h)
     script_same (Finish n) s u s1 e is j h d fr = still_same (Finish n) s u s1 e is j (still_finish n s e is s1 h) d
@@ -147,7 +155,8 @@ module _ (map : List Row) where
         let er = same_refuses map t s u j d cl ex in
         let dl = left_diff map t s u j d cl ex in
         let ih = script_same (k (answer map t s)) (left t s) (left t u) s1 e st.rest j st.done dl (or_right _ _ fr') in
-        let g = go_on (refuses t u) t (item_of t) (run map (k (answer map t u)) (left t u)) e st.rest ih.0 (sym er ∙ st.went) (subst (λ z. run map (k z) (left t u) ≡ acted e st.rest ih.0) ea ih.1) in
+        let g = go_on (refuses t u) t (item_of t) (run map (k (answer map t u)) (left t u)) e st.rest ih.0 (sym er ∙ st.went)
+        (subst (λ z. run map (k z) (left t u) ≡ acted e st.rest ih.0) ea ih.1) in
         (ih.0, subst (λ z. run map (Do t k) u ≡ acted e z ih.0) (sym st.items) g, ih.2)
 
     still_changes : (sc : Script V) (s s1 : Store) (e : ActEnd V) (is : List Item) → Still sc s e is s1 → Diff is s s1

@@ -1,5 +1,6 @@
 -- A touch gives the same in two stores that differ by what doesn't conflict with it, and changes only what its item names.
-use Rattle.std.proofs.Common.{◌≡◌, ℕ, zero, suc, ◌+◌, ◌<◌, ◌≤◌, Bool, true, false, not, ◌&&◌, ◌||◌, nat_lt, nat_le, List, [], ◌∷◌, ◌++◌, length, slice_get, Option, Some, None, is_some, if◌then◌else◌, refl, sym, ap, ◌∙◌, subst, arith, ap₂, true≢false}
+use Rattle.std.proofs.Common.{◌≡◌, ℕ, zero, suc, ◌+◌, ◌<◌, ◌≤◌, Bool, true, false, not, ◌&&◌, ◌||◌, nat_lt, nat_le, List, [], ◌∷◌, ◌++◌, length}
+use Rattle.std.proofs.Common.{slice_get, Option, Some, None, is_some, if◌then◌else◌, refl, sym, ap, ◌∙◌, subst, arith, ap₂, true≢false}
 use Rattle.std.proofs.lemmas.Bool.Decides.{nat_tests}
 use Rattle.ub_base.specs.declared.names.Event.{Event}
 use Rattle.ub_base.specs.declared.names.ObjName.{ObjName}
@@ -16,10 +17,36 @@ use Rattle.mem_spec.specs.Script.{Touch, Ask, Get, Put, Bear, Bury, Show, Find, 
 use Rattle.mem_laws.specs.Frame.{bears, ends_life, shows, writes, settles_away, takes, prints, any_of, Diff}
 
 pub diff_refl : (j : List Item) (s : Store) → Diff j s s
-diff_refl j s = record { life = λ x a b. refl; known = λ x a. refl; exposed = λ x a b. refl; bytes = λ x b a c e. refl; found = λ x a b. refl; other = λ e x a. refl; kept = λ e a. refl; input = refl; position = λ a. refl; output = λ a. refl }
+diff_refl j s = record {
+  life = λ x a b. refl;
+  known = λ x a. refl;
+  exposed = λ x a b. refl;
+  bytes = λ x b a c e. refl;
+  found = λ x a b. refl;
+  other =
+      λ e x a. refl;
+  kept = λ e a. refl;
+  input = refl;
+  position = λ a. refl;
+  output = λ a. refl;
+}
 
 pub diff_trans : (j : List Item) (s t u : Store) → Diff j s t → Diff j t u → Diff j s u
-diff_trans j s t u c d = record { life = λ x a b. c.life x a b ∙ d.life x a b; known = λ x a. c.known x a ∙ d.known x a; exposed = λ x a b. c.exposed x a b ∙ d.exposed x a b; bytes = λ x b a e f. c.bytes x b a e f ∙ d.bytes x b a e f; found = λ x a b. c.found x a b ∙ d.found x a b; other = λ e x a. c.other e x a ∙ d.other e x a; kept = λ e a. c.kept e a ∙ d.kept e a; input = c.input ∙ d.input; position = λ a. c.position a ∙ d.position a; output = λ a. c.output a ∙ d.output a }
+diff_trans j s t u c d = record {
+  life = λ x a b. c.life x a b ∙ d.life x a b;
+  known = λ x a. c.known x a ∙ d.known x a;
+  exposed = λ x a b. c.exposed x a b
+      ∙ d.exposed x a b;
+  bytes = λ x b a e f. c.bytes x b a e f ∙ d.bytes x b a e f;
+  found = λ x a b. c.found x a b
+      ∙ d.found x a b;
+  other = λ e x a. c.other e x a ∙ d.other e x a;
+  kept = λ e a. c.kept e a ∙ d.kept e a;
+  input = c.input
+      ∙ d.input;
+  position = λ a. c.position a ∙ d.position a;
+  output = λ a. c.output a ∙ d.output a;
+}
 
 pub or_left : (a b : Bool) → (a || b) ≡ false → a ≡ false
 or_left false b h = refl
@@ -50,10 +77,37 @@ any_right f [] k h = h
 any_right f (i ∷ j) k h = any_right f j k (or_right _ _ h)
 
 pub diff_left : (j k : List Item) (s u : Store) → Diff j s u → Diff (j ++ k) s u
-diff_left j k s u d = record { life = λ x a b. d.life x (any_left _ j k a) (any_left _ j k b); known = λ x a. d.known x (any_left _ j k a); exposed = λ x a b. d.exposed x (any_left _ j k a) (any_left _ j k b); bytes = λ x n a b e. d.bytes x n (any_left _ j k a) (any_left _ j k b) (any_left _ j k e); found = λ x a b. d.found x (any_left _ j k a) (any_left _ j k b); other = λ e x a. d.other e x (any_left _ j k a); kept = λ e a. d.kept e (any_left _ j k a); input = d.input; position = λ a. d.position (any_left _ j k a); output = λ a. d.output (any_left _ j k a) }
+diff_left j k s u d = record {
+  life = λ x a b. d.life x (any_left _ j k a) (any_left _ j k b);
+  known = λ x a. d.known x (any_left _ j k a);
+  exposed =
+      λ x a b. d.exposed x (any_left _ j k a) (any_left _ j k b);
+  bytes = λ x n a b e. d.bytes x n (any_left _ j k a) (any_left _ j k b) (any_left _ j k e);
+  found = λ x a b. d.found x (any_left _ j k a) (any_left _ j k b);
+  other = λ e x a. d.other e x (any_left _ j k a);
+  kept = λ e a. d.kept e
+      (any_left _ j k a);
+  input = d.input;
+  position = λ a. d.position (any_left _ j k a);
+  output = λ a. d.output (any_left _ j k a);
+}
 
 pub diff_right : (j k : List Item) (s u : Store) → Diff k s u → Diff (j ++ k) s u
-diff_right j k s u d = record { life = λ x a b. d.life x (any_right _ j k a) (any_right _ j k b); known = λ x a. d.known x (any_right _ j k a); exposed = λ x a b. d.exposed x (any_right _ j k a) (any_right _ j k b); bytes = λ x n a b e. d.bytes x n (any_right _ j k a) (any_right _ j k b) (any_right _ j k e); found = λ x a b. d.found x (any_right _ j k a) (any_right _ j k b); other = λ e x a. d.other e x (any_right _ j k a); kept = λ e a. d.kept e (any_right _ j k a); input = d.input; position = λ a. d.position (any_right _ j k a); output = λ a. d.output (any_right _ j k a) }
+diff_right j k s u d = record {
+  life = λ x a b. d.life x (any_right _ j k a) (any_right _ j k b);
+  known = λ x a. d.known x (any_right _ j k a);
+  exposed =
+      λ x a b. d.exposed x (any_right _ j k a) (any_right _ j k b);
+  bytes = λ x n a b e. d.bytes x n (any_right _ j k a) (any_right _ j k b)
+      (any_right _ j k e);
+  found = λ x a b. d.found x (any_right _ j k a) (any_right _ j k b);
+  other = λ e x a. d.other e x (any_right _ j k a);
+  kept = λ e a.
+      d.kept e (any_right _ j k a);
+  input = d.input;
+  position = λ a. d.position (any_right _ j k a);
+  output = λ a. d.output (any_right _ j k a);
+}
 
 if_same : {A : Type 0} (b : Bool) (x y : A) → b ≡ false → (if b then x else y) ≡ y
 if_same false x y h = refl
@@ -82,16 +136,19 @@ still_some : (o : Option Life) → is_some (dead o) ≡ is_some o
 still_some None = refl
 still_some (Some l) = refl
 
-settle_if : (b : Bool) (e d : Event) (x z : ObjName) (s : Store) → same_event e d ≡ b → is_other (s.kept e) x ≡ false → b && not (same_object x z) ≡ false → is_other (s.kept d) z ≡ is_other (if b then Some x else s.kept d) z
+settle_if : (b : Bool) (e d : Event) (x z : ObjName) (s : Store) → same_event e d ≡ b → is_other (s.kept e) x ≡ false → b && not (same_object x z) ≡ false
+    → is_other (s.kept d) z ≡ is_other (if b then Some x else s.kept d) z
 settle_if false e d x z s eq h k = refl
 settle_if true e d x z s eq h k =
     let xz = same_object_is x z (not_false _ k) in
     subst (λ f. is_other (s.kept f) z ≡ not (same_object x z)) (same_event_is e d eq) (subst (λ y. is_other (s.kept e) y ≡ false) xz h ∙ sym k)
 
-settle_other : (e d : Event) (x z : ObjName) (s : Store) → is_other (s.kept e) x ≡ false → any_of (λ i. settles_away i d z) (Narrow e x ∷ []) ≡ false → is_other (s.kept d) z ≡ is_other (if same_event e d then Some x else s.kept d) z
+settle_other : (e d : Event) (x z : ObjName) (s : Store) → is_other (s.kept e) x ≡ false → any_of (λ i. settles_away i d z) (Narrow e x ∷ []) ≡ false
+    → is_other (s.kept d) z ≡ is_other (if same_event e d then Some x else s.kept d) z
 settle_other e d x z s h a = settle_if (same_event e d) e d x z s refl h (or_false _ a)
 
-bear_if : (c : Bool) (x y : ObjName) (l : Life) (s : Store) → same_object x y ≡ c → is_some (s.life x) ≡ false → can_find s y ≡ (if c then false else s.exposed y) && is_live (if c then Some l else s.life y)
+bear_if : (c : Bool) (x y : ObjName) (l : Life) (s : Store) → same_object x y ≡ c → is_some (s.life x) ≡ false
+    → can_find s y ≡ (if c then false else s.exposed y) && is_live (if c then Some l else s.life y)
 bear_if true x y l s e h = and_false (s.exposed y) _ (none_live _ (subst (λ z. is_some (s.life z) ≡ false) (same_object_is x y e) h))
 bear_if false x y l s e h = refl
 
@@ -190,11 +247,13 @@ changes map (Print bs) s h = record {
 }
 
 module _ (map : List Row) where
-  any_if : (b : Bool) (f : Item → Bool) (it i : Item) (rest : Bool) → f i ≡ b → (f i ≡ true → items_conflict (stands_at map) it i ≡ true) → items_conflict (stands_at map) it i ≡ false → rest ≡ false → b || rest ≡ false
+  any_if : (b : Bool) (f : Item → Bool) (it i : Item) (rest : Bool) → f i ≡ b → (f i ≡ true → items_conflict (stands_at map) it i ≡ true)
+      → items_conflict (stands_at map) it i ≡ false → rest ≡ false → b || rest ≡ false
   any_if false f it i rest e g h r = r
   any_if true f it i rest e g h r = absurd (true≢false (sym (g e) ∙ h))
 
-  pub any_free : (f : Item → Bool) (it : Item) (j : List Item) → ((i : Item) → f i ≡ true → items_conflict (stands_at map) it i ≡ true) → conflicts_with map it j ≡ false → any_of f j ≡ false
+  pub any_free : (f : Item → Bool) (it : Item) (j : List Item) → ((i : Item) → f i ≡ true → items_conflict (stands_at map) it i ≡ true)
+      → conflicts_with map it j ≡ false → any_of f j ≡ false
   any_free f it [] g h = refl
   any_free f it (i ∷ j) g h = any_if (f i) f it i (any_of f j) refl (g i) (or_left _ _ h) (any_free f it j g (or_right _ _ h))
 
@@ -252,7 +311,8 @@ module _ (map : List Row) where
   pub both_in : (a n c m b : ℕ) → nat_le a b && nat_lt b (a + n) ≡ true → nat_le c b && nat_lt b (c + m) ≡ true → overlap c m a n ≡ true
   both_in a n c m b h k = grind (arith, nat_tests, h, k)
 
-  pub reads_writes : (x : ObjName) (a n b : ℕ) → nat_le a b && nat_lt b (a + n) ≡ true → (i : Item) → writes i x b ≡ true → items_conflict (stands_at map) (Read x a n) i ≡ true
+  pub reads_writes : (x : ObjName) (a n b : ℕ) → nat_le a b && nat_lt b (a + n) ≡ true → (i : Item) → writes i x b ≡ true
+      → items_conflict (stands_at map) (Read x a n) i ≡ true
   reads_writes x a n b h (Write y c m) w = both_true (same_object y x) _ (and_left _ _ w) (both_in a n c m b h (and_right _ _ w))
   reads_writes x a n b h _ w = absurd (cc)
 
@@ -285,21 +345,26 @@ module _ (map : List Row) where
   is_it o x h = subst (λ p. is_object p x ≡ true) (sym h) (same_object_refl x)
 
   -- a touch gives the same in a store that differs by what doesn't conflict
-  pub same_answer : (t : Touch) (s u : Store) (j : List Item) → Diff j s u → conflicts_with map (item_of t) j ≡ false → Extra t j → answer map t s ≡ answer map t u
+  pub same_answer : (t : Touch) (s u : Store) (j : List Item) → Diff j s u → conflicts_with map (item_of t) j ≡ false → Extra t j
+      → answer map t s ≡ answer map t u
   same_answer (Ask x) s u j d c ex = life_of j s u x d c
-  same_answer (Get x a n) s u j d c ex = bytes_same (s.bytes x) (u.bytes x) a n (λ b l r. d.bytes x b ex.0 ex.1 (any_free _ (Read x a n) j (reads_writes x a n b (in_range a b n l r)) c))
+  same_answer (Get x a n) s u j d c ex = bytes_same (s.bytes x) (u.bytes x) a n
+      (λ b l r. d.bytes x b ex.0 ex.1 (any_free _ (Read x a n) j (reads_writes x a n b (in_range a b n l r)) c))
   same_answer (Put x a bs) s u j d c ex = refl
   same_answer (Bear x size kind declared) s u j d c ex = refl
   same_answer (Bury x) s u j d c ex = d.life x (any_free _ (Dies x) j (dies_bears x) c) (any_free _ (Dies x) j (dies_ends x) c)
   same_answer (Show x) s u j d c ex = refl
   same_answer (Find a) s u j d c ex =
-      (let h = λ (x : ObjName) (k : stands_at map x a ≡ true). d.found x (any_free _ (Lookup a) j (λ i. lookup_shows a x i k) c) (any_free _ (Lookup a) j (λ i. lookup_ends a x i k) c) in
-      ap₂ (λ p q. (p, q)) (find_same (covers map a) s u (λ x e. h x (or_true' _ _ (is_it (covers map a) x e)))) (find_same (past map a) s u (λ x e. h x (or_true (is_object (covers map a) x) _ (is_it (past map a) x e)))))
+      (let h = λ (x : ObjName) (k : stands_at map x a ≡ true). d.found x (any_free _ (Lookup a) j (λ i. lookup_shows a x i k) c)
+      (any_free _ (Lookup a) j (λ i. lookup_ends a x i k) c) in
+      ap₂ (λ p q. (p, q)) (find_same (covers map a) s u (λ x e. h x (or_true' _ _ (is_it (covers map a) x e))))
+      (find_same (past map a) s u (λ x e. h x (or_true (is_object (covers map a) x) _ (is_it (past map a) x e)))))
   same_answer (Settle e x k) s u j d c ex = refl
   same_answer Take s u j d c ex = ap₂ slice_get d.input (d.position (any_free takes Input j takes_takes c))
   same_answer (Print bs) s u j d c ex = refl
 
-  other_if : (b : Bool) (e d : Event) (x z : ObjName) (s u : Store) → (b ≡ false → is_other (s.kept d) z ≡ is_other (u.kept d) z) → is_other (if b then Some x else s.kept d) z ≡ is_other (if b then Some x else u.kept d) z
+  other_if : (b : Bool) (e d : Event) (x z : ObjName) (s u : Store) → (b ≡ false → is_other (s.kept d) z ≡ is_other (u.kept d) z)
+      → is_other (if b then Some x else s.kept d) z ≡ is_other (if b then Some x else u.kept d) z
   other_if true e d x z s u h = refl
   other_if false e d x z s u h = h refl
 
@@ -316,7 +381,8 @@ module _ (map : List Row) where
   some_if true l sl ul h = refl
   some_if false l sl ul h = h refl
 
-  bear_case : (b se ue : Bool) (l sl ul : Option Life) → (b ≡ false → se && is_live sl ≡ ue && is_live ul) → (if b then false else se) && is_live (if b then l else sl) ≡ (if b then false else ue) && is_live (if b then l else ul)
+  bear_case : (b se ue : Bool) (l sl ul : Option Life) → (b ≡ false → se && is_live sl ≡ ue && is_live ul)
+      → (if b then false else se) && is_live (if b then l else sl) ≡ (if b then false else ue) && is_live (if b then l else ul)
   bear_case true se ue l sl ul h = refl
   bear_case false se ue l sl ul h = h refl
 
@@ -330,15 +396,18 @@ module _ (map : List Row) where
   dead_live None = refl
   dead_live (Some l) = refl
 
-  bury_case : (b se ue : Bool) (lx mx sl ul : Option Life) → (b ≡ false → se && is_live sl ≡ ue && is_live ul) → se && is_live (if b then dead lx else sl) ≡ ue && is_live (if b then dead mx else ul)
+  bury_case : (b se ue : Bool) (lx mx sl ul : Option Life) → (b ≡ false → se && is_live sl ≡ ue && is_live ul)
+      → se && is_live (if b then dead lx else sl) ≡ ue && is_live (if b then dead mx else ul)
   bury_case true se ue lx mx sl ul h = ap (λ z. se && z) (dead_live lx) ∙ no_and se ue ∙ sym (ap (λ z. ue && z) (dead_live mx))
   bury_case false se ue lx mx sl ul h = h refl
 
-  bury_some : (b : Bool) (lx mx sl ul : Option Life) → lx ≡ mx → (b ≡ false → is_some sl ≡ is_some ul) → is_some (if b then dead lx else sl) ≡ is_some (if b then dead mx else ul)
+  bury_some : (b : Bool) (lx mx sl ul : Option Life) → lx ≡ mx → (b ≡ false → is_some sl ≡ is_some ul)
+      → is_some (if b then dead lx else sl) ≡ is_some (if b then dead mx else ul)
   bury_some true lx mx sl ul e h = ap (λ o. is_some (dead o)) e
   bury_some false lx mx sl ul e h = h refl
 
-  show_case : (b k l se ue sl ul : Bool) → k ≡ l → (b ≡ true → sl ≡ ul) → (b ≡ false → se && sl ≡ ue && ul) → (if b then k else se) && sl ≡ (if b then l else ue) && ul
+  show_case : (b k l se ue sl ul : Bool) → k ≡ l → (b ≡ true → sl ≡ ul) → (b ≡ false → se && sl ≡ ue && ul)
+      → (if b then k else se) && sl ≡ (if b then l else ue) && ul
   show_case true k l se ue sl ul e h g = ap₂ (λ p q. p && q) e (h refl)
   show_case false k l se ue sl ul e h g = g refl
 
@@ -391,7 +460,9 @@ module _ (map : List Row) where
         known = d.known;
         exposed = λ y p q. if_both (same_object x y) _ _ _ _ kx (λ e. d.exposed y p q);
         bytes = d.bytes;
-        found = λ y p q. show_case (same_object x y) (is_some (s.life x)) (is_some (u.life x)) (s.exposed y) (u.exposed y) (is_live (s.life y)) (is_live (u.life y)) kx (λ e. ap is_live (d.life y (any_free _ (Expose x) j (λ i k. shows_bears x i (subst (λ z. bears i z ≡ true) (sym (same_object_is x y e)) k)) c) q)) (λ n. d.found y p q);
+        found = λ y p q. show_case (same_object x y) (is_some (s.life x)) (is_some (u.life x)) (s.exposed y) (u.exposed y) (is_live (s.life y))
+            (is_live (u.life y)) kx (λ e. ap is_live (d.life y (any_free _ (Expose x) j
+            (λ i k. shows_bears x i (subst (λ z. bears i z ≡ true) (sym (same_object_is x y e)) k)) c) q)) (λ n. d.found y p q);
         other = d.other;
         kept = d.kept;
         input = d.input;

@@ -63,7 +63,8 @@ pub record Diff (j : List Item) (s u : Store) : Type 0 where
   pub life : (x : ObjName) → any_of (λ i. bears i x) j ≡ false → any_of (λ i. ends_life i x) j ≡ false → s.life x ≡ u.life x
   pub known : (x : ObjName) → any_of (λ i. bears i x) j ≡ false → is_some (s.life x) ≡ is_some (u.life x)
   pub exposed : (x : ObjName) → any_of (λ i. bears i x) j ≡ false → any_of (λ i. shows i x) j ≡ false → s.exposed x ≡ u.exposed x
-  pub bytes : (x : ObjName) (b : ℕ) → any_of (λ i. bears i x) j ≡ false → any_of (λ i. ends_life i x) j ≡ false → any_of (λ i. writes i x b) j ≡ false → s.bytes x b ≡ u.bytes x b
+  pub bytes : (x : ObjName) (b : ℕ) → any_of (λ i. bears i x) j ≡ false → any_of (λ i. ends_life i x) j ≡ false → any_of (λ i. writes i x b) j ≡ false
+      → s.bytes x b ≡ u.bytes x b
   pub found : (x : ObjName) → any_of (λ i. shows i x) j ≡ false → any_of (λ i. ends_life i x) j ≡ false → can_find s x ≡ can_find u x
   pub other : (e : Event) (x : ObjName) → any_of (λ i. settles_away i e x) j ≡ false → is_other (s.kept e) x ≡ is_other (u.kept e) x
   pub kept : (e : Event) → any_of (λ i. settles i e) j ≡ false → s.kept e ≡ u.kept e

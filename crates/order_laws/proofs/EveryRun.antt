@@ -1,5 +1,6 @@
 -- A run without conflicts speaks for every permitted order, in the terms of reports.
-use Rattle.std.proofs.Common.{◌≡◌, ◌≢◌, ℕ, ◌+◌, ◌^◌, ◌<◌, ◌≤◌, Bool, true, false, if◌then◌else◌, List, [], length, Option, Some, None, refl, sym, ap, ◌∙◌, subst, true≢false, ◌⊎◌, inl, inr, arith}
+use Rattle.std.proofs.Common.{◌≡◌, ◌≢◌, ℕ, ◌+◌, ◌^◌, ◌<◌, ◌≤◌, Bool, true, false, if◌then◌else◌, List, [], length, Option, Some, None, refl, sym, ap, ◌∙◌}
+use Rattle.std.proofs.Common.{subst, true≢false, ◌⊎◌, inl, inr, arith}
 use Rattle.std.specs.Prelude.{nat_lt}
 use Rattle.std.proofs.lemmas.Bool.Decides.{nat_tests}
 use Rattle.ub_base.specs.declared.clause.Clause.{Clause}
@@ -11,7 +12,8 @@ use Rattle.c_typed.specs.declared.tree.Place.{Place}
 use Rattle.c_model.specs.World.{World}
 use Rattle.c_model.specs.Values.{Value}
 use Rattle.c_model.specs.Steps.{Pick}
-use Rattle.c_model.specs.Runs.{Entry, State, Outcome, Refused, Raises, Over, No_row, Ends, Running, is_running, trace_of, depth_of, within, limit_passed, stand, nothing_stands, main_frame, started_run, start, After}
+use Rattle.c_model.specs.Runs.{Entry, State, Outcome, Refused, Raises, Over, No_row, Ends, Running, is_running, trace_of, depth_of, within, limit_passed}
+use Rattle.c_model.specs.Runs.{stand, nothing_stands, main_frame, started_run, start, After}
 use Rattle.c_model.specs.Findings.{Has, first, later, Both, Meets, raised, raced}
 use Rattle.c_model.specs.Claims.{ComesTo, starts, stops, refuses, GoesWell}
 use Rattle.machine_laws.specs.Orders.{going, here}
@@ -44,7 +46,8 @@ module _ (world : World) where
   deep_of : (d : ℕ) (s : Store) → limit_passed world.limits d s ≡ None → d ≤ world.limits.depth
   deep_of d s h = go (nat_lt world.limits.depth d) _ refl h
     where
-      go : (b : Bool) (r : Option (Cause × ℕ)) → nat_lt world.limits.depth d ≡ b → if◌then◌else◌ {A = Option (Cause × ℕ)} b (Some (Depth, d)) r ≡ None → d ≤ world.limits.depth
+      go : (b : Bool) (r : Option (Cause × ℕ)) → nat_lt world.limits.depth d ≡ b → if◌then◌else◌ {A = Option (Cause × ℕ)} b (Some (Depth, d)) r ≡ None
+          → d ≤ world.limits.depth
       go false r e h = grind (arith, nat_tests, e)
       go true r e h = absurd (cc)
 
@@ -52,7 +55,15 @@ module _ (world : World) where
   started_at vs (Done v is s) st h =
       let st0 : State = record { top = main_frame world vs; held = []; store = s; trace = [] } in
       let w = within_was (limit_passed world.limits (depth_of st0.top st0.held) s) (Running st0) st h in
-      subst (Started world vs) (running_is st0 st w.1) (record { begun = refl; path = refl; held = refl; trace = refl; deep = deep_of (depth_of st0.top st0.held) s w.0; passed = w.0 })
+      subst (Started world vs) (running_is st0 st w.1) (record {
+        begun = refl;
+        path = refl;
+        held = refl;
+        trace = refl;
+        deep = deep_of
+            (depth_of st0.top st0.held) s w.0;
+        passed = w.0;
+      })
   started_at vs (Raised c) st h = absurd (cc)
   started_at vs (Ended n is s) st h = absurd (cc)
   started_at vs (Outside c n) st h = absurd (cc)
@@ -78,7 +89,8 @@ none_traced No_row = inr (λ h. cc)
 none_traced (Ends n out t) = inr (λ h. cc)
 none_traced (Running st) = inr (λ h. cc)
 
-module _ (world : World) (asked : LibraryAsked world) (small : world.limits.created < 2 ^ 62) (input : List ℕ) (vs : List Value) (status : ℕ) (output : List ℕ) (picks : ℕ)
+module _ (world : World) (asked : LibraryAsked world) (small : world.limits.created < 2 ^ 62) (input : List ℕ) (vs : List Value) (status : ℕ)
+    (output : List ℕ) (picks : ℕ)
     (c : CleanRun world input vs status output picks) where
   abbrev st : State
   st = c.first
@@ -110,11 +122,13 @@ module _ (world : World) (asked : LibraryAsked world) (small : world.limits.crea
 
   follows : (ps : List Pick) (o : Outcome) → After world st ps o → o ≢ Refused → Alike world small (st.top, depth) st.store picks c.result c.last
       (orders_tell world asked (st.top, depth) st.store picks c.result c.last c.runs)
-      (stays_fit world small asked (st.top, depth) st.store picks c.result c.last c.runs (record { created_at_most = c.created; output_at_most = c.printed })) status output (length {A = Pick} [] + length ps) o
+      (stays_fit world small asked (st.top, depth) st.store picks c.result c.last c.runs
+      (record { created_at_most = c.created; output_at_most = c.printed })) status output (length {A = Pick} [] + length ps) o
   follows ps o af ne =
       follow world small (st.top, depth) st.store picks c.result c.last
       (orders_tell world asked (st.top, depth) st.store picks c.result c.last c.runs)
-      (stays_fit world small asked (st.top, depth) st.store picks c.result c.last c.runs (record { created_at_most = c.created; output_at_most = c.printed })) status output c.ends
+      (stays_fit world small asked (st.top, depth) st.store picks c.result c.last c.runs
+      (record { created_at_most = c.created; output_at_most = c.printed })) status output c.ends
       st [] (first_reach (started_as world input vs st c.starts)) ps o af ne
 
   -- of each order from the start

@@ -1,5 +1,6 @@
 -- Every permitted order of the model is one of the machine, so where each of those is fine, so is each of these.
-use Rattle.std.proofs.Common.{◌≡◌, ◌≢◌, ℕ, suc, ◌+◌, ◌^◌, ◌<◌, ◌≤◌, Bool, true, false, if◌then◌else◌, true≢false, List, [], ◌∷◌, ◌++◌, length, Option, Some, None, is_some, refl, sym, ap, ◌∙◌, subst, ◌⊎◌, inl, inr, arith}
+use Rattle.std.proofs.Common.{◌≡◌, ◌≢◌, ℕ, suc, ◌+◌, ◌^◌, ◌<◌, ◌≤◌, Bool, true, false, if◌then◌else◌, true≢false, List, [], ◌∷◌, ◌++◌, length, Option}
+use Rattle.std.proofs.Common.{Some, None, is_some, refl, sym, ap, ◌∙◌, subst, ◌⊎◌, inl, inr, arith}
 use Rattle.ub_base.specs.Frames.{Path}
 use Rattle.ub_base.specs.declared.clause.Kind.{Kind}
 use Rattle.ub_base.specs.declared.clause.Kind.TheVariants.{Body}
@@ -12,7 +13,8 @@ use Rattle.c_model.specs.World.{World}
 use Rattle.c_model.specs.Values.{Value}
 use Rattle.c_model.specs.Moves.{Move, Stay, Start, End}
 use Rattle.c_model.specs.Steps.{Local, Pick, Control, Ev, MayPick, does, move, next}
-use Rattle.c_model.specs.Runs.{Entry, place_of, State, Outcome, Refused, Ends, Running, trace_of, status_of, depth_of, limited, limit_passed, within, enter_passes, begun_of, entry_of, back, moved, acted, step, After, here, refused, last, more, too_late}
+use Rattle.c_model.specs.Runs.{Entry, place_of, State, Outcome, Refused, Ends, Running, trace_of, status_of, depth_of, limited, limit_passed, within}
+use Rattle.c_model.specs.Runs.{enter_passes, begun_of, entry_of, back, moved, acted, step, After, here, refused, last, more, too_late}
 use Rattle.addr_map.specs.Conflict.{some_conflict as conflict}
 use Rattle.c_model.specs.Findings.{is_under, items_under, items_of, Has, first, newest, AreApart, is_due_in}
 use Rattle.c_model.specs.Claims.{GoesWell}
@@ -36,8 +38,10 @@ use Rattle.order_laws.proofs.FrameEvents.{depth_same, order_of, done_on, event_s
 use Rattle.order_laws.proofs.Traces.{none_begun, path_is, has_cases, IsNewest, Event, Held, AllDone, moves}
 use Rattle.order_laws.proofs.QuietFrames.{left_pick, under_refl}
 use Rattle.order_laws.proofs.TraceItems.{Sub, joined_free}
-use Rattle.order_laws.proofs.OpenFrames.{not_under, FrameOk, AllStood, AllSeen, RootedAt, Rooted, rooted_on, rooted_next, rooted_of, none_under, waiting, HeldOk, held_next, after_control, after_event, goes_on_as}
-use Rattle.order_laws.proofs.QuietTraces.{Endless, ConflictFree, EndsApart, endless_apart, run_goes_on, quiet_pair, free_next, among_done, lone_pair, lone_due, end_free, end_apart}
+use Rattle.order_laws.proofs.OpenFrames.{not_under, FrameOk, AllStood, AllSeen, RootedAt, Rooted, rooted_on, rooted_next, rooted_of, none_under, waiting}
+use Rattle.order_laws.proofs.OpenFrames.{HeldOk, held_next, after_control, after_event, goes_on_as}
+use Rattle.order_laws.proofs.QuietTraces.{Endless, ConflictFree, EndsApart, endless_apart, run_goes_on, quiet_pair, free_next, among_done, lone_pair}
+use Rattle.order_laws.proofs.QuietTraces.{lone_due, end_free, end_apart}
 
 module _ (world : World) (small : world.limits.created < 2 ^ 62) (f0 : Local × ℕ) (s0 : Store) (k : ℕ) (o0 : Result Value ℕ) (last_store : Store) where
   abbrev M : Machine (Local × ℕ) Pick Value Store Item Part Seen Fact
@@ -57,7 +61,8 @@ module _ (world : World) (small : world.limits.created < 2 ^ 62) (f0 : Local × 
   Limit = (b : State') (ps : List Pick) → Order M E (going f0 [] [] s0) ps b → Fits world small (store_of b)
 
   -- one pick more
-  snoc : (a : State') (ps : List Pick) (f : Local × ℕ) (es : List Event) (hs : List Held) (s : Store) (q : Pick) (c : State') → Order M E a ps (going f es hs s) → May M E f q → orders.Step M E f es hs s q c
+  snoc : (a : State') (ps : List Pick) (f : Local × ℕ) (es : List Event) (hs : List Held) (s : Store) (q : Pick) (c : State')
+      → Order M E a ps (going f es hs s) → May M E f q → orders.Step M E f es hs s q c
       → Order M E a (ps ++ q ∷ []) c
   snoc _ _ f es hs s q c (orders.here _) may st = pick f es hs s q c c [] may st (orders.here c)
   snoc _ _ f es hs s q c (pick g ds ks t p a _ ps m st ord) may st2 = pick g ds ks t p a c (ps ++ q ∷ []) m st (snoc a ps f es hs s q c ord may st2)
@@ -86,21 +91,25 @@ module _ (world : World) (small : world.limits.created < 2 ^ 62) (f0 : Local × 
   -- what a pick leads to
   data Leads (qs : List Pick) : Outcome → Type 0 where
     goes_on : (st : State) → Reach st qs → Leads qs (Running st)
-    comes_to : (n : ℕ) (output : List ℕ) (trace : List Entry) → EndsWith o0 last_store n output → ConflictFree world trace → EndsApart trace → length qs ≤ k → Leads qs (Ends n output trace)
+    comes_to : (n : ℕ) (output : List ℕ) (trace : List Entry) → EndsWith o0 last_store n output → ConflictFree world trace → EndsApart trace → length qs ≤ k
+        → Leads qs (Ends n output trace)
 
   within_none : (o : Option _) (r : Outcome) → o ≡ None → within o r ≡ r
   within_none None r e = refl
   within_none (Some c) r e = absurd (cc)
 
   -- what a pick that was done is in the model
-  done_step : (st : State) (p : Pick) (v : Value) (is : List Item) (s1 : Store) → run world.rows (does world st.top st.top.begun p) st.store ≡ Done v is s1 → Fits world small s1
+  done_step : (st : State) (p : Pick) (v : Value) (is : List Item) (s1 : Store) → run world.rows (does world st.top st.top.begun p) st.store ≡ Done v is s1
+      → Fits world small s1
       → step world st p ≡ limited world.limits (moved world st p (move world st.top st.top.begun p) v s1 (entry_of world st.top p is ∷ st.trace))
   done_step st p v is s1 e w =
-      within_none (enter_passes world.limits st p) (acted world st p (run world.rows (does world st.top st.top.begun p) st.store)) (enters_within world small st p (gives_value v) is s1 e w)
+      within_none (enter_passes world.limits st p) (acted world st p (run world.rows (does world st.top st.top.begun p) st.store))
+      (enters_within world small st p (gives_value v) is s1 e w)
       ∙ ap (acted world st p) e
 
   not_over : (st : State) → depth_of st.top st.held ≤ world.limits.depth → Fits world small st.store → limited world.limits (Running st) ≡ Running st
-  not_over st d w = within_none (limit_passed world.limits (depth_of st.top st.held) st.store) (Running st) (none_passed world small (depth_of st.top st.held) st.store d w)
+  not_over st d w = within_none (limit_passed world.limits (depth_of st.top st.held) st.store) (Running st)
+      (none_passed world small (depth_of st.top st.held) st.store d w)
 
   -- moves without their depth
   lifted_stay : (d : ℕ) (mv : Move Local) → lifted world d mv ≡ Stay → mv ≡ Stay
@@ -160,14 +169,17 @@ module _ (world : World) (small : world.limits.created < 2 ^ 62) (f0 : Local × 
           ap (λ b. (if b then is else []) ++ items_under q st.trace) (not_under st.top.scene.path q (omega arith))
           ∙ none_under world st.trace q (not_rooted st qs r u rd ub) st.trace r.rooted
 
-      go : (b : Bool) → is_body u.kind ≡ b → conflict world.rows (is ++ (if b then (if is_under st.top.scene.path q then is else []) ++ items_under q st.trace else [])) ks ≡ false
+      go : (b : Bool) → is_body u.kind ≡ b → conflict world.rows (is ++
+          (if b then (if is_under st.top.scene.path q then is else []) ++ items_under q st.trace else [])) ks ≡ false
       go false k = joined_free world.rows is [] ks h refl
       go true k = joined_free world.rows is _ ks h (ap (λ z. conflict world.rows z ks) (none_more k))
 
   module _ (law : Law) (fits : Limit) where
     -- a control step that stays in its frame
-    control_stays : (st : State) (qs : List Pick) (r : Reach st qs) (v : Value) (is : List Item) (s1 : Store) → May M E (st.top, depth_of st.top st.held) Control
-        → M.move (st.top, depth_of st.top st.held) Control ≡ Stay → Does M (st.top, depth_of st.top st.held) Control st.store v is s1 → Leads (qs ++ Control ∷ []) (step world st Control)
+    control_stays : (st : State) (qs : List Pick) (r : Reach st qs) (v : Value) (is : List Item) (s1 : Store)
+        → May M E (st.top, depth_of st.top st.held) Control
+        → M.move (st.top, depth_of st.top st.held) Control ≡ Stay → Does M (st.top, depth_of st.top st.held) Control st.store v is s1
+        → Leads (qs ++ Control ∷ []) (step world st Control)
     control_stays st qs r v is s1 may mv d =
         let D = depth_of st.top st.held in
         let ag = pick_agrees world st.top D Control st.store v is s1 d in
@@ -182,7 +194,9 @@ module _ (world : World) (small : world.limits.created < 2 ^ 62) (f0 : Local × 
         let held = held_next world st.trace x st.held r.hs st.top.scene.path (under_refl world st.top.scene.path) r.held in
         let next_state : State = record { top = g; held = st.held; store = s1; trace = x ∷ st.trace } in
         subst (Leads (qs ++ Control ∷ []))
-        (sym (done_step st Control v is s1 ag.ran w ∙ (ap (λ z. limited world.limits (moved world st Control z v s1 (x ∷ st.trace))) (lifted_stay D (move world st.top st.top.begun Control) (sym ag.moved ∙ mv)) ∙ not_over next_state (subst (λ z. z ≤ world.limits.depth) (sym depth) r.deep) w)))
+        (sym (done_step st Control v is s1 ag.ran w ∙ (ap (λ z. limited world.limits (moved world st Control z v s1 (x ∷ st.trace)))
+        (lifted_stay D (move world st.top st.top.begun Control) (sym ag.moved ∙ mv))
+        ∙ not_over next_state (subst (λ z. z ≤ world.limits.depth) (sym depth) r.deep) w)))
         (goes_on next_state (record {
           es = [];
           hs = added is r.hs;
@@ -201,8 +215,10 @@ module _ (world : World) (small : world.limits.created < 2 ^ 62) (f0 : Local × 
         }))
 
     -- an event that stays in its frame
-    event_stays : (st : State) (qs : List Pick) (r : Reach st qs) (u : Place) (v : Value) (is : List Item) (s1 : Store) → May M E (st.top, depth_of st.top st.held) (Ev u)
-        → M.move (st.top, depth_of st.top st.held) (Ev u) ≡ Stay → Does M (st.top, depth_of st.top st.held) (Ev u) st.store v is s1 → Leads (qs ++ Ev u ∷ []) (step world st (Ev u))
+    event_stays : (st : State) (qs : List Pick) (r : Reach st qs) (u : Place) (v : Value) (is : List Item) (s1 : Store)
+        → May M E (st.top, depth_of st.top st.held) (Ev u)
+        → M.move (st.top, depth_of st.top st.held) (Ev u) ≡ Stay → Does M (st.top, depth_of st.top st.held) (Ev u) st.store v is s1
+        → Leads (qs ++ Ev u ∷ []) (step world st (Ev u))
     event_stays st qs r u v is s1 may mv d =
         let f = st.top in
         let D = depth_of st.top st.held in
@@ -216,12 +232,15 @@ module _ (world : World) (small : world.limits.created < 2 ^ 62) (f0 : Local × 
         let ord2 = subst (λ z. Order M E (going f0 [] [] s0) (qs ++ Ev u ∷ []) (going (g, z) (y ∷ r.es) (added is r.hs) s1)) (sym depth) ord in
         let w = fits (going (g, D) (y ∷ r.es) (added is r.hs) s1) (qs ++ Ev u ∷ []) ord in
         let fine = (law (going (g, D) (y ∷ r.es) (added is r.hs) s1) (qs ++ Ev u ∷ []) ord).2 in
-        let ok = after_event world st.trace x f f r.es y u refl refl refl refl bf r.done (record { pick = refl; stood = refl; items = own_items st qs r u is may.0 }) r.ok in
+        let ok = after_event world st.trace x f f r.es y u refl refl refl refl bf r.done
+        (record { pick = refl; stood = refl; items = own_items st qs r u is may.0 }) r.ok in
         let stood : AllStood world (y ∷ r.es) = (record { at = u; pick = refl; ready = may.0; closed = r.closed; done = r.done }, r.stood) in
         let held = held_next world st.trace x st.held r.hs f.scene.path (under_refl world f.scene.path) r.held in
         let next_state : State = record { top = g; held = st.held; store = s1; trace = x ∷ st.trace } in
         subst (Leads (qs ++ Ev u ∷ []))
-        (sym (done_step st (Ev u) v is s1 ag.ran w ∙ (ap (λ z. limited world.limits (moved world st (Ev u) z v s1 (x ∷ st.trace))) (lifted_stay D (move world f f.begun (Ev u)) (sym ag.moved ∙ mv)) ∙ not_over next_state (subst (λ z. z ≤ world.limits.depth) (sym depth) r.deep) w)))
+        (sym (done_step st (Ev u) v is s1 ag.ran w ∙ (ap (λ z. limited world.limits (moved world st (Ev u) z v s1 (x ∷ st.trace)))
+        (lifted_stay D (move world f f.begun (Ev u)) (sym ag.moved ∙ mv))
+        ∙ not_over next_state (subst (λ z. z ≤ world.limits.depth) (sym depth) r.deep) w)))
         (goes_on next_state (record {
           es = y ∷ r.es;
           hs = added is r.hs;
@@ -233,10 +252,12 @@ module _ (world : World) (small : world.limits.created < 2 ^ 62) (f0 : Local × 
           seen = event_seen world f f.begun u v y r.es refl may.0 r.seen;
           stood = stood;
           held = subst (λ z. HeldOk world (x ∷ st.trace) st.held (added is r.hs) z) (ap (λ z. z.path) (sym (event_scene world f f.begun u v))) held;
-          root = subst (RootedAt world (x ∷ st.trace)) (ap (λ z. z.path) (sym (event_scene world f f.begun u v))) (rooted_on world st.trace x f.scene.path r.root);
+          root = subst (RootedAt world (x ∷ st.trace)) (ap (λ z. z.path) (sym (event_scene world f f.begun u v)))
+              (rooted_on world st.trace x f.scene.path r.root);
           rooted = rooted_next world st.trace x r.rooted r.root;
           free = free_next world x st.trace st.held (added is r.hs) held fine.2 r.free
-              (λ e a b n apart. quiet_pair world (x ∷ st.trace) x e a b apart (y ∷ r.es) (ok.pairs x e a b (newest x e st.trace a b n.at n.among n.of_frame n.of_turn) refl refl bf) fine.1 stood);
+              (λ e a b n apart. quiet_pair world (x ∷ st.trace) x e a b apart (y ∷ r.es)
+              (ok.pairs x e a b (newest x e st.trace a b n.at n.among n.of_frame n.of_turn) refl refl bf) fine.1 stood);
           endless = (run_goes_on world (does world f f.begun (Ev u)) st.store v is s1 ag.ran, r.endless);
         }))
 
@@ -258,13 +279,16 @@ module _ (world : World) (small : world.limits.created < 2 ^ 62) (f0 : Local × 
         let ord = snoc (going f0 [] [] s0) qs (f, D) r.es r.hs st.store (Ev u) (going g [] (h ∷ r.hs) st.store) r.order may (enter g mv) in
         let ord2 = subst (λ z. Order M E (going f0 [] [] s0) (qs ++ Ev u ∷ []) (going (g.0, z) [] (h ∷ r.hs) st.store)) depth ord in
         let fine = (law (going g [] (h ∷ r.hs) st.store) (qs ++ Ev u ∷ []) ord).2 in
-        let ok = after_event world st.trace x f f r.es (waiting h) u refl refl refl refl bf r.done (record { pick = refl; stood = refl; items = own_items st qs r u [] may.0 }) r.ok in
+        let ok = after_event world st.trace x f f r.es (waiting h) u refl refl refl refl bf r.done
+        (record { pick = refl; stood = refl; items = own_items st qs r u [] may.0 }) r.ok in
         let stood : AllStood world (waiting h ∷ r.es) = (record { at = u; pick = refl; ready = may.0; closed = r.closed; done = r.done }, r.stood) in
-        let below = subst (λ z. HeldOk world (x ∷ st.trace) st.held z f.scene.path) (none_added r.hs) (held_next world st.trace x st.held r.hs f.scene.path (under_refl world f.scene.path) r.held) in
+        let below = subst (λ z. HeldOk world (x ∷ st.trace) st.held z f.scene.path) (none_added r.hs)
+        (held_next world st.trace x st.held r.hs f.scene.path (under_refl world f.scene.path) r.held) in
         let deep : depth_of g.0 ((f, u) ∷ st.held) ≤ world.limits.depth = subst (λ z. z ≤ world.limits.depth) (swap D (weight g.0)) sp.deep in
         let next_state : State = record { top = g.0; held = (f, u) ∷ st.held; store = st.store; trace = x ∷ st.trace } in
         subst (Leads (qs ++ Ev u ∷ []))
-        (sym (done_step st (Ev u) sp.value [] st.store ran w ∙ (ap (λ z. limited world.limits (moved world st (Ev u) z sp.value st.store (x ∷ st.trace))) sp.moved ∙ not_over next_state deep w)))
+        (sym (done_step st (Ev u) sp.value [] st.store ran w ∙ (ap (λ z. limited world.limits (moved world st (Ev u) z sp.value st.store (x ∷ st.trace)))
+        sp.moved ∙ not_over next_state deep w)))
         (goes_on next_state (record {
           es = [];
           hs = h ∷ r.hs;
@@ -306,24 +330,30 @@ module _ (world : World) (small : world.limits.created < 2 ^ 62) (f0 : Local × 
           );
           rooted = rooted_next world st.trace x r.rooted r.root;
           free = free_next world x st.trace st.held r.hs below fine.2.1 r.free
-              (λ e a b n apart. quiet_pair world (x ∷ st.trace) x e a b apart (waiting h ∷ r.es) (ok.pairs x e a b (newest x e st.trace a b n.at n.among n.of_frame n.of_turn) refl refl bf) fine.2.0 stood);
+              (λ e a b n apart. quiet_pair world (x ∷ st.trace) x e a b apart (waiting h ∷ r.es)
+              (ok.pairs x e a b (newest x e st.trace a b n.at n.among n.of_frame n.of_turn) refl refl bf) fine.2.0 stood);
           endless = (refl, r.endless);
         }))
       where
         swap : (a b : ℕ) → a + b ≡ b + a
         swap a b = omega arith
 
-        never_seen : (x : Entry) → x.path ≡ st.top.scene.path → (e : Entry) (v : Place) → Has (x ∷ st.trace) e v → e.path ≡ (st.top.scene.turn, u.node) ∷ st.top.scene.path → ⊥
+        never_seen : (x : Entry) → x.path ≡ st.top.scene.path → (e : Entry) (v : Place) → Has (x ∷ st.trace) e v
+            → e.path ≡ (st.top.scene.turn, u.node) ∷ st.top.scene.path → ⊥
         never_seen x xp e v hs way = go (has_cases x st.trace e v hs)
           where
             go : ((x ≡ e) × (x.place ≡ Some v)) ⊎ Has st.trace e v → ⊥
             go (inl q) = (let k = ap length (sym xp ∙ (ap (λ z. z.path) q.0 ∙ way)) in omega (arith, k))
-            go (inr h) = not_rooted st qs r u may.0 (starts_fresh world st.top st.top.begun u g.0 (pick_starts world st.top (depth_of st.top st.held) (Ev u) g mv).moved).body (subst (RootedAt world st.trace) way (rooted_of world st.trace st.trace e v h r.rooted))
+            go (inr h) = not_rooted st qs r u may.0 (starts_fresh world st.top st.top.begun u g.0
+                (pick_starts world st.top (depth_of st.top st.held) (Ev u) g mv).moved).body
+                (subst (RootedAt world st.trace) way (rooted_of world st.trace st.trace e v h r.rooted))
 
     -- the end of a frame
-    back_leads : (trace : List Entry) (x : Entry) (qs : List Pick) (v : Value) (s1 : Store) (ms : List (Local × Place)) (hs : List Held) (path : Path) → x.place ≡ None → path ≡ x.path
+    back_leads : (trace : List Entry) (x : Entry) (qs : List Pick) (v : Value) (s1 : Store) (ms : List (Local × Place)) (hs : List Held) (path : Path)
+        → x.place ≡ None → path ≡ x.path
         → HeldOk world trace ms hs path → Order M E (going f0 [] [] s0) qs (orders.back M E (added x.items hs) v s1) → (d : ℕ) → d ≤ world.limits.depth
-        → ((m : Local × Place) (rest : List (Local × Place)) → ms ≡ m ∷ rest → depth_of m.0 rest ≤ d) → Rooted world trace → RootedAt world trace x.path → ConflictFree world trace → Endless (x ∷ trace)
+        → ((m : Local × Place) (rest : List (Local × Place)) → ms ≡ m ∷ rest → depth_of m.0 rest ≤ d) → Rooted world trace → RootedAt world trace x.path
+        → ConflictFree world trace → Endless (x ∷ trace)
         → Leads qs (limited world.limits (back world ms v s1 (x ∷ trace)))
     back_leads trace x qs v s1 [] [] path bare same ok ord d dl deep rooted root free endless =
         let l = law (over v s1) qs ord in
@@ -344,8 +374,10 @@ module _ (world : World) (small : world.limits.created < 2 ^ 62) (f0 : Local × 
         let bf = ready_begun world l.scene l.begun u hf.ready in
         let y : Event = record { frame = (l, D); pick = Ev u; items = js } in
         let before = law (going (M.next h.frame h.pick v) (orders.then_past M E h.frame h.pick js h.past) (added x.items hs) s1) qs ord in
-        let a1 = subst (λ z. Order M E (going f0 [] [] s0) qs (going (M.next z h.pick v) (orders.then_past M E z h.pick js h.past) (added x.items hs) s1)) hf.frame ord in
-        let a2 = subst (λ z. Order M E (going f0 [] [] s0) qs (going (M.next (l, D) z v) (orders.then_past M E (l, D) z js h.past) (added x.items hs) s1)) hf.pick a1 in
+        let a1 = subst (λ z. Order M E (going f0 [] [] s0) qs (going (M.next z h.pick v) (orders.then_past M E z h.pick js h.past) (added x.items hs) s1))
+        hf.frame ord in
+        let a2 = subst (λ z. Order M E (going f0 [] [] s0) qs (going (M.next (l, D) z v) (orders.then_past M E (l, D) z js h.past) (added x.items hs) s1))
+        hf.pick a1 in
         let w = fits (going (g, D) (y ∷ h.past) (added x.items hs) s1) qs a2 in
         let depth = depth_same world g l ms (event_function world l l.begun u v) in
         let low : depth_of g ms ≤ world.limits.depth = (let p = deep m ms refl in omega (arith, p, dl, depth)) in
@@ -358,20 +390,24 @@ module _ (world : World) (small : world.limits.created < 2 ^ 62) (f0 : Local × 
           order = subst (λ z. Order M E (going f0 [] [] s0) qs (going (g, z) (y ∷ h.past) (added x.items hs) s1)) (sym depth) a2;
           deep = low;
           closed = event_closed world l l.begun u v hf.ready hf.closed;
-          ok = goes_on_as world (x ∷ trace) l g (y ∷ h.past) (event_scene world l l.begun u v) bf (subst (λ z. FrameOk world (x ∷ trace) l (z ∷ h.past)) here full.0.ok);
+          ok = goes_on_as world (x ∷ trace) l g (y ∷ h.past) (event_scene world l l.begun u v) bf
+              (subst (λ z. FrameOk world (x ∷ trace) l (z ∷ h.past)) here full.0.ok);
           done = ((order_of world).done_next l (Ev u) v hf.ready refl, done_on world l (Ev u) v h.past hf.ready refl hf.done);
           seen = event_seen world l l.begun u v y h.past refl hf.ready hf.seen;
           stood = subst (λ z. AllStood world (z ∷ h.past)) here full.0.stood;
           held = subst (λ z. HeldOk world (x ∷ trace) ms (added x.items hs) z) (ap (λ z. z.path) (sym (event_scene world l l.begun u v))) full.1;
           root = subst (RootedAt world (x ∷ trace)) (ap (λ z. z.path) (sym (event_scene world l l.begun u v))) (rooted_on world trace x l.scene.path hf.root);
           rooted = rooted_next world trace x rooted root;
-          free = free_next world x trace (m ∷ ms) (added x.items (h ∷ hs)) (subst (λ z. HeldOk world (x ∷ trace) (m ∷ ms) (added x.items (h ∷ hs)) z) same full) (before.2.1, before.2.2) free
+          free = free_next world x trace (m ∷ ms) (added x.items (h ∷ hs))
+              (subst (λ z. HeldOk world (x ∷ trace) (m ∷ ms) (added x.items (h ∷ hs)) z) same full) (before.2.1, before.2.2) free
               (λ e a b n apart. absurd (let q = n.at in cc (bare, q)));
           endless = endless;
         }))
 
-    frame_ends_at : (st : State) (qs : List Pick) (r : Reach st qs) (v : Value) (is : List Item) (s1 : Store) → May M E (st.top, depth_of st.top st.held) Control
-        → M.move (st.top, depth_of st.top st.held) Control ≡ End → Does M (st.top, depth_of st.top st.held) Control st.store v is s1 → Leads (qs ++ Control ∷ []) (step world st Control)
+    frame_ends_at : (st : State) (qs : List Pick) (r : Reach st qs) (v : Value) (is : List Item) (s1 : Store)
+        → May M E (st.top, depth_of st.top st.held) Control
+        → M.move (st.top, depth_of st.top st.held) Control ≡ End → Does M (st.top, depth_of st.top st.held) Control st.store v is s1
+        → Leads (qs ++ Control ∷ []) (step world st Control)
     frame_ends_at st qs r v is s1 may mv d =
         let D = depth_of st.top st.held in
         let ag = pick_agrees world st.top D Control st.store v is s1 d in
@@ -379,8 +415,11 @@ module _ (world : World) (small : world.limits.created < 2 ^ 62) (f0 : Local × 
         let ord = snoc (going f0 [] [] s0) qs (st.top, D) r.es r.hs st.store Control (orders.back M E (added is r.hs) v s1) r.order may (leave v is s1 mv d) in
         let w = fits (orders.back M E (added is r.hs) v s1) (qs ++ Control ∷ []) ord in
         subst (Leads (qs ++ Control ∷ []))
-        (sym (done_step st Control v is s1 ag.ran (stored (added is r.hs) w) ∙ ap (λ z. limited world.limits (moved world st Control z v s1 (x ∷ st.trace))) (lifted_end D (move world st.top st.top.begun Control) (sym ag.moved ∙ mv))))
-        (back_leads st.trace x (qs ++ Control ∷ []) v s1 st.held r.hs st.top.scene.path refl refl r.held ord D r.deep (λ m rest e. lower m rest e) r.rooted r.root r.free
+        (sym (done_step st Control v is s1 ag.ran (stored (added is r.hs) w)
+        ∙ ap (λ z. limited world.limits (moved world st Control z v s1 (x ∷ st.trace)))
+        (lifted_end D (move world st.top st.top.begun Control) (sym ag.moved ∙ mv))))
+        (back_leads st.trace x (qs ++ Control ∷ []) v s1 st.held r.hs st.top.scene.path refl refl r.held ord D r.deep (λ m rest e. lower m rest e) r.rooted
+        r.root r.free
         (run_goes_on world (does world st.top st.top.begun Control) st.store v is s1 ag.ran, r.endless))
       where
         stored : (hs : List Held) → Fits world small (store_of (orders.back M E hs v s1)) → Fits world small s1
@@ -406,10 +445,12 @@ module _ (world : World) (small : world.limits.created < 2 ^ 62) (f0 : Local × 
         let here_fine = (law (going (st.top, D) r.es r.hs st.store) qs r.order).2 in
         let lone = here_fine.3 p may n is s1 e in
         subst (Leads (qs ++ p ∷ []))
-        (sym (within_none (enter_passes world.limits st p) (acted world st p (run world.rows (does world st.top st.top.begun p) st.store)) (enters_within world small st p (finishes n) is s1 ran w) ∙ ap (acted world st p) ran))
+        (sym (within_none (enter_passes world.limits st p) (acted world st p (run world.rows (does world st.top st.top.begun p) st.store))
+        (enters_within world small st p (finishes n) is s1 ran w) ∙ ap (acted world st p) ran))
         (comes_to n s1.output (x ∷ st.trace) (ends_so l.2.0 l.2.1)
         (end_free world x st.trace st.held r.hs r.held lone.1 r.free (λ d u v nw apart. no_pair p d u v may lone.0 nw apart))
-        (end_apart world x st.trace st.held r.hs r.held lone.1 r.endless (λ u v at due other apart. no_due p u v may lone.0 at due other apart)) (let q = l.1 in omega (arith, q)))
+        (end_apart world x st.trace st.held r.hs r.held lone.1 r.endless (λ u v at due other apart. no_due p u v may lone.0 at due other apart))
+        (let q = l.1 in omega (arith, q)))
       where
         ends_so : o0 ≡ said n → s1 ≡ last_store → EndsWith o0 last_store n s1.output
         ends_so a b = subst (λ z. EndsWith z last_store n s1.output) (sym a) (refl, ap (λ z. z.output) (sym b))
@@ -425,11 +466,13 @@ module _ (world : World) (small : world.limits.created < 2 ^ 62) (f0 : Local × 
             (r.ok.covers e v nw.among (path_is st.top.scene.path e.path nw.of_frame) nw.of_turn (ready_begun world st.top.scene st.top.begun w m.0))
             (subst (λ z. AreApart (begun_of world st.top st.top.begun) z v) (sym (place_is w u nw.at)) apart)
 
-        no_due : (p : Pick) (u v : Place) → May M E (st.top, depth_of st.top st.held) p → Alone M E (st.top, depth_of st.top st.held) p r.es → place_of p ≡ Some u
+        no_due : (p : Pick) (u v : Place) → May M E (st.top, depth_of st.top st.held) p → Alone M E (st.top, depth_of st.top st.held) p r.es
+            → place_of p ≡ Some u
             → is_due_in (begun_of world st.top st.top.begun) v ≡ true → same_place u v ≡ false → AreApart (begun_of world st.top st.top.begun) u v → ⊥
         no_due Control u v m al at due other apart = cc (at)
         no_due (Ev w) u v m al at due other apart =
-            lone_due world st.top (depth_of st.top st.held) w v r.es st.top.begun refl m.0 r.closed r.seen al due (subst (λ z. same_place z v ≡ false) (sym (place_is w u at)) other)
+            lone_due world st.top (depth_of st.top st.held) w v r.es st.top.begun refl m.0 r.closed r.seen al due
+            (subst (λ z. same_place z v ≡ false) (sym (place_is w u at)) other)
             (subst (λ z. AreApart (begun_of world st.top st.top.begun) z v) (sym (place_is w u at)) apart)
 
     -- whatever the machine's pick does
@@ -479,7 +522,8 @@ module _ (world : World) (small : world.limits.created < 2 ^ 62) (f0 : Local × 
 
       at_outcome : (qs : List Pick) (o : Outcome) → Leads qs o → Alike status output (length qs) o
       at_outcome qs _ (goes_on st r) = at_state st qs r
-      at_outcome qs _ (comes_to n out trace e free apart b) = record { goes_well = same_ends o0 n status out output e ends_as; bounded = b; free = free; ends_apart = apart }
+      at_outcome qs _ (comes_to n out trace e free apart b) = record
+          { goes_well = same_ends o0 n status out output e ends_as; bounded = b; free = free; ends_apart = apart }
 
       running_is : (a b : State) → Running a ≡ Running b → a ≡ b
       running_is a b e = cc
@@ -488,13 +532,15 @@ module _ (world : World) (small : world.limits.created < 2 ^ 62) (f0 : Local × 
       reach_of qs _ st (goes_on a r) e = subst (λ z. Reach z qs) (running_is a st e) r
       reach_of qs _ st (comes_to n out trace x free apart b) e = absurd (cc)
 
-      pub follow : (st : State) (qs : List Pick) → Reach st qs → (ps : List Pick) (o : Outcome) → After world st ps o → o ≢ Refused → Alike status output (length qs + length ps) o
+      pub follow : (st : State) (qs : List Pick) → Reach st qs → (ps : List Pick) (o : Outcome) → After world st ps o → o ≢ Refused
+          → Alike status output (length qs + length ps) o
       follow st qs r _ _ (here _) ne = subst (λ n. Alike status output n (Running st)) (nought (length qs)) (at_state st qs r)
         where
           nought : (n : ℕ) → n ≡ n + 0
           nought n = omega arith
       follow st qs r _ _ (refused _ p ps no_pick) ne = absurd (ne refl)
-      follow st qs r _ _ (last _ p may) ne = subst (λ n. Alike status output n (step world st p)) (one_more qs p) (at_outcome (qs ++ p ∷ []) (step world st p) (pick_leads st qs r p may))
+      follow st qs r _ _ (last _ p may) ne = subst (λ n. Alike status output n (step world st p)) (one_more qs p)
+          (at_outcome (qs ++ p ∷ []) (step world st p) (pick_leads st qs r p may))
         where
           one_more : (qs : List Pick) (p : Pick) → length (qs ++ p ∷ []) ≡ length qs + 1
           one_more qs p = let e = length_snoc qs p in omega (arith, e)

@@ -26,7 +26,8 @@ module _ (world : World) where
   abbrev pub order_of : OrderLaws (frame_machine world (store_parts world.rows))
   order_of = order_laws world (store_parts world.rows)
 
-  pub done_on : (f : Local) (q : Pick) (v : Value) (es : List Event) → ready_in world f.scene f.begun q ≡ true → is_control q ≡ false → AllDone f.begun es → AllDone (next world f f.begun q v).begun es
+  pub done_on : (f : Local) (q : Pick) (v : Value) (es : List Event) → ready_in world f.scene f.begun q ≡ true → is_control q ≡ false → AllDone f.begun es
+      → AllDone (next world f f.begun q v).begun es
   done_on f q v [] r c d = tt
   done_on f q v (x ∷ es) r c (d, ds) = (order_of.done_stays f x.pick q v d r c, done_on f q v es r c ds)
 
@@ -42,20 +43,23 @@ module _ (world : World) where
   event_function f None u v = refl
   event_function f (Some e) u v = refl
 
-  pub event_closed : (f : Local) (o : Option Begun) (u : Place) (v : Value) → ready_in world f.scene o (Ev u) ≡ true → ClosedIn world f o → ClosedIn world (next world f o (Ev u) v) (next world f o (Ev u) v).begun
+  pub event_closed : (f : Local) (o : Option Begun) (u : Place) (v : Value) → ready_in world f.scene o (Ev u) ≡ true → ClosedIn world f o
+      → ClosedIn world (next world f o (Ev u) v) (next world f o (Ev u) v).begun
   event_closed f None u v r c = absurd (cc)
   event_closed f (Some e) u v r c = λ w h. closed_at world f.scene e u v (next_of world f.scene e u r) w (c w) h
 
   pub event_no_end : (f : Local) (u : Place) → ready_in world f.scene f.begun (Ev u) ≡ true → move world f f.begun (Ev u) ≡ End → ⊥
   event_no_end f u r h =
-      true≢false (sym (order_of.leave_control f (Ev u) r (ap (start_where (gives (does world f f.begun (Ev u)))) h ∙ end_where (gives (does world f f.begun (Ev u))))))
+      true≢false (sym (order_of.leave_control f (Ev u) r (ap (start_where (gives (does world f f.begun (Ev u)))) h
+      ∙ end_where (gives (does world f f.begun (Ev u))))))
     where
       end_where : (b : Bool) → start_where b End ≡ End
       end_where true = refl
       end_where false = refl
 
   -- what is done behind an event is that event or was done before
-  pub event_seen : (f : Local) (o : Option Begun) (u : Place) (v : Value) (y : Event) (es : List Event) → y.pick ≡ Ev u → ready_in world f.scene o (Ev u) ≡ true → AllSeen world o es
+  pub event_seen : (f : Local) (o : Option Begun) (u : Place) (v : Value) (y : Event) (es : List Event) → y.pick ≡ Ev u
+      → ready_in world f.scene o (Ev u) ≡ true → AllSeen world o es
       → AllSeen world (next world f o (Ev u) v).begun (y ∷ es)
   event_seen f None u v y es yp r seen w d = absurd (cc (r))
   event_seen f (Some e) u v y es yp r seen w d = go (same_place u w) refl d

@@ -54,7 +54,8 @@ module _ (rows : List Row) where
 
   all_pairs : (is js : List Item) → ((i j : Item) → In i is → In j js → meddles rows i j ≡ false) → meddle rows is js ≡ false
   all_pairs [] js f = refl
-  all_pairs (i ∷ is) js f = neither (meddle_one rows i js) (meddle rows is js) (all_one i js (λ j n. f i j (here is) n)) (all_pairs is js (λ k j m n. f k j (there i is m) n))
+  all_pairs (i ∷ is) js f = neither (meddle_one rows i js) (meddle rows is js) (all_one i js (λ j n. f i j (here is) n))
+      (all_pairs is js (λ k j m n. f k j (there i is m) n))
 
   backed_at : (all : List Item) (i : Item) (is : List Item) → all_backed all is ≡ true → In i is → backed_by all i ≡ true
   backed_at all i _ h (here is) = and_l (backed_by all i) (all_backed all is) h
@@ -82,7 +83,8 @@ module _ (rows : List Row) where
       go false e again = later (again (subst (λ b. (b || any_of (λ j. asks j x) js) ≡ true) e h))
 
   -- a birth or a death meets no access behind a question that it doesn't meet
-  unasked : (x y : ObjName) (js : List Item) → any_of (λ j. asks j y) js ≡ true → ((z : ObjName) → In (Alive z) js → same_object x z ≡ false) → same_object x y ≡ false
+  unasked : (x y : ObjName) (js : List Item) → any_of (λ j. asks j y) js ≡ true → ((z : ObjName) → In (Alive z) js → same_object x z ≡ false)
+      → same_object x y ≡ false
   unasked x y js h no_one = go (same_object x y) refl
     where
       go : (b : Bool) → same_object x y ≡ b → same_object x y ≡ false
@@ -124,8 +126,10 @@ module _ (rows : List Row) where
       one : (i j : Item) → In i is → In j js → meddles rows i j ≡ false
       one i j m n =
           let p = pair i j is js h m n in
-          let a = mixed i j js (backed_at js j js bj n) n (λ k nk. or_l (conflicts_one (stands_at rows) i k) (conflicts_one (stands_at rows) k i) (pair i k is js h m nk))
+          let a = mixed i j js (backed_at js j js bj n) n (λ k nk. or_l (conflicts_one (stands_at rows) i k) (conflicts_one (stands_at rows) k i)
+          (pair i k is js h m nk))
           (λ x e b. once x (bears_in x is (subst (λ z. In z is) e m)) b) in
-          let d = mixed j i is (backed_at is i is bi m) m (λ k mk. or_r (conflicts_one (stands_at rows) k j) (conflicts_one (stands_at rows) j k) (pair k j is js h mk n))
+          let d = mixed j i is (backed_at is i is bi m) m (λ k mk. or_r (conflicts_one (stands_at rows) k j) (conflicts_one (stands_at rows) j k)
+          (pair k j is js h mk n))
           (λ x e b. once x b (bears_in x js (subst (λ z. In z js) e n))) in
           neither (items_conflict (stands_at rows) i j) (mixes i j || mixes j i) p (neither (mixes i j) (mixes j i) a d)

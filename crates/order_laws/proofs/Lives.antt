@@ -6,7 +6,8 @@ use Rattle.ub_base.specs.Names.{same_object}
 use Rattle.ub_base.proofs.NameLemmas.{same_object_is}
 use Rattle.addr_map.specs.declared.map.Row.{Row}
 use Rattle.mem_spec.specs.Store.{Store, Life, dead}
-use Rattle.mem_spec.specs.Script.{Touch, Ask, Get, Put, Bear, Bury, Show, Find, Settle, Take, Print, item_of, refuses, answer, left, Script, Give, Raise, Finish, Exceed, Misplace, Do, Done, run}
+use Rattle.mem_spec.specs.Script.{Touch, Ask, Get, Put, Bear, Bury, Show, Find, Settle, Take, Print, item_of, refuses, answer, left, Script, Give, Raise}
+use Rattle.mem_spec.specs.Script.{Finish, Exceed, Misplace, Do, Done, run}
 use Rattle.mem_laws.specs.Frame.{gives, bears}
 use Rattle.mem_laws.proofs.Scripts.{Stepped, stepped}
 use Rattle.machine_laws.specs.ToldConflicts.{bear}
@@ -66,7 +67,8 @@ module _ {V : Type 0} (map : List Row) where
       let st = stepped (refuses t s) t (item_of t) (run map (f (answer map t s)) (left t s)) (gives v) is s1 h in
       run_knows (f (answer map t s)) (left t s) s1 v st.rest x st.done (touch_knows t s x k)
 
-  pub run_born : (sc : Script V) (s s1 : Store) (v : V) (is : List Item) (x : ObjName) → run map sc s ≡ Done v is s1 → bear bears is x ≡ true → (is_some (s.life x) ≡ false) × Knows s1 x
+  pub run_born : (sc : Script V) (s s1 : Store) (v : V) (is : List Item) (x : ObjName) → run map sc s ≡ Done v is s1 → bear bears is x ≡ true
+      → (is_some (s.life x) ≡ false) × Knows s1 x
   run_born (Give w) s s1 v is x h b = let e : [] ≡ is = cc in let b2 = subst (λ z. bear bears z x ≡ true) (sym e) b in absurd (cc (b2))
   run_born (Raise c) s s1 v is x h b = absurd (cc)
   run_born (Finish n) s s1 v is x h b = absurd (cc)
@@ -85,7 +87,8 @@ module _ {V : Type 0} (map : List Row) where
 
       go : (c : Bool) → bears (item_of t) x ≡ c → (st : Stepped (refuses t s) (item_of t) (run map (f (answer map t s)) (left t s)) (gives v) is s1)
           → (bears (item_of t) x || bear bears st.rest x) ≡ true
-          → (bear bears st.rest x ≡ true → (is_some ((left t s).life x) ≡ false) × Knows s1 x) → (Knows (left t s) x → Knows s1 x) → (is_some (s.life x) ≡ false) × Knows s1 x
+          → (bear bears st.rest x ≡ true → (is_some ((left t s).life x) ≡ false) × Knows s1 x) → (Knows (left t s) x → Knows s1 x)
+          → (is_some (s.life x) ≡ false) × Knows s1 x
       go true e st b later knows = (let a = touch_born t s x e st.went in (a.0, knows a.1))
       go false e st b later knows =
           (let a = later (subst (λ z. (z || bear bears st.rest x) ≡ true) e b) in (before (is_some (s.life x)) refl a.0, a.1))

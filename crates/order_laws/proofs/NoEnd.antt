@@ -3,7 +3,8 @@ use Rattle.std.proofs.Common.{◌≡◌, ℕ, suc, Bool, true, false, not, if◌
 use Rattle.std.specs.Prelude.{◌==◌}
 use Rattle.ub_base.specs.declared.clause.Kind.TheVariants.{Eff}
 use Rattle.ub_base.specs.declared.clause.Clause.{Clause}
-use Rattle.ub_base.specs.declared.clause.Clause.TheVariants.{InvalidPointer, OutOfBounds, DeadObject, StoreToLiteral, StoreToConst, EffectiveType, OverlappingAssignment}
+use Rattle.ub_base.specs.declared.clause.Clause.TheVariants.{InvalidPointer, OutOfBounds, DeadObject, StoreToLiteral, StoreToConst, EffectiveType}
+use Rattle.ub_base.specs.declared.clause.Clause.TheVariants.{OverlappingAssignment}
 use Rattle.ub_base.specs.declared.names.Event.{Event}
 use Rattle.ub_base.specs.declared.names.ObjName.{ObjName}
 use Rattle.ub_base.specs.declared.names.Item.{Item}
@@ -17,8 +18,11 @@ use Rattle.c_typed.specs.declared.tree.Access.{Access}
 use Rattle.c_typed.specs.declared.tree.Access.TheVariants as access
 use Rattle.c_typed.specs.Order.{place}
 use Rattle.mem_spec.specs.Store.{Store, TaggedByte, Life, is_live}
-use Rattle.mem_spec.specs.Script.{Touch, Ask, Get, Put, Bear, Bury, Show, Find, Settle, Take, Print, item_of, Answer, refuses, refused, answer, left, Script, Give, Raise, Finish, Exceed, Misplace, Do, ◌>>=◌, Act, Done, Raised, Ended, Outside, Unplaced, touched, run, require, touch, ◌>>◌}
-use Rattle.mem_spec.specs.Acts.{Accessed, Seen, scalar, whole, bytes, in_row, offset_in, is_aligned, declared_of, is_literal, is_constant, suits_store, stored_from, object_of, access as access_act, check_writable, store}
+use Rattle.mem_spec.specs.Script.{Touch, Ask, Get, Put, Bear, Bury, Show, Find, Settle, Take, Print, item_of, Answer, refuses, refused, answer, left}
+use Rattle.mem_spec.specs.Script.{Script, Give, Raise, Finish, Exceed, Misplace, Do, ◌>>=◌, Act, Done, Raised, Ended, Outside, Unplaced, touched, run}
+use Rattle.mem_spec.specs.Script.{require, touch, ◌>>◌}
+use Rattle.mem_spec.specs.Acts.{Accessed, Seen, scalar, whole, bytes, in_row, offset_in, is_aligned, declared_of, is_literal, is_constant, suits_store}
+use Rattle.mem_spec.specs.Acts.{stored_from, object_of, access as access_act, check_writable, store}
 use Rattle.mem_spec.specs.Bytes.{number_bytes, pointer_bytes}
 use Rattle.c_model.specs.Program.{Filling, Head, Assign, Update, Listed, Expr, expr}
 use Rattle.c_model.specs.World.{World}
@@ -34,7 +38,8 @@ NoEnd (Finish n) = ⊥
 NoEnd (Do t k) = (a : Answer t) → NoEnd (k a)
 NoEnd _ = Unit {0}
 
-no_end_touched : {V : Type 0} → (i : Item) (a : Act V) (n : ℕ) (is : List Item) (s : Store) → ((k : ℕ) (js : List Item) (t : Store) → a ≡ Ended k js t → ⊥) → touched i a ≡ Ended n is s → ⊥
+no_end_touched : {V : Type 0} → (i : Item) (a : Act V) (n : ℕ) (is : List Item) (s : Store) → ((k : ℕ) (js : List Item) (t : Store) → a ≡ Ended k js t → ⊥)
+    → touched i a ≡ Ended n is s → ⊥
 no_end_touched i (Done v js t) n is s h e = cc
 no_end_touched i (Raised c) n is s h e = cc
 no_end_touched i (Ended k js t) n is s h e = h k js t refl
@@ -53,7 +58,8 @@ no_end_refused (Find a) n is s e = cc
 no_end_refused Take n is s e = cc
 no_end_refused (Print bs) n is s e = cc
 
-no_end_if : {V : Type 0} → (b : Bool) (x y : Act V) (n : ℕ) (is : List Item) (s : Store) → (x ≡ Ended n is s → ⊥) → (y ≡ Ended n is s → ⊥) → if b then x else y ≡ Ended n is s → ⊥
+no_end_if : {V : Type 0} → (b : Bool) (x y : Act V) (n : ℕ) (is : List Item) (s : Store) → (x ≡ Ended n is s → ⊥) → (y ≡ Ended n is s → ⊥)
+    → if b then x else y ≡ Ended n is s → ⊥
 no_end_if true x y n is s h k e = h e
 no_end_if false x y n is s h k e = k e
 
@@ -126,12 +132,14 @@ store_goes_on rows first via align a p bs =
     bind (access_act rows (length bs) align a p) (λ at. require (suits_store via (declared_of at.life) at.from) EffectiveType >> put_at first via bs at)
     (access_goes_on rows (length bs) align a p)
     (λ at. need (suits_store via (declared_of at.life) at.from) EffectiveType (put_at first via bs at)
-    (bind (check_writable first at.life) (λ u. touch (Put at.object at.from (stored_from (declared_of at.life) via 0 bs))) (writable_goes_on first at.life) (λ w. λ b. tt)))
+    (bind (check_writable first at.life) (λ u. touch (Put at.object at.from (stored_from (declared_of at.life) via 0 bs))) (writable_goes_on first at.life)
+    (λ w. λ b. tt)))
 
 whole_goes_on : (rows : List Row) (first : Bool) (size align : ℕ) (p : Pointer) (v : Value) → NoEnd (put_whole rows first size align p v)
 whole_goes_on rows first size align p (values.Whole bs source) =
     bind (store rows first whole align p.address p.prov bs) (λ u. require (not (overlap_inexactly size p.address source)) OverlappingAssignment >> Give Nothing)
-    (store_goes_on rows first whole align p.address p.prov bs) (λ u. need (not (overlap_inexactly size p.address source)) OverlappingAssignment (Give Nothing) tt)
+    (store_goes_on rows first whole align p.address p.prov bs) (λ u. need (not (overlap_inexactly size p.address source)) OverlappingAssignment
+    (Give Nothing) tt)
 whole_goes_on rows first size align p _ = tt
 
 put_goes_on : (rows : List Row) (first : Bool) (how : Access) (ty : CType) (p : Pointer) (v : Value) → NoEnd (put rows first how ty p v)
@@ -154,7 +162,8 @@ fill_goes_on rows p (c ∷ cs) =
 
 effect_goes_on : (rows : List Row) (who : Event) (h : Head) (ty : CType) (vs : List Value) (own : Value) → NoEnd (act_of rows who h ty Eff vs own)
 effect_goes_on rows who (Assign first how) ty vs own = put_goes_on rows first how ty (pointer_of (value_at vs 0)) (value_at vs 1)
-effect_goes_on rows who (Update c old) ty vs own = put_goes_on rows false (change_access c) ty (pointer_of (value_at vs 0)) (new_value c old own (amount old vs))
+effect_goes_on rows who (Update c old) ty vs own = put_goes_on rows false (change_access c) ty (pointer_of (value_at vs 0))
+    (new_value c old own (amount old vs))
 effect_goes_on rows who (Listed slot fillings) ty vs own = fill_goes_on rows (pointer_of (value_at vs 0)) fillings
 effect_goes_on rows who _ ty _ own = tt
 
@@ -162,7 +171,8 @@ module _ (world : World) where
   event_goes_on : (f : Scene) (e : Begun) (k : ℕ) (o : Option Expr) → NoEnd (event_act world f e (place k Eff) o)
   event_goes_on f e k None = tt
   event_goes_on f e k (Some (expr h ty line es)) =
-      effect_goes_on world.rows (event_of world f (place k Eff)) h (target (first_type es)) (operand_values world f e.given (suc k) h es) (or_nothing (e.given (place k (own_kind Eff))))
+      effect_goes_on world.rows (event_of world f (place k Eff)) h (target (first_type es)) (operand_values world f e.given (suc k) h es)
+      (or_nothing (e.given (place k (own_kind Eff))))
 
   pub does_goes_on : (f : Local) (b : Option Begun) (k : ℕ) → NoEnd (does world f b (Ev (place k Eff)))
   does_goes_on f None k = tt

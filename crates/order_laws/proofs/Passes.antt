@@ -40,7 +40,8 @@ module _ (world : World) (asked : LibraryAsked world) where
   told : Tells M (clash world.rows) bears (λ x s. is_some (s.life x)) backed
   told = tells world (acts_ask world asked)
 
-  acts_apart : (f g : Local × ℕ) (p q : Pick) (v w : Value) (is js : List Item) (s s1 s2 : Store) → Does M f p s v is s1 → Does M g q s1 w js s2 → conflict world.rows is js ≡ false → Apart M is js
+  acts_apart : (f g : Local × ℕ) (p q : Pick) (v w : Value) (is js : List Item) (s s1 s2 : Store) → Does M f p s v is s1 → Does M g q s1 w js s2
+      → conflict world.rows is js ≡ false → Apart M is js
   acts_apart f g p q v w is js s s1 s2 a b free =
       told.apart is js (told.backed_act f p s v is s1 a) (told.backed_act g q s1 w js s2 b)
       (λ x bx by. true≢false (sym (told.born_new f p s v is s1 x a bx).1 ∙ (told.born_new g q s1 w js s2 x b by).0)) (any_told world is js ∙ free)
@@ -49,7 +50,8 @@ module _ (world : World) (asked : LibraryAsked world) where
   Lives x s = is_some (s.life x) ≡ true
 
   -- also where other acts come between them
-  made_apart : (f g : Local × ℕ) (p q : Pick) (b c : Evaluation Pick Value Item) (s s1 s2 s3 : Store) → ((x : ObjName) → Lives x s1 → Lives x s2) → Made M b f p s s1 → Made M c g q s2 s3
+  made_apart : (f g : Local × ℕ) (p q : Pick) (b c : Evaluation Pick Value Item) (s s1 s2 s3 : Store) → ((x : ObjName) → Lives x s1 → Lives x s2)
+      → Made M b f p s s1 → Made M c g q s2 s3
       → conflict world.rows (its b) (its c) ≡ false → Apart M (its b) (its c)
   made_apart f g p q b c s s1 s2 s3 on hb hc free =
       told.apart (its b) (its c) (backed_in M E (clash world.rows) bears (λ x s. is_some (s.life x)) backed told b f p s s1 hb)
@@ -60,24 +62,28 @@ module _ (world : World) (asked : LibraryAsked world) where
 
 pub two_frames_swap : TwoFramesSwap
 two_frames_swap world asked f g p q v w is js s s1 s2 a b free =
-    acts_swap (program_machine world (store_parts world.rows)) (keeps world asked).0 f g p q v w is js s s1 s2 a b (acts_apart world asked f g p q v w is js s s1 s2 a b free)
+    acts_swap (program_machine world (store_parts world.rows)) (keeps world asked).0 f g p q v w is js s s1 s2 a b
+    (acts_apart world asked f g p q v w is js s s1 s2 a b free)
 
 pub two_steps_swap : TwoStepsSwap
 two_steps_swap world asked f p q v w is js s s1 s2 rp rq ne a b free =
     let m = program_machine world (store_parts world.rows) in
-    steps_swap m (keeps world asked).0 (keeps world asked).1 f p q v w is js s s1 s2 rp rq ne a b (acts_apart world asked f (m.next f p v) p q v w is js s s1 s2 a b free)
+    steps_swap m (keeps world asked).0 (keeps world asked).1 f p q v w is js s s1 s2 rp rq ne a b
+    (acts_apart world asked f (m.next f p v) p q v w is js s s1 s2 a b free)
 
 pub body_passes : BodyPasses
 body_passes world asked f p q b c s s1 s2 rp rq ne hb hc free =
     let m = program_machine world (store_parts world.rows) in
-    evaluations_swap m (keeps world asked).0 (keeps world asked).1 f p q b c s s1 s2 rp rq ne hb hc (made_apart world asked f (m.next f p (value b)) p q b c s s1 s1 s2 (λ x l. l) hb hc free)
+    evaluations_swap m (keeps world asked).0 (keeps world asked).1 f p q b c s s1 s2 rp rq ne hb hc
+    (made_apart world asked f (m.next f p (value b)) p q b c s s1 s1 s2 (λ x l. l) hb hc free)
 
 pub update_passes : UpdatePasses
 update_passes world asked f p q b v w is js s s1 s2 s3 rp rq ne op hb hv hw free1 free2 =
     let m = program_machine world (store_parts world.rows) in
     update_first m (keeps world asked).0 (keeps world asked).1 (keeps world asked).3 f p q b v w is js s s1 s2 s3 rp rq ne op hb hv hw
     (made_apart world asked f (m.next f p (value b)) p q b (act v is) s s1 s1 s2 (λ x l. l) hb hv free1)
-    (made_apart world asked f (m.next (m.next f p (value b)) q v) p (m.half q) b (act w js) s s1 s2 s3 (λ x l. (told world asked).lives_on (m.next f p (value b)) q s1 v is s2 x hv.1 l) hb hw free2)
+    (made_apart world asked f (m.next (m.next f p (value b)) q v) p (m.half q) b (act w js) s s1 s2 s3
+    (λ x l. (told world asked).lives_on (m.next f p (value b)) q s1 v is s2 x hv.1 l) hb hw free2)
 
 pub update_is_whole : UpdateIsWhole
 update_is_whole world f e u m closed up gv ge ub may =

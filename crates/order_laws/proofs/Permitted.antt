@@ -1,5 +1,6 @@
 -- The picks that are permitted in the model are the machine's, and the next one of the canonical order is permitted.
-use Rattle.std.proofs.Common.{◌≡◌, ℕ, suc, ◌+◌, ◌<◌, ◌≤◌, Bool, true, false, not, ◌&&◌, ◌||◌, ◌==◌, nat_lt, if◌then◌else◌, true≢false, List, [], ◌∷◌, ◌++◌, Option, Some, None, is_some, refl, sym, ap, ◌∙◌, subst, ◌⊎◌, inl, inr, append_assoc, arith}
+use Rattle.std.proofs.Common.{◌≡◌, ℕ, suc, ◌+◌, ◌<◌, ◌≤◌, Bool, true, false, not, ◌&&◌, ◌||◌, ◌==◌, nat_lt, if◌then◌else◌, true≢false, List, [], ◌∷◌}
+use Rattle.std.proofs.Common.{◌++◌, Option, Some, None, is_some, refl, sym, ap, ◌∙◌, subst, ◌⊎◌, inl, inr, append_assoc, arith}
 use Rattle.std.specs.Prelude.{is_none}
 use Rattle.std.specs.List.{list_all}
 use Rattle.ub_base.specs.declared.clause.Kind.TheVariants.{Val, Eff}
@@ -121,7 +122,8 @@ or_cases false b h = inr h
 
 opened_or : (taken : Taken) (done : Place → Bool) (class : Class) (ts : Trees) (k : ℕ)
     → ((own_rule class Val Eff && (done (place k Val) && not (done (place k Eff)))) ≡ true) ⊎ (operand_is_open taken done class (taken k) 0 (suc k) ts ≡ true)
-    → (operand_is_open taken done class (taken k) 0 (suc k) ts ≡ true → OpenAt done (suc k) (sizes ts) (update_among (suc k) ts)) → OpenAt done k (size (node class ts)) (update_at k (node class ts))
+    → (operand_is_open taken done class (taken k) 0 (suc k) ts ≡ true → OpenAt done (suc k) (sizes ts) (update_among (suc k) ts))
+    → OpenAt done k (size (node class ts)) (update_at k (node class ts))
 opened_or taken done class ts k (inl a) later =
     let b = and_r (own_rule class Val Eff) _ a in
     record {
@@ -172,13 +174,16 @@ opened_next taken done t ts class choice i m (inr a) here later =
 mutual
   opened_in : (taken : Taken) (done : Place → Bool) (t : Tree) (k : ℕ) → update_is_open taken done k t ≡ true → OpenAt done k (size t) (update_at k t)
   opened_in taken done (node class ts) k h =
-      opened_or taken done class ts k (or_cases (own_rule class Val Eff && (done (place k Val) && not (done (place k Eff)))) _ h) (opened_among taken done ts class (taken k) 0 (suc k))
+      opened_or taken done class ts k (or_cases (own_rule class Val Eff && (done (place k Val) && not (done (place k Eff)))) _ h)
+      (opened_among taken done ts class (taken k) 0 (suc k))
 
-  opened_among : (taken : Taken) (done : Place → Bool) (ts : Trees) (class : Class) (choice : Option ℕ) (i m : ℕ) → operand_is_open taken done class choice i m ts ≡ true
+  opened_among : (taken : Taken) (done : Place → Bool) (ts : Trees) (class : Class) (choice : Option ℕ) (i m : ℕ)
+      → operand_is_open taken done class choice i m ts ≡ true
       → OpenAt done m (sizes ts) (update_among m ts)
   opened_among taken done none class choice i m h = absurd (true≢false (sym h))
   opened_among taken done (more t ts) class choice i m h =
-      opened_next taken done t ts class choice i m (or_cases (goes class choice i && update_is_open taken done m t) _ h) (opened_in taken done t m) (opened_among taken done ts class choice (suc i) (m + size t))
+      opened_next taken done t ts class choice i m (or_cases (goes class choice i && update_is_open taken done m t) _ h) (opened_in taken done t m)
+      (opened_among taken done ts class choice (suc i) (m + size t))
 
 -- and one whose value is due and done and whose effect isn't done is open
 module _ (taken : Taken) (done : Place → Bool) (m : ℕ) (value : done (place m Val) ≡ true) (effect : done (place m Eff) ≡ false) where
@@ -186,14 +191,16 @@ module _ (taken : Taken) (done : Place → Bool) (m : ℕ) (value : done (place 
       → ((own_rule class Val Eff && (done (place k Val) && not (done (place k Eff)))) || y) ≡ true
   node_open true x y class k e h f =
       let mk : m ≡ k = grind (arith, e) in
-      or_a _ _ (and_b _ _ (rule_of class h) (and_b _ _ (subst (λ z. done (place z Val) ≡ true) mk value) (to_not _ (subst (λ z. done (place z Eff) ≡ false) mk effect))))
+      or_a _ _ (and_b _ _ (rule_of class h) (and_b _ _ (subst (λ z. done (place z Val) ≡ true) mk value)
+      (to_not _ (subst (λ z. done (place z Eff) ≡ false) mk effect))))
   node_open false x y class k e h f = or_b _ _ (f refl h)
 
   pass : (b x y : Bool) → b ≡ false → (if b then x else y) ≡ true → y ≡ true
   pass false x y e h = h
   pass true x y e h = absurd (cc)
 
-  next_open : (b g d d2 u u2 o o2 : Bool) → (if b then g && d else d2) ≡ true → (if b then u else u2) ≡ true → (d ≡ true → u ≡ true → o ≡ true) → (d2 ≡ true → u2 ≡ true → o2 ≡ true) → ((g && o) || o2) ≡ true
+  next_open : (b g d d2 u u2 o o2 : Bool) → (if b then g && d else d2) ≡ true → (if b then u else u2) ≡ true → (d ≡ true → u ≡ true → o ≡ true)
+      → (d2 ≡ true → u2 ≡ true → o2 ≡ true) → ((g && o) || o2) ≡ true
   next_open true g d d2 u u2 o o2 h k f f2 = or_a _ _ (and_b g o (and_l g d h) (f (and_r g d h) k))
   next_open false g d d2 u u2 o o2 h k f f2 = or_b _ _ (f2 h k)
 
@@ -203,11 +210,13 @@ module _ (taken : Taken) (done : Place → Bool) (m : ℕ) (value : done (place 
         node_open (m == k) (update_among (suc k) ts m) (operand_is_open taken done class (taken k) 0 (suc k) ts) class k refl u
         (λ e x. open_among ts class (taken k) 0 (suc k) (pass (m == k) _ _ e d) x)
 
-    open_among : (ts : Trees) (class : Class) (choice : Option ℕ) (i k : ℕ) → due_among taken class choice i k ts (place m Val) ≡ true → update_among k ts m ≡ true
+    open_among : (ts : Trees) (class : Class) (choice : Option ℕ) (i k : ℕ) → due_among taken class choice i k ts (place m Val) ≡ true
+        → update_among k ts m ≡ true
         → operand_is_open taken done class choice i k ts ≡ true
     open_among none class choice i k d u = absurd (true≢false (sym d))
     open_among (more t ts) class choice i k d u =
-        next_open (nat_lt m (k + size t)) (goes class choice i) (due_in taken k t (place m Val)) (due_among taken class choice (suc i) (k + size t) ts (place m Val))
+        next_open (nat_lt m (k + size t)) (goes class choice i) (due_in taken k t (place m Val))
+        (due_among taken class choice (suc i) (k + size t) ts (place m Val))
         (update_at k t m) (update_among (k + size t) ts m) (update_is_open taken done k t) (operand_is_open taken done class choice (suc i) (k + size t) ts) d u
         (open_at t k) (open_among ts class choice (suc i) (k + size t))
 
@@ -259,7 +268,8 @@ has_parts : (us vs : List Place) (u : Place) → has (us ++ vs) u ≡ true → (
 has_parts [] vs u h = inr h
 has_parts (v ∷ us) vs u h = go (or_cases (same_place u v) (has (us ++ vs) u) h) (has_parts us vs u)
   where
-    go : (same_place u v ≡ true) ⊎ (has (us ++ vs) u ≡ true) → (has (us ++ vs) u ≡ true → (has us u ≡ true) ⊎ (has vs u ≡ true)) → (has (v ∷ us) u ≡ true) ⊎ (has vs u ≡ true)
+    go : (same_place u v ≡ true) ⊎ (has (us ++ vs) u ≡ true) → (has (us ++ vs) u ≡ true → (has us u ≡ true) ⊎ (has vs u ≡ true))
+        → (has (v ∷ us) u ≡ true) ⊎ (has vs u ≡ true)
     go (inl s) later = inl (or_a _ _ s)
     go (inr s) later = elim (later s) [
       | inl k ↦ inl (or_b _ _ k)
@@ -268,13 +278,15 @@ has_parts (v ∷ us) vs u h = go (or_cases (same_place u v) (has (us ++ vs) u) h
 
 -- where the value of an update is due, so is its effect
 module _ (taken : Taken) where
-  own_due : (b x y : Bool) (class : Class) → (if b then is_update class else x) ≡ true → (if b then has_kind (kinds_of class) Val else y) ≡ true → (z : Bool) → (x ≡ true → y ≡ true → z ≡ true)
+  own_due : (b x y : Bool) (class : Class) → (if b then is_update class else x) ≡ true → (if b then has_kind (kinds_of class) Val else y) ≡ true
+      → (z : Bool) → (x ≡ true → y ≡ true → z ≡ true)
       → (if b then has_kind (kinds_of class) Eff else z) ≡ true
   own_due true x y Update h k z f = refl
   own_due true x y _ h k z f = absurd (cc)
   own_due false x y class h k z f = f h k
 
-  next_due : (b g d d2 u u2 e e2 : Bool) → (if b then u else u2) ≡ true → (if b then g && d else d2) ≡ true → (u ≡ true → d ≡ true → e ≡ true) → (u2 ≡ true → d2 ≡ true → e2 ≡ true)
+  next_due : (b g d d2 u u2 e e2 : Bool) → (if b then u else u2) ≡ true → (if b then g && d else d2) ≡ true → (u ≡ true → d ≡ true → e ≡ true)
+      → (u2 ≡ true → d2 ≡ true → e2 ≡ true)
       → (if b then g && e else e2) ≡ true
   next_due true g d d2 u u2 e e2 k h f f2 = and_b g e (and_l g d h) (f k (and_r g d h))
   next_due false g d d2 u u2 e e2 k h f f2 = f2 k h
@@ -282,22 +294,27 @@ module _ (taken : Taken) where
   mutual
     effect_due : (t : Tree) (k m : ℕ) → update_at k t m ≡ true → due_in taken k t (place m Val) ≡ true → due_in taken k t (place m Eff) ≡ true
     effect_due (node class ts) k m u d =
-        own_due (m == k) (update_among (suc k) ts m) (due_among taken class (taken k) 0 (suc k) ts (place m Val)) class u d (due_among taken class (taken k) 0 (suc k) ts (place m Eff))
+        own_due (m == k) (update_among (suc k) ts m) (due_among taken class (taken k) 0 (suc k) ts (place m Val)) class u d
+        (due_among taken class (taken k) 0 (suc k) ts (place m Eff))
         (effect_among ts class (taken k) 0 (suc k) m)
 
-    effect_among : (ts : Trees) (class : Class) (choice : Option ℕ) (i k m : ℕ) → update_among k ts m ≡ true → due_among taken class choice i k ts (place m Val) ≡ true
+    effect_among : (ts : Trees) (class : Class) (choice : Option ℕ) (i k m : ℕ) → update_among k ts m ≡ true
+        → due_among taken class choice i k ts (place m Val) ≡ true
         → due_among taken class choice i k ts (place m Eff) ≡ true
     effect_among none class choice i k m u d = absurd (true≢false (sym d))
     effect_among (more t ts) class choice i k m u d =
-        next_due (nat_lt m (k + size t)) (goes class choice i) (due_in taken k t (place m Val)) (due_among taken class choice (suc i) (k + size t) ts (place m Val))
-        (update_at k t m) (update_among (k + size t) ts m) (due_in taken k t (place m Eff)) (due_among taken class choice (suc i) (k + size t) ts (place m Eff)) u d
+        next_due (nat_lt m (k + size t)) (goes class choice i) (due_in taken k t (place m Val))
+        (due_among taken class choice (suc i) (k + size t) ts (place m Val))
+        (update_at k t m) (update_among (k + size t) ts m) (due_in taken k t (place m Eff))
+        (due_among taken class choice (suc i) (k + size t) ts (place m Eff)) u d
         (effect_due t k m) (effect_among ts class choice (suc i) (k + size t) m)
 
 module _ (world : World) where
   open_none : (f : Scene) (e : Begun) → IsClosed world f e → update_is_open (taken_by world f e) (is_done e) 0 (tree_of e.root) ≡ false → none_open e ≡ true
   open_none f e closed h = none_put e (λ m l up g. go m up g (is_some (e.given (place m Eff))) refl)
     where
-      go : (m : ℕ) → update_at 0 (tree_of e.root) m ≡ true → is_some (e.given (place m Val)) ≡ true → (b : Bool) → is_some (e.given (place m Eff)) ≡ b → is_some (e.given (place m Eff)) ≡ true
+      go : (m : ℕ) → update_at 0 (tree_of e.root) m ≡ true → is_some (e.given (place m Val)) ≡ true → (b : Bool) → is_some (e.given (place m Eff)) ≡ b
+          → is_some (e.given (place m Eff)) ≡ true
       go m up g true k = k
       go m up g false k =
           absurd (true≢false (sym (open_at (taken_by world f e) (is_done e) m g k (tree_of e.root) 0 (closed (place m Val) g).due up) ∙ h))
@@ -305,7 +322,8 @@ module _ (world : World) where
   none_is_open : (f : Scene) (e : Begun) → none_open e ≡ true → update_is_open (taken_by world f e) (is_done e) 0 (tree_of e.root) ≡ false
   none_is_open f e h = go (update_is_open (taken_by world f e) (is_done e) 0 (tree_of e.root)) refl
     where
-      go : (b : Bool) → update_is_open (taken_by world f e) (is_done e) 0 (tree_of e.root) ≡ b → update_is_open (taken_by world f e) (is_done e) 0 (tree_of e.root) ≡ false
+      go : (b : Bool) → update_is_open (taken_by world f e) (is_done e) 0 (tree_of e.root) ≡ b
+          → update_is_open (taken_by world f e) (is_done e) 0 (tree_of e.root) ≡ false
       go false k = k
       go true k =
           (let o = opened_in (taken_by world f e) (is_done e) (tree_of e.root) 0 k in
@@ -340,7 +358,8 @@ module _ (world : World) where
         ready = record {
           due = of_due f e u n.due;
           left = ap is_some n.left;
-          earlier = λ v b. n.earlier v (to_due f e v (before_due (tree_of e.root) (taken_by world f e) v u b).0) (before_found (tree_of e.root) (taken_by world f e) v u b);
+          earlier = λ v b. n.earlier v (to_due f e v (before_due (tree_of e.root) (taken_by world f e) v u b).0)
+              (before_found (tree_of e.root) (taken_by world f e) v u b);
         };
         no_split = splits (is_body u.kind) s;
       }
@@ -364,21 +383,26 @@ module _ (world : World) where
       go u false d = refl
       go u true d = not_not (is_some (e.given u)) (settled u d)
 
-  pub settled_done : (f : Local) (e : Begun) → ready_in world f.scene (Some e) Control ≡ true → (u : Place) → due_now world f.scene e u ≡ true → is_done e u ≡ true
+  pub settled_done : (f : Local) (e : Begun) → ready_in world f.scene (Some e) Control ≡ true → (u : Place) → due_now world f.scene e u ≡ true
+      → is_done e u ≡ true
   settled_done f e h u d =
       implied (due_now world f.scene e u) (is_some (e.given u))
-      (get (λ u. not (due_now world f.scene e u) || is_some (e.given u)) (nodes e) h u (let r = due_lt (taken_by world f.scene e) (tree_of e.root) 0 u d in omega (arith, r))) d
+      (get (λ u. not (due_now world f.scene e u) || is_some (e.given u)) (nodes e) h u
+      (let r = due_lt (taken_by world f.scene e) (tree_of e.root) 0 u d in omega (arith, r))) d
 
   control_settled : (f : Local) (e : Begun) → ready_in world f.scene (Some e) Control ≡ true → is_settled world f e ≡ true
-  control_settled f e h = ap is_none (none_first (λ u. not (is_done e u)) (events (taken_by world f.scene e) 0 (tree_of e.root)) (λ u k. one u (to_due f.scene e u k)))
+  control_settled f e h = ap is_none (none_first (λ u. not (is_done e u)) (events (taken_by world f.scene e) 0 (tree_of e.root))
+      (λ u k. one u (to_due f.scene e u k)))
     where
       one : (u : Place) → due_now world f.scene e u ≡ true → not (is_done e u) ≡ false
       one u d =
           ap not (implied (due_now world f.scene e u) (is_some (e.given u))
-          (get (λ u. not (due_now world f.scene e u) || is_some (e.given u)) (nodes e) h u (let r = due_lt (taken_by world f.scene e) (tree_of e.root) 0 u d in omega (arith, r))) d)
+          (get (λ u. not (due_now world f.scene e u) || is_some (e.given u)) (nodes e) h u
+          (let r = due_lt (taken_by world f.scene e) (tree_of e.root) 0 u d in omega (arith, r))) d)
 
   agree_in : (f : Local) (o : Option Begun) (p : Pick) → ClosedIn world f o
-      → (MayPick world f o p → (ready_in world f.scene o p ≡ true) × (may_start_in o p ≡ true)) × ((ready_in world f.scene o p ≡ true) × (may_start_in o p ≡ true) → MayPick world f o p)
+      → (MayPick world f o p → (ready_in world f.scene o p ≡ true) × (may_start_in o p ≡ true))
+      × ((ready_in world f.scene o p ≡ true) × (may_start_in o p ≡ true) → MayPick world f o p)
   agree_in f None Control c = ((λ h. (refl, refl)), (λ h. tt))
   agree_in f None (Ev u) c = ((λ h. absurd h), (λ h. absurd (cc (h.0))))
   agree_in f (Some e) Control c = ((λ h. (control_ready f e h, refl)), (λ h. control_settled f e h.0))
@@ -404,7 +428,8 @@ module _ (world : World) where
           ready = record {
             due = d;
             left = not_of _ (and_l (not (done u)) _ l);
-            earlier = λ v b. before_done v b (all_has (λ v. done v || not (is_before taken 0 root v u)) (events taken 0 root) v (and_r (not (done u)) _ l) (before_due root taken v u b).0);
+            earlier = λ v b. before_done v b (all_has (λ v. done v || not (is_before taken 0 root v u)) (events taken 0 root) v (and_r (not (done u)) _ l)
+                (before_due root taken v u b).0);
           };
           no_split = not_of _ (and_r (is_ready root taken done u) _ h);
         }
@@ -418,10 +443,12 @@ module _ (world : World) where
             go false false p k = absurd (cc)
 
     -- where none is permitted, the effect of an open update would be
-    effect_permitted : (m : ℕ) → update_at 0 root m ≡ true → due_in taken 0 root (place m Eff) ≡ true → done (place m Val) ≡ true → done (place m Eff) ≡ false → is_permitted root taken done (place m Eff) ≡ true
+    effect_permitted : (m : ℕ) → update_at 0 root m ≡ true → due_in taken 0 root (place m Eff) ≡ true → done (place m Val) ≡ true
+        → done (place m Eff) ≡ false → is_permitted root taken done (place m Eff) ≡ true
     effect_permitted m up d v l =
         and_b _ _
-        (and_b _ _ d (and_b _ _ (to_not _ l) (all_of (λ w. done w || not (is_before taken 0 root w (place m Eff))) (events taken 0 root) (λ w h. go w h (is_before taken 0 root w (place m Eff)) refl))))
+        (and_b _ _ d (and_b _ _ (to_not _ l) (all_of (λ w. done w || not (is_before taken 0 root w (place m Eff))) (events taken 0 root)
+        (λ w h. go w h (is_before taken 0 root w (place m Eff)) refl))))
         refl
       where
         earlier : (w : Place) → has (events taken 0 root) w ≡ true → (w ≡ place m Val) ⊎ (is_before taken 0 root w (place m Val) ≡ true) → done w ≡ true
@@ -444,9 +471,11 @@ module _ (world : World) where
           go true k =
               (let o = opened_in taken done root 0 k in
               let d = effect_due taken root 0 o.number o.update (closed (place o.number Val) o.value).due in
-              absurd (true≢false (sym (effect_permitted o.number o.update d o.value o.effect) ∙ not_permitted (place o.number Eff) (of_due f.scene e (place o.number Eff) d))))
+              absurd (true≢false (sym (effect_permitted o.number o.update d o.value o.effect)
+              ∙ not_permitted (place o.number Eff) (of_due f.scene e (place o.number Eff) d))))
 
-      last_done : (us : List Place) (v : Place) (vs : List Place) → events taken 0 root ≡ us ++ v ∷ vs → ((w : Place) → has us w ≡ true → done w ≡ true) → has (events taken 0 root) v ≡ true → done v ≡ true
+      last_done : (us : List Place) (v : Place) (vs : List Place) → events taken 0 root ≡ us ++ v ∷ vs → ((w : Place) → has us w ≡ true → done w ≡ true)
+          → has (events taken 0 root) v ≡ true → done v ≡ true
       last_done us v vs listed before listed_v = go (done v) refl
         where
           earlier : (w : Place) → has (events taken 0 root) w ≡ true → (b : Bool) → is_before taken 0 root w v ≡ b → (done w || not b) ≡ true
@@ -456,7 +485,8 @@ module _ (world : World) where
           ready : done v ≡ false → is_ready root taken done v ≡ true
           ready l =
               and_b _ _ (to_due f.scene e v listed_v)
-              (and_b _ _ (to_not _ l) (all_of (λ w. done w || not (is_before taken 0 root w v)) (events taken 0 root) (λ w h. earlier w h (is_before taken 0 root w v) refl)))
+              (and_b _ _ (to_not _ l) (all_of (λ w. done w || not (is_before taken 0 root w v)) (events taken 0 root)
+              (λ w h. earlier w h (is_before taken 0 root w v) refl)))
 
           no_body : (b : Bool) → not (b && update_is_open taken done 0 root) ≡ true
           no_body false = refl
@@ -466,11 +496,13 @@ module _ (world : World) where
           go true k = k
           go false k = absurd (true≢false (sym (and_b _ _ (ready k) (no_body (is_body v.kind))) ∙ not_permitted v listed_v))
 
-      all_done : (us vs : List Place) → events taken 0 root ≡ us ++ vs → ((w : Place) → has us w ≡ true → done w ≡ true) → (w : Place) → has vs w ≡ true → done w ≡ true
+      all_done : (us vs : List Place) → events taken 0 root ≡ us ++ vs → ((w : Place) → has us w ≡ true → done w ≡ true) → (w : Place) → has vs w ≡ true
+          → done w ≡ true
       all_done us [] listed before w h = absurd (cc)
       all_done us (v ∷ vs) listed before w h =
           let dv = last_done us v vs listed before (subst (λ z. has z v ≡ true) (sym listed) (has_right us (v ∷ vs) v (or_a _ _ (same_place_itself v)))) in
-          go dv (or_cases (same_place w v) (has vs w) h) (all_done (us ++ v ∷ []) vs (listed ∙ sym (append_assoc us (v ∷ []) vs)) (λ x k. one dv x (has_parts us (v ∷ []) x k)))
+          go dv (or_cases (same_place w v) (has vs w) h) (all_done (us ++ v ∷ []) vs (listed ∙ sym (append_assoc us (v ∷ []) vs))
+          (λ x k. one dv x (has_parts us (v ∷ []) x k)))
         where
           one : done v ≡ true → (x : Place) → (has us x ≡ true) ⊎ (has (v ∷ []) x ≡ true) → done x ≡ true
           one dv x (inl k) = before x k
@@ -484,7 +516,8 @@ module _ (world : World) where
           go dv (inr s) later = later w s
 
       settled : is_settled world f e ≡ true
-      settled = ap is_none (none_first (λ u. not (is_done e u)) (events taken 0 root) (λ u h. ap not (all_done [] (events taken 0 root) refl (λ w k. absurd (cc (k))) u h)))
+      settled = ap is_none (none_first (λ u. not (is_done e u)) (events taken 0 root)
+          (λ u h. ap not (all_done [] (events taken 0 root) refl (λ w k. absurd (cc (k))) u h)))
 
     canonical_in : (c : Option Place) → canonical root taken done ≡ c → MayPick world f (Some e) (chosen_pick world c)
     canonical_in None h = settled h

@@ -1,5 +1,6 @@
 -- Each act of a program has backed items, where the library's scripts ask.
-use Rattle.std.proofs.Common.{◌≡◌, refl, ℕ, suc, Bool, true, false, ◌||◌, if◌then◌else◌, arith, List, [], ◌∷◌, Option, Some, None, is_some, ap, inl, inr, sym, ◌∙◌}
+use Rattle.std.proofs.Common.{◌≡◌, refl, ℕ, suc, Bool, true, false, ◌||◌, if◌then◌else◌, arith, List, [], ◌∷◌, Option, Some, None, is_some, ap, inl, inr}
+use Rattle.std.proofs.Common.{sym, ◌∙◌}
 use Rattle.std.specs.Prelude.{replicate}
 use Rattle.std.proofs.lemmas.Bool.Decides.{nat_tests}
 use Rattle.ub_base.specs.declared.clause.Clause.{Clause}
@@ -26,7 +27,9 @@ use Rattle.c_model.specs.Values.{Value, Nothing, or_nothing, later_values}
 use Rattle.c_model.specs.Program.{Head, Call, Expr, expr, Exprs, Decl, Function}
 use Rattle.c_model.specs.Nodes.{put, act_of}
 use Rattle.c_model.specs.Control.{Enter, Leave, Unwrite, Todo, ready_work}
-use Rattle.c_model.specs.Steps.{Scene, Local, Begun, Pick, Control, Ev, at_node, event_of, auto_name, object_kind, turn_of, target, first_type, function_type, operand_values, values_of, argument_types, own_kind, library_act, called_by, call_by, call_through, call_act, event_act, object_at, pass_all, bear_all, kill_all, result_of, control_act, does}
+use Rattle.c_model.specs.Steps.{Scene, Local, Begun, Pick, Control, Ev, at_node, event_of, auto_name, object_kind, turn_of, target, first_type}
+use Rattle.c_model.specs.Steps.{function_type, operand_values, values_of, argument_types, own_kind, library_act, called_by, call_by, call_through}
+use Rattle.c_model.specs.Steps.{call_act, event_act, object_at, pass_all, bear_all, kill_all, result_of, control_act, does}
 use Rattle.order_laws.specs.StrictItems.{asks, backed}
 use Rattle.order_laws.specs.StoreParts.{counted_after}
 use Rattle.order_laws.specs.Asking.{Anything, Asked, AskedOrEnds, LibraryAsked, ActsAsk, ActsCount}
@@ -37,7 +40,8 @@ size_is : (o : Option Row) (size align : ℕ) → has_place o size align ≡ tru
 size_is None size align h = absurd (cc)
 size_is (Some r) size align h = grind (arith, nat_tests, h)
 
-pub create_asks : (rows : List Row) (x : ObjName) (size align : ℕ) (kind : ObjKind) (declared : Option Form) (bs : List Item) → Asked rows (create rows x size align kind declared) bs
+pub create_asks : (rows : List Row) (x : ObjName) (size align : ℕ) (kind : ObjKind) (declared : Option Form) (bs : List Item)
+    → Asked rows (create rows x size align kind declared) bs
 create_asks rows x size align kind declared bs = go (has_place (row_of rows x) size align) refl
   where
     go : (b : Bool) → has_place (row_of rows x) size align ≡ b
@@ -64,30 +68,36 @@ module _ (world : World)
       → Asked world.rows (bear_all world f turn k ds rest) bs
   bear_asks f turn k [] rest bs h = h bs
   bear_asks f turn k (d ∷ ds) rest bs h =
-      go_on world.rows (create world.rows (auto_name world f turn k) d.size d.align (object_kind d.constant) d.form) (λ u. bear_all world f turn (suc k) ds rest) bs
+      go_on world.rows (create world.rows (auto_name world f turn k) d.size d.align (object_kind d.constant) d.form)
+      (λ u. bear_all world f turn (suc k) ds rest) bs
       (create_asks world.rows (auto_name world f turn k) d.size d.align (object_kind d.constant) d.form bs) (λ u cs. bear_asks f turn (suc k) ds rest cs h)
 
   kill_asks : (f : Scene) (turn k : ℕ) (ds : List Decl) (rest : Script Value) (bs : List Item) → ((cs : List Item) → Asked world.rows rest cs)
       → Asked world.rows (kill_all world f turn k ds rest) bs
   kill_asks f turn k [] rest bs h = h bs
   kill_asks f turn k (d ∷ ds) rest bs h =
-      go_on world.rows (kill (auto_name world f turn k)) (λ u. kill_all world f turn (suc k) ds rest) bs (λ r. tt) (λ u cs. kill_asks f turn (suc k) ds rest cs h)
+      go_on world.rows (kill (auto_name world f turn k)) (λ u. kill_all world f turn (suc k) ds rest) bs (λ r. tt)
+      (λ u cs. kill_asks f turn (suc k) ds rest cs h)
 
   checked : (b : Bool) (c : Clause) (t : Script Value) (bs : List Item) → AskedOrEnds world.rows t bs → AskedOrEnds world.rows (require b c >> t) bs
   checked true c t bs h = h
   checked false c t bs h = inl tt
 
-  library_act_asks : (who : Event) (ts : List CType) (vs : List Value) (o : Option LibFunc) (bs : List Item) → AskedOrEnds world.rows (library_act world who ts vs o) bs
+  library_act_asks : (who : Event) (ts : List CType) (vs : List Value) (o : Option LibFunc) (bs : List Item)
+      → AskedOrEnds world.rows (library_act world who ts vs o) bs
   library_act_asks who ts vs None bs = inl tt
   library_act_asks who ts vs (Some g) bs = library_asks g who ts vs bs
 
-  call_by_asks : (who : Event) (ty : CType) (ts : List CType) (vs : List Value) (o : Option (ℕ × Function)) (bs : List Item) → AskedOrEnds world.rows (call_by world who ty ts vs o) bs
+  call_by_asks : (who : Event) (ty : CType) (ts : List CType) (vs : List Value) (o : Option (ℕ × Function)) (bs : List Item)
+      → AskedOrEnds world.rows (call_by world who ty ts vs o) bs
   call_by_asks who ty ts vs None bs = inl tt
   call_by_asks who ty ts vs (Some c) bs =
-      checked (is_some c.1.body || is_some c.1.library) InvalidPointer (require (world.agree c.1.ty ty) IncompatibleCall >> library_act world who ts vs c.1.library) bs
+      checked (is_some c.1.body || is_some c.1.library) InvalidPointer
+      (require (world.agree c.1.ty ty) IncompatibleCall >> library_act world who ts vs c.1.library) bs
       (checked (world.agree c.1.ty ty) IncompatibleCall (library_act world who ts vs c.1.library) bs (library_act_asks who ts vs c.1.library bs))
 
-  through_asks : (who : Event) (ty : Option CType) (ts : List CType) (vs : List Value) (bs : List Item) → AskedOrEnds world.rows (call_through world who ty ts vs) bs
+  through_asks : (who : Event) (ty : Option CType) (ts : List CType) (vs : List Value) (bs : List Item)
+      → AskedOrEnds world.rows (call_through world who ty ts vs) bs
   through_asks who None ts vs bs = inl tt
   through_asks who (Some ty) ts vs bs = call_by_asks who ty ts (later_values vs) (called_by world vs) bs
 
@@ -95,7 +105,8 @@ module _ (world : World)
   call_asks who (Call discarded) es vs bs = through_asks who (function_type (target (first_type es))) (argument_types es) vs bs
   call_asks who _ es vs bs = inl tt
 
-  either_way : (b : Bool) (x y : Script Value) (bs : List Item) → AskedOrEnds world.rows x bs → AskedOrEnds world.rows y bs → AskedOrEnds world.rows (if b then x else y) bs
+  either_way : (b : Bool) (x y : Script Value) (bs : List Item) → AskedOrEnds world.rows x bs → AskedOrEnds world.rows y bs
+      → AskedOrEnds world.rows (if b then x else y) bs
   either_way true x y bs h k = h
   either_way false x y bs h k = k
 

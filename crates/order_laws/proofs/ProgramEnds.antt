@@ -29,7 +29,8 @@ ended_so (Outside c n) e h k = cc
 ended_so Unplaced e h k = cc
 
 -- a body that starts a frame gives a value at once
-not_started : (rows : List Row) (x : Script Value) (mv : Move Local) (s : Store) (g : Local) (e : Stopped ℕ Store Item) → ended_by (run rows x s) ≡ Some e → start_where (gives x) mv ≡ Start g → ⊥
+not_started : (rows : List Row) (x : Script Value) (mv : Move Local) (s : Store) (g : Local) (e : Stopped ℕ Store Item) → ended_by (run rows x s) ≡ Some e
+    → start_where (gives x) mv ≡ Start g → ⊥
 not_started rows (Give v) mv s g e h k = cc
 not_started rows (Raise c) mv s g e h k = cc
 not_started rows (Exceed c n) mv s g e h k = cc
@@ -57,13 +58,16 @@ module _ {Part Seen Fact : Type 0} (world : World) (parts : StorePart Part Seen 
   abbrev act_at : Local → Pick → Script Value
   act_at f p = does world f f.begun p
 
-  half_of : (b : Option Begun) (g : Local) (q : Pick) (s : Store) (e : Stopped ℕ Store Item) → opens_in b q ≡ true → ended_by (run world.rows (act_at g (half q)) s) ≡ Some e → ⊥
+  half_of : (b : Option Begun) (g : Local) (q : Pick) (s : Store) (e : Stopped ℕ Store Item) → opens_in b q ≡ true
+      → ended_by (run world.rows (act_at g (half q)) s) ≡ Some e → ⊥
   half_of None g Control s e o h = cc
   half_of (Some b) g Control s e o h = cc
   half_of b g (Ev u) s e o h =
-      ended_so (run world.rows (act_at g (half (Ev u))) s) e h (λ n is s1. no_end_run world.rows (act_at g (half (Ev u))) s (does_goes_on world g g.begun u.node) n is s1)
+      ended_so (run world.rows (act_at g (half (Ev u))) s) e h (λ n is s1. no_end_run world.rows (act_at g (half (Ev u))) s
+      (does_goes_on world g g.begun u.node) n is s1)
 
-  half_moves : (b : Option Begun) (g h : Local) (q : Pick) → opens_in b q ≡ true → start_where (gives (act_at g (half q))) (move world g g.begun (half q)) ≡ Start h → ⊥
+  half_moves : (b : Option Begun) (g h : Local) (q : Pick) → opens_in b q ≡ true
+      → start_where (gives (act_at g (half q))) (move world g g.begun (half q)) ≡ Start h → ⊥
   half_moves None g h Control o e = cc
   half_moves (Some b) g h Control o e = cc
   half_moves b g h (Ev u) o e =

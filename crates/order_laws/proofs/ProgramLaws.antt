@@ -58,14 +58,16 @@ module _ (world : World) (asked : LibraryAsked world) where
   pub ends_keep : EndLaws (program_machine world (store_parts world.rows)) (program_ends world (store_parts world.rows))
   ends_keep =
       let parts = store_parts world.rows in
-      deep_end (frame_machine world parts) (frame_ends world) weight world.limits.depth (acts_keep world asked) (frame_laws world parts) (order_laws world parts) (update_laws world parts) (end_laws world parts)
+      deep_end (frame_machine world parts) (frame_ends world) weight world.limits.depth (acts_keep world asked) (frame_laws world parts)
+      (order_laws world parts) (update_laws world parts) (end_laws world parts)
 
   abbrev lives : ObjName → Store → Bool
   lives x s = is_some (s.life x)
 
 pub orders_tell : ProgramOrdersTell
 orders_tell world asked f s k o s' run b ps ord =
-    every_order_tells (program_machine world (store_parts world.rows)) (program_ends world (store_parts world.rows)) (clash world.rows) bears (lives world asked) backed
+    every_order_tells (program_machine world (store_parts world.rows)) (program_ends world (store_parts world.rows)) (clash world.rows) bears
+    (lives world asked) backed
     (tells world (acts_ask world asked)) (keeps world asked) (ends_keep world asked) f s k o s' run b ps ord
 
 ended_was : (a : Act Value) (n : ℕ) (is : List Item) (s1 : Store) → ended_by a ≡ Some (record { number = n; items = is; store = s1 }) → a ≡ Ended n is s1
@@ -113,21 +115,25 @@ module _ (world : World) (small : world.limits.created < 2 ^ 62) where
   shrinks : Shrinks (program_machine world (store_parts world.rows)) (program_ends world (store_parts world.rows)) within
   shrinks = record {
     does_less = λ f p s v is s1 d w.
-        of_fits s (script_grows world.rows (does world f.0 f.0.begun p) s (gives v) is s1 world.limits.created world.limits.output small (ran f p s v is s1 d) (to_fits s1 w));
+        of_fits s (script_grows world.rows (does world f.0 f.0.begun p) s (gives v) is s1 world.limits.created world.limits.output small
+        (ran f p s v is s1 d) (to_fits s1 w));
     ends_less = λ f p s n is s1 e w.
         of_fits s (script_grows world.rows (does world f.0 f.0.begun p) s (finishes n) is s1 world.limits.created world.limits.output small
         (ended_was (run world.rows (does world f.0 f.0.begun p) s) n is s1 e) (to_fits s1 w));
   }
     where
-      ran : (f : Local × ℕ) (p : Pick) (s : Store) (v : Value) (is : List Item) (s1 : Store) → Does (program_machine world (store_parts world.rows)) f p s v is s1
+      ran : (f : Local × ℕ) (p : Pick) (s : Store) (v : Value) (is : List Item) (s1 : Store)
+          → Does (program_machine world (store_parts world.rows)) f p s v is s1
           → run world.rows (does world f.0 f.0.begun p) s ≡ Done v is s1
       ran f p s v is s1 h =
           let m = frame_machine world (store_parts world.rows) in
           done_was (run world.rows (does world f.0 f.0.begun p) s) v is s1
           (was m (frame_ends world) weight world.limits.depth f.1 (m.move f.0 p) (m.does f.0 p s) (record { value = v; items = is; store = s1 }) h)
 
-  pub stays_fit : LibraryAsked world → (f : Local × ℕ) (s : Store) (k : ℕ) (o : Result Value ℕ) (s' : Store) → RunsTo (told_machine world) (told_ends world) f s k o s' → Fits world small s'
-      → (b : orders.State (Local × ℕ) Pick Value ℕ Store Item) (ps : List Pick) → Order (told_machine world) (told_ends world) (going f [] [] s) ps b → Fits world small (store_of b)
+  pub stays_fit : LibraryAsked world → (f : Local × ℕ) (s : Store) (k : ℕ) (o : Result Value ℕ) (s' : Store)
+      → RunsTo (told_machine world) (told_ends world) f s k o s' → Fits world small s'
+      → (b : orders.State (Local × ℕ) Pick Value ℕ Store Item) (ps : List Pick) → Order (told_machine world) (told_ends world) (going f [] [] s) ps b
+      → Fits world small (store_of b)
   stays_fit asked f s k o s' rn w b ps ord =
       let m = program_machine world (store_parts world.rows) in
       let e = program_ends world (store_parts world.rows) in

@@ -63,21 +63,25 @@ any_right : (f : Item → Bool) (is js : List Item) → any_of f js ≡ true →
 any_right f [] js h = h
 any_right f (i ∷ is) js h = or_right (f i) (any_of f (is ++ js)) (any_right f is js h)
 
-by_more : (is js : List Item) (i : Item) → ((x : ObjName) → any_of (λ j. asks j x) is ≡ true → any_of (λ j. asks j x) js ≡ true) → backed_by is i ≡ true → backed_by js i ≡ true
+by_more : (is js : List Item) (i : Item) → ((x : ObjName) → any_of (λ j. asks j x) is ≡ true → any_of (λ j. asks j x) js ≡ true) → backed_by is i ≡ true
+    → backed_by js i ≡ true
 by_more is js (Read x a n) f h = f x h
 by_more is js (Write x a n) f h = f x h
 by_more is js Ending f h = h
 by_more is js _ f h = refl
 
-all_more : (is js ks : List Item) → ((x : ObjName) → any_of (λ j. asks j x) is ≡ true → any_of (λ j. asks j x) js ≡ true) → all_backed is ks ≡ true → all_backed js ks ≡ true
+all_more : (is js ks : List Item) → ((x : ObjName) → any_of (λ j. asks j x) is ≡ true → any_of (λ j. asks j x) js ≡ true) → all_backed is ks ≡ true
+    → all_backed js ks ≡ true
 all_more is js [] f h = refl
 all_more is js (k ∷ ks) f h =
-    and_both (backed_by js k) (all_backed js ks) (by_more is js k f (and_l (backed_by is k) (all_backed is ks) h)) (all_more is js ks f (and_r (backed_by is k) (all_backed is ks) h))
+    and_both (backed_by js k) (all_backed js ks) (by_more is js k f (and_l (backed_by is k) (all_backed is ks) h))
+    (all_more is js ks f (and_r (backed_by is k) (all_backed is ks) h))
 
 all_joined : (all is js : List Item) → all_backed all is ≡ true → all_backed all js ≡ true → all_backed all (is ++ js) ≡ true
 all_joined all [] js h k = k
 all_joined all (i ∷ is) js h k =
-    and_both (backed_by all i) (all_backed all (is ++ js)) (and_l (backed_by all i) (all_backed all is) h) (all_joined all is js (and_r (backed_by all i) (all_backed all is) h) k)
+    and_both (backed_by all i) (all_backed all (is ++ js)) (and_l (backed_by all i) (all_backed all is) h)
+    (all_joined all is js (and_r (backed_by all i) (all_backed all is) h) k)
 
 backed_both : (is js : List Item) → backed is ≡ true → backed js ≡ true → backed (is ++ js) ≡ true
 backed_both is js h k =
@@ -111,7 +115,8 @@ module _ (world : World) where
   any_told [] js = refl
   any_told (i ∷ is) js = ap₂ (λ a b. a || b) (one_told i js) (any_told is js)
 
-  ran : (f : Local × ℕ) (p : Pick) (s : Store) (v : Value) (is : List Item) (s1 : Store) → Does M f p s v is s1 → run world.rows (does world f.0 f.0.begun p) s ≡ Done v is s1
+  ran : (f : Local × ℕ) (p : Pick) (s : Store) (v : Value) (is : List Item) (s1 : Store) → Does M f p s v is s1
+      → run world.rows (does world f.0 f.0.begun p) s ≡ Done v is s1
   ran f p s v is s1 h =
       done_was (run world.rows (does world f.0 f.0.begun p) s) v is s1
       (was base (frame_ends world) weight world.limits.depth f.1 (base.move f.0 p) (base.does f.0 p s) (record { value = v; items = is; store = s1 }) h)

@@ -1,5 +1,6 @@
 -- Of the frames that are open along an order: their events are done, stand beside one another as they did, and have their items in the trace.
-use Rattle.std.proofs.Common.{◌≡◌, ◌≢◌, ℕ, ◌≤◌, Bool, true, false, not, if◌then◌else◌, true≢false, List, [], ◌∷◌, ◌++◌, length, Option, Some, None, is_some, refl, sym, ap, ◌∙◌, subst, ◌⊎◌, inl, inr, arith}
+use Rattle.std.proofs.Common.{◌≡◌, ◌≢◌, ℕ, ◌≤◌, Bool, true, false, not, if◌then◌else◌, true≢false, List, [], ◌∷◌, ◌++◌, length, Option, Some, None}
+use Rattle.std.proofs.Common.{is_some, refl, sym, ap, ◌∙◌, subst, ◌⊎◌, inl, inr, arith}
 use Rattle.ub_base.specs.Frames.{Path}
 use Rattle.ub_base.specs.declared.names.Item.{Item}
 use Rattle.ub_base.specs.declared.names.Item.TheVariants.{Any, Ending}
@@ -52,17 +53,20 @@ module _ (world : World) where
   -- a later event stands beside an earlier one as it did, and isn't the same
   abbrev pub LevelWith : Local → Event → List Event → Type 0
   LevelWith f e [] = Unit {0}
-  LevelWith f e (d ∷ ds) = ((M.beside e.frame d.pick e.pick ≡ true → level_in world f.scene f.begun d.pick e.pick ≡ true) × (d.pick ≢ e.pick)) × LevelWith f e ds
+  LevelWith f e (d ∷ ds) = ((M.beside e.frame d.pick e.pick ≡ true → level_in world f.scene f.begun d.pick e.pick ≡ true) × (d.pick ≢ e.pick))
+      × LevelWith f e ds
 
   abbrev pub LevelAll : Local → List Event → Type 0
   LevelAll f [] = Unit {0}
   LevelAll f (e ∷ es) = LevelWith f e es × LevelAll f es
 
-  level_on : (f : Local) (q : Pick) (v : Value) (e : Event) (es : List Event) → ready_in world f.scene f.begun q ≡ true → is_control q ≡ false → LevelWith f e es → LevelWith (next world f f.begun q v) e es
+  level_on : (f : Local) (q : Pick) (v : Value) (e : Event) (es : List Event) → ready_in world f.scene f.begun q ≡ true → is_control q ≡ false
+      → LevelWith f e es → LevelWith (next world f f.begun q v) e es
   level_on f q v e [] r c l = tt
   level_on f q v e (d ∷ ds) r c (l, ls) = (((λ b. order_of.level_next f d.pick e.pick q v (l.0 b) r c), l.1), level_on f q v e ds r c ls)
 
-  pub levels_on : (f : Local) (q : Pick) (v : Value) (es : List Event) → ready_in world f.scene f.begun q ≡ true → is_control q ≡ false → LevelAll f es → LevelAll (next world f f.begun q v) es
+  pub levels_on : (f : Local) (q : Pick) (v : Value) (es : List Event) → ready_in world f.scene f.begun q ≡ true → is_control q ≡ false → LevelAll f es
+      → LevelAll (next world f f.begun q v) es
   levels_on f q v [] r c l = tt
   levels_on f q v (e ∷ es) r c (l, ls) = (level_on f q v e es r c l, levels_on f q v es r c ls)
 
@@ -102,7 +106,8 @@ module _ (world : World) where
   DueAt f None v = ⊥
   DueAt f (Some e) v = is_due (tree_of e.root) (taken_by world f.scene e) v ≡ true
 
-  done_due : (f : Local) (o : Option Begun) (v : Place) → ClosedIn world f o → level_in world f.scene o (Ev v) (Ev v) ≡ true ⊎ (is_some o ≡ true) → done_in o (Ev v) ≡ true → DueAt f o v
+  done_due : (f : Local) (o : Option Begun) (v : Place) → ClosedIn world f o → level_in world f.scene o (Ev v) (Ev v) ≡ true ⊎ (is_some o ≡ true)
+      → done_in o (Ev v) ≡ true → DueAt f o v
   done_due f None v c (inl l) d = absurd (cc (l))
   done_due f None v c (inr l) d = absurd (cc (l))
   done_due f (Some e) v c l d = of_due world f.scene e v (c v (and_l (is_some (e.given v)) _ d)).due
@@ -111,8 +116,10 @@ module _ (world : World) where
   ready_due f None v r = absurd (cc (r))
   ready_due f (Some e) v r = of_due world f.scene e v (next_of world f.scene e v r).due
 
-  pair_free : (trace : List Entry) (f : Local) (o : Option Begun) (u v : Place) (is js : List Item) → ClosedIn world f o → FreeAt trace f o → DueAt f o v → done_in o (Ev u) ≡ true → u ≢ v
-      → level_in world f.scene o (Ev u) (Ev v) ≡ true → Logged world.rows trace f.scene.path f.scene.turn u is → Logged world.rows trace f.scene.path f.scene.turn v js → conflict world.rows is js ≡ false
+  pair_free : (trace : List Entry) (f : Local) (o : Option Begun) (u v : Place) (is js : List Item) → ClosedIn world f o → FreeAt trace f o → DueAt f o v
+      → done_in o (Ev u) ≡ true → u ≢ v
+      → level_in world f.scene o (Ev u) (Ev v) ≡ true → Logged world.rows trace f.scene.path f.scene.turn u is
+      → Logged world.rows trace f.scene.path f.scene.turn v js → conflict world.rows is js ≡ false
   pair_free trace f None u v is js c fr dv du ne l a b = absurd (cc)
   pair_free trace f (Some e) u v is js c fr dv du ne l a b =
       let be = and_r _ (beside_in world f.scene (Some e) (Ev u) (Ev v)) l in
@@ -121,7 +128,8 @@ module _ (world : World) where
       (fr u v (of_due world f.scene e u ru.due) dv ne
       (not_of _ (and_l (not (before_now world f.scene e u v)) _ be)) (not_of _ (and_r (not (before_now world f.scene e u v)) _ be)))
 
-  with_quiet : (trace : List Entry) (f : Local) (e : Event) (w : Place) (es : List Event) → ClosedIn world f f.begun → FreeAt trace f f.begun → e.pick ≡ Ev w → DueAt f f.begun w
+  with_quiet : (trace : List Entry) (f : Local) (e : Event) (w : Place) (es : List Event) → ClosedIn world f f.begun → FreeAt trace f f.begun
+      → e.pick ≡ Ev w → DueAt f f.begun w
       → Logged world.rows trace f.scene.path f.scene.turn w e.items → AllDone f.begun es → LevelWith f e es → AllLogged trace f es → QuietWith M E e es
   with_quiet trace f e w [] c fr ep ed el dn lv lg = tt
   with_quiet trace f e w (d ∷ ds) c fr ep ed el (dn, dns) (lv, lvs) ((u, up, ul), lgs) = (
@@ -131,7 +139,8 @@ module _ (world : World) where
     with_quiet trace f e w ds c fr ep ed el dns lvs lgs,
   )
 
-  pub quiet_frame : (trace : List Entry) (f : Local) (es : List Event) → is_some f.begun ≡ true → ClosedIn world f f.begun → FreeAt trace f f.begun → AllDone f.begun es → LevelAll f es → AllLogged trace f es → Quiet M E es
+  pub quiet_frame : (trace : List Entry) (f : Local) (es : List Event) → is_some f.begun ≡ true → ClosedIn world f f.begun → FreeAt trace f f.begun
+      → AllDone f.begun es → LevelAll f es → AllLogged trace f es → Quiet M E es
   quiet_frame trace f [] has c fr dn lv lg = tt
   quiet_frame trace f (e ∷ es) has c fr (dn, dns) (lv, lvs) ((w, wp, wl), lgs) = (
     with_quiet trace f e w es c fr wp (done_due f f.begun w c (inr has) (subst (λ z. done_in f.begun z ≡ true) wp dn)) wl dns lv lgs,
@@ -143,7 +152,8 @@ module _ (world : World) where
   if_both true x y h k = h
   if_both false x y h k = k
 
-  pub free_settled : (trace : List Entry) (f : Local) (o : Option Begun) → ready_in world f.scene o Control ≡ true → least_pair world trace (quarrels world.rows) (open_on_top world trace f o) ≡ None
+  pub free_settled : (trace : List Entry) (f : Local) (o : Option Begun) → ready_in world f.scene o Control ≡ true
+      → least_pair world trace (quarrels world.rows) (open_on_top world trace f o) ≡ None
       → FreeAt trace f o
   free_settled trace f None r h = tt
   free_settled trace f (Some e) r h =
@@ -162,7 +172,8 @@ module _ (world : World) where
 
   -- where the run ends inside the expression
   any_free : (is js : List Item) → conflict world.rows (is ++ (Any ∷ [])) (js ++ (Any ∷ [])) ≡ false → conflict world.rows is js ≡ false
-  any_free is js h = swapped js is (left_free world.rows js (Any ∷ []) is (swapped is (js ++ (Any ∷ [])) (left_free world.rows is (Any ∷ []) (js ++ (Any ∷ [])) h)))
+  any_free is js h = swapped js is (left_free world.rows js (Any ∷ []) is
+      (swapped is (js ++ (Any ∷ [])) (left_free world.rows is (Any ∷ []) (js ++ (Any ∷ [])) h)))
     where
       swapped : (xs ys : List Item) → conflict world.rows xs ys ≡ false → conflict world.rows ys xs ≡ false
       swapped xs ys h = go (conflict world.rows ys xs) refl
@@ -177,14 +188,16 @@ module _ (world : World) where
   EndsFree trace f (Some e) =
       (u v : Place) → is_due (tree_of e.root) (taken_by world f.scene e) u ≡ true → is_due (tree_of e.root) (taken_by world f.scene e) v ≡ true → u ≢ v
       → is_before (taken_by world f.scene e) 0 (tree_of e.root) u v ≡ false → is_before (taken_by world f.scene e) 0 (tree_of e.root) v u ≡ false
-      → conflict world.rows (items_by trace trace f.scene.path f.scene.turn u ++ (Any ∷ [])) (items_by trace trace f.scene.path f.scene.turn v ++ (Any ∷ [])) ≡ false
+      → conflict world.rows (items_by trace trace f.scene.path f.scene.turn u ++ (Any ∷ []))
+      (items_by trace trace f.scene.path f.scene.turn v ++ (Any ∷ [])) ≡ false
 
   pub free_ends : (trace : List Entry) (f : Local) (o : Option Begun) → EndsFree trace f o → FreeAt trace f o
   free_ends trace f None h = tt
   free_ends trace f (Some e) h = λ u v du dv ne b c.
       any_free (items_by trace trace f.scene.path f.scene.turn u) (items_by trace trace f.scene.path f.scene.turn v) (h u v du dv ne b c)
 
-  ends_here : (trace : List Entry) (f : Local) (o : Option Begun) (inner : List Open) → least_pair world trace (quarrels world.rows) (ends_in world trace f o inner) ≡ None
+  ends_here : (trace : List Entry) (f : Local) (o : Option Begun) (inner : List Open)
+      → least_pair world trace (quarrels world.rows) (ends_in world trace f o inner) ≡ None
       → EndsFree trace f o × (least_pair world trace (quarrels world.rows) inner ≡ None)
   ends_here trace f None inner h = (tt, h)
   ends_here trace f (Some e) inner h =
@@ -198,7 +211,8 @@ module _ (world : World) where
   AllEndFree trace [] = Unit {0}
   AllEndFree trace (m ∷ ms) = EndsFree trace m.0 m.0.begun × AllEndFree trace ms
 
-  pub all_end_free : (trace : List Entry) (ms : List (Local × Place)) (inner : List Open) → least_pair world trace (quarrels world.rows) (all_open world trace ms inner) ≡ None
+  pub all_end_free : (trace : List Entry) (ms : List (Local × Place)) (inner : List Open)
+      → least_pair world trace (quarrels world.rows) (all_open world trace ms inner) ≡ None
       → AllEndFree trace ms × (least_pair world trace (quarrels world.rows) inner ≡ None)
   all_end_free trace [] inner h = (tt, h)
   all_end_free trace (m ∷ ms) inner h =
@@ -206,14 +220,16 @@ module _ (world : World) where
       let e = ends_here trace m.0 m.0.begun inner r.1 in
       ((e.0, r.0), e.1)
 
-  pub top_ends_free : (trace : List Entry) (f : Local) → least_pair world trace (quarrels world.rows) (ends_in world trace f f.begun []) ≡ None → EndsFree trace f f.begun
+  pub top_ends_free : (trace : List Entry) (f : Local) → least_pair world trace (quarrels world.rows) (ends_in world trace f f.begun []) ≡ None
+      → EndsFree trace f f.begun
   top_ends_free trace f h = (ends_here trace f f.begun [] h).0
 
   -- items with an end meet the item `any`
   abbrev pub HasEnd : List Item → Type 0
   HasEnd is = (js : List Item) → conflict world.rows is (js ++ (Any ∷ [])) ≡ true
 
-  lone_pair : (trace : List Entry) (f : Local) (e : Begun) (u v : Place) (is : List Item) → EndsFree trace f (Some e) → HasEnd is → Logged world.rows trace f.scene.path f.scene.turn u is
+  lone_pair : (trace : List Entry) (f : Local) (e : Begun) (u v : Place) (is : List Item) → EndsFree trace f (Some e) → HasEnd is
+      → Logged world.rows trace f.scene.path f.scene.turn u is
       → is_due (tree_of e.root) (taken_by world f.scene e) u ≡ true → is_due (tree_of e.root) (taken_by world f.scene e) v ≡ true → u ≢ v
       → is_before (taken_by world f.scene e) 0 (tree_of e.root) u v ≡ false → is_before (taken_by world f.scene e) 0 (tree_of e.root) v u ≡ false → ⊥
   lone_pair trace f e u v is fr he l du dv ne b c =
@@ -223,7 +239,8 @@ module _ (world : World) where
       true≢false (sym (he js) ∙ k)
 
   -- so an event that ends the run, or a body in which it ends, stands alone
-  only_it : (trace : List Entry) (f : Local) (o : Option Begun) (u : Place) (is : List Item) → f.begun ≡ o → EndsFree trace f o → HasEnd is → Logged world.rows trace f.scene.path f.scene.turn u is
+  only_it : (trace : List Entry) (f : Local) (o : Option Begun) (u : Place) (is : List Item) → f.begun ≡ o → EndsFree trace f o → HasEnd is
+      → Logged world.rows trace f.scene.path f.scene.turn u is
       → ready_in world f.scene o (Ev u) ≡ true → (x : Pick) → ready_in world f.scene o x ≡ true → x ≡ Ev u
   only_it trace f None u is fb fr he l r x rx = absurd (cc (r))
   only_it trace f (Some e) u is fb fr he l r x rx = go x rx (order_of.same_pick x (Ev u))
@@ -237,11 +254,14 @@ module _ (world : World) where
       go (Ev w) rx (inr ne) =
           (let l2 = subst (λ z. level_in world f.scene z (Ev w) (Ev u) ≡ true) fb (order_of.level_ready f (Ev w) (Ev u) (at (Ev w) rx) (at (Ev u) r) ne) in
           let be = and_r _ (beside_in world f.scene (Some e) (Ev w) (Ev u)) l2 in
-          absurd (lone_pair trace f e u w is fr he l (of_due world f.scene e u (next_of world f.scene e u r).due) (of_due world f.scene e w (next_of world f.scene e w rx).due)
-          (λ q. ne (ap Ev (sym q))) (not_of _ (and_r (not (before_now world f.scene e w u)) _ be)) (not_of _ (and_l (not (before_now world f.scene e w u)) _ be))))
+          absurd (lone_pair trace f e u w is fr he l (of_due world f.scene e u (next_of world f.scene e u r).due)
+          (of_due world f.scene e w (next_of world f.scene e w rx).due)
+          (λ q. ne (ap Ev (sym q))) (not_of _ (and_r (not (before_now world f.scene e w u)) _ be))
+          (not_of _ (and_l (not (before_now world f.scene e w u)) _ be))))
 
   none_by : (trace : List Entry) (f : Local) (d : ℕ) (o : Option Begun) (u : Place) (is : List Item) → f.begun ≡ o → EndsFree trace f o → HasEnd is
-      → Logged world.rows trace f.scene.path f.scene.turn u is → ready_in world f.scene o (Ev u) ≡ true → ClosedIn world f o → (es : List Event) → AllDone o es → AllLogged trace f es
+      → Logged world.rows trace f.scene.path f.scene.turn u is → ready_in world f.scene o (Ev u) ≡ true → ClosedIn world f o → (es : List Event)
+      → AllDone o es → AllLogged trace f es
       → NoneBeside M E (f, d) (Ev u) es
   none_by trace f d o u is fb fr he l r c [] dn lg = tt
   none_by trace f d None u is fb fr he l r c (x ∷ es) dn lg = absurd (cc (r))
@@ -260,7 +280,8 @@ module _ (world : World) where
           (λ k. left_pick (Some e) f.scene u r (subst (λ z. done_in (Some e) (Ev z) ≡ true) (sym k) dw))
           (not_of _ (and_r (not (before_now world f.scene e w u)) _ be)) (not_of _ (and_l (not (before_now world f.scene e w u)) _ be))))
 
-  pub lone_event : (trace : List Entry) (f : Local) (d : ℕ) (u : Place) (is : List Item) (es : List Event) → EndsFree trace f f.begun → HasEnd is → Logged world.rows trace f.scene.path f.scene.turn u is
+  pub lone_event : (trace : List Entry) (f : Local) (d : ℕ) (u : Place) (is : List Item) (es : List Event) → EndsFree trace f f.begun → HasEnd is
+      → Logged world.rows trace f.scene.path f.scene.turn u is
       → ready_in world f.scene f.begun (Ev u) ≡ true → ClosedIn world f f.begun → AllDone f.begun es → AllLogged trace f es → Alone M E (f, d) (Ev u) es
   lone_event trace f d u is es fr he l r c dn lg = record {
     only = λ x rx. only_it trace f f.begun u is refl fr he l r x rx;
@@ -285,11 +306,15 @@ module _ (world : World) where
   HeldAll trace (m ∷ ms) (h ∷ hs) path = HeldAlong trace m.0 m.1 ms h path × HeldAll trace ms hs m.0.scene.path
   HeldAll trace ms hs path = ⊥
 
-  pub all_logged : (trace : List Entry) (x : Entry) (f : Local) (es : List Event) → ((w : Place) → done_in f.begun (Ev w) ≡ true → is_of f.scene.path f.scene.turn w x ≡ false) → AllDone f.begun es
+  pub all_logged : (trace : List Entry) (x : Entry) (f : Local) (es : List Event)
+      → ((w : Place) → done_in f.begun (Ev w) ≡ true → is_of f.scene.path f.scene.turn w x ≡ false) → AllDone f.begun es
       → AllLogged trace f es → AllLogged (x ∷ trace) f es
   all_logged trace x f [] other dn l = tt
-  all_logged trace x f (d ∷ es) other (dn, dns) ((w, p, lg), ls) =
-      ((w, p, logged_on world.rows trace f.scene.path f.scene.turn w d.items x (other w (subst (λ z. done_in f.begun z ≡ true) p dn)) lg), all_logged trace x f es other dns ls)
+  all_logged trace x f (d ∷ es) other (dn, dns) ((w, p, lg), ls) = (
+    (w, p, logged_on world.rows trace f.scene.path f.scene.turn w d.items x (other w (subst (λ z. done_in f.begun z ≡ true) p dn)) lg),
+    all_logged trace
+        x f es other dns ls,
+  )
 
   pub under_refl : (p : Path) → is_under p p ≡ true
   under_refl [] = refl
@@ -307,7 +332,8 @@ module _ (world : World) where
       go (inl s) later = or_b (same_path (b ∷ p) q) _ (subst (λ z. is_under z q ≡ true) (sym (ap tail_of (path_is (b ∷ p) (a ∷ q) s))) (under_refl q))
       go (inr s) later = or_b (same_path (b ∷ p) q) _ (later s)
 
-  pub held_on : (trace : List Entry) (x : Entry) (ms : List (Local × Place)) (hs : List Held) (path : Path) → length path ≤ length x.path → is_under x.path path ≡ true → HeldAll trace ms hs path
+  pub held_on : (trace : List Entry) (x : Entry) (ms : List (Local × Place)) (hs : List Held) (path : Path) → length path ≤ length x.path
+      → is_under x.path path ≡ true → HeldAll trace ms hs path
       → HeldAll (x ∷ trace) ms (orders.added x.items hs) path
   held_on trace x [] [] path l un h = tt
   held_on trace x [] (h ∷ hs) path l un ok = absurd ok
@@ -326,13 +352,15 @@ module _ (world : World) where
           done = a.done;
           level = a.level;
           past = all_logged trace x f h.past (λ w dw. other_frame world.rows f.scene.path f.scene.turn w x (omega (arith, k, l))) a.done a.past;
-          own = logged_more world.rows trace f.scene.path f.scene.turn m.1 h.items x a.body (other_frame world.rows f.scene.path f.scene.turn m.1 x (omega (arith, k, l))) un2 a.own;
+          own = logged_more world.rows trace f.scene.path f.scene.turn m.1 h.items x a.body
+              (other_frame world.rows f.scene.path f.scene.turn m.1 x (omega (arith, k, l))) un2 a.own;
         },
         held_on trace x ms hs f.scene.path (omega (arith, k, l)) (under_tail x.path (f.scene.turn, m.1.node) f.scene.path un2) ok,
       )
 
   -- without items of their own
-  pub held_keep : (trace : List Entry) (x : Entry) (ms : List (Local × Place)) (hs : List Held) (path : Path) → length path ≤ length x.path → HeldAll trace ms hs path → HeldAll (x ∷ trace) ms hs path
+  pub held_keep : (trace : List Entry) (x : Entry) (ms : List (Local × Place)) (hs : List Held) (path : Path) → length path ≤ length x.path
+      → HeldAll trace ms hs path → HeldAll (x ∷ trace) ms hs path
   held_keep trace x [] [] path l h = tt
   held_keep trace x [] (h ∷ hs) path l ok = absurd ok
   held_keep trace x (m ∷ ms) [] path l ok = absurd ok
@@ -349,13 +377,15 @@ module _ (world : World) where
           done = a.done;
           level = a.level;
           past = all_logged trace x f h.past (λ w dw. other_frame world.rows f.scene.path f.scene.turn w x (omega (arith, k, l))) a.done a.past;
-          own = logged_on world.rows trace f.scene.path f.scene.turn m.1 h.items x (other_frame world.rows f.scene.path f.scene.turn m.1 x (omega (arith, k, l))) a.own;
+          own = logged_on world.rows trace f.scene.path f.scene.turn m.1 h.items x
+              (other_frame world.rows f.scene.path f.scene.turn m.1 x (omega (arith, k, l))) a.own;
         },
         held_keep trace x ms hs f.scene.path (omega (arith, k, l)) ok,
       )
 
   -- where the run ends inside, the bodies that wait are quiet and alone
-  pub held_end : (trace : List Entry) (before : List Entry) (x : Entry) (ms : List (Local × Place)) (hs : List Held) (path : Path) → trace ≡ x ∷ before → length path ≤ length x.path
+  pub held_end : (trace : List Entry) (before : List Entry) (x : Entry) (ms : List (Local × Place)) (hs : List Held) (path : Path) → trace ≡ x ∷ before
+      → length path ≤ length x.path
       → is_under x.path path ≡ true → HasEnd x.items → AllEndFree trace ms → HeldAll before ms hs path → HeldQuiet M E hs × AllAlone M E hs
   held_end trace before x [] [] path e l un he fr ok = (tt, tt)
   held_end trace before x [] (h ∷ hs) path e l un he fr ok = absurd ok
@@ -377,7 +407,8 @@ module _ (world : World) where
       ) in
       let r = held_end trace before x ms hs f.scene.path e (omega (arith, k, l)) (under_tail x.path (f.scene.turn, m.1.node) f.scene.path un2) he frs ok in (
         (
-          subst (λ z. Quiet M E (orders.then_past M E z h.pick h.items h.past)) (sym a.frame) (subst (λ z. Quiet M E (orders.then_past M E (f, D) z h.items h.past)) (sym a.pick) qt),
+          subst (λ z. Quiet M E (orders.then_past M E z h.pick h.items h.past)) (sym a.frame)
+              (subst (λ z. Quiet M E (orders.then_past M E (f, D) z h.items h.past)) (sym a.pick) qt),
           r.0,
         ),
         (
@@ -393,8 +424,10 @@ module _ (world : World) where
           go true k = k
           go false k = absurd (true≢false (sym h ∙ right_free world.rows is x.items (js ++ (Any ∷ [])) k))
 
-      waiting_quiet : (t : List Entry) (f : Local) (d : ℕ) (u : Place) (is : List Item) (es : List Event) → ClosedIn world f f.begun → FreeAt t f f.begun → ready_in world f.scene f.begun (Ev u) ≡ true
-          → AllDone f.begun es → AllLogged t f es → Logged world.rows t f.scene.path f.scene.turn u is → QuietWith M E (record { frame = (f, d); pick = Ev u; items = is }) es
+      waiting_quiet : (t : List Entry) (f : Local) (d : ℕ) (u : Place) (is : List Item) (es : List Event) → ClosedIn world f f.begun → FreeAt t f f.begun
+          → ready_in world f.scene f.begun (Ev u) ≡ true
+          → AllDone f.begun es → AllLogged t f es → Logged world.rows t f.scene.path f.scene.turn u is
+          → QuietWith M E (record { frame = (f, d); pick = Ev u; items = is }) es
       waiting_quiet t f d u is es c fr r dn lg own =
           with_quiet t f (record { frame = (f, d); pick = Ev u; items = is }) u es c fr refl (ready_due f f.begun u r) own dn (level_now f d u is es r dn) lg
 

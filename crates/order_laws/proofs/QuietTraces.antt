@@ -1,5 +1,6 @@
 -- Of a trace: where the events that are open don't conflict, none in it do; and what ends the run stands beside no other event.
-use Rattle.std.proofs.Common.{◌≡◌, ℕ, zero, suc, ◌<◌, Bool, true, false, not, ◌&&◌, nat_lt, if◌then◌else◌, true≢false, List, [], ◌∷◌, ◌++◌, Option, Some, None, is_some, refl, sym, ap, ap₂, ◌∙◌, subst, ◌⊎◌, inl, inr, arith}
+use Rattle.std.proofs.Common.{◌≡◌, ℕ, zero, suc, ◌<◌, Bool, true, false, not, ◌&&◌, nat_lt, if◌then◌else◌, true≢false, List, [], ◌∷◌, ◌++◌, Option, Some}
+use Rattle.std.proofs.Common.{None, is_some, refl, sym, ap, ap₂, ◌∙◌, subst, ◌⊎◌, inl, inr, arith}
 use Rattle.ub_base.specs.Frames.{Path}
 use Rattle.ub_base.specs.declared.clause.Kind.{Kind}
 use Rattle.ub_base.specs.declared.clause.Kind.TheVariants.{Body}
@@ -10,7 +11,8 @@ use Rattle.c_typed.specs.Tree.{Tree, size}
 use Rattle.c_typed.specs.Order.{Taken, place, same_place, is_body, events, Before, chain}
 use Rattle.c_typed.specs.Decide.{first_place}
 use Rattle.mem_spec.specs.Store.{Store}
-use Rattle.mem_spec.specs.Script.{Script, Give, Raise, Finish, Exceed, Misplace, Do, Touch, Ask, Get, Put, Bear, Bury, Show, Find, Settle, Take, Print, item_of, refuses, answer, left, Done, run}
+use Rattle.mem_spec.specs.Script.{Script, Give, Raise, Finish, Exceed, Misplace, Do, Touch, Ask, Get, Put, Bear, Bury, Show, Find, Settle, Take, Print}
+use Rattle.mem_spec.specs.Script.{item_of, refuses, answer, left, Done, run}
 use Rattle.mem_laws.specs.Frame.{gives as gives_value}
 use Rattle.mem_laws.proofs.Scripts.{stepped}
 use Rattle.addr_map.specs.Conflict.{some_conflict as conflict}
@@ -19,7 +21,8 @@ use Rattle.c_model.specs.World.{World}
 use Rattle.c_model.specs.Values.{Value}
 use Rattle.c_model.specs.Steps.{Scene, Local, Begun, Pick, Ev, taken_by}
 use Rattle.c_model.specs.Runs.{Entry, begun_of, depth_of}
-use Rattle.c_model.specs.Findings.{same_path, is_under, items_under, items_of, has_ending, Has, first, later, Both, AreApart, is_due_in, Race, Quarrel, EndQuarrel}
+use Rattle.c_model.specs.Findings.{same_path, is_under, items_under, items_of, has_ending, Has, first, later, Both, AreApart, is_due_in, Race, Quarrel}
+use Rattle.c_model.specs.Findings.{EndQuarrel}
 use Rattle.c_model.specs.Machine.{Machine}
 use Rattle.c_model.specs.ModelMachine.{nodes, is_control, done_in, ready_in, beside_in}
 use Rattle.c_model.specs.ChoiceLaws.{IsClosed, due_now, before_now}
@@ -37,7 +40,8 @@ use Rattle.order_laws.proofs.Permitted.{and_l, and_r, and_b, or_cases, not_of, n
 use Rattle.order_laws.proofs.Traces.{path_is, accesses_conflict, has_cases, IsNewest, both_cases, conflict_swap, Event, Held, AllDone}
 use Rattle.order_laws.proofs.TraceItems.{left_free}
 use Rattle.order_laws.proofs.QuietFrames.{left_pick}
-use Rattle.order_laws.proofs.OpenFrames.{Grows, StaysSame, grows_or_not, same_items, Among, among_first, among_later, Paired, paired_first, paired_later, one_frame, waiting, Matches, StoodAt, AllStood, AllSeen, HeldFrame, HeldOk}
+use Rattle.order_laws.proofs.OpenFrames.{Grows, StaysSame, grows_or_not, same_items, Among, among_first, among_later, Paired, paired_first, paired_later}
+use Rattle.order_laws.proofs.OpenFrames.{one_frame, waiting, Matches, StoodAt, AllStood, AllSeen, HeldFrame, HeldOk}
 
 -- no event of the trace ends the run
 abbrev pub Endless : List Entry → Type 0
@@ -82,7 +86,8 @@ touch_goes_on (Print bs) is h = h
 
 -- an order's trace in which no two events of a full expression conflict where neither is before the other
 abbrev pub ConflictFree : World → List Entry → Type 0
-ConflictFree world trace = (d e : Entry) (u v : Place) → Both trace d u e v → AreApart d.begun u v → conflict world.rows (items_of trace d u) (items_of trace e v) ≡ false
+ConflictFree world trace = (d e : Entry) (u v : Place) → Both trace d u e v → AreApart d.begun u v
+    → conflict world.rows (items_of trace d u) (items_of trace e v) ≡ false
 
 -- nor does an event end the run beside another
 abbrev pub EndsApart : List Entry → Type 0
@@ -99,7 +104,8 @@ module _ (world : World) where
   E = told_ends world
 
   -- an act that gives a value doesn't end the run
-  pub run_goes_on : {V : Type 0} → (sc : Script V) (s : Store) (v : V) (is : List Item) (s1 : Store) → run world.rows sc s ≡ Done v is s1 → has_ending is ≡ false
+  pub run_goes_on : {V : Type 0} → (sc : Script V) (s : Store) (v : V) (is : List Item) (s1 : Store) → run world.rows sc s ≡ Done v is s1
+      → has_ending is ≡ false
   run_goes_on (Give w) s v is s1 h = (let e : [] ≡ is = cc in subst (λ z. has_ending z ≡ false) e refl)
   run_goes_on (Raise c) s v is s1 h = absurd (cc)
   run_goes_on (Exceed c m) s v is s1 h = absurd (cc)
@@ -117,7 +123,8 @@ module _ (world : World) where
       go true e = absurd (true≢false (sym (conflict_swap world.rows js is e) ∙ h))
 
   -- an event that is beside one that was done
-  pub is_beside : (f : Local) (o : Option Begun) (u v : Place) → ready_in world f.scene o (Ev u) ≡ true → ClosedIn world f o → done_in o (Ev v) ≡ true → AreApart (begun_of world f o) u v
+  pub is_beside : (f : Local) (o : Option Begun) (u v : Place) → ready_in world f.scene o (Ev u) ≡ true → ClosedIn world f o → done_in o (Ev v) ≡ true
+      → AreApart (begun_of world f o) u v
       → beside_in world f.scene o (Ev v) (Ev u) ≡ true
   is_beside f None u v r c d a = absurd (cc)
   is_beside f (Some e) u v r c d a =
@@ -134,7 +141,8 @@ module _ (world : World) where
 
   -- of events that don't conflict, the items that the trace has of them don't
   module _ (trace : List Entry) (d e : Entry) (u v : Place) (apart : AreApart d.begun u v) where
-    with_among : (a : Event) (all es : List Event) → StoodAt world a all → Matches world trace u d a → Among (Matches world trace v e) es → AllDone a.frame.0.begun es → QuietWith M E a es
+    with_among : (a : Event) (all es : List Event) → StoodAt world a all → Matches world trace u d a → Among (Matches world trace v e) es
+        → AllDone a.frame.0.begun es → QuietWith M E a es
         → conflict world.rows (items_of trace d u) (items_of trace e v) ≡ false
     with_among a all _ st m (among_later x es am) (dn, ds) (q, qs) = with_among a all es st m am ds qs
     with_among a all _ st m (among_first x es n) (dn, ds) (q, qs) =
@@ -142,11 +150,13 @@ module _ (world : World) where
         let ru = subst (λ z. ready_in world f.scene f.begun z ≡ true) (sym st.pick ∙ m.pick) st.ready in
         let dv = subst (λ z. done_in f.begun z ≡ true) n.pick dn in
         let be = is_beside f f.begun u v ru st.closed dv (subst (λ z. AreApart z u v) m.stood apart) in
-        let be2 = subst (λ z. beside_in world f.scene f.begun z a.pick ≡ true) (sym n.pick) (subst (λ z. beside_in world f.scene f.begun (Ev v) z ≡ true) (sym m.pick) be) in
+        let be2 = subst (λ z. beside_in world f.scene f.begun z a.pick ≡ true) (sym n.pick)
+        (subst (λ z. beside_in world f.scene f.begun (Ev v) z ≡ true) (sym m.pick) be) in
         let fr : conflict world.rows x.items a.items ≡ false = sym (any_told world x.items a.items) ∙ q be2 in
         m.items (items_of trace e v) (swap_free (items_of trace e v) a.items (n.items a.items fr))
 
-    pub quiet_pair : (es : List Event) → Paired (Matches world trace u d) (Matches world trace v e) es → Quiet M E es → AllStood world es → conflict world.rows (items_of trace d u) (items_of trace e v) ≡ false
+    pub quiet_pair : (es : List Event) → Paired (Matches world trace u d) (Matches world trace v e) es → Quiet M E es → AllStood world es
+        → conflict world.rows (items_of trace d u) (items_of trace e v) ≡ false
     quiet_pair _ (paired_later a es p) (q, qs) (s, ss) = quiet_pair es p qs ss
     quiet_pair _ (paired_first a es m am) (q, qs) (s, ss) = with_among a es es s m am s.done q
 
@@ -181,7 +191,8 @@ module _ (world : World) where
       kind_is Body h = refl
       kind_is _ h = absurd (cc)
 
-  pub find_held : (P : Held → Type 0) (trace : List Entry) (ms : List (Local × Place)) (hs : List Held) (path : Path) → HeldOk world trace ms hs path → AllHeld P hs → (d : Entry) (u : Place) → Grows path d u → WaitsIn P trace d u
+  pub find_held : (P : Held → Type 0) (trace : List Entry) (ms : List (Local × Place)) (hs : List Held) (path : Path) → HeldOk world trace ms hs path
+      → AllHeld P hs → (d : Entry) (u : Place) → Grows path d u → WaitsIn P trace d u
   find_held P trace [] [] path ok all d u g = absurd (true≢false (sym g.1 ∙ ap (λ z. is_under z ((d.turn, u.node) ∷ d.path)) ok))
   find_held P trace [] (h ∷ hs) path ok all d u g = absurd ok
   find_held P trace (m ∷ ms) [] path ok all d u g = absurd ok
@@ -219,9 +230,11 @@ module _ (world : World) where
   has_begun f (Some b) x r = refl
 
   -- the two of a pair of which one is a body that waits are in its full expression
-  waits_pair : (P : Held → Type 0) (trace : List Entry) (ms : List (Local × Place)) (hs : List Held) (path : Path) → HeldOk world trace ms hs path → AllHeld P hs → (d e : Entry) (u v : Place) → Both trace d u e v
+  waits_pair : (P : Held → Type 0) (trace : List Entry) (ms : List (Local × Place)) (hs : List Held) (path : Path) → HeldOk world trace ms hs path
+      → AllHeld P hs → (d e : Entry) (u v : Place) → Both trace d u e v
       → Grows path d u ⊎ Grows path e v
-      → (b : Place) × ((b ≡ u) ⊎ (b ≡ v)) × ((w : WaitsIn P trace d b) × Paired (Matches world trace u d) (Matches world trace v e) (waiting w.held ∷ w.held.past))
+      → (b : Place) × ((b ≡ u) ⊎ (b ≡ v)) × ((w : WaitsIn P trace d b)
+      × Paired (Matches world trace u d) (Matches world trace v e) (waiting w.held ∷ w.held.past))
   waits_pair P trace ms hs path ok all d e u v bo (inl g) =
       let w = find_held P trace ms hs path ok all d u g in
       (u, inl refl, (w, w.ok.ok.pairs d e u v bo w.of_path w.of_turn (has_begun w.frame.scene w.frame.begun u w.ok.ready)))
@@ -240,19 +253,24 @@ module _ (world : World) where
       } in
       (v, inr refl, (w2, w2.ok.ok.pairs d e u v bo w2.of_path w2.of_turn (has_begun w2.frame.scene w2.frame.begun v w2.ok.ready)))
 
-  pub held_pair : (trace : List Entry) (ms : List (Local × Place)) (hs : List Held) (path : Path) → HeldOk world trace ms hs path → HeldQuiet M E hs → (d e : Entry) (u v : Place) → Both trace d u e v → AreApart d.begun u v
+  pub held_pair : (trace : List Entry) (ms : List (Local × Place)) (hs : List Held) (path : Path) → HeldOk world trace ms hs path → HeldQuiet M E hs
+      → (d e : Entry) (u v : Place) → Both trace d u e v → AreApart d.begun u v
       → Grows path d u ⊎ Grows path e v → conflict world.rows (items_of trace d u) (items_of trace e v) ≡ false
   held_pair trace ms hs path ok q d e u v bo apart g =
       let w = waits_pair (λ h. Quiet M E (then_past M E h.frame h.pick h.items h.past)) trace ms hs path ok (each_quiet hs q) d e u v bo g in
       let i = w.2.0 in
-      quiet_pair trace d e u v apart (waiting i.held ∷ i.held.past) w.2.1 (subst (λ z. Quiet M E (orders.with_pick (is_control z) (waiting i.held) i.held.past)) i.ok.pick i.said) i.ok.stood
+      quiet_pair trace d e u v apart (waiting i.held ∷ i.held.past) w.2.1
+      (subst (λ z. Quiet M E (orders.with_pick (is_control z) (waiting i.held) i.held.past)) i.ok.pick i.said) i.ok.stood
 
   -- so with one more entry
-  pub free_next : (x : Entry) (trace : List Entry) (ms : List (Local × Place)) (hs : List Held) → HeldOk world (x ∷ trace) ms hs x.path → HeldQuiet M E hs → ConflictFree world trace
-      → ((e : Entry) (u v : Place) → IsNewest x trace x u e v → AreApart x.begun u v → conflict world.rows (items_of (x ∷ trace) x u) (items_of (x ∷ trace) e v) ≡ false) → ConflictFree world (x ∷ trace)
+  pub free_next : (x : Entry) (trace : List Entry) (ms : List (Local × Place)) (hs : List Held) → HeldOk world (x ∷ trace) ms hs x.path → HeldQuiet M E hs
+      → ConflictFree world trace
+      → ((e : Entry) (u v : Place) → IsNewest x trace x u e v → AreApart x.begun u v
+      → conflict world.rows (items_of (x ∷ trace) x u) (items_of (x ∷ trace) e v) ≡ false) → ConflictFree world (x ∷ trace)
   free_next x trace ms hs ok q free fresh d e u v bo apart = go (both_cases x trace d u e v bo)
     where
-      old : Both trace d u e v → Grows x.path d u ⊎ StaysSame x.path d u → Grows x.path e v ⊎ StaysSame x.path e v → conflict world.rows (items_of (x ∷ trace) d u) (items_of (x ∷ trace) e v) ≡ false
+      old : Both trace d u e v → Grows x.path d u ⊎ StaysSame x.path d u → Grows x.path e v ⊎ StaysSame x.path e v
+          → conflict world.rows (items_of (x ∷ trace) d u) (items_of (x ∷ trace) e v) ≡ false
       old b (inl g) k = held_pair (x ∷ trace) ms hs x.path ok q d e u v bo apart (inl g)
       old b (inr n) (inl g) = held_pair (x ∷ trace) ms hs x.path ok q d e u v bo apart (inr g)
       old b (inr n) (inr k) = ap₂ (conflict world.rows) (same_items trace x d u n) (same_items trace x e v k) ∙ free d e u v b apart
@@ -261,7 +279,8 @@ module _ (world : World) where
       go (inr b) = old b (grows_or_not x.path d u) (grows_or_not x.path e v)
       go (inl n) =
           subst (λ z. conflict world.rows (items_of (x ∷ trace) z u) (items_of (x ∷ trace) e v) ≡ false) n.entry
-          (fresh e u v (record { entry = refl; at = n.at; among = n.among; of_frame = n.of_frame; of_turn = n.of_turn }) (subst (λ z. AreApart z.begun u v) (sym n.entry) apart))
+          (fresh e u v (record { entry = refl; at = n.at; among = n.among; of_frame = n.of_frame; of_turn = n.of_turn })
+          (subst (λ z. AreApart z.begun u v) (sym n.entry) apart))
 
   -- of a due event that isn't done one at it or before it is ready
   abbrev Pending : Scene → Begun → Place → Type 0
@@ -287,7 +306,8 @@ module _ (world : World) where
       done_by true false h k = absurd (cc)
       done_by false b h k = absurd (cc)
 
-      go : (o : Option Place) → first_place test (events T 0 root) ≡ o → ((z : Place) → rank_in 0 0 root z < rank_in 0 0 root v → Pending f e z) → (w : Place) × (ready_in world f (Some e) (Ev w) ≡ true) × ((w ≡ v) ⊎ Before root T w v)
+      go : (o : Option Place) → first_place test (events T 0 root) ≡ o → ((z : Place) → rank_in 0 0 root z < rank_in 0 0 root v → Pending f e z)
+          → (w : Place) × (ready_in world f (Some e) (Ev w) ≡ true) × ((w ≡ v) ⊎ Before root T w v)
       go None h again = (
         v,
         ready_b world f e v (record {
@@ -308,7 +328,8 @@ module _ (world : World) where
           joined w (inl q) b = subst (λ y. Before root T y v) (sym q) b
           joined w (inr a) b = chain w z v a b
 
-  none_beside_one : (f : Local) (d : ℕ) (u v : Place) (es : List Event) → Among (λ y. y.pick ≡ Ev v) es → NoneBeside M E (f, d) (Ev u) es → beside_in world f.scene f.begun (Ev v) (Ev u) ≡ true → ⊥
+  none_beside_one : (f : Local) (d : ℕ) (u v : Place) (es : List Event) → Among (λ y. y.pick ≡ Ev v) es → NoneBeside M E (f, d) (Ev u) es
+      → beside_in world f.scene f.begun (Ev v) (Ev u) ≡ true → ⊥
   none_beside_one f d u v _ (among_later x es a) (q, qs) b = none_beside_one f d u v es a qs b
   none_beside_one f d u v _ (among_first x es p) (q, qs) b = true≢false (sym (subst (λ z. beside_in world f.scene f.begun z (Ev u) ≡ true) (sym p) b) ∙ q)
 
@@ -316,7 +337,8 @@ module _ (world : World) where
   pick_is a b q = cc
 
   -- nothing that is due is beside an event that stands alone
-  pub lone_due : (f : Local) (d : ℕ) (u v : Place) (es : List Event) (o : Option Begun) → f.begun ≡ o → ready_in world f.scene o (Ev u) ≡ true → ClosedIn world f o → AllSeen world o es → Alone M E (f, d) (Ev u) es
+  pub lone_due : (f : Local) (d : ℕ) (u v : Place) (es : List Event) (o : Option Begun) → f.begun ≡ o → ready_in world f.scene o (Ev u) ≡ true
+      → ClosedIn world f o → AllSeen world o es → Alone M E (f, d) (Ev u) es
       → is_due_in (begun_of world f o) v ≡ true → same_place u v ≡ false → AreApart (begun_of world f o) u v → ⊥
   lone_due f d u v es None fb r c seen al due other ap = cc (r)
   lone_due f d u v es (Some e) fb r c seen al due other apart = go (is_some (e.given v)) refl
@@ -341,7 +363,8 @@ module _ (world : World) where
           late w wu (inr b) = apart.not_before (subst (λ z. Before (tree_of e.root) (taken_by world f.scene e) z v) wu b)
 
   -- where the run ends inside bodies that wait, no event of a pair with one of them is apart from it, nor is one that is due
-  pub among_done : (l : Local) (trace : List Entry) (v : Place) (e : Entry) (es : List Event) → Among (Matches world trace v e) es → AllDone l.begun es → done_in l.begun (Ev v) ≡ true
+  pub among_done : (l : Local) (trace : List Entry) (v : Place) (e : Entry) (es : List Event) → Among (Matches world trace v e) es → AllDone l.begun es
+      → done_in l.begun (Ev v) ≡ true
   among_done l trace v e _ (among_first x es m) (dn, ds) = subst (λ z. done_in l.begun z ≡ true) m.pick dn
   among_done l trace v e _ (among_later x es a) (dn, ds) = among_done l trace v e es a ds
 
@@ -354,7 +377,8 @@ module _ (world : World) where
   both_among P Q _ (paired_later x es p) = (let r = both_among P Q es p in (among_later x es r.0, among_later x es r.1))
 
   -- an event that stands alone is beside none that was done
-  pub lone_pair : (trace : List Entry) (f : Local) (d : ℕ) (u v : Place) (e : Entry) (es : List Event) → ready_in world f.scene f.begun (Ev u) ≡ true → ClosedIn world f f.begun → AllDone f.begun es
+  pub lone_pair : (trace : List Entry) (f : Local) (d : ℕ) (u v : Place) (e : Entry) (es : List Event) → ready_in world f.scene f.begun (Ev u) ≡ true
+      → ClosedIn world f f.begun → AllDone f.begun es
       → NoneBeside M E (f, d) (Ev u) es → Among (Matches world trace v e) es → AreApart (begun_of world f f.begun) u v → ⊥
   lone_pair trace f d u v e es r c dn none am apart =
       none_beside_one f d u v es (among_pick trace v e es am) none (is_beside f f.begun u v r c (among_done f trace v e es am dn) apart)
@@ -363,32 +387,41 @@ module _ (world : World) where
   LoneHeld h = Alone M E h.frame h.pick h.past
 
   -- that of a frame below the top, by its own name
-  lone_held : (trace : List Entry) (l : Local) (u : Place) (ms : List (Local × Place)) (h : Held) (way : Path) → HeldFrame world trace l u ms h way → LoneHeld h → Alone M E (l, depth_of l ms) (Ev u) h.past
+  lone_held : (trace : List Entry) (l : Local) (u : Place) (ms : List (Local × Place)) (h : Held) (way : Path) → HeldFrame world trace l u ms h way
+      → LoneHeld h → Alone M E (l, depth_of l ms) (Ev u) h.past
   lone_held trace l u ms h way hf al = subst (λ z. Alone M E z (Ev u) h.past) hf.frame (subst (λ z. Alone M E h.frame z h.past) hf.pick al)
 
-  held_stood : (trace : List Entry) (l : Local) (b : Place) (ms : List (Local × Place)) (h : Held) (way : Path) (d : Entry) (u : Place) → HeldFrame world trace l b ms h way → Matches world trace u d (waiting h)
+  held_stood : (trace : List Entry) (l : Local) (b : Place) (ms : List (Local × Place)) (h : Held) (way : Path) (d : Entry) (u : Place)
+      → HeldFrame world trace l b ms h way → Matches world trace u d (waiting h)
       → d.begun ≡ begun_of world l l.begun
   held_stood trace l b ms h way d u hf m = m.stood ∙ ap (λ z. begun_of world z.0 z.0.begun) hf.frame
 
-  pub held_pair_ends : (trace : List Entry) (ms : List (Local × Place)) (hs : List Held) (path : Path) → HeldOk world trace ms hs path → AllAlone M E hs → (d e : Entry) (u v : Place) → Both trace d u e v → AreApart d.begun u v
+  pub held_pair_ends : (trace : List Entry) (ms : List (Local × Place)) (hs : List Held) (path : Path) → HeldOk world trace ms hs path → AllAlone M E hs
+      → (d e : Entry) (u v : Place) → Both trace d u e v → AreApart d.begun u v
       → Grows path d u ⊎ Grows path e v → ⊥
   held_pair_ends trace ms hs path ok al d e u v bo apart g =
       let w = waits_pair LoneHeld trace ms hs path ok (each_alone hs al) d e u v bo g in
       go w.0 w.1 w.2.0 w.2.1
     where
-      again : (b : Place) (i : WaitsIn LoneHeld trace d b) → (b ≡ u) ⊎ (b ≡ v) → Among (Matches world trace u d) i.held.past → Among (Matches world trace v e) i.held.past → ⊥
-      again b i (inl q) p a = left_pick world i.frame.begun i.frame.scene b i.ok.ready (subst (λ z. done_in i.frame.begun (Ev z) ≡ true) (sym q) (among_done i.frame trace u d i.held.past p i.ok.done))
-      again b i (inr q) p a = left_pick world i.frame.begun i.frame.scene b i.ok.ready (subst (λ z. done_in i.frame.begun (Ev z) ≡ true) (sym q) (among_done i.frame trace v e i.held.past a i.ok.done))
+      again : (b : Place) (i : WaitsIn LoneHeld trace d b) → (b ≡ u) ⊎ (b ≡ v) → Among (Matches world trace u d) i.held.past
+          → Among (Matches world trace v e) i.held.past → ⊥
+      again b i (inl q) p a = left_pick world i.frame.begun i.frame.scene b i.ok.ready
+          (subst (λ z. done_in i.frame.begun (Ev z) ≡ true) (sym q) (among_done i.frame trace u d i.held.past p i.ok.done))
+      again b i (inr q) p a = left_pick world i.frame.begun i.frame.scene b i.ok.ready
+          (subst (λ z. done_in i.frame.begun (Ev z) ≡ true) (sym q) (among_done i.frame trace v e i.held.past a i.ok.done))
 
-      go : (b : Place) → (b ≡ u) ⊎ (b ≡ v) → (i : WaitsIn LoneHeld trace d b) → Paired (Matches world trace u d) (Matches world trace v e) (waiting i.held ∷ i.held.past) → ⊥
+      go : (b : Place) → (b ≡ u) ⊎ (b ≡ v) → (i : WaitsIn LoneHeld trace d b)
+          → Paired (Matches world trace u d) (Matches world trace v e) (waiting i.held ∷ i.held.past) → ⊥
       go b q i (paired_later _ _ p) = (let r = both_among _ _ i.held.past p in again b i q r.0 r.1)
       go b q i (paired_first _ _ m am) =
           (let bu = pick_is b u (sym i.ok.pick ∙ m.pick) in
           let l = lone_held trace i.frame b i.below i.held i.way i.ok i.said in
           lone_pair trace i.frame (depth_of i.frame i.below) b v e i.held.past i.ok.ready i.ok.closed i.ok.done l.none_beside am
-          (subst (λ z. AreApart (begun_of world i.frame i.frame.begun) z v) (sym bu) (subst (λ z. AreApart z u v) (held_stood trace i.frame b i.below i.held i.way d u i.ok m) apart)))
+          (subst (λ z. AreApart (begun_of world i.frame i.frame.begun) z v) (sym bu)
+          (subst (λ z. AreApart z u v) (held_stood trace i.frame b i.below i.held i.way d u i.ok m) apart)))
 
-  pub held_due_ends : (trace : List Entry) (ms : List (Local × Place)) (hs : List Held) (path : Path) → HeldOk world trace ms hs path → AllAlone M E hs → (d : Entry) (u v : Place) → Has trace d u → Grows path d u
+  pub held_due_ends : (trace : List Entry) (ms : List (Local × Place)) (hs : List Held) (path : Path) → HeldOk world trace ms hs path → AllAlone M E hs
+      → (d : Entry) (u v : Place) → Has trace d u → Grows path d u
       → is_due_in d.begun v ≡ true → same_place u v ≡ false → AreApart d.begun u v → ⊥
   held_due_ends trace ms hs path ok al d u v hs' g due other apart =
       let i = find_held LoneHeld trace ms hs path ok (each_alone hs al) d u g in
@@ -398,7 +431,8 @@ module _ (world : World) where
       go i (among_later _ _ a) = left_pick world i.frame.begun i.frame.scene u i.ok.ready (among_done i.frame trace u d i.held.past a i.ok.done)
       go i (among_first _ _ m) =
           (let s = held_stood trace i.frame u i.below i.held i.way d u i.ok m in
-          lone_due i.frame (depth_of i.frame i.below) u v i.held.past i.frame.begun refl i.ok.ready i.ok.closed i.ok.seen (lone_held trace i.frame u i.below i.held i.way i.ok i.said)
+          lone_due i.frame (depth_of i.frame i.below) u v i.held.past i.frame.begun refl i.ok.ready i.ok.closed i.ok.seen
+          (lone_held trace i.frame u i.below i.held i.way i.ok i.said)
           (subst (λ z. is_due_in z v ≡ true) s due) other (subst (λ z. AreApart z u v) s apart))
 
   -- where a pick ends the run, alone as the bodies that wait
@@ -406,7 +440,8 @@ module _ (world : World) where
     pub end_free : ConflictFree world trace → ((e : Entry) (u v : Place) → IsNewest x trace x u e v → AreApart x.begun u v → ⊥) → ConflictFree world (x ∷ trace)
     end_free free fresh d e u v bo apart = go (both_cases x trace d u e v bo)
       where
-        old : Both trace d u e v → Grows x.path d u ⊎ StaysSame x.path d u → Grows x.path e v ⊎ StaysSame x.path e v → conflict world.rows (items_of (x ∷ trace) d u) (items_of (x ∷ trace) e v) ≡ false
+        old : Both trace d u e v → Grows x.path d u ⊎ StaysSame x.path d u → Grows x.path e v ⊎ StaysSame x.path e v
+            → conflict world.rows (items_of (x ∷ trace) d u) (items_of (x ∷ trace) e v) ≡ false
         old b (inl g) k = absurd (held_pair_ends trace ms hs x.path held all d e u v b apart (inl g))
         old b (inr n) (inl g) = absurd (held_pair_ends trace ms hs x.path held all d e u v b apart (inr g))
         old b (inr n) (inr k) = ap₂ (conflict world.rows) (same_items trace x d u n) (same_items trace x e v k) ∙ free d e u v b apart
@@ -414,9 +449,11 @@ module _ (world : World) where
         go : IsNewest x trace d u e v ⊎ Both trace d u e v → conflict world.rows (items_of (x ∷ trace) d u) (items_of (x ∷ trace) e v) ≡ false
         go (inr b) = old b (grows_or_not x.path d u) (grows_or_not x.path e v)
         go (inl n) =
-            absurd (fresh e u v (record { entry = refl; at = n.at; among = n.among; of_frame = n.of_frame; of_turn = n.of_turn }) (subst (λ z. AreApart z.begun u v) (sym n.entry) apart))
+            absurd (fresh e u v (record { entry = refl; at = n.at; among = n.among; of_frame = n.of_frame; of_turn = n.of_turn })
+            (subst (λ z. AreApart z.begun u v) (sym n.entry) apart))
 
-    pub end_apart : Endless trace → ((u v : Place) → x.place ≡ Some u → is_due_in x.begun v ≡ true → same_place u v ≡ false → AreApart x.begun u v → ⊥) → EndsApart (x ∷ trace)
+    pub end_apart : Endless trace → ((u v : Place) → x.place ≡ Some u → is_due_in x.begun v ≡ true → same_place u v ≡ false → AreApart x.begun u v → ⊥)
+        → EndsApart (x ∷ trace)
     end_apart endless fresh d u v q = go (has_cases x trace d u q.here)
       where
         older_end : Has trace d u → Grows x.path d u ⊎ StaysSame x.path d u → ⊥
@@ -428,9 +465,11 @@ module _ (world : World) where
         go (inl k) = fresh u v k.1 (subst (λ z. is_due_in z.begun v ≡ true) (sym k.0) q.due) q.other (subst (λ z. AreApart z.begun u v) (sym k.0) q.apart)
 
   -- so there is no race and no quarrel
-  own_items : (trace : List Entry) (d e : Entry) (u v : Place) → conflict world.rows (items_of trace d u) (items_of trace e v) ≡ false → conflict world.rows d.items e.items ≡ false
+  own_items : (trace : List Entry) (d e : Entry) (u v : Place) → conflict world.rows (items_of trace d u) (items_of trace e v) ≡ false
+      → conflict world.rows d.items e.items ≡ false
   own_items trace d e u v h =
-      swap_free e.items d.items (left_free world.rows e.items _ d.items (swap_free d.items (items_of trace e v) (left_free world.rows d.items _ (items_of trace e v) h)))
+      swap_free e.items d.items (left_free world.rows e.items _ d.items
+      (swap_free d.items (items_of trace e v) (left_free world.rows d.items _ (items_of trace e v) h)))
 
   pub no_race : (trace : List Entry) → ConflictFree world trace → (d e : Entry) (u v : Place) → Race world trace d u e v → ⊥
   no_race trace free d e u v r = true≢false (sym (accesses_conflict world.rows d.items e.items r.clash) ∙ own_items trace d e u v (free d e u v r.both r.apart))

@@ -1,5 +1,6 @@
 -- The limits on created bytes and output: what a script leaves is at least what it found, so limits that hold at the end held before.
-use Rattle.std.proofs.Common.{◌≡◌, ℕ, suc, ◌+◌, ◌^◌, ◌<◌, ◌≤◌, min, max, Bool, true, false, nat_lt, if◌then◌else◌, List, [], ◌∷◌, length, Option, Some, None, is_some, refl, subst, length-append, arith}
+use Rattle.std.proofs.Common.{◌≡◌, ℕ, suc, ◌+◌, ◌^◌, ◌<◌, ◌≤◌, min, max, Bool, true, false, nat_lt, if◌then◌else◌, List, [], ◌∷◌, length, Option, Some}
+use Rattle.std.proofs.Common.{None, is_some, refl, subst, length-append, arith}
 use Rattle.std.proofs.lemmas.Bool.Decides.{nat_tests}
 use Rattle.ub_base.specs.declared.clause.Cause.{Cause}
 use Rattle.ub_base.specs.declared.clause.Cause.TheVariants.{Depth, Created, Output}
@@ -8,7 +9,8 @@ use Rattle.ub_base.specs.declared.names.Item.{Item}
 use Rattle.addr_map.specs.declared.map.Row.{Row}
 use Rattle.addr_map.specs.Rows.{row_of}
 use Rattle.mem_spec.specs.Store.{Store}
-use Rattle.mem_spec.specs.Script.{Touch, Ask, Get, Put, Bear, Bury, Show, Find, Settle, Take, Print, item_of, refuses, answer, left, Script, Give, Raise, Finish, Exceed, Misplace, Do, ◌>>◌, touch, run}
+use Rattle.mem_spec.specs.Script.{Touch, Ask, Get, Put, Bear, Bury, Show, Find, Settle, Take, Print, item_of, refuses, answer, left, Script, Give, Raise}
+use Rattle.mem_spec.specs.Script.{Finish, Exceed, Misplace, Do, ◌>>◌, touch, run}
 use Rattle.mem_spec.specs.Acts.{has_place, base_in}
 use Rattle.mem_laws.specs.Frame.{ActEnd, gives, finishes, acted}
 use Rattle.mem_laws.proofs.Scripts.{not_placed, stepped}
@@ -49,7 +51,8 @@ pub record Within (created output : ℕ) (s : Store) : Type 0 where
   pub output_at_most : length s.output ≤ output
 
 module _ {V : Type 0} (map : List Row) where
-  pub script_grows : (sc : Script V) (s : Store) (e : ActEnd V) (is : List Item) (s1 : Store) (c o : ℕ) → c < 2 ^ 62 → run map sc s ≡ acted e is s1 → Within c o s1 → Within c o s
+  pub script_grows : (sc : Script V) (s : Store) (e : ActEnd V) (is : List Item) (s1 : Store) (c o : ℕ) → c < 2 ^ 62 → run map sc s ≡ acted e is s1
+      → Within c o s1 → Within c o s
   script_grows (Give v) s (gives x) is s1 c o b h w = (let e : s1 ≡ s = cc in subst (Within c o) e w)
   script_grows (Give v) s (finishes n) is s1 c o b h w = absurd (cc)
   script_grows (Raise d) s (gives v) is s1 c o b h w = absurd (cc)
@@ -85,11 +88,14 @@ module _ (world : World) (small : world.limits.created < 2 ^ 62) where
       t : Touch
       t = Bear x d.size (object_kind d.constant) d.form
 
-      go : (b : Bool) → run world.rows ((if b then touch t >> Give (base_in (row_of world.rows x)) else Misplace) >> bear_all world f turn (suc k) ds rest) s ≡ acted e is s1
-          → ((js : List Item) (u : Store) → run world.rows (bear_all world f turn (suc k) ds rest) u ≡ acted e js s1 → created_after u.created ds ≤ world.limits.created)
+      go : (b : Bool) → run world.rows ((if b then touch t >> Give (base_in (row_of world.rows x)) else Misplace) >> bear_all world f turn (suc k) ds rest)
+          s ≡ acted e is s1
+          → ((js : List Item) (u : Store) → run world.rows (bear_all world f turn (suc k) ds rest) u ≡ acted e js s1
+          → created_after u.created ds ≤ world.limits.created)
           → created_after (min (s.created + max d.size 16) (2 ^ 62)) ds ≤ world.limits.created
       go false h later = absurd (not_placed e is s1 h)
-      go true h later = (let st = stepped (refuses t s) t (item_of t) (run world.rows (bear_all world f turn (suc k) ds rest) (left t s)) e is s1 h in later st.rest (left t s) st.done)
+      go true h later = (let st = stepped (refuses t s) t (item_of t) (run world.rows (bear_all world f turn (suc k) ds rest) (left t s)) e is s1 h in later
+          st.rest (left t s) st.done)
 
   none_many : (n : ℕ) → n ≤ world.limits.created → too_many world.limits n ≡ None
   none_many n h = go (nat_lt world.limits.created n) (at_most n world.limits.created h)
@@ -98,21 +104,25 @@ module _ (world : World) (small : world.limits.created < 2 ^ 62) where
       go false e = refl
       go true e = absurd (cc)
 
-  block_within : (f : Local) (t : Todo) (s : Store) (e : ActEnd Value) (is : List Item) (s1 : Store) → run world.rows (control_act world f t) s ≡ acted e is s1 → Fits s1
+  block_within : (f : Local) (t : Todo) (s : Store) (e : ActEnd Value) (is : List Item) (s1 : Store)
+      → run world.rows (control_act world f t) s ≡ acted e is s1 → Fits s1
       → block_passes world.limits s t ≡ None
   block_within f (Enter b ds ∷ rest) s e is s1 h w =
-      none_many (created_after s.created ds) (bears_within f.scene (suc f.scene.turn) 0 ds (pass_all world f.scene (suc f.scene.turn) 0 ds f.arguments) s e is s1 h w)
+      none_many (created_after s.created ds) (bears_within f.scene (suc f.scene.turn) 0 ds (pass_all world f.scene (suc f.scene.turn) 0 ds f.arguments) s e
+      is s1 h w)
   block_within f [] s e is s1 h w = refl
   block_within f (_ ∷ rest) s e is s1 h w = refl
 
-  enter_in : (f : Local) (o : Option Begun) (p : Pick) (s : Store) (e : ActEnd Value) (is : List Item) (s1 : Store) → run world.rows (does world f o p) s ≡ acted e is s1 → Fits s1
+  enter_in : (f : Local) (o : Option Begun) (p : Pick) (s : Store) (e : ActEnd Value) (is : List Item) (s1 : Store)
+      → run world.rows (does world f o p) s ≡ acted e is s1 → Fits s1
       → p ≡ Control → (if is_some o then None else block_passes world.limits s (ready_work f.todo)) ≡ None
   enter_in f (Some b) p s e is s1 h w c = refl
   enter_in f None Control s e is s1 h w c = block_within f (ready_work f.todo) s e is s1 h w
   enter_in f None (Ev u) s e is s1 h w c = absurd (cc)
 
   -- what is done within the limits passes none before
-  pub enters_within : (st : State) (p : Pick) (e : ActEnd Value) (is : List Item) (s1 : Store) → run world.rows (does world st.top st.top.begun p) st.store ≡ acted e is s1 → Fits s1
+  pub enters_within : (st : State) (p : Pick) (e : ActEnd Value) (is : List Item) (s1 : Store)
+      → run world.rows (does world st.top st.top.begun p) st.store ≡ acted e is s1 → Fits s1
       → enter_passes world.limits st p ≡ None
   enters_within st (Ev u) e is s1 h w = refl
   enters_within st Control e is s1 h w = enter_in st.top st.top.begun Control st.store e is s1 h w refl
@@ -120,7 +130,8 @@ module _ (world : World) (small : world.limits.created < 2 ^ 62) where
   -- nor behind
   pub none_passed : (depth : ℕ) (s : Store) → depth ≤ world.limits.depth → Fits s → limit_passed world.limits depth s ≡ None
   none_passed depth s d w =
-      go (nat_lt world.limits.depth depth) (nat_lt world.limits.created s.created) (nat_lt world.limits.output (length s.output)) (at_most depth world.limits.depth d)
+      go (nat_lt world.limits.depth depth) (nat_lt world.limits.created s.created) (nat_lt world.limits.output (length s.output))
+      (at_most depth world.limits.depth d)
       (at_most s.created world.limits.created w.created_at_most) (at_most (length s.output) world.limits.output w.output_at_most)
     where
       go : (a b c : Bool) → a ≡ false → b ≡ false → c ≡ false

@@ -1,5 +1,6 @@
 -- What a pick of the machine is in the model: the same move of frames, and the same act.
-use Rattle.std.proofs.Common.{◌≡◌, ℕ, suc, ◌+◌, ◌≤◌, Bool, true, false, ◌||◌, if◌then◌else◌, List, [], ◌∷◌, Option, Some, None, is_some, refl, sym, ap, ◌∙◌, subst, ◌⊎◌, inl, inr, arith}
+use Rattle.std.proofs.Common.{◌≡◌, ℕ, suc, ◌+◌, ◌≤◌, Bool, true, false, ◌||◌, if◌then◌else◌, List, [], ◌∷◌, Option, Some, None, is_some, refl, sym, ap}
+use Rattle.std.proofs.Common.{◌∙◌, subst, ◌⊎◌, inl, inr, arith}
 use Rattle.std.specs.Prelude.{nat_le}
 use Rattle.std.proofs.lemmas.Bool.Decides.{nat_tests}
 use Rattle.ub_base.specs.declared.clause.Clause.{Clause}
@@ -17,7 +18,9 @@ use Rattle.c_model.specs.World.{World}
 use Rattle.c_model.specs.Values.{Value, Nothing, later_values}
 use Rattle.c_model.specs.Moves.{Move, Stay, Start, End}
 use Rattle.c_model.specs.Control.{Todo, Leave, ready_work}
-use Rattle.c_model.specs.Steps.{Scene, Local, Begun, Pick, Control, Ev, at_node, event_of, target, first_type, function_type, argument_types, values_of, own_body, body_frame, start_call, called_by, started, move_of, library_act, call_by, call_through, call_act, event_act, does, move, control_move, ends_with}
+use Rattle.c_model.specs.Steps.{Scene, Local, Begun, Pick, Control, Ev, at_node, event_of, target, first_type, function_type, argument_types, values_of}
+use Rattle.c_model.specs.Steps.{own_body, body_frame, start_call, called_by, started, move_of, library_act, call_by, call_through, call_act, event_act}
+use Rattle.c_model.specs.Steps.{does, move, control_move, ends_with}
 use Rattle.c_model.specs.Machine.{Did, Machine}
 use Rattle.c_model.specs.ModelMachine.{done_by, gives, start_where, frame_machine}
 use Rattle.machine_laws.specs.Orders.{Stopped}
@@ -36,24 +39,28 @@ require_plain true c t p = p
 require_plain false c t p = inr (c, refl)
 
 module _ (world : World) where
-  call_plain : (f : Scene) (k : ℕ) (vs : List Value) (who : Event) (ty : CType) (ts : List CType) (ws : List Value) (g : Local) (c : Option (ℕ × Function)) → start_call world f k vs c ≡ Start g
+  call_plain : (f : Scene) (k : ℕ) (vs : List Value) (who : Event) (ty : CType) (ts : List CType) (ws : List Value) (g : Local) (c : Option (ℕ × Function))
+      → start_call world f k vs c ≡ Start g
       → Plain (call_by world who ty ts ws c)
   call_plain f k vs who ty ts ws g None h = absurd (cc)
   call_plain f k vs who ty ts ws g (Some c) h = go c.1.library h
     where
       go : (l : Option LibFunc) → body_frame world f k c.0 vs (if is_some l then None else c.1.body) ≡ Start g
-          → Plain (require (is_some c.1.body || is_some l) InvalidPointer >> (require (world.agree c.1.ty ty) IncompatibleCall >> library_act world who ts ws l))
+          → Plain (require (is_some c.1.body || is_some l) InvalidPointer >>
+          (require (world.agree c.1.ty ty) IncompatibleCall >> library_act world who ts ws l))
       go (Some l) h = absurd (cc)
       go None h =
           require_plain (is_some c.1.body || false) InvalidPointer (require (world.agree c.1.ty ty) IncompatibleCall >> library_act world who ts ws None)
           (require_plain (world.agree c.1.ty ty) IncompatibleCall (library_act world who ts ws None) (inl (Nothing, refl)))
 
-  through_plain : (f : Scene) (k : ℕ) (who : Event) (o : Option CType) (ts : List CType) (vs : List Value) (g : Local) → start_call world f k (later_values vs) (called_by world vs) ≡ Start g
+  through_plain : (f : Scene) (k : ℕ) (who : Event) (o : Option CType) (ts : List CType) (vs : List Value) (g : Local)
+      → start_call world f k (later_values vs) (called_by world vs) ≡ Start g
       → Plain (call_through world who o ts vs)
   through_plain f k who None ts vs g h = inr (InvalidPointer, refl)
   through_plain f k who (Some ty) ts vs g h = call_plain f k (later_values vs) who ty ts (later_values vs) g (called_by world vs) h
 
-  started_plain : (f : Scene) (k : ℕ) (who : Event) (h : Head) (es : Exprs) (vs : List Value) (g : Local) → started world f k h vs ≡ Start g → Plain (call_act world who h es vs)
+  started_plain : (f : Scene) (k : ℕ) (who : Event) (h : Head) (es : Exprs) (vs : List Value) (g : Local) → started world f k h vs ≡ Start g
+      → Plain (call_act world who h es vs)
   started_plain f k who (Call discarded) es vs g e = through_plain f k who (function_type (target (first_type es))) (argument_types es) vs g e
   started_plain f k who (Isolated x) es vs g e = inl (Nothing, refl)
   started_plain f k who _ es vs g e = absurd (cc)
@@ -96,15 +103,18 @@ module _ (world : World) where
   start_is : (a b : Local) → Start a ≡ Start b → a ≡ b
   start_is a b e = cc
 
-  frame_fresh : (f : Local) (u : Place) (n : ℕ) (vs : List Value) (g : Local) (b : Option Stmt) → is_body u.kind ≡ true → body_frame world f.scene u.node n vs b ≡ Start g → Fresh f u g
+  frame_fresh : (f : Local) (u : Place) (n : ℕ) (vs : List Value) (g : Local) (b : Option Stmt) → is_body u.kind ≡ true
+      → body_frame world f.scene u.node n vs b ≡ Start g → Fresh f u g
   frame_fresh f u n vs g None ub h = absurd (cc)
   frame_fresh f u n vs g (Some s) ub h = subst (Fresh f u) (start_is _ g h) (record { path = refl; begun = refl; body = ub })
 
-  call_fresh : (f : Local) (u : Place) (vs : List Value) (g : Local) (c : Option (ℕ × Function)) → is_body u.kind ≡ true → start_call world f.scene u.node vs c ≡ Start g → Fresh f u g
+  call_fresh : (f : Local) (u : Place) (vs : List Value) (g : Local) (c : Option (ℕ × Function)) → is_body u.kind ≡ true
+      → start_call world f.scene u.node vs c ≡ Start g → Fresh f u g
   call_fresh f u vs g None ub h = absurd (cc)
   call_fresh f u vs g (Some c) ub h = frame_fresh f u c.0 vs g (own_body c.1) ub h
 
-  started_fresh : (f : Local) (u : Place) (h : Head) (vs : List Value) (g : Local) → is_body u.kind ≡ true → started world f.scene u.node h vs ≡ Start g → Fresh f u g
+  started_fresh : (f : Local) (u : Place) (h : Head) (vs : List Value) (g : Local) → is_body u.kind ≡ true → started world f.scene u.node h vs ≡ Start g
+      → Fresh f u g
   started_fresh f u (Call discarded) vs g ub e = call_fresh f u (later_values vs) g (called_by world vs) ub e
   started_fresh f u (Isolated x) vs g ub e = subst (Fresh f u) (start_is _ g e) (record { path = refl; begun = refl; body = ub })
   started_fresh f u _ vs g ub e = absurd (cc)
@@ -113,7 +123,8 @@ module _ (world : World) where
   event_fresh f e u None g h = absurd (cc)
   event_fresh f e u (Some (expr h ty line es)) g m = go (is_body u.kind) refl m
     where
-      go : (b : Bool) → is_body u.kind ≡ b → (if b then started world f.scene u.node h (values_of world f.scene e.given (suc u.node) es) else Stay) ≡ Start g → Fresh f u g
+      go : (b : Bool) → is_body u.kind ≡ b → (if b then started world f.scene u.node h (values_of world f.scene e.given (suc u.node) es) else Stay) ≡ Start
+          g → Fresh f u g
       go true ub m = started_fresh f u h (values_of world f.scene e.given (suc u.node) es) g ub m
       go false ub m = absurd (cc)
 
@@ -150,7 +161,8 @@ module _ (world : World) where
   fits_is d g h = grind (arith, nat_tests, h)
 
   -- what an act that was done tells of its move
-  pub record Agrees (d : ℕ) (sc : Script Value) (mv : Move Local) (target : Move (Local × ℕ)) (s : Store) (v : Value) (is : List Item) (s1 : Store) : Type 0 where
+  pub record Agrees (d : ℕ) (sc : Script Value) (mv : Move Local) (target : Move (Local × ℕ)) (s : Store) (v : Value) (is : List Item) (s1 : Store) : Type
+      0 where
     pub ran : run world.rows sc s ≡ Done v is s1
     pub moved : target ≡ lifted d mv
 
@@ -184,9 +196,11 @@ module _ (world : World) where
       go (inl (w, e)) = record {
         ran = done_was (run world.rows sc s) v is s1 (was M E weight limit d (start_where (gives sc) (Start g)) (done_by (run world.rows sc s)) _ h);
         moved = ap (λ b. move_at d (start_where b (Start g))) (ap gives e)
-            ∙ fit (nat_le (d + weight g) limit) (done_by (run world.rows sc s)) (ap (λ b. does_at d (start_where b (Start g)) (done_by (run world.rows sc s))) (sym (ap gives e)) ∙ h);
+            ∙ fit (nat_le (d + weight g) limit) (done_by (run world.rows sc s))
+            (ap (λ b. does_at d (start_where b (Start g)) (done_by (run world.rows sc s))) (sym (ap gives e)) ∙ h);
       }
-      go (inr (c, e)) = absurd (raised (subst (λ x. does_at d (start_where (gives x) (Start g)) (done_by (run world.rows x s)) ≡ Some (record { value = v; items = is; store = s1 })) e h))
+      go (inr (c, e)) = absurd (raised (subst (λ x. does_at d (start_where (gives x) (Start g)) (done_by (run world.rows x s)) ≡ Some
+          (record { value = v; items = is; store = s1 })) e h))
         where
           raised : does_at d Stay None ≡ Some (record { value = v; items = is; store = s1 }) → ⊥
           raised h = cc
@@ -231,5 +245,6 @@ module _ (world : World) where
   pick_agrees f d p s v is s1 h =
       agrees d (does world f f.begun p) (move world f f.begun p) (λ g m. (start_plain f f.begun p g m).0) s v is s1 h
 
-  pub pick_starts : (f : Local) (d : ℕ) (p : Pick) (g : Local × ℕ) → (limits.deep M E weight limit).move (f, d) p ≡ Start g → Starts d (does world f f.begun p) (move world f f.begun p) g
+  pub pick_starts : (f : Local) (d : ℕ) (p : Pick) (g : Local × ℕ) → (limits.deep M E weight limit).move (f, d) p ≡ Start g
+      → Starts d (does world f f.begun p) (move world f f.begun p) g
   pick_starts f d p g h = starts d (does world f f.begun p) (move world f f.begun p) g h

@@ -1,5 +1,6 @@
 -- What acts leave so stays so, and what they create is counted.
-use Rattle.std.proofs.Common.{◌≡◌, Bool, true, false, not, ◌&&◌, ◌||◌, if◌then◌else◌, List, [], ◌∷◌, ◌++◌, Option, Some, None, is_some, ◌⊎◌, inl, inr, refl, sym, ap, ◌∙◌, subst, true≢false, append_assoc, append-nil}
+use Rattle.std.proofs.Common.{◌≡◌, Bool, true, false, not, ◌&&◌, ◌||◌, if◌then◌else◌, List, [], ◌∷◌, ◌++◌, Option, Some, None, is_some, ◌⊎◌, inl, inr}
+use Rattle.std.proofs.Common.{refl, sym, ap, ◌∙◌, subst, true≢false, append_assoc, append-nil}
 use Rattle.ub_base.specs.declared.names.Event.{Event}
 use Rattle.ub_base.specs.declared.names.ObjName.{ObjName}
 use Rattle.ub_base.specs.declared.names.Item.{Item}
@@ -9,7 +10,8 @@ use Rattle.ub_base.proofs.NameLemmas.{same_object_is, same_event_is}
 use Rattle.addr_map.specs.declared.map.Row.{Row}
 use Rattle.exposure.specs.Cells.{is_other}
 use Rattle.mem_spec.specs.Store.{Life, Store, dead}
-use Rattle.mem_spec.specs.Script.{Touch, Ask, Get, Put, Bear, Bury, Show, Find, Settle, Take, Print, item_of, refuses, answer, left, Script, Give, Raise, Finish, Exceed, Misplace, Do, Done, run}
+use Rattle.mem_spec.specs.Script.{Touch, Ask, Get, Put, Bear, Bury, Show, Find, Settle, Take, Print, item_of, refuses, answer, left, Script, Give, Raise}
+use Rattle.mem_spec.specs.Script.{Finish, Exceed, Misplace, Do, Done, run}
 use Rattle.mem_laws.specs.Frame.{gives, bears, shows, any_of}
 use Rattle.mem_laws.proofs.Scripts.{stepped}
 use Rattle.order_laws.specs.StoreParts.{Fact, was_shown, was_settled, settles_to, says, same_truth, is_the, is_so}
@@ -33,7 +35,8 @@ any_last f [] i h = go (f i) refl h
     go false e h = absurd (cc)
 any_last f (k ∷ j) i h = go (f k) h (any_last f j i)
   where
-    go : (b : Bool) → (b || any_of f (j ++ i ∷ [])) ≡ true → (any_of f (j ++ i ∷ []) ≡ true → (f i ≡ true) ⊎ (any_of f j ≡ true)) → (f i ≡ true) ⊎ ((b || any_of f j) ≡ true)
+    go : (b : Bool) → (b || any_of f (j ++ i ∷ [])) ≡ true → (any_of f (j ++ i ∷ []) ≡ true → (f i ≡ true) ⊎ (any_of f j ≡ true))
+        → (f i ≡ true) ⊎ ((b || any_of f j) ≡ true)
     go true h later = inr refl
     go false h later = later h
 
@@ -53,17 +56,20 @@ shown_holds : (t : Touch) (s : Store) (j : List Item) (x : ObjName) → (says j 
 shown_holds (Bear y size kind declared) s j x h k = go (same_object y x) (last_shown j (Born y) x k)
   where
     go : (b : Bool) → (not b && (false || says j (was_shown x))) ≡ true
-        → same_truth (if b then false else s.exposed x) (is_some (if b then Some (record { live = true; kind = kind; declared = declared }) else s.life x)) ≡ true
+        → same_truth (if b then false else s.exposed x) (is_some (if b then Some (record { live = true; kind = kind; declared = declared }) else s.life x))
+        ≡ true
     go true e = absurd (cc)
     go false e = h e
 shown_holds (Bury y) s j x h k = go (same_object y x) refl
   where
     go : (b : Bool) → same_object y x ≡ b → same_truth (s.exposed x) (is_some (if b then dead (s.life y) else s.life x)) ≡ true
-    go true e = ap (same_truth (s.exposed x)) (subst (λ z. is_some (dead (s.life y)) ≡ is_some (s.life z)) (same_object_is y x e) (still_some (s.life y))) ∙ h (last_shown j (item_of (Bury y)) x k)
+    go true e = ap (same_truth (s.exposed x)) (subst (λ z. is_some (dead (s.life y)) ≡ is_some (s.life z)) (same_object_is y x e) (still_some (s.life y)))
+        ∙ h (last_shown j (item_of (Bury y)) x k)
     go false e = h (last_shown j (item_of (Bury y)) x k)
 shown_holds (Show y) s j x h k = go (same_object y x) refl (last_shown j (item_of (Show y)) x k)
   where
-    go : (b : Bool) → same_object y x ≡ b → (b || says j (was_shown x)) ≡ true → same_truth (if b then is_some (s.life y) else s.exposed x) (is_some (s.life x)) ≡ true
+    go : (b : Bool) → same_object y x ≡ b → (b || says j (was_shown x)) ≡ true
+        → same_truth (if b then is_some (s.life y) else s.exposed x) (is_some (s.life x)) ≡ true
     go true e n = subst (λ z. same_truth (is_some (s.life y)) (is_some (s.life z)) ≡ true) (same_object_is y x e) (same_truth_self (is_some (s.life y)))
     go false e n = h n
 shown_holds (Ask y) s j x h k = h (last_shown j (item_of (Ask y)) x k)
@@ -89,11 +95,13 @@ none_settled f i j h k = go (any_last f j i k)
     go (inl e) = absurd (true≢false (sym e ∙ h))
     go (inr e) = e
 
-settled_holds : (t : Touch) (s : Store) (j : List Item) (e : Event) (x : ObjName) → refuses t s ≡ false → (says j (was_settled e x) ≡ true → is_so (was_settled e x) s ≡ true)
+settled_holds : (t : Touch) (s : Store) (j : List Item) (e : Event) (x : ObjName) → refuses t s ≡ false
+    → (says j (was_settled e x) ≡ true → is_so (was_settled e x) s ≡ true)
     → says (j ++ item_of t ∷ []) (was_settled e x) ≡ true → is_so (was_settled e x) (left t s) ≡ true
 settled_holds (Settle d y c) s j e x r h k = go (same_event d e) refl (any_last (λ i. settles_to i e x) j (Narrow d y) k)
   where
-    go : (b : Bool) → same_event d e ≡ b → ((same_event d e && same_object y x) ≡ true) ⊎ (any_of (λ i. settles_to i e x) j ≡ true) → is_the (if b then Some y else s.kept e) x ≡ true
+    go : (b : Bool) → same_event d e ≡ b → ((same_event d e && same_object y x) ≡ true) ⊎ (any_of (λ i. settles_to i e x) j ≡ true)
+        → is_the (if b then Some y else s.kept e) x ≡ true
     go true q (inl n) = (by_and [] (same_event d e) (same_object y x) n).1
     go true q (inr n) = not_other (s.kept e) x y (h n) (subst (λ z. is_other (s.kept z) y ≡ false) (same_event_is d e q) r)
     go false q (inl n) = absurd (true≢false (sym (by_and [] (same_event d e) (same_object y x) n).0 ∙ q))

@@ -18,11 +18,14 @@ use Rattle.c_model.specs.Machine as machine
 use Rattle.c_model.specs.Machine.{Machine, Does, Diff, Apart, alter, clash_one, clash_any, count_all}
 use Rattle.c_model.specs.MachineLaws.{StoreLaws}
 use Rattle.c_model.specs.ModelMachine.{done_by, frame_machine}
-use Rattle.order_laws.specs.StoreParts.{Part, life_of, is_known, is_exposed, byte_of, is_found, kept_for, kept_away, the_input, the_position, the_output, Seen, a_life, a_truth, a_byte, an_object, some_bytes, a_number, look, alters, Fact, was_shown, was_settled, counts, store_parts}
+use Rattle.order_laws.specs.StoreParts.{Part, life_of, is_known, is_exposed, byte_of, is_found, kept_for, kept_away, the_input, the_position, the_output}
+use Rattle.order_laws.specs.StoreParts.{Seen, a_life, a_truth, a_byte, an_object, some_bytes, a_number, look, alters, Fact, was_shown, was_settled}
+use Rattle.order_laws.specs.StoreParts.{counts, store_parts}
 use Rattle.order_laws.specs.StoreParts.{counted_after}
 use Rattle.order_laws.specs.Asking.{ActsCount}
 use Rattle.order_laws.proofs.ProgramTold.{done_was}
-use Rattle.order_laws.proofs.StoreMeet.{any_or, any_first, any_second, lives_meddle, bytes_meddle, takes_meddle, prints_meddle, same_by, same_exposed, same_kept}
+use Rattle.order_laws.proofs.StoreMeet.{any_or, any_first, any_second, lives_meddle, bytes_meddle, takes_meddle, prints_meddle, same_by, same_exposed}
+use Rattle.order_laws.proofs.StoreMeet.{same_kept}
 use Rattle.order_laws.proofs.StoreHolds.{run_holds}
 
 or_swap : (a b : Bool) → (a || b) ≡ (b || a)
@@ -52,7 +55,8 @@ bytes_are a b h = cc
 number_is : (a b : ℕ) → a_number a ≡ a_number b → a ≡ b
 number_is a b h = cc
 
-store_is : (s t : Store) → ((x : ObjName) → s.life x ≡ t.life x) → ((x : ObjName) → s.exposed x ≡ t.exposed x) → ((x : ObjName) (b : ℕ) → s.bytes x b ≡ t.bytes x b)
+store_is : (s t : Store) → ((x : ObjName) → s.life x ≡ t.life x) → ((x : ObjName) → s.exposed x ≡ t.exposed x)
+    → ((x : ObjName) (b : ℕ) → s.bytes x b ≡ t.bytes x b)
     → ((e : Event) → s.kept e ≡ t.kept e) → s.input ≡ t.input → s.position ≡ t.position → s.output ≡ t.output → s.created ≡ t.created → s ≡ t
 store_is s t l x b k i p o c = λ j. record {
   life = λ y. l y j;
@@ -105,13 +109,17 @@ module _ (world : World) where
       none (i ∷ j) = none j
 
   of_items : (j : List Item) (s t : Store) → items.Diff j s t → (p : Part) → any_of (λ i. alters i p) j ≡ false → look p s ≡ look p t
-  of_items j s t d (life_of x) h = ap a_life (d.life x (any_first (λ i. bears i x) (λ i. ends_life i x) j h) (any_second (λ i. bears i x) (λ i. ends_life i x) j h))
+  of_items j s t d (life_of x) h = ap a_life (d.life x (any_first (λ i. bears i x) (λ i. ends_life i x) j h)
+      (any_second (λ i. bears i x) (λ i. ends_life i x) j h))
   of_items j s t d (is_known x) h = ap a_truth (d.known x h)
-  of_items j s t d (is_exposed x) h = ap a_truth (d.exposed x (any_first (λ i. bears i x) (λ i. shows i x) j h) (any_second (λ i. bears i x) (λ i. shows i x) j h))
+  of_items j s t d (is_exposed x) h = ap a_truth (d.exposed x (any_first (λ i. bears i x) (λ i. shows i x) j h)
+      (any_second (λ i. bears i x) (λ i. shows i x) j h))
   of_items j s t d (byte_of x b) h =
       let e = any_second (λ i. bears i x) (λ i. ends_life i x || writes i x b) j h in
-      ap a_byte (d.bytes x b (any_first (λ i. bears i x) (λ i. ends_life i x || writes i x b) j h) (any_first (λ i. ends_life i x) (λ i. writes i x b) j e) (any_second (λ i. ends_life i x) (λ i. writes i x b) j e))
-  of_items j s t d (is_found x) h = ap a_truth (d.found x (any_first (λ i. shows i x) (λ i. ends_life i x) j h) (any_second (λ i. shows i x) (λ i. ends_life i x) j h))
+      ap a_byte (d.bytes x b (any_first (λ i. bears i x) (λ i. ends_life i x || writes i x b) j h) (any_first (λ i. ends_life i x) (λ i. writes i x b) j e)
+      (any_second (λ i. ends_life i x) (λ i. writes i x b) j e))
+  of_items j s t d (is_found x) h = ap a_truth (d.found x (any_first (λ i. shows i x) (λ i. ends_life i x) j h)
+      (any_second (λ i. shows i x) (λ i. ends_life i x) j h))
   of_items j s t d (kept_for e) h = ap an_object (d.kept e h)
   of_items j s t d (kept_away e x) h = ap a_truth (d.other e x h)
   of_items j s t d the_input h = ap some_bytes d.input
@@ -121,19 +129,23 @@ module _ (world : World) where
   to_diff : (j : List Item) (s t : Store) → items.Diff j s t → Diff M j s t
   to_diff j s t d = λ p h. of_items j s t d p (sym (alter_any j p) ∙ h)
 
-  ran : (f : Local) (p : Pick) (s : Store) (v : Value) (is : List Item) (s1 : Store) → Does M f p s v is s1 → run world.rows (does world f f.begun p) s ≡ Done v is s1
+  ran : (f : Local) (p : Pick) (s : Store) (v : Value) (is : List Item) (s1 : Store) → Does M f p s v is s1
+      → run world.rows (does world f f.begun p) s ≡ Done v is s1
   ran f p s v is s1 h = done_was (run world.rows (does world f f.begun p) s) v is s1 h
 
-  elsewhere : (f : Local) (p : Pick) (s t : Store) (v : Value) (is : List Item) (s1 : Store) (j : List Item) → Does M f p s v is s1 → Diff M j s t → Apart M is j
+  elsewhere : (f : Local) (p : Pick) (s t : Store) (v : Value) (is : List Item) (s1 : Store) (j : List Item) → Does M f p s v is s1 → Diff M j s t
+      → Apart M is j
       → (t1 : Store) × Does M f p t v is t1 × Diff M j s1 t1
   elsewhere f p s t v is s1 j h d a =
       let n = script_same world.rows Value (does world f f.begun p) s t s1 (gives v) is j (ran f p s v is s1 h) (to_items j s t d) (sym (apart_any is j) ∙ a) in
       (n.0, ap done_by n.1, to_diff j s1 n.0 n.2)
 
   meddles_sym : (i j : Item) → meddles world.rows i j ≡ false → meddles world.rows j i ≡ false
-  meddles_sym i j h = sym (ap₂ (λ a b. a || b) (or_swap (conflicts_one (stands_at world.rows) i j) (conflicts_one (stands_at world.rows) j i)) (or_swap (mixes i j) (mixes j i))) ∙ h
+  meddles_sym i j h = sym (ap₂ (λ a b. a || b) (or_swap (conflicts_one (stands_at world.rows) i j) (conflicts_one (stands_at world.rows) j i))
+      (or_swap (mixes i j) (mixes j i))) ∙ h
 
-  meet : (i j : List Item) (s t : Store) → Apart M i j → Diff M i s t → Diff M j s t → machine.Holds M (i ++ j) s → machine.Holds M (j ++ i) t → s.created ≡ t.created → s ≡ t
+  meet : (i j : List Item) (s t : Store) → Apart M i j → Diff M i s t → Diff M j s t → machine.Holds M (i ++ j) s → machine.Holds M (j ++ i) t
+      → s.created ≡ t.created → s ≡ t
   meet i j s t a d e h k c = store_is s t lives exposed bytes kept (dj.input) position output c
     where
       m : meddle world.rows i j ≡ false

@@ -1,5 +1,6 @@
 -- Two stores that differ only in what two lists of items both alter are one, where these don't meddle.
-use Rattle.std.proofs.Common.{◌≡◌, ℕ, ◌+◌, Bool, true, false, not, ◌&&◌, ◌||◌, nat_lt, nat_le, List, [], ◌∷◌, ◌++◌, Option, Some, None, is_some, refl, sym, ap, ◌∙◌, subst, true≢false, arith}
+use Rattle.std.proofs.Common.{◌≡◌, ℕ, ◌+◌, Bool, true, false, not, ◌&&◌, ◌||◌, nat_lt, nat_le, List, [], ◌∷◌, ◌++◌, Option, Some, None, is_some, refl}
+use Rattle.std.proofs.Common.{sym, ap, ◌∙◌, subst, true≢false, arith}
 use Rattle.std.proofs.lemmas.Bool.Decides.{nat_tests}
 use Rattle.ub_base.specs.declared.names.Event.{Event}
 use Rattle.ub_base.specs.declared.names.ObjName.{ObjName}
@@ -11,7 +12,8 @@ use Rattle.addr_map.specs.declared.map.Row.{Row}
 use Rattle.mem_spec.specs.Store.{Store}
 use Rattle.addr_map.specs.Conflict.{items_conflict, stands_at, overlap}
 use Rattle.mem_laws.specs.Frame.{bears, ends_life, shows, writes, settles, takes, prints, any_of, mixes, meddles, meddle_one, meddle}
-use Rattle.order_laws.specs.StoreParts.{Part, life_of, is_exposed, byte_of, kept_for, a_truth, an_object, look, alters, was_shown, was_settled, settles_to, shown_after, says, same_truth, is_the, is_so}
+use Rattle.order_laws.specs.StoreParts.{Part, life_of, is_exposed, byte_of, kept_for, a_truth, an_object, look, alters, was_shown, was_settled}
+use Rattle.order_laws.specs.StoreParts.{settles_to, shown_after, says, same_truth, is_the, is_so}
 
 -- of several items one passes
 pub or_l : (a b : Bool) → (a || b) ≡ false → a ≡ false
@@ -43,16 +45,19 @@ any_or f g (i ∷ is) h k =
 pub any_first : (f g : Item → Bool) (is : List Item) → any_of (λ i. f i || g i) is ≡ false → any_of f is ≡ false
 any_first f g [] h = refl
 any_first f g (i ∷ is) h =
-    or_both (f i) (any_of f is) (or_l (f i) (g i) (or_l (f i || g i) (any_of (λ i. f i || g i) is) h)) (any_first f g is (or_r (f i || g i) (any_of (λ i. f i || g i) is) h))
+    or_both (f i) (any_of f is) (or_l (f i) (g i) (or_l (f i || g i) (any_of (λ i. f i || g i) is) h))
+    (any_first f g is (or_r (f i || g i) (any_of (λ i. f i || g i) is) h))
 
 pub any_second : (f g : Item → Bool) (is : List Item) → any_of (λ i. f i || g i) is ≡ false → any_of g is ≡ false
 any_second f g [] h = refl
 any_second f g (i ∷ is) h =
-    or_both (g i) (any_of g is) (or_r (f i) (g i) (or_l (f i || g i) (any_of (λ i. f i || g i) is) h)) (any_second f g is (or_r (f i || g i) (any_of (λ i. f i || g i) is) h))
+    or_both (g i) (any_of g is) (or_r (f i) (g i) (or_l (f i || g i) (any_of (λ i. f i || g i) is) h))
+    (any_second f g is (or_r (f i || g i) (any_of (λ i. f i || g i) is) h))
 
 module _ (rows : List Row) where
   -- no item of the one kind in one list and of the other in the other, where such meddle
-  one_apart : (f : Item → Bool) (i : Item) (js : List Item) → ((j : Item) → f j ≡ true → meddles rows i j ≡ true) → meddle_one rows i js ≡ false → any_of f js ≡ false
+  one_apart : (f : Item → Bool) (i : Item) (js : List Item) → ((j : Item) → f j ≡ true → meddles rows i j ≡ true) → meddle_one rows i js ≡ false
+      → any_of f js ≡ false
   one_apart f i [] g h = refl
   one_apart f i (j ∷ js) g h = or_both (f j) (any_of f js) (go (f j) refl) (one_apart f i js g (or_r (meddles rows i j) (meddle_one rows i js) h))
     where
@@ -99,7 +104,8 @@ module _ (rows : List Row) where
   ends_bears x _ j h k = absurd (cc)
 
   ends_ends : (x : ObjName) (i j : Item) → ends_life i x ≡ true → ends_life j x ≡ true → meddles rows i j ≡ true
-  ends_ends x (Dies y) (Dies z) h k = or_first (same_object y z || same_object z y) (false || false) (or_first (same_object y z) (same_object z y) (joined y z x h k))
+  ends_ends x (Dies y) (Dies z) h k = or_first (same_object y z || same_object z y) (false || false)
+      (or_first (same_object y z) (same_object z y) (joined y z x h k))
   ends_ends x (Dies y) _ h k = absurd (cc)
   ends_ends x _ j h k = absurd (cc)
 
@@ -154,14 +160,16 @@ module _ (rows : List Row) where
   writes_writes x b _ j h k = absurd (cc)
 
   -- either way of altering a part
-  either : (f g : Item → Bool) (i j : Item) → (f i ≡ true → meddles rows i j ≡ true) → (g i ≡ true → meddles rows i j ≡ true) → (f i || g i) ≡ true → meddles rows i j ≡ true
+  either : (f g : Item → Bool) (i j : Item) → (f i ≡ true → meddles rows i j ≡ true) → (g i ≡ true → meddles rows i j ≡ true) → (f i || g i) ≡ true
+      → meddles rows i j ≡ true
   either f g i j h k e = go (f i) refl e
     where
       go : (b : Bool) → f i ≡ b → (b || g i) ≡ true → meddles rows i j ≡ true
       go true p e = h p
       go false p e = k e
 
-  either_of : (f g : Item → Bool) (i j : Item) → (f j ≡ true → meddles rows i j ≡ true) → (g j ≡ true → meddles rows i j ≡ true) → (f j || g j) ≡ true → meddles rows i j ≡ true
+  either_of : (f g : Item → Bool) (i j : Item) → (f j ≡ true → meddles rows i j ≡ true) → (g j ≡ true → meddles rows i j ≡ true) → (f j || g j) ≡ true
+      → meddles rows i j ≡ true
   either_of f g i j h k e = go (f j) refl e
     where
       go : (b : Bool) → f j ≡ b → (b || g j) ≡ true → meddles rows i j ≡ true
@@ -174,9 +182,11 @@ module _ (rows : List Row) where
       (λ a. either_of (λ j. bears j x) (λ j. ends_life j x) i j (λ c. bears_bears x i j a c) (λ c. bears_ends x i j a c) k)
       (λ a. either_of (λ j. bears j x) (λ j. ends_life j x) i j (λ c. ends_bears x i j a c) (λ c. ends_ends x i j a c) k) h
 
-  bytes_with : (x : ObjName) (b : ℕ) (i j : Item) → (bears j x ≡ true → meddles rows i j ≡ true) → (ends_life j x ≡ true → meddles rows i j ≡ true) → (writes j x b ≡ true → meddles rows i j ≡ true)
+  bytes_with : (x : ObjName) (b : ℕ) (i j : Item) → (bears j x ≡ true → meddles rows i j ≡ true) → (ends_life j x ≡ true → meddles rows i j ≡ true)
+      → (writes j x b ≡ true → meddles rows i j ≡ true)
       → alters j (byte_of x b) ≡ true → meddles rows i j ≡ true
-  bytes_with x b i j p q r k = either_of (λ j. bears j x) (λ j. ends_life j x || writes j x b) i j p (λ e. either_of (λ j. ends_life j x) (λ j. writes j x b) i j q r e) k
+  bytes_with x b i j p q r k = either_of (λ j. bears j x) (λ j. ends_life j x || writes j x b) i j p
+      (λ e. either_of (λ j. ends_life j x) (λ j. writes j x b) i j q r e) k
 
   pub bytes_meddle : (x : ObjName) (b : ℕ) (i j : Item) → alters i (byte_of x b) ≡ true → alters j (byte_of x b) ≡ true → meddles rows i j ≡ true
   bytes_meddle x b i j h k =
@@ -197,7 +207,8 @@ module _ (rows : List Row) where
   prints_meddle _ j h k = absurd (cc)
 
   -- a part that no two apart items alter
-  pub same_by : (p : Part) (is js : List Item) (s t : Store) → ((i j : Item) → alters i p ≡ true → alters j p ≡ true → meddles rows i j ≡ true) → meddle rows is js ≡ false
+  pub same_by : (p : Part) (is js : List Item) (s t : Store) → ((i j : Item) → alters i p ≡ true → alters j p ≡ true → meddles rows i j ≡ true)
+      → meddle rows is js ≡ false
       → (any_of (λ i. alters i p) is ≡ false → look p s ≡ look p t) → (any_of (λ i. alters i p) js ≡ false → look p s ≡ look p t) → look p s ≡ look p t
   same_by p is js s t m h f g = go (any_of (λ i. alters i p) is) refl
     where
@@ -221,7 +232,8 @@ module _ (rows : List Row) where
   shown_some (i ∷ is) x b h k =
       go (bears i x) (shows i x) refl (or_l (bears i x) (any_of (λ i. bears i x) is) h) (shown_some is x b (or_r (bears i x) (any_of (λ i. bears i x) is) h))
     where
-      go : (c d : Bool) → shows i x ≡ d → c ≡ false → (any_of (λ i. shows i x) is ≡ true → shown_after is x b ≡ true) → shown_after is x (not c && (d || b)) ≡ true
+      go : (c d : Bool) → shows i x ≡ d → c ≡ false → (any_of (λ i. shows i x) is ≡ true → shown_after is x b ≡ true)
+          → shown_after is x (not c && (d || b)) ≡ true
       go false true e f again = shown_true is x (or_r (bears i x) (any_of (λ i. bears i x) is) h)
       go false false e f again = again (subst (λ d. (d || any_of (λ i. shows i x) is) ≡ true) e k)
       go true d e f again = absurd (cc)
@@ -230,7 +242,8 @@ module _ (rows : List Row) where
   shown_joined [] js x b = refl
   shown_joined (i ∷ is) js x b = shown_joined is js x (not (bears i x) && (shows i x || b))
 
-  pub both_shown : (is js : List Item) (x : ObjName) → any_of (λ i. bears i x) js ≡ false → any_of (λ i. shows i x) js ≡ true → says (is ++ js) (was_shown x) ≡ true
+  pub both_shown : (is js : List Item) (x : ObjName) → any_of (λ i. bears i x) js ≡ false → any_of (λ i. shows i x) js ≡ true
+      → says (is ++ js) (was_shown x) ≡ true
   both_shown is js x h k = shown_joined is js x false ∙ shown_some js x (shown_after is x false) h k
 
   same_truth_is : (a b c : Bool) → same_truth a c ≡ true → same_truth b c ≡ true → a ≡ b
@@ -255,7 +268,8 @@ module _ (rows : List Row) where
       seen : look (is_exposed x) s ≡ look (is_exposed x) t → s.exposed x ≡ t.exposed x
       seen e = truth_is (s.exposed x) (t.exposed x) e
 
-      left : (b c : Bool) → any_of (λ i. bears i x) is ≡ false → any_of (λ i. bears i x) js ≡ false → any_of (λ i. shows i x) is ≡ b → any_of (λ i. shows i x) js ≡ c → s.exposed x ≡ t.exposed x
+      left : (b c : Bool) → any_of (λ i. bears i x) is ≡ false → any_of (λ i. bears i x) js ≡ false → any_of (λ i. shows i x) is ≡ b
+          → any_of (λ i. shows i x) js ≡ c → s.exposed x ≡ t.exposed x
       left false c bi bj si sj = seen (f (any_or (λ i. bears i x) (λ i. shows i x) is bi si))
       left true false bi bj si sj = seen (g (any_or (λ i. bears i x) (λ i. shows i x) js bj sj))
       left true true bi bj si sj =
@@ -264,7 +278,8 @@ module _ (rows : List Row) where
 
       by_bears : (b c : Bool) → any_of (λ i. bears i x) is ≡ b → any_of (λ i. bears i x) js ≡ c → s.exposed x ≡ t.exposed x
       by_bears true c bi bj =
-          seen (g (any_or (λ i. bears i x) (λ i. shows i x) js (apart (λ i. bears i x) (λ i. bears i x) is js (bears_bears x) h bi) (apart (λ i. bears i x) (λ i. shows i x) is js (bears_shows x) h bi)))
+          seen (g (any_or (λ i. bears i x) (λ i. shows i x) js (apart (λ i. bears i x) (λ i. bears i x) is js (bears_bears x) h bi)
+          (apart (λ i. bears i x) (λ i. shows i x) is js (bears_shows x) h bi)))
       by_bears false true bi bj = seen (f (any_or (λ i. bears i x) (λ i. shows i x) is bi (shows_none (any_of (λ i. shows i x) is) refl)))
         where
           shows_none : (b : Bool) → any_of (λ i. shows i x) is ≡ b → any_of (λ i. shows i x) is ≡ false
@@ -281,7 +296,8 @@ module _ (rows : List Row) where
       one (Narrow d y) k = (y, and_intro (same_event d e) (same_object y y) k (same_object_refl y))
       one _ k = absurd (cc)
 
-      go : (b : Bool) → settles i e ≡ b → (b || any_of (λ i. settles i e) is) ≡ true → (any_of (λ i. settles i e) is ≡ true → (x : ObjName) × (any_of (λ i. settles_to i e x) is ≡ true))
+      go : (b : Bool) → settles i e ≡ b → (b || any_of (λ i. settles i e) is) ≡ true
+          → (any_of (λ i. settles i e) is ≡ true → (x : ObjName) × (any_of (λ i. settles_to i e x) is ≡ true))
           → (x : ObjName) × (any_of (λ i. settles_to i e x) (i ∷ is) ≡ true)
       go true k h later = (let a = one i k in (a.0, or_first (settles_to i e a.0) (any_of (λ i. settles_to i e a.0) is) a.1))
       go false k h later = (let a = later h in (a.0, or_second (settles_to i e a.0) (any_of (λ i. settles_to i e a.0) is) a.1))
@@ -303,13 +319,16 @@ module _ (rows : List Row) where
   is_the_one (Some y) x h = ap Some (same_object_is y x h)
 
   -- settled to different objects meddles
-  settled_apart : (e : Event) (x y : ObjName) (i j : Item) → same_object x y ≡ false → settles_to i e x ≡ true → settles_to j e y ≡ true → meddles rows i j ≡ true
+  settled_apart : (e : Event) (x y : ObjName) (i j : Item) → same_object x y ≡ false → settles_to i e x ≡ true → settles_to j e y ≡ true
+      → meddles rows i j ≡ true
   settled_apart e x y (Narrow c z) (Narrow d w) n h k =
       let p = by_and (same_event c e) (same_object z x) h in
       let q = by_and (same_event d e) (same_object w y) k in
       let cd : same_event c d ≡ true = subst (λ v. same_event c v ≡ true) (sym (same_event_is d e q.0)) p.0 in
-      let zw : same_object z w ≡ false = subst (λ v. same_object v w ≡ false) (sym (same_object_is z x p.1)) (subst (λ v. same_object x v ≡ false) (sym (same_object_is w y q.1)) n) in
-      or_first (items_conflict (stands_at rows) (Narrow c z) (Narrow d w)) (false || false) (or_first _ _ (and_intro (same_event c d) (not (same_object z w)) cd (ap not zw)))
+      let zw : same_object z w ≡ false = subst (λ v. same_object v w ≡ false) (sym (same_object_is z x p.1))
+      (subst (λ v. same_object x v ≡ false) (sym (same_object_is w y q.1)) n) in
+      or_first (items_conflict (stands_at rows) (Narrow c z) (Narrow d w)) (false || false)
+      (or_first _ _ (and_intro (same_event c d) (not (same_object z w)) cd (ap not zw)))
   settled_apart e x y (Narrow c z) _ n h k = absurd (cc)
   settled_apart e x y _ j n h k = absurd (cc)
 
@@ -319,7 +338,8 @@ module _ (rows : List Row) where
   pub same_kept : (is js : List Item) (s t : Store) (e : Event) → meddle rows is js ≡ false
       → (any_of (λ i. settles i e) is ≡ false → look (kept_for e) s ≡ look (kept_for e) t)
       → (any_of (λ i. settles i e) js ≡ false → look (kept_for e) s ≡ look (kept_for e) t)
-      → ((x : ObjName) → says (is ++ js) (was_settled e x) ≡ true → is_so (was_settled e x) s ≡ true) → ((x : ObjName) → says (js ++ is) (was_settled e x) ≡ true → is_so (was_settled e x) t ≡ true)
+      → ((x : ObjName) → says (is ++ js) (was_settled e x) ≡ true → is_so (was_settled e x) s ≡ true)
+      → ((x : ObjName) → says (js ++ is) (was_settled e x) ≡ true → is_so (was_settled e x) t ≡ true)
       → s.kept e ≡ t.kept e
   same_kept is js s t e h f g p q = go (any_of (λ i. settles i e) is) (any_of (λ i. settles i e) js) refl refl
     where
@@ -331,4 +351,5 @@ module _ (rows : List Row) where
       go true false si sj = seen (g sj)
       go true true si sj =
           let a = settled_one e is si in
-          is_the_one (s.kept e) a.0 (p a.0 (any_joined_l (λ i. settles_to i e a.0) is js a.1)) ∙ sym (is_the_one (t.kept e) a.0 (q a.0 (any_joined_r (λ i. settles_to i e a.0) js is a.1)))
+          is_the_one (s.kept e) a.0 (p a.0 (any_joined_l (λ i. settles_to i e a.0) is js a.1))
+          ∙ sym (is_the_one (t.kept e) a.0 (q a.0 (any_joined_r (λ i. settles_to i e a.0) js is a.1)))

@@ -1,5 +1,6 @@
 -- The items that a trace has of the events of an open full expression, and that a finding which tells no pair leaves them quiet.
-use Rattle.std.proofs.Common.{◌≡◌, ◌≢◌, ℕ, zero, suc, ◌+◌, ◌<◌, ◌≤◌, Bool, true, false, not, ◌&&◌, ◌||◌, ◌==◌, if◌then◌else◌, true≢false, List, [], ◌∷◌, ◌++◌, length, Option, Some, None, refl, sym, ap, ap₂, ◌∙◌, subst, ◌⊎◌, inl, inr, arith}
+use Rattle.std.proofs.Common.{◌≡◌, ◌≢◌, ℕ, zero, suc, ◌+◌, ◌<◌, ◌≤◌, Bool, true, false, not, ◌&&◌, ◌||◌, ◌==◌, if◌then◌else◌, true≢false, List, [], ◌∷◌}
+use Rattle.std.proofs.Common.{◌++◌, length, Option, Some, None, refl, sym, ap, ap₂, ◌∙◌, subst, ◌⊎◌, inl, inr, arith}
 use Rattle.std.proofs.lemmas.Bool.Decides.{nat_tests}
 use Rattle.ub_base.specs.Frames.{Path}
 use Rattle.ub_base.specs.declared.clause.Kind.{Kind}
@@ -58,7 +59,8 @@ module _ (rows : List Row) where
       p : Path
       p = (e.turn, u.node) ∷ e.path
 
-      go : (b : Bool) → conflict rows (e.items ++ (if b then items_under p (x ∷ trace) else [])) ks ≡ false → conflict rows (e.items ++ (if b then items_under p trace else [])) ks ≡ false
+      go : (b : Bool) → conflict rows (e.items ++ (if b then items_under p (x ∷ trace) else [])) ks ≡ false
+          → conflict rows (e.items ++ (if b then items_under p trace else [])) ks ≡ false
       go true h =
           joined_free e.items (items_under p trace) ks (left_free e.items (items_under p (x ∷ trace)) ks h)
           (right_free (if is_under x.path p then x.items else []) (items_under p trace) ks (right_free e.items (items_under p (x ∷ trace)) ks h))
@@ -80,7 +82,8 @@ module _ (rows : List Row) where
   taken true x y e = refl
   taken false x y e = absurd (cc)
 
-  pub logged_on : (trace : List Entry) (path : Path) (turn : ℕ) (u : Place) (is : List Item) (x : Entry) → is_of path turn u x ≡ false → Logged trace path turn u is → Logged (x ∷ trace) path turn u is
+  pub logged_on : (trace : List Entry) (path : Path) (turn : ℕ) (u : Place) (is : List Item) (x : Entry) → is_of path turn u x ≡ false
+      → Logged trace path turn u is → Logged (x ∷ trace) path turn u is
   logged_on trace path turn u is x other l = record {
     entry = l.entry;
     found = λ all. passed (is_of path turn u x) (items_of all x u) (items_by all trace path turn u) other ∙ l.found all;
@@ -95,7 +98,8 @@ module _ (rows : List Row) where
   is_this : (path : Path) (turn : ℕ) (u : Place) (x : Entry) → x.path ≡ path → x.turn ≡ turn → x.place ≡ Some u → is_of path turn u x ≡ true
   is_this path turn u x p t at =
       ap (λ o. is_of path turn u (record x { place = o })) at
-      ∙ and_b _ _ (subst (λ z. same_path x.path z ≡ true) p (path_refl x.path)) (and_b _ _ (subst (λ z. (x.turn == z) ≡ true) t (eq_self x.turn)) (same_place_itself u))
+      ∙ and_b _ _ (subst (λ z. same_path x.path z ≡ true) p (path_refl x.path))
+      (and_b _ _ (subst (λ z. (x.turn == z) ≡ true) t (eq_self x.turn)) (same_place_itself u))
 
   first_false : (a b : Bool) → a ≡ false → (a && b) ≡ false
   first_false false b h = refl
@@ -121,7 +125,8 @@ module _ (rows : List Row) where
       go false e = e
       go true e = absurd (ne (same_place_eq u w e))
 
-  pub logged_new : (trace : List Entry) (path : Path) (turn : ℕ) (u : Place) (x : Entry) → x.path ≡ path → x.turn ≡ turn → x.place ≡ Some u → Logged (x ∷ trace) path turn u x.items
+  pub logged_new : (trace : List Entry) (path : Path) (turn : ℕ) (u : Place) (x : Entry) → x.path ≡ path → x.turn ≡ turn → x.place ≡ Some u
+      → Logged (x ∷ trace) path turn u x.items
   logged_new trace path turn u x p t at = record {
     entry = x;
     found = λ all. taken (is_of path turn u x) (items_of all x u) (items_by all trace path turn u) (is_this path turn u x p t at);
@@ -145,13 +150,16 @@ module _ (rows : List Row) where
       q = (l.entry.turn, u.node) ∷ l.entry.path
 
       below : is_under x.path q ≡ true
-      below = subst (λ z. is_under x.path ((z, u.node) ∷ l.entry.path) ≡ true) (sym l.of_turn) (subst (λ z. is_under x.path ((turn, u.node) ∷ z) ≡ true) (sym l.of_path) under)
+      below = subst (λ z. is_under x.path ((z, u.node) ∷ l.entry.path) ≡ true) (sym l.of_turn)
+          (subst (λ z. is_under x.path ((turn, u.node) ∷ z) ≡ true) (sym l.of_path) under)
 
-      of_body : (b : Bool) (ks : List Item) → b ≡ true → conflict rows (l.entry.items ++ (if b then items_under q (x ∷ trace) else [])) ks ≡ false → conflict rows (items_under q (x ∷ trace)) ks ≡ false
+      of_body : (b : Bool) (ks : List Item) → b ≡ true → conflict rows (l.entry.items ++ (if b then items_under q (x ∷ trace) else [])) ks ≡ false
+          → conflict rows (items_under q (x ∷ trace)) ks ≡ false
       of_body true ks e h = right_free l.entry.items (items_under q (x ∷ trace)) ks h
       of_body false ks e h = absurd (cc)
 
-      of_frame : (b : Bool) (ks : List Item) → b ≡ true → conflict rows ((if b then x.items else []) ++ items_under q trace) ks ≡ false → conflict rows x.items ks ≡ false
+      of_frame : (b : Bool) (ks : List Item) → b ≡ true → conflict rows ((if b then x.items else []) ++ items_under q trace) ks ≡ false
+          → conflict rows x.items ks ≡ false
       of_frame true ks e h = left_free x.items (items_under q trace) ks h
       of_frame false ks e h = absurd (cc)
 
@@ -177,7 +185,8 @@ none_first : (test : Place → Place → Bool) (u : Place) (o : Option Place) (p
 none_first test u None p h = (refl, h)
 none_first test u (Some v) p h = absurd (cc)
 
-pub pair_none : (test : Place → Place → Bool) (us : List Place) (u v : Place) → pair_among test us ≡ None → has us u ≡ true → has us v ≡ true → u ≢ v → (test u v ≡ false) ⊎ (test v u ≡ false)
+pub pair_none : (test : Place → Place → Bool) (us : List Place) (u v : Place) → pair_among test us ≡ None → has us u ≡ true → has us v ≡ true → u ≢ v
+    → (test u v ≡ false) ⊎ (test v u ≡ false)
 pair_none test [] u v h a b ne = absurd (cc)
 pair_none test (w ∷ us) u v h a b ne =
     let n = none_first test w (first_place (test w) us) (pair_among test us) h in
@@ -225,12 +234,15 @@ module _ (world : World) (trace : List Entry) where
       → (pair_among (test o) (due_only o (places_from 0 (size o.tree))) ≡ None) × (least_pair world trace test os ≡ None)
   none_here test o os h = go (pair_among (test o) (due_only o (places_from 0 (size o.tree)))) h
     where
-      go : (p : Option (Place × Place)) → with_items world trace o p (least_pair world trace test os) ≡ None → (p ≡ None) × (least_pair world trace test os ≡ None)
+      go : (p : Option (Place × Place)) → with_items world trace o p (least_pair world trace test os) ≡ None
+          → (p ≡ None) × (least_pair world trace test os ≡ None)
       go None h = (refl, h)
       go (Some p) h = absurd (cc)
 
-  pub quiet_open : (o : Open) → pair_among (quarrels world.rows o) (due_only o (places_from 0 (size o.tree))) ≡ None → (u v : Place) → is_due o.tree o.taken u ≡ true → is_due o.tree o.taken v ≡ true → u ≢ v
-      → is_before o.taken 0 o.tree u v ≡ false → is_before o.taken 0 o.tree v u ≡ false → o.shows u v ≡ true → o.shows v u ≡ true → conflict world.rows (o.items u) (o.items v) ≡ false
+  pub quiet_open : (o : Open) → pair_among (quarrels world.rows o) (due_only o (places_from 0 (size o.tree))) ≡ None → (u v : Place)
+      → is_due o.tree o.taken u ≡ true → is_due o.tree o.taken v ≡ true → u ≢ v
+      → is_before o.taken 0 o.tree u v ≡ false → is_before o.taken 0 o.tree v u ≡ false → o.shows u v ≡ true → o.shows v u ≡ true
+      → conflict world.rows (o.items u) (o.items v) ≡ false
   quiet_open o h u v du dv ne b c s t =
       go (pair_none (quarrels world.rows o) (due_only o (places_from 0 (size o.tree))) u v h
       (among_due o (places_from 0 (size o.tree)) u du (among_places 0 (size o.tree) u (omega arith) (in_tree u du)))
@@ -254,4 +266,5 @@ module _ (world : World) (trace : List Entry) where
 
       go : (quarrels world.rows o u v ≡ false) ⊎ (quarrels world.rows o v u ≡ false) → conflict world.rows (o.items u) (o.items v) ≡ false
       go (inl q) = rest (is_before o.taken 0 o.tree u v) (is_before o.taken 0 o.tree v u) (o.shows u v) (conflict world.rows (o.items u) (o.items v)) b c s q
-      go (inr q) = back (rest (is_before o.taken 0 o.tree v u) (is_before o.taken 0 o.tree u v) (o.shows v u) (conflict world.rows (o.items v) (o.items u)) c b t q)
+      go (inr q) = back (rest (is_before o.taken 0 o.tree v u) (is_before o.taken 0 o.tree u v) (o.shows v u) (conflict world.rows (o.items v) (o.items u))
+          c b t q)

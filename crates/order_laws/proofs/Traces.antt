@@ -1,5 +1,6 @@
 -- Entries of a trace, conflicts of lists of items, and what a control step does to its frame.
-use Rattle.std.proofs.Common.{◌≡◌, ℕ, suc, ◌<◌, ◌≤◌, Bool, true, false, ◌&&◌, ◌||◌, ◌==◌, if◌then◌else◌, true≢false, List, [], ◌∷◌, length, Option, Some, None, is_some, refl, sym, ap, ap₂, ◌∙◌, subst, ◌⊎◌, inl, inr, arith}
+use Rattle.std.proofs.Common.{◌≡◌, ℕ, suc, ◌<◌, ◌≤◌, Bool, true, false, ◌&&◌, ◌||◌, ◌==◌, if◌then◌else◌, true≢false, List, [], ◌∷◌, length, Option, Some}
+use Rattle.std.proofs.Common.{None, is_some, refl, sym, ap, ap₂, ◌∙◌, subst, ◌⊎◌, inl, inr, arith}
 use Rattle.std.proofs.lemmas.Bool.Decides.{nat_tests}
 use Rattle.ub_base.specs.Frames.{Path}
 use Rattle.ub_base.specs.declared.names.Item.{Item}
@@ -68,7 +69,8 @@ pub record IsNewest (x : Entry) (trace : List Entry) (d : Entry) (u : Place) (e 
   pub of_frame : same_path x.path e.path ≡ true
   pub of_turn : x.turn ≡ e.turn
 
-pub both_cases : (x : Entry) (trace : List Entry) (d : Entry) (u : Place) (e : Entry) (v : Place) → Both (x ∷ trace) d u e v → IsNewest x trace d u e v ⊎ Both trace d u e v
+pub both_cases : (x : Entry) (trace : List Entry) (d : Entry) (u : Place) (e : Entry) (v : Place) → Both (x ∷ trace) d u e v
+    → IsNewest x trace d u e v ⊎ Both trace d u e v
 both_cases x trace _ u e v (newest _ _ _ _ _ p h s t) = inl (record { entry = refl; at = p; among = h; of_frame = s; of_turn = t })
 both_cases x trace d u e v (older _ _ _ _ _ _ b) = inr b
 
@@ -98,7 +100,8 @@ module _ (rows : List Row) where
   clash_by i is [] h = h
   clash_by i is (j ∷ js) h = go (is_access j) h (clash_by i is js)
     where
-      go : (b : Bool) → clash_one rows i (if b then j ∷ accesses js else accesses js) ≡ true → (clash_one rows i (accesses js) ≡ true → clash_one rows i js ≡ true) → clash_one rows i (j ∷ js) ≡ true
+      go : (b : Bool) → clash_one rows i (if b then j ∷ accesses js else accesses js) ≡ true
+          → (clash_one rows i (accesses js) ≡ true → clash_one rows i js ≡ true) → clash_one rows i (j ∷ js) ≡ true
       go false h again = or_b _ _ (again h)
       go true h again = elim (or_cases (clash rows i j) _ h) [
         | inl k ↦ or_a _ _ k
@@ -109,7 +112,8 @@ module _ (rows : List Row) where
   accesses_conflict [] js h = absurd (cc)
   accesses_conflict (i ∷ is) js h = go (is_access i) h (accesses_conflict is js)
     where
-      go : (b : Bool) → conflict rows (if b then i ∷ accesses is else accesses is) (accesses js) ≡ true → (conflict rows (accesses is) (accesses js) ≡ true → conflict rows is js ≡ true)
+      go : (b : Bool) → conflict rows (if b then i ∷ accesses is else accesses is) (accesses js) ≡ true
+          → (conflict rows (accesses is) (accesses js) ≡ true → conflict rows is js ≡ true)
           → conflict rows (i ∷ is) js ≡ true
       go false h again = or_b _ _ (again h)
       go true h again = elim (or_cases (clash_one rows i (accesses js)) _ h) [
@@ -121,15 +125,18 @@ module _ (rows : List Row) where
   one_swap i [] ks h = absurd (cc)
   one_swap i (j ∷ js) ks h = go (or_cases (clash rows i j) (clash_one rows i js) h) (one_swap i js ks)
     where
-      go : (clash rows i j ≡ true) ⊎ (clash_one rows i js ≡ true) → (clash_one rows i js ≡ true → conflict rows js (i ∷ ks) ≡ true) → conflict rows (j ∷ js) (i ∷ ks) ≡ true
-      go (inl k) again = or_a (clash_one rows j (i ∷ ks)) _ (or_a (clash rows j i) _ (or_swap (conflicts_one (stands_at rows) i j) (conflicts_one (stands_at rows) j i) k))
+      go : (clash rows i j ≡ true) ⊎ (clash_one rows i js ≡ true) → (clash_one rows i js ≡ true → conflict rows js (i ∷ ks) ≡ true)
+          → conflict rows (j ∷ js) (i ∷ ks) ≡ true
+      go (inl k) again = or_a (clash_one rows j (i ∷ ks)) _ (or_a (clash rows j i) _
+          (or_swap (conflicts_one (stands_at rows) i j) (conflicts_one (stands_at rows) j i) k))
       go (inr k) again = or_b _ _ (again k)
 
   more_right : (js : List Item) (i : Item) (ks : List Item) → conflict rows js ks ≡ true → conflict rows js (i ∷ ks) ≡ true
   more_right [] i ks h = absurd (cc)
   more_right (j ∷ js) i ks h = go (or_cases (clash_one rows j ks) (conflict rows js ks) h) (more_right js i ks)
     where
-      go : (clash_one rows j ks ≡ true) ⊎ (conflict rows js ks ≡ true) → (conflict rows js ks ≡ true → conflict rows js (i ∷ ks) ≡ true) → conflict rows (j ∷ js) (i ∷ ks) ≡ true
+      go : (clash_one rows j ks ≡ true) ⊎ (conflict rows js ks ≡ true) → (conflict rows js ks ≡ true → conflict rows js (i ∷ ks) ≡ true)
+          → conflict rows (j ∷ js) (i ∷ ks) ≡ true
       go (inl k) again = or_a _ _ (or_b _ _ k)
       go (inr k) again = or_b _ _ (again k)
 
@@ -137,7 +144,8 @@ module _ (rows : List Row) where
   conflict_swap [] js h = absurd (cc)
   conflict_swap (i ∷ is) js h = go (or_cases (clash_one rows i js) (conflict rows is js) h) (conflict_swap is js)
     where
-      go : (clash_one rows i js ≡ true) ⊎ (conflict rows is js ≡ true) → (conflict rows is js ≡ true → conflict rows js is ≡ true) → conflict rows js (i ∷ is) ≡ true
+      go : (clash_one rows i js ≡ true) ⊎ (conflict rows is js ≡ true) → (conflict rows is js ≡ true → conflict rows js is ≡ true)
+          → conflict rows js (i ∷ is) ≡ true
       go (inl k) again = one_swap i js is k
       go (inr k) again = more_right js i is (again k)
 
@@ -176,14 +184,30 @@ module _ (world : World) where
   never_begun : {A : Type 0} → (f g : Local) → f.begun ≡ None → g.begun ≡ f.begun → is_some g.begun ≡ true → A
   never_begun f g e h b = absurd (true≢false (sym b ∙ ap is_some (h ∙ e)))
 
-  stays_put : (f g : Local) → f.begun ≡ None → g.begun ≡ f.begun → f.scene.path ≡ g.scene.path → f.scene.turn ≤ g.scene.turn → f.function ≡ g.function → Moved f g
-  stays_put f g e h p t n = record { path = p; turn = t; fresh = λ b. never_begun f g e h b; function = n; closed = same_closed f g e h; none_done = none_begun g.begun (h ∙ e) }
+  stays_put : (f g : Local) → f.begun ≡ None → g.begun ≡ f.begun → f.scene.path ≡ g.scene.path → f.scene.turn ≤ g.scene.turn → f.function ≡ g.function
+      → Moved f g
+  stays_put f g e h p t n = record {
+    path = p;
+    turn = t;
+    fresh = λ b. never_begun f g e h b;
+    function = n;
+    closed = same_closed f g e h;
+    none_done =
+        none_begun g.begun (h ∙ e);
+  }
 
   control_moves : (f : Local) (t : Todo) → f.begun ≡ None → Moved f (control_next world f t)
   control_moves f [] e = stays_put f f e refl refl (omega arith) refl
   control_moves f (Enter b ds ∷ rest) e = stays_put f (control_next world f (Enter b ds ∷ rest)) e refl refl (omega arith) refl
   control_moves f (Leave b ds ∷ rest) e = stays_put f (control_next world f (Leave b ds ∷ rest)) e refl refl (omega arith) refl
-  control_moves f (Begin x what ∷ rest) e = record { path = refl; turn = omega arith; fresh = λ b. refl; function = refl; closed = λ v g. absurd (cc (g)); none_done = λ v d. true≢false (sym d) }
+  control_moves f (Begin x what ∷ rest) e = record {
+    path = refl;
+    turn = omega arith;
+    fresh = λ b. refl;
+    function = refl;
+    closed = λ v g. absurd (cc (g));
+    none_done = λ v d. true≢false (sym d);
+  }
   control_moves f (Go_to k ∷ rest) e = stays_put f (control_next world f (Go_to k ∷ rest)) e refl refl (omega arith) refl
   control_moves f (Go_out ∷ rest) e = stays_put f (control_next world f (Go_out ∷ rest)) e refl refl (omega arith) refl
   control_moves f (Go_on ∷ rest) e = stays_put f (control_next world f (Go_on ∷ rest)) e refl refl (omega arith) refl
@@ -192,4 +216,12 @@ module _ (world : World) where
 
   pub moves : (f : Local) (o : Option Begun) (v : Value) → f.begun ≡ o → Moved f (next world f o Control v)
   moves f None v e = control_moves f (ready_work f.todo) e
-  moves f (Some b) v e = record { path = refl; turn = omega arith; fresh = λ h. absurd (cc (h)); function = refl; closed = tt; none_done = λ v d. true≢false (sym d) }
+  moves f (Some b) v e = record {
+    path = refl;
+    turn = omega arith;
+    fresh = λ h. absurd (cc (h));
+    function = refl;
+    closed = tt;
+    none_done = λ v d. true≢false
+        (sym d);
+  }

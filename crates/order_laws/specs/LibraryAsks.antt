@@ -10,4 +10,5 @@ use Rattle.c_model.specs.Libraries.{library}
 use Rattle.order_laws.specs.Asking.{AskedOrEnds}
 
 abbrev pub LibraryAsks : Type 0
-LibraryAsks = (rows : List Row) (g : LibFunc) (who : Event) (ts : List CType) (vs : List Value) (bs : List Item) → AskedOrEnds rows (library rows g who ts vs) bs
+LibraryAsks = (rows : List Row) (g : LibFunc) (who : Event) (ts : List CType) (vs : List Value) (bs : List Item)
+    → AskedOrEnds rows (library rows g who ts vs) bs

@@ -9,7 +9,8 @@ returns-clause-speaks c = clean_run_speaks
 
 pub returns-clause-library : goal.returns-clause-library
 returns-clause-library c = λ world input vs status output picks e small run.
-    clean_run_speaks world input vs status output picks (λ g who ts ws bs. subst (λ l. AskedOrEnds world.rows (l g who ts ws) bs) (sym e) (library_asks world.rows g who ts ws bs)) small run
+    clean_run_speaks world input vs status output picks (λ g who ts ws bs. subst (λ l. AskedOrEnds world.rows (l g who ts ws) bs) (sym e)
+    (library_asks world.rows g who ts ws bs)) small run
 
 pub returns-clause-quiet : goal.returns-clause-quiet
 returns-clause-quiet c = clean_run_quiet

@@ -11,4 +11,5 @@ pub returns-clause-orders : goal.returns-clause-orders
 returns-clause-orders c = orders_tell
 
 pub returns-clause-library : goal.returns-clause-library
-returns-clause-library c = λ world e. orders_tell world (λ g who ts vs bs. subst (λ l. AskedOrEnds world.rows (l g who ts vs) bs) (sym e) (library_asks world.rows g who ts vs bs))
+returns-clause-library c = λ world e. orders_tell world (λ g who ts vs bs. subst (λ l. AskedOrEnds world.rows (l g who ts vs) bs) (sym e)
+    (library_asks world.rows g who ts vs bs))
