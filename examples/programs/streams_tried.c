@@ -1,0 +1,752 @@
+# 0 "streams_tried.c"
+# 0 "<built-in>"
+# 0 "<command-line>"
+# 1 "streams_tried.c"
+
+# 1 "headers/errno.h" 1
+
+
+
+
+# 1 "headers/_cub_errno.h" 1
+
+
+
+
+static int _cub_errno;
+# 6 "headers/errno.h" 2
+# 3 "streams_tried.c" 2
+# 1 "headers/inttypes.h" 1
+
+
+
+
+# 1 "headers/stdint.h" 1
+
+
+
+
+typedef signed char int8_t;
+typedef short int16_t;
+typedef int int32_t;
+typedef long int64_t;
+typedef unsigned char uint8_t;
+typedef unsigned short uint16_t;
+typedef unsigned int uint32_t;
+typedef unsigned long uint64_t;
+
+typedef signed char int_least8_t;
+typedef short int_least16_t;
+typedef int int_least32_t;
+typedef long int_least64_t;
+typedef unsigned char uint_least8_t;
+typedef unsigned short uint_least16_t;
+typedef unsigned int uint_least32_t;
+typedef unsigned long uint_least64_t;
+
+typedef signed char int_fast8_t;
+typedef long int_fast16_t;
+typedef long int_fast32_t;
+typedef long int_fast64_t;
+typedef unsigned char uint_fast8_t;
+typedef unsigned long uint_fast16_t;
+typedef unsigned long uint_fast32_t;
+typedef unsigned long uint_fast64_t;
+
+typedef long intptr_t;
+typedef unsigned long uintptr_t;
+typedef long intmax_t;
+typedef unsigned long uintmax_t;
+# 6 "headers/inttypes.h" 2
+# 1 "headers/stdlib.h" 1
+
+
+
+
+# 1 "headers/_cub_base.h" 1
+
+
+
+
+typedef unsigned long size_t;
+# 6 "headers/stdlib.h" 2
+
+
+
+
+typedef int wchar_t;
+
+
+
+
+
+
+
+typedef struct { int quot, rem; } div_t;
+typedef struct { long quot, rem; } ldiv_t;
+typedef struct { long long quot, rem; } lldiv_t;
+
+void *malloc(size_t n);
+void *calloc(size_t a, size_t b);
+void *realloc(void *p, size_t n);
+void free(void *p);
+void exit(int s);
+void abort(void);
+
+void *memcpy(void *d, const void *s, size_t n);
+void *memmove(void *d, const void *s, size_t n);
+int memcmp(const void *a, const void *b, size_t n);
+
+
+static inline long atol(const char *_s)
+{
+    long _n = 0;
+    _Bool _minus = 0;
+    while (*_s == ' ' || (*_s >= '\t' && *_s <= '\r'))
+        _s++;
+    if (*_s == '-' || *_s == '+')
+        _minus = *_s++ == '-';
+    while (*_s >= '0' && *_s <= '9')
+        _n = _n * 10 - (*_s++ - '0');
+    return _minus ? _n : -_n;
+}
+
+static inline long long atoll(const char *_s) { return atol(_s); }
+
+static inline int atoi(const char *_s)
+{
+    int _n = 0;
+    _Bool _minus = 0;
+    while (*_s == ' ' || (*_s >= '\t' && *_s <= '\r'))
+        _s++;
+    if (*_s == '-' || *_s == '+')
+        _minus = *_s++ == '-';
+    while (*_s >= '0' && *_s <= '9')
+        _n = _n * 10 - (*_s++ - '0');
+    return _minus ? _n : -_n;
+}
+
+
+struct _cub_number { unsigned long _size; _Bool _minus, _over; };
+
+static inline struct _cub_number _cub_number(const char *_s, char **_end, int _base)
+{
+    struct _cub_number _r = {0, 0, 0};
+    const char *_behind = _s;
+    int _d;
+    if (_base < 0 || _base == 1 || _base > 36)
+        memcpy(0, 0, 0);
+    while (*_s == ' ' || (*_s >= '\t' && *_s <= '\r'))
+        _s++;
+    if (*_s == '-' || *_s == '+')
+        _r._minus = *_s++ == '-';
+    if (*_s == '0' && (_base == 0 || _base == 16) && (_s[1] == 'x' || _s[1] == 'X')) {
+        _behind = ++_s;
+        _s++;
+        _base = 16;
+    }
+    if (_base == 0)
+        _base = *_s == '0' ? 8 : 10;
+    for (;; _behind = ++_s) {
+        _d = *_s >= '0' && *_s <= '9' ? *_s - '0' : *_s >= 'a' && *_s <= 'z' ? *_s - 'a' + 10 : *_s >= 'A' && *_s <= 'Z' ? *_s - 'A' + 10 : 36;
+        if (_d >= _base)
+            break;
+        if (_r._size > (0xfffffffffffffffful - _d) / _base)
+            _r._over = 1;
+        _r._size = _r._size * _base + _d;
+    }
+    if (_end)
+        *_end = (char *)_behind;
+    return _r;
+}
+
+static inline long strtol(const char *_s, char **_end, int _base)
+{
+    struct _cub_number _r = _cub_number(_s, _end, _base);
+    if (_r._over || _r._size > 0x7ffffffffffffffful + _r._minus) {
+        _cub_errno = 34;
+        return _r._minus ? -0x7fffffffffffffffl - 1 : 0x7fffffffffffffffl;
+    }
+    return _r._minus ? -_r._size : _r._size;
+}
+
+static inline unsigned long strtoul(const char *_s, char **_end, int _base)
+{
+    struct _cub_number _r = _cub_number(_s, _end, _base);
+    if (_r._over) {
+        _cub_errno = 34;
+        return 0xfffffffffffffffful;
+    }
+    return _r._minus ? -_r._size : _r._size;
+}
+
+static inline long long strtoll(const char *_s, char **_end, int _base) { return strtol(_s, _end, _base); }
+static inline unsigned long long strtoull(const char *_s, char **_end, int _base) { return strtoul(_s, _end, _base); }
+
+
+
+static unsigned _cub_random[31] = {
+    2568305073u, 379960547u, 1735697613u, 1040273694u, 1313901226u, 1627687941u, 4115662359u, 2221633813u,
+    1780058412u, 2305464239u, 3678992694u, 344556628u, 939512070u, 3045851036u, 1507946756u, 3482421833u,
+    154635395u, 1388815473u, 2368290473u, 525320961u, 3285938622u, 968117788u, 4171517689u, 1284210865u,
+    435012392u, 2277460957u, 3383902437u, 3924708123u, 1132637927u, 1398500161u, 4089365978u,
+};
+static int _cub_random_at = 3;
+
+static inline int rand(void)
+{
+    int _at = _cub_random_at;
+    _cub_random_at = _at == 30 ? 0 : _at + 1;
+    return (int)((_cub_random[_at] += _cub_random[_at < 3 ? _at + 28 : _at - 3]) >> 1);
+}
+
+static inline void srand(unsigned _seed)
+{
+    long _n = (int)(_seed ? _seed : 1);
+    int _i;
+    _cub_random[0] = _n;
+    for (_i = 1; _i < 31; _i++) {
+        _n = 16807 * _n % 2147483647;
+        if (_n < 0)
+            _n += 2147483647;
+        _cub_random[_i] = _n;
+    }
+    _cub_random_at = 3;
+    for (_i = 0; _i < 310; _i++)
+        rand();
+}
+
+
+static inline void _Exit(int _status) { exit(_status); }
+
+
+static inline char *getenv(const char *_name)
+{
+    if (!_name)
+        memcpy(0, 0, 0);
+    return ((void*)0);
+}
+
+
+static inline void *bsearch(const void *_key, const void *_base, size_t _n, size_t _size, int (*_compare)(const void *, const void *))
+{
+    const char *_from = _base, *_middle;
+    int _c;
+    memcmp(_key, _base, 0);
+    while (_n > 0) {
+        _middle = _from + _n / 2 * _size;
+        _c = _compare(_key, _middle);
+        if (_c == 0)
+            return (void *)_middle;
+        if (_c > 0) {
+            _from = _middle + _size;
+            _n--;
+        }
+        _n /= 2;
+    }
+    return ((void*)0);
+}
+
+
+static inline void _cub_sort(char *_a, size_t _n, size_t _size, char *_room, int (*_compare)(const void *, const void *))
+{
+    char *_left = _a, *_middle = _a + _n / 2 * _size, *_right = _middle, *_end = _a + _n * _size, *_to = _room;
+    if (_n / 2 > 1)
+        _cub_sort(_a, _n / 2, _size, _room, _compare);
+    if (_n - _n / 2 > 1)
+        _cub_sort(_middle, _n - _n / 2, _size, _room, _compare);
+    while (_left != _middle && _right != _end) {
+        if (_compare(_left, _right) <= 0) {
+            memcpy(_to, _left, _size);
+            _left += _size;
+        } else {
+            memcpy(_to, _right, _size);
+            _right += _size;
+        }
+        _to += _size;
+    }
+    memmove(_right - (_middle - _left), _left, _middle - _left);
+    memcpy(_a, _room, _to - _room);
+}
+
+static inline void qsort(void *_base, size_t _n, size_t _size, int (*_compare)(const void *, const void *))
+{
+    char *_room;
+    memcmp(_base, _base, 0);
+    if (_n < 2 || _size == 0)
+        return;
+    (void)((char *)_base + _n * _size);
+    _room = malloc(_n * _size);
+    if (!_room) {
+        int printf(const char *f, ...), _none;
+        printf("%n", &_none);
+    }
+    _cub_sort(_base, _n, _size, _room, _compare);
+    free(_room);
+}
+
+
+static inline int abs(int _n) { return _n < 0 ? -_n : _n; }
+static inline long labs(long _n) { return _n < 0 ? -_n : _n; }
+static inline long long llabs(long long _n) { return _n < 0 ? -_n : _n; }
+
+static inline div_t div(int _n, int _d)
+{
+    div_t _r = {_n / _d, _n % _d};
+    return _r;
+}
+
+static inline ldiv_t ldiv(long _n, long _d)
+{
+    ldiv_t _r = {_n / _d, _n % _d};
+    return _r;
+}
+
+static inline lldiv_t lldiv(long long _n, long long _d)
+{
+    lldiv_t _r = {_n / _d, _n % _d};
+    return _r;
+}
+# 7 "headers/inttypes.h" 2
+# 95 "headers/inttypes.h"
+typedef struct { intmax_t quot, rem; } imaxdiv_t;
+
+static inline intmax_t imaxabs(intmax_t _n) { return _n < 0 ? -_n : _n; }
+
+static inline imaxdiv_t imaxdiv(intmax_t _n, intmax_t _d)
+{
+    imaxdiv_t _r = {_n / _d, _n % _d};
+    return _r;
+}
+
+static inline intmax_t strtoimax(const char *_s, char **_end, int _base) { return strtol(_s, _end, _base); }
+static inline uintmax_t strtoumax(const char *_s, char **_end, int _base) { return strtoul(_s, _end, _base); }
+# 4 "streams_tried.c" 2
+# 1 "headers/iso646.h" 1
+# 5 "streams_tried.c" 2
+# 1 "headers/limits.h" 1
+# 6 "streams_tried.c" 2
+# 1 "headers/stddef.h" 1
+
+
+
+
+
+
+typedef long ptrdiff_t;
+typedef long max_align_t;
+
+
+
+
+
+
+
+static union { max_align_t _a; char _bytes[65536]; } _cub_room;
+# 7 "streams_tried.c" 2
+
+# 1 "headers/stdio.h" 1
+# 10 "headers/stdio.h"
+int getchar(void);
+int putchar(int c);
+int puts(const char *s);
+int printf(const char *f, ...);
+
+
+typedef struct _cub_file { int _back, _last, _wrong; } FILE;
+
+static FILE _cub_stdin, _cub_stdout;
+
+
+
+
+
+static inline int _cub_other(FILE *_stream, FILE *_other)
+{
+    if (_stream != _other)
+        puts(0);
+    _other->_wrong = 1;
+    return (-1);
+}
+
+
+static inline int _cub_getchar(void)
+{
+    if (!_cub_stdin._back)
+        return _cub_stdin._last = getchar();
+    _cub_stdin._last = _cub_stdin._back - 1;
+    _cub_stdin._back = 0;
+    return _cub_stdin._last;
+}
+
+
+static inline int fgetc(FILE *_stream) { return _stream == (&_cub_stdin) ? _cub_getchar() : _cub_other(_stream, (&_cub_stdout)); }
+static inline int getc(FILE *_stream) { return _stream == (&_cub_stdin) ? _cub_getchar() : _cub_other(_stream, (&_cub_stdout)); }
+
+
+static inline int ungetc(int _c, FILE *_stream)
+{
+    if (_stream != (&_cub_stdin))
+        return _cub_other(_stream, (&_cub_stdout));
+    if (_c == (-1) || _cub_stdin._back)
+        return (-1);
+    _cub_stdin._last = (unsigned char)_c;
+    _cub_stdin._back = _cub_stdin._last + 1;
+    return _cub_stdin._last;
+}
+
+
+static inline char *fgets(char *_s, int _n, FILE *_stream)
+{
+    int _i = 0, _c = 0;
+    if (!_s || _n <= 0)
+        puts(0);
+    if (_stream != (&_cub_stdin)) {
+        _cub_other(_stream, (&_cub_stdout));
+        return ((void*)0);
+    }
+    while (_i < _n - 1 && _c != '\n' && (_c = _cub_getchar()) != (-1))
+        _s[_i++] = _c;
+    if (_c == (-1) && _i == 0)
+        return ((void*)0);
+    _s[_i] = 0;
+    return _s;
+}
+
+
+static inline int fputc(int _c, FILE *_stream) { return _stream == (&_cub_stdout) ? putchar(_c) : _cub_other(_stream, (&_cub_stdin)); }
+static inline int putc(int _c, FILE *_stream) { return _stream == (&_cub_stdout) ? putchar(_c) : _cub_other(_stream, (&_cub_stdin)); }
+
+
+static inline int fputs(const char *_s, FILE *_stream)
+{
+    if (_stream != (&_cub_stdout))
+        return _cub_other(_stream, (&_cub_stdin));
+    while (printf("%.4095s", _s) == 4095)
+        _s += 4095;
+    return 1;
+}
+
+
+static inline size_t fread(void *_p, size_t _size, size_t _n, FILE *_stream)
+{
+    unsigned char *_byte = _p;
+    size_t _i, _j;
+    int _c;
+    if (!_p)
+        puts(0);
+    if (_stream != (&_cub_stdin)) {
+        _cub_other(_stream, (&_cub_stdout));
+        return 0;
+    }
+    for (_i = 0; _size && _i < _n; _i++)
+        for (_j = 0; _j < _size; _j++) {
+            if ((_c = _cub_getchar()) == (-1))
+                return _i;
+            *_byte++ = _c;
+        }
+    return _i;
+}
+
+
+static inline size_t fwrite(const void *_p, size_t _size, size_t _n, FILE *_stream)
+{
+    const unsigned char *_byte = _p;
+    size_t _i, _j;
+    if (!_p)
+        puts(0);
+    if (_stream != (&_cub_stdout)) {
+        _cub_other(_stream, (&_cub_stdin));
+        return 0;
+    }
+    for (_i = 0; _size && _i < _n; _i++)
+        for (_j = 0; _j < _size; _j++)
+            putchar(*_byte++);
+    return _i;
+}
+
+
+static inline int fflush(FILE *_stream)
+{
+    if (_stream && _stream != (&_cub_stdout))
+        puts(0);
+    return 0;
+}
+
+
+static inline int feof(FILE *_stream) { return _stream->_last == (-1); }
+static inline int ferror(FILE *_stream) { return _stream->_wrong; }
+
+static inline void clearerr(FILE *_stream)
+{
+    _stream->_last = 0;
+    _stream->_wrong = 0;
+}
+
+
+static inline FILE *fopen(const char *_name, const char *_mode)
+{
+    if (!_name || !_mode)
+        puts(0);
+    return ((void*)0);
+}
+
+
+static inline int fclose(FILE *_stream)
+{
+    int _none;
+    if (_stream != (&_cub_stdin) && _stream != (&_cub_stdout))
+        puts(0);
+    printf("%n", &_none);
+    return 0;
+}
+# 9 "streams_tried.c" 2
+
+# 1 "headers/stdnoreturn.h" 1
+# 11 "streams_tried.c" 2
+# 1 "headers/string.h" 1
+
+
+
+
+
+
+void *memcpy(void *d, const void *s, size_t n);
+void *memmove(void *d, const void *s, size_t n);
+void *memset(void *d, int c, size_t n);
+int memcmp(const void *a, const void *b, size_t n);
+size_t strlen(const char *s);
+char *strcpy(char *d, const char *s);
+int strcmp(const char *a, const char *b);
+char *strchr(const char *s, int c);
+
+
+
+
+static inline char *strncpy(char *_d, const char *_s, size_t _n)
+{
+    size_t _k = 0;
+    memcmp(_d, _s, 0);
+    while (_k < _n && _s[_k])
+        _k++;
+    memcpy(_d, _s, _k < _n ? _k + 1 : _k);
+    memset(_d + _k, 0, _n - _k);
+    return _d;
+}
+
+
+static inline char *strcat(char *_d, const char *_s)
+{
+    strcpy(_d + strlen(_d), _s);
+    return _d;
+}
+
+
+static inline char *strncat(char *_d, const char *_s, size_t _n)
+{
+    char *_end = _d + strlen(_d);
+    size_t _k = 0;
+    memcmp(_s, _s, 0);
+    while (_k < _n && _s[_k])
+        _k++;
+    memcpy(_end, _s, _k < _n ? _k + 1 : _k);
+    _end[_k] = 0;
+    return _d;
+}
+
+
+static inline int strcoll(const char *_a, const char *_b) { return strcmp(_a, _b); }
+
+static inline size_t strxfrm(char *_d, const char *_s, size_t _n)
+{
+    size_t _k = strlen(_s);
+    if (_n)
+        memcpy(_d, _s, _k < _n ? _k + 1 : _n);
+    return _k;
+}
+
+
+static inline int strncmp(const char *_a, const char *_b, size_t _n)
+{
+    memcmp(_a, _b, 0);
+    while (_n && *_a == *_b && *_a)
+        _a++, _b++, _n--;
+    return _n == 0 || *_a == *_b ? 0 : (unsigned char)*_a < (unsigned char)*_b ? -1 : 1;
+}
+
+
+static inline void *memchr(const void *_s, int _c, size_t _n)
+{
+    const unsigned char *_p = _s;
+    memcmp(_s, _s, 0);
+    for (; _n; _p++, _n--)
+        if (*_p == (unsigned char)_c)
+            return (void *)_p;
+    return ((void*)0);
+}
+
+
+static inline char *strrchr(const char *_s, int _c)
+{
+    size_t _n = strlen(_s) + 1;
+    while (_n--)
+        if (_s[_n] == (char)_c)
+            return (char *)_s + _n;
+    return ((void*)0);
+}
+
+
+static inline size_t strspn(const char *_s, const char *_set)
+{
+    size_t _n = 0;
+    strlen(_s), strlen(_set);
+    while (_s[_n] && strchr(_set, _s[_n]))
+        _n++;
+    return _n;
+}
+
+
+static inline size_t strcspn(const char *_s, const char *_set)
+{
+    size_t _n = 0;
+    strlen(_s), strlen(_set);
+    while (!strchr(_set, _s[_n]))
+        _n++;
+    return _n;
+}
+
+
+static inline char *strpbrk(const char *_s, const char *_set)
+{
+    _s += strcspn(_s, _set);
+    return *_s ? (char *)_s : ((void*)0);
+}
+
+
+static inline char *strstr(const char *_s, const char *_word)
+{
+    size_t _n = strlen(_word);
+    const char *_end = _s + strlen(_s);
+    while (_s && (size_t)(_end - _s) >= _n) {
+        if (memcmp(_s, _word, _n) == 0)
+            return (char *)_s;
+        _s = strchr(_s + 1, *_word);
+    }
+    return ((void*)0);
+}
+
+
+static char *_cub_token;
+
+static inline char *strtok(char *_s, const char *_set)
+{
+    if (!_s)
+        _s = _cub_token;
+    _s += strspn(_s, _set);
+    _cub_token = _s + strcspn(_s, _set);
+    if (_s == _cub_token)
+        return ((void*)0);
+    if (*_cub_token)
+        *_cub_token++ = 0;
+    return _s;
+}
+
+
+static inline char *strerror(int _n)
+{
+    switch (_n) {
+    case 0:
+        return "Success";
+    case 33:
+        return "Numerical argument out of domain";
+    case 34:
+        return "Numerical result out of range";
+    case 84:
+        return "Invalid or incomplete multibyte or wide character";
+    default:
+        return "Unknown error";
+    }
+}
+# 12 "streams_tried.c" 2
+
+struct mixed { char c; int i; char d; long l; short s; struct { char e; int f[3]; } in; };
+
+static _Noreturn void leave(void) { exit(ferror((&_cub_stdin)) || feof((&_cub_stdout)) ? 1 : 0); }
+
+int main(void)
+{
+    char line[16], block[8];
+    int c, turn;
+    printf("%d\n", feof((&_cub_stdin)));
+    for (turn = 0; turn < 12; turn++) {
+        c = turn % 3 == 0 ? _cub_getchar() : turn % 3 == 1 ? getc((&_cub_stdin)) : fgetc((&_cub_stdin));
+        printf("%d %d;", c, feof((&_cub_stdin)) != 0);
+        if (turn % 4 == 2)
+            printf("%d ", ungetc(c, (&_cub_stdin)));
+        if (turn == 7)
+            printf("%d ", ungetc(200, (&_cub_stdin)));
+        printf("%d;", feof((&_cub_stdin)) != 0);
+    }
+    for (turn = 0; turn < 6; turn++) {
+        int size = turn == 1 ? 1 : turn == 2 ? 2 : turn == 3 ? 5 : 16;
+        char *got = fgets(line, size, (&_cub_stdin));
+        printf("\n%d %d [", got == line, got == ((void*)0));
+        if (got)
+            fputs(got, (&_cub_stdout));
+        printf("] %d", feof((&_cub_stdin)) != 0);
+    }
+    c = ungetc('u', (&_cub_stdin));
+    printf("\n%d %d", c, feof((&_cub_stdin)));
+    printf(" %d", _cub_getchar());
+    memset(block, '.', sizeof block);
+    printf("\n%zu", fread(block, 1, 0, (&_cub_stdin)));
+    printf("\n%zu", fread(block, 2, 3, (&_cub_stdin)));
+    printf(" %zu\n", fwrite(block, 1, sizeof block, (&_cub_stdout)));
+    printf("%zu ", fwrite(block, 0, 4, (&_cub_stdout)));
+    printf("%zu\n", fwrite(block, 2, 2, (&_cub_stdout)));
+    while ((c = _cub_getchar()) != (-1))
+        putc(c, (&_cub_stdout));
+    printf("%d ", _cub_getchar());
+    printf("%d\n", feof((&_cub_stdin)) != 0);
+    clearerr((&_cub_stdin));
+    printf("%d ", feof((&_cub_stdin)));
+    printf("%d ", putc('p', (&_cub_stdout)));
+    printf("%d\n", fputc(300, (&_cub_stdout)));
+    printf("%d\n", fputs("", (&_cub_stdout)) >= 0);
+    {
+        static char wide[10001];
+        memset(wide, 'w', 10000);
+        fputs(wide, (&_cub_stdout));
+        memset(wide, 'v', 10000);
+        wide[4095] = 0;
+        fputs(wide, (&_cub_stdout));
+        wide[4095] = 'v', wide[8190] = 0;
+        fputs(wide, (&_cub_stdout));
+    }
+    printf("\n%d %d\n", fflush((&_cub_stdout)), fflush(((void*)0)));
+    printf("%zu %zu %zu %zu %zu %zu\n", ((size_t)((char *)&((struct mixed *)(void *)&_cub_room)->c - _cub_room._bytes + 0 * sizeof(char[sizeof(struct mixed) <= sizeof _cub_room ? 1 : -1]))), ((size_t)((char *)&((struct mixed *)(void *)&_cub_room)->i - _cub_room._bytes + 0 * sizeof(char[sizeof(struct mixed) <= sizeof _cub_room ? 1 : -1]))), ((size_t)((char *)&((struct mixed *)(void *)&_cub_room)->d - _cub_room._bytes + 0 * sizeof(char[sizeof(struct mixed) <= sizeof _cub_room ? 1 : -1]))), ((size_t)((char *)&((struct mixed *)(void *)&_cub_room)->l - _cub_room._bytes + 0 * sizeof(char[sizeof(struct mixed) <= sizeof _cub_room ? 1 : -1]))),
+        ((size_t)((char *)&((struct mixed *)(void *)&_cub_room)->in - _cub_room._bytes + 0 * sizeof(char[sizeof(struct mixed) <= sizeof _cub_room ? 1 : -1]))), ((size_t)((char *)&((struct mixed *)(void *)&_cub_room)->in.f - _cub_room._bytes + 0 * sizeof(char[sizeof(struct mixed) <= sizeof _cub_room ? 1 : -1]))));
+    printf("%d %d %d %d %u %d %d %d %u\n", (-128), 127, (-128), 127, 255, (-32768), 32767, 8, 65535);
+    printf("%d %d %u %ld %ld %lu %lld %lld %llu\n", (-2147483647-1), 2147483647, 4294967295U, (-9223372036854775807L-1L), 9223372036854775807L, 18446744073709551615UL, (-9223372036854775807LL-1LL), 9223372036854775807LL, 18446744073709551615ULL);
+
+
+
+
+
+    printf("%zu %zu %zu %" "ld" " %" "li" " %" "ld" " %" "ld" " %" "ld" " %" "ld" "\n", sizeof(int8_t), sizeof(int_least8_t), sizeof(int_fast8_t), (int64_t)(-128), (int64_t)127, (intmax_t)(-128), (intmax_t)127, (int64_t)(-128), (int64_t)127);
+    printf("%zu %zu %zu %" "ld" " %" "li" " %" "ld" " %" "ld" " %" "ld" " %" "ld" "\n", sizeof(int16_t), sizeof(int_least16_t), sizeof(int_fast16_t), (int64_t)(-32768), (int64_t)32767, (intmax_t)(-32768), (intmax_t)32767, (int64_t)(-9223372036854775807L-1L), (int64_t)9223372036854775807L);
+    printf("%zu %zu %zu %" "ld" " %" "li" " %" "ld" " %" "ld" " %" "ld" " %" "ld" "\n", sizeof(int32_t), sizeof(int_least32_t), sizeof(int_fast32_t), (int64_t)(-2147483647-1), (int64_t)2147483647, (intmax_t)(-2147483647-1), (intmax_t)2147483647, (int64_t)(-9223372036854775807L-1L), (int64_t)9223372036854775807L);
+    printf("%zu %zu %zu %" "ld" " %" "li" " %" "ld" " %" "ld" " %" "ld" " %" "ld" "\n", sizeof(int64_t), sizeof(int_least64_t), sizeof(int_fast64_t), (int64_t)(-9223372036854775807L-1L), (int64_t)9223372036854775807L, (intmax_t)(-9223372036854775807L-1L), (intmax_t)9223372036854775807L, (int64_t)(-9223372036854775807L-1L), (int64_t)9223372036854775807L);
+    printf("%zu %zu %zu %" "lu" " %" "lx" " %" "lo" "\n", sizeof(uint8_t), sizeof(uint_least8_t), sizeof(uint_fast8_t), (uint64_t)255, (uint64_t)255, (uintmax_t)255);
+    printf("%zu %zu %zu %" "lu" " %" "lx" " %" "lo" "\n", sizeof(uint16_t), sizeof(uint_least16_t), sizeof(uint_fast16_t), (uint64_t)65535, (uint64_t)65535, (uintmax_t)18446744073709551615UL);
+    printf("%zu %zu %zu %" "lu" " %" "lx" " %" "lo" "\n", sizeof(uint32_t), sizeof(uint_least32_t), sizeof(uint_fast32_t), (uint64_t)4294967295U, (uint64_t)4294967295U, (uintmax_t)18446744073709551615UL);
+    printf("%zu %zu %zu %" "lu" " %" "lx" " %" "lo" "\n", sizeof(uint64_t), sizeof(uint_least64_t), sizeof(uint_fast64_t), (uint64_t)18446744073709551615UL, (uint64_t)18446744073709551615UL, (uintmax_t)18446744073709551615UL);
+    printf("%ld %ld %lu %ld %ld %lu\n", (-9223372036854775807L-1L), 9223372036854775807L, 18446744073709551615UL, (-9223372036854775807L-1L), 9223372036854775807L, 18446744073709551615UL);
+    printf("%ld %ld %d %d %lu %d %d %u %u\n", (-9223372036854775807L-1L), 9223372036854775807L, (-2147483647-1), 2147483647, 18446744073709551615UL, (-2147483647-1), 2147483647, 0U, 4294967295U);
+    printf("%d %u %ld %lu %ld %lu\n", 7, 7U, 7L, 7UL, 7L, 7UL);
+    printf("%" "hhd" " %" "hu" " %" "X" " %" "lo" " %" "ld" " %" "hhu" " %" "lx" "\n", (int8_t)-5, (uint16_t)65535, (uint32_t)0xabcdef,
+        (uint64_t)8, (int_fast16_t)-3, (uint_least8_t)200, (uintptr_t)255);
+    printf("%d %d %d %d %d %d\n", 33, 34, 84, (-1), 0, 1);
+    printf("%d %d %d\n", 2147483647, _cub_errno, getenv("NO_SUCH_NAME") == ((void*)0));
+    leave();
+}
