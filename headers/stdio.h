@@ -8,9 +8,9 @@
 #define BUFSIZ 1024
 
 int getchar(void);
-int putchar(int c);
-int puts(const char *s);
-int printf(const char *f, ...);
+int putchar(int);
+int puts(const char *);
+int printf(const char *, ...);
 
 /* _back is 1 more than the byte that was pushed back, or 0; _last is what the last read gave. */
 typedef struct _cub_file { int _back, _last, _wrong; } FILE;

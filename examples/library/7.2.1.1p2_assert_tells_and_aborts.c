@@ -7,7 +7,7 @@
 
 
 
-int printf(const char *f, ...);
+int printf(const char *, ...);
 void abort(void);
 
 

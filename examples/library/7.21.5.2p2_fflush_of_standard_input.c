@@ -19,9 +19,9 @@ typedef unsigned long size_t;
 
 
 int getchar(void);
-int putchar(int c);
-int puts(const char *s);
-int printf(const char *f, ...);
+int putchar(int);
+int puts(const char *);
+int printf(const char *, ...);
 
 
 typedef struct _cub_file { int _back, _last, _wrong; } FILE;

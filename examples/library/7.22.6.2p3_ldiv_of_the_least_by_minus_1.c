@@ -38,16 +38,16 @@ typedef struct { int quot, rem; } div_t;
 typedef struct { long quot, rem; } ldiv_t;
 typedef struct { long long quot, rem; } lldiv_t;
 
-void *malloc(size_t n);
-void *calloc(size_t a, size_t b);
-void *realloc(void *p, size_t n);
-void free(void *p);
-void exit(int s);
+void *malloc(size_t);
+void *calloc(size_t, size_t);
+void *realloc(void *, size_t);
+void free(void *);
+void exit(int);
 void abort(void);
 
-void *memcpy(void *d, const void *s, size_t n);
-void *memmove(void *d, const void *s, size_t n);
-int memcmp(const void *a, const void *b, size_t n);
+void *memcpy(void *, const void *, size_t);
+void *memmove(void *, const void *, size_t);
+int memcmp(const void *, const void *, size_t);
 
 
 static inline long atol(const char *_s)
@@ -230,7 +230,7 @@ static inline void qsort(void *_base, size_t _n, size_t _size, int (*_compare)(c
     (void)((char *)_base + _n * _size);
     _room = malloc(_n * _size);
     if (!_room) {
-        int printf(const char *f, ...), _none;
+        int printf(const char *, ...), _none;
         printf("%n", &_none);
     }
     _cub_sort(_base, _n, _size, _room, _compare);

@@ -15,14 +15,14 @@
 typedef unsigned long size_t;
 # 6 "headers/string.h" 2
 
-void *memcpy(void *d, const void *s, size_t n);
-void *memmove(void *d, const void *s, size_t n);
-void *memset(void *d, int c, size_t n);
-int memcmp(const void *a, const void *b, size_t n);
-size_t strlen(const char *s);
-char *strcpy(char *d, const char *s);
-int strcmp(const char *a, const char *b);
-char *strchr(const char *s, int c);
+void *memcpy(void *, const void *, size_t);
+void *memmove(void *, const void *, size_t);
+void *memset(void *, int, size_t);
+int memcmp(const void *, const void *, size_t);
+size_t strlen(const char *);
+char *strcpy(char *, const char *);
+int strcmp(const char *, const char *);
+char *strchr(const char *, int);
 
 
 
