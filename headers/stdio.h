@@ -87,7 +87,15 @@ static inline int fputs(const char *_s, FILE *_stream)
     return 1;
 }
 
-/* 7.21.8.1 */
+/* 7.21.8.1: the value of an element that is read in part is indeterminate. */
+static inline void _cub_unwrite(unsigned char *_p, size_t _n)
+{
+    void *memcpy(void *, const void *, size_t);
+    unsigned char _none;
+    while (_n--)
+        memcpy(_p++, &_none, 1);
+}
+
 static inline size_t fread(void *_p, size_t _size, size_t _n, FILE *_stream)
 {
     unsigned char *_byte = _p;
@@ -101,8 +109,11 @@ static inline size_t fread(void *_p, size_t _size, size_t _n, FILE *_stream)
     }
     for (_i = 0; _size && _i < _n; _i++)
         for (_j = 0; _j < _size; _j++) {
-            if ((_c = _cub_getchar()) == EOF)
+            if ((_c = _cub_getchar()) == EOF) {
+                if (_j > 0)
+                    _cub_unwrite(_byte - _j, _size);
                 return _i;
+            }
             *_byte++ = _c;
         }
     return _i;

@@ -99,6 +99,14 @@ static inline int fputs(const char *_s, FILE *_stream)
 }
 
 
+static inline void _cub_unwrite(unsigned char *_p, size_t _n)
+{
+    void *memcpy(void *, const void *, size_t);
+    unsigned char _none;
+    while (_n--)
+        memcpy(_p++, &_none, 1);
+}
+
 static inline size_t fread(void *_p, size_t _size, size_t _n, FILE *_stream)
 {
     unsigned char *_byte = _p;
@@ -112,8 +120,11 @@ static inline size_t fread(void *_p, size_t _size, size_t _n, FILE *_stream)
     }
     for (_i = 0; _size && _i < _n; _i++)
         for (_j = 0; _j < _size; _j++) {
-            if ((_c = _cub_getchar()) == (-1))
+            if ((_c = _cub_getchar()) == (-1)) {
+                if (_j > 0)
+                    _cub_unwrite(_byte - _j, _size);
                 return _i;
+            }
             *_byte++ = _c;
         }
     return _i;

@@ -63,9 +63,12 @@ static inline int strcoll(const char *_a, const char *_b) { return strcmp(_a, _b
 
 static inline size_t strxfrm(char *_d, const char *_s, size_t _n)
 {
-    size_t _k = strlen(_s);
+    size_t _k = strlen(_s), _i;
+    char _none;
     if (_n)
         memcpy(_d, _s, _k < _n ? _k + 1 : _n);
+    for (_i = 0; _k >= _n && _i < _n; _i++)
+        memcpy(_d + _i, &_none, 1);
     return _k;
 }
 

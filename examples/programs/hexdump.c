@@ -164,6 +164,14 @@ static inline int fputs(const char *_s, FILE *_stream)
 }
 
 
+static inline void _cub_unwrite(unsigned char *_p, size_t _n)
+{
+    void *memcpy(void *, const void *, size_t);
+    unsigned char _none;
+    while (_n--)
+        memcpy(_p++, &_none, 1);
+}
+
 static inline size_t fread(void *_p, size_t _size, size_t _n, FILE *_stream)
 {
     unsigned char *_byte = _p;
@@ -177,8 +185,11 @@ static inline size_t fread(void *_p, size_t _size, size_t _n, FILE *_stream)
     }
     for (_i = 0; _size && _i < _n; _i++)
         for (_j = 0; _j < _size; _j++) {
-            if ((_c = _cub_getchar()) == (-1))
+            if ((_c = _cub_getchar()) == (-1)) {
+                if (_j > 0)
+                    _cub_unwrite(_byte - _j, _size);
                 return _i;
+            }
             *_byte++ = _c;
         }
     return _i;
@@ -292,9 +303,12 @@ static inline int strcoll(const char *_a, const char *_b) { return strcmp(_a, _b
 
 static inline size_t strxfrm(char *_d, const char *_s, size_t _n)
 {
-    size_t _k = strlen(_s);
+    size_t _k = strlen(_s), _i;
+    char _none;
     if (_n)
         memcpy(_d, _s, _k < _n ? _k + 1 : _n);
+    for (_i = 0; _k >= _n && _i < _n; _i++)
+        memcpy(_d + _i, &_none, 1);
     return _k;
 }
 
