@@ -1,2 +1,4 @@
+mod Computing
 mod Held
 mod One
+mod Read

@@ -2,5 +2,9 @@
 #![tactic(auto)]
 
 mod laws;
+mod samples;
 
 pub use laws::{law_one_program, law_tags};
+pub use samples::{
+    law_declaration_samples, law_initializer_samples, law_refused_samples, law_tree_samples,
+};
