@@ -3,7 +3,7 @@
 #define _CUB_INTTYPES_H
 
 #include <stdint.h>
-#include <stdlib.h>
+#include <_cub_number.h>
 
 /* 7.8.1 */
 #define PRId8 "hhd"
@@ -102,7 +102,7 @@ static inline imaxdiv_t imaxdiv(intmax_t _n, intmax_t _d)
     return _r;
 }
 
-static inline intmax_t strtoimax(const char *_s, char **_end, int _base) { return strtol(_s, _end, _base); }
-static inline uintmax_t strtoumax(const char *_s, char **_end, int _base) { return strtoul(_s, _end, _base); }
+_CUB_SIGNED(strtoimax, intmax_t)
+_CUB_UNSIGNED(strtoumax, uintmax_t)
 
 #endif
