@@ -1,2 +1,0 @@
-
-auto int f(void){return 0;}int main(void){return 0;}
