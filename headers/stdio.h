@@ -58,18 +58,22 @@ static inline int ungetc(int _c, FILE *_stream)
 /* 7.21.7.2: n is at least 1. */
 static inline char *fgets(char *_s, int _n, FILE *_stream)
 {
-    int _i = 0, _c = 0;
+    char *_at = _s;
+    int _c = 0;
     if (!_s || _n <= 0)
         puts(0);
     if (_stream != stdin) {
         _cub_other(_stream, stdout);
         return NULL;
     }
-    while (_i < _n - 1 && _c != '\n' && (_c = _cub_getchar()) != EOF)
-        _s[_i++] = _c;
-    if (_c == EOF && _i == 0)
+    if (_n > 1) {
+        while (_n > 1 && _c != '\n' && (_c = _cub_stdin._back ? _cub_getchar() : getchar()) >= 0)
+            *_at++ = _c, _n--;
+        _cub_stdin._last = _c;
+    }
+    if (_c < 0 && _at == _s)
         return NULL;
-    _s[_i] = 0;
+    *_at = 0;
     return _s;
 }
 

@@ -56,7 +56,7 @@ static inline struct _cub_number _cub_number(const char *_s, char **_end, int _b
         _d = *_s >= '0' && *_s <= '9' ? *_s - '0' : *_s >= 'a' && *_s <= 'z' ? *_s - 'a' + 10 : *_s >= 'A' && *_s <= 'Z' ? *_s - 'A' + 10 : 36;
         if (_d >= _base)
             break;
-        if (_r._size > (0xfffffffffffffffful - _d) / _base)
+        if (_r._size >> 58 && _r._size > (0xfffffffffffffffful - _d) / _base)
             _r._over = 1;
         _r._size = _r._size * _base + _d;
     }

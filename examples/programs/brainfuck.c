@@ -70,18 +70,22 @@ static inline int ungetc(int _c, FILE *_stream)
 
 static inline char *fgets(char *_s, int _n, FILE *_stream)
 {
-    int _i = 0, _c = 0;
+    char *_at = _s;
+    int _c = 0;
     if (!_s || _n <= 0)
         puts(0);
     if (_stream != (&_cub_stdin)) {
         _cub_other(_stream, (&_cub_stdout));
         return ((void*)0);
     }
-    while (_i < _n - 1 && _c != '\n' && (_c = _cub_getchar()) != (-1))
-        _s[_i++] = _c;
-    if (_c == (-1) && _i == 0)
+    if (_n > 1) {
+        while (_n > 1 && _c != '\n' && (_c = _cub_stdin._back ? _cub_getchar() : getchar()) >= 0)
+            *_at++ = _c, _n--;
+        _cub_stdin._last = _c;
+    }
+    if (_c < 0 && _at == _s)
         return ((void*)0);
-    _s[_i] = 0;
+    *_at = 0;
     return _s;
 }
 
@@ -230,7 +234,7 @@ static inline struct _cub_number _cub_number(const char *_s, char **_end, int _b
         _d = *_s >= '0' && *_s <= '9' ? *_s - '0' : *_s >= 'a' && *_s <= 'z' ? *_s - 'a' + 10 : *_s >= 'A' && *_s <= 'Z' ? *_s - 'A' + 10 : 36;
         if (_d >= _base)
             break;
-        if (_r._size > (0xfffffffffffffffful - _d) / _base)
+        if (_r._size >> 58 && _r._size > (0xfffffffffffffffful - _d) / _base)
             _r._over = 1;
         _r._size = _r._size * _base + _d;
     }

@@ -72,18 +72,22 @@ static inline int ungetc(int _c, FILE *_stream)
 
 static inline char *fgets(char *_s, int _n, FILE *_stream)
 {
-    int _i = 0, _c = 0;
+    char *_at = _s;
+    int _c = 0;
     if (!_s || _n <= 0)
         puts(0);
     if (_stream != (&_cub_stdin)) {
         _cub_other(_stream, (&_cub_stdout));
         return ((void*)0);
     }
-    while (_i < _n - 1 && _c != '\n' && (_c = _cub_getchar()) != (-1))
-        _s[_i++] = _c;
-    if (_c == (-1) && _i == 0)
+    if (_n > 1) {
+        while (_n > 1 && _c != '\n' && (_c = _cub_stdin._back ? _cub_getchar() : getchar()) >= 0)
+            *_at++ = _c, _n--;
+        _cub_stdin._last = _c;
+    }
+    if (_c < 0 && _at == _s)
         return ((void*)0);
-    _s[_i] = 0;
+    *_at = 0;
     return _s;
 }
 
