@@ -1,0 +1,1 @@
+int x;int main(void){return x=((x=0)||1);}

@@ -1,0 +1,1 @@
+int*p,x=1;int main(void){return *(p=&x)+*p;}
