@@ -1,4 +1,12 @@
 // Operators and conversions.
+ghost use Rattle.std.specs.Prelude.{◌≡◌};
+ghost use Rattle.c_arith.specs.Operators.{bits};
+ghost use Rattle.c_types.specs.declared.kind.IntKind.TheVariants.{ULong};
+ghost use Rattle.c_model.specs.Nodes as nodes;
+ghost use Rattle.c_model.specs.Nodes.{operated};
+ghost use Rattle.c_model.specs.Values.{address_in};
+ghost use Rattle.prov_memory.specs.Memory.{Kept};
+ghost use Rattle.run_acts.specs.Views.{value_in};
 
 use crate::values::{Pointer, as_function, as_integer, as_pointer, truth};
 use c_arith::{apply, complement, is_operand, negate};
@@ -40,7 +48,9 @@ pub fn convert(
 }
 
 // The address that an integer gives, modulo 2^64 (own).
-fn address(number: i128) -> u64 {
+fn address(number: i128) -> u64
+    ensures { result ≡ bits ULong number }
+{
     match u64::try_from(c_arith::convert(IntKind::ULong, number)) {
         Ok(addr) => addr,
         Err(_) => 0,
@@ -65,7 +75,9 @@ pub fn unary(op: UnOp, operand: &Value) -> Result<Value, Clause> {
 
 /// The value of a binary operator on integers (6.5.5 to 6.5.7, 6.5.10 to 6.5.12), or the clause that it breaks; 0 where an
 /// operand isn't of the kind.
-pub fn binary(op: BinOp, kind: IntKind, left: i128, right: i128) -> Result<i128, Clause> {
+pub fn binary(op: BinOp, kind: IntKind, left: i128, right: i128) -> Result<i128, Clause>
+    ensures { result ≡ operated op kind left right }
+{
     if kind.holds(left) {
         if is_operand(op, kind, right) {
             return apply(op, kind, left, right);
@@ -75,7 +87,9 @@ pub fn binary(op: BinOp, kind: IntKind, left: i128, right: i128) -> Result<i128,
 }
 
 /// The value of `==` or `!=` (6.5.9); pointers are equal where their addresses are (own).
-pub fn equal(op: EqOp, left: &Value, right: &Value) -> Value {
+pub fn equal(op: EqOp, left: &Value, right: &Value) -> Value
+    ensures { (m : Kept) → value_in m result ≡ nodes.equal op (value_in m left.now) (value_in m right.now) }
+{
     let same = match (left, right) {
         (Value::Int(a), Value::Int(b)) => *a == *b,
         _ => place_of(left) == place_of(right),
@@ -88,7 +102,9 @@ pub fn equal(op: EqOp, left: &Value, right: &Value) -> Value {
 }
 
 // The address of an object or function pointer.
-fn place_of(value: &Value) -> u64 {
+fn place_of(value: &Value) -> u64
+    ensures { (m : Kept) → result ≡ address_in (value_in m value.now) }
+{
     match value {
         Value::Func(addr) => *addr,
         _ => as_pointer(value).addr,

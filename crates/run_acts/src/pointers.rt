@@ -1,4 +1,12 @@
 // Pointer arithmetic, comparisons, and updates.
+ghost use Rattle.std.specs.Prelude.{◌≡◌, ◌==◌, ◌||◌};
+ghost use Rattle.c_model.specs.Nodes as nodes;
+ghost use Rattle.c_model.specs.Nodes.{is_empty};
+ghost use Rattle.mem_spec.specs.Script.{run};
+ghost use Rattle.mem_spec.specs.Streams.{Io};
+ghost use Rattle.prov_memory.specs.Made.{IsMade};
+ghost use Rattle.prov_memory.specs.Memory.{act_of, store_of};
+ghost use Rattle.run_acts.specs.Views.{value_result, place_result, pointer_at};
 
 use crate::numbers::binary;
 use crate::storage::load;
@@ -29,7 +37,13 @@ pub fn moved(
     index: i128,
     t: &mut Touched,
 ) -> Result<Pointer, Clause> {
-    let by = distance_of(size, subtract, index);
+    shifted(m, pointer, distance_of(size, subtract, index), t)
+}
+
+// A pointer that moves so many bytes within its object (6.5.6p8).
+fn shifted(m: &mut Memory, pointer: Pointer, by: i128, t: &mut Touched) -> Result<Pointer, Clause>
+    ensures { IsMade m.old pointer.prov → (io : Io) → run m.old.rows (nodes.shifted m.old.rows (pointer_at pointer) by) (store_of m.old io) ≡ act_of (place_result result) t.new (store_of m.new io) }
+{
     let addr = m.shift(pointer.addr, pointer.prov, by, t)?;
     Ok(Pointer {
         addr,
@@ -43,11 +57,20 @@ pub fn member(
     pointer: Pointer,
     offset: u64,
     t: &mut Touched,
-) -> Result<Pointer, Clause> {
-    if pointer.addr == 0 || matches!(pointer.prov, Prov::Empty) {
+) -> Result<Pointer, Clause>
+    ensures { IsMade m.old pointer.prov → (io : Io) → run m.old.rows (nodes.member m.old.rows offset (pointer_at pointer)) (store_of m.old io) ≡ act_of (place_result result) t.new (store_of m.new io) }
+{
+    if is_nowhere(pointer) {
         return Err(Clause::InvalidPointer);
     }
-    moved(m, pointer, offset, false, 1, t)
+    shifted(m, pointer, i128::from(offset), t)
+}
+
+// Whether the pointer is null or was made from no object.
+fn is_nowhere(pointer: Pointer) -> bool
+    ensures { result ≡ ((pointer.addr == 0) || is_empty pointer.prov) }
+{
+    pointer.addr == 0 || matches!(pointer.prov, Prov::Empty)
 }
 
 /// The difference of two pointers to elements of `size` bytes (6.5.6p9).
@@ -57,7 +80,9 @@ pub fn distance(
     right: Pointer,
     size: u64,
     t: &mut Touched,
-) -> Result<Value, Clause> {
+) -> Result<Value, Clause>
+    ensures { IsMade m.old left.prov → IsMade m.old right.prov → (io : Io) → run m.old.rows (nodes.difference size (pointer_at left) (pointer_at right)) (store_of m.old io) ≡ act_of (value_result m.new result) t.new (store_of m.new io) }
+{
     let count = m.diff(left.addr, left.prov, right.addr, right.prov, size, t)?;
     Ok(Value::Int(count))
 }

@@ -1,4 +1,15 @@
 // Loads, stores, members of values, and constant bytes.
+ghost use Rattle.std.specs.Prelude.{◌≡◌, IfOk, IfErr};
+ghost use Rattle.c_model.specs.Nodes as nodes;
+ghost use Rattle.c_model.specs.Values as model;
+ghost use Rattle.c_types.specs.Types.{type_of};
+ghost use Rattle.mem_spec.specs.Script.{run, Done, Raised};
+ghost use Rattle.mem_spec.specs.Streams.{Io};
+ghost use Rattle.prov_memory.specs.Loads.{IfRaise};
+ghost use Rattle.prov_memory.specs.Memory.{HasCell, AreKnown, store_of};
+ghost use Rattle.prov_memory.specs.Tags.{AreTagged};
+ghost use Rattle.run_acts.specs.Loads.{integer_act, pointer_act, function_act, whole_act};
+ghost use Rattle.run_acts.specs.Views.{value_in, pointer_at};
 
 use crate::initial::Places;
 use crate::values::{Pointer, as_function, as_integer, as_pointer};
@@ -17,22 +28,74 @@ pub fn load(
     who: Event,
     place: Pointer,
     t: &mut Touched,
-) -> Result<Value, MemFault> {
+) -> Result<Value, MemFault>
+    ensures exact { IfOk result (λ value. HasCell m.old place.prov → AreKnown m.old → AreTagged m.old → (io : Io) → run m.old.rows (nodes.load m.old.rows who access (type_of ty.now) (pointer_at place)) (store_of m.old io) ≡ Done (value_in m.new value) t.new (store_of m.new io)) }
+    ensures raises { IfErr result (λ fault. IfRaise fault (λ c. (io : Io) → run m.old.rows (nodes.load m.old.rows who access (type_of ty.now) (pointer_at place)) (store_of m.old io) ≡ Raised c)) }
+    ensures same { IfErr result (λ fault. IfRaise fault (λ c. m.new ≡ m.old)) }
+{
     match access {
-        Access::Integer(kind) => {
-            let number = m.load_int(kind, place.addr, place.prov, t)?;
-            Ok(Value::Int(number))
-        }
-        Access::Pointer => m.load_ptr(ty, who, 8, place.addr, place.prov, t),
-        Access::Function => {
-            let addr = m.load_func(ty, place.addr, place.prov, t)?;
-            Ok(Value::Func(addr))
-        }
-        Access::Whole { size, align } => {
-            let block = m.load_block(size, align, place.addr, place.prov, t)?;
-            Ok(Value::Block(block))
-        }
+        Access::Integer(kind) => load_integer(m, kind, place, t),
+        Access::Pointer => load_pointer(m, ty, who, place, t),
+        Access::Function => load_function(m, ty, place, t),
+        Access::Whole { size, align } => load_whole(m, size, align, place, t),
     }
+}
+
+fn load_integer(
+    m: &mut Memory,
+    kind: IntKind,
+    place: Pointer,
+    t: &mut Touched,
+) -> Result<Value, MemFault>
+    ensures exact { IfOk result (λ value. HasCell m.old place.prov → (io : Io) → run m.old.rows (integer_act m.old.rows kind (pointer_at place)) (store_of m.old io) ≡ Done (value_in m.new value) t.new (store_of m.new io)) }
+    ensures raises { IfErr result (λ fault. IfRaise fault (λ c. (io : Io) → run m.old.rows (integer_act m.old.rows kind (pointer_at place)) (store_of m.old io) ≡ Raised c)) }
+    ensures same { IfErr result (λ fault. IfRaise fault (λ c. m.new ≡ m.old)) }
+{
+    let number = m.load_int(kind, place.addr, place.prov, t)?;
+    Ok(Value::Int(number))
+}
+
+fn load_pointer(
+    m: &mut Memory,
+    ty: &Ty,
+    who: Event,
+    place: Pointer,
+    t: &mut Touched,
+) -> Result<Value, MemFault>
+    ensures exact { IfOk result (λ value. HasCell m.old place.prov → AreKnown m.old → (io : Io) → run m.old.rows (pointer_act m.old.rows who (type_of ty.now) (pointer_at place)) (store_of m.old io) ≡ Done (value_in m.new value) t.new (store_of m.new io)) }
+    ensures raises { IfErr result (λ fault. IfRaise fault (λ c. (io : Io) → run m.old.rows (pointer_act m.old.rows who (type_of ty.now) (pointer_at place)) (store_of m.old io) ≡ Raised c)) }
+    ensures same { IfErr result (λ fault. IfRaise fault (λ c. m.new ≡ m.old)) }
+{
+    m.load_ptr(ty, who, 8, place.addr, place.prov, t)
+}
+
+fn load_function(
+    m: &mut Memory,
+    ty: &Ty,
+    place: Pointer,
+    t: &mut Touched,
+) -> Result<Value, MemFault>
+    ensures exact { IfOk result (λ value. HasCell m.old place.prov → (io : Io) → run m.old.rows (function_act m.old.rows (type_of ty.now) (pointer_at place)) (store_of m.old io) ≡ Done (value_in m.new value) t.new (store_of m.new io)) }
+    ensures raises { IfErr result (λ fault. IfRaise fault (λ c. (io : Io) → run m.old.rows (function_act m.old.rows (type_of ty.now) (pointer_at place)) (store_of m.old io) ≡ Raised c)) }
+    ensures same { IfErr result (λ fault. IfRaise fault (λ c. m.new ≡ m.old)) }
+{
+    let addr = m.load_func(ty, place.addr, place.prov, t)?;
+    Ok(Value::Func(addr))
+}
+
+fn load_whole(
+    m: &mut Memory,
+    size: u64,
+    align: u64,
+    place: Pointer,
+    t: &mut Touched,
+) -> Result<Value, MemFault>
+    ensures exact { IfOk result (λ value. HasCell m.old place.prov → AreTagged m.old → (io : Io) → run m.old.rows (whole_act m.old.rows size align (pointer_at place)) (store_of m.old io) ≡ Done (value_in m.new value) t.new (store_of m.new io)) }
+    ensures raises { IfErr result (λ fault. IfRaise fault (λ c. (io : Io) → run m.old.rows (whole_act m.old.rows size align (pointer_at place)) (store_of m.old io) ≡ Raised c)) }
+    ensures same { IfErr result (λ fault. IfRaise fault (λ c. m.new ≡ m.old)) }
+{
+    let block = m.load_block(size, align, place.addr, place.prov, t)?;
+    Ok(Value::Block(block))
 }
 
 /// The member at this offset of a structure or union value (6.5.2.3p3), as a load reads its bytes.
@@ -217,7 +280,9 @@ fn address(places: &Places, target: Target, offset: u64) -> Value {
 }
 
 /// The address of a function by its number (own).
-pub fn function_address(function: u32) -> u64 {
+pub fn function_address(function: u32) -> u64
+    ensures { result ≡ model.function_address function }
+{
     u64::from(function).saturating_mul(16).saturating_add(4096)
 }
 

@@ -1,4 +1,9 @@
 // What a value is where its kind follows from its type, with what it counts as elsewhere.
+ghost use Rattle.std.specs.Prelude.{◌≡◌};
+ghost use Rattle.c_model.specs.Values as model;
+ghost use Rattle.c_model.specs.Values.{null, pointer_value, integer_of, pointer_of, function_in};
+ghost use Rattle.prov_memory.specs.Memory.{Kept};
+ghost use Rattle.run_acts.specs.Views.{value_in, pointer_at};
 
 use c_typed::Node;
 use exposure::Prov;
@@ -13,14 +18,18 @@ pub struct Pointer {
 
 impl Pointer {
     /// The null pointer.
-    pub fn null() -> Self {
+    pub fn null() -> Self
+        ensures { pointer_at result ≡ null }
+    {
         Pointer {
             addr: 0,
             prov: Prov::Empty,
         }
     }
 
-    pub fn value(self) -> Value {
+    pub fn value(self) -> Value
+        ensures { (m : Kept) → value_in m result ≡ pointer_value (pointer_at self) }
+    {
         Value::Ptr {
             addr: self.addr,
             prov: self.prov,
@@ -29,7 +38,9 @@ impl Pointer {
 }
 
 /// The number of an integer value, 0 elsewhere.
-pub fn as_integer(value: &Value) -> i128 {
+pub fn as_integer(value: &Value) -> i128
+    ensures { (m : Kept) → result ≡ integer_of (value_in m value.now) }
+{
     match value {
         Value::Int(number) => *number,
         _ => 0,
@@ -37,7 +48,9 @@ pub fn as_integer(value: &Value) -> i128 {
 }
 
 /// A pointer value, null elsewhere.
-pub fn as_pointer(value: &Value) -> Pointer {
+pub fn as_pointer(value: &Value) -> Pointer
+    ensures { (m : Kept) → pointer_at result ≡ pointer_of (value_in m value.now) }
+{
     match value {
         Value::Ptr { addr, prov } => Pointer {
             addr: *addr,
@@ -48,7 +61,9 @@ pub fn as_pointer(value: &Value) -> Pointer {
 }
 
 /// The address of a function pointer, 0 elsewhere.
-pub fn as_function(value: &Value) -> u64 {
+pub fn as_function(value: &Value) -> u64
+    ensures { (m : Kept) → result ≡ function_in (value_in m value.now) }
+{
     match value {
         Value::Func(addr) => *addr,
         _ => 0,
@@ -56,7 +71,9 @@ pub fn as_function(value: &Value) -> u64 {
 }
 
 /// Whether a scalar value is unequal to 0 (6.5.3.3p5, 6.5.13p3); anything else is.
-pub fn truth(value: &Value) -> bool {
+pub fn truth(value: &Value) -> bool
+    ensures { (m : Kept) → result ≡ model.truth (value_in m value.now) }
+{
     match value {
         Value::Int(number) => *number != 0,
         Value::Ptr { addr, prov: _ } | Value::Func(addr) => *addr != 0,
