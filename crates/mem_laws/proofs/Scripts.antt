@@ -12,7 +12,7 @@ use Rattle.addr_map.specs.Conflict.{conflicts_with}
 use Rattle.mem_spec.specs.Store.{Store}
 use Rattle.mem_spec.specs.Script.{Touch, Ask, Get, Put, Bear, Bury, Show, Find, Settle, Take, Print, item_of, refuses, refused, answer, left, Script}
 use Rattle.mem_spec.specs.Script.{Give, Raise, Finish, Exceed, Misplace, Do, Act, Done, Raised, Ended, Outside, Unplaced, touched, run}
-use Rattle.mem_laws.specs.Frame.{ActEnd, gives, finishes, acted, Diff, any_of, bears, ends_life, meddles, meddle_one, meddle}
+use Rattle.mem_laws.specs.Frame.{ActEnd, gives, finishes, acted, Diff, any_of, bears, ends_life, interferes, interferes_with, some_interference}
 use Rattle.mem_laws.proofs.Touches.{diff_refl, diff_trans, diff_left, diff_right, Extra, same_answer, same_refuses, left_diff, changes, or_left, or_right}
 use Rattle.mem_laws.proofs.Touches.{or_both, or_true', same_flip}
 
@@ -68,37 +68,37 @@ module _ {V : Type 0} where
   stepped false t i Unplaced e is s1 h = absurd (not_placed e is s1 h)
 
 module _ (map : List Row) where
-  clash_of : (i : Item) (js : List Item) → meddle_one map i js ≡ false → conflicts_with map i js ≡ false
+  clash_of : (i : Item) (js : List Item) → interferes_with map i js ≡ false → conflicts_with map i js ≡ false
   clash_of i [] h = refl
   clash_of i (j ∷ js) h = or_both _ _ (or_left _ _ (or_left _ _ h)) (clash_of i js (or_right _ _ h))
 
-  free_if : (b : Bool) (f : Item → Bool) (it i : Item) (rest : Bool) → f i ≡ b → (f i ≡ true → meddles map it i ≡ true) → meddles map it i ≡ false
+  free_if : (b : Bool) (f : Item → Bool) (it i : Item) (rest : Bool) → f i ≡ b → (f i ≡ true → interferes map it i ≡ true) → interferes map it i ≡ false
       → rest ≡ false → b || rest ≡ false
   free_if false f it i rest e g h r = r
   free_if true f it i rest e g h r = absurd (true≢false (sym (g e) ∙ h))
 
-  free_of : (f : Item → Bool) (it : Item) (j : List Item) → ((i : Item) → f i ≡ true → meddles map it i ≡ true) → meddle_one map it j ≡ false
+  free_of : (f : Item → Bool) (it : Item) (j : List Item) → ((i : Item) → f i ≡ true → interferes map it i ≡ true) → interferes_with map it j ≡ false
       → any_of f j ≡ false
   free_of f it [] g h = refl
   free_of f it (i ∷ j) g h = free_if (f i) f it i (any_of f j) refl (g i) (or_left _ _ h) (free_of f it j g (or_right _ _ h))
 
-  read_bears : (x : ObjName) (a n : ℕ) (i : Item) → bears i x ≡ true → meddles map (Read x a n) i ≡ true
+  read_bears : (x : ObjName) (a n : ℕ) (i : Item) → bears i x ≡ true → interferes map (Read x a n) i ≡ true
   read_bears x a n (Born y) h = h
   read_bears x a n _ h = absurd (cc)
 
-  read_ends : (x : ObjName) (a n : ℕ) (i : Item) → ends_life i x ≡ true → meddles map (Read x a n) i ≡ true
+  read_ends : (x : ObjName) (a n : ℕ) (i : Item) → ends_life i x ≡ true → interferes map (Read x a n) i ≡ true
   read_ends x a n (Dies y) h = h
   read_ends x a n _ h = absurd (cc)
 
-  write_bears : (x : ObjName) (a n : ℕ) (i : Item) → bears i x ≡ true → meddles map (Write x a n) i ≡ true
+  write_bears : (x : ObjName) (a n : ℕ) (i : Item) → bears i x ≡ true → interferes map (Write x a n) i ≡ true
   write_bears x a n (Born y) h = h
   write_bears x a n _ h = absurd (cc)
 
-  born_bears : (x : ObjName) (i : Item) → bears i x ≡ true → meddles map (Born x) i ≡ true
+  born_bears : (x : ObjName) (i : Item) → bears i x ≡ true → interferes map (Born x) i ≡ true
   born_bears x (Born y) h = or_true' map (same_object x y) _ (same_flip map y x h)
   born_bears x _ h = absurd (cc)
 
-  extra_of : (t : Touch) (j : List Item) → meddle_one map (item_of t) j ≡ false → Extra map t j
+  extra_of : (t : Touch) (j : List Item) → interferes_with map (item_of t) j ≡ false → Extra map t j
   extra_of (Get x a n) j h = (free_of _ (Read x a n) j (read_bears x a n) h, free_of _ (Read x a n) j (read_ends x a n) h)
   extra_of (Put x a bs) j h = free_of _ (Write x a (length bs)) j (write_bears x a (length bs)) h
   extra_of (Bear x size kind declared) j h = free_of _ (Born x) j (born_bears x) h
@@ -139,7 +139,7 @@ module _ (map : List Row) where
 
     -- an act ends in the same way with the same items, and changes the same, in a store that differs by what doesn't conflict
     pub script_same : (sc : Script V) (s u s1 : Store) (e : ActEnd V) (is j : List Item) → run map sc s ≡ acted e is s1 → Diff j s u
-        → meddle map is j ≡ false → (u1 : Store) × (run map sc u ≡ acted e is u1) × Diff j s1 u1
+        → some_interference map is j ≡ false → (u1 : Store) × (run map sc u ≡ acted e is u1) × Diff j s1 u1
     script_same (Give w) s u s1 e is j h d fr = still_same (Give w) s u s1 e is j (still_give w s e is s1 h) d
     script_same (Raise c) s u s1 e is j h d fr = absurd (not_acted c e is s1 h)
     script_same (Finish n) s u s1 e is j h d fr = still_same (Finish n) s u s1 e is j (still_finish n s e is s1 h) d
@@ -147,7 +147,7 @@ module _ (map : List Row) where
     script_same Misplace s u s1 e is j h d fr = absurd (not_placed e is s1 h)
     script_same (Do t k) s u s1 e is j h d fr =
         let st = stepped (refuses t s) t (item_of t) (run map (k (answer map t s)) (left t s)) e is s1 h in
-        let fr' : meddle map (item_of t ∷ st.rest) j ≡ false = subst (λ z. meddle map z j ≡ false) st.items fr in
+        let fr' : some_interference map (item_of t ∷ st.rest) j ≡ false = subst (λ z. some_interference map z j ≡ false) st.items fr in
         let here = or_left _ _ fr' in
         let cl = clash_of (item_of t) j here in
         let ex = extra_of t j here in

@@ -74,31 +74,31 @@ pub record Diff (j : List Item) (s u : Store) : Type 0 where
 
 -- a birth or a death beside an access, and two births, of the same object; each access comes with its `alive`, so in acts these
 -- are conflicts already
-abbrev pub mixes : Item → Item → Bool
-mixes (Born x) (Read y a n) = same_object x y
-mixes (Born x) (Write y a n) = same_object x y
-mixes (Born x) (Born y) = same_object x y
-mixes (Dies x) (Read y a n) = same_object x y
-mixes (Dies x) (Write y a n) = same_object x y
-mixes _ _ = false
+abbrev pub life_conflict : Item → Item → Bool
+life_conflict (Born x) (Read y a n) = same_object x y
+life_conflict (Born x) (Write y a n) = same_object x y
+life_conflict (Born x) (Born y) = same_object x y
+life_conflict (Dies x) (Read y a n) = same_object x y
+life_conflict (Dies x) (Write y a n) = same_object x y
+life_conflict _ _ = false
 
-abbrev pub meddles : List Row → Item → Item → Bool
-meddles map i j = items_conflict (stands_at map) i j || (mixes i j || mixes j i)
+abbrev pub interferes : List Row → Item → Item → Bool
+interferes map i j = items_conflict (stands_at map) i j || (life_conflict i j || life_conflict j i)
 
-abbrev pub meddle_one : List Row → Item → List Item → Bool
-meddle_one map i [] = false
-meddle_one map i (j ∷ js) = meddles map i j || meddle_one map i js
+abbrev pub interferes_with : List Row → Item → List Item → Bool
+interferes_with map i [] = false
+interferes_with map i (j ∷ js) = interferes map i j || interferes_with map i js
 
-abbrev pub meddle : List Row → List Item → List Item → Bool
-meddle map [] js = false
-meddle map (i ∷ is) js = meddle_one map i js || meddle map is js
+abbrev pub some_interference : List Row → List Item → List Item → Bool
+some_interference map [] js = false
+some_interference map (i ∷ is) js = interferes_with map i js || some_interference map is js
 
 -- an act gives the same value and items, or ends the run with the same status and items, and leaves the same difference, in a store that
 -- differs by what doesn't conflict with it
 abbrev pub ActFrame : (V : Type 0) → Type 0
 ActFrame V =
     (map : List Row) (act : Script V) (s u after_s : Store) (e : ActEnd V) (is others : List Item) → run map act s ≡ acted e is after_s
-    → Diff others s u → meddle map is others ≡ false
+    → Diff others s u → some_interference map is others ≡ false
     → (after_u : Store) × (run map act u ≡ acted e is after_u) × Diff others after_s after_u
 
 -- an act changes only what its items name

@@ -1,4 +1,4 @@
--- Backed items without a told conflict don't meddle.
+-- Backed items without a told conflict don't some_interference.
 use Rattle.std.proofs.Common.{◌≡◌, Bool, true, false, ◌&&◌, ◌||◌, List, [], ◌∷◌, refl, sym, ap, ◌∙◌, subst}
 use Rattle.ub_base.specs.declared.names.ObjName.{ObjName}
 use Rattle.ub_base.specs.declared.names.Item.{Item}
@@ -7,7 +7,7 @@ use Rattle.ub_base.specs.Names.{same_object}
 use Rattle.ub_base.proofs.NameLemmas.{same_object_is, same_object_refl}
 use Rattle.addr_map.specs.declared.map.Row.{Row}
 use Rattle.addr_map.specs.Conflict.{conflicts_one, items_conflict, stands_at, conflicts_with, some_conflict}
-use Rattle.mem_laws.specs.Frame.{any_of, bears, mixes, meddles, meddle_one, meddle}
+use Rattle.mem_laws.specs.Frame.{any_of, bears, life_conflict, interferes, interferes_with, some_interference}
 use Rattle.machine_laws.specs.ToldConflicts.{bear}
 use Rattle.order_laws.specs.StrictItems.{asks, backed_by, all_backed, backed}
 
@@ -32,8 +32,8 @@ and_r true b h = h
 and_r false b h = absurd (cc)
 
 module _ (rows : List Row) where
-  pub stricter : (i j : Item) → meddles rows i j ≡ false → items_conflict (stands_at rows) i j ≡ false
-  stricter i j h = or_l (items_conflict (stands_at rows) i j) (mixes i j || mixes j i) h
+  pub stricter : (i j : Item) → interferes rows i j ≡ false → items_conflict (stands_at rows) i j ≡ false
+  stricter i j h = or_l (items_conflict (stands_at rows) i j) (life_conflict i j || life_conflict j i) h
 
   -- an item of a list
   data In (i : Item) : List Item → Type 0 where
@@ -48,13 +48,13 @@ module _ (rows : List Row) where
   pair i j _ js h (here is) n = pair_one i j js (or_l (conflicts_with rows i js) (some_conflict rows is js) h) n
   pair i j _ js h (there k is m) n = pair i j is js (or_r (conflicts_with rows k js) (some_conflict rows is js) h) m n
 
-  all_one : (i : Item) (js : List Item) → ((j : Item) → In j js → meddles rows i j ≡ false) → meddle_one rows i js ≡ false
+  all_one : (i : Item) (js : List Item) → ((j : Item) → In j js → interferes rows i j ≡ false) → interferes_with rows i js ≡ false
   all_one i [] f = refl
-  all_one i (j ∷ js) f = neither (meddles rows i j) (meddle_one rows i js) (f j (here js)) (all_one i js (λ k n. f k (there j js n)))
+  all_one i (j ∷ js) f = neither (interferes rows i j) (interferes_with rows i js) (f j (here js)) (all_one i js (λ k n. f k (there j js n)))
 
-  all_pairs : (is js : List Item) → ((i j : Item) → In i is → In j js → meddles rows i j ≡ false) → meddle rows is js ≡ false
+  all_pairs : (is js : List Item) → ((i j : Item) → In i is → In j js → interferes rows i j ≡ false) → some_interference rows is js ≡ false
   all_pairs [] js f = refl
-  all_pairs (i ∷ is) js f = neither (meddle_one rows i js) (meddle rows is js) (all_one i js (λ j n. f i j (here is) n))
+  all_pairs (i ∷ is) js f = neither (interferes_with rows i js) (some_interference rows is js) (all_one i js (λ j n. f i j (here is) n))
       (all_pairs is js (λ k j m n. f k j (there i is m) n))
 
   backed_at : (all : List Item) (i : Item) (is : List Item) → all_backed all is ≡ true → In i is → backed_by all i ≡ true
@@ -107,7 +107,7 @@ module _ (rows : List Row) where
       right false b h = h
 
   mixed : (i j : Item) (js : List Item) → backed_by js j ≡ true → In j js → ((k : Item) → In k js → conflicts_one (stands_at rows) i k ≡ false)
-      → ((x : ObjName) → i ≡ Born x → bear bears js x ≡ true → ⊥) → mixes i j ≡ false
+      → ((x : ObjName) → i ≡ Born x → bear bears js x ≡ true → ⊥) → life_conflict i j ≡ false
   mixed (Born x) (Read y a n) js b m f once = unasked x y js b (λ z k. f (Alive z) k)
   mixed (Born x) (Write y a n) js b m f once = unasked x y js b (λ z k. f (Alive z) k)
   mixed (Dies x) (Read y a n) js b m f once = unasked x y js b (λ z k. f (Alive z) k)
@@ -120,10 +120,10 @@ module _ (rows : List Row) where
   mixed _ _ js b m f once = refl
 
   pub told_is_enough : (is js : List Item) → backed is ≡ true → backed js ≡ true → ((x : ObjName) → bear bears is x ≡ true → bear bears js x ≡ true → ⊥)
-      → some_conflict rows is js ≡ false → meddle rows is js ≡ false
+      → some_conflict rows is js ≡ false → some_interference rows is js ≡ false
   told_is_enough is js bi bj once h = all_pairs is js one
     where
-      one : (i j : Item) → In i is → In j js → meddles rows i j ≡ false
+      one : (i j : Item) → In i is → In j js → interferes rows i j ≡ false
       one i j m n =
           let p = pair i j is js h m n in
           let a = mixed i j js (backed_at js j js bj n) n (λ k nk. or_l (conflicts_one (stands_at rows) i k) (conflicts_one (stands_at rows) k i)
@@ -132,4 +132,4 @@ module _ (rows : List Row) where
           let d = mixed j i is (backed_at is i is bi m) m (λ k mk. or_r (conflicts_one (stands_at rows) k j) (conflicts_one (stands_at rows) j k)
           (pair k j is js h mk n))
           (λ x e b. once x b (bears_in x js (subst (λ z. In z js) e n))) in
-          neither (items_conflict (stands_at rows) i j) (mixes i j || mixes j i) p (neither (mixes i j) (mixes j i) a d)
+          neither (items_conflict (stands_at rows) i j) (life_conflict i j || life_conflict j i) p (neither (life_conflict i j) (life_conflict j i) a d)

@@ -5,7 +5,7 @@ use Rattle.ub_base.specs.declared.names.Item.{Item}
 use Rattle.ub_base.specs.declared.names.Item.TheVariants.{Read, Write, Ending}
 use Rattle.mem_spec.specs.Store.{Store}
 use Rattle.mem_spec.specs.Script.{Act, Done, Raised, Ended, Outside, Unplaced, run}
-use Rattle.mem_laws.specs.Frame.{any_of, bears, meddles, meddle_one, meddle}
+use Rattle.mem_laws.specs.Frame.{any_of, bears, interferes, interferes_with, some_interference}
 use Rattle.c_model.specs.World.{World}
 use Rattle.c_model.specs.Values.{Value}
 use Rattle.c_model.specs.Steps.{Local, Pick, does}
@@ -99,11 +99,11 @@ module _ (world : World) where
   abbrev T : Machine (Local × ℕ) Pick Value Store Item Part Seen Fact
   T = telling M (clash world.rows)
 
-  one_strict : (i : Item) (js : List Item) → machine.clash_one M i js ≡ meddle_one world.rows i js
+  one_strict : (i : Item) (js : List Item) → machine.clash_one M i js ≡ interferes_with world.rows i js
   one_strict i [] = refl
-  one_strict i (j ∷ js) = ap (λ b. meddles world.rows i j || b) (one_strict i js)
+  one_strict i (j ∷ js) = ap (λ b. interferes world.rows i j || b) (one_strict i js)
 
-  any_strict : (is js : List Item) → machine.clash_any M is js ≡ meddle world.rows is js
+  any_strict : (is js : List Item) → machine.clash_any M is js ≡ some_interference world.rows is js
   any_strict [] js = refl
   any_strict (i ∷ is) js = ap₂ (λ a b. a || b) (one_strict i js) (any_strict is js)
 

@@ -9,7 +9,8 @@ use Rattle.mem_spec.specs.Store.{TaggedByte, Life, Store}
 use Rattle.mem_spec.specs.Script.{Done, run}
 use Rattle.addr_map.specs.Conflict.{conflicts_one, stands_at}
 use Rattle.mem_laws.specs.Frame as items
-use Rattle.mem_laws.specs.Frame.{gives, any_of, bears, ends_life, shows, writes, settles, settles_away, takes, prints, mixes, meddles, meddle_one, meddle}
+use Rattle.mem_laws.specs.Frame.{gives, any_of, bears, ends_life, shows, writes, settles, settles_away, takes, prints, life_conflict, interferes}
+use Rattle.mem_laws.specs.Frame.{interferes_with, some_interference}
 use Rattle.mem_laws.proofs.Scripts.{script_same, script_changes}
 use Rattle.c_model.specs.World.{World}
 use Rattle.c_model.specs.Values.{Value}
@@ -24,7 +25,8 @@ use Rattle.order_laws.specs.StoreParts.{counts, store_parts}
 use Rattle.order_laws.specs.StoreParts.{counted_after}
 use Rattle.order_laws.specs.Asking.{ActsCount}
 use Rattle.order_laws.proofs.ProgramTold.{done_was}
-use Rattle.order_laws.proofs.StoreMeet.{any_or, any_first, any_second, lives_meddle, bytes_meddle, takes_meddle, prints_meddle, same_by, same_exposed}
+use Rattle.order_laws.proofs.StoreMeet.{any_or, any_first, any_second, lives_interfere, bytes_interfere, takes_interfere, prints_interfere, same_by}
+use Rattle.order_laws.proofs.StoreMeet.{same_exposed}
 use Rattle.order_laws.proofs.StoreMeet.{same_kept}
 use Rattle.order_laws.proofs.StoreHolds.{run_holds}
 
@@ -77,11 +79,11 @@ module _ (world : World) where
   alter_any [] p = refl
   alter_any (i ∷ j) p = ap (λ b. alters i p || b) (alter_any j p)
 
-  one_any : (i : Item) (js : List Item) → clash_one M i js ≡ meddle_one world.rows i js
+  one_any : (i : Item) (js : List Item) → clash_one M i js ≡ interferes_with world.rows i js
   one_any i [] = refl
-  one_any i (j ∷ js) = ap (λ b. meddles world.rows i j || b) (one_any i js)
+  one_any i (j ∷ js) = ap (λ b. interferes world.rows i j || b) (one_any i js)
 
-  apart_any : (is js : List Item) → clash_any M is js ≡ meddle world.rows is js
+  apart_any : (is js : List Item) → clash_any M is js ≡ some_interference world.rows is js
   apart_any [] js = refl
   apart_any (i ∷ is) js = ap₂ (λ a b. a || b) (one_any i js) (apart_any is js)
 
@@ -140,40 +142,40 @@ module _ (world : World) where
       let n = script_same world.rows Value (does world f f.begun p) s t s1 (gives v) is j (ran f p s v is s1 h) (to_items j s t d) (sym (apart_any is j) ∙ a) in
       (n.0, ap done_by n.1, to_diff j s1 n.0 n.2)
 
-  meddles_sym : (i j : Item) → meddles world.rows i j ≡ false → meddles world.rows j i ≡ false
-  meddles_sym i j h = sym (ap₂ (λ a b. a || b) (or_swap (conflicts_one (stands_at world.rows) i j) (conflicts_one (stands_at world.rows) j i))
-      (or_swap (mixes i j) (mixes j i))) ∙ h
+  interferes_sym : (i j : Item) → interferes world.rows i j ≡ false → interferes world.rows j i ≡ false
+  interferes_sym i j h = sym (ap₂ (λ a b. a || b) (or_swap (conflicts_one (stands_at world.rows) i j) (conflicts_one (stands_at world.rows) j i))
+      (or_swap (life_conflict i j) (life_conflict j i))) ∙ h
 
   meet : (i j : List Item) (s t : Store) → Apart M i j → Diff M i s t → Diff M j s t → machine.Holds M (i ++ j) s → machine.Holds M (j ++ i) t
       → s.created ≡ t.created → s ≡ t
   meet i j s t a d e h k c = store_is s t lives exposed bytes kept (dj.input) position output c
     where
-      m : meddle world.rows i j ≡ false
+      m : some_interference world.rows i j ≡ false
       m = sym (apart_any i j) ∙ a
 
       dj : items.Diff j s t
       dj = to_items j s t e
 
-      by : (p : Part) → ((x y : Item) → alters x p ≡ true → alters y p ≡ true → meddles world.rows x y ≡ true) → look p s ≡ look p t
+      by : (p : Part) → ((x y : Item) → alters x p ≡ true → alters y p ≡ true → interferes world.rows x y ≡ true) → look p s ≡ look p t
       by p f = same_by world.rows p i j s t f m (at i s t d p) (at j s t e p)
 
       lives : (x : ObjName) → s.life x ≡ t.life x
-      lives x = life_is (s.life x) (t.life x) (by (life_of x) (lives_meddle world.rows x))
+      lives x = life_is (s.life x) (t.life x) (by (life_of x) (lives_interfere world.rows x))
 
       exposed : (x : ObjName) → s.exposed x ≡ t.exposed x
       exposed x = same_exposed world.rows i j s t x m (at i s t d (is_exposed x)) (at j s t e (is_exposed x)) (h (was_shown x)) (k (was_shown x)) (lives x)
 
       bytes : (x : ObjName) (b : ℕ) → s.bytes x b ≡ t.bytes x b
-      bytes x b = byte_is (s.bytes x b) (t.bytes x b) (by (byte_of x b) (bytes_meddle world.rows x b))
+      bytes x b = byte_is (s.bytes x b) (t.bytes x b) (by (byte_of x b) (bytes_interfere world.rows x b))
 
       kept : (e' : Event) → s.kept e' ≡ t.kept e'
       kept e' = same_kept world.rows i j s t e' m (at i s t d (kept_for e')) (at j s t e (kept_for e')) (λ x. h (was_settled e' x)) (λ x. k (was_settled e' x))
 
       position : s.position ≡ t.position
-      position = number_is s.position t.position (by the_position (takes_meddle world.rows))
+      position = number_is s.position t.position (by the_position (takes_interfere world.rows))
 
       output : s.output ≡ t.output
-      output = bytes_are s.output t.output (by the_output (prints_meddle world.rows))
+      output = bytes_are s.output t.output (by the_output (prints_interfere world.rows))
 
   counts_swap : (i j : Item) (n : ℕ) → counts world.rows i (counts world.rows j n) ≡ counts world.rows j (counts world.rows i n)
   counts_swap (Born x) (Born y) n = min_swap n _ _
@@ -189,7 +191,7 @@ module _ (world : World) where
   store_laws count = record {
     elsewhere = elsewhere;
     changes = λ f p s v is s1 h. to_diff is s s1 (script_changes world.rows Value (does world f f.begun p) s s1 (gives v) is (ran f p s v is s1 h));
-    clash_sym = meddles_sym;
+    clash_sym = interferes_sym;
     holds_nil = holds_nil;
     holds_next = λ f p s v is s1 j h k. run_holds world.rows (does world f f.begun p) s s1 v is j (ran f p s v is s1 h) k;
     adds = λ f p s v is s1 h. count f p s v is s1 (ran f p s v is s1 h) ∙ sym (all_counts is s.created);

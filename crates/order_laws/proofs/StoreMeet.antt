@@ -1,4 +1,4 @@
--- Two stores that differ only in what two lists of items both alter are one, where these don't meddle.
+-- Two stores that differ only in what two lists of items both alter are one, where these don't some_interference.
 use Rattle.std.proofs.Common.{◌≡◌, ℕ, ◌+◌, Bool, true, false, not, ◌&&◌, ◌||◌, nat_lt, nat_le, List, [], ◌∷◌, ◌++◌, Option, Some, None, is_some, refl}
 use Rattle.std.proofs.Common.{sym, ap, ◌∙◌, subst, true≢false, arith}
 use Rattle.std.proofs.lemmas.Bool.Decides.{nat_tests}
@@ -11,7 +11,7 @@ use Rattle.ub_base.proofs.NameLemmas.{same_object_is, same_object_refl, same_eve
 use Rattle.addr_map.specs.declared.map.Row.{Row}
 use Rattle.mem_spec.specs.Store.{Store}
 use Rattle.addr_map.specs.Conflict.{items_conflict, stands_at, overlap}
-use Rattle.mem_laws.specs.Frame.{bears, ends_life, shows, writes, settles, takes, prints, any_of, mixes, meddles, meddle_one, meddle}
+use Rattle.mem_laws.specs.Frame.{bears, ends_life, shows, writes, settles, takes, prints, any_of, life_conflict, interferes, interferes_with, some_interference}
 use Rattle.order_laws.specs.StoreParts.{Part, life_of, is_exposed, byte_of, kept_for, a_truth, an_object, look, alters, was_shown, was_settled}
 use Rattle.order_laws.specs.StoreParts.{settles_to, shown_after, says, same_truth, is_the, is_so}
 
@@ -55,23 +55,24 @@ any_second f g (i ∷ is) h =
     (any_second f g is (or_r (f i || g i) (any_of (λ i. f i || g i) is) h))
 
 module _ (rows : List Row) where
-  -- no item of the one kind in one list and of the other in the other, where such meddle
-  one_apart : (f : Item → Bool) (i : Item) (js : List Item) → ((j : Item) → f j ≡ true → meddles rows i j ≡ true) → meddle_one rows i js ≡ false
+  -- no item of the one kind in one list and of the other in the other, where such some_interference
+  one_apart : (f : Item → Bool) (i : Item) (js : List Item) → ((j : Item) → f j ≡ true → interferes rows i j ≡ true) → interferes_with rows i js ≡ false
       → any_of f js ≡ false
   one_apart f i [] g h = refl
-  one_apart f i (j ∷ js) g h = or_both (f j) (any_of f js) (go (f j) refl) (one_apart f i js g (or_r (meddles rows i j) (meddle_one rows i js) h))
+  one_apart f i (j ∷ js) g h = or_both (f j) (any_of f js) (go (f j) refl) (one_apart f i js g (or_r (interferes rows i j) (interferes_with rows i js) h))
     where
       go : (b : Bool) → f j ≡ b → f j ≡ false
       go false e = e
-      go true e = absurd (true≢false (sym (g j e) ∙ or_l (meddles rows i j) (meddle_one rows i js) h))
+      go true e = absurd (true≢false (sym (g j e) ∙ or_l (interferes rows i j) (interferes_with rows i js) h))
 
-  pub apart : (f g : Item → Bool) (is js : List Item) → ((i j : Item) → f i ≡ true → g j ≡ true → meddles rows i j ≡ true) → meddle rows is js ≡ false
+  pub apart : (f g : Item → Bool) (is js : List Item) → ((i j : Item) → f i ≡ true → g j ≡ true → interferes rows i j ≡ true)
+      → some_interference rows is js ≡ false
       → any_of f is ≡ true → any_of g js ≡ false
   apart f g [] js m h k = absurd (cc)
-  apart f g (i ∷ is) js m h k = go (f i) refl (apart f g is js m (or_r (meddle_one rows i js) (meddle rows is js) h))
+  apart f g (i ∷ is) js m h k = go (f i) refl (apart f g is js m (or_r (interferes_with rows i js) (some_interference rows is js) h))
     where
       go : (b : Bool) → f i ≡ b → (any_of f is ≡ true → any_of g js ≡ false) → any_of g js ≡ false
-      go true e later = one_apart g i js (λ j w. m i j e w) (or_l (meddle_one rows i js) (meddle rows is js) h)
+      go true e later = one_apart g i js (λ j w. m i j e w) (or_l (interferes_with rows i js) (some_interference rows is js) h)
       go false e later = later (subst (λ b. (b || any_of f is) ≡ true) e k)
 
   -- an item that bears or ends an object meets each other one that touches it
@@ -82,39 +83,40 @@ module _ (rows : List Row) where
   joined : (x y z : ObjName) → same_object x z ≡ true → same_object y z ≡ true → same_object x y ≡ true
   joined x y z h k = subst (λ w. same_object x w ≡ true) (sym (same_object_is y z k)) h
 
-  mixed : (i j : Item) → mixes i j ≡ true → meddles rows i j ≡ true
-  mixed i j h = or_second (items_conflict (stands_at rows) i j) (mixes i j || mixes j i) (or_first (mixes i j) (mixes j i) h)
+  mixed : (i j : Item) → life_conflict i j ≡ true → interferes rows i j ≡ true
+  mixed i j h = or_second (items_conflict (stands_at rows) i j) (life_conflict i j || life_conflict j i) (or_first (life_conflict i j) (life_conflict j i) h)
 
-  mixed_back : (i j : Item) → mixes j i ≡ true → meddles rows i j ≡ true
-  mixed_back i j h = or_second (items_conflict (stands_at rows) i j) (mixes i j || mixes j i) (or_second (mixes i j) (mixes j i) h)
+  mixed_back : (i j : Item) → life_conflict j i ≡ true → interferes rows i j ≡ true
+  mixed_back i j h = or_second (items_conflict (stands_at rows) i j) (life_conflict i j || life_conflict j i)
+      (or_second (life_conflict i j) (life_conflict j i) h)
 
-  bears_bears : (x : ObjName) (i j : Item) → bears i x ≡ true → bears j x ≡ true → meddles rows i j ≡ true
+  bears_bears : (x : ObjName) (i j : Item) → bears i x ≡ true → bears j x ≡ true → interferes rows i j ≡ true
   bears_bears x (Born y) (Born z) h k = mixed (Born y) (Born z) (joined y z x h k)
   bears_bears x (Born y) _ h k = absurd (cc)
   bears_bears x _ j h k = absurd (cc)
 
-  bears_ends : (x : ObjName) (i j : Item) → bears i x ≡ true → ends_life j x ≡ true → meddles rows i j ≡ true
+  bears_ends : (x : ObjName) (i j : Item) → bears i x ≡ true → ends_life j x ≡ true → interferes rows i j ≡ true
   bears_ends x (Born y) (Dies z) h k = or_first (same_object z y) (false || false) (joined z y x k h)
   bears_ends x (Born y) _ h k = absurd (cc)
   bears_ends x _ j h k = absurd (cc)
 
-  ends_bears : (x : ObjName) (i j : Item) → ends_life i x ≡ true → bears j x ≡ true → meddles rows i j ≡ true
+  ends_bears : (x : ObjName) (i j : Item) → ends_life i x ≡ true → bears j x ≡ true → interferes rows i j ≡ true
   ends_bears x (Dies y) (Born z) h k = or_first (same_object y z || false) (false || false) (or_first (same_object y z) false (joined y z x h k))
   ends_bears x (Dies y) _ h k = absurd (cc)
   ends_bears x _ j h k = absurd (cc)
 
-  ends_ends : (x : ObjName) (i j : Item) → ends_life i x ≡ true → ends_life j x ≡ true → meddles rows i j ≡ true
+  ends_ends : (x : ObjName) (i j : Item) → ends_life i x ≡ true → ends_life j x ≡ true → interferes rows i j ≡ true
   ends_ends x (Dies y) (Dies z) h k = or_first (same_object y z || same_object z y) (false || false)
       (or_first (same_object y z) (same_object z y) (joined y z x h k))
   ends_ends x (Dies y) _ h k = absurd (cc)
   ends_ends x _ j h k = absurd (cc)
 
-  bears_shows : (x : ObjName) (i j : Item) → bears i x ≡ true → shows j x ≡ true → meddles rows i j ≡ true
+  bears_shows : (x : ObjName) (i j : Item) → bears i x ≡ true → shows j x ≡ true → interferes rows i j ≡ true
   bears_shows x (Born y) (Expose z) h k = or_first (same_object y z || false) (false || false) (or_first (same_object y z) false (joined y z x h k))
   bears_shows x (Born y) _ h k = absurd (cc)
   bears_shows x _ j h k = absurd (cc)
 
-  shows_bears : (x : ObjName) (i j : Item) → shows i x ≡ true → bears j x ≡ true → meddles rows i j ≡ true
+  shows_bears : (x : ObjName) (i j : Item) → shows i x ≡ true → bears j x ≡ true → interferes rows i j ≡ true
   shows_bears x (Expose y) (Born z) h k = or_first (false || same_object z y) (false || false) (joined z y x k h)
   shows_bears x (Expose y) _ h k = absurd (cc)
   shows_bears x _ j h k = absurd (cc)
@@ -123,22 +125,22 @@ module _ (rows : List Row) where
   by_and true b h = (refl, h)
   by_and false b h = absurd (cc)
 
-  bears_writes : (x : ObjName) (b : ℕ) (i j : Item) → bears i x ≡ true → writes j x b ≡ true → meddles rows i j ≡ true
+  bears_writes : (x : ObjName) (b : ℕ) (i j : Item) → bears i x ≡ true → writes j x b ≡ true → interferes rows i j ≡ true
   bears_writes x b (Born y) (Write z a n) h k = mixed (Born y) (Write z a n) (joined y z x h (by_and (same_object z x) _ k).0)
   bears_writes x b (Born y) _ h k = absurd (cc)
   bears_writes x b _ j h k = absurd (cc)
 
-  writes_bears : (x : ObjName) (b : ℕ) (i j : Item) → writes i x b ≡ true → bears j x ≡ true → meddles rows i j ≡ true
+  writes_bears : (x : ObjName) (b : ℕ) (i j : Item) → writes i x b ≡ true → bears j x ≡ true → interferes rows i j ≡ true
   writes_bears x b (Write y a n) (Born z) h k = mixed_back (Write y a n) (Born z) (joined z y x k (by_and (same_object y x) _ h).0)
   writes_bears x b (Write y a n) _ h k = absurd (cc)
   writes_bears x b _ j h k = absurd (cc)
 
-  ends_writes : (x : ObjName) (b : ℕ) (i j : Item) → ends_life i x ≡ true → writes j x b ≡ true → meddles rows i j ≡ true
+  ends_writes : (x : ObjName) (b : ℕ) (i j : Item) → ends_life i x ≡ true → writes j x b ≡ true → interferes rows i j ≡ true
   ends_writes x b (Dies y) (Write z a n) h k = mixed (Dies y) (Write z a n) (joined y z x h (by_and (same_object z x) _ k).0)
   ends_writes x b (Dies y) _ h k = absurd (cc)
   ends_writes x b _ j h k = absurd (cc)
 
-  writes_ends : (x : ObjName) (b : ℕ) (i j : Item) → writes i x b ≡ true → ends_life j x ≡ true → meddles rows i j ≡ true
+  writes_ends : (x : ObjName) (b : ℕ) (i j : Item) → writes i x b ≡ true → ends_life j x ≡ true → interferes rows i j ≡ true
   writes_ends x b (Write y a n) (Dies z) h k = mixed_back (Write y a n) (Dies z) (joined z y x k (by_and (same_object y x) _ h).0)
   writes_ends x b (Write y a n) _ h k = absurd (cc)
   writes_ends x b _ j h k = absurd (cc)
@@ -150,7 +152,7 @@ module _ (rows : List Row) where
   and_intro true b h k = k
   and_intro false b h k = h
 
-  writes_writes : (x : ObjName) (b : ℕ) (i j : Item) → writes i x b ≡ true → writes j x b ≡ true → meddles rows i j ≡ true
+  writes_writes : (x : ObjName) (b : ℕ) (i j : Item) → writes i x b ≡ true → writes j x b ≡ true → interferes rows i j ≡ true
   writes_writes x b (Write y a n) (Write z c m) h k =
       let p = by_and (same_object y x) _ h in
       let q = by_and (same_object z x) _ k in
@@ -160,55 +162,55 @@ module _ (rows : List Row) where
   writes_writes x b _ j h k = absurd (cc)
 
   -- either way of altering a part
-  either : (f g : Item → Bool) (i j : Item) → (f i ≡ true → meddles rows i j ≡ true) → (g i ≡ true → meddles rows i j ≡ true) → (f i || g i) ≡ true
-      → meddles rows i j ≡ true
+  either : (f g : Item → Bool) (i j : Item) → (f i ≡ true → interferes rows i j ≡ true) → (g i ≡ true → interferes rows i j ≡ true) → (f i || g i) ≡ true
+      → interferes rows i j ≡ true
   either f g i j h k e = go (f i) refl e
     where
-      go : (b : Bool) → f i ≡ b → (b || g i) ≡ true → meddles rows i j ≡ true
+      go : (b : Bool) → f i ≡ b → (b || g i) ≡ true → interferes rows i j ≡ true
       go true p e = h p
       go false p e = k e
 
-  either_of : (f g : Item → Bool) (i j : Item) → (f j ≡ true → meddles rows i j ≡ true) → (g j ≡ true → meddles rows i j ≡ true) → (f j || g j) ≡ true
-      → meddles rows i j ≡ true
+  either_of : (f g : Item → Bool) (i j : Item) → (f j ≡ true → interferes rows i j ≡ true) → (g j ≡ true → interferes rows i j ≡ true) → (f j || g j) ≡ true
+      → interferes rows i j ≡ true
   either_of f g i j h k e = go (f j) refl e
     where
-      go : (b : Bool) → f j ≡ b → (b || g j) ≡ true → meddles rows i j ≡ true
+      go : (b : Bool) → f j ≡ b → (b || g j) ≡ true → interferes rows i j ≡ true
       go true p e = h p
       go false p e = k e
 
-  pub lives_meddle : (x : ObjName) (i j : Item) → alters i (life_of x) ≡ true → alters j (life_of x) ≡ true → meddles rows i j ≡ true
-  lives_meddle x i j h k =
+  pub lives_interfere : (x : ObjName) (i j : Item) → alters i (life_of x) ≡ true → alters j (life_of x) ≡ true → interferes rows i j ≡ true
+  lives_interfere x i j h k =
       either (λ i. bears i x) (λ i. ends_life i x) i j
       (λ a. either_of (λ j. bears j x) (λ j. ends_life j x) i j (λ c. bears_bears x i j a c) (λ c. bears_ends x i j a c) k)
       (λ a. either_of (λ j. bears j x) (λ j. ends_life j x) i j (λ c. ends_bears x i j a c) (λ c. ends_ends x i j a c) k) h
 
-  bytes_with : (x : ObjName) (b : ℕ) (i j : Item) → (bears j x ≡ true → meddles rows i j ≡ true) → (ends_life j x ≡ true → meddles rows i j ≡ true)
-      → (writes j x b ≡ true → meddles rows i j ≡ true)
-      → alters j (byte_of x b) ≡ true → meddles rows i j ≡ true
+  bytes_with : (x : ObjName) (b : ℕ) (i j : Item) → (bears j x ≡ true → interferes rows i j ≡ true) → (ends_life j x ≡ true → interferes rows i j ≡ true)
+      → (writes j x b ≡ true → interferes rows i j ≡ true)
+      → alters j (byte_of x b) ≡ true → interferes rows i j ≡ true
   bytes_with x b i j p q r k = either_of (λ j. bears j x) (λ j. ends_life j x || writes j x b) i j p
       (λ e. either_of (λ j. ends_life j x) (λ j. writes j x b) i j q r e) k
 
-  pub bytes_meddle : (x : ObjName) (b : ℕ) (i j : Item) → alters i (byte_of x b) ≡ true → alters j (byte_of x b) ≡ true → meddles rows i j ≡ true
-  bytes_meddle x b i j h k =
+  pub bytes_interfere : (x : ObjName) (b : ℕ) (i j : Item) → alters i (byte_of x b) ≡ true → alters j (byte_of x b) ≡ true → interferes rows i j ≡ true
+  bytes_interfere x b i j h k =
       either (λ i. bears i x) (λ i. ends_life i x || writes i x b) i j
       (λ a. bytes_with x b i j (bears_bears x i j a) (bears_ends x i j a) (bears_writes x b i j a) k)
       (λ e. either (λ i. ends_life i x) (λ i. writes i x b) i j
       (λ a. bytes_with x b i j (ends_bears x i j a) (ends_ends x i j a) (ends_writes x b i j a) k)
       (λ a. bytes_with x b i j (writes_bears x b i j a) (writes_ends x b i j a) (writes_writes x b i j a) k) e) h
 
-  pub takes_meddle : (i j : Item) → takes i ≡ true → takes j ≡ true → meddles rows i j ≡ true
-  takes_meddle Input Input h k = refl
-  takes_meddle Input _ h k = absurd (cc)
-  takes_meddle _ j h k = absurd (cc)
+  pub takes_interfere : (i j : Item) → takes i ≡ true → takes j ≡ true → interferes rows i j ≡ true
+  takes_interfere Input Input h k = refl
+  takes_interfere Input _ h k = absurd (cc)
+  takes_interfere _ j h k = absurd (cc)
 
-  pub prints_meddle : (i j : Item) → prints i ≡ true → prints j ≡ true → meddles rows i j ≡ true
-  prints_meddle Output Output h k = refl
-  prints_meddle Output _ h k = absurd (cc)
-  prints_meddle _ j h k = absurd (cc)
+  pub prints_interfere : (i j : Item) → prints i ≡ true → prints j ≡ true → interferes rows i j ≡ true
+  prints_interfere Output Output h k = refl
+  prints_interfere Output _ h k = absurd (cc)
+  prints_interfere _ j h k = absurd (cc)
 
   -- a part that no two apart items alter
-  pub same_by : (p : Part) (is js : List Item) (s t : Store) → ((i j : Item) → alters i p ≡ true → alters j p ≡ true → meddles rows i j ≡ true)
-      → meddle rows is js ≡ false
+  pub same_by : (p : Part) (is js : List Item) (s t : Store) → ((i j : Item) → alters i p ≡ true → alters j p ≡ true → interferes rows i j ≡ true)
+      → some_interference rows is js ≡ false
       → (any_of (λ i. alters i p) is ≡ false → look p s ≡ look p t) → (any_of (λ i. alters i p) js ≡ false → look p s ≡ look p t) → look p s ≡ look p t
   same_by p is js s t m h f g = go (any_of (λ i. alters i p) is) refl
     where
@@ -258,7 +260,7 @@ module _ (rows : List Row) where
   truth_is a b h = cc
 
   -- whether an object is exposed
-  pub same_exposed : (is js : List Item) (s t : Store) (x : ObjName) → meddle rows is js ≡ false
+  pub same_exposed : (is js : List Item) (s t : Store) (x : ObjName) → some_interference rows is js ≡ false
       → (any_of (λ i. alters i (is_exposed x)) is ≡ false → look (is_exposed x) s ≡ look (is_exposed x) t)
       → (any_of (λ i. alters i (is_exposed x)) js ≡ false → look (is_exposed x) s ≡ look (is_exposed x) t)
       → (says (is ++ js) (was_shown x) ≡ true → is_so (was_shown x) s ≡ true) → (says (js ++ is) (was_shown x) ≡ true → is_so (was_shown x) t ≡ true)
@@ -318,9 +320,9 @@ module _ (rows : List Row) where
   is_the_one None x h = absurd (cc)
   is_the_one (Some y) x h = ap Some (same_object_is y x h)
 
-  -- settled to different objects meddles
+  -- settled to different objects interferes
   settled_apart : (e : Event) (x y : ObjName) (i j : Item) → same_object x y ≡ false → settles_to i e x ≡ true → settles_to j e y ≡ true
-      → meddles rows i j ≡ true
+      → interferes rows i j ≡ true
   settled_apart e x y (Narrow c z) (Narrow d w) n h k =
       let p = by_and (same_event c e) (same_object z x) h in
       let q = by_and (same_event d e) (same_object w y) k in
@@ -335,7 +337,7 @@ module _ (rows : List Row) where
   object_is : (a b : Option ObjName) → an_object a ≡ an_object b → a ≡ b
   object_is a b h = cc
 
-  pub same_kept : (is js : List Item) (s t : Store) (e : Event) → meddle rows is js ≡ false
+  pub same_kept : (is js : List Item) (s t : Store) (e : Event) → some_interference rows is js ≡ false
       → (any_of (λ i. settles i e) is ≡ false → look (kept_for e) s ≡ look (kept_for e) t)
       → (any_of (λ i. settles i e) js ≡ false → look (kept_for e) s ≡ look (kept_for e) t)
       → ((x : ObjName) → says (is ++ js) (was_settled e x) ≡ true → is_so (was_settled e x) s ≡ true)

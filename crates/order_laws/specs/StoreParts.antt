@@ -10,7 +10,7 @@ use Rattle.addr_map.specs.Rows.{row_of}
 use Rattle.exposure.specs.Cells.{is_other}
 use Rattle.mem_spec.specs.Store.{TaggedByte, Life, Store, can_find}
 use Rattle.mem_spec.specs.Acts.{size_in}
-use Rattle.mem_laws.specs.Frame.{bears, ends_life, shows, writes, settles, settles_away, takes, prints, any_of, meddles}
+use Rattle.mem_laws.specs.Frame.{bears, ends_life, shows, writes, settles, settles_away, takes, prints, any_of, interferes}
 use Rattle.c_model.specs.ModelMachine.{StorePart}
 
 -- the parts of a store
@@ -105,7 +105,7 @@ abbrev pub store_parts : List Row → StorePart Part Seen Fact
 store_parts rows = record {
   look = look;
   alters = alters;
-  clash = meddles rows;
+  clash = interferes rows;
   says = says;
   is_so = is_so;
   counted = λ s. s.created;

@@ -5,7 +5,7 @@ use Rattle.ub_base.specs.declared.names.Item.{Item}
 use Rattle.ub_base.specs.declared.names.Item.TheVariants.{Read, Write, Alive, Ending}
 use Rattle.ub_base.specs.Names.{same_object}
 use Rattle.addr_map.specs.declared.map.Row.{Row}
-use Rattle.mem_laws.specs.Frame.{any_of, bears, meddles, meddle}
+use Rattle.mem_laws.specs.Frame.{any_of, bears, interferes, some_interference}
 use Rattle.addr_map.specs.Conflict.{some_conflict as conflict}
 use Rattle.c_model.specs.Findings.{clash}
 use Rattle.machine_laws.specs.ToldConflicts.{bear}
@@ -28,12 +28,12 @@ all_backed is (j ∷ js) = backed_by is j && all_backed is js
 abbrev pub backed : List Item → Bool
 backed is = all_backed is is
 
--- two lists of backed items that bear no object twice meddle only where they have a told conflict
+-- two lists of backed items that bear no object twice interfere only where they have a told conflict
 abbrev pub ToldIsEnough : Type 0
 ToldIsEnough =
     (rows : List Row) (is js : List Item) → backed is ≡ true → backed js ≡ true → ((x : ObjName) → bear bears is x ≡ true → bear bears js x ≡ true → ⊥)
-    → conflict rows is js ≡ false → meddle rows is js ≡ false
+    → conflict rows is js ≡ false → some_interference rows is js ≡ false
 
--- and what doesn't meddle has no told conflict
-abbrev pub MeddlingIsStricter : Type 0
-MeddlingIsStricter = (rows : List Row) (i j : Item) → meddles rows i j ≡ false → clash rows i j ≡ false
+-- and what doesn't interfere has no told conflict
+abbrev pub InterferenceIsStricter : Type 0
+InterferenceIsStricter = (rows : List Row) (i j : Item) → interferes rows i j ≡ false → clash rows i j ≡ false

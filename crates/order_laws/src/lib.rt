@@ -2,7 +2,7 @@
 #![tactic(auto)]
 
 ghost use Rattle.order_laws.specs.FrameEnds.{FramesEnd, ProgramOrdersEndAlike};
-ghost use Rattle.order_laws.specs.StrictItems.{ToldIsEnough, MeddlingIsStricter};
+ghost use Rattle.order_laws.specs.StrictItems.{ToldIsEnough, InterferenceIsStricter};
 ghost use Rattle.order_laws.specs.ProgramTells.{ActsKeepLaws, LibraryOrdersTell, ProgramOrdersTell};
 ghost use Rattle.order_laws.specs.Asking.{ProgramActsAsk};
 ghost use Rattle.order_laws.specs.PermittedPicks.{CanonicalIsPermitted, PicksAgree};
@@ -25,7 +25,7 @@ pub fn law_program_orders<Part, Seen, Fact>()
 /// Of backed items the conflicts that findings tell are those that the laws of acts ask for.
 pub fn law_items_tell()
     ensures enough { ToldIsEnough }
-    ensures stricter { MeddlingIsStricter }
+    ensures stricter { InterferenceIsStricter }
 {}
 
 /// The acts of every program keep the laws of the store, if the library's scripts ask for the life of what they access and create objects
