@@ -172,12 +172,12 @@ static void arithmetic(void)
     }
 }
 
-static long compared;
+static unsigned long compared;
 
 static int by_int(const void *a, const void *b)
 {
     int x = *(const int *)a, y = *(const int *)b;
-    compared = compared * 31 + x * 7 + y;
+    compared = compared * 31 + (unsigned)(x * 7 + y);
     return (x > y) - (x < y);
 }
 
@@ -204,7 +204,7 @@ static void sorts(void)
             }
             compared = 0;
             ours.qsort(a, n, sizeof *a, by_int);
-            long was = compared;
+            unsigned long was = compared;
             compared = 0;
             theirs.qsort(b, n, sizeof *b, by_int);
             told("qsort", memcmp(a, b, sizeof a) == 0 && was == compared, n, kind);
