@@ -1,12 +1,15 @@
 // Operators and conversions.
-ghost use Rattle.std.specs.Prelude.{◌≡◌};
-ghost use Rattle.c_arith.specs.Operators.{bits};
+ghost use Rattle.std.specs.Prelude.{◌≡◌, List, []};
+ghost use Rattle.addr_map.specs.declared.map.Row.{Row};
+ghost use Rattle.c_arith.specs.Operators.{bits, conv, negated};
 ghost use Rattle.c_types.specs.declared.kind.IntKind.TheVariants.{ULong};
 ghost use Rattle.c_model.specs.Nodes as nodes;
-ghost use Rattle.c_model.specs.Nodes.{operated};
+ghost use Rattle.c_model.specs.Nodes.{bool_value, int_outcome, operated, unary_value};
 ghost use Rattle.c_model.specs.Values.{address_in};
-ghost use Rattle.prov_memory.specs.Memory.{Kept};
-ghost use Rattle.run_acts.specs.Views.{value_in};
+ghost use Rattle.mem_spec.specs.Script.{run};
+ghost use Rattle.mem_spec.specs.Store.{Store};
+ghost use Rattle.prov_memory.specs.Memory.{Kept, act_of};
+ghost use Rattle.run_acts.specs.Views.{value_in, value_result};
 
 use crate::values::{Pointer, as_function, as_integer, as_pointer, truth};
 use c_arith::{apply, complement, is_operand, negate};
@@ -58,19 +61,29 @@ fn address(number: i128) -> u64
 }
 
 /// The value of `-`, `~` or `!` (6.5.3.3), or 6.5p5.
-pub fn unary(op: UnOp, operand: &Value) -> Result<Value, Clause> {
+pub fn unary(op: UnOp, operand: &Value) -> Result<Value, Clause>
+    ensures { (m : Kept) (rows : List Row) (s : Store) → run rows (unary_value op (value_in m operand.now)) s ≡ act_of (value_result m result) [] s }
+{
     let number = as_integer(operand);
     match op {
-        UnOp::Minus(kind) => {
-            let number = negate(kind, c_arith::convert(kind, number))?;
-            Ok(Value::Int(number))
-        }
-        UnOp::Complement(kind) => {
-            let number = complement(kind, c_arith::convert(kind, number));
-            Ok(Value::Int(number))
-        }
-        UnOp::Not => Ok(Value::Int(i128::from(!truth(operand)))),
+        UnOp::Minus(kind) => minus(kind, number),
+        UnOp::Complement(kind) => Ok(Value::Int(complement(kind, c_arith::convert(kind, number)))),
+        UnOp::Not => Ok(flag(!truth(operand))),
     }
+}
+
+fn minus(kind: IntKind, number: i128) -> Result<Value, Clause>
+    ensures { (m : Kept) (rows : List Row) (s : Store) → run rows (int_outcome (negated kind (conv kind number))) s ≡ act_of (value_result m result) [] s }
+{
+    let value = negate(kind, c_arith::convert(kind, number))?;
+    Ok(Value::Int(value))
+}
+
+// 1 or 0.
+fn flag(holds: bool) -> Value
+    ensures { (m : Kept) → value_in m result ≡ bool_value holds }
+{
+    Value::Int(i128::from(holds))
 }
 
 /// The value of a binary operator on integers (6.5.5 to 6.5.7, 6.5.10 to 6.5.12), or the clause that it breaks; 0 where an
