@@ -35,7 +35,7 @@ use Rattle.order_laws.proofs.Permitted.{picks_agree}
 use Rattle.order_laws.proofs.RunLimits.{Fits, enters_within, none_passed}
 use Rattle.order_laws.proofs.RunSteps.{start_plain, starts_fresh, lifted, pick_agrees, pick_starts}
 use Rattle.order_laws.proofs.FrameEvents.{depth_same, order_of, done_on, event_seen, ready_begun, event_scene, event_function, event_closed, event_no_end}
-use Rattle.order_laws.proofs.Traces.{none_begun, path_is, has_cases, IsNewest, Event, Held, AllDone, moves}
+use Rattle.order_laws.proofs.Traces.{place_is, body_place, none_begun, path_is, has_cases, IsNewest, Event, Held, AllDone, moves}
 use Rattle.order_laws.proofs.QuietFrames.{left_pick, under_refl}
 use Rattle.order_laws.proofs.TraceItems.{Sub, joined_free}
 use Rattle.order_laws.proofs.OpenFrames.{not_under, FrameOk, AllStood, AllSeen, RootedAt, Rooted, rooted_on, rooted_next, rooted_of, none_under, waiting}
@@ -140,13 +140,6 @@ module _ (world : World) (small : world.limits.created < 2 ^ 62) (f0 : Local × 
   none_added : (hs : List Held) → added [] hs ≡ hs
   none_added [] = refl
   none_added (h ∷ hs) = λ j. record { frame = h.frame; pick = h.pick; items = nil_right h.items j; past = h.past } ∷ none_added hs j
-
-  body_place : (u : Place) → is_body u.kind ≡ true → u ≡ place u.node Body
-  body_place u h = λ i. record { node = u.node; kind = kind_is u.kind h i }
-    where
-      kind_is : (c : Kind) → is_body c ≡ true → c ≡ Body
-      kind_is Body h = refl
-      kind_is _ h = absurd (cc)
 
   -- a body that is ready has started no frame
   not_rooted : (st : State) (qs : List Pick) (r : Reach st qs) (u : Place) → ready_in world st.top.scene st.top.begun (Ev u) ≡ true → is_body u.kind ≡ true
@@ -454,9 +447,6 @@ module _ (world : World) (small : world.limits.created < 2 ^ 62) (f0 : Local × 
       where
         ends_so : o0 ≡ said n → s1 ≡ last_store → EndsWith o0 last_store n s1.output
         ends_so a b = subst (λ z. EndsWith z last_store n s1.output) (sym a) (refl, ap (λ z. z.output) (sym b))
-
-        place_is : (a b : Place) → Some a ≡ Some b → a ≡ b
-        place_is a b q = cc
 
         no_pair : (p : Pick) (e : Entry) (u v : Place) → May M E (st.top, depth_of st.top st.held) p → Alone M E (st.top, depth_of st.top st.held) p r.es
             → IsNewest (entry_of world st.top p is) st.trace (entry_of world st.top p is) u e v → AreApart (begun_of world st.top st.top.begun) u v → ⊥

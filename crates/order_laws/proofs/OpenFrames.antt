@@ -16,7 +16,7 @@ use Rattle.c_model.specs.ModelMachine.{done_in, ready_in}
 use Rattle.machine_laws.specs.Orders as orders
 use Rattle.order_laws.specs.PermittedPicks.{ClosedIn}
 use Rattle.order_laws.proofs.Permitted.{or_cases}
-use Rattle.order_laws.proofs.Traces.{path_is, has_cases, IsNewest, both_cases, given_in, Event, Held, AllDone, Moved}
+use Rattle.order_laws.proofs.Traces.{place_is, body_place, path_is, has_cases, IsNewest, both_cases, given_in, Event, Held, AllDone, Moved}
 use Rattle.order_laws.proofs.TraceItems.{Sub, joined_free, left_free, right_free}
 use Rattle.order_laws.proofs.QuietFrames.{left_pick, under_tail}
 
@@ -253,9 +253,6 @@ module _ (world : World) where
   HeldOk trace (m ∷ ms) (h ∷ hs) path = HeldFrame trace m.0 m.1 ms h path × HeldOk trace ms hs m.0.scene.path
   HeldOk trace ms hs path = ⊥
 
-  pick_place : (a b : Place) → Ev a ≡ Ev b → a ≡ b
-  pick_place a b q = cc
-
   -- an event that keeps its items
   keeps_match : (trace : List Entry) (x e : Entry) (v : Place) (d : Event) → StaysSame x.path e v → Matches trace v e d → Matches (x ∷ trace) v e d
   keeps_match trace x e v d n m = record {
@@ -295,11 +292,7 @@ module _ (world : World) where
           omega (arith, k, n))
 
       body_is : (v : Place) → is_body v.kind ≡ true → v.node ≡ u.node → v ≡ u
-      body_is v k n = (let e = ap (λ z. z.kind) ub in λ i. record { node = n i; kind = (kind_is v.kind k ∙ sym e) i })
-        where
-          kind_is : (c : _) → is_body c ≡ true → c ≡ Body
-          kind_is Body h = refl
-          kind_is _ h = absurd (cc)
+      body_is v k n = body_place v k ∙ (ap (λ z. place z Body) n ∙ sym ub)
 
       node_is : (a b : ℕ × ℕ) (p q : Path) → a ∷ p ≡ b ∷ q → a.1 ≡ b.1
       node_is a b p q e = ap (λ z. z.1) (head_is a b p q e)
@@ -391,9 +384,6 @@ module _ (world : World) where
     old = λ e v h s. subst (λ z. e.turn ≤ z.turn) (sym same) (aged e v (has_cases x trace e v h) (ap (λ z. z.path) (sym same) ∙ s));
   }
     where
-      place_is : (a b : Place) → Some a ≡ Some b → a ≡ b
-      place_is a b q = cc
-
       level : (e : Entry) → f.scene.path ≡ e.path → length x.path ≤ length e.path
       level e s = (let k = ap length (path ∙ s) in omega (arith, k))
 

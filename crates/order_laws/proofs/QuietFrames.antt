@@ -98,9 +98,6 @@ module _ (world : World) where
       → is_before (taken_by world f.scene e) 0 (tree_of e.root) u v ≡ false → is_before (taken_by world f.scene e) 0 (tree_of e.root) v u ≡ false
       → conflict world.rows (items_by trace trace f.scene.path f.scene.turn u) (items_by trace trace f.scene.path f.scene.turn v) ≡ false
 
-  pick_place : (a b : Place) → Ev a ≡ Ev b → a ≡ b
-  pick_place a b e = cc
-
   -- an event of the full expression that is due
   abbrev pub DueAt : Local → Option Begun → Place → Type 0
   DueAt f None v = ⊥

@@ -37,9 +37,9 @@ use Rattle.order_laws.specs.ProgramTells.{told_machine, told_ends}
 use Rattle.order_laws.specs.PermittedPicks.{ClosedIn}
 use Rattle.order_laws.proofs.ProgramTold.{any_told}
 use Rattle.order_laws.proofs.Permitted.{and_l, and_r, and_b, or_cases, not_of, none_is, first_none, first_some, of_due, to_due}
-use Rattle.order_laws.proofs.Traces.{path_is, accesses_conflict, has_cases, IsNewest, both_cases, conflict_swap, Event, Held, AllDone}
+use Rattle.order_laws.proofs.Traces.{pick_place, body_place, path_is, accesses_conflict, has_cases, IsNewest, both_cases, conflict_swap, Event, Held, AllDone}
 use Rattle.order_laws.proofs.TraceItems.{left_free}
-use Rattle.order_laws.proofs.QuietFrames.{left_pick}
+use Rattle.order_laws.proofs.QuietFrames.{left_pick, ready_begun}
 use Rattle.order_laws.proofs.OpenFrames.{Grows, StaysSame, grows_or_not, same_items, Among, among_first, among_later, Paired, paired_first, paired_later}
 use Rattle.order_laws.proofs.OpenFrames.{one_frame, waiting, Matches, StoodAt, AllStood, AllSeen, HeldFrame, HeldOk}
 
@@ -185,11 +185,7 @@ module _ (world : World) where
     pub of_turn : frame.scene.turn ≡ d.turn
 
   body_is : (u b : Place) → is_body u.kind ≡ true → b ≡ place b.node Body → b.node ≡ u.node → b ≡ u
-  body_is u b k w n = λ i. record { node = n i; kind = (ap (λ z. z.kind) w ∙ sym (kind_is u.kind k)) i }
-    where
-      kind_is : (c : Kind) → is_body c ≡ true → c ≡ Body
-      kind_is Body h = refl
-      kind_is _ h = absurd (cc)
+  body_is u b k w n = w ∙ (ap (λ z. place z Body) n ∙ sym (body_place u k))
 
   pub find_held : (P : Held → Type 0) (trace : List Entry) (ms : List (Local × Place)) (hs : List Held) (path : Path) → HeldOk world trace ms hs path
       → AllHeld P hs → (d : Entry) (u : Place) → Grows path d u → WaitsIn P trace d u
@@ -225,10 +221,6 @@ module _ (world : World) where
             of_turn = ap (λ z. z.0) q.0;
           })
 
-  pub has_begun : (f : Scene) (o : Option Begun) (x : Place) → ready_in world f o (Ev x) ≡ true → is_some o ≡ true
-  has_begun f None x r = absurd (cc (r))
-  has_begun f (Some b) x r = refl
-
   -- the two of a pair of which one is a body that waits are in its full expression
   waits_pair : (P : Held → Type 0) (trace : List Entry) (ms : List (Local × Place)) (hs : List Held) (path : Path) → HeldOk world trace ms hs path
       → AllHeld P hs → (d e : Entry) (u v : Place) → Both trace d u e v
@@ -237,7 +229,7 @@ module _ (world : World) where
       × Paired (Matches world trace u d) (Matches world trace v e) (waiting w.held ∷ w.held.past))
   waits_pair P trace ms hs path ok all d e u v bo (inl g) =
       let w = find_held P trace ms hs path ok all d u g in
-      (u, inl refl, (w, w.ok.ok.pairs d e u v bo w.of_path w.of_turn (has_begun w.frame.scene w.frame.begun u w.ok.ready)))
+      (u, inl refl, (w, w.ok.ok.pairs d e u v bo w.of_path w.of_turn (ready_begun world w.frame.begun w.frame.scene u w.ok.ready)))
   waits_pair P trace ms hs path ok all d e u v bo (inr g) =
       let o = one_frame trace d u e v bo in
       let w = find_held P trace ms hs path ok all e v g in
@@ -251,7 +243,7 @@ module _ (world : World) where
         of_path = w.of_path ∙ sym o.0;
         of_turn = w.of_turn ∙ sym o.1;
       } in
-      (v, inr refl, (w2, w2.ok.ok.pairs d e u v bo w2.of_path w2.of_turn (has_begun w2.frame.scene w2.frame.begun v w2.ok.ready)))
+      (v, inr refl, (w2, w2.ok.ok.pairs d e u v bo w2.of_path w2.of_turn (ready_begun world w2.frame.begun w2.frame.scene v w2.ok.ready)))
 
   pub held_pair : (trace : List Entry) (ms : List (Local × Place)) (hs : List Held) (path : Path) → HeldOk world trace ms hs path → HeldQuiet M E hs
       → (d e : Entry) (u v : Place) → Both trace d u e v → AreApart d.begun u v
@@ -333,9 +325,6 @@ module _ (world : World) where
   none_beside_one f d u v _ (among_later x es a) (q, qs) b = none_beside_one f d u v es a qs b
   none_beside_one f d u v _ (among_first x es p) (q, qs) b = true≢false (sym (subst (λ z. beside_in world f.scene f.begun z (Ev u) ≡ true) (sym p) b) ∙ q)
 
-  pick_is : (a b : Place) → Ev a ≡ Ev b → a ≡ b
-  pick_is a b q = cc
-
   -- nothing that is due is beside an event that stands alone
   pub lone_due : (f : Local) (d : ℕ) (u v : Place) (es : List Event) (o : Option Begun) → f.begun ≡ o → ready_in world f.scene o (Ev u) ≡ true
       → ClosedIn world f o → AllSeen world o es → Alone M E (f, d) (Ev u) es
@@ -355,7 +344,7 @@ module _ (world : World) where
           (subst (λ z. beside_in world f.scene z (Ev v) (Ev u) ≡ true) (sym fb) (is_beside f (Some e) u v r c (and_b _ _ g in_tree) apart))
       go false g =
           (let p = pending_ready f.scene e c (suc (rank_in 0 0 (tree_of e.root) v)) v (omega arith) dv g in
-          let wu = pick_is p.0 u (al.only (Ev p.0) (subst (λ z. ready_in world f.scene z (Ev p.0) ≡ true) (sym fb) p.1)) in
+          let wu = pick_place p.0 u (al.only (Ev p.0) (subst (λ z. ready_in world f.scene z (Ev p.0) ≡ true) (sym fb) p.1)) in
           late p.0 wu p.2)
         where
           late : (w : Place) → w ≡ u → (w ≡ v) ⊎ Before (tree_of e.root) (taken_by world f.scene e) w v → ⊥
@@ -414,7 +403,7 @@ module _ (world : World) where
           → Paired (Matches world trace u d) (Matches world trace v e) (waiting i.held ∷ i.held.past) → ⊥
       go b q i (paired_later _ _ p) = (let r = both_among _ _ i.held.past p in again b i q r.0 r.1)
       go b q i (paired_first _ _ m am) =
-          (let bu = pick_is b u (sym i.ok.pick ∙ m.pick) in
+          (let bu = pick_place b u (sym i.ok.pick ∙ m.pick) in
           let l = lone_held trace i.frame b i.below i.held i.way i.ok i.said in
           lone_pair trace i.frame (depth_of i.frame i.below) b v e i.held.past i.ok.ready i.ok.closed i.ok.done l.none_beside am
           (subst (λ z. AreApart (begun_of world i.frame i.frame.begun) z v) (sym bu)
@@ -425,7 +414,7 @@ module _ (world : World) where
       → is_due_in d.begun v ≡ true → same_place u v ≡ false → AreApart d.begun u v → ⊥
   held_due_ends trace ms hs path ok al d u v hs' g due other apart =
       let i = find_held LoneHeld trace ms hs path ok (each_alone hs al) d u g in
-      go i (i.ok.ok.covers d u hs' i.of_path i.of_turn (has_begun i.frame.scene i.frame.begun u i.ok.ready))
+      go i (i.ok.ok.covers d u hs' i.of_path i.of_turn (ready_begun world i.frame.begun i.frame.scene u i.ok.ready))
     where
       go : (i : WaitsIn LoneHeld trace d u) → Among (Matches world trace u d) (waiting i.held ∷ i.held.past) → ⊥
       go i (among_later _ _ a) = left_pick world i.frame.begun i.frame.scene u i.ok.ready (among_done i.frame trace u d i.held.past a i.ok.done)

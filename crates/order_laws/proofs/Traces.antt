@@ -5,11 +5,14 @@ use Rattle.std.proofs.lemmas.Bool.Decides.{nat_tests}
 use Rattle.ub_base.specs.Frames.{Path}
 use Rattle.ub_base.specs.declared.names.Item.{Item}
 use Rattle.addr_map.specs.declared.map.Row.{Row}
+use Rattle.ub_base.specs.declared.clause.Kind.{Kind}
+use Rattle.ub_base.specs.declared.clause.Kind.TheVariants.{Body}
 use Rattle.c_typed.specs.declared.tree.Place.{Place}
+use Rattle.c_typed.specs.Order.{place, is_body}
 use Rattle.c_model.specs.World.{World}
 use Rattle.c_model.specs.Values.{Value}
 use Rattle.c_model.specs.Control.{Todo, Enter, Leave, Begin, Go_to, Go_out, Go_on, Go_back, ready_work}
-use Rattle.c_model.specs.Steps.{Local, Begun, Pick, Control, control_next, next}
+use Rattle.c_model.specs.Steps.{Local, Begun, Pick, Control, Ev, control_next, next}
 use Rattle.c_model.specs.Runs.{Entry}
 use Rattle.addr_map.specs.Conflict.{conflicts_one, stands_at, is_access, conflicts_with as clash_one, some_conflict as conflict}
 use Rattle.c_model.specs.Findings.{clash, accesses, same_path, Has, first, later, Both, newest, older}
@@ -158,6 +161,20 @@ Held = orders.Held (Local × ℕ) Pick Item
 abbrev pub AllDone : Option Begun → List Event → Type 0
 AllDone o [] = Unit {0}
 AllDone o (d ∷ es) = (done_in o d.pick ≡ true) × AllDone o es
+
+pub place_is : (a b : Place) → Some a ≡ Some b → a ≡ b
+place_is a b e = cc
+
+pub pick_place : (a b : Place) → Ev a ≡ Ev b → a ≡ b
+pick_place a b e = cc
+
+-- the place of a body
+pub body_place : (u : Place) → is_body u.kind ≡ true → u ≡ place u.node Body
+body_place u h = λ i. record { node = u.node; kind = kind_is u.kind h i }
+  where
+    kind_is : (c : Kind) → is_body c ≡ true → c ≡ Body
+    kind_is Body h = refl
+    kind_is _ h = absurd (cc)
 
 -- in the full expression that has begun the event is done
 abbrev pub given_in : Option Begun → Place → Bool
