@@ -48,9 +48,9 @@ check_app = with_rule (with_rule (with_rule (with_rule (new_app (codes "check"))
 abbrev pub self_app : App
 self_app = with_rule (with_rule (new_app (codes "self")) seed_rule) lines_rule
 
--- the command that reads the words, with no program's name in front
+-- the command that reads the words, with no program's name in front and no subcommand `help`
 abbrev pub cub_shape : Shape
-cub_shape = record (new_app (codes "cub")).top { no_binary_name = true; subcommand_required = true }
+cub_shape = record (new_app (codes "cub")).top { no_binary_name = true; subcommand_required = true; disable_help_subcommand = true }
 
 abbrev pub cub_alone : App
 cub_alone = record (new_app (codes "cub")) { top = cub_shape }

@@ -1,8 +1,9 @@
 -- What the words ask for, as the command finds it (own).
-use Rattle.std.specs.Prelude.{◌≡◌, ℕ, min, List, [], map, string_bytes, Bool, false, codes, Option, Some, None, Result, unwrap_or, option_copied}
+use Rattle.std.specs.Prelude.{◌≡◌, ◌⊎◌, ℕ, min, List, [], map, string_bytes, Bool, false, codes, Option, Some, None, Result, unwrap_or, option_copied}
 use Rattle.std.specs.Str.{bytes_eq}
 use Rattle.std.specs.Str.Parse.{ParsesUnsigned}
 use Rattle.std.specs.Result.{result_unwrap_or}
+use Rattle.clap.specs.Faults.{fault_of}
 use Rattle.clap.specs.Simple.{matches_of, subcommand_of}
 use Rattle.clap.specs.Walk.{Row, first_of, one_of, all_of}
 use Rattle.command.specs.App.{cub_app}
@@ -12,8 +13,15 @@ use Rattle.command.specs.declared.request.SelfRequest.{SelfRequest}
 use Rattle.command.specs.declared.request.Request.{Request}
 use Rattle.command.specs.declared.request.Request.TheVariants.{Audit, Check, SelfAudit}
 
--- the name of the subcommand that the words name, and what it was given. Where they name none the name is empty, and the
--- command doesn't take them.
+-- the command takes the words: no fault is found in them
+unfoldable pub IsTaken : List (List ℕ) → Type 0
+IsTaken words = fault_of cub_app words ≡ []
+
+-- the names of the subcommands
+abbrev pub IsName : List ℕ → Type 0
+IsName name = (name ≡ codes "audit") ⊎ ((name ≡ codes "check") ⊎ (name ≡ codes "self"))
+
+-- the name of the subcommand that the words name, and what it was given; words that are taken name one
 abbrev pub named : List (List ℕ) → List ℕ × List Row
 named words = unwrap_or (subcommand_of cub_app words) ([], matches_of cub_app words)
 

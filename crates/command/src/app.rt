@@ -145,6 +145,7 @@ fn cub_without_commands<'a>(alloc: Global) -> Command<'a>
     Command::new(alloc, "cub")
         .no_binary_name(true)
         .subcommand_required(true)
+        .disable_help_subcommand(true)
 }
 
 /// The command that reads the words, with no program's name in front.

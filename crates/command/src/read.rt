@@ -1,11 +1,11 @@
 // From words to a request.
-ghost use Rattle.std.specs.Prelude.{◌≡◌, ◌≢◌, true, map, string_bytes, IfOk, IsErrOf, option_copied, unwrap_or, codes, []};
+ghost use Rattle.std.specs.Prelude.{◌≡◌, ◌≢◌, true, map, string_bytes, IfOk, OnOk, IsErrOf, option_copied, unwrap_or, codes, []};
 ghost use Rattle.clap.specs.Matches.{found_of};
 ghost use Rattle.clap.specs.Simple.{HasMatchesOf};
 ghost use Rattle.clap.specs.Takes.{takes};
 ghost use Rattle.clap.specs.Walk.{rows_of, first_of, one_of, all_of};
 ghost use Rattle.command.specs.App.{cub_app};
-ghost use Rattle.command.specs.Asked.{named, text_given, args_given, is_set, Spells, IsAudit, IsCheck, IsSelf, IsRequest};
+ghost use Rattle.command.specs.Asked.{named, text_given, args_given, is_set, Spells, IsAudit, IsCheck, IsName, IsSelf, IsRequest, IsTaken};
 
 use crate::app::cub_command;
 use crate::request::{AuditRequest, CheckRequest, Request, SelfRequest, WordFault};
@@ -20,6 +20,8 @@ const MAX_SEED: u64 = 65536;
 const MAX_LINES: u64 = 20000;
 
 fn matches_of<'a>(alloc: Global, words: &'a [String]) -> Result<ArgMatches<'a>, WordFault>
+    ensures taken { OnOk result (IsTaken (map string_bytes words.now)) }
+    ensures refused { IsErrOf result WordFault.Usage → ¬ IsTaken (map string_bytes words.now) }
     ensures usage { IsErrOf result WordFault.Usage → takes cub_app (map string_bytes words.now) ≢ true }
     ensures matches { IfOk result (HasMatchesOf cub_app (map string_bytes words.now)) }
 {
@@ -122,6 +124,7 @@ fn request_of<'a>(
     name: &str,
     given: &ArgMatches<'a>,
 ) -> Result<Request<'a>, AllocError>
+    requires { IsName name.now }
     ensures { IfOk result (IsRequest (name.now, rows_of (found_of given.now))) }
 {
     if name == "audit" {
@@ -136,12 +139,12 @@ fn request_of<'a>(
 /// What the words ask for.
 pub fn read_words<'a>(alloc: Global, words: &'a [String]) -> Result<Request<'a>, WordFault>
     ensures asked { IfOk result (IsRequest (named (map string_bytes words.now))) }
+    ensures taken { OnOk result (IsTaken (map string_bytes words.now)) }
+    ensures refused { IsErrOf result WordFault.Usage → ¬ IsTaken (map string_bytes words.now) }
     ensures usage { IsErrOf result WordFault.Usage → takes cub_app (map string_bytes words.now) ≢ true }
 {
     let matches = matches_of(alloc, words)?;
-    let request = match matches.subcommand() {
-        Some((name, given)) => request_of(alloc, name, given)?,
-        None => request_of(alloc, "", &matches)?,
-    };
+    let (name, given) = matches.subcommand().unwrap();
+    let request = request_of(alloc, name, given)?;
     Ok(request)
 }
