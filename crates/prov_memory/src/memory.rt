@@ -10,6 +10,7 @@ ghost use Rattle.prov_memory.specs.Held.{Fits, held_of, name_at};
 ghost use Rattle.prov_memory.specs.Memory.{Kept, empty, store_of, state_in, byte_in_object};
 ghost use Rattle.prov_memory.specs.Made.{AreNamed, IsMade};
 ghost use Rattle.prov_memory.specs.Sound.{IsSound};
+ghost use Rattle.prov_memory.specs.Tags.{AreTagged};
 
 mod access;
 mod arith;
@@ -74,14 +75,18 @@ impl Model for Memory {
 impl Memory {
     /// Without objects; each new one is placed by the mode.
     pub fn new(alloc: Global, mode: Mode) -> Memory
-        ensures { result ≡ empty [] (Some mode) }
+        ensures empty { result ≡ empty [] (Some mode) }
+        ensures sound { IsSound result }
+        ensures tagged { AreTagged result }
     {
         Memory::with(alloc, AddrMap::new(alloc), Some(mode))
     }
 
     /// Without objects; each new one stands at its row, and one without a row is placed where `rest` has a mode.
     pub fn with_map(alloc: Global, map: AddrMap, rest: Option<Mode>) -> Memory
-        ensures { result ≡ empty map rest }
+        ensures empty { result ≡ empty map rest }
+        ensures sound { IsSound result }
+        ensures tagged { AreTagged result }
     {
         Memory::with(alloc, map, rest)
     }

@@ -1,4 +1,5 @@
 // Values of expressions.
+ghost use Rattle.std.specs.Prelude.{◌≡◌, IfOk};
 
 use crate::Block;
 use exposure::Prov;
@@ -23,7 +24,9 @@ pub type Values = Items<Value>;
 
 impl Value {
     /// A copy of the value.
-    pub fn copied(&self, alloc: Global) -> Result<Value, NoMemory> {
+    pub fn copied(&self, alloc: Global) -> Result<Value, NoMemory>
+        ensures { IfOk result (λ v. v ≡ self.now) }
+    {
         match self {
             Value::Int(number) => Ok(Value::Int(*number)),
             Value::Ptr { addr, prov } => Ok(Value::Ptr {

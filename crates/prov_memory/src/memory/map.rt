@@ -127,6 +127,7 @@ impl Memory {
         ensures made { (p : Prov) → IsMade self.old p → IsMade self.new p }
         ensures sound { IsSound self.old → IsSound self.new }
         ensures rows { self.new.rows ≡ self.old.rows }
+        ensures rest { record self.new { objects = [] } ≡ record self.old { objects = [] } }
         ensures exact { (io : Io) → run self.new.rows (acts.kill name) (store_of self.old io) ≡ Done tt t.new (store_of self.new io) }
     {
         t.clear();
@@ -140,6 +141,7 @@ impl Memory {
         ensures named { AreNamed self.old → AreNamed self.new }
         ensures made { (p : Prov) → IsMade self.old p → IsMade self.new p }
         ensures sound { IsSound self.old → IsSound self.new }
+        ensures rest { record self.new { objects = [] } ≡ record self.old { objects = [] } }
         ensures exact { (io : Io) → run self.new.rows (acts.unwrite self.new.rows name) (store_of self.old io) ≡ Done tt t.new (store_of self.new io) }
     {
         t.clear();

@@ -41,6 +41,7 @@ impl Memory {
         ensures raises { IfErr result (λ c. (seen : Seen) → Sees self.old via seen → (io : Io) → run self.old.rows (acts.store self.old.rows first seen align addr prov (tagged_all self.old bytes.now.cells)) (store_of self.old io) ≡ Raised c) }
         ensures same { OnErr result (self.new ≡ self.old) }
         ensures rows { self.new.rows ≡ self.old.rows }
+        ensures rest { record self.new { objects = []; cells = [] } ≡ record self.old { objects = []; cells = [] } }
         ensures known { AreKnown self.old → CellsKnown (length self.old.origins) bytes.now.cells → AreKnown self.new }
         ensures made { (p : Prov) → IsMade self.old p → IsMade self.new p }
         ensures sound { IsSound self.old → CellsKnown (length self.old.origins) bytes.now.cells → IsSound self.new }
@@ -63,6 +64,7 @@ impl Memory {
         ensures exact { OnOk result (HasCell self.old prov → (seen : Seen) → Sees self.old via seen → (io : Io) → run self.old.rows (acts.store self.old.rows first seen align addr prov (number_bytes (bytes_of_kind kind) (low_bits value))) (store_of self.old io) ≡ Done tt t.new (store_of self.new io)) }
         ensures raises { IfErr result (λ c. (seen : Seen) → Sees self.old via seen → (io : Io) → run self.old.rows (acts.store self.old.rows first seen align addr prov (number_bytes (bytes_of_kind kind) (low_bits value))) (store_of self.old io) ≡ Raised c) }
         ensures same { OnErr result (self.new ≡ self.old) }
+        ensures rest { record self.new { objects = []; cells = [] } ≡ record self.old { objects = []; cells = [] } }
         ensures known { AreKnown self.old → AreKnown self.new }
         ensures made { (p : Prov) → IsMade self.old p → IsMade self.new p }
         ensures sound { IsSound self.old → IsSound self.new }
@@ -87,6 +89,7 @@ impl Memory {
         ensures exact { AreNamed self.old → IsMade self.old value_prov → OnOk result (HasCell self.old prov → (seen : Seen) → Sees self.old via seen → (io : Io) → run self.old.rows (acts.store self.old.rows first seen align addr prov (pointer_bytes 8 0 value_prov value_addr)) (store_of self.old io) ≡ Done tt t.new (store_of self.new io)) }
         ensures raises { AreNamed self.old → IsMade self.old value_prov → IfErr result (λ c. (seen : Seen) → Sees self.old via seen → (io : Io) → run self.old.rows (acts.store self.old.rows first seen align addr prov (pointer_bytes 8 0 value_prov value_addr)) (store_of self.old io) ≡ Raised c) }
         ensures same { OnErr result (self.new ≡ self.old) }
+        ensures rest { record self.new { objects = []; cells = [] } ≡ record self.old { objects = []; cells = [] } }
         ensures known { AreNamed self.old → IsMade self.old value_prov → AreKnown self.old → AreKnown self.new }
         ensures made { (p : Prov) → IsMade self.old p → IsMade self.new p }
         ensures sound { IsSound self.old → IsMade self.old value_prov → IsSound self.new }
@@ -109,6 +112,7 @@ impl Memory {
         ensures raises { IfErr result (λ c. (seen : Seen) → Sees self.old via seen → (io : Io) → run self.old.rows (acts.store self.old.rows first seen align addr prov (tagged_all self.old cells.now)) (store_of self.old io) ≡ Raised c) }
         ensures same { OnErr result (self.new ≡ self.old) }
         ensures rows { self.new.rows ≡ self.old.rows }
+        ensures rest { record self.new { objects = []; cells = [] } ≡ record self.old { objects = []; cells = [] } }
         ensures known { AreKnown self.old → CellsKnown (length self.old.origins) cells.now → AreKnown self.new }
         ensures made { (p : Prov) → IsMade self.old p → IsMade self.new p }
         ensures sound { IsSound self.old → CellsKnown (length self.old.origins) cells.now → IsSound self.new }

@@ -34,3 +34,6 @@ returns-clause-made c = λ p.
 pub returns-clause-sound : goal.returns-clause-sound
 returns-clause-sound c =
     rw (← c.self.view_is, c.kill.ensures) (changed_sound (the_view c.self.inside) killed c.args.name (λ h. refl) (λ h. refl) (known_killed (length c.self.inside.origins) c.args.name c.self.inside.objects))
+
+pub returns-clause-rest : goal.returns-clause-rest
+returns-clause-rest c = rw (← c.self.view_is) refl

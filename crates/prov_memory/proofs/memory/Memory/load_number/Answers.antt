@@ -2,7 +2,7 @@ use Rattle.std.proofs.Common.{map}
 use Rattle.ub_base.specs.declared.names.Item.TheVariants.{Expose, Read}
 use Rattle.prov_memory.specs.Access.{bytes_in}
 use Rattle.prov_memory.specs.Loads.{origins_of}
-use Rattle.prov_memory.proofs.ShowLemmas.{loaded_by, load_noted}
+use Rattle.prov_memory.proofs.ShowLemmas.{loaded_by, load_noted, besides_put}
 use Rattle.prov_memory.proofs.SoundLemmas.{shown_made, shown_sound}
 use Rattle.prov_memory.proofs.memory.Memory.load_number.Goals as goal
 
@@ -23,3 +23,8 @@ pub returns-clause-sound : goal.returns-clause-sound
 returns-clause-sound c =
     let r = c.requires.reached in
     shown_sound c.args.self.now c.show_pieces.new.self c.settle.new.self (origins_of (bytes_in c.args.self.now r.object c.args.found.from c.args.len)) (c.show_pieces.ensures.shown r.object r.there) c.settle.ensures.rest c.settle.ensures.cells
+
+pub returns-clause-rest : goal.returns-clause-rest
+returns-clause-rest c =
+    let r = c.requires.reached in
+    besides_put c.args.self.now c.show_pieces.new.self c.settle.new.self _ (c.show_pieces.ensures.shown r.object r.there) c.settle.ensures.rest

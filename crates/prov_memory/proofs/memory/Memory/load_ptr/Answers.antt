@@ -1,11 +1,13 @@
-use Rattle.std.proofs.Common.{sym, subst}
+use Rattle.std.proofs.Common.{refl, sym, subst, ap, List}
 use Rattle.std.proofs.lemmas.Result.{err_from_is_err_and}
 use Rattle.c_types.specs.Types.{type_of}
 use Rattle.prov_memory.specs.Memory.{Kept}
-use Rattle.prov_memory.specs.Made.{IsMade}
+use Rattle.prov_memory.specs.Made.{Extends, IsMade}
 use Rattle.prov_memory.specs.Sound.{IsSound}
 use Rattle.prov_memory.proofs.PointerLemmas.{pointer_unreached, pointer_unread, pointer_exact, unresolved}
 use Rattle.prov_memory.proofs.SoundLemmas.{pointer_value, pointer_kept, more_made, settled_sound}
+use Rattle.prov_memory.proofs.ShowLemmas.{besides_looked}
+use Rattle.exposure.specs.declared.prov.Prov.{Prov}
 use Rattle.prov_memory.proofs.memory.Memory.load_ptr.Goals as goal
 
 pub returns-in_err-found-clause-raises : goal.returns-in_err-found-clause-raises
@@ -42,3 +44,17 @@ returns-in_err-target-clause-made c = λ p made.
 pub returns-clause-sound : goal.returns-clause-sound
 returns-clause-sound c = λ s.
     settled_sound c.resolved.new.self c.settle.new.self c.settle.ensures.rest c.settle.ensures.cells (c.in_ok-target.ensures.sound (subst (λ (m : Kept). IsSound m) (sym c.access.ensures.same) s))
+
+pub returns-clause-rest : goal.returns-clause-rest
+returns-clause-rest c = besides_looked c.args.self.now c.access.new.self c.resolved.new.self c.settle.new.self c.access.ensures.same c.resolved.ensures.more.rest c.settle.ensures.rest
+
+pub returns-clause-origins : goal.returns-clause-origins
+returns-clause-origins c =
+    subst (λ (ps : List Prov). Extends ps c.settle.new.self.origins) (ap (λ (k : Kept). k.origins) c.access.ensures.same) (subst (λ (ps : List Prov). Extends c.access.new.self.origins ps) (sym (ap (λ (k : Kept). k.origins) c.settle.ensures.rest)) c.resolved.ensures.more.origins)
+
+pub returns-in_err-target-clause-rest : goal.returns-in_err-target-clause-rest
+returns-in_err-target-clause-rest c = besides_looked c.args.self.now c.access.new.self c.resolved.new.self c.resolved.new.self c.access.ensures.same c.resolved.ensures.more.rest refl
+
+pub returns-in_err-target-clause-origins : goal.returns-in_err-target-clause-origins
+returns-in_err-target-clause-origins c =
+    subst (λ (ps : List Prov). Extends ps c.resolved.new.self.origins) (ap (λ (k : Kept). k.origins) c.access.ensures.same) c.resolved.ensures.more.origins

@@ -10,6 +10,7 @@ use Rattle.prov_memory.specs.Stores.{Sees, checked_store}
 use Rattle.prov_memory.proofs.ActLemmas.{noted_after}
 use Rattle.prov_memory.proofs.WriteLemmas.{access_fails, store_raises, store_done, store_known, stored_by, few}
 use Rattle.prov_memory.proofs.SoundLemmas.{stored_made, stored_sound}
+use Rattle.prov_memory.proofs.ShowLemmas.{besides_after, besides_put}
 use Rattle.prov_memory.proofs.memory.Memory.store_cells.Goals as goal
 
 pub returns-in_err-found-clause-raises : goal.returns-in_err-found-clause-raises
@@ -62,3 +63,9 @@ returns-clause-rows c =
     let r = c.in_ok-found.ensures.found in
     let w = c.write.ensures.written r.object (ap (λ (k : Kept). slice_get k.objects c.in_ok-found.found.object) c.access.ensures.same ∙ r.there) in
     ap (λ (k : Kept). k.rows) c.settle.ensures.rest ∙ ap (λ (k : Kept). k.rows) w.1 ∙ ap (λ (k : Kept). k.rows) c.access.ensures.same
+
+pub returns-clause-rest : goal.returns-clause-rest
+returns-clause-rest c =
+    let r = c.in_ok-found.ensures.found in
+    let w = c.write.ensures.written r.object (ap (λ (k : Kept). slice_get k.objects c.in_ok-found.found.object) c.access.ensures.same ∙ r.there) in
+    besides_after c.args.self.now c.access.new.self c.settle.new.self c.access.ensures.same (besides_put c.access.new.self c.write.new.self c.settle.new.self _ w.1 c.settle.ensures.rest)
