@@ -269,24 +269,45 @@ impl<'p, 'c> Machine<'p, 'c> {
     // The effect of an Assign or Update: the value goes to the place.
     fn store(&mut self, number: u32, place: Operand, value: Operand) -> Result<Outcome, Fault> {
         let place = self.pointer(place);
+        match value {
+            Operand::Done(room) => self.store_room(number, place, room),
+            _ => self.store_quiet(number, place, value),
+        }
+    }
+
+    // The value in the room of this number goes to the place.
+    fn store_room(&mut self, number: u32, place: Pointer, room: u32) -> Result<Outcome, Fault> {
         let (target, via) = self.target(number)?;
-        let quiet = match value {
-            Operand::Done(_) => Value::Nothing,
-            _ => self.value(value)?,
-        };
-        let value = match value {
-            Operand::Done(room) => {
-                let at = self.top.base.saturating_add(room as usize);
-                let Some(value) = self.values.get(at) else {
-                    return Err(Fault::NoMemory);
-                };
-                value
-            }
-            _ => &quiet,
+        let at = self.top.base.saturating_add(room as usize);
+        let Some(value) = self.values.get(at) else {
+            return Err(Fault::NoMemory);
         };
         let (access, initializing) = (target.access, target.initializing);
         let t = &mut self.items;
         store(&mut self.memory, access, via, initializing, place, value, t)?;
+        Ok(Outcome::Stored)
+    }
+
+    // A value that is known beforehand goes to the place.
+    fn store_quiet(
+        &mut self,
+        number: u32,
+        place: Pointer,
+        value: Operand,
+    ) -> Result<Outcome, Fault> {
+        let (target, via) = self.target(number)?;
+        let value = self.value(value)?;
+        let (access, initializing) = (target.access, target.initializing);
+        let t = &mut self.items;
+        store(
+            &mut self.memory,
+            access,
+            via,
+            initializing,
+            place,
+            &value,
+            t,
+        )?;
         Ok(Outcome::Stored)
     }
 
