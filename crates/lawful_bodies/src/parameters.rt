@@ -3,14 +3,7 @@ ghost use Rattle.std.specs.Prelude.{◌≡◌, IsTrue, map};
 ghost use Rattle.c_types.specs.Types.{qualified_of, params_of};
 ghost use Rattle.c_typed.specs.Lawful.{StartsWith};
 
-use c_types::Qual;
-use lawful_trees::same_type;
-
-fn same_qualified(a: &Qual, b: &Qual) -> bool
-    ensures { IsTrue result → qualified_of a.now ≡ qualified_of b.now }
-{
-    a.constant == b.constant && same_type(&a.ty, &b.ty)
-}
+use c_types::{Qual, same_qualified};
 
 /// Whether the objects begin with the parameters.
 pub(crate) fn starts_with(params: &[Qual], objects: &[Qual]) -> bool

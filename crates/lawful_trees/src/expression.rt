@@ -9,11 +9,10 @@ ghost use Rattle.lawful_trees.specs.Places.{use_of, blocks_of};
 
 use crate::initial::initial_fits;
 use crate::nodes::{count_nodes, is_lawful_tree};
-use crate::same::same_type;
 use crate::types::{is_promoted, is_scalar, is_void, kind_of};
 use crate::{Around, Purpose};
 use c_typed::{Program, Typed};
-use c_types::{FuncTy, Ty};
+use c_types::{FuncTy, Ty, same_type};
 use std::alloc::Global;
 use ub_base::NoMemory;
 

@@ -10,11 +10,9 @@ mod nodes;
 mod parts;
 mod place;
 mod plain;
-mod same;
 mod types;
 
 pub use expression::is_lawful_expression;
 pub use parts::parts_fit;
 pub use place::{Around, Purpose};
-pub use same::{same_signature, same_type};
 pub use types::is_sized;

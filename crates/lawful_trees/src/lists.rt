@@ -10,10 +10,9 @@ ghost use Rattle.c_typed.specs.Lawful.{TypesAre, LastIs, Passed, CallTypes};
 ghost use Rattle.c_typed.specs.Sites.{Blocks};
 ghost use Rattle.lawful_trees.specs.Views.{types_of};
 
-use crate::same::same_type;
 use crate::types::{gives, is_argument, is_result, is_void, value_is};
 use c_typed::{Program, Typed};
-use c_types::{Qual, Tags, Ty};
+use c_types::{Qual, Tags, Ty, same_type};
 
 /// Whether the value of the last operand is that of the whole.
 pub fn last_is(own: &Ty, operands: &[Typed]) -> bool

@@ -8,10 +8,9 @@ ghost use Rattle.lawful_trees.specs.Places.{blocks_of, block_seen};
 ghost use Rattle.lawful_trees.specs.Views.{head_at, object_seen};
 
 use crate::Around;
-use crate::same::same_signature;
 use crate::types::points_to;
 use c_typed::{Function, Node, Program, Slot};
-use c_types::{Qual, Ty};
+use c_types::{Qual, Ty, compatible_functions};
 
 // The innermost block of this number round a place.
 fn block_at<'a>(around: &'a [Around<'a>], number: u32) -> Option<&'a Around<'a>>
@@ -85,7 +84,7 @@ pub fn points_to_function(program: &Program, number: u32, pointer: &Ty) -> bool
         return false;
     };
     match &target.get().ty {
-        Ty::Function(own) => same_signature(own.get(), &function.ty),
+        Ty::Function(own) => compatible_functions(own.get(), &function.ty),
         _ => false,
     }
 }

@@ -10,14 +10,13 @@ ghost use Rattle.lawful_trees.specs.Views.{head_at};
 
 use crate::Around;
 use crate::names::{points_to_function, points_to_object};
-use crate::same::same_type;
 use crate::types::{
     access_is, aligns_to, comparable, gives, is_constant, is_function, is_int, is_integer,
     is_pointer, is_promoted, is_promoted_type, is_scalar, is_tagged, is_void, kind_of, lies_in,
     member_of, one_kind, ordered, points_to, points_to_literal, related, steps_over, value_is,
 };
 use c_typed::{Access, Change, Conversion, Node, Program, UnOp};
-use c_types::{BinOp, IntKind, Qual, Tags, Ty, promote, usual};
+use c_types::{BinOp, IntKind, Qual, Tags, Ty, promote, same_type, usual};
 
 fn is_object(target: &Qual) -> bool
     ensures { IsTrue result → NoFunction (qualified_of target.now).ty }

@@ -4,9 +4,8 @@ ghost use Rattle.c_types.specs.Types.{type_of, qualified_of, kind_of, void, int,
 ghost use Rattle.c_types.specs.Layout.{extent, extents};
 ghost use Rattle.c_typed.specs.Lawful.{There, IsSized, FirstOf, PointsInto, Gives, ValueIs, IsPointer, IsScalar, IsInteger, AccessIs, PointsTo, IsConstant, StepsOver, LiesIn, IsTagged, MemberOf, IsFunctionType, NoFunction, EndsInTag, AlignsTo, IsPromoted, IsPromotedType, IsArgument, IsResult, Ordered, Comparable, OneKind, Related, literal_type};
 
-use crate::same::{same_qualified, same_type};
 use c_typed::Access;
-use c_types::{IntKind, Qual, Tags, Ty, compatible, promote};
+use c_types::{IntKind, Qual, Tags, Ty, compatible, promote, same_qualified, same_type};
 use layout::{align, size};
 
 /// Whether the type is complete and has at least one byte.
