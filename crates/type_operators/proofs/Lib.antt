@@ -1,4 +1,2 @@
-pub mod Compatible
 pub mod Lists
-pub mod Nodes
 pub mod Worths

@@ -15,7 +15,7 @@ use Rattle.c_typed.specs.declared.tree.Typed.{Typed}
 use Rattle.c_typed.specs.Lawful.{is_shift}
 use Rattle.type_operators.specs.declared.operand.Form.{Form}
 use Rattle.type_operators.specs.declared.operand.Form.TheVariants as form
-use Rattle.type_operators.specs.Same.{same, compatible}
+use Rattle.c_types.specs.Same.{same, compatible}
 use Rattle.type_operators.specs.Terms.{Term, term_of, type_at, line_at, constant, unary, binary, Expression, as_value, ◌>>=◌, unless_refused}
 use Rattle.type_operators.specs.Conversions.{target_of, is_pointer, is_scalar, may_meet, value, access_of, to_kind, promoted, usual, converted}
 use Rattle.type_operators.specs.Constants.{is_null, null_pointer}

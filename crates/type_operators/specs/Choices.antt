@@ -5,7 +5,7 @@ use Rattle.c_types.specs.declared.ty.Ty.{Ty}
 use Rattle.c_types.specs.Types.{CType, void, int, pointer, struct, union, Qualified, composite, type_of}
 use Rattle.c_typed.specs.declared.tree.Typed.{Typed}
 use Rattle.c_typed.specs.declared.tree.Node.TheOpen as shape
-use Rattle.type_operators.specs.Same.{compatible}
+use Rattle.c_types.specs.Same.{compatible}
 use Rattle.type_operators.specs.Terms.{Term, Terms, term, none, more, term_of, type_at, before, ternary, Expression, as_value, ◌>>=◌, unless_refused}
 use Rattle.type_operators.specs.Conversions.{target_of, is_void, may_meet, value, balanced, converted, discarded, is_void_expression}
 use Rattle.type_operators.specs.Operators.{truth, matched}

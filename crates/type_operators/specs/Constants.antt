@@ -2,7 +2,8 @@
 -- no constant expression; `Valueless` has constants alone and no value, so it may stand where it isn't evaluated (6.6p3,
 -- 6.6p4); `Number` is an integer, or a pointer that is null or a number cast to a pointer; `Address` is an address constant,
 -- an offset in bytes from what it names (6.6p9).
-use Rattle.std.specs.Prelude.{◌≡◌, ℕ, ◌==◌, Bool, true, false, not, ◌&&◌, if◌then◌else◌, ℤ, pos, ◌+ℤ◌, ◌-ℤ◌, ◌*ℤ◌, int_le, int_lt, unsigned_abs, List, [], ◌∷◌, Option, Some, None, Result, Ok, Err}
+use Rattle.std.specs.Prelude.{◌≡◌, ℕ, ◌==◌, Bool, true, false, not, ◌&&◌, if◌then◌else◌, ℤ, pos, ◌+ℤ◌, ◌-ℤ◌, ◌*ℤ◌, int_le, int_lt}
+use Rattle.std.specs.Prelude.{unsigned_abs, List, [], ◌∷◌, Option, Some, None, Result, Ok, Err}
 use Rattle.std.specs.Int.{int_rem_euclid}
 use Rattle.ub_base.specs.declared.clause.Clause.{Clause}
 use Rattle.c_types.specs.declared.kind.IntKind.{IntKind}

@@ -18,7 +18,7 @@ use Rattle.type_operators.specs.declared.operand.Form.{Form}
 use Rattle.type_operators.specs.declared.operand.Form.TheVariants as form
 use Rattle.type_operators.specs.declared.operand.Used.{Used}
 use Rattle.type_operators.specs.declared.operand.Used.TheVariants as use_of
-use Rattle.type_operators.specs.Same.{same, compatible}
+use Rattle.c_types.specs.Same.{same, compatible}
 use Rattle.c_typed.specs.declared.tree.Typed.{Typed}
 use Rattle.c_typed.specs.Sites.{Head}
 use Rattle.type_operators.specs.Terms.{Term, Seen, term, term_of, type_at, line_at, retyped, over, unary, Expression, ◌>>=◌, unless_refused}

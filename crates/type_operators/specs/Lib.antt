@@ -5,5 +5,4 @@ pub mod Constants
 pub mod Conversions
 pub mod Members
 pub mod Operators
-pub mod Same
 pub mod Terms

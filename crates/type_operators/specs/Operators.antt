@@ -16,9 +16,10 @@ use Rattle.c_typed.specs.declared.tree.Node.TheOpen.{Node-F}
 use Rattle.c_typed.specs.declared.tree.Typed.{Typed}
 use Rattle.type_operators.specs.declared.operand.Form.{Form}
 use Rattle.type_operators.specs.declared.operand.Form.TheVariants as form
-use Rattle.type_operators.specs.Same.{compatible}
+use Rattle.c_types.specs.Same.{compatible}
 use Rattle.type_operators.specs.Terms.{Term, term_of, type_at, line_at, unary, binary, Expression, as_value, as_place, ◌>>=◌, unless_refused}
-use Rattle.type_operators.specs.Conversions.{target_of, is_void, is_function, is_pointer, is_scalar, may_meet, value, promoted, Balanced, balanced, converted_on, discarded}
+use Rattle.type_operators.specs.Conversions.{target_of, is_void, is_function, is_pointer, is_scalar, may_meet, value, promoted, Balanced}
+use Rattle.type_operators.specs.Conversions.{balanced, converted_on, discarded}
 use Rattle.type_operators.specs.Constants.{is_null, null_as, null_pointer}
 
 abbrev pub balanced_of : Typed × Typed × IntKind → Balanced

@@ -1,7 +1,7 @@
 // Additive operators and subscripts (6.5.6, 6.5.2.1).
 ghost use Rattle.std.specs.Prelude.{◌≡◌};
 ghost use Rattle.c_types.specs.Types.{type_of, qualified_of};
-ghost use Rattle.type_operators.specs.Same.{compatible};
+ghost use Rattle.c_types.specs.Same as tests;
 ghost use Rattle.type_operators.specs.Terms.{term_of, expression_of, Gives};
 ghost use Rattle.type_operators.specs.Operators as spec;
 
@@ -9,9 +9,8 @@ use crate::Refused;
 use crate::binary::arithmetic;
 use crate::convert::is_pointer;
 use crate::operand::{Form, Operand, kind_of, object_of, place, value, value_of, with_children};
-use crate::same::are_compatible;
 use c_typed::{Node, Typed};
-use c_types::{BinOp, IntKind, Qual, Tags, Ty, copied};
+use c_types::{BinOp, IntKind, Qual, Tags, Ty, compatible, copied};
 use std::alloc::Global;
 
 // The bytes of the elements that a pointer steps over: of a complete object type (6.5.6p2).
@@ -67,9 +66,9 @@ pub fn added(
 }
 
 fn same_elements(a: &Qual, b: &Qual) -> bool
-    ensures { result ≡ compatible (qualified_of a.now).ty (qualified_of b.now).ty }
+    ensures { result ≡ tests.compatible (qualified_of a.now).ty (qualified_of b.now).ty }
 {
-    are_compatible(&a.ty, &b.ty)
+    compatible(&a.ty, &b.ty)
 }
 
 // The difference of two pointers to elements of compatible complete types (6.5.6p3, 6.5.6p9).

@@ -10,9 +10,8 @@ use crate::Refused;
 use crate::constant::{is_null, null_pointer};
 use crate::convert::{is_pointer, may_meet, promoted, to_kind, truth, usual_kind};
 use crate::operand::{Form, Operand, object_of, value, value_of, with_children};
-use crate::same::are_compatible;
 use c_typed::{EqOp, Node, RelOp, Typed};
-use c_types::{BinOp, IntKind, Qual, Tags, Ty};
+use c_types::{BinOp, IntKind, Qual, Tags, Ty, compatible};
 use std::alloc::Global;
 
 // Both values in the type of the usual arithmetic conversions.
@@ -80,7 +79,7 @@ pub fn shifted(
 fn are_comparable(a: &Qual, b: &Qual) -> bool
     ensures { result ≡ spec.are_comparable (qualified_of a.now) (qualified_of b.now) }
 {
-    !matches!(a.ty, Ty::Function(_)) && are_compatible(&a.ty, &b.ty)
+    !matches!(a.ty, Ty::Function(_)) && compatible(&a.ty, &b.ty)
 }
 
 /// `< > <= >=`: two integers, or two pointers to compatible object types (6.5.8p2).

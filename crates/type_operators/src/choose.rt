@@ -12,9 +12,8 @@ use crate::convert::{as_if_assigned, converted, may_meet, promoted_argument, tru
 use crate::operand::{
     Form, Operand, discarded, is_void_place, object_of, tree_of, value, value_of,
 };
-use crate::same::are_compatible;
 use c_typed::{Node, Typed};
-use c_types::{FuncTy, Qual, Shared, Tags, Ty, composite, copied};
+use c_types::{FuncTy, Qual, Shared, Tags, Ty, compatible, composite, copied};
 use std::alloc::Global;
 use ub_base::Items;
 
@@ -229,7 +228,7 @@ fn chosen_whole(
 ) -> Result<Operand, Refused>
     ensures { Gives expression_of result (spec.chosen_whole (term_of test) (term_of yes) (term_of no) line) }
 {
-    if !are_compatible(&yes.ty, &no.ty) {
+    if !compatible(&yes.ty, &no.ty) {
         return Err(Refused::Constraint);
     }
     let ty = copied(alloc, &yes.ty)?;

@@ -12,9 +12,8 @@ ghost use Rattle.type_operators.specs.Operators as operators;
 use crate::Refused;
 use crate::constant::{is_null, null_pointer};
 use crate::operand::{Form, Operand, discarded, kind_of, object_of, value, value_of, with_child};
-use crate::same::{are_compatible, same_type};
 use c_typed::{Conversion, Node, Typed};
-use c_types::{IntKind, Qual, Tags, Ty, copied, promote, usual};
+use c_types::{IntKind, Qual, Tags, Ty, compatible, copied, promote, same_type, usual};
 use std::alloc::Global;
 
 /// Whether the type is an integer or a pointer type (6.2.5p21).
@@ -25,7 +24,7 @@ pub fn is_scalar(ty: &Ty) -> bool
 }
 
 /// The value as an integer of this kind.
-#[tactic(auto, unfolding(crate::specs::Conversions::to_kind, crate::specs::Same::same_kind))]
+#[tactic(auto, unfolding(crate::specs::Conversions::to_kind))]
 pub fn to_kind(alloc: Global, tree: Typed, kind: IntKind) -> Result<Typed, Refused>
     ensures { Gives term_of result (spec.to_kind kind (term_of tree)) }
 {
@@ -210,7 +209,7 @@ pub fn may_meet(a: &Ty, b: &Ty) -> bool
         Ty::Void => !is_function(b),
         a => match b {
             Ty::Void => !is_function(a),
-            b => are_compatible(a, b),
+            b => compatible(a, b),
         },
     }
 }
@@ -233,7 +232,7 @@ fn may_assign(from: &Ty, to: &Ty) -> bool
             Ty::Pointer(from) => may_point(from.get(), to.get()),
             _ => false,
         },
-        Ty::Struct(_) | Ty::Union(_) => are_compatible(from, to),
+        Ty::Struct(_) | Ty::Union(_) => compatible(from, to),
         Ty::Void | Ty::Array(_, _) | Ty::Function(_) => false,
     }
 }

@@ -11,7 +11,6 @@ mod convert;
 mod member;
 mod operand;
 mod refused;
-mod same;
 mod unary;
 
 pub use additive::{added, indexed, subtracted};
@@ -26,5 +25,4 @@ pub use operand::{
     value_of, with_child,
 };
 pub use refused::Refused;
-pub use same::same_type;
 pub use unary::{addressed, complemented, dereferenced, inverted, negated, plus};

@@ -4,9 +4,10 @@ use crate::library::{library_function, library_type};
 use crate::rows::{Definition, FunctionRow, Meaning, ObjectRow};
 use crate::{Source, State, TypeFault};
 use c_typed::{Slot, Target};
-use c_types::{FuncTy, LibFunc, Qual, Shared, Ty, compatible, composite, copied, copied_qual};
+use c_types::{
+    FuncTy, LibFunc, Qual, Shared, Ty, compatible, composite, copied, copied_qual, same_type,
+};
 use std::alloc::Global;
-use type_operators::same_type;
 use ub_base::{Items, NoMemory};
 
 /// How a declaration gives linkage: `static` at file scope; nothing at file scope; `extern`.
