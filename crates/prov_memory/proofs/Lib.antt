@@ -18,3 +18,4 @@ pub mod ValueLemmas
 pub mod TagLemmas
 pub mod BlockLemmas
 pub mod SoundLemmas
+pub mod PartLemmas

@@ -25,7 +25,7 @@ use Rattle.prov_memory.specs.Cells.{cell_at, byte_in, tagged_in}
 use Rattle.prov_memory.specs.Held.{Held, changed, uncovered}
 use Rattle.prov_memory.specs.Memory.{Kept, HasCell, store_of, life_in, uncovered_each}
 use Rattle.prov_memory.specs.Made.{Settling, CanSettle, after_settling, settling_items}
-use Rattle.prov_memory.specs.Access.{CanSettleOf, IsReached, reached, bytes_in}
+use Rattle.prov_memory.specs.Access.{CanSettleOf, IsReached, reached, bytes_in, range_in}
 use Rattle.prov_memory.specs.Loads.{IsLoaded, number_checked, number_read, origins_of}
 use Rattle.prov_memory.proofs.StoreLemmas.{shows_each}
 use Rattle.prov_memory.proofs.AccessLemmas.{done_then}
@@ -110,20 +110,20 @@ piece_seen m now h at from n cell prov e is here named =
     named
     ∙ ap₂ (λ (ps : List Prov) (c : Cell). origins_in (byte_in ps c)) (ap (λ (q : Kept). q.origins) is) (here k.0 found ∙ ap (λ (cs : List Cell). cell_at cs (from + n)) k.2)
 
-pub shown_next : (m now new : Kept) (h : Held) (from n : ℕ) (prov : Prov) → now ≡ showing (origins_of (bytes_in m h from n)) m → candidates prov ≡ origins_in (byte_in m.origins (cell_at h.cells (from + n))) → new ≡ showing (candidates prov) now → new ≡ showing (origins_of (bytes_in m h from (n + 1))) m
-shown_next m now new h from n prov is piece shown =
-    let xs = origins_of (bytes_in m h from n) in
-    let ys = origins_in (byte_in m.origins (cell_at h.cells (from + n))) in
+pub shown_next : (m now new : Kept) (cs : List Cell) (from n : ℕ) (prov : Prov) → now ≡ showing (origins_of (range_in m cs from n)) m → candidates prov ≡ origins_in (byte_in m.origins (cell_at cs (from + n))) → new ≡ showing (candidates prov) now → new ≡ showing (origins_of (range_in m cs from (n + 1))) m
+shown_next m now new cs from n prov is piece shown =
+    let xs = origins_of (range_in m cs from n) in
+    let ys = origins_in (byte_in m.origins (cell_at cs (from + n))) in
     shown
     ∙ ap₂ showing piece is
     ∙ sym (showing_append xs ys m)
-    ∙ ap (λ (zs : List ObjName). showing zs m) (sym (origins_next (λ k. tagged_in m.origins (map type_of m.types) (cell_at h.cells k)) from n))
+    ∙ ap (λ (zs : List ObjName). showing zs m) (sym (origins_next (λ k. tagged_in m.origins (map type_of m.types) (cell_at cs k)) from n))
 
-pub noted_next : (m : Kept) (h : Held) (t now new : List Item) (from n : ℕ) (prov : Prov) → n < 8 → length t + 16 < 32 → now ≡ t ++ map Expose (origins_of (bytes_in m h from n)) → candidates prov ≡ origins_in (byte_in m.origins (cell_at h.cells (from + n))) → (length now + 1 < 32 → new ≡ now ++ map Expose (candidates prov)) → new ≡ t ++ map Expose (origins_of (bytes_in m h from (n + 1)))
-noted_next m h t now new from n prov lt room is piece noted =
-    let f = λ (k : ℕ). tagged_in m.origins (map type_of m.types) (cell_at h.cells k) in
-    let xs = origins_of (bytes_in m h from n) in
-    let ys = origins_in (byte_in m.origins (cell_at h.cells (from + n))) in
+pub noted_next : (m : Kept) (cs : List Cell) (t now new : List Item) (from n : ℕ) (prov : Prov) → n < 8 → length t + 16 < 32 → now ≡ t ++ map Expose (origins_of (range_in m cs from n)) → candidates prov ≡ origins_in (byte_in m.origins (cell_at cs (from + n))) → (length now + 1 < 32 → new ≡ now ++ map Expose (candidates prov)) → new ≡ t ++ map Expose (origins_of (range_in m cs from (n + 1)))
+noted_next m cs t now new from n prov lt room is piece noted =
+    let f = λ (k : ℕ). tagged_in m.origins (map type_of m.types) (cell_at cs k) in
+    let xs = origins_of (range_in m cs from n) in
+    let ys = origins_in (byte_in m.origins (cell_at cs (from + n))) in
     let few : length xs ≤ 2 * n = few_in f from n in
     let long : length now ≡ length t + length xs = ap length is ∙ length-append t (map Expose xs) ∙ ap (λ (k : ℕ). length t + k) (mapped xs) in
     noted (omega arith)
@@ -145,7 +145,7 @@ shows_pieces rows m (b ∷ bs) io =
     done_then rows (show_each xs) (λ (v : Unit {0}). show_pieces bs) (store_of m io) (store_of mid io) (store_of (showing (origins_of bs) mid) io) tt tt (map Expose xs) (map Expose (origins_of bs)) (shows_each rows m xs io) (shows_pieces rows mid bs io)
     ∙ ap₂ (λ (js : List Item) (k : Kept). Done tt js (store_of k io)) (sym (map-append Expose xs (origins_of bs))) (sym (showing_append xs (origins_of bs) m))
 
-shows_then : {V : Type 0} (rows : List Row) (m : Kept) (bs : List TaggedByte) (w : V) (io : Io) → run rows (show_pieces bs >> Give w) (store_of m io) ≡ Done w (map Expose (origins_of bs)) (store_of (showing (origins_of bs) m) io)
+pub shows_then : {V : Type 0} (rows : List Row) (m : Kept) (bs : List TaggedByte) (w : V) (io : Io) → run rows (show_pieces bs >> Give w) (store_of m io) ≡ Done w (map Expose (origins_of bs)) (store_of (showing (origins_of bs) m) io)
 shows_then rows m bs w io =
     let end = store_of (showing (origins_of bs) m) io in
     done_then rows (show_pieces bs) (λ (v : Unit {0}). Give w) (store_of m io) end end tt w (map Expose (origins_of bs)) [] (shows_pieces rows m bs io) refl

@@ -21,7 +21,8 @@ use Rattle.prov_memory.specs.declared.cell.Via.{Via}
 use Rattle.prov_memory.specs.declared.memory.access.Accessed.{Accessed as Found}
 use Rattle.prov_memory.specs.declared.cell.State.{State}
 use Rattle.prov_memory.specs.declared.cell.State.TheVariants as states
-use Rattle.prov_memory.specs.Pieces.{piece_cells}
+use Rattle.prov_memory.specs.Pieces.{piece_cells, plain_cells}
+use Rattle.prov_memory.specs.Tags.{CellsTagged}
 use Rattle.mem_spec.specs.Acts.{same_prov, origin_in, pointer_if, pointer_in, are_pieces}
 use Rattle.prov_memory.specs.Cells.{prov_numbered, byte_in_state, cell_at}
 use Rattle.prov_memory.specs.Held.{Held, held_of, changed, uncovered, holding}
@@ -163,7 +164,7 @@ each_last m ps p here each zero = each 0
 each_last m ps p here each (suc n) = nth_each ps p (λ q. IsMade m q) here (each 0) (λ k. each (suc k)) n
 
 -- ---- pieces
-origin_made : (m : Kept) (s : State) (c : Cell) → AreMade m → IfSome (origin_in (byte_in_state m.origins s c)) (λ p. IsMade m p)
+pub origin_made : (m : Kept) (s : State) (c : Cell) → AreMade m → IfSome (origin_in (byte_in_state m.origins s c)) (λ p. IsMade m p)
 origin_made m states.Unwritten c made = tt
 origin_made m states.Plain c made = tt
 origin_made m states.Piece c made = made c.origin.number
@@ -172,7 +173,7 @@ some_if : (b : Bool) (m : Kept) (p : Prov) → IsMade m p → IfSome (cond b (So
 some_if true m p made = made
 some_if false m p made = tt
 
-pointer_if_made : (m : Kept) (o : Option Prov) (bs : List TaggedByte) → IfSome o (λ p. IsMade m p) → IfSome (pointer_if o bs) (λ p. IsMade m p)
+pub pointer_if_made : (m : Kept) (o : Option Prov) (bs : List TaggedByte) → IfSome o (λ p. IsMade m p) → IfSome (pointer_if o bs) (λ p. IsMade m p)
 pointer_if_made m None bs made = tt
 pointer_if_made m (Some p) bs made = some_if (are_pieces p 0 bs) m p made
 
@@ -212,6 +213,14 @@ either_within ps n p id past start is e = number_within ps n (Either id past sta
 pub pieces_known : (most k index r : ℕ) (o : Origin) → o.number ≤ most → CellsKnown most (piece_cells k index o r)
 pieces_known most zero index r o le = tt
 pieces_known most (suc k) index r o le = (le, pieces_known most k (suc index) (r / 256) o le)
+
+pub pieces_tagged : (n k index r : ℕ) (o : Origin) → CellsTagged n (piece_cells k index o r)
+pieces_tagged n zero index r o = tt
+pieces_tagged n (suc k) index r o = (omega arith, pieces_tagged n k (suc index) (r / 256) o)
+
+pub plain_tagged : (n k r : ℕ) → CellsTagged n (plain_cells k r)
+plain_tagged n zero r = tt
+plain_tagged n (suc k) r = (omega arith, plain_tagged n k (r / 256))
 
 -- ---- more types
 pub typed_made : (old new : Kept) → record new { types = [] } ≡ record old { types = [] } → StayMade old new

@@ -8,6 +8,7 @@ use Rattle.addr_map.specs.declared.map.Row.{Row}
 use Rattle.addr_map.specs.Rows.{row_of}
 use Rattle.exposure.specs.declared.prov.Prov.{Prov}
 use Rattle.c_types.specs.Types.{type_of}
+use Rattle.prov_memory.specs.declared.cell.Cell.{Cell}
 use Rattle.prov_memory.specs.declared.memory.access.Accessed.{Accessed as Found}
 use Rattle.mem_spec.specs.Store.{TaggedByte, range_from, is_live}
 use Rattle.mem_spec.specs.Script.{Script, Give, Ask, touch, require, ◌>>=◌, ◌>>◌}
@@ -59,6 +60,10 @@ abbrev pub checked_offset : Held → (len align a : ℕ) → Result ℕ Clause
 checked_offset h len align a =
     if h.state.live then (if has_range h a len then (if is_aligned align a then Ok (a - h.base) else Err InvalidPointer) else Err OutOfBounds) else Err DeadObject
 
+-- the bytes of a range of cells
+abbrev pub range_in : Kept → List Cell → (from len : ℕ) → List TaggedByte
+range_in m cs from len = range_from (λ at. tagged_in m.origins (map type_of m.types) (cell_at cs at)) from len
+
 -- the bytes of a range of an object
 abbrev pub bytes_in : Kept → Held → (from len : ℕ) → List TaggedByte
-bytes_in m h from len = range_from (λ at. tagged_in m.origins (map type_of m.types) (cell_at h.cells at)) from len
+bytes_in m h from len = range_in m h.cells from len

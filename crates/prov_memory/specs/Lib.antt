@@ -7,5 +7,6 @@ pub mod Comparing
 pub mod Pieces
 pub mod Stores
 pub mod Loads
+pub mod Parts
 pub mod Tags
 pub mod Sound

@@ -1,5 +1,5 @@
 -- The bytes that hold a value, as a memory keeps them (own: little-endian).
-use Rattle.std.specs.Prelude.{ℕ, zero, suc, ◌/◌, ◌%◌, min, List, [], ◌∷◌, map}
+use Rattle.std.specs.Prelude.{ℕ, zero, suc, ◌/◌, ◌%◌, min, List, [], ◌∷◌, length, map}
 use Rattle.exposure.specs.declared.prov.Prov.{Prov}
 use Rattle.c_types.specs.Types.{type_of}
 use Rattle.prov_memory.specs.declared.cell.Cell.{Cell}
@@ -9,8 +9,9 @@ use Rattle.prov_memory.specs.declared.value.Value.TheVariants as values
 use Rattle.mem_spec.specs.Store.{TaggedByte}
 use Rattle.mem_spec.specs.Bytes.{number_bytes, pointer_bytes, low_bits}
 use Rattle.prov_memory.specs.Cells.{plain_cell, piece_cell, tagged_in}
-use Rattle.prov_memory.specs.Memory.{Kept}
+use Rattle.prov_memory.specs.Memory.{Kept, CellsKnown}
 use Rattle.prov_memory.specs.Made.{IsMade}
+use Rattle.prov_memory.specs.Tags.{CellsTagged}
 
 -- so many bytes of a number, the least first, as a memory keeps them
 abbrev pub plain_cells : ℕ → ℕ → List Cell
@@ -38,3 +39,13 @@ value_bytes m size values.Nothing = []
 abbrev pub IsMadeValue : Kept → Value → Type 0
 IsMadeValue m (values.Ptr a prov) = IsMade m prov
 IsMadeValue m _ = Unit {0}
+
+-- the pieces among the bytes of a structure or union have their provenances from this memory
+abbrev pub IsKnownValue : Kept → Value → Type 0
+IsKnownValue m (values.Block b) = CellsKnown (length m.origins) b.cells
+IsKnownValue m _ = Unit {0}
+
+-- the tags of its bytes have their types from this memory
+abbrev pub IsTaggedValue : Kept → Value → Type 0
+IsTaggedValue m (values.Block b) = CellsTagged (length m.types) b.cells
+IsTaggedValue m _ = Unit {0}

@@ -2,6 +2,7 @@
 ghost use Rattle.std.specs.Prelude.{◌≡◌, ◌+◌, ◌-ℤ◌, pos, nat_le, if◌then◌else◌};
 ghost use Rattle.mem_spec.specs.Acts.{value_of};
 ghost use Rattle.mem_spec.specs.Bytes.{low_bits};
+ghost use Rattle.prov_memory.specs.Cells.{cell_at};
 ghost use Rattle.prov_memory.specs.Pieces.{plain_cells, piece_cells};
 
 use c_types::IntKind;
@@ -221,31 +222,14 @@ impl Cell {
     }
 }
 
-/// The little-endian number of at most eight bytes, None where one is unwritten.
-pub(crate) fn number_of(cells: &[Cell]) -> Option<u64> {
-    let mut number: u64 = 0;
-    for cell in cells.iter().rev() {
-        if cell.state == State::Unwritten {
-            return None;
-        }
-        number = number
-            .wrapping_mul(256)
-            .wrapping_add(u64::from(cell.number));
+/// The byte at the place, unwritten past the end.
+pub(crate) fn cell_at(cells: &[Cell], at: u64) -> Cell
+    ensures { result ≡ cell_at cells.now at }
+{
+    match cells.get(at as usize) {
+        None => Cell::UNWRITTEN,
+        Some(cell) => *cell,
     }
-    Some(number)
-}
-
-/// The provenance of eight bytes that are the pieces 0 to 7 of one pointer.
-pub(crate) fn pointer_in(cells: &[Cell]) -> Option<Origin> {
-    let first = cells.first()?;
-    let mut index: u8 = 0;
-    for cell in cells {
-        if cell.state != State::Piece || cell.piece_index != index || cell.origin != first.origin {
-            return None;
-        }
-        index = index.wrapping_add(1);
-    }
-    Some(first.origin)
 }
 
 /// The value of the integer type with these bytes (own: two's complement).

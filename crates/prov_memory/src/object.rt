@@ -2,7 +2,7 @@
 ghost use Rattle.std.specs.Prelude.{◌≡◌, ℕ, ◌+◌, ◌≤◌, ◌+ℤ◌, ◌&&◌, pos, int_le, max, length, true, vec_len, vec_capacity};
 ghost use Rattle.prov_memory.specs.Cells.{byte_of, cell_at, cell_left, cell_put};
 
-use crate::cell::Cell;
+use crate::cell::{Cell, cell_at};
 use crate::{MemByte, Origin, TypeId, Via};
 use c_types::Shape;
 use mem_spec::ObjKind;
@@ -73,10 +73,14 @@ impl Object {
     pub fn cell(&self, at: u64) -> Cell
         ensures { result ≡ cell_at self.now.cells at }
     {
-        match self.cells.get(at as usize) {
-            None => Cell::UNWRITTEN,
-            Some(cell) => *cell,
-        }
+        cell_at(self.cells(), at)
+    }
+
+    /// The bytes up to the last that was ever written.
+    pub fn cells(&self) -> &[Cell]
+        ensures { result.now ≡ self.now.cells }
+    {
+        self.cells.as_slice()
     }
 
     /// Whether the range lies in the object.

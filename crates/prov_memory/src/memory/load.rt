@@ -17,13 +17,13 @@ ghost use Rattle.prov_memory.specs.Held.{Held, held_of};
 ghost use Rattle.prov_memory.specs.Memory.{Kept, HasCell, AreKnown, life_in, store_of, uncovered_each};
 ghost use Rattle.prov_memory.specs.Made.{Extends, HasMore, IsMade};
 ghost use Rattle.prov_memory.specs.Sound.{IsSound};
-ghost use Rattle.prov_memory.specs.Access.{IsReached, bytes_in};
+ghost use Rattle.prov_memory.specs.Access.{IsReached, bytes_in, range_in};
 ghost use Rattle.prov_memory.specs.Loads as loads;
 ghost use Rattle.prov_memory.specs.Loads.{IfPointer, IfRaise, IsLoaded, is_dead_in, number_if, number_read, origins_of, pointer_items};
 
 use super::access::Accessed;
 use super::*;
-use crate::cell::{State, value_of};
+use crate::cell::{State, cell_at, value_of};
 use crate::{MemFault, Value};
 use c_types::{IntKind, agrees};
 use ub_base::Clause;
@@ -184,7 +184,7 @@ impl Memory {
             return Err(Clause::Indeterminate);
         };
         if self.suits_load(object, ty, found.from, len) {
-            number_checked(is_bool, number_at(object, found.from, len))
+            number_checked(is_bool, number_at(object.cells(), found.from, len))
         } else {
             Err(Clause::EffectiveType)
         }
@@ -239,17 +239,19 @@ impl Memory {
     {
         match self.origin_in(object.cell(from)) {
             None => None,
-            Some(prov) => self.are_pieces(object, prov, from, 8).then_some(prov),
+            Some(prov) => self
+                .are_pieces(object.cells(), prov, from, 8)
+                .then_some(prov),
         }
     }
 
     // Whether the bytes are the first pieces of one pointer value with the provenance.
-    fn are_pieces(&self, object: &Object, prov: Prov, from: u64, len: u64) -> bool
+    pub(super) fn are_pieces(&self, cells: &[Cell], prov: Prov, from: u64, len: u64) -> bool
         requires { from + len ≤ 2 ^ 47 }
-        ensures { result ≡ acts.are_pieces prov 0 (bytes_in self.now object.now from len) }
+        ensures { result ≡ acts.are_pieces prov 0 (range_in self.now cells.now from len) }
     {
         for index in 0..len {
-            if !self.is_piece(object.cell(from + index), prov, index) {
+            if !self.is_piece(cell_at(cells, from + index), prov, index) {
                 return false;
             }
         }
@@ -270,7 +272,7 @@ impl Memory {
     }
 
     // What a byte that is a piece of a pointer was made from.
-    fn origin_in(&self, cell: Cell) -> Option<Prov>
+    pub(super) fn origin_in(&self, cell: Cell) -> Option<Prov>
         ensures { result ≡ acts.origin_in (byte_in self.now.origins cell) }
     {
         match cell.state {
@@ -394,14 +396,14 @@ fn is_same(a: Prov, b: Prov) -> bool
 }
 
 /// Whether it is `_Bool`.
-fn is_bool(kind: IntKind) -> bool
+pub(super) fn is_bool(kind: IntKind) -> bool
     ensures { result ≡ (agreement.number_of_kind kind == 1) }
 {
     matches!(kind, IntKind::Bool)
 }
 
 /// A number other than 0 and 1 is none of `_Bool` (6.2.6.1p5), and a byte that isn't written has none.
-fn number_checked(is_bool: bool, number: Option<u64>) -> Result<u64, Clause>
+pub(super) fn number_checked(is_bool: bool, number: Option<u64>) -> Result<u64, Clause>
     ensures { result ≡ loads.number_checked is_bool number }
 {
     let Some(number) = number else {
@@ -414,14 +416,14 @@ fn number_checked(is_bool: bool, number: Option<u64>) -> Result<u64, Clause>
 }
 
 /// The little-endian number of a range of at most eight bytes, where all are written.
-fn number_at(object: &Object, from: u64, len: u64) -> Option<u64>
+pub(super) fn number_at(cells: &[Cell], from: u64, len: u64) -> Option<u64>
     requires range { from + len ≤ 2 ^ 47 }
     requires short { len ≤ 8 }
-    ensures { (m : Kept) → result ≡ number_if (bytes_in m object.now from len) }
+    ensures { (m : Kept) → result ≡ number_if (range_in m cells.now from len) }
 {
     let mut number: u64 = 0;
     for step in 0..len {
-        let cell = object.cell(from + (len - (step + 1)));
+        let cell = cell_at(cells, from + (len - (step + 1)));
         let Some(byte) = cell.value() else {
             return None;
         };

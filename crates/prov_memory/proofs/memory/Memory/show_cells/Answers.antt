@@ -1,14 +1,37 @@
-use Rattle.std.proofs.Common.{refl}
-use Rattle.mem_spec.specs.Acts.{candidates}
-use Rattle.prov_memory.proofs.SoundLemmas.{shown_made, shown_sound}
+use Rattle.std.proofs.Common.{◌≡◌, ◌+◌, ◌<◌, ◌∙◌, ◌++◌, ap, arith, List, length, map}
+use Rattle.ub_base.specs.declared.names.Item.TheVariants.{Expose}
+use Rattle.mem_spec.specs.Acts.{candidates, origins_in}
+use Rattle.mem_spec.specs.Store.{TaggedByte}
+use Rattle.prov_memory.specs.Cells.{cell_at, byte_in}
+use Rattle.prov_memory.specs.Loads.{origins_of}
+use Rattle.prov_memory.specs.Memory.{Kept}
+use Rattle.prov_memory.proofs.PartLemmas.{next_piece, range_to}
+use Rattle.prov_memory.proofs.ShowLemmas.{showing, shown_next, noted_next}
 use Rattle.prov_memory.proofs.memory.Memory.show_cells.Goals as goal
 
 pub loop-cell-preserved : goal.loop-cell-preserved
 loop-cell-preserved c =
+    let m = c.args.self.now in
     let now = c.loop-cell.self in
     let new = c.show_each.new.self in
-    let xs = candidates c.piece_of-prov.result in
+    let cs = c.args.cells.now in
+    let n = c.loop-cell.cell-index in
+    let prov = c.piece_of-prov.result in
+    let inv = c.loop-cell.invariant in
+    let lt : n < length cs = c.loop-cell-test.true in
+    let few : n < 8 = omega (arith, c.requires) in
+    let piece : candidates prov ≡ origins_in (byte_in m.origins (cell_at cs (0 + n))) = next_piece m now cs n c.cell-item.result prov lt c.cell-item.is (ap (λ (k : Kept). k.origins) inv.shown) c.piece_of-prov.ensures in
     record {
-      made = λ p made. shown_made now new new xs c.show_each.ensures.shown refl (λ e. refl) p (c.loop-cell.invariant.made p made);
-      sound = λ s. shown_sound now new new xs c.show_each.ensures.shown refl (λ e. refl) (c.loop-cell.invariant.sound s);
+      shown = shown_next m now new cs 0 n prov inv.shown piece c.show_each.ensures.shown;
+      items = λ room. noted_next m cs c.args.t.now c.loop-cell.t c.show_each.new.t 0 n prov few room (inv.items room) piece c.show_each.ensures.items;
+    }
+
+pub returns : goal.returns
+returns c =
+    let m = c.args.self.now in
+    let cs = c.args.cells.now in
+    let end : c.loop-cell.cell-index ≡ length cs = omega arith in
+    record {
+      shown = c.loop-cell.invariant.shown ∙ ap (λ (bs : List TaggedByte). showing (origins_of bs) m) (range_to m cs c.loop-cell.cell-index end);
+      items = λ room. c.loop-cell.invariant.items room ∙ ap (λ (bs : List TaggedByte). c.args.t.now ++ map Expose (origins_of bs)) (range_to m cs c.loop-cell.cell-index end);
     }

@@ -1,11 +1,13 @@
-use Rattle.exposure.specs.declared.prov.Prov.{Prov}
-use Rattle.prov_memory.specs.Made.{IsMade}
-use Rattle.prov_memory.specs.Sound.{IsSound}
+use Rattle.std.proofs.Common.{◌≡◌, ◌+◌, ◌<◌, ◌++◌, length, map}
+use Rattle.ub_base.specs.declared.names.Item.TheVariants.{Expose}
+use Rattle.prov_memory.specs.Access.{range_in}
+use Rattle.prov_memory.specs.Loads.{origins_of}
+use Rattle.prov_memory.proofs.ShowLemmas.{showing}
 use Rattle.prov_memory.proofs.memory.Memory.show_cells.Given as goal
 
--- what was made stays so
+-- what the bytes so far were made from is exposed
 abbrev pub invariant-loop-cell : goal.invariant-loop-cell
 invariant-loop-cell l = record {
-  made : (p : Prov) → IsMade l.initial.self p → IsMade l.self p;
-  sound : IsSound l.initial.self → IsSound l.self;
+  shown : l.self ≡ showing (origins_of (range_in l.initial.self l.cells 0 l.cell-index)) l.initial.self;
+  items : length l.initial.t + 16 < 32 → l.t ≡ l.initial.t ++ map Expose (origins_of (range_in l.initial.self l.cells 0 l.cell-index));
 }

@@ -8,6 +8,6 @@ use Rattle.prov_memory.proofs.memory.load.number_at.Given as goal
 -- the last bytes are read
 abbrev pub invariant-loop-step : goal.invariant-loop-step
 invariant-loop-step l = record {
-  read : (m : Kept) → IsRead (λ at. tagged_in m.origins (map type_of m.types) (cell_at l.object.cells at)) l.from l.len l.step l.number;
+  read : (m : Kept) → IsRead (λ at. tagged_in m.origins (map type_of m.types) (cell_at l.cells at)) l.from l.len l.step l.number;
   below : l.number < cap l.step;
 }

@@ -1,11 +1,22 @@
-use Rattle.std.proofs.Common.{◌∙◌, ap, List, map}
+use Rattle.std.proofs.Common.{◌∙◌, sym, ap, subst, List, map}
 use Rattle.prov_memory.specs.declared.cell.Cell.{Cell}
 use Rattle.prov_memory.specs.Cells.{Loaded, tagged_in}
-use Rattle.prov_memory.proofs.PieceLemmas.{seen_plain}
+use Rattle.prov_memory.specs.Memory.{CellsKnown}
+use Rattle.prov_memory.specs.Tags.{CellsTagged}
+use Rattle.prov_memory.proofs.PieceLemmas.{seen_plain, plain_known}
+use Rattle.prov_memory.proofs.SoundLemmas.{plain_tagged}
 use Rattle.prov_memory.proofs.memory.parts.plain_bytes.Goals as goal
 
-pub returns : goal.returns
-returns c = λ ps ts.
+pub returns-clause-bytes : goal.returns-clause-bytes
+returns-clause-bytes c = λ ps ts.
     ap (λ (b : Loaded). map (tagged_in ps ts) b.cells) c.of_cells.ensures
     ∙ ap (λ (cs : List Cell). map (tagged_in ps ts) cs) c.in_ok-cells.ensures
     ∙ seen_plain ps ts c.args.count c.args.number
+
+pub returns-clause-known : goal.returns-clause-known
+returns-clause-known c = λ n.
+    subst (λ (cs : List Cell). CellsKnown n cs) (sym (ap (λ (b : Loaded). b.cells) c.of_cells.ensures ∙ c.in_ok-cells.ensures)) (plain_known n c.args.count c.args.number)
+
+pub returns-clause-tagged : goal.returns-clause-tagged
+returns-clause-tagged c = λ n.
+    subst (λ (cs : List Cell). CellsTagged n cs) (sym (ap (λ (b : Loaded). b.cells) c.of_cells.ensures ∙ c.in_ok-cells.ensures)) (plain_tagged n c.args.count c.args.number)
