@@ -4,7 +4,6 @@ use Rattle.c_types.specs.declared.kind.IntKind.{IntKind}
 use Rattle.c_types.specs.declared.kind.IntKind.TheVariants.{Bool as Boolean, Int}
 use Rattle.c_types.specs.declared.kind.BinOp.{BinOp}
 use Rattle.c_types.specs.declared.kind.BinOp.TheVariants.{Add, Sub}
-use Rattle.c_types.specs.declared.tags.Tag.{Tag}
 use Rattle.c_types.specs.declared.ty.Ty.{Ty}
 use Rattle.c_types.specs.Kinds as kinds
 use Rattle.c_types.specs.Types.{CType, int, enumeration, pointer, struct, union, Qualified, type_of, kind_of}
@@ -13,6 +12,7 @@ use Rattle.c_typed.specs.declared.tree.Change.TheVariants as change
 use Rattle.c_typed.specs.declared.tree.Node.TheOpen as shape
 use Rattle.c_typed.specs.declared.tree.Typed.{Typed}
 use Rattle.c_typed.specs.Lawful.{is_shift}
+use Rattle.type_operators.specs.Layouts.{Layouts}
 use Rattle.type_operators.specs.declared.operand.Form.{Form}
 use Rattle.type_operators.specs.declared.operand.Form.TheVariants as form
 use Rattle.c_types.specs.Same.{same, compatible}
@@ -47,7 +47,7 @@ may_assign from (union tag) = compatible from (union tag)
 may_assign from _ = false
 
 -- a structure or union stays as it is
-abbrev pub assigned_value : List Tag → CType → Term → Option Term
+abbrev pub assigned_value : Layouts → CType → Term → Option Term
 assigned_value tags (struct tag) t = Some t
 assigned_value tags (union tag) t = Some t
 assigned_value tags to t = converted tags to t
@@ -56,11 +56,11 @@ assigned_value tags to t = converted tags to t
 abbrev pub takes_null : Expression → CType → Bool
 takes_null e to = is_pointer to && (not (same (type_at e.tree) to) && is_null e)
 
-abbrev pub put_as : List Tag → CType → Term → Option Term
+abbrev pub put_as : Layouts → CType → Term → Option Term
 put_as tags to t = if may_assign (type_at t) to then assigned_value tags to t else None
 
 -- an operand as if assigned to an object of this type (6.5.16.1p2)
-unfoldable pub as_if_assigned : List Tag → CType → Expression → Option Term
+unfoldable pub as_if_assigned : Layouts → CType → Expression → Option Term
 as_if_assigned tags to e =
     if takes_null e to then Some (null_pointer to (line_at e.tree))
     else (value tags e >>= λ t. put_as tags to t)
@@ -74,7 +74,7 @@ promoted_type (struct tag) t = Some t
 promoted_type (union tag) t = Some t
 promoted_type _ t = None
 
-unfoldable pub default_promoted : List Tag → Expression → Option Term
+unfoldable pub default_promoted : Layouts → Expression → Option Term
 default_promoted tags e = value tags e >>= λ t. promoted_type (type_at t) t
 
 -- 2. What may be assigned (6.3.2.1p1).
@@ -147,22 +147,22 @@ moves Sub size = Some (change.Pointer size true)
 moves _ size = None
 
 -- a pointer object is changed only by `+=` and `-=` (6.5.16.2p1)
-unfoldable pub pointer_change : List Tag → BinOp → CType → Option Change
+unfoldable pub pointer_change : Layouts → BinOp → CType → Option Change
 pointer_change tags op ty = step tags ty >>= λ size. moves op size
 
 -- and only by an integer
-unfoldable pub pointer_compound : List Tag → BinOp → Place → Term → ℕ → Option Expression
+unfoldable pub pointer_compound : Layouts → BinOp → Place → Term → ℕ → Option Expression
 pointer_compound tags op place right line = do
   c ← pointer_change tags op place.ty
   kind ← kind_of (type_at right)
   Some (as_value (binary (shape.Update c false) place.ty line place.term right))
 
-abbrev pub compound_of : List Tag → BinOp → Place → Term → ℕ → Option Expression
+abbrev pub compound_of : Layouts → BinOp → Place → Term → ℕ → Option Expression
 compound_of tags op place right line =
     if is_pointer place.ty then pointer_compound tags op place right line else integer_compound op place right line
 
 -- `a op= b` (6.5.16.2)
-unfoldable pub compound : List Tag → Constants → BinOp → Expression → Expression → ℕ → Option Expression
+unfoldable pub compound : Layouts → Constants → BinOp → Expression → Expression → ℕ → Option Expression
 compound tags constants op a b line = do
   place ← modifiable constants a
   right ← value tags b
@@ -181,20 +181,20 @@ step_of p = record { change = p.0; kind = p.1 }
 abbrev pub integer_step : BinOp → IntKind → Step
 integer_step op kind = let work = usual kind Int in record { change = change.Integer op kind work; kind = work }
 
-unfoldable pub change_by_one : List Tag → BinOp → CType → Option Step
+unfoldable pub change_by_one : Layouts → BinOp → CType → Option Step
 change_by_one tags op ty =
     if is_pointer ty then (pointer_change tags op ty >>= λ c. Some (record { change = c; kind = Int }))
     else (kind_of ty >>= λ kind. Some (integer_step op kind))
 
 -- `++E` and `--E` are `E += 1` and `E -= 1` (6.5.3.1p2)
-unfoldable pub stepped : List Tag → Constants → BinOp → Expression → ℕ → Option Expression
+unfoldable pub stepped : Layouts → Constants → BinOp → Expression → ℕ → Option Expression
 stepped tags constants op e line = do
   place ← modifiable constants e
   by ← change_by_one tags op place.ty
   Some (as_value (binary (shape.Update by.change false) place.ty line place.term (constant (pos 1) (int by.kind) line)))
 
 -- `E++` and `E--` give the value before the change (6.5.2.4p2)
-unfoldable pub incremented : List Tag → Constants → BinOp → Expression → ℕ → Option Expression
+unfoldable pub incremented : Layouts → Constants → BinOp → Expression → ℕ → Option Expression
 incremented tags constants op e line = do
   place ← modifiable constants e
   by ← change_by_one tags op place.ty
@@ -203,14 +203,14 @@ incremented tags constants op e line = do
 -- 5. Simple assignment (6.5.16.1).
 
 -- the store of a value as if assigned; an initialization is one too (6.7.9p11)
-unfoldable pub stored : List Tag → Bool → Term → CType → Expression → ℕ → Option Term
+unfoldable pub stored : Layouts → Bool → Term → CType → Expression → ℕ → Option Term
 stored tags initializing place ty e line = do
   a ← access_of tags ty
   t ← as_if_assigned tags ty e
   Some (binary (shape.Assign initializing a) ty line place t)
 
 -- `a = b`: to a modifiable lvalue (6.5.16p2)
-unfoldable pub assigned : List Tag → Constants → Expression → Expression → ℕ → Option Expression
+unfoldable pub assigned : Layouts → Constants → Expression → Expression → ℕ → Option Expression
 assigned tags constants a b line = do
   place ← modifiable constants a
   t ← stored tags false place.term place.ty b line

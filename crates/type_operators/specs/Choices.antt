@@ -1,11 +1,11 @@
 -- Conditional expressions and commas (6.5.15, 6.5.17).
 use Rattle.std.specs.Prelude.{ℕ, Bool, true, false, ◌||◌, if◌then◌else◌, List, [], ◌∷◌, Option, Some, None}
-use Rattle.c_types.specs.declared.tags.Tag.{Tag}
 use Rattle.c_types.specs.declared.ty.Ty.{Ty}
 use Rattle.c_types.specs.Types.{CType, void, int, pointer, struct, union, Qualified, composite, type_of}
 use Rattle.c_typed.specs.declared.tree.Typed.{Typed}
 use Rattle.c_typed.specs.declared.tree.Node.TheOpen as shape
 use Rattle.c_types.specs.Same.{compatible}
+use Rattle.type_operators.specs.Layouts.{Layouts}
 use Rattle.type_operators.specs.Terms.{Term, Terms, term, none, more, term_of, type_at, before, ternary, Expression, as_value, ◌>>=◌, unless_refused}
 use Rattle.type_operators.specs.Conversions.{target_of, is_void, may_meet, value, balanced, converted, discarded, is_void_expression}
 use Rattle.type_operators.specs.Operators.{truth, matched}
@@ -34,7 +34,7 @@ joint_pointer a b = do
 abbrev pub choice : CType → ℕ → Term → Term → Term → Expression
 choice ty line test first second = as_value (ternary shape.Cond ty line test first second)
 
-unfoldable pub chosen_pointer : List Tag → Term → Term → Term → ℕ → Option Expression
+unfoldable pub chosen_pointer : Layouts → Term → Term → Term → ℕ → Option Expression
 chosen_pointer tags test first second line = do
   ty ← joint_pointer (type_at first) (type_at second)
   x ← converted tags ty first
@@ -48,28 +48,28 @@ abbrev pub chosen_whole : Term → Term → Term → ℕ → Option Expression
 chosen_whole test first second line = unless_refused (compatible (type_at first) (type_at second)) (choice (type_at first) line test first second)
 
 -- two integers in their common type, one structure or union type, or two pointers (6.5.15p3, 6.5.15p5)
-abbrev pub chosen_by : CType → CType → List Tag → Term → Term → Term → ℕ → Option Expression
+abbrev pub chosen_by : CType → CType → Layouts → Term → Term → Term → ℕ → Option Expression
 chosen_by (pointer c a) (pointer d b) tags test first second line = chosen_pointer tags test first second line
 chosen_by (struct m) (struct n) tags test first second line = chosen_whole test first second line
 chosen_by (union m) (union n) tags test first second line = chosen_whole test first second line
 chosen_by a b tags test first second line = chosen_integer test first second line
 
-abbrev pub chosen_value : List Tag → Term → Term → Term → ℕ → Option Expression
+abbrev pub chosen_value : Layouts → Term → Term → Term → ℕ → Option Expression
 chosen_value tags test first second line = chosen_by (type_at first) (type_at second) tags test first second line
 
-unfoldable pub chosen_values : List Tag → Term → Expression → Expression → ℕ → Option Expression
+unfoldable pub chosen_values : Layouts → Term → Expression → Expression → ℕ → Option Expression
 chosen_values tags test first second line = do
   x ← value tags first
   y ← value tags second
   chosen_value tags test (matched first.form x second.form y).0 (matched first.form x second.form y).1 line
 
-abbrev pub chosen_as : Bool → Bool → List Tag → Term → Expression → Expression → ℕ → Option Expression
+abbrev pub chosen_as : Bool → Bool → Layouts → Term → Expression → Expression → ℕ → Option Expression
 chosen_as true true tags test first second line = Some (choice void line test first.tree second.tree)
 chosen_as false false tags test first second line = chosen_values tags test first second line
 chosen_as _ _ tags test first second line = None
 
 -- both have a value, or both are void expressions (6.5.15p2, 6.5.15p3)
-unfoldable pub chosen : List Tag → Expression → Expression → Expression → ℕ → Option Expression
+unfoldable pub chosen : Layouts → Expression → Expression → Expression → ℕ → Option Expression
 chosen tags test first second line =
     truth tags test >>= λ t. chosen_as (is_void_expression first) (is_void_expression second) tags t first second line
 
@@ -84,7 +84,7 @@ abbrev pub last_of : Typed × Ty → Last
 last_of p = record { term = term_of p.0; ty = type_of p.1 }
 
 -- its value, or a void expression (6.5.17p2)
-unfoldable pub last : List Tag → Expression → Option Last
+unfoldable pub last : Layouts → Expression → Option Last
 last tags e =
     if is_void_expression e then Some (record { term = e.tree; ty = void })
     else (value tags e >>= λ t. Some (record { term = t; ty = type_at t }))
@@ -101,7 +101,7 @@ abbrev pub after : Option Term → Option Sequence → Option Sequence
 after (Some t) (Some s) = Some (record { operands = more t s.operands; ty = s.ty })
 after _ _ = None
 
-abbrev pub in_sequence : List Tag → List Expression → Option Sequence
+abbrev pub in_sequence : Layouts → List Expression → Option Sequence
 in_sequence tags [] = None
 in_sequence tags (e ∷ []) = last tags e >>= λ l. Some (alone l)
 in_sequence tags (e ∷ es) = after (discarded tags e) (in_sequence tags es)
@@ -110,10 +110,10 @@ abbrev pub comma : CType → ℕ → Terms → Expression
 comma ty line operands = as_value (term shape.Comma none ty line operands)
 
 -- the value of the last one (6.5.17p2)
-abbrev pub sequenced : List Tag → List Expression → ℕ → Option Expression
+abbrev pub sequenced : Layouts → List Expression → ℕ → Option Expression
 sequenced tags es line = in_sequence tags es >>= λ s. Some (comma s.ty line s.operands)
 
 -- those without values
-abbrev pub without_values : List Tag → List Expression → Option Terms
+abbrev pub without_values : Layouts → List Expression → Option Terms
 without_values tags [] = Some none
 without_values tags (e ∷ es) = before (discarded tags e) (without_values tags es)

@@ -3,10 +3,9 @@ use Rattle.std.specs.Prelude.{ℕ, Bool, true, false, not, if◌then◌else◌, 
 use Rattle.std.specs.Borrow.{Bor}
 use Rattle.c_types.specs.declared.kind.IntKind.{IntKind}
 use Rattle.c_types.specs.declared.kind.IntKind.TheVariants.{Bool as Boolean, Int}
-use Rattle.c_types.specs.declared.tags.Tag.{Tag}
 use Rattle.c_types.specs.declared.tags.Extent.{Extent}
 use Rattle.c_types.specs.Kinds as kinds
-use Rattle.c_types.specs.Layout.{extent, extents, align_of}
+use Rattle.c_types.specs.Layout.{extent, align_in}
 use Rattle.c_types.specs.declared.ty.Qual.{Qual}
 use Rattle.c_types.specs.Types.{CType, void, int, enumeration, pointer, array, struct, union, function, Qualified, type_of, qualified_of, kind_of}
 use Rattle.c_typed.specs.declared.tree.Access.{Access}
@@ -14,6 +13,7 @@ use Rattle.c_typed.specs.declared.tree.Access.TheVariants as access
 use Rattle.c_typed.specs.declared.tree.Conversion.{Conversion}
 use Rattle.c_typed.specs.declared.tree.Conversion.TheVariants as conversion
 use Rattle.c_typed.specs.declared.tree.Node.TheOpen as shape
+use Rattle.type_operators.specs.Layouts.{Layouts}
 use Rattle.type_operators.specs.declared.operand.Form.{Form}
 use Rattle.type_operators.specs.declared.operand.Form.TheVariants as form
 use Rattle.type_operators.specs.declared.operand.Used.{Used}
@@ -63,12 +63,12 @@ whole None = None
 whole (Some e) = Some (access.Whole e.size e.align)
 
 -- how a value of the type lies in memory; none of an incomplete type, `void`, an array or a function
-abbrev pub access_of : List Tag → CType → Option Access
+abbrev pub access_of : Layouts → CType → Option Access
 access_of tags (int kind) = Some (access.Integer kind)
 access_of tags (enumeration tag) = Some (access.Integer Int)
 access_of tags (pointer constant target) = Some (pointer_access target)
-access_of tags (struct tag) = whole (extent (extents tags) (struct tag))
-access_of tags (union tag) = whole (extent (extents tags) (union tag))
+access_of tags (struct tag) = whole (extent tags.extents (struct tag))
+access_of tags (union tag) = whole (extent tags.extents (union tag))
 access_of tags _ = None
 
 -- what an lvalue becomes: it is loaded, or it is an array and gives a pointer to its first element (6.3.2.1p2, 6.3.2.1p3)
@@ -84,11 +84,11 @@ abbrev pub loaded : CType → Option Access → Option Use
 loaded object None = None
 loaded object (Some a) = Some (loads a object)
 
-abbrev pub use_at : List Tag → CType → Option Use
+abbrev pub use_at : Layouts → CType → Option Use
 use_at tags (array constant element count) = Some (decays (pointer constant element))
 use_at tags object = loaded object (access_of tags object)
 
-abbrev pub use_behind : List Tag → CType → Option Use
+abbrev pub use_behind : Layouts → CType → Option Use
 use_behind tags (pointer constant object) = use_at tags object
 use_behind tags _ = None
 
@@ -96,13 +96,13 @@ abbrev pub put_to_use : Term → ℕ → Use → Term
 put_to_use place line (loads a object) = unary (shape.Load a) object line place
 put_to_use place line (decays ty) = retyped ty place
 
-abbrev pub value_as : List Tag → Form → Term → ℕ → Option Term
+abbrev pub value_as : Layouts → Form → Term → ℕ → Option Term
 value_as tags (form.Place register) t line = use_behind tags (type_at t) >>= λ use_made. Some (put_to_use t line use_made)
 value_as tags form.Void t line = None
 value_as tags _ t line = Some t
 
 -- the value of an operand (6.3.2.1p2 to 6.3.2.1p4)
-unfoldable pub value : List Tag → Expression → Option Term
+unfoldable pub value : Layouts → Expression → Option Term
 value tags e = value_as tags e.form e.tree e.line
 
 -- 2. Integers (6.3.1).
@@ -156,10 +156,10 @@ balanced a b = do
 -- 3. Pointers (6.3.2.3).
 
 -- the conversion between pointers; none between one to a function and one to an object
-abbrev pub pointer_conversion : List Tag → CType → CType → Option Conversion
+abbrev pub pointer_conversion : Layouts → CType → CType → Option Conversion
 pointer_conversion tags from to =
     if is_function from then unless_refused (is_function to) conversion.Function
-    else unless_refused (not (is_function to)) (conversion.Pointer (align_of tags to))
+    else unless_refused (not (is_function to)) (conversion.Pointer (align_in (extent tags.extents to)))
 
 abbrev pub number_conversion : IntKind → Conversion
 number_conversion Boolean = conversion.NotNull
@@ -173,23 +173,23 @@ address_conversion from kind = unless_refused (not (is_function from)) (number_c
 abbrev pub lookup_conversion : CType → Option Conversion
 lookup_conversion to = unless_refused (not (is_function to)) conversion.Lookup
 
-abbrev pub between : List Tag → CType → CType → Option Qualified → Option Qualified → Option Conversion
+abbrev pub between : Layouts → CType → CType → Option Qualified → Option Qualified → Option Conversion
 between tags from to (Some p) (Some q) = pointer_conversion tags p.ty q.ty
 between tags from to (Some p) None = kind_of to >>= λ kind. address_conversion p.ty kind
 between tags from to None (Some q) = kind_of from >>= λ own. lookup_conversion q.ty
 between tags from to None None = kind_of from >>= λ own. kind_of to >>= λ kind. Some (conversion.Integer kind)
 
 -- the conversion from one scalar type to another (6.3.1, 6.3.2.3)
-unfoldable pub conversion_to : List Tag → CType → CType → Option Conversion
+unfoldable pub conversion_to : Layouts → CType → CType → Option Conversion
 conversion_to tags from to = between tags from to (target_of from) (target_of to)
 
 -- the value in another scalar type: no conversion stands between equal types
-unfoldable pub converted_on : List Tag → ℕ → CType → Term → Option Term
+unfoldable pub converted_on : Layouts → ℕ → CType → Term → Option Term
 converted_on tags line to t =
     if same (type_at t) to then Some t
     else conversion_to tags (type_at t) to >>= λ c. Some (unary (shape.Conv c) to line t)
 
-abbrev pub converted : List Tag → CType → Term → Option Term
+abbrev pub converted : Layouts → CType → Term → Option Term
 converted tags to t = converted_on tags (line_at t) to t
 
 -- two pointers to compatible types, or one to `void` and one to an object type (6.5.9p2, 6.5.15p3, 6.5.16.1p1)
@@ -216,17 +216,17 @@ abbrev pub is_void_target : Option Qualified → Bool
 is_void_target None = false
 is_void_target (Some object) = is_void object.ty
 
-abbrev pub discarded_value : List Tag → Form → Term → ℕ → Option Term
+abbrev pub discarded_value : Layouts → Form → Term → ℕ → Option Term
 discarded_value tags form t line = value_as tags form t line >>= λ x. Some (without_use x)
 
-abbrev pub discarded_as : List Tag → Form → Term → ℕ → Option Term
+abbrev pub discarded_as : Layouts → Form → Term → ℕ → Option Term
 discarded_as tags (form.Place register) t line =
     if is_void_target (target_of (type_at t)) then Some t else discarded_value tags (form.Place register) t line
 discarded_as tags form.Void t line = Some t
 discarded_as tags form t line = discarded_value tags form t line
 
 -- an expression whose value isn't used: an object is read all the same (own), one of type `void` isn't
-unfoldable pub discarded : List Tag → Expression → Option Term
+unfoldable pub discarded : Layouts → Expression → Option Term
 discarded tags e = discarded_as tags e.form e.tree e.line
 
 abbrev pub void_as : Form → Term → Bool

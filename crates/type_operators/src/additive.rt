@@ -4,6 +4,7 @@ ghost use Rattle.c_types.specs.Types.{type_of, qualified_of};
 ghost use Rattle.c_types.specs.Same as tests;
 ghost use Rattle.type_operators.specs.Terms.{term_of, expression_of, Gives};
 ghost use Rattle.type_operators.specs.Operators as spec;
+ghost use Rattle.type_operators.specs.Layouts.{layouts};
 
 use crate::Refused;
 use crate::binary::arithmetic;
@@ -16,7 +17,7 @@ use std::alloc::Global;
 // The bytes of the elements that a pointer steps over: of a complete object type (6.5.6p2).
 #[tactic(auto, unfolding(crate::specs::Operators::step))]
 pub fn step_of(tags: &Tags, ty: &Ty) -> Option<u64>
-    ensures { result ≡ spec.step tags.now (type_of ty.now) }
+    ensures { result ≡ spec.step (layouts tags.now) (type_of ty.now) }
 {
     let target = object_of(ty)?;
     let e = tags.extent(&target.ty)?;
@@ -33,7 +34,7 @@ fn moved(
     index: Typed,
     line: u32,
 ) -> Result<Typed, Refused>
-    ensures { Gives term_of result (spec.moved tags.now subtract (term_of pointer) (term_of index) line) }
+    ensures { Gives term_of result (spec.moved (layouts tags.now) subtract (term_of pointer) (term_of index) line) }
 {
     let (size, ty) = match (step_of(tags, &pointer.ty), kind_of(&index.ty)) {
         (Some(size), Some(_)) => (size, copied(alloc, &pointer.ty)?),
@@ -52,7 +53,7 @@ pub fn added(
     b: Operand,
     line: u32,
 ) -> Result<Operand, Refused>
-    ensures { Gives expression_of result (spec.added tags.now (expression_of a) (expression_of b) line) }
+    ensures { Gives expression_of result (spec.added (layouts tags.now) (expression_of a) (expression_of b) line) }
 {
     let a = value_of(alloc, tags, a)?;
     let b = value_of(alloc, tags, b)?;
@@ -74,7 +75,7 @@ fn same_elements(a: &Qual, b: &Qual) -> bool
 // The difference of two pointers to elements of compatible complete types (6.5.6p3, 6.5.6p9).
 #[tactic(auto, unfolding(crate::specs::Operators::difference))]
 fn difference(alloc: Global, tags: &Tags, a: Typed, b: Typed, line: u32) -> Result<Operand, Refused>
-    ensures { Gives expression_of result (spec.difference tags.now (term_of a) (term_of b) line) }
+    ensures { Gives expression_of result (spec.difference (layouts tags.now) (term_of a) (term_of b) line) }
 {
     let size = match (object_of(&a.ty), object_of(&b.ty)) {
         (Some(x), Some(y)) if same_elements(x, y) => match (
@@ -100,7 +101,7 @@ pub fn subtracted(
     b: Operand,
     line: u32,
 ) -> Result<Operand, Refused>
-    ensures { Gives expression_of result (spec.subtracted tags.now (expression_of a) (expression_of b) line) }
+    ensures { Gives expression_of result (spec.subtracted (layouts tags.now) (expression_of a) (expression_of b) line) }
 {
     let a = value_of(alloc, tags, a)?;
     let b = value_of(alloc, tags, b)?;
@@ -120,7 +121,7 @@ pub fn indexed(
     b: Operand,
     line: u32,
 ) -> Result<Operand, Refused>
-    ensures { Gives expression_of result (spec.indexed tags.now (expression_of a) (expression_of b) line) }
+    ensures { Gives expression_of result (spec.indexed (layouts tags.now) (expression_of a) (expression_of b) line) }
 {
     let a = value_of(alloc, tags, a)?;
     let b = value_of(alloc, tags, b)?;

@@ -5,6 +5,7 @@ ghost use Rattle.c_typed.specs.Lawful as lawful;
 ghost use Rattle.type_operators.specs.Terms.{term_of, expression_of, map_option, Gives};
 ghost use Rattle.type_operators.specs.Assignments.{place_of, work_of, step_of};
 ghost use Rattle.type_operators.specs.Assignments as spec;
+ghost use Rattle.type_operators.specs.Layouts.{layouts};
 
 use crate::Refused;
 use crate::additive::step_of;
@@ -76,7 +77,7 @@ pub fn stored(
     operand: Operand,
     line: u32,
 ) -> Result<Typed, Refused>
-    ensures { Gives term_of result (spec.stored tags.now initializing (term_of place) (type_of ty) (expression_of operand) line) }
+    ensures { Gives term_of result (spec.stored (layouts tags.now) initializing (term_of place) (type_of ty) (expression_of operand) line) }
 {
     let Some(access) = access_of(tags, &ty) else {
         return Err(Refused::Constraint);
@@ -99,7 +100,7 @@ pub fn assigned<C: Constants>(
     b: Operand,
     line: u32,
 ) -> Result<Operand, Refused>
-    ensures { Gives expression_of result (spec.assigned tags.now (C.is_constant constants.now) (expression_of a) (expression_of b) line) }
+    ensures { Gives expression_of result (spec.assigned (layouts tags.now) (C.is_constant constants.now) (expression_of a) (expression_of b) line) }
 {
     let (place, ty) = modifiable(alloc, constants, a)?;
     Ok(value(stored(alloc, tags, false, place, ty, b, line)?))
@@ -160,7 +161,7 @@ fn integer_compound(
 // How a pointer object of this type is moved: only `+=` and `-=` by an integer (6.5.16.2p1).
 #[tactic(auto, unfolding(crate::specs::Assignments::pointer_change))]
 fn pointer_change(tags: &Tags, op: BinOp, ty: &Ty) -> Option<Change>
-    ensures { result ≡ spec.pointer_change tags.now op (type_of ty.now) }
+    ensures { result ≡ spec.pointer_change (layouts tags.now) op (type_of ty.now) }
 {
     let size = step_of(tags, ty)?;
     match op {
@@ -186,7 +187,7 @@ fn pointer_compound(
     right: Typed,
     line: u32,
 ) -> Result<Operand, Refused>
-    ensures { Gives expression_of result (spec.pointer_compound tags.now op (place_of (place, ty)) (term_of right) line) }
+    ensures { Gives expression_of result (spec.pointer_compound (layouts tags.now) op (place_of (place, ty)) (term_of right) line) }
 {
     match (pointer_change(tags, op, &ty), kind_of(&right.ty)) {
         (Some(change), Some(_)) => {
@@ -208,7 +209,7 @@ pub fn compound<C: Constants>(
     b: Operand,
     line: u32,
 ) -> Result<Operand, Refused>
-    ensures { Gives expression_of result (spec.compound tags.now (C.is_constant constants.now) op (expression_of a) (expression_of b) line) }
+    ensures { Gives expression_of result (spec.compound (layouts tags.now) (C.is_constant constants.now) op (expression_of a) (expression_of b) line) }
 {
     let (place, ty) = modifiable(alloc, constants, a)?;
     let right = value_of(alloc, tags, b)?;
@@ -221,7 +222,7 @@ pub fn compound<C: Constants>(
 // The change by one of an object of this type, and the kind of the operand 1.
 #[tactic(auto, unfolding(crate::specs::Assignments::change_by_one))]
 fn change_by_one(tags: &Tags, op: BinOp, ty: &Ty) -> Option<(Change, IntKind)>
-    ensures { map_option step_of result ≡ spec.change_by_one tags.now op (type_of ty.now) }
+    ensures { map_option step_of result ≡ spec.change_by_one (layouts tags.now) op (type_of ty.now) }
 {
     match ty {
         Ty::Pointer(_) => Some((pointer_change(tags, op, ty)?, IntKind::Int)),
@@ -243,7 +244,7 @@ pub fn stepped<C: Constants>(
     operand: Operand,
     line: u32,
 ) -> Result<Operand, Refused>
-    ensures { Gives expression_of result (spec.stepped tags.now (C.is_constant constants.now) op (expression_of operand) line) }
+    ensures { Gives expression_of result (spec.stepped (layouts tags.now) (C.is_constant constants.now) op (expression_of operand) line) }
 {
     let (place, ty) = modifiable(alloc, constants, operand)?;
     let Some((change, kind)) = change_by_one(tags, op, &ty) else {
@@ -264,7 +265,7 @@ pub fn incremented<C: Constants>(
     operand: Operand,
     line: u32,
 ) -> Result<Operand, Refused>
-    ensures { Gives expression_of result (spec.incremented tags.now (C.is_constant constants.now) op (expression_of operand) line) }
+    ensures { Gives expression_of result (spec.incremented (layouts tags.now) (C.is_constant constants.now) op (expression_of operand) line) }
 {
     let (place, ty) = modifiable(alloc, constants, operand)?;
     let Some((change, _kind)) = change_by_one(tags, op, &ty) else {

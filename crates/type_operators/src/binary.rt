@@ -5,6 +5,7 @@ ghost use Rattle.type_operators.specs.Terms.{term_of, expression_of, Gives};
 ghost use Rattle.type_operators.specs.Conversions as conversions;
 ghost use Rattle.type_operators.specs.Operators.{balanced_of, pair_of};
 ghost use Rattle.type_operators.specs.Operators as spec;
+ghost use Rattle.type_operators.specs.Layouts.{layouts};
 
 use crate::Refused;
 use crate::constant::{is_null, null_pointer};
@@ -51,7 +52,7 @@ pub fn multiplied(
     b: Operand,
     line: u32,
 ) -> Result<Operand, Refused>
-    ensures { Gives expression_of result (spec.multiplied tags.now op (expression_of a) (expression_of b) line) }
+    ensures { Gives expression_of result (spec.multiplied (layouts tags.now) op (expression_of a) (expression_of b) line) }
 {
     let a = value_of(alloc, tags, a)?;
     let b = value_of(alloc, tags, b)?;
@@ -68,7 +69,7 @@ pub fn shifted(
     b: Operand,
     line: u32,
 ) -> Result<Operand, Refused>
-    ensures { Gives expression_of result (spec.shifted tags.now op (expression_of a) (expression_of b) line) }
+    ensures { Gives expression_of result (spec.shifted (layouts tags.now) op (expression_of a) (expression_of b) line) }
 {
     let (a, kind) = promoted(alloc, value_of(alloc, tags, a)?)?;
     let (b, _count) = promoted(alloc, value_of(alloc, tags, b)?)?;
@@ -92,7 +93,7 @@ pub fn compared(
     b: Operand,
     line: u32,
 ) -> Result<Operand, Refused>
-    ensures { Gives expression_of result (spec.compared tags.now op (expression_of a) (expression_of b) line) }
+    ensures { Gives expression_of result (spec.compared (layouts tags.now) op (expression_of a) (expression_of b) line) }
 {
     let a = value_of(alloc, tags, a)?;
     let b = value_of(alloc, tags, b)?;
@@ -177,7 +178,7 @@ pub fn equated(
     b: Operand,
     line: u32,
 ) -> Result<Operand, Refused>
-    ensures { Gives expression_of result (spec.equated tags.now op (expression_of a) (expression_of b) line) }
+    ensures { Gives expression_of result (spec.equated (layouts tags.now) op (expression_of a) (expression_of b) line) }
 {
     let (f, g) = (a.form, b.form);
     let a = value_of(alloc, tags, a)?;
@@ -197,7 +198,7 @@ pub fn joined(
     b: Operand,
     line: u32,
 ) -> Result<Operand, Refused>
-    ensures { Gives expression_of result (spec.joined tags.now either (expression_of a) (expression_of b) line) }
+    ensures { Gives expression_of result (spec.joined (layouts tags.now) either (expression_of a) (expression_of b) line) }
 {
     let a = truth(alloc, tags, a)?;
     let b = truth(alloc, tags, b)?;

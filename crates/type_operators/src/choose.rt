@@ -5,6 +5,7 @@ ghost use Rattle.type_operators.specs.Terms.{term_of, terms_of, expression_of, G
 ghost use Rattle.type_operators.specs.Conversions.{is_void_expression};
 ghost use Rattle.type_operators.specs.Calls as calls;
 ghost use Rattle.type_operators.specs.Choices as spec;
+ghost use Rattle.type_operators.specs.Layouts.{layouts};
 
 use crate::Refused;
 use crate::binary::{balanced, matched};
@@ -19,7 +20,7 @@ use ub_base::Items;
 
 // Whether a call may give a value of this type: `void`, or a complete object type that is no array (6.5.2.2p1).
 fn may_return(tags: &Tags, ty: &Ty) -> bool
-    ensures { result ≡ calls.may_return tags.now (type_of ty.now) }
+    ensures { result ≡ calls.may_return (layouts tags.now) (type_of ty.now) }
 {
     match ty {
         Ty::Void => true,
@@ -37,7 +38,7 @@ fn argument(
     params: &[Qual],
     operand: Operand,
 ) -> Result<Typed, Refused>
-    ensures { Gives term_of result (calls.argument tags.now variadic (params_of (map qualified_of params.now)) (expression_of operand)) }
+    ensures { Gives term_of result (calls.argument (layouts tags.now) variadic (params_of (map qualified_of params.now)) (expression_of operand)) }
 {
     match params.split_first() {
         Some((param, _)) => as_if_assigned(alloc, tags, operand, &param.ty),
@@ -65,7 +66,7 @@ fn with_arguments(
     designator: Typed,
     arguments: Vec<Operand>,
 ) -> Result<Items<Typed>, Refused>
-    ensures { Gives terms_of result (calls.operands tags.now (term_of designator) variadic (params_of (map qualified_of params.now)) (map expression_of arguments.items)) }
+    ensures { Gives terms_of result (calls.operands (layouts tags.now) (term_of designator) variadic (params_of (map qualified_of params.now)) (map expression_of arguments.items)) }
 {
     let mut children = Items::new(alloc);
     children.push(designator)?;
@@ -101,7 +102,7 @@ pub fn called(
     arguments: Vec<Operand>,
     line: u32,
 ) -> Result<Operand, Refused>
-    ensures { Gives expression_of result (calls.called tags.now (expression_of designator) (map expression_of arguments.items) line) }
+    ensures { Gives expression_of result (calls.called (layouts tags.now) (expression_of designator) (map expression_of arguments.items) line) }
 {
     let designator = value_of(alloc, tags, designator)?;
     let f = callee(alloc, &designator.ty)?;
@@ -197,7 +198,7 @@ fn chosen_pointer(
     no: Typed,
     line: u32,
 ) -> Result<Operand, Refused>
-    ensures { Gives expression_of result (spec.chosen_pointer tags.now (term_of test) (term_of yes) (term_of no) line) }
+    ensures { Gives expression_of result (spec.chosen_pointer (layouts tags.now) (term_of test) (term_of yes) (term_of no) line) }
 {
     let ty = joint_pointer(alloc, &yes.ty, &no.ty)?;
     let yes = converted(alloc, tags, yes, &ty)?;
@@ -243,7 +244,7 @@ fn chosen_value(
     no: Typed,
     line: u32,
 ) -> Result<Operand, Refused>
-    ensures { Gives expression_of result (spec.chosen_value tags.now (term_of test) (term_of yes) (term_of no) line) }
+    ensures { Gives expression_of result (spec.chosen_value (layouts tags.now) (term_of test) (term_of yes) (term_of no) line) }
 {
     match (&yes.ty, &no.ty) {
         (Ty::Pointer(_), Ty::Pointer(_)) => chosen_pointer(alloc, tags, test, yes, no, line),
@@ -262,7 +263,7 @@ fn chosen_values(
     no: Operand,
     line: u32,
 ) -> Result<Operand, Refused>
-    ensures { Gives expression_of result (spec.chosen_values tags.now (term_of test) (expression_of yes) (expression_of no) line) }
+    ensures { Gives expression_of result (spec.chosen_values (layouts tags.now) (term_of test) (expression_of yes) (expression_of no) line) }
 {
     let (f, g) = (yes.form, no.form);
     let yes = value_of(alloc, tags, yes)?;
@@ -281,7 +282,7 @@ pub fn chosen(
     no: Operand,
     line: u32,
 ) -> Result<Operand, Refused>
-    ensures { Gives expression_of result (spec.chosen tags.now (expression_of test) (expression_of yes) (expression_of no) line) }
+    ensures { Gives expression_of result (spec.chosen (layouts tags.now) (expression_of test) (expression_of yes) (expression_of no) line) }
 {
     let test = truth(alloc, tags, test)?;
     match (is_void(&yes), is_void(&no)) {
@@ -294,7 +295,7 @@ pub fn chosen(
 // The last operand of a comma with its type: its value, or a void expression (6.5.17p2).
 #[tactic(auto, unfolding(crate::specs::Choices::last))]
 fn last(alloc: Global, tags: &Tags, operand: Operand) -> Result<(Typed, Ty), Refused>
-    ensures { Gives spec.last_of result (spec.last tags.now (expression_of operand)) }
+    ensures { Gives spec.last_of result (spec.last (layouts tags.now) (expression_of operand)) }
 {
     if is_void(&operand) {
         return Ok((tree_of(operand), Ty::Void));
@@ -310,7 +311,7 @@ fn without_values(
     tags: &Tags,
     operands: Vec<Operand>,
 ) -> Result<Items<Typed>, Refused>
-    ensures { Gives terms_of result (spec.without_values tags.now (map expression_of operands.items)) }
+    ensures { Gives terms_of result (spec.without_values (layouts tags.now) (map expression_of operands.items)) }
 {
     let mut children = Items::new(alloc);
     for operand in operands {
@@ -337,7 +338,7 @@ pub fn sequenced(
     mut operands: Vec<Operand>,
     line: u32,
 ) -> Result<Operand, Refused>
-    ensures { Gives expression_of result (spec.sequenced tags.now (map expression_of operands.items) line) }
+    ensures { Gives expression_of result (spec.sequenced (layouts tags.now) (map expression_of operands.items) line) }
 {
     let Some(operand) = operands.pop() else {
         return Err(Refused::Constraint);

@@ -8,6 +8,7 @@ ghost use Rattle.type_operators.specs.Constants.{is_null};
 ghost use Rattle.type_operators.specs.Assignments as assignments;
 ghost use Rattle.type_operators.specs.Conversions as spec;
 ghost use Rattle.type_operators.specs.Operators as operators;
+ghost use Rattle.type_operators.specs.Layouts.{layouts};
 
 use crate::Refused;
 use crate::constant::{is_null, null_pointer};
@@ -64,7 +65,7 @@ pub fn usual_kind(a: &Ty, b: &Ty) -> Option<IntKind>
 /// An argument after the default argument promotions (6.5.2.2p6).
 #[tactic(auto, unfolding(crate::specs::Assignments::default_promoted))]
 pub fn promoted_argument(alloc: Global, tags: &Tags, operand: Operand) -> Result<Typed, Refused>
-    ensures { Gives term_of result (assignments.default_promoted tags.now (expression_of operand)) }
+    ensures { Gives term_of result (assignments.default_promoted (layouts tags.now) (expression_of operand)) }
 {
     let tree = value_of(alloc, tags, operand)?;
     match &tree.ty {
@@ -80,7 +81,7 @@ pub fn promoted_argument(alloc: Global, tags: &Tags, operand: Operand) -> Result
 /// A value that is tested against zero: of scalar type (6.5.13p2, 6.8.4.1p1, 6.8.5p2).
 #[tactic(auto, unfolding(crate::specs::Operators::truth))]
 pub fn truth(alloc: Global, tags: &Tags, operand: Operand) -> Result<Typed, Refused>
-    ensures { Gives term_of result (operators.truth tags.now (expression_of operand)) }
+    ensures { Gives term_of result (operators.truth (layouts tags.now) (expression_of operand)) }
 {
     let tree = value_of(alloc, tags, operand)?;
     if is_scalar(&tree.ty) {
@@ -112,7 +113,7 @@ fn alignment(tags: &Tags, target: &Ty) -> u64
 }
 
 fn pointer_conversion(tags: &Tags, from: &Qual, to: &Qual) -> Option<Conversion>
-    ensures { result ≡ spec.pointer_conversion tags.now (qualified_of from.now).ty (qualified_of to.now).ty }
+    ensures { result ≡ spec.pointer_conversion (layouts tags.now) (qualified_of from.now).ty (qualified_of to.now).ty }
 {
     match (&from.ty, &to.ty) {
         (Ty::Function(_), Ty::Function(_)) => Some(Conversion::Function),
@@ -146,7 +147,7 @@ fn lookup_conversion(to: &Qual) -> Option<Conversion>
 /// The conversion from one scalar type to another; none between a function pointer and an integer or an object pointer.
 #[tactic(auto, unfolding(crate::specs::Conversions::conversion_to))]
 fn conversion(tags: &Tags, from: &Ty, to: &Ty) -> Option<Conversion>
-    ensures { result ≡ spec.conversion_to tags.now (type_of from.now) (type_of to.now) }
+    ensures { result ≡ spec.conversion_to (layouts tags.now) (type_of from.now) (type_of to.now) }
 {
     match (object_of(from), object_of(to)) {
         (Some(from), Some(to)) => pointer_conversion(tags, from, to),
@@ -164,7 +165,7 @@ fn conversion(tags: &Tags, from: &Ty, to: &Ty) -> Option<Conversion>
 
 /// The value in another scalar type. No node stands between equal types.
 pub fn converted(alloc: Global, tags: &Tags, tree: Typed, to: &Ty) -> Result<Typed, Refused>
-    ensures { Gives term_of result (spec.converted tags.now (type_of to.now) (term_of tree)) }
+    ensures { Gives term_of result (spec.converted (layouts tags.now) (type_of to.now) (term_of tree)) }
 {
     let line = tree.line;
     converted_on(alloc, tags, tree, to, line)
@@ -179,7 +180,7 @@ fn converted_on(
     to: &Ty,
     line: u32,
 ) -> Result<Typed, Refused>
-    ensures { Gives term_of result (spec.converted_on tags.now line (type_of to.now) (term_of tree)) }
+    ensures { Gives term_of result (spec.converted_on (layouts tags.now) line (type_of to.now) (term_of tree)) }
 {
     if same_type(&tree.ty, to) {
         return Ok(tree);
@@ -246,7 +247,7 @@ fn takes_null(operand: &Operand, to: &Ty) -> bool
 
 // A value put into an object of this type; a structure or union stays as it is.
 fn put_as(alloc: Global, tags: &Tags, tree: Typed, to: &Ty) -> Result<Typed, Refused>
-    ensures { Gives term_of result (assignments.put_as tags.now (type_of to.now) (term_of tree)) }
+    ensures { Gives term_of result (assignments.put_as (layouts tags.now) (type_of to.now) (term_of tree)) }
 {
     if !may_assign(&tree.ty, to) {
         return Err(Refused::Constraint);
@@ -265,7 +266,7 @@ pub fn as_if_assigned(
     operand: Operand,
     to: &Ty,
 ) -> Result<Typed, Refused>
-    ensures { Gives term_of result (assignments.as_if_assigned tags.now (type_of to.now) (expression_of operand)) }
+    ensures { Gives term_of result (assignments.as_if_assigned (layouts tags.now) (type_of to.now) (expression_of operand)) }
 {
     if takes_null(&operand, to) {
         return null_pointer(alloc, to, operand.tree.line);
@@ -285,7 +286,7 @@ fn is_void_pointer(ty: &Ty) -> bool
 
 #[tactic(auto, unfolding(crate::specs::Operators::void_cast))]
 fn void_cast(alloc: Global, tags: &Tags, operand: Operand, line: u32) -> Result<Operand, Refused>
-    ensures { Gives expression_of result (operators.void_cast tags.now (expression_of operand) line) }
+    ensures { Gives expression_of result (operators.void_cast (layouts tags.now) (expression_of operand) line) }
 {
     Ok(Operand {
         tree: discarded(alloc, tags, operand)?,
@@ -302,7 +303,7 @@ fn scalar_cast(
     to: &Ty,
     line: u32,
 ) -> Result<Operand, Refused>
-    ensures { Gives expression_of result (operators.scalar_cast tags.now (type_of to.now) (expression_of operand) line) }
+    ensures { Gives expression_of result (operators.scalar_cast (layouts tags.now) (type_of to.now) (expression_of operand) line) }
 {
     let tree = value_of(alloc, tags, operand)?;
     if is_scalar(&tree.ty) && is_scalar(to) {
@@ -339,7 +340,7 @@ pub fn cast(
     to: &Ty,
     line: u32,
 ) -> Result<Operand, Refused>
-    ensures { Gives expression_of result (operators.cast tags.now (type_of to.now) (expression_of operand) line) }
+    ensures { Gives expression_of result (operators.cast (layouts tags.now) (type_of to.now) (expression_of operand) line) }
 {
     match to {
         Ty::Void => void_cast(alloc, tags, operand, line),

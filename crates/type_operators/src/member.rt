@@ -4,6 +4,7 @@ ghost use Rattle.c_types.specs.Types.{type_of, qualified_of};
 ghost use Rattle.type_operators.specs.Terms.{term_of, expression_of, Gives};
 ghost use Rattle.type_operators.specs.Members.{found_of, part_of};
 ghost use Rattle.type_operators.specs.Members as spec;
+ghost use Rattle.type_operators.specs.Layouts.{layouts};
 
 use crate::Refused;
 use crate::operand::{Form, Operand, access_of, object_of, place, value, value_of, with_child};
@@ -50,7 +51,7 @@ pub fn qualified(alloc: Global, ty: &Ty, constant: bool) -> Result<Qual, Refused
 
 #[tactic(auto, unfolding(crate::specs::Members::member_of))]
 fn member_of(alloc: Global, tags: &Tags, object: &Qual, name: &[u8]) -> Result<Found, Refused>
-    ensures { Gives found_of result (spec.member_of tags.now (qualified_of object.now) name.now) }
+    ensures { Gives found_of result (spec.member_of (layouts tags.now) (qualified_of object.now) name.now) }
 {
     let Some(tag) = tag_of(&object.ty) else {
         return Err(Refused::Constraint);
@@ -69,7 +70,7 @@ fn member_of(alloc: Global, tags: &Tags, object: &Qual, name: &[u8]) -> Result<F
 }
 
 fn member_behind(alloc: Global, tags: &Tags, ty: &Ty, name: &[u8]) -> Result<Found, Refused>
-    ensures { Gives found_of result (spec.member_behind tags.now (type_of ty.now) name.now) }
+    ensures { Gives found_of result (spec.member_behind (layouts tags.now) (type_of ty.now) name.now) }
 {
     match object_of(ty) {
         None => Err(Refused::Constraint),
@@ -87,7 +88,7 @@ fn member_place(
     register: bool,
     line: u32,
 ) -> Result<Operand, Refused>
-    ensures { Gives expression_of result (spec.member_place tags.now (term_of tree) name.now register line) }
+    ensures { Gives expression_of result (spec.member_place (layouts tags.now) (term_of tree) name.now register line) }
 {
     let Found { offset, qual } = member_behind(alloc, tags, &tree.ty, name)?;
     let node = Node::Member { offset };
@@ -104,7 +105,7 @@ struct Part {
 
 #[tactic(auto, unfolding(crate::specs::Members::part_behind))]
 fn part_behind(alloc: Global, tags: &Tags, ty: &Ty, name: &[u8]) -> Result<Part, Refused>
-    ensures { Gives part_of result (spec.part_behind tags.now (type_of ty.now) name.now) }
+    ensures { Gives part_of result (spec.part_behind (layouts tags.now) (type_of ty.now) name.now) }
 {
     let Some(tag) = tag_of(ty) else {
         return Err(Refused::Constraint);
@@ -132,7 +133,7 @@ fn member_part(
     name: &[u8],
     line: u32,
 ) -> Result<Operand, Refused>
-    ensures { Gives expression_of result (spec.member_part tags.now (term_of tree) name.now line) }
+    ensures { Gives expression_of result (spec.member_part (layouts tags.now) (term_of tree) name.now line) }
 {
     let Part { offset, access, ty } = part_behind(alloc, tags, &tree.ty, name)?;
     let node = Node::Part { offset, access };
@@ -147,7 +148,7 @@ pub fn member_of_value(
     name: &[u8],
     line: u32,
 ) -> Result<Operand, Refused>
-    ensures { Gives expression_of result (spec.member_of_value tags.now (expression_of operand) name.now line) }
+    ensures { Gives expression_of result (spec.member_of_value (layouts tags.now) (expression_of operand) name.now line) }
 {
     let Operand {
         tree,
@@ -170,7 +171,7 @@ pub fn member_of_pointer(
     name: &[u8],
     line: u32,
 ) -> Result<Operand, Refused>
-    ensures { Gives expression_of result (spec.member_of_pointer tags.now (expression_of operand) name.now line) }
+    ensures { Gives expression_of result (spec.member_of_pointer (layouts tags.now) (expression_of operand) name.now line) }
 {
     let tree = value_of(alloc, tags, operand)?;
     member_place(alloc, tags, tree, name, false, line)

@@ -6,6 +6,7 @@ ghost use Rattle.type_operators.specs.Terms.{term_of, seen_node, expression_of, 
 ghost use Rattle.type_operators.specs.Terms as spec;
 ghost use Rattle.type_operators.specs.Conversions.{target_seen, target_of, is_void_target, use_seen, use_at};
 ghost use Rattle.type_operators.specs.Conversions as conversions;
+ghost use Rattle.type_operators.specs.Layouts.{layouts};
 
 use crate::Refused;
 use c_typed::{Access, Node, Typed};
@@ -155,7 +156,7 @@ pub fn function_target(ty: &Ty) -> Option<&FuncTy> {
 
 /// How a complete scalar, structure or union type lies in memory.
 pub fn access_of(tags: &Tags, ty: &Ty) -> Option<Access>
-    ensures { result ≡ conversions.access_of tags.now (type_of ty.now) }
+    ensures { result ≡ conversions.access_of (layouts tags.now) (type_of ty.now) }
 {
     match ty {
         Ty::Int(kind) => Some(Access::Integer(*kind)),
@@ -182,7 +183,7 @@ enum Used {
 }
 
 fn use_of(alloc: Global, tags: &Tags, object: &Qual) -> Result<Used, Refused>
-    ensures { Gives use_seen result (use_at tags.now (qualified_of object.now).ty) }
+    ensures { Gives use_seen result (use_at (layouts tags.now) (qualified_of object.now).ty) }
 {
     match &object.ty {
         Ty::Array(element, _) => {
@@ -200,7 +201,7 @@ fn use_of(alloc: Global, tags: &Tags, object: &Qual) -> Result<Used, Refused>
 }
 
 fn use_behind(alloc: Global, tags: &Tags, ty: &Ty) -> Result<Used, Refused>
-    ensures { Gives use_seen result (conversions.use_behind tags.now (type_of ty.now)) }
+    ensures { Gives use_seen result (conversions.use_behind (layouts tags.now) (type_of ty.now)) }
 {
     match object_of(ty) {
         None => Err(Refused::Constraint),
@@ -230,7 +231,7 @@ pub fn retyped(tree: Typed, ty: Ty) -> Typed
 /// it (6.3.2.1p2 to 6.3.2.1p4). Refused where the object's type is incomplete.
 #[tactic(auto, unfolding(crate::specs::Conversions::value))]
 pub fn value_of(alloc: Global, tags: &Tags, operand: Operand) -> Result<Typed, Refused>
-    ensures { Gives term_of result (conversions.value tags.now (expression_of operand)) }
+    ensures { Gives term_of result (conversions.value (layouts tags.now) (expression_of operand)) }
 {
     let Operand { tree, form, line } = operand;
     match form {
@@ -285,7 +286,7 @@ pub fn is_void_place(ty: &Ty) -> bool
 /// one of type `void` stays as it is.
 #[tactic(auto, unfolding(crate::specs::Conversions::discarded, crate::specs::Conversions::value))]
 pub fn discarded(alloc: Global, tags: &Tags, operand: Operand) -> Result<Typed, Refused>
-    ensures { Gives term_of result (conversions.discarded tags.now (expression_of operand)) }
+    ensures { Gives term_of result (conversions.discarded (layouts tags.now) (expression_of operand)) }
 {
     match operand.form {
         Form::Place { register: _ } if is_void_place(&operand.tree.ty) => Ok(tree_of(operand)),

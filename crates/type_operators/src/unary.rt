@@ -4,6 +4,7 @@ ghost use Rattle.c_types.specs.Types.{int};
 ghost use Rattle.c_typed.specs.declared.tree.Node.TheOpen as shape;
 ghost use Rattle.type_operators.specs.Terms.{term_of, expression_of, unary, as_value, Gives};
 ghost use Rattle.type_operators.specs.Operators as spec;
+ghost use Rattle.type_operators.specs.Layouts.{layouts};
 
 use crate::Refused;
 use crate::convert::{promoted, truth};
@@ -15,7 +16,7 @@ use std::alloc::Global;
 /// `+E`: the promoted value (6.5.3.3p2).
 #[tactic(auto, unfolding(crate::specs::Operators::plus))]
 pub fn plus(alloc: Global, tags: &Tags, operand: Operand) -> Result<Operand, Refused>
-    ensures { Gives expression_of result (spec.plus tags.now (expression_of operand)) }
+    ensures { Gives expression_of result (spec.plus (layouts tags.now) (expression_of operand)) }
 {
     let (tree, _kind) = promoted(alloc, value_of(alloc, tags, operand)?)?;
     Ok(value(tree))
@@ -37,7 +38,7 @@ fn integer_unary(
 /// `-E` (6.5.3.3p3).
 #[tactic(auto, unfolding(crate::specs::Operators::of_promoted))]
 pub fn negated(alloc: Global, tags: &Tags, operand: Operand, line: u32) -> Result<Operand, Refused>
-    ensures { Gives expression_of result (spec.negated tags.now (expression_of operand) line) }
+    ensures { Gives expression_of result (spec.negated (layouts tags.now) (expression_of operand) line) }
 {
     let (tree, kind) = promoted(alloc, value_of(alloc, tags, operand)?)?;
     integer_unary(alloc, UnOp::Minus(kind), kind, tree, line)
@@ -51,7 +52,7 @@ pub fn complemented(
     operand: Operand,
     line: u32,
 ) -> Result<Operand, Refused>
-    ensures { Gives expression_of result (spec.complemented tags.now (expression_of operand) line) }
+    ensures { Gives expression_of result (spec.complemented (layouts tags.now) (expression_of operand) line) }
 {
     let (tree, kind) = promoted(alloc, value_of(alloc, tags, operand)?)?;
     integer_unary(alloc, UnOp::Complement(kind), kind, tree, line)
@@ -60,7 +61,7 @@ pub fn complemented(
 /// `!E`, of any scalar (6.5.3.3p5).
 #[tactic(auto, unfolding(crate::specs::Operators::inverted))]
 pub fn inverted(alloc: Global, tags: &Tags, operand: Operand, line: u32) -> Result<Operand, Refused>
-    ensures { Gives expression_of result (spec.inverted tags.now (expression_of operand) line) }
+    ensures { Gives expression_of result (spec.inverted (layouts tags.now) (expression_of operand) line) }
 {
     let tree = truth(alloc, tags, operand)?;
     integer_unary(alloc, UnOp::Not, IntKind::Int, tree, line)
@@ -91,7 +92,7 @@ pub fn dereferenced(
     operand: Operand,
     line: u32,
 ) -> Result<Operand, Refused>
-    ensures { Gives expression_of result (spec.dereferenced tags.now (expression_of operand) line) }
+    ensures { Gives expression_of result (spec.dereferenced (layouts tags.now) (expression_of operand) line) }
 {
     let tree = value_of(alloc, tags, operand)?;
     let function = match object_of(&tree.ty) {

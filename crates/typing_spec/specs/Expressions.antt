@@ -40,7 +40,7 @@ use Rattle.c_ast.specs.declared.expression.AssignOp.TheVariants as a
 use Rattle.c_grammar.specs.Grammar.{name_of, is_own_name}
 use Rattle.c_types.specs.declared.kind.IntKind.TheVariants.{Int, ULong}
 use Rattle.c_types.specs.declared.kind.BinOp.TheVariants as op
-use Rattle.c_types.specs.declared.tags.Tag.{Tag}
+use Rattle.type_operators.specs.Layouts.{Layouts}
 use Rattle.c_types.specs.declared.tags.Extent.{Extent}
 use Rattle.c_types.specs.Types.{CType, Params, none as no_parameter, more as parameter_then, int, pointer, Qualified}
 use Rattle.type_values.specs.Enumerators.{enumerator}
@@ -62,7 +62,7 @@ use Rattle.type_operators.specs.Calls.{called}
 use Rattle.type_operators.specs.Choices.{chosen, sequenced}
 use Rattle.type_operators.specs.Members.{member_of_value, member_of_pointer}
 use Rattle.typing_spec.specs.Seen.{SeenMember}
-use Rattle.typing_spec.specs.Tags.{held, constants, extent_in}
+use Rattle.typing_spec.specs.Tags.{layouts_of, constants, extent_in}
 use Rattle.typing_spec.specs.Env.{Env, Typing, ◌>>=◌, ◌>>◌, pure, refuse, known, knowing, found, holds, unevaluated, Use, Meaning}
 use Rattle.typing_spec.specs.Env.{an_object, a_function, a_constant, symbol_of, line_of, spelling}
 use Rattle.typing_spec.specs.Names.{meaning_of, declare, in_prototype}
@@ -103,10 +103,10 @@ literal_at env at = literals_from (length env.tokens.list) env at
 -- 2. Operands.
 
 -- what operators make of operands here
-unfoldable pub made : ℕ → (List Tag → ℕ → Option Expression) → Typing Expression
+unfoldable pub made : ℕ → (Layouts → ℕ → Option Expression) → Typing Expression
 made at make = do
   env ← known
-  found (make (held env.tags) (line_of env at))
+  found (make (layouts_of env.tags) (line_of env at))
 
 -- an object with static storage, or a function, is used (6.9p3, 6.9p5)
 abbrev pub use_of_object : Slot → CType → List Use
@@ -154,7 +154,7 @@ strings at = do
 
 -- 3. Operators.
 
-abbrev pub unary : UnaryOp → Expression → List Tag → (ℕ → Bool) → ℕ → Option Expression
+abbrev pub unary : UnaryOp → Expression → Layouts → (ℕ → Bool) → ℕ → Option Expression
 unary u.Address x tags consts line = operators.addressed x
 unary u.Deref x tags consts line = operators.dereferenced tags x line
 unary u.Plus x tags consts line = operators.plus tags x
@@ -164,11 +164,11 @@ unary u.Not x tags consts line = operators.inverted tags x line
 unary u.Increment x tags consts line = assignments.stepped tags consts op.Add x line
 unary u.Decrement x tags consts line = assignments.stepped tags consts op.Sub x line
 
-abbrev pub postfix : PostOp → Expression → List Tag → (ℕ → Bool) → ℕ → Option Expression
+abbrev pub postfix : PostOp → Expression → Layouts → (ℕ → Bool) → ℕ → Option Expression
 postfix p.Increment x tags consts line = assignments.incremented tags consts op.Add x line
 postfix p.Decrement x tags consts line = assignments.incremented tags consts op.Sub x line
 
-abbrev pub binary : BinaryOp → Expression → Expression → List Tag → ℕ → Option Expression
+abbrev pub binary : BinaryOp → Expression → Expression → Layouts → ℕ → Option Expression
 binary b.Mul x y tags line = operators.multiplied tags op.Mul x y line
 binary b.Div x y tags line = operators.multiplied tags op.Div x y line
 binary b.Rem x y tags line = operators.multiplied tags op.Rem x y line
@@ -188,7 +188,7 @@ binary b.BitOr x y tags line = operators.multiplied tags op.BitOr x y line
 binary b.And x y tags line = operators.joined tags false x y line
 binary b.Or x y tags line = operators.joined tags true x y line
 
-abbrev pub assigned : AssignOp → Expression → Expression → List Tag → (ℕ → Bool) → ℕ → Option Expression
+abbrev pub assigned : AssignOp → Expression → Expression → Layouts → (ℕ → Bool) → ℕ → Option Expression
 assigned a.Plain x y tags consts line = assignments.assigned tags consts x y line
 assigned a.Mul x y tags consts line = assignments.compound tags consts op.Mul x y line
 assigned a.Div x y tags consts line = assignments.compound tags consts op.Div x y line
@@ -202,10 +202,10 @@ assigned a.BitXor x y tags consts line = assignments.compound tags consts op.Bit
 assigned a.BitOr x y tags consts line = assignments.compound tags consts op.BitOr x y line
 
 -- where an operator asks which structures have a const member
-unfoldable pub made_modifying : ℕ → (List Tag → (ℕ → Bool) → ℕ → Option Expression) → Typing Expression
+unfoldable pub made_modifying : ℕ → (Layouts → (ℕ → Bool) → ℕ → Option Expression) → Typing Expression
 made_modifying at make = do
   env ← known
-  found (make (held env.tags) (constants env.tags) (line_of env at))
+  found (make (layouts_of env.tags) (constants env.tags) (line_of env at))
 
 -- 4. `sizeof` and `_Alignof` (6.5.3.4).
 

@@ -34,7 +34,7 @@ use Rattle.type_operators.specs.Conversions.{target_of, is_scalar}
 use Rattle.type_operators.specs.Constants.{worth}
 use Rattle.type_operators.specs.Assignments.{as_if_assigned, stored}
 use Rattle.typing_spec.specs.Seen.{SeenMember, SeenTag, ordered}
-use Rattle.typing_spec.specs.Tags.{Part, part, held, extent_in, size_of, is_complete, way_to, members_in}
+use Rattle.typing_spec.specs.Tags.{Part, part, layouts_of, extent_in, size_of, is_complete, way_to, members_in}
 use Rattle.typing_spec.specs.Env.{Env, Typing, if_found, ◌>>=◌, ◌>>◌, pure, refuse, known, found, holds, Object, line_of, spelling}
 use Rattle.typing_spec.specs.Names.{object_named}
 use Rattle.typing_spec.specs.Words.{is_so, count_of}
@@ -222,7 +222,7 @@ content_of size t _ = None
 unfoldable pub fixed_value : CType → Expression → Typing Given
 fixed_value t e = do
   env ← known
-  x ← found (as_if_assigned (held env.tags) t e)
+  x ← found (as_if_assigned (layouts_of env.tags) t e)
   c ← found (content_of (size_of env.tags t) t (worth (places env) x))
   pure (fixed c)
 
@@ -589,7 +589,7 @@ before _ _ = None
 
 abbrev pub isolated_by : List SeenTag → Slot → Qualified → Item → Given → Option Terms → Option Terms
 isolated_by tags slot q x (fixed c) ts = ts
-isolated_by tags slot q x (expressed e) ts = before (stored (held tags) true (place_in slot q x) (x.part).ty e x.line) ts
+isolated_by tags slot q x (expressed e) ts = before (stored (layouts_of tags) true (place_in slot q x) (x.part).ty e x.line) ts
 
 abbrev pub isolated : List SeenTag → Slot → Qualified → List Item → Option Terms
 isolated tags slot q [] = Some none
@@ -603,7 +603,7 @@ list_of tags slot q items line ts = term (shape.List slot (list_bytes tags q.ty 
 
 -- the tree of an automatic object's initializer (6.7.9p11, 6.7.9p23)
 abbrev pub tree_of_value : List SeenTag → Slot → Qualified → ℕ → Given → Option Term
-tree_of_value tags slot q line (expressed e) = stored (held tags) true (object_at slot q line) q.ty e line
+tree_of_value tags slot q line (expressed e) = stored (layouts_of tags) true (object_at slot q line) q.ty e line
 tree_of_value tags slot q line (fixed c) = None
 
 abbrev pub tree_by : List SeenTag → Slot → Qualified → Initial → Option Term

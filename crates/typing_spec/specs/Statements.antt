@@ -24,7 +24,7 @@ use Rattle.type_operators.specs.Assignments.{as_if_assigned}
 use Rattle.typing_spec.specs.Seen.{Statement, Otherwise, Start, Section, Entries, expressed, compound, chooses, switches, while_loop}
 use Rattle.typing_spec.specs.Seen.{do_loop, for_loop, goes_to, continues, breaks, returns, labelled, case_of, by_default, nothing}
 use Rattle.typing_spec.specs.Seen.{else_does, no_start, start_value, start_block, section, end, statement, initializes, declares}
-use Rattle.typing_spec.specs.Tags.{held, is_complete}
+use Rattle.typing_spec.specs.Tags.{layouts_of, is_complete}
 use Rattle.typing_spec.specs.Env.{Env, Typing, ◌>>=◌, ◌>>◌, pure, refuse, known, knowing, found, holds, an_object, Task, OpenBlock}
 use Rattle.typing_spec.specs.Env.{OpenSwitch, symbol_of, spelling}
 use Rattle.typing_spec.specs.Names.{scoped, declare, declare_typedef, renamed, as_extern, declare_object, declare_function, with_object}
@@ -262,7 +262,7 @@ unfoldable pub unused : Expr → Typing Term
 unused e = do
   x ← expr e
   env ← known
-  found (discarded (held env.tags) x)
+  found (discarded (layouts_of env.tags) x)
 
 unfoldable pub unused_part : Option Expr → Typing (Option Term)
 unused_part None = pure None
@@ -275,7 +275,7 @@ unfoldable pub tested : Expr → Typing Term
 tested e = do
   x ← expr e
   env ← known
-  found (truth (held env.tags) x)
+  found (truth (layouts_of env.tags) x)
 
 unfoldable pub tested_part : Option Expr → Typing (Option Term)
 tested_part None = pure None
@@ -288,7 +288,7 @@ unfoldable pub selecting : Expr → Typing Integer
 selecting e = do
   x ← expr e
   env ← known
-  t ← found (value (held env.tags) x)
+  t ← found (value (layouts_of env.tags) x)
   found (promoted t)
 
 -- `return` has an expression exactly where the function returns a value (6.8.6.4p1)
@@ -302,7 +302,7 @@ returned (Some e) = do
   holds (not (is_void (env.task).result))
   x ← expr e
   after ← known
-  t ← found (as_if_assigned (held after.tags) (env.task).result x)
+  t ← found (as_if_assigned (layouts_of after.tags) (env.task).result x)
   pure (Some t)
 
 -- 4. Labels and jumps (6.8.1, 6.8.4.2, 6.8.6).

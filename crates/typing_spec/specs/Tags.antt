@@ -16,6 +16,7 @@ use Rattle.c_types.specs.declared.ty.Qual.{Qual}
 use Rattle.c_types.specs.declared.ty.FuncTy.{roll-FuncTy}
 use Rattle.layout.specs.Names.{Named, if_named, also_const, farther}
 use Rattle.layout.specs.Names as layout
+use Rattle.type_operators.specs.Layouts.{Layouts}
 use Rattle.typing_spec.specs.Seen.{SeenTag, SeenMember, tag_seen}
 
 -- 1. Extents (6.7.2.1p15 to 6.7.2.1p17).
@@ -194,6 +195,10 @@ abbrev pub completed : List SeenTag → ℕ → List SeenMember → List SeenTag
 completed [] tag members = []
 completed (t ∷ ts) zero members = record t { members = members } ∷ ts
 completed (t ∷ ts) (suc tag) members = t ∷ completed ts tag members
+
+-- what operators ask of structures and unions
+abbrev pub layouts_of : List SeenTag → Layouts
+layouts_of tags = record { extents = extents tags; names = names tags }
 
 -- 6. As a program holds them, for the definitions of the crates below.
 

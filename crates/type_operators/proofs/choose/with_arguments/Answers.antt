@@ -4,6 +4,7 @@ use Rattle.type_operators.specs.Terms.{term_of, expression_of}
 use Rattle.type_operators.specs.Calls.{operands}
 use Rattle.type_operators.proofs.Lists.{started, argument_taken, argument_refused, arguments_missing, arguments_taken}
 use Rattle.type_operators.proofs.choose.with_arguments.Goals as goal
+use Rattle.type_operators.specs.Layouts.{layouts}
 
 pub loop-operand-init : goal.loop-operand-init
 loop-operand-init c = (started _ _ _ _ c.in_ok-push.ensures.ok c.new-children.ensures, cc)
@@ -22,17 +23,17 @@ loop-operand-preserved c =
 pub returns-in_err-argument : goal.returns-in_err-argument
 returns-in_err-argument c =
     let at = c.loop-operand in
-    let all = ap (λ z. operands c.args.tags.now (term_of c.args.designator) c.args.variadic (params_of (map qualified_of c.args.params.now)) (map expression_of z)) c.into_iter-operand-iterator.ensures.into_iter_gives.0 in
-    let h = argument_refused c.args.tags.now c.args.variadic _ at.children _ c.in-Some.operand _ _ _ c.in_err-argument.field-0.0 at.invariant.0 c.in-Some.ensures.steps.0 all c.in_err-argument.ensures in search rules
+    let all = ap (λ z. operands (layouts c.args.tags.now) (term_of c.args.designator) c.args.variadic (params_of (map qualified_of c.args.params.now)) (map expression_of z)) c.into_iter-operand-iterator.ensures.into_iter_gives.0 in
+    let h = argument_refused (layouts c.args.tags.now) c.args.variadic _ at.children _ c.in-Some.operand _ _ _ c.in_err-argument.field-0.0 at.invariant.0 c.in-Some.ensures.steps.0 all c.in_err-argument.ensures in search rules
 
 pub returns-in-Some-split_first : goal.returns-in-Some-split_first
 returns-in-Some-split_first c =
     let at = c.loop-operand in
-    let all = ap (λ z. operands c.args.tags.now (term_of c.args.designator) c.args.variadic (params_of (map qualified_of c.args.params.now)) (map expression_of z)) c.into_iter-operand-iterator.ensures.into_iter_gives.0 in
-    arguments_missing c.args.tags.now c.args.variadic at.left.now at.children _ _ _ _ _ at.invariant.0 (sym at.invariant.1 ∙ c.in-None.ensures.steps.0) all c.in-Some-split_first.ensures.cases.0
+    let all = ap (λ z. operands (layouts c.args.tags.now) (term_of c.args.designator) c.args.variadic (params_of (map qualified_of c.args.params.now)) (map expression_of z)) c.into_iter-operand-iterator.ensures.into_iter_gives.0 in
+    arguments_missing (layouts c.args.tags.now) c.args.variadic at.left.now at.children _ _ _ _ _ at.invariant.0 (sym at.invariant.1 ∙ c.in-None.ensures.steps.0) all c.in-Some-split_first.ensures.cases.0
 
 pub returns-in-None-split_first : goal.returns-in-None-split_first
 returns-in-None-split_first c =
     let at = c.loop-operand in
-    let all = ap (λ z. operands c.args.tags.now (term_of c.args.designator) c.args.variadic (params_of (map qualified_of c.args.params.now)) (map expression_of z)) c.into_iter-operand-iterator.ensures.into_iter_gives.0 in
-    arguments_taken c.args.tags.now c.args.variadic at.left.now at.children _ _ _ at.invariant.0 (sym at.invariant.1 ∙ c.in-None.ensures.steps.0) all c.in-None-split_first.ensures.cases
+    let all = ap (λ z. operands (layouts c.args.tags.now) (term_of c.args.designator) c.args.variadic (params_of (map qualified_of c.args.params.now)) (map expression_of z)) c.into_iter-operand-iterator.ensures.into_iter_gives.0 in
+    arguments_taken (layouts c.args.tags.now) c.args.variadic at.left.now at.children _ _ _ at.invariant.0 (sym at.invariant.1 ∙ c.in-None.ensures.steps.0) all c.in-None-split_first.ensures.cases

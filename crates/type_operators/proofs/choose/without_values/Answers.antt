@@ -3,6 +3,7 @@ use Rattle.type_operators.specs.Terms.{expression_of}
 use Rattle.type_operators.specs.Choices.{without_values}
 use Rattle.type_operators.proofs.Lists.{begun, value_dropped, drop_refused, values_dropped}
 use Rattle.type_operators.proofs.choose.without_values.Goals as goal
+use Rattle.type_operators.specs.Layouts.{layouts}
 
 pub loop-operand-init : goal.loop-operand-init
 loop-operand-init c = (begun _ _ c.new-children.ensures, cc)
@@ -21,11 +22,11 @@ loop-operand-preserved c =
 pub returns-in_err-discarded : goal.returns-in_err-discarded
 returns-in_err-discarded c =
     let at = c.loop-operand in
-    let all = ap (λ z. without_values c.args.tags.now (map expression_of z)) c.into_iter-operand-iterator.ensures.into_iter_gives.0 in
-    let h = drop_refused c.args.tags.now at.children _ c.in-Some.operand _ _ _ c.in_err-discarded.field-0.0 at.invariant.0 c.in-Some.ensures.steps.0 all c.in_err-discarded.ensures in search rules
+    let all = ap (λ z. without_values (layouts c.args.tags.now) (map expression_of z)) c.into_iter-operand-iterator.ensures.into_iter_gives.0 in
+    let h = drop_refused (layouts c.args.tags.now) at.children _ c.in-Some.operand _ _ _ c.in_err-discarded.field-0.0 at.invariant.0 c.in-Some.ensures.steps.0 all c.in_err-discarded.ensures in search rules
 
 pub returns : goal.returns
 returns c =
     let at = c.loop-operand in
-    let all = ap (λ z. without_values c.args.tags.now (map expression_of z)) c.into_iter-operand-iterator.ensures.into_iter_gives.0 in
-    values_dropped c.args.tags.now at.children _ _ _ at.invariant.0 (sym at.invariant.1 ∙ c.in-None.ensures.steps.0) all
+    let all = ap (λ z. without_values (layouts c.args.tags.now) (map expression_of z)) c.into_iter-operand-iterator.ensures.into_iter_gives.0 in
+    values_dropped (layouts c.args.tags.now) at.children _ _ _ at.invariant.0 (sym at.invariant.1 ∙ c.in-None.ensures.steps.0) all
