@@ -4,6 +4,7 @@ pub mod Clauses
 pub mod Steps
 pub mod Forms
 pub mod FrameSteps
+pub mod Rising
 pub mod RowSteps
 pub mod OrderSteps
 pub mod Answered

@@ -1,6 +1,10 @@
 -- What the certificate of an audit keeps of its run (own). Frames get new numbers; all else stays.
-use Rattle.std.specs.Prelude.{◌≡◌, ℕ, zero, suc, List, [], ◌∷◌, Option, Some, None, ⊤}
+use Rattle.std.specs.Prelude.{◌≡◌, ℕ, zero, suc, ◌+◌, ◌^◌, ◌<◌, ◌≤◌, List, [], ◌∷◌, Option, Some, None, ⊤}
 use Rattle.ub_base.specs.declared.names.Event.{Event}
+use Rattle.ub_base.specs.declared.names.Frame.{Frame}
+use Rattle.ub_base.specs.declared.names.ObjName.{ObjName}
+use Rattle.ub_base.specs.declared.names.ObjName.TheVariants.{Static, Lit, Argv, Arg, Auto, Heap}
+use Rattle.addr_map.specs.declared.map.Row.{Row}
 use Rattle.certificate.specs.declared.cert.Claim.{Claim}
 use Rattle.certificate.specs.declared.cert.Claim.TheVariants.{Clean, Undefined, OrderDependent, OutOfSteps, Outside}
 use Rattle.certificate.specs.declared.cert.Segment.{Segment}
@@ -32,3 +36,23 @@ SameClaim (OrderDependent event against) (OrderDependent new_event new_against) 
 SameClaim (OrderDependent event against) claim = ⊥
 SameClaim OutOfSteps claim = claim ≡ OutOfSteps
 SameClaim (Outside cause number) claim = claim ≡ Outside cause number
+
+abbrev pub main : Frame
+main = record { 0 = 0 }
+
+-- the row, but for the number of the frame in its name
+abbrev pub unframed_name : ObjName → ObjName
+unframed_name (Static k) = Static k
+unframed_name (Lit k) = Lit k
+unframed_name Argv = Argv
+unframed_name (Arg k) = Arg k
+unframed_name (Auto frame turn decl) = Auto main turn decl
+unframed_name (Heap frame turn node) = Heap main turn node
+
+abbrev pub unframed : Row → Row
+unframed row = record row { name = unframed_name row.name }
+
+-- from n on, each row begins behind the one before it, as the rows of an address map do
+abbrev pub Rises : ℕ → List Row → Type 0
+Rises n [] = ⊤
+Rises n (row ∷ rows) = (n ≤ row.base) × (row.base < 2 ^ 47) × Rises (row.base + 1) rows

@@ -1,6 +1,6 @@
 // The certificate of an audit.
-ghost use Rattle.std.specs.Prelude.{◌≡◌, ◌≤◌, ◌<◌, ◌+◌, ◌-◌, ◌^◌, IfOk, length};
-ghost use Rattle.certificate.specs.Making.{SameClaim, SameEvent, canonical_order};
+ghost use Rattle.std.specs.Prelude.{◌≡◌, ◌≤◌, ◌<◌, ◌+◌, ◌-◌, ◌^◌, IfOk, length, map};
+ghost use Rattle.certificate.specs.Making.{Rises, SameClaim, SameEvent, canonical_order, unframed, unframed_name};
 
 use crate::cert::{Cert, Claim, Rows, Segment, Segments};
 use addr_map::{AddrMap, Row};
@@ -27,7 +27,9 @@ impl Renaming {
         }
     }
 
-    fn name(&self, name: ObjName) -> ObjName {
+    fn name(&self, name: ObjName) -> ObjName
+        ensures { unframed_name result ≡ unframed_name name }
+    {
         match name {
             ObjName::Auto { frame, turn, decl } => ObjName::Auto {
                 frame: self.frame(frame),
@@ -178,20 +180,27 @@ fn renamed(alloc: Global, frames: &Frames, named: &[bool]) -> Result<(Frames, Re
     Ok((kept, Renaming { numbers }))
 }
 
-fn rows_of(alloc: Global, map: &AddrMap) -> Result<Vec<Row>, NoMemory> {
+// The rows of a map, in the order of their bases.
+fn rows_of(alloc: Global, map: &AddrMap) -> Result<Vec<Row>, NoMemory>
+    ensures { Rises 0 map.now → IfOk result (λ rows. rows.items ≡ map.now) }
+{
     let mut rows = Vec::new(alloc);
     let mut from = 0;
-    for _ in 0..u64::MAX {
-        let Some(row) = map.next(from) else {
-            break;
-        };
-        rows.push(row)?;
-        from = row.base.saturating_add(1);
+    for _turn in 0..u64::MAX {
+        match map.next(from) {
+            Some(row) => {
+                rows.push(row)?;
+                from = row.base.saturating_add(1);
+            }
+            None => return Ok(rows),
+        }
     }
     Ok(rows)
 }
 
-fn renamed_rows(alloc: Global, rows: &[Row], renaming: &Renaming) -> Result<Rows, NoMemory> {
+fn renamed_rows(alloc: Global, rows: &[Row], renaming: &Renaming) -> Result<Rows, NoMemory>
+    ensures { IfOk result (λ renamed. map unframed renamed ≡ map unframed rows.now) }
+{
     let mut renamed = Items::new(alloc);
     for row in rows {
         renamed.push(Row {
@@ -223,6 +232,8 @@ pub fn of_audit(
     frames: &Frames,
 ) -> Result<Cert, NoMemory>
     ensures frames { IfOk result (λ c. length c.frames ≤ length frames.now) }
+    // The rows are those of the map, but for the numbers of their frames.
+    ensures rows { Rises 0 map.now → IfOk result (λ c. map unframed c.map ≡ map unframed map.now) }
     ensures order { IfOk result (λ c. c.order ≡ canonical_order picks) }
     // The claim is the one that was made, but for the numbers of its frames.
     ensures claim { IfOk result (λ c. SameClaim claim c.claim) }
