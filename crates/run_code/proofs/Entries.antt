@@ -11,6 +11,11 @@ use Rattle.run_code.specs.declared.steps.Listed.{Listed}
 use Rattle.run_code.specs.declared.steps.Listed.TheVariants as listed
 use Rattle.run_code.specs.Listings.{Entry, operand, entry_of, entries_of, continuation, flat, all_flat}
 
+-- what follows from a clause of what may fail
+pub on_ok : {A E : Type 0} (r : Result A E) (P Q : Type 0) → (P → Q) → OnOk r P → OnOk r Q
+on_ok (Ok x) P Q f h = f h
+on_ok (Err e) P Q f h = tt
+
 -- the second part may fail
 pub two_parts : {A E : Type 0} (r : Result A E) (a b whole xs ys zs : List Entry) → whole ≡ a ++ b → ys ≡ xs ++ a →
     OnOk r (zs ≡ ys ++ b) → OnOk r (zs ≡ xs ++ whole)

@@ -1,2 +1,8 @@
 mod Entries
 mod Listings
+mod Collected
+mod Grown
+mod Walked
+mod ResolvedLemmas
+mod Picked
+mod Heads

@@ -1,1 +1,5 @@
 pub mod Listings
+pub mod Resolved
+pub mod Numbered
+pub mod EventActs
+pub mod LaidOut

@@ -1,12 +1,13 @@
 // Steps in the making. Until the end a step goes on at a label.
-ghost use Rattle.std.specs.Prelude.{◌≡◌, OnOk};
+ghost use Rattle.std.specs.Prelude.{◌≡◌};
+ghost use Rattle.std.specs.List.{All};
+ghost use Rattle.run_code.specs.LaidOut.{IsLaidOut, tables_of};
 
+use crate::expressions::Expressions;
 use crate::nodes::Objects;
-use crate::steps::{Code, Operand, Range, Step, Use};
+use crate::steps::{Code, Step, Tables, Use};
 use c_typed::Program;
 use core_ir::Core;
-use prov_memory::Memory;
-use run_acts::Places;
 use std::alloc::Global;
 use ub_base::NoMemory;
 
@@ -94,12 +95,15 @@ pub struct Draft<'p, 't> {
     pub alloc: Global,
     pub program: &'p Program,
     pub terms: &'t [Core],
+    pub expressions: Expressions<'p>,
+    // All but the expressions.
     pub code: Code<'p>,
     // Where each label stands.
     pub labels: Vec<u32>,
     pub function: FunctionDraft,
 }
 
+// How many there are.
 pub fn count_of<T>(items: &Vec<T>) -> u32 {
     u32::try_from(items.len()).unwrap_or(u32::MAX)
 }
@@ -130,9 +134,7 @@ impl<'p, 't> Draft<'p, 't> {
         Ok(label)
     }
 
-    pub fn step(&mut self, step: Step) -> Result<(), NoMemory>
-        ensures { OnOk result (self.new.code.listing.items ≡ self.old.code.listing.items) }
-    {
+    pub fn step(&mut self, step: Step) -> Result<(), NoMemory> {
         self.code.steps.push(step)?;
         Ok(())
     }
@@ -180,11 +182,14 @@ fn placed_use(how: Use, labels: &[u32]) -> Use {
 }
 
 // The finished steps: each goes on at a step.
-pub fn finished<'p>(draft: Draft<'p, '_>) -> Code<'p> {
+pub fn finished<'p>(draft: Draft<'p, '_>) -> Code<'p>
+    ensures { ∥ All (IsLaidOut (tables_of result) result.listing.items) result.expressions.items ∥₁ }
+{
     let Draft {
         alloc: _,
         program: _,
         terms: _,
+        expressions,
         mut code,
         labels,
         function: _,
@@ -198,5 +203,27 @@ pub fn finished<'p>(draft: Draft<'p, '_>) -> Code<'p> {
             case.1 = place(&labels, case.1);
         }
     }
+    with_expressions(code, expressions)
+}
+
+fn with_expressions<'p>(code: Code<'p>, expressions: Expressions<'p>) -> Code<'p>
+    ensures { ∥ All (IsLaidOut (tables_of result) result.listing.items) result.expressions.items ∥₁ }
+{
+    let Expressions {
+        tables,
+        entries,
+        all,
+    } = expressions;
+    let Tables {
+        calls,
+        stores,
+        constants,
+    } = tables;
+    let mut code = code;
+    code.expressions = all;
+    code.listing = entries;
+    code.calls = calls;
+    code.stores = stores;
+    code.constants = constants;
     code
 }

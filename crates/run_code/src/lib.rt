@@ -3,16 +3,19 @@
 
 mod choices;
 mod draft;
+mod expressions;
 mod laws;
 mod lower;
 mod nodes;
+mod numbers;
 mod objects;
 mod statements;
 mod steps;
 
+pub use expressions::Expressions;
 pub use laws::law_listing;
 pub use statements::code_of;
 pub use steps::{
     Act, BlockCode, CallCode, Choice, Code, Due, Expression, FunctionCode, Listed, ObjectCode,
-    Operand, Range, Step, StoreCode, SwitchCode, Use, Way,
+    Operand, Range, Step, StoreCode, SwitchCode, Tables, Use, Way,
 };

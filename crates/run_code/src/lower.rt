@@ -1,88 +1,99 @@
 // The listing of one full expression, from its term.
-ghost use Rattle.std.specs.Prelude.{◌≡◌, ◌++◌, length, OnOk};
+ghost use Rattle.std.specs.Prelude.{◌≡◌, ◌++◌, ◌-◌, ◌^◌, ℕ, min, length, OnOk, IfOk, Some, slice_get};
+ghost use Rattle.c_types.specs.Types.{type_of};
+ghost use Rattle.c_typed.specs.declared.tree.Typed.{out-Typed};
 ghost use Rattle.c_typed.specs.Order.{place};
 ghost use Rattle.core_ir.specs.Term.{term_of};
 ghost use Rattle.run_code.specs.Listings.{entries_of, one, continuation, flat};
+ghost use Rattle.run_code.specs.declared.steps.Operand.{Operand as OperandOf};
+ghost use Rattle.run_code.specs.Resolved.{value_at};
+ghost use Rattle.run_code.specs.Numbered.{AreNoted};
+ghost use Rattle.run_code.specs.EventActs.{head_at, pointed, first_type, seen, last_of, rest_of, room_of, change_access, IsValue, Stores, IsEffect, Calls, IsBody, IsAct, ends_with, IsDue, AreEntries, AreGrown};
 
 use crate::choices::{chosen_at_once, is_choice};
 use crate::draft::{Draft, count_of};
-use crate::nodes::{Counts, NodeInfo, collect, operand, operand_number};
+use crate::nodes::{Counts, NodeInfo, collect, operand_number, operands};
 use crate::steps::{
     Act, CallCode, Choice, Due, Expression, Listed, Operand, Range, Step, StoreCode, Use, Way,
 };
-use c_typed::{Access, Node, Place, Typed};
-use c_types::{FuncTy, Ty, copied};
+use c_typed::{Access, Change, Node, Place, Typed};
+use c_types::{FuncTy, Qual, Ty, copied};
 use core_ir::Core;
 use run_acts::chosen;
+use std::alloc::Global;
 use ub_base::{Items, Kind, NoMemory};
 
-// The type of the object at a place.
-fn target(place: &Typed) -> &Ty {
-    match &place.ty {
+// The type of the object or function that a pointer of this type points to.
+fn target(ty: &Ty) -> &Ty
+    ensures { type_of result.now ≡ pointed (type_of ty.now) }
+{
+    match ty {
         Ty::Pointer(target) => &target.get().ty,
         ty => ty,
     }
 }
 
-fn called(designator: &Typed) -> Option<&FuncTy> {
-    match target(designator) {
-        Ty::Function(ty) => Some(ty.get()),
-        _ => None,
+// The type of a node's first operand, of a node without operands its own.
+fn first_ty(tree: &Typed) -> &Ty
+    ensures { type_of result.now ≡ first_type (type_of (out-Typed tree.now).ty) (out-Typed tree.now).children }
+{
+    match tree.children.get(0) {
+        Some(child) => &child.ty,
+        None => &tree.ty,
     }
 }
 
-fn first_child(tree: &Typed) -> &Typed {
-    match tree.children.as_slice().first() {
-        Some(child) => child,
-        None => tree,
-    }
+// The type of the object or function that a node's first operand designates.
+fn object_ty(tree: &Typed) -> &Ty
+    ensures { type_of result.now ≡ pointed (first_type (type_of (out-Typed tree.now).ty) (out-Typed tree.now).children) }
+{
+    target(first_ty(tree))
 }
 
 impl<'p, 't> Draft<'p, 't> {
     // A full expression, and then the trees of the isolated initializers in it.
     #[cycle(full)]
     pub fn full(&mut self, root: &'p Typed, how: Use) -> Result<(), NoMemory> {
-        let mut nodes = Vec::new(self.alloc);
         let initializers = count_of(&self.code.initializers);
-        let mut counts = Counts {
-            nodes: 0,
-            initializers,
-            olds: 0,
-        };
-        collect(&self.function.objects, root, None, &mut nodes, &mut counts)?;
-        for _ in initializers..counts.initializers {
-            self.code.initializers.push(u32::MAX)?;
-        }
-        let expression = self.expression(root, &nodes, counts)?;
+        let expression = self.expression(root, initializers)?;
         self.step(Step::Full { expression, how })?;
         self.isolated(root, initializers)?;
         Ok(())
     }
 
-    // The full expression of this root. Gives its number.
-    fn expression(
-        &mut self,
-        root: &'p Typed,
-        nodes: &[NodeInfo<'p>],
-        counts: Counts,
-    ) -> Result<u32, NoMemory> {
-        let number = count_of(&self.code.expressions);
-        let chosen = self.chosen(root, 0, nodes)?;
-        let first = self.code.listing.len();
-        let terms = self.terms;
-        if let Some(core) = terms.get(number as usize) {
-            self.term(core, nodes)?;
-        }
-        let end = self.code.listing.len();
-        self.code.expressions.push(Expression {
-            root,
-            rooms: counts.nodes.saturating_add(counts.olds),
-            chosen,
-            first,
-            end,
-            value: operand_at(nodes, 0),
-        })?;
+    // The full expression of this root, whose isolated initializers are numbered from here on. Gives its number.
+    fn expression(&mut self, root: &'p Typed, initializers: u32) -> Result<u32, NoMemory> {
+        let mut nodes = Vec::new(self.alloc);
+        let mut counts = Counts {
+            initializers,
+            olds: 0,
+        };
+        collect(&self.function.objects, root, None, &mut nodes, &mut counts)?;
+        let isolated = counts.initializers.saturating_sub(initializers);
+        add_initializers(isolated, &mut self.code.initializers)?;
+        let chosen = self.chosen(root, 0, &nodes)?;
+        let entries = self.listing(&nodes)?;
+        let number = count_of(&self.expressions.all);
+        let rooms = count_of(&nodes).saturating_add(counts.olds);
+        let all = &mut self.expressions;
+        all.add_expression(root, rooms, chosen, &nodes, &entries)?;
         Ok(number)
+    }
+
+    // The listing of the full expression that comes next, whose nodes these are: that of the next term.
+    fn listing(&mut self, nodes: &[NodeInfo<'p>]) -> Result<Vec<Listed<'p>>, NoMemory>
+        ensures objects { OnOk result (self.new.function.objects.first.items ≡ self.old.function.objects.first.items) }
+        ensures due { IfOk result (λ es. AreEntries self.new.function.objects.first.items self.new.expressions.tables nodes.now es.items) }
+    {
+        let mut entries = Vec::new(self.alloc);
+        let terms = self.terms;
+        match terms.get(self.expressions.all.len()) {
+            Some(core) => {
+                self.term(core, nodes, &mut entries)?;
+                Ok(entries)
+            }
+            None => Ok(entries),
+        }
     }
 
     // The choices that are made as soon as the node is due.
@@ -92,7 +103,8 @@ impl<'p, 't> Draft<'p, 't> {
         number: u32,
         nodes: &[NodeInfo<'p>],
     ) -> Result<Range, NoMemory>
-        ensures { OnOk result (self.new.code.listing.items ≡ self.old.code.listing.items) }
+        ensures objects { self.new.function.objects.first.items ≡ self.old.function.objects.first.items }
+        ensures tables { self.new.expressions.tables ≡ self.old.expressions.tables }
     {
         let first = count_of(&self.code.chosen);
         chosen_at_once(root, number, nodes, &mut self.code.chosen)?;
@@ -120,28 +132,35 @@ impl<'p, 't> Draft<'p, 't> {
 
     // The events of a term, from left to right.
     #[cycle(term)]
-    fn term(&mut self, core: &Core, nodes: &[NodeInfo<'p>]) -> Result<(), NoMemory>
-        ensures { OnOk result (entries_of self.new.code.listing.items ≡ entries_of self.old.code.listing.items ++ flat (length nodes.now) (term_of core.now)) }
+    fn term(
+        &mut self,
+        core: &Core,
+        nodes: &[NodeInfo<'p>],
+        entries: &mut Vec<Listed<'p>>,
+    ) -> Result<(), NoMemory>
+        ensures listing { OnOk result (entries_of entries.new.items ≡ entries_of entries.old.items ++ flat (length nodes.now) (term_of core.now)) }
+        ensures objects { OnOk result (self.new.function.objects.first.items ≡ self.old.function.objects.first.items) }
+        ensures due { AreEntries self.old.function.objects.first.items self.old.expressions.tables nodes.now entries.old.items → OnOk result (AreEntries self.new.function.objects.first.items self.new.expressions.tables nodes.now entries.new.items) }
     {
         match core {
             Core::Pure(_) => Ok(()),
-            Core::Act(number, kind) => self.event(*number, *kind, nodes),
-            Core::Invoke(number) => self.event(*number, Kind::Body, nodes),
+            Core::Act(number, kind) => self.event(*number, *kind, nodes, entries),
+            Core::Invoke(number) => self.event(*number, Kind::Body, nodes, entries),
             Core::Unseq(parts) => {
                 for part in parts.items.as_slice() {
-                    self.term(part, nodes)?;
+                    self.term(part, nodes, entries)?;
                 }
                 Ok(())
             }
             Core::Weak(first, second) | Core::Strong(first, second) => {
-                self.term(first.get(), nodes)?;
-                self.term(second.get(), nodes)
+                self.term(first.get(), nodes, entries)?;
+                self.term(second.get(), nodes, entries)
             }
-            Core::Atomic(inner) | Core::Indet(inner) => self.term(inner.get(), nodes),
+            Core::Atomic(inner) | Core::Indet(inner) => self.term(inner.get(), nodes, entries),
             Core::Choose(number, test, first, second) => {
-                self.term(test.get(), nodes)?;
-                self.continuation(*number, 1, first.get(), nodes)?;
-                self.continuation(*number, 2, second.get(), nodes)
+                self.term(test.get(), nodes, entries)?;
+                self.continuation(*number, 1, first.get(), nodes, entries)?;
+                self.continuation(*number, 2, second.get(), nodes, entries)
             }
         }
     }
@@ -154,19 +173,22 @@ impl<'p, 't> Draft<'p, 't> {
         operand: u32,
         core: &Core,
         nodes: &[NodeInfo<'p>],
+        entries: &mut Vec<Listed<'p>>,
     ) -> Result<(), NoMemory>
-        ensures { OnOk result (entries_of self.new.code.listing.items ≡ entries_of self.old.code.listing.items ++ continuation node operand (flat (length nodes.now) (term_of core.now))) }
+        ensures listing { OnOk result (entries_of entries.new.items ≡ entries_of entries.old.items ++ continuation node operand (flat (length nodes.now) (term_of core.now))) }
+        ensures objects { OnOk result (self.new.function.objects.first.items ≡ self.old.function.objects.first.items) }
+        ensures due { AreEntries self.old.function.objects.first.items self.old.expressions.tables nodes.now entries.old.items → OnOk result (AreEntries self.new.function.objects.first.items self.new.expressions.tables nodes.now entries.new.items) }
     {
-        let at = self.code.listing.len();
+        let at = entries.len();
         let first = Listed::Operand {
             node,
             operand,
             count: 0,
         };
-        self.code.listing.push(first)?;
-        self.term(core, nodes)?;
-        let count = self.code.listing.len() - at - 1;
-        self.code.listing[at] = Listed::Operand {
+        entries.push(first)?;
+        self.term(core, nodes, entries)?;
+        let count = entries.len() - at - 1;
+        entries[at] = Listed::Operand {
             node,
             operand,
             count,
@@ -175,56 +197,151 @@ impl<'p, 't> Draft<'p, 't> {
     }
 }
 
-fn operand_at(nodes: &[NodeInfo], number: u32) -> Operand {
-    match nodes.get(number as usize) {
-        Some(info) => info.operand,
-        None => Operand::Integer(0),
+// Room for so many isolated initializers, whose steps come later.
+fn add_initializers(count: u32, all: &mut Vec<u32>) -> Result<(), NoMemory> {
+    for _ in 0..count {
+        all.push(u32::MAX)?;
     }
+    Ok(())
 }
 
 // Whether the event is the last one of its node where the effect follows the value.
-fn completes(node: &Node, kind: Kind) -> bool {
+fn completes(node: &Node, kind: Kind) -> bool
+    ensures { result ≡ ends_with (head_at node.now) kind }
+{
     match node {
         Node::Assign { .. } | Node::Update { .. } | Node::List { .. } => kind == Kind::Eff,
         _ => kind == Kind::Val,
     }
 }
 
+// The room of what an Update will store.
+fn room(node: &Node, count: u32, number: u32, behind: u32) -> u32
+    ensures { result ≡ room_of (head_at node.now) count number behind }
+{
+    match node {
+        Node::Update { old: true, .. } => count.saturating_add(behind),
+        _ => number,
+    }
+}
+
+fn at(operands: &[Operand], index: usize) -> Operand
+    ensures { result ≡ value_at operands.now index }
+{
+    match operands.get(index) {
+        Some(operand) => *operand,
+        None => Operand::Integer(0),
+    }
+}
+
+fn last(operands: &[Operand]) -> Operand
+    ensures { result ≡ last_of operands.now }
+{
+    at(operands, operands.len().saturating_sub(1))
+}
+
+fn changes(change: &Change) -> Access
+    ensures { result ≡ change_access change.now }
+{
+    match change {
+        Change::Integer { kind, .. } => Access::Integer(*kind),
+        Change::Pointer { .. } => Access::Pointer,
+    }
+}
+
 impl<'p, 't> Draft<'p, 't> {
-    fn event(&mut self, number: u32, kind: Kind, nodes: &[NodeInfo<'p>]) -> Result<(), NoMemory>
-        ensures { OnOk result (entries_of self.new.code.listing.items ≡ entries_of self.old.code.listing.items ++ one (length nodes.now) (place number kind)) }
+    fn event(
+        &mut self,
+        number: u32,
+        kind: Kind,
+        nodes: &[NodeInfo<'p>],
+        entries: &mut Vec<Listed<'p>>,
+    ) -> Result<(), NoMemory>
+        ensures listing { OnOk result (entries_of entries.new.items ≡ entries_of entries.old.items ++ one (length nodes.now) (place number kind)) }
+        ensures objects { OnOk result (self.new.function.objects.first.items ≡ self.old.function.objects.first.items) }
+        ensures due { AreEntries self.old.function.objects.first.items self.old.expressions.tables nodes.now entries.old.items → OnOk result (AreEntries self.new.function.objects.first.items self.new.expressions.tables nodes.now entries.new.items) }
     {
         let Some(info) = nodes.get(number as usize) else {
             return Ok(());
         };
-        let act = match kind {
-            Kind::Val => value_act(info, number, nodes),
-            Kind::Eff => self.effect_act(info, number, nodes)?,
-            Kind::Body => self.body_act(info, number, nodes)?,
-        };
-        let choice = match kind {
-            Kind::Val => self.choice(info, number, nodes)?,
-            _ => None,
-        };
-        self.code.listing.push(Listed::Event(Due {
+        let due = self.due(*info, number, kind, nodes)?;
+        entries.push(Listed::Event(due))?;
+        Ok(())
+    }
+
+    // What is noted of an event of this node.
+    fn due(
+        &mut self,
+        info: NodeInfo<'p>,
+        number: u32,
+        kind: Kind,
+        nodes: &[NodeInfo<'p>],
+    ) -> Result<Due<'p>, NoMemory>
+        ensures place { IfOk result (λ d. d.place ≡ place number kind) }
+        ensures objects { OnOk result (self.new.function.objects.first.items ≡ self.old.function.objects.first.items) }
+        ensures grown { OnOk result (AreGrown self.old.expressions.tables self.new.expressions.tables) }
+        ensures due { IfOk result (λ d. AreNoted self.old.function.objects.first.items nodes.now → slice_get nodes.now number ≡ Some info.entry → IsDue self.old.function.objects.first.items self.new.expressions.tables (length nodes.now) d info.entry) }
+    {
+        let tree = info.tree;
+        let operands = operands(self.alloc, nodes, tree, number)?;
+        let room = room(&tree.node, count_of_nodes(nodes), number, info.room);
+        let act = self.act(info, kind, room, &operands)?;
+        let choice = self.choice_at(info, number, kind, nodes)?;
+        Ok(Due {
             place: Place { node: number, kind },
-            line: info.tree.line,
+            line: tree.line,
             act,
             parent: info.parent,
-            completes: completes(&info.tree.node, kind),
+            completes: completes(&tree.node, kind),
             choice,
-        }))?;
-        Ok(())
+        })
+    }
+
+    // What an event of this kind does.
+    fn act(
+        &mut self,
+        info: NodeInfo<'p>,
+        kind: Kind,
+        room: u32,
+        operands: &[Operand],
+    ) -> Result<Act<'p>, NoMemory>
+        ensures objects { OnOk result (self.new.function.objects.first.items ≡ self.old.function.objects.first.items) }
+        ensures grown { OnOk result (AreGrown self.old.expressions.tables self.new.expressions.tables) }
+        ensures act { IfOk result (λ a. IsAct self.old.function.objects.first.items self.new.expressions.tables info.entry.initializer (head_at (out-Typed info.entry.tree.now).node) (seen info.entry.tree.now operands.now info.entry.operand room) kind a) }
+    {
+        match kind {
+            Kind::Val => Ok(value_act(info.tree, info.operand, room, operands)),
+            Kind::Eff => self.effect_act(info.tree, room, operands),
+            Kind::Body => self.body_act(info.tree, info.initializer, operands),
+        }
+    }
+
+    // The choice that is made at an event of this kind.
+    fn choice_at(
+        &mut self,
+        info: NodeInfo<'p>,
+        number: u32,
+        kind: Kind,
+        nodes: &[NodeInfo<'p>],
+    ) -> Result<Option<u32>, NoMemory>
+        ensures objects { self.new.function.objects.first.items ≡ self.old.function.objects.first.items }
+        ensures tables { self.new.expressions.tables ≡ self.old.expressions.tables }
+    {
+        match kind {
+            Kind::Val => self.choice(info, number, nodes),
+            _ => Ok(None),
+        }
     }
 
     // The choice that the node above makes at the value of this node, which is its test.
     fn choice(
         &mut self,
-        info: &NodeInfo<'p>,
+        info: NodeInfo<'p>,
         number: u32,
         nodes: &[NodeInfo<'p>],
     ) -> Result<Option<u32>, NoMemory>
-        ensures { OnOk result (self.new.code.listing.items ≡ self.old.code.listing.items) }
+        ensures objects { self.new.function.objects.first.items ≡ self.old.function.objects.first.items }
+        ensures tables { self.new.expressions.tables ≡ self.old.expressions.tables }
     {
         let Some(parent) = info.parent else {
             return Ok(None);
@@ -254,7 +371,8 @@ impl<'p, 't> Draft<'p, 't> {
         truth: bool,
         nodes: &[NodeInfo<'p>],
     ) -> Result<Way, NoMemory>
-        ensures { OnOk result (self.new.code.listing.items ≡ self.old.code.listing.items) }
+        ensures objects { self.new.function.objects.first.items ≡ self.old.function.objects.first.items }
+        ensures tables { self.new.expressions.tables ≡ self.old.expressions.tables }
     {
         let operand = chosen(&above.tree.node, truth);
         let Some(index) = operand else {
@@ -271,96 +389,87 @@ impl<'p, 't> Draft<'p, 't> {
 
     fn effect_act(
         &mut self,
-        info: &NodeInfo<'p>,
-        number: u32,
-        nodes: &[NodeInfo<'p>],
+        tree: &'p Typed,
+        room: u32,
+        operands: &[Operand],
     ) -> Result<Act<'p>, NoMemory>
-        ensures { OnOk result (self.new.code.listing.items ≡ self.old.code.listing.items) }
+        ensures objects { OnOk result (self.new.function.objects.first.items ≡ self.old.function.objects.first.items) }
+        ensures grown { OnOk result (AreGrown self.old.expressions.tables self.new.expressions.tables) }
+        ensures act { (own : OperandOf) → IfOk result (λ a. IsEffect self.old.function.objects.first.items self.new.expressions.tables (head_at (out-Typed tree.now).node) (seen tree.now operands.now own room) a) }
     {
-        let place = operand(nodes, number, 0);
-        match &info.tree.node {
+        match &tree.node {
             Node::Assign {
                 initializing,
                 access,
             } => {
-                let store = self.store(*access, *initializing, target(first_child(info.tree)))?;
-                let value = operand(nodes, number, 1);
-                Ok(Act::Store {
-                    store,
-                    place,
-                    value,
-                })
+                let value = at(operands, 1);
+                self.store(*access, *initializing, tree, at(operands, 0), value)
             }
-            Node::Update { change, old } => {
-                let room = if *old {
-                    count_of_nodes(nodes).saturating_add(info.room)
-                } else {
-                    number
-                };
-                let access = match change {
-                    c_typed::Change::Integer { kind, .. } => Access::Integer(*kind),
-                    c_typed::Change::Pointer { .. } => Access::Pointer,
-                };
-                let store = self.store(access, false, target(first_child(info.tree)))?;
+            Node::Update { change, old: _ } => {
                 let value = Operand::Done(room);
-                Ok(Act::Store {
-                    store,
-                    place,
-                    value,
-                })
+                self.store(changes(change), false, tree, at(operands, 0), value)
             }
             Node::List { object, bytes } => {
                 let object = self.function.objects.slot(*object);
-                let constants = count_of(&self.code.constants);
-                self.code.constants.push(bytes.as_slice())?;
+                let constants = self.expressions.add_constants(bytes.as_slice())?;
                 Ok(Act::Fill { object, constants })
             }
             _ => Ok(Act::Nothing),
         }
     }
 
-    fn store(&mut self, access: Access, initializing: bool, ty: &'p Ty) -> Result<u32, NoMemory>
-        ensures { OnOk result (self.new.code.listing.items ≡ self.old.code.listing.items) }
+    // The act that stores this value to the object that the first operand of the node designates.
+    fn store(
+        &mut self,
+        access: Access,
+        initializing: bool,
+        tree: &'p Typed,
+        place: Operand,
+        value: Operand,
+    ) -> Result<Act<'p>, NoMemory>
+        ensures objects { OnOk result (self.new.function.objects.first.items ≡ self.old.function.objects.first.items) }
+        ensures grown { OnOk result (AreGrown self.old.expressions.tables self.new.expressions.tables) }
+        ensures act { IfOk result (λ a. Stores self.new.expressions.tables access initializing (pointed (first_type (type_of (out-Typed tree.now).ty) (out-Typed tree.now).children)) place value a) }
     {
-        let number = count_of(&self.code.stores);
-        self.code.stores.push(StoreCode {
+        let store = self.expressions.add_store(StoreCode {
             access,
             initializing,
-            ty,
+            ty: object_ty(tree),
         })?;
-        Ok(number)
+        Ok(Act::Store {
+            store,
+            place,
+            value,
+        })
     }
 
     fn body_act(
         &mut self,
-        info: &NodeInfo<'p>,
-        number: u32,
-        nodes: &[NodeInfo<'p>],
+        tree: &'p Typed,
+        initializer: u32,
+        operands: &[Operand],
     ) -> Result<Act<'p>, NoMemory>
-        ensures { OnOk result (self.new.code.listing.items ≡ self.old.code.listing.items) }
+        ensures objects { OnOk result (self.new.function.objects.first.items ≡ self.old.function.objects.first.items) }
+        ensures grown { OnOk result (AreGrown self.old.expressions.tables self.new.expressions.tables) }
+        ensures act { (own : OperandOf) (room : ℕ) → IfOk result (λ a. IsBody self.new.expressions.tables initializer (head_at (out-Typed tree.now).node) (seen tree.now operands.now own room) a) }
     {
-        if let Some(initializer) = info.initializer {
-            return Ok(Act::Initialize(initializer));
+        match &tree.node {
+            Node::Call { .. } => self.call(tree, operands),
+            Node::Isolated(_) => Ok(Act::Initialize(initializer)),
+            _ => Ok(Act::Nothing),
         }
-        let designator = first_child(info.tree);
-        let ty = called(designator);
-        let mut arguments = Items::new(self.alloc);
-        let mut types = Items::new(self.alloc);
-        let mut at = operand_number(nodes, number, 1);
-        for child in info.tree.children.as_slice().iter().skip(1) {
-            arguments.push(operand_at(nodes, at))?;
-            types.push(c_types::Qual {
-                ty: copied(self.alloc, &child.ty)?,
-                constant: false,
-            })?;
-            if let Some(info) = nodes.get(at as usize) {
-                at = info.next;
-            }
-        }
-        let call = count_of(&self.code.calls);
-        self.code.calls.push(CallCode {
-            designator: operand(nodes, number, 0),
-            ty,
+    }
+
+    fn call(&mut self, tree: &'p Typed, operands: &[Operand]) -> Result<Act<'p>, NoMemory>
+        ensures objects { OnOk result (self.new.function.objects.first.items ≡ self.old.function.objects.first.items) }
+        ensures grown { OnOk result (AreGrown self.old.expressions.tables self.new.expressions.tables) }
+        ensures act { IfOk result (λ a. Calls self.new.expressions.tables operands.now a) }
+    {
+        let arguments = Vec::from_slice(self.alloc, behind_first(operands))?;
+        let types = argument_types(self.alloc, tree)?;
+        let call = self.expressions.add_call(CallCode {
+            designator: at(operands, 0),
+            ty: called(object_ty(tree)),
             arguments,
             types,
         })?;
@@ -368,21 +477,52 @@ impl<'p, 't> Draft<'p, 't> {
     }
 }
 
-fn count_of_nodes(nodes: &[NodeInfo]) -> u32 {
+fn called(ty: &Ty) -> Option<&FuncTy> {
+    match ty {
+        Ty::Function(ty) => Some(ty.get()),
+        _ => None,
+    }
+}
+
+fn behind_first(operands: &[Operand]) -> &[Operand]
+    ensures { result.now ≡ rest_of operands.now }
+{
+    match operands.split_first() {
+        Some((_, rest)) => rest,
+        None => operands,
+    }
+}
+
+// The types of a call's arguments.
+fn argument_types(alloc: Global, tree: &Typed) -> Result<Items<Qual>, NoMemory> {
+    let mut types = Items::new(alloc);
+    for child in tree.children.as_slice().iter().skip(1) {
+        types.push(Qual {
+            ty: copied(alloc, &child.ty)?,
+            constant: false,
+        })?;
+    }
+    Ok(types)
+}
+
+fn count_of_nodes(nodes: &[NodeInfo]) -> u32
+    ensures { result ≡ min (length nodes.now) (2 ^ 32 - 1) }
+{
     u32::try_from(nodes.len()).unwrap_or(u32::MAX)
 }
 
 // What a node's value event does.
-fn value_act<'p>(info: &NodeInfo<'p>, number: u32, nodes: &[NodeInfo<'p>]) -> Act<'p> {
-    let first = operand(nodes, number, 0);
-    let second = operand(nodes, number, 1);
-    let tree = info.tree;
+fn value_act<'p>(tree: &'p Typed, own: Operand, room: u32, operands: &[Operand]) -> Act<'p>
+    ensures { IsValue (head_at (out-Typed tree.now).node) (seen tree.now operands.now own room) result }
+{
+    let first = at(operands, 0);
+    let second = at(operands, 1);
     match &tree.node {
-        Node::Const(_) | Node::Obj(_) | Node::Func(_) | Node::Str(_) => Act::Same(info.operand),
+        Node::Const(_) | Node::Obj(_) | Node::Func(_) | Node::Str(_) => Act::Same(own),
         // What the node gives may be used as another pointer (6.3.2.1p3), so the type is that of the object at its place.
         Node::Load(access) => Act::Load {
             access: *access,
-            ty: target(first_child(tree)),
+            ty: object_ty(tree),
             place: first,
         },
         Node::Conv(conversion) => Act::Convert(*conversion, first),
@@ -419,14 +559,10 @@ fn value_act<'p>(info: &NodeInfo<'p>, number: u32, nodes: &[NodeInfo<'p>]) -> Ac
         Node::Update { change, old } => Act::Change {
             change: *change,
             old: *old,
-            ty: target(first_child(tree)),
+            ty: object_ty(tree),
             place: first,
             operand: if *old { Operand::Integer(1) } else { second },
-            room: if *old {
-                count_of_nodes(nodes).saturating_add(info.room)
-            } else {
-                number
-            },
+            room,
         },
         Node::And => Act::Logical {
             either: false,
@@ -441,17 +577,12 @@ fn value_act<'p>(info: &NodeInfo<'p>, number: u32, nodes: &[NodeInfo<'p>]) -> Ac
         Node::Cond => Act::Selected {
             test: first,
             yes: second,
-            no: operand(nodes, number, 2),
+            no: at(operands, 2),
         },
-        Node::Comma => Act::Same(last_operand(tree, number, nodes)),
+        Node::Comma => Act::Same(last(operands)),
         Node::Call { discarded } => Act::Answer {
             discarded: *discarded,
         },
         Node::List { .. } | Node::Isolated(_) => Act::Nothing,
     }
-}
-
-fn last_operand(tree: &Typed, number: u32, nodes: &[NodeInfo]) -> Operand {
-    let count = u32::try_from(tree.children.len()).unwrap_or(u32::MAX);
-    operand(nodes, number, count.saturating_sub(1))
 }

@@ -1,5 +1,11 @@
 // The nodes of a full expression by their numbers.
+ghost use Rattle.std.specs.Prelude.{◌≡◌, ℕ, List, OnOk, IfOk, suc, slice_get};
+ghost use Rattle.c_typed.specs.declared.tree.Typed.{out-Typed};
+ghost use Rattle.c_types.specs.Types.{type_of};
+ghost use Rattle.run_code.specs.Resolved.{object_of, local_number, constant_of, by_conversion, member_of, resolved, operands_from, value_at};
+ghost use Rattle.run_code.specs.Numbered.{AreAdded, AreNoted, AreBelow};
 
+use crate::numbers::number_of;
 use crate::steps::Operand;
 use c_typed::{Conversion, Node, Slot, Typed};
 use c_types::Ty;
@@ -13,11 +19,11 @@ pub struct NodeInfo<'p> {
     pub tree: &'p Typed,
     pub parent: Option<u32>,
     pub operand: Operand,
-    // The first number after its operands.
+    // The first number after all below it.
     pub next: u32,
-    // Which of the isolated initializers of the program it is.
-    pub initializer: Option<u32>,
-    // The room for what an Update will store, where that isn't its value.
+    // Which of the isolated initializers of the program it is, if it is one.
+    pub initializer: u32,
+    // The room behind those of the nodes for what an Update will store, if that isn't its value.
     pub room: u32,
 }
 
@@ -28,7 +34,9 @@ pub struct Objects {
 }
 
 impl Objects {
-    pub fn number(&self, block: u32, object: u32) -> u32 {
+    pub fn number(&self, block: u32, object: u32) -> u32
+        ensures { result ≡ local_number (slice_get self.now.first.items block) object }
+    {
         match self.first.get(block as usize) {
             Some(first) => first.saturating_add(object),
             None => u32::MAX,
@@ -36,7 +44,9 @@ impl Objects {
     }
 
     // A pointer to the object of a slot.
-    pub fn slot(&self, slot: Slot) -> Operand {
+    pub fn slot(&self, slot: Slot) -> Operand
+        ensures { result ≡ object_of self.now.first.items slot }
+    {
         match slot {
             Slot::Static(object) => Operand::Static { object, offset: 0 },
             Slot::Auto { block, decl } => Operand::Local {
@@ -47,20 +57,52 @@ impl Objects {
     }
 }
 
-// A constant of this type (6.6).
-fn constant(ty: &Ty, number: i128) -> Operand {
-    let addr = u64::try_from(number).unwrap_or(0);
+// A constant of this type (6.6): of a pointer type it is null.
+fn constant(ty: &Ty, number: i128) -> Operand
+    ensures { result ≡ constant_of (type_of ty.now) number }
+{
     match ty {
         Ty::Pointer(target) => match target.get().ty {
-            Ty::Function(_) => Operand::Function(addr),
-            _ => Operand::Address(addr),
+            Ty::Function(_) => Operand::Function(0),
+            _ => Operand::Address(0),
         },
         _ => Operand::Integer(number),
     }
 }
 
+// A conversion of this value.
+fn converted(conversion: Conversion, number: u32, operand: Operand) -> Operand
+    ensures { result ≡ by_conversion conversion number operand }
+{
+    match (conversion, operand) {
+        (Conversion::Integer(kind), Operand::Integer(value)) => {
+            Operand::Integer(c_arith::convert(kind, value))
+        }
+        _ => Operand::Done(number),
+    }
+}
+
+// A member of the object at this place.
+fn member(offset: u64, number: u32, operand: Operand) -> Operand
+    ensures { result ≡ member_of offset number operand }
+{
+    match operand {
+        Operand::Local { object, offset: at } => Operand::Local {
+            object,
+            offset: at.saturating_add(offset),
+        },
+        Operand::Static { object, offset: at } => Operand::Static {
+            object,
+            offset: at.saturating_add(offset),
+        },
+        _ => Operand::Done(number),
+    }
+}
+
 // Where the value of a node comes from, its number being given: a quiet node's is known beforehand.
-pub fn operand_of(objects: &Objects, root: &Typed, number: u32) -> Operand {
+pub fn operand_of(objects: &Objects, root: &Typed, number: u32) -> Operand
+    ensures { result ≡ resolved objects.now.first.items root.now number }
+{
     match &root.node {
         Node::Const(value) => constant(&root.ty, *value),
         Node::Obj(slot) => objects.slot(*slot),
@@ -69,25 +111,12 @@ pub fn operand_of(objects: &Objects, root: &Typed, number: u32) -> Operand {
             object: *literal,
             offset: 0,
         },
-        Node::Conv(Conversion::Integer(kind)) => match root.children.as_slice().first() {
-            Some(child) => match operand_of(objects, child, number) {
-                Operand::Integer(value) => Operand::Integer(c_arith::convert(*kind, value)),
-                _ => Operand::Done(number),
-            },
+        Node::Conv(conversion) => match root.children.get(0) {
+            Some(child) => converted(*conversion, number, operand_of(objects, child, number)),
             None => Operand::Done(number),
         },
-        Node::Member { offset } => match root.children.as_slice().first() {
-            Some(child) => match operand_of(objects, child, number) {
-                Operand::Local { object, offset: at } => Operand::Local {
-                    object,
-                    offset: at.saturating_add(*offset),
-                },
-                Operand::Static { object, offset: at } => Operand::Static {
-                    object,
-                    offset: at.saturating_add(*offset),
-                },
-                _ => Operand::Done(number),
-            },
+        Node::Member { offset } => match root.children.get(0) {
+            Some(child) => member(*offset, number, operand_of(objects, child, number)),
             None => Operand::Done(number),
         },
         _ => Operand::Done(number),
@@ -113,6 +142,13 @@ impl Operand {
     }
 }
 
+// How many isolated initializers, and updates that give their old value, there are so far.
+#[derive(Clone, Copy, Debug)]
+pub struct Counts {
+    pub initializers: u32,
+    pub olds: u32,
+}
+
 // Adds the nodes of a tree in preorder, and counts the isolated initializers and the rooms for old values.
 pub fn collect<'p>(
     objects: &Objects,
@@ -120,27 +156,17 @@ pub fn collect<'p>(
     parent: Option<u32>,
     nodes: &mut Vec<NodeInfo<'p>>,
     counts: &mut Counts,
-) -> Result<u32, NoMemory> {
-    let number = counts.nodes;
-    counts.nodes = number.saturating_add(1);
-    let at = nodes.len();
+) -> Result<(), NoMemory>
+    ensures { OnOk result (AreAdded objects.now.first.items parent root.now nodes.old.items nodes.new.items) }
+{
+    let number = number_of(nodes.len())?;
     nodes.push(info(objects, root, parent, number, counts))?;
     for child in root.children.as_slice() {
         collect(objects, child, Some(number), nodes, counts)?;
     }
-    let next = counts.nodes;
-    if let Some(info) = nodes.get_mut(at) {
-        info.next = next;
-    }
-    Ok(next)
-}
-
-// How many nodes, isolated initializers, and updates that give their old value there are so far.
-#[derive(Clone, Copy, Debug)]
-pub struct Counts {
-    pub nodes: u32,
-    pub initializers: u32,
-    pub olds: u32,
+    let next = number_of(nodes.len())?;
+    nodes[number as usize].next = next;
+    Ok(())
 }
 
 fn info<'p>(
@@ -149,22 +175,15 @@ fn info<'p>(
     parent: Option<u32>,
     number: u32,
     counts: &mut Counts,
-) -> NodeInfo<'p> {
-    let mut initializer = None;
-    let mut room = number;
+) -> NodeInfo<'p>
+    ensures tree { result.tree.now ≡ tree.now }
+    ensures parent { result.parent ≡ parent }
+    ensures operand { result.operand ≡ resolved objects.now.first.items tree.now number }
+{
+    let (initializer, room) = (counts.initializers, counts.olds);
     match &tree.node {
-        Node::Isolated(_) => {
-            initializer = Some(counts.initializers);
-            counts.initializers = counts.initializers.saturating_add(1);
-        }
-        Node::Update {
-            change: _,
-            old: true,
-        } => {
-            // Its room follows those of the nodes, whose count isn't known yet.
-            room = counts.olds;
-            counts.olds = counts.olds.saturating_add(1);
-        }
+        Node::Isolated(_) => counts.initializers = counts.initializers.saturating_add(1),
+        Node::Update { old: true, .. } => counts.olds = counts.olds.saturating_add(1),
         _ => {}
     }
     NodeInfo {
@@ -187,6 +206,28 @@ pub fn operand_number(nodes: &[NodeInfo], number: u32, index: u32) -> u32 {
         };
     }
     at
+}
+
+// Where the values of the operands of the node of this number come from.
+pub fn operands(
+    alloc: Global,
+    nodes: &[NodeInfo],
+    tree: &Typed,
+    number: u32,
+) -> Result<Vec<Operand>, NoMemory>
+    ensures { (firsts : List ℕ) → AreNoted firsts nodes.now → AreBelow nodes.now number (suc number) (out-Typed tree.now).children
+        → IfOk result (λ os. os.items ≡ operands_from firsts (suc number) (out-Typed tree.now).children) }
+{
+    let mut operands = Vec::new(alloc);
+    let mut at = number as usize + 1;
+    for _child in tree.children.as_slice() {
+        let Some(info) = nodes.get(at) else {
+            return Err(NoMemory);
+        };
+        operands.push(info.operand)?;
+        at = info.next as usize;
+    }
+    Ok(operands)
 }
 
 // Where the value of an operand comes from.

@@ -31,8 +31,7 @@ impl<'p, 't> Draft<'p, 't> {
         let tags = &self.program.tags;
         let extent = extent(tags, &qual.ty);
         let shape = shape_of(self.alloc, tags, &qual.ty)?;
-        let store = count_of(&self.code.stores);
-        self.code.stores.push(StoreCode {
+        let store = self.expressions.add_store(StoreCode {
             access: access_of(tags, &qual.ty),
             initializing: true,
             ty: &qual.ty,

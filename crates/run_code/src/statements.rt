@@ -1,6 +1,10 @@
 // The steps of statements. Each statement ends by going to what follows it.
+ghost use Rattle.std.specs.Prelude.{IfOk};
+ghost use Rattle.std.specs.List.{All};
+ghost use Rattle.run_code.specs.LaidOut.{IsLaidOut, tables_of};
 
 use crate::draft::{Case, Draft, Exit, FunctionDraft, Label, Scope, count_of, finished};
+use crate::expressions::Expressions;
 use crate::nodes::Objects;
 use crate::steps::{Code, FunctionCode, Step, SwitchCode, Use};
 use c_typed::{Block, Body, Entry, ForStart, Function, Program, Typed};
@@ -384,16 +388,20 @@ fn empty_code<'p>(alloc: Global) -> Code<'p> {
     }
 }
 
-// The steps of a program.
+/// The code of a program, with these terms of its full expressions in turn.
 pub fn code_of<'p>(
     alloc: Global,
     program: &'p Program,
     terms: &[Core],
-) -> Result<Code<'p>, NoMemory> {
+) -> Result<Code<'p>, NoMemory>
+    // Each event that is listed of a full expression is one of its nodes, and has the act of that node.
+    ensures laid_out { IfOk result (λ code. ∥ All (IsLaidOut (tables_of code) code.listing.items) code.expressions.items ∥₁) }
+{
     let mut draft = Draft {
         alloc,
         program,
         terms,
+        expressions: Expressions::new(alloc),
         code: empty_code(alloc),
         labels: Vec::new(alloc),
         function: start_function(alloc, 0),

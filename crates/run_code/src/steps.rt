@@ -196,7 +196,7 @@ pub struct Expression<'p> {
 pub struct CallCode<'p> {
     pub designator: Operand,
     pub ty: Option<&'p FuncTy>,
-    pub arguments: Items<Operand>,
+    pub arguments: Vec<Operand>,
     /// Those of printf's arguments.
     pub types: Items<Qual>,
 }
@@ -207,6 +207,14 @@ pub struct StoreCode<'p> {
     pub access: Access,
     pub initializing: bool,
     pub ty: &'p Ty,
+}
+
+/// What acts name by numbers: calls, stores, and the constant bytes of initializer lists.
+#[derive(Drop)]
+pub struct Tables<'p> {
+    pub calls: Vec<CallCode<'p>>,
+    pub stores: Vec<StoreCode<'p>>,
+    pub constants: Vec<&'p [Constant]>,
 }
 
 /// An object of a block.

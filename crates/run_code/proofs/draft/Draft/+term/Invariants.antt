@@ -1,10 +1,14 @@
 use Rattle.std.proofs.Common.{◌≡◌, ◌++◌, length, map, drop}
 use Rattle.core_ir.specs.Term.{term_of, terms_from}
+use Rattle.run_code.specs.EventActs.{AreEntries}
 use Rattle.run_code.specs.Listings.{entries_of, flat, all_flat}
 use Rattle.run_code.proofs.draft.Draft.+term.Given as goal
 
 -- the entries so far, and those of the parts that are left
 abbrev pub invariant-term-loop-part : goal.invariant-term-loop-part
 invariant-term-loop-part l =
-    entries_of l.self.code.listing.items ++ all_flat (length l.nodes) (terms_from (map term_of (drop l.part-index l.part-items)))
-    ≡ entries_of l.fn.self.code.listing.items ++ flat (length l.nodes) (term_of l.core)
+    (entries_of l.entries.items ++ all_flat (length l.nodes) (terms_from (map term_of (drop l.part-index l.part-items)))
+    ≡ entries_of l.fn.entries.items ++ flat (length l.nodes) (term_of l.core))
+    × (l.self.function.objects.first.items ≡ l.fn.self.function.objects.first.items)
+    × (AreEntries l.fn.self.function.objects.first.items l.fn.self.expressions.tables l.nodes l.fn.entries.items
+    → AreEntries l.self.function.objects.first.items l.self.expressions.tables l.nodes l.entries.items)

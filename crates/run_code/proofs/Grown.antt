@@ -1,0 +1,200 @@
+-- What is laid out stays as more is laid out behind it.
+use Rattle.std.proofs.Common.{rules, arith, ◌≡◌, ◌<◌, ◌≤◌, ◌+◌, ◌-◌, ◌^◌, min, Bool, true, false, if◌then◌else◌, ◌⊎◌, inl, inr, ℕ, zero, suc, List, [], ◌∷◌, ◌++◌, length, Option, Some, None, slice_get, refl, sym, ap, subst, ◌∙◌, length-append}
+use Rattle.std.proofs.Math.Logic.{∥∥₁_map}
+use Rattle.std.specs.List.{All}
+use Rattle.std.proofs.Math.ListN.{get_or, set}
+use Rattle.std.proofs.lemmas.List.{append-nil}
+use Rattle.std.proofs.lemmas.List.Elements.{All-nil, All-weaker, All-push, All-get_or, All-set}
+use Rattle.std.proofs.lemmas.Option.{slice_get_within, get_or_from_slice_get}
+use Rattle.ub_base.specs.declared.clause.Kind.{Kind}
+use Rattle.ub_base.specs.declared.clause.Kind.TheVariants.{Val, Eff, Body}
+use Rattle.c_types.specs.Types.{CType}
+use Rattle.c_typed.specs.declared.program.Constant.{Constant}
+use Rattle.c_typed.specs.declared.tree.Access.{Access}
+use Rattle.c_typed.specs.declared.tree.Node.TheOpen as shape
+use Rattle.c_typed.specs.declared.tree.Typed.{Typed, out-Typed}
+use Rattle.c_typed.specs.Sites.{Head}
+use Rattle.run_code.specs.declared.steps.Due.{Due}
+use Rattle.run_code.specs.declared.nodes.NodeInfo.{NodeInfo}
+use Rattle.run_code.specs.declared.steps.Operand.{Operand}
+use Rattle.run_code.specs.declared.steps.Act.{Act}
+use Rattle.run_code.specs.declared.steps.Expression.{Expression}
+use Rattle.run_code.specs.declared.steps.Listed.{Listed}
+use Rattle.run_code.specs.declared.steps.Listed.TheVariants as listed
+use Rattle.run_code.specs.declared.steps.Tables.{Tables}
+use Rattle.run_code.specs.Resolved.{resolved, operands_from}
+use Rattle.run_code.specs.Numbered.{AreNodes, AreNoted, AreBelow}
+use Rattle.run_code.specs.EventActs.{head_at, seen, sight_of, room_of, ends_with, Sight, Stores, Fills, Calls, IsEffect, IsBody, IsAct, IsDue, IsEntry, AreEntries, AreFirst, AreGrown}
+use Rattle.run_code.specs.LaidOut.{LaidOutBy, IsLaidOut}
+use Rattle.run_code.proofs.Collected.{slice_get-front}
+
+pub nothing_grown : (tables : Tables) → AreGrown tables tables
+nothing_grown tables = record { calls = λ n x h. h; stores = λ n x h. h; constants = λ n x h. h }
+
+pub same_grown : (old new : Tables) → new ≡ old → AreGrown old new
+same_grown old new e = subst (AreGrown old) (sym e) (nothing_grown old)
+
+stores_grown : (old new : Tables) (how : Access) (first : _) (object : CType) (place value : Operand) (a : Act) → AreGrown old new → Stores old how first object place value a → Stores new how first object place value a
+stores_grown old new how first object place value a g s = (s.0, s.1, g.stores s.0 s.1 s.2, s.3, s.4)
+
+fills_grown : (old new : Tables) (object : Operand) (bytes : List Constant) (a : Act) → AreGrown old new → Fills old object bytes a → Fills new object bytes a
+fills_grown old new object bytes a g s = (s.0, s.1, g.constants s.0 s.1 s.2, s.3, s.4)
+
+calls_grown : (old new : Tables) (os : List Operand) (a : Act) → AreGrown old new → Calls old os a → Calls new os a
+calls_grown old new os a g s = (s.0, s.1, g.calls s.0 s.1 s.2, s.3, s.4, s.5)
+
+effect_grown : (firsts : List ℕ) (old new : Tables) (h : Head) (s : Sight) (a : Act) → AreGrown old new → IsEffect firsts old h s a → IsEffect firsts new h s a
+effect_grown firsts old new (shape.Assign first how) s a g e = stores_grown old new _ _ _ _ _ a g e
+effect_grown firsts old new (shape.Update c before) s a g e = stores_grown old new _ _ _ _ _ a g e
+effect_grown firsts old new (shape.List slot bytes) s a g e = fills_grown old new _ _ a g e
+effect_grown firsts old new _ s a g e = e
+
+body_grown : (old new : Tables) (initializer : ℕ) (h : Head) (s : Sight) (a : Act) → AreGrown old new → IsBody old initializer h s a → IsBody new initializer h s a
+body_grown old new initializer (shape.Call discarded) s a g e = calls_grown old new s.operands a g e
+body_grown old new initializer (shape.Isolated tree) s a g e = e
+body_grown old new initializer _ s a g e = e
+
+act_grown : (firsts : List ℕ) (old new : Tables) (initializer : ℕ) (h : Head) (s : Sight) (kind : Kind) (a : Act) → AreGrown old new → IsAct firsts old initializer h s kind a → IsAct firsts new initializer h s kind a
+act_grown firsts old new initializer h s Val a g e = e
+act_grown firsts old new initializer h s Eff a g e = effect_grown firsts old new h s a g e
+act_grown firsts old new initializer h s Body a g e = body_grown old new initializer h s a g e
+
+-- an event of this kind has the act of the kind
+pub effect_acts : (firsts : List ℕ) (tables : Tables) (initializer : ℕ) (h : Head) (s : Sight) (kind : Kind) (a : Act) → kind ≡ Eff → IsEffect firsts tables h s a → IsAct firsts tables initializer h s kind a
+effect_acts firsts tables initializer h s kind a e i = subst (λ k. IsAct firsts tables initializer h s k a) (sym e) i
+
+pub body_acts : (firsts : List ℕ) (tables : Tables) (initializer : ℕ) (h : Head) (s : Sight) (kind : Kind) (a : Act) → kind ≡ Body → IsBody tables initializer h s a → IsAct firsts tables initializer h s kind a
+body_acts firsts tables initializer h s kind a e i = subst (λ k. IsAct firsts tables initializer h s k a) (sym e) i
+
+pub entry_grown : (firsts : List ℕ) (old new : Tables) (nodes : List NodeInfo) → AreGrown old new → (x : Listed) → IsEntry firsts old nodes x → IsEntry firsts new nodes x
+entry_grown firsts old new nodes g (listed.Event d) e = (
+  e.0,
+  e.1,
+  record {
+    line = e.2.line;
+    parent = e.2.parent;
+    completes = e.2.completes;
+    does = act_grown firsts old new _ _ _ d.place.kind d.act g e.2.does;
+  },
+)
+entry_grown firsts old new nodes g (listed.Operand node index count) e = tt
+
+pub entries_grown : (firsts : List ℕ) (old new : Tables) (nodes : List NodeInfo) (es : List Listed) → AreGrown old new → AreEntries firsts old nodes es → AreEntries firsts new nodes es
+entries_grown firsts old new nodes es g h noted = All-weaker (IsEntry firsts old nodes) (IsEntry firsts new nodes) (entry_grown firsts old new nodes g) es (h noted)
+
+-- an element of two lists stands in the one or in the other
+in_both : {A : Type 0} (xs ys : List A) (i : ℕ) (x : A) → slice_get (xs ++ ys) i ≡ Some x → (slice_get xs i ≡ Some x) ⊎ ((j : ℕ) × (slice_get ys j ≡ Some x) × (i ≡ length xs + j))
+in_both [] ys i x h = inr (i, h, omega arith)
+in_both (z ∷ xs) ys zero x h = inl h
+in_both (z ∷ xs) ys (suc i) x h = elim (in_both xs ys i x h) [ inl a ↦ inl a | inr b ↦ inr (b.0, b.1, omega (arith, b.2)) ]
+
+at_all : {A : Type 0} (P : A → Type 0) (xs : List A) (i : ℕ) (x : A) → All P xs → slice_get xs i ≡ Some x → P x
+at_all P xs i x a h = subst P (get_or_from_slice_get xs i x x h) (All-get_or P xs i x (slice_get_within xs i x h) a)
+
+laid_out_grown : (old new : Tables) (entries more : List Listed) → AreGrown old new → (e : Expression) → IsLaidOut old entries e → IsLaidOut new (entries ++ more) e
+laid_out_grown old new entries more g e l = (
+  l.0,
+  l.1,
+  record {
+    numbered = l.2.numbered;
+    value = l.2.value;
+    order = l.2.order;
+    within = omega (arith, l.2.within, length-append entries more);
+    each = λ i x a b h. elim (in_both entries more i x h) [
+      | inl k ↦ entry_grown l.0 old new l.1 g x (l.2.each i x a b k)
+      | inr k ↦ absurd (omega (arith, k.2, b, l.2.within))
+    ];
+  },
+)
+
+-- more in the tables, and more entries
+pub all_grown : (old new : Tables) (entries longer more : List Listed) (es : List Expression) → AreGrown old new → longer ≡ entries ++ more → ∥ All (IsLaidOut old entries) es ∥₁ → ∥ All (IsLaidOut new longer) es ∥₁
+all_grown old new entries longer more es g e h =
+    ∥∥₁_map h (λ a. subst (λ z. All (IsLaidOut new z) es) (sym e) (All-weaker (IsLaidOut old entries) (IsLaidOut new (entries ++ more)) (laid_out_grown old new entries more g) es a))
+
+-- one more full expression, whose entries come last
+pub one_more : (tables : Tables) (entries longer more : List Listed) (es : List Expression) (firsts : List ℕ) (nodes : List NodeInfo) (e : Expression) → longer ≡ entries ++ more
+    → AreNodes firsts e.root.now nodes → AreEntries firsts tables nodes more → e.value ≡ resolved firsts e.root.now 0 → e.first ≡ length entries → e.end ≡ length longer
+    → ∥ All (IsLaidOut tables longer) es ∥₁ → ∥ All (IsLaidOut tables longer) (es ++ e ∷ []) ∥₁
+one_more tables entries longer more es firsts nodes e l n a v f t h =
+    let count : length longer ≡ length entries + length more = ap length l ∙ length-append entries more in
+    let new : IsLaidOut tables longer e = (
+      firsts,
+      nodes,
+      record {
+        numbered = n;
+        value = v;
+        order = omega (arith, f, t, count);
+        within = omega (arith, t);
+        each = λ i x b c g. elim (in_both entries more i x (ap (λ z. slice_get z i) (sym l) ∙ g)) [
+          | inl k ↦ absurd (omega (arith, slice_get_within entries i x k, b, f))
+          | inr k ↦ at_all (IsEntry firsts tables nodes) more k.0 x (a n.each) k.1
+        ];
+      },
+    ) in
+    ∥∥₁_map h (λ g. All-push (IsLaidOut tables longer) es e g new)
+
+pub no_entries : (firsts : List ℕ) (tables : Tables) (nodes : List NodeInfo) (es : List Listed) → es ≡ [] → AreEntries firsts tables nodes es
+no_entries firsts tables nodes es e = λ noted. subst (All (IsEntry firsts tables nodes)) (sym e) (All-nil (IsEntry firsts tables nodes))
+
+-- one entry more, and one that is written over another
+pub entries_pushed : (firsts : List ℕ) (tables : Tables) (nodes : List NodeInfo) (es : List Listed) (node index count : ℕ) → AreEntries firsts tables nodes es → AreEntries firsts tables nodes (es ++ listed.Operand node index count ∷ [])
+entries_pushed firsts tables nodes es node index count h noted = All-push (IsEntry firsts tables nodes) es (listed.Operand node index count) (h noted) tt
+
+pub entries_set : (firsts : List ℕ) (tables : Tables) (nodes : List NodeInfo) (es : List Listed) (at node index count : ℕ) → AreEntries firsts tables nodes es → AreEntries firsts tables nodes (set es at (listed.Operand node index count))
+entries_set firsts tables nodes es at node index count h noted = All-set (IsEntry firsts tables nodes) es at (listed.Operand node index count) tt (h noted)
+
+pub event_added : (firsts firsts2 : List ℕ) (old new : Tables) (nodes : List NodeInfo) (es longer : List Listed) (d : Due) (x : NodeInfo) (number : ℕ) → firsts2 ≡ firsts → AreGrown old new → longer ≡ es ++ listed.Event d ∷ []
+    → d.place.node ≡ number → slice_get nodes number ≡ Some x → (AreNoted firsts nodes → slice_get nodes number ≡ Some x → IsDue firsts new (length nodes) d x) → AreEntries firsts old nodes es → AreEntries firsts2 new nodes longer
+event_added firsts firsts2 old new nodes es longer d x number f g l p at due h =
+    subst (λ fs. AreEntries fs new nodes longer) (sym f)
+    (λ noted. subst (All (IsEntry firsts new nodes)) (sym l)
+    (All-push (IsEntry firsts new nodes) es (listed.Event d) (entries_grown firsts old new nodes es g h noted) (x, ap (slice_get nodes) p ∙ at, due noted at)))
+
+pub noted_due : (firsts : List ℕ) (tables : Tables) (nodes : List NodeInfo) (number room : ℕ) (x : NodeInfo) (d : Due) (os : List Operand) → AreNoted firsts nodes → slice_get nodes number ≡ Some x
+    → d.place.node ≡ number → d.line ≡ (out-Typed x.tree.now).line → d.parent ≡ x.parent → d.completes ≡ ends_with (head_at (out-Typed x.tree.now).node) d.place.kind
+    → (AreNoted firsts nodes → AreBelow nodes number (suc number) (out-Typed x.tree.now).children → os ≡ operands_from firsts (suc number) (out-Typed x.tree.now).children)
+    → room ≡ room_of (head_at (out-Typed x.tree.now).node) (min (length nodes) (2 ^ 32 - 1)) number x.room
+    → IsAct firsts tables x.initializer (head_at (out-Typed x.tree.now).node) (seen x.tree.now os x.operand room) d.place.kind d.act
+    → IsDue firsts tables (length nodes) d x
+noted_due firsts tables nodes number room x d os noted at p line parent completes walked rooms does =
+    let own = noted number x at in
+    let h = head_at (out-Typed x.tree.now).node in
+    let sight : seen x.tree.now os x.operand room ≡ sight_of firsts (length nodes) d.place.node x =
+    ap (λ o. seen x.tree.now o x.operand room) (walked noted own.below)
+    ∙ ap (λ o. seen x.tree.now (operands_from firsts (suc number) (out-Typed x.tree.now).children) o room) own.operand
+    ∙ ap (λ r. seen x.tree.now (operands_from firsts (suc number) (out-Typed x.tree.now).children) (resolved firsts x.tree.now number) r) rooms
+    ∙ ap (λ n. sight_of firsts (length nodes) n x) (sym p) in
+    record {
+      line = line;
+      parent = parent;
+      completes = completes;
+      does = subst (λ s. IsAct firsts tables x.initializer h s d.place.kind d.act) sight does;
+    }
+
+pub front_of : {A : Type 0} (xs ys zs : List A) → ys ≡ xs ++ zs → AreFirst xs ys
+front_of xs ys zs e n x h = ap (λ l. slice_get l n) e ∙ slice_get-front xs zs n x h
+
+-- what a push leaves, whether it had memory or not
+pub pushed_front : {A : Type 0} (b : Bool) (xs ys : List A) (x : A) → ys ≡ (if b then xs ++ x ∷ [] else xs) → AreFirst xs ys
+pushed_front true xs ys x e = front_of xs ys (x ∷ []) e
+pushed_front false xs ys x e = λ n y h. ap (λ l. slice_get l n) e ∙ h
+
+pub extended : {A : Type 0} (b : Bool) (xs ys zs : List A) → ys ≡ (if b then xs ++ zs else xs) → ys ≡ xs ++ (if b then zs else [])
+extended true xs ys zs e = e
+extended false xs ys zs e = e ∙ sym (append-nil xs)
+
+pub tables_grown : (old new : Tables) (entries : List Listed) (es : List Expression) → AreGrown old new → ∥ All (IsLaidOut old entries) es ∥₁ → ∥ All (IsLaidOut new entries) es ∥₁
+tables_grown old new entries es g h = all_grown old new entries entries [] es g (sym (append-nil entries)) h
+
+pub expression_pushed : (b : Bool) (tables : Tables) (entries longer more : List Listed) (es fs : List Expression) (firsts : List ℕ) (nodes : List NodeInfo) (e : Expression) → fs ≡ (if b then es ++ e ∷ [] else es) → longer ≡ entries ++ more
+    → AreNodes firsts e.root.now nodes → AreEntries firsts tables nodes more → e.value ≡ resolved firsts e.root.now 0 → e.first ≡ length entries → e.end ≡ length longer
+    → ∥ All (IsLaidOut tables longer) es ∥₁ → ∥ All (IsLaidOut tables longer) fs ∥₁
+expression_pushed true tables entries longer more es fs firsts nodes e p l n a v f t h =
+    subst (λ z. ∥ All (IsLaidOut tables longer) z ∥₁) (sym p) (one_more tables entries longer more es firsts nodes e l n a v f t h)
+expression_pushed false tables entries longer more es fs firsts nodes e p l n a v f t h = subst (λ z. ∥ All (IsLaidOut tables longer) z ∥₁) (sym p) h
+
+-- the value of the root
+pub root_value : (firsts : List ℕ) (root : Typed) (nodes : List NodeInfo) (x : NodeInfo) → AreNodes firsts root nodes → (get_or nodes 0 x).operand ≡ resolved firsts root 0
+root_value firsts root nodes x n =
+    ap (λ (y : NodeInfo). y.operand) (get_or_from_slice_get nodes 0 n.top.0 x n.top.1) ∙ (n.each 0 n.top.0 n.top.1).operand ∙ ap (λ t. resolved firsts t 0) n.top.2

@@ -1,0 +1,18 @@
+use Rattle.std.proofs.Common.{refl, sym, ap, subst, ◌∙◌}
+use Rattle.c_typed.specs.declared.tree.Typed.{out-Typed}
+use Rattle.run_code.specs.EventActs.{head_at, seen, room_of, IsAct, AreGrown}
+use Rattle.run_code.proofs.Grown.{noted_due}
+use Rattle.run_code.proofs.draft.Draft.due.Goals as goal
+
+pub returns-clause-grown : goal.returns-clause-grown
+returns-clause-grown c = subst (AreGrown c.args.self.now.expressions.tables) (sym c.choice_at.ensures.tables) c.in_ok-act.ensures.grown
+
+pub returns-clause-due : goal.returns-clause-due
+returns-clause-due c = λ noted there.
+    let x = c.args.info in
+    let firsts = c.args.self.now.function.objects.first.items in
+    let h = head_at (out-Typed x.tree.now).node in
+    noted_due firsts c.choice_at.new.self.expressions.tables c.args.nodes.now c.args.number c.room-room.result x _ c.deref.result.now noted there refl refl refl c.completes.ensures
+    (λ n b. c.deref.ensures.value ∙ c.in_ok-operands.ensures firsts n b)
+    (c.room-room.ensures ∙ ap (λ n. room_of h n c.args.number x.room) c.count_of_nodes.ensures)
+    (subst (λ t. IsAct firsts t x.initializer h (seen x.tree.now c.deref.result.now x.operand c.room-room.result) c.args.kind c.in_ok-act.act) (sym c.choice_at.ensures.tables) c.in_ok-act.ensures.act)

@@ -1,0 +1,6 @@
+use Rattle.std.proofs.Common.{drop}
+use Rattle.run_code.proofs.Collected.{Between}
+use Rattle.run_code.proofs.nodes.+collect.Given as goal
+
+abbrev pub invariant-loop-child : goal.invariant-loop-child
+invariant-loop-child l = Between l.objects.first.items l.fn.parent l.root l.number l.fn.nodes.items l.nodes.items (drop l.child-index l.child-items)
