@@ -7,10 +7,11 @@ use Rattle.ub_base.specs.Held.{Held, bytes_under, fetched}
 use Rattle.ub_base.specs.declared.files.Fetched.{Fetched}
 use Rattle.ub_base.specs.declared.files.Fetched.TheVariants.{Whole, TooLong, Absent}
 use Rattle.audit_sources.specs.Role.{most}
-use Rattle.audit_sources.specs.Fetching.{AreHeld, IsUnread, IsWhole, Misses, Stops}
+use Rattle.audit_sources.specs.Fetching.{AreHeld, Fails, FailsFirst, HasInput, IsUnread, IsWhole, Misses, Stops, certificate_wanted, check_wanted, input_wanted, wanted}
 use Rattle.audit_sources.specs.declared.fetch.FetchFault.{FetchFault}
 use Rattle.audit_sources.specs.declared.fetch.FetchFault.TheVariants as Fault
 use Rattle.audit_sources.specs.declared.role.Role.{Role}
+use Rattle.audit_sources.specs.declared.role.Role.TheVariants.{Source, Certificate, Input}
 
 whole_by : (fits : Bool) (text got : List ℕ) → Whole got ≡ (if fits then Whole text else TooLong) → got ≡ text
 whole_by true text got e = cc
@@ -68,10 +69,10 @@ not_stopped files before now (file ∷ rest) fault held calm (inl misses) =
     not_missed files before now file held.0.0 fault held.0.1 held.0.2 calm misses
 not_stopped files before now (file ∷ rest) fault held calm (inr r) = not_stopped files before now rest fault held.1 calm r.2
 
-pub absent_whole : (files : Held) (file : Role × List ℕ) (got : List ℕ) → bytes_under files file.1 ≡ None → IsWhole (Some files) file got → ⊥
+absent_whole : (files : Held) (file : Role × List ℕ) (got : List ℕ) → bytes_under files file.1 ≡ None → IsWhole (Some files) file got → ⊥
 absent_whole files file got none whole = absent_is_not_whole got (of_held files file None (Whole got) none whole)
 
-pub too_long_whole : (files : Held) (file : Role × List ℕ) (text got : List ℕ) → bytes_under files file.1 ≡ Some text → most file.0 < length text
+too_long_whole : (files : Held) (file : Role × List ℕ) (text got : List ℕ) → bytes_under files file.1 ≡ Some text → most file.0 < length text
     → IsWhole (Some files) file got → ⊥
 too_long_whole files file text got there beyond whole =
     too_long_is_not_whole got (sym (of_held files file (Some text) (Whole got) there whole ∙ is_too_long text (most file.0) beyond))
@@ -82,21 +83,61 @@ absent_misses files before now file Fault.ReadFault none misses = inr refl
 absent_misses files before now file (Fault.TooLong role) none misses = absurd (absent_is_not_too_long (of_held files file None TooLong none misses.1))
 absent_misses files before now file Fault.NoMemory none misses = inl refl
 
--- an absent file stops them
-pub absent_stops : (files : Held) (before now : ℕ) (file : Role × List ℕ) (rest : List (Role × List ℕ)) (fault : FetchFault)
-    → bytes_under files file.1 ≡ None → Stops (Some files) before now (file ∷ rest) fault → (fault ≡ Fault.NoMemory) ⊎ (fault ≡ Fault.ReadFault)
-absent_stops files before now file rest fault none (inl misses) = absent_misses files before now file fault none misses
-absent_stops files before now file rest fault none (inr r) = absurd (absent_whole files file r.0 none r.1)
-
 too_long_misses : (files : Held) (before now : ℕ) (file : Role × List ℕ) (text : List ℕ) (fault : FetchFault) → bytes_under files file.1 ≡ Some text
     → (Rose before now → ⊥) → Misses (Some files) before now file fault → (fault ≡ Fault.NoMemory) ⊎ (fault ≡ Fault.TooLong file.0)
 too_long_misses files before now file text Fault.ReadFault there calm misses = absurd (not_unread files file.1 text before now there calm misses)
 too_long_misses files before now file text (Fault.TooLong role) there calm misses = inr (ap (λ r. Fault.TooLong r) misses.0)
 too_long_misses files before now file text Fault.NoMemory there calm misses = inl refl
 
--- a file that is too long stops them
-pub too_long_stops : (files : Held) (before now : ℕ) (file : Role × List ℕ) (rest : List (Role × List ℕ)) (text : List ℕ) (fault : FetchFault)
-    → bytes_under files file.1 ≡ Some text → most file.0 < length text → (Rose before now → ⊥) → Stops (Some files) before now (file ∷ rest) fault
-    → (fault ≡ Fault.NoMemory) ⊎ (fault ≡ Fault.TooLong file.0)
-too_long_stops files before now file rest text fault there beyond calm (inl misses) = too_long_misses files before now file text fault there calm misses
-too_long_stops files before now file rest text fault there beyond calm (inr r) = absurd (too_long_whole files file text r.0 there beyond r.1)
+as_role : (file : Role × List ℕ) (role : Role) (got : FetchFault) → role ≡ file.0 → (got ≡ Fault.NoMemory) ⊎ (got ≡ Fault.TooLong file.0)
+    → (got ≡ Fault.NoMemory) ⊎ (got ≡ Fault.TooLong role)
+as_role file role got same (inl memory) = inl memory
+as_role file role got same (inr is) = inr (is ∙ ap (λ r. Fault.TooLong r) (sym same))
+
+-- a file that fails isn't fetched, and is missed for that
+fails_whole : (files : Held) (file : Role × List ℕ) (fault : FetchFault) (got : List ℕ) → Fails files file fault → IsWhole (Some files) file got → ⊥
+fails_whole files file Fault.ReadFault got fails whole = absent_whole files file got fails whole
+fails_whole files file (Fault.TooLong role) got fails whole = too_long_whole files file fails.1 got fails.2 fails.3 whole
+fails_whole files file Fault.NoMemory got fails whole = fails
+
+fails_misses : (files : Held) (before now : ℕ) (file : Role × List ℕ) (fault got : FetchFault) → Fails files file fault → (Rose before now → ⊥)
+    → Misses (Some files) before now file got → (got ≡ Fault.NoMemory) ⊎ (got ≡ fault)
+fails_misses files before now file Fault.ReadFault got fails calm misses = absent_misses files before now file got fails misses
+fails_misses files before now file (Fault.TooLong role) got fails calm misses =
+    as_role file role got fails.0 (too_long_misses files before now file fails.1 got fails.2 calm misses)
+fails_misses files before now file Fault.NoMemory got fails calm misses = absurd fails
+
+-- the first file that fails stops them
+pub fails_stops : (files : Held) (before now : ℕ) (wanted : List (Role × List ℕ)) (fault got : FetchFault) → FailsFirst files wanted fault
+    → (Rose before now → ⊥) → Stops (Some files) before now wanted got → (got ≡ Fault.NoMemory) ⊎ (got ≡ fault)
+fails_stops files before now [] fault got fails calm stops = absurd fails
+fails_stops files before now (file ∷ rest) fault got (inl fails) calm (inl misses) = fails_misses files before now file fault got fails calm misses
+fails_stops files before now (file ∷ rest) fault got (inl fails) calm (inr r) = absurd (fails_whole files file fault r.0 fails r.1)
+fails_stops files before now (file ∷ rest) fault got (inr held) calm (inl misses) =
+    inl (not_missed files before now file held.0.0 got held.0.1 held.0.2 calm misses)
+fails_stops files before now (file ∷ rest) fault got (inr held) calm (inr r) = fails_stops files before now rest fault got held.1 calm r.2
+
+-- where one fails, not all are fetched
+input_fails : (files : Held) (input : Option (List ℕ)) (fault : FetchFault) (bytes : List ℕ) → FailsFirst files (input_wanted input) fault
+    → HasInput (Some files) input bytes → ⊥
+input_fails files None fault bytes fails has = fails
+input_fails files (Some name) fault bytes (inl fails) has = fails_whole files (Input, name) fault bytes fails has
+input_fails files (Some name) fault bytes (inr none) has = none.1
+
+pub audit_fails : (files : Held) (source : List ℕ) (input : Option (List ℕ)) (fault : FetchFault) (text bytes : List ℕ)
+    → FailsFirst files (wanted source input) fault → IsWhole (Some files) (Source, source) text → HasInput (Some files) input bytes → ⊥
+audit_fails files source input fault text bytes (inl fails) whole has = fails_whole files (Source, source) fault text fails whole
+audit_fails files source input fault text bytes (inr behind) whole has = input_fails files input fault bytes behind.1 has
+
+certificate_fails : (files : Held) (certificate : List ℕ) (input : Option (List ℕ)) (fault : FetchFault) (given bytes : List ℕ)
+    → FailsFirst files (certificate_wanted certificate input) fault → IsWhole (Some files) (Certificate, certificate) given
+    → HasInput (Some files) input bytes → ⊥
+certificate_fails files certificate input fault given bytes (inl fails) whole has = fails_whole files (Certificate, certificate) fault given fails whole
+certificate_fails files certificate input fault given bytes (inr behind) whole has = input_fails files input fault bytes behind.1 has
+
+pub check_fails : (files : Held) (source certificate : List ℕ) (input : Option (List ℕ)) (fault : FetchFault) (text given bytes : List ℕ)
+    → FailsFirst files (check_wanted source certificate input) fault → IsWhole (Some files) (Source, source) text
+    → IsWhole (Some files) (Certificate, certificate) given → HasInput (Some files) input bytes → ⊥
+check_fails files source certificate input fault text given bytes (inl fails) whole keeps has = fails_whole files (Source, source) fault text fails whole
+check_fails files source certificate input fault text given bytes (inr behind) whole keeps has =
+    certificate_fails files certificate input fault given bytes behind.1 keeps has

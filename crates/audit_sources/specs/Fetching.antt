@@ -1,5 +1,5 @@
 -- What is fetched, and why a fetch stops (own).
-use Rattle.std.specs.Prelude.{◌≡◌, ◌⊎◌, ◌≤◌, ℕ, length, List, [], ◌∷◌, Option, Some, None, ⊤}
+use Rattle.std.specs.Prelude.{◌≡◌, ◌⊎◌, ◌≤◌, ◌<◌, ℕ, length, List, [], ◌∷◌, Option, Some, None, ⊤}
 use Rattle.ub_base.specs.Causes.{Rose}
 use Rattle.ub_base.specs.Held.{Held, bytes_under, Fetches}
 use Rattle.ub_base.specs.declared.files.Fetched.TheVariants.{Whole, TooLong}
@@ -50,7 +50,22 @@ abbrev pub HasInput : Option Held → Option (List ℕ) → List ℕ → Type 0
 HasInput held None bytes = bytes ≡ []
 HasInput held (Some name) bytes = IsWhole held (Input, name) bytes
 
--- each of these files is held, within its limit
+-- the file is held, within its limit
+abbrev pub IsHeld : Held → Role × List ℕ → Type 0
+IsHeld files file = (bytes : List ℕ) × (bytes_under files file.1 ≡ Some bytes) × (length bytes ≤ most file.0)
+
+-- each of these files is
 abbrev pub AreHeld : Held → List (Role × List ℕ) → Type 0
 AreHeld files [] = ⊤
-AreHeld files (file ∷ rest) = ((bytes : List ℕ) × (bytes_under files file.1 ≡ Some bytes) × (length bytes ≤ most file.0)) × AreHeld files rest
+AreHeld files (file ∷ rest) = IsHeld files file × AreHeld files rest
+
+-- the file isn't, as it isn't there, or as it is longer
+abbrev pub Fails : Held → Role × List ℕ → FetchFault → Type 0
+Fails files file Fault.ReadFault = bytes_under files file.1 ≡ None
+Fails files file (Fault.TooLong role) = (role ≡ file.0) × (bytes : List ℕ) × (bytes_under files file.1 ≡ Some bytes) × (most file.0 < length bytes)
+Fails files file Fault.NoMemory = ⊥
+
+-- the first of these files that isn't held within its limit fails so
+abbrev pub FailsFirst : Held → List (Role × List ℕ) → FetchFault → Type 0
+FailsFirst files [] fault = ⊥
+FailsFirst files (file ∷ rest) fault = Fails files file fault ⊎ (IsHeld files file × FailsFirst files rest fault)

@@ -1,7 +1,15 @@
 -- Why an answer comes.
-use Rattle.std.proofs.Common.{◌≡◌, ◌⊎◌, ℕ, ℤ, List, [], length, Option, Some, None, Result, Ok, Err, refl, sym, subst, ◌∙◌, inl, inr, option_copied}
+use Rattle.std.proofs.Common.{◌≡◌, ◌⊎◌, ℕ, ◌≤◌, ◌<◌, ◌-◌, ◌^◌, min, arith, ℤ, List, [], length, Option, Some, None, Result, Ok, Err, refl, sym, subst, ◌∙◌, inl, inr, option_copied}
+use Rattle.std.proofs.lemmas.Bool.{cases_lt}
+use Rattle.c_ast.specs.Nest.{nest_of}
+use Rattle.c_ast.specs.declared.statement.Unit.{Unit as SyntaxTree}
+use Rattle.c_grammar.specs.Grammar.{SpellsUnit}
+use Rattle.c_lex.specs.TokenText.{TokenText}
 use Rattle.c_lex.specs.Tokens.{lexed}
-use Rattle.c_lex.specs.declared.token.Token.{Token}
+use Rattle.c_parse.specs.declared.error.ParseFault.{ParseFault}
+use Rattle.c_parse.specs.declared.error.ParseFault.TheVariants as ParseFault
+use Rattle.c_typed.specs.Height.{program_height}
+use Rattle.c_typed.specs.declared.program.Program.{Program}
 use Rattle.c_lex.specs.declared.token.LexFault.{LexFault}
 use Rattle.c_lex.specs.declared.token.LexFault.TheVariants as LexFault
 use Rattle.ub_base.specs.Held.{Held, IsKept, OthersStay, WhereTold}
@@ -18,11 +26,11 @@ use Rattle.command.specs.declared.request.CheckRequest.{CheckRequest}
 use Rattle.command.specs.declared.request.SelfRequest.{SelfRequest}
 use Rattle.command.specs.declared.request.Request.{Request}
 use Rattle.command.specs.declared.request.Request.TheVariants.{Audit, Check, SelfAudit}
-use Rattle.audit_top.specs.Answer.{HasTokens, HasVerdict, Refuses, judged, lex_refusal, verdict}
+use Rattle.audit_top.specs.Answer.{HasNoTree, HasTree, HasVerdict, IsRunnable, IsTyped, Refuses, judged, lex_refusal, verdict}
 use Rattle.audit_top.specs.Value.{value}
 use Rattle.audit_top.specs.Finding.{IsFound}
 use Rattle.audit_top.specs.Words.{TakesWords}
-use Rattle.audit_top.specs.Cause.{AuditCause, CheckCause, StopsCheck, Certifies, Disk, GeneratedCause, HasCause, IsCertified, IsJudged, IsRun, IsStopped, KeptCause, Leaves, RequestCause, Spares, SparesOthers, SelfCause, TextCause, UsesForm, WordsCause, stopped, summary_of}
+use Rattle.audit_top.specs.Cause.{AuditCause, CertificateCause, CheckCause, StopsCheck, WeighedCause, Certifies, Disk, GeneratedCause, HasCause, IsCertified, IsJudged, IsRun, IsStopped, KeptCause, Leaves, RequestCause, RunsWell, Spares, SparesOthers, SelfCause, TextCause, UsesForm, WordsCause, stopped, summary_of}
 use Rattle.audit_top.specs.declared.answer.Answer.{Answer}
 use Rattle.audit_top.specs.declared.answer.Answer.TheVariants.{Clean, Undefined, Found, Generated, GeneratedRefused, Checked, Bad, Usage, TooLong, Refused, CertificateTooLong, NotKept, ReadFault, NoMemory}
 use Rattle.audit_top.specs.declared.answer.Refusal.{Refusal}
@@ -53,15 +61,79 @@ bad_number_is_not_memory : (at : ℕ) → LexFault.BadNumber at ≡ LexFault.NoM
 bad_number_is_not_memory at e = cc
 
 -- a text without tokens is refused for its first piece that is none
-pub lex_refuses : (tokens : Result (List Token) LexFault) (fault : LexFault) (refusal : Refusal) → Some refusal ≡ lex_refusal fault
-    → ((fault ≡ LexFault.NoMemory → ⊥) → tokens ≡ Err fault) → Refuses tokens refusal
-lex_refuses tokens (LexFault.Stray at) refusal is why =
-    subst (Refuses tokens) (sym (same_refusal refusal (Refusal.Stray at) is)) (why (stray_is_not_memory at))
-lex_refuses tokens (LexFault.OpenLiteral at) refusal is why =
-    subst (Refuses tokens) (sym (same_refusal refusal (Refusal.OpenLiteral at) is)) (why (open_literal_is_not_memory at))
-lex_refuses tokens (LexFault.BadNumber at) refusal is why =
-    subst (Refuses tokens) (sym (same_refusal refusal (Refusal.BadNumber at) is)) (why (bad_number_is_not_memory at))
-lex_refuses tokens LexFault.NoMemory refusal is why = absurd (no_memory_refuses_nothing refusal is)
+pub lex_refuses : (text : List ℕ) (fault : LexFault) (refusal : Refusal) → Some refusal ≡ lex_refusal fault
+    → ((fault ≡ LexFault.NoMemory → ⊥) → lexed text ≡ Err fault) → Refuses text refusal
+lex_refuses text (LexFault.Stray at) refusal is why =
+    subst (Refuses text) (sym (same_refusal refusal (Refusal.Stray at) is)) (why (stray_is_not_memory at))
+lex_refuses text (LexFault.OpenLiteral at) refusal is why =
+    subst (Refuses text) (sym (same_refusal refusal (Refusal.OpenLiteral at) is)) (why (open_literal_is_not_memory at))
+lex_refuses text (LexFault.BadNumber at) refusal is why =
+    subst (Refuses text) (sym (same_refusal refusal (Refusal.BadNumber at) is)) (why (bad_number_is_not_memory at))
+lex_refuses text LexFault.NoMemory refusal is why = absurd (no_memory_refuses_nothing refusal is)
+
+-- the parser says where the tokens nest too deep
+abbrev pub SaysDeep : Result SyntaxTree ParseFault → ℕ → Type 0
+SaysDeep parsed count = 2000 < count → (parsed ≡ Err (ParseFault.TooDeep count)) ⊎ (parsed ≡ Err ParseFault.NoMemory)
+
+ok_is_no_fault : (unit : SyntaxTree) (fault : ParseFault) → ◌≡◌ {A = Result SyntaxTree ParseFault} (Ok unit) (Err fault) → ⊥
+ok_is_no_fault unit fault e = cc
+
+syntax_is_not_deep : (at count : ℕ) → ◌≡◌ {A = Result SyntaxTree ParseFault} (Err (ParseFault.Syntax at)) (Err (ParseFault.TooDeep count)) → ⊥
+syntax_is_not_deep at count e = cc
+
+syntax_is_not_memory : (at : ℕ) → ◌≡◌ {A = Result SyntaxTree ParseFault} (Err (ParseFault.Syntax at)) (Err ParseFault.NoMemory) → ⊥
+syntax_is_not_memory at e = cc
+
+flat_or_beyond : (count : ℕ) → (2000 < count → ⊥) → (2000 < count) ⊎ (count ≤ 2000) → count ≤ 2000
+flat_or_beyond count flat (inl beyond) = absurd (flat beyond)
+flat_or_beyond count flat (inr within) = within
+
+neither : {A B : Type 0} → (A → ⊥) → (B → ⊥) → A ⊎ B → ⊥
+neither a b (inl x) = a x
+neither a b (inr y) = b y
+
+-- so what it takes, and what it refuses for its syntax, doesn't
+read_is_flat : (unit : SyntaxTree) (count : ℕ) → SaysDeep (Ok unit) count → count ≤ 2000
+read_is_flat unit count deep =
+    flat_or_beyond count (λ beyond. neither (ok_is_no_fault unit _) (ok_is_no_fault unit _) (deep beyond)) (cases_lt 2000 count)
+
+refused_is_flat : (at count : ℕ) → SaysDeep (Err (ParseFault.Syntax at)) count → count ≤ 2000
+refused_is_flat at count deep =
+    flat_or_beyond count (λ beyond. neither (syntax_is_not_deep at count) (syntax_is_not_memory at) (deep beyond)) (cases_lt 2000 count)
+
+-- a text whose tokens spell a tree has one
+pub has_tree : (tokens : TokenText) (parsed : Result SyntaxTree ParseFault) (unit : SyntaxTree) → lexed tokens.source ≡ Ok tokens.list → parsed ≡ Ok unit
+    → SaysDeep parsed (nest_of tokens.list) → SpellsUnit unit tokens → HasTree tokens.source
+has_tree tokens parsed unit are is deep spells =
+    (tokens, (refl, are, read_is_flat unit _ (subst (λ r. SaysDeep r (nest_of tokens.list)) is deep)), (unit, spells))
+
+pub has_no_tree : (tokens : TokenText) (parsed : Result SyntaxTree ParseFault) (at : ℕ) → lexed tokens.source ≡ Ok tokens.list
+    → parsed ≡ Err (ParseFault.Syntax at) → SaysDeep parsed (nest_of tokens.list)
+    → ((n : ℕ) → parsed ≡ Err (ParseFault.Syntax n) → (unit : SyntaxTree) → SpellsUnit unit tokens → ⊥) → HasNoTree tokens.source
+has_no_tree tokens parsed at are is deep none =
+    (tokens, (refl, are, refused_is_flat at _ (subst (λ r. SaysDeep r (nest_of tokens.list)) is deep)), none at is)
+
+-- a height within the limit is that of the program
+pub low : (height count : ℕ) → count ≡ min height (2 ^ 32 - 1) → count ≤ 1000 → height ≤ 1000
+low height count is within = omega arith
+
+-- what a certificate is answered for a program that is run
+pub weighed_cause : (source text : List ℕ) (program : Program) (answer : Answer) → IsRunnable source program → WeighedCause text answer
+    → CertificateCause source text answer
+weighed_cause source text program (Clean s) runnable why = ((program, runnable), why)
+weighed_cause source text program (Undefined c l) runnable why = ((program, runnable), why)
+weighed_cause source text program (Found s b) runnable why = ((program, runnable), why)
+weighed_cause source text program (Generated m s b) runnable why = ((program, runnable), why)
+weighed_cause source text program (GeneratedRefused m r) runnable why = ((program, runnable), why)
+weighed_cause source text program (Checked v) runnable why = ((program, runnable), why)
+weighed_cause source text program (Bad b) runnable why = ((program, runnable), why)
+weighed_cause source text program Usage runnable why = ((program, runnable), why)
+weighed_cause source text program (TooLong role) runnable why = ((program, runnable), why)
+weighed_cause source text program (Refused r) runnable why = absurd why
+weighed_cause source text program CertificateTooLong runnable why = ((program, runnable), why)
+weighed_cause source text program NotKept runnable why = ((program, runnable), why)
+weighed_cause source text program ReadFault runnable why = ((program, runnable), why)
+weighed_cause source text program NoMemory runnable why = tt
 
 -- the verdict on a unit is the answer to its text
 by_value : (request : AuditRequest) (before now : ℕ) (text : List ℕ) (line : ℕ) (answer : Answer) (found : Result ℤ Clause) → UsesForm request
@@ -137,23 +209,23 @@ memory_cause words old new answer (inr h) =
     inr (record { request = h.request; asked = h.asked; why = memory_request old new h.request answer h.why })
 
 -- what is kept of a finding is the answer to its text
-pub kept_text : (request : AuditRequest) (before now : ℕ) (text : List ℕ) (s : ℕ) (bytes : List ℕ) (answer : Answer) → IsRun request text
-    → HasTokens (lexed text) → IsFound request.steps s bytes → KeptCause s bytes before now answer → TextCause request before now text answer
-kept_text request before now text n bytes (Clean s) run tokens found why = absurd why
-kept_text request before now text n bytes (Undefined c l) run tokens found why = absurd why
-kept_text request before now text n bytes (Found s b) run tokens found why =
-    (record { run = run; tokens = tokens }, subst (λ m. IsFound request.steps m b) (sym why.0) (subst (λ r. IsFound request.steps n r) (sym why.1) found))
-kept_text request before now text n bytes (Generated m s b) run tokens found why = absurd why
-kept_text request before now text n bytes (GeneratedRefused m r) run tokens found why = absurd why
-kept_text request before now text n bytes (Checked v) run tokens found why = absurd why
-kept_text request before now text n bytes (Bad b) run tokens found why = absurd why
-kept_text request before now text n bytes Usage run tokens found why = absurd why
-kept_text request before now text n bytes (TooLong role) run tokens found why = absurd why
-kept_text request before now text n bytes (Refused r) run tokens found why = absurd why
-kept_text request before now text n bytes CertificateTooLong run tokens found why = record { run = run; tokens = tokens }
-kept_text request before now text n bytes NotKept run tokens found why = (record { run = run; tokens = tokens }, why)
-kept_text request before now text n bytes ReadFault run tokens found why = absurd why
-kept_text request before now text n bytes NoMemory run tokens found why = tt
+pub kept_text : (request : AuditRequest) (before now : ℕ) (text : List ℕ) (s : ℕ) (bytes : List ℕ) (answer : Answer) → RunsWell request text
+    → IsFound request.steps s bytes → KeptCause s bytes before now answer → TextCause request before now text answer
+kept_text request before now text n bytes (Clean s) well found why = absurd why
+kept_text request before now text n bytes (Undefined c l) well found why = absurd why
+kept_text request before now text n bytes (Found s b) well found why =
+    (well, subst (λ m. IsFound request.steps m b) (sym why.0) (subst (λ r. IsFound request.steps n r) (sym why.1) found))
+kept_text request before now text n bytes (Generated m s b) well found why = absurd why
+kept_text request before now text n bytes (GeneratedRefused m r) well found why = absurd why
+kept_text request before now text n bytes (Checked v) well found why = absurd why
+kept_text request before now text n bytes (Bad b) well found why = absurd why
+kept_text request before now text n bytes Usage well found why = absurd why
+kept_text request before now text n bytes (TooLong role) well found why = absurd why
+kept_text request before now text n bytes (Refused r) well found why = absurd why
+kept_text request before now text n bytes CertificateTooLong well found why = well
+kept_text request before now text n bytes NotKept well found why = (well, why)
+kept_text request before now text n bytes ReadFault well found why = absurd why
+kept_text request before now text n bytes NoMemory well found why = tt
 
 -- a text that was judged has the cause of its audit
 pub judged_audit : (old new : Disk) (request : AuditRequest) (answer : Answer) → IsJudged old new request answer → AuditCause old new request answer

@@ -8,33 +8,40 @@ use Rattle.first_form.proofs.Sentences.{unit_unique}
 use Rattle.first_form.specs.Grammar.{Spells}
 use Rattle.first_form.specs.declared.tree.ReturnUnit.{ReturnUnit}
 use Rattle.first_form.specs.Form.{IsFirstForm}
-use Rattle.audit_sources.proofs.Told.{absent_stops, absent_whole, not_stopped, too_long_stops, too_long_whole, whole_is}
-use Rattle.audit_sources.specs.Fetching.{AreHeld, IsWhole, Stops, input_wanted, wanted}
-use Rattle.audit_sources.specs.Role.{most}
+use Rattle.audit_sources.proofs.Told.{audit_fails, check_fails, fails_stops, not_stopped, whole_is}
+use Rattle.audit_sources.specs.Fetching.{AreHeld, FailsFirst, HasInput, IsWhole, Stops, check_wanted, wanted}
 use Rattle.audit_sources.specs.declared.fetch.FetchFault.{FetchFault}
 use Rattle.audit_sources.specs.declared.fetch.FetchFault.TheVariants as Fault
-use Rattle.audit_sources.specs.declared.role.Role.TheVariants.{Source}
+use Rattle.audit_sources.specs.declared.role.Role.{Role}
+use Rattle.audit_sources.specs.declared.role.Role.TheVariants.{Source, Certificate}
 use Rattle.command.specs.declared.request.AuditRequest.{AuditRequest}
+use Rattle.command.specs.declared.request.CheckRequest.{CheckRequest}
 use Rattle.command.specs.declared.request.Request.{Request}
 use Rattle.command.specs.declared.request.Request.TheVariants.{Audit, Check, SelfAudit}
 use Rattle.c_ast.specs.Nest.{nest_of}
+use Rattle.c_grammar.specs.Grammar.{SpellsUnit}
+use Rattle.c_lex.specs.TokenText.{TokenText}
 use Rattle.c_lex.specs.Tokens.{lexed}
 use Rattle.c_lex.specs.declared.token.Token.{Token}
 use Rattle.c_lex.specs.declared.token.LexFault.{LexFault}
-use Rattle.audit_top.specs.Answer.{HasNoForm, HasTokens, HasVerdict, Refuses, RefusesEarly, verdict}
-use Rattle.audit_top.specs.Cause.{AuditCause, Disk, HasCause, IsJudged, IsStopped, Leaves, RequestCause, TextCause, UsesForm, WordsCause, stopped}
+use Rattle.audit_top.specs.Answer.{HasNoForm, HasNoTree, HasTokens, HasTree, HasVerdict, Refuses, RefusesEarly, verdict}
+use Rattle.audit_top.specs.Cause.{AuditCause, CertificateCause, CheckCause, Disk, HasCause, IsJudged, IsStopped, IsWeighed, Leaves, RequestCause, StopsCheck, TextCause, UsesForm, WordsCause, stopped}
 use Rattle.audit_top.specs.Report.{Ends, EndsWith, report, status}
-use Rattle.audit_top.specs.Told.{IsAsked, IsGiven}
+use Rattle.audit_top.specs.Told.{IsAsked, IsCheckAsked, IsCheckGiven, IsGiven}
 use Rattle.audit_top.specs.Words.{Asks, TakesWords}
 use Rattle.audit_top.specs.declared.answer.Answer.{Answer}
 use Rattle.audit_top.specs.declared.answer.Answer.TheVariants.{Clean, Undefined, Found, Generated, GeneratedRefused, Checked, Bad, Usage, TooLong, Refused, CertificateTooLong, NotKept, ReadFault, NoMemory}
 use Rattle.audit_top.specs.declared.answer.Refusal.{Refusal}
 use Rattle.audit_top.specs.declared.answer.Refusal.TheVariants.{Stray, OpenLiteral, BadNumber, TooDeep, TooHigh, Syntax, NotTyped}
-use Rattle.audit_top.proofs.Requests.{SameAudit, one_audit}
+use Rattle.audit_top.proofs.Requests.{SameAudit, SameCheck, asks_taken, one_audit, one_check}
+
+-- this holds, unless memory ran out
+abbrev pub Only : Answer → Type 0 → Type 0
+Only answer P = (answer ≡ NoMemory) ⊎ P
 
 -- this is the answer, unless memory ran out
 abbrev pub IsOnly : Answer → Answer → Type 0
-IsOnly answer wanted = (answer ≡ NoMemory) ⊎ (answer ≡ wanted)
+IsOnly answer wanted = Only answer (answer ≡ wanted)
 
 -- a text has one tree
 form_unique : (text : List ℕ) (u v : ReturnUnit) → IsFirstForm text u → IsFirstForm text v → u ≡ v
@@ -59,74 +66,63 @@ not_read_on tokens (TooHigh b) p q = q
 not_read_on tokens (Syntax t l) p q = q
 not_read_on tokens (NotTyped l) p q = q
 
--- a text is refused early for one reason
-early_unique : (tokens : Result (List Token) LexFault) (r s : Refusal) → Refuses tokens r → RefusesEarly tokens s → r ≡ s
-early_unique tokens (Stray a) (Stray b) p q = let e = sym p ∙ q in cc
-early_unique tokens (Stray a) (OpenLiteral b) p q = let e = sym p ∙ q in absurd (cc)
-early_unique tokens (Stray a) (BadNumber b) p q = let e = sym p ∙ q in absurd (cc)
-early_unique tokens (Stray a) (TooDeep b) p q = absurd (not_both _ q.0 (sym p ∙ q.1))
-early_unique tokens (Stray a) (TooHigh b) p q = absurd q
-early_unique tokens (Stray a) (Syntax u m) p q = absurd q
-early_unique tokens (Stray a) (NotTyped m) p q = absurd q
-early_unique tokens (OpenLiteral a) (Stray b) p q = let e = sym p ∙ q in absurd (cc)
-early_unique tokens (OpenLiteral a) (OpenLiteral b) p q = let e = sym p ∙ q in cc
-early_unique tokens (OpenLiteral a) (BadNumber b) p q = let e = sym p ∙ q in absurd (cc)
-early_unique tokens (OpenLiteral a) (TooDeep b) p q = absurd (not_both _ q.0 (sym p ∙ q.1))
-early_unique tokens (OpenLiteral a) (TooHigh b) p q = absurd q
-early_unique tokens (OpenLiteral a) (Syntax u m) p q = absurd q
-early_unique tokens (OpenLiteral a) (NotTyped m) p q = absurd q
-early_unique tokens (BadNumber a) (Stray b) p q = let e = sym p ∙ q in absurd (cc)
-early_unique tokens (BadNumber a) (OpenLiteral b) p q = let e = sym p ∙ q in absurd (cc)
-early_unique tokens (BadNumber a) (BadNumber b) p q = let e = sym p ∙ q in cc
-early_unique tokens (BadNumber a) (TooDeep b) p q = absurd (not_both _ q.0 (sym p ∙ q.1))
-early_unique tokens (BadNumber a) (TooHigh b) p q = absurd q
-early_unique tokens (BadNumber a) (Syntax u m) p q = absurd q
-early_unique tokens (BadNumber a) (NotTyped m) p q = absurd q
-early_unique tokens (TooDeep a) (Stray b) p q = absurd (not_both _ p.0 (sym q ∙ p.1))
-early_unique tokens (TooDeep a) (OpenLiteral b) p q = absurd (not_both _ p.0 (sym q ∙ p.1))
-early_unique tokens (TooDeep a) (BadNumber b) p q = absurd (not_both _ p.0 (sym q ∙ p.1))
-early_unique tokens (TooDeep a) (TooDeep b) p q =
-    let same = same_list p.0 q.0 (sym p.1 ∙ q.1) in ap TooDeep (p.2 ∙ ap nest_of same ∙ sym q.2)
-early_unique tokens (TooDeep a) (TooHigh b) p q = absurd q
-early_unique tokens (TooDeep a) (Syntax u m) p q = absurd q
-early_unique tokens (TooDeep a) (NotTyped m) p q = absurd q
-early_unique tokens (TooHigh a) (Stray b) p q = absurd (not_read_on tokens (Stray b) p q)
-early_unique tokens (TooHigh a) (OpenLiteral b) p q = absurd (not_read_on tokens (OpenLiteral b) p q)
-early_unique tokens (TooHigh a) (BadNumber b) p q = absurd (not_read_on tokens (BadNumber b) p q)
-early_unique tokens (TooHigh a) (TooDeep b) p q = absurd (not_read_on tokens (TooDeep b) p q)
-early_unique tokens (TooHigh a) (TooHigh b) p q = absurd q
-early_unique tokens (TooHigh a) (Syntax u m) p q = absurd q
-early_unique tokens (TooHigh a) (NotTyped m) p q = absurd q
-early_unique tokens (Syntax t l) (Stray b) p q = absurd (not_read_on tokens (Stray b) p q)
-early_unique tokens (Syntax t l) (OpenLiteral b) p q = absurd (not_read_on tokens (OpenLiteral b) p q)
-early_unique tokens (Syntax t l) (BadNumber b) p q = absurd (not_read_on tokens (BadNumber b) p q)
-early_unique tokens (Syntax t l) (TooDeep b) p q = absurd (not_read_on tokens (TooDeep b) p q)
-early_unique tokens (Syntax t l) (TooHigh b) p q = absurd q
-early_unique tokens (Syntax t l) (Syntax u m) p q = absurd q
-early_unique tokens (Syntax t l) (NotTyped m) p q = absurd q
-early_unique tokens (NotTyped l) (Stray b) p q = absurd (not_read_on tokens (Stray b) p q)
-early_unique tokens (NotTyped l) (OpenLiteral b) p q = absurd (not_read_on tokens (OpenLiteral b) p q)
-early_unique tokens (NotTyped l) (BadNumber b) p q = absurd (not_read_on tokens (BadNumber b) p q)
-early_unique tokens (NotTyped l) (TooDeep b) p q = absurd (not_read_on tokens (TooDeep b) p q)
-early_unique tokens (NotTyped l) (TooHigh b) p q = absurd q
-early_unique tokens (NotTyped l) (Syntax u m) p q = absurd q
-early_unique tokens (NotTyped l) (NotTyped m) p q = absurd q
+-- a text that has a tree, or none, has tokens
+tree_tokens : (text : List ℕ) → HasTree text → HasTokens (lexed text)
+tree_tokens text tree = (tree.0.list, tree.1.1, tree.1.2)
 
-words_only : (words : List (List ℕ)) (answer wanted : Answer) → TakesWords words → WordsCause words answer → IsOnly answer wanted
-words_only words (Clean s) wanted taken why = absurd why
-words_only words (Undefined c l) wanted taken why = absurd why
-words_only words (Found s b) wanted taken why = absurd why
-words_only words (Generated m s b) wanted taken why = absurd why
-words_only words (GeneratedRefused m r) wanted taken why = absurd why
-words_only words (Checked v) wanted taken why = absurd why
-words_only words (Bad b) wanted taken why = absurd why
-words_only words Usage wanted taken why = absurd (why taken)
-words_only words (TooLong role) wanted taken why = absurd why
-words_only words (Refused r) wanted taken why = absurd why
-words_only words CertificateTooLong wanted taken why = absurd why
-words_only words NotKept wanted taken why = absurd why
-words_only words ReadFault wanted taken why = absurd why
-words_only words NoMemory wanted taken why = inl refl
+no_tree_tokens : (text : List ℕ) → HasNoTree text → HasTokens (lexed text)
+no_tree_tokens text none = (none.0.list, none.1.1, none.1.2)
+
+-- a text is refused early for one reason
+early_unique : (text : List ℕ) (r s : Refusal) → Refuses text r → RefusesEarly (lexed text) s → r ≡ s
+early_unique text (Stray a) (Stray b) p q = let e = sym p ∙ q in cc
+early_unique text (Stray a) (OpenLiteral b) p q = let e = sym p ∙ q in absurd (cc)
+early_unique text (Stray a) (BadNumber b) p q = let e = sym p ∙ q in absurd (cc)
+early_unique text (Stray a) (TooDeep b) p q = absurd (not_both _ q.0 (sym p ∙ q.1))
+early_unique text (Stray a) (TooHigh b) p q = absurd q
+early_unique text (Stray a) (Syntax u m) p q = absurd q
+early_unique text (Stray a) (NotTyped m) p q = absurd q
+early_unique text (OpenLiteral a) (Stray b) p q = let e = sym p ∙ q in absurd (cc)
+early_unique text (OpenLiteral a) (OpenLiteral b) p q = let e = sym p ∙ q in cc
+early_unique text (OpenLiteral a) (BadNumber b) p q = let e = sym p ∙ q in absurd (cc)
+early_unique text (OpenLiteral a) (TooDeep b) p q = absurd (not_both _ q.0 (sym p ∙ q.1))
+early_unique text (OpenLiteral a) (TooHigh b) p q = absurd q
+early_unique text (OpenLiteral a) (Syntax u m) p q = absurd q
+early_unique text (OpenLiteral a) (NotTyped m) p q = absurd q
+early_unique text (BadNumber a) (Stray b) p q = let e = sym p ∙ q in absurd (cc)
+early_unique text (BadNumber a) (OpenLiteral b) p q = let e = sym p ∙ q in absurd (cc)
+early_unique text (BadNumber a) (BadNumber b) p q = let e = sym p ∙ q in cc
+early_unique text (BadNumber a) (TooDeep b) p q = absurd (not_both _ q.0 (sym p ∙ q.1))
+early_unique text (BadNumber a) (TooHigh b) p q = absurd q
+early_unique text (BadNumber a) (Syntax u m) p q = absurd q
+early_unique text (BadNumber a) (NotTyped m) p q = absurd q
+early_unique text (TooDeep a) (Stray b) p q = absurd (not_both _ p.0 (sym q ∙ p.1))
+early_unique text (TooDeep a) (OpenLiteral b) p q = absurd (not_both _ p.0 (sym q ∙ p.1))
+early_unique text (TooDeep a) (BadNumber b) p q = absurd (not_both _ p.0 (sym q ∙ p.1))
+early_unique text (TooDeep a) (TooDeep b) p q =
+    let same = same_list p.0 q.0 (sym p.1 ∙ q.1) in ap TooDeep (p.2 ∙ ap nest_of same ∙ sym q.2)
+early_unique text (TooDeep a) (TooHigh b) p q = absurd q
+early_unique text (TooDeep a) (Syntax u m) p q = absurd q
+early_unique text (TooDeep a) (NotTyped m) p q = absurd q
+early_unique text (TooHigh a) s p q = absurd (not_read_on (lexed text) s (tree_tokens text p.typed.tree) q)
+early_unique text (Syntax t l) s p q = absurd (not_read_on (lexed text) s (no_tree_tokens text p) q)
+early_unique text (NotTyped l) s p q = absurd (not_read_on (lexed text) s (tree_tokens text p) q)
+
+words_only : (words : List (List ℕ)) (answer : Answer) (P : Type 0) → TakesWords words → WordsCause words answer → Only answer P
+words_only words (Clean s) P taken why = absurd why
+words_only words (Undefined c l) P taken why = absurd why
+words_only words (Found s b) P taken why = absurd why
+words_only words (Generated m s b) P taken why = absurd why
+words_only words (GeneratedRefused m r) P taken why = absurd why
+words_only words (Checked v) P taken why = absurd why
+words_only words (Bad b) P taken why = absurd why
+words_only words Usage P taken why = absurd (why taken)
+words_only words (TooLong role) P taken why = absurd why
+words_only words (Refused r) P taken why = absurd why
+words_only words CertificateTooLong P taken why = absurd why
+words_only words NotKept P taken why = absurd why
+words_only words ReadFault P taken why = absurd why
+words_only words NoMemory P taken why = inl refl
 
 -- memory ran out, a file stopped the audit, or its text was judged
 abbrev Ways : Disk → Disk → AuditRequest → Answer → Type 0
@@ -172,16 +168,16 @@ text_refused : (request : AuditRequest) (before now : ℕ) (text : List ℕ) (re
     → RefusesEarly (lexed text) refusal → TextCause request before now text answer → IsOnly answer (Refused refusal)
 text_refused request before now text refusal (Clean s) none early why = absurd (none why.1.unit why.1.form)
 text_refused request before now text refusal (Undefined c l) none early why = absurd (none why.1.unit why.1.form)
-text_refused request before now text refusal (Found s b) none early why = absurd (not_read_on (lexed text) refusal why.0.tokens early)
+text_refused request before now text refusal (Found s b) none early why = absurd (not_read_on (lexed text) refusal (tree_tokens text why.0.runnable.typed.tree) early)
 text_refused request before now text refusal (Generated m s b) none early why = absurd why
 text_refused request before now text refusal (GeneratedRefused m r) none early why = absurd why
 text_refused request before now text refusal (Checked v) none early why = absurd why
 text_refused request before now text refusal (Bad b) none early why = absurd why
 text_refused request before now text refusal Usage none early why = absurd why
 text_refused request before now text refusal (TooLong role) none early why = absurd why
-text_refused request before now text refusal (Refused r) none early why = inr (ap Refused (early_unique (lexed text) r refusal why.1 early))
-text_refused request before now text refusal CertificateTooLong none early why = absurd (not_read_on (lexed text) refusal why.tokens early)
-text_refused request before now text refusal NotKept none early why = absurd (not_read_on (lexed text) refusal why.0.tokens early)
+text_refused request before now text refusal (Refused r) none early why = inr (ap Refused (early_unique text r refusal why.1 early))
+text_refused request before now text refusal CertificateTooLong none early why = absurd (not_read_on (lexed text) refusal (tree_tokens text why.runnable.typed.tree) early)
+text_refused request before now text refusal NotKept none early why = absurd (not_read_on (lexed text) refusal (tree_tokens text why.0.runnable.typed.tree) early)
 text_refused request before now text refusal ReadFault none early why = absurd why
 text_refused request before now text refusal NoMemory none early why = inl refl
 
@@ -193,24 +189,17 @@ by_fault : (fault wanted : FetchFault) → (fault ≡ Fault.NoMemory) ⊎ (fault
 by_fault fault wanted (inl memory) = inl memory
 by_fault fault wanted (inr same) = inr (ap stopped same)
 
-absent_way : (old new : Disk) (request : AuditRequest) (files : Held) (answer : Answer) → old.held ≡ Some files → bytes_under files request.file.now ≡ None
-    → Ways old new request answer → IsOnly answer ReadFault
-absent_way old new request files answer told none (inl memory) = inl memory
-absent_way old new request files answer told none (inr (inl f)) =
-    is_stopped answer ReadFault f.0 f.1 (by_fault f.0 Fault.ReadFault (absent_stops files old.reads new.reads (Source, request.file.now) (input_wanted (option_copied request.input)) f.0 none
+stopped_way : (old new : Disk) (request : AuditRequest) (files : Held) (fault : FetchFault) (answer : Answer) → old.held ≡ Some files
+    → FailsFirst files (wanted request.file.now (option_copied request.input)) fault → (Rose old.reads new.reads → ⊥) → Ways old new request answer
+    → IsOnly answer (stopped fault)
+stopped_way old new request files fault answer told fails calm (inl memory) = inl memory
+stopped_way old new request files fault answer told fails calm (inr (inl f)) =
+    is_stopped answer (stopped fault) f.0 f.1 (by_fault f.0 fault (fails_stops files old.reads new.reads (wanted request.file.now (option_copied request.input)) fault f.0 fails calm
     (subst (λ h. Stops h old.reads new.reads (wanted request.file.now (option_copied request.input)) f.0) told f.2)))
-absent_way old new request files answer told none (inr (inr j)) =
-    absurd (absent_whole files (Source, request.file.now) j.text none (subst (λ h. IsWhole h (Source, request.file.now) j.text) told j.source))
-
-too_long_way : (old new : Disk) (request : AuditRequest) (files : Held) (text : List ℕ) (answer : Answer) → old.held ≡ Some files
-    → bytes_under files request.file.now ≡ Some text → most Source < length text → (Rose old.reads new.reads → ⊥) → Ways old new request answer
-    → IsOnly answer (TooLong Source)
-too_long_way old new request files text answer told there beyond calm (inl memory) = inl memory
-too_long_way old new request files text answer told there beyond calm (inr (inl f)) =
-    is_stopped answer (TooLong Source) f.0 f.1 (by_fault f.0 (Fault.TooLong Source) (too_long_stops files old.reads new.reads (Source, request.file.now) (input_wanted (option_copied request.input)) text f.0 there beyond calm
-    (subst (λ h. Stops h old.reads new.reads (wanted request.file.now (option_copied request.input)) f.0) told f.2)))
-too_long_way old new request files text answer told there beyond calm (inr (inr j)) =
-    absurd (too_long_whole files (Source, request.file.now) text j.text there beyond (subst (λ h. IsWhole h (Source, request.file.now) j.text) told j.source))
+stopped_way old new request files fault answer told fails calm (inr (inr j)) =
+    absurd (audit_fails files request.file.now (option_copied request.input) fault j.text j.bytes fails
+    (subst (λ h. IsWhole h (Source, request.file.now) j.text) told j.source)
+    (subst (λ h. HasInput h (option_copied request.input) j.bytes) told j.input))
 
 -- the text that is judged is the one that is held
 judged_why : (old new : Disk) (request : AuditRequest) (files : Held) (text : List ℕ) (answer : Answer) → old.held ≡ Some files
@@ -219,47 +208,44 @@ judged_why old new request files text answer told there j =
     subst (λ t. TextCause request old.writes new.writes t answer)
     (whole_is files (Source, request.file.now) text j.text there (subst (λ h. IsWhole h (Source, request.file.now) j.text) told j.source)) j.why
 
-given_way : (old new : Disk) (request : AuditRequest) (files : Held) (text : List ℕ) (answer wanted_answer : Answer) → old.held ≡ Some files
+given_way : (old new : Disk) (request : AuditRequest) (files : Held) (text : List ℕ) (answer : Answer) (P : Type 0) → old.held ≡ Some files
     → AreHeld files (wanted request.file.now (option_copied request.input)) → bytes_under files request.file.now ≡ Some text
-    → (Rose old.reads new.reads → ⊥) → (TextCause request old.writes new.writes text answer → IsOnly answer wanted_answer)
-    → Ways old new request answer → IsOnly answer wanted_answer
-given_way old new request files text answer wanted_answer told all there calm only (inl memory) = inl memory
-given_way old new request files text answer wanted_answer told all there calm only (inr (inl f)) =
+    → (Rose old.reads new.reads → ⊥) → (TextCause request old.writes new.writes text answer → Only answer P)
+    → Ways old new request answer → Only answer P
+given_way old new request files text answer P told all there calm only (inl memory) = inl memory
+given_way old new request files text answer P told all there calm only (inr (inl f)) =
     inl (f.1 ∙ ap stopped (not_stopped files old.reads new.reads (wanted request.file.now (option_copied request.input)) f.0 all calm
     (subst (λ h. Stops h old.reads new.reads (wanted request.file.now (option_copied request.input)) f.0) told f.2)))
-given_way old new request files text answer wanted_answer told all there calm only (inr (inr j)) =
+given_way old new request files text answer P told all there calm only (inr (inr j)) =
     only (judged_why old new request files text answer told there j)
 
 -- The cause of the words is that of their audit, or memory ran out.
-pub audit_of : (words : List (List ℕ)) (old new : Disk) (request : AuditRequest) (answer wanted_answer : Answer) → TakesWords words
+audit_of : (words : List (List ℕ)) (old new : Disk) (request : AuditRequest) (answer : Answer) (P : Type 0)
     → Asks words (Audit request) → HasCause words old new answer
-    → ((own : AuditRequest) → SameAudit request own → AuditCause old new own answer → IsOnly answer wanted_answer) → IsOnly answer wanted_answer
-audit_of words old new request answer wanted_answer taken asks (inl w) only = words_only words answer wanted_answer taken w.0
-audit_of words old new request answer wanted_answer taken asks (inr h) only =
+    → ((own : AuditRequest) → SameAudit request own → AuditCause old new own answer → Only answer P) → Only answer P
+audit_of words old new request answer P asks (inl w) only =
+    words_only words answer P (asks_taken words (Audit request) asks) w.0
+audit_of words old new request answer P asks (inr h) only =
     let one = one_audit words request h.request asks h.asked in
     let why : RequestCause old new (Audit one.0) answer = subst (λ r. RequestCause old new r answer) one.1 h.why in
     only one.0 one.2 why.0
 
-pub only_absent : (words : List (List ℕ)) (old new : Disk) (request : AuditRequest) (files : Held) (answer : Answer) → IsAsked words old.held request files
-    → bytes_under files request.file.now ≡ None → HasCause words old new answer → IsOnly answer ReadFault
-only_absent words old new request files answer h none cause =
-    audit_of words old new request answer ReadFault h.taken h.asked cause
-    (λ own same why. absent_way old new own files answer h.told (subst (λ n. bytes_under files n ≡ None) same.file none) (audit_stops old new own answer why))
+pub only_stopped : (words : List (List ℕ)) (old new : Disk) (request : AuditRequest) (files : Held) (fault : FetchFault) (answer : Answer)
+    → IsAsked words old.held request files → FailsFirst files (wanted request.file.now (option_copied request.input)) fault
+    → (Rose old.reads new.reads → ⊥) → HasCause words old new answer → IsOnly answer (stopped fault)
+only_stopped words old new request files fault answer h fails calm cause =
+    audit_of words old new request answer (answer ≡ stopped fault) h.asked cause
+    (λ own same why. stopped_way old new own files fault answer h.told
+    (subst (λ i. FailsFirst files (wanted own.file.now i) fault) same.input (subst (λ n. FailsFirst files (wanted n (option_copied request.input)) fault) same.file fails))
+    calm (audit_stops old new own answer why))
 
-pub only_too_long : (words : List (List ℕ)) (old new : Disk) (request : AuditRequest) (files : Held) (text : List ℕ) (answer : Answer)
-    → IsAsked words old.held request files → bytes_under files request.file.now ≡ Some text → most Source < length text
-    → (Rose old.reads new.reads → ⊥) → HasCause words old new answer → IsOnly answer (TooLong Source)
-only_too_long words old new request files text answer h there beyond calm cause =
-    audit_of words old new request answer (TooLong Source) h.taken h.asked cause
-    (λ own same why. too_long_way old new own files text answer h.told (subst (λ n. bytes_under files n ≡ Some text) same.file there) beyond calm (audit_stops old new own answer why))
-
-only_given : (words : List (List ℕ)) (old new : Disk) (request : AuditRequest) (files : Held) (text : List ℕ) (answer wanted_answer : Answer)
+only_given : (words : List (List ℕ)) (old new : Disk) (request : AuditRequest) (files : Held) (text : List ℕ) (answer : Answer) (P : Type 0)
     → IsGiven words old.held request files text → (Rose old.reads new.reads → ⊥) → HasCause words old new answer
-    → ((own : AuditRequest) → SameAudit request own → TextCause own old.writes new.writes text answer → IsOnly answer wanted_answer)
-    → IsOnly answer wanted_answer
-only_given words old new request files text answer wanted_answer h calm cause only =
-    audit_of words old new request answer wanted_answer h.call.taken h.call.asked cause
-    (λ own same why. given_way old new own files text answer wanted_answer h.call.told
+    → ((own : AuditRequest) → SameAudit request own → TextCause own old.writes new.writes text answer → Only answer P)
+    → Only answer P
+only_given words old new request files text answer P h calm cause only =
+    audit_of words old new request answer P h.call.asked cause
+    (λ own same why. given_way old new own files text answer P h.call.told
     (subst (λ i. AreHeld files (wanted own.file.now i)) same.input (subst (λ n. AreHeld files (wanted n (option_copied request.input))) same.file h.all))
     (subst (λ n. bytes_under files n ≡ Some text) same.file h.source) calm (only own same) (audit_stops old new own answer why))
 
@@ -270,15 +256,166 @@ pub only_verdict : (words : List (List ℕ)) (old new : Disk) (request : AuditRe
     → IsGiven words old.held request files text → (Rose old.reads new.reads → ⊥) → UsesForm request → IsFirstForm text unit
     → HasCause words old new answer → IsOnly answer (verdict unit)
 only_verdict words old new request files text unit answer h calm uses form cause =
-    only_given words old new request files text answer (verdict unit) h calm cause
+    only_given words old new request files text answer (answer ≡ verdict unit) h calm cause
     (λ own same why. text_verdict own old.writes new.writes text unit answer (uses_same request own same uses) form why)
 
 pub only_refused : (words : List (List ℕ)) (old new : Disk) (request : AuditRequest) (files : Held) (text : List ℕ) (refusal : Refusal) (answer : Answer)
     → IsGiven words old.held request files text → (Rose old.reads new.reads → ⊥) → HasNoForm text → RefusesEarly (lexed text) refusal
     → HasCause words old new answer → IsOnly answer (Refused refusal)
 only_refused words old new request files text refusal answer h calm none early cause =
-    only_given words old new request files text answer (Refused refusal) h calm cause
+    only_given words old new request files text answer (answer ≡ Refused refusal) h calm cause
     (λ own same why. text_refused own old.writes new.writes text refusal answer none early why)
+
+-- two lists of tokens of one text are one
+one_text : (a b : TokenText) → a.source ≡ b.source → a.list ≡ b.list → a ≡ b
+one_text a b source list i = record { source = source i; list = list i }
+
+-- a text whose tokens spell no tree has none
+not_both_trees : (text : List ℕ) → HasTree text → HasNoTree text → ⊥
+not_both_trees text tree none =
+    let same = one_text tree.0 none.0 (tree.1.0 ∙ sym none.1.0) (same_list tree.0.list none.0.list (sym tree.1.1 ∙ none.1.1)) in
+    none.2 tree.2.0 (subst (SpellsUnit tree.2.0) same tree.2.1)
+
+-- the answer refuses the syntax
+abbrev pub IsSyntax : Answer → Type 0
+IsSyntax answer = (token : ℕ) × (line : ℕ) × (answer ≡ Refused (Syntax token line))
+
+syntax_refused : (text : List ℕ) (refusal : Refusal) → HasNoTree text → Refuses text refusal → IsSyntax (Refused refusal)
+syntax_refused text (Stray a) none why = absurd (not_both _ _ (sym why ∙ none.1.1))
+syntax_refused text (OpenLiteral a) none why = absurd (not_both _ _ (sym why ∙ none.1.1))
+syntax_refused text (BadNumber a) none why = absurd (not_both _ _ (sym why ∙ none.1.1))
+syntax_refused text (TooDeep a) none why =
+    let same = ap nest_of (same_list why.0 none.0.list (sym why.1 ∙ none.1.1)) in let count = why.2 in let deep = why.3 in let flat = none.1.2 in absurd (omega arith)
+syntax_refused text (TooHigh a) none why = absurd (not_both_trees text why.typed.tree none)
+syntax_refused text (Syntax t l) none why = (t, l, refl)
+syntax_refused text (NotTyped l) none why = absurd (not_both_trees text why none)
+
+-- such a refusal is the only answer to a text whose tokens spell no tree
+text_syntax : (request : AuditRequest) (before now : ℕ) (text : List ℕ) (answer : Answer) → HasNoForm text → HasNoTree text
+    → TextCause request before now text answer → Only answer (IsSyntax answer)
+text_syntax request before now text (Clean s) form none why = absurd (form why.1.unit why.1.form)
+text_syntax request before now text (Undefined c l) form none why = absurd (form why.1.unit why.1.form)
+text_syntax request before now text (Found s b) form none why = absurd (not_both_trees text why.0.runnable.typed.tree none)
+text_syntax request before now text (Generated m s b) form none why = absurd why
+text_syntax request before now text (GeneratedRefused m r) form none why = absurd why
+text_syntax request before now text (Checked v) form none why = absurd why
+text_syntax request before now text (Bad b) form none why = absurd why
+text_syntax request before now text Usage form none why = absurd why
+text_syntax request before now text (TooLong role) form none why = absurd why
+text_syntax request before now text (Refused r) form none why = inr (syntax_refused text r none why.1)
+text_syntax request before now text CertificateTooLong form none why = absurd (not_both_trees text why.runnable.typed.tree none)
+text_syntax request before now text NotKept form none why = absurd (not_both_trees text why.0.runnable.typed.tree none)
+text_syntax request before now text ReadFault form none why = absurd why
+text_syntax request before now text NoMemory form none why = inl refl
+
+pub only_syntax : (words : List (List ℕ)) (old new : Disk) (request : AuditRequest) (files : Held) (text : List ℕ) (answer : Answer)
+    → IsGiven words old.held request files text → (Rose old.reads new.reads → ⊥) → HasNoForm text → HasNoTree text
+    → HasCause words old new answer → Only answer (IsSyntax answer)
+only_syntax words old new request files text answer h calm form none cause =
+    only_given words old new request files text answer (IsSyntax answer) h calm cause
+    (λ own same why. text_syntax own old.writes new.writes text answer form none why)
+
+-- memory ran out, a file stopped the check, or its certificate was weighed
+abbrev CheckWays : Disk → Disk → CheckRequest → Answer → Type 0
+CheckWays old new request answer =
+    (answer ≡ NoMemory) ⊎ (((fault : FetchFault) × (answer ≡ stopped fault) × StopsCheck old new request fault) ⊎ IsWeighed old request answer)
+
+check_stops : (old new : Disk) (request : CheckRequest) (answer : Answer) → CheckCause old new request answer → CheckWays old new request answer
+check_stops old new request (Clean s) cause = inr (inr cause)
+check_stops old new request (Undefined c l) cause = inr (inr cause)
+check_stops old new request (Found s b) cause = inr (inr cause)
+check_stops old new request (Generated m s b) cause = inr (inr cause)
+check_stops old new request (GeneratedRefused m r) cause = inr (inr cause)
+check_stops old new request (Checked v) cause = inr (inr cause)
+check_stops old new request (Bad b) cause = inr (inr cause)
+check_stops old new request Usage cause = inr (inr cause)
+check_stops old new request (TooLong role) cause = inr (inl (Fault.TooLong role, refl, cause))
+check_stops old new request (Refused r) cause = inr (inr cause)
+check_stops old new request CertificateTooLong cause = inr (inr cause)
+check_stops old new request NotKept cause = inr (inr cause)
+check_stops old new request ReadFault cause = inr (inl (Fault.ReadFault, refl, cause))
+check_stops old new request NoMemory cause = inl refl
+
+abbrev files_of : CheckRequest → List (Role × List ℕ)
+files_of request = check_wanted request.file.now request.cert.now (option_copied request.input)
+
+check_stopped_way : (old new : Disk) (request : CheckRequest) (files : Held) (fault : FetchFault) (answer : Answer) → old.held ≡ Some files
+    → FailsFirst files (files_of request) fault → (Rose old.reads new.reads → ⊥) → CheckWays old new request answer → IsOnly answer (stopped fault)
+check_stopped_way old new request files fault answer told fails calm (inl memory) = inl memory
+check_stopped_way old new request files fault answer told fails calm (inr (inl f)) =
+    is_stopped answer (stopped fault) f.0 f.1 (by_fault f.0 fault (fails_stops files old.reads new.reads (files_of request) fault f.0 fails calm
+    (subst (λ h. Stops h old.reads new.reads (files_of request) f.0) told f.2)))
+check_stopped_way old new request files fault answer told fails calm (inr (inr w)) =
+    absurd (check_fails files request.file.now request.cert.now (option_copied request.input) fault w.text w.certificate w.bytes fails
+    (subst (λ h. IsWhole h (Source, request.file.now) w.text) told w.source)
+    (subst (λ h. IsWhole h (Certificate, request.cert.now) w.certificate) told w.given)
+    (subst (λ h. HasInput h (option_copied request.input) w.bytes) told w.input))
+
+-- its refusal is the only answer to a source that its tokens refuse
+weighed_refused : (source text : List ℕ) (refusal : Refusal) (answer : Answer) → RefusesEarly (lexed source) refusal → CertificateCause source text answer
+    → IsOnly answer (Refused refusal)
+weighed_refused source text refusal (Clean s) early why = absurd why.1
+weighed_refused source text refusal (Undefined c l) early why = absurd why.1
+weighed_refused source text refusal (Found s b) early why = absurd why.1
+weighed_refused source text refusal (Generated m s b) early why = absurd why.1
+weighed_refused source text refusal (GeneratedRefused m r) early why = absurd why.1
+weighed_refused source text refusal (Checked v) early why = absurd (not_read_on (lexed source) refusal (tree_tokens source why.0.1.typed.tree) early)
+weighed_refused source text refusal (Bad b) early why = absurd (not_read_on (lexed source) refusal (tree_tokens source why.0.1.typed.tree) early)
+weighed_refused source text refusal Usage early why = absurd why.1
+weighed_refused source text refusal (TooLong role) early why = absurd why.1
+weighed_refused source text refusal (Refused r) early why = inr (ap Refused (early_unique source r refusal why early))
+weighed_refused source text refusal CertificateTooLong early why = absurd why.1
+weighed_refused source text refusal NotKept early why = absurd why.1
+weighed_refused source text refusal ReadFault early why = absurd why.1
+weighed_refused source text refusal NoMemory early why = inl refl
+
+-- the source that is weighed is the one that is held
+weighed_why : (old : Disk) (request : CheckRequest) (files : Held) (text : List ℕ) (answer : Answer) (w : IsWeighed old request answer) → old.held ≡ Some files
+    → bytes_under files request.file.now ≡ Some text → CertificateCause text w.certificate answer
+weighed_why old request files text answer w told there =
+    subst (λ t. CertificateCause t w.certificate answer)
+    (whole_is files (Source, request.file.now) text w.text there (subst (λ h. IsWhole h (Source, request.file.now) w.text) told w.source)) w.why
+
+check_refused_way : (old new : Disk) (request : CheckRequest) (files : Held) (text : List ℕ) (refusal : Refusal) (answer : Answer) → old.held ≡ Some files
+    → AreHeld files (files_of request) → bytes_under files request.file.now ≡ Some text → (Rose old.reads new.reads → ⊥)
+    → RefusesEarly (lexed text) refusal → CheckWays old new request answer → IsOnly answer (Refused refusal)
+check_refused_way old new request files text refusal answer told all there calm early (inl memory) = inl memory
+check_refused_way old new request files text refusal answer told all there calm early (inr (inl f)) =
+    inl (f.1 ∙ ap stopped (not_stopped files old.reads new.reads (files_of request) f.0 all calm
+    (subst (λ h. Stops h old.reads new.reads (files_of request) f.0) told f.2)))
+check_refused_way old new request files text refusal answer told all there calm early (inr (inr w)) =
+    weighed_refused text w.certificate refusal answer early (weighed_why old request files text answer w told there)
+
+-- The cause of the words is that of their check, or memory ran out.
+check_of : (words : List (List ℕ)) (old new : Disk) (request : CheckRequest) (answer : Answer) (P : Type 0)
+    → Asks words (Check request) → HasCause words old new answer
+    → ((own : CheckRequest) → SameCheck request own → CheckCause old new own answer → Only answer P) → Only answer P
+check_of words old new request answer P asks (inl w) only =
+    words_only words answer P (asks_taken words (Check request) asks) w.0
+check_of words old new request answer P asks (inr h) only =
+    let one = one_check words request h.request asks h.asked in
+    let why : RequestCause old new (Check one.0) answer = subst (λ r. RequestCause old new r answer) one.1 h.why in
+    only one.0 one.2 why.0
+
+files_same : (a b : CheckRequest) → SameCheck a b → files_of a ≡ files_of b
+files_same a b same i = check_wanted (same.file i) (same.cert i) (same.input i)
+
+pub only_check_stopped : (words : List (List ℕ)) (old new : Disk) (request : CheckRequest) (files : Held) (fault : FetchFault) (answer : Answer)
+    → IsCheckAsked words old.held request files → FailsFirst files (files_of request) fault → (Rose old.reads new.reads → ⊥)
+    → HasCause words old new answer → IsOnly answer (stopped fault)
+only_check_stopped words old new request files fault answer h fails calm cause =
+    check_of words old new request answer (answer ≡ stopped fault) h.asked cause
+    (λ own same why. check_stopped_way old new own files fault answer h.told (subst (λ fs. FailsFirst files fs fault) (files_same request own same) fails)
+    calm (check_stops old new own answer why))
+
+pub only_check_refused : (words : List (List ℕ)) (old new : Disk) (request : CheckRequest) (files : Held) (text : List ℕ) (refusal : Refusal) (answer : Answer)
+    → IsCheckGiven words old.held request files text → (Rose old.reads new.reads → ⊥) → RefusesEarly (lexed text) refusal
+    → HasCause words old new answer → IsOnly answer (Refused refusal)
+only_check_refused words old new request files text refusal answer h calm early cause =
+    check_of words old new request answer (answer ≡ Refused refusal) h.call.asked cause
+    (λ own same why. check_refused_way old new own files text refusal answer h.call.told
+    (subst (λ fs. AreHeld files fs) (files_same request own same) h.all) (subst (λ n. bytes_under files n ≡ Some text) same.file h.source)
+    calm early (check_stops old new own answer why))
 
 -- what an audit without certificate leaves
 leaves_all : (old new : Option Held) (answer : Answer) → Leaves None old new answer → new ≡ old
@@ -312,3 +449,11 @@ ends_with old new before now result answer wanted (inr failed) calm only = absur
 ends_with old new before now result answer wanted (inl put) calm (inl out) = inl (put.0 ∙ ap status out)
 ends_with old new before now result answer wanted (inl put) calm (inr same) =
     inr (put.0 ∙ ap status same, subst (λ a. Gains old new (report a)) same put.1)
+
+-- so the call ends with a refusal of the syntax
+pub ends_with_syntax : (old new : Option (List ℕ)) (before now result : ℕ) (answer : Answer) → Ends old new before now result answer
+    → (Rose before now → ⊥) → Only answer (IsSyntax answer) → (token : ℕ) × (line : ℕ) × EndsWith old new result (Refused (Syntax token line))
+ends_with_syntax old new before now result answer ends calm (inl memory) =
+    (0, 0, ends_with old new before now result answer (Refused (Syntax 0 0)) ends calm (inl memory))
+ends_with_syntax old new before now result answer ends calm (inr so) =
+    (so.0, so.1, ends_with old new before now result answer (Refused (Syntax so.0 so.1)) ends calm (inr so.2))

@@ -8,7 +8,7 @@ use Rattle.audit_sources.specs.declared.fetch.FetchFault.{FetchFault}
 use Rattle.audit_sources.specs.declared.fetch.FetchFault.TheVariants as Fault
 use Rattle.audit_sources.specs.declared.role.Role.TheVariants.{Source, Certificate}
 use Rattle.audit_generator.specs.Text.{text as generated_text}
-use Rattle.c_lex.specs.Tokens.{lexed}
+use Rattle.c_typed.specs.declared.program.Program.{Program}
 use Rattle.command.specs.declared.request.AuditRequest.{AuditRequest}
 use Rattle.command.specs.declared.request.CheckRequest.{CheckRequest}
 use Rattle.command.specs.declared.request.SelfRequest.{SelfRequest}
@@ -25,7 +25,7 @@ use Rattle.audit_top.specs.declared.weigh.CertificateFault.{CertificateFault}
 use Rattle.audit_top.specs.declared.weigh.CertificateFault.TheVariants as fault
 use Rattle.audit_top.specs.declared.answer.BadCertificate.{BadCertificate}
 use Rattle.audit_top.specs.declared.answer.BadCertificate.TheVariants.{NotJson, Wrong}
-use Rattle.audit_top.specs.Answer.{HasNoForm, HasTokens, HasVerdict, Refuses}
+use Rattle.audit_top.specs.Answer.{HasNoForm, HasVerdict, IsRunnable, Refuses}
 use Rattle.audit_top.specs.Finding.{IsFound}
 use Rattle.audit_top.specs.Words.{Asks, TakesWords}
 use Rattle.audit_top.specs.declared.answer.Answer.{Answer}
@@ -61,7 +61,8 @@ FormCause request text (Some answer) = UsesForm request × HasVerdict text answe
 -- a text that is run, and that isn't refused
 pub record RunsWell (request : AuditRequest) (text : List ℕ) : Type 0 where
   pub run : IsRun request text
-  pub tokens : HasTokens (lexed text)
+  pub program : Program
+  pub runnable : IsRunnable text program
 
 -- why a text has this answer, where the count of write faults went from before to now
 abbrev pub TextCause : AuditRequest → ℕ → ℕ → List ℕ → Answer → Type 0
@@ -74,7 +75,7 @@ TextCause request before now text (Checked verdict) = ⊥
 TextCause request before now text (Bad bad) = ⊥
 TextCause request before now text Usage = ⊥
 TextCause request before now text (TooLong role) = ⊥
-TextCause request before now text (Refused refusal) = IsRun request text × Refuses (lexed text) refusal
+TextCause request before now text (Refused refusal) = IsRun request text × Refuses text refusal
 TextCause request before now text CertificateTooLong = RunsWell request text
 TextCause request before now text NotKept = RunsWell request text × Rose before now
 TextCause request before now text ReadFault = ⊥
@@ -146,8 +147,8 @@ self_steps = 1000000
 
 -- why a generated text has this answer, its summary being this
 abbrev pub GeneratedCause : Summary → List ℕ → Answer → Type 0
-GeneratedCause summary source (Generated said s report) = (said ≡ summary) × HasTokens (lexed source) × IsFound self_steps s report
-GeneratedCause summary source (GeneratedRefused said refusal) = (said ≡ summary) × Refuses (lexed source) refusal
+GeneratedCause summary source (Generated said s report) = (said ≡ summary) × ((program : Program) × IsRunnable source program) × IsFound self_steps s report
+GeneratedCause summary source (GeneratedRefused said refusal) = (said ≡ summary) × Refuses source refusal
 GeneratedCause summary source NoMemory = ⊤
 GeneratedCause summary source answer = ⊥
 
@@ -189,9 +190,9 @@ WeighedCause text answer = ⊥
 
 -- why a source and the text of a certificate have this answer
 abbrev pub CertificateCause : List ℕ → List ℕ → Answer → Type 0
-CertificateCause source text (Refused refusal) = Refuses (lexed source) refusal
+CertificateCause source text (Refused refusal) = Refuses source refusal
 CertificateCause source text NoMemory = ⊤
-CertificateCause source text answer = HasTokens (lexed source) × WeighedCause text answer
+CertificateCause source text answer = ((program : Program) × IsRunnable source program) × WeighedCause text answer
 
 -- the source, the certificate and the input are fetched, and the first two have this answer
 pub record IsWeighed (old : Disk) (request : CheckRequest) (answer : Answer) : Type 0 where

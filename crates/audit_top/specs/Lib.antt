@@ -3,6 +3,7 @@ pub mod Cause
 pub mod Finding
 pub mod Front
 pub mod Report
+pub mod Setting
 pub mod Told
 pub mod Value
 pub mod Words

@@ -1,6 +1,7 @@
 // The answer to a text: by the first form, or by its run.
 ghost use Rattle.std.specs.Prelude.{◌≡◌, ◌≤◌, ◌^◌, ◌↔◌, length, IfOk, IsTrue, option_copied};
 ghost use Rattle.audit_top.specs.Cause.{FormCause, GeneratedCause, IsRun, KeptCause, Leaves, SelfCause, TextCause, UsesForm};
+ghost use Rattle.audit_top.specs.Setting.{IsSettingOf, mode_of};
 
 use crate::answer::{Answer, Summary};
 use crate::certify::certify;
@@ -66,18 +67,21 @@ fn kept<F: Files>(alloc: Global, found: Found, cert: Option<&str>, files: &mut F
     }
 }
 
+// Where the objects of a run stand.
+fn mode_of(is_tight: bool) -> Mode
+    ensures { result ≡ mode_of is_tight }
+{
+    if is_tight { Mode::Tight } else { Mode::Spaced }
+}
+
 // What the run of a request is given.
 fn setting<'a>(request: &'a AuditRequest<'_>, input: &'a [u8]) -> Setting<'a>
-    ensures { result.steps ≡ request.now.steps }
+    ensures { IsSettingOf request.now input.now result }
 {
     Setting {
         input,
         args: &request.args,
-        mode: if request.is_tight {
-            Mode::Tight
-        } else {
-            Mode::Spaced
-        },
+        mode: mode_of(request.is_tight),
         steps: request.steps,
     }
 }

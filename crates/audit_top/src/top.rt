@@ -3,7 +3,7 @@ ghost use Rattle.std.specs.Prelude.{◌≡◌, ◌≤◌, map, string_bytes, opt
 ghost use Rattle.ub_base.specs.Causes.{Rose};
 ghost use Rattle.audit_top.specs.Cause.{AuditCause, CheckCause, HasCause, Leaves, RequestCause, disk, stopped};
 ghost use Rattle.audit_top.specs.Report.{Ends, EndsWith, report};
-ghost use Rattle.audit_top.specs.Told.{OnAbsent, OnTooLong, OnFirstForm, OnRefused, StaysUncertified};
+ghost use Rattle.audit_top.specs.Told.{OnStopped, OnCheckStopped, OnFirstForm, OnRefused, OnNoTree, OnCheckRefused, StaysUncertified};
 ghost use Rattle.audit_top.specs.Words.{IsBounded};
 
 use crate::answer::Answer;
@@ -111,14 +111,18 @@ pub fn audit_main<F: Files, O: Sink>(
         × Ends (O.told out.old) (O.told out.new) (O.faults out.old) (O.faults out.new) result answer }
 
     // Where files are told and no fault is counted, the files decide what is put.
-    ensures absent { ¬ Rose (F.read_faults files.old) (F.read_faults files.new) → ¬ Rose (O.faults out.old) (O.faults out.new)
-        → OnAbsent (map string_bytes words.now) (F.held files.old) (EndsWith (O.told out.old) (O.told out.new) result) }
-    ensures too_long { ¬ Rose (F.read_faults files.old) (F.read_faults files.new) → ¬ Rose (O.faults out.old) (O.faults out.new)
-        → OnTooLong (map string_bytes words.now) (F.held files.old) (EndsWith (O.told out.old) (O.told out.new) result) }
+    ensures stopped { ¬ Rose (F.read_faults files.old) (F.read_faults files.new) → ¬ Rose (O.faults out.old) (O.faults out.new)
+        → OnStopped (map string_bytes words.now) (F.held files.old) (EndsWith (O.told out.old) (O.told out.new) result) }
+    ensures check_stopped { ¬ Rose (F.read_faults files.old) (F.read_faults files.new) → ¬ Rose (O.faults out.old) (O.faults out.new)
+        → OnCheckStopped (map string_bytes words.now) (F.held files.old) (EndsWith (O.told out.old) (O.told out.new) result) }
     ensures verdict { ¬ Rose (F.read_faults files.old) (F.read_faults files.new) → ¬ Rose (O.faults out.old) (O.faults out.new)
         → OnFirstForm (map string_bytes words.now) (F.held files.old) (EndsWith (O.told out.old) (O.told out.new) result) }
     ensures refused { ¬ Rose (F.read_faults files.old) (F.read_faults files.new) → ¬ Rose (O.faults out.old) (O.faults out.new)
         → OnRefused (map string_bytes words.now) (F.held files.old) (EndsWith (O.told out.old) (O.told out.new) result) }
+    ensures no_tree { ¬ Rose (F.read_faults files.old) (F.read_faults files.new) → ¬ Rose (O.faults out.old) (O.faults out.new)
+        → OnNoTree (map string_bytes words.now) (F.held files.old) (EndsWith (O.told out.old) (O.told out.new) result) }
+    ensures check_refused { ¬ Rose (F.read_faults files.old) (F.read_faults files.new) → ¬ Rose (O.faults out.old) (O.faults out.new)
+        → OnCheckRefused (map string_bytes words.now) (F.held files.old) (EndsWith (O.told out.old) (O.told out.new) result) }
 
     // Without `--cert` the files stay.
     ensures held { StaysUncertified (map string_bytes words.now) (F.held files.old) (F.held files.new) }

@@ -6,7 +6,7 @@ use command::{Request, WordFault, read_words};
 use std::alloc::Global;
 
 /// What the words ask for.
-#[tactic(auto, unfolding(crate::specs::Words::Asks, crate::specs::Words::TakesWords))]
+#[tactic(auto, unfolding(crate::specs::Words::Asks))]
 pub fn asked<'a>(alloc: Global, words: &'a [String]) -> Result<Request<'a>, WordFault>
     ensures asked { IfOk result (Asks (map string_bytes words.now)) }
     ensures bounded { IfOk result IsBounded }

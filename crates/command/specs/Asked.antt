@@ -1,5 +1,5 @@
 -- What the words ask for, as the command finds it (own).
-use Rattle.std.specs.Prelude.{◌≡◌, ◌⊎◌, ℕ, min, List, [], map, string_bytes, Bool, false, codes, Option, Some, None, Result, unwrap_or, option_copied}
+use Rattle.std.specs.Prelude.{◌≡◌, ◌⊎◌, ℕ, min, max, List, [], map, string_bytes, Bool, false, codes, Option, Some, None, Result, unwrap_or, option_copied}
 use Rattle.std.specs.Str.{bytes_eq}
 use Rattle.std.specs.Str.Parse.{ParsesUnsigned}
 use Rattle.std.specs.Result.{result_unwrap_or}
@@ -38,16 +38,16 @@ abbrev pub is_set : Option (List ℕ) → Bool
 is_set None = false
 is_set (Some text) = bytes_eq text (codes "true")
 
--- the number that a text spells, and at most so much; 0 where it spells none
-abbrev pub Spells : ℕ → Option (List ℕ) → ℕ → Type 0
-Spells most None number = number ≡ 0
-Spells most (Some text) number =
-    (spelled : Result ℕ (Unit {0})) × ParsesUnsigned 64 10 text spelled × (number ≡ min (result_unwrap_or spelled 0) most)
+-- the number that a text spells, kept between least and most; least where it spells none
+abbrev pub Spells : ℕ → ℕ → Option (List ℕ) → ℕ → Type 0
+Spells least most None number = number ≡ max (min 0 most) least
+Spells least most (Some text) number =
+    (spelled : Result ℕ (Unit {0})) × ParsesUnsigned 64 10 text spelled × (number ≡ max (min (result_unwrap_or spelled 0) most) least)
 
 pub record IsAudit (rows : List Row) (request : AuditRequest) : Type 0 where
   pub file : request.file.now ≡ text_given (codes "FILE") rows
   pub input : option_copied request.input ≡ first_of (codes "input") rows
-  pub steps : Spells 100000000 (one_of (codes "steps") rows) request.steps
+  pub steps : Spells 1 100000000 (one_of (codes "steps") rows) request.steps
   pub tight : request.is_tight ≡ is_set (first_of (codes "tight") rows)
   pub cert : option_copied request.cert ≡ first_of (codes "cert") rows
   pub args : map string_bytes request.args.items ≡ args_given rows
@@ -59,11 +59,11 @@ pub record IsCheck (rows : List Row) (request : CheckRequest) : Type 0 where
   pub args : map string_bytes request.args.items ≡ args_given rows
 
 pub record IsSelf (rows : List Row) (request : SelfRequest) : Type 0 where
-  pub seed : Spells 65536 (one_of (codes "SEED") rows) request.seed
-  pub lines : Spells 20000 (one_of (codes "N") rows) request.lines
+  pub seed : Spells 0 65536 (one_of (codes "SEED") rows) request.seed
+  pub lines : Spells 1 20000 (one_of (codes "N") rows) request.lines
 
 -- the request is that of this subcommand, with what it was given
 abbrev pub IsRequest : List ℕ × List Row → Request → Type 0
 IsRequest found (Audit request) = (found.0 ≡ codes "audit") × IsAudit found.1 request
 IsRequest found (Check request) = (found.0 ≡ codes "check") × IsCheck found.1 request
-IsRequest found (SelfAudit request) = (bytes_eq found.0 (codes "audit") ≡ false) × (bytes_eq found.0 (codes "check") ≡ false) × IsSelf found.1 request
+IsRequest found (SelfAudit request) = (found.0 ≡ codes "self") × IsSelf found.1 request

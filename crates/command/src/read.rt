@@ -61,10 +61,10 @@ fn is_set(matches: &ArgMatches<'_>, id: &str) -> bool
     }
 }
 
-fn number_of(matches: &ArgMatches<'_>, id: &str, most: u64) -> u64
-    ensures { Spells most (one_of id.now (rows_of (found_of matches.now))) result }
+fn number_of(matches: &ArgMatches<'_>, id: &str, least: u64, most: u64) -> u64
+    ensures { Spells least most (one_of id.now (rows_of (found_of matches.now))) result }
 {
-    matches.get_one::<u64>(id).unwrap_or(0).min(most)
+    matches.get_one::<u64>(id).unwrap_or(0).min(most).max(least)
 }
 
 fn copies(alloc: Global, texts: &[&str]) -> Result<Vec<String>, AllocError>
@@ -92,7 +92,7 @@ fn audit_request<'a>(alloc: Global, given: &ArgMatches<'a>) -> Result<AuditReque
     Ok(AuditRequest {
         file: text_given(given, "FILE"),
         input: text_of(given, "input"),
-        steps: number_of(given, "steps", MAX_STEPS),
+        steps: number_of(given, "steps", 1, MAX_STEPS),
         is_tight: is_set(given, "tight"),
         cert: text_of(given, "cert"),
         args: args_of(alloc, given)?,
@@ -114,8 +114,8 @@ fn self_request(given: &ArgMatches<'_>) -> SelfRequest
     ensures { IsSelf (rows_of (found_of given.now)) result }
 {
     SelfRequest {
-        seed: number_of(given, "SEED", MAX_SEED),
-        lines: number_of(given, "N", MAX_LINES),
+        seed: number_of(given, "SEED", 0, MAX_SEED),
+        lines: number_of(given, "N", 1, MAX_LINES),
     }
 }
 
