@@ -32,7 +32,8 @@ declared_is =
     let b = next a in
     let c = declared 1 false b in
     let d = next c in
-    (d, ((d, ((a, ((a, ((a, ((refl, (refl, refl)), refl)), refl)), (c, ((c, ((b, ((0, (tt, (tt, (refl, (refl, refl))))), (c, (refl, refl)))), refl)), (refl, refl))))), refl)), refl))
+    (d, ((d, ((a, ((a, ((a, ((refl, (refl, refl)), refl)), refl)),
+      (c, ((c, ((b, ((0, (tt, (tt, (refl, (refl, refl))))), (c, (refl, refl)))), refl)), (refl, refl))))), refl)), refl))
 
 -- ---- no translation unit begins with `)`
 

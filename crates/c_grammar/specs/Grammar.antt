@@ -5,7 +5,13 @@ use Rattle.c_lex.specs.declared.token.TokenKind.TheVariants as token
 use Rattle.c_lex.specs.declared.token.Word.{Word as AWord}
 use Rattle.c_lex.specs.declared.token.Word.TheVariants as w
 use Rattle.c_lex.specs.declared.token.Mark.TheVariants as m
-use Rattle.c_ast.specs.declared.declaration.Base.TheBlock.{Plain, Tagged', Base-Tagged-2-None', Base-Tagged-2-Some', Held-Base-Tagged-2, Enumerated', Base-Enumerated-1-None', Base-Enumerated-1-Some', Held-Base-Enumerated-1, Typedef, Fields', Assertion', Ident, Pointer', Array', Declarator-Array-1-None', Declarator-Array-1-Some', Held-Declarator-Array-1, Function', Enumerator-value-None', Enumerator-value-Some', Held-Enumerator-value, Name, Number, CharLit, Strings as StringsNode, Unary', Postfix', Binary', Assign', Cond', Comma', Call', Index', Dot', Arrow', Cast', SizeofExpr', SizeofType', AlignofType', Row_of-Expr, end_of-Expr, more_of-Expr, Row_of-TypeName, end_of-TypeName, more_of-TypeName, Row_of-Declarator, end_of-Declarator, more_of-Declarator, Row_of-Enumerator, end_of-Enumerator, more_of-Enumerator, Row_of-MemberEntry, end_of-MemberEntry, more_of-MemberEntry, Row_of-Param, end_of-Param, more_of-Param}
+use Rattle.c_ast.specs.declared.declaration.Base.TheBlock.{Plain, Tagged', Base-Tagged-2-None', Base-Tagged-2-Some', Held-Base-Tagged-2, Enumerated',
+  Base-Enumerated-1-None', Base-Enumerated-1-Some', Held-Base-Enumerated-1, Typedef, Fields', Assertion', Ident, Pointer', Array', Declarator-Array-1-None',
+  Declarator-Array-1-Some', Held-Declarator-Array-1, Function', Enumerator-value-None', Enumerator-value-Some', Held-Enumerator-value, Name, Number, CharLit,
+  Strings as StringsNode, Unary', Postfix', Binary', Assign', Cond', Comma', Call', Index', Dot', Arrow', Cast', SizeofExpr', SizeofType', AlignofType',
+  Row_of-Expr, end_of-Expr, more_of-Expr, Row_of-TypeName, end_of-TypeName, more_of-TypeName, Row_of-Declarator, end_of-Declarator, more_of-Declarator,
+  Row_of-Enumerator, end_of-Enumerator, more_of-Enumerator, Row_of-MemberEntry, end_of-MemberEntry, more_of-MemberEntry, Row_of-Param, end_of-Param,
+  more_of-Param}
 use Rattle.c_ast.specs.declared.declaration.Base.{Base}
 use Rattle.c_ast.specs.declared.declaration.Specs.{Specs}
 use Rattle.c_ast.specs.declared.declaration.MemberEntry.{MemberEntry}
@@ -30,7 +36,9 @@ use Rattle.c_ast.specs.declared.statement.UnitEntry.{UnitEntry}
 use Rattle.c_ast.specs.declared.statement.UnitEntry.TheVariants as unit
 use Rattle.c_ast.specs.Input.{Input, kind, next, start_of}
 use Rattle.c_grammar.specs.Operators as op
-use Rattle.c_grammar.specs.Rules.{Rule, ◌⨾◌, Nothing, Never, Takes, Mark, Word, Numbered, Identifier, MaybeIdentifier, NameThat, NoTypedef, NotNext, MaybeMark, Strings, Message, Operand, Declares, Scoped, Prototype, Apart, InPrototype, Words, is_qualifier, is_qualified_word, is_declaration_word, has_type_word, declares_typedef}
+use Rattle.c_grammar.specs.Rules.{Rule, ◌⨾◌, Nothing, Never, Takes, Mark, Word, Numbered, Identifier, MaybeIdentifier, NameThat, NoTypedef, NotNext,
+  MaybeMark, Strings, Message, Operand, Declares, Scoped, Prototype, Apart, InPrototype, Words, is_qualifier, is_qualified_word, is_declaration_word,
+  has_type_word, declares_typedef}
 
 -- ---- declarators
 

@@ -1,5 +1,6 @@
 -- The two halves of an update, in a full expression of which some events are done.
-use Rattle.std.proofs.Common.{◌≡◌, ◌≢◌, ℕ, Bool, true, false, ◌&&◌, if◌then◌else◌, true≢false, Option, Some, None, is_some, refl, sym, ap, ◌∙◌, subst, inl, inr, arith}
+use Rattle.std.proofs.Common.{◌≡◌, ◌≢◌, ℕ, Bool, true, false, ◌&&◌, if◌then◌else◌, true≢false, Option, Some, None, is_some, refl, sym, ap, ◌∙◌, subst, inl,
+  inr, arith}
 use Rattle.std.proofs.lemmas.Bool.Decides.{nat_tests}
 use Rattle.ub_base.specs.declared.clause.Kind.{Kind}
 use Rattle.ub_base.specs.declared.clause.Kind.TheVariants.{Val, Eff, Body}
@@ -45,7 +46,8 @@ module _ (world : World) where
       go true eq = subst (λ z. IsReached world sc (with_given e u w) z) (same_place-eq u v eq) (reached_made world sc e u w n)
       go false eq = reached_next world sc e u v w n (closed (subst (λ b. is_some (if b then Some w else e.given v) ≡ true) eq h))
 
-  module _ (sc : Scene) (e : Begun) (m : ℕ) (w : Value) (up : update_at 0 (tree_of e.root) m ≡ true) (n : IsNext world sc e (place m Val)) (closed : is_some (e.given (place m Eff)) ≡ true → IsReached world sc e (place m Eff)) where
+  module _ (sc : Scene) (e : Begun) (m : ℕ) (w : Value) (up : update_at 0 (tree_of e.root) m ≡ true) (n : IsNext world sc e (place m Val))
+    (closed : is_some (e.given (place m Eff)) ≡ true → IsReached world sc e (place m Eff)) where
     abbrev T : Taken
     T = taken_by world sc e
 

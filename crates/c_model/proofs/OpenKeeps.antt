@@ -1,8 +1,11 @@
 -- What keeps the blocks that a todo list leaves.
 use Rattle.std.proofs.Common.{◌≡◌, ℕ, Bool, true, false, ◌==◌, List, [], ◌∷◌, ◌++◌, Option, Some, None, if◌then◌else◌, arith, refl, sym, ◌∙◌, ap, subst}
 use Rattle.std.proofs.lemmas.List.{append-nil}
-use Rattle.c_model.specs.Program.{Expr, Decl, Stmt, Value, Empty, Declare, Block, If, If_only, Switch, Do, For, Goto, Continue, Break, Return, Return_none, Label, Case, Default, Stmts, end, and_then}
-use Rattle.c_model.specs.Control.{Todo, Work, Enter, Leave, Unwrite, Begin, Nothing_to_do, Go_to, Go_out, Go_on, Go_back, To_do, Rest, Round, Again, Test, Break_here, opened, tested, blocks_round, enter_all, leave_all, unshared, gone_to, Target, is_label, is_case, is_default, goes_into_switch, found_here, first_of, and_after, if_goes, find, find_in}
+use Rattle.c_model.specs.Program.{Expr, Decl, Stmt, Value, Empty, Declare, Block, If, If_only, Switch, Do, For, Goto, Continue, Break, Return, Return_none,
+  Label, Case, Default, Stmts, end, and_then}
+use Rattle.c_model.specs.Control.{Todo, Work, Enter, Leave, Unwrite, Begin, Nothing_to_do, Go_to, Go_out, Go_on, Go_back, To_do, Rest, Round, Again, Test,
+  Break_here, opened, tested, blocks_round, enter_all, leave_all, unshared, gone_to, Target, is_label, is_case, is_default, goes_into_switch, found_here,
+  first_of, and_after, if_goes, find, find_in}
 use Rattle.c_model.specs.OpenBlocks.{Closes, NoEnters, ReadyCloses, MovesClose, GotoCloses, FindsNoEnters, NoEntersBehind, ReadyEnters}
 
 opens : (s : Stmt) (rest : Todo) (around : List ℕ) → Closes rest around → Closes (opened s rest) around

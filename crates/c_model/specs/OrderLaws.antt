@@ -9,7 +9,8 @@ use Rattle.c_typed.specs.Decide.{is_before, canonical}
 -- of due events, going down to the operands that hold them finds exactly what the closure of the rules has
 abbrev pub IsDecided : Type 0
 IsDecided =
-    (root : Tree) (taken : Taken) (u v : Place) → IsTrue (is_due root taken u) → IsTrue (is_due root taken v) → IsTrue (is_before taken 0 root u v) ↔ Before root taken u v
+    (root : Tree) (taken : Taken) (u v : Place) → IsTrue (is_due root taken u) → IsTrue (is_due root taken v) →
+      IsTrue (is_before taken 0 root u v) ↔ Before root taken u v
 
 -- the listing has no event twice
 abbrev pub ListsOnce : Type 0
@@ -18,7 +19,8 @@ ListsOnce = (root : Tree) (taken : Taken) (us vs : List Place) (v : Place) → e
 -- what is sequenced before an event stands before it in the listing
 abbrev pub RespectsOrder : Type 0
 RespectsOrder =
-    (root : Tree) (taken : Taken) (us vs : List Place) (v : Place) → events taken 0 root ≡ us ++ v ∷ vs → (u : Place) → Before root taken u v → IsTrue (has us u)
+    (root : Tree) (taken : Taken) (us vs : List Place) (v : Place) → events taken 0 root ≡ us ++ v ∷ vs →
+      (u : Place) → Before root taken u v → IsTrue (has us u)
 
 -- where exactly the events before one of the listing are done, the canonical order takes that one
 abbrev pub GoesAlong : Type 0
@@ -34,7 +36,8 @@ EndsWithDue =
 pub record IsLater (root : Tree) (taken : Taken) (done : Place → Bool) (later : Taken) : Type 0 where
   pub kept : (n j : ℕ) → taken n ≡ Some j → later n ≡ Some j
   pub fresh :
-      (n : ℕ) → taken n ≡ None → IsTrue (is_some (later n)) → IsTrue (is_due root taken (place n Val)) → IsTrue (is_due root taken (place (suc n) Val)) × (done (place (suc n) Val) ≡ false)
+      (n : ℕ) → taken n ≡ None → IsTrue (is_some (later n)) → IsTrue (is_due root taken (place n Val)) → IsTrue (is_due root taken (place (suc n) Val)) ×
+        (done (place (suc n) Val) ≡ false)
 
 -- a due event that was reached: all that is sequenced before it is done
 pub record IsReached (root : Tree) (taken : Taken) (done : Place → Bool) (v : Place) : Type 0 where

@@ -26,10 +26,12 @@ own_of t =
 isolated : (u : Typed) → own_node (nodes.Isolated u) ≡ tree_of u ∷ own_trees u
 isolated u = ap own_node (sym (nodes.rolls-Isolated u)) ∙ para-roll-Node (List Tree) (List Tree) node_own typed_own (shape.Isolated u)
 
-pub own_isolated : (t u : Typed) → (out-Typed t).node ≡ nodes.Isolated u → own_trees t ≡ (tree_of u ∷ own_trees u) ++ joined (map own_trees (out-Typed t).children)
+pub own_isolated : (t u : Typed) → (out-Typed t).node ≡ nodes.Isolated u → own_trees t ≡ (tree_of u ∷ own_trees u) ++
+  joined (map own_trees (out-Typed t).children)
 own_isolated t u e = own_of t ∙ ap (λ z. z ++ joined (map own_trees (out-Typed t).children)) (ap own_node e ∙ isolated u)
 
-no_own : (d : Node-F Node Typed) → ((u : Typed) → d ≡ shape.Isolated u → ⊥) → node_own (map-Node Node Typed (Node × List Tree) (Typed × List Tree) (λ y. (y, own_node y)) (λ y. (y, own_trees y)) d) ≡ []
+no_own : (d : Node-F Node Typed) → ((u : Typed) → d ≡ shape.Isolated u → ⊥) →
+  node_own (map-Node Node Typed (Node × List Tree) (Typed × List Tree) (λ y. (y, own_node y)) (λ y. (y, own_trees y)) d) ≡ []
 no_own (shape.Isolated u) f = absurd (f u refl)
 no_own _ f = refl
 
@@ -42,7 +44,8 @@ own_other t f =
     ∙ no_own (out-Node (out-Typed t).node) (λ u e. f u (sym (roll-out-Node (out-Typed t).node) ∙ (ap roll-Node e ∙ nodes.rolls-Isolated u)))))
 
 -- before the operands, where the node is a listed initializer
-pub start_isolated : (root u v : Typed) (items : List Typed) (old pushed grown roots : List (Bor Typed)) (at : Bor Typed) → (out-Typed root).node ≡ nodes.Isolated v → u ≡ v → items ≡ (out-Typed root).children
+pub start_isolated : (root u v : Typed) (items : List Typed) (old pushed grown roots : List (Bor Typed)) (at : Bor Typed) →
+  (out-Typed root).node ≡ nodes.Isolated v → u ≡ v → items ≡ (out-Typed root).children
     → pushed ≡ old ++ at ∷ [] → at.now ≡ u → Grown pushed grown (own_trees u) → roots ≡ grown
     → trees_at roots ++ joined (map own_trees items) ≡ trees_at old ++ own_trees root
 start_isolated root u v items old pushed grown roots at i e k p o r q =
@@ -53,7 +56,8 @@ start_isolated root u v items old pushed grown roots at i e k p o r q =
     ∙ sym (own_isolated root u (i ∙ ap nodes.Isolated (sym e)) ∙ ap (λ z. (tree_of u ∷ own_trees u) ++ joined (map own_trees z)) (sym k)))))
 
 -- and where it is none
-pub start_other : (root : Typed) (items : List Typed) (old roots : List (Bor Typed)) → ((u : Typed) → (out-Typed root).node ≡ nodes.Isolated u → ⊥) → items ≡ (out-Typed root).children → roots ≡ old
+pub start_other : (root : Typed) (items : List Typed) (old roots : List (Bor Typed)) → ((u : Typed) → (out-Typed root).node ≡ nodes.Isolated u → ⊥) →
+  items ≡ (out-Typed root).children → roots ≡ old
     → trees_at roots ++ joined (map own_trees items) ≡ trees_at old ++ own_trees root
 start_other root items old roots f k q =
     ap (λ z. trees_at z ++ joined (map own_trees items)) q

@@ -43,7 +43,8 @@ module _ (d : ℕ) where
   name_opens true i p is h = let g = rw is at h in cc
   name_opens false i p is h = refl
 
-  primary_opens : (k : Option TokenKind) (i : Input) (p : Expr × Input) → kind i ≡ k → primary_by (expr d) (declarator d) (specs d) k i ≡ Some p → opens (is_typedef i) k ≡ true
+  primary_opens : (k : Option TokenKind) (i : Input) (p : Expr × Input) → kind i ≡ k → primary_by (expr d) (declarator d) (specs d) k i ≡ Some p →
+    opens (is_typedef i) k ≡ true
   primary_opens (Some token.Name) i p is h = name_opens (is_typedef i) i p refl h
   primary_opens (Some token.Number) i p is h = refl
   primary_opens (Some token.CharLit) i p is h = refl
@@ -61,7 +62,8 @@ module _ (d : ℕ) where
       let q = bind_opens (primary (expr d) (declarator d) (specs d) i) _ p h in
       primary_opens (kind i) i q.0 refl q.1
 
-  prefix_by_opens : (at least : ℕ) (k : Option TokenKind) (i : Input) (p : Expr × Input) → kind i ≡ k → prefix_by (expr d) (declarator d) (specs d) at least k i ≡ Some p
+  prefix_by_opens : (at least : ℕ) (k : Option TokenKind) (i : Input) (p : Expr × Input) → kind i ≡ k →
+    prefix_by (expr d) (declarator d) (specs d) at least k i ≡ Some p
       → opens (is_typedef i) k ≡ true
   prefix_by_opens at least (Some (token.Keyword w.Sizeof)) i p is h = refl
   prefix_by_opens at least (Some (token.Keyword w.Alignof)) i p is h = refl
@@ -129,8 +131,10 @@ opens_no_designator typedef (Some (token.Punct m.OpenBracket)) h = absurd (cc)
 opens_no_designator typedef _ h = refl
 
 -- a punctuator that no expression begins with
-pub no_opening : (mark : AMark) (i : Input) → opens (is_typedef i) (Some (token.Punct mark)) ≡ false → opens_expr i ≡ true → kind i ≡ Some (token.Punct mark) → ⊥
+pub no_opening : (mark : AMark) (i : Input) → opens (is_typedef i) (Some (token.Punct mark)) ≡ false → opens_expr i ≡ true →
+  kind i ≡ Some (token.Punct mark) → ⊥
 no_opening mark i never begins is = let wrong : true ≡ false = sym begins ∙ ap (opens (is_typedef i)) is ∙ never in cc
 
-pub no_opening_word : (word : AWord) (i : Input) → opens (is_typedef i) (Some (token.Keyword word)) ≡ false → opens_expr i ≡ true → kind i ≡ Some (token.Keyword word) → ⊥
+pub no_opening_word : (word : AWord) (i : Input) → opens (is_typedef i) (Some (token.Keyword word)) ≡ false → opens_expr i ≡ true →
+  kind i ≡ Some (token.Keyword word) → ⊥
 no_opening_word word i never begins is = let wrong : true ≡ false = sym begins ∙ ap (opens (is_typedef i)) is ∙ never in cc

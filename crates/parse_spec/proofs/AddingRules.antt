@@ -26,14 +26,20 @@ use Rattle.c_grammar.specs.Operators as op
 use Rattle.c_grammar.specs.Grammar.{Mode, Named, Abstract, Either, name_of}
 use Rattle.c_grammar.specs.Rules.{is_qualified_word, is_declaration_word, is_qualifier, has_type_word}
 use Rattle.parse_spec.specs.Scopes.{OnlyAdds}
-use Rattle.parse_spec.specs.Steps.{Parser, turns, mark_of, identifier_by, identifier, maybe_identifier_by, maybe_identifier, is_string, strings_from, strings, allows, one_word, words_from, words, sees, sees_word}
+use Rattle.parse_spec.specs.Steps.{Parser, turns, mark_of, identifier_by, identifier, maybe_identifier_by, maybe_identifier, is_string, strings_from, strings,
+  allows, one_word, words_from, words, sees, sees_word}
 use Rattle.parse_spec.specs.Operators.{unary_op}
 use Rattle.parse_spec.specs.Places.{begins_type_after, opens_parameters, opens_suffix}
-use Rattle.parse_spec.specs.Expressions.{made, leaf, name_expr, string_expr, tight, begins_cast, binary_sign, assignment_sign, inside, primary_by, primary, arguments_from, argument_list, arguments, subscript, post_by, post, posts_from, posts, type_name, casted, size, alignment, chained, bracketed, operated, operated_by, prefix_by, prefix, choice, assigned_by, assigned, joined_by, joined, step, climb, climbed, operators, commas_from, commas, whole, level}
-use Rattle.parse_spec.specs.Specifiers.{specs_of, message, assertion, names_from, member_names, one_member, members_from, tagged_by, tagged, enumerator_value, one_enumerator, enumerators_from, enumerated_by, enumerated, name_base, base_by, specifier_base, specifiers_behind, specifiers}
-use Rattle.parse_spec.specs.Declarators.{is_own_name, no_parameters, nameless, named, one_parameter, parameters_from, parameters, array_suffix, function_suffix, one_suffix, suffixes_from, suffixes, nested, innermost_by, innermost, pointed, one_declarator}
+use Rattle.parse_spec.specs.Expressions.{made, leaf, name_expr, string_expr, tight, begins_cast, binary_sign, assignment_sign, inside, primary_by, primary,
+  arguments_from, argument_list, arguments, subscript, post_by, post, posts_from, posts, type_name, casted, size, alignment, chained, bracketed, operated,
+  operated_by, prefix_by, prefix, choice, assigned_by, assigned, joined_by, joined, step, climb, climbed, operators, commas_from, commas, whole, level}
+use Rattle.parse_spec.specs.Specifiers.{specs_of, message, assertion, names_from, member_names, one_member, members_from, tagged_by, tagged, enumerator_value,
+  one_enumerator, enumerators_from, enumerated_by, enumerated, name_base, base_by, specifier_base, specifiers_behind, specifiers}
+use Rattle.parse_spec.specs.Declarators.{is_own_name, no_parameters, nameless, named, one_parameter, parameters_from, parameters, array_suffix,
+  function_suffix, one_suffix, suffixes_from, suffixes, nested, innermost_by, innermost, pointed, one_declarator}
 use Rattle.parse_spec.specs.Nested.{expr, declarator, specs}
-use Rattle.parse_spec.proofs.Adding.{pure_adds, refuse_adds, bind_adds, then_adds, if_adds, here_adds, take_adds, eat_adds, expect_adds, expect_word_adds, read_adds, declares_adds, apart_adds, prototype_adds}
+use Rattle.parse_spec.proofs.Adding.{pure_adds, refuse_adds, bind_adds, then_adds, if_adds, here_adds, take_adds, eat_adds, expect_adds, expect_word_adds,
+  read_adds, declares_adds, apart_adds, prototype_adds}
 
 -- ---- single tokens
 
@@ -56,7 +62,8 @@ maybe_identifier_adds = here_adds _ (λ i. maybe_identifier_by_adds (kind i))
 strings_from_adds : (n count : ℕ) → OnlyAdds (strings_from n count)
 unfolding strings_from
 strings_from_adds zero count = pure_adds count
-strings_from_adds (suc n) count = here_adds _ (λ i. if_adds (is_string (kind i)) _ _ (then_adds _ _ take_adds (strings_from_adds n (count + 1))) (pure_adds count))
+strings_from_adds (suc n) count = here_adds _
+  (λ i. if_adds (is_string (kind i)) _ _ (then_adds _ _ take_adds (strings_from_adds n (count + 1))) (pure_adds count))
 
 pub strings_adds : OnlyAdds strings
 unfolding strings
@@ -65,7 +72,8 @@ strings_adds = here_adds _ (λ i. bind_adds _ _ (strings_from_adds (turns i) 0) 
 words_from_adds : (allowed : AWord → Bool) (n : ℕ) (found : List AWord) → OnlyAdds (words_from allowed n found)
 unfolding words_from
 words_from_adds allowed zero found = refuse_adds
-words_from_adds allowed (suc n) found = here_adds _ (λ i. if_adds (allows allowed (kind i)) _ _ (then_adds _ _ take_adds (words_from_adds allowed n (found ++ one_word (kind i)))) (pure_adds found))
+words_from_adds allowed (suc n) found = here_adds _
+  (λ i. if_adds (allows allowed (kind i)) _ _ (then_adds _ _ take_adds (words_from_adds allowed n (found ++ one_word (kind i)))) (pure_adds found))
 
 pub words_adds : (allowed : AWord → Bool) → OnlyAdds (words allowed)
 words_adds allowed = here_adds _ (λ i. words_from_adds allowed (turns i) [])
@@ -84,7 +92,8 @@ unfolding string_expr
 string_expr_adds = here_adds _ (λ i. bind_adds _ _ strings_adds (λ count. pure_adds _))
 
 module _ (expr : ℕ → Parser Expr) (declarator : Mode → Parser Declarator) (specs : (AWord → Bool) → Parser Specs)
-    (ge : (least : ℕ) → OnlyAdds (expr least)) (gd : (mode : Mode) → OnlyAdds (declarator mode)) (gs : (allowed : AWord → Bool) → OnlyAdds (specs allowed)) where
+    (ge : (least : ℕ) → OnlyAdds (expr least)) (gd : (mode : Mode) → OnlyAdds (declarator mode)) (gs : (allowed : AWord → Bool) → OnlyAdds (specs allowed))
+      where
   inside_adds : OnlyAdds (inside expr declarator specs)
   unfolding inside
   inside_adds = bind_adds _ _ (ge op.comma) (λ e. then_adds _ _ (expect_adds m.CloseParen) (pure_adds e))
@@ -153,7 +162,8 @@ module _ (expr : ℕ → Parser Expr) (declarator : Mode → Parser Declarator) 
 
   size_adds : (at : ℕ) → OnlyAdds (size expr declarator specs at)
   unfolding size
-  size_adds at = here_adds _ (λ i. if_adds (begins_cast i) _ _ (bind_adds _ _ type_name_adds (λ of. pure_adds (made at (node.SizeofType of)))) (bind_adds _ _ (ge op.unary) (λ e. pure_adds (made at (node.SizeofExpr e)))))
+  size_adds at = here_adds _ (λ i. if_adds (begins_cast i) _ _ (bind_adds _ _ type_name_adds (λ of. pure_adds (made at (node.SizeofType of))))
+    (bind_adds _ _ (ge op.unary) (λ e. pure_adds (made at (node.SizeofExpr e)))))
 
   alignment_adds : (at : ℕ) → OnlyAdds (alignment expr declarator specs at)
   unfolding alignment
@@ -234,7 +244,8 @@ module _ (expr : ℕ → Parser Expr) (declarator : Mode → Parser Declarator) 
 
   whole_adds : OnlyAdds (whole expr declarator specs)
   unfolding whole
-  whole_adds = here_adds _ (λ i. bind_adds _ _ (operators_adds op.assignment) (λ e. here_adds _ (λ j. if_adds (sees m.Comma j) _ _ (commas_adds i.at e) (pure_adds e))))
+  whole_adds = here_adds _ (λ i. bind_adds _ _ (operators_adds op.assignment)
+    (λ e. here_adds _ (λ j. if_adds (sees m.Comma j) _ _ (commas_adds i.at e) (pure_adds e))))
 
   pub level_adds : (least : ℕ) → OnlyAdds (level expr declarator specs least)
   unfolding level
@@ -244,7 +255,8 @@ module _ (expr : ℕ → Parser Expr) (declarator : Mode → Parser Declarator) 
 
 message_adds : OnlyAdds message
 unfolding message
-message_adds = here_adds _ (λ i. then_adds _ _ strings_adds (then_adds _ _ (expect_adds m.CloseParen) (then_adds _ _ (expect_adds m.Semicolon) (pure_adds i.at))))
+message_adds = here_adds _ (λ i. then_adds _ _ strings_adds
+  (then_adds _ _ (expect_adds m.CloseParen) (then_adds _ _ (expect_adds m.Semicolon) (pure_adds i.at))))
 
 nameless_adds : (mode : Mode) → OnlyAdds (nameless mode)
 nameless_adds Named = refuse_adds
@@ -257,7 +269,8 @@ named_adds Named = read_adds (λ i. decl.Ident (Some i.at))
 named_adds Either = read_adds (λ i. decl.Ident (Some i.at))
 
 module _ (expr : ℕ → Parser Expr) (declarator : Mode → Parser Declarator) (specs : (AWord → Bool) → Parser Specs)
-    (ge : (least : ℕ) → OnlyAdds (expr least)) (gd : (mode : Mode) → OnlyAdds (declarator mode)) (gs : (allowed : AWord → Bool) → OnlyAdds (specs allowed)) where
+    (ge : (least : ℕ) → OnlyAdds (expr least)) (gd : (mode : Mode) → OnlyAdds (declarator mode)) (gs : (allowed : AWord → Bool) → OnlyAdds (specs allowed))
+      where
   pub assertion_adds : OnlyAdds (assertion expr declarator specs)
   unfolding assertion
   assertion_adds = then_adds _ _ (expect_word_adds w.StaticAssert) (then_adds _ _ (expect_adds m.OpenParen) (bind_adds _ _ (ge op.conditional) (λ e.
@@ -297,11 +310,13 @@ module _ (expr : ℕ → Parser Expr) (declarator : Mode → Parser Declarator) 
 
   pub enumerator_value_adds : OnlyAdds (enumerator_value expr declarator specs)
   unfolding enumerator_value
-  enumerator_value_adds = bind_adds _ _ (eat_adds m.Equal) (λ more. if_adds more _ _ (bind_adds _ _ (ge op.conditional) (λ e. pure_adds (Some e))) (pure_adds None))
+  enumerator_value_adds = bind_adds _ _ (eat_adds m.Equal)
+    (λ more. if_adds more _ _ (bind_adds _ _ (ge op.conditional) (λ e. pure_adds (Some e))) (pure_adds None))
 
   one_enumerator_adds : OnlyAdds (one_enumerator expr declarator specs)
   unfolding one_enumerator
-  one_enumerator_adds = bind_adds _ _ identifier_adds (λ n. bind_adds _ _ enumerator_value_adds (λ v. then_adds _ _ (declares_adds false (Some n)) (pure_adds _)))
+  one_enumerator_adds = bind_adds _ _ identifier_adds
+    (λ n. bind_adds _ _ enumerator_value_adds (λ v. then_adds _ _ (declares_adds false (Some n)) (pure_adds _)))
 
   enumerators_from_adds : (n : ℕ) (found : List Enumerator) → OnlyAdds (enumerators_from expr declarator specs n found)
   unfolding enumerators_from
@@ -334,18 +349,22 @@ module _ (expr : ℕ → Parser Expr) (declarator : Mode → Parser Declarator) 
   unfolding specifier_base
   specifier_base_adds typed = here_adds _ (λ i. base_by_adds typed (kind i))
 
-  behind_adds : (allowed : AWord → Bool) (first : ℕ) (before : List AWord) (b : Base) → OnlyAdds (specifiers_behind expr declarator specs allowed first before b)
-  behind_adds allowed first before b = here_adds _ (λ i. if_adds (i.at == first) _ _ refuse_adds (bind_adds _ _ (words_adds allowed) (λ behind. pure_adds (specs_of (before ++ behind) b))))
+  behind_adds : (allowed : AWord → Bool) (first : ℕ) (before : List AWord) (b : Base) →
+    OnlyAdds (specifiers_behind expr declarator specs allowed first before b)
+  behind_adds allowed first before b = here_adds _
+    (λ i. if_adds (i.at == first) _ _ refuse_adds (bind_adds _ _ (words_adds allowed) (λ behind. pure_adds (specs_of (before ++ behind) b))))
 
   pub specifiers_adds : (allowed : AWord → Bool) → OnlyAdds (specifiers expr declarator specs allowed)
   unfolding specifiers
-  specifiers_adds allowed = here_adds _ (λ i. bind_adds _ _ (words_adds allowed) (λ before. bind_adds _ _ (specifier_base_adds (has_type_word before)) (λ b. behind_adds allowed i.at before b)))
+  specifiers_adds allowed = here_adds _ (λ i. bind_adds _ _ (words_adds allowed)
+    (λ before. bind_adds _ _ (specifier_base_adds (has_type_word before)) (λ b. behind_adds allowed i.at before b)))
 
   -- ---- declarators
 
   one_parameter_adds : OnlyAdds (one_parameter expr declarator specs)
   unfolding one_parameter
-  one_parameter_adds = bind_adds _ _ (gs is_declaration_word) (λ s. bind_adds _ _ (gd Either) (λ p. then_adds _ _ (declares_adds false (name_of p)) (pure_adds _)))
+  one_parameter_adds = bind_adds _ _ (gs is_declaration_word)
+    (λ s. bind_adds _ _ (gd Either) (λ p. then_adds _ _ (declares_adds false (name_of p)) (pure_adds _)))
 
   parameters_from_adds : (n : ℕ) (found : List Param) → OnlyAdds (parameters_from expr declarator specs n found)
   unfolding parameters_from
@@ -365,16 +384,19 @@ module _ (expr : ℕ → Parser Expr) (declarator : Mode → Parser Declarator) 
 
   function_suffix_adds : (inner : Declarator) → OnlyAdds (function_suffix expr declarator specs inner)
   unfolding function_suffix
-  function_suffix_adds inner = bind_adds _ _ (prototype_adds (is_own_name inner) _ parameters_adds) (λ p. then_adds _ _ (expect_adds m.CloseParen) (pure_adds _))
+  function_suffix_adds inner = bind_adds _ _ (prototype_adds (is_own_name inner) _ parameters_adds)
+    (λ p. then_adds _ _ (expect_adds m.CloseParen) (pure_adds _))
 
   one_suffix_adds : (inner : Declarator) → OnlyAdds (one_suffix expr declarator specs inner)
   unfolding one_suffix
-  one_suffix_adds inner = bind_adds _ _ (eat_adds m.OpenBracket) (λ bracket. if_adds bracket _ _ (array_suffix_adds inner) (then_adds _ _ take_adds (function_suffix_adds inner)))
+  one_suffix_adds inner = bind_adds _ _ (eat_adds m.OpenBracket)
+    (λ bracket. if_adds bracket _ _ (array_suffix_adds inner) (then_adds _ _ take_adds (function_suffix_adds inner)))
 
   suffixes_from_adds : (n : ℕ) (inner : Declarator) → OnlyAdds (suffixes_from expr declarator specs n inner)
   unfolding suffixes_from
   suffixes_from_adds zero inner = refuse_adds
-  suffixes_from_adds (suc n) inner = here_adds _ (λ i. if_adds (opens_suffix (kind i)) _ _ (bind_adds _ _ (one_suffix_adds inner) (λ d. suffixes_from_adds n d)) (pure_adds inner))
+  suffixes_from_adds (suc n) inner = here_adds _
+    (λ i. if_adds (opens_suffix (kind i)) _ _ (bind_adds _ _ (one_suffix_adds inner) (λ d. suffixes_from_adds n d)) (pure_adds inner))
 
   suffixes_adds : (inner : Declarator) → OnlyAdds (suffixes expr declarator specs inner)
   unfolding suffixes
@@ -386,7 +408,8 @@ module _ (expr : ℕ → Parser Expr) (declarator : Mode → Parser Declarator) 
 
   innermost_by_adds : (mode : Mode) (k : Option TokenKind) → OnlyAdds (innermost_by expr declarator specs mode k)
   innermost_by_adds mode (Some token.Name) = named_adds mode
-  innermost_by_adds mode (Some (token.Punct m.OpenParen)) = here_adds _ (λ i. if_adds (opens_parameters mode i) _ _ (nameless_adds mode) (then_adds _ _ take_adds (nested_adds mode)))
+  innermost_by_adds mode (Some (token.Punct m.OpenParen)) = here_adds _
+    (λ i. if_adds (opens_parameters mode i) _ _ (nameless_adds mode) (then_adds _ _ take_adds (nested_adds mode)))
   innermost_by_adds mode _ = nameless_adds mode
 
   innermost_adds : (mode : Mode) → OnlyAdds (innermost expr declarator specs mode)
@@ -399,7 +422,8 @@ module _ (expr : ℕ → Parser Expr) (declarator : Mode → Parser Declarator) 
 
   pub one_declarator_adds : (mode : Mode) → OnlyAdds (one_declarator expr declarator specs mode)
   unfolding one_declarator
-  one_declarator_adds mode = bind_adds _ _ (eat_adds m.Star) (λ star. if_adds star _ _ (pointed_adds mode) (bind_adds _ _ (innermost_adds mode) (λ inner. suffixes_adds inner)))
+  one_declarator_adds mode = bind_adds _ _ (eat_adds m.Star)
+    (λ star. if_adds star _ _ (pointed_adds mode) (bind_adds _ _ (innermost_adds mode) (λ inner. suffixes_adds inner)))
 
 -- ---- nested in one another
 
@@ -412,8 +436,10 @@ mutual
 
   pub declarator_adds : (depth : ℕ) (mode : Mode) → OnlyAdds (declarator depth mode)
   declarator_adds zero mode = refuse_adds
-  declarator_adds (suc depth) mode = one_declarator_adds (expr depth) (declarator depth) (specs depth) (expr_adds depth) (declarator_adds depth) (specs_adds depth) mode
+  declarator_adds (suc depth) mode = one_declarator_adds (expr depth) (declarator depth) (specs depth) (expr_adds depth) (declarator_adds depth)
+    (specs_adds depth) mode
 
   pub specs_adds : (depth : ℕ) (allowed : AWord → Bool) → OnlyAdds (specs depth allowed)
   specs_adds zero allowed = refuse_adds
-  specs_adds (suc depth) allowed = specifiers_adds (expr depth) (declarator depth) (specs depth) (expr_adds depth) (declarator_adds depth) (specs_adds depth) allowed
+  specs_adds (suc depth) allowed = specifiers_adds (expr depth) (declarator depth) (specs depth) (expr_adds depth) (declarator_adds depth)
+    (specs_adds depth) allowed

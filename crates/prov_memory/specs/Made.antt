@@ -1,5 +1,6 @@
 -- Which provenances a memory made, and what settling leaves (own).
-use Rattle.std.specs.Prelude.{◌≡◌, ℕ, ◌≤◌, ◌^◌, Bool, true, false, List, [], ◌∷◌, ◌++◌, ◌==◌, Option, Some, None, is_some, if◌then◌else◌, Result, Ok, Err, ℤ, pos}
+use Rattle.std.specs.Prelude.{◌≡◌, ℕ, ◌≤◌, ◌^◌, Bool, true, false, List, [], ◌∷◌, ◌++◌, ◌==◌, Option, Some, None, is_some, if◌then◌else◌, Result, Ok, Err, ℤ,
+  pos}
 use Rattle.std.specs.BTreeMap.{BTreeMap, get}
 use Rattle.std.specs.declared.cmp.Ordering.{Ordering}
 use Rattle.ub_base.specs.declared.clause.Clause.{Clause}
@@ -77,7 +78,8 @@ settling_by false false cells id past start c = Err c
 abbrev pub shift_settling : List Row → Cells → ℤ → Prov → Result Settling Clause
 shift_settling rows cells a Empty = Err OutOfBounds
 shift_settling rows cells a (Whole x) = if in_bounds (row_of rows x) a then Ok None else Err OutOfBounds
-shift_settling rows cells a (Either id past start) = settling_by (in_bounds (row_of rows past) a) (in_bounds (row_of rows start) a) cells id past start OutOfBounds
+shift_settling rows cells a (Either id past start) = settling_by (in_bounds (row_of rows past) a) (in_bounds (row_of rows start) a) cells id past start
+  OutOfBounds
 
 -- the ambiguity is there and wasn't settled to another object
 abbrev pub CanSettle : Cells → Settling → Type 0

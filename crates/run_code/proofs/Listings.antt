@@ -66,12 +66,15 @@ two count taken a b xs ys p q es =
     ∙ ap (λ z. z ++ passed taken 0 es) (sym (within_append count xs ys))
 
 mutual
-  pub listed : (count : ℕ) (taken : Taken) (t : Term) (es : List Entry) → passed taken 0 (flat count t ++ es) ≡ within count (listing taken t) ++ passed taken 0 es
+  pub listed : (count : ℕ) (taken : Taken) (t : Term) (es : List Entry) → passed taken 0 (flat count t ++ es) ≡ within count (listing taken t) ++
+    passed taken 0 es
   listed count taken (pure n) es = refl
   listed count taken (act n k) es = one_if (nat_lt n count) taken (place n k) es
   listed count taken (unseq ts) es = all_listed count taken ts es
-  listed count taken (weak a b) es = two count taken (flat count a) (flat count b) (listing taken a) (listing taken b) (listed count taken a) (listed count taken b) es
-  listed count taken (strong a b) es = two count taken (flat count a) (flat count b) (listing taken a) (listing taken b) (listed count taken a) (listed count taken b) es
+  listed count taken (weak a b) es = two count taken (flat count a) (flat count b) (listing taken a) (listing taken b) (listed count taken a)
+    (listed count taken b) es
+  listed count taken (strong a b) es = two count taken (flat count a) (flat count b) (listing taken a) (listing taken b) (listed count taken a)
+    (listed count taken b) es
   listed count taken (choose n test first second) es =
       let c1 : List Entry = continuation n 1 (flat count first) in
       let c2 : List Entry = continuation n 2 (flat count second) in

@@ -121,7 +121,8 @@ IsEffect firsts tables _ s a = a ≡ act.Nothing
 -- a call: its designator's value, and its arguments
 abbrev pub Calls : Tables → List Operand → Act → Type 0
 Calls tables os a =
-    (n : ℕ) × (call : CallCode) × (slice_get tables.calls.items n ≡ Some call) × (call.designator ≡ value_at os 0) × (call.arguments.items ≡ rest_of os) × (a ≡ act.Call n)
+    (n : ℕ) × (call : CallCode) × (slice_get tables.calls.items n ≡ Some call) × (call.designator ≡ value_at os 0) × (call.arguments.items ≡ rest_of os) ×
+      (a ≡ act.Call n)
 
 -- the act of a node's body
 abbrev pub IsBody : Tables → (initializer : ℕ) → Head → Sight → Act → Type 0

@@ -12,4 +12,5 @@ IsClosed root taken done =
     (u v : Place) → due_in taken 0 root u ≡ true → due_in taken 0 root v ≡ true → is_before taken 0 root u v ≡ true → done v ≡ true → done u ≡ true
 
 abbrev pub EndsOnlyWithDue : Type 0
-EndsOnlyWithDue = (root : Tree) (taken : Taken) (done : Place → Bool) → IsClosed root taken done → canonical root taken done ≡ None → list_all done (events taken 0 root) ≡ true
+EndsOnlyWithDue = (root : Tree) (taken : Taken) (done : Place → Bool) → IsClosed root taken done → canonical root taken done ≡ None →
+  list_all done (events taken 0 root) ≡ true

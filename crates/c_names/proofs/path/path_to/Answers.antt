@@ -8,7 +8,8 @@ loop-parent-preserved c =
     ap (λ path. path ++ path_of c.args.frames.now c.in-Some.parent.0) c.in_ok-push.ensures.items
     ∙ append_assoc c.loop-parent.path.items _ _
     ∙ ap (λ rest. c.loop-parent.path.items ++ rest)
-    (sym (path_of-row_of c.args.frames.now c.row_at.ensures.rows c.loop-parent.frame.0 (c.in-Some.parent, c.in-Some.turn, c.in-Some.node) (sym c.row_at.ensures.row ∙ c.in-Some.is)))
+    (sym (path_of-row_of c.args.frames.now c.row_at.ensures.rows c.loop-parent.frame.0 (c.in-Some.parent, c.in-Some.turn, c.in-Some.node)
+      (sym c.row_at.ensures.row ∙ c.in-Some.is)))
     ∙ c.loop-parent.invariant
 
 pub returns : goal.returns

@@ -9,4 +9,5 @@ loop-constant-preserved c =
     (omega arith) c.constant-item.is (c.is_lawful_content.ensures (search rules)) c.loop-constant.invariant
 
 pub returns : goal.returns
-returns c = λ _. whole (λ k. ContentIsLawful c.args.program.now k.content) c.args.constants.now c.loop-constant.constant-index (omega arith) c.loop-constant.invariant
+returns c = λ _. whole (λ k. ContentIsLawful c.args.program.now k.content) c.args.constants.now c.loop-constant.constant-index
+  (omega arith) c.loop-constant.invariant

@@ -10,11 +10,13 @@ pub returns-clause-exact : goal.returns-clause-exact
 returns-clause-exact c = λ has io.
     let old = c.args.m.now in
     let p = c.args.place in
-    done_give old.rows (load_func old.rows (type_of c.args.ty.now) p.addr p.prov) Fun (store_of old io) (store_of c.load_func.new.self io) c.in_ok-addr.addr c.load_func.new.t (c.in_ok-addr.ensures.exact has io)
+    done_give old.rows (load_func old.rows (type_of c.args.ty.now) p.addr p.prov) Fun (store_of old io) (store_of c.load_func.new.self io) c.in_ok-addr.addr
+      c.load_func.new.t (c.in_ok-addr.ensures.exact has io)
 
 pub returns-in_err-addr-clause-raises : goal.returns-in_err-addr-clause-raises
 returns-in_err-addr-clause-raises c =
     let e = err_from_is_err_and c.from_residual.result c.from_residual.ensures.1 in
     let old = c.args.m.now in
     let p = c.args.place in
-    rw (e.1, e.2) (λ io. raised_give old.rows (load_func old.rows (type_of c.args.ty.now) p.addr p.prov) Fun (store_of old io) c.in_err-addr.field-0.0 (c.in_err-addr.ensures.raises io))
+    rw (e.1, e.2) (λ io. raised_give old.rows (load_func old.rows (type_of c.args.ty.now) p.addr p.prov) Fun (store_of old io) c.in_err-addr.field-0.0
+      (c.in_err-addr.ensures.raises io))

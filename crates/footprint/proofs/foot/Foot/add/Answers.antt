@@ -7,4 +7,5 @@ use Rattle.footprint.proofs.foot.Foot.add.Goals as goal
 pub returns-in_ok-insert-in-Narrow-clause-added : goal.returns-in_ok-insert-in-Narrow-clause-added
 returns-in_ok-insert-in-Narrow-clause-added c =
     let f = c.args.self.now in
-    subst (λ (item : Item). (i : Item) → holds (record f { narrows = c.insert-in-Narrow.new.self }) i ≡ (holds f i || stands_for item i)) (sym c.in-Narrow.is) (narrow_added f c.insert-in-Narrow.new.self c.in-Narrow.id c.in-Narrow.keep c.in_ok-insert-in-Narrow.ensures.updates.0)
+    subst (λ (item : Item). (i : Item) → holds (record f { narrows = c.insert-in-Narrow.new.self }) i ≡ (holds f i || stands_for item i)) (sym c.in-Narrow.is)
+      (narrow_added f c.insert-in-Narrow.new.self c.in-Narrow.id c.in-Narrow.keep c.in_ok-insert-in-Narrow.ensures.updates.0)

@@ -13,7 +13,8 @@ returns c = record {
       ∙ said_since c.self.inside.scope.names c.args.count
       ∙ ap (λ v. drop c.args.count v.names) c.self.view_is;
   within =
-      let all = within_since c.self.inside.tokens.now c.self.inside.at c.self.inside.spelled.items c.self.inside.scope c.self.inside.prototype.items c.args.count c.self.invariant in
+      let all = within_since c.self.inside.tokens.now c.self.inside.at c.self.inside.spelled.items c.self.inside.scope c.self.inside.prototype.items
+            c.args.count c.self.invariant in
       subst (All (IsWithin c.args.self.now.tokens)) (sym (c.in_ok-found.ensures ∙ ap (map (λ (x : Named). x.declared)) c.since.ensures))
       (subst (λ v. All (IsWithin v.tokens) (map (λ (x : Named). x.declared) (drop c.args.count c.self.inside.scope.names))) c.self.view_is all);
   memory = tt;

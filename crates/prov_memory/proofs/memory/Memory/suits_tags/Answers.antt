@@ -13,7 +13,9 @@ returns-then-not-suits_tag c =
     let a = type_of c.args.ty.now in
     let lt : c.loop-index.index < c.args.len = omega arith in
     let off : c.suits_tag.result ≡ false = search rules in
-    tags_fail c.suits_tag.result (tags_agree a 0 (bytes_in m c.args.object.now c.args.from c.args.len)) a (λ k. tagged_in m.origins (map type_of m.types) (cell_at c.args.object.now.cells k)) c.args.from c.loop-index.index c.args.len lt c.loop-index.invariant (c.suits_tag.ensures ∙ ap (λ (k : Cell). tag_agrees a c.loop-index.index (tag_in (map type_of m.types) k)) c.cell.ensures) off
+    tags_fail c.suits_tag.result (tags_agree a 0 (bytes_in m c.args.object.now c.args.from c.args.len)) a
+      (λ k. tagged_in m.origins (map type_of m.types) (cell_at c.args.object.now.cells k)) c.args.from c.loop-index.index c.args.len lt c.loop-index.invariant
+      (c.suits_tag.ensures ∙ ap (λ (k : Cell). tag_agrees a c.loop-index.index (tag_in (map type_of m.types) k)) c.cell.ensures) off
 
 pub loop-index-preserved : goal.loop-index-preserved
 loop-index-preserved c =
@@ -21,4 +23,6 @@ loop-index-preserved c =
     let a = type_of c.args.ty.now in
     let lt : c.loop-index.index < c.args.len = omega arith in
     let on : c.suits_tag.result ≡ true = search rules in
-    tags_pass c.suits_tag.result (tags_agree a 0 (bytes_in m c.args.object.now c.args.from c.args.len)) a (λ k. tagged_in m.origins (map type_of m.types) (cell_at c.args.object.now.cells k)) c.args.from c.loop-index.index c.args.len lt c.loop-index.invariant (c.suits_tag.ensures ∙ ap (λ (k : Cell). tag_agrees a c.loop-index.index (tag_in (map type_of m.types) k)) c.cell.ensures) on
+    tags_pass c.suits_tag.result (tags_agree a 0 (bytes_in m c.args.object.now c.args.from c.args.len)) a
+      (λ k. tagged_in m.origins (map type_of m.types) (cell_at c.args.object.now.cells k)) c.args.from c.loop-index.index c.args.len lt c.loop-index.invariant
+      (c.suits_tag.ensures ∙ ap (λ (k : Cell). tag_agrees a c.loop-index.index (tag_in (map type_of m.types) k)) c.cell.ensures) on

@@ -6,4 +6,5 @@ pub returns-then-has_born : goal.returns-then-has_born
 returns-then-has_born c =
     after c.args.self.now.foot c.add.new.self c.forget.new.self
     (added c.args.self.now.foot c.add.new.self (Dies c.args.object) c.in_ok-add.ensures.added)
-    (forgotten c.add.new.self c.forget.new.self c.args.object c.forget.ensures (died c.args.self.now.foot c.add.new.self c.args.object c.in_ok-add.ensures.added))
+    (forgotten c.add.new.self c.forget.new.self c.args.object c.forget.ensures
+      (died c.args.self.now.foot c.add.new.self c.args.object c.in_ok-add.ensures.added))
