@@ -22,12 +22,12 @@ some_is a b h = cc
 
 -- the base by which a row of that name is found
 at_base : (bases : BTreeMap ObjName ℕ) (x : ObjName) (r : Row) (b : ℕ) → get object_cmp bases x ≡ Some b → get object_cmp bases r.name ≡ Some r.base →
-  same_object r.name x ≡ true → r.base ≡ b
+    same_object r.name x ≡ true → r.base ≡ b
 at_base bases x r b h at same =
     some_is r.base b (sym at ∙ subst (λ (y : ObjName). get object_cmp bases y ≡ Some b) (sym (same_object_is r.name x same)) h)
 
 other_if : (t : Bool) (bases : BTreeMap ObjName ℕ) (x : ObjName) (r : Row) → same_object r.name x ≡ t → get object_cmp bases x ≡ None →
-  get object_cmp bases r.name ≡ Some r.base → t ≡ false
+    get object_cmp bases r.name ≡ Some r.base → t ≡ false
 other_if true bases x r same h at =
     let none : get object_cmp bases r.name ≡ None = subst (λ (y : ObjName). get object_cmp bases y ≡ None) (sym (same_object_is r.name x same)) h in
     absurd (cc)
@@ -39,12 +39,12 @@ none_found bases x (r ∷ rs) h held =
     rw (other_if (same_object r.name x) bases x r refl h held.0.0) (none_found bases x rs h held.1)
 
 above_if : (t : Bool) (bases : BTreeMap ObjName ℕ) (x : ObjName) (r : Row) (b : ℕ) → same_object r.name x ≡ t → get object_cmp bases x ≡ Some b →
-  get object_cmp bases r.name ≡ Some r.base → b < r.base → t ≡ false
+    get object_cmp bases r.name ≡ Some r.base → b < r.base → t ≡ false
 above_if true bases x r b same h at lt = absurd (omega (arith, at_base bases x r b h at same))
 above_if false bases x r b same h at lt = refl
 
 none_above : (bases : BTreeMap ObjName ℕ) (x : ObjName) (b n : ℕ) (rs : List Row) → get object_cmp bases x ≡ Some b → b < n → Above n rs → EachHeld bases rs →
-  row_of rs x ≡ None
+    row_of rs x ≡ None
 none_above bases x b n [] h lt above held = refl
 none_above bases x b n (r ∷ rs) h lt above held =
     rw (above_if (same_object r.name x) bases x r b refl h held.0.0 (omega (arith, above.0))) (none_above bases x b n rs h lt above.1 held.1)
@@ -59,14 +59,14 @@ base_below : (b : ℕ) (r : Row) → (b == r.base) ≡ true → 0 < r.size → b
 base_below b r t some = grind (arith, nat_tests)
 
 found_if : (same at : Bool) (r : Row) (x : ObjName) (found rest : Option Row) → same ≡ same_object r.name x → (same ≡ true → at ≡ true) →
-  (at ≡ true → rest ≡ None) → rest ≡ named x found → cond same (Some r) rest ≡ named x (cond at (Some r) found)
+    (at ≡ true → rest ≡ None) → rest ≡ named x found → cond same (Some r) rest ≡ named x (cond at (Some r) found)
 found_if true true r x found rest e up down h = rw (← e) refl
 found_if true false r x found rest e up down h = absurd (false_up (up refl))
 found_if false true r x found rest e up down h = rw (← e) (down refl)
 found_if false false r x found rest e up down h = h
 
 pub found_is : (bases : BTreeMap ObjName ℕ) (x : ObjName) (b : ℕ) (rs : List Row) → get object_cmp bases x ≡ Some b → Apart rs → EachHeld bases rs →
-  row_of rs x ≡ named x (first_row (λ r. b == r.base) rs)
+    row_of rs x ≡ named x (first_row (λ r. b == r.base) rs)
 found_is bases x b [] h apart held = refl
 found_is bases x b (r ∷ rs) h apart held =
     found_if (same_object r.name x) (b == r.base) r x (first_row (λ r. b == r.base) rs) (row_of rs x) refl

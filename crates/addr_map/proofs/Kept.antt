@@ -9,8 +9,19 @@ use Rattle.ub_base.specs.NameOrders.{object_cmp}
 use Rattle.addr_map.specs.declared.map.Row.{Row}
 use Rattle.addr_map.specs.Rows.{first_row, row_of, insert_row, free_of, overlaps, is_lawful, is_power}
 use Rattle.addr_map.specs.Sound.{rows_in, Keyed, Apart, EachHeld, IsSound}
-use Rattle.addr_map.proofs.RowLists.{lookup_is, keyed-insert, apart-insert, free-insert, held-insert, held-update, held-same, rows_in-insert, absent,
-  size_of_lawful, end_of_lawful}
+use Rattle.addr_map.proofs.RowLists.{
+  lookup_is,
+  keyed-insert,
+  apart-insert,
+  free-insert,
+  held-insert,
+  held-update,
+  held-same,
+  rows_in-insert,
+  absent,
+  size_of_lawful,
+  end_of_lawful,
+}
 
 pub sound_same : (rows : BTreeMap ℕ Row) (old new : BTreeMap ObjName ℕ) (free : ℕ) → new.entries ≡ old.entries → IsSound rows old free → IsSound rows new free
 sound_same rows old new free e s = record {
@@ -22,7 +33,7 @@ sound_same rows old new free e s = record {
 }
 
 pub sound_rows : (old new : BTreeMap ℕ Row) (bases : BTreeMap ObjName ℕ) (free : ℕ) → new.entries ≡ old.entries → IsSound old bases free →
-  IsSound new bases free
+    IsSound new bases free
 sound_rows old new bases free e s = record {
   keyed = subst (λ (es : List (ℕ × Row)). Keyed es) (sym e) s.keyed;
   apart = subst (λ (es : List (ℕ × Row)). Apart (rows_in es)) (sym e) s.apart;
@@ -36,7 +47,7 @@ abbrev pub Names : BTreeMap ObjName ℕ → BTreeMap ObjName ℕ → ObjName →
 Names old new x n = (y : ObjName) → get object_cmp new y ≡ cond (is_at (object_cmp x) y) (Some n) (get object_cmp old y)
 
 pub sound_bases : (rows : BTreeMap ℕ Row) (old new : BTreeMap ObjName ℕ) (free : ℕ) (x : ObjName) (n : ℕ) → Names old new x n →
-  row_of (rows_in rows.entries) x ≡ None → IsSound rows old free → IsSound rows new free
+    row_of (rows_in rows.entries) x ≡ None → IsSound rows old free → IsSound rows new free
 sound_bases rows old new free x n update none s = record {
   keyed = s.keyed;
   apart = s.apart;
@@ -46,26 +57,26 @@ sound_bases rows old new free x n update none s = record {
 }
 
 pub rows_insert : (rows rows' : BTreeMap ℕ Row) (bases : BTreeMap ObjName ℕ) (free : ℕ) (r : Row) → IsSound rows bases free →
-  rows'.entries ≡ insert_entry nat_cmp rows.entries r.base r → is_lawful r ≡ true → first_row (λ s. overlaps s r) (rows_in rows.entries) ≡ None →
-  rows_in rows'.entries ≡ insert_row r (rows_in rows.entries)
+    rows'.entries ≡ insert_entry nat_cmp rows.entries r.base r → is_lawful r ≡ true → first_row (λ s. overlaps s r) (rows_in rows.entries) ≡ None →
+    rows_in rows'.entries ≡ insert_row r (rows_in rows.entries)
 rows_insert rows rows' bases free r s e lawful none =
     ap rows_in e ∙ rows_in-insert rows.entries r s.keyed
-      (lookup_is rows.entries r.base s.keyed ∙ absent r (rows_in rows.entries) (size_of_lawful r lawful) none bases s.held)
+    (lookup_is rows.entries r.base s.keyed ∙ absent r (rows_in rows.entries) (size_of_lawful r lawful) none bases s.held)
 
 grown : (free n : ℕ) (r : Row) (rs : List Row) → free ≡ free_of rs → n ≡ max free (r.base + r.size) → n ≡ max (r.base + r.size) (free_of rs)
 grown free n r rs e h = omega arith
 
 pub sound_insert : (rows rows' : BTreeMap ℕ Row) (old new : BTreeMap ObjName ℕ) (free n : ℕ) (r : Row) → IsSound rows old free → Names old new r.name r.base →
-  get object_cmp new r.name ≡ Some r.base → rows'.entries ≡ insert_entry nat_cmp rows.entries r.base r → is_lawful r ≡ true →
-  row_of (rows_in rows.entries) r.name ≡ None → first_row (λ s. overlaps s r) (rows_in rows.entries) ≡ None → n ≡ max free (r.base + r.size) →
-  IsSound rows' new n
+    get object_cmp new r.name ≡ Some r.base → rows'.entries ≡ insert_entry nat_cmp rows.entries r.base r → is_lawful r ≡ true →
+    row_of (rows_in rows.entries) r.name ≡ None → first_row (λ s. overlaps s r) (rows_in rows.entries) ≡ None → n ≡ max free (r.base + r.size) →
+    IsSound rows' new n
 sound_insert rows rows' old new free n r s update at e lawful none clear h =
     let is : rows_in rows'.entries ≡ insert_row r (rows_in rows.entries) = rows_insert rows rows' old free r s e lawful clear in
     record {
       keyed = subst (λ (es : List (ℕ × Row)). Keyed es) (sym e) (keyed-insert rows.entries r s.keyed);
       apart = subst (λ (rs : List Row). Apart rs) (sym is) (apart-insert r (rows_in rows.entries) (size_of_lawful r lawful) clear s.apart);
       held = subst (λ (rs : List Row). EachHeld new rs) (sym is)
-        (held-insert new r (rows_in rows.entries) at lawful (held-update old new r.name r.base (rows_in rows.entries) update none s.held));
+          (held-insert new r (rows_in rows.entries) at lawful (held-update old new r.name r.base (rows_in rows.entries) update none s.held));
       behind = grown free n r (rows_in rows.entries) s.behind h ∙ sym (free-insert r (rows_in rows.entries)) ∙ ap free_of (sym is);
       bound = omega (arith, s.bound, end_of_lawful r lawful);
     }

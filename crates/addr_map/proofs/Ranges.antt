@@ -36,31 +36,31 @@ from_test : (a : ℕ) → ◌≡◌ {A = ℕ → Bool} (λ q. from a q) (λ q. n
 from_test a = λ i q. from_same a q i
 
 pub up_to_some : (a : ℕ) (es t : List (ℕ × Row)) (e : ℕ × Row) → Keyed es → entries_between nat_cmp Unbounded (Included a) es ≡ t ++ e ∷ [] →
-  last_row (λ c. nat_le c a) (rows_in es) ≡ Some e.1
+    last_row (λ c. nat_le c a) (rows_in es) ≡ Some e.1
 up_to_some a es t e keyed h =
     subst (λ (f : ℕ → Bool). last_row f (rows_in es) ≡ Some e.1) (up_to_test a) (last_some (λ q. up_to a q) es t e keyed h)
 
 pub up_to_none : (a : ℕ) (es : List (ℕ × Row)) → Keyed es → entries_between nat_cmp Unbounded (Included a) es ≡ [] →
-  last_row (λ c. nat_le c a) (rows_in es) ≡ None
+    last_row (λ c. nat_le c a) (rows_in es) ≡ None
 up_to_none a es keyed h =
     subst (λ (f : ℕ → Bool). last_row f (rows_in es) ≡ None) (up_to_test a) (last_none (λ q. up_to a q) es keyed h)
 
 pub below_some : (a : ℕ) (es t : List (ℕ × Row)) (e : ℕ × Row) → Keyed es → entries_between nat_cmp Unbounded (Excluded a) es ≡ t ++ e ∷ [] →
-  last_row (λ c. nat_lt c a) (rows_in es) ≡ Some e.1
+    last_row (λ c. nat_lt c a) (rows_in es) ≡ Some e.1
 below_some a es t e keyed h =
     subst (λ (f : ℕ → Bool). last_row f (rows_in es) ≡ Some e.1) (below_test a) (last_some (λ q. below a q) es t e keyed h)
 
 pub below_none : (a : ℕ) (es : List (ℕ × Row)) → Keyed es → entries_between nat_cmp Unbounded (Excluded a) es ≡ [] →
-  last_row (λ c. nat_lt c a) (rows_in es) ≡ None
+    last_row (λ c. nat_lt c a) (rows_in es) ≡ None
 below_none a es keyed h =
     subst (λ (f : ℕ → Bool). last_row f (rows_in es) ≡ None) (below_test a) (last_none (λ q. below a q) es keyed h)
 
 pub from_some : (a : ℕ) (es : List (ℕ × Row)) (e : ℕ × Row) (t : List (ℕ × Row)) → Keyed es → entries_between nat_cmp (Included a) Unbounded es ≡ e ∷ t →
-  first_row (λ r. nat_le a r.base) (rows_in es) ≡ Some e.1
+    first_row (λ r. nat_le a r.base) (rows_in es) ≡ Some e.1
 from_some a es e t keyed h =
     subst (λ (f : ℕ → Bool). first_row (λ r. f r.base) (rows_in es) ≡ Some e.1) (from_test a) (first_some (λ q. from a q) es e t keyed h)
 
 pub from_none : (a : ℕ) (es : List (ℕ × Row)) → Keyed es → entries_between nat_cmp (Included a) Unbounded es ≡ [] →
-  first_row (λ r. nat_le a r.base) (rows_in es) ≡ None
+    first_row (λ r. nat_le a r.base) (rows_in es) ≡ None
 from_none a es keyed h =
     subst (λ (f : ℕ → Bool). first_row (λ r. f r.base) (rows_in es) ≡ None) (from_test a) (first_none (λ q. from a q) es keyed h)

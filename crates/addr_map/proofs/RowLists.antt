@@ -35,7 +35,7 @@ pub keyed-insert : (es : List (ℕ × Row)) (r : Row) → Keyed es → Keyed (in
 keyed-insert [] r keyed = (refl, tt)
 keyed-insert (e ∷ es) r keyed =
     elim (nat_cmp r.base e.0) as (λ o. o ≡ nat_cmp r.base e.0 → Keyed
-      (match_ordering o ((r.base, r) ∷ e ∷ es) ((e.0, r) ∷ es) (e ∷ insert_entry nat_cmp es r.base r))) [
+    (match_ordering o ((r.base, r) ∷ e ∷ es) ((e.0, r) ∷ es) (e ∷ insert_entry nat_cmp es r.base r))) [
       | Less ↦ λ h. (refl, keyed)
       | Equal ↦ λ h. (tied r.base e.0 h, keyed.1)
       | Greater ↦ λ h. (keyed.0, keyed-insert es r keyed.1)
@@ -88,7 +88,7 @@ choose_held true bases xs ys f g = f
 choose_held false bases xs ys f g = g
 
 pub held-insert : (bases : BTreeMap ObjName ℕ) (r : Row) (rs : List Row) → get object_cmp bases r.name ≡ Some r.base → is_lawful r ≡ true →
-  EachHeld bases rs → EachHeld bases (insert_row r rs)
+    EachHeld bases rs → EachHeld bases (insert_row r rs)
 held-insert bases r [] at lawful h = ((at, lawful), tt)
 held-insert bases r (s ∷ rs) at lawful h =
     choose_held (nat_lt r.base s.base) bases (r ∷ s ∷ rs) (s ∷ insert_row r rs) ((at, lawful), h) (h.0, held-insert bases r rs at lawful h.1)
@@ -109,8 +109,8 @@ swapped x y h = swapped_if (same_object x y) x y refl h
 
 -- another name's base leaves the rows found by theirs
 pub held-update : (old new : BTreeMap ObjName ℕ) (x : ObjName) (n : ℕ) (rs : List Row) →
-  ((y : ObjName) → get object_cmp new y ≡ cond (is_at (object_cmp x) y) (Some n) (get object_cmp old y)) → row_of rs x ≡ None → EachHeld old rs →
-  EachHeld new rs
+    ((y : ObjName) → get object_cmp new y ≡ cond (is_at (object_cmp x) y) (Some n) (get object_cmp old y)) → row_of rs x ≡ None → EachHeld old rs →
+    EachHeld new rs
 held-update old new x n [] update none h = tt
 held-update old new x n (r ∷ rs) update none h =
     let parts : (same_object r.name x ≡ false) × (row_of rs x ≡ None) = none_parts (same_object r.name x) r (row_of rs x) none in
@@ -124,8 +124,8 @@ held-same old new (r ∷ rs) e h = ((ap (lookup (is_at (object_cmp r.name))) e �
 
 -- the rows of a map with one more
 entry_rows : (o : Ordering) (e : ℕ × Row) (es : List (ℕ × Row)) (r : Row) (more : List (ℕ × Row)) → o ≡ nat_cmp r.base e.0 → e.1.base ≡ e.0 →
-  (o ≡ Equal → ⊥) → rows_in more ≡ insert_row r (rows_in es) → rows_in (match_ordering o ((r.base, r) ∷ e ∷ es) ((e.0, r) ∷ es) (e ∷ more)) ≡ insert_row r
-  (rows_in (e ∷ es))
+    (o ≡ Equal → ⊥) → rows_in more ≡ insert_row r (rows_in es) → rows_in (match_ordering o ((r.base, r) ∷ e ∷ es) ((e.0, r) ∷ es) (e ∷ more)) ≡ insert_row r
+    (rows_in (e ∷ es))
 entry_rows Less e es r more h keyed other rest = rw (keyed, less_is r.base e.0 h) refl
 entry_rows Equal e es r more h keyed other rest = absurd (other refl)
 entry_rows Greater e es r more h keyed other rest = rw (keyed, greater_is r.base e.0 h, rest) refl
@@ -134,13 +134,13 @@ not_tied : (m n : ℕ) (o : Ordering) → o ≡ nat_cmp m n → is_eq (nat_cmp m
 not_tied m n o h f e = let t : is_eq (nat_cmp m n) ≡ true = ap is_eq (sym h ∙ e) in cc
 
 pub rows_in-insert : (es : List (ℕ × Row)) (r : Row) → Keyed es → lookup (is_at (nat_cmp r.base)) es ≡ None →
-  rows_in (insert_entry nat_cmp es r.base r) ≡ insert_row r (rows_in es)
+    rows_in (insert_entry nat_cmp es r.base r) ≡ insert_row r (rows_in es)
 rows_in-insert [] r keyed none = refl
 rows_in-insert (e ∷ es) r keyed none =
     let parts : (is_eq (nat_cmp r.base e.0) ≡ false) × (lookup (is_at (nat_cmp r.base)) es ≡ None) =
-          none_parts (is_eq (nat_cmp r.base e.0)) e.1 (lookup (is_at (nat_cmp r.base)) es) none in
+    none_parts (is_eq (nat_cmp r.base e.0)) e.1 (lookup (is_at (nat_cmp r.base)) es) none in
     entry_rows (nat_cmp r.base e.0) e es r (insert_entry nat_cmp es r.base r) refl keyed.0 (not_tied r.base e.0 (nat_cmp r.base e.0) refl parts.0)
-      (rows_in-insert es r keyed.1 parts.1)
+    (rows_in-insert es r keyed.1 parts.1)
 
 and_left : (a b : Bool) → (a && b) ≡ true → a ≡ true
 and_left true b h = refl
@@ -165,7 +165,7 @@ begins_elsewhere r s some others h = grind (arith, nat_tests)
 
 -- no row that leaves the new one its place begins where it begins
 pub absent : (r : Row) (rs : List Row) → 0 < r.size → first_row (λ s. overlaps s r) rs ≡ None → (bases : BTreeMap ObjName ℕ) → EachHeld bases rs →
-  first_row (λ s. r.base == s.base) rs ≡ None
+    first_row (λ s. r.base == s.base) rs ≡ None
 absent r [] some none bases held = refl
 absent r (s ∷ rs) some none bases held =
     let parts : (overlaps s r ≡ false) × (first_row (λ s. overlaps s r) rs ≡ None) = none_parts (overlaps s r) s (first_row (λ s. overlaps s r) rs) none in

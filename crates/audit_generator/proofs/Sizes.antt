@@ -1,6 +1,29 @@
 -- How long a generated text is.
-use Rattle.std.proofs.Common.{◌≡◌, ℕ, zero, suc, add-one, ◌+◌, ◌*◌, ◌%◌, ◌<◌, ◌≤◌, ◌^◌, List, ◌++◌, length, codes, decimal, sym, subst, ap, ◌∙◌, append_assoc,
-  arith, length-append}
+use Rattle.std.proofs.Common.{
+  ◌≡◌,
+  ℕ,
+  zero,
+  suc,
+  add-one,
+  ◌+◌,
+  ◌*◌,
+  ◌%◌,
+  ◌<◌,
+  ◌≤◌,
+  ◌^◌,
+  List,
+  ◌++◌,
+  length,
+  codes,
+  decimal,
+  sym,
+  subst,
+  ap,
+  ◌∙◌,
+  append_assoc,
+  arith,
+  length-append,
+}
 use Rattle.std.proofs.lemmas.Nat.{mod_below}
 use Rattle.std.proofs.lemmas.Fmt.{length-decimal-le}
 use Rattle.audit_generator.specs.Text.{element, with_constant, exclusive_or, greater, difference, statement, drawn, line_after, draw_before, lines, text}
@@ -36,7 +59,7 @@ line_size : (x : ℕ) → length (line_after x) ≤ 40
 line_size x =
     let t = drawn x in let i = drawn t in let j = drawn i in let k = drawn j in
     statement_size (t % 4) (i % 8) (j % 8) (k % 1000) (below i 8 (omega arith) (omega arith)) (below j 8 (omega arith) (omega arith))
-      (below k 1000 (omega arith) (omega arith))
+    (below k 1000 (omega arith) (omega arith))
 
 lines_size : (seed n : ℕ) → length (lines seed n) ≤ 40 * n
 lines_size seed zero = omega arith

@@ -1,6 +1,29 @@
 -- What is told of files decides what is fetched.
-use Rattle.std.proofs.Common.{◌≡◌, ◌⊎◌, ℕ, ◌<◌, ◌≤◌, List, [], ◌∷◌, length, Bool, true, false, Option, Some, None, inl, inr, refl, sym, ap, ◌∙◌, le-leb,
-  if◌then◌else◌}
+use Rattle.std.proofs.Common.{
+  ◌≡◌,
+  ◌⊎◌,
+  ℕ,
+  ◌<◌,
+  ◌≤◌,
+  List,
+  [],
+  ◌∷◌,
+  length,
+  Bool,
+  true,
+  false,
+  Option,
+  Some,
+  None,
+  inl,
+  inr,
+  refl,
+  sym,
+  ap,
+  ◌∙◌,
+  le-leb,
+  if◌then◌else◌,
+}
 use Rattle.std.proofs.lemmas.Bool.{lt-leb}
 use Rattle.std.specs.Prelude.{nat_le}
 use Rattle.ub_base.specs.Causes.{Rose}
@@ -8,8 +31,20 @@ use Rattle.ub_base.specs.Held.{Held, bytes_under, fetched}
 use Rattle.ub_base.specs.declared.files.Fetched.{Fetched}
 use Rattle.ub_base.specs.declared.files.Fetched.TheVariants.{Whole, TooLong, Absent}
 use Rattle.audit_sources.specs.Role.{most}
-use Rattle.audit_sources.specs.Fetching.{AreHeld, Fails, FailsFirst, HasInput, IsUnread, IsWhole, Misses, Stops, certificate_wanted, check_wanted,
-  input_wanted, wanted}
+use Rattle.audit_sources.specs.Fetching.{
+  AreHeld,
+  Fails,
+  FailsFirst,
+  HasInput,
+  IsUnread,
+  IsWhole,
+  Misses,
+  Stops,
+  certificate_wanted,
+  check_wanted,
+  input_wanted,
+  wanted,
+}
 use Rattle.audit_sources.specs.declared.fetch.FetchFault.{FetchFault}
 use Rattle.audit_sources.specs.declared.fetch.FetchFault.TheVariants as Fault
 use Rattle.audit_sources.specs.declared.role.Role.{Role}

@@ -1,6 +1,32 @@
 -- Why an answer comes.
-use Rattle.std.proofs.Common.{◌≡◌, ◌⊎◌, ℕ, ◌≤◌, ◌<◌, ◌-◌, ◌^◌, min, arith, ℤ, List, [], length, Option, Some, None, Result, Ok, Err, refl, sym, subst, ◌∙◌,
-  inl, inr, option_copied}
+use Rattle.std.proofs.Common.{
+  ◌≡◌,
+  ◌⊎◌,
+  ℕ,
+  ◌≤◌,
+  ◌<◌,
+  ◌-◌,
+  ◌^◌,
+  min,
+  arith,
+  ℤ,
+  List,
+  [],
+  length,
+  Option,
+  Some,
+  None,
+  Result,
+  Ok,
+  Err,
+  refl,
+  sym,
+  subst,
+  ◌∙◌,
+  inl,
+  inr,
+  option_copied,
+}
 use Rattle.std.proofs.lemmas.Bool.{cases_lt}
 use Rattle.c_ast.specs.Nest.{nest_of}
 use Rattle.c_ast.specs.declared.statement.Unit.{Unit as SyntaxTree}
@@ -31,11 +57,50 @@ use Rattle.audit_top.specs.Answer.{HasNoTree, HasTree, HasVerdict, IsRunnable, I
 use Rattle.audit_top.specs.Value.{value}
 use Rattle.audit_top.specs.Finding.{IsFound}
 use Rattle.audit_top.specs.Words.{TakesWords}
-use Rattle.audit_top.specs.Cause.{AuditCause, CertificateCause, CheckCause, StopsCheck, WeighedCause, Certifies, Disk, GeneratedCause, HasCause, IsCertified,
-  IsJudged, IsRun, IsStopped, KeptCause, Leaves, RequestCause, RunsWell, Spares, SparesOthers, SelfCause, TextCause, UsesForm, WordsCause, stopped, summary_of}
+use Rattle.audit_top.specs.Cause.{
+  AuditCause,
+  CertificateCause,
+  CheckCause,
+  StopsCheck,
+  WeighedCause,
+  Certifies,
+  Disk,
+  GeneratedCause,
+  HasCause,
+  IsCertified,
+  IsJudged,
+  IsRun,
+  IsStopped,
+  KeptCause,
+  Leaves,
+  RequestCause,
+  RunsWell,
+  Spares,
+  SparesOthers,
+  SelfCause,
+  TextCause,
+  UsesForm,
+  WordsCause,
+  stopped,
+  summary_of,
+}
 use Rattle.audit_top.specs.declared.answer.Answer.{Answer}
-use Rattle.audit_top.specs.declared.answer.Answer.TheVariants.{Clean, Undefined, Found, Generated, GeneratedRefused, Checked, Bad, Usage, TooLong, Refused,
-  CertificateTooLong, NotKept, ReadFault, NoMemory}
+use Rattle.audit_top.specs.declared.answer.Answer.TheVariants.{
+  Clean,
+  Undefined,
+  Found,
+  Generated,
+  GeneratedRefused,
+  Checked,
+  Bad,
+  Usage,
+  TooLong,
+  Refused,
+  CertificateTooLong,
+  NotKept,
+  ReadFault,
+  NoMemory,
+}
 use Rattle.audit_top.specs.declared.answer.Refusal.{Refusal}
 use Rattle.audit_top.specs.declared.answer.Refusal.TheVariants as Refusal
 use Rattle.audit_top.specs.declared.answer.Summary.{Summary}
@@ -271,7 +336,7 @@ generated_self request source slice size answer sizes same is why =
 
 -- a file that stops a check is its cause
 pub stopped_check : (old new : Disk) (request : CheckRequest) (fault : FetchFault) (answer : Answer) → answer ≡ stopped fault →
-  StopsCheck old new request fault
+    StopsCheck old new request fault
     → CheckCause old new request answer
 stopped_check old new request Fault.ReadFault answer is stops = subst (CheckCause old new request) (sym is) stops
 stopped_check old new request (Fault.TooLong role) answer is stops = subst (CheckCause old new request) (sym is) stops

@@ -1,6 +1,28 @@
 -- What a told file without faults is answered.
-use Rattle.std.proofs.Common.{◌≡◌, ◌⊎◌, ℕ, ◌<◌, ◌≤◌, List, length, Option, Some, None, Result, Ok, Err, arith, refl, ap, sym, subst, ◌∙◌, inl, inr,
-  option_copied}
+use Rattle.std.proofs.Common.{
+  ◌≡◌,
+  ◌⊎◌,
+  ℕ,
+  ◌<◌,
+  ◌≤◌,
+  List,
+  length,
+  Option,
+  Some,
+  None,
+  Result,
+  Ok,
+  Err,
+  arith,
+  refl,
+  ap,
+  sym,
+  subst,
+  ◌∙◌,
+  inl,
+  inr,
+  option_copied,
+}
 use Rattle.ub_base.specs.Causes.{Rose}
 use Rattle.ub_base.specs.Held.{Held, bytes_under}
 use Rattle.ub_base.specs.Sink.{Gains}
@@ -26,14 +48,43 @@ use Rattle.c_lex.specs.Tokens.{lexed}
 use Rattle.c_lex.specs.declared.token.Token.{Token}
 use Rattle.c_lex.specs.declared.token.LexFault.{LexFault}
 use Rattle.audit_top.specs.Answer.{HasNoForm, HasNoTree, HasTokens, HasTree, HasVerdict, Refuses, RefusesEarly, verdict}
-use Rattle.audit_top.specs.Cause.{AuditCause, CertificateCause, CheckCause, Disk, HasCause, IsJudged, IsStopped, IsWeighed, Leaves, RequestCause, StopsCheck,
-  TextCause, UsesForm, WordsCause, stopped}
+use Rattle.audit_top.specs.Cause.{
+  AuditCause,
+  CertificateCause,
+  CheckCause,
+  Disk,
+  HasCause,
+  IsJudged,
+  IsStopped,
+  IsWeighed,
+  Leaves,
+  RequestCause,
+  StopsCheck,
+  TextCause,
+  UsesForm,
+  WordsCause,
+  stopped,
+}
 use Rattle.audit_top.specs.Report.{Ends, EndsWith, report, status}
 use Rattle.audit_top.specs.Told.{IsAsked, IsCheckAsked, IsCheckGiven, IsGiven}
 use Rattle.audit_top.specs.Words.{Asks, TakesWords}
 use Rattle.audit_top.specs.declared.answer.Answer.{Answer}
-use Rattle.audit_top.specs.declared.answer.Answer.TheVariants.{Clean, Undefined, Found, Generated, GeneratedRefused, Checked, Bad, Usage, TooLong, Refused,
-  CertificateTooLong, NotKept, ReadFault, NoMemory}
+use Rattle.audit_top.specs.declared.answer.Answer.TheVariants.{
+  Clean,
+  Undefined,
+  Found,
+  Generated,
+  GeneratedRefused,
+  Checked,
+  Bad,
+  Usage,
+  TooLong,
+  Refused,
+  CertificateTooLong,
+  NotKept,
+  ReadFault,
+  NoMemory,
+}
 use Rattle.audit_top.specs.declared.answer.Refusal.{Refusal}
 use Rattle.audit_top.specs.declared.answer.Refusal.TheVariants.{Stray, OpenLiteral, BadNumber, TooDeep, TooHigh, Syntax, NotTyped}
 use Rattle.audit_top.proofs.Requests.{SameAudit, SameCheck, asks_taken, one_audit, one_check}
@@ -172,7 +223,7 @@ text_refused : (request : AuditRequest) (before now : ℕ) (text : List ℕ) (re
 text_refused request before now text refusal (Clean s) none early why = absurd (none why.1.unit why.1.form)
 text_refused request before now text refusal (Undefined c l) none early why = absurd (none why.1.unit why.1.form)
 text_refused request before now text refusal (Found s b) none early why =
-  absurd (not_read_on (lexed text) refusal (tree_tokens text why.0.runnable.typed.tree) early)
+    absurd (not_read_on (lexed text) refusal (tree_tokens text why.0.runnable.typed.tree) early)
 text_refused request before now text refusal (Generated m s b) none early why = absurd why
 text_refused request before now text refusal (GeneratedRefused m r) none early why = absurd why
 text_refused request before now text refusal (Checked v) none early why = absurd why
@@ -181,14 +232,14 @@ text_refused request before now text refusal Usage none early why = absurd why
 text_refused request before now text refusal (TooLong role) none early why = absurd why
 text_refused request before now text refusal (Refused r) none early why = inr (ap Refused (early_unique text r refusal why.1 early))
 text_refused request before now text refusal CertificateTooLong none early why =
-  absurd (not_read_on (lexed text) refusal (tree_tokens text why.runnable.typed.tree) early)
+    absurd (not_read_on (lexed text) refusal (tree_tokens text why.runnable.typed.tree) early)
 text_refused request before now text refusal NotKept none early why =
-  absurd (not_read_on (lexed text) refusal (tree_tokens text why.0.runnable.typed.tree) early)
+    absurd (not_read_on (lexed text) refusal (tree_tokens text why.0.runnable.typed.tree) early)
 text_refused request before now text refusal ReadFault none early why = absurd why
 text_refused request before now text refusal NoMemory none early why = inl refl
 
 is_stopped : (answer wanted : Answer) (fault : FetchFault) → answer ≡ stopped fault → (fault ≡ Fault.NoMemory) ⊎
-  (stopped fault ≡ wanted) → IsOnly answer wanted
+    (stopped fault ≡ wanted) → IsOnly answer wanted
 is_stopped answer wanted fault is (inl memory) = inl (is ∙ ap stopped memory)
 is_stopped answer wanted fault is (inr same) = inr (is ∙ same)
 
@@ -202,7 +253,7 @@ stopped_way : (old new : Disk) (request : AuditRequest) (files : Held) (fault : 
 stopped_way old new request files fault answer told fails calm (inl memory) = inl memory
 stopped_way old new request files fault answer told fails calm (inr (inl f)) =
     is_stopped answer (stopped fault) f.0 f.1
-      (by_fault f.0 fault (fails_stops files old.reads new.reads (wanted request.file.now (option_copied request.input)) fault f.0 fails calm
+    (by_fault f.0 fault (fails_stops files old.reads new.reads (wanted request.file.now (option_copied request.input)) fault f.0 fails calm
     (subst (λ h. Stops h old.reads new.reads (wanted request.file.now (option_copied request.input)) f.0) told f.2)))
 stopped_way old new request files fault answer told fails calm (inr (inr j)) =
     absurd (audit_fails files request.file.now (option_copied request.input) fault j.text j.bytes fails
@@ -245,7 +296,7 @@ only_stopped words old new request files fault answer h fails calm cause =
     audit_of words old new request answer (answer ≡ stopped fault) h.asked cause
     (λ own same why. stopped_way old new own files fault answer h.told
     (subst (λ i. FailsFirst files (wanted own.file.now i) fault) same.input
-      (subst (λ n. FailsFirst files (wanted n (option_copied request.input)) fault) same.file fails))
+    (subst (λ n. FailsFirst files (wanted n (option_copied request.input)) fault) same.file fails))
     calm (audit_stops old new own answer why))
 
 only_given : (words : List (List ℕ)) (old new : Disk) (request : AuditRequest) (files : Held) (text : List ℕ) (answer : Answer) (P : Type 0)
@@ -295,7 +346,7 @@ syntax_refused text (OpenLiteral a) none why = absurd (not_both _ _ (sym why ∙
 syntax_refused text (BadNumber a) none why = absurd (not_both _ _ (sym why ∙ none.1.1))
 syntax_refused text (TooDeep a) none why =
     let same = ap nest_of (same_list why.0 none.0.list (sym why.1 ∙ none.1.1)) in let count = why.2 in let deep = why.3 in let flat = none.1.2 in absurd
-      (omega arith)
+    (omega arith)
 syntax_refused text (TooHigh a) none why = absurd (not_both_trees text why.typed.tree none)
 syntax_refused text (Syntax t l) none why = (t, l, refl)
 syntax_refused text (NotTyped l) none why = absurd (not_both_trees text why none)

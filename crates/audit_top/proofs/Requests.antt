@@ -1,6 +1,31 @@
 -- What words ask for is one request.
-use Rattle.std.proofs.Common.{◌≡◌, ℕ, ◌≤◌, ◌<◌, max, min, List, map, string_bytes, codes, get_or, Option, Some, None, Result, Ok, Err, IfOk, refl, ap, sym,
-  subst, ◌∙◌, arith, option_copied}
+use Rattle.std.proofs.Common.{
+  ◌≡◌,
+  ℕ,
+  ◌≤◌,
+  ◌<◌,
+  max,
+  min,
+  List,
+  map,
+  string_bytes,
+  codes,
+  get_or,
+  Option,
+  Some,
+  None,
+  Result,
+  Ok,
+  Err,
+  IfOk,
+  refl,
+  ap,
+  sym,
+  subst,
+  ◌∙◌,
+  arith,
+  option_copied,
+}
 use Rattle.std.specs.Str.Parse.{ParsesUnsigned}
 use Rattle.std.specs.Result.{result_unwrap_or}
 use Rattle.clap.specs.Walk.{Row, one_of}
@@ -37,7 +62,7 @@ asks_taken words request asks = asks.0
 
 -- two readings of a number are equal
 one_reading : (text : List ℕ) (a b : Result ℕ (Unit {0})) → ParsesUnsigned 64 10 text a → ParsesUnsigned 64 10 text b →
-  result_unwrap_or a 0 ≡ result_unwrap_or b 0
+    result_unwrap_or a 0 ≡ result_unwrap_or b 0
 one_reading text (Ok a) (Ok b) p q = p.1 ∙ sym q.1
 one_reading text (Ok a) (Err e) p q = absurd (q p.0)
 one_reading text (Err e) (Ok b) p q = absurd (p q.0)

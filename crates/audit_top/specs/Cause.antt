@@ -29,8 +29,22 @@ use Rattle.audit_top.specs.Answer.{HasNoForm, HasVerdict, IsRunnable, Refuses}
 use Rattle.audit_top.specs.Finding.{IsFound}
 use Rattle.audit_top.specs.Words.{Asks, TakesWords}
 use Rattle.audit_top.specs.declared.answer.Answer.{Answer}
-use Rattle.audit_top.specs.declared.answer.Answer.TheVariants.{Clean, Undefined, Found, Generated, GeneratedRefused, Checked, Bad, Usage, TooLong, Refused,
-  CertificateTooLong, NotKept, ReadFault, NoMemory}
+use Rattle.audit_top.specs.declared.answer.Answer.TheVariants.{
+  Clean,
+  Undefined,
+  Found,
+  Generated,
+  GeneratedRefused,
+  Checked,
+  Bad,
+  Usage,
+  TooLong,
+  Refused,
+  CertificateTooLong,
+  NotKept,
+  ReadFault,
+  NoMemory,
+}
 use Rattle.audit_top.specs.declared.answer.Summary.{Summary}
 
 -- the files at one moment: what they hold, and how often a read and a write failed

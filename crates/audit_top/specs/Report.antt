@@ -14,8 +14,22 @@ use Rattle.audit_top.specs.declared.answer.BadCertificate.{BadCertificate}
 use Rattle.audit_top.specs.declared.answer.BadCertificate.TheVariants.{NotJson, Wrong}
 use Rattle.audit_top.specs.declared.answer.Answer.{Answer}
 use Rattle.audit_top.specs.declared.answer.Summary.{Summary}
-use Rattle.audit_top.specs.declared.answer.Answer.TheVariants.{Clean, Undefined, Found, Generated, GeneratedRefused, Checked, Bad, Usage, TooLong, Refused,
-  CertificateTooLong, NotKept, ReadFault, NoMemory}
+use Rattle.audit_top.specs.declared.answer.Answer.TheVariants.{
+  Clean,
+  Undefined,
+  Found,
+  Generated,
+  GeneratedRefused,
+  Checked,
+  Bad,
+  Usage,
+  TooLong,
+  Refused,
+  CertificateTooLong,
+  NotKept,
+  ReadFault,
+  NoMemory,
+}
 use Rattle.audit_top.specs.declared.answer.Refusal.{Refusal}
 use Rattle.audit_top.specs.declared.answer.Refusal.TheVariants.{Stray, OpenLiteral, BadNumber, TooDeep, TooHigh, Syntax, NotTyped}
 

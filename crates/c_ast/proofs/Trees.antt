@@ -7,8 +7,16 @@ use Rattle.c_lex.specs.declared.token.TokenKind.TheVariants as token
 use Rattle.c_lex.specs.declared.token.Word.{Word}
 use Rattle.c_lex.specs.declared.token.Word.TheVariants as w
 use Rattle.c_ast.specs.declared.declaration.Base.{Base}
-use Rattle.c_ast.specs.declared.declaration.Base.TheBlock.{hidden-the_row-Declarator-2, hidden-the_row-Declarator-5, hidden-the_row-Enumerator-1,
-  hidden-the_row-Expr-3, hidden-the_row-Expr-6, hidden-the_row-MemberEntry-0, hidden-the_row-Param-4, hidden-the_row-TypeName-7}
+use Rattle.c_ast.specs.declared.declaration.Base.TheBlock.{
+  hidden-the_row-Declarator-2,
+  hidden-the_row-Declarator-5,
+  hidden-the_row-Enumerator-1,
+  hidden-the_row-Expr-3,
+  hidden-the_row-Expr-6,
+  hidden-the_row-MemberEntry-0,
+  hidden-the_row-Param-4,
+  hidden-the_row-TypeName-7,
+}
 use Rattle.c_ast.specs.declared.declaration.Base.TheVariants as base
 use Rattle.c_ast.specs.declared.declaration.Declarator.{Declarator}
 use Rattle.c_ast.specs.declared.declaration.Declarator.TheVariants as declarator
@@ -35,8 +43,29 @@ use Rattle.c_ast.specs.declared.statement.Entry.TheVariants as entry
 use Rattle.c_ast.specs.declared.statement.ForInit.{ForInit}
 use Rattle.c_ast.specs.declared.statement.Stmt.{Stmt}
 use Rattle.c_ast.specs.declared.statement.Stmt.TheVariants as stmt
-use Rattle.c_ast.specs.Names.{IsToken, IsName, IsWord, MaybeName, NodeNames, ExprNames, TypeNameNames, DeclaratorNames, SpecsName, BaseNames, MemberNames,
-  EnumeratorNames, ParamNames, MaybeExprNames, DesignatorNames, InitNames, InitEntryNames, ForNames, StmtNames, EntryNames, MaybeStmtNames}
+use Rattle.c_ast.specs.Names.{
+  IsToken,
+  IsName,
+  IsWord,
+  MaybeName,
+  NodeNames,
+  ExprNames,
+  TypeNameNames,
+  DeclaratorNames,
+  SpecsName,
+  BaseNames,
+  MemberNames,
+  EnumeratorNames,
+  ParamNames,
+  MaybeExprNames,
+  DesignatorNames,
+  InitNames,
+  InitEntryNames,
+  ForNames,
+  StmtNames,
+  EntryNames,
+  MaybeStmtNames,
+}
 
 -- ---- expressions
 
@@ -198,7 +227,37 @@ pub default_names : (t : TokenText) (n : ℕ) (body : Stmt) → IsWord t w.Defau
 unfolding hidden-the_row-Stmt-1 hidden
 default_names t n body h k = (h, (k, tt))
 
-pub ruleset tree_names = (unary_names, postfix_names, binary_names, assign_names, cond_names, comma_names, call_names, index_names, dot_names, arrow_names,
-  cast_names, sizeof_expr_names, sizeof_type_names, alignof_type_names, pointer_names, array_names, array_of_names, function_names, members_names,
-  enumerators_names, fields_names, member_assertion_names, braced_names, block_names, if_names, switch_names, while_names, do_names, for_names, label_names,
-  case_names, default_names)
+pub ruleset tree_names = (
+  unary_names,
+  postfix_names,
+  binary_names,
+  assign_names,
+  cond_names,
+  comma_names,
+  call_names,
+  index_names,
+  dot_names,
+  arrow_names,
+  cast_names,
+  sizeof_expr_names,
+  sizeof_type_names,
+  alignof_type_names,
+  pointer_names,
+  array_names,
+  array_of_names,
+  function_names,
+  members_names,
+  enumerators_names,
+  fields_names,
+  member_assertion_names,
+  braced_names,
+  block_names,
+  if_names,
+  switch_names,
+  while_names,
+  do_names,
+  for_names,
+  label_names,
+  case_names,
+  default_names,
+)

@@ -31,9 +31,25 @@ declared_is =
     let a = next s in
     let b = next a in
     let c = declared 1 false b in
-    let d = next c in
-    (d, ((d, ((a, ((a, ((a, ((refl, (refl, refl)), refl)), refl)),
-      (c, ((c, ((b, ((0, (tt, (tt, (refl, (refl, refl))))), (c, (refl, refl)))), refl)), (refl, refl))))), refl)), refl))
+    let d = next c in (
+      d,
+      (
+        (
+          d,
+          (
+            (
+              a,
+              (
+                (a, ((a, ((refl, (refl, refl)), refl)), refl)),
+                (c, ((c, ((b, ((0, (tt, (tt, (refl, (refl, refl))))), (c, (refl, refl)))), refl)), (refl, refl))),
+              ),
+            ),
+            refl,
+          ),
+        ),
+        refl,
+      ),
+    )
 
 -- ---- no translation unit begins with `)`
 

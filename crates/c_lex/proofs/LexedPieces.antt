@@ -1,6 +1,34 @@
 -- The tokens so far, and those of what is left.
-use Rattle.std.proofs.Common.{◌≡◌, ℕ, zero, suc, ◌+◌, ◌^◌, ◌<◌, ◌≤◌, Bool, true, List, [], ◌∷◌, ◌++◌, length, take, drop, refl, ap, sym, subst, ◌∙◌, arith,
-  append_assoc, length-drop, length-take, Ok, Err}
+use Rattle.std.proofs.Common.{
+  ◌≡◌,
+  ℕ,
+  zero,
+  suc,
+  ◌+◌,
+  ◌^◌,
+  ◌<◌,
+  ◌≤◌,
+  Bool,
+  true,
+  List,
+  [],
+  ◌∷◌,
+  ◌++◌,
+  length,
+  take,
+  drop,
+  refl,
+  ap,
+  sym,
+  subst,
+  ◌∙◌,
+  arith,
+  append_assoc,
+  length-drop,
+  length-take,
+  Ok,
+  Err,
+}
 use Rattle.std.proofs.lemmas.List.{drop-drop, append-nil}
 use Rattle.std.specs.Prelude.{◌==◌}
 use Rattle.std.proofs.lemmas.List.Sums.{count_by-le-length}
@@ -27,8 +55,15 @@ none_before (Ok tokens) = refl
 none_before (Err fault) = refl
 
 pub so_far_none : (text : List ℕ) → SoFar text [] 0 1 true
-so_far_none text = record { pieces = length text; enough = omega arith; within = omega arith; few_lines = omega arith; is = none_before (lexed text); spans =
-  omega arith }
+so_far_none text = record {
+  pieces = length text;
+  enough = omega arith;
+  within = omega arith;
+  few_lines = omega arith;
+  is = none_before (lexed text);
+  spans =
+      omega arith;
+}
 
 twice_before : (first second : List Token) (all : Lexed) → put_before first (put_before second all) ≡ put_before (first ++ second) all
 twice_before first second (Ok tokens) = ap Ok (sym (append_assoc first second tokens))
@@ -43,7 +78,7 @@ one_more given pieces at line fresh rest b bs p is piece =
     ∙ ap (λ q. put_before given (lex_piece (lex_from pieces) at line fresh (b ∷ bs) q)) piece
     ∙ twice_before given (tokens_of p at line) _
     ∙ ap (λ r. put_before (given ++ tokens_of p at line) (lex_from pieces (at + len_of p) (line_after p line r) (fresh_after p fresh) (drop (len_of p) r)))
-      (sym is)
+    (sym is)
 
 -- what a piece is rises behind those so far
 more_spans : (p : Piece) (given : List Token) (at line : ℕ) → SpansRise 0 at given → 0 < len_of p → SpansRise 0 (at + len_of p) (given ++ tokens_of p at line)
@@ -52,7 +87,7 @@ more_spans LineEnd given at line rise some = subst (λ ts. SpansRise 0 (at + 1) 
 more_spans (Passed n) given at line rise some = subst (λ ts. SpansRise 0 (at + n) ts) (sym (append-nil given)) (wider 0 at (at + n) given rise (omega arith))
 more_spans (Marker m n) given at line rise some = subst (λ ts. SpansRise 0 (at + n) ts) (sym (append-nil given)) (wider 0 at (at + n) given rise (omega arith))
 more_spans (Spelled k n) given at line rise some = one_more_span 0 at given (record { kind = k; start = at; end = at + n; line = line }) rise (omega arith)
-  (omega arith)
+    (omega arith)
 
 more_from : (text : List ℕ) (given : List Token) (pieces at line : ℕ) (fresh : Bool) (b : ℕ) (bs : List ℕ) (p : Piece)
     → length text ≤ at + pieces → at ≤ length text
@@ -120,13 +155,13 @@ few_after (Spelled k n) at line rest few some most small = omega arith
 
 -- a turn of the loop
 pub so_far_step : {text : List ℕ} {given next : List Token} {at line : ℕ} {fresh : Bool} (rest : List ℕ) (b : ℕ) (bs : List ℕ) (p : Piece) (len line2 : ℕ)
-  (fresh2 : Bool)
+    (fresh2 : Bool)
     → SoFar text given at line fresh → rest ≡ drop at text → rest ≡ b ∷ bs → Ok p ≡ piece_of fresh b bs
     → 0 < len_of p → len_of p ≤ length rest → line_of p ≤ 2147483647
     → next ≡ given ++ tokens_of p at line → line2 ≡ line_after p line rest → fresh2 ≡ fresh_after p fresh → len ≡ len_of p
     → SoFar text next (at + len) line2 fresh2
 so_far_step {text = text} {given = given} {next = next} {at = at} {line = line} {fresh = fresh} rest b bs p len line2 fresh2 s is cons piece some most small
-  next_is line_is fresh_is len_is =
+    next_is line_is fresh_is len_is =
     let few = few_after p at line (drop at text) s.few_lines some (subst (λ r. len_of p ≤ length r) is most) small in
     let more = so_far_more text given at line fresh b bs p s (sym is ∙ cons) (sym piece) some (subst (λ r. len_of p ≤ length r) is most) few in
     subst (λ g. SoFar text g (at + len) line2 fresh2) (sym next_is)
@@ -139,7 +174,7 @@ none_from_length [] none = refl
 none_from_length (x ∷ xs) none = absurd (omega arith)
 
 pub all_given_at_end : {text : List ℕ} {given : List Token} {at line : ℕ} {fresh : Bool} → SoFar text given at line fresh → length text ≤ at →
-  lexed text ≡ Ok given
+    lexed text ≡ Ok given
 all_given_at_end {text = text} {given = given} {at = at} {line = line} {fresh = fresh} s end =
     let left = length-drop at text in all_given text given at line fresh s (none_from_length (drop at text) (omega arith))
 
@@ -149,6 +184,6 @@ not_left text rest at is none before = let left = length-drop at text in let len
 
 -- the tokens lie in the text
 pub spans_at_end : {text : List ℕ} {given : List Token} {at line : ℕ} {fresh : Bool} → SoFar text given at line fresh → length text ≤ 2 ^ 20 →
-  AreSpans text given
+    AreSpans text given
 spans_at_end {text = text} {given = given} {at = at} {line = line} {fresh = fresh} s small =
-  record { small = small; rise = wider 0 at (length text) given s.spans s.within }
+    record { small = small; rise = wider 0 at (length text) given s.spans s.within }

@@ -1,6 +1,28 @@
 -- The characters so far, and those of what is left.
-use Rattle.std.proofs.Common.{◌≡◌, ℕ, zero, suc, ◌<◌, ◌≤◌, List, [], ◌∷◌, ◌++◌, length, drop, Option, Some, None, refl, ap, sym, ◌∙◌, arith, append_assoc,
-  length-drop}
+use Rattle.std.proofs.Common.{
+  ◌≡◌,
+  ℕ,
+  zero,
+  suc,
+  ◌<◌,
+  ◌≤◌,
+  List,
+  [],
+  ◌∷◌,
+  ◌++◌,
+  length,
+  drop,
+  Option,
+  Some,
+  None,
+  refl,
+  ap,
+  sym,
+  ◌∙◌,
+  arith,
+  append_assoc,
+  length-drop,
+}
 use Rattle.std.proofs.lemmas.List.{append-nil}
 use Rattle.std.specs.Option.{option_map}
 use Rattle.c_lit.specs.Characters.{character, characters, characters_from, before}
@@ -52,7 +74,7 @@ more_from old new new2 body rest rest2 given (suc pieces) b bs c enough new_is s
       enough = omega arith;
       new_is = new2_is ∙ ap (λ n. n ++ c.value ∷ []) new_is ∙ append_assoc old given (c.value ∷ []);
       is = so_far ∙ one_more given rest pieces b bs c is read ∙ ap (λ r. option_map (λ cs. (given ++ c.value ∷ []) ++ cs) (characters_from pieces r))
-        (sym rest2_is);
+          (sym rest2_is);
     }
 
 -- a character more

@@ -18,5 +18,5 @@ pub passed : (radix n i most all : ℕ) (ds : List ℕ) → i < length ds → va
 passed radix n i most all ds there is some past =
     let step = value_grows radix (n * radix + digit_value (get_or ds i 0)) (drop (suc i) ds) some in
     let same : value_from radix (n * radix + digit_value (get_or ds i 0)) (drop (suc i) ds) ≡ all =
-          sym (ap (value_from radix n) (drop-cons ds i 0 there)) ∙ is in
+    sym (ap (value_from radix n) (drop-cons ds i 0 there)) ∙ is in
     omega arith

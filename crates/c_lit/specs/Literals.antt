@@ -1,6 +1,33 @@
 -- Character constants and string literals (6.4.4.4, 6.4.5), without prefix.
-use Rattle.std.specs.Prelude.{◌≡◌, ℕ, ◌-◌, ℤ, pos, ◌-ℤ◌, Bool, false, not, ◌&&◌, ◌||◌, ◌==◌, nat_lt, List, [], ◌∷◌, ◌++◌, length, take, drop, Option, Some,
-  None, Result, Ok, Err, if◌then◌else◌}
+use Rattle.std.specs.Prelude.{
+  ◌≡◌,
+  ℕ,
+  ◌-◌,
+  ℤ,
+  pos,
+  ◌-ℤ◌,
+  Bool,
+  false,
+  not,
+  ◌&&◌,
+  ◌||◌,
+  ◌==◌,
+  nat_lt,
+  List,
+  [],
+  ◌∷◌,
+  ◌++◌,
+  length,
+  take,
+  drop,
+  Option,
+  Some,
+  None,
+  Result,
+  Ok,
+  Err,
+  if◌then◌else◌,
+}
 use Rattle.c_lit.specs.Characters.{character, characters}
 use Rattle.c_lit.specs.declared.character.Character.{Character}
 use Rattle.c_lit.specs.declared.fault.LitFault.{LitFault}

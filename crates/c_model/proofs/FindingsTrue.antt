@@ -1,6 +1,29 @@
 -- The canonical order is permitted from the start on, so what is found first along it is true.
-use Rattle.std.proofs.Common.{◌≡◌, ℕ, zero, suc, ◌+◌, Bool, true, false, if◌then◌else◌, true≢false, List, [], ◌∷◌, length, Option, Some, None, refl, sym, ap,
-  ◌∙◌, subst, arith}
+use Rattle.std.proofs.Common.{
+  ◌≡◌,
+  ℕ,
+  zero,
+  suc,
+  ◌+◌,
+  Bool,
+  true,
+  false,
+  if◌then◌else◌,
+  true≢false,
+  List,
+  [],
+  ◌∷◌,
+  length,
+  Option,
+  Some,
+  None,
+  refl,
+  sym,
+  ap,
+  ◌∙◌,
+  subst,
+  arith,
+}
 use Rattle.ub_base.specs.declared.clause.Clause.{Clause}
 use Rattle.ub_base.specs.declared.clause.Cause.{Cause}
 use Rattle.ub_base.specs.Frames.{Path}
@@ -12,15 +35,90 @@ use Rattle.mem_spec.specs.Script.{Act, Done, Raised, Ended, Outside, Unplaced}
 use Rattle.c_model.specs.Program.{Head, Call, Isolated, Expr, expr, tree_of, Stmt, Function}
 use Rattle.c_model.specs.Values.{Value, later_values}
 use Rattle.c_model.specs.World.{World, Limits}
-use Rattle.c_model.specs.Control.{Todo, Enter, Leave, Unwrite, Begin, Nothing_to_do, Go_to, Go_out, Go_on, Go_back, To_do, Rest, Round, Again, Test,
-  Break_here, ready_work}
+use Rattle.c_model.specs.Control.{
+  Todo,
+  Enter,
+  Leave,
+  Unwrite,
+  Begin,
+  Nothing_to_do,
+  Go_to,
+  Go_out,
+  Go_on,
+  Go_back,
+  To_do,
+  Rest,
+  Round,
+  Again,
+  Test,
+  Break_here,
+  ready_work,
+}
 use Rattle.c_model.specs.Moves.{Move, Stay, Start, End}
-use Rattle.c_model.specs.Steps.{Scene, Local, Begun, Pick, Control, Ev, MayPick, taken_by, is_done, at_node, called_by, own_body, body_frame, start_call,
-  started, move_of, move, next, control_next, control_move}
-use Rattle.c_model.specs.Runs.{Entry, State, Outcome, Refused, Raises, Over, No_row, Ends, Running, within, limited, acted, moved, back, step, start,
-  started_run, main_frame, After, here, last, more, chosen_pick, canonical_pick}
-use Rattle.c_model.specs.FirstFinding.{Pair, Finding, Clean, Undefined, Raced, Order_dependent, Out_of_steps, Not_placed, raced_or, quarrel_or, shown_at,
-  found_from, found_after, first_finding}
+use Rattle.c_model.specs.Steps.{
+  Scene,
+  Local,
+  Begun,
+  Pick,
+  Control,
+  Ev,
+  MayPick,
+  taken_by,
+  is_done,
+  at_node,
+  called_by,
+  own_body,
+  body_frame,
+  start_call,
+  started,
+  move_of,
+  move,
+  next,
+  control_next,
+  control_move,
+}
+use Rattle.c_model.specs.Runs.{
+  Entry,
+  State,
+  Outcome,
+  Refused,
+  Raises,
+  Over,
+  No_row,
+  Ends,
+  Running,
+  within,
+  limited,
+  acted,
+  moved,
+  back,
+  step,
+  start,
+  started_run,
+  main_frame,
+  After,
+  here,
+  last,
+  more,
+  chosen_pick,
+  canonical_pick,
+}
+use Rattle.c_model.specs.FirstFinding.{
+  Pair,
+  Finding,
+  Clean,
+  Undefined,
+  Raced,
+  Order_dependent,
+  Out_of_steps,
+  Not_placed,
+  raced_or,
+  quarrel_or,
+  shown_at,
+  found_from,
+  found_after,
+  first_finding,
+}
 use Rattle.c_model.specs.FirstFinding as finding
 use Rattle.c_model.specs.Claims.{ComesTo, starts, canonical_picks, RaisesAt, RunsOn, PassesLimit, at_start, at_pick}
 use Rattle.c_model.specs.ChoiceLaws.{IsNext, IsClosed}
@@ -192,7 +290,7 @@ module _ (world : World) where
   acted_good : (st : State) (n : ℕ) (a : Act Value) (next' : State) → Good st n → acted world st (pick_of st) a ≡ Running next' → Good next' (suc n)
   acted_good st n (Done v is s) next' g q =
       moved_good st (pick_of st) _ v s _ (suc n) next' g.top g.below (fits st.top st.top.begun) (move_fresh st.top st.top.begun (pick_of st))
-        (ap suc g.counted)
+      (ap suc g.counted)
       (through_limited world.limits _ next' q)
   acted_good st n (Raised c) next' g q = absurd (cc (q))
   acted_good st n (Ended m is s) next' g q = absurd (cc (q))
@@ -216,7 +314,7 @@ module _ (world : World) where
   raised_limited limits (Running s) c trace q = raised_within _ (Running s) c trace q
 
   back_never : (hs : List (Local × Place)) (v : Value) (s : Store) (t : List Entry) (c : Clause) (trace : List Entry) → back world hs v s t ≡ Raises c trace →
-    ⊥
+      ⊥
   back_never [] v s t c trace q = cc (q)
   back_never (h ∷ hs) v s t c trace q = cc (q)
 
@@ -255,14 +353,14 @@ module _ (world : World) where
   -- what a finding says of the picks from this state on, after n picks
   data Told (st : State) (n : ℕ) (f : Finding) : Type 0 where
     raised : (k : ℕ) (c : Clause) (entry : Entry) (before : List Entry) →
-      After world st (canonical_picks world (suc k) (Running st)) (Raises c (entry ∷ before))
+        After world st (canonical_picks world (suc k) (Running st)) (Raises c (entry ∷ before))
         → f ≡ Undefined c entry.path entry.turn entry.place entry.line (n + suc k) → Told st n f
     steps : (k : ℕ) (st' : State) → After world st (canonical_picks world k (Running st)) (Running st') → f ≡ Out_of_steps (n + k) → Told st n f
     limit : (k : ℕ) (cause : Cause) (number : ℕ) → After world st (canonical_picks world (suc k) (Running st)) (Over cause number)
         → f ≡ finding.Outside cause number (n + k) → Told st n f
     clean : (status : ℕ) (output : List ℕ) (picks : ℕ) → f ≡ Clean status output picks → Told st n f
     race : (k : ℕ) (o : Outcome) (p : Pair) → After world st (canonical_picks world (suc k) (Running st)) o → GoesOrEnds o → f ≡ Raced p (n + suc k) →
-      Told st n f
+        Told st n f
     quarrel : (k : ℕ) (o : Outcome) (p : Pair) → After world st (canonical_picks world (suc k) (Running st)) o → GoesOrEnds o
         → f ≡ Order_dependent p (n + suc k) → Told st n f
     not_placed : (picks : ℕ) → f ≡ Not_placed picks → Told st n f
@@ -278,7 +376,7 @@ module _ (world : World) where
       (e ∙ ap (λ z. Undefined c entry.path entry.turn entry.place entry.line z) (plus n (suc k)))
   longer st next' n f m q (steps k st' a e) =
       steps (suc k) st' (subst (λ z. After world st (pick_of st ∷ canonical_picks world k z) (Running st')) (sym q) (extend st next' _ _ m q a))
-        (e ∙ ap Out_of_steps (plus n k))
+      (e ∙ ap Out_of_steps (plus n k))
   longer st next' n f m q (limit k c number a e) =
       limit (suc k) c number
       (subst (λ z. After world st (pick_of st ∷ canonical_picks world (suc k) z) (Over c number)) (sym q) (extend st next' _ _ m q a))
@@ -324,7 +422,7 @@ module _ (world : World) where
   shown st n on No_row g q again = not_placed n refl
   shown st n on (Ends status output trace) g q again =
       in_found st n (Ends status output trace) _ _ _
-        (subst (λ z. After world st (pick_of st ∷ []) z) q (last st (pick_of st) (may st.top st.top.begun g.top))) tt
+      (subst (λ z. After world st (pick_of st ∷ []) z) q (last st (pick_of st) (may st.top st.top.begun g.top))) tt
       (clean status output (suc n) refl)
   shown st n on (Running next') g q again =
       in_found st n (Running next') _ _ _ (subst (λ z. After world st (pick_of st ∷ []) z) q (last st (pick_of st) (may st.top st.top.begun g.top))) tt
@@ -408,7 +506,7 @@ module _ (world : World) where
       record {
         state = st';
         permitted = subst (λ n. ComesTo world input vs (canonical_picks world n (start world input vs)) (Running st')) (sym (from_zero picks k same_picks))
-          (comes input vs st k _ q a);
+            (comes input vs st k _ q a);
       }
   steps_true input vs picks (runs st q (raised k d entry before a e)) = absurd (cc (e))
   steps_true input vs picks (runs st q (limit k d number a e)) = absurd (cc (e))
@@ -496,7 +594,7 @@ quarrels_met world budget input vs pair picks q = quarrel_met world input vs pai
 pub raises_true : (world : World) (budget : ℕ) (input : List ℕ) (vs : List Value) (c : Clause) (path : Path) (turn : ℕ) (at : Option Place) (line picks : ℕ)
     → first_finding world budget input vs ≡ Undefined c path turn at line picks → RaisesAt world input vs c path turn at line picks
 raises_true world budget input vs c path turn at line picks q = raise_true world input vs c path turn at line picks
-  (subst (λ f. First world input vs f) q (first world budget input vs))
+    (subst (λ f. First world input vs f) q (first world budget input vs))
 
 pub runs_true : (world : World) (budget : ℕ) (input : List ℕ) (vs : List Value) (picks : ℕ)
     → first_finding world budget input vs ≡ Out_of_steps picks → RunsOn world input vs picks
@@ -505,4 +603,4 @@ runs_true world budget input vs picks q = steps_true world input vs picks (subst
 pub limits_true : (world : World) (budget : ℕ) (input : List ℕ) (vs : List Value) (c : Cause) (number picks : ℕ)
     → first_finding world budget input vs ≡ finding.Outside c number picks → PassesLimit world input vs c number picks
 limits_true world budget input vs c number picks q = limit_true world input vs c number picks
-  (subst (λ f. First world input vs f) q (first world budget input vs))
+    (subst (λ f. First world input vs f) q (first world budget input vs))

@@ -1,6 +1,39 @@
 -- The frames of a program keep the laws of the frame, of the order and of updates.
-use Rattle.std.proofs.Common.{◌≡◌, ◌≢◌, ℕ, zero, suc, ◌+◌, ◌<◌, ◌≤◌, Bool, true, false, not, ◌&&◌, ◌||◌, ◌==◌, nat_lt, if◌then◌else◌, true≢false, List,
-  Option, Some, None, is_some, refl, sym, ap, ap₂, ◌∙◌, subst, ◌⊎◌, inl, inr, arith}
+use Rattle.std.proofs.Common.{
+  ◌≡◌,
+  ◌≢◌,
+  ℕ,
+  zero,
+  suc,
+  ◌+◌,
+  ◌<◌,
+  ◌≤◌,
+  Bool,
+  true,
+  false,
+  not,
+  ◌&&◌,
+  ◌||◌,
+  ◌==◌,
+  nat_lt,
+  if◌then◌else◌,
+  true≢false,
+  List,
+  Option,
+  Some,
+  None,
+  is_some,
+  refl,
+  sym,
+  ap,
+  ap₂,
+  ◌∙◌,
+  subst,
+  ◌⊎◌,
+  inl,
+  inr,
+  arith,
+}
 use Rattle.std.proofs.lemmas.Bool.Decides.{nat_tests}
 use Rattle.std.specs.List.{list_all}
 use Rattle.ub_base.specs.declared.clause.Kind.{Kind}
@@ -15,13 +48,48 @@ use Rattle.c_model.specs.Program.{Head, Call, Isolated, Expr, expr, tree_of, Stm
 use Rattle.c_model.specs.Values.{Value, later_values}
 use Rattle.c_model.specs.World.{World}
 use Rattle.c_model.specs.Moves.{Move, Stay, Start, End}
-use Rattle.c_model.specs.Steps.{Scene, Local, Begun, Pick, Control, Ev, with_given, taken_by, at_node, called_by, own_body, body_frame, start_call, started,
-  move_of, does, move, next}
+use Rattle.c_model.specs.Steps.{
+  Scene,
+  Local,
+  Begun,
+  Pick,
+  Control,
+  Ev,
+  with_given,
+  taken_by,
+  at_node,
+  called_by,
+  own_body,
+  body_frame,
+  start_call,
+  started,
+  move_of,
+  does,
+  move,
+  next,
+}
 use Rattle.c_model.specs.Moments.{places_from}
 use Rattle.c_model.specs.MachineLaws.{FrameLaws, OrderLaws, UpdateLaws}
 use Rattle.c_model.specs.ChoiceLaws.{IsNext, IsReached, due_now, before_now, update_at}
-use Rattle.c_model.specs.ModelMachine.{StorePart, done_by, gives, start_where, every, nodes, none_open, may_start_in, is_control, opens_in, half, done_in,
-  is_reached, ready_in, beside_in, level_in, frame_machine}
+use Rattle.c_model.specs.ModelMachine.{
+  StorePart,
+  done_by,
+  gives,
+  start_where,
+  every,
+  nodes,
+  none_open,
+  may_start_in,
+  is_control,
+  opens_in,
+  half,
+  done_in,
+  is_reached,
+  ready_in,
+  beside_in,
+  level_in,
+  frame_machine,
+}
 use Rattle.c_model.proofs.LaterPicks.{reached_next, keeps_ready, not_before, before_stays, choices_kept, none_some, same_place-eq}
 use Rattle.c_model.proofs.TwoEvents.{event_same, frames_same, frame_swap}
 use Rattle.c_model.proofs.Updates.{before_kept, halves}
@@ -89,20 +157,20 @@ all_get p k zero h u l r = absurd (omega (arith, l, r))
 all_get p k (suc n) h u l r = elim (same_number u.node k) [
   | inl e ↦ by_kind u.kind refl e
   | inr ne ↦ all_get p (suc k) n (and_r (p (place k Body)) _ (and_r (p (place k Eff)) _ (and_r (p (place k Val)) _ h))) u (omega (arith, l, ne))
-    (omega (arith, r))
+      (omega (arith, r))
 ]
   where
     by_kind : (c : Kind) → u.kind ≡ c → u.node ≡ k → p u ≡ true
     by_kind Val ek en = subst (λ z. p z ≡ true) (sym (λ i. record { node = en i; kind = ek i })) (and_l (p (place k Val)) _ h)
     by_kind Eff ek en = subst (λ z. p z ≡ true) (sym (λ i. record { node = en i; kind = ek i })) (and_l (p (place k Eff)) _ (and_r (p (place k Val)) _ h))
     by_kind Body ek en = subst (λ z. p z ≡ true) (sym (λ i. record { node = en i; kind = ek i }))
-      (and_l (p (place k Body)) _ (and_r (p (place k Eff)) _ (and_r (p (place k Val)) _ h)))
+        (and_l (p (place k Body)) _ (and_r (p (place k Eff)) _ (and_r (p (place k Val)) _ h)))
 
 all_put : (p : Place → Bool) (k n : ℕ) → ((u : Place) → u.node < k + n → p u ≡ true) → list_all p (places_from k n) ≡ true
 all_put p k zero h = refl
 all_put p k (suc n) h =
     and_b _ _ (h (place k Val) (omega arith))
-      (and_b _ _ (h (place k Eff) (omega arith)) (and_b _ _ (h (place k Body) (omega arith)) (all_put p (suc k) n (λ u l. h u (omega (arith, l))))))
+    (and_b _ _ (h (place k Eff) (omega arith)) (and_b _ _ (h (place k Body) (omega arith)) (all_put p (suc k) n (λ u l. h u (omega (arith, l))))))
 
 pub get : (p : Place → Bool) (n : ℕ) → every p n ≡ true → (u : Place) → u.node < n → p u ≡ true
 get p n h u l = all_get p 0 n h u (omega arith) (omega (arith, l))
@@ -112,12 +180,12 @@ all p n h = all_put p 0 n (λ u l. h u (omega (arith, l)))
 
 -- a due event is one of the tree
 root_lt : (b x y : Bool) (ts : Trees) (k : ℕ) (u : Place) → (u.node == k) ≡ b → (y ≡ true → u.node < suc k + sizes ts) →
-  (if b then x else y) ≡ true → u.node < k + suc (sizes ts)
+    (if b then x else y) ≡ true → u.node < k + suc (sizes ts)
 root_lt true x y ts k u e f h = let q = eq_of u.node k e in omega (arith, q)
 root_lt false x y ts k u e f h = let r = f h in omega (arith, r)
 
 among_lt : (b x y : Bool) (t : Tree) (ts : Trees) (m : ℕ) (u : Place) → nat_lt u.node (m + size t) ≡ b → (y ≡ true → u.node < m + size t + sizes ts) →
-  (if b then x else y) ≡ true
+    (if b then x else y) ≡ true
     → u.node < m + (size t + sizes ts)
 among_lt true x y t ts m u e f h = let q = lt_of u.node (m + size t) e in omega (arith, q)
 among_lt false x y t ts m u e f h = let r = f h in omega (arith, r)
@@ -127,10 +195,10 @@ mutual
   due_lt taken (node class ts) k u h = root_lt (u.node == k) _ _ ts k u refl (due_among_lt taken ts class (taken k) 0 (suc k) u) h
 
   due_among_lt : (taken : Taken) (ts : Trees) (class : Class) (c : Option ℕ) (i m : ℕ) (u : Place) → due_among taken class c i m ts u ≡ true →
-    u.node < m + sizes ts
+      u.node < m + sizes ts
   due_among_lt taken none class c i m u h = absurd (true≢false (sym h))
   due_among_lt taken (more t ts) class c i m u h = among_lt (nat_lt u.node (m + size t)) _ _ t ts m u refl
-    (due_among_lt taken ts class c (suc i) (m + size t) u) h
+      (due_among_lt taken ts class c (suc i) (m + size t) u) h
 
 given_back : (e : Begun) (u v : Place) (w : Value) → is_some ((with_given e u w).given v) ≡ true → (u ≡ v) ⊎ (is_some (e.given v) ≡ true)
 given_back e u v w h = go (same_place u v) refl h
@@ -148,21 +216,21 @@ given_on e u v w h = go (same_place u v)
 
 -- that no update is open
 pub none_get : (e : Begun) → none_open e ≡ true → (m : ℕ) → m < nodes e → update_at 0 (tree_of e.root) m ≡ true → is_some (e.given (place m Val)) ≡ true →
-  is_some (e.given (place m Eff)) ≡ true
+    is_some (e.given (place m Eff)) ≡ true
 none_get e h m l up g =
     implied (update_at 0 (tree_of e.root) m && is_some (e.given (place m Val))) _
     (get (λ u. not (update_at 0 (tree_of e.root) u.node && is_some (e.given (place u.node Val))) || is_some (e.given (place u.node Eff))) (nodes e) h
-      (place m Val) l) (and_b _ _ up g)
+    (place m Val) l) (and_b _ _ up g)
 
 pub none_put : (e : Begun) → ((m : ℕ) → m < nodes e → update_at 0 (tree_of e.root) m ≡ true → is_some (e.given (place m Val)) ≡ true →
-  is_some (e.given (place m Eff)) ≡ true) → none_open e ≡ true
+    is_some (e.given (place m Eff)) ≡ true) → none_open e ≡ true
 none_put e h =
     all (λ u. not (update_at 0 (tree_of e.root) u.node && is_some (e.given (place u.node Val))) || is_some (e.given (place u.node Eff))) (nodes e)
     (λ u l. put _ _ (λ a. h u.node l (and_l (update_at 0 (tree_of e.root) u.node) _ a) (and_r (update_at 0 (tree_of e.root) u.node) _ a)))
 
 -- a pick that isn't the value of an update leaves none open
 none_next : (e : Begun) (z : Place) (v : Value) → (is_val z.kind && update_at 0 (tree_of e.root) z.node) ≡ false → none_open e ≡ true →
-  none_open (with_given e z v) ≡ true
+    none_open (with_given e z v) ≡ true
 none_next e z v oq h = none_put (with_given e z v) (λ m l up g. elim (given_back e z (place m Val) v g) [
   | inl q ↦ absurd (let isv : is_val z.kind ≡ true = ap (λ y. is_val y.kind) q in
       let isu : update_at 0 (tree_of e.root) z.node ≡ true = ap (λ y. update_at 0 (tree_of e.root) y.node) q ∙ up in
@@ -173,13 +241,13 @@ none_next e z v oq h = none_put (with_given e z v) (λ m l up g. elim (given_bac
 -- nor do both halves of one
 none_pair : (e : Begun) (z : Place) (v w : Value) → none_open e ≡ true → none_open (with_given (with_given e z v) (place z.node Eff) w) ≡ true
 none_pair e z v w h = none_put (with_given (with_given e z v) (place z.node Eff) w)
-  (λ m l up g. elim (given_back (with_given e z v) (place z.node Eff) (place m Val) w g) [
-  | inl q ↦ absurd (cc (ap (λ y. y.kind) q))
-  | inr g1 ↦ elim (given_back e z (place m Val) v g1) [
-    | inl q ↦ given_at (with_given e z v) (place z.node Eff) (place m Eff) w (ap (λ y. place y.node Eff) q)
-    | inr g2 ↦ given_on (with_given e z v) (place z.node Eff) (place m Eff) w (given_on e z (place m Eff) v (none_get e h m l up g2))
-  ]
-])
+    (λ m l up g. elim (given_back (with_given e z v) (place z.node Eff) (place m Val) w g) [
+      | inl q ↦ absurd (cc (ap (λ y. y.kind) q))
+      | inr g1 ↦ elim (given_back e z (place m Val) v g1) [
+        | inl q ↦ given_at (with_given e z v) (place z.node Eff) (place m Eff) w (ap (λ y. place y.node Eff) q)
+        | inr g2 ↦ given_on (with_given e z v) (place z.node Eff) (place m Eff) w (given_on e z (place m Eff) v (none_get e h m l up g2))
+      ]
+    ])
 
 same_pick : (p q : Pick) → (p ≡ q) ⊎ (p ≢ q)
 same_pick Control Control = inl refl
@@ -234,13 +302,13 @@ module _ (world : World) where
     due = and_l (due f e u) _ h;
     earlier = λ v dv bv.
         implied (due f e v && before f e v u) _ (get (λ v. not (due f e v && before f e v u) || is_some (e.given v)) (nodes e) (and_r (due f e u) _ h) v
-          (in_range f e v dv)) (and_b _ _ dv bv);
+        (in_range f e v dv)) (and_b _ _ dv bv);
   }
 
   pub b_of_reached : (f : Scene) (e : Begun) (u : Place) → Reached f e u → reached_b f e u ≡ true
   b_of_reached f e u r =
       and_b _ _ r.due (all (λ v. not (due f e v && before f e v u) || is_some (e.given v)) (nodes e)
-        (λ v l. put _ _ (λ a. r.earlier v (and_l (due f e v) _ a) (and_r (due f e v) _ a))))
+      (λ v l. put _ _ (λ a. r.earlier v (and_l (due f e v) _ a) (and_r (due f e v) _ a))))
 
   pub next_of : (f : Scene) (e : Begun) (u : Place) → R f (Some e) (Ev u) → Next f e u
   next_of f e u h =
@@ -251,17 +319,17 @@ module _ (world : World) where
   pub closed_of : (f : Scene) (e : Begun) (u : Place) → R f (Some e) (Ev u) → (v : Place) → v.node < nodes e → is_some (e.given v) ≡ true → Reached f e v
   closed_of f e u h v l g =
       reached_of f e v (implied (is_some (e.given v)) _
-        (get (λ v. not (is_some (e.given v)) || reached_b f e v) (nodes e) (and_r (reached_b f e u && not (is_some (e.given u))) _ h) v l) g)
+      (get (λ v. not (is_some (e.given v)) || reached_b f e v) (nodes e) (and_r (reached_b f e u && not (is_some (e.given u))) _ h) v l) g)
 
   pub ready_b : (f : Scene) (e : Begun) (u : Place) → Next f e u → ((v : Place) → v.node < nodes e → is_some (e.given v) ≡ true → Reached f e v) →
-    R f (Some e) (Ev u)
+      R f (Some e) (Ev u)
   ready_b f e u n closed =
       and_b _ _ (and_b _ _ (b_of_reached f e u (record { due = n.due; earlier = n.earlier })) (not_some (e.given u) n.left))
       (all (λ v. not (is_some (e.given v)) || reached_b f e v) (nodes e) (λ v l. put _ _ (λ g. b_of_reached f e v (closed v l g))))
 
   -- what is done after a ready pick was reached
   after_closed : (f : Scene) (e : Begun) (u : Place) (w : Value) → R f (Some e) (Ev u) →
-    (v : Place) → v.node < nodes e → is_some ((with_given e u w).given v) ≡ true → Reached f (with_given e u w) v
+      (v : Place) → v.node < nodes e → is_some ((with_given e u w).given v) ≡ true → Reached f (with_given e u w) v
   after_closed f e u w h v l g = closed_at world f e u w (next_of f e u h) v (closed_of f e u h v l) g
 
   control_clash : (f : Scene) (e : Begun) (v : Place) → R f (Some e) Control → R f (Some e) (Ev v) → ⊥
@@ -278,7 +346,7 @@ module _ (world : World) where
   keeps_in f (Some e) (Ev u) Control w rx rq ne = absurd (control_clash f.scene e u rq rx)
   keeps_in f (Some e) (Ev u) (Ev v) w rx rq ne =
       ready_b f.scene (with_given e u w) v (keeps_ready world f.scene e u v w (next_of f.scene e u rx) (next_of f.scene e v rq) (λ q. ne (ap Ev q)))
-        (after_closed f.scene e u w rx)
+      (after_closed f.scene e u w rx)
 
   swaps_in : (f : Local) (o : Option Begun) (x q : Pick) (w v : Value) → R f.scene o x → R f.scene o q → x ≢ q
       → nxt (nxt f o x w) (nxt f o x w).begun q v ≡ nxt (nxt f o q v) (nxt f o q v).begun x w
@@ -356,7 +424,7 @@ module _ (world : World) where
   L f o p q = level_in world f o p q ≡ true
 
   level_put : (f : Scene) (e : Begun) (u v : Place) → Reached f e u → Reached f e v → before f e u v ≡ false → before f e v u ≡ false →
-    L f (Some e) (Ev u) (Ev v)
+      L f (Some e) (Ev u) (Ev v)
   level_put f e u v ru rv b c = and_b _ _ (and_b _ _ (b_of_reached f e u ru) (b_of_reached f e v rv)) (and_b _ _ (to_not _ b) (to_not _ c))
 
   reached_ready : (f : Scene) (e : Begun) (u : Place) → R f (Some e) (Ev u) → Reached f e u
@@ -371,10 +439,10 @@ module _ (world : World) where
   level_ready_in f (Some e) (Ev u) Control rp rq ne = absurd (control_clash f e u rq rp)
   level_ready_in f (Some e) (Ev u) (Ev v) rp rq ne =
       level_put f e u v (reached_ready f e u rp) (reached_ready f e v rq) (not_before world f e u v (next_of f e u rp) (next_of f e v rq))
-        (not_before world f e v u (next_of f e v rq) (next_of f e u rp))
+      (not_before world f e v u (next_of f e v rq) (next_of f e u rp))
 
   level_next_in : (f : Local) (o : Option Begun) (p q x : Pick) (w : Value) → L f.scene o p q → R f.scene o x → is_control x ≡ false →
-    L (nxt f o x w).scene (nxt f o x w).begun p q
+      L (nxt f o x w).scene (nxt f o x w).begun p q
   level_next_in f None p q x w l rx cx = absurd (no_test l)
   level_next_in f (Some e) Control q x w l rx cx = absurd (no_test l)
   level_next_in f (Some e) (Ev u) Control x w l rx cx = absurd (no_test l)
@@ -397,7 +465,7 @@ module _ (world : World) where
   level_beside_in f (Some e) (Ev u) (Ev v) l = and_r (reached_b f e u && reached_b f e v) _ l
 
   beside_before_in : (f : Local) (o : Option Begun) (p x q : Pick) (v : Value) → R f.scene o q → R f.scene o x → x ≢ q →
-    B (nxt f o q v).scene (nxt f o q v).begun p x → B f.scene o p x
+      B (nxt f o q v).scene (nxt f o q v).begun p x → B f.scene o p x
   beside_before_in f None p x (Ev u) v rq rx ne b = absurd (no_test rq)
   beside_before_in f None p (Ev u) Control v rq rx ne b = absurd (no_test rx)
   beside_before_in f None p Control Control v rq rx ne b = absurd (ne refl)
@@ -419,7 +487,7 @@ module _ (world : World) where
   done_next_in f (Some e) (Ev u) v r c = and_b _ _ (given_at e u u v refl) (lt_lt u.node (nodes e) (in_range f.scene e u (next_of f.scene e u r).due))
 
   done_stays_in : (f : Local) (o : Option Begun) (p x : Pick) (w : Value) → done_in o p ≡ true → R f.scene o x → is_control x ≡ false →
-    done_in (nxt f o x w).begun p ≡ true
+      done_in (nxt f o x w).begun p ≡ true
   done_stays_in f o p Control w d r c = absurd (true≢false c)
   done_stays_in f None p (Ev z) w d r c = absurd (no_test r)
   done_stays_in f (Some e) Control (Ev z) w d r c = refl
@@ -439,7 +507,7 @@ module _ (world : World) where
       and_b _ _ (and_b _ _ (b_of_reached f e u ru) (b_of_reached f e v (reached_ready f e v r))) b
 
   start_next_in : (f : Local) (o : Option Begun) (x q : Pick) (v : Value) → opens_in o q ≡ false → R f.scene o x → R f.scene o q → x ≢ q →
-    may_start_in o x ≡ true → may_start_in (nxt f o q v).begun x ≡ true
+      may_start_in o x ≡ true → may_start_in (nxt f o q v).begun x ≡ true
   start_next_in f None x (Ev u) v oq rx rq ne ok = absurd (no_test rq)
   start_next_in f None (Ev u) Control v oq rx rq ne ok = absurd (no_test rx)
   start_next_in f None Control Control v oq rx rq ne ok = absurd (ne refl)
@@ -463,7 +531,7 @@ module _ (world : World) where
       val_kind Body h = absurd (cc)
 
   half_at : (f : Scene) (e : Begun) (m : ℕ) (v : Value) → update_at 0 (tree_of e.root) m ≡ true → R f (Some e) (Ev (place m Val)) →
-    R f (Some (with_given e (place m Val) v)) (Ev (place m Eff))
+      R f (Some (with_given e (place m Val) v)) (Ev (place m Eff))
   half_at f e m v up r =
       let n = next_of f e (place m Val) r in
       ready_b f (with_given e (place m Val) v) (place m Eff)
@@ -471,7 +539,7 @@ module _ (world : World) where
       (after_closed f e (place m Val) v r)
 
   half_ready_in : (f : Local) (o : Option Begun) (q : Pick) (v : Value) → R f.scene o q → opens_in o q ≡ true →
-    R (nxt f o q v).scene (nxt f o q v).begun (half q)
+      R (nxt f o q v).scene (nxt f o q v).begun (half q)
   half_ready_in f None q v rq oq = absurd (no_test oq)
   half_ready_in f (Some e) Control v rq oq = absurd (no_test oq)
   half_ready_in f (Some e) (Ev u) v rq oq =
@@ -486,7 +554,7 @@ module _ (world : World) where
       let n = next_of f e (place u.node Val) (subst (λ z. R f (Some e) (Ev z)) (val_is e u oq) rq) in
       none_some (e.given (place u.node Val)) n.left
       ((next_of f e (place u.node Eff) rt).earlier (place u.node Val) n.due
-        (halves (taken_by world f e) u.node (tree_of e.root) 0 (and_r (is_val u.kind) _ oq)))
+      (halves (taken_by world f e) u.node (tree_of e.root) 0 (and_r (is_val u.kind) _ oq)))
 
   half_event_in : (o : Option Begun) (q : Pick) → opens_in o q ≡ true → is_control (half q) ≡ false
   half_event_in o Control h = absurd (no_opens o h)
@@ -520,7 +588,7 @@ module _ (world : World) where
       true≢false (sym hu ∙ not_of _ (and_l (not (before f.scene (with_given e u v) u (place u.node Eff))) _ b))
 
   start_pair_in : (f : Local) (o : Option Begun) (x q : Pick) (v w : Value) → R f.scene o x → R f.scene o q → opens_in o q ≡ true → x ≢ q →
-    may_start_in o x ≡ true
+      may_start_in o x ≡ true
       → may_start_in (nxt (nxt f o q v) (nxt f o q v).begun (half q) w).begun x ≡ true
   start_pair_in f None x q v w rx rq oq ne ok = absurd (no_test oq)
   start_pair_in f (Some e) x Control v w rx rq oq ne ok = absurd (no_test oq)

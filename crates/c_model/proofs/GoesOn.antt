@@ -1,6 +1,40 @@
 -- Where all that is done was reached, the canonical order takes a permitted event, until all due events are done.
-use Rattle.std.proofs.Common.{◌≡◌, ◌≤◌, ◌<◌, ◌⊎◌, ℕ, suc, ◌+◌, Bool, true, false, not, ◌&&◌, ◌||◌, ◌==◌, nat_lt, if◌then◌else◌, true≢false, List, [], ◌∷◌,
-  ◌++◌, Option, Some, None, is_some, is_none, refl, sym, ap, ◌∙◌, subst, inl, inr, arith}
+use Rattle.std.proofs.Common.{
+  ◌≡◌,
+  ◌≤◌,
+  ◌<◌,
+  ◌⊎◌,
+  ℕ,
+  suc,
+  ◌+◌,
+  Bool,
+  true,
+  false,
+  not,
+  ◌&&◌,
+  ◌||◌,
+  ◌==◌,
+  nat_lt,
+  if◌then◌else◌,
+  true≢false,
+  List,
+  [],
+  ◌∷◌,
+  ◌++◌,
+  Option,
+  Some,
+  None,
+  is_some,
+  is_none,
+  refl,
+  sym,
+  ap,
+  ◌∙◌,
+  subst,
+  inl,
+  inr,
+  arith,
+}
 use Rattle.std.specs.List.{list_all}
 use Rattle.std.proofs.lemmas.Bool.Decides.{nat_tests}
 use Rattle.ub_base.specs.declared.clause.Kind.TheVariants.{Val, Eff}
@@ -101,7 +135,7 @@ first_of test [] v h = absurd (cc)
 first_of test (w ∷ ws) v h = go (test w) refl h (first_of test ws v)
   where
     go : (b : Bool) → test w ≡ b → (if b then Some w else first_place test ws) ≡ Some v → (first_place test ws ≡ Some v → First test ws v) →
-      First test (w ∷ ws) v
+        First test (w ∷ ws) v
     go true e k again = first_here test w v ws e (some_inj w v k)
     go false e k again = first_later test w v ws e (again k)
 
@@ -195,7 +229,7 @@ abbrev mutual
       low = r.low;
       high = omega (arith, r.high);
       update = lower_number r.number (m + size t) (nat_lt r.number (m + size t)) (update_at m t r.number) (update_among (m + size t) ts r.number) r.high
-        refl ∙ r.update;
+          refl ∙ r.update;
       value = r.value;
       effect = r.effect;
     })
@@ -204,7 +238,7 @@ abbrev mutual
       low = omega (arith, r.low);
       high = omega (arith, r.high);
       update = higher_number r.number (m + size t) (nat_lt r.number (m + size t)) (update_at m t r.number) (update_among (m + size t) ts r.number) r.low
-        refl ∙ r.update;
+          refl ∙ r.update;
       value = r.value;
       effect = r.effect;
     })
@@ -262,7 +296,7 @@ module _ (world : World) (f : Scene) (e : Begun) where
     effect_may o =
         let r = closed (place o.number Val) o.value in
         let step : (w : Place) → has all w ≡ true → (done w || not (is_before T 0 root w (place o.number Eff))) ≡ true = λ w hw.
-              before_it o r w hw (is_before T 0 root w (place o.number Eff)) refl in
+        before_it o r w hw (is_before T 0 root w (place o.number Eff)) refl in
         and_b _ _
         (and_b _ _ (due_halves T o.number root 0 o.update r.due)
         (and_b _ _ (to_not _ o.effect) (all_of (λ w. done w || not (is_before T 0 root w (place o.number Eff))) all step)))

@@ -1,6 +1,27 @@
 -- The two halves of an update, in a full expression of which some events are done.
-use Rattle.std.proofs.Common.{◌≡◌, ◌≢◌, ℕ, Bool, true, false, ◌&&◌, if◌then◌else◌, true≢false, Option, Some, None, is_some, refl, sym, ap, ◌∙◌, subst, inl,
-  inr, arith}
+use Rattle.std.proofs.Common.{
+  ◌≡◌,
+  ◌≢◌,
+  ℕ,
+  Bool,
+  true,
+  false,
+  ◌&&◌,
+  if◌then◌else◌,
+  true≢false,
+  Option,
+  Some,
+  None,
+  is_some,
+  refl,
+  sym,
+  ap,
+  ◌∙◌,
+  subst,
+  inl,
+  inr,
+  arith,
+}
 use Rattle.std.proofs.lemmas.Bool.Decides.{nat_tests}
 use Rattle.ub_base.specs.declared.clause.Kind.{Kind}
 use Rattle.ub_base.specs.declared.clause.Kind.TheVariants.{Val, Eff, Body}
@@ -47,7 +68,7 @@ module _ (world : World) where
       go false eq = reached_next world sc e u v w n (closed (subst (λ b. is_some (if b then Some w else e.given v) ≡ true) eq h))
 
   module _ (sc : Scene) (e : Begun) (m : ℕ) (w : Value) (up : update_at 0 (tree_of e.root) m ≡ true) (n : IsNext world sc e (place m Val))
-    (closed : is_some (e.given (place m Eff)) ≡ true → IsReached world sc e (place m Eff)) where
+      (closed : is_some (e.given (place m Eff)) ≡ true → IsReached world sc e (place m Eff)) where
     abbrev T : Taken
     T = taken_by world sc e
 

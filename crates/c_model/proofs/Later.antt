@@ -1,6 +1,35 @@
 -- A later choice puts nothing new before an event that was reached.
-use Rattle.std.proofs.Common.{◌≡◌, ℕ, suc, ◌+◌, ◌<◌, ◌≤◌, Bool, true, false, not, ◌&&◌, ◌||◌, ◌==◌, nat_lt, if◌then◌else◌, is_some, Option, Some, None, refl,
-  sym, ap, subst, ◌∙◌, ◌⊎◌, inl, inr, true≢false, arith}
+use Rattle.std.proofs.Common.{
+  ◌≡◌,
+  ℕ,
+  suc,
+  ◌+◌,
+  ◌<◌,
+  ◌≤◌,
+  Bool,
+  true,
+  false,
+  not,
+  ◌&&◌,
+  ◌||◌,
+  ◌==◌,
+  nat_lt,
+  if◌then◌else◌,
+  is_some,
+  Option,
+  Some,
+  None,
+  refl,
+  sym,
+  ap,
+  subst,
+  ◌∙◌,
+  ◌⊎◌,
+  inl,
+  inr,
+  true≢false,
+  arith,
+}
 use Rattle.ub_base.specs.declared.clause.Kind.{Kind}
 use Rattle.ub_base.specs.declared.clause.Kind.TheVariants.{Val, Eff, Body}
 use Rattle.c_typed.specs.declared.tree.Place.{Place}
@@ -29,7 +58,7 @@ goes_plain Choice c c' i h = absurd (true≢false h)
 goes_plain _ c c' i h = refl
 
 lifts_plain : (class : Class) (c c' : Option ℕ) (i : ℕ) (last : Bool) (kind : Kind) → is_choice class ≡ false →
-  lifts class c' i last kind ≡ lifts class c i last kind
+    lifts class c' i last kind ≡ lifts class c i last kind
 lifts_plain Choice c c' i last kind h = absurd (true≢false h)
 lifts_plain _ c c' i last Val h = refl
 lifts_plain _ c c' i last Eff h = refl
@@ -40,8 +69,12 @@ across_plain Choice c c' i j h = absurd (true≢false h)
 across_plain _ c c' i j h = refl
 
 same_plain : (class : Class) (c c' : Option ℕ) → is_choice class ≡ false → Same class c c'
-same_plain class c c' h = record { goes_same = λ i. goes_plain class c c' i h; lifts_same = λ i last kind. lifts_plain class c c' i last kind h; across_same =
-  λ i j. across_plain class c c' i j h }
+same_plain class c c' h = record {
+  goes_same = λ i. goes_plain class c c' i h;
+  lifts_same = λ i last kind. lifts_plain class c c' i last kind h;
+  across_same =
+      λ i j. across_plain class c c' i j h;
+}
 
 crosses_same : (ts : Trees) (class : Class) (c c' : Option ℕ) (i j m b : ℕ) → Same class c c' → crosses class c' i j m ts b ≡ crosses class c i j m ts b
 crosses_same none class c c' i j m b s = refl
@@ -95,7 +128,7 @@ module _ (taken later : Taken) (kept : (n j : ℕ) → taken n ≡ Some j → la
   change class k = go (taken k) (later k) refl refl
     where
       by_class : (b : Bool) (j : ℕ) → is_choice class ≡ b → Same class None (Some j) ⊎
-        ((is_choice class ≡ true) × (no_choice ≡ None) × (is_some (Some j) ≡ true))
+          ((is_choice class ≡ true) × (no_choice ≡ None) × (is_some (Some j) ≡ true))
       by_class true j h = inr (h, refl, refl)
       by_class false j h = inl (same_plain class None (Some j) h)
 
@@ -105,7 +138,7 @@ module _ (taken later : Taken) (kept : (n j : ℕ) → taken n ≡ Some j → la
       go None (Some j) e f = by_class (is_choice class) j refl
 
   abbrev new_first : (class : Class) (c : Option ℕ) (i m : ℕ) (t : Tree) (ts : Trees) → goes class c i ≡ true → New m (size t) (due_in taken m t) →
-    New m (sizes (more t ts)) (due_among taken class c i m (more t ts))
+      New m (sizes (more t ts)) (due_among taken class c i m (more t ts))
   new_first class c i m t ts g o = record {
     number = o.number;
     low = o.low;
@@ -116,7 +149,7 @@ module _ (taken later : Taken) (kept : (n j : ℕ) → taken n ≡ Some j → la
   }
 
   abbrev new_rest : (class : Class) (c : Option ℕ) (i m : ℕ) (t : Tree) (ts : Trees) →
-    New (m + size t) (sizes ts) (due_among taken class c (suc i) (m + size t) ts) → New m (sizes (more t ts)) (due_among taken class c i m (more t ts))
+      New (m + size t) (sizes ts) (due_among taken class c (suc i) (m + size t) ts) → New m (sizes (more t ts)) (due_among taken class c i m (more t ts))
   new_rest class c i m t ts o = record {
     number = o.number;
     low = (let h = o.low in omega (arith, h));
@@ -127,7 +160,7 @@ module _ (taken later : Taken) (kept : (n j : ℕ) → taken n ≡ Some j → la
   }
 
   abbrev new_root : (class : Class) (k : ℕ) (ts : Trees) → New (suc k) (sizes ts) (due_among taken class (taken k) 0 (suc k) ts) →
-    New k (size (node class ts)) (due_in taken k (node class ts))
+      New k (size (node class ts)) (due_in taken k (node class ts))
   new_root class k ts o = record {
     number = o.number;
     low = (let h = o.low in omega (arith, h));
@@ -138,7 +171,7 @@ module _ (taken later : Taken) (kept : (n j : ℕ) → taken n ≡ Some j → la
   }
 
   abbrev new_here : (class : Class) (k : ℕ) (ts : Trees) → 0 < sizes ts → is_choice class ≡ true → taken k ≡ None → is_some (later k) ≡ true →
-    New k (size (node class ts)) (due_in taken k (node class ts))
+      New k (size (node class ts)) (due_in taken k (node class ts))
   new_here class k ts p h e f = record {
     number = k;
     low = omega arith;
@@ -149,27 +182,27 @@ module _ (taken later : Taken) (kept : (n j : ℕ) → taken n ≡ Some j → la
   }
 
   down_first : (class : Class) (c : Option ℕ) (i m : ℕ) (t : Tree) (ts : Trees) (x : Place) → x.node < m + size t →
-    due_among taken class c i m (more t ts) x ≡ true → due_in taken m t x ≡ true
+      due_among taken class c i m (more t ts) x ≡ true → due_in taken m t x ≡ true
   down_first class c i m t ts x l d = and_r (goes class c i) _ (sym (if_true _ _ _ (lt_lt x.node (m + size t) l)) ∙ d)
 
   newly_root : (b : Bool) (class : Class) (k : ℕ) (ts : Trees) (w : Place) → Change class k
       → (Same class (taken k) (later k) → due_among later class (later k) 0 (suc k) ts w ≡ true → (due_among taken class (taken k) 0 (suc k) ts w ≡ true) ⊎
-        New (suc k) (sizes ts) (due_among taken class (taken k) 0 (suc k) ts))
+      New (suc k) (sizes ts) (due_among taken class (taken k) 0 (suc k) ts))
       → (if b then has_kind (kinds_of class) w.kind else due_among later class (later k) 0 (suc k) ts w) ≡ true
       → ((if b then has_kind (kinds_of class) w.kind else due_among taken class (taken k) 0 (suc k) ts w) ≡ true) ⊎
-        New k (size (node class ts)) (due_in taken k (node class ts))
+      New k (size (node class ts)) (due_in taken k (node class ts))
   newly_root true class k ts w ch f h = inl h
   newly_root false class k ts w (inl s) f h = elim (f s h) [ inl d ↦ inl d | inr o ↦ inr (new_root class k ts o) ]
   newly_root false class k ts w (inr s) f h = let r = among_range later class (later k) ts 0 (suc k) w h in inr
-    (new_here class k ts (omega (arith, r.0, r.1)) s.0 s.1 s.2)
+      (new_here class k ts (omega (arith, r.0, r.1)) s.0 s.1 s.2)
 
   newly_step : (b : Bool) (class : Class) (c c' : Option ℕ) (i m : ℕ) (t : Tree) (ts : Trees) (w : Place) → Same class c c'
       → (due_in later m t w ≡ true → (due_in taken m t w ≡ true) ⊎ New m (size t) (due_in taken m t))
       → (due_among later class c' (suc i) (m + size t) ts w ≡ true → (due_among taken class c (suc i) (m + size t) ts w ≡ true) ⊎
-        New (m + size t) (sizes ts) (due_among taken class c (suc i) (m + size t) ts))
+      New (m + size t) (sizes ts) (due_among taken class c (suc i) (m + size t) ts))
       → (if b then goes class c' i && due_in later m t w else due_among later class c' (suc i) (m + size t) ts w) ≡ true
       → ((if b then goes class c i && due_in taken m t w else due_among taken class c (suc i) (m + size t) ts w) ≡ true) ⊎
-        New m (sizes (more t ts)) (due_among taken class c i m (more t ts))
+      New m (sizes (more t ts)) (due_among taken class c i m (more t ts))
   newly_step true class c c' i m t ts w s f g h =
       let p = sym (s.goes_same i) ∙ and_l _ _ h in
       elim (f (and_r (goes class c' i) _ h)) [ inl d ↦ inl (and_b _ _ p d) | inr o ↦ inr (new_first class c i m t ts p o) ]
@@ -180,14 +213,14 @@ module _ (taken later : Taken) (kept : (n j : ℕ) → taken n ≡ Some j → la
     newly (node class ts) k w h = newly_root (w.node == k) class k ts w (change class k) (λ s. newly_among ts class (taken k) (later k) 0 (suc k) w s) h
 
     newly_among : (ts : Trees) (class : Class) (c c' : Option ℕ) (i m : ℕ) (w : Place) → Same class c c' → due_among later class c' i m ts w ≡ true →
-      (due_among taken class c i m ts w ≡ true) ⊎ New m (sizes ts) (due_among taken class c i m ts)
+        (due_among taken class c i m ts w ≡ true) ⊎ New m (sizes ts) (due_among taken class c i m ts)
     newly_among none class c c' i m w s h = inl h
     newly_among (more t ts) class c c' i m w s h = newly_step (nat_lt w.node (m + size t)) class c c' i m t ts w s (newly t m w)
-      (newly_among ts class c c' (suc i) (m + size t) w s) h
+        (newly_among ts class c c' (suc i) (m + size t) w s) h
 
   abbrev Rise : Trees → Class → Option ℕ → ℕ → ℕ → Place → Kind → Type 0
   Rise ts class c i m w kind = Old (rises taken class c i m ts w kind) (due_among taken class c i m ts w) m (sizes ts) (due_among taken class c i m ts)
-    (λ x. rises taken class c i m ts x kind)
+      (λ x. rises taken class c i m ts x kind)
 
   abbrev Value : Tree → ℕ → Place → Type 0
   Value t k w = Old (to_val taken k t w) (due_in taken k t w) k (size t) (due_in taken k t) (λ x. to_val taken k t x)
@@ -197,17 +230,17 @@ module _ (taken later : Taken) (kept : (n j : ℕ) → taken n ≡ Some j → la
 
   abbrev Among : Trees → Class → Option ℕ → ℕ → ℕ → Place → Place → Type 0
   Among ts class c i m w p = Old (between taken class c i m ts w p) (due_among taken class c i m ts w) m (sizes ts) (due_among taken class c i m ts)
-    (λ x. between taken class c i m ts x p)
+      (λ x. between taken class c i m ts x p)
 
   rise_step : (b : Bool) (class : Class) (c c' : Option ℕ) (i m : ℕ) (t : Tree) (ts : Trees) (w : Place) (kind : Kind) → Same class c c'
       → (due_in later m t w ≡ true → to_val later m t w ≡ true → Value t m w)
       → (due_among later class c' (suc i) (m + size t) ts w ≡ true → rises later class c' (suc i) (m + size t) ts w kind ≡ true →
-        Rise ts class c (suc i) (m + size t) w kind)
+      Rise ts class c (suc i) (m + size t) w kind)
       → (if b then goes class c' i && due_in later m t w else due_among later class c' (suc i) (m + size t) ts w) ≡ true
       → (if b then lifts class c' i (is_last ts) kind || (not (is_body kind) && (not (is_quiet t) && to_val later m t w)) else rises later class c' (suc i)
-        (m + size t) ts w kind) ≡ true
+      (m + size t) ts w kind) ≡ true
       → Old (if b then lifts class c i (is_last ts) kind || (not (is_body kind) && (not (is_quiet t) && to_val taken m t w)) else rises taken class c (suc i)
-        (m + size t) ts w kind)
+      (m + size t) ts w kind)
       (if b then goes class c i && due_in taken m t w else due_among taken class c (suc i) (m + size t) ts w)
       m (sizes (more t ts)) (due_among taken class c i m (more t ts)) (λ x. rises taken class c i m (more t ts) x kind)
   rise_step true class c c' i m t ts w kind s f g d h =
@@ -230,7 +263,7 @@ module _ (taken later : Taken) (kept : (n j : ℕ) → taken n ≡ Some j → la
                 new_first class c i m t ts p o.0,
                 λ dx. if_true _ _ _ (lt_lt (suc o.0.number) (m + size t) o.0.high)
                     ∙ or_b (lifts class c i (is_last ts) kind) _
-                      (and_b _ _ nb (and_b _ _ nq (o.1 (down_first class c i m t ts (place (suc o.0.number) Val) o.0.high dx)))),
+                    (and_b _ _ nb (and_b _ _ nq (o.1 (down_first class c i m t ts (place (suc o.0.number) Val) o.0.high dx)))),
               )
             ])
       ]
@@ -249,7 +282,7 @@ module _ (taken later : Taken) (kept : (n j : ℕ) → taken n ≡ Some j → la
   quiet_of (node class ts) m d = loud class (sym (if_true (m == m) _ _ (eq_eq m m refl)) ∙ d)
 
   test_rises : (ts : Trees) (class : Class) (k : ℕ) → 0 < sizes ts → due_in taken k (node class ts) (place (suc k) Val) ≡ true →
-    rises taken class (taken k) 0 (suc k) ts (place (suc k) Val) Val ≡ true
+      rises taken class (taken k) 0 (suc k) ts (place (suc k) Val) Val ≡ true
   test_rises none class k p d = absurd (omega (arith, p))
   test_rises (more t ts) class k p d =
       let z = size_pos t in
@@ -266,7 +299,7 @@ module _ (taken later : Taken) (kept : (n j : ℕ) → taken n ≡ Some j → la
 
   val_root : (b : Bool) (class : Class) (ts : Trees) (k : ℕ) (w : Place) → Change class k
       → (Same class (taken k) (later k) → due_among later class (later k) 0 (suc k) ts w ≡ true → rises later class (later k) 0 (suc k) ts w Val ≡ true →
-        Rise ts class (taken k) 0 (suc k) w Val)
+      Rise ts class (taken k) 0 (suc k) w Val)
       → (if b then has_kind (kinds_of class) w.kind else due_among later class (later k) 0 (suc k) ts w) ≡ true
       → (if b then is_val w.kind || own_rule class w.kind Val else rises later class (later k) 0 (suc k) ts w Val) ≡ true
       → Old (if b then is_val w.kind || own_rule class w.kind Val else rises taken class (taken k) 0 (suc k) ts w Val)
@@ -275,32 +308,38 @@ module _ (taken later : Taken) (kept : (n j : ℕ) → taken n ≡ Some j → la
   val_root true class ts k w ch f d h = inl (h, d)
   val_root false class ts k w (inl s) f d h = elim (f s d h) [
     | inl e ↦ inl e
-    | inr o ↦ inr (new_root class k ts o.0, λ dx. if_false _ _ _ (not_root k o.0.number o.0.low) ∙ o.1
-      (sym (if_false _ _ _ (not_root k o.0.number o.0.low)) ∙ dx))
+    | inr o ↦ inr (
+      new_root class k ts o.0,
+      λ dx. if_false _ _ _ (not_root k o.0.number o.0.low) ∙ o.1
+          (sym (if_false _ _ _ (not_root k o.0.number o.0.low)) ∙ dx),
+    )
   ]
   val_root false class ts k w (inr s) f d h =
       let p = size_of class (later k) ts (suc k) w d in
       inr (new_here class k ts p s.0 s.1 s.2, λ dx. if_false (suc k == k) _ _ (ne_eq (suc k) k (λ e. omega (arith, e))) ∙ test_rises ts class k p dx)
 
   between_step : (bw bp : Bool) (class : Class) (c c' : Option ℕ) (i m : ℕ) (t : Tree) (ts : Trees) (w p : Place) → nat_lt p.node (m + size t) ≡ bp →
-    Same class c c'
+      Same class c c'
       → (due_in taken m t p ≡ true → due_in later m t w ≡ true → is_before later m t w p ≡ true → First t m w p)
       → (due_among taken class c (suc i) (m + size t) ts p ≡ true → due_among later class c' (suc i) (m + size t) ts w ≡ true →
-        between later class c' (suc i) (m + size t) ts w p ≡ true → Among ts class c (suc i) (m + size t) w p)
+      between later class c' (suc i) (m + size t) ts w p ≡ true → Among ts class c (suc i) (m + size t) w p)
       → (if bp then goes class c i && due_in taken m t p else due_among taken class c (suc i) (m + size t) ts p) ≡ true
       → (if bw then goes class c' i && due_in later m t w else due_among later class c' (suc i) (m + size t) ts w) ≡ true
       → (if bw then (if bp then is_before later m t w p else crosses class c' i (suc i) (m + size t) ts p.node)
-        else (if bp then false else between later class c' (suc i) (m + size t) ts w p)) ≡ true
+      else (if bp then false else between later class c' (suc i) (m + size t) ts w p)) ≡ true
       → Old (if bw then (if bp then is_before taken m t w p else crosses class c i (suc i) (m + size t) ts p.node)
-        else (if bp then false else between taken class c (suc i) (m + size t) ts w p))
+      else (if bp then false else between taken class c (suc i) (m + size t) ts w p))
       (if bw then goes class c i && due_in taken m t w else due_among taken class c (suc i) (m + size t) ts w)
       m (sizes (more t ts)) (due_among taken class c i m (more t ts)) (λ x. between taken class c i m (more t ts) x p)
   between_step true true class c c' i m t ts w p ep s f g dp d h =
       let q = sym (s.goes_same i) ∙ and_l _ _ d in
       elim (f (and_r (goes class c i) _ dp) (and_r (goes class c' i) _ d) h) [
         | inl e ↦ inl (e.0, and_b _ _ q e.1)
-        | inr o ↦ inr (new_first class c i m t ts q o.0, λ dx. if_true _ _ _ (lt_lt (suc o.0.number) (m + size t) o.0.high) ∙
-          (if_true _ _ _ ep ∙ o.1 (down_first class c i m t ts (place (suc o.0.number) Val) o.0.high dx)))
+        | inr o ↦ inr (
+          new_first class c i m t ts q o.0,
+          λ dx. if_true _ _ _ (lt_lt (suc o.0.number) (m + size t) o.0.high) ∙
+              (if_true _ _ _ ep ∙ o.1 (down_first class c i m t ts (place (suc o.0.number) Val) o.0.high dx)),
+        )
       ]
   between_step true false class c c' i m t ts w p ep s f g dp d h =
       let q = sym (s.goes_same i) ∙ and_l _ _ d in
@@ -323,32 +362,35 @@ module _ (taken later : Taken) (kept : (n j : ℕ) → taken n ≡ Some j → la
   none_due (more t ts) class i m p h d = step (nat_lt p.node (m + size t)) (none_due ts class (suc i) (m + size t) p h) d
     where
       step : (b : Bool) → (due_among taken class None (suc (suc i)) (m + size t) ts p ≡ true → ⊥) →
-        (if b then goes class None (suc i) && due_in taken m t p else due_among taken class None (suc (suc i)) (m + size t) ts p) ≡ true → ⊥
+          (if b then goes class None (suc i) && due_in taken m t p else due_among taken class None (suc (suc i)) (m + size t) ts p) ≡ true → ⊥
       step true f d = choice_goes class i h (and_l _ _ d)
       step false f d = f d
 
   -- below a choice that is still open only its first operand is due
   open_step : (bw bp : Bool) (class : Class) (c c' : Option ℕ) (m : ℕ) (t : Tree) (ts : Trees) (w p : Place) → nat_lt p.node (m + size t) ≡ bp →
-    is_choice class ≡ true → c ≡ None
+      is_choice class ≡ true → c ≡ None
       → (due_in taken m t p ≡ true → due_in later m t w ≡ true → is_before later m t w p ≡ true → First t m w p)
       → (if bp then goes class c 0 && due_in taken m t p else due_among taken class c 1 (m + size t) ts p) ≡ true
       → (if bw then goes class c' 0 && due_in later m t w else due_among later class c' 1 (m + size t) ts w) ≡ true
       → (if bw then (if bp then is_before later m t w p else crosses class c' 0 1 (m + size t) ts p.node)
-        else (if bp then false else between later class c' 1 (m + size t) ts w p)) ≡ true
+      else (if bp then false else between later class c' 1 (m + size t) ts w p)) ≡ true
       → Old (if bw then (if bp then is_before taken m t w p else crosses class c 0 1 (m + size t) ts p.node)
-        else (if bp then false else between taken class c 1 (m + size t) ts w p))
+      else (if bp then false else between taken class c 1 (m + size t) ts w p))
       (if bw then goes class c 0 && due_in taken m t w else due_among taken class c 1 (m + size t) ts w)
       m (sizes (more t ts)) (due_among taken class c 0 m (more t ts)) (λ x. between taken class c 0 m (more t ts) x p)
   open_step true true class c c' m t ts w p ep ic e f dp d h =
       let q = and_l (goes class c 0) _ dp in
       elim (f (and_r (goes class c 0) _ dp) (and_r (goes class c' 0) _ d) h) [
         | inl a ↦ inl (a.0, and_b _ _ q a.1)
-        | inr o ↦ inr (new_first class c 0 m t ts q o.0, λ dx. if_true _ _ _ (lt_lt (suc o.0.number) (m + size t) o.0.high) ∙
-          (if_true _ _ _ ep ∙ o.1 (down_first class c 0 m t ts (place (suc o.0.number) Val) o.0.high dx)))
+        | inr o ↦ inr (
+          new_first class c 0 m t ts q o.0,
+          λ dx. if_true _ _ _ (lt_lt (suc o.0.number) (m + size t) o.0.high) ∙
+              (if_true _ _ _ ep ∙ o.1 (down_first class c 0 m t ts (place (suc o.0.number) Val) o.0.high dx)),
+        )
       ]
   open_step false true class c c' m t ts w p ep ic e f dp d h = absurd (true≢false (sym h))
   open_step bw false class c c' m t ts w p ep ic e f dp d h = absurd
-    (none_due ts class 0 (m + size t) p ic (subst (λ z. due_among taken class z 1 (m + size t) ts p ≡ true) e dp))
+      (none_due ts class 0 (m + size t) p ic (subst (λ z. due_among taken class z 1 (m + size t) ts p ≡ true) e dp))
 
   abbrev FirstOf : Trees → ℕ → Place → Place → Type 0
   FirstOf none m w p = Unit {0}
@@ -356,37 +398,43 @@ module _ (taken later : Taken) (kept : (n j : ℕ) → taken n ≡ Some j → la
 
   open_among : (ts : Trees) (class : Class) (c c' : Option ℕ) (m : ℕ) (w p : Place) → is_choice class ≡ true → c ≡ None → FirstOf ts m w p
       → due_among taken class c 0 m ts p ≡ true → due_among later class c' 0 m ts w ≡ true → between later class c' 0 m ts w p ≡ true →
-        Among ts class c 0 m w p
+      Among ts class c 0 m w p
   open_among none class c c' m w p ic e f dp d h = absurd (true≢false (sym h))
   open_among (more t ts) class c c' m w p ic e f dp d h = open_step (nat_lt w.node (m + size t)) (nat_lt p.node (m + size t)) class c c' m t ts w p refl ic e
-    f dp d h
+      f dp d h
 
   under_root : (class : Class) (ts : Trees) (k : ℕ) (w p : Place) → (p.node == k) ≡ false → Among ts class (taken k) 0 (suc k) w p
       → Old (between taken class (taken k) 0 (suc k) ts w p) (due_among taken class (taken k) 0 (suc k) ts w) k (size (node class ts))
-        (due_in taken k (node class ts)) (λ x. is_before taken k (node class ts) x p)
+      (due_in taken k (node class ts)) (λ x. is_before taken k (node class ts) x p)
   under_root class ts k w p ep (inl e) = inl e
-  under_root class ts k w p ep (inr o) = inr (new_root class k ts o.0, λ dx.
-    if_false _ _ _ (not_root k o.0.number o.0.low) ∙ (if_false _ _ _ ep ∙ o.1 (sym (if_false _ _ _ (not_root k o.0.number o.0.low)) ∙ dx)))
+  under_root class ts k w p ep (inr o) = inr (
+    new_root class k ts o.0,
+    λ dx.
+        if_false _ _ _ (not_root k o.0.number o.0.low) ∙ (if_false _ _ _ ep ∙ o.1 (sym (if_false _ _ _ (not_root k o.0.number o.0.low)) ∙ dx)),
+  )
 
   root_step : (bw bp : Bool) (class : Class) (ts : Trees) (k : ℕ) (w p : Place) → (p.node == k) ≡ bp → Change class k
       → (Same class (taken k) (later k) → due_among later class (later k) 0 (suc k) ts w ≡ true → rises later class (later k) 0 (suc k) ts w p.kind ≡ true →
-        Rise ts class (taken k) 0 (suc k) w p.kind)
+      Rise ts class (taken k) 0 (suc k) w p.kind)
       → (Same class (taken k) (later k) → due_among taken class (taken k) 0 (suc k) ts p ≡ true → due_among later class (later k) 0 (suc k) ts w ≡ true →
-        between later class (later k) 0 (suc k) ts w p ≡ true → Among ts class (taken k) 0 (suc k) w p)
+      between later class (later k) 0 (suc k) ts w p ≡ true → Among ts class (taken k) 0 (suc k) w p)
       → FirstOf ts (suc k) w p
       → (if bp then has_kind (kinds_of class) p.kind else due_among taken class (taken k) 0 (suc k) ts p) ≡ true
       → (if bw then has_kind (kinds_of class) w.kind else due_among later class (later k) 0 (suc k) ts w) ≡ true
       → (if bw then (p.node == k) && own_rule class w.kind p.kind else (if bp then rises later class (later k) 0 (suc k) ts w p.kind else between later class
-        (later k) 0 (suc k) ts w p)) ≡ true
+      (later k) 0 (suc k) ts w p)) ≡ true
       → Old (if bw then (p.node == k) && own_rule class w.kind p.kind
-        else (if bp then rises taken class (taken k) 0 (suc k) ts w p.kind else between taken class (taken k) 0 (suc k) ts w p))
+      else (if bp then rises taken class (taken k) 0 (suc k) ts w p.kind else between taken class (taken k) 0 (suc k) ts w p))
       (if bw then has_kind (kinds_of class) w.kind else due_among taken class (taken k) 0 (suc k) ts w)
       k (size (node class ts)) (due_in taken k (node class ts)) (λ x. is_before taken k (node class ts) x p)
   root_step true bp class ts k w p ep ch f g fo dp d h = inl (h, d)
   root_step false true class ts k w p ep (inl s) f g fo dp d h = elim (f s d h) [
     | inl e ↦ inl e
-    | inr o ↦ inr (new_root class k ts o.0, λ dx. if_false _ _ _ (not_root k o.0.number o.0.low) ∙
-      (if_true _ _ _ ep ∙ o.1 (sym (if_false _ _ _ (not_root k o.0.number o.0.low)) ∙ dx)))
+    | inr o ↦ inr (
+      new_root class k ts o.0,
+      λ dx. if_false _ _ _ (not_root k o.0.number o.0.low) ∙
+          (if_true _ _ _ ep ∙ o.1 (sym (if_false _ _ _ (not_root k o.0.number o.0.low)) ∙ dx)),
+    )
   ]
   root_step false true class ts k w p ep (inr s) f g fo dp d h =
       let q = size_of class (later k) ts (suc k) w d in
@@ -394,11 +442,11 @@ module _ (taken later : Taken) (kept : (n j : ℕ) → taken n ≡ Some j → la
         new_here class k ts q s.0 s.1 s.2,
         λ dx. if_false (suc k == k) _ _ (ne_eq (suc k) k (λ e. omega (arith, e)))
             ∙ (if_true _ _ _ ep ∙ subst (λ z. rises taken class (taken k) 0 (suc k) ts (place (suc k) Val) z ≡ true) (sym (choice_kind class p.kind s.0 dp))
-              (test_rises ts class k q dx)),
+            (test_rises ts class k q dx)),
       )
   root_step false false class ts k w p ep (inl s) f g fo dp d h = under_root class ts k w p ep (g s dp d h)
   root_step false false class ts k w p ep (inr s) f g fo dp d h = under_root class ts k w p ep
-    (open_among ts class (taken k) (later k) (suc k) w p s.0 s.1 fo dp d h)
+      (open_among ts class (taken k) (later k) (suc k) w p s.0 s.1 fo dp d h)
 
   mutual
     later_before : (t : Tree) (k : ℕ) (w p : Place) → due_in taken k t p ≡ true → due_in later k t w ≡ true → is_before later k t w p ≡ true → First t k w p
@@ -408,20 +456,20 @@ module _ (taken later : Taken) (kept : (n j : ℕ) → taken n ≡ Some j → la
 
     later_val : (t : Tree) (k : ℕ) (w : Place) → due_in later k t w ≡ true → to_val later k t w ≡ true → Value t k w
     later_val (node class ts) k w d h = val_root (w.node == k) class ts k w (change class k) (λ s. later_rises ts class (taken k) (later k) 0 (suc k) w Val s)
-      d h
+        d h
 
     later_rises : (ts : Trees) (class : Class) (c c' : Option ℕ) (i m : ℕ) (w : Place) (kind : Kind) → Same class c c' →
-      due_among later class c' i m ts w ≡ true → rises later class c' i m ts w kind ≡ true → Rise ts class c i m w kind
+        due_among later class c' i m ts w ≡ true → rises later class c' i m ts w kind ≡ true → Rise ts class c i m w kind
     later_rises none class c c' i m w kind s d h = absurd (true≢false (sym h))
     later_rises (more t ts) class c c' i m w kind s d h =
         rise_step (nat_lt w.node (m + size t)) class c c' i m t ts w kind s (later_val t m w) (later_rises ts class c c' (suc i) (m + size t) w kind s) d h
 
     later_between : (ts : Trees) (class : Class) (c c' : Option ℕ) (i m : ℕ) (w p : Place) → Same class c c' → due_among taken class c i m ts p ≡ true →
-      due_among later class c' i m ts w ≡ true → between later class c' i m ts w p ≡ true → Among ts class c i m w p
+        due_among later class c' i m ts w ≡ true → between later class c' i m ts w p ≡ true → Among ts class c i m w p
     later_between none class c c' i m w p s dp d h = absurd (true≢false (sym h))
     later_between (more t ts) class c c' i m w p s dp d h =
         between_step (nat_lt w.node (m + size t)) (nat_lt p.node (m + size t)) class c c' i m t ts w p refl s (later_before t m w p)
-          (later_between ts class c c' (suc i) (m + size t) w p s) dp d h
+        (later_between ts class c c' (suc i) (m + size t) w p s) dp d h
 
     later_first : (ts : Trees) (m : ℕ) (w p : Place) → FirstOf ts m w p
     later_first none m w p = tt
@@ -429,7 +477,7 @@ module _ (taken later : Taken) (kept : (n j : ℕ) → taken n ≡ Some j → la
 
 pub nothing_new : (root : Tree) (taken later : Taken) (kept : (n j : ℕ) → taken n ≡ Some j → later n ≡ Some j) (done : Place → Bool) (v : Place)
     → ((n : ℕ) → taken n ≡ None → is_some (later n) ≡ true → is_due root taken (place n Val) ≡ true → (is_due root taken (place (suc n) Val) ≡ true) ×
-      (done (place (suc n) Val) ≡ false))
+    (done (place (suc n) Val) ≡ false))
     → is_due root taken v ≡ true → ((u : Place) → Before root taken u v → done u ≡ true) → (u : Place) → Before root later u v → Before root taken u v
 nothing_new root taken later kept done v fresh due earlier u h =
     let du = sym (has_due later root 0 u) ∙ (before_due root later u v h).0 in

@@ -1,6 +1,35 @@
 -- What a choice keeps in the tree of a full expression: which events are due, and which come before which.
-use Rattle.std.proofs.Common.{◌≡◌, ◌≢◌, ℕ, suc, ◌+◌, Bool, true, false, not, ◌&&◌, ◌||◌, ◌==◌, nat_lt, ◌<◌, ◌≤◌, if◌then◌else◌, true≢false, Option, Some,
-  None, cond, refl, sym, ◌∙◌, subst, ◌⊎◌, inl, inr, arith}
+use Rattle.std.proofs.Common.{
+  ◌≡◌,
+  ◌≢◌,
+  ℕ,
+  suc,
+  ◌+◌,
+  Bool,
+  true,
+  false,
+  not,
+  ◌&&◌,
+  ◌||◌,
+  ◌==◌,
+  nat_lt,
+  ◌<◌,
+  ◌≤◌,
+  if◌then◌else◌,
+  true≢false,
+  Option,
+  Some,
+  None,
+  cond,
+  refl,
+  sym,
+  ◌∙◌,
+  subst,
+  ◌⊎◌,
+  inl,
+  inr,
+  arith,
+}
 use Rattle.std.proofs.lemmas.Bool.Decides.{nat_tests}
 use Rattle.ub_base.specs.declared.clause.Kind.{Kind}
 use Rattle.ub_base.specs.declared.clause.Kind.TheVariants.{Val, Eff, Body}
@@ -46,7 +75,7 @@ module _ (taken taken' : Taken) (kept : (k j : ℕ) → taken k ≡ Some j → t
     due_kept (node n ts) k u h = if_kept (u.node == k) _ _ _ _ (λ z. z) (due_among_kept ts n k 0 (suc k) u) h
 
     due_among_kept : (ts : Trees) (n : Class) (k i m : ℕ) (u : Place) → due_among taken n (taken k) i m ts u ≡ true →
-      due_among taken' n (taken' k) i m ts u ≡ true
+        due_among taken' n (taken' k) i m ts u ≡ true
     due_among_kept none n k i m u h = h
     due_among_kept (more t ts) n k i m u h =
         if_kept (nat_lt u.node (m + size t)) _ _ _ _
@@ -119,7 +148,7 @@ module _ (taken taken' : Taken) (n0 : ℕ) (agree : (k : ℕ) → k ≢ n0 → t
   }
 
   inside_case : (n : Class) (ts : Trees) (k : ℕ) (b : Bool) → (n0 == k) ≡ b → (chooses_among (suc k) ts ≡ true → suc n0 < suc k + sizes ts) →
-    (if b then is_choice n && not (is_last ts) else chooses_among (suc k) ts) ≡ true → suc n0 < k + suc (sizes ts)
+      (if b then is_choice n && not (is_last ts) else chooses_among (suc k) ts) ≡ true → suc n0 < k + suc (sizes ts)
   inside_case n none k true e ih h = absurd (true≢false (sym h ∙ and_false (is_choice n)))
     where
       and_false : (a : Bool) → a && false ≡ false
@@ -129,8 +158,8 @@ module _ (taken taken' : Taken) (n0 : ℕ) (agree : (k : ℕ) → k ≢ n0 → t
   inside_case n ts k false e ih h = let z = ih h in omega (arith, z)
 
   among_case : (b : Bool) (m : ℕ) (t : Tree) (ts : Trees) → nat_lt n0 (m + size t) ≡ b → (chooses m t ≡ true → suc n0 < m + size t) →
-    (chooses_among (m + size t) ts ≡ true → suc n0 < m + size t + sizes ts) → (if b then chooses m t else chooses_among (m + size t) ts) ≡ true →
-    suc n0 < m + (size t + sizes ts)
+      (chooses_among (m + size t) ts ≡ true → suc n0 < m + size t + sizes ts) → (if b then chooses m t else chooses_among (m + size t) ts) ≡ true →
+      suc n0 < m + (size t + sizes ts)
   among_case true m t ts e f g h = let z = f h in omega (arith, z)
   among_case false m t ts e f g h = let z = g h in omega (arith, z)
 
@@ -207,10 +236,10 @@ module _ (taken taken' : Taken) (n0 : ℕ) (agree : (k : ℕ) → k ≢ n0 → t
     newly (node n ts) k w h = newly_case (w.node == k) (n0 == k) k n ts w refl (newly_among ts n (taken k) 0 (suc k) w) h
 
     newly_among : (ts : Trees) (n : Class) (c : Option ℕ) (i m : ℕ) (w : Place) → due_among taken' n c i m ts w ≡ true →
-      (due_among taken n c i m ts w ≡ true) ⊎ In m (sizes ts)
+        (due_among taken n c i m ts w ≡ true) ⊎ In m (sizes ts)
     newly_among none n c i m w h = inl h
     newly_among (more t ts) n c i m w h = newly_among_case (nat_lt w.node (m + size t)) n c i m t ts w (newly t m w)
-      (newly_among ts n c (suc i) (m + size t) w) h
+        (newly_among ts n c (suc i) (m + size t) w) h
 
   -- u comes before in the old order too and was due, or the choice's first operand comes before
   abbrev pub Old : Bool → Bool → ℕ → ℕ → Bool → Type 0
@@ -223,7 +252,7 @@ module _ (taken taken' : Taken) (n0 : ℕ) (agree : (k : ℕ) → k ≢ n0 → t
       → (to_val taken' m t w ≡ true → due_in taken' m t w ≡ true → Old (to_val taken m t w) (due_in taken m t w) m (size t) (to_val taken m t x))
       → (rises taken' n c (suc i) (m + size t) ts w kind ≡ true → due_among taken' n c (suc i) (m + size t) ts w ≡ true
       → Old (rises taken n c (suc i) (m + size t) ts w kind) (due_among taken n c (suc i) (m + size t) ts w) (m + size t) (sizes ts)
-        (rises taken n c (suc i) (m + size t) ts x kind))
+      (rises taken n c (suc i) (m + size t) ts x kind))
       → (if b then l || (ve && (nq && to_val taken' m t w)) else rises taken' n c (suc i) (m + size t) ts w kind) ≡ true
       → (if b then goes n c i && due_in taken' m t w else due_among taken' n c (suc i) (m + size t) ts w) ≡ true
       → Old (if b then l || (ve && (nq && to_val taken m t w)) else rises taken n c (suc i) (m + size t) ts w kind)
@@ -248,21 +277,21 @@ module _ (taken taken' : Taken) (n0 : ℕ) (agree : (k : ℕ) → k ≢ n0 → t
 
   between_case : (b b2 : Bool) (n : Class) (c : Option ℕ) (i m : ℕ) (t : Tree) (ts : Trees) (w p : Place) → Held m t
       → (is_before taken' m t w p ≡ true → due_in taken' m t w ≡ true → due_in taken m t p ≡ true →
-        Old (is_before taken m t w p) (due_in taken m t w) m (size t) (is_before taken m t x p))
+      Old (is_before taken m t w p) (due_in taken m t w) m (size t) (is_before taken m t x p))
       → (between taken' n c (suc i) (m + size t) ts w p ≡ true → due_among taken' n c (suc i) (m + size t) ts w ≡ true →
-        due_among taken n c (suc i) (m + size t) ts p ≡ true
+      due_among taken n c (suc i) (m + size t) ts p ≡ true
       → Old (between taken n c (suc i) (m + size t) ts w p) (due_among taken n c (suc i) (m + size t) ts w) (m + size t) (sizes ts)
-        (between taken n c (suc i) (m + size t) ts x p))
+      (between taken n c (suc i) (m + size t) ts x p))
       → (if b then (if b2 then is_before taken' m t w p else crosses n c i (suc i) (m + size t) ts p.node)
-        else (if b2 then false else between taken' n c (suc i) (m + size t) ts w p)) ≡ true
+      else (if b2 then false else between taken' n c (suc i) (m + size t) ts w p)) ≡ true
       → (if b then goes n c i && due_in taken' m t w else due_among taken' n c (suc i) (m + size t) ts w) ≡ true
       → (if b2 then goes n c i && due_in taken m t p else due_among taken n c (suc i) (m + size t) ts p) ≡ true
       → Old (if b then (if b2 then is_before taken m t w p else crosses n c i (suc i) (m + size t) ts p.node)
-        else (if b2 then false else between taken n c (suc i) (m + size t) ts w p))
+      else (if b2 then false else between taken n c (suc i) (m + size t) ts w p))
       (if b then goes n c i && due_in taken m t w else due_among taken n c (suc i) (m + size t) ts w)
       m (size t + sizes ts)
       (if nat_lt (suc n0) (m + size t) then (if b2 then is_before taken m t x p else crosses n c i (suc i) (m + size t) ts p.node)
-        else (if b2 then false else between taken n c (suc i) (m + size t) ts x p))
+      else (if b2 then false else between taken n c (suc i) (m + size t) ts x p))
   between_case true true n c i m t ts w p hd f g h d dp =
       elim (f h (and_r _ _ d) (and_r _ _ dp)) [
         | inl e ↦ inl (e.0, and_b _ _ (and_l _ _ d) e.1)
@@ -342,7 +371,7 @@ module _ (taken taken' : Taken) (n0 : ℕ) (agree : (k : ℕ) → k ≢ n0 → t
   to_val_case : (b b0 : Bool) (n : Class) (ts : Trees) (k : ℕ) (w : Place) → (n0 == k) ≡ b0 → Held k (node n ts)
       → (Helds n (taken k) 0 (suc k) ts → rises taken' n (taken k) 0 (suc k) ts w Val ≡ true → due_among taken' n (taken k) 0 (suc k) ts w ≡ true
       → Old (rises taken n (taken k) 0 (suc k) ts w Val) (due_among taken n (taken k) 0 (suc k) ts w) (suc k) (sizes ts)
-        (rises taken n (taken k) 0 (suc k) ts x Val))
+      (rises taken n (taken k) 0 (suc k) ts x Val))
       → (if b then is_val w.kind || own_rule n w.kind Val else rises taken' n (taken' k) 0 (suc k) ts w Val) ≡ true
       → (if b then has_kind (kinds_of n) w.kind else due_among taken' n (taken' k) 0 (suc k) ts w) ≡ true
       → Old (if b then is_val w.kind || own_rule n w.kind Val else rises taken n (taken k) 0 (suc k) ts w Val)
@@ -359,7 +388,7 @@ module _ (taken taken' : Taken) (n0 : ℕ) (agree : (k : ℕ) → k ≢ n0 → t
       let ne = ne_of n0 k e in
       let c = agree k (λ q. ne (sym q)) in
       elim (f (helds_of n ts k (λ q. ne (sym q)) hd) (subst (λ z. rises taken' n z 0 (suc k) ts w Val ≡ true) c h)
-        (subst (λ z. due_among taken' n z 0 (suc k) ts w ≡ true) c d)) [
+      (subst (λ z. due_among taken' n z 0 (suc k) ts w ≡ true) c d)) [
         | inl a ↦ inl a
         | inr a ↦ inr ((omega (arith, a.0.0), omega (arith, a.0.1)), if_false (suc n0 == k) _ _ (not_eq _ _ (omega (arith, a.0.0))) ∙ a.1)
       ]
@@ -367,13 +396,13 @@ module _ (taken taken' : Taken) (n0 : ℕ) (agree : (k : ℕ) → k ≢ n0 → t
   -- both below n0 itself: only its first operand was due
   root_case : (b b2 : Bool) (n : Class) (c' : Option ℕ) (t : Tree) (ts : Trees) (w p : Place) → is_choice n ≡ true
       → (is_before taken' (suc n0) t w p ≡ true → due_in taken' (suc n0) t w ≡ true → due_in taken (suc n0) t p ≡ true →
-        Old (is_before taken (suc n0) t w p) (due_in taken (suc n0) t w) (suc n0) (size t) (is_before taken (suc n0) t x p))
+      Old (is_before taken (suc n0) t w p) (due_in taken (suc n0) t w) (suc n0) (size t) (is_before taken (suc n0) t x p))
       → (if b then (if b2 then is_before taken' (suc n0) t w p else crosses n c' 0 1 (suc n0 + size t) ts p.node)
-        else (if b2 then false else between taken' n c' 1 (suc n0 + size t) ts w p)) ≡ true
+      else (if b2 then false else between taken' n c' 1 (suc n0 + size t) ts w p)) ≡ true
       → (if b then goes n c' 0 && due_in taken' (suc n0) t w else due_among taken' n c' 1 (suc n0 + size t) ts w) ≡ true
       → (if b2 then goes n None 0 && due_in taken (suc n0) t p else due_among taken n None 1 (suc n0 + size t) ts p) ≡ true
       → ((if b then (if b2 then is_before taken (suc n0) t w p else crosses n None 0 1 (suc n0 + size t) ts p.node)
-        else (if b2 then false else between taken n None 1 (suc n0 + size t) ts w p)) ≡ true)
+      else (if b2 then false else between taken n None 1 (suc n0 + size t) ts w p)) ≡ true)
       × ((if b then goes n None 0 && due_in taken (suc n0) t w else due_among taken n None 1 (suc n0 + size t) ts w) ≡ true)
   root_case true true n c' t ts w p ch f h d dp =
       elim (f h (and_r _ _ d) (and_r _ _ dp)) [
@@ -387,34 +416,35 @@ module _ (taken taken' : Taken) (n0 : ℕ) (agree : (k : ℕ) → k ≢ n0 → t
   abbrev FirstOld : Trees → Place → Place → Type 0
   FirstOld none w p = Unit {0}
   FirstOld (more t ts) w p = is_before taken' (suc n0) t w p ≡ true → due_in taken' (suc n0) t w ≡ true → due_in taken (suc n0) t p ≡ true →
-    Old (is_before taken (suc n0) t w p) (due_in taken (suc n0) t w) (suc n0) (size t) (is_before taken (suc n0) t x p)
+      Old (is_before taken (suc n0) t w p) (due_in taken (suc n0) t w) (suc n0) (size t) (is_before taken (suc n0) t x p)
 
   root_both : (n : Class) (ts : Trees) (w p : Place) → is_choice n ≡ true → FirstOld ts w p
       → between taken' n (taken' n0) 0 (suc n0) ts w p ≡ true → due_among taken' n (taken' n0) 0 (suc n0) ts w ≡ true →
-        due_among taken n (taken n0) 0 (suc n0) ts p ≡ true
+      due_among taken n (taken n0) 0 (suc n0) ts p ≡ true
       → (between taken n (taken n0) 0 (suc n0) ts w p ≡ true) × (due_among taken n (taken n0) 0 (suc n0) ts w ≡ true)
   root_both n none w p ch f h d dp = absurd (true≢false (sym h))
   root_both n (more t ts) w p ch f h d dp =
       let dp' = subst (λ z. due_among taken n z 0 (suc n0) (more t ts) p ≡ true) fresh dp in
-      let r = root_case (nat_lt w.node (suc n0 + size t)) (nat_lt p.node (suc n0 + size t)) n (taken' n0) t ts w p ch f h d dp' in
-      (subst (λ z. between taken n z 0 (suc n0) (more t ts) w p ≡ true) (sym fresh) r.0,
-        subst (λ z. due_among taken n z 0 (suc n0) (more t ts) w ≡ true) (sym fresh) r.1)
+      let r = root_case (nat_lt w.node (suc n0 + size t)) (nat_lt p.node (suc n0 + size t)) n (taken' n0) t ts w p ch f h d dp' in (
+        subst (λ z. between taken n z 0 (suc n0) (more t ts) w p ≡ true) (sym fresh) r.0,
+        subst (λ z. due_among taken n z 0 (suc n0) (more t ts) w ≡ true) (sym fresh) r.1,
+      )
 
   before_case : (b b2 b0 : Bool) (n : Class) (ts : Trees) (k : ℕ) (w p : Place) → (p.node == k) ≡ b2 → (n0 == k) ≡ b0 → Held k (node n ts)
       → (Helds n (taken k) 0 (suc k) ts → rises taken' n (taken k) 0 (suc k) ts w p.kind ≡ true → due_among taken' n (taken k) 0 (suc k) ts w ≡ true
       → Old (rises taken n (taken k) 0 (suc k) ts w p.kind) (due_among taken n (taken k) 0 (suc k) ts w) (suc k) (sizes ts)
-        (rises taken n (taken k) 0 (suc k) ts x p.kind))
+      (rises taken n (taken k) 0 (suc k) ts x p.kind))
       → (Helds n (taken k) 0 (suc k) ts → between taken' n (taken k) 0 (suc k) ts w p ≡ true → due_among taken' n (taken k) 0 (suc k) ts w ≡ true →
-        due_among taken n (taken k) 0 (suc k) ts p ≡ true
+      due_among taken n (taken k) 0 (suc k) ts p ≡ true
       → Old (between taken n (taken k) 0 (suc k) ts w p) (due_among taken n (taken k) 0 (suc k) ts w) (suc k) (sizes ts)
-        (between taken n (taken k) 0 (suc k) ts x p))
+      (between taken n (taken k) 0 (suc k) ts x p))
       → FirstOld ts w p
       → (if b then p.node == k && own_rule n w.kind p.kind else (if b2 then rises taken' n (taken' k) 0 (suc k) ts w p.kind else between taken' n (taken' k) 0
-        (suc k) ts w p)) ≡ true
+      (suc k) ts w p)) ≡ true
       → (if b then has_kind (kinds_of n) w.kind else due_among taken' n (taken' k) 0 (suc k) ts w) ≡ true
       → (if b2 then has_kind (kinds_of n) p.kind else due_among taken n (taken k) 0 (suc k) ts p) ≡ true
       → Old (if b then p.node == k && own_rule n w.kind p.kind else (if b2 then rises taken n (taken k) 0 (suc k) ts w p.kind else between taken n (taken k) 0
-        (suc k) ts w p))
+      (suc k) ts w p))
       (if b then has_kind (kinds_of n) w.kind else due_among taken n (taken k) 0 (suc k) ts w)
       k (suc (sizes ts)) (if b2 then rises taken n (taken k) 0 (suc k) ts x p.kind else between taken n (taken k) 0 (suc k) ts x p)
   before_case true b2 b0 n ts k w p e2 e hd f g fo h d dp = inl (h, d)
@@ -428,7 +458,7 @@ module _ (taken taken' : Taken) (n0 : ℕ) (agree : (k : ℕ) → k ≢ n0 → t
       let ne = ne_of n0 k e in
       let c = agree k (λ q. ne (sym q)) in
       elim (f (helds_of n ts k (λ q. ne (sym q)) hd) (subst (λ z. rises taken' n z 0 (suc k) ts w p.kind ≡ true) c h)
-        (subst (λ z. due_among taken' n z 0 (suc k) ts w ≡ true) c d)) [
+      (subst (λ z. due_among taken' n z 0 (suc k) ts w ≡ true) c d)) [
         | inl a ↦ inl a
         | inr a ↦ inr ((omega (arith, a.0.0), omega (arith, a.0.1)), a.1)
       ]
@@ -444,19 +474,19 @@ module _ (taken taken' : Taken) (n0 : ℕ) (agree : (k : ℕ) → k ≢ n0 → t
       let ne = ne_of n0 k e in
       let c = agree k (λ q. ne (sym q)) in
       elim (g (helds_of n ts k (λ q. ne (sym q)) hd) (subst (λ z. between taken' n z 0 (suc k) ts w p ≡ true) c h)
-        (subst (λ z. due_among taken' n z 0 (suc k) ts w ≡ true) c d) dp) [
+      (subst (λ z. due_among taken' n z 0 (suc k) ts w ≡ true) c d) dp) [
         | inl a ↦ inl a
         | inr a ↦ inr ((omega (arith, a.0.0), omega (arith, a.0.1)), a.1)
       ]
 
   -- in In k size, x isn't the root, so what comes before p is among the operands
   x_before : (n : Class) (ts : Trees) (k : ℕ) (p : Place) (m : ℕ) → k ≤ n0 →
-    (if p.node == k then rises taken n (taken k) 0 (suc k) ts x p.kind else between taken n (taken k) 0 (suc k) ts x p) ≡ true →
-    is_before taken k (node n ts) x p ≡ true
+      (if p.node == k then rises taken n (taken k) 0 (suc k) ts x p.kind else between taken n (taken k) 0 (suc k) ts x p) ≡ true →
+      is_before taken k (node n ts) x p ≡ true
   x_before n ts k p m le h = if_false (suc n0 == k) _ _ (not_eq _ _ (omega arith)) ∙ h
 
   old_root : (n : Class) (ts : Trees) (k : ℕ) (w p : Place) → Old (is_before taken k (node n ts) w p) (due_in taken k (node n ts) w) k (suc (sizes ts))
-    (if p.node == k then rises taken n (taken k) 0 (suc k) ts x p.kind else between taken n (taken k) 0 (suc k) ts x p)
+      (if p.node == k then rises taken n (taken k) 0 (suc k) ts x p.kind else between taken n (taken k) 0 (suc k) ts x p)
       → Old (is_before taken k (node n ts) w p) (due_in taken k (node n ts) w) k (suc (sizes ts)) (is_before taken k (node n ts) x p)
   old_root n ts k w p (inl a) = inl a
   old_root n ts k w p (inr a) = inr (a.0, x_before n ts k p 0 a.0.0 a.1)
@@ -464,26 +494,26 @@ module _ (taken taken' : Taken) (n0 : ℕ) (agree : (k : ℕ) → k ≢ n0 → t
   mutual
     -- what comes before a due event after the choice came before it already, or the choice's first operand did
     pub old_before : (t : Tree) (k : ℕ) (w p : Place) → Held k t → is_before taken' k t w p ≡ true → due_in taken' k t w ≡ true → due_in taken k t p ≡ true →
-      Old (is_before taken k t w p) (due_in taken k t w) k (size t) (is_before taken k t x p)
+        Old (is_before taken k t w p) (due_in taken k t w) k (size t) (is_before taken k t x p)
     old_before (node n ts) k w p hd h d dp =
         old_root n ts k w p (before_case (w.node == k) (p.node == k) (n0 == k) n ts k w p refl refl hd
         (λ hs. old_rises ts n (taken k) 0 (suc k) w p.kind hs) (λ hs. old_between ts n (taken k) 0 (suc k) w p hs) (old_first ts w p) h d dp)
 
     pub old_to_val : (t : Tree) (k : ℕ) (w : Place) → Held k t → to_val taken' k t w ≡ true → due_in taken' k t w ≡ true →
-      Old (to_val taken k t w) (due_in taken k t w) k (size t) (to_val taken k t x)
+        Old (to_val taken k t w) (due_in taken k t w) k (size t) (to_val taken k t x)
     old_to_val (node n ts) k w hd h d = to_val_case (w.node == k) (n0 == k) n ts k w refl hd (λ hs. old_rises ts n (taken k) 0 (suc k) w Val hs) h d
 
     old_rises : (ts : Trees) (n : Class) (c : Option ℕ) (i m : ℕ) (w : Place) (kind : Kind) → Helds n c i m ts → rises taken' n c i m ts w kind ≡ true →
-      due_among taken' n c i m ts w ≡ true
+        due_among taken' n c i m ts w ≡ true
         → Old (rises taken n c i m ts w kind) (due_among taken n c i m ts w) m (sizes ts) (rises taken n c i m ts x kind)
     old_rises none n c i m w kind hs h d = absurd (true≢false (sym h))
     old_rises (more t ts) n c i m w kind hs h d =
         rise_case (nat_lt w.node (m + size t)) (lifts n c i (is_last ts) kind) (not (is_body kind)) (not (is_quiet t)) n c i m t ts w kind
-          (held_first n c i m t ts hs)
+        (held_first n c i m t ts hs)
         (old_to_val t m w (held_first n c i m t ts hs)) (old_rises ts n c (suc i) (m + size t) w kind (helds_rest n c i m t ts hs)) h d
 
     old_between : (ts : Trees) (n : Class) (c : Option ℕ) (i m : ℕ) (w p : Place) → Helds n c i m ts → between taken' n c i m ts w p ≡ true →
-      due_among taken' n c i m ts w ≡ true → due_among taken n c i m ts p ≡ true
+        due_among taken' n c i m ts w ≡ true → due_among taken n c i m ts p ≡ true
         → Old (between taken n c i m ts w p) (due_among taken n c i m ts w) m (sizes ts) (between taken n c i m ts x p)
     old_between none n c i m w p hs h d dp = absurd (true≢false (sym h))
     old_between (more t ts) n c i m w p hs h d dp =

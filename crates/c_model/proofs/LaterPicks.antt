@@ -1,6 +1,39 @@
 -- What two picks of one full expression owe each other.
-use Rattle.std.proofs.Common.{◌≡◌, ◌≢◌, ℕ, zero, suc, ◌+◌, Bool, true, false, not, ◌&&◌, ◌||◌, ◌==◌, nat_lt, if◌then◌else◌, true≢false, List, [], ◌∷◌, Option,
-  Some, None, is_some, refl, sym, ap, ap₂, ◌∙◌, subst, ◌⊎◌, inl, inr, arith}
+use Rattle.std.proofs.Common.{
+  ◌≡◌,
+  ◌≢◌,
+  ℕ,
+  zero,
+  suc,
+  ◌+◌,
+  Bool,
+  true,
+  false,
+  not,
+  ◌&&◌,
+  ◌||◌,
+  ◌==◌,
+  nat_lt,
+  if◌then◌else◌,
+  true≢false,
+  List,
+  [],
+  ◌∷◌,
+  Option,
+  Some,
+  None,
+  is_some,
+  refl,
+  sym,
+  ap,
+  ap₂,
+  ◌∙◌,
+  subst,
+  ◌⊎◌,
+  inl,
+  inr,
+  arith,
+}
 use Rattle.std.proofs.lemmas.Bool.Decides.{nat_tests}
 use Rattle.ub_base.specs.declared.clause.Kind.{Kind}
 use Rattle.ub_base.specs.declared.clause.Kind.TheVariants.{Val, Eff, Body}
@@ -92,7 +125,7 @@ flip_eq a b = go (a == b) (b == a) refl refl
     go false true g h = absurd (grind (arith, nat_tests, g, h))
 
 among_case : (b : Bool) (p q : Option Expr) (c d : Bool) {r : Option Expr} → (p ≡ r → c ≡ true) → (q ≡ r → d ≡ true) → (if b then p else q) ≡ r →
-  (if b then c else d) ≡ true
+    (if b then c else d) ≡ true
 among_case true p q c d f g h = f h
 among_case false p q c d f g h = g h
 
@@ -108,9 +141,9 @@ and_true true h = refl
 and_true false h = h
 
 root_case : (b : Bool) (e0 : Expr) (o : Option Expr) (d : Bool) (h : Head) (ty : CType) (line : ℕ) (t1 : Expr) (ts1 : Exprs) →
-  (o ≡ Some (expr h ty line (more t1 ts1)) → d ≡ true)
+    (o ≡ Some (expr h ty line (more t1 ts1)) → d ≡ true)
     → (if b then Some e0 else o) ≡ Some (expr h ty line (more t1 ts1)) → is_choice (head_class h (trees_of (more t1 ts1))) ≡ true →
-      (if b then is_first (tree_of e0) else d) ≡ true
+    (if b then is_first (tree_of e0) else d) ≡ true
 root_case true e0 o d h ty line t1 ts1 g q c = subst (λ z. is_first (tree_of z) ≡ true) (sym (some_inj q)) (and_true _ c)
 root_case false e0 o d h ty line t1 ts1 g q c = g q
 
@@ -128,8 +161,8 @@ module _ (world : World) (f : Scene) (e : Begun) (u : Place) (w : Value) where
   given_other v ne = if_no _ _ _ (same_place-no u v ne)
 
   first_value : (t : Expr) (k : ℕ) → u ≢ val_at k →
-    (if is_quiet (tree_of t) then quiet_value world f t else or_nothing (e'.given (val_at k))) ≡
-    (if is_quiet (tree_of t) then quiet_value world f t else or_nothing (e.given (val_at k)))
+      (if is_quiet (tree_of t) then quiet_value world f t else or_nothing (e'.given (val_at k))) ≡
+      (if is_quiet (tree_of t) then quiet_value world f t else or_nothing (e.given (val_at k)))
   first_value t k ne = ap (λ z. if is_quiet (tree_of t) then quiet_value world f t else or_nothing z) (given_other (val_at k) ne)
 
   -- a choice whose first operand's value isn't u's stays
@@ -143,7 +176,7 @@ module _ (world : World) (f : Scene) (e : Begun) (u : Place) (w : Value) where
 
   -- nor does one whose first operand is quiet, or a node that is no choice
   quiet_same : (k : ℕ) (h : Head) (ty : CType) (line : ℕ) (t : Expr) (ts : Exprs) → is_quiet (tree_of t) ≡ true →
-    choice_in world f e'.given k (Some (expr h ty line (more t ts))) ≡ choice_in world f e.given k (Some (expr h ty line (more t ts)))
+      choice_in world f e'.given k (Some (expr h ty line (more t ts))) ≡ choice_in world f e.given k (Some (expr h ty line (more t ts)))
   quiet_same k h ty line t ts q =
       let known = ap (λ a. a || is_some (e'.given (val_at (suc k)))) q in
       let known' = ap (λ a. a || is_some (e.given (val_at (suc k)))) q in
@@ -157,32 +190,32 @@ module _ (world : World) (f : Scene) (e : Begun) (u : Place) (w : Value) where
       if_yes false p q h = absurd (cc)
 
   no_choice_same : (k : ℕ) (h : Head) (ty : CType) (line : ℕ) (ts : Exprs) → is_choice (head_class h (trees_of ts)) ≡ false →
-    choice_in world f e'.given k (Some (expr h ty line ts)) ≡ choice_in world f e.given k (Some (expr h ty line ts))
+      choice_in world f e'.given k (Some (expr h ty line ts)) ≡ choice_in world f e.given k (Some (expr h ty line ts))
   no_choice_same k h ty line ts q = no_choice h (trees_of ts) _ _ q ∙ sym (no_choice h (trees_of ts) _ _ q)
 
   -- the pick makes no choice, or that of one node
   data Change : Type 0 where
     none_made : T' ≡ T → Change
     made : (n0 : ℕ) (agree' : (k : ℕ) → k ≢ n0 → T' k ≡ T k) (fresh : T n0 ≡ None) → u ≡ val_at (suc n0) → Held T T' n0 agree' fresh 0 (tree_of e.root) →
-      Change
+        Change
 
   mutual
     -- a choice that is in the tree is found there
     found : (n0 : ℕ) (agree' : (k : ℕ) → k ≢ n0 → T' k ≡ T k) (fresh : T n0 ≡ None) (t : Expr) (k : ℕ) (h : Head) (ty : CType) (line : ℕ) (t1 : Expr)
-      (ts1 : Exprs) → at_node k t n0 ≡ Some (expr h ty line (more t1 ts1))
+        (ts1 : Exprs) → at_node k t n0 ≡ Some (expr h ty line (more t1 ts1))
         → is_choice (head_class h (trees_of (more t1 ts1))) ≡ true → chooses T T' n0 agree' fresh k (tree_of t) ≡ true
     found n0 agree' fresh (expr m my ml ts) k h ty line t1 ts1 q c =
         subst (λ b. (if b then is_first (tree_of (expr m my ml ts)) else chooses_among T T' n0 agree' fresh (suc k) (trees_of ts)) ≡ true) (flip_eq k n0)
         (root_case (k == n0) (expr m my ml ts) (at_node_among (suc k) ts n0) _ h ty line t1 ts1
-          (λ z. found_among n0 agree' fresh ts (suc k) h ty line t1 ts1 z c) q c)
+        (λ z. found_among n0 agree' fresh ts (suc k) h ty line t1 ts1 z c) q c)
 
     found_among : (n0 : ℕ) (agree' : (k : ℕ) → k ≢ n0 → T' k ≡ T k) (fresh : T n0 ≡ None) (ts : Exprs) (k : ℕ) (h : Head) (ty : CType) (line : ℕ) (t1 : Expr)
-      (ts1 : Exprs) → at_node_among k ts n0 ≡ Some (expr h ty line (more t1 ts1))
+        (ts1 : Exprs) → at_node_among k ts n0 ≡ Some (expr h ty line (more t1 ts1))
         → is_choice (head_class h (trees_of (more t1 ts1))) ≡ true → chooses_among T T' n0 agree' fresh k (trees_of ts) ≡ true
     found_among n0 agree' fresh none k h ty line t1 ts1 q c = absurd (cc)
     found_among n0 agree' fresh (more t ts) k h ty line t1 ts1 q c =
         among_case (nat_lt n0 (k + size (tree_of t))) _ _ _ _ (λ z. found n0 agree' fresh t k h ty line t1 ts1 z c)
-          (λ z. found_among n0 agree' fresh ts (k + size (tree_of t)) h ty line t1 ts1 z c) q
+        (λ z. found_among n0 agree' fresh ts (k + size (tree_of t)) h ty line t1 ts1 z c) q
 
   all_same : ((k : ℕ) → T' k ≡ T k) → T' ≡ T
   all_same h = λ i k. h k i
@@ -205,19 +238,19 @@ module _ (world : World) (f : Scene) (e : Begun) (u : Place) (w : Value) where
   change_at : (n0 : ℕ) → u ≡ val_at (suc n0) → due_in T 0 (tree_of e.root) u ≡ true → e.given u ≡ None → (o : Option Expr) → at_node 0 e.root n0 ≡ o → Change
   change_at n0 eu du gu None q = none_made (same_all n0 eu (ap (choice_in world f e'.given n0) q ∙ sym (ap (choice_in world f e.given n0) q)))
   change_at n0 eu du gu (Some (expr h ty line none)) q =
-    none_made (same_all n0 eu (ap (choice_in world f e'.given n0) q ∙ sym (ap (choice_in world f e.given n0) q)))
+      none_made (same_all n0 eu (ap (choice_in world f e'.given n0) q ∙ sym (ap (choice_in world f e.given n0) q)))
   change_at n0 eu du gu (Some (expr h ty line (more t ts))) q = go (is_choice (head_class h (trees_of (more t ts)))) (is_quiet (tree_of t)) refl refl
     where
       go : (b c : Bool) → is_choice (head_class h (trees_of (more t ts))) ≡ b → is_quiet (tree_of t) ≡ c → Change
       go false c eb ec = none_made (same_all n0 eu
-        (ap (choice_in world f e'.given n0) q ∙ no_choice_same n0 h ty line (more t ts) eb ∙ sym (ap (choice_in world f e.given n0) q)))
+          (ap (choice_in world f e'.given n0) q ∙ no_choice_same n0 h ty line (more t ts) eb ∙ sym (ap (choice_in world f e.given n0) q)))
       go true true eb ec = none_made (same_all n0 eu
-        (ap (choice_in world f e'.given n0) q ∙ quiet_same n0 h ty line t ts ec ∙ sym (ap (choice_in world f e.given n0) q)))
+          (ap (choice_in world f e'.given n0) q ∙ quiet_same n0 h ty line t ts ec ∙ sym (ap (choice_in world f e.given n0) q)))
       go true false eb ec =
           let known : (is_quiet (tree_of t) || is_some (e.given (val_at (suc n0)))) ≡ false =
           ap (λ z. z || is_some (e.given (val_at (suc n0)))) ec ∙ ap is_some (subst (λ z. e.given z ≡ None) eu gu) in
           let fr : T n0 ≡ None = ap (choice_in world f e.given n0) q ∙ ap (choice_by h (values_of world f e.given (suc n0) (more t ts))) known ∙ not_known h _
-            in
+          in
           let ag = agree_at n0 eu in
           made n0 ag fr eu (record {
             due = λ l r. subst (λ z. due_in T 0 (tree_of e.root) z ≡ true) eu du;
@@ -234,13 +267,13 @@ module _ (world : World) (f : Scene) (e : Begun) (u : Place) (w : Value) where
       by_kind : (c : Kind) (n : ℕ) → u.kind ≡ c → u.node ≡ n → Change
       by_kind Val zero ek en = no_value (inr en)
       by_kind Val (suc n0) ek en = let eu : u ≡ val_at (suc n0) = (λ i. record { node = en i; kind = ek i }) in change_at n0 eu du gu
-        (at_node 0 e.root n0) refl
+          (at_node 0 e.root n0) refl
       by_kind Eff n ek en = no_value (inl (λ q. absurd (cc (ap (λ z. z.kind) q, ek))))
       by_kind Body n ek en = no_value (inl (λ q. absurd (cc (ap (λ z. z.kind) q, ek))))
 
   -- what came before p after the pick came before it already, or u does
   pub old_or_u : (v p : Place) → due_in T 0 (tree_of e.root) u ≡ true → e.given u ≡ None → is_before T' 0 (tree_of e.root) v p ≡ true →
-    due_in T' 0 (tree_of e.root) v ≡ true → due_in T 0 (tree_of e.root) p ≡ true
+      due_in T' 0 (tree_of e.root) v ≡ true → due_in T 0 (tree_of e.root) p ≡ true
       → ((is_before T 0 (tree_of e.root) v p ≡ true) × (due_in T 0 (tree_of e.root) v ≡ true)) ⊎ (is_before T 0 (tree_of e.root) u p ≡ true)
   old_or_u v p du gu b d dp = elim (change du gu) [
     | none_made q ↦ inl (subst (λ z. is_before z 0 (tree_of e.root) v p ≡ true) q b, subst (λ z. due_in z 0 (tree_of e.root) v ≡ true) q d)
@@ -308,15 +341,15 @@ module _ (world : World) (f : Scene) (e : Begun) where
 
   -- order among reached events stays as it is
   pub before_stays : (u p q : Place) (w : Value) → IsNext world f e u → IsReached world f e p → IsReached world f e q → before p q ≡ false →
-    is_before (taken_by world f (with_given e u w)) 0 (tree_of e.root) p q ≡ false
+      is_before (taken_by world f (with_given e u w)) 0 (tree_of e.root) p q ≡ false
   before_stays u p q w ru rp rq h = go (is_before (taken_by world f (with_given e u w)) 0 (tree_of e.root) p q) refl
     where
       go : (b : Bool) → is_before (taken_by world f (with_given e u w)) 0 (tree_of e.root) p q ≡ b →
-        is_before (taken_by world f (with_given e u w)) 0 (tree_of e.root) p q ≡ false
+          is_before (taken_by world f (with_given e u w)) 0 (tree_of e.root) p q ≡ false
       go false eq = eq
       go true eq =
           let d' = due_kept (taken_by world f e) (taken_by world f (with_given e u w)) (choices_kept world f e u w ru.due ru.left) (tree_of e.root) 0 p rp.due
-            in
+          in
           elim (old_or_u world f e u w p q ru.due ru.left eq d' rq.due) [
             | inl a ↦ absurd (true≢false (sym a.0 ∙ h))
             | inr a ↦ absurd (none_some (e.given u) ru.left (rq.earlier u ru.due a))
@@ -327,7 +360,7 @@ pub given_swap : (e : Begun) (u q : Place) (v w : Value) → u ≢ q → with_gi
 given_swap e u q v w ne = λ i. record e { given = λ z. pointwise z i }
   where
     both : (a b : Bool) (x y : Option Value) (o : Option Value) → (a && b ≡ false) →
-      (if a then x else (if b then y else o)) ≡ (if b then y else (if a then x else o))
+        (if a then x else (if b then y else o)) ≡ (if b then y else (if a then x else o))
     both true true x y o h = absurd (true≢false h)
     both true false x y o h = refl
     both false b x y o h = refl
@@ -341,5 +374,5 @@ given_swap e u q v w ne = λ i. record e { given = λ z. pointwise z i }
         go false b ea eb = refl
 
     pointwise : (z : Place) → (if same_place q z then Some v else (if same_place u z then Some w else e.given z)) ≡
-      (if same_place u z then Some w else (if same_place q z then Some v else e.given z))
+        (if same_place u z then Some w else (if same_place q z then Some v else e.given z))
     pointwise z = both (same_place q z) (same_place u z) (Some v) (Some w) (e.given z) (apart z)

@@ -1,7 +1,40 @@
 -- The listing climbs in post-order: it has each due event once, what comes before an event stands before it, and the
 -- canonical order goes along it.
-use Rattle.std.proofs.Common.{◌≡◌, ℕ, suc, ◌+◌, ◌*◌, ◌<◌, ◌≤◌, Bool, true, false, not, ◌&&◌, ◌||◌, ◌==◌, if◌then◌else◌, List, [], ◌∷◌, ◌++◌, map, Option,
-  Some, None, refl, sym, ap, subst, ◌∙◌, ◌⊎◌, inl, inr, true≢false, arith}
+use Rattle.std.proofs.Common.{
+  ◌≡◌,
+  ℕ,
+  suc,
+  ◌+◌,
+  ◌*◌,
+  ◌<◌,
+  ◌≤◌,
+  Bool,
+  true,
+  false,
+  not,
+  ◌&&◌,
+  ◌||◌,
+  ◌==◌,
+  if◌then◌else◌,
+  List,
+  [],
+  ◌∷◌,
+  ◌++◌,
+  map,
+  Option,
+  Some,
+  None,
+  refl,
+  sym,
+  ap,
+  subst,
+  ◌∙◌,
+  ◌⊎◌,
+  inl,
+  inr,
+  true≢false,
+  arith,
+}
 use Rattle.std.specs.List.{list_all}
 use Rattle.ub_base.specs.declared.clause.Kind.{Kind}
 use Rattle.ub_base.specs.declared.clause.Kind.TheVariants.{Val, Eff, Body}
@@ -10,11 +43,39 @@ use Rattle.c_typed.specs.declared.tree.Place.{Place}
 use Rattle.c_typed.specs.declared.class.Class.{Class}
 use Rattle.c_typed.specs.declared.class.Class.TheVariants.{Object, Constant, Plain, Store, Update, Choice, Comma, Call, Isolated}
 use Rattle.c_typed.specs.Tree.{Tree, node, Trees, none, more, size, sizes, kinds_of}
-use Rattle.c_typed.specs.Order.{Taken, goes, place, same_place, own_events, events, operand_events, has, is_body, own_rule, update_is_open, operand_is_open,
-  Before}
+use Rattle.c_typed.specs.Order.{
+  Taken,
+  goes,
+  place,
+  same_place,
+  own_events,
+  events,
+  operand_events,
+  has,
+  is_body,
+  own_rule,
+  update_is_open,
+  operand_is_open,
+  Before,
+}
 use Rattle.c_typed.specs.Decide.{due_in, is_before, is_ready, is_permitted, first_place, canonical}
-use Rattle.c_model.proofs.Ranks.{eq_of, eq_eq, or_cases, and_l, and_r, In, rank_in, kind_rank, post_in, post_among, before_rank, post_first, post_rest,
-  post_root, post_below}
+use Rattle.c_model.proofs.Ranks.{
+  eq_of,
+  eq_eq,
+  or_cases,
+  and_l,
+  and_r,
+  In,
+  rank_in,
+  kind_rank,
+  post_in,
+  post_among,
+  before_rank,
+  post_first,
+  post_rest,
+  post_root,
+  post_below,
+}
 use Rattle.c_model.proofs.Decided.{and_b, or_a, or_b, not_true, has_or, has_due}
 use Rattle.c_model.proofs.Closed.{found_before}
 
@@ -32,7 +93,7 @@ climb_append [] vs r a b c h g = climb_down vs r a b c h g
 climb_append (u ∷ us) vs r a b c h g = (h.0, climb_append us vs r (suc (r u)) b c h.1 g)
 
 climb_own : (class : Class) (n k : ℕ) (r : Place → ℕ) → ((kind : Kind) → r (place k kind) ≡ 3 * n + kind_rank kind) →
-  Climbs r (3 * n) (3 * n + 3) (map (place k) (kinds_of class))
+    Climbs r (3 * n) (3 * n + 3) (map (place k) (kinds_of class))
 climb_own Object n k r f = omega arith
 climb_own Constant n k r f = omega arith
 climb_own Plain n k r f = let a = f Val in (omega (arith, a), omega (arith, a))
@@ -48,26 +109,26 @@ Agrees r m count post = (u : Place) → In m count u.node → r u ≡ 3 * post u
 
 mutual
   climb_tree : (taken : Taken) (t : Tree) (k b : ℕ) (r : Place → ℕ) → Agrees r k (size t) (post_in k b t) →
-    Climbs r (3 * b) (3 * (b + size t)) (events taken k t)
+      Climbs r (3 * b) (3 * (b + size t)) (events taken k t)
   climb_tree taken (node class ts) k b r f =
       let low = climb_among taken ts class (taken k) 0 (suc k) b r
-            (λ u h. f u (omega (arith, h.0), omega (arith, h.1)) ∙ ap (λ z. 3 * z + kind_rank u.kind) (post_below k b class ts u.node (omega (arith, h.0)))) in
+      (λ u h. f u (omega (arith, h.0), omega (arith, h.1)) ∙ ap (λ z. 3 * z + kind_rank u.kind) (post_below k b class ts u.node (omega (arith, h.0)))) in
       let own = climb_own class (b + sizes ts) k r
-            (λ kind. f (place k kind) (omega arith, omega arith) ∙ ap (λ z. 3 * z + kind_rank kind) (post_root k b class ts k refl)) in
+      (λ kind. f (place k kind) (omega arith, omega arith) ∙ ap (λ z. 3 * z + kind_rank kind) (post_root k b class ts k refl)) in
       climb_append (operand_events taken class (taken k) 0 (suc k) ts) (own_events k class) r _ _ _ low (raise _ _ (omega arith) own)
     where
       raise : (x y : ℕ) → x ≡ y → Climbs r (3 * (b + sizes ts)) x (own_events k class) → Climbs r (3 * (b + sizes ts)) y (own_events k class)
       raise x y e h = subst (λ z. Climbs r (3 * (b + sizes ts)) z (own_events k class)) e h
 
   climb_among : (taken : Taken) (ts : Trees) (class : Class) (choice : Option ℕ) (i m b : ℕ) (r : Place → ℕ) → Agrees r m (sizes ts) (post_among m b ts) →
-    Climbs r (3 * b) (3 * (b + sizes ts)) (operand_events taken class choice i m ts)
+      Climbs r (3 * b) (3 * (b + sizes ts)) (operand_events taken class choice i m ts)
   climb_among taken none class choice i m b r f = omega arith
   climb_among taken (more t ts) class choice i m b r f =
       let first = climb_tree taken t m b r (λ u h. f u (h.0, omega (arith, h.1)) ∙ ap (λ z. 3 * z + kind_rank u.kind) (post_first m b t ts u.node h.1)) in
       let rest = climb_among taken ts class choice (suc i) (m + size t) (b + size t) r
-            (λ u h. f u (omega (arith, h.0), omega (arith, h.1)) ∙ ap (λ z. 3 * z + kind_rank u.kind) (post_rest m b t ts u.node h.0)) in
+      (λ u h. f u (omega (arith, h.0), omega (arith, h.1)) ∙ ap (λ z. 3 * z + kind_rank u.kind) (post_rest m b t ts u.node h.0)) in
       climb_append (if goes class choice i then events taken m t else []) (operand_events taken class choice (suc i) (m + size t) ts) r _ _ _
-        (skip (goes class choice i) (events taken m t) r _ _ (omega arith) first)
+      (skip (goes class choice i) (events taken m t) r _ _ (omega arith) first)
       (subst (λ z. Climbs r (3 * (b + size t)) (3 * z) (operand_events taken class choice (suc i) (m + size t) ts)) (omega arith) rest)
     where
       skip : (c : Bool) (us : List Place) (r : Place → ℕ) (x y : ℕ) → x ≤ y → Climbs r x y us → Climbs r x y (if c then us else [])
@@ -174,20 +235,32 @@ record Open (done : Place → Bool) (us : List Place) : Type 0 where
   left_effect : done (place number Eff) ≡ false
 
 open_left : (done : Place → Bool) (us vs : List Place) → Open done us → Open done (us ++ vs)
-open_left done us vs o = record { number = o.number; done_value = o.done_value; left_effect = o.left_effect; value =
-  has_or us vs (place o.number Val) ∙ or_a _ _ o.value; effect = has_or us vs (place o.number Eff) ∙ or_a _ _ o.effect }
+open_left done us vs o = record {
+  number = o.number;
+  done_value = o.done_value;
+  left_effect = o.left_effect;
+  value =
+      has_or us vs (place o.number Val) ∙ or_a _ _ o.value;
+  effect = has_or us vs (place o.number Eff) ∙ or_a _ _ o.effect;
+}
 
 open_right : (done : Place → Bool) (us vs : List Place) → Open done vs → Open done (us ++ vs)
-open_right done us vs o = record { number = o.number; done_value = o.done_value; left_effect = o.left_effect; value =
-  has_or us vs (place o.number Val) ∙ or_b (has us (place o.number Val)) _ o.value; effect =
-  has_or us vs (place o.number Eff) ∙ or_b (has us (place o.number Eff)) _ o.effect }
+open_right done us vs o = record {
+  number = o.number;
+  done_value = o.done_value;
+  left_effect = o.left_effect;
+  value =
+      has_or us vs (place o.number Val) ∙ or_b (has us (place o.number Val)) _ o.value;
+  effect =
+      has_or us vs (place o.number Eff) ∙ or_b (has us (place o.number Eff)) _ o.effect;
+}
 
 not_of : (b : Bool) → not b ≡ true → b ≡ false
 not_of true h = absurd (true≢false (sym h))
 not_of false h = refl
 
 open_own : (class : Class) (done : Place → Bool) (k : ℕ) → (own_rule class Val Eff && (done (place k Val) && not (done (place k Eff)))) ≡ true →
-  Open done (own_events k class)
+    Open done (own_events k class)
 open_own Update done k h = record {
   number = k;
   value = or_a _ _ (same_place_itself (place k Val));
@@ -209,11 +282,11 @@ mutual
   ]
 
   open_among : (taken : Taken) (done : Place → Bool) (ts : Trees) (class : Class) (choice : Option ℕ) (i m : ℕ) →
-    operand_is_open taken done class choice i m ts ≡ true → Open done (operand_events taken class choice i m ts)
+      operand_is_open taken done class choice i m ts ≡ true → Open done (operand_events taken class choice i m ts)
   open_among taken done none class choice i m h = absurd (true≢false (sym h))
   open_among taken done (more t ts) class choice i m h = elim (or_cases (goes class choice i && update_is_open taken done m t) _ h) [
     | inl a ↦ open_left done (if goes class choice i then events taken m t else []) _
-      (open_if done (goes class choice i) (events taken m t) (and_l _ _ a) (open_in taken done t m (and_r (goes class choice i) _ a)))
+        (open_if done (goes class choice i) (events taken m t) (and_l _ _ a) (open_in taken done t m (and_r (goes class choice i) _ a)))
     | inr a ↦ open_right done (if goes class choice i then events taken m t else []) _ (open_among taken done ts class choice (suc i) (m + size t) a)
   ]
 
@@ -264,7 +337,7 @@ append_none [] = refl
 append_none (u ∷ us) = ap (λ z. u ∷ z) (append_none us)
 
 pub none_left : (root : Tree) (taken : Taken) (done : Place → Bool) → ((w : Place) → has (events taken 0 root) w ≡ true → done w ≡ true) →
-  canonical root taken done ≡ None
+    canonical root taken done ≡ None
 none_left root taken done f =
     ap (first_place (is_permitted root taken done)) (sym (append_none (events taken 0 root)))
     ∙ first_skip (is_permitted root taken done) (events taken 0 root) [] (λ w h. not_again root taken done w (f w h))

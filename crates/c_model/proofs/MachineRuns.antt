@@ -1,7 +1,28 @@
 -- Picks of a machine of frames, one after another: what they do in another store, and what comes to the front of them.
 use Rattle.std.proofs.Common.{◌≡◌, ◌≢◌, ℕ, ◌+◌, Bool, true, false, ◌||◌, List, [], ◌∷◌, ◌++◌, refl, sym, ap, ◌∙◌, subst, append_assoc, append-nil, arith}
-use Rattle.c_model.specs.Machine.{Machine, FrameRun as Trace, nil, put, Evaluation as Block, act, body, value, items, its, clash_one, clash_any, alter,
-  count_all, Apart as Apart_m, Diff as Diff_m, Holds as Holds_m, Does as Does_m, after as after_m, Valid as Valid_m, Made as Made_m}
+use Rattle.c_model.specs.Machine.{
+  Machine,
+  FrameRun as Trace,
+  nil,
+  put,
+  Evaluation as Block,
+  act,
+  body,
+  value,
+  items,
+  its,
+  clash_one,
+  clash_any,
+  alter,
+  count_all,
+  Apart as Apart_m,
+  Diff as Diff_m,
+  Holds as Holds_m,
+  Does as Does_m,
+  after as after_m,
+  Valid as Valid_m,
+  Made as Made_m,
+}
 use Rattle.c_model.specs.MachineLaws.{StoreLaws, FrameLaws}
 
 pub or_left : (a b : Bool) → (a || b) ≡ false → a ≡ false
@@ -74,7 +95,7 @@ module _ {F P V S I Part Seen Fact : Type 0} (machine : Machine F P V S I Part S
   pub apart_left : (i k j : List I) → Apart (i ++ k) j → Apart i j
   apart_left [] k j h = refl
   apart_left (a ∷ i) k j h = or_both _ _ (or_left (clash_one machine a j) (clash_any machine (i ++ k) j) h)
-    (apart_left i k j (or_right (clash_one machine a j) (clash_any machine (i ++ k) j) h))
+      (apart_left i k j (or_right (clash_one machine a j) (clash_any machine (i ++ k) j) h))
 
   pub apart_right : (i k j : List I) → Apart (i ++ k) j → Apart k j
   apart_right [] k j h = h
@@ -83,7 +104,7 @@ module _ {F P V S I Part Seen Fact : Type 0} (machine : Machine F P V S I Part S
   pub apart_both : (i k j : List I) → Apart i j → Apart k j → Apart (i ++ k) j
   apart_both [] k j h g = g
   apart_both (a ∷ i) k j h g = or_both _ _ (or_left (clash_one machine a j) (clash_any machine i j) h)
-    (apart_both i k j (or_right (clash_one machine a j) (clash_any machine i j) h) g)
+      (apart_both i k j (or_right (clash_one machine a j) (clash_any machine i j) h) g)
 
   -- counts
   pub count_joined : (i j : List I) (n : ℕ) → count_all machine (i ++ j) n ≡ count_all machine j (count_all machine i n)
@@ -128,16 +149,18 @@ module _ {F P V S I Part Seen Fact : Type 0} (machine : Machine F P V S I Part S
     each_of : (b : I) (j i : List I) → Apart i (b ∷ j) → Each b i
     each_of b j [] h = tt
     each_of b j (a ∷ i) h =
-        let first = or_left (machine.clash a b || clash_one machine a j) (clash_any machine i (b ∷ j)) h in
-        (or_left (machine.clash a b) (clash_one machine a j) first, each_of b j i
-          (or_right (machine.clash a b || clash_one machine a j) (clash_any machine i (b ∷ j)) h))
+        let first = or_left (machine.clash a b || clash_one machine a j) (clash_any machine i (b ∷ j)) h in (
+          or_left (machine.clash a b) (clash_one machine a j) first,
+          each_of b j i
+              (or_right (machine.clash a b || clash_one machine a j) (clash_any machine i (b ∷ j)) h),
+        )
 
     rest_of : (b : I) (j i : List I) → Apart i (b ∷ j) → Apart i j
     rest_of b j [] h = refl
     rest_of b j (a ∷ i) h =
         let first = or_left (machine.clash a b || clash_one machine a j) (clash_any machine i (b ∷ j)) h in
         or_both _ _ (or_right (machine.clash a b) (clash_one machine a j) first)
-          (rest_of b j i (or_right (machine.clash a b || clash_one machine a j) (clash_any machine i (b ∷ j)) h))
+        (rest_of b j i (or_right (machine.clash a b || clash_one machine a j) (clash_any machine i (b ∷ j)) h))
 
     pub apart_sym : (i j : List I) → Apart i j → Apart j i
     apart_sym i [] h = refl
@@ -154,7 +177,7 @@ module _ {F P V S I Part Seen Fact : Type 0} (machine : Machine F P V S I Part S
     -- a run gives the same in another store, where that differs by what doesn't conflict
     mutual
       pub sim : (t : Trace P V I) (f : F) (s s' u : S) (j : List I) → Valid t f s s' → Diff j s u → Apart (items t) j →
-        (u' : S) × Valid t f u u' × Diff j s' u'
+          (u' : S) × Valid t f u u' × Diff j s' u'
       sim nil f s s' u j h d fr = (u, refl, subst (λ x. Diff j x u) h d)
       sim (put p b r) f s s' u j (rd, (m, mk, hr)) d fr =
           let a = sim_block b f p s m u j mk d (apart_left (its b) (items r) j fr) in
@@ -162,7 +185,7 @@ module _ {F P V S I Part Seen Fact : Type 0} (machine : Machine F P V S I Part S
           (c.0, (rd, (a.0, a.1, c.1)), c.2)
 
       pub sim_block : (b : Block P V I) (f : F) (p : P) (s s' u : S) (j : List I) → Made b f p s s' → Diff j s u → Apart (its b) j →
-        (u' : S) × Made b f p u u' × Diff j s' u'
+          (u' : S) × Made b f p u u' × Diff j s' u'
       sim_block (act v is) f p s s' u j (mv, dn) d fr =
           let a = elsewhere f p s u v is s' j dn d fr in (a.0, (mv, a.1), a.2)
       sim_block (body t l v is) f p s s' u j (g, mv, rl, ml, (m, hi, dn)) d fr =
@@ -176,13 +199,13 @@ module _ {F P V S I Part Seen Fact : Type 0} (machine : Machine F P V S I Part S
       changed nil f s s' h = subst (λ x. Diff [] s x) h (diff_refl [] s)
       changed (put p b r) f s s' (rd, (m, mk, hr)) =
           diff_trans (its b ++ items r) s m s' (diff_left (its b) (items r) s m (changed_block b f p s m mk))
-            (diff_right (its b) (items r) m s' (changed r (next f p (value b)) m s' hr))
+          (diff_right (its b) (items r) m s' (changed r (next f p (value b)) m s' hr))
 
       pub changed_block : (b : Block P V I) (f : F) (p : P) (s s' : S) → Made b f p s s' → Diff (its b) s s'
       changed_block (act v is) f p s s' (mv, dn) = changes f p s v is s' dn
       changed_block (body t l v is) f p s s' (g, mv, rl, ml, (m, hi, dn)) =
           diff_trans (items t ++ is) s m s' (diff_left (items t) is s m (changed t g s m hi))
-            (diff_right (items t) is m s' (changes (after t g) l m v is s' dn))
+          (diff_right (items t) is m s' (changes (after t g) l m v is s' dn))
 
     -- what the items say has happened still holds after a run
     mutual
@@ -203,7 +226,7 @@ module _ {F P V S I Part Seen Fact : Type 0} (machine : Machine F P V S I Part S
       adds_run nil f s s' h = sym (ap machine.counted h)
       adds_run (put p b r) f s s' (rd, (m, mk, hr)) =
           adds_run r (next f p (value b)) m s' hr ∙ ap (count_all machine (items r)) (adds_block b f p s m mk) ∙ sym
-            (count_joined (its b) (items r) (machine.counted s))
+          (count_joined (its b) (items r) (machine.counted s))
 
       adds_block : (b : Block P V I) (f : F) (p : P) (s s' : S) → Made b f p s s' → machine.counted s' ≡ count_all machine (its b) (machine.counted s)
       adds_block (act v is) f p s s' (mv, dn) = adds f p s v is s' dn
@@ -239,7 +262,7 @@ module _ {F P V S I Part Seen Fact : Type 0} (machine : Machine F P V S I Part S
 
       -- the picks can be done after q too, in a store that differs by what doesn't conflict
       pub over : (t : Trace P V I) (f : F) (q : P) (w : V) (s s' u : S) (j : List I) → Valid t f s s' → ready f q → Without q t → Diff j s u →
-        Apart (items t) j → (u' : S) × Valid t (next f q w) u u' × Diff j s' u'
+          Apart (items t) j → (u' : S) × Valid t (next f q w) u u' × Diff j s' u'
       over nil f q w s s' u j h rq wo d fr = (u, refl, subst (λ x. Diff j x u) h d)
       over (put p b r) f q w s s' u j (rd, (m, mk, hr)) rq (ne, wo) d fr =
           let en : q ≢ p = λ e. ne (sym e) in
@@ -250,7 +273,7 @@ module _ {F P V S I Part Seen Fact : Type 0} (machine : Machine F P V S I Part S
 
       -- what is ready moves to the front of the picks that don't conflict with it
       pub front : (t r : Trace P V I) (f : F) (q : P) (b : Block P V I) (s s' : S) → Valid (joined t (put q b r)) f s s' → ready f q → Without q t →
-        Apart (items t) (its b) → Valid (put q b (joined t r)) f s s'
+          Apart (items t) (its b) → Valid (put q b (joined t r)) f s s'
       front t r f q b s s' h rq wo fr =
           let w = valid_split t (put q b r) f s s' h in
           let sx = w.0 in
@@ -261,7 +284,7 @@ module _ {F P V S I Part Seen Fact : Type 0} (machine : Machine F P V S I Part S
           let k = waits t f q s sx ht rq wo in
           let cx = changed t f s sx ht in
           let e = sim_block b f q sx m s (items t) (made_at b (after t f) f q sx m k.as_move k.as_does mk) (diff_sym (items t) s sx cx)
-                (apart_sym (items t) (its b) fr) in
+          (apart_sym (items t) (its b) fr) in
           let su = e.0 in
           let o = over t f q (value b) s sx su (its b) ht rq wo (changed_block b f q s su e.1) fr in
           let sux = o.0 in
@@ -283,7 +306,7 @@ module _ {F P V S I Part Seen Fact : Type 0} (machine : Machine F P V S I Part S
           (rq, (su, e.1, valid_joined t r (next f q (value b)) su o.0 s' o.1 hr2))
 
       pub front_end : (t r : Trace P V I) (f : F) (q : P) (b : Block P V I) (s s' : S) → Valid (joined t (put q b r)) f s s' → ready f q → Without q t →
-        after (put q b (joined t r)) f ≡ after (joined t (put q b r)) f
+          after (put q b (joined t r)) f ≡ after (joined t (put q b r)) f
       front_end t r f q b s s' h rq wo =
           let w = valid_split t (put q b r) f s s' h in
           let k = waits t f q s w.0 w.1 rq wo in
@@ -295,6 +318,6 @@ module _ {F P V S I Part Seen Fact : Type 0} (machine : Machine F P V S I Part S
       total k (put p b r) = k p b + total k r
 
       pub total_front : (k : P → Block P V I → ℕ) (t r : Trace P V I) (q : P) (b : Block P V I) →
-        total k (put q b (joined t r)) ≡ total k (joined t (put q b r))
+          total k (put q b (joined t r)) ≡ total k (joined t (put q b r))
       total_front k nil r q b = refl
       total_front k (put p u t) r q b = let ih = total_front k t r q b in omega (arith, ih)

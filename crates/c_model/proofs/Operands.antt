@@ -1,6 +1,34 @@
 -- What an event that may come next reads of its full expression no other such event gives.
-use Rattle.std.proofs.Common.{◌≡◌, ◌≢◌, ℕ, suc, ◌+◌, ◌<◌, ◌≤◌, Bool, true, false, not, ◌&&◌, ◌||◌, ◌==◌, nat_lt, if◌then◌else◌, true≢false, Option, Some,
-  refl, sym, ap, ◌∙◌, subst, ◌⊎◌, inl, inr, arith}
+use Rattle.std.proofs.Common.{
+  ◌≡◌,
+  ◌≢◌,
+  ℕ,
+  suc,
+  ◌+◌,
+  ◌<◌,
+  ◌≤◌,
+  Bool,
+  true,
+  false,
+  not,
+  ◌&&◌,
+  ◌||◌,
+  ◌==◌,
+  nat_lt,
+  if◌then◌else◌,
+  true≢false,
+  Option,
+  Some,
+  refl,
+  sym,
+  ap,
+  ◌∙◌,
+  subst,
+  ◌⊎◌,
+  inl,
+  inr,
+  arith,
+}
 use Rattle.std.proofs.lemmas.Bool.Decides.{nat_tests}
 use Rattle.ub_base.specs.declared.clause.Kind.{Kind}
 use Rattle.ub_base.specs.declared.clause.Kind.TheVariants.{Val, Eff, Body}
@@ -109,11 +137,11 @@ mutual
   node_among_in none k m e q = absurd (cc)
   node_among_in (more t ts) k m e q =
       among_in (nat_lt m (k + size (tree_of t))) t ts (at_node k t m) (at_node_among (k + size (tree_of t)) ts m) k m e (node_in t k m e)
-        (node_among_in ts (k + size (tree_of t)) m e) q
+      (node_among_in ts (k + size (tree_of t)) m e) q
 
 -- the value of an operand comes before the events of its node, but before a body only in a call
 module _ (taken : Taken) (m c : ℕ) (kind : Kind) (h : Head) (ty : CType) (line : ℕ) (us : Exprs) (operand : is_operand (suc m) us c ≡ true)
-  (calls : kind ≡ Body → is_call (head_class h (trees_of us)) ≡ true) where
+    (calls : kind ≡ Body → is_call (head_class h (trees_of us)) ≡ true) where
   abbrev class : Class
   class = head_class h (trees_of us)
 
@@ -139,7 +167,7 @@ module _ (taken : Taken) (m c : ℕ) (kind : Kind) (h : Head) (ty : CType) (line
         let r = reaches kind calls choice i (is_last (trees_of ts)) (not (is_quiet (tree_of t))) t k (and_r (k == c) _ a) in
         if_true (nat_lt c (k + size (tree_of t))) _ _ (lt_lt _ _ (omega (arith, q, z)))
         ∙ subst (λ x. lifts class choice i (is_last (trees_of ts)) kind ||
-          (not (is_body kind) && (not (is_quiet (tree_of t)) && to_val taken k (tree_of t) (place x Val))) ≡ true) q r)
+        (not (is_body kind) && (not (is_quiet (tree_of t)) && to_val taken k (tree_of t) (place x Val))) ≡ true) q r)
     | inr a ↦ (let r = operand_in ts (k + size (tree_of t)) c a in
         if_false (nat_lt c (k + size (tree_of t))) _ _ (ge_lt _ _ r.0) ∙ operand_rises ts choice (suc i) (k + size (tree_of t)) a)
   ]
@@ -151,13 +179,13 @@ module _ (taken : Taken) (m c : ℕ) (kind : Kind) (h : Head) (ty : CType) (line
       let here : is_before taken m (tree_of (expr h ty line us)) (place c Val) (place m kind) ≡ true =
       if_false (c == m) _ _ (ne_ne c m (omega (arith, r.0))) ∙ (if_true (m == m) _ _ (eq_eq m) ∙ operand_rises us (taken m) 0 (suc m) operand) in
       subst (λ z. is_before taken z (tree_of e0) (place c Val) (place m kind) ≡ true) (sym e)
-        (subst (λ z. is_before taken m (tree_of z) (place c Val) (place m kind) ≡ true) (sym q) here)
+      (subst (λ z. is_before taken m (tree_of z) (place c Val) (place m kind) ≡ true) (sym q) here)
 
   root_operand : (b : Bool) (p : Head) (py : CType) (pl : ℕ) (ts : Exprs) (k : ℕ) → (k == m) ≡ b
       → (at_node_among (suc k) ts m ≡ Some (expr h ty line us) → between taken (head_class p (trees_of ts)) (taken k) 0 (suc k) (trees_of ts) (place c Val)
-        (place m kind) ≡ true)
+      (place m kind) ≡ true)
       → (if b then Some (expr p py pl ts) else at_node_among (suc k) ts m) ≡ Some (expr h ty line us) →
-        is_before taken k (tree_of (expr p py pl ts)) (place c Val) (place m kind) ≡ true
+      is_before taken k (tree_of (expr p py pl ts)) (place c Val) (place m kind) ≡ true
   root_operand true p py pl ts k e f q = at_root (expr p py pl ts) k (some_inj q) (eq_of k m e)
   root_operand false p py pl ts k e f q =
       let r = operand_in us (suc m) c operand in
@@ -167,9 +195,9 @@ module _ (taken : Taken) (m c : ℕ) (kind : Kind) (h : Head) (ty : CType) (line
   among_operand : (b : Bool) (p : Class) (choice : Option ℕ) (i : ℕ) (t : Expr) (ts : Exprs) (k : ℕ) → nat_lt m (k + size (tree_of t)) ≡ b
       → (at_node k t m ≡ Some (expr h ty line us) → is_before taken k (tree_of t) (place c Val) (place m kind) ≡ true)
       → (at_node_among (k + size (tree_of t)) ts m ≡ Some (expr h ty line us) →
-        between taken p choice (suc i) (k + size (tree_of t)) (trees_of ts) (place c Val) (place m kind) ≡ true)
+      between taken p choice (suc i) (k + size (tree_of t)) (trees_of ts) (place c Val) (place m kind) ≡ true)
       → (if b then at_node k t m else at_node_among (k + size (tree_of t)) ts m) ≡ Some (expr h ty line us) →
-        between taken p choice i k (trees_of (more t ts)) (place c Val) (place m kind) ≡ true
+      between taken p choice i k (trees_of (more t ts)) (place c Val) (place m kind) ≡ true
   among_operand true p choice i t ts k e f g q =
       let r = operand_in us (suc m) c operand in
       let z = node_in t k m (expr h ty line us) q in
@@ -182,30 +210,30 @@ module _ (taken : Taken) (m c : ℕ) (kind : Kind) (h : Head) (ty : CType) (line
   mutual
     pub operand_before : (t : Expr) (k : ℕ) → at_node k t m ≡ Some (expr h ty line us) → is_before taken k (tree_of t) (place c Val) (place m kind) ≡ true
     operand_before (expr p py pl ts) k q = root_operand (k == m) p py pl ts k refl
-      (λ g. operand_between ts (suc k) 0 (head_class p (trees_of ts)) (taken k) g) q
+        (λ g. operand_between ts (suc k) 0 (head_class p (trees_of ts)) (taken k) g) q
 
     operand_between : (ts : Exprs) (k i : ℕ) (p : Class) (choice : Option ℕ) → at_node_among k ts m ≡ Some (expr h ty line us) →
-      between taken p choice i k (trees_of ts) (place c Val) (place m kind) ≡ true
+        between taken p choice i k (trees_of ts) (place c Val) (place m kind) ≡ true
     operand_between none k i p choice q = absurd (cc)
     operand_between (more t ts) k i p choice q =
         among_operand (nat_lt m (k + size (tree_of t))) p choice i t ts k refl (operand_before t k)
-          (operand_between ts (k + size (tree_of t)) (suc i) p choice) q
+        (operand_between ts (k + size (tree_of t)) (suc i) p choice) q
 
 -- of two events of one node, the one that the node's own rule puts first comes before
 module _ (taken : Taken) (m : ℕ) (first second : Kind) (h : Head) (ty : CType) (line : ℕ) (us : Exprs)
-  (own : own_rule (head_class h (trees_of us)) first second ≡ true) where
+    (own : own_rule (head_class h (trees_of us)) first second ≡ true) where
   own_at_root : (e0 : Expr) (k : ℕ) → e0 ≡ expr h ty line us → k ≡ m → is_before taken k (tree_of e0) (place m first) (place m second) ≡ true
   own_at_root e0 k q e =
       let here : is_before taken m (tree_of (expr h ty line us)) (place m first) (place m second) ≡ true =
-            if_true (m == m) _ _ (eq_eq m) ∙ and_b _ _ (eq_eq m) own in
+      if_true (m == m) _ _ (eq_eq m) ∙ and_b _ _ (eq_eq m) own in
       subst (λ z. is_before taken z (tree_of e0) (place m first) (place m second) ≡ true) (sym e)
-        (subst (λ z. is_before taken m (tree_of z) (place m first) (place m second) ≡ true) (sym q) here)
+      (subst (λ z. is_before taken m (tree_of z) (place m first) (place m second) ≡ true) (sym q) here)
 
   own_root : (b : Bool) (p : Head) (py : CType) (pl : ℕ) (ts : Exprs) (k : ℕ) → (k == m) ≡ b
       → (at_node_among (suc k) ts m ≡ Some (expr h ty line us) → between taken (head_class p (trees_of ts)) (taken k) 0 (suc k) (trees_of ts) (place m first)
-        (place m second) ≡ true)
+      (place m second) ≡ true)
       → (if b then Some (expr p py pl ts) else at_node_among (suc k) ts m) ≡ Some (expr h ty line us) →
-        is_before taken k (tree_of (expr p py pl ts)) (place m first) (place m second) ≡ true
+      is_before taken k (tree_of (expr p py pl ts)) (place m first) (place m second) ≡ true
   own_root true p py pl ts k e f q = own_at_root (expr p py pl ts) k (some_inj q) (eq_of k m e)
   own_root false p py pl ts k e f q =
       let z = node_among_in ts (suc k) m (expr h ty line us) q in
@@ -215,9 +243,9 @@ module _ (taken : Taken) (m : ℕ) (first second : Kind) (h : Head) (ty : CType)
   own_among : (b : Bool) (p : Class) (choice : Option ℕ) (i : ℕ) (t : Expr) (ts : Exprs) (k : ℕ) → nat_lt m (k + size (tree_of t)) ≡ b
       → (at_node k t m ≡ Some (expr h ty line us) → is_before taken k (tree_of t) (place m first) (place m second) ≡ true)
       → (at_node_among (k + size (tree_of t)) ts m ≡ Some (expr h ty line us) →
-        between taken p choice (suc i) (k + size (tree_of t)) (trees_of ts) (place m first) (place m second) ≡ true)
+      between taken p choice (suc i) (k + size (tree_of t)) (trees_of ts) (place m first) (place m second) ≡ true)
       → (if b then at_node k t m else at_node_among (k + size (tree_of t)) ts m) ≡ Some (expr h ty line us) →
-        between taken p choice i k (trees_of (more t ts)) (place m first) (place m second) ≡ true
+      between taken p choice i k (trees_of (more t ts)) (place m first) (place m second) ≡ true
   own_among true p choice i t ts k e f g q = if_true (nat_lt m (k + size (tree_of t))) _ _ e ∙ (if_true (nat_lt m (k + size (tree_of t))) _ _ e ∙ f q)
   own_among false p choice i t ts k e f g q = if_false (nat_lt m (k + size (tree_of t))) _ _ e ∙ (if_false (nat_lt m (k + size (tree_of t))) _ _ e ∙ g q)
 
@@ -226,7 +254,7 @@ module _ (taken : Taken) (m : ℕ) (first second : Kind) (h : Head) (ty : CType)
     own_before (expr p py pl ts) k q = own_root (k == m) p py pl ts k refl (λ g. own_between ts (suc k) 0 (head_class p (trees_of ts)) (taken k) g) q
 
     own_between : (ts : Exprs) (k i : ℕ) (p : Class) (choice : Option ℕ) → at_node_among k ts m ≡ Some (expr h ty line us) →
-      between taken p choice i k (trees_of ts) (place m first) (place m second) ≡ true
+        between taken p choice i k (trees_of ts) (place m first) (place m second) ≡ true
     own_between none k i p choice q = absurd (cc)
     own_between (more t ts) k i p choice q =
         own_among (nat_lt m (k + size (tree_of t))) p choice i t ts k refl (own_before t k) (own_between ts (k + size (tree_of t)) (suc i) p choice) q

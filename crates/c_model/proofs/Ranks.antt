@@ -1,6 +1,38 @@
 -- Sequenced before goes up in post-order, so it has no circle.
-use Rattle.std.proofs.Common.{◌≡◌, ℕ, suc, ◌+◌, ◌*◌, ◌<◌, ◌≤◌, Bool, true, false, not, ◌&&◌, ◌||◌, ◌==◌, nat_lt, if◌then◌else◌, IsTrue, List, [], ◌∷◌, ◌++◌,
-  map, Option, refl, sym, ap, ◌∙◌, ◌⊎◌, inl, inr, true≢false, arith}
+use Rattle.std.proofs.Common.{
+  ◌≡◌,
+  ℕ,
+  suc,
+  ◌+◌,
+  ◌*◌,
+  ◌<◌,
+  ◌≤◌,
+  Bool,
+  true,
+  false,
+  not,
+  ◌&&◌,
+  ◌||◌,
+  ◌==◌,
+  nat_lt,
+  if◌then◌else◌,
+  IsTrue,
+  List,
+  [],
+  ◌∷◌,
+  ◌++◌,
+  map,
+  Option,
+  refl,
+  sym,
+  ap,
+  ◌∙◌,
+  ◌⊎◌,
+  inl,
+  inr,
+  true≢false,
+  arith,
+}
 use Rattle.std.proofs.lemmas.Bool.Decides.{nat_tests}
 use Rattle.ub_base.specs.declared.clause.Kind.{Kind}
 use Rattle.ub_base.specs.declared.clause.Kind.TheVariants.{Val, Eff, Body}
@@ -8,8 +40,27 @@ use Rattle.c_typed.specs.declared.tree.Place.{Place}
 use Rattle.c_typed.specs.declared.class.Class.{Class}
 use Rattle.c_typed.specs.declared.class.Class.TheVariants.{Update}
 use Rattle.c_typed.specs.Tree.{Tree, node, Trees, none, more, size, sizes, is_quiet, kinds_of}
-use Rattle.c_typed.specs.Order.{Taken, goes, place, same_place, events, operand_events, has, is_val, is_body, across, upward, is_last, own_rule, in_later,
-  comes, operand_rules, Before, rule, chain}
+use Rattle.c_typed.specs.Order.{
+  Taken,
+  goes,
+  place,
+  same_place,
+  events,
+  operand_events,
+  has,
+  is_val,
+  is_body,
+  across,
+  upward,
+  is_last,
+  own_rule,
+  in_later,
+  comes,
+  operand_rules,
+  Before,
+  rule,
+  chain,
+}
 
 pub eq_of : (a b : ℕ) → (a == b) ≡ true → a ≡ b
 eq_of a b h = grind (arith, nat_tests, h)
@@ -91,7 +142,7 @@ mutual
   post_among_range : (ts : Trees) (m b n : ℕ) → In m (sizes ts) n → In b (sizes ts) (post_among m b ts n)
   post_among_range none m b n h = absurd (omega (arith, h.0, h.1))
   post_among_range (more t ts) m b n h = among_range (nat_lt n (m + size t)) m b n t ts refl h (post_range t m b n)
-    (post_among_range ts (m + size t) (b + size t) n)
+      (post_among_range ts (m + size t) (b + size t) n)
 
 has_append : (xs ys : List Place) (u : Place) → has (xs ++ ys) u ≡ true → (has xs u ≡ true) ⊎ (has ys u ≡ true)
 has_append [] ys u h = inr h
@@ -124,7 +175,7 @@ mutual
   ]
 
   pub operands_in : (taken : Taken) (class : Class) (choice : Option ℕ) (ts : Trees) (i m : ℕ) (u : Place) →
-    has (operand_events taken class choice i m ts) u ≡ true → In m (sizes ts) u.node
+      has (operand_events taken class choice i m ts) u ≡ true → In m (sizes ts) u.node
   operands_in taken class choice none i m u h = absurd (cc)
   operands_in taken class choice (more t ts) i m u h = elim (has_append (if goes class choice i then events taken m t else []) _ u h) [
     | inl a ↦ (let r = events_in taken t m u (if_has (goes class choice i) _ u a) in (r.0, omega (arith, r.1)))
@@ -132,7 +183,7 @@ mutual
   ]
 
 pub later_in : (taken : Taken) (class : Class) (choice : Option ℕ) (i : ℕ) (ts : Trees) (j m : ℕ) (v : Place) →
-  in_later taken class choice i j m ts v ≡ true → In m (sizes ts) v.node
+    in_later taken class choice i j m ts v ≡ true → In m (sizes ts) v.node
 later_in taken class choice i none j m v h = absurd (cc)
 later_in taken class choice i (more t ts) j m v h = elim (or_cases (across class choice i j && has (events taken m t) v) _ h) [
   | inl a ↦ (let r = events_in taken t m v (and_r (across class choice i j) _ a) in (r.0, omega (arith, r.1)))
@@ -149,7 +200,7 @@ rank_among m b ts u = 3 * post_among m b ts u.node + kind_rank u.kind
 abbrev Rises : (k m b : ℕ) → Trees → Place → Place → Type 0
 Rises k m b ts u v =
     In m (sizes ts) u.node × (((v.node ≡ k) × (post_among m b ts u.node < b + sizes ts)) ⊎
-      (In m (sizes ts) v.node × (rank_among m b ts u < rank_among m b ts v)))
+    (In m (sizes ts) v.node × (rank_among m b ts u < rank_among m b ts v)))
 
 own_rank : (class : Class) (u v : Kind) → own_rule class u v ≡ true → kind_rank u < kind_rank v
 own_rank Update Val Eff h = omega arith
@@ -196,7 +247,7 @@ past_to k m b t ts u v h g =
 
 -- two events of the first operand
 within_first : (k m b : ℕ) (t : Tree) (ts : Trees) (u v : Place) → In m (size t) u.node → In m (size t) v.node → rank_in m b t u < rank_in m b t v →
-  Rises k m b (more t ts) u v
+    Rises k m b (more t ts) u v
 within_first k m b t ts u v h g l =
     let e = post_first m b t ts u.node h.1 in
     let f = post_first m b t ts v.node g.1 in
@@ -215,7 +266,7 @@ abbrev Ranked : (k b : ℕ) → Tree → Place → Place → Type 0
 Ranked k b t u v = In k (size t) u.node × In k (size t) v.node × (rank_in k b t u < rank_in k b t v)
 
 own_case : (k b : ℕ) (class : Class) (ts : Trees) (u v : Place) → ((u.node == k) && ((v.node == k) && own_rule class u.kind v.kind)) ≡ true →
-  Ranked k b (node class ts) u v
+    Ranked k b (node class ts) u v
 own_case k b class ts u v h =
     let eu : u.node ≡ k = eq_of u.node k (and_l _ _ h) in
     let ev : v.node ≡ k = eq_of v.node k (and_l (v.node == k) _ (and_r (u.node == k) _ h)) in
@@ -242,23 +293,23 @@ here_case : (taken : Taken) (class : Class) (choice : Option ℕ) (k i m b : ℕ
     || comes taken m t u v)) ≡ true
     → Rises k m b (more t ts) u v
 here_case taken class choice k i m b t ts u v f h =
-  elim (or_cases ((u.node == m) && (is_val u.kind && (not (is_quiet t) && ((v.node == k) && not (is_body v.kind))))) _ h) [
-  | inl a ↦
-      (let eu : u.node ≡ m = eq_of u.node m (and_l _ _ a) in
-      let vk : v.node ≡ k = eq_of v.node k (and_l (v.node == k) _ (and_r (not (is_quiet t)) _ (and_r (is_val u.kind) _ (and_r (u.node == m) _ a)))) in
-      let z = size_pos t in
-      up_from k m b t ts u v (omega (arith, eu), omega (arith, eu, z)) vk)
-  | inr a ↦ (elim (or_cases (has (events taken m t) u &&
-    (((v.node == k) && upward class choice i (is_last ts) v.kind) || in_later taken class choice i (suc i) (m + size t) ts v)) _ a) [
-    | inl c ↦
-        (let r = events_in taken t m u (and_l _ _ c) in
-        elim (or_cases ((v.node == k) && upward class choice i (is_last ts) v.kind) _ (and_r (has (events taken m t) u) _ c)) [
-          | inl d ↦ up_from k m b t ts u v r (eq_of v.node k (and_l _ _ d))
-          | inr d ↦ past_to k m b t ts u v r (later_in taken class choice i ts (suc i) (m + size t) v d)
-        ])
-    | inr c ↦ (let r = f c in within_first k m b t ts u v r.0 r.1 r.2)
-  ])
-]
+    elim (or_cases ((u.node == m) && (is_val u.kind && (not (is_quiet t) && ((v.node == k) && not (is_body v.kind))))) _ h) [
+      | inl a ↦
+          (let eu : u.node ≡ m = eq_of u.node m (and_l _ _ a) in
+          let vk : v.node ≡ k = eq_of v.node k (and_l (v.node == k) _ (and_r (not (is_quiet t)) _ (and_r (is_val u.kind) _ (and_r (u.node == m) _ a)))) in
+          let z = size_pos t in
+          up_from k m b t ts u v (omega (arith, eu), omega (arith, eu, z)) vk)
+      | inr a ↦ (elim (or_cases (has (events taken m t) u &&
+          (((v.node == k) && upward class choice i (is_last ts) v.kind) || in_later taken class choice i (suc i) (m + size t) ts v)) _ a) [
+            | inl c ↦
+                (let r = events_in taken t m u (and_l _ _ c) in
+                elim (or_cases ((v.node == k) && upward class choice i (is_last ts) v.kind) _ (and_r (has (events taken m t) u) _ c)) [
+                  | inl d ↦ up_from k m b t ts u v r (eq_of v.node k (and_l _ _ d))
+                  | inr d ↦ past_to k m b t ts u v r (later_in taken class choice i ts (suc i) (m + size t) v d)
+                ])
+            | inr c ↦ (let r = f c in within_first k m b t ts u v r.0 r.1 r.2)
+          ])
+    ]
 
 mutual
   comes_rank : (taken : Taken) (t : Tree) (k b : ℕ) (u v : Place) → comes taken k t u v ≡ true → Ranked k b t u v
@@ -268,7 +319,7 @@ mutual
   ]
 
   operand_rank : (taken : Taken) (class : Class) (choice : Option ℕ) (k : ℕ) (ts : Trees) (i m b : ℕ) (u v : Place) →
-    operand_rules taken class choice k i m ts u v ≡ true → Rises k m b ts u v
+      operand_rules taken class choice k i m ts u v ≡ true → Rises k m b ts u v
   operand_rank taken class choice k none i m b u v h = absurd (true≢false (sym h))
   operand_rank taken class choice k (more t ts) i m b u v h = elim (or_cases (goes class choice i && _) _ h) [
     | inl a ↦ here_case taken class choice k i m b t ts u v (comes_rank taken t m b u v) (and_r (goes class choice i) _ a)

@@ -60,7 +60,7 @@ out_of true false c h p q = absurd (true≢false (sym q))
 out_of false b c h p q = absurd (true≢false (sym p))
 
 pub stays : (root : Tree) (taken : Taken) (set : Place → Bool) → is_closed root taken set ≡ true → (u v : Place) → Before root taken u v → set u ≡ true →
-  set v ≡ true
+    set v ≡ true
 stays root taken set closed _ _ (rule u v du dv c) su =
     let all_v = all_has (λ a. list_all (λ b. not (set a && comes taken 0 root a b) || set b) (events taken 0 root)) (events taken 0 root) u du closed in
     out_of (set u) (comes taken 0 root u v) (set v) (all_has (λ b. not (set u && comes taken 0 root u b) || set b) (events taken 0 root) v dv all_v) su c
@@ -68,7 +68,7 @@ stays root taken set closed _ _ (chain u v w a b) su = stays root taken set clos
 
 -- two events are apart where each stands in a closed set without the other
 pub apart_by : (root : Tree) (taken : Taken) (from_u from_v : Place → Bool) (u v : Place) → is_closed root taken from_u ≡ true →
-  is_closed root taken from_v ≡ true
+    is_closed root taken from_v ≡ true
     → from_u u ≡ true → from_u v ≡ false → from_v v ≡ true → from_v u ≡ false → IsApart root taken u v
 apart_by root taken from_u from_v u v cu cv uu uv vv vu = record {
   not_before = λ b. true≢false (sym (stays root taken from_u cu u v b uu) ∙ uv);

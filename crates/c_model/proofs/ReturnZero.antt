@@ -5,8 +5,26 @@ use Rattle.ub_base.specs.Frames.{path_of}
 use Rattle.c_typed.specs.declared.tree.Place.{Place}
 use Rattle.c_model.specs.World.{World}
 use Rattle.c_model.specs.Steps.{Pick, Control, Ev}
-use Rattle.c_model.specs.Runs.{Entry, State, Outcome, Refused, Raises, Running, is_running, trace_of, main_frame, nothing_stands, start, step, After, here,
-  refused, last, more, too_late}
+use Rattle.c_model.specs.Runs.{
+  Entry,
+  State,
+  Outcome,
+  Refused,
+  Raises,
+  Running,
+  is_running,
+  trace_of,
+  main_frame,
+  nothing_stands,
+  start,
+  step,
+  After,
+  here,
+  refused,
+  last,
+  more,
+  too_late,
+}
 use Rattle.c_model.specs.Findings.{Has, first, later, Both, newest, older, Meets, raised, raced}
 use Rattle.c_model.specs.Claims.{ComesTo, starts, stops, refuses, GoesWell, EveryOrderAlike}
 use Rattle.c_model.specs.Certificates.{Next, Says_clean, IsValid, HasNoPair, clean}

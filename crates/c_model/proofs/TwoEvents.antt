@@ -1,6 +1,32 @@
 -- Of two events that may come next neither gives what the other one reads.
-use Rattle.std.proofs.Common.{◌≡◌, ◌≢◌, ℕ, suc, ◌+◌, Bool, true, false, not, ◌&&◌, ◌||◌, ◌==◌, if◌then◌else◌, true≢false, List, ◌∷◌, Option, Some, None, refl,
-  sym, ap, ap₂, ◌∙◌, subst, arith}
+use Rattle.std.proofs.Common.{
+  ◌≡◌,
+  ◌≢◌,
+  ℕ,
+  suc,
+  ◌+◌,
+  Bool,
+  true,
+  false,
+  not,
+  ◌&&◌,
+  ◌||◌,
+  ◌==◌,
+  if◌then◌else◌,
+  true≢false,
+  List,
+  ◌∷◌,
+  Option,
+  Some,
+  None,
+  refl,
+  sym,
+  ap,
+  ap₂,
+  ◌∙◌,
+  subst,
+  arith,
+}
 use Rattle.std.proofs.lemmas.Bool.Decides.{nat_tests}
 use Rattle.ub_base.specs.declared.clause.Kind.{Kind}
 use Rattle.ub_base.specs.declared.clause.Kind.TheVariants.{Val, Eff, Body}
@@ -18,8 +44,25 @@ use Rattle.c_model.specs.Values.{Value, or_nothing}
 use Rattle.c_model.specs.World.{World}
 use Rattle.c_model.specs.Nodes.{act_of}
 use Rattle.c_model.specs.Moves.{Stay}
-use Rattle.c_model.specs.Steps.{Local, Scene, Begun, with_given, taken_by, quiet_value, values_of, operand_values, at_node, own_kind, event_of, call_act,
-  event_act, started, move_of, first_type, target}
+use Rattle.c_model.specs.Steps.{
+  Local,
+  Scene,
+  Begun,
+  with_given,
+  taken_by,
+  quiet_value,
+  values_of,
+  operand_values,
+  at_node,
+  own_kind,
+  event_of,
+  call_act,
+  event_act,
+  started,
+  move_of,
+  first_type,
+  target,
+}
 use Rattle.c_model.specs.ChoiceLaws.{IsNext, is_update}
 use Rattle.c_model.proofs.LaterPicks.{given_other, given_swap, not_before}
 use Rattle.c_model.proofs.Operands.{is_call, is_operand, operand_before, own_before}
@@ -55,11 +98,11 @@ module _ (world : World) where
   values_same sc e u w none m h = refl
   values_same sc e u w (more t ts) m h =
       ap₂ (λ a b. a ∷ b) (first (is_quiet (tree_of t)) refl)
-        (values_same sc e u w ts (m + size (tree_of t)) (λ c k. h c (or_right' ((m == c) && not (is_quiet (tree_of t))) _ k)))
+      (values_same sc e u w ts (m + size (tree_of t)) (λ c k. h c (or_right' ((m == c) && not (is_quiet (tree_of t))) _ k)))
     where
       first : (b : Bool) → is_quiet (tree_of t) ≡ b
           → (if b then quiet_value world sc t else or_nothing ((with_given e u w).given (place m Val))) ≡
-            (if b then quiet_value world sc t else or_nothing (e.given (place m Val)))
+          (if b then quiet_value world sc t else or_nothing (e.given (place m Val)))
       first true q = refl
       first false q = ap or_nothing (given_other world sc e u w (place m Val) (h m (or_left' _ _ (here_is m (is_quiet (tree_of t)) q))))
 
@@ -95,14 +138,14 @@ module _ (world : World) where
     apart b = true≢false (sym b ∙ not_before world sc e u v nu nv)
 
     operands_same : (h : Head) (ty : CType) (line : ℕ) (ts : Exprs) → at_node 0 e.root v.node ≡ Some (expr h ty line ts) →
-      (v.kind ≡ Body → is_call (head_class h (trees_of ts)) ≡ true)
+        (v.kind ≡ Body → is_call (head_class h (trees_of ts)) ≡ true)
         → values_of world sc (with_given e u w).given (suc v.node) ts ≡ values_of world sc e.given (suc v.node) ts
     operands_same h ty line ts at calls = values_same sc e u w ts (suc v.node) (λ c k q.
         apart (subst (λ z. is_before T 0 (tree_of e.root) z v ≡ true) (sym q) (operand_before T v.node c v.kind h ty line ts k calls e.root 0 at)))
 
     -- what an earlier event of its own node gave isn't u's
     own_same : (k : Kind) (h : Head) (ty : CType) (line : ℕ) (ts : Exprs) → at_node 0 e.root v.node ≡ Some (expr h ty line ts) →
-      own_rule (head_class h (trees_of ts)) k v.kind ≡ true
+        own_rule (head_class h (trees_of ts)) k v.kind ≡ true
         → (with_given e u w).given (place v.node k) ≡ e.given (place v.node k)
     own_same k h ty line ts at rule = given_other world sc e u w (place v.node k) (λ q.
         apart (subst (λ z. is_before T 0 (tree_of e.root) z v ≡ true) (sym q) (own_before T v.node k v.kind h ty line ts rule e.root 0 at)))
@@ -121,10 +164,10 @@ module _ (world : World) where
     act_by b h ts k =
         if is_body k then call_act world (event_of world sc v) h ts (values_of world sc b.given (suc v.node) ts)
         else act_of world.rows (event_of world sc v) h (target (first_type ts)) k (operand_values world sc b.given (suc v.node) h ts)
-          (or_nothing (b.given (place v.node (own_kind k))))
+        (or_nothing (b.given (place v.node (own_kind k))))
 
     by_kind : (k : Kind) (h : Head) (ty : CType) (line : ℕ) (ts : Exprs) → v.kind ≡ k → at_node 0 e.root v.node ≡ Some (expr h ty line ts) →
-      act_by after' h ts k ≡ act_by e h ts k
+        act_by after' h ts k ≡ act_by e h ts k
     by_kind Body h ty line ts ek at = call_same (event_of world sc v) h ts (vs ts) (ws ts) (λ c. operands_same h ty line ts at (λ b. c))
     by_kind Val h ty line ts ek at =
         ap₂ (λ z o. act_of world.rows (event_of world sc v) h (target (first_type ts)) Val z o)

@@ -1,6 +1,32 @@
 -- The order at an update, and the order under more choices.
-use Rattle.std.proofs.Common.{◌≡◌, ℕ, suc, ◌+◌, Bool, true, false, not, ◌&&◌, ◌||◌, ◌==◌, nat_lt, if◌then◌else◌, true≢false, Option, Some, None, is_some,
-  refl, sym, ap, ◌∙◌, ◌⊎◌, inl, inr, arith}
+use Rattle.std.proofs.Common.{
+  ◌≡◌,
+  ℕ,
+  suc,
+  ◌+◌,
+  Bool,
+  true,
+  false,
+  not,
+  ◌&&◌,
+  ◌||◌,
+  ◌==◌,
+  nat_lt,
+  if◌then◌else◌,
+  true≢false,
+  Option,
+  Some,
+  None,
+  is_some,
+  refl,
+  sym,
+  ap,
+  ◌∙◌,
+  ◌⊎◌,
+  inl,
+  inr,
+  arith,
+}
 use Rattle.std.proofs.lemmas.Bool.Decides.{nat_tests}
 use Rattle.ub_base.specs.declared.clause.Kind.{Kind}
 use Rattle.ub_base.specs.declared.clause.Kind.TheVariants.{Val, Eff, Body}
@@ -17,7 +43,7 @@ if_both true x y x' y' f g h = f h
 if_both false x y x' y' f g h = g h
 
 if_two : (b p q x y x' y' : Bool) → (p ≡ true → x ≡ true → x' ≡ true) → (q ≡ true → y ≡ true → y' ≡ true) → (if b then p else q) ≡ true →
-  (if b then x else y) ≡ true → (if b then x' else y') ≡ true
+    (if b then x else y) ≡ true → (if b then x' else y') ≡ true
 if_two true p q x y x' y' f g h k = f h k
 if_two false p q x y x' y' f g h k = g h k
 
@@ -91,22 +117,22 @@ module _ (taken taken' : Taken) (kept : (k j : ℕ) → taken k ≡ Some j → t
     pub before_kept : (t : Tree) (k : ℕ) (u v : Place) → is_before taken k t u v ≡ true → is_before taken' k t u v ≡ true
     before_kept (node n ts) k u v h =
         if_both (u.node == k) _ _ _ _ (λ z. z) (λ z. if_both (v.node == k) _ _ _ _ (rises_kept ts n k 0 (suc k) u v.kind)
-          (between_kept ts n k 0 (suc k) u v) z) h
+        (between_kept ts n k 0 (suc k) u v) z) h
 
     to_val_kept : (t : Tree) (k : ℕ) (u : Place) → to_val taken k t u ≡ true → to_val taken' k t u ≡ true
     to_val_kept (node n ts) k u h = if_both (u.node == k) _ _ _ _ (λ z. z) (rises_kept ts n k 0 (suc k) u Val) h
 
     rises_kept : (ts : Trees) (n : Class) (k i m : ℕ) (u : Place) (kind : Kind) → rises taken n (taken k) i m ts u kind ≡ true →
-      rises taken' n (taken' k) i m ts u kind ≡ true
+        rises taken' n (taken' k) i m ts u kind ≡ true
     rises_kept none n k i m u kind h = h
     rises_kept (more t ts) n k i m u kind h =
         if_both (nat_lt u.node (m + size t)) _ _ _ _
         (λ z. or_map _ _ _ _ (lifts_kept n k i (is_last ts) kind)
-          (λ y. and_map (not (is_body kind)) _ _ _ (λ a. a) (λ a. and_map (not (is_quiet t)) _ _ _ (λ b. b) (to_val_kept t m u) a) y) z)
+        (λ y. and_map (not (is_body kind)) _ _ _ (λ a. a) (λ a. and_map (not (is_quiet t)) _ _ _ (λ b. b) (to_val_kept t m u) a) y) z)
         (rises_kept ts n k (suc i) (m + size t) u kind) h
 
     between_kept : (ts : Trees) (n : Class) (k i m : ℕ) (u v : Place) → between taken n (taken k) i m ts u v ≡ true →
-      between taken' n (taken' k) i m ts u v ≡ true
+        between taken' n (taken' k) i m ts u v ≡ true
     between_kept none n k i m u v h = h
     between_kept (more t ts) n k i m u v h =
         if_both (nat_lt u.node (m + size t)) _ _ _ _
@@ -133,12 +159,12 @@ module _ (taken : Taken) (m : ℕ) where
 
   -- the two halves of an Update
   root_halves : (b : Bool) (n : Class) (k : ℕ) (x r y : Bool) → (m == k) ≡ b → (y ≡ true → x ≡ true) → (if b then is_update n else y) ≡ true →
-    (if b then (m == k) && own_rule n Val Eff else (if b then r else x)) ≡ true
+      (if b then (m == k) && own_rule n Val Eff else (if b then r else x)) ≡ true
   root_halves true n k x r y e f h = and_b _ _ e (update_rule n h)
   root_halves false n k x r y e f h = f h
 
   among_halves : (b x y z p q : Bool) → (p ≡ true → x ≡ true) → (q ≡ true → y ≡ true) → (if b then p else q) ≡ true →
-    (if b then (if b then x else z) else (if b then false else y)) ≡ true
+      (if b then (if b then x else z) else (if b then false else y)) ≡ true
   among_halves true x y z p q f g h = f h
   among_halves false x y z p q f g h = g h
 
@@ -160,11 +186,11 @@ module _ (taken : Taken) (m : ℕ) where
     due_halves (node n ts) k h d = if_two (m == k) _ _ _ _ _ _ (eff_due n) (due_halves_among ts n (taken k) 0 (suc k)) h d
 
     due_halves_among : (ts : Trees) (n : Class) (c : Option ℕ) (i k : ℕ) → update_among k ts m ≡ true → due_among taken n c i k ts V ≡ true →
-      due_among taken n c i k ts E ≡ true
+        due_among taken n c i k ts E ≡ true
     due_halves_among none n c i k h d = d
     due_halves_among (more t ts) n c i k h d =
         if_two (nat_lt m (k + size t)) _ _ _ _ _ _ (λ u z. and_b _ _ (and_l _ _ z) (due_halves t k u (and_r _ _ z)))
-          (due_halves_among ts n c (suc i) (k + size t)) h d
+        (due_halves_among ts n c (suc i) (k + size t)) h d
 
   -- what comes before the effect is the value or comes before it
   abbrev Either' : Bool → Place → Type 0
@@ -180,7 +206,7 @@ module _ (taken : Taken) (m : ℕ) where
   lift_case true b c h k = absurd (cc)
 
   rises_halves : (ts : Trees) (n : Class) (c : Option ℕ) (i k : ℕ) (v : Place) → is_update n ≡ true → rises taken n c i k ts v Eff ≡ true →
-    rises taken n c i k ts v Val ≡ true
+      rises taken n c i k ts v Val ≡ true
   rises_halves none n c i k v u h = h
   rises_halves (more t ts) n c i k v u h =
       if_both (nat_lt v.node (k + size t)) _ _ _ _ (λ z. lift_case _ _ _ (no_lifts n c i (is_last ts) u) z) (rises_halves ts n c (suc i) (k + size t) v u) h
@@ -201,18 +227,18 @@ module _ (taken : Taken) (m : ℕ) where
       → (y ≡ true → between taken n (taken k) 0 (suc k) ts v E ≡ true → Either' (between taken n (taken k) 0 (suc k) ts v V) v)
       → (if bm then is_update n else y) ≡ true
       → (if bv then (m == k) && own_rule n v.kind Eff else (if bm then rises taken n (taken k) 0 (suc k) ts v Eff else between taken n (taken k) 0
-        (suc k) ts v E)) ≡ true
+      (suc k) ts v E)) ≡ true
       → Either' (if bv then (m == k) && own_rule n v.kind Val else (if bm then rises taken n (taken k) 0 (suc k) ts v Val else between taken n (taken k) 0
-        (suc k) ts v V)) v
+      (suc k) ts v V)) v
   root_back true true n k ts v y e em f h b = inl (own_half n v k h e em (and_r (m == k) _ b))
   root_back true false n k ts v y e em f h b = absurd (true≢false (sym (and_l (m == k) _ b) ∙ em))
   root_back false true n k ts v y e em f h b = inr (rises_halves ts n (taken k) 0 (suc k) v h b)
   root_back false false n k ts v y e em f h b = f h b
 
   among_back : (bv bm x y z p q x' y' : Bool) (v : Place) → (p ≡ true → x ≡ true → Either' x' v) → (q ≡ true → y ≡ true → Either' y' v) →
-    (if bm then p else q) ≡ true
+      (if bm then p else q) ≡ true
       → (if bv then (if bm then x else z) else (if bm then false else y)) ≡ true →
-        Either' (if bv then (if bm then x' else z) else (if bm then false else y')) v
+      Either' (if bv then (if bm then x' else z) else (if bm then false else y')) v
   among_back true true x y z p q x' y' v f g h b = f h b
   among_back true false x y z p q x' y' v f g h b = inr b
   among_back false true x y z p q x' y' v f g h b = absurd (true≢false (sym b))
@@ -223,7 +249,7 @@ module _ (taken : Taken) (m : ℕ) where
     halves_back (node n ts) k v h b = root_back (v.node == k) (m == k) n k ts v _ refl refl (halves_back_among ts n (taken k) 0 (suc k) v) h b
 
     halves_back_among : (ts : Trees) (n : Class) (c : Option ℕ) (i k : ℕ) (v : Place) → update_among k ts m ≡ true → between taken n c i k ts v E ≡ true →
-      Either' (between taken n c i k ts v V) v
+        Either' (between taken n c i k ts v V) v
     halves_back_among none n c i k v h b = inr b
     halves_back_among (more t ts) n c i k v h b = among_back (nat_lt v.node (k + size t)) (nat_lt m (k + size t)) _ _ _ _ _ _ _ v (halves_back t k v)
-      (halves_back_among ts n c (suc i) (k + size t) v) h b
+        (halves_back_among ts n c (suc i) (k + size t) v) h b

@@ -86,7 +86,7 @@ CanonicallyComesTo world input vs n o = ComesTo world input vs (canonical_order 
 
 -- undefined by a clause: the last of these picks raises it, at this event of this line
 pub record RaisesAt (world : World) (input : List ℕ) (vs : List Value) (c : Clause) (path : Path) (turn : ℕ) (place : Option Place) (line picks : ℕ) :
-  Type 0 where
+    Type 0 where
   pub entry : Entry
   pub before : List Entry
   pub raised : CanonicallyComesTo world input vs picks (Raises c (entry ∷ before))

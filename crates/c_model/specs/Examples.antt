@@ -19,9 +19,57 @@ use Rattle.c_typed.specs.declared.tree.EqOp.TheVariants as equality
 use Rattle.c_typed.specs.declared.tree.Place.{Place}
 use Rattle.addr_map.specs.declared.map.Row.{Row}
 use Rattle.addr_map.specs.declared.map.Mode.TheVariants.{Spaced}
-use Rattle.c_model.specs.Program.{Filling, Zeros, Bytes, Head, Number, Obj, Func, Str, Load, Conv, Rel, Eq, Member, Bin, Assign, Update, And, Comma, Call,
-  Listed, Isolated, Expr, expr, Exprs, none, more, Decl, Stmt, Value, Empty, Declare, Block, If_only, Switch, While, For, Goto, Continue, Break, Return,
-  Label, Case, Default, Stmts, end, and_then, Function, Standing, Program}
+use Rattle.c_model.specs.Program.{
+  Filling,
+  Zeros,
+  Bytes,
+  Head,
+  Number,
+  Obj,
+  Func,
+  Str,
+  Load,
+  Conv,
+  Rel,
+  Eq,
+  Member,
+  Bin,
+  Assign,
+  Update,
+  And,
+  Comma,
+  Call,
+  Listed,
+  Isolated,
+  Expr,
+  expr,
+  Exprs,
+  none,
+  more,
+  Decl,
+  Stmt,
+  Value,
+  Empty,
+  Declare,
+  Block,
+  If_only,
+  Switch,
+  While,
+  For,
+  Goto,
+  Continue,
+  Break,
+  Return,
+  Label,
+  Case,
+  Default,
+  Stmts,
+  end,
+  and_then,
+  Function,
+  Standing,
+  Program,
+}
 use Rattle.c_model.specs.World.{World, profile_limits}
 use Rattle.c_model.specs.Numbering.{frame_number}
 use Rattle.c_model.specs.Control.{Todo, Enter, Leave, Unwrite, Begin, ready_work}
@@ -250,8 +298,15 @@ both_rows = row_of main_local 16777232 4 ∷ row_of (Auto (record { 0 = 0 }) 1 1
 
 -- int main(void){int i=0;int a[2]={i++,i};return a[0];}
 abbrev pub array_decl : Decl
-array_decl = record { size = 8; align = 4; constant = false; form = Some (repeat 2 4 (leaf int_type)); access = access.Whole 8 4; ty =
-  types.array false int_type (Some 2) }
+array_decl = record {
+  size = 8;
+  align = 4;
+  constant = false;
+  form = Some (repeat 2 4 (leaf int_type));
+  access = access.Whole 8 4;
+  ty =
+      types.array false int_type (Some 2);
+}
 
 -- the place of a member of `a`
 abbrev pub element_place : ℕ → Expr
@@ -295,8 +350,13 @@ unwritten_load = program_of (defined (int_decl ∷ []) (Declare 0 ∷ Return (lo
 -- const int c=1;int main(void){*(int*)&c=2;return 0;}
 abbrev pub store_to_const : Program
 store_to_const = program_of (defined [] (Value (assign false (one (Conv (conversion.Pointer 4)) global) (number 2)) ∷ Return (number 0) ∷ []) ∷ [])
-    (record { name = Static 0; decl = record int_decl { constant = true }; literal = false; fillings =
-      record { offset = 0; content = Bytes (1 ∷ 0 ∷ 0 ∷ 0 ∷ []) } ∷ [] } ∷ [])
+    (record {
+      name = Static 0;
+      decl = record int_decl { constant = true };
+      literal = false;
+      fillings =
+          record { offset = 0; content = Bytes (1 ∷ 0 ∷ 0 ∷ 0 ∷ []) } ∷ [];
+    } ∷ [])
 
 -- int f(void){}int main(void){return f();}
 abbrev pub missing_value : Program
@@ -305,7 +365,7 @@ missing_value = program_of (defined [] (Return (call 1 none) ∷ []) ∷ defined
 -- int f(void){}int main(void){f();return 0;}
 abbrev pub value_unused : Program
 value_unused = program_of (defined [] (Value (expr (Call true) int_type 1 (more (expr (Func 1) int_function 1 none) none)) ∷ Return (number 0) ∷ []) ∷ defined
-  [] [] ∷ []) []
+    [] [] ∷ []) []
 
 -- int getchar(void);int main(void){return getchar()-getchar();}
 abbrev pub read_both : Program
@@ -336,7 +396,7 @@ jump_about = program_of (defined (int_decl ∷ [])
     ∷ Label 0 (Value (increment local))
     ∷ If_only (two (Rel relation.Less false) (load local) (number 3)) (Goto 0)
     ∷ Switch (load local) (Block 1 [] (statements
-      (Case (pos 3) (Value (assign false local (number 7))) ∷ Break ∷ Default (Value (assign false local (number 9))) ∷ [])))
+    (Case (pos 3) (Value (assign false local (number 7))) ∷ Break ∷ Default (Value (assign false local (number 9))) ∷ [])))
     ∷ While (two (Rel relation.Greater false) (load local) (number 5))
     (Block 2 [] (statements (Value (decrement local) ∷ If_only (is_equal (load local) (number 6)) Continue ∷ Break ∷ [])))
     ∷ Return (load local) ∷ []) ∷ []) []
@@ -373,8 +433,15 @@ char_type = types.int kind.Char
 abbrev pub literal_text : ℕ → List ℕ → Standing
 literal_text k cs = record {
   name = Lit k;
-  decl = record { size = length cs + 1; align = 1; constant = false; form = Some (repeat (length cs + 1) 1 (leaf char_type)); access =
-    access.Whole (length cs + 1) 1; ty = types.array false char_type (Some (length cs + 1)) };
+  decl = record {
+    size = length cs + 1;
+    align = 1;
+    constant = false;
+    form = Some (repeat (length cs + 1) 1 (leaf char_type));
+    access =
+        access.Whole (length cs + 1) 1;
+    ty = types.array false char_type (Some (length cs + 1));
+  };
   literal = true;
   fillings = record { offset = 0; content = Bytes (cs ++ 0 ∷ []) } ∷ [];
 }
@@ -419,7 +486,7 @@ with_heap f = program_of (f ∷ library_function int_function lib.Malloc ∷ lib
 abbrev pub allocate_once : Program
 allocate_once = with_heap (defined (pointer_decl ∷ int_decl ∷ [])
     (allocate ∷ Value (assign false local_pointer (number 7)) ∷ Value (assign true second_local (load local_pointer)) ∷ release local_pointer ∷ Return
-      (load second_local) ∷ []))
+    (load second_local) ∷ []))
 
 -- int main(void){int*p=malloc(4);free(p);free(p);return 0;}
 abbrev pub release_twice : Program
@@ -435,8 +502,13 @@ heap_rows = record { name = main_local; base = 16777232; size = 8; align = 8 } �
     ∷ record { name = Heap (record { 0 = 0 }) 2 3; base = 16777296; size = 4; align = 16 } ∷ []
 
 abbrev pub wide_decl : Decl
-wide_decl = record array_decl { size = 67108848; form = Some (repeat 16777212 4 (leaf int_type)); access = access.Whole 67108848 4; ty =
-  types.array false int_type (Some 16777212) }
+wide_decl = record array_decl {
+  size = 67108848;
+  form = Some (repeat 16777212 4 (leaf int_type));
+  access = access.Whole 67108848 4;
+  ty =
+      types.array false int_type (Some 16777212);
+}
 
 -- int main(void){int a[16777212];malloc(N);return 0;}
 abbrev pub allocate_beside : ℕ → Program

@@ -1,11 +1,47 @@
 -- What the events of a node do, from the values of its operands.
-use Rattle.std.specs.Prelude.{ℕ, ◌/◌, Bool, true, false, not, ◌&&◌, ◌||◌, ◌==◌, nat_lt, List, [], ◌∷◌, map, Option, Some, None, if◌then◌else◌, ℤ, pos, ◌+ℤ◌,
-  neg_ℤ, ◌-ℤ◌, ◌*ℤ◌, int_lt, int_le, unsigned_abs, Result, Ok, Err}
+use Rattle.std.specs.Prelude.{
+  ℕ,
+  ◌/◌,
+  Bool,
+  true,
+  false,
+  not,
+  ◌&&◌,
+  ◌||◌,
+  ◌==◌,
+  nat_lt,
+  List,
+  [],
+  ◌∷◌,
+  map,
+  Option,
+  Some,
+  None,
+  if◌then◌else◌,
+  ℤ,
+  pos,
+  ◌+ℤ◌,
+  neg_ℤ,
+  ◌-ℤ◌,
+  ◌*ℤ◌,
+  int_lt,
+  int_le,
+  unsigned_abs,
+  Result,
+  Ok,
+  Err,
+}
 use Rattle.ub_base.specs.declared.clause.Kind.{Kind}
 use Rattle.ub_base.specs.declared.clause.Kind.TheVariants.{Val, Eff}
 use Rattle.ub_base.specs.declared.clause.Clause.{Clause}
-use Rattle.ub_base.specs.declared.clause.Clause.TheVariants.{TrapRepresentation, PointerAlignment, InvalidPointer, OverlappingAssignment, MissingValue,
-  Indeterminate}
+use Rattle.ub_base.specs.declared.clause.Clause.TheVariants.{
+  TrapRepresentation,
+  PointerAlignment,
+  InvalidPointer,
+  OverlappingAssignment,
+  MissingValue,
+  Indeterminate,
+}
 use Rattle.ub_base.specs.declared.names.Event.{Event}
 use Rattle.addr_map.specs.declared.map.Row.{Row}
 use Rattle.addr_map.specs.Rows.{row_of}
@@ -34,12 +70,80 @@ use Rattle.mem_spec.specs.Store.{TaggedByte, written}
 use Rattle.mem_spec.specs.Agreement.{bytes_of_kind}
 use Rattle.mem_spec.specs.Bytes.{number_bytes, pointer_bytes}
 use Rattle.mem_spec.specs.Script.{Script, Give, Raise, require, ◌>>=◌, ◌>>◌}
-use Rattle.mem_spec.specs.Acts.{scalar, whole, bytes, base_in, is_aligned, is_trap, all_written, number_of, value_of, show_pieces, pointer_in, from_int,
-  load_int, load_ptr, load_func, load_block, store, shift, diff, less, expose}
-use Rattle.c_model.specs.Program.{Content, Zeros, Bytes, Object_at, Function_at, No_object, Filling, Head, Load, Conv, Un, Bin, PtrAdd, PtrDiff, Rel, Eq,
-  Member, Part, Assign, Update, And, Or, Cond, Comma, Call, Listed}
-use Rattle.c_model.specs.Values.{Value, Int, Ptr, Fun, Whole, Missing, Nothing, Pointer, pointer_value, integer_of, pointer_of, function_in, address_in,
-  truth, value_at, function_address, address_after, int_bytes, part_bytes, moved_source, unplaced}
+use Rattle.mem_spec.specs.Acts.{
+  scalar,
+  whole,
+  bytes,
+  base_in,
+  is_aligned,
+  is_trap,
+  all_written,
+  number_of,
+  value_of,
+  show_pieces,
+  pointer_in,
+  from_int,
+  load_int,
+  load_ptr,
+  load_func,
+  load_block,
+  store,
+  shift,
+  diff,
+  less,
+  expose,
+}
+use Rattle.c_model.specs.Program.{
+  Content,
+  Zeros,
+  Bytes,
+  Object_at,
+  Function_at,
+  No_object,
+  Filling,
+  Head,
+  Load,
+  Conv,
+  Un,
+  Bin,
+  PtrAdd,
+  PtrDiff,
+  Rel,
+  Eq,
+  Member,
+  Part,
+  Assign,
+  Update,
+  And,
+  Or,
+  Cond,
+  Comma,
+  Call,
+  Listed,
+}
+use Rattle.c_model.specs.Values.{
+  Value,
+  Int,
+  Ptr,
+  Fun,
+  Whole,
+  Missing,
+  Nothing,
+  Pointer,
+  pointer_value,
+  integer_of,
+  pointer_of,
+  function_in,
+  address_in,
+  truth,
+  value_at,
+  function_address,
+  address_after,
+  int_bytes,
+  part_bytes,
+  moved_source,
+  unplaced,
+}
 
 abbrev pub bool_value : Bool → Value
 bool_value b = Int (if b then pos 1 else pos 0)
@@ -74,7 +178,7 @@ put_whole rows first size align p v = Give Nothing
 abbrev pub put : List Row → Bool → Access → CType → Pointer → Value → Script Value
 put rows first (access.Integer k) ty p v = store rows first (scalar (int k)) (bytes_of_kind k) p.address p.prov (int_bytes k (integer_of v)) >> Give Nothing
 put rows first access.Pointer ty p v = store rows first (scalar ty) 8 p.address p.prov (pointer_bytes 8 0 (pointer_of v).prov (pointer_of v).address) >> Give
-  Nothing
+    Nothing
 put rows first access.Function ty p v = store rows first (scalar ty) 8 p.address p.prov (number_bytes 8 (function_in v)) >> Give Nothing
 put rows first (access.Whole size align) ty p v = put_whole rows first size align p v
 

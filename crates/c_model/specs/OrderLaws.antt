@@ -10,7 +10,7 @@ use Rattle.c_typed.specs.Decide.{is_before, canonical}
 abbrev pub IsDecided : Type 0
 IsDecided =
     (root : Tree) (taken : Taken) (u v : Place) → IsTrue (is_due root taken u) → IsTrue (is_due root taken v) →
-      IsTrue (is_before taken 0 root u v) ↔ Before root taken u v
+    IsTrue (is_before taken 0 root u v) ↔ Before root taken u v
 
 -- the listing has no event twice
 abbrev pub ListsOnce : Type 0
@@ -20,7 +20,7 @@ ListsOnce = (root : Tree) (taken : Taken) (us vs : List Place) (v : Place) → e
 abbrev pub RespectsOrder : Type 0
 RespectsOrder =
     (root : Tree) (taken : Taken) (us vs : List Place) (v : Place) → events taken 0 root ≡ us ++ v ∷ vs →
-      (u : Place) → Before root taken u v → IsTrue (has us u)
+    (u : Place) → Before root taken u v → IsTrue (has us u)
 
 -- where exactly the events before one of the listing are done, the canonical order takes that one
 abbrev pub GoesAlong : Type 0
@@ -37,7 +37,7 @@ pub record IsLater (root : Tree) (taken : Taken) (done : Place → Bool) (later 
   pub kept : (n j : ℕ) → taken n ≡ Some j → later n ≡ Some j
   pub fresh :
       (n : ℕ) → taken n ≡ None → IsTrue (is_some (later n)) → IsTrue (is_due root taken (place n Val)) → IsTrue (is_due root taken (place (suc n) Val)) ×
-        (done (place (suc n) Val) ≡ false)
+      (done (place (suc n) Val) ≡ false)
 
 -- a due event that was reached: all that is sequenced before it is done
 pub record IsReached (root : Tree) (taken : Taken) (done : Place → Bool) (v : Place) : Type 0 where

@@ -1,6 +1,30 @@
 -- Orders of picks, their traces, and the canonical order.
-use Rattle.std.specs.Prelude.{◌≡◌, ℕ, zero, suc, ◌+◌, ◌^◌, min, max, Bool, true, false, nat_lt, List, [], ◌∷◌, length, map, Option, Some, None, is_some,
-  if◌then◌else◌, pos, unsigned_abs}
+use Rattle.std.specs.Prelude.{
+  ◌≡◌,
+  ℕ,
+  zero,
+  suc,
+  ◌+◌,
+  ◌^◌,
+  min,
+  max,
+  Bool,
+  true,
+  false,
+  nat_lt,
+  List,
+  [],
+  ◌∷◌,
+  length,
+  map,
+  Option,
+  Some,
+  None,
+  is_some,
+  if◌then◌else◌,
+  pos,
+  unsigned_abs,
+}
 use Rattle.std.specs.Int.{int_rem_euclid}
 use Rattle.ub_base.specs.declared.clause.Clause.{Clause}
 use Rattle.ub_base.specs.declared.clause.Cause.{Cause}
@@ -21,8 +45,26 @@ use Rattle.c_model.specs.World.{World, Limits}
 use Rattle.c_model.specs.Nodes.{fill}
 use Rattle.c_model.specs.Control.{Todo, Enter, To_do, ready_work}
 use Rattle.c_model.specs.Moves.{Move, Stay, Start, End}
-use Rattle.c_model.specs.Steps.{Scene, Local, Begun, Pick, Control, Ev, MayPick, move, does, next, taken_by, is_done, body_of, at_node, line_of, called_by,
-  pointer_to, values_of}
+use Rattle.c_model.specs.Steps.{
+  Scene,
+  Local,
+  Begun,
+  Pick,
+  Control,
+  Ev,
+  MayPick,
+  move,
+  does,
+  next,
+  taken_by,
+  is_done,
+  body_of,
+  at_node,
+  line_of,
+  called_by,
+  pointer_to,
+  values_of,
+}
 use Rattle.c_model.specs.Libraries.{allocated}
 
 -- one pick of an order: its frame, turn and place, none for a control step; the tree that it is of, and the line of its node, 0 for a
@@ -250,4 +292,4 @@ module _ (world : World) where
   -- the state before the first pick, with the input and the arguments of `main`
   abbrev pub start : List ℕ → List Value → Outcome
   start input vs = within (too_many world.limits (created_after 0 (map (λ o. o.decl) world.program.standing)))
-    (started_run (run world.rows (stand world.program.standing) (nothing_stands input)) vs)
+      (started_run (run world.rows (stand world.program.standing) (nothing_stands input)) vs)

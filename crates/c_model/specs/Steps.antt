@@ -1,6 +1,29 @@
 -- The state of a frame, and what a pick does in it.
-use Rattle.std.specs.Prelude.{◌≡◌, ℕ, suc, ◌+◌, Bool, true, false, not, ◌&&◌, ◌||◌, ◌==◌, nat_lt, List, [], ◌∷◌, Option, Some, None, is_some, is_none,
-  if◌then◌else◌, pos, slice_get}
+use Rattle.std.specs.Prelude.{
+  ◌≡◌,
+  ℕ,
+  suc,
+  ◌+◌,
+  Bool,
+  true,
+  false,
+  not,
+  ◌&&◌,
+  ◌||◌,
+  ◌==◌,
+  nat_lt,
+  List,
+  [],
+  ◌∷◌,
+  Option,
+  Some,
+  None,
+  is_some,
+  is_none,
+  if◌then◌else◌,
+  pos,
+  slice_get,
+}
 use Rattle.ub_base.specs.declared.clause.Kind.{Kind}
 use Rattle.ub_base.specs.declared.clause.Kind.TheVariants.{Val, Eff, Body}
 use Rattle.ub_base.specs.declared.clause.Clause.TheVariants.{InvalidPointer, IncompatibleCall}
@@ -23,14 +46,76 @@ use Rattle.exposure.specs.declared.prov.Prov.TheVariants as prov
 use Rattle.mem_spec.specs.declared.kind.ObjKind.{ObjKind}
 use Rattle.mem_spec.specs.Script.{Script, Give, Raise, require, ◌>>◌}
 use Rattle.mem_spec.specs.Acts.{base_in, create, kill, unwrite}
-use Rattle.c_model.specs.Program.{Head, Number, Null, Obj, Func, Str, Member, Conv, And, Or, Cond, Call, Listed, Isolated, Expr, expr, Exprs, none, more,
-  tree_of, Decl, Stmt, Function}
-use Rattle.c_model.specs.Values.{Value, Int, Ptr, Fun, Missing, Nothing, Pointer, null, pointer_value, integer_of, pointer_of, function_in, or_nothing, truth,
-  value_at, later_values, function_address, address_after}
+use Rattle.c_model.specs.Program.{
+  Head,
+  Number,
+  Null,
+  Obj,
+  Func,
+  Str,
+  Member,
+  Conv,
+  And,
+  Or,
+  Cond,
+  Call,
+  Listed,
+  Isolated,
+  Expr,
+  expr,
+  Exprs,
+  none,
+  more,
+  tree_of,
+  Decl,
+  Stmt,
+  Function,
+}
+use Rattle.c_model.specs.Values.{
+  Value,
+  Int,
+  Ptr,
+  Fun,
+  Missing,
+  Nothing,
+  Pointer,
+  null,
+  pointer_value,
+  integer_of,
+  pointer_of,
+  function_in,
+  or_nothing,
+  truth,
+  value_at,
+  later_values,
+  function_address,
+  address_after,
+}
 use Rattle.c_model.specs.World.{World}
 use Rattle.c_model.specs.Nodes.{act_of, put}
-use Rattle.c_model.specs.Control.{Use, Unused, Result, Enter, Leave, Unwrite, Begin, Go_to, Go_out, Go_on, Go_back, To_do, Todo, ready_work, out_of, on_with,
-  leaves, to_label, find, gone_to, work_after}
+use Rattle.c_model.specs.Control.{
+  Use,
+  Unused,
+  Result,
+  Enter,
+  Leave,
+  Unwrite,
+  Begin,
+  Go_to,
+  Go_out,
+  Go_on,
+  Go_back,
+  To_do,
+  Todo,
+  ready_work,
+  out_of,
+  on_with,
+  leaves,
+  to_label,
+  find,
+  gone_to,
+  work_after,
+}
 use Rattle.c_model.specs.Moves.{Move, Stay, Start, End}
 
 -- a full expression that has begun, and what its picks gave

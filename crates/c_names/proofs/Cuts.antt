@@ -1,6 +1,33 @@
 -- A text falls apart at a byte in one way.
-use Rattle.std.proofs.Common.{◌≡◌, ◌≤◌, ◌<◌, ◌^◌, ◌+◌, ℕ, zero, suc, List, [], ◌∷◌, ◌++◌, length, get_or, refl, sym, ◌∙◌, ap, subst, arith, decimal, codes,
-  Contains, append_assoc, Result, Ok, Err}
+use Rattle.std.proofs.Common.{
+  ◌≡◌,
+  ◌≤◌,
+  ◌<◌,
+  ◌^◌,
+  ◌+◌,
+  ℕ,
+  zero,
+  suc,
+  List,
+  [],
+  ◌∷◌,
+  ◌++◌,
+  length,
+  get_or,
+  refl,
+  sym,
+  ◌∙◌,
+  ap,
+  subst,
+  arith,
+  decimal,
+  codes,
+  Contains,
+  append_assoc,
+  Result,
+  Ok,
+  Err,
+}
 use Rattle.std.specs.Str.Parse.{AllDigits, ParsesUnsigned}
 use Rattle.std.specs.Char.{digit_value}
 use Rattle.std.proofs.lemmas.Str.Parse.{digit_from_value}
@@ -70,7 +97,7 @@ IsNoNumber-from_parse text r e p is n h same =
 
 -- nor one that was parsed to a number with another text
 pub IsNoNumber-from_other : {E : Type 0} (text : List ℕ) (r : Result ℕ E) (v : ℕ) → ParsesUnsigned 64 10 text r → r ≡ Ok v →
-  (decimal v ≡ text → ⊥) → IsNoNumber (2 ^ 64) text
+    (decimal v ≡ text → ⊥) → IsNoNumber (2 ^ 64) text
 IsNoNumber-from_other text r v p is other n h same =
     let read : r ≡ Ok n = parse-decimal 64 n text r h h (sym same) p in
     let value : n ≡ v = cc in
@@ -86,7 +113,7 @@ pub BeginsWithNoNumber-from_cut : (bound : ℕ) (text : List ℕ) → (Contains 
 BeginsWithNoNumber-from_cut bound text none n rest h e = none (subst (λ t. Contains t 32) e (Contains-at 32 (decimal n) rest))
 
 pub BeginsWithNoNumber-from_front : (bound : ℕ) (text front rest : List ℕ) → bound ≤ 2 ^ 64 → text ≡ front ++ 32 ∷ rest →
-  (Contains front 32 → ⊥) → IsNoNumber bound front → BeginsWithNoNumber bound text
+    (Contains front 32 → ⊥) → IsNoNumber bound front → BeginsWithNoNumber bound text
 BeginsWithNoNumber-from_front bound text front rest le is lacks none n more h e =
     let parts = cut_once 32 (decimal n) front more rest (decimal_lacks 32 n space_out (omega arith)) (Lacks-from 32 front lacks) (e ∙ is) in
     none n h parts.0
@@ -105,9 +132,9 @@ step_once s t m n h k p q e =
     let whole : 47 ∷ (decimal s.0 ++ 58 ∷ (decimal s.1 ++ m)) ≡ 47 ∷ (decimal t.0 ++ 58 ∷ (decimal t.1 ++ n)) = sym (step_parts s m) ∙ e ∙ step_parts t n in
     let inner : decimal s.0 ++ 58 ∷ (decimal s.1 ++ m) ≡ decimal t.0 ++ 58 ∷ (decimal t.1 ++ n) = cc in
     let turns = cut_once 58 (decimal s.0) (decimal t.0) (decimal s.1 ++ m) (decimal t.1 ++ n) (decimal_lacks 58 s.0 colon_out h.0)
-          (decimal_lacks 58 t.0 colon_out k.0) inner in
+    (decimal_lacks 58 t.0 colon_out k.0) inner in
     let nodes = front_once 47 (decimal s.1) (decimal t.1) m n (decimal_lacks 47 s.1 slash_out (omega (arith, h.1)))
-          (decimal_lacks 47 t.1 slash_out (omega (arith, k.1))) p q turns.1 in
+    (decimal_lacks 47 t.1 slash_out (omega (arith, k.1))) p q turns.1 in
     let first : s.0 ≡ t.0 = decimal_injective s.0 t.0 h.0 k.0 turns.0 in
     let second : s.1 ≡ t.1 = decimal_injective s.1 t.1 (omega (arith, h.1)) (omega (arith, k.1)) nodes.0 in
     ((λ i. (first i, second i)), nodes.1)
@@ -117,14 +144,14 @@ pub BeginsWithNoStep-from_slash : (text : List ℕ) → ((rest : List ℕ) → t
 BeginsWithNoStep-from_slash text none s rest h at e = none _ (sym e ∙ step_parts s rest)
 
 piece_of : (text piece more : List ℕ) (s : ℕ × ℕ) (rest : List ℕ) → text ≡ 47 ∷ (piece ++ more) → (Contains piece 47 → ⊥) → AtByte 47 more → IsStep s →
-  AtByte 47 rest → step_text s ++ rest ≡ text
+    AtByte 47 rest → step_text s ++ rest ≡ text
     → piece ≡ decimal s.0 ++ 58 ∷ decimal s.1
 piece_of text piece more s rest is lacks at h here e =
     let whole : 47 ∷ (piece ++ more) ≡ 47 ∷ ((decimal s.0 ++ 58 ∷ decimal s.1) ++ rest) = sym is ∙ sym e in
     let inner : piece ++ more ≡ (decimal s.0 ++ 58 ∷ decimal s.1) ++ rest = cc in
     let slash : 58 ≡ 47 → ⊥ = apart 58 47 (omega arith) in
     let none = Lacks-append 47 (decimal s.0) (58 ∷ decimal s.1) (decimal_lacks 47 s.0 slash_out h.0)
-          (slash, decimal_lacks 47 s.1 slash_out (omega (arith, h.1))) in
+    (slash, decimal_lacks 47 s.1 slash_out (omega (arith, h.1))) in
     (front_once 47 piece (decimal s.0 ++ 58 ∷ decimal s.1) more rest (Lacks-from 47 piece lacks) none at here inner).0
 
 module _ (text piece more : List ℕ) (is : text ≡ 47 ∷ (piece ++ more)) (lacks : Contains piece 47 → ⊥) (at : AtByte 47 more) where
@@ -133,11 +160,11 @@ module _ (text piece more : List ℕ) (is : text ≡ 47 ∷ (piece ++ more)) (la
       none (subst (λ p. Contains p 58) (sym (piece_of text piece more s rest is lacks at h here e)) (Contains-at 58 (decimal s.0) (decimal s.1)))
 
   parts_of : (turn node : List ℕ) → piece ≡ turn ++ 58 ∷ node → (Contains turn 58 → ⊥) → (s : ℕ × ℕ) (rest : List ℕ) → IsStep s → AtByte 47 rest →
-    step_text s ++ rest ≡ text
+      step_text s ++ rest ≡ text
       → (decimal s.0 ≡ turn) × (decimal s.1 ≡ node)
   parts_of turn node parts before s rest h here e =
       cut_once 58 (decimal s.0) turn (decimal s.1) node (decimal_lacks 58 s.0 colon_out h.0) (Lacks-from 58 turn before)
-        (sym (piece_of text piece more s rest is lacks at h here e) ∙ parts)
+      (sym (piece_of text piece more s rest is lacks at h here e) ∙ parts)
 
   pub BeginsWithNoStep-from_turn : (turn node : List ℕ) → piece ≡ turn ++ 58 ∷ node → (Contains turn 58 → ⊥) → IsNoNumber (2 ^ 64) turn → BeginsWithNoStep text
   BeginsWithNoStep-from_turn turn node parts before none s rest h here e = none s.0 h.0 (parts_of turn node parts before s rest h here e).0

@@ -15,33 +15,41 @@ IsNoObjectText-from_cut text argv none (LitName k) h e = none (subst (λ t. Cont
 IsNoObjectText-from_cut text argv none ArgvName h e = argv e
 IsNoObjectText-from_cut text argv none (ArgName k) h e = none (subst (λ t. Contains t 32) e (Contains-at 32 (codes "arg") (decimal k)))
 IsNoObjectText-from_cut text argv none (AutoName f u k) h e =
-  none (subst (λ t. Contains t 32) e (Contains-at 32 (codes "auto") ((frame_text f ++ numbers_text u k))))
+    none (subst (λ t. Contains t 32) e (Contains-at 32 (codes "auto") ((frame_text f ++ numbers_text u k))))
 IsNoObjectText-from_cut text argv none (HeapName f u k) h e =
-  none (subst (λ t. Contains t 32) e (Contains-at 32 (codes "heap") ((frame_text f ++ numbers_text u k))))
+    none (subst (λ t. Contains t 32) e (Contains-at 32 (codes "heap") ((frame_text f ++ numbers_text u k))))
 
 -- and with one only where a word of objects stands before it
 pub IsNoObjectText-from_word : (text word rest : List ℕ) → (codes "argv" ≡ text → ⊥) → text ≡ word ++ 32 ∷ rest → (Contains word 32 → ⊥) → IsNoSort word →
-  IsNoObjectText text
+    IsNoObjectText text
 IsNoObjectText-from_word text word rest argv is lacks none (StaticName k) h e =
-    none sorts.Static (cut_once 32 (codes "static") word (decimal k) rest
-      (apart 115 32 (omega arith), (apart 116 32 (omega arith),
-      (apart 97 32 (omega arith), (apart 116 32 (omega arith), (apart 105 32 (omega arith), (apart 99 32 (omega arith), tt)))))) (Lacks-from 32 word lacks)
-      (e ∙ is)).0
+    none sorts.Static (cut_once 32 (codes "static") word (decimal k) rest (
+      apart 115 32 (omega arith),
+      (
+        apart 116 32 (omega arith),
+        (apart 97 32 (omega arith), (apart 116 32 (omega arith), (apart 105 32 (omega arith), (apart 99 32 (omega arith), tt)))),
+      ),
+    ) (Lacks-from 32 word lacks)
+    (e ∙ is)).0
 IsNoObjectText-from_word text word rest argv is lacks none (LitName k) h e =
-    none sorts.Lit (cut_once 32 (codes "lit") word (decimal k) rest (apart 108 32 (omega arith),
-      (apart 105 32 (omega arith), (apart 116 32 (omega arith), tt))) (Lacks-from 32 word lacks) (e ∙ is)).0
+    none sorts.Lit (cut_once 32 (codes "lit") word (decimal k) rest (
+      apart 108 32 (omega arith),
+      (apart 105 32 (omega arith), (apart 116 32 (omega arith), tt)),
+    ) (Lacks-from 32 word lacks) (e ∙ is)).0
 IsNoObjectText-from_word text word rest argv is lacks none ArgvName h e = argv e
 IsNoObjectText-from_word text word rest argv is lacks none (ArgName k) h e =
-    none sorts.Arg (cut_once 32 (codes "arg") word (decimal k) rest (apart 97 32 (omega arith),
-      (apart 114 32 (omega arith), (apart 103 32 (omega arith), tt))) (Lacks-from 32 word lacks) (e ∙ is)).0
+    none sorts.Arg (cut_once 32 (codes "arg") word (decimal k) rest (
+      apart 97 32 (omega arith),
+      (apart 114 32 (omega arith), (apart 103 32 (omega arith), tt)),
+    ) (Lacks-from 32 word lacks) (e ∙ is)).0
 IsNoObjectText-from_word text word rest argv is lacks none (AutoName f t k) h e =
     none sorts.Auto (cut_once 32 (codes "auto") word ((frame_text f ++ numbers_text t k)) rest
-      (apart 97 32 (omega arith), (apart 117 32 (omega arith), (apart 116 32 (omega arith), (apart 111 32 (omega arith), tt)))) (Lacks-from 32 word lacks)
-      (e ∙ is)).0
+    (apart 97 32 (omega arith), (apart 117 32 (omega arith), (apart 116 32 (omega arith), (apart 111 32 (omega arith), tt)))) (Lacks-from 32 word lacks)
+    (e ∙ is)).0
 IsNoObjectText-from_word text word rest argv is lacks none (HeapName f t k) h e =
     none sorts.Heap (cut_once 32 (codes "heap") word ((frame_text f ++ numbers_text t k)) rest
-      (apart 104 32 (omega arith), (apart 101 32 (omega arith), (apart 97 32 (omega arith), (apart 112 32 (omega arith), tt)))) (Lacks-from 32 word lacks)
-      (e ∙ is)).0
+    (apart 104 32 (omega arith), (apart 101 32 (omega arith), (apart 97 32 (omega arith), (apart 112 32 (omega arith), tt)))) (Lacks-from 32 word lacks)
+    (e ∙ is)).0
 
 after_static : (a b : List ℕ) → codes "static " ++ a ≡ codes "static " ++ b → a ≡ b
 after_static a b e = cc

@@ -1,6 +1,32 @@
 -- The order of paths, step by step from the newest on.
-use Rattle.std.proofs.Common.{◌≡◌, ◌≤◌, ◌<◌, ◌+◌, ◌-◌, ℕ, zero, suc, Bool, true, false, List, [], ◌∷◌, ◌++◌, length, reverse, drop, refl, sym, ◌∙◌, ap, subst,
-  arith, Some, None}
+use Rattle.std.proofs.Common.{
+  ◌≡◌,
+  ◌≤◌,
+  ◌<◌,
+  ◌+◌,
+  ◌-◌,
+  ℕ,
+  zero,
+  suc,
+  Bool,
+  true,
+  false,
+  List,
+  [],
+  ◌∷◌,
+  ◌++◌,
+  length,
+  reverse,
+  drop,
+  refl,
+  sym,
+  ◌∙◌,
+  ap,
+  subst,
+  arith,
+  Some,
+  None,
+}
 use mathlib.Core.List.{reverse-cons}
 use Rattle.std.proofs.lemmas.List.{length-reverse}
 use Rattle.std.specs.declared.cmp.Ordering.{Ordering}
@@ -114,7 +140,7 @@ path_cmp-shorter p q h =
 
 -- one turn of the loop that walks two paths of one length
 pub turn_of : (a b p q : Path) (s t : ℕ × ℕ) (order whole : Ordering) → a ≡ s ∷ p → b ≡ t ∷ q → length a ≡ length b →
-  ordering_then (path_cmp a b) order ≡ whole
+    ordering_then (path_cmp a b) order ≡ whole
     → ordering_then (path_cmp p q) (ordering_then (ordering_then (nat_cmp s.0 t.0) (nat_cmp s.1 t.1)) order) ≡ whole
 turn_of a b p q s t order whole ea eb e h =
     let same : length p ≡ length q = omega (arith, ap (length {A = ℕ × ℕ}) ea, ap (length {A = ℕ × ℕ}) eb) in
@@ -179,12 +205,12 @@ pub level_from : (p q r : Path) (n : ℕ) → r ≡ drop n q → n ≡ length q 
 level_from p q r n e m h = omega (arith, length-drop' n q (omega arith), ap (length {A = ℕ × ℕ}) e)
 
 pub longer_from : (p q r : Path) (n : ℕ) (o : Ordering) → o ≡ path_cmp p r → r ≡ drop n q → n ≡ length q - length p → length p < length q →
-  ordering_then o Less ≡ path_cmp p q
+    ordering_then o Less ≡ path_cmp p q
 longer_from p q r n o is e m h =
     ap (λ x. ordering_then x Less) (is ∙ ap (path_cmp p) (e ∙ ap (λ k. drop k q) m)) ∙ sym (path_cmp-longer p q h)
 
 pub shorter_from : (p q r : Path) (n : ℕ) (o : Ordering) → o ≡ path_cmp r q → r ≡ drop n p → n ≡ length p - length q → length q < length p →
-  ordering_then o Greater ≡ path_cmp p q
+    ordering_then o Greater ≡ path_cmp p q
 shorter_from p q r n o is e m h =
     ap (λ x. ordering_then x Greater) (is ∙ ap (λ x. path_cmp x q) (e ∙ ap (λ k. drop k p) m)) ∙ sym (path_cmp-shorter p q h)
 
@@ -205,8 +231,8 @@ four_then f t n k l e =
 -- objects by rank and place
 pub objects_by_place : (rows : List Row) (o p : ObjName)
     → ordering_then (nat_cmp (object_rank o) (object_rank p))
-      (ordering_then (frame_cmp rows (place_frame o) (place_frame p))
-      (ordering_then (nat_cmp (place_turn o) (place_turn p)) (nat_cmp (place_number o) (place_number p))))
+    (ordering_then (frame_cmp rows (place_frame o) (place_frame p))
+    (ordering_then (nat_cmp (place_turn o) (place_turn p)) (nat_cmp (place_number o) (place_number p))))
     ≡ object_cmp rows o p
 objects_by_place rows (Static k) (Static l) = refl
 objects_by_place rows (Lit k) (Lit l) = refl
@@ -217,11 +243,11 @@ objects_by_place rows (Heap f t k) (Heap g u l) = refl
 objects_by_place rows _ _ = refl
 
 pub objects_from : (rows : List Row) (o p : ObjName) (f g t u m n : ℕ) → f ≡ place_frame o → g ≡ place_frame p → t ≡ place_turn o → u ≡ place_turn p →
-  m ≡ place_number o → n ≡ place_number p
+    m ≡ place_number o → n ≡ place_number p
     → ordering_then (ordering_then (ordering_then (nat_cmp (object_rank o) (object_rank p)) (frame_cmp rows f g)) (nat_cmp t u))
-      (nat_cmp m n) ≡ object_cmp rows o p
+    (nat_cmp m n) ≡ object_cmp rows o p
 objects_from rows o p f g t u m n a b c d x y =
     four_then (nat_cmp (object_rank o) (object_rank p)) (frame_cmp rows f g) (nat_cmp t u) (nat_cmp m n) (nat_cmp m n) refl
     ∙ (λ i. ordering_then (nat_cmp (object_rank o) (object_rank p))
-      (ordering_then (frame_cmp rows (a i) (b i)) (ordering_then (nat_cmp (c i) (d i)) (nat_cmp (x i) (y i)))))
+    (ordering_then (frame_cmp rows (a i) (b i)) (ordering_then (nat_cmp (c i) (d i)) (nat_cmp (x i) (y i)))))
     ∙ objects_by_place rows o p

@@ -1,6 +1,33 @@
 -- Texts of paths: their steps from the oldest on, and that a text is one path's.
-use Rattle.std.proofs.Common.{◌≡◌, ◌≤◌, ◌<◌, ◌^◌, ◌+◌, ℕ, zero, suc, List, [], ◌∷◌, ◌++◌, length, reverse, refl, sym, ◌∙◌, ap, subst, arith, decimal, codes,
-  append_assoc, append-nil, length-append, Some, None}
+use Rattle.std.proofs.Common.{
+  ◌≡◌,
+  ◌≤◌,
+  ◌<◌,
+  ◌^◌,
+  ◌+◌,
+  ℕ,
+  zero,
+  suc,
+  List,
+  [],
+  ◌∷◌,
+  ◌++◌,
+  length,
+  reverse,
+  refl,
+  sym,
+  ◌∙◌,
+  ap,
+  subst,
+  arith,
+  decimal,
+  codes,
+  append_assoc,
+  append-nil,
+  length-append,
+  Some,
+  None,
+}
 use mathlib.Core.List.{reverse-cons}
 use Rattle.std.specs.List.{AllByRecursion}
 use Rattle.std.proofs.lemmas.List.{reverse-reverse, length-reverse}
@@ -77,7 +104,7 @@ IsNoPathText-from_main text none p h e = none (steps_text (reverse p)) (sym e �
 
 -- nor one where behind some steps more follows, and no step
 pub IsNoPathText-from_step : (text rest : List ℕ) (done : Path) → text ≡ codes "main" ++ (steps_text done ++ rest) → HasSteps done →
-  (0 < length done → AtByte 47 rest) → 0 < length rest → BeginsWithNoStep rest → IsNoPathText text
+    (0 < length done → AtByte 47 rest) → 0 < length rest → BeginsWithNoStep rest → IsNoPathText text
 IsNoPathText-from_step text rest done is h at some none p k e =
     let steps : steps_text (reverse p) ≡ steps_text done ++ rest = after_main _ _ (sym (frame_text-steps p) ∙ e ∙ is) in
     let more = steps_after done (reverse p) rest h (HasSteps-reverse p k) at steps in
@@ -94,7 +121,7 @@ IsNoPathText-from_step text rest done is h at some none p k e =
 
 -- one more step read
 pub read_more : (text rest more : List ℕ) (done : Path) (s : ℕ × ℕ) → text ≡ codes "main" ++ (steps_text done ++ rest) → step_text s ++ more ≡ rest →
-  text ≡ codes "main" ++ (steps_text (done ++ s ∷ []) ++ more)
+    text ≡ codes "main" ++ (steps_text (done ++ s ∷ []) ++ more)
 read_more text rest more done s is e =
     is ∙ ap (λ t. codes "main" ++ t) (ap (λ t. steps_text done ++ t) (sym e) ∙ sym (steps_text-push done s more))
 
@@ -106,7 +133,7 @@ rest_shrinks s rest more e = omega (arith, ap (length {A = ℕ}) e, length-appen
 
 -- where all is read, the text is that path's
 pub frame_text-read : (text rest : List ℕ) (done : Path) → text ≡ codes "main" ++ (steps_text done ++ rest) → length rest ≤ 0 →
-  frame_text (reverse done) ≡ text
+    frame_text (reverse done) ≡ text
 frame_text-read text [] done is e =
     frame_text-steps (reverse done)
     ∙ ap (λ q. codes "main" ++ steps_text q) (reverse-reverse done)
@@ -125,7 +152,7 @@ IsNoFrameText-from_long text done is h long p k e =
     absurd (omega (arith, k.few))
 
 pub frame_from : (text : List ℕ) (path done : Path) → path ≡ reverse done → frame_text (reverse done) ≡ text → HasSteps done → length done < 2 ^ 31 →
-  (frame_text path ≡ text) × IsFrame path
+    (frame_text path ≡ text) × IsFrame path
 frame_from text path done e is h few = (
   ap frame_text e ∙ is,
   record {
@@ -138,6 +165,8 @@ frame_from text path done e is h few = (
 pub frame_lacks : (p : Path) → HasSteps p → Lacks 32 (frame_text p)
 frame_lacks [] h = (apart 109 32 (omega arith), (apart 97 32 (omega arith), (apart 105 32 (omega arith), (apart 110 32 (omega arith), tt))))
 frame_lacks (s ∷ p) h =
-    Lacks-append 32 (frame_text p) (step_text s) (frame_lacks p h.1)
-    (apart 47 32 (omega arith), Lacks-append 32 (decimal s.0) (58 ∷ decimal s.1) (decimal_lacks 32 s.0 space_out h.0.0)
-      (apart 58 32 (omega arith), decimal_lacks 32 s.1 space_out (omega (arith, h.0.1))))
+    Lacks-append 32 (frame_text p) (step_text s) (frame_lacks p h.1) (
+      apart 47 32 (omega arith),
+      Lacks-append 32 (decimal s.0) (58 ∷ decimal s.1) (decimal_lacks 32 s.0 space_out h.0.0)
+          (apart 58 32 (omega arith), decimal_lacks 32 s.1 space_out (omega (arith, h.0.1))),
+    )

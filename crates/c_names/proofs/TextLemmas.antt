@@ -1,6 +1,30 @@
 -- Texts of frames, step by step.
-use Rattle.std.proofs.Common.{zero, slice_get, Some, None, ◌≡◌, ◌<◌, ◌+◌, ◌-◌, ℕ, suc, List, [], ◌∷◌, ◌++◌, length, get_or, drop, refl, sym, ◌∙◌, ap,
-  append_assoc, arith, drop-cons}
+use Rattle.std.proofs.Common.{
+  zero,
+  slice_get,
+  Some,
+  None,
+  ◌≡◌,
+  ◌<◌,
+  ◌+◌,
+  ◌-◌,
+  ℕ,
+  suc,
+  List,
+  [],
+  ◌∷◌,
+  ◌++◌,
+  length,
+  get_or,
+  drop,
+  refl,
+  sym,
+  ◌∙◌,
+  ap,
+  append_assoc,
+  arith,
+  drop-cons,
+}
 use Rattle.ub_base.specs.Frames.{Path, Row, IsFrameList, row_of, with_step, path_within, path_of}
 use Rattle.ub_base.proofs.Paths.{path_of-row}
 use Rattle.c_names.specs.Texts.{frame_text, step_text}
@@ -14,7 +38,7 @@ frame_text-step start out path i d h e =
     let here : length path - (i + 1) ≡ length path - 1 - i = omega arith in
     let next : length path - i ≡ suc (length path - 1 - i) = omega arith in
     let more : drop (length path - 1 - i) path ≡ get_or path (length path - 1 - i) d ∷ drop (suc (length path - 1 - i)) path =
-          drop-cons path (length path - 1 - i) d (omega arith) in
+    drop-cons path (length path - 1 - i) d (omega arith) in
     ap (λ o. o ++ step_text (get_or path (length path - 1 - i) d)) e
     ∙ append_assoc start _ _
     ∙ ap (λ n. start ++ (frame_text (drop n path) ++ step_text (get_or path (length path - 1 - i) d))) next

@@ -1,6 +1,38 @@
 -- Frames started on the way to one.
-use Rattle.std.proofs.Common.{◌≡◌, ◌≤◌, ◌<◌, ◌^◌, ◌+◌, ◌-◌, ℕ, zero, suc, List, [], ◌∷◌, ◌++◌, length, get_or, take, reverse, slice_get, Contains, Some, None,
-  refl, sym, ◌∙◌, ap, subst, arith, append_assoc, append-nil, length-append, inl, inr}
+use Rattle.std.proofs.Common.{
+  ◌≡◌,
+  ◌≤◌,
+  ◌<◌,
+  ◌^◌,
+  ◌+◌,
+  ◌-◌,
+  ℕ,
+  zero,
+  suc,
+  List,
+  [],
+  ◌∷◌,
+  ◌++◌,
+  length,
+  get_or,
+  take,
+  reverse,
+  slice_get,
+  Contains,
+  Some,
+  None,
+  refl,
+  sym,
+  ◌∙◌,
+  ap,
+  subst,
+  arith,
+  append_assoc,
+  append-nil,
+  length-append,
+  inl,
+  inr,
+}
 use Rattle.std.proofs.lemmas.List.{reverse-append, take_more, take_all}
 use Rattle.std.proofs.lemmas.Bool.{cases_lt}
 use Rattle.ub_base.specs.declared.names.Frame.{Frame}
@@ -40,7 +72,7 @@ Reaches-next old mid new f g step h r n = record {
 }
 
 pub path-next : (mid new : List Row) (f g : ℕ) (step : ℕ × ℕ) (steps : Path) (i : ℕ) (d : ℕ × ℕ) → path_of mid f ≡ reverse (take i steps) →
-  IsNext mid new f step g → i < length steps → step ≡ get_or steps i d
+    IsNext mid new f step g → i < length steps → step ≡ get_or steps i d
     → path_of new g ≡ reverse (take (i + 1) steps)
 path-next mid new f g step steps i d e n h is =
     n.path ∙ ap (λ p. step ∷ p) e
@@ -52,7 +84,7 @@ pub path-end : (steps path : Path) (i : ℕ) → path ≡ reverse (take i steps)
 path-end steps path i e h = e ∙ ap reverse (take_all i steps h)
 
 pub IsNext-found : (rows : List Row) (frame found : Frame) (step : ℕ × ℕ) → IsFrameList rows → (0 < found.0) × (found.0 ≤ length rows) ×
-  (slice_get rows (found.0 - 1) ≡ Some (frame, step.0, step.1)) → IsNext rows rows frame.0 step found.0
+    (slice_get rows (found.0 - 1) ≡ Some (frame, step.0, step.1)) → IsNext rows rows frame.0 step found.0
 IsNext-found rows frame found step h at = record {
   rows = h;
   kept = ([], sym (append-nil rows));
@@ -69,20 +101,20 @@ last (x ∷ rows) row zero e = absurd (omega arith)
 last (x ∷ rows) row (suc i) e = last rows row i (omega arith)
 
 pub IsNext-started : (old new : List Row) (frame : Frame) (step : ℕ × ℕ) (f : ℕ) → IsFrameList old → frame.0 ≤ length old →
-  (Contains old (frame, step.0, step.1) → ⊥) → length old < 2 ^ 32 - 1 → f ≡ length old + 1 → new ≡ old ++ (frame, step.0, step.1) ∷ []
+    (Contains old (frame, step.0, step.1) → ⊥) → length old < 2 ^ 32 - 1 → f ≡ length old + 1 → new ≡ old ++ (frame, step.0, step.1) ∷ []
     → IsNext old new frame.0 step f
 IsNext-started old new frame step f h there absent few at is =
     let row : Row = (frame, step.0, step.1) in
     let rows : IsFrameList new = subst IsFrameList (sym is) (IsFrameList-push old (frame, step.0, step.1) h there absent few) in
     let count : length new ≡ length old + 1 = omega (arith, ap (length {A = Row}) is, length-append old ((frame, step.0, step.1) ∷ [])) in
     let here : slice_get new (f - 1) ≡ Some (frame, step.0, step.1) =
-          ap (λ l. slice_get l (f - 1)) is ∙ last old (frame, step.0, step.1) (f - 1) (omega arith) in
+    ap (λ l. slice_get l (f - 1)) is ∙ last old (frame, step.0, step.1) (f - 1) (omega arith) in
     record {
       rows = rows;
       kept = ((frame, step.0, step.1) ∷ [], is);
       there = omega arith;
       few = omega arith;
       path = path_of-row new rows f (frame, step.0, step.1) (omega arith) here ∙ ap (λ p. (step.0, step.1) ∷ p)
-        (path_of-kept old new frame.0 h ((frame, step.0, step.1) ∷ [], is) there);
+          (path_of-kept old new frame.0 h ((frame, step.0, step.1) ∷ [], is) there);
       own = λ e a b. omega arith;
     }

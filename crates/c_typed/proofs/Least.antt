@@ -11,8 +11,25 @@ use Rattle.c_typed.specs.declared.program.Function.{Function}
 use Rattle.c_typed.specs.declared.program.Program.{Program}
 use Rattle.c_typed.specs.Sites.{Expression, expressions, summary, Summary, SwitchRow, BlockRow}
 use Rattle.c_typed.specs.Least.{lone_block, LeastIsLawful}
-use Rattle.c_typed.specs.Lawful.{There, Where, HasBody, IsMainType, fixed, FunctionIsLawful, BodyIsLawful, LibraryFits, IsExternal, BeginsWith,
-  StatementsAreLawful, BlockIsLawful, SwitchIsLawful, ExpressionIsLawful, StaticIsLawful, HasBytes, IsComplete}
+use Rattle.c_typed.specs.Lawful.{
+  There,
+  Where,
+  HasBody,
+  IsMainType,
+  fixed,
+  FunctionIsLawful,
+  BodyIsLawful,
+  LibraryFits,
+  IsExternal,
+  BeginsWith,
+  StatementsAreLawful,
+  BlockIsLawful,
+  SwitchIsLawful,
+  ExpressionIsLawful,
+  StaticIsLawful,
+  HasBytes,
+  IsComplete,
+}
 
 none_twice : {X : Type 0} (R : X → X → Type 0) (i j : ℕ) (d : X) → i < j → j < 0 → ⊥
 none_twice R i j d a b = omega arith
@@ -48,9 +65,9 @@ body_of p s b sig ex su = record {
 pub least_is_lawful : LeastIsLawful
 least_is_lawful p f b fs ss ls ts m sig lib bod ex su h = record {
   main = subst (λ (xs : List Function). There (slice_get xs p.main) HasBody) (sym fs)
-    (subst (λ (n : ℕ). There (slice_get (f ∷ []) n) HasBody) (sym m) (ap is_some bod));
+      (subst (λ (n : ℕ). There (slice_get (f ∷ []) n) HasBody) (sym m) (ap is_some bod));
   main_type = subst (λ (xs : List Function). There (slice_get xs p.main) (λ g. IsMainType (signature_of g.ty))) (sym fs)
-    (subst (λ (n : ℕ). There (slice_get (f ∷ []) n) (λ g. IsMainType (signature_of g.ty))) (sym m) (inl sig));
+      (subst (λ (n : ℕ). There (slice_get (f ∷ []) n) (λ g. IsMainType (signature_of g.ty))) (sym m) (inl sig));
   functions = subst (All (FunctionIsLawful p)) (sym fs) (All-cons (FunctionIsLawful p) f [] (record {
     body = subst (Where (BodyIsLawful p (signature_of f.ty))) (sym bod) (body_of p (signature_of f.ty) b sig ex su);
     library = subst (Where (LibraryFits f)) (sym lib) tt;

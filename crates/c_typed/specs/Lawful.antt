@@ -1,10 +1,60 @@
 -- Which programs are lawful: what all that runs may rely on (5.1.2.2.1, 6.2 to 6.9; the parts that say so are own).
-use Rattle.std.specs.Prelude.{◌≡◌, ◌≢◌, ℕ, ◌+◌, ◌*◌, ◌%◌, ◌^◌, ◌<◌, ◌≤◌, ℤ, pos, Bool, true, false, ◌⊎◌, IsTrue, IsSome, List, [], ◌∷◌, ◌++◌, map, length,
-  slice_get, Option, Some, None, if◌then◌else◌, nat_le, ◌==◌}
+use Rattle.std.specs.Prelude.{
+  ◌≡◌,
+  ◌≢◌,
+  ℕ,
+  ◌+◌,
+  ◌*◌,
+  ◌%◌,
+  ◌^◌,
+  ◌<◌,
+  ◌≤◌,
+  ℤ,
+  pos,
+  Bool,
+  true,
+  false,
+  ◌⊎◌,
+  IsTrue,
+  IsSome,
+  List,
+  [],
+  ◌∷◌,
+  ◌++◌,
+  map,
+  length,
+  slice_get,
+  Option,
+  Some,
+  None,
+  if◌then◌else◌,
+  nat_le,
+  ◌==◌,
+}
 use Rattle.std.specs.List.{All, AllPairs, Contains, sum}
 use Rattle.c_types.specs.Kinds.{holds, promoted, common}
-use Rattle.c_types.specs.Types.{CType, void, int, enumeration, pointer, array, struct, union, function, Params, none, more, Qualified, Signature, type_of,
-  qualified_of, signature_of, kind_of, Compatible, SameSignature}
+use Rattle.c_types.specs.Types.{
+  CType,
+  void,
+  int,
+  enumeration,
+  pointer,
+  array,
+  struct,
+  union,
+  function,
+  Params,
+  none,
+  more,
+  Qualified,
+  Signature,
+  type_of,
+  qualified_of,
+  signature_of,
+  kind_of,
+  Compatible,
+  SameSignature,
+}
 use Rattle.c_types.specs.Layout.{extent, extents, size_of, align_of}
 use Rattle.c_types.specs.Leaves.{Scalar, scalars}
 use Rattle.c_types.specs.declared.kind.IntKind.{IntKind}
@@ -41,8 +91,25 @@ use Rattle.c_typed.specs.declared.program.Static.{Static}
 use Rattle.c_typed.specs.declared.program.Function.{Function}
 use Rattle.c_typed.specs.declared.program.Program.{Program}
 use Rattle.c_typed.specs.Height.{function_height}
-use Rattle.c_typed.specs.Sites.{Head, Site, sites, type_at, Use, unused, tested, selects, returned, initializes, Blocks, Expression, expressions, BlockRow,
-  SwitchRow, Summary, summary}
+use Rattle.c_typed.specs.Sites.{
+  Head,
+  Site,
+  sites,
+  type_at,
+  Use,
+  unused,
+  tested,
+  selects,
+  returned,
+  initializes,
+  Blocks,
+  Expression,
+  expressions,
+  BlockRow,
+  SwitchRow,
+  Summary,
+  summary,
+}
 
 -- what holds of each value that may be left out, where it is there
 abbrev pub Where : {A : Type 0} → (A → Type 0) → Option A → Type 0

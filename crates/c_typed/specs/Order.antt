@@ -1,6 +1,30 @@
 -- The events of a full expression, which of them are sequenced before which, and which may come next.
-use Rattle.std.specs.Prelude.{◌≡◌, ℕ, zero, suc, ◌+◌, Bool, true, false, not, ◌&&◌, ◌||◌, ◌==◌, nat_lt, List, [], ◌∷◌, ◌++◌, map, Option, Some, None, is_some,
-  if◌then◌else◌, IsTrue}
+use Rattle.std.specs.Prelude.{
+  ◌≡◌,
+  ℕ,
+  zero,
+  suc,
+  ◌+◌,
+  Bool,
+  true,
+  false,
+  not,
+  ◌&&◌,
+  ◌||◌,
+  ◌==◌,
+  nat_lt,
+  List,
+  [],
+  ◌∷◌,
+  ◌++◌,
+  map,
+  Option,
+  Some,
+  None,
+  is_some,
+  if◌then◌else◌,
+  IsTrue,
+}
 use Rattle.ub_base.specs.declared.clause.Kind.{Kind}
 use Rattle.ub_base.specs.declared.clause.Kind.TheVariants.{Val, Eff, Body}
 use Rattle.ub_base.specs.Names.{same_kind}
@@ -104,7 +128,7 @@ abbrev mutual
       (goes class choice i
       && (((u.node == m) && (is_val u.kind && (not (is_quiet t) && ((v.node == k) && not (is_body v.kind)))))
       || ((has (events taken m t) u && (((v.node == k) && upward class choice i (is_last ts) v.kind) ||
-        in_later taken class choice i (suc i) (m + size t) ts v))
+      in_later taken class choice i (suc i) (m + size t) ts v))
       || comes taken m t u v)))
       || operand_rules taken class choice k (suc i) (m + size t) ts u v
 

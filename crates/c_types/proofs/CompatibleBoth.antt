@@ -1,7 +1,25 @@
 -- The composite of two compatible types is compatible with both.
 use Rattle.std.proofs.Common.{ℕ, false, Option, Some, None, refl}
-use Rattle.c_types.specs.Types.{CType, Params, void, int, enumeration, pointer, array, struct, union, function, none, more, Matches, EachMatches, SizesAgree,
-  known_count, composite, composites}
+use Rattle.c_types.specs.Types.{
+  CType,
+  Params,
+  void,
+  int,
+  enumeration,
+  pointer,
+  array,
+  struct,
+  union,
+  function,
+  none,
+  more,
+  Matches,
+  EachMatches,
+  SizesAgree,
+  known_count,
+  composite,
+  composites,
+}
 
 same_size : (m : Option ℕ) → SizesAgree m m
 same_size None = tt

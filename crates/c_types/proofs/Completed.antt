@@ -10,7 +10,7 @@ use Rattle.c_types.specs.Table.{counted, completions}
 use Rattle.c_types.proofs.Extents.{OptBelow, Below, both, tag_grows, option_grows, no_extent}
 
 pub get-completed_same : (tags : List Tag) (i : ℕ) (ms : List Member) (t : Tag) → slice_get tags i ≡ Some t →
-  slice_get (completed tags i ms) i ≡ Some (record t { members = ms })
+    slice_get (completed tags i ms) i ≡ Some (record t { members = ms })
 get-completed_same [] i ms t h = absurd (cc)
 get-completed_same (u ∷ us) zero ms t h = let e : u ≡ t = cc in let f : Tag → Option Tag = λ x. Some (record x { members = ms }) in ap f e
 get-completed_same (u ∷ us) (suc i) ms t h = get-completed_same us i ms t h
@@ -23,7 +23,7 @@ get-completed_other (u ∷ us) (suc i) ms zero h = refl
 get-completed_other (u ∷ us) (suc i) ms (suc tag) h = get-completed_other us i ms tag (λ e. h (ap suc e))
 
 pub completions-completed : (tags : List Tag) (i : ℕ) (m : Member) (ms : List Member) (t : Tag) → slice_get tags i ≡ Some t → t.members ≡ [] →
-  completions (completed tags i (m ∷ ms)) ≡ completions tags + 1
+    completions (completed tags i (m ∷ ms)) ≡ completions tags + 1
 completions-completed [] i m ms t h e = absurd (cc)
 completions-completed (u ∷ us) zero m ms t h e =
     let same : u ≡ t = cc in
@@ -74,7 +74,7 @@ module _ (tags : List Tag) (i : ℕ) (ms : List Member) (t : Tag) (k m : Known) 
   fixed_here : tag_extent m given ≡ m i
   unfolding given
   fixed_here = both (tag_extent m (record t { members = ms })) (m i) (here_only (m i) refl)
-    (λ e h. tag_grows k m grown (record t { members = ms }) e (sym c.here ∙ h))
+      (λ e h. tag_grows k m grown (record t { members = ms }) e (sym c.here ∙ h))
 
   other_only : (tag : ℕ) → tag ≢ i → (u : Tag) → slice_get tags tag ≡ Some u → (o : Option Extent) → k tag ≡ o → OptBelow (tag_extent m u) (k tag)
   other_only tag n u g None h e f = let none = no_extent m u (c.filled tag u g h) in absurd (cc)

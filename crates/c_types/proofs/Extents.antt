@@ -6,8 +6,21 @@ use Rattle.c_types.specs.declared.tags.Member.{Member}
 use Rattle.c_types.specs.declared.tags.Tag.{Tag}
 use Rattle.c_types.specs.declared.tags.Extent.{Extent}
 use Rattle.c_types.specs.Types.{CType, void, int, enumeration, pointer, array, struct, union, function}
-use Rattle.c_types.specs.Layout.{Known, extent, repeated, placed, and_then, members_extent, type_of_member, padded, if_any, no_members, tag_extent,
-  extent_of_tag, known_by}
+use Rattle.c_types.specs.Layout.{
+  Known,
+  extent,
+  repeated,
+  placed,
+  and_then,
+  members_extent,
+  type_of_member,
+  padded,
+  if_any,
+  no_members,
+  tag_extent,
+  extent_of_tag,
+  known_by,
+}
 use Rattle.c_types.specs.Table.{counted, completions}
 
 -- what is known there is known here
@@ -42,12 +55,12 @@ placed_grows kind before None y f e h = absurd (cc)
 placed_grows kind before (Some d) y f e h = ap (placed kind before) (f d refl) ∙ h
 
 then_grows : (x y : Option Extent) (f g : Extent → Option Extent) → OptBelow x y →
-  ((d : Extent) → OptBelow (f d) (g d)) → OptBelow (and_then x f) (and_then y g)
+    ((d : Extent) → OptBelow (f d) (g d)) → OptBelow (and_then x f) (and_then y g)
 then_grows None y f g b s e h = absurd (cc)
 then_grows (Some d) y f g b s e h = ap (λ o. and_then o g) (b d refl) ∙ s d e h
 
 members_grow : (kind : TagKind) (k m : Known) → Below k m → (x y : Option Extent) → OptBelow x y →
-  (ms : List Member) → OptBelow (members_extent kind k x ms) (members_extent kind m y ms)
+    (ms : List Member) → OptBelow (members_extent kind k x ms) (members_extent kind m y ms)
 members_grow kind k m b x y f [] = f
 members_grow kind k m b x y f (t ∷ ms) =
     members_grow kind k m b
@@ -83,7 +96,7 @@ no_extent k t h = if_none t.members (and_then (members_extent t.kind k (Some no_
 
 -- a tag more, which has no members yet
 more_at : (k : Known) (tags : List Tag) (t : Tag) → t.members ≡ [] →
-  (tag : ℕ) → extent_of_tag k (slice_get (tags ++ t ∷ []) tag) ≡ extent_of_tag k (slice_get tags tag)
+    (tag : ℕ) → extent_of_tag k (slice_get (tags ++ t ∷ []) tag) ≡ extent_of_tag k (slice_get tags tag)
 more_at k [] t h zero = no_extent k t h
 more_at k [] t h (suc n) = refl
 more_at k (u ∷ us) t h zero = refl

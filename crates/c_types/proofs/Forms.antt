@@ -17,5 +17,5 @@ abbrev mutual
 pub inside : (ps : List Placed) (i : ℕ) (p : Placed) → i < length ps → p ≡ get_or ps i p → 1 + nodes (put_of p).part < all_nodes (forms_of (map put_of ps))
 inside [] i p h e = absurd (omega arith)
 inside (q ∷ qs) zero p h e = subst (λ (x : Placed). 1 + nodes (put_of x).part < 2 + nodes (put_of q).part + all_nodes (forms_of (map put_of qs))) (sym e)
-  (omega arith)
+    (omega arith)
 inside (q ∷ qs) (suc i) p h e = let further = inside qs i p (omega arith) e in omega arith

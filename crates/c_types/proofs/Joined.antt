@@ -1,6 +1,31 @@
 -- Composite parameters, one place after the other.
-use Rattle.std.proofs.Common.{◌≡◌, ℕ, zero, suc, ◌+◌, ◌<◌, ◌≤◌, List, [], ◌∷◌, ◌++◌, length, get_or, drop, add-one, map, Some, refl, sym, ap, ◌∙◌, subst,
-  append_assoc, append-nil, arith}
+use Rattle.std.proofs.Common.{
+  ◌≡◌,
+  ℕ,
+  zero,
+  suc,
+  ◌+◌,
+  ◌<◌,
+  ◌≤◌,
+  List,
+  [],
+  ◌∷◌,
+  ◌++◌,
+  length,
+  get_or,
+  drop,
+  add-one,
+  map,
+  Some,
+  refl,
+  sym,
+  ap,
+  ◌∙◌,
+  subst,
+  append_assoc,
+  append-nil,
+  arith,
+}
 use Rattle.std.specs.Prelude.{slice_get}
 use Rattle.std.proofs.lemmas.List.{map-append}
 use Rattle.c_types.specs.declared.ty.Qual.{Qual}
@@ -33,7 +58,7 @@ next : (xs bs : List Qual) (i : ℕ) (x : Qual) → i < length xs → x ≡ get_
 next [] bs i x h e = absurd (omega arith)
 next (a ∷ xs) [] zero x h e = ap (λ y. qualified_of y ∷ joined (map qualified_of xs) []) (sym e)
 next (a ∷ xs) (b ∷ bs) zero x h e = ap (λ y. composite_param (qualified_of y) (Some (qualified_of b)) ∷ joined (map qualified_of xs) (map qualified_of bs))
-  (sym e)
+    (sym e)
 next (a ∷ xs) [] (suc i) x h e =
     subst (λ qs. joined (map qualified_of (drop i xs)) qs ≡ qualified_of x ∷ joined (map qualified_of (drop (suc i) xs)) []) (drop_none i)
     (next xs [] i x (omega arith) e)

@@ -1,6 +1,32 @@
 -- The rows keep the extents of their tags as tags are declared and completed.
-use Rattle.std.proofs.Common.{◌≡◌, ◌≢◌, ℕ, zero, suc, ◌<◌, List, [], ◌∷◌, ◌++◌, length, Option, Some, None, IfSome, refl, sym, ap, subst, ◌∙◌, inl, inr,
-  arith, get_or, set, map}
+use Rattle.std.proofs.Common.{
+  ◌≡◌,
+  ◌≢◌,
+  ℕ,
+  zero,
+  suc,
+  ◌<◌,
+  List,
+  [],
+  ◌∷◌,
+  ◌++◌,
+  length,
+  Option,
+  Some,
+  None,
+  IfSome,
+  refl,
+  sym,
+  ap,
+  subst,
+  ◌∙◌,
+  inl,
+  inr,
+  arith,
+  get_or,
+  set,
+  map,
+}
 use Rattle.std.specs.Prelude.{true, false, slice_get, is_some}
 use Rattle.std.proofs.lemmas.List.{map-append, length-map}
 use Rattle.std.proofs.lemmas.Bool.Decides.{eqb_tells}
@@ -32,7 +58,7 @@ look-more (u ∷ us) r h zero = refl
 look-more (u ∷ us) r h (suc tag) = look-more us r h tag
 
 filled-more : (rows : List Row) (r : Row) → r.tag.members ≡ [] →
-  ((tag : ℕ) (t : Tag) → slice_get (map tag_of rows) tag ≡ Some t → look rows tag ≡ None → t.members ≡ []) →
+    ((tag : ℕ) (t : Tag) → slice_get (map tag_of rows) tag ≡ Some t → look rows tag ≡ None → t.members ≡ []) →
     (tag : ℕ) (t : Tag) → slice_get (map tag_of (rows ++ r ∷ [])) tag ≡ Some t → look (rows ++ r ∷ []) tag ≡ None → t.members ≡ []
 filled-more [] r e f zero t g h = let same : r.tag ≡ t = cc in ap (λ x. x.members) (sym same) ∙ e
 filled-more [] r e f (suc tag) t g h = absurd (cc)
@@ -117,12 +143,12 @@ module _ (rows : List Row) (i : ℕ) (kind : TagKind) (ms : List Member) (c : Fr
   }
 
   pub stays_incomplete : tag_extent (look rows) (record { kind = kind; members = ms }) ≡ None →
-    (n : ℕ) (o : Option Extent) → known_by n (completed (map tag_of rows) i ms) i ≡ o → o ≡ None
+      (n : ℕ) (o : Option Extent) → known_by n (completed (map tag_of rows) i ms) i ≡ o → o ≡ None
   stays_incomplete h n None e = refl
   stays_incomplete h n (Some d) e = let f = upper (map tag_of rows) i ms t (look rows) (look rows) (stays h) n i d e in let g = unknown in absurd (cc)
 
 module _ (rows : List Row) (i : ℕ) (kind : TagKind) (ms : List Member) (c : Fresh rows i kind) (t : Tag) (at : slice_get (map tag_of rows) i ≡ Some t)
-  (e : Extent)
+    (e : Extent)
     (short : i < length rows) (known : tag_extent (look rows) (record { kind = kind; members = ms }) ≡ Some e) where
   row : Row
   row = record { tag = record { kind = kind; members = ms }; extent = Some e }
@@ -135,7 +161,7 @@ module _ (rows : List Row) (i : ℕ) (kind : TagKind) (ms : List Member) (c : Fr
     there = at;
     fresh = sym (extents-look rows c.laid i) ∙ c.fresh;
     here = look-set_same rows i (record { tag = record { kind = kind; members = ms }; extent = Some e }) short ∙
-      (sym known ∙ known_then rows i kind ms c t at);
+        (sym known ∙ known_then rows i kind ms c t at);
     others = look-set_other rows i (record { tag = record { kind = kind; members = ms }; extent = Some e });
   }
 
@@ -148,9 +174,9 @@ filled_by rows i kind ms e short laid seen tag t g h =
     let r : Row = record { tag = record { kind = kind; members = ms }; extent = Some e } in
     elim (eqb_tells tag i) [
       | inl p ↦ (let here = look-set_same rows i r short in let at : look (set rows i r) i ≡ None = subst (λ u. look (set rows i r) u ≡ None) p.1 h in absurd
-        (cc))
+          (cc))
       | inr p ↦ laid.filled tag t (sym (get-completed_other (map tag_of rows) i ms tag p.1) ∙ (ap (λ ts. slice_get ts tag) (sym seen) ∙ g))
-        (sym (look-set_other rows i r tag p.1) ∙ h)
+          (sym (look-set_other rows i r tag p.1) ∙ h)
     ]
 
 -- it is complete now
@@ -210,7 +236,7 @@ fresh_at rows now i kind seen laid within kind_is fresh = record {
 
 pub known_at :
     (rows here : List Row) (kind : TagKind) (ms : List Member) (r o : Option Extent) → here ≡ rows →
-      r ≡ tag_extent (look here) (record { kind = kind; members = ms }) → r ≡ o →
+    r ≡ tag_extent (look here) (record { kind = kind; members = ms }) → r ≡ o →
     tag_extent (look rows) (record { kind = kind; members = ms }) ≡ o
 known_at rows here kind ms r o same is at = subst (λ x. tag_extent (look x) (record { kind = kind; members = ms }) ≡ o) same (sym is ∙ at)
 
@@ -233,7 +259,7 @@ seen_done rows now i kind ms e seen c = map-set_completed rows i kind ms (Some e
 
 -- a row by its number
 pub row_extent : (rows : List Row) (now : List Tag) (i : ℕ) (r : Row) → map tag_of rows ≡ now → IsLaid rows → Some r ≡ slice_get rows i →
-  r.extent ≡ extents now i
+    r.extent ≡ extents now i
 row_extent rows now i r seen laid at =
     subst (λ ts. r.extent ≡ extents ts i) seen (ap extent_in at ∙ sym (extents-look rows laid i))
 
@@ -252,6 +278,6 @@ row_offset rows now i member r seen laid at =
 pub settled_rows : (rows : List Row) (now : List Tag) → map tag_of rows ≡ now → IsLaid rows → IsSettled now
 settled_rows rows now seen laid = subst IsSettled seen (record {
   known = λ tag. extents-look rows laid tag ∙ sym
-    (laid.settled (suc (length (map tag_of rows))) (let le = completions-le (map tag_of rows) in omega arith) tag);
+      (laid.settled (suc (length (map tag_of rows))) (let le = completions-le (map tag_of rows) in omega arith) tag);
   filled = λ tag t g h. laid.filled tag t g (sym (extents-look rows laid tag) ∙ h);
 })

@@ -4,10 +4,44 @@ use denote.Enum.Bare.{same_true, true_same}
 use Rattle.c_types.specs.declared.kind.IntKind.{IntKind}
 use Rattle.c_types.specs.declared.kind.IntKind.TheVariants.{Int}
 use Rattle.c_types.specs.contracts.kind.IntKind.{the_type as kind_type}
-use Rattle.c_types.specs.Types.{CType, Params, void, int, enumeration, pointer, array, struct, union, function, none, more, Qualified, Signature, Matches,
-  EachMatches, SameEnumeration, SizesAgree, SameSignature, Agrees, kind_of, are_forms}
-use Rattle.c_types.specs.Same.{same_kind, same_qualifier, same_count, same, each_same, same_qualified, sizes_agree, same_enumeration, matches, each_matches,
-  compatible_functions, agrees}
+use Rattle.c_types.specs.Types.{
+  CType,
+  Params,
+  void,
+  int,
+  enumeration,
+  pointer,
+  array,
+  struct,
+  union,
+  function,
+  none,
+  more,
+  Qualified,
+  Signature,
+  Matches,
+  EachMatches,
+  SameEnumeration,
+  SizesAgree,
+  SameSignature,
+  Agrees,
+  kind_of,
+  are_forms,
+}
+use Rattle.c_types.specs.Same.{
+  same_kind,
+  same_qualifier,
+  same_count,
+  same,
+  each_same,
+  same_qualified,
+  sizes_agree,
+  same_enumeration,
+  matches,
+  each_matches,
+  compatible_functions,
+  agrees,
+}
 
 both : (b c : Bool) (P Q : Type 0) → IsTrue b ↔ P → IsTrue c ↔ Q → IsTrue (b && c) ↔ (P × Q)
 both true true P Q p q = (λ h. (p.0 refl, q.0 refl), λ h. refl)
@@ -52,12 +86,12 @@ module _ (as_int : Bool) where
         both (same_qualifier c d) (matches as_int a b) (c ≡ d) (Matches as_int a b) (qualifier_tells c d) (matches_tells a b)
     matches_tells (array c a m) (array d b n) =
         three (same_qualifier c d) (matches as_int a b) (sizes_agree m n) (c ≡ d) (Matches as_int a b) (SizesAgree m n) (qualifier_tells c d)
-          (matches_tells a b) (sizes_tell m n)
+        (matches_tells a b) (sizes_tell m n)
     matches_tells (struct m) (struct n) = number_tells m n
     matches_tells (union m) (union n) = number_tells m n
     matches_tells (function r ps v) (function s qs w) =
         three (matches as_int r s) (each_matches as_int ps qs) (same_qualifier v w) (Matches as_int r s) (EachMatches as_int ps qs) (v ≡ w)
-          (matches_tells r s) (each_tells ps qs) (qualifier_tells v w)
+        (matches_tells r s) (each_tells ps qs) (qualifier_tells v w)
     matches_tells a b = (λ h. absurd (cc), λ h. absurd h)
 
     pub each_tells : (ps qs : Params) → IsTrue (each_matches as_int ps qs) ↔ EachMatches as_int ps qs
@@ -110,13 +144,13 @@ mutual
   equal_tells (array c a m) (array d b n) =
       through (same_count m n && (same_qualifier c d && same a b)) ((m ≡ n) × (c ≡ d) × (a ≡ b)) (array c a m ≡ array d b n)
       (three (same_count m n) (same_qualifier c d) (same a b) (m ≡ n) (c ≡ d) (a ≡ b) (counts_tell m n) (qualifier_tells c d) (equal_tells a b)) (λ h. cc)
-        (λ h. (cc, cc, cc))
+      (λ h. (cc, cc, cc))
   equal_tells (struct m) (struct n) = through (m == n) (m ≡ n) (struct m ≡ struct n) (number_tells m n) (λ h. ap struct h) (λ h. cc)
   equal_tells (union m) (union n) = through (m == n) (m ≡ n) (union m ≡ union n) (number_tells m n) (λ h. ap union h) (λ h. cc)
   equal_tells (function r ps v) (function s qs w) =
       through (same_qualifier v w && (same r s && each_same ps qs)) ((v ≡ w) × (r ≡ s) × (ps ≡ qs)) (function r ps v ≡ function s qs w)
       (three (same_qualifier v w) (same r s) (each_same ps qs) (v ≡ w) (r ≡ s) (ps ≡ qs) (qualifier_tells v w) (equal_tells r s) (each_equal ps qs)) (λ h. cc)
-        (λ h. (cc, cc, cc))
+      (λ h. (cc, cc, cc))
   equal_tells a b = (λ h. absurd (cc), λ h. absurd (cc))
 
   each_equal : (ps qs : Params) → IsTrue (each_same ps qs) ↔ (ps ≡ qs)
@@ -131,5 +165,5 @@ pub qualified_tell : (p q : Qualified) → IsTrue (same_qualified p q) ↔ (p �
 qualified_tell p q =
     through (same_qualified p q) ((p.constant ≡ q.constant) × (p.ty ≡ q.ty)) (p ≡ q)
     (both (same_qualifier p.constant q.constant) (same p.ty q.ty) (p.constant ≡ q.constant) (p.ty ≡ q.ty) (qualifier_tells p.constant q.constant)
-      (equal_tells p.ty q.ty))
+    (equal_tells p.ty q.ty))
     (λ h i. record { constant = h.0 i; ty = h.1 i }) (λ h. (ap (λ (r : Qualified). r.constant) h, ap (λ (r : Qualified). r.ty) h))

@@ -1,6 +1,29 @@
 -- The sizes and alignments of types (6.2.8, 6.5.3.4, 6.7.2.1; the data model is LP64).
-use Rattle.std.specs.Prelude.{ℕ, zero, suc, ◌+◌, ◌-◌, ◌*◌, ◌/◌, ◌%◌, ◌^◌, ◌<◌, ◌≤◌, max, nat_le, List, [], ◌∷◌, take, length, slice_get, Option, Some, None,
-  if◌then◌else◌}
+use Rattle.std.specs.Prelude.{
+  ℕ,
+  zero,
+  suc,
+  ◌+◌,
+  ◌-◌,
+  ◌*◌,
+  ◌/◌,
+  ◌%◌,
+  ◌^◌,
+  ◌<◌,
+  ◌≤◌,
+  max,
+  nat_le,
+  List,
+  [],
+  ◌∷◌,
+  take,
+  length,
+  slice_get,
+  Option,
+  Some,
+  None,
+  if◌then◌else◌,
+}
 use Rattle.c_types.specs.Kinds.{width}
 use Rattle.c_types.specs.declared.kind.IntKind.{IntKind}
 use Rattle.c_types.specs.declared.kind.IntKind.TheVariants.{Bool as Boolean, Int}

@@ -4,8 +4,27 @@ use denote.Enum.Bare.{sameb}
 use Rattle.c_types.specs.declared.kind.IntKind.{IntKind}
 use Rattle.c_types.specs.declared.kind.IntKind.TheVariants.{Int}
 use Rattle.c_types.specs.contracts.kind.IntKind.{the_type as kind_type}
-use Rattle.c_types.specs.Types.{CType, Params, void, int, enumeration, pointer, array, struct, union, function, none, more, Qualified, Signature, Matches,
-  SameSignature, Agrees, kind_of, are_forms}
+use Rattle.c_types.specs.Types.{
+  CType,
+  Params,
+  void,
+  int,
+  enumeration,
+  pointer,
+  array,
+  struct,
+  union,
+  function,
+  none,
+  more,
+  Qualified,
+  Signature,
+  Matches,
+  SameSignature,
+  Agrees,
+  kind_of,
+  are_forms,
+}
 
 abbrev pub same_kind : IntKind → IntKind → Bool
 same_kind = sameb kind_type

@@ -1,6 +1,27 @@
 -- What the answer to a value says of the text that has it.
-use Rattle.std.proofs.Common.{◌≡◌, ℕ, List, [], length, Option, Some, None, option_and_then, Result, Ok, Err, IfOk, IfErr, inl, inr, sym, ap, subst, ◌∙◌,
-  codes}
+use Rattle.std.proofs.Common.{
+  ◌≡◌,
+  ℕ,
+  List,
+  [],
+  length,
+  Option,
+  Some,
+  None,
+  option_and_then,
+  Result,
+  Ok,
+  Err,
+  IfOk,
+  IfErr,
+  inl,
+  inr,
+  sym,
+  ap,
+  subst,
+  ◌∙◌,
+  codes,
+}
 use Rattle.serde_json.specs.Data.{Data}
 use Rattle.ub_base.specs.Frames as frames
 use Rattle.addr_map.specs.declared.map.Row.{Row}
@@ -14,8 +35,21 @@ use Rattle.certificate.specs.declared.words.Verdict.{Verdict}
 use Rattle.certificate.specs.declared.words.Version.{Version}
 use Rattle.certificate.specs.declared.words.Version.TheVariants.{One, Two}
 use Rattle.certificate.specs.Form.{HasForm, IsInForm}
-use Rattle.certificate.specs.Reading.{more_frames, map_in, order_in, claim_in, list_at, need, with_claim, parts_in, cert_in, Answers, IsJsonOf, States,
-  IsRefused}
+use Rattle.certificate.specs.Reading.{
+  more_frames,
+  map_in,
+  order_in,
+  claim_in,
+  list_at,
+  need,
+  with_claim,
+  parts_in,
+  cert_in,
+  Answers,
+  IsJsonOf,
+  States,
+  IsRefused,
+}
 use Rattle.certificate.proofs.Forms.{cert_form}
 
 pub answer_states : (text : List ℕ) (d : Data) (r : Result Cert CertFault) → IsJsonOf text d → Answers (cert_in d) r → IfOk r (States text)

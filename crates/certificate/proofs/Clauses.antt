@@ -4,14 +4,39 @@ use Rattle.std.proofs.lemmas.Slice.Eq.{bytes_eq-Decides}
 use Rattle.std.specs.Str.{bytes_eq}
 use Rattle.ub_base.specs.Clause.{clause_text, IsNoClause}
 use Rattle.ub_base.specs.declared.clause.Clause.{Clause}
-use Rattle.ub_base.specs.declared.clause.Clause.TheVariants.{DeadObject, TrapRepresentation, PointerAlignment, StoreToLiteral, Unsequenced, Exceptional,
-  IncompatibleCall, InvalidPointer, DivideByZero, Unrepresentable, OutOfBounds, PointerDifference, ShiftCount, LeftShift, PointerComparison,
-  OverlappingAssignment, EffectiveType, StoreToConst, MissingValue, LibraryArgument, TooFewArguments, Conversion, Free, Realloc, MemcpyOverlap, StrcpyOverlap,
-  Indeterminate}
+use Rattle.ub_base.specs.declared.clause.Clause.TheVariants.{
+  DeadObject,
+  TrapRepresentation,
+  PointerAlignment,
+  StoreToLiteral,
+  Unsequenced,
+  Exceptional,
+  IncompatibleCall,
+  InvalidPointer,
+  DivideByZero,
+  Unrepresentable,
+  OutOfBounds,
+  PointerDifference,
+  ShiftCount,
+  LeftShift,
+  PointerComparison,
+  OverlappingAssignment,
+  EffectiveType,
+  StoreToConst,
+  MissingValue,
+  LibraryArgument,
+  TooFewArguments,
+  Conversion,
+  Free,
+  Realloc,
+  MemcpyOverlap,
+  StrcpyOverlap,
+  Indeterminate,
+}
 use Rattle.certificate.specs.Reading.{clause_named, all_clauses}
 
 found_step : (b : Bool) (p : Clause → Bool) (y x : Clause) (rest : Option Clause) → p y ≡ b → cond b (Some y) rest ≡ Some x →
-  (rest ≡ Some x → p x ≡ true) → p x ≡ true
+    (rest ≡ Some x → p x ≡ true) → p x ≡ true
 found_step true p y x rest is e later = let same : y ≡ x = cc in ap p (sym same) ∙ is
 found_step false p y x rest is e later = later e
 
@@ -56,7 +81,7 @@ none_named text (Some clause) is none =
     absurd (none clause ((bytes_eq-Decides (clause_text clause) text).0 (found_passes (λ c. bytes_eq (clause_text c) text) all_clauses clause is)))
 
 pub clause_of_text : (text : List ℕ) (found : Option Clause) → IfSome found (λ clause. clause_text clause ≡ text) → IfNone found (IsNoClause text) →
-  found ≡ clause_named text
+    found ≡ clause_named text
 clause_of_text text (Some clause) has none =
     sym (clause_named-clause_text clause) ∙ ap clause_named has
 clause_of_text text None has none = sym (none_named text (clause_named text) refl none)

@@ -1,6 +1,40 @@
 -- Lists of values, and that no value of a certificate has a float.
-use Rattle.std.proofs.Common.{Vec, Global, ◌≡◌, ◌⊎◌, ◌||◌, ℕ, zero, suc, max, ◌<◌, ◌≤◌, Bool, false, List, [], ◌∷◌, ◌++◌, length, map, take, drop, get_or,
-  Some, None, refl, sym, ap, subst, ◌∙◌, arith, inl, inr, append_assoc, append-nil}
+use Rattle.std.proofs.Common.{
+  Vec,
+  Global,
+  ◌≡◌,
+  ◌⊎◌,
+  ◌||◌,
+  ℕ,
+  zero,
+  suc,
+  max,
+  ◌<◌,
+  ◌≤◌,
+  Bool,
+  false,
+  List,
+  [],
+  ◌∷◌,
+  ◌++◌,
+  length,
+  map,
+  take,
+  drop,
+  get_or,
+  Some,
+  None,
+  refl,
+  sym,
+  ap,
+  subst,
+  ◌∙◌,
+  arith,
+  inl,
+  inr,
+  append_assoc,
+  append-nil,
+}
 use Rattle.std.proofs.lemmas.List.{map-append}
 use Rattle.std.proofs.Math.Seq.{take-suc}
 use Rattle.serde_json.specs.Data.{Data, depth, items_depth, members_depth}
@@ -51,7 +85,7 @@ pub packs_grown : (rows rest all : List Row) (items new : List Value) (value : V
     → (entries : List Data) → Packs rest entries → Packs all (map view new ++ entries)
 packs_grown rows rest all items new value one pushed so_far entries more =
     subst (λ ds. Packs all (ds ++ entries)) (sym (ap (map view) pushed ∙ map-append view items (value ∷ [])))
-      (packs_one rows rest all (map view items) (view value) one so_far entries more)
+    (packs_one rows rest all (map view items) (view value) one so_far entries more)
 
 pub none_left : {A : Type 0} (xs : List A) → length xs ≤ 0 → xs ≡ []
 none_left [] le = refl
@@ -63,7 +97,7 @@ first_and_rest [] d some = absurd (omega arith)
 first_and_rest (row ∷ rows) d some = refl
 
 pub packs_all : (all rest : List Row) (items : List Data) → rest ≡ [] → ((entries : List Data) → Packs rest entries → Packs all (items ++ entries)) →
-  Packs all items
+    Packs all items
 packs_all all rest items none so_far = subst (Packs all) (append-nil items) (so_far [] none)
 
 -- ---- no floats
@@ -169,7 +203,7 @@ value_depth c entries packs =
     let m = entries_depth c.map entries packs in
     let o = segments_depth c.order in
     let all = members_within c.claim (list (map frame_entry c.frames)) (list entries) (list (map segment_entry c.order)) (omega arith) (omega arith)
-          (omega arith) in
+    (omega arith) in
     omega arith
 
 -- ---- the members in order

@@ -1,6 +1,44 @@
 -- A certificate that a value states keeps the form of the value's version.
-use Rattle.std.proofs.Common.{◌≡◌, ℕ, zero, suc, ◌+◌, ◌-◌, ◌*◌, ◌^◌, ◌<◌, ◌≤◌, ◌⊎◌, inl, inr, Bool, true, false, not, ◌&&◌, cond, nat_lt, nat_le, List, [],
-  ◌∷◌, ◌++◌, length, Option, Some, None, Result, Ok, Err, All, refl, subst, arith, length-append, codes}
+use Rattle.std.proofs.Common.{
+  ◌≡◌,
+  ℕ,
+  zero,
+  suc,
+  ◌+◌,
+  ◌-◌,
+  ◌*◌,
+  ◌^◌,
+  ◌<◌,
+  ◌≤◌,
+  ◌⊎◌,
+  inl,
+  inr,
+  Bool,
+  true,
+  false,
+  not,
+  ◌&&◌,
+  cond,
+  nat_lt,
+  nat_le,
+  List,
+  [],
+  ◌∷◌,
+  ◌++◌,
+  length,
+  Option,
+  Some,
+  None,
+  Result,
+  Ok,
+  Err,
+  All,
+  refl,
+  subst,
+  arith,
+  length-append,
+  codes,
+}
 use Rattle.std.specs.List.{list_any}
 use Rattle.std.specs.Str.{bytes_eq}
 use Rattle.std.proofs.lemmas.Bool.Decides.{nat_tests}
@@ -27,13 +65,80 @@ use Rattle.certificate.specs.declared.words.Verdict.{Verdict}
 use Rattle.certificate.specs.declared.words.Verdict.TheVariants.{Clean, Undefined, OrderDependent, OutOfSteps, Outside}
 use Rattle.certificate.specs.declared.words.Version.{Version}
 use Rattle.certificate.specs.declared.words.Version.TheVariants.{One, Two}
-use Rattle.certificate.specs.Form.{IsFrameRow, HasFrames, IsNameOf, IsRowOf, HasFewRows, IsSegment, IsOneNumber, SuitsClaim, IsEventOf, IsPairOf, IsClaimOf,
-  HasForm, total_picks, most_picks}
-use Rattle.certificate.specs.Reading.{◌>>=◌, kept, whole_in, number_in, small_in, frame_in, list_in, kind_in, frame_row_in, frame_row_of, can_follow,
-  same_row, more_frames, counted_in, framed_in, argv_in, placed, row_in, row_of, moved_name, row_at, run_rows, run_words, run_in, rows_of, row_or_run,
-  entry_in, rows_in, has_few_rows, map_in, pick_in, number_or_pick, segment_in, segments_in, short_segments, is_one_number, suits, order_in, output_in,
-  status_in, clause_in, cause_in, limit_in, event_parts, event_in, two_events, pair_or_none, need, claim_in, list_at, version_in, verdict_in, is_root,
-  with_claim, parts_in, cert_in}
+use Rattle.certificate.specs.Form.{
+  IsFrameRow,
+  HasFrames,
+  IsNameOf,
+  IsRowOf,
+  HasFewRows,
+  IsSegment,
+  IsOneNumber,
+  SuitsClaim,
+  IsEventOf,
+  IsPairOf,
+  IsClaimOf,
+  HasForm,
+  total_picks,
+  most_picks,
+}
+use Rattle.certificate.specs.Reading.{
+  ◌>>=◌,
+  kept,
+  whole_in,
+  number_in,
+  small_in,
+  frame_in,
+  list_in,
+  kind_in,
+  frame_row_in,
+  frame_row_of,
+  can_follow,
+  same_row,
+  more_frames,
+  counted_in,
+  framed_in,
+  argv_in,
+  placed,
+  row_in,
+  row_of,
+  moved_name,
+  row_at,
+  run_rows,
+  run_words,
+  run_in,
+  rows_of,
+  row_or_run,
+  entry_in,
+  rows_in,
+  has_few_rows,
+  map_in,
+  pick_in,
+  number_or_pick,
+  segment_in,
+  segments_in,
+  short_segments,
+  is_one_number,
+  suits,
+  order_in,
+  output_in,
+  status_in,
+  clause_in,
+  cause_in,
+  limit_in,
+  event_parts,
+  event_in,
+  two_events,
+  pair_or_none,
+  need,
+  claim_in,
+  list_at,
+  version_in,
+  verdict_in,
+  is_root,
+  with_claim,
+  parts_in,
+  cert_in,
+}
 use Rattle.certificate.proofs.Steps.{then_some, map_some, kept_some, kept_below, kept_up_to}
 
 number_bound : (d : Data) (n : ℕ) → number_in d ≡ Some n → n < 2 ^ 63
@@ -125,7 +230,7 @@ placed_bounds name b s a row count named h =
     }
 
 counted_by : (a b c : Bool) (k count : ℕ) (name : ObjName) → k < 2 ^ 32 →
-  cond a (Some (Static k)) (cond b (Some (Lit k)) (cond c (Some (Arg k)) None)) ≡ Some name → IsNameOf count name
+    cond a (Some (Static k)) (cond b (Some (Lit k)) (cond c (Some (Arg k)) None)) ≡ Some name → IsNameOf count name
 counted_by true b c k count name small h = let same : Static k ≡ name = cc in subst (IsNameOf count) same small
 counted_by false true c k count name small h = let same : Lit k ≡ name = cc in subst (IsNameOf count) same small
 counted_by false false true k count name small h = let same : Arg k ≡ name = cc in subst (IsNameOf count) same small
@@ -204,7 +309,7 @@ row_at_form first stride at count row has h =
     }
 
 run_form : (first : Row) (stride : Stride) (at n count : ℕ) (rows : List Row) → IsRowOf count first → run_rows first stride at n ≡ Some rows →
-  All (IsRowOf count) rows
+    All (IsRowOf count) rows
 run_form first stride at zero count rows has h = let same : [] ≡ rows = cc in subst (All (IsRowOf count)) same (All-nil (IsRowOf count))
 run_form first stride at (suc n) count rows has h =
     let r = then_some _ (row_at first stride at) rows h in
@@ -313,7 +418,7 @@ record OrderForm (version : Version) (verdict : Verdict) (order : List Segment) 
   fits : suits verdict order ≡ true
 
 order_form : (version : Version) (verdict : Verdict) (ds : List Data) (order : List Segment) → order_in version verdict ds ≡ Some order →
-  OrderForm version verdict order
+    OrderForm version verdict order
 order_form version verdict ds order h =
     let s = then_some (kept (suits verdict)) (short_segments (most_picks version) ds) order h in
     let t = then_some (kept (λ o. nat_le (total_picks o) (most_picks version))) (segments_in ds) s.0 s.1 in
@@ -366,7 +471,7 @@ pair_form count (d ∷ ds) pair h =
     let t = map_some Some (two_events count (d ∷ ds)) pair h in subst (IsPairOf count) t.2 (two_form count (d ∷ ds) t.0 t.1)
 
 need_ok : {A B : Type 0} (wrong : Field) (o : Option A) (rest : A → Result B Field) (y : B) → need wrong o rest ≡ Ok y → (x : A) × (o ≡ Some x) ×
-  (rest x ≡ Ok y)
+    (rest x ≡ Ok y)
 need_ok wrong None rest y h = absurd (cc)
 need_ok wrong (Some x) rest y h = (x, refl, h)
 

@@ -1,6 +1,34 @@
 -- The test of a frame.
-use Rattle.std.proofs.Common.{◌≡◌, suc, ◌<◌, ◌≤◌, ◌^◌, ◌-◌, Bool, true, false, ◌&&◌, ◌||◌, nat_lt, nat_le, List, [], ◌∷◌, length, Option, Some, None, IfSome,
-  IfNone, is_some, slice_get, Contains, refl, sym, arith}
+use Rattle.std.proofs.Common.{
+  ◌≡◌,
+  suc,
+  ◌<◌,
+  ◌≤◌,
+  ◌^◌,
+  ◌-◌,
+  Bool,
+  true,
+  false,
+  ◌&&◌,
+  ◌||◌,
+  nat_lt,
+  nat_le,
+  List,
+  [],
+  ◌∷◌,
+  length,
+  Option,
+  Some,
+  None,
+  IfSome,
+  IfNone,
+  is_some,
+  slice_get,
+  Contains,
+  refl,
+  sym,
+  arith,
+}
 use Rattle.std.specs.List.{list_any}
 use Rattle.std.proofs.lemmas.Bool.Decides.{nat_tests}
 use Rattle.std.proofs.lemmas.Option.{slice_get_within, get_or_from_slice_get}

@@ -1,6 +1,35 @@
 -- A loop over the order of a certificate, a stretch at a time.
-use Rattle.std.proofs.Common.{◌≡◌, ℕ, ◌+◌, ◌<◌, ◌≤◌, Bool, true, false, cond, nat_le, List, [], ◌∷◌, ◌++◌, length, map, drop, get_or, Option, Some, None,
-  option_map, refl, sym, ap, ◌∙◌, arith, append_assoc, append-nil}
+use Rattle.std.proofs.Common.{
+  ◌≡◌,
+  ℕ,
+  ◌+◌,
+  ◌<◌,
+  ◌≤◌,
+  Bool,
+  true,
+  false,
+  cond,
+  nat_le,
+  List,
+  [],
+  ◌∷◌,
+  ◌++◌,
+  length,
+  map,
+  drop,
+  get_or,
+  Option,
+  Some,
+  None,
+  option_map,
+  refl,
+  sym,
+  ap,
+  ◌∙◌,
+  arith,
+  append_assoc,
+  append-nil,
+}
 use Rattle.std.proofs.lemmas.Bool.Decides.{nat_tests}
 use Rattle.serde_json.specs.Data.{Data}
 use Rattle.serde_json.specs.View.{view}
@@ -44,7 +73,7 @@ too_many most order (Some more) many =
     short_none (nat_le (total_picks (order ++ more)) most) (order ++ more) (grind (arith, nat_tests, over))
 
 pub all_short : (most : ℕ) (order : List Segment) → total_picks order ≤ most →
-  (behind order (Some []) >>= kept (λ all. nat_le (total_picks all) most)) ≡ Some order
+    (behind order (Some []) >>= kept (λ all. nat_le (total_picks all) most)) ≡ Some order
 all_short most order few =
     let short : nat_le (total_picks order) most ≡ true = grind (arith, nat_tests, few) in
     rw (append-nil order, short) refl

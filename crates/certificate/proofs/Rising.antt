@@ -1,6 +1,31 @@
 -- Rows that are taken in the order of their bases.
-use Rattle.std.proofs.Common.{◌≡◌, ◌∙◌, ℕ, ◌+◌, ◌<◌, ◌≤◌, ◌^◌, List, [], ◌∷◌, ◌++◌, Bool, true, false, Option, Some, None, refl, ap, sym, subst, le-leb,
-  arith, append_assoc, append-nil}
+use Rattle.std.proofs.Common.{
+  ◌≡◌,
+  ◌∙◌,
+  ℕ,
+  ◌+◌,
+  ◌<◌,
+  ◌≤◌,
+  ◌^◌,
+  List,
+  [],
+  ◌∷◌,
+  ◌++◌,
+  Bool,
+  true,
+  false,
+  Option,
+  Some,
+  None,
+  refl,
+  ap,
+  sym,
+  subst,
+  le-leb,
+  arith,
+  append_assoc,
+  append-nil,
+}
 use Rattle.std.specs.Prelude.{nat_le, if◌then◌else◌}
 use Rattle.std.proofs.lemmas.Bool.{lt-leb}
 use Rattle.addr_map.specs.Rows.{first_row}
@@ -60,7 +85,7 @@ no_rest rows rest all whole none = sym (append-nil rows) ∙ (ap (λ r. rows ++ 
 pub ends : (turn from : ℕ) (rows all : List Row) → Passed turn from rows all → first_row (λ r. nat_le from r.base) all ≡ None → rows ≡ all
 ends turn from rows all p none =
     no_rest rows p.rest all p.whole (none_left p.rest
-      (sym (subst (λ a. first_row (λ r. nat_le from r.base) a ≡ first_is p.rest) p.whole (next_is from rows p.rest p.below p.rises)) ∙ none))
+    (sym (subst (λ a. first_row (λ r. nat_le from r.base) a ≡ first_is p.rest) p.whole (next_is from rows p.rest p.below p.rises)) ∙ none))
 
 -- and as many turns as there are never pass
 pub never : (turn from : ℕ) (rows all : List Row) → Passed turn from rows all → 2 ^ 48 ≤ turn → ⊥

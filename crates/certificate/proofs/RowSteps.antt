@@ -1,6 +1,36 @@
 -- Loops over the map of a certificate: the rows of a run, and the entries.
-use Rattle.std.proofs.Common.{◌≡◌, ℕ, zero, suc, ◌+◌, ◌<◌, Bool, true, false, cond, List, [], ◌∷◌, ◌++◌, length, map, drop, get_or, Option, Some, None,
-  option_map, refl, sym, ap, ◌∙◌, arith, append_assoc, length-append, append-nil}
+use Rattle.std.proofs.Common.{
+  ◌≡◌,
+  ℕ,
+  zero,
+  suc,
+  ◌+◌,
+  ◌<◌,
+  Bool,
+  true,
+  false,
+  cond,
+  List,
+  [],
+  ◌∷◌,
+  ◌++◌,
+  length,
+  map,
+  drop,
+  get_or,
+  Option,
+  Some,
+  None,
+  option_map,
+  refl,
+  sym,
+  ap,
+  ◌∙◌,
+  arith,
+  append_assoc,
+  length-append,
+  append-nil,
+}
 use Rattle.std.proofs.lemmas.Bool.Decides.{nat_tests}
 use Rattle.serde_json.specs.Data.{Data}
 use Rattle.serde_json.specs.View.{view}
@@ -25,7 +55,7 @@ pub run_next : (first : Row) (stride : Stride) (at n : ℕ) (row : Row) (taken :
 run_next first stride at n row taken is = rw is (behind_one taken row (run_rows first stride (at + 1) n))
 
 pub run_stops : (first : Row) (stride : Stride) (at n : ℕ) (taken : List Row) → row_at first stride at ≡ None →
-  behind taken (run_rows first stride at (suc n)) ≡ None
+    behind taken (run_rows first stride at (suc n)) ≡ None
 run_stops first stride at n taken is = rw is refl
 
 len_by : (n : ℕ) (found : Option Row) (more : Option (List Row)) (rows : List Row) → (found >>= λ row. more >>= λ rest. Some (row ∷ rest)) ≡ Some rows
@@ -44,7 +74,7 @@ length-run_rows first stride at (suc n) rows is =
     len_by n (row_at first stride at) (run_rows first stride (at + 1) n) rows is (λ rest h. length-run_rows first stride (at + 1) n rest h)
 
 too_long : (old : List Row) (n : ℕ) (made : Option (List Row)) → ((rows : List Row) → made ≡ Some rows → length rows ≡ n) → 4194304 < length old + n →
-  IsTooMuch Two old made
+    IsTooMuch Two old made
 too_long old n None len many = tt
 too_long old n (Some rows) len many =
     let count = len rows refl in

@@ -1,6 +1,39 @@
 -- Runs of rows: which rows they stand for, and that rows begin with one longest run.
-use Rattle.std.proofs.Common.{◌≡◌, ◌⊎◌, ℕ, zero, suc, ◌+◌, ◌*◌, ◌<◌, ◌≤◌, ◌^◌, Bool, true, false, cond, List, [], ◌∷◌, ◌++◌, length, take, get_or, Option,
-  Some, None, option_map, refl, sym, ap, subst, ◌∙◌, arith, inl, inr}
+use Rattle.std.proofs.Common.{
+  ◌≡◌,
+  ◌⊎◌,
+  ℕ,
+  zero,
+  suc,
+  ◌+◌,
+  ◌*◌,
+  ◌<◌,
+  ◌≤◌,
+  ◌^◌,
+  Bool,
+  true,
+  false,
+  cond,
+  List,
+  [],
+  ◌∷◌,
+  ◌++◌,
+  length,
+  take,
+  get_or,
+  Option,
+  Some,
+  None,
+  option_map,
+  refl,
+  sym,
+  ap,
+  subst,
+  ◌∙◌,
+  arith,
+  inl,
+  inr,
+}
 use Rattle.std.specs.Prelude.{nat_lt}
 use Rattle.std.proofs.lemmas.List.{length-take, get_or-take}
 use Rattle.std.proofs.Math.Seq.{take-suc}
@@ -149,7 +182,7 @@ starts : (rows : List Row) (first : Row) (run : Run) → first ≡ get_or rows 0
 starts rows first run is begins some =
     first_at run.first run.stride first
     (run_item run.first run.stride 0 run.count 0 0 (take run.count rows) first begins.stands some (omega arith) ∙ ap Some
-      (get_or-take run.count rows 0 first some ∙ sym is))
+    (get_or-take run.count rows 0 first some ∙ sym is))
 
 goes_on : (rows : List Row) (second : Row) (run : Run) → second ≡ get_or rows 1 second → BeginsWith rows run → 1 < run.count
     → row_at run.first run.stride 1 ≡ Some second
@@ -158,7 +191,7 @@ goes_on rows second run is begins more =
     ∙ ap Some (get_or-take run.count rows 1 second more ∙ sym is)
 
 by_stride : (rows : List Row) (first second : Row) (limit : ℕ) (made : Option Stride) (other : Run) → first ≡ get_or rows 0 first →
-  second ≡ get_or rows 1 second
+    second ≡ get_or rows 1 second
     → ((stride : Stride) → 0 < stride.step → row_at first stride 1 ≡ Some second → made ≡ Some stride)
     → ((stride : Stride) → made ≡ Some stride → (n : ℕ) → run_rows first stride 0 n ≡ Some (take n rows) → n ≤ limit)
     → BeginsWith rows other → (1 < other.count) ⊎ (other.count ≤ 1) → 1 ≤ limit → other.count ≤ limit
@@ -166,7 +199,7 @@ by_stride rows first second limit made other one two only longest begins (inr fe
 by_stride rows first second limit made other one two only longest begins (inl many) some =
     let same = starts rows first other one begins (omega arith) in
     let stride = only other.stride begins.apart (subst (λ (r : Row). row_at r other.stride 1 ≡ Some second) same (goes_on rows second other two begins many))
-      in
+    in
     longest other.stride stride other.count (subst (λ (r : Row). run_rows r other.stride 0 other.count ≡ Some (take other.count rows)) same begins.stands)
 
 -- The first two rows determine the stride of a run with which rows begin, so none is longer than the one of that stride.

@@ -1,7 +1,51 @@
 -- The map of a certificate, and the whole, as what its value states.
-use Rattle.std.proofs.Common.{◌≡◌, ◌⊎◌, ℕ, zero, suc, ◌+◌, ◌*◌, ◌^◌, ◌<◌, ◌≤◌, Bool, true, false, cond, ◌||◌, ◌==◌, nat_lt, nat_le, List, [], ◌∷◌, ◌++◌,
-  length, map, take, get_or, Option, Some, None, option_map, Result, Ok, All, refl, sym, ap, subst, ◌∙◌, arith, inl, inr, length-append, codes, String,
-  string_bytes}
+use Rattle.std.proofs.Common.{
+  ◌≡◌,
+  ◌⊎◌,
+  ℕ,
+  zero,
+  suc,
+  ◌+◌,
+  ◌*◌,
+  ◌^◌,
+  ◌<◌,
+  ◌≤◌,
+  Bool,
+  true,
+  false,
+  cond,
+  ◌||◌,
+  ◌==◌,
+  nat_lt,
+  nat_le,
+  List,
+  [],
+  ◌∷◌,
+  ◌++◌,
+  length,
+  map,
+  take,
+  get_or,
+  Option,
+  Some,
+  None,
+  option_map,
+  Result,
+  Ok,
+  All,
+  refl,
+  sym,
+  ap,
+  subst,
+  ◌∙◌,
+  arith,
+  inl,
+  inr,
+  length-append,
+  codes,
+  String,
+  string_bytes,
+}
 use Rattle.std.proofs.lemmas.Bool.Decides.{nat_tests}
 use Rattle.std.proofs.lemmas.List.{take-append-drop, get_or-take}
 use Rattle.std.proofs.lemmas.List.Elements.{All-head, All-tail}
@@ -25,16 +69,76 @@ use Rattle.certificate.specs.declared.words.Verdict.{Verdict}
 use Rattle.certificate.specs.declared.words.Verdict.TheVariants.{Clean, Undefined, OrderDependent, OutOfSteps, Outside}
 use Rattle.certificate.specs.declared.words.Version.TheVariants.{Two}
 use Rattle.certificate.specs.Form.{HasBytes, HasForm, IsNameOf, IsRowOf, IsSegment, IsOneNumber, SuitsClaim, IsClaimOf, total_picks}
-use Rattle.certificate.specs.Reading.{◌>>=◌, kept, number_in, small_in, frame_in, list_in, counted_in, framed_in, placed, row_in, row_of, row_at, run_words,
-  run_in, rows_of, row_or_run, entry_in, rows_in, has_few_rows, map_in, segments_in, short_segments, suits, order_in, more_frames, two_events, need, claim_in,
-  with_claim, parts_in, cert_in, version_in, States}
-use Rattle.certificate.specs.Writing.{BeginsWith, IsAlone, IsRun, IsTextOf, Packs, event_entry, frame_entry, list, members, moving, row_entry, run_entry,
-  segment_entry, value_of, whole}
+use Rattle.certificate.specs.Reading.{
+  ◌>>=◌,
+  kept,
+  number_in,
+  small_in,
+  frame_in,
+  list_in,
+  counted_in,
+  framed_in,
+  placed,
+  row_in,
+  row_of,
+  row_at,
+  run_words,
+  run_in,
+  rows_of,
+  row_or_run,
+  entry_in,
+  rows_in,
+  has_few_rows,
+  map_in,
+  segments_in,
+  short_segments,
+  suits,
+  order_in,
+  more_frames,
+  two_events,
+  need,
+  claim_in,
+  with_claim,
+  parts_in,
+  cert_in,
+  version_in,
+  States,
+}
+use Rattle.certificate.specs.Writing.{
+  BeginsWith,
+  IsAlone,
+  IsRun,
+  IsTextOf,
+  Packs,
+  event_entry,
+  frame_entry,
+  list,
+  members,
+  moving,
+  row_entry,
+  run_entry,
+  segment_entry,
+  value_of,
+  whole,
+}
 use Rattle.certificate.proofs.Clauses.{clause_named-clause_text}
 use Rattle.certificate.proofs.Runs.{first_at, moved_moving, row_parts, run_item, stands_within}
 use Rattle.certificate.proofs.Steps.{kept_below, kept_some}
-use Rattle.certificate.proofs.Stating.{below, cause_back, frame_back, frames_back, kept_back, list_back, number_back, output_back, pair_back, segments_back,
-  small_back, then_back, up_to}
+use Rattle.certificate.proofs.Stating.{
+  below,
+  cause_back,
+  frame_back,
+  frames_back,
+  kept_back,
+  list_back,
+  number_back,
+  output_back,
+  pair_back,
+  segments_back,
+  small_back,
+  then_back,
+  up_to,
+}
 
 -- ---- rows
 
@@ -47,7 +151,7 @@ placed_back name base size align b s a =
 
 named_back : (count : ℕ) (name : ObjName) (base size align : ℕ) → count < 2 ^ 31 → IsNameOf count name → base < 2 ^ 63 → size < 2 ^ 63 → align < 2 ^ 63
     → row_of count (row_entry (record { name = name; base = base; size = size; align = align })) ≡ Some
-      (record { name = name; base = base; size = size; align = align })
+    (record { name = name; base = base; size = size; align = align })
 named_back count (Static k) base size align few named b s a =
     then_back (counted_in (string (codes "static")) (whole k)) (Static k) _ _
     (then_back (small_in (whole k)) k _ (Static k) (small_back k named) refl) (placed_back (Static k) base size align b s a)
@@ -141,10 +245,10 @@ at_place P (row ∷ rows) (suc i) d all lt = at_place P rows i d (All-tail P row
 run_place : (rows : List Row) (run : Run) (i : ℕ) → BeginsWith rows run → i < run.count → row_at run.first run.stride i ≡ Some (get_or rows i run.first)
 run_place rows run i begins lt =
     run_item run.first run.stride 0 run.count i i (take run.count rows) run.first begins.stands lt (omega arith) ∙ ap Some
-      (get_or-take run.count rows i run.first lt)
+    (get_or-take run.count rows i run.first lt)
 
 run_numbers : (count : ℕ) (rows : List Row) (run : Run) → BeginsWith rows run → 3 ≤ run.count → All (IsRowOf count) rows → length rows ≤ 4194304 →
-  HasNumbers count run
+    HasNumbers count run
 run_numbers count rows run begins three all few =
     let within = stands_within run.first run.stride rows run.count begins.stands in
     let zeroth = run_place rows run 0 begins (omega arith) in
@@ -248,7 +352,7 @@ claim_back (claim.Undefined clause None) count fs ms os few is bytes =
     ap (λ o. need field.Clause o (λ c. Ok (claim.Undefined c None))) (clause_named-clause_text clause)
 claim_back (claim.Undefined clause (Some pair)) count fs ms os few is bytes =
     ap (λ o. need field.Clause o (λ c. need field.Pair (option_map Some (two_events count (event_entry pair.0 ∷ event_entry pair.1 ∷ [])))
-      (λ p. Ok (claim.Undefined c p))))
+    (λ p. Ok (claim.Undefined c p))))
     (clause_named-clause_text clause)
     ∙ ap (λ o. need field.Pair (option_map Some o) (λ p. Ok (claim.Undefined clause p))) (pair_back count pair.0 pair.1 few is.0 is.1)
 claim_back (claim.OrderDependent event against) count fs ms os few is bytes =
@@ -261,10 +365,10 @@ claim_back (claim.Outside cause limit) count fs ms os few is bytes =
 -- ---- the whole
 
 parts_back : (fs : Option (List frames.Row)) (ms : List frames.Row → Option (List Row)) (os : Option (List Segment))
-  (ks : List frames.Row → Result Claim Field)
+    (ks : List frames.Row → Result Claim Field)
     (rows : List frames.Row) (map : List Row) (order : List Segment) (cl : Claim) → fs ≡ Some rows → ms rows ≡ Some map → os ≡ Some order → ks rows ≡ Ok cl
     → need field.Frames fs (λ r. need field.Map (ms r) (λ m. need field.Order os (λ o. with_claim r m o (ks r)))) ≡ Ok
-      (record { frames = rows; map = map; order = order; claim = cl })
+    (record { frames = rows; map = map; order = order; claim = cl })
 parts_back fs ms os ks rows map order cl f m o k =
     ap (λ p. need field.Frames p (λ r. need field.Map (ms r) (λ m. need field.Order os (λ o. with_claim r m o (ks r))))) f
     ∙ ap (λ p. need field.Map p (λ m. need field.Order os (λ o. with_claim rows m o (ks rows)))) m
@@ -294,7 +398,7 @@ inside_back (claim.Undefined clause pair) fs ms os rows map order f m o k =
 inside_back (claim.OrderDependent event against) fs ms os rows map order f m o k =
     parts_back (list_in fs >>= more_frames []) (λ r. list_in ms >>= map_in Two (length r)) (list_in os >>= order_in Two OrderDependent)
     (λ r. claim_in OrderDependent (length r) (object (members (claim.OrderDependent event against) fs ms os))) rows map order
-      (claim.OrderDependent event against) f m o k
+    (claim.OrderDependent event against) f m o k
 inside_back claim.OutOfSteps fs ms os rows map order f m o k =
     parts_back (list_in fs >>= more_frames []) (λ r. list_in ms >>= map_in Two (length r)) (list_in os >>= order_in Two OutOfSteps)
     (λ r. claim_in OutOfSteps (length r) (object (members claim.OutOfSteps fs ms os))) rows map order claim.OutOfSteps f m o k
@@ -309,7 +413,7 @@ value_back c entries has bytes packs =
     let os = list (map segment_entry c.order) in
     let few : length c.frames < 2 ^ 31 = has.frames.few in
     let f = then_back (list_in fs) (map frame_entry c.frames) (more_frames []) c.frames (list_back (map frame_entry c.frames))
-          (frames_back [] c.frames has.frames has.frames.numbers) in
+    (frames_back [] c.frames has.frames has.frames.numbers) in
     whole_back c.claim fs ms os (Ok c)
     (inside_back c.claim fs ms os c.frames c.map c.order f (map_back (length c.frames) c.map entries few packs has.map has.few)
     (order_back c.claim c.order has.segments has.picks has.order) (claim_back c.claim (length c.frames) fs ms os few has.claim bytes))
@@ -324,7 +428,7 @@ versioned (claim.Outside cause limit) fs ms os = refl
 
 -- a text that is that of a certificate in the form states the certificate
 pub text_states : {Z : Type 0} (c : Cert) (text : List ℕ) (s : String Z) → text ≡ string_bytes s → HasBytes c.claim → IsTextOf c text → HasForm Two c →
-  States text c
+    States text c
 text_states c text s is bytes written has =
     record {
       value = value_of c written.entries;

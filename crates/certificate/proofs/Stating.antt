@@ -1,6 +1,46 @@
 -- The value of a certificate that keeps the form states the certificate.
-use Rattle.std.proofs.Common.{◌≡◌, ℕ, zero, suc, ◌-◌, ◌^◌, ◌<◌, ◌≤◌, ◌/◌, ◌%◌, Bool, true, false, cond, ◌&&◌, nat_lt, nat_le, List, [], ◌∷◌, ◌++◌, length,
-  map, get_or, Option, Some, None, option_map, All, Contains, slice_get, refl, sym, ap, subst, ◌∙◌, arith, append_assoc, append-nil, length-append}
+use Rattle.std.proofs.Common.{
+  ◌≡◌,
+  ℕ,
+  zero,
+  suc,
+  ◌-◌,
+  ◌^◌,
+  ◌<◌,
+  ◌≤◌,
+  ◌/◌,
+  ◌%◌,
+  Bool,
+  true,
+  false,
+  cond,
+  ◌&&◌,
+  nat_lt,
+  nat_le,
+  List,
+  [],
+  ◌∷◌,
+  ◌++◌,
+  length,
+  map,
+  get_or,
+  Option,
+  Some,
+  None,
+  option_map,
+  All,
+  Contains,
+  slice_get,
+  refl,
+  sym,
+  ap,
+  subst,
+  ◌∙◌,
+  arith,
+  append_assoc,
+  append-nil,
+  length-append,
+}
 use Rattle.std.specs.Prelude.{slice_index}
 use Rattle.std.specs.List.{list_all}
 use Rattle.std.proofs.lemmas.Bool.Decides.{nat_tests}
@@ -23,8 +63,27 @@ use Rattle.certificate.specs.declared.cert.Segment.{Segment}
 use Rattle.certificate.specs.declared.cert.Segment.TheVariants.{Canonical, Pick}
 use Rattle.certificate.specs.Form.{IsFrameRow, HasFrames, IsSegment, IsEventOf, total_picks}
 use Rattle.certificate.specs.Words.{kind_text, cause_text}
-use Rattle.certificate.specs.Reading.{◌>>=◌, kept, kind_named, cause_named, number_in, small_in, frame_in, list_in, kind_in, frame_row_of, can_follow,
-  more_frames, number_or_pick, segment_in, segments_in, event_in, two_events, is_lower_digit, decoded}
+use Rattle.certificate.specs.Reading.{
+  ◌>>=◌,
+  kept,
+  kind_named,
+  cause_named,
+  number_in,
+  small_in,
+  frame_in,
+  list_in,
+  kind_in,
+  frame_row_of,
+  can_follow,
+  more_frames,
+  number_or_pick,
+  segment_in,
+  segments_in,
+  event_in,
+  two_events,
+  is_lower_digit,
+  decoded,
+}
 use Rattle.certificate.specs.Writing.{whole, list, frame_entry, event_entry, segment_entry}
 use Rattle.certificate.proofs.Steps.{list_of-items_of}
 use Rattle.certificate.proofs.FrameSteps.{follows}
@@ -104,7 +163,7 @@ frames_back before (row ∷ rows) has numbers =
     let this = frame_row_back row (omega (arith, parent, room)) (All-head IsFrameRow row rows numbers) in
     let passes = follows before row parent room (not_again before rows row has.sound) in
     let rest = frames_back (before ++ row ∷ []) rows (subst HasFrames (sym (append_assoc before (row ∷ []) rows)) has) (All-tail IsFrameRow row rows numbers)
-      in
+    in
     then_back (frame_row_of (frame_entry row)) row _ (before ++ row ∷ rows) this
     (then_back (kept (can_follow before) row) row _ (before ++ row ∷ rows) (kept_back (can_follow before) row passes)
     (rest ∙ ap Some (append_assoc before (row ∷ []) rows)))
@@ -169,8 +228,8 @@ digits_lower (b ∷ bytes) is =
     both_true _ _ _ (digit_is_lower (b / 16) high) (digit_is_lower (b % 16) low) (digits_lower bytes (λ k. is (suc k)))
 
 pub output_back : (bytes : List ℕ) → IsBytes bytes → (kept (list_all is_lower_digit) (encode_lower bytes) >>= λ digits. decoded (decode_of digits)) ≡ Some
-  bytes
+    bytes
 output_back bytes is =
     then_back (kept (list_all is_lower_digit) (encode_lower bytes)) (encode_lower bytes) _ bytes
-      (kept_back (list_all is_lower_digit) (encode_lower bytes) (digits_lower bytes is))
+    (kept_back (list_all is_lower_digit) (encode_lower bytes) (digits_lower bytes is))
     (ap decoded (decode_of-encode_lower bytes is))

@@ -1,6 +1,43 @@
 -- What certificate the value of a JSON text states, or which member of it is wrong (own).
-use Rattle.std.specs.Prelude.{◌≡◌, ℕ, zero, suc, ◌+◌, ◌-◌, ◌*◌, ◌^◌, Bool, true, false, not, ◌&&◌, ◌||◌, ◌==◌, nat_lt, nat_le, if◌then◌else◌, List, [], ◌∷◌,
-  ◌++◌, length, find, Option, Some, None, option_map, option_and_then, unwrap_or, Result, Ok, Err, codes, IsUtf8, ⊤, ◌⊎◌}
+use Rattle.std.specs.Prelude.{
+  ◌≡◌,
+  ℕ,
+  zero,
+  suc,
+  ◌+◌,
+  ◌-◌,
+  ◌*◌,
+  ◌^◌,
+  Bool,
+  true,
+  false,
+  not,
+  ◌&&◌,
+  ◌||◌,
+  ◌==◌,
+  nat_lt,
+  nat_le,
+  if◌then◌else◌,
+  List,
+  [],
+  ◌∷◌,
+  ◌++◌,
+  length,
+  find,
+  Option,
+  Some,
+  None,
+  option_map,
+  option_and_then,
+  unwrap_or,
+  Result,
+  Ok,
+  Err,
+  codes,
+  IsUtf8,
+  ⊤,
+  ◌⊎◌,
+}
 use Rattle.std.specs.List.{list_any, list_all}
 use Rattle.std.specs.Str.{bytes_eq}
 use Rattle.hex.specs.Hex.{decode_of}
@@ -11,10 +48,35 @@ use Rattle.serde_json.specs.Read.{read}
 use Rattle.ub_base.specs.Clause.{clause_text}
 use Rattle.ub_base.specs.Frames as frames
 use Rattle.ub_base.specs.declared.clause.Clause.{Clause}
-use Rattle.ub_base.specs.declared.clause.Clause.TheVariants.{DeadObject, TrapRepresentation, PointerAlignment, StoreToLiteral, Unsequenced, Exceptional,
-  IncompatibleCall, InvalidPointer, DivideByZero, Unrepresentable, OutOfBounds, PointerDifference, ShiftCount, LeftShift, PointerComparison,
-  OverlappingAssignment, EffectiveType, StoreToConst, MissingValue, LibraryArgument, TooFewArguments, Conversion as BadConversion, Free, Realloc,
-  MemcpyOverlap, StrcpyOverlap, Indeterminate}
+use Rattle.ub_base.specs.declared.clause.Clause.TheVariants.{
+  DeadObject,
+  TrapRepresentation,
+  PointerAlignment,
+  StoreToLiteral,
+  Unsequenced,
+  Exceptional,
+  IncompatibleCall,
+  InvalidPointer,
+  DivideByZero,
+  Unrepresentable,
+  OutOfBounds,
+  PointerDifference,
+  ShiftCount,
+  LeftShift,
+  PointerComparison,
+  OverlappingAssignment,
+  EffectiveType,
+  StoreToConst,
+  MissingValue,
+  LibraryArgument,
+  TooFewArguments,
+  Conversion as BadConversion,
+  Free,
+  Realloc,
+  MemcpyOverlap,
+  StrcpyOverlap,
+  Indeterminate,
+}
 use Rattle.ub_base.specs.declared.clause.Kind.{Kind}
 use Rattle.ub_base.specs.declared.clause.Kind.TheVariants.{Val, Eff, Body}
 use Rattle.ub_base.specs.declared.clause.Cause.{Cause}

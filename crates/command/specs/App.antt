@@ -41,7 +41,7 @@ lines_rule = record (new_rule (codes "N")) { required = true; parser = Some (Uns
 abbrev pub audit_app : App
 audit_app =
     with_rule (with_rule (with_rule (with_rule (with_rule (with_rule (new_app (codes "audit")) file_rule) input_rule) steps_rule) tight_rule) cert_rule)
-      args_rule
+    args_rule
 
 abbrev pub check_app : App
 check_app = with_rule (with_rule (with_rule (with_rule (new_app (codes "check")) file_rule) certificate_rule) input_rule) args_rule

@@ -23,23 +23,23 @@ same_rows (c ∷ cs) go old new rows s (inl w) = subst (λ z. StartedBy z rows) 
 same_rows (c ∷ cs) go old new rows s (inr w) = same_rows cs go (noted c On old) new rows (noted_started c On old rows s) w
 
 pub noted_row : (e : Event) (items : List Item) (go : Go) (old : Option Heard) (rows : List Row) → StartedBy old rows →
-  StartedBy (noted (picked (Some e) items) go old) (rows ++ row_by e ∷ [])
+    StartedBy (noted (picked (Some e) items) go old) (rows ++ row_by e ∷ [])
 noted_row e items go None rows s = tt
 noted_row e items go (Some hs) rows s = start e items go hs rows s
 
 pub one_row : (e : Event) (items : List Item) (go : Go) (old new : Option Heard) (rows : List Row) → StartedBy old rows →
-  Tells (picked (Some e) items ∷ []) go old new → StartedBy new (rows ++ row_by e ∷ [])
+    Tells (picked (Some e) items ∷ []) go old new → StartedBy new (rows ++ row_by e ∷ [])
 one_row e items go old new rows s (inl w) = subst (λ z. StartedBy z (rows ++ row_by e ∷ [])) (sym w.1) (noted_row e items Stop old rows s)
 one_row e items go old new rows s (inr w) = subst (λ z. StartedBy z (rows ++ row_by e ∷ [])) (sym w.1) (noted_row e items On old rows s)
 
 -- the rows after a pick that was told
 pub started_by : (told : Pick) (items : List Item) (go : Go) (old new : Option Heard) (rows grown : List Row) → Grows told rows grown →
-  Tells (calls_of told items) go old new → StartedBy old rows → StartedBy new grown
+    Tells (calls_of told items) go old new → StartedBy old rows → StartedBy new grown
 started_by (Step status) items go old new rows grown g t s = subst (StartedBy new) (sym g) (same_rows (calls_of (Step status) items) go old new rows s t)
 started_by (Starts e) items go old new rows grown (inl g) t s = subst (StartedBy new) (sym g) (same_rows (calls_of (Starts e) items) go old new rows s t)
 started_by (Starts e) items go old new rows grown (inr g) t s = subst (StartedBy new) (sym g) (one_row e items go old new rows s t)
 started_by (EventPick e completed status) items go old new rows grown g t s =
-  subst (StartedBy new) (sym g) (same_rows (calls_of (EventPick e completed status) items) go old new rows s t)
+    subst (StartedBy new) (sym g) (same_rows (calls_of (EventPick e completed status) items) go old new rows s t)
 
 pub no_rows : (hs : Heard) → Started hs []
 no_rows [] = none

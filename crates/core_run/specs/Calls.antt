@@ -96,7 +96,7 @@ pub data Started : Heard → List Row → Type 0 where
   none : Started [] []
   other : (h : Call × Go) (hs : Heard) (rows : List Row) → Started hs rows → Started (h ∷ hs) rows
   start : (e : Event) (items : List Item) (go : Go) (hs : Heard) (rows : List Row) → Started hs rows →
-    Started ((picked (Some e) items, go) ∷ hs) (rows ++ row_by e ∷ [])
+      Started ((picked (Some e) items, go) ∷ hs) (rows ++ row_by e ∷ [])
 
 abbrev pub StartedBy : Option Heard → List Row → Type 0
 StartedBy None rows = Unit {0}

@@ -10,7 +10,7 @@ cap n h = omega arith
 mutual
   same : (t : Tree) (k : ℕ) → k + size t < 2 ^ 32 → capped_for k t ≡ term_for k t
   same (node class ts) k h = ap (λ n. node_term k class (capped_terms n ts)) (cap (k + 1) (omega arith) ∙ up k) ∙ ap (node_term k class)
-    (same_all ts (suc k) (omega arith))
+      (same_all ts (suc k) (omega arith))
     where
       up : (n : ℕ) → n + 1 ≡ suc n
       up n = omega arith

@@ -14,7 +14,7 @@ use Rattle.elaborate.proofs.Once.{unique, unique_once, effect_next, Unique}
 use Rattle.elaborate.proofs.Sequenced.{steps}
 
 has_listed : (root : Tree) (taken : Taken) (u : Place) → is_formed root ≡ true → has (events taken 0 root) u ≡ true →
-  has (listing taken (term_for 0 root)) u ≡ true
+    has (listing taken (term_for 0 root)) u ≡ true
 has_listed root taken u f h = ap (λ z. has z u) (listed taken root 0 f) ∙ h
 
 ordered : (root : Tree) (taken : Taken) (u v : Place) → is_formed root ≡ true → Before root taken u v → Ordered (term_for 0 root) taken u v
@@ -31,7 +31,7 @@ strict root f = record {
 
 nothing_more : (root : Tree) (taken : Taken) (u v : Place) → is_formed root ≡ true → Ordered (term_for 0 root) taken u v → Before root taken u v
 nothing_more root taken _ _ f (rule u v du dv h) =
-  (sound taken (λ a b. Before root taken a b) (λ a b c p q. order.chain a b c p q) root 0 u v f (λ a b da db p. order.rule a b da db p) h).2
+    (sound taken (λ a b. Before root taken a b) (λ a b c p q. order.chain a b c p q) root 0 u v f (λ a b da db p. order.rule a b da db p) h).2
 nothing_more root taken _ _ f (chain u v w a b) = order.chain u v w (nothing_more root taken u v f a) (nothing_more root taken v w f b)
 
 pub faithful : (root : Tree) → is_formed root ≡ true → IsFaithful root (term_for 0 root)

@@ -1,6 +1,33 @@
 -- The listing of a tree's term is the tree's events in post-order.
-use Rattle.std.proofs.Common.{◌≡◌, ℕ, suc, ◌+◌, Bool, true, false, not, ◌&&◌, ◌||◌, ◌==◌, if◌then◌else◌, List, [], ◌∷◌, ◌++◌, Option, Some, None, refl, sym,
-  ap, ◌∙◌, true≢false, append_assoc, append-nil, arith}
+use Rattle.std.proofs.Common.{
+  ◌≡◌,
+  ℕ,
+  suc,
+  ◌+◌,
+  Bool,
+  true,
+  false,
+  not,
+  ◌&&◌,
+  ◌||◌,
+  ◌==◌,
+  if◌then◌else◌,
+  List,
+  [],
+  ◌∷◌,
+  ◌++◌,
+  Option,
+  Some,
+  None,
+  refl,
+  sym,
+  ap,
+  ◌∙◌,
+  true≢false,
+  append_assoc,
+  append-nil,
+  arith,
+}
 use Rattle.std.proofs.lemmas.Bool.Decides.{nat_tests}
 use Rattle.ub_base.specs.declared.clause.Kind.TheVariants.{Val, Eff, Body}
 use Rattle.c_typed.specs.declared.tree.Place.{Place}
@@ -36,17 +63,17 @@ quiet_if false xs h = refl
 mutual
   pub silent : (taken : Taken) (t : Tree) (k : ℕ) → is_formed t ≡ true → is_quiet t ≡ true → events taken k t ≡ []
   silent taken (node Object ts) k h q = append-nil (operand_events taken Object (taken k) 0 (suc k) ts) ∙ silent_all taken ts Object (taken k) 0 (suc k)
-    (and_r (all_quiet ts) _ h) (and_l (all_quiet ts) _ h)
+      (and_r (all_quiet ts) _ h) (and_l (all_quiet ts) _ h)
   silent taken (node Constant ts) k h q = append-nil (operand_events taken Constant (taken k) 0 (suc k) ts) ∙ silent_all taken ts Constant (taken k) 0 (suc k)
-    (and_r (all_quiet ts) _ h) (and_l (all_quiet ts) _ h)
+      (and_r (all_quiet ts) _ h) (and_l (all_quiet ts) _ h)
   silent taken (node _ ts) k h q = absurd (true≢false (sym q))
 
   pub silent_all : (taken : Taken) (ts : Trees) (class : Class) (choice : Option ℕ) (i m : ℕ) → are_formed ts ≡ true → all_quiet ts ≡ true →
-    operand_events taken class choice i m ts ≡ []
+      operand_events taken class choice i m ts ≡ []
   silent_all taken none class choice i m h q = refl
   silent_all taken (more t ts) class choice i m h q =
       ap (λ z. z ++ operand_events taken class choice (suc i) (m + size t) ts)
-        (quiet_if (goes class choice i) (events taken m t) (silent taken t m (and_l (is_formed t) _ h) (and_l (is_quiet t) _ q)))
+      (quiet_if (goes class choice i) (events taken m t) (silent taken t m (and_l (is_formed t) _ h) (and_l (is_quiet t) _ q)))
       ∙ silent_all taken ts class choice (suc i) (m + size t) (and_r (is_formed t) _ h) (and_r (is_quiet t) _ q)
 
 -- a choice's operands
@@ -71,7 +98,7 @@ one_two : (j : ℕ) → (j == 1) ≡ true → (j == 2) ≡ false
 one_two j h = grind (arith, nat_tests, h)
 
 continued_three : (choice : Option ℕ) (xs ys : List Place) → continued choice xs ys ≡ (if is_number choice 1 then xs else []) ++
-  ((if is_number choice 2 then ys else []) ++ [])
+    ((if is_number choice 2 then ys else []) ++ [])
 continued_three None xs ys = refl
 continued_three (Some j) xs ys = step (j == 1) (j == 2) (one_two j)
   where
@@ -89,7 +116,7 @@ mutual
   listed taken (node Store ts) k h = ap (λ z. z ++ place k Val ∷ place k Eff ∷ []) (listed_all taken ts Store (taken k) 0 (suc k) refl h)
   listed taken (node Update ts) k h = ap (λ z. z ++ place k Val ∷ place k Eff ∷ []) (listed_all taken ts Update (taken k) 0 (suc k) refl h)
   listed taken (node Choice ts) k h = ap (λ z. z ++ place k Val ∷ [])
-    (listed_choice taken ts k (suc k) (and_l (is_last (after (after (after ts)))) _ h) (and_r (is_last (after (after (after ts)))) _ h))
+      (listed_choice taken ts k (suc k) (and_l (is_last (after (after (after ts)))) _ h) (and_r (is_last (after (after (after ts)))) _ h))
   listed taken (node Comma ts) k h = listed_comma taken ts (taken k) k 0 (suc k) h
   listed taken (node Call ts) k h =
       append_assoc (listings taken (terms_from (terms_for (suc k) ts))) (place k Body ∷ []) (place k Val ∷ [])
@@ -98,19 +125,19 @@ mutual
   listed taken (node Isolated (more t ts)) k h = absurd (true≢false (sym h))
 
   pub listed_all : (taken : Taken) (ts : Trees) (class : Class) (choice : Option ℕ) (i m : ℕ) → is_choice class ≡ false → are_formed ts ≡ true →
-    listings taken (terms_from (terms_for m ts)) ≡ operand_events taken class choice i m ts
+      listings taken (terms_from (terms_for m ts)) ≡ operand_events taken class choice i m ts
   listed_all taken none class choice i m c h = refl
   listed_all taken (more t ts) class choice i m c h =
       ap (λ z. z ++ listings taken (terms_from (terms_for (m + size t) ts)))
-        (listed taken t m (and_l (is_formed t) _ h) ∙ sym (taken_if (goes class choice i) (events taken m t) (all_go class choice i c)))
+      (listed taken t m (and_l (is_formed t) _ h) ∙ sym (taken_if (goes class choice i) (events taken m t) (all_go class choice i c)))
       ∙ ap (λ z. (if goes class choice i then events taken m t else []) ++ z)
-        (listed_all taken ts class choice (suc i) (m + size t) c (and_r (is_formed t) _ h))
+      (listed_all taken ts class choice (suc i) (m + size t) c (and_r (is_formed t) _ h))
 
   pub listed_comma : (taken : Taken) (ts : Trees) (choice : Option ℕ) (k i m : ℕ) → are_formed ts ≡ true →
-    listing taken (comma_of k (terms_for m ts)) ≡ operand_events taken Comma choice i m ts ++ place k Val ∷ []
+      listing taken (comma_of k (terms_for m ts)) ≡ operand_events taken Comma choice i m ts ++ place k Val ∷ []
   listed_comma taken none choice k i m h = refl
   listed_comma taken (more t none) choice k i m h = ap (λ z. z ++ place k Val ∷ [])
-    (listed taken t m (and_l (is_formed t) _ h) ∙ sym (append-nil (events taken m t)))
+      (listed taken t m (and_l (is_formed t) _ h) ∙ sym (append-nil (events taken m t)))
   listed_comma taken (more t (more u us)) choice k i m h =
       ap (λ z. z ++ listing taken (comma_of k (terms_for (m + size t) (more u us)))) (listed taken t m (and_l (is_formed t) _ h))
       ∙ (ap (λ z. events taken m t ++ z) (listed_comma taken (more u us) choice k (suc i) (m + size t) (and_r (is_formed t) _ h))
@@ -119,10 +146,10 @@ mutual
   -- the operands after the first of a choice
   pub listed_next : (taken : Taken) (ts : Trees) (k m : ℕ) → is_last (after (after ts)) ≡ true → are_formed ts ≡ true
       → continued (taken k) (listing taken (head_of k (terms_for m ts))) (listing taken (head_of k (rest_of (terms_for m ts)))) ≡ operand_events taken Choice
-        (taken k) 1 m ts
+      (taken k) 1 m ts
   listed_next taken none k m s h = continued_none (taken k)
   listed_next taken (more b none) k m s h = ap (λ z. continued (taken k) z []) (listed taken b m (and_l (is_formed b) _ h)) ∙ continued_two (taken k)
-    (events taken m b)
+      (events taken m b)
   listed_next taken (more b (more d none)) k m s h =
       let hb = and_l (is_formed b) _ h in
       let hd = and_l (is_formed d) _ (and_r (is_formed b) _ h) in
@@ -132,9 +159,9 @@ mutual
   listed_next taken (more b (more d (more e es))) k m s h = absurd (true≢false (sym s))
 
   pub listed_choice : (taken : Taken) (ts : Trees) (k m : ℕ) → is_last (after (after (after ts))) ≡ true → are_formed ts ≡ true →
-    listing taken (choice_of k (terms_for m ts)) ≡ operand_events taken Choice (taken k) 0 m ts
+      listing taken (choice_of k (terms_for m ts)) ≡ operand_events taken Choice (taken k) 0 m ts
   listed_choice taken none k m s h = continued_none (taken k)
   listed_choice taken (more a ts) k m s h =
       ap (λ z. z ++ continued (taken k) (listing taken (head_of k (terms_for (m + size a) ts)))
-        (listing taken (head_of k (rest_of (terms_for (m + size a) ts))))) (listed taken a m (and_l (is_formed a) _ h))
+      (listing taken (head_of k (rest_of (terms_for (m + size a) ts))))) (listed taken a m (and_l (is_formed a) _ h))
       ∙ ap (λ z. events taken m a ++ z) (listed_next taken ts k (m + size a) s (and_r (is_formed a) _ h))

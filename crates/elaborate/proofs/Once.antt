@@ -1,6 +1,31 @@
 -- The listing has no event twice, and each effect straight after its value.
-use Rattle.std.proofs.Common.{◌≡◌, ℕ, suc, ◌+◌, Bool, true, false, ◌==◌, if◌then◌else◌, List, [], ◌∷◌, ◌++◌, Option, Some, None, refl, sym, ap, subst, ◌∙◌,
-  inl, inr, true≢false, arith}
+use Rattle.std.proofs.Common.{
+  ◌≡◌,
+  ℕ,
+  suc,
+  ◌+◌,
+  Bool,
+  true,
+  false,
+  ◌==◌,
+  if◌then◌else◌,
+  List,
+  [],
+  ◌∷◌,
+  ◌++◌,
+  Option,
+  Some,
+  None,
+  refl,
+  sym,
+  ap,
+  subst,
+  ◌∙◌,
+  inl,
+  inr,
+  true≢false,
+  arith,
+}
 use Rattle.ub_base.specs.declared.clause.Kind.{Kind}
 use Rattle.ub_base.specs.declared.clause.Kind.TheVariants.{Val, Eff, Body}
 use Rattle.c_typed.specs.declared.tree.Place.{Place}
@@ -46,7 +71,7 @@ if_unique false us a = tt
 
 apart : (k : ℕ) (a b : Kind) → (a ≡ b → ⊥) → has (place k b ∷ []) (place k a) ≡ true → ⊥
 apart k a b f h = elim (or_cases (same_place (place k a) (place k b)) false h)
-  [ inl x ↦ f (same_kind_eq a b (and_r (k == k) _ x)) | inr x ↦ true≢false (sym x) ]
+    [ inl x ↦ f (same_kind_eq a b (and_r (k == k) _ x)) | inr x ↦ true≢false (sym x) ]
 
 unique_own : (class : Class) (k : ℕ) → Unique (own_events k class)
 unique_own Object k = tt
@@ -63,17 +88,17 @@ mutual
   pub unique : (taken : Taken) (t : Tree) (k : ℕ) → Unique (events taken k t)
   unique taken (node class ts) k =
       unique_append (operand_events taken class (taken k) 0 (suc k) ts) (own_events k class) (unique_all taken ts class (taken k) 0 (suc k))
-        (unique_own class k)
+      (unique_own class k)
       (λ w x y. let r = operands_in taken class (taken k) ts 0 (suc k) w x in let e = own_node (kinds_of class) k w y in omega (arith, r.0, e))
 
   unique_all : (taken : Taken) (ts : Trees) (class : Class) (choice : Option ℕ) (i m : ℕ) → Unique (operand_events taken class choice i m ts)
   unique_all taken none class choice i m = tt
   unique_all taken (more t ts) class choice i m =
       unique_append (if goes class choice i then events taken m t else []) (operand_events taken class choice (suc i) (m + size t) ts)
-        (if_unique (goes class choice i) (events taken m t) (unique taken t m))
+      (if_unique (goes class choice i) (events taken m t) (unique taken t m))
       (unique_all taken ts class choice (suc i) (m + size t))
       (λ w x y. let r = events_in taken t m w (if_has (goes class choice i) (events taken m t) w x) in
-        let s = operands_in taken class choice ts (suc i) (m + size t) w y in omega (arith, r.1, s.0))
+      let s = operands_in taken class choice ts (suc i) (m + size t) w y in omega (arith, r.1, s.0))
 
 -- each effect follows the value of its node
 abbrev Paired : Option Place → List Place → Type 0
@@ -102,14 +127,14 @@ paired_own Isolated k last = (λ h. absurd (true≢false (sym h)), (λ h. absurd
 mutual
   paired : (taken : Taken) (t : Tree) (k : ℕ) (last : Option Place) → Paired last (events taken k t)
   paired taken (node class ts) k last = paired_append (operand_events taken class (taken k) 0 (suc k) ts) (own_events k class) last
-    (paired_all taken ts class (taken k) 0 (suc k) last) (paired_own class k)
+      (paired_all taken ts class (taken k) 0 (suc k) last) (paired_own class k)
 
   paired_all : (taken : Taken) (ts : Trees) (class : Class) (choice : Option ℕ) (i m : ℕ) (last : Option Place) →
-    Paired last (operand_events taken class choice i m ts)
+      Paired last (operand_events taken class choice i m ts)
   paired_all taken none class choice i m last = tt
   paired_all taken (more t ts) class choice i m last =
       paired_append (if goes class choice i then events taken m t else []) (operand_events taken class choice (suc i) (m + size t) ts) last
-        (if_paired (goes class choice i) (events taken m t) last (paired taken t m last))
+      (if_paired (goes class choice i) (events taken m t) last (paired taken t m last))
       (paired_all taken ts class choice (suc i) (m + size t))
 
 value_of : (u v : Place) → Some u ≡ Some v → u ≡ v
@@ -124,5 +149,5 @@ from_start n [] vs a = absurd (let e : None ≡ Some (place n Val) = a.0 refl in
 from_start n (u ∷ us) vs a = after_value n us vs u a.1
 
 pub effect_next : (taken : Taken) (root : Tree) (us vs : List Place) (n : ℕ) → events taken 0 root ≡ us ++ place n Eff ∷ vs → (ws : List Place) ×
-  (us ≡ ws ++ place n Val ∷ [])
+    (us ≡ ws ++ place n Val ∷ [])
 effect_next taken root us vs n e = from_start n us vs (subst (Paired None) e (paired taken root 0 None))

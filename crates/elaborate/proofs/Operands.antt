@@ -37,27 +37,27 @@ pub term_of_node : (k : ℕ) (t : Typed) → term_for k (tree_of t) ≡ node_ter
 term_of_node k t = term_node k (tree_of t) ∙ ap (λ ts. node_term k (class_of (tree_of t)) (terms_for (suc k) ts)) (operands_of t)
 
 pub next_operand : (i n : ℕ) (ts : List Typed) (t : Typed) → i < length ts → t ≡ get_or ts i t →
-  terms_for n (trees_of (drop i ts)) ≡ term_for n (tree_of t) ∷ terms_for (n + size (tree_of t)) (trees_of (drop (i + 1) ts))
+    terms_for n (trees_of (drop i ts)) ≡ term_for n (tree_of t) ∷ terms_for (n + size (tree_of t)) (trees_of (drop (i + 1) ts))
 next_operand i n ts t h e =
     ap (λ xs. terms_for n (trees_of xs)) (drop-cons ts i t h)
     ∙ (ap (λ x. term_for n (tree_of x) ∷ terms_for (n + size (tree_of x)) (trees_of (drop (suc i) ts))) (sym e)
     ∙ ap (λ j. term_for n (tree_of t) ∷ terms_for (n + size (tree_of t)) (trees_of (drop j ts))) (sym (add-one i)))
 
 pub next_size : (i : ℕ) (ts : List Typed) (t : Typed) → i < length ts → t ≡ get_or ts i t →
-  sizes (trees_of (drop i ts)) ≡ size (tree_of t) + sizes (trees_of (drop (i + 1) ts))
+    sizes (trees_of (drop i ts)) ≡ size (tree_of t) + sizes (trees_of (drop (i + 1) ts))
 next_size i ts t h e =
     ap (λ xs. sizes (trees_of xs)) (drop-cons ts i t h)
     ∙ (ap (λ x. size (tree_of x) + sizes (trees_of (drop (suc i) ts))) (sym e)
     ∙ ap (λ j. size (tree_of t) + sizes (trees_of (drop j ts))) (sym (add-one i)))
 
 pub comma_none : (k : ℕ) (old new : List Core) (t w v : Core) → (old ≡ []) × (new ≡ []) → term_of t ≡ pure k → term_of w ≡ weak (term_of t) (term_of v) →
-  term_of v ≡ value k → strung (map term_of new) (term_of w) ≡ comma_of k (map term_of old)
+    term_of v ≡ value k → strung (map term_of new) (term_of w) ≡ comma_of k (map term_of old)
 comma_none k old new t w v e p h g =
     ap (λ z. strung (map term_of z) (term_of w)) e.1
     ∙ (h ∙ (ap (λ z. weak z (term_of v)) p ∙ (ap (weak (pure k)) g ∙ ap (λ z. comma_of k (map term_of z)) (sym e.0))))
 
 pub comma_first : (k : ℕ) (old new : List Core) (t w v : Core) → old ≡ new ++ t ∷ [] → term_of w ≡ weak (term_of t) (term_of v) → term_of v ≡ value k →
-  strung (map term_of new) (term_of w) ≡ comma_of k (map term_of old)
+    strung (map term_of new) (term_of w) ≡ comma_of k (map term_of old)
 comma_first k old new t w v e h g =
     ap (strung (map term_of new)) (h ∙ ap (weak (term_of t)) g) ∙ (sym (comma-last k new t) ∙ ap (λ z. comma_of k (map term_of z)) (sym e))
 
@@ -67,7 +67,7 @@ count-last (x ∷ xs) t = let q = count-last xs t in omega (arith, q)
 
 pub comma_next : (old new : List Core) (t w next : Core) (turn end : ℕ) (all : Term) → old ≡ new ++ t ∷ [] → term_of next ≡ strong (term_of t) (term_of w)
     → (length old + turn ≡ end) × (strung (map term_of old) (term_of w) ≡ all) → (length new + (turn + 1) ≡ end) ×
-      (strung (map term_of new) (term_of next) ≡ all)
+    (strung (map term_of new) (term_of next) ≡ all)
 comma_next old new t w next turn end all e h i =
     let l = ap length e ∙ count-last new t in (
       omega (arith, l, i.0),

@@ -27,11 +27,11 @@ isolated : (u : Typed) → own_node (nodes.Isolated u) ≡ tree_of u ∷ own_tre
 isolated u = ap own_node (sym (nodes.rolls-Isolated u)) ∙ para-roll-Node (List Tree) (List Tree) node_own typed_own (shape.Isolated u)
 
 pub own_isolated : (t u : Typed) → (out-Typed t).node ≡ nodes.Isolated u → own_trees t ≡ (tree_of u ∷ own_trees u) ++
-  joined (map own_trees (out-Typed t).children)
+    joined (map own_trees (out-Typed t).children)
 own_isolated t u e = own_of t ∙ ap (λ z. z ++ joined (map own_trees (out-Typed t).children)) (ap own_node e ∙ isolated u)
 
 no_own : (d : Node-F Node Typed) → ((u : Typed) → d ≡ shape.Isolated u → ⊥) →
-  node_own (map-Node Node Typed (Node × List Tree) (Typed × List Tree) (λ y. (y, own_node y)) (λ y. (y, own_trees y)) d) ≡ []
+    node_own (map-Node Node Typed (Node × List Tree) (Typed × List Tree) (λ y. (y, own_node y)) (λ y. (y, own_trees y)) d) ≡ []
 no_own (shape.Isolated u) f = absurd (f u refl)
 no_own _ f = refl
 
@@ -45,7 +45,7 @@ own_other t f =
 
 -- before the operands, where the node is a listed initializer
 pub start_isolated : (root u v : Typed) (items : List Typed) (old pushed grown roots : List (Bor Typed)) (at : Bor Typed) →
-  (out-Typed root).node ≡ nodes.Isolated v → u ≡ v → items ≡ (out-Typed root).children
+    (out-Typed root).node ≡ nodes.Isolated v → u ≡ v → items ≡ (out-Typed root).children
     → pushed ≡ old ++ at ∷ [] → at.now ≡ u → Grown pushed grown (own_trees u) → roots ≡ grown
     → trees_at roots ++ joined (map own_trees items) ≡ trees_at old ++ own_trees root
 start_isolated root u v items old pushed grown roots at i e k p o r q =
@@ -57,7 +57,7 @@ start_isolated root u v items old pushed grown roots at i e k p o r q =
 
 -- and where it is none
 pub start_other : (root : Typed) (items : List Typed) (old roots : List (Bor Typed)) → ((u : Typed) → (out-Typed root).node ≡ nodes.Isolated u → ⊥) →
-  items ≡ (out-Typed root).children → roots ≡ old
+    items ≡ (out-Typed root).children → roots ≡ old
     → trees_at roots ++ joined (map own_trees items) ≡ trees_at old ++ own_trees root
 start_other root items old roots f k q =
     ap (λ z. trees_at z ++ joined (map own_trees items)) q

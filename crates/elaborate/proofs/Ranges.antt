@@ -1,6 +1,35 @@
 -- Where the events of a tree and of its operands are numbered.
-use Rattle.std.proofs.Common.{◌≡◌, ℕ, suc, ◌+◌, ◌<◌, ◌≤◌, Bool, true, false, not, ◌&&◌, ◌||◌, ◌==◌, if◌then◌else◌, List, [], ◌∷◌, ◌++◌, map, Option, refl,
-  sym, ap, ◌∙◌, ◌⊎◌, inl, inr, true≢false, arith}
+use Rattle.std.proofs.Common.{
+  ◌≡◌,
+  ℕ,
+  suc,
+  ◌+◌,
+  ◌<◌,
+  ◌≤◌,
+  Bool,
+  true,
+  false,
+  not,
+  ◌&&◌,
+  ◌||◌,
+  ◌==◌,
+  if◌then◌else◌,
+  List,
+  [],
+  ◌∷◌,
+  ◌++◌,
+  map,
+  Option,
+  refl,
+  sym,
+  ap,
+  ◌∙◌,
+  ◌⊎◌,
+  inl,
+  inr,
+  true≢false,
+  arith,
+}
 use Rattle.std.proofs.lemmas.Bool.Decides.{nat_tests}
 use Rattle.ub_base.specs.declared.clause.Kind.{Kind}
 use Rattle.ub_base.specs.declared.clause.Kind.TheVariants.{Val, Eff, Body}
@@ -8,8 +37,25 @@ use Rattle.ub_base.specs.Names.{same_kind}
 use Rattle.c_typed.specs.declared.tree.Place.{Place}
 use Rattle.c_typed.specs.declared.class.Class.{Class}
 use Rattle.c_typed.specs.Tree.{Tree, node, Trees, none, more, size, sizes, is_quiet, kinds_of}
-use Rattle.c_typed.specs.Order.{Taken, goes, place, same_place, own_events, events, operand_events, has, is_val, is_body, across, upward, is_last, own_rule,
-  in_later, comes, operand_rules}
+use Rattle.c_typed.specs.Order.{
+  Taken,
+  goes,
+  place,
+  same_place,
+  own_events,
+  events,
+  operand_events,
+  has,
+  is_val,
+  is_body,
+  across,
+  upward,
+  is_last,
+  own_rule,
+  in_later,
+  comes,
+  operand_rules,
+}
 use Rattle.elaborate.proofs.Listed.{and_l, and_r}
 
 pub or_cases : (a b : Bool) → (a || b) ≡ true → (a ≡ true) ⊎ (b ≡ true)
@@ -91,7 +137,7 @@ mutual
   ]
 
   pub operands_in : (taken : Taken) (class : Class) (choice : Option ℕ) (ts : Trees) (i m : ℕ) (u : Place) →
-    has (operand_events taken class choice i m ts) u ≡ true → In m (sizes ts) u.node
+      has (operand_events taken class choice i m ts) u ≡ true → In m (sizes ts) u.node
   operands_in taken class choice none i m u h = absurd (true≢false (sym h))
   operands_in taken class choice (more t ts) i m u h = elim (has_cases (if goes class choice i then events taken m t else []) _ u h) [
     | inl a ↦ (let r = events_in taken t m u (if_has (goes class choice i) _ u a) in (r.0, omega (arith, r.1)))
@@ -99,7 +145,7 @@ mutual
   ]
 
 pub later_in : (taken : Taken) (class : Class) (choice : Option ℕ) (i : ℕ) (ts : Trees) (j m : ℕ) (v : Place) →
-  in_later taken class choice i j m ts v ≡ true → In m (sizes ts) v.node
+    in_later taken class choice i j m ts v ≡ true → In m (sizes ts) v.node
 later_in taken class choice i none j m v h = absurd (true≢false (sym h))
 later_in taken class choice i (more t ts) j m v h = elim (or_cases (across class choice i j && has (events taken m t) v) _ h) [
   | inl a ↦ (let r = events_in taken t m v (and_r (across class choice i j) _ a) in (r.0, omega (arith, r.1)))
@@ -117,7 +163,7 @@ FirstRules taken class choice k i m t ts u v =
     ⊎ (((has (events taken m t) u ≡ true) × (in_later taken class choice i (suc i) (m + size t) ts v ≡ true)) ⊎ (comes taken m t u v ≡ true)))
 
 pub rules_cases : (taken : Taken) (class : Class) (choice : Option ℕ) (k i m : ℕ) (t : Tree) (ts : Trees) (u v : Place) →
-  operand_rules taken class choice k i m (more t ts) u v ≡ true
+    operand_rules taken class choice k i m (more t ts) u v ≡ true
     → ((goes class choice i ≡ true) × FirstRules taken class choice k i m t ts u v) ⊎ (operand_rules taken class choice k (suc i) (m + size t) ts u v ≡ true)
 rules_cases taken class choice k i m t ts u v h = elim (or_cases (goes class choice i && _) _ h) [
   | inr a ↦ inr a
@@ -126,7 +172,7 @@ rules_cases taken class choice k i m t ts u v h = elim (or_cases (goes class cho
   where
     here : (((u.node == m) && (is_val u.kind && (not (is_quiet t) && ((v.node == k) && not (is_body v.kind)))))
         || ((has (events taken m t) u && (((v.node == k) && upward class choice i (is_last ts) v.kind) ||
-          in_later taken class choice i (suc i) (m + size t) ts v))
+        in_later taken class choice i (suc i) (m + size t) ts v))
         || comes taken m t u v)) ≡ true → FirstRules taken class choice k i m t ts u v
     here h = elim (or_cases ((u.node == m) && (is_val u.kind && (not (is_quiet t) && ((v.node == k) && not (is_body v.kind))))) _ h) [
       | inl a ↦
@@ -134,13 +180,13 @@ rules_cases taken class choice k i m t ts u v h = elim (or_cases (goes class cho
           let d = and_r (not (is_quiet t)) _ (and_r (is_val u.kind) _ b) in
           inl (eq_of u.node m (and_l _ _ a), and_l _ _ b, eq_of v.node k (and_l _ _ d), and_r (v.node == k) _ d))
       | inr a ↦ (elim (or_cases (has (events taken m t) u &&
-        (((v.node == k) && upward class choice i (is_last ts) v.kind) || in_later taken class choice i (suc i) (m + size t) ts v)) _ a) [
-        | inr c ↦ inr (inr (inr c))
-        | inl c ↦ (elim (or_cases ((v.node == k) && upward class choice i (is_last ts) v.kind) _ (and_r (has (events taken m t) u) _ c)) [
-          | inl d ↦ inr (inl (and_l _ _ c, eq_of v.node k (and_l _ _ d), and_r (v.node == k) _ d))
-          | inr d ↦ inr (inr (inl (and_l _ _ c, d)))
-        ])
-      ])
+          (((v.node == k) && upward class choice i (is_last ts) v.kind) || in_later taken class choice i (suc i) (m + size t) ts v)) _ a) [
+            | inr c ↦ inr (inr (inr c))
+            | inl c ↦ (elim (or_cases ((v.node == k) && upward class choice i (is_last ts) v.kind) _ (and_r (has (events taken m t) u) _ c)) [
+              | inl d ↦ inr (inl (and_l _ _ c, eq_of v.node k (and_l _ _ d), and_r (v.node == k) _ d))
+              | inr d ↦ inr (inr (inl (and_l _ _ c, d)))
+            ])
+          ])
     ]
 
 -- u is an operand's event, and v one of the node k or an operand's
@@ -170,7 +216,7 @@ mutual
   ]
 
   pub rules_in : (taken : Taken) (ts : Trees) (class : Class) (choice : Option ℕ) (k i m : ℕ) (u v : Place) →
-    operand_rules taken class choice k i m ts u v ≡ true → Below k m (sizes ts) u v
+      operand_rules taken class choice k i m ts u v ≡ true → Below k m (sizes ts) u v
   rules_in taken none class choice k i m u v h = absurd (true≢false (sym h))
   rules_in taken (more t ts) class choice k i m u v h = elim (rules_cases taken class choice k i m t ts u v h) [
     | inr a ↦ below_rest k m (size t) (sizes ts) u v (rules_in taken ts class choice k (suc i) (m + size t) u v a)
@@ -192,29 +238,29 @@ mutual
 -- which part of a list of events an event stands in, by its node
 
 pub first_of : (taken : Taken) (class : Class) (choice : Option ℕ) (i m : ℕ) (t : Tree) (ts : Trees) (u : Place) →
-  has (operand_events taken class choice i m (more t ts)) u ≡ true → u.node < m + size t → has (events taken m t) u ≡ true
+    has (operand_events taken class choice i m (more t ts)) u ≡ true → u.node < m + size t → has (events taken m t) u ≡ true
 first_of taken class choice i m t ts u h l = elim (has_cases (if goes class choice i then events taken m t else []) _ u h) [
   | inl a ↦ if_has (goes class choice i) _ u a
   | inr a ↦ (let r = operands_in taken class choice ts (suc i) (m + size t) u a in absurd (omega (arith, l, r.0)))
 ]
 
 pub rest_of : (taken : Taken) (class : Class) (choice : Option ℕ) (i m : ℕ) (t : Tree) (ts : Trees) (u : Place) →
-  has (operand_events taken class choice i m (more t ts)) u ≡ true → m + size t ≤ u.node →
-  has (operand_events taken class choice (suc i) (m + size t) ts) u ≡ true
+    has (operand_events taken class choice i m (more t ts)) u ≡ true → m + size t ≤ u.node →
+    has (operand_events taken class choice (suc i) (m + size t) ts) u ≡ true
 rest_of taken class choice i m t ts u h l = elim (has_cases (if goes class choice i then events taken m t else []) _ u h) [
   | inl a ↦ (let r = events_in taken t m u (if_has (goes class choice i) _ u a) in absurd (omega (arith, l, r.1)))
   | inr a ↦ a
 ]
 
 pub own_of : (taken : Taken) (class : Class) (choice : Option ℕ) (k i m : ℕ) (ts : Trees) (own : List Place) (u : Place) → k < m →
-  has (operand_events taken class choice i m ts ++ own) u ≡ true → u.node ≡ k → has own u ≡ true
+    has (operand_events taken class choice i m ts ++ own) u ≡ true → u.node ≡ k → has own u ≡ true
 own_of taken class choice k i m ts own u l h e = elim (has_cases (operand_events taken class choice i m ts) own u h) [
   | inl a ↦ (let r = operands_in taken class choice ts i m u a in absurd (omega (arith, l, e, r.0)))
   | inr a ↦ a
 ]
 
 pub operands_of : (taken : Taken) (class : Class) (k : ℕ) (ts : Trees) (u : Place) → has (events taken k (node class ts)) u ≡ true → k < u.node →
-  has (operand_events taken class (taken k) 0 (suc k) ts) u ≡ true
+    has (operand_events taken class (taken k) 0 (suc k) ts) u ≡ true
 operands_of taken class k ts u h l = elim (has_cases (operand_events taken class (taken k) 0 (suc k) ts) (own_events k class) u h) [
   | inl a ↦ a
   | inr a ↦ (let e = own_node (kinds_of class) k u a in absurd (omega (arith, e, l)))

@@ -1,20 +1,91 @@
 -- What one rule of sequenced before orders, one construct of the tree's term orders too.
-use Rattle.std.proofs.Common.{◌≡◌, ℕ, suc, ◌+◌, ◌<◌, Bool, true, false, not, ◌&&◌, ◌||◌, ◌==◌, if◌then◌else◌, List, [], ◌∷◌, ◌++◌, map, Option, Some, None,
-  is_some, refl, sym, ap, subst, ◌∙◌, ◌⊎◌, inl, inr, true≢false, arith}
+use Rattle.std.proofs.Common.{
+  ◌≡◌,
+  ℕ,
+  suc,
+  ◌+◌,
+  ◌<◌,
+  Bool,
+  true,
+  false,
+  not,
+  ◌&&◌,
+  ◌||◌,
+  ◌==◌,
+  if◌then◌else◌,
+  List,
+  [],
+  ◌∷◌,
+  ◌++◌,
+  map,
+  Option,
+  Some,
+  None,
+  is_some,
+  refl,
+  sym,
+  ap,
+  subst,
+  ◌∙◌,
+  ◌⊎◌,
+  inl,
+  inr,
+  true≢false,
+  arith,
+}
 use Rattle.ub_base.specs.declared.clause.Kind.{Kind}
 use Rattle.ub_base.specs.declared.clause.Kind.TheVariants.{Val, Eff, Body}
 use Rattle.c_typed.specs.declared.tree.Place.{Place}
 use Rattle.c_typed.specs.declared.class.Class.{Class}
 use Rattle.c_typed.specs.declared.class.Class.TheVariants.{Object, Constant, Plain, Store, Update, Choice, Comma, Call, Isolated}
 use Rattle.c_typed.specs.Tree.{Tree, node, Trees, none, more, size, sizes, kinds_of}
-use Rattle.c_typed.specs.Order.{Taken, goes, is_choice, place, same_place, own_events, events, operand_events, has, is_val, is_body, is_number, across,
-  upward, is_last, own_rule, in_later, comes, operand_rules}
+use Rattle.c_typed.specs.Order.{
+  Taken,
+  goes,
+  is_choice,
+  place,
+  same_place,
+  own_events,
+  events,
+  operand_events,
+  has,
+  is_val,
+  is_body,
+  is_number,
+  across,
+  upward,
+  is_last,
+  own_rule,
+  in_later,
+  comes,
+  operand_rules,
+}
 use Rattle.core_ir.specs.Term.{Term, terms_from, listing, listings, is_effect, orders, orders_among}
 use Rattle.elaborate.specs.Terms.{term_for, terms_for, node_term, comma_of, head_of, rest_of}
 use Rattle.elaborate.specs.Formed.{is_formed, are_formed, takes, after}
 use Rattle.elaborate.proofs.Listed.{and_l, and_r, listed, listed_all, listed_comma, listed_choice, listed_next, silent_all}
-use Rattle.elaborate.proofs.Ranges.{or_cases, or_a, or_b, and_b, eq_of, has_left, has_right, has_cases, has_itself, same_kind_eq, own_node, In, size_pos,
-  rules_cases, comes_in, rules_in, first_of, rest_of as later_of, own_of, operands_of}
+use Rattle.elaborate.proofs.Ranges.{
+  or_cases,
+  or_a,
+  or_b,
+  and_b,
+  eq_of,
+  has_left,
+  has_right,
+  has_cases,
+  has_itself,
+  same_kind_eq,
+  own_node,
+  In,
+  size_pos,
+  rules_cases,
+  comes_in,
+  rules_in,
+  first_of,
+  rest_of as later_of,
+  own_of,
+  operands_of,
+}
 
 val_acts : (kind : Kind) → is_val kind ≡ true → not (is_effect kind) ≡ true
 val_acts Val h = refl
@@ -42,14 +113,14 @@ two_kinds k h = elim (or_cases ((k == k) && false) _ h) [
 ]
 
 own_orders : (taken : Taken) (class : Class) (ps : List Term) (k : ℕ) (a b : Kind) → own_rule class a b ≡ true → has (own_events k class) (place k a) ≡ true →
-  orders taken (node_term k class ps) (place k a) (place k b) ≡ true
+    orders taken (node_term k class ps) (place k a) (place k b) ≡ true
 own_orders taken Update ps k Val Eff h d =
     or_b (has (listings taken (terms_from ps)) (place k Val) && has (place k Val ∷ place k Eff ∷ []) (place k Eff)) _
     (or_b (orders_among taken (terms_from ps) (place k Val) (place k Eff)) _
-      (or_a _ _ (and_b _ _ (has_itself (place k Val) []) (has_itself (place k Eff) []))))
+    (or_a _ _ (and_b _ _ (has_itself (place k Val) []) (has_itself (place k Eff) []))))
 own_orders taken Call ps k Body Val h d =
     or_a _ _ (and_b _ _ (has_right (listings taken (terms_from ps)) (place k Body ∷ []) (place k Body) (has_itself (place k Body) []))
-      (has_itself (place k Val) []))
+    (has_itself (place k Val) []))
 own_orders taken Isolated ps k Body Val h d = or_a _ _ (and_b _ _ (has_itself (place k Body) []) (has_itself (place k Val) []))
 own_orders taken Object ps k Body Val h d = absurd (true≢false (sym d))
 own_orders taken Constant ps k Body Val h d = absurd (true≢false (sym d))
@@ -75,7 +146,7 @@ plain_across Choice choice i j p h = true≢false (sym p)
 plain_across _ choice i j p h = true≢false (sym h)
 
 plain_later : (taken : Taken) (ts : Trees) (class : Class) (choice : Option ℕ) (i j m : ℕ) (v : Place) → is_plain class ≡ true →
-  in_later taken class choice i j m ts v ≡ true → ⊥
+    in_later taken class choice i j m ts v ≡ true → ⊥
 plain_later taken none class choice i j m v p h = true≢false (sym h)
 plain_later taken (more t ts) class choice i j m v p h = elim (or_cases (across class choice i j && has (events taken m t) v) _ h) [
   | inl a ↦ plain_across class choice i j p (and_l _ _ a)
@@ -88,7 +159,7 @@ lifts_all Call Body = true
 lifts_all _ _ = false
 
 plain_up : (class : Class) (choice : Option ℕ) (i : ℕ) (last : Bool) (kind : Kind) → is_plain class ≡ true → upward class choice i last kind ≡ true →
-  lifts_all class kind ≡ true
+    lifts_all class kind ≡ true
 plain_up Comma choice i last kind p h = absurd (true≢false (sym p))
 plain_up Choice choice i last kind p h = absurd (true≢false (sym p))
 plain_up Call choice i last Body p h = refl
@@ -104,7 +175,7 @@ comma_last choice i Eff h = true≢false (sym h)
 comma_last choice i Body h = true≢false (sym h)
 
 comma_later : (taken : Taken) (ts : Trees) (choice : Option ℕ) (i j m : ℕ) (v : Place) → in_later taken Comma choice i j m ts v ≡ true →
-  has (operand_events taken Comma choice j m ts) v ≡ true
+    has (operand_events taken Comma choice j m ts) v ≡ true
 comma_later taken none choice i j m v h = absurd (true≢false (sym h))
 comma_later taken (more t ts) choice i j m v h = elim (or_cases (across Comma choice i j && has (events taken m t) v) _ h) [
   | inl a ↦ has_left (events taken m t) (operand_events taken Comma choice (suc j) (m + size t) ts) v (and_r (across Comma choice i j) _ a)
@@ -134,7 +205,7 @@ if_from true xs v h g = g
 if_from false xs v h g = absurd (true≢false (sym h))
 
 first_later : (taken : Taken) (ts : Trees) (choice : Option ℕ) (j m : ℕ) (v : Place) → in_later taken Choice choice 0 j m ts v ≡ true →
-  (is_some choice ≡ true) × (has (operand_events taken Choice choice j m ts) v ≡ true)
+    (is_some choice ≡ true) × (has (operand_events taken Choice choice j m ts) v ≡ true)
 first_later taken none choice j m v h = absurd (true≢false (sym h))
 first_later taken (more t ts) choice j m v h = elim (or_cases (across Choice choice 0 j && has (events taken m t) v) _ h) [
   | inl a ↦
@@ -174,7 +245,7 @@ call_body k v e h = subst (λ z. has (place k Body ∷ []) z ≡ true) (sym (pla
     body Body h = refl
 
 own_step : (taken : Taken) (class : Class) (ps : List Term) (k : ℕ) (u v : Place) → u.node ≡ k → v.node ≡ k → own_rule class u.kind v.kind ≡ true →
-  has (own_events k class) u ≡ true → orders taken (node_term k class ps) u v ≡ true
+    has (own_events k class) u ≡ true → orders taken (node_term k class ps) u v ≡ true
 own_step taken class ps k u v eu ev r d =
     subst (λ z. orders taken (node_term k class ps) z v ≡ true) (sym (place_eq u k eu))
     (subst (λ z. orders taken (node_term k class ps) (place k u.kind) z ≡ true) (sym (place_eq v k ev))
@@ -185,7 +256,7 @@ abbrev AtOr : ℕ → List Place → Place → Type 0
 AtOr k us v = (v.node ≡ k) ⊎ (has us v ≡ true)
 
 plain_has : (taken : Taken) (class : Class) (ts : Trees) (k : ℕ) (u : Place) → is_plain class ≡ true → are_formed ts ≡ true →
-  has (operand_events taken class (taken k) 0 (suc k) ts) u ≡ true → has (listings taken (terms_from (terms_for (suc k) ts))) u ≡ true
+    has (operand_events taken class (taken k) 0 (suc k) ts) u ≡ true → has (listings taken (terms_from (terms_for (suc k) ts))) u ≡ true
 plain_has taken class ts k u p f h = ap (λ z. has z u) (listed_all taken ts class (taken k) 0 (suc k) (no_choice class p) f) ∙ h
   where
     no_choice : (class : Class) → is_plain class ≡ true → is_choice class ≡ false
@@ -193,46 +264,46 @@ plain_has taken class ts k u p f h = ap (λ z. has z u) (listed_all taken ts cla
     no_choice _ p = refl
 
 later_at : (taken : Taken) (class : Class) (choice : Option ℕ) (k i m : ℕ) (t : Tree) (ts : Trees) (v : Place) →
-  AtOr k (operand_events taken class choice i m (more t ts)) v
+    AtOr k (operand_events taken class choice i m (more t ts)) v
     → (v.node ≡ k) ⊎ In (m + size t) (sizes ts) v.node → AtOr k (operand_events taken class choice (suc i) (m + size t) ts) v
 later_at taken class choice k i m t ts v (inl e) r = inl e
 later_at taken class choice k i m t ts v (inr g) (inl e) = inl e
 later_at taken class choice k i m t ts v (inr g) (inr x) = inr (later_of taken class choice i m t ts v g x.0)
 
 comma_at : (taken : Taken) (choice : Option ℕ) (k i m : ℕ) (ts : Trees) (v : Place) →
-  has (operand_events taken Comma choice i m ts ++ place k Val ∷ []) v ≡ true → AtOr k (operand_events taken Comma choice i m ts) v
+    has (operand_events taken Comma choice i m ts ++ place k Val ∷ []) v ≡ true → AtOr k (operand_events taken Comma choice i m ts) v
 comma_at taken choice k i m ts v h = elim (has_cases (operand_events taken Comma choice i m ts) (place k Val ∷ []) v h)
-  [ inl a ↦ inr a | inr a ↦ inl (own_node (Val ∷ []) k v a) ]
+    [ inl a ↦ inr a | inr a ↦ inl (own_node (Val ∷ []) k v a) ]
 
 comma_value : (taken : Taken) (ts : Trees) (choice : Option ℕ) (k i q : ℕ) (v : Place) → are_formed ts ≡ true → has (place k Val ∷ []) v ≡ true →
-  has (listing taken (comma_of k (terms_for q ts))) v ≡ true
+    has (listing taken (comma_of k (terms_for q ts))) v ≡ true
 comma_value taken ts choice k i q v f h = ap (λ x. has x v) (listed_comma taken ts choice k (suc i) q f) ∙ has_right
-  (operand_events taken Comma choice (suc i) q ts) (place k Val ∷ []) v h
+    (operand_events taken Comma choice (suc i) q ts) (place k Val ∷ []) v h
 
 comma_rest : (taken : Taken) (choice : Option ℕ) (k i m : ℕ) (t : Tree) (ts : Trees) (v : Place) → k < m →
-  AtOr k (operand_events taken Comma choice i m (more t ts)) v → has (operand_events taken Comma choice i m (more t ts) ++ place k Val ∷ []) v ≡ true
+    AtOr k (operand_events taken Comma choice i m (more t ts)) v → has (operand_events taken Comma choice i m (more t ts) ++ place k Val ∷ []) v ≡ true
     → (v.node ≡ k) ⊎ In (m + size t) (sizes ts) v.node → has (operand_events taken Comma choice (suc i) (m + size t) ts ++ place k Val ∷ []) v ≡ true
 comma_rest taken choice k i m t ts v l a dv r = elim (later_at taken Comma choice k i m t ts v a r) [
   | inl e ↦ has_right (operand_events taken Comma choice (suc i) (m + size t) ts) (place k Val ∷ []) v
-    (own_of taken Comma choice k i m (more t ts) (place k Val ∷ []) v l dv e)
+      (own_of taken Comma choice k i m (more t ts) (place k Val ∷ []) v l dv e)
   | inr g ↦ has_left (operand_events taken Comma choice (suc i) (m + size t) ts) (place k Val ∷ []) v g
 ]
 
 choice_at : (taken : Taken) (k : ℕ) (ts : Trees) (v : Place) → has (operand_events taken Choice (taken k) 0 (suc k) ts ++ place k Val ∷ []) v ≡ true →
-  AtOr k (operand_events taken Choice (taken k) 0 (suc k) ts) v
+    AtOr k (operand_events taken Choice (taken k) 0 (suc k) ts) v
 choice_at taken k ts v h = elim (has_cases (operand_events taken Choice (taken k) 0 (suc k) ts) (place k Val ∷ []) v h)
-  [ inl a ↦ inr a | inr a ↦ inl (own_node (Val ∷ []) k v a) ]
+    [ inl a ↦ inr a | inr a ↦ inl (own_node (Val ∷ []) k v a) ]
 
 -- two events of the first operand
 within : (taken : Taken) (class : Class) (choice : Option ℕ) (k i m : ℕ) (t : Tree) (ts : Trees) (u v : Place) → k < m →
-  has (operand_events taken class choice i m (more t ts)) u ≡ true
+    has (operand_events taken class choice i m (more t ts)) u ≡ true
     → AtOr k (operand_events taken class choice i m (more t ts)) v → comes taken m t u v ≡ true
     → (has (events taken m t) u ≡ true → has (events taken m t) v ≡ true → comes taken m t u v ≡ true → orders taken (term_for m t) u v ≡ true)
     → orders taken (term_for m t) u v ≡ true
 within taken class choice k i m t ts u v l du dv h f =
     let r = comes_in taken t m u v h in
     f (first_of taken class choice i m t ts u du r.0.1)
-      (elim dv [ inl e ↦ absurd (omega (arith, e, l, r.1.0)) | inr g ↦ first_of taken class choice i m t ts v g r.1.1 ]) h
+    (elim dv [ inl e ↦ absurd (omega (arith, e, l, r.1.0)) | inr g ↦ first_of taken class choice i m t ts v g r.1.1 ]) h
 
 -- from what the rules of the operands give to an event of the node
 abbrev Plainly : Taken → Class → Trees → ℕ → Place → Place → Type 0
@@ -241,13 +312,13 @@ Plainly taken class ts k u v = (orders_among taken (terms_from (terms_for (suc k
 abbrev PlainSteps : Taken → Class → Trees → ℕ → Place → Place → Type 0
 PlainSteps taken class ts k u v =
     is_plain class ≡ true → are_formed ts ≡ true → has (operand_events taken class (taken k) 0 (suc k) ts) u ≡ true →
-      AtOr k (operand_events taken class (taken k) 0 (suc k) ts) v
+    AtOr k (operand_events taken class (taken k) 0 (suc k) ts) v
     → operand_rules taken class (taken k) k 0 (suc k) ts u v ≡ true → Plainly taken class ts k u v
 
 abbrev CommaSteps : Taken → Trees → ℕ → Place → Place → Type 0
 CommaSteps taken ts k u v =
     are_formed ts ≡ true → has (operand_events taken Comma (taken k) 0 (suc k) ts) u ≡ true →
-      has (operand_events taken Comma (taken k) 0 (suc k) ts ++ place k Val ∷ []) v ≡ true
+    has (operand_events taken Comma (taken k) 0 (suc k) ts ++ place k Val ∷ []) v ≡ true
     → operand_rules taken Comma (taken k) k 0 (suc k) ts u v ≡ true → orders taken (comma_of k (terms_for (suc k) ts)) u v ≡ true
 
 abbrev ChoiceSteps : Taken → Trees → ℕ → Place → Place → Type 0
@@ -257,36 +328,45 @@ ChoiceSteps taken ts k u v =
     → orders taken (node_term k Choice (terms_for (suc k) ts)) u v ≡ true
 
 at_root : (taken : Taken) (class : Class) (ts : Trees) (k : ℕ) (v : Place) → has (events taken k (node class ts)) v ≡ true →
-  AtOr k (operand_events taken class (taken k) 0 (suc k) ts) v
+    AtOr k (operand_events taken class (taken k) 0 (suc k) ts) v
 at_root taken class ts k v h = elim (has_cases (operand_events taken class (taken k) 0 (suc k) ts) (own_events k class) v h)
-  [ inl a ↦ inr a | inr a ↦ inl (own_node (kinds_of class) k v a) ]
+    [ inl a ↦ inr a | inr a ↦ inl (own_node (kinds_of class) k v a) ]
 
 own_at : (taken : Taken) (class : Class) (ts : Trees) (k : ℕ) (v : Place) → has (events taken k (node class ts)) v ≡ true → v.node ≡ k →
-  has (own_events k class) v ≡ true
+    has (own_events k class) v ≡ true
 own_at taken class ts k v h e = own_of taken class (taken k) k 0 (suc k) ts (own_events k class) v (omega arith) h e
 
 node_steps : (taken : Taken) (class : Class) (ts : Trees) (k : ℕ) (u v : Place) → takes class ts ≡ true → are_formed ts ≡ true →
-  has (operand_events taken class (taken k) 0 (suc k) ts) u ≡ true → has (events taken k (node class ts)) v ≡ true
+    has (operand_events taken class (taken k) 0 (suc k) ts) u ≡ true → has (events taken k (node class ts)) v ≡ true
     → operand_rules taken class (taken k) k 0 (suc k) ts u v ≡ true → PlainSteps taken class ts k u v → CommaSteps taken ts k u v →
-      ChoiceSteps taken ts k u v → orders taken (node_term k class (terms_for (suc k) ts)) u v ≡ true
+    ChoiceSteps taken ts k u v → orders taken (node_term k class (terms_for (suc k) ts)) u v ≡ true
 node_steps taken Object ts k u v s f du dv h plain comma choice = absurd
-  (quiet_none (operand_events taken Object (taken k) 0 (suc k) ts) u (silent_all taken ts Object (taken k) 0 (suc k) f s) du)
+    (quiet_none (operand_events taken Object (taken k) 0 (suc k) ts) u (silent_all taken ts Object (taken k) 0 (suc k) f s) du)
 node_steps taken Constant ts k u v s f du dv h plain comma choice = absurd
-  (quiet_none (operand_events taken Constant (taken k) 0 (suc k) ts) u (silent_all taken ts Constant (taken k) 0 (suc k) f s) du)
+    (quiet_none (operand_events taken Constant (taken k) 0 (suc k) ts) u (silent_all taken ts Constant (taken k) 0 (suc k) f s) du)
 node_steps taken Plain ts k u v s f du dv h plain comma choice = elim (plain refl f du (at_root taken Plain ts k v dv) h) [
   | inl q ↦ or_b _ _ (or_a _ _ q)
-  | inr q ↦ (elim q.1 [ inl x ↦ or_a _ _ (and_b _ _ (plain_has taken Plain ts k u refl f du)
-    (and_b _ _ (val_acts u.kind x.0) (own_at taken Plain ts k v dv q.0))) | inr x ↦ absurd (true≢false (sym x)) ])
+  | inr q ↦ (elim q.1 [
+    | inl x ↦ or_a _ _ (and_b _ _ (plain_has taken Plain ts k u refl f du)
+        (and_b _ _ (val_acts u.kind x.0) (own_at taken Plain ts k v dv q.0)))
+    | inr x ↦ absurd (true≢false (sym x))
+  ])
 ]
 node_steps taken Store ts k u v s f du dv h plain comma choice = elim (plain refl f du (at_root taken Store ts k v dv) h) [
   | inl q ↦ or_b _ _ (or_a _ _ q)
-  | inr q ↦ (elim q.1 [ inl x ↦ or_a _ _ (and_b _ _ (plain_has taken Store ts k u refl f du)
-    (and_b _ _ (val_acts u.kind x.0) (own_at taken Store ts k v dv q.0))) | inr x ↦ absurd (true≢false (sym x)) ])
+  | inr q ↦ (elim q.1 [
+    | inl x ↦ or_a _ _ (and_b _ _ (plain_has taken Store ts k u refl f du)
+        (and_b _ _ (val_acts u.kind x.0) (own_at taken Store ts k v dv q.0)))
+    | inr x ↦ absurd (true≢false (sym x))
+  ])
 ]
 node_steps taken Update ts k u v s f du dv h plain comma choice = elim (plain refl f du (at_root taken Update ts k v dv) h) [
   | inl q ↦ or_b _ _ (or_a _ _ q)
-  | inr q ↦ (elim q.1 [ inl x ↦ or_a _ _ (and_b _ _ (plain_has taken Update ts k u refl f du)
-    (and_b _ _ (val_acts u.kind x.0) (own_at taken Update ts k v dv q.0))) | inr x ↦ absurd (true≢false (sym x)) ])
+  | inr q ↦ (elim q.1 [
+    | inl x ↦ or_a _ _ (and_b _ _ (plain_has taken Update ts k u refl f du)
+        (and_b _ _ (val_acts u.kind x.0) (own_at taken Update ts k v dv q.0)))
+    | inr x ↦ absurd (true≢false (sym x))
+  ])
 ]
 node_steps taken Call ts k u v s f du dv h plain comma choice =
     let hu = plain_has taken Call ts k u refl f du in
@@ -305,31 +385,31 @@ node_steps taken Isolated none k u v s f du dv h plain comma choice = absurd (tr
 node_steps taken Isolated (more t ts) k u v s f du dv h plain comma choice = absurd (true≢false (sym s))
 
 step_of : (taken : Taken) (class : Class) (ts : Trees) (k : ℕ) (u v : Place) → is_formed (node class ts) ≡ true →
-  has (events taken k (node class ts)) u ≡ true → has (events taken k (node class ts)) v ≡ true → comes taken k (node class ts) u v ≡ true
+    has (events taken k (node class ts)) u ≡ true → has (events taken k (node class ts)) v ≡ true → comes taken k (node class ts) u v ≡ true
     → PlainSteps taken class ts k u v → CommaSteps taken ts k u v → ChoiceSteps taken ts k u v → orders taken (term_for k (node class ts)) u v ≡ true
 step_of taken class ts k u v f du dv h plain comma choice = elim (or_cases ((u.node == k) && ((v.node == k) && own_rule class u.kind v.kind)) _ h) [
   | inl a ↦
       (let eu = eq_of u.node k (and_l _ _ a) in
       own_step taken class (terms_for (suc k) ts) k u v eu (eq_of v.node k (and_l (v.node == k) _ (and_r (u.node == k) _ a)))
-        (and_r (v.node == k) _ (and_r (u.node == k) _ a)) (own_at taken class ts k u du eu))
+      (and_r (v.node == k) _ (and_r (u.node == k) _ a)) (own_at taken class ts k u du eu))
   | inr a ↦
       (let r = rules_in taken ts class (taken k) k 0 (suc k) u v a in
       node_steps taken class ts k u v (and_l (takes class ts) _ f) (and_r (takes class ts) _ f) (operands_of taken class k ts u du (omega (arith, r.0.0))) dv
-        a plain comma choice)
+      a plain comma choice)
 ]
 
 mutual
   pub steps : (taken : Taken) (t : Tree) (k : ℕ) (u v : Place) → is_formed t ≡ true → has (events taken k t) u ≡ true → has (events taken k t) v ≡ true →
-    comes taken k t u v ≡ true → orders taken (term_for k t) u v ≡ true
+      comes taken k t u v ≡ true → orders taken (term_for k t) u v ≡ true
   steps taken (node class ts) k u v f du dv h =
       step_of taken class ts k u v f du dv h (λ p x y z w. plain_steps taken ts class (taken k) k 0 (suc k) u v p (omega arith) x y z w)
-        (λ x y z w. comma_steps taken ts (taken k) k 0 (suc k) u v (omega arith) x y z w)
+      (λ x y z w. comma_steps taken ts (taken k) k 0 (suc k) u v (omega arith) x y z w)
       (λ s x y z w. choice_steps taken ts k u v s x y z w)
 
   plain_steps : (taken : Taken) (ts : Trees) (class : Class) (choice : Option ℕ) (k i m : ℕ) (u v : Place) → is_plain class ≡ true → k < m →
-    are_formed ts ≡ true → has (operand_events taken class choice i m ts) u ≡ true
+      are_formed ts ≡ true → has (operand_events taken class choice i m ts) u ≡ true
       → AtOr k (operand_events taken class choice i m ts) v → operand_rules taken class choice k i m ts u v ≡ true →
-        (orders_among taken (terms_from (terms_for m ts)) u v ≡ true) ⊎ ToNode class k u v
+      (orders_among taken (terms_from (terms_for m ts)) u v ≡ true) ⊎ ToNode class k u v
   plain_steps taken none class choice k i m u v p l f du dv h = absurd (true≢false (sym h))
   plain_steps taken (more t ts) class choice k i m u v p l f du dv h = elim (rules_cases taken class choice k i m t ts u v h) [
     | inl a ↦ (elim a.1 [
@@ -345,16 +425,16 @@ mutual
     | inr a ↦
         (let r = rules_in taken ts class choice k (suc i) (m + size t) u v a in
         elim (plain_steps taken ts class choice k (suc i) (m + size t) u v p (omega (arith, l)) (and_r (is_formed t) _ f)
-          (later_of taken class choice i m t ts u du r.0.0) (later_at taken class choice k i m t ts v dv r.1) a) [
+        (later_of taken class choice i m t ts u du r.0.0) (later_at taken class choice k i m t ts v dv r.1) a) [
           | inl q ↦ inl (or_b (orders taken (term_for m t) u v) _ q)
           | inr q ↦ inr q
         ])
   ]
 
   comma_steps : (taken : Taken) (ts : Trees) (choice : Option ℕ) (k i m : ℕ) (u v : Place) → k < m → are_formed ts ≡ true →
-    has (operand_events taken Comma choice i m ts) u ≡ true
+      has (operand_events taken Comma choice i m ts) u ≡ true
       → has (operand_events taken Comma choice i m ts ++ place k Val ∷ []) v ≡ true → operand_rules taken Comma choice k i m ts u v ≡ true →
-        orders taken (comma_of k (terms_for m ts)) u v ≡ true
+      orders taken (comma_of k (terms_for m ts)) u v ≡ true
   comma_steps taken none choice k i m u v l f du dv h = absurd (true≢false (sym h))
   comma_steps taken (more t none) choice k i m u v l f du dv h =
       let ft = and_l (is_formed t) _ f in
@@ -370,7 +450,7 @@ mutual
             | inr c ↦ (elim c [
               | inl d ↦ absurd (true≢false (sym d.1))
               | inr d ↦ or_b _ _ (or_a _ _ (within taken Comma choice k i m t none u v l du (comma_at taken choice k i m (more t none) v dv) d
-                (steps taken t m u v ft)))
+                  (steps taken t m u v ft)))
             ])
           ])
         ])
@@ -387,14 +467,14 @@ mutual
               (comma_value taken (more t2 us) choice k i q v fs (own_of taken Comma choice k i m (more t (more t2 us)) (place k Val ∷ []) v l dv b.2))))
           | inr b ↦ (elim b [
             | inl c ↦ or_a _ _ (and_b _ _ (ap (λ x. has x u) (listed taken t m ft) ∙ c.0)
-              (comma_value taken (more t2 us) choice k i q v fs (own_of taken Comma choice k i m (more t (more t2 us)) (place k Val ∷ []) v l dv c.1)))
+                (comma_value taken (more t2 us) choice k i q v fs (own_of taken Comma choice k i m (more t (more t2 us)) (place k Val ∷ []) v l dv c.1)))
             | inr c ↦ (elim c [
               | inl d ↦
                   or_a _ _ (and_b _ _ (ap (λ x. has x u) (listed taken t m ft) ∙ d.0)
                   (ap (λ x. has x v) (listed_comma taken (more t2 us) choice k (suc i) q fs) ∙ has_left
-                    (operand_events taken Comma choice (suc i) q (more t2 us)) (place k Val ∷ []) v (comma_later taken (more t2 us) choice i (suc i) q v d.1)))
+                  (operand_events taken Comma choice (suc i) q (more t2 us)) (place k Val ∷ []) v (comma_later taken (more t2 us) choice i (suc i) q v d.1)))
               | inr d ↦ or_b _ _ (or_a _ _ (within taken Comma choice k i m t (more t2 us) u v l du (comma_at taken choice k i m (more t (more t2 us)) v dv) d
-                (steps taken t m u v ft)))
+                  (steps taken t m u v ft)))
             ])
           ])
         ])
@@ -406,9 +486,9 @@ mutual
       ]
 
   choice_steps : (taken : Taken) (ts : Trees) (k : ℕ) (u v : Place) → is_last (after (after (after ts))) ≡ true → are_formed ts ≡ true →
-    has (operand_events taken Choice (taken k) 0 (suc k) ts) u ≡ true
+      has (operand_events taken Choice (taken k) 0 (suc k) ts) u ≡ true
       → has (operand_events taken Choice (taken k) 0 (suc k) ts ++ place k Val ∷ []) v ≡ true →
-        operand_rules taken Choice (taken k) k 0 (suc k) ts u v ≡ true → orders taken (node_term k Choice (terms_for (suc k) ts)) u v ≡ true
+      operand_rules taken Choice (taken k) k 0 (suc k) ts u v ≡ true → orders taken (node_term k Choice (terms_for (suc k) ts)) u v ≡ true
   choice_steps taken none k u v s f du dv h = absurd (true≢false (sym h))
   choice_steps taken (more a ts) k u v s f du dv h =
       let fa = and_l (is_formed a) _ f in
@@ -429,14 +509,15 @@ mutual
                   or_b _ _ (or_a _ _ (or_a _ _ (and_b _ _ (ap (λ x. has x u) (listed taken a (suc k) fa) ∙ e.0)
                   (and_b _ _ g.0 (or_b (same_place v (place k Val)) _ (ap (λ x. has x v) (listed_next taken ts k q s fs) ∙ g.1)))))))
               | inr e ↦ or_b _ _ (or_a _ _ (or_b _ _ (or_a _ _
-                (within taken Choice (taken k) k 0 (suc k) a ts u v (omega arith) du (choice_at taken k (more a ts) v dv) e (steps taken a (suc k) u v fa)))))
+                  (within taken Choice (taken k) k 0 (suc k) a ts u v (omega arith) du (choice_at taken k (more a ts) v dv) e
+                  (steps taken a (suc k) u v fa)))))
             ])
           ])
         ])
         | inr b ↦
             (let r = rules_in taken ts Choice (taken k) k 1 q u v b in
             elim (next_steps taken ts k q u v (omega arith) s fs (later_of taken Choice (taken k) 0 (suc k) a ts u du r.0.0)
-              (later_at taken Choice (taken k) k 0 (suc k) a ts v (choice_at taken k (more a ts) v dv) r.1) b) [
+            (later_at taken Choice (taken k) k 0 (suc k) a ts v (choice_at taken k (more a ts) v dv) r.1) b) [
               | inl c ↦ or_a _ _ (and_b _ _ hu (and_b _ _ (val_acts u.kind c.0) (own c.1)))
               | inr c ↦ or_b _ _ (or_a _ _ (or_b _ _ (or_b (orders taken (term_for (suc k) a) u v) _ c)))
             ])
@@ -447,11 +528,11 @@ mutual
 
   -- from an event of the operands after a choice's first
   next_steps : (taken : Taken) (ts : Trees) (k m : ℕ) (u v : Place) → k < m → is_last (after (after ts)) ≡ true → are_formed ts ≡ true →
-    has (operand_events taken Choice (taken k) 1 m ts) u ≡ true
+      has (operand_events taken Choice (taken k) 1 m ts) u ≡ true
       → AtOr k (operand_events taken Choice (taken k) 1 m ts) v → operand_rules taken Choice (taken k) k 1 m ts u v ≡ true
       → ((is_val u.kind ≡ true) × (v.node ≡ k))
       ⊎ (((is_number (taken k) 1 && orders taken (head_of k (terms_for m ts)) u v) ||
-        (is_number (taken k) 2 && orders taken (head_of k (rest_of (terms_for m ts))) u v)) ≡ true)
+      (is_number (taken k) 2 && orders taken (head_of k (rest_of (terms_for m ts))) u v)) ≡ true)
   next_steps taken none k m u v l s f du dv h = absurd (true≢false (sym h))
   next_steps taken (more b ts) k m u v l s f du dv h = elim (rules_cases taken Choice (taken k) k 1 m b ts u v h) [
     | inl a ↦ (elim a.1 [
@@ -467,14 +548,14 @@ mutual
     | inr a ↦
         (let r = rules_in taken ts Choice (taken k) k 2 (m + size b) u v a in
         elim (last_steps taken ts k (m + size b) u v (omega (arith, l)) s (and_r (is_formed b) _ f) (later_of taken Choice (taken k) 1 m b ts u du r.0.0)
-          (later_at taken Choice (taken k) k 1 m b ts v dv r.1) a) [
+        (later_at taken Choice (taken k) k 1 m b ts v dv r.1) a) [
           | inl c ↦ inl c
           | inr c ↦ inr (or_b (is_number (taken k) 1 && orders taken (term_for m b) u v) _ c)
         ])
   ]
 
   last_steps : (taken : Taken) (ts : Trees) (k m : ℕ) (u v : Place) → k < m → is_last (after ts) ≡ true → are_formed ts ≡ true →
-    has (operand_events taken Choice (taken k) 2 m ts) u ≡ true
+      has (operand_events taken Choice (taken k) 2 m ts) u ≡ true
       → AtOr k (operand_events taken Choice (taken k) 2 m ts) v → operand_rules taken Choice (taken k) k 2 m ts u v ≡ true
       → ((is_val u.kind ≡ true) × (v.node ≡ k)) ⊎ ((is_number (taken k) 2 && orders taken (head_of k (terms_for m ts)) u v) ≡ true)
   last_steps taken none k m u v l s f du dv h = absurd (true≢false (sym h))

@@ -20,7 +20,7 @@ abbrev pub cell_of : Cells → Event → Option (Option ObjName)
 cell_of cs id = lookup (is_at (event_cmp id)) cs
 
 kept_split : (b : Bool) (k : Option ObjName) (rest : Option (Option ObjName)) (x : Option ObjName) → kept_of rest ≡ x →
-  kept_of (cond b (Some k) rest) ≡ cond b k x
+    kept_of (cond b (Some k) rest) ≡ cond b k x
 kept_split true k rest x h = refl
 kept_split false k rest x h = h
 
@@ -132,7 +132,7 @@ same_by true x y left right = same_by_true x y (left refl)
 same_by false x y left right = same_by_false (same_object x y) x y refl right
 
 pub settles_if : (b : Bool) (cs : Cells) (id : Event) (x y : ObjName) → cell_of cs id ≡ Some (Some y) → b ≡ same_object y x →
-  MatchBool b (Settles cs cs id x) ⊤
+    MatchBool b (Settles cs cs id x) ⊤
 settles_if true cs id x y h same = settles_again cs id x y h (sym same)
 settles_if false cs id x y h same = tt
 
@@ -141,7 +141,7 @@ not_not true = refl
 not_not false = refl
 
 pub answer_if : (b : Bool) (cs : Cells) (id : Event) (x y : ObjName) → cell_of cs id ≡ Some (Some y) → b ≡ same_object y x →
-  b ≡ not (is_other (kept_in cs id) x)
+    b ≡ not (is_other (kept_in cs id) x)
 answer_if b cs id x y h same = rw (kept_in_is cs id, h) (same ∙ not_not (same_object y x))
 
 -- an insertion that can't be refused

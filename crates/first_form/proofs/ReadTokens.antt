@@ -89,7 +89,7 @@ read_at text at line {r = r} {s = s} is gives =
     subst (λ rest. GivesNext at line rest s) (take_rest text at) (subst (GivesNext at line (take (length text - at) (drop at text))) is gives)
 
 lexes_from_unique : (at line : ℕ) (rest : List ℕ) (tokens others : List Token) → LexesFrom at line rest tokens → LexesFrom at line rest others →
-  tokens ≡ others
+    tokens ≡ others
 lexes_from_unique at line rest [] others lexes too = sym (none_left at line rest others too lexes)
 lexes_from_unique at line rest (t ∷ ts) others lexes too =
     let b = begins_with lexes.0 others too in

@@ -1,6 +1,31 @@
 -- Whether some items of two footprints conflict.
-use Rattle.std.proofs.Common.{◌≡◌, ◌⊎◌, inl, inr, ⊎_elim, ℕ, Bool, true, false, cond, ◌&&◌, ◌||◌, not, refl, sym, ap, ◌∙◌, subst, List, [], ◌∷◌, ◌++◌, Some,
-  None, Option}
+use Rattle.std.proofs.Common.{
+  ◌≡◌,
+  ◌⊎◌,
+  inl,
+  inr,
+  ⊎_elim,
+  ℕ,
+  Bool,
+  true,
+  false,
+  cond,
+  ◌&&◌,
+  ◌||◌,
+  not,
+  refl,
+  sym,
+  ap,
+  ◌∙◌,
+  subst,
+  List,
+  [],
+  ◌∷◌,
+  ◌++◌,
+  Some,
+  None,
+  Option,
+}
 use Rattle.std.specs.Prelude.{◌↔◌, IsTrue}
 use Rattle.std.specs.declared.cmp.Ordering.{Ordering}
 use Rattle.std.specs.declared.cmp.Ordering.TheVariants.{Less, Equal, Greater}
@@ -31,8 +56,19 @@ use Rattle.footprint.specs.States.{or_nothing, state_in}
 use Rattle.addr_map.specs.Conflict.{conflicts_one, stands_at, is_object}
 use Rattle.footprint.specs.Found.{ConflictIn, SomeConflict, SomeRace}
 use Rattle.footprint.specs.Holds.{narrow_cmp}
-use Rattle.footprint.specs.Meets.{states_meet, states_conflict, SomeStates, is_hit, is_met, SomeLookup, settled_otherwise, SettledBelow, SettledAbove,
-  SomeNarrow, streams_meet}
+use Rattle.footprint.specs.Meets.{
+  states_meet,
+  states_conflict,
+  SomeStates,
+  is_hit,
+  is_met,
+  SomeLookup,
+  settled_otherwise,
+  SettledBelow,
+  SettledAbove,
+  SomeNarrow,
+  streams_meet,
+}
 use Rattle.footprint.proofs.Pairs.{apart}
 use Rattle.footprint.proofs.RangeStarts.{is_equal, or_split, and_left, and_right, object_exact, object_total}
 use Rattle.footprint.proofs.SetLemmas.{event_total, narrow_total}
@@ -58,7 +94,7 @@ any_entry P test [] all h = never h
 any_entry P test (e ∷ es) all h = or_split (test e) (list_any test es) h (λ t. (e, All-head P e es all, t)) (λ t. any_entry P test es (All-tail P e es all) t)
 
 any_key : {K : Type 0} (R : K → K → Ordering) → ((x : K) → R x x ≡ Equal) → (test : K → Bool) (ks : List K) → list_any test ks ≡ true → (k : K) ×
-  (list_any (is_at (R k)) ks ≡ true) × (test k ≡ true)
+    (list_any (is_at (R k)) ks ≡ true) × (test k ≡ true)
 any_key R own test [] h = never h
 any_key R own test (x ∷ xs) h =
     or_split (test x) (list_any test xs) h
@@ -66,7 +102,7 @@ any_key R own test (x ∷ xs) h =
     (λ t. let found = any_key R own test xs t in (found.0, or_second (is_eq (R found.0 x)) (list_any (is_at (R found.0)) xs) found.1, found.2))
 
 key_any : {K : Type 0} (R : K → K → Ordering) → ((x y : K) → R x y ≡ Equal → x ≡ y) → (test : K → Bool) (k : K) (ks : List K) →
-  list_any (is_at (R k)) ks ≡ true → test k ≡ true → list_any test ks ≡ true
+    list_any (is_at (R k)) ks ≡ true → test k ≡ true → list_any test ks ≡ true
 key_any R exact test k [] h t = never h
 key_any R exact test k (x ∷ xs) h t =
     or_split (is_eq (R k x)) (list_any (is_at (R k)) xs) h
@@ -100,7 +136,7 @@ module _ (m n : BTreeMap ObjName State) where
   at_entry e = states_conflict e.1 (state_in n e.0)
 
   entry_step : (b : Bool) (e : ObjName × State) (es : List (ObjName × State)) (x : ObjName) (s : State) → is_at (object_cmp x) e.0 ≡ b →
-    cond b (Some e.1) (lookup (is_at (object_cmp x)) es) ≡ Some s → at_entry (x, s) ≡ true
+      cond b (Some e.1) (lookup (is_at (object_cmp x)) es) ≡ Some s → at_entry (x, s) ≡ true
       → (lookup (is_at (object_cmp x)) es ≡ Some s → list_any at_entry es ≡ true) → (at_entry e || list_any at_entry es) ≡ true
   entry_step true e es x s at h t more =
       let key : x ≡ e.0 = object_exact x e.0 (is_equal _ at) in
@@ -109,12 +145,12 @@ module _ (m n : BTreeMap ObjName State) where
   entry_step false e es x s at h t more = or_second (at_entry e) (list_any at_entry es) (more h)
 
   entry_any : (es : List (ObjName × State)) (x : ObjName) (s : State) → lookup (is_at (object_cmp x)) es ≡ Some s → at_entry (x, s) ≡ true →
-    list_any at_entry es ≡ true
+      list_any at_entry es ≡ true
   entry_any [] x s h t = absurd (cc)
   entry_any (e ∷ es) x s h t = entry_step (is_at (object_cmp x) e.0) e es x s refl h t (λ g. entry_any es x s g t)
 
   at_some : (x : ObjName) (o : Option State) → get object_cmp m x ≡ o → states_conflict (or_nothing o) (state_in n x) ≡ true →
-    list_any at_entry m.entries ≡ true
+      list_any at_entry m.entries ≡ true
   unfolding at_entry
   at_some x None is h = absurd (no_parts (state_in n x).born (state_in n x).dies h)
   at_some x (Some s) is h = entry_any m.entries x s is h
@@ -126,7 +162,7 @@ module _ (m n : BTreeMap ObjName State) where
       (f.0.0, subst (λ (s : State). states_conflict s (state_in n f.0.0) ≡ true) (sym (ap or_nothing f.1)) f.2)
 
   pub states_some : (r : Bool) → IsOrdered object_cmp m → r ≡ list_any (λ (e : ObjName × State). states_conflict e.1 (state_in n e.0)) m.entries →
-    IsTrue r ↔ SomeStates m n
+      IsTrue r ↔ SomeStates m n
   unfolding at_entry
   states_some r ordered is = (λ h. states_from ordered (sym is ∙ h), λ s. is ∙ at_some s.0 (get object_cmp m s.0) refl s.1)
 
@@ -134,7 +170,7 @@ states_turned : (m n : BTreeMap ObjName State) → SomeStates m n → SomeStates
 states_turned m n s = (s.0, or_turned (states_meet (state_in m s.0) (state_in n s.0)) (states_meet (state_in n s.0) (state_in m s.0)) s.1)
 
 pub states_other : (m n : BTreeMap ObjName State) (r : Bool) → IsOrdered object_cmp n →
-  r ≡ list_any (λ (e : ObjName × State). states_conflict e.1 (state_in m e.0)) n.entries → IsTrue r ↔ SomeStates m n
+    r ≡ list_any (λ (e : ObjName × State). states_conflict e.1 (state_in m e.0)) n.entries → IsTrue r ↔ SomeStates m n
 states_other m n r ordered is =
     let h = states_some n m r ordered is in
     (λ t. states_turned n m (h.0 t), λ s. h.1 (states_turned m n s))
@@ -151,14 +187,14 @@ by_event k m o h = ap (λ p. ordering_then p (object_cmp k.1 m.1)) h
 
 -- of (d, y) up to k and k below (d, x) the event of k is d
 between : (k : Event × ObjName) (d : Event) (x y : ObjName) (o : Ordering) → event_cmp k.0 d ≡ o → is_lt (narrow_cmp k (d, y)) ≡ false →
-  narrow_cmp k (d, x) ≡ Less → k.0 ≡ d
+    narrow_cmp k (d, x) ≡ Less → k.0 ≡ d
 between k d x y Less e low high = let t : is_lt (narrow_cmp k (d, y)) ≡ true = ap is_lt (by_event k (d, y) Less e) in absurd (cc)
 between k d x y Equal e low high = event_exact k.0 d e
 between k d x y Greater e low high = let t : narrow_cmp k (d, x) ≡ Greater = by_event k (d, x) Greater e in absurd (cc)
 
 -- of k up to (d, y) and (d, x) below k the event of k is d
 between_above : (k : Event × ObjName) (d : Event) (x y : ObjName) (o : Ordering) → event_cmp k.0 d ≡ o → is_gt (narrow_cmp k (d, y)) ≡ false →
-  narrow_cmp (d, x) k ≡ Less → k.0 ≡ d
+    narrow_cmp (d, x) k ≡ Less → k.0 ≡ d
 between_above k d x y Less e high low =
     let turned : event_cmp d k.0 ≡ Greater = event_total.antisymm d k.0 ∙ ap ordering_reverse e in
     let t : narrow_cmp (d, x) k ≡ Greater = by_event (d, x) k Greater turned in
@@ -174,14 +210,16 @@ module _ (s : BTreeSet (Event × ObjName)) (d : Event) (x : ObjName) where
       cc
 
   pub below_here : (r t : List (Event × ObjName)) (k : Event × ObjName) → IsKeyRangeOf narrow_cmp Unbounded (Excluded (d, x)) s r → r ≡ t ++ k ∷ [] →
-    k.0 ≡ d → SettledBelow s d x
+      k.0 ≡ d → SettledBelow s d x
   below_here r t k h is own =
-      let here = h.3 k t is in
-      (k.1, subst (λ (e : Event). contains narrow_cmp s (e, k.1) ≡ true) own here.1,
-        sym (by_object d k.1 x) ∙ subst (λ (e : Event). narrow_cmp (e, k.1) (d, x) ≡ Less) own here.0.1)
+      let here = h.3 k t is in (
+        k.1,
+        subst (λ (e : Event). contains narrow_cmp s (e, k.1) ≡ true) own here.1,
+        sym (by_object d k.1 x) ∙ subst (λ (e : Event). narrow_cmp (e, k.1) (d, x) ≡ Less) own here.0.1,
+      )
 
   pub below_last : (r t : List (Event × ObjName)) (k : Event × ObjName) → IsKeyRangeOf narrow_cmp Unbounded (Excluded (d, x)) s r → r ≡ t ++ k ∷ [] →
-    SettledBelow s d x → k.0 ≡ d
+      SettledBelow s d x → k.0 ≡ d
   below_last r t k h is b =
       between k d x b.0 (event_cmp k.0 d) refl (h.4 k t is (d, b.0) (tt, by_object d b.0 x ∙ b.2) b.1) (h.3 k t is).0.1
 
@@ -192,35 +230,37 @@ module _ (s : BTreeSet (Event × ObjName)) (d : Event) (x : ObjName) where
       cc
 
   first_in : (r t : List (Event × ObjName)) (k : Event × ObjName) → IsKeyRangeOf narrow_cmp (Excluded (d, x)) Unbounded s r → r ≡ k ∷ t →
-    (narrow_cmp (d, x) k ≡ Less) × (contains narrow_cmp s k ≡ true)
+      (narrow_cmp (d, x) k ≡ Less) × (contains narrow_cmp s k ≡ true)
   first_in r t k h is =
       let here = subst (λ (l : List (Event × ObjName)). IfSome (slice_get l 0)
-            (λ (q : Event × ObjName). (narrow_cmp (d, x) q ≡ Less) × (contains narrow_cmp s q ≡ true))) is (first_of r h.1) in here
+      (λ (q : Event × ObjName). (narrow_cmp (d, x) q ≡ Less) × (contains narrow_cmp s q ≡ true))) is (first_of r h.1) in here
     where
       first_of : (l : List (Event × ObjName)) → IfSome (slice_get l 0)
-        (λ (q : Event × ObjName). ((narrow_cmp (d, x) q ≡ Less) × Unit {0}) × (contains narrow_cmp s q ≡ true)) →
-        IfSome (slice_get l 0) (λ (q : Event × ObjName). (narrow_cmp (d, x) q ≡ Less) × (contains narrow_cmp s q ≡ true))
+          (λ (q : Event × ObjName). ((narrow_cmp (d, x) q ≡ Less) × Unit {0}) × (contains narrow_cmp s q ≡ true)) →
+          IfSome (slice_get l 0) (λ (q : Event × ObjName). (narrow_cmp (d, x) q ≡ Less) × (contains narrow_cmp s q ≡ true))
       first_of [] g = tt
       first_of (q ∷ qs) g = (g.0.0, g.1)
 
   pub above_here : (r t : List (Event × ObjName)) (k : Event × ObjName) → IsKeyRangeOf narrow_cmp (Excluded (d, x)) Unbounded s r → r ≡ k ∷ t → k.0 ≡ d →
-    SettledAbove s d x
+      SettledAbove s d x
   above_here r t k h is own =
-      let here = first_in r t k h is in
-      (k.1, subst (λ (e : Event). contains narrow_cmp s (e, k.1) ≡ true) own here.1,
-        sym (by_object d x k.1) ∙ subst (λ (e : Event). narrow_cmp (d, x) (e, k.1) ≡ Less) own here.0)
+      let here = first_in r t k h is in (
+        k.1,
+        subst (λ (e : Event). contains narrow_cmp s (e, k.1) ≡ true) own here.1,
+        sym (by_object d x k.1) ∙ subst (λ (e : Event). narrow_cmp (d, x) (e, k.1) ≡ Less) own here.0,
+      )
 
   pub above_first : (r t : List (Event × ObjName)) (k : Event × ObjName) → IsKeyRangeOf narrow_cmp (Excluded (d, x)) Unbounded s r → r ≡ k ∷ t →
-    SettledAbove s d x → k.0 ≡ d
+      SettledAbove s d x → k.0 ≡ d
   above_first r t k h is b =
       let least : is_gt (narrow_cmp k (d, b.0)) ≡ false =
-            subst (λ (l : List (Event × ObjName)). IfSome (slice_get l 0) (λ q. is_gt (narrow_cmp q (d, b.0)) ≡ false)) is
-            (h.2 (d, b.0) (by_object d x b.0 ∙ b.2, tt) b.1) in
+      subst (λ (l : List (Event × ObjName)). IfSome (slice_get l 0) (λ q. is_gt (narrow_cmp q (d, b.0)) ≡ false)) is
+      (h.2 (d, b.0) (by_object d x b.0 ∙ b.2, tt) b.1) in
       between_above k d x b.0 (event_cmp k.0 d) refl least (first_in r t k h is).0
 
   otherwise_at : (y : ObjName) → contains narrow_cmp s (d, y) ≡ true → not (same_object x y) ≡ true → settled_otherwise s d x ≡ true
   otherwise_at y held apart = key_any narrow_cmp narrow_exact (λ m. same_event d m.0 && not (same_object x m.1)) (d, y) s.keys held
-    (and_both (same_event d d) _ (same_event_refl d) apart)
+      (and_both (same_event d d) _ (same_event_refl d) apart)
 
   apart_below : (y : ObjName) → object_cmp y x ≡ Less → x ≡ y → ⊥
   apart_below y less e =
@@ -237,7 +277,7 @@ module _ (s : BTreeSet (Event × ObjName)) (d : Event) (x : ObjName) where
   otherwise_from (inr b) = otherwise_at b.0 b.1 (apart x b.0 (apart_above b.0 b.2))
 
   side_of : (y : ObjName) (o : Ordering) → object_cmp x y ≡ o → contains narrow_cmp s (d, y) ≡ true → not (same_object x y) ≡ true → SettledBelow s d x ⊎
-    SettledAbove s d x
+      SettledAbove s d x
   side_of y Less e h apart = inr (y, h, e)
   side_of y Equal e h apart =
       let own : x ≡ y = object_exact x y e in
@@ -275,7 +315,7 @@ module _ (s t : BTreeSet (Event × ObjName)) where
   narrow_is n =
       key_any narrow_cmp narrow_exact at_narrow (n.0, n.1) s.keys n.3
       (key_any narrow_cmp narrow_exact (λ m. same_event n.0 m.0 && not (same_object n.1 m.1)) (n.0, n.2) t.keys n.4
-        (and_both (same_event n.0 n.0) _ (same_event_refl n.0) n.5))
+      (and_both (same_event n.0 n.0) _ (same_event_refl n.0) n.5))
 
   pub narrows_some : (r : Bool) → r ≡ list_any (λ (m : Event × ObjName). settled_otherwise t m.0 m.1) s.keys → IsTrue r ↔ SomeNarrow s t
   unfolding at_narrow
@@ -292,7 +332,7 @@ narrows_turned : (s t : BTreeSet (Event × ObjName)) → SomeNarrow s t → Some
 narrows_turned s t n = (n.0, n.2, n.1, n.4, n.3, not_turned n.1 n.2 (same_object n.2 n.1) refl n.5)
 
 pub narrows_other : (s t : BTreeSet (Event × ObjName)) (r : Bool) → r ≡ list_any (λ (m : Event × ObjName). settled_otherwise s m.0 m.1) t.keys →
-  IsTrue r ↔ SomeNarrow s t
+    IsTrue r ↔ SomeNarrow s t
 narrows_other s t r is =
     let h = narrows_some t s r is in
     (λ e. narrows_turned t s (h.0 e), λ n. h.1 (narrows_turned s t n))
@@ -305,8 +345,11 @@ lookups_some a b places r is = (
 )
 
 conflict_turned : (a b : Foot) (places : List Place) → SomeConflict b a places → SomeConflict a b places
-conflict_turned a b places c = (c.1, c.0,
-  (c.2.1, c.2.0, or_turned (conflicts_one (stands_at places) c.0 c.1) (conflicts_one (stands_at places) c.1 c.0) c.2.2))
+conflict_turned a b places c = (
+  c.1,
+  c.0,
+  (c.2.1, c.2.0, or_turned (conflicts_one (stands_at places) c.0 c.1) (conflicts_one (stands_at places) c.1 c.0) c.2.2),
+)
 
 module _ (a b : Foot) (places : List Place) where
   meet_pair : (x : ObjName) → states_meet (state_in a.states x) (state_in b.states x) ≡ true → SomeConflict a b places
@@ -322,7 +365,7 @@ module _ (a b : Foot) (places : List Place) where
       (λ t. (Dies x, Dies x, (and_left _ _ e, t, or_first _ _ (same_object_refl x))))))
 
   hit_pair : (k : ℕ) (o : Option ObjName) → ((x : ObjName) → is_object o x ≡ true → stands_at places x k ≡ true) → contains nat_cmp a.lookups k ≡ true →
-    is_hit b o ≡ true → SomeConflict a b places
+      is_hit b o ≡ true → SomeConflict a b places
   hit_pair k None at held h = never h
   hit_pair k (Some x) at held h =
       or_split (state_in b.states x).dies (state_in b.states x).expose h
@@ -351,10 +394,10 @@ module _ (a b : Foot) (places : List Place) where
   -- which kind of conflict it is
   Kinds : Type 0
   Kinds = (SomeRace a b ⊎ SomeStates a.states b.states) ⊎
-    ((SomeLookup a b places ⊎ SomeLookup b a places) ⊎ (SomeNarrow a.narrows b.narrows ⊎ (streams_meet a b ≡ true)))
+      ((SomeLookup a b places ⊎ SomeLookup b a places) ⊎ (SomeNarrow a.narrows b.narrows ⊎ (streams_meet a b ≡ true)))
 
   at_both : (ps pt : State → Bool) (x z : ObjName) → x ≡ z → ps (state_in a.states x) ≡ true → pt (state_in b.states z) ≡ true →
-    ((s t : State) → ps s ≡ true → pt t ≡ true → states_conflict s t ≡ true) → Kinds
+      ((s t : State) → ps s ≡ true → pt t ≡ true → states_conflict s t ≡ true) → Kinds
   unfolding Kinds
   at_both ps pt x z e hs ht f = inl (inr (x, f _ _ hs (subst (λ (y : ObjName). pt (state_in b.states y) ≡ true) (sym e) ht)))
 
@@ -374,19 +417,19 @@ module _ (a b : Foot) (places : List Place) where
   turned s t h = or_second (states_meet s t) _ h
 
   hit_own : (f : Foot) (o : Option ObjName) (y : ObjName) → is_object o y ≡ true → ((state_in f.states y).dies || (state_in f.states y).expose) ≡ true →
-    is_hit f o ≡ true
+      is_hit f o ≡ true
   hit_own f None y at h = never at
   hit_own f (Some x) y at h = subst (λ (z : ObjName). ((state_in f.states z).dies || (state_in f.states z).expose) ≡ true) (sym (same_object_is x y at)) h
 
   met_at : (f : Foot) (k : ℕ) (y : ObjName) → stands_at places y k ≡ true → ((state_in f.states y).dies || (state_in f.states y).expose) ≡ true →
-    is_met f places k ≡ true
+      is_met f places k ≡ true
   met_at f k y at h =
       or_split (is_object (covers places k) y) (is_object (past places k) y) at
       (λ t. or_first _ _ (hit_own f (covers places k) y t h))
       (λ t. or_second (is_hit f (covers places k)) _ (hit_own f (past places k) y t h))
 
   narrow_of : (d e : Event) (x y : ObjName) → contains narrow_cmp a.narrows (d, x) ≡ true → contains narrow_cmp b.narrows (e, y) ≡ true → d ≡ e →
-    not (same_object x y) ≡ true → Kinds
+      not (same_object x y) ≡ true → Kinds
   unfolding Kinds
   narrow_of d e x y hx hy own apart = inr (inr (inl (d, x, y, hx, subst (λ (f : Event). contains narrow_cmp b.narrows (f, y) ≡ true) (sym own) hy, apart)))
 
@@ -424,7 +467,7 @@ module _ (a b : Foot) (places : List Place) where
   kind_of Ending Any h = inr (inr (inr (or_second ((a.input && b.input) || (a.output && b.output)) _ (or_first _ _ (and_both a.ending b.any h.0 h.1)))))
   kind_of Ending _ h = never h.2
   kind_of Any Ending h = inr (inr (inr (or_second ((a.input && b.input) || (a.output && b.output)) _
-    (or_second (a.ending && b.any) _ (and_both a.any b.ending h.0 h.1)))))
+      (or_second (a.ending && b.any) _ (and_both a.any b.ending h.0 h.1)))))
   kind_of Any _ h = never h.2
 
 of_states : (a b : Foot) (places : List Place) → SomeStates a.states b.states → SomeConflict a b places
@@ -437,7 +480,7 @@ of_lookups : (a b : Foot) (places : List Place) → SomeLookup b a places → So
 of_lookups a b places l = conflict_turned a b places (lookup_pair b a places l)
 
 pub some_conflict : (a b : Foot) (places : List Place) (r s l m n t o : Bool) → IsTrue r ↔ SomeRace a b → IsTrue s ↔ SomeStates a.states b.states →
-  l ≡ list_any (is_met b places) a.lookups.keys → m ≡ list_any (is_met a places) b.lookups.keys
+    l ≡ list_any (is_met b places) a.lookups.keys → m ≡ list_any (is_met a places) b.lookups.keys
     → IsTrue n ↔ SomeNarrow a.narrows b.narrows → t ≡ streams_meet a b → o ≡ ((r || s) || ((l || m) || (n || t))) → IsTrue o ↔ SomeConflict a b places
 unfolding Kinds
 some_conflict a b places r s l m n t o hr hs hl hm hn ht is = (

@@ -36,12 +36,22 @@ pub union : (f g : Foot) (reads writes : Spans) (states : BTreeMap ObjName State
     → ((a : ℕ) → contains nat_cmp lookups a ≡ (contains nat_cmp f.lookups a || contains nat_cmp g.lookups a))
     → ((d : Event) (x : ObjName) → contains narrow_cmp narrows (d, x) ≡ (contains narrow_cmp f.narrows (d, x) || contains narrow_cmp g.narrows (d, x)))
     → (i : Item)
-    → holds (record { reads = reads; writes = writes; states = states; lookups = lookups; narrows = narrows; input = f.input || g.input; output = f.output ||
-      g.output; ending = f.ending || g.ending; any = f.any || g.any }) i ≡ (holds f i || holds g i)
+    → holds (record {
+      reads = reads;
+      writes = writes;
+      states = states;
+      lookups = lookups;
+      narrows = narrows;
+      input = f.input || g.input;
+      output = f.output ||
+          g.output;
+      ending = f.ending || g.ending;
+      any = f.any || g.any;
+    }) i ≡ (holds f i || holds g i)
 union f g reads writes states lookups narrows hr hw hs hl hn (Read x i n) =
-  ap (λ b. (n == 1) && b) (hr x i) ∙ spread (n == 1) (has_byte f.reads.ends.entries x i) (has_byte g.reads.ends.entries x i)
+    ap (λ b. (n == 1) && b) (hr x i) ∙ spread (n == 1) (has_byte f.reads.ends.entries x i) (has_byte g.reads.ends.entries x i)
 union f g reads writes states lookups narrows hr hw hs hl hn (Write x i n) =
-  ap (λ b. (n == 1) && b) (hw x i) ∙ spread (n == 1) (has_byte f.writes.ends.entries x i) (has_byte g.writes.ends.entries x i)
+    ap (λ b. (n == 1) && b) (hw x i) ∙ spread (n == 1) (has_byte f.writes.ends.entries x i) (has_byte g.writes.ends.entries x i)
 union f g reads writes states lookups narrows hr hw hs hl hn (Born x) = ap (λ s. s.born) (hs x)
 union f g reads writes states lookups narrows hr hw hs hl hn (Dies x) = ap (λ s. s.dies) (hs x)
 union f g reads writes states lookups narrows hr hw hs hl hn (Alive x) = ap (λ s. s.alive) (hs x)
@@ -69,8 +79,8 @@ added_or false true = refl
 added_or false false = refl
 
 pub narrow_added : (f : Foot) (ns : BTreeSet (Event × ObjName)) (d : Event) (x : ObjName) →
-  ((k : Event × ObjName) → contains narrow_cmp ns k ≡ cond (is_eq (narrow_cmp (d, x) k)) true (contains narrow_cmp f.narrows k)) →
-  (i : Item) → holds (record f { narrows = ns }) i ≡ (holds f i || stands_for (Narrow d x) i)
+    ((k : Event × ObjName) → contains narrow_cmp ns k ≡ cond (is_eq (narrow_cmp (d, x) k)) true (contains narrow_cmp f.narrows k)) →
+    (i : Item) → holds (record f { narrows = ns }) i ≡ (holds f i || stands_for (Narrow d x) i)
 narrow_added f ns d x put (Read y i n) = or_no (holds f (Read y i n))
 narrow_added f ns d x put (Write y i n) = or_no (holds f (Write y i n))
 narrow_added f ns d x put (Born y) = or_no (holds f (Born y))
@@ -79,7 +89,7 @@ narrow_added f ns d x put (Alive y) = or_no (holds f (Alive y))
 narrow_added f ns d x put (Expose y) = or_no (holds f (Expose y))
 narrow_added f ns d x put (Lookup a) = or_no (holds f (Lookup a))
 narrow_added f ns d x put (Narrow e y) = put (e, y) ∙ ap (λ b. cond b true (contains narrow_cmp f.narrows (e, y))) (event_key d e x y (same_event d e) refl) ∙
-  added_or (same_event d e && same_object x y) (contains narrow_cmp f.narrows (e, y))
+    added_or (same_event d e && same_object x y) (contains narrow_cmp f.narrows (e, y))
 narrow_added f ns d x put Input = or_no (holds f Input)
 narrow_added f ns d x put Output = or_no (holds f Output)
 narrow_added f ns d x put Ending = or_no (holds f Ending)

@@ -1,6 +1,33 @@
 -- The order of pairs is total, and the lesser of two least pairs is the least of both.
-use Rattle.std.proofs.Common.{◌≡◌, ◌⊎◌, inl, inr, ⊎_elim, ℕ, ◌≤◌, ◌<◌, ◌||◌, IfSome, arith, Bool, true, false, cond, refl, sym, ap, ◌∙◌, subst, List, [], ◌∷◌,
-  reverse, Some, None, Option}
+use Rattle.std.proofs.Common.{
+  ◌≡◌,
+  ◌⊎◌,
+  inl,
+  inr,
+  ⊎_elim,
+  ℕ,
+  ◌≤◌,
+  ◌<◌,
+  ◌||◌,
+  IfSome,
+  arith,
+  Bool,
+  true,
+  false,
+  cond,
+  refl,
+  sym,
+  ap,
+  ◌∙◌,
+  subst,
+  List,
+  [],
+  ◌∷◌,
+  reverse,
+  Some,
+  None,
+  Option,
+}
 use Rattle.std.specs.declared.cmp.Ordering.{Ordering}
 use Rattle.std.specs.declared.cmp.Ordering.TheVariants.{Less, Equal, Greater}
 use Rattle.std.specs.Ordering.{nat_cmp, ordering_then, ordering_reverse, is_lt}
@@ -40,18 +67,18 @@ pub event_total : (rows : List Row) → IsTotalOrder (event_cmp rows)
 event_total rows =
     then_total (on_total (λ (e : Event). e.frame.0) (frame_total rows))
     (then_total (on_total (λ (e : Event). e.turn) nat_cmp_total)
-      (then_total (on_total (λ (e : Event). e.node) nat_cmp_total) (on_total (λ (e : Event). kind_rank e.kind) nat_cmp_total)))
+    (then_total (on_total (λ (e : Event). e.node) nat_cmp_total) (on_total (λ (e : Event). kind_rank e.kind) nat_cmp_total)))
 
 place_cmp : List Row → ObjName → ObjName → Ordering
 place_cmp rows o p = ordering_then (nat_cmp (object_rank o) (object_rank p))
-  (ordering_then (frame_cmp rows (place_frame o) (place_frame p))
-  (ordering_then (nat_cmp (place_turn o) (place_turn p)) (nat_cmp (place_number o) (place_number p))))
+    (ordering_then (frame_cmp rows (place_frame o) (place_frame p))
+    (ordering_then (nat_cmp (place_turn o) (place_turn p)) (nat_cmp (place_number o) (place_number p))))
 
 place_total : (rows : List Row) → IsTotalOrder (place_cmp rows)
 unfolding place_cmp
 place_total rows =
     then_total (on_total object_rank nat_cmp_total)
-      (then_total (on_total place_frame (frame_total rows)) (then_total (on_total place_turn nat_cmp_total) (on_total place_number nat_cmp_total)))
+    (then_total (on_total place_frame (frame_total rows)) (then_total (on_total place_turn nat_cmp_total) (on_total place_number nat_cmp_total)))
 
 place_is : (rows : List Row) (o p : ObjName) → place_cmp rows o p ≡ object_cmp rows o p
 unfolding place_cmp
@@ -95,35 +122,45 @@ module _ {K : Type 0} (R : K → K → Ordering) (o : IsTotalOrder R) where
   not_itself x h = let e = tied_itself o x in absurd (cc)
 
 both_by : (b : Bool) (rows : List Row) (P Q : Item → Item → Type 0) (p q : Item × Item) → is_lt (pair_cmp rows q p) ≡ b → IsLeast rows P (Some p) →
-  IsLeast rows Q (Some q) → IsLeast rows (λ i j. P i j ⊎ Q i j) (cond b (Some q) (Some p))
-both_by true rows P Q p q h hp hq =
-    (inr hq.0, λ i j one. elim one as (λ s. pair_cmp rows (i, j) q ≡ Less → ⊥)
-      [ inl a ↦ not_less_second (pair_cmp rows) (pair_total rows) p q (i, j) h (hp.1 i j a) | inr b ↦ hq.1 i j b ])
-both_by false rows P Q p q h hp hq =
-    (inl hp.0, λ i j one. elim one as (λ s. pair_cmp rows (i, j) p ≡ Less → ⊥)
-      [ inl a ↦ hp.1 i j a | inr b ↦ not_less_first (pair_cmp rows) (pair_total rows) p q (i, j) h (hq.1 i j b) ])
+    IsLeast rows Q (Some q) → IsLeast rows (λ i j. P i j ⊎ Q i j) (cond b (Some q) (Some p))
+both_by true rows P Q p q h hp hq = (
+  inr hq.0,
+  λ i j one. elim one as (λ s. pair_cmp rows (i, j) q ≡ Less → ⊥)
+      [ inl a ↦ not_less_second (pair_cmp rows) (pair_total rows) p q (i, j) h (hp.1 i j a) | inr b ↦ hq.1 i j b ],
+)
+both_by false rows P Q p q h hp hq = (
+  inl hp.0,
+  λ i j one. elim one as (λ s. pair_cmp rows (i, j) p ≡ Less → ⊥)
+      [ inl a ↦ hp.1 i j a | inr b ↦ not_less_first (pair_cmp rows) (pair_total rows) p q (i, j) h (hq.1 i j b) ],
+)
 
 -- the lesser of the least pairs is the least of both
 pub both : (rows : List Row) (P Q : Item → Item → Type 0) (o q : Option (Item × Item)) → IsLeast rows P o → IsLeast rows Q q →
-  IsLeast rows (λ i j. P i j ⊎ Q i j) (lesser rows o q)
+    IsLeast rows (λ i j. P i j ⊎ Q i j) (lesser rows o q)
 both rows P Q None None ho hq = λ i j one. elim one as (λ s. ⊥) [ inl a ↦ ho i j a | inr b ↦ hq i j b ]
-both rows P Q None (Some q) ho hq = (inr hq.0, λ i j one. elim one as (λ s. pair_cmp rows (i, j) q ≡ Less → ⊥)
-  [ inl a ↦ absurd (ho i j a) | inr b ↦ hq.1 i j b ])
-both rows P Q (Some p) None ho hq = (inl ho.0, λ i j one. elim one as (λ s. pair_cmp rows (i, j) p ≡ Less → ⊥)
-  [ inl a ↦ ho.1 i j a | inr b ↦ absurd (hq i j b) ])
+both rows P Q None (Some q) ho hq = (
+  inr hq.0,
+  λ i j one. elim one as (λ s. pair_cmp rows (i, j) q ≡ Less → ⊥)
+      [ inl a ↦ absurd (ho i j a) | inr b ↦ hq.1 i j b ],
+)
+both rows P Q (Some p) None ho hq = (
+  inl ho.0,
+  λ i j one. elim one as (λ s. pair_cmp rows (i, j) p ≡ Less → ⊥)
+      [ inl a ↦ ho.1 i j a | inr b ↦ absurd (hq i j b) ],
+)
 both rows P Q (Some p) (Some q) ho hq = both_by (is_lt (pair_cmp rows q p)) rows P Q p q refl ho hq
 
 -- the same pairs by another word
 pub alike : (rows : List Row) (P Q : Item → Item → Type 0) (o : Option (Item × Item)) → ((i j : Item) → P i j → Q i j) →
-  ((i j : Item) → Q i j → P i j) → IsLeast rows P o → IsLeast rows Q o
+    ((i j : Item) → Q i j → P i j) → IsLeast rows P o → IsLeast rows Q o
 alike rows P Q None there back h = λ i j q. h i j (back i j q)
 alike rows P Q (Some p) there back h = (there p.0 p.1 h.0, λ i j q. h.1 i j (back i j q))
 
 pub four_from : (f t n k a b c : Ordering) {F T N K : Ordering} → a ≡ ordering_then f t → b ≡ ordering_then a n → c ≡ ordering_then b k → f ≡ F → t ≡ T →
-  n ≡ N → k ≡ K → c ≡ ordering_then F (ordering_then T (ordering_then N K))
+    n ≡ N → k ≡ K → c ≡ ordering_then F (ordering_then T (ordering_then N K))
 four_from f t n k a b c ea eb ec hf ht hn hk =
     ec ∙ ap (λ o. ordering_then o k) (eb ∙ ap (λ o. ordering_then o n) ea) ∙ four_then f t n k k refl ∙
-      (λ i. ordering_then (hf i) (ordering_then (ht i) (ordering_then (hn i) (hk i))))
+    (λ i. ordering_then (hf i) (ordering_then (ht i) (ordering_then (hn i) (hk i))))
 
 -- ---- bytes
 -- the byte found so far isn't greater than this one
@@ -136,15 +173,15 @@ not_less_own rows x i at le h =
     not_below m n to e = grind (arith, nat_tests)
 
 pub kept_reach : (rows : List Row) (byte old : Byte) (x : ObjName) (i : ℕ) → is_lt (byte_cmp rows (byte.object, byte.at) (old.object, old.at)) ≡ true →
-  Reaches rows (Some old) x i → Reaches rows (Some byte) x i
+    Reaches rows (Some old) x i → Reaches rows (Some byte) x i
 kept_reach rows byte old x i lt h = not_less_second (byte_cmp rows) (byte_total rows) (old.object, old.at) (byte.object, byte.at) (x, i) lt h
 
 pub own_reach : (rows : List Row) (byte old : Byte) (x : ObjName) (i : ℕ) → is_lt (byte_cmp rows (byte.object, byte.at) (old.object, old.at)) ≡ false →
-  Reaches rows (Some byte) x i → Reaches rows (Some old) x i
+    Reaches rows (Some byte) x i → Reaches rows (Some old) x i
 own_reach rows byte old x i apart h = not_less_first (byte_cmp rows) (byte_total rows) (old.object, old.at) (byte.object, byte.at) (x, i) apart h
 
 pub first_reaches : (rows : List Row) (rs : List ((ObjName × ℕ) × ℕ)) (x : ObjName) (s t at : ℕ) → IsFirstByte rs x s t (Some at) →
-  (y : ObjName) (i : ℕ) → range_has ((x, s), t) y i ≡ true → has_byte rs y i ≡ true → byte_cmp rows (y, i) (x, at) ≡ Less → ⊥
+    (y : ObjName) (i : ℕ) → range_has ((x, s), t) y i ≡ true → has_byte rs y i ≡ true → byte_cmp rows (y, i) (x, at) ≡ Less → ⊥
 first_reaches rows rs x s t at first y i r h =
     let own : x ≡ y = same_object_is x y (and_left _ _ r) in
     let bounds = within s i t (and_right (same_object x y) _ r) in
@@ -158,7 +195,7 @@ first_reaches rows rs x s t at first y i r h =
         either a b = grind arith
 
 module _ (rows : List Row) (few many rest more : List ((ObjName × ℕ) × ℕ)) (r : (ObjName × ℕ) × ℕ) (e : rest ≡ r ∷ more)
-  (part : (x : ObjName) (i : ℕ) → has_byte rest x i ≡ true → has_byte few x i ≡ true) where
+    (part : (x : ObjName) (i : ℕ) → has_byte rest x i ≡ true → has_byte few x i ≡ true) where
   at_rest : (x : ObjName) (i : ℕ) → (range_has r x i || has_byte more x i) ≡ true → has_byte rest x i ≡ true
   at_rest x i h = ap (λ (rs : List ((ObjName × ℕ) × ℕ)). has_byte rs x i) e ∙ h
 
@@ -166,8 +203,8 @@ module _ (rows : List Row) (few many rest more : List ((ObjName × ℕ) × ℕ))
   part_turn x i h = part x i (at_rest x i (or_true (range_has r x i) (has_byte more x i) h))
 
   pub shared_turn : (best result : Option Byte) → IfSome best (λ b. (has_byte few b.object b.at ≡ true) × (has_byte many b.object b.at ≡ true)) →
-    IfSome result (λ b. (best ≡ Some b) ⊎ ((range_has r b.object b.at ≡ true) × (has_byte many b.object b.at ≡ true))) →
-    IfSome result (λ b. (has_byte few b.object b.at ≡ true) × (has_byte many b.object b.at ≡ true))
+      IfSome result (λ b. (best ≡ Some b) ⊎ ((range_has r b.object b.at ≡ true) × (has_byte many b.object b.at ≡ true))) →
+      IfSome result (λ b. (has_byte few b.object b.at ≡ true) × (has_byte many b.object b.at ≡ true))
   shared_turn best None h from = from
   shared_turn best (Some b) h from =
       ⊎_elim
@@ -176,13 +213,13 @@ module _ (rows : List Row) (few many rest more : List ((ObjName × ℕ) × ℕ))
       from
 
   pub left_turn : (best result : Option Byte) →
-    ((x : ObjName) (i : ℕ) → has_byte few x i ≡ true → has_byte many x i ≡ true → (has_byte rest x i ≡ true) ⊎ Reaches rows best x i) →
-    ((x : ObjName) (i : ℕ) → Reaches rows best x i → Reaches rows result x i)
+      ((x : ObjName) (i : ℕ) → has_byte few x i ≡ true → has_byte many x i ≡ true → (has_byte rest x i ≡ true) ⊎ Reaches rows best x i) →
+      ((x : ObjName) (i : ℕ) → Reaches rows best x i → Reaches rows result x i)
       → ((x : ObjName) (i : ℕ) → range_has r x i ≡ true → has_byte many x i ≡ true → Reaches rows result x i)
       → (x : ObjName) (i : ℕ) → has_byte few x i ≡ true → has_byte many x i ≡ true → (has_byte more x i ≡ true) ⊎ Reaches rows result x i
   left_turn best result left kept own x i hf hm =
       ⊎_elim
       (λ there. or_split (range_has r x i) (has_byte more x i) (sym (ap (λ (rs : List ((ObjName × ℕ) × ℕ)). has_byte rs x i) e) ∙ there)
-        (λ t. inr (own x i t hm)) (λ t. inl t))
+      (λ t. inr (own x i t hm)) (λ t. inl t))
       (λ reach. inr (kept x i reach))
       (left x i hf hm)

@@ -28,7 +28,7 @@ pub record Goes {E : Type 0} (rows : List Row) (C : E → Item → Item → Type
   pub part : (i j : Item) → AnyOf C rest i j → AnyOf C whole i j
 
 kept_by : (b : Bool) (rows : List Row) (p q : Item × Item) (i j : Item) → is_lt (pair_cmp rows q p) ≡ b →
-  (pair_cmp rows (i, j) p ≡ Less → ⊥) → Reached rows (cond b (Some q) (Some p)) i j
+    (pair_cmp rows (i, j) p ≡ Less → ⊥) → Reached rows (cond b (Some q) (Some p)) i j
 kept_by true rows p q i j h reach = not_less_second (pair_cmp rows) (pair_total rows) p q (i, j) h reach
 kept_by false rows p q i j h reach = reach
 
@@ -38,7 +38,7 @@ kept rows (Some p) None i j h = h
 kept rows (Some p) (Some q) i j h = kept_by (is_lt (pair_cmp rows q p)) rows p q i j refl h
 
 own_by : (b : Bool) (rows : List Row) (p q : Item × Item) (i j : Item) → is_lt (pair_cmp rows q p) ≡ b →
-  (pair_cmp rows (i, j) q ≡ Less → ⊥) → Reached rows (cond b (Some q) (Some p)) i j
+    (pair_cmp rows (i, j) q ≡ Less → ⊥) → Reached rows (cond b (Some q) (Some p)) i j
 own_by true rows p q i j h reach = reach
 own_by false rows p q i j h reach = not_less_first (pair_cmp rows) (pair_total rows) p q (i, j) h reach
 
@@ -57,7 +57,7 @@ one_by rows P (Some p) None hb hc = hb
 one_by rows P (Some p) (Some q) hb hc = one_of (is_lt (pair_cmp rows q p)) P p q hb hc
 
 holds_of : (rows : List Row) (Q P : Item → Item → Type 0) (o : Option (Item × Item)) → ((i j : Item) → Q i j → P i j) → IsLeast rows Q o →
-  IfSome o (λ p. P p.0 p.1)
+    IfSome o (λ p. P p.0 p.1)
 holds_of rows Q P None f h = tt
 holds_of rows Q P (Some p) f h = f p.0 p.1 h.0
 
@@ -73,11 +73,11 @@ start rows C whole rest e = record {
 }
 
 pub turn : {E : Type 0} (rows : List Row) (C : E → Item → Item → Type 0) (whole rest more : List E) (e : E) (best cand new : Option (Item × Item)) →
-  rest ≡ e ∷ more → IsLeast rows (C e) cand → new ≡ lesser rows best cand → Goes rows C whole rest best → Goes rows C whole more new
+    rest ≡ e ∷ more → IsLeast rows (C e) cand → new ≡ lesser rows best cand → Goes rows C whole rest best → Goes rows C whole more new
 turn rows C whole rest more e best cand new is least step before = record {
   sound = subst (λ o. IfSome o (λ p. AnyOf C whole p.0 p.1)) (sym step)
-    (one_by rows (λ p. AnyOf C whole p.0 p.1) best cand before.sound
-    (holds_of rows (C e) (AnyOf C whole) cand (λ i j c. before.part i j (at_rest i j (inl c))) least));
+      (one_by rows (λ p. AnyOf C whole p.0 p.1) best cand before.sound
+      (holds_of rows (C e) (AnyOf C whole) cand (λ i j c. before.part i j (at_rest i j (inl c))) least));
   left = λ i j a. ⊎_elim
       (λ r. ⊎_elim
       (λ c. inr (subst (λ o. Reached rows o i j) (sym step) (own rows best cand i j (reached_of rows (C e) cand least i j c))))
@@ -92,17 +92,17 @@ turn rows C whole rest more e best cand new is least step before = record {
     at_rest i j a = subst (λ es. AnyOf C es i j) (sym is) a
 
 finish_by : {E : Type 0} (rows : List Row) (C : E → Item → Item → Type 0) (whole : List E) (best : Option (Item × Item)) → Goes rows C whole [] best →
-  IsLeast rows (AnyOf C whole) best
+    IsLeast rows (AnyOf C whole) best
 finish_by rows C whole None g = λ i j a. ⊎_elim (λ r. r) (λ r. r) (g.left i j a)
 finish_by rows C whole (Some p) g = (g.sound, λ i j a. ⊎_elim (λ r. absurd r) (λ r. r) (g.left i j a))
 
 pub finish : {E : Type 0} (rows : List Row) (C : E → Item → Item → Type 0) (whole rest : List E) (best : Option (Item × Item)) → rest ≡ [] →
-  Goes rows C whole rest best → IsLeast rows (AnyOf C whole) best
+    Goes rows C whole rest best → IsLeast rows (AnyOf C whole) best
 finish rows C whole rest best e g = finish_by rows C whole best (subst (λ es. Goes rows C whole es best) e g)
 
 -- ---- the elements of a set
 pub any_in : {K : Type 0} {R : K → K → Ordering} → ((x y : K) → R x y ≡ Equal → x ≡ y) → (C : K → Item → Item → Type 0) (k : K) (ks : List K) (i j : Item) →
-  list_any (is_at (R k)) ks ≡ true → C k i j → AnyOf C ks i j
+    list_any (is_at (R k)) ks ≡ true → C k i j → AnyOf C ks i j
 any_in exact C k [] i j h c = absurd (cc)
 any_in {K} {R} exact C k (x ∷ xs) i j h c =
     or_split (is_eq (R k x)) (list_any (is_at (R k)) xs) h
@@ -110,7 +110,7 @@ any_in {K} {R} exact C k (x ∷ xs) i j h c =
     (λ t. inr (any_in exact C k xs i j t c))
 
 pub any_out : {K : Type 0} (R : K → K → Ordering) → ((x : K) → R x x ≡ Equal) → (C : K → Item → Item → Type 0) (ks : List K) (i j : Item) → AnyOf C ks i j →
-  (k : K) × (list_any (is_at (R k)) ks ≡ true) × C k i j
+    (k : K) × (list_any (is_at (R k)) ks ≡ true) × C k i j
 any_out R own_tie C [] i j a = absurd a
 any_out R own_tie C (x ∷ xs) i j a =
     ⊎_elim

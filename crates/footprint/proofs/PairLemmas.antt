@@ -36,7 +36,7 @@ module _ (a b : Foot) (places : List Place) where
   AtEntry e = AtObject b places e.0 e.1
 
   said_or : (e : ObjName × State) (es : List (ObjName × State)) (i : Item) →
-    said_by (listed (e ∷ es)) i ≡ (said_by (only_at e.0 e.1) i || said_by (listed es) i)
+      said_by (listed (e ∷ es)) i ≡ (said_by (only_at e.0 e.1) i || said_by (listed es) i)
   said_or e es (Born x) = refl
   said_or e es (Dies x) = refl
   said_or e es (Alive x) = refl
@@ -44,7 +44,7 @@ module _ (a b : Foot) (places : List Place) where
   said_or e es _ = refl
 
   entries_is : (es : List (ObjName × State)) (i j : Item) → said_by (listed es) i ≡ true → holds b j ≡ true → items_conflict (stands_at places) i j ≡ true →
-    AnyOf AtEntry es i j
+      AnyOf AtEntry es i j
   unfolding AtEntry
   entries_is [] i j h hj hc = absurd (nothing_said i h)
     where
@@ -67,7 +67,7 @@ module _ (a b : Foot) (places : List Place) where
   or_second false q h = h
 
   entries_from : (es : List (ObjName × State)) (i j : Item) → AnyOf AtEntry es i j → (said_by (listed es) i ≡ true) × (holds b j ≡ true) ×
-    (items_conflict (stands_at places) i j ≡ true)
+      (items_conflict (stands_at places) i j ≡ true)
   unfolding AtEntry
   entries_from [] i j h = absurd h
   entries_from (e ∷ es) i j (inl h) = (said_or e es i ∙ or_first _ _ h.0, h.1, h.2)
@@ -89,7 +89,7 @@ module _ (a b : Foot) (places : List Place) where
     said_state f _ h = absurd (let c : false ≡ true = h in cc)
 
     pub states_least : (rows : List Row) (o : Option (Item × Item)) →
-      IsLeast rows (AnyOf (λ (e : ObjName × State). AtObject b places e.0 e.1) a.states.entries) o → IsLeast rows (ConflictOf is_state a b places) o
+        IsLeast rows (AnyOf (λ (e : ObjName × State). AtObject b places e.0 e.1) a.states.entries) o → IsLeast rows (ConflictOf is_state a b places) o
     unfolding AtEntry
     states_least rows o h =
         alike rows (AnyOf AtEntry a.states.entries) (ConflictOf is_state a b places) o
@@ -109,10 +109,10 @@ module _ (a b : Foot) (places : List Place) where
   unfolding Beside
   beside_least rows k None = λ i j h. h
   beside_least rows k (Some x) = both rows _ _ _ _ (single rows (state_in b.states x).dies (Lookup k) (Dies x))
-    (single rows (state_in b.states x).expose (Lookup k) (Expose x))
+      (single rows (state_in b.states x).expose (Lookup k) (Expose x))
 
   dies_at : (k : ℕ) (o : Option ObjName) (y : ObjName) (i : Item) → i ≡ Lookup k → (state_in b.states y).dies ≡ true → is_object o y ≡ true →
-    Beside k o i (Dies y)
+      Beside k o i (Dies y)
   unfolding Beside
   dies_at k None y i e h at = absurd (let c : false ≡ true = at in cc)
   dies_at k (Some x) y i e h at =
@@ -120,7 +120,7 @@ module _ (a b : Foot) (places : List Place) where
       inl (subst (λ (z : ObjName). (state_in b.states z).dies ≡ true) (sym own) h, e, (λ t. Dies (sym own t)))
 
   expose_at : (k : ℕ) (o : Option ObjName) (y : ObjName) (i : Item) → i ≡ Lookup k → (state_in b.states y).expose ≡ true → is_object o y ≡ true →
-    Beside k o i (Expose y)
+      Beside k o i (Expose y)
   unfolding Beside
   expose_at k None y i e h at = absurd (let c : false ≡ true = at in cc)
   expose_at k (Some x) y i e h at =
@@ -139,9 +139,12 @@ module _ (a b : Foot) (places : List Place) where
   lookup_is k i _ h = absurd (let c : false ≡ true = h.2 in cc)
 
   of_single : (k : ℕ) (c : Bool) (q : Item) (i j : Item) → Single c (Lookup k) q i j →
-    (c ≡ true → holds b q ≡ true) → items_conflict (stands_at places) (Lookup k) q ≡ true → OneLookup k i j
-  of_single k c q i j h hold conf = (h.1, subst (λ (r : Item). holds b r ≡ true) (sym h.2) (hold h.0),
-    subst (λ (r : Item). items_conflict (stands_at places) (Lookup k) r ≡ true) (sym h.2) conf)
+      (c ≡ true → holds b q ≡ true) → items_conflict (stands_at places) (Lookup k) q ≡ true → OneLookup k i j
+  of_single k c q i j h hold conf = (
+    h.1,
+    subst (λ (r : Item). holds b r ≡ true) (sym h.2) (hold h.0),
+    subst (λ (r : Item). items_conflict (stands_at places) (Lookup k) r ≡ true) (sym h.2) conf,
+  )
 
   from_beside : (k : ℕ) (o : Option ObjName) (i j : Item) → ((x : ObjName) → o ≡ Some x → stands_at places x k ≡ true) → Beside k o i j → OneLookup k i j
   unfolding Beside
@@ -157,12 +160,12 @@ module _ (a b : Foot) (places : List Place) where
   lookup_from k i j (inr h) = from_beside k (past places k) i j (λ x e. or_second (is_object (covers places k) x) _ (is_own _ x e)) h
 
   pub one_lookup : (rows : List Row) (k : ℕ) (inside behind : Option ObjName) (p q o : Option (Item × Item)) → inside ≡ covers places k →
-    behind ≡ past places k → p ≡ beside rows k b inside → q ≡ beside rows k b behind → o ≡ lesser rows p q → IsLeast rows (OneLookup k) o
+      behind ≡ past places k → p ≡ beside rows k b inside → q ≡ beside rows k b behind → o ≡ lesser rows p q → IsLeast rows (OneLookup k) o
   one_lookup rows k inside behind p q o ei eb ep eq eo =
       subst (λ (r : Option (Item × Item)). IsLeast rows (OneLookup k) r)
       (sym (eo ∙ (λ t. lesser rows ((ep ∙ (λ l. beside rows k b (ei l))) t) ((eq ∙ (λ l. beside rows k b (eb l))) t))))
       (alike rows _ (OneLookup k) _ (lookup_from k) (lookup_is k)
-        (both rows (Beside k (covers places k)) (Beside k (past places k)) _ _ (beside_least rows k (covers places k)) (beside_least rows k (past places k))))
+      (both rows (Beside k (covers places k)) (Beside k (past places k)) _ _ (beside_least rows k (covers places k)) (beside_least rows k (past places k))))
 
   lookups_is : (i j : Item) → ConflictOf is_lookup a b places i j → AnyOf OneLookup a.lookups.keys i j
   lookups_is (Lookup k) j h = any_in exact_unsigned OneLookup k a.lookups.keys (Lookup k) j h.1 (refl, h.2, h.3)
@@ -174,7 +177,7 @@ module _ (a b : Foot) (places : List Place) where
       subst (λ (k : Item). ConflictOf is_lookup a b places k j) (sym f.2.0) (refl, f.1, f.2.1, f.2.2)
 
   pub lookups_least : (rows : List Row) (o : Option (Item × Item)) → IsLeast rows (AnyOf OneLookup a.lookups.keys) o →
-    IsLeast rows (ConflictOf is_lookup a b places) o
+      IsLeast rows (ConflictOf is_lookup a b places) o
   lookups_least rows o h = alike rows (AnyOf OneLookup a.lookups.keys) (ConflictOf is_lookup a b places) o lookups_from lookups_is h
 
 -- ---- settled ambiguities
@@ -189,11 +192,11 @@ module _ (b : Foot) (d : Event) (x : ObjName) where
   OtherKeep m i j = (i ≡ Narrow d x) × (j ≡ Narrow m.0 m.1) × ((same_event d m.0 && not (same_object x m.1)) ≡ true)
 
   pub other_least : (rows : List Row) (m : Event × ObjName) (c : Bool) (o : Option (Item × Item)) → c ≡ (same_event d m.0 && not (same_object x m.1)) →
-    o ≡ when c (Narrow d x) (Narrow m.0 m.1) → IsLeast rows (OtherKeep m) o
+      o ≡ when c (Narrow d x) (Narrow m.0 m.1) → IsLeast rows (OtherKeep m) o
   other_least rows m c o ec eo =
       subst (λ (r : Option (Item × Item)). IsLeast rows (OtherKeep m) r) (sym (eo ∙ (λ t. when (ec t) (Narrow d x) (Narrow m.0 m.1))))
       (alike rows (Single (same_event d m.0 && not (same_object x m.1)) (Narrow d x) (Narrow m.0 m.1)) (OtherKeep m) _ (λ i j h. (h.1, h.2, h.0))
-        (λ i j h. (h.2, h.0, h.1)) (single rows _ (Narrow d x) (Narrow m.0 m.1)))
+      (λ i j h. (h.2, h.0, h.1)) (single rows _ (Narrow d x) (Narrow m.0 m.1)))
 
   turned_settles : (e : Event) (y : ObjName) → (same_event e d && not (same_object y x)) ≡ true → (same_event d e && not (same_object x y)) ≡ true
   turned_settles e y h =
@@ -247,7 +250,7 @@ module _ (a b : Foot) where
       subst (λ (k : Item). NarrowIn a b k j) (sym f.2.0) (refl, f.1, f.2.1, subst (λ (k : Item). items_conflict (λ z n. true) k j ≡ true) f.2.0 f.2.2)
 
   pub narrows_least : (rows : List Row) (o : Option (Item × Item)) → IsLeast rows (AnyOf (λ (m : Event × ObjName). SettledIn b m.0 m.1) a.narrows.keys) o →
-    IsLeast rows (NarrowIn a b) o
+      IsLeast rows (NarrowIn a b) o
   unfolding OneNarrow
   narrows_least rows o h = alike rows (AnyOf OneNarrow a.narrows.keys) (NarrowIn a b) o narrows_from narrows_is h
 
@@ -255,7 +258,7 @@ module _ (a b : Foot) where
 module _ (a b : Foot) (places : List Place) where
   Streams : Item → Item → Type 0
   Streams i j = ((Single (a.input && b.input) Input Input i j ⊎ Single (a.output && b.output) Output Output i j) ⊎
-    Single (a.ending && b.any) Ending Any i j) ⊎ Single (a.any && b.ending) Any Ending i j
+      Single (a.ending && b.any) Ending Any i j) ⊎ Single (a.any && b.ending) Any Ending i j
 
   streams_is : (i j : Item) → ConflictOf is_stream a b places i j → Streams i j
   unfolding Streams
@@ -270,10 +273,10 @@ module _ (a b : Foot) (places : List Place) where
   streams_is _ j h = absurd (let t : false ≡ true = h.0 in cc)
 
   of_stream : (c d : Bool) (p q i j : Item) → is_stream p ≡ true → items_conflict (stands_at places) p q ≡ true → (c ≡ true → holds a p ≡ true) →
-    (d ≡ true → holds b q ≡ true) → Single (c && d) p q i j → ConflictOf is_stream a b places i j
+      (d ≡ true → holds b q ≡ true) → Single (c && d) p q i j → ConflictOf is_stream a b places i j
   of_stream c d p q i j st conf hp hq h =
       subst (λ (r : Item × Item). ConflictOf is_stream a b places r.0 r.1) (λ t. (sym h.1 t, sym h.2 t))
-        (st, hp (and_left c d h.0), hq (and_right c d h.0), conf)
+      (st, hp (and_left c d h.0), hq (and_right c d h.0), conf)
 
   streams_from : (i j : Item) → Streams i j → ConflictOf is_stream a b places i j
   unfolding Streams
@@ -288,7 +291,7 @@ module _ (a b : Foot) (places : List Place) where
       alike rows Streams (ConflictOf is_stream a b places) _ streams_from streams_is
       (both rows _ _ _ _
       (three rows _ _ _ _ _ _ (single rows (a.input && b.input) Input Input) (single rows (a.output && b.output) Output Output)
-        (single rows (a.ending && b.any) Ending Any))
+      (single rows (a.ending && b.any) Ending Any))
       (single rows (a.any && b.ending) Any Ending))
 
   pub access_from : (i j : Item) → RaceIn a b i j → ConflictIn a b places i j
@@ -320,7 +323,7 @@ module _ (a b : Foot) (places : List Place) where
 
   All : Item → Item → Type 0
   All i j = ((RaceIn a b i j ⊎ ConflictOf is_state a b places i j) ⊎ (ConflictOf is_lookup a b places i j ⊎ NarrowIn a b i j)) ⊎
-    ConflictOf is_stream a b places i j
+      ConflictOf is_stream a b places i j
 
   all_is : (i j : Item) → ConflictIn a b places i j → All i j
   unfolding All
@@ -346,7 +349,7 @@ module _ (a b : Foot) (places : List Place) where
   all_from i j (inr h) = (h.1, h.2, h.3)
 
   pub all_least : (rows : List Row) (p s l n f u v o : Option (Item × Item)) → IsLeast rows (RaceIn a b) p → IsLeast rows (ConflictOf is_state a b places) s →
-    IsLeast rows (ConflictOf is_lookup a b places) l → IsLeast rows (NarrowIn a b) n → f ≡ stream_pair rows a b
+      IsLeast rows (ConflictOf is_lookup a b places) l → IsLeast rows (NarrowIn a b) n → f ≡ stream_pair rows a b
       → u ≡ lesser rows p s → v ≡ lesser rows l n → o ≡ least_of_three rows u v f → IsLeast rows (ConflictIn a b places) o
   unfolding All
   all_least rows p s l n f u v o hp hs hl hn ef eu ev eo =

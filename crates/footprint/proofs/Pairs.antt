@@ -59,5 +59,20 @@ apart x y differ = apart_by (same_object x y) x y refl differ
 pub narrowed_apart : (e : Event) (x y : ObjName) → not (same_object x y) ≡ true → MayConflict (Narrow e x) (Narrow e y)
 narrowed_apart e x y differ = rw (same_event_refl e, differ) refl
 
-pub ruleset pairs = (read_written, written_read, written_twice, born_dies, born_alive, born_expose, dies_born, dies_dies, dies_alive, alive_born, alive_dies,
-  expose_born, same_object_refl, apart, narrowed_apart)
+pub ruleset pairs = (
+  read_written,
+  written_read,
+  written_twice,
+  born_dies,
+  born_alive,
+  born_expose,
+  dies_born,
+  dies_dies,
+  dies_alive,
+  alive_born,
+  alive_dies,
+  expose_born,
+  same_object_refl,
+  apart,
+  narrowed_apart,
+)

@@ -39,7 +39,7 @@ twice Equal = refl
 twice Greater = refl
 
 module _ (rows : List Row) (f g : ObjName → ℕ → Item) (by_f : (x y : ObjName) (i j : ℕ) → item_cmp rows (f x i) (f y j) ≡ byte_cmp rows (x, i) (y, j))
-  (by_g : (x y : ObjName) (i j : ℕ) → item_cmp rows (g x i) (g y j) ≡ byte_cmp rows (x, i) (y, j)) where
+    (by_g : (x y : ObjName) (i j : ℕ) → item_cmp rows (g x i) (g y j) ≡ byte_cmp rows (x, i) (y, j)) where
   pairs_by_byte : (x y : ObjName) (i j : ℕ) → pair_cmp rows (f x i, g x i) (f y j, g y j) ≡ byte_cmp rows (x, i) (y, j)
   pairs_by_byte x y i j = (λ k. ordering_then (by_f x y i j k) (by_g x y i j k)) ∙ twice (byte_cmp rows (x, i) (y, j))
 
@@ -82,13 +82,18 @@ module _ (a b : Foot) where
   Ww = Shared a.writes.ends.entries b.writes.ends.entries write_at write_at
 
   shared_of : (rs ss : List ((ObjName × ℕ) × ℕ)) (f g : ObjName → ℕ → ℕ → Item) (x y : ObjName) (i k n m : ℕ) → ((n == 1) && has_byte rs x i) ≡ true →
-    ((m == 1) && has_byte ss y k) ≡ true → (n ≡ 1 → m ≡ 1 → (x ≡ y) × (i ≡ k)) → Shared rs ss (λ z l. f z l 1) (λ z l. g z l 1) (f x i n) (g y k m)
+      ((m == 1) && has_byte ss y k) ≡ true → (n ≡ 1 → m ≡ 1 → (x ≡ y) × (i ≡ k)) → Shared rs ss (λ z l. f z l 1) (λ z l. g z l 1) (f x i n) (g y k m)
   shared_of rs ss f g x y i k n m hr hs at =
       let r = one_byte n _ hr in
       let s = one_byte m _ hs in
-      let same = at r.0 s.0 in
-      (x, i, r.1, subst (λ (z : ObjName). has_byte ss z i ≡ true) (sym same.0) (subst (λ (l : ℕ). has_byte ss y l ≡ true) (sym same.1) s.1),
-        (λ t. f x i (r.0 t)), (λ t. g (sym same.0 t) (sym same.1 t) (s.0 t)))
+      let same = at r.0 s.0 in (
+        x,
+        i,
+        r.1,
+        subst (λ (z : ObjName). has_byte ss z i ≡ true) (sym same.0) (subst (λ (l : ℕ). has_byte ss y l ≡ true) (sym same.1) s.1),
+        (λ t. f x i (r.0 t)),
+        (λ t. g (sym same.0 t) (sym same.1 t) (s.0 t)),
+      )
 
   place_of : (x y : ObjName) (i k n m : ℕ) → (same_object x y && overlap i n k m) ≡ true → n ≡ 1 → m ≡ 1 → (x ≡ y) × (i ≡ k)
   place_of x y i k n m h en em =
@@ -101,7 +106,7 @@ module _ (a b : Foot) where
       (sym (same_object_is y x (and_left _ _ h)), turned_place i k ((λ t. overlap k (sym em t) i (sym en t)) ∙ over))
 
   either_of : (x y : ObjName) (i k n m : ℕ) (p q : Bool) → (same_object x y && overlap i n k m) ≡ p → (same_object y x && overlap k m i n) ≡ q →
-    (p || q) ≡ true → n ≡ 1 → m ≡ 1 → (x ≡ y) × (i ≡ k)
+      (p || q) ≡ true → n ≡ 1 → m ≡ 1 → (x ≡ y) × (i ≡ k)
   either_of x y i k n m true q hp hq h = place_of x y i k n m hp
   either_of x y i k n m false q hp hq h = turned_of x y i k n m (hq ∙ h)
 
@@ -109,12 +114,12 @@ module _ (a b : Foot) where
   unfolding Rw Wr Ww
   race_is (Read x i n) (Read y k m) h = absurd (let c : false ≡ true = h.4 in cc)
   race_is (Read x i n) (Write y k m) h = inl
-    (inl (shared_of a.reads.ends.entries b.writes.ends.entries Read Write x y i k n m h.0 h.1 (turned_of x y i k n m h.4)))
+      (inl (shared_of a.reads.ends.entries b.writes.ends.entries Read Write x y i k n m h.0 h.1 (turned_of x y i k n m h.4)))
   race_is (Read x i n) _ h = absurd (cc)
   race_is (Write x i n) (Read y k m) h = inl
-    (inr (shared_of a.writes.ends.entries b.reads.ends.entries Write Read x y i k n m h.0 h.1 (place_of x y i k n m (or_self _ h.4))))
+      (inr (shared_of a.writes.ends.entries b.reads.ends.entries Write Read x y i k n m h.0 h.1 (place_of x y i k n m (or_self _ h.4))))
   race_is (Write x i n) (Write y k m) h = inr
-    (shared_of a.writes.ends.entries b.writes.ends.entries Write Write x y i k n m h.0 h.1 (either_of x y i k n m _ _ refl refl h.4))
+      (shared_of a.writes.ends.entries b.writes.ends.entries Write Write x y i k n m h.0 h.1 (either_of x y i k n m _ _ refl refl h.4))
   race_is (Write x i n) _ h = absurd (cc)
   race_is _ j h = absurd (cc)
 
@@ -125,7 +130,7 @@ module _ (a b : Foot) where
   race_from i j (inr s) = subst (λ (p : Item × Item). RaceIn a b p.0 p.1) (λ t. (sym s.4 t, sym s.5 t)) (s.2, s.3, refl, refl, written_twice s.0 s.1)
 
   pub least_race : (rows : List Row) (first second third : Option Byte) → IsLeastShared rows a.reads.ends.entries b.writes.ends.entries first →
-    IsLeastShared rows a.writes.ends.entries b.reads.ends.entries second → IsLeastShared rows a.writes.ends.entries b.writes.ends.entries third
+      IsLeastShared rows a.writes.ends.entries b.reads.ends.entries second → IsLeastShared rows a.writes.ends.entries b.writes.ends.entries third
       → IsLeast rows (RaceIn a b) (lesser rows (lesser rows (paired read_at write_at first) (paired write_at read_at second)) (paired write_at write_at third))
   unfolding Rw Wr Ww
   least_race rows first second third hf hs ht =
@@ -141,13 +146,13 @@ race_may a b rows None h = tt
 race_may a b rows (Some p) h = h.0.4
 
 pub race_found : (a b : Foot) (rows : List Row) (first second third : Option Byte) (p q r s o : Option (Item × Item)) →
-  IsLeastShared rows a.reads.ends.entries b.writes.ends.entries first → IsLeastShared rows a.writes.ends.entries b.reads.ends.entries second →
-  IsLeastShared rows a.writes.ends.entries b.writes.ends.entries third
+    IsLeastShared rows a.reads.ends.entries b.writes.ends.entries first → IsLeastShared rows a.writes.ends.entries b.reads.ends.entries second →
+    IsLeastShared rows a.writes.ends.entries b.writes.ends.entries third
     → p ≡ paired read_at write_at first → q ≡ paired write_at read_at second → r ≡ paired write_at write_at third → s ≡ lesser rows p q →
-      o ≡ lesser rows s r → IsLeast rows (RaceIn a b) o
+    o ≡ lesser rows s r → IsLeast rows (RaceIn a b) o
 race_found a b rows first second third p q r s o hf hs ht ep eq er es eo =
     subst (λ (x : Option (Item × Item)). IsLeast rows (RaceIn a b) x) (sym (eo ∙ (λ i. lesser rows ((es ∙ (λ k. lesser rows (ep k) (eq k))) i) (er i))))
-      (least_race a b rows first second third hf hs ht)
+    (least_race a b rows first second third hf hs ht)
 
 -- ---- whether some do
 module _ (a b : Foot) where
@@ -162,7 +167,7 @@ module _ (a b : Foot) where
 
   -- where the other two sets of bytes have none in common
   pub only_read : (p q r : Bool) → IsTrue p ↔ Meet a.writes.ends.entries b.writes.ends.entries → IsTrue q ↔ Meet a.writes.ends.entries b.reads.ends.entries →
-    IsTrue r ↔ Meet a.reads.ends.entries b.writes.ends.entries → p ≡ false → q ≡ false → SomeRace a b → IsTrue r
+      IsTrue r ↔ Meet a.reads.ends.entries b.writes.ends.entries → p ≡ false → q ≡ false → SomeRace a b → IsTrue r
   unfolding Rw Wr Ww
   only_read p q r hp hq hr np nq s =
       ⊎_elim
@@ -174,6 +179,6 @@ module _ (a b : Foot) where
       (race_is a b s.0 s.1 s.2)
 
 pub race_accesses : (a b : Foot) (rows : List Row) (o : Option (Item × Item)) → IsLeast rows (RaceIn a b) o →
-  IfSome o (λ p. (is_access p.0 ≡ true) × (is_access p.1 ≡ true))
+    IfSome o (λ p. (is_access p.0 ≡ true) × (is_access p.1 ≡ true))
 race_accesses a b rows None h = tt
 race_accesses a b rows (Some p) h = (h.0.2, h.0.3)

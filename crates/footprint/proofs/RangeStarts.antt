@@ -55,17 +55,17 @@ pub first_of_or : (a b : Bool) → a ≡ true → (a || b) ≡ true
 first_of_or a b h = ap (λ c. c || b) h
 
 found_step : (b : Bool) (r : (ObjName × ℕ) × ℕ) (rs : List ((ObjName × ℕ) × ℕ)) (x : ObjName) (f e i : ℕ) → is_at (start_cmp (x, f)) r.0 ≡ b →
-  cond b (Some r.1) (lookup (is_at (start_cmp (x, f))) rs) ≡ Some e → f ≤ i → i < e
+    cond b (Some r.1) (lookup (is_at (start_cmp (x, f))) rs) ≡ Some e → f ≤ i → i < e
     → (lookup (is_at (start_cmp (x, f))) rs ≡ Some e → has_byte rs x i ≡ true) → (range_has r x i || has_byte rs x i) ≡ true
 found_step true r rs x f e i t h le lt more =
     let key : (x, f) ≡ r.0 = start_exact (x, f) r.0 (is_equal _ t) in
     let end : r.1 ≡ e = cc in
     first_of_or (range_has r x i) (has_byte rs x i)
-      (subst (λ (q : (ObjName × ℕ) × ℕ). range_has q x i ≡ true) (λ j. (key j, sym end j)) (in_own x f e i le lt))
+    (subst (λ (q : (ObjName × ℕ) × ℕ). range_has q x i ≡ true) (λ j. (key j, sym end j)) (in_own x f e i le lt))
 found_step false r rs x f e i t h le lt more = or_true (range_has r x i) (has_byte rs x i) (more h)
 
 pub has_from_found : (rs : List ((ObjName × ℕ) × ℕ)) (x : ObjName) (f e i : ℕ) → lookup (is_at (start_cmp (x, f))) rs ≡ Some e → f ≤ i → i < e →
-  has_byte rs x i ≡ true
+    has_byte rs x i ≡ true
 has_from_found [] x f e i h le lt = absurd (cc)
 has_from_found (r ∷ rs) x f e i h le lt =
     found_step (is_at (start_cmp (x, f)) r.0) r rs x f e i refl h le lt (λ g. has_from_found rs x f e i g le lt)
@@ -79,7 +79,7 @@ or_split false b h f g = g h
 
 -- a range that has the byte is among those of which something is true
 entry_of : (P : (ObjName × ℕ) × ℕ → Type 0) (rs : List ((ObjName × ℕ) × ℕ)) (x : ObjName) (i : ℕ) → All P rs → has_byte rs x i ≡ true →
-  (r : (ObjName × ℕ) × ℕ) × P r × (range_has r x i ≡ true)
+    (r : (ObjName × ℕ) × ℕ) × P r × (range_has r x i ≡ true)
 entry_of P [] x i all h = absurd (cc)
 entry_of P (r ∷ rs) x i all h =
     or_split (range_has r x i) (has_byte rs x i) h (λ t. (r, All-head P r rs all, t)) (λ t. entry_of P rs x i (All-tail P r rs all) t)
@@ -125,7 +125,7 @@ some_of o e h = subst (λ (p : Option ℕ). IsSome p) (sym h) refl
 
 -- a key of another object
 other_key : (k : ObjName × ℕ) (x : ObjName) (f i : ℕ) (o : Ordering) → object_cmp k.0 x ≡ o → (k.0 ≡ x → ⊥) → is_gt (start_cmp k (x, i)) ≡ false →
-  start_cmp k (x, f) ≡ Less
+    start_cmp k (x, f) ≡ Less
 other_key k x f i Less e apart h = ap (λ p. ordering_then p (nat_cmp k.1 f)) e
 other_key k x f i Equal e apart h = absurd (apart (object_exact k.0 x e))
 other_key k x f i Greater e apart h =
@@ -133,7 +133,7 @@ other_key k x f i Greater e apart h =
     absurd (cc)
 
 other_key_behind : (k : ObjName × ℕ) (x : ObjName) (f i : ℕ) (o : Ordering) → object_cmp k.0 x ≡ o → (k.0 ≡ x → ⊥) → is_gt (start_cmp (x, i) k) ≡ false →
-  start_cmp k (x, f) ≡ Greater
+    start_cmp k (x, f) ≡ Greater
 other_key_behind k x f i Greater e apart h = ap (λ p. ordering_then p (nat_cmp k.1 f)) e
 other_key_behind k x f i Equal e apart h = absurd (apart (object_exact k.0 x e))
 other_key_behind k x f i Less e apart h =
@@ -147,22 +147,22 @@ pub record LastFacts (ends : BTreeMap (ObjName × ℕ) ℕ) (x : ObjName) (i : �
   pub last : (f g : ℕ) → f ≤ i → end_at ends x f ≡ Some g → f ≤ e.0.1
 
 pub last_none : (ends : BTreeMap (ObjName × ℕ) ℕ) (x : ObjName) (i : ℕ) (r : List ((ObjName × ℕ) × ℕ)) →
-  IsRangeOf start_cmp Unbounded (Included (x, i)) ends r → r ≡ [] → (f : ℕ) → f ≤ i → end_at ends x f ≡ None
+    IsRangeOf start_cmp Unbounded (Included (x, i)) ends r → r ≡ [] → (f : ℕ) → f ≤ i → end_at ends x f ≡ None
 last_none ends x i r h empty f le = h.5 empty (x, f) (tt, up_to x f i le)
 
 pub last_own : (ends : BTreeMap (ObjName × ℕ) ℕ) (x : ObjName) (i : ℕ) (r t : List ((ObjName × ℕ) × ℕ)) (e : (ObjName × ℕ) × ℕ) →
-  IsRangeOf start_cmp Unbounded (Included (x, i)) ends r → r ≡ t ++ e ∷ [] → e.0.0 ≡ x → LastFacts ends x i e
+    IsRangeOf start_cmp Unbounded (Included (x, i)) ends r → r ≡ t ++ e ∷ [] → e.0.0 ≡ x → LastFacts ends x i e
 last_own ends x i r t e h is own =
     let here = h.3 e t is in
     record {
       early = not_more x e.0.1 i (subst (λ (y : ObjName). is_gt (start_cmp (y, e.0.1) (x, i)) ≡ false) own here.0.1);
       found = subst (λ (y : ObjName). end_at ends y e.0.1 ≡ Some e.1) own here.1;
       last = λ f g le got. not_less x e.0.1 f (subst (λ (y : ObjName). is_lt (start_cmp (y, e.0.1) (x, f)) ≡ false) own
-        (h.4 e t is (x, f) (tt, up_to x f i le) (some_of _ g got)));
+          (h.4 e t is (x, f) (tt, up_to x f i le) (some_of _ g got)));
     }
 
 pub last_other : (ends : BTreeMap (ObjName × ℕ) ℕ) (x : ObjName) (i : ℕ) (r t : List ((ObjName × ℕ) × ℕ)) (e : (ObjName × ℕ) × ℕ) →
-  IsRangeOf start_cmp Unbounded (Included (x, i)) ends r → r ≡ t ++ e ∷ [] → (e.0.0 ≡ x → ⊥) → (f : ℕ) → f ≤ i → end_at ends x f ≡ None
+    IsRangeOf start_cmp Unbounded (Included (x, i)) ends r → r ≡ t ++ e ∷ [] → (e.0.0 ≡ x → ⊥) → (f : ℕ) → f ≤ i → end_at ends x f ≡ None
 last_other ends x i r t e h is apart f le =
     none_unless (end_at ends x f) (λ some.
     let less : start_cmp e.0 (x, f) ≡ Less = other_key e.0 x f i (object_cmp e.0.0 x) refl apart (h.3 e t is).0.1 in
@@ -176,32 +176,32 @@ pub record NextFacts (ends : BTreeMap (ObjName × ℕ) ℕ) (x : ObjName) (i : �
   pub first : (f g : ℕ) → i ≤ f → end_at ends x f ≡ Some g → e.0.1 ≤ f
 
 pub next_none : (ends : BTreeMap (ObjName × ℕ) ℕ) (x : ObjName) (i : ℕ) (r : List ((ObjName × ℕ) × ℕ)) →
-  IsRangeOf start_cmp (Included (x, i)) Unbounded ends r → r ≡ [] → (f : ℕ) → i ≤ f → end_at ends x f ≡ None
+    IsRangeOf start_cmp (Included (x, i)) Unbounded ends r → r ≡ [] → (f : ℕ) → i ≤ f → end_at ends x f ≡ None
 next_none ends x i r h empty f le = h.5 empty (x, f) (up_to x i f le, tt)
 
 next_here : (ends : BTreeMap (ObjName × ℕ) ℕ) (x : ObjName) (i : ℕ) (r t : List ((ObjName × ℕ) × ℕ)) (e : (ObjName × ℕ) × ℕ) →
-  IsRangeOf start_cmp (Included (x, i)) Unbounded ends r → r ≡ e ∷ t → IsEntryInRange start_cmp (Included (x, i)) Unbounded ends e
+    IsRangeOf start_cmp (Included (x, i)) Unbounded ends r → r ≡ e ∷ t → IsEntryInRange start_cmp (Included (x, i)) Unbounded ends e
 next_here ends x i r t e h is =
     subst (λ (s : List ((ObjName × ℕ) × ℕ)). IfSome (slice_get s 0) (IsEntryInRange start_cmp (Included (x, i)) Unbounded ends)) is h.1
 
 next_least : (ends : BTreeMap (ObjName × ℕ) ℕ) (x : ObjName) (i : ℕ) (r t : List ((ObjName × ℕ) × ℕ)) (e : (ObjName × ℕ) × ℕ) →
-  IsRangeOf start_cmp (Included (x, i)) Unbounded ends r → r ≡ e ∷ t → (f : ℕ) → i ≤ f → IsSome (end_at ends x f) → is_gt (start_cmp e.0 (x, f)) ≡ false
+    IsRangeOf start_cmp (Included (x, i)) Unbounded ends r → r ≡ e ∷ t → (f : ℕ) → i ≤ f → IsSome (end_at ends x f) → is_gt (start_cmp e.0 (x, f)) ≡ false
 next_least ends x i r t e h is f le some =
     subst (λ (s : List ((ObjName × ℕ) × ℕ)). IfSome (slice_get s 0) (λ d. is_gt (start_cmp d.0 (x, f)) ≡ false)) is (h.2 (x, f) (up_to x i f le, tt) some)
 
 pub next_own : (ends : BTreeMap (ObjName × ℕ) ℕ) (x : ObjName) (i : ℕ) (r t : List ((ObjName × ℕ) × ℕ)) (e : (ObjName × ℕ) × ℕ) →
-  IsRangeOf start_cmp (Included (x, i)) Unbounded ends r → r ≡ e ∷ t → e.0.0 ≡ x → NextFacts ends x i e
+    IsRangeOf start_cmp (Included (x, i)) Unbounded ends r → r ≡ e ∷ t → e.0.0 ≡ x → NextFacts ends x i e
 next_own ends x i r t e h is own =
     let here = next_here ends x i r t e h is in
     record {
       late = not_more x i e.0.1 (subst (λ (y : ObjName). is_gt (start_cmp (x, i) (y, e.0.1)) ≡ false) own here.0.0);
       found = subst (λ (y : ObjName). end_at ends y e.0.1 ≡ Some e.1) own here.1;
       first = λ f g le got. not_more x e.0.1 f
-        (subst (λ (y : ObjName). is_gt (start_cmp (y, e.0.1) (x, f)) ≡ false) own (next_least ends x i r t e h is f le (some_of _ g got)));
+          (subst (λ (y : ObjName). is_gt (start_cmp (y, e.0.1) (x, f)) ≡ false) own (next_least ends x i r t e h is f le (some_of _ g got)));
     }
 
 pub next_other : (ends : BTreeMap (ObjName × ℕ) ℕ) (x : ObjName) (i : ℕ) (r t : List ((ObjName × ℕ) × ℕ)) (e : (ObjName × ℕ) × ℕ) →
-  IsRangeOf start_cmp (Included (x, i)) Unbounded ends r → r ≡ e ∷ t → (e.0.0 ≡ x → ⊥) → (f : ℕ) → i ≤ f → end_at ends x f ≡ None
+    IsRangeOf start_cmp (Included (x, i)) Unbounded ends r → r ≡ e ∷ t → (e.0.0 ≡ x → ⊥) → (f : ℕ) → i ≤ f → end_at ends x f ≡ None
 next_other ends x i r t e h is apart f le =
     none_unless (end_at ends x f) (λ some.
     let here = next_here ends x i r t e h is in

@@ -1,6 +1,35 @@
 -- The bytes of ranges after a change.
-use Rattle.std.proofs.Common.{◌≡◌, ◌⊎◌, inl, inr, ⊎_elim, ℕ, ◌+◌, ◌<◌, ◌≤◌, Bool, true, false, cond, not, ◌&&◌, ◌||◌, refl, sym, ap, ◌∙◌, subst, arith, List,
-  [], ◌∷◌, Some, None, Option, IsTrue}
+use Rattle.std.proofs.Common.{
+  ◌≡◌,
+  ◌⊎◌,
+  inl,
+  inr,
+  ⊎_elim,
+  ℕ,
+  ◌+◌,
+  ◌<◌,
+  ◌≤◌,
+  Bool,
+  true,
+  false,
+  cond,
+  not,
+  ◌&&◌,
+  ◌||◌,
+  refl,
+  sym,
+  ap,
+  ◌∙◌,
+  subst,
+  arith,
+  List,
+  [],
+  ◌∷◌,
+  Some,
+  None,
+  Option,
+  IsTrue,
+}
 use Rattle.std.specs.Prelude.{nat_lt, nat_le, ◌==◌, ◌^◌, Result, Ok, Err, OnOk, OnErr}
 use Rattle.std.specs.Cmp.{both_ways}
 use Rattle.std.specs.Map.{lookup}
@@ -17,7 +46,7 @@ use Rattle.footprint.proofs.Removals.{begins_own, begins_is}
 
 -- a range of the new ones is the joined one or an old one
 joined_or : (a b : Bool) (old : BTreeMap (ObjName × ℕ) ℕ) (x : ObjName) (from end : ℕ) (y : ObjName) (f e : ℕ) (o : Option ℕ) →
-  (same_object x y && (f == from)) ≡ a → begins_in x from end y f ≡ b → o ≡ cond a (Some end) (cond b None (end_at old y f)) → o ≡ Some e
+    (same_object x y && (f == from)) ≡ a → begins_in x from end y f ≡ b → o ≡ cond a (Some end) (cond b None (end_at old y f)) → o ≡ Some e
     → ((x ≡ y) × (f ≡ from) × (e ≡ end)) ⊎ ((begins_in x from end y f ≡ false) × (end_at old y f ≡ Some e))
 joined_or true b old x from end y f e o ha hb h got =
     let at : (f == from) ≡ true = and_right (same_object x y) _ ha in
@@ -27,7 +56,7 @@ joined_or false false old x from end y f e o ha hb h got = inr (hb, sym h ∙ go
 
 module _ (old new : BTreeMap (ObjName × ℕ) ℕ) (x : ObjName) (from end : ℕ) (j : Joins old new x from end) where
   range_of : (y : ObjName) (f e : ℕ) → end_at new y f ≡ Some e → ((x ≡ y) × (f ≡ from) × (e ≡ end)) ⊎
-    ((begins_in x from end y f ≡ false) × (end_at old y f ≡ Some e))
+      ((begins_in x from end y f ≡ false) × (end_at old y f ≡ Some e))
   range_of y f e got = joined_or _ _ old x from end y f e (end_at new y f) refl refl (j y f) got
 
   here : end_at new x from ≡ Some end
@@ -36,13 +65,13 @@ module _ (old new : BTreeMap (ObjName × ℕ) ℕ) (x : ObjName) (from end : ℕ
       j x from ∙ ap (λ b. cond b (Some end) (cond (begins_in x from end x from) None (end_at old x from))) same
 
   kept_by : (a : Bool) (y : ObjName) (f : ℕ) → (same_object x y && (f == from)) ≡ a → from ≤ end → begins_in x from end y f ≡ false →
-    end_at new y f ≡ end_at old y f
+      end_at new y f ≡ end_at old y f
   kept_by true y f ha le out =
       let own : x ≡ y = same_object_is x y (and_left _ _ ha) in
       let at : (f == from) ≡ true = and_right (same_object x y) _ ha in
       let e : f ≡ from = grind (arith, nat_tests) in
       let inside : begins_in x from end y f ≡ true = subst (λ (z : ObjName). begins_in x from end z f ≡ true) own
-            (begins_own x from end f (omega (arith, e)) (omega (arith, e))) in
+      (begins_own x from end f (omega (arith, e)) (omega (arith, e))) in
       absurd (cc)
   kept_by false y f ha le out =
       j y f ∙ ap (λ b. cond b (Some end) (cond (begins_in x from end y f) None (end_at old y f))) ha ∙ ap (λ b. cond b None (end_at old y f)) out
@@ -77,7 +106,7 @@ module _ (old new : BTreeMap (ObjName × ℕ) ℕ) (x : ObjName) (from end : ℕ
         in_joined y i own.0 (omega (arith, own.1, h.3)) (omega (arith, h.4, far))
 
     pub joined_bytes : IsOrdered start_cmp old → IsOrdered start_cmp new →
-      (y : ObjName) (i : ℕ) → has_byte new.entries y i ≡ (has_byte old.entries y i || range_has ((x, s), t) y i)
+        (y : ObjName) (i : ℕ) → has_byte new.entries y i ≡ (has_byte old.entries y i || range_has ((x, s), t) y i)
     joined_bytes was now y i = both_ways _ _
         (λ h. ⊎_elim
         (λ held. first_of_or _ _ (has_from_held old y i held))
@@ -88,7 +117,7 @@ module _ (old new : BTreeMap (ObjName × ℕ) ℕ) (x : ObjName) (from end : ℕ
         (λ r.
         let bounds = within s i t (and_right (same_object x y) _ r) in
         has_from_held new y i (in_joined y i (same_object_is x y (and_left _ _ r)) (omega (arith, bounds.0, start.early))
-          (omega (arith, bounds.1, stop.late)))))
+        (omega (arith, bounds.1, stop.late)))))
       where
         bytes_own : s ≤ i → i < t → range_has ((x, s), t) x i ≡ true
         bytes_own le to = grind (arith, nat_tests, same_object_refl)
@@ -141,25 +170,25 @@ empty_range x s t le y i = and_false (same_object x y) (grind (arith, nat_tests)
     and_false false h = refl
 
 pub none_added : (rs : List ((ObjName × ℕ) × ℕ)) (x : ObjName) (s t : ℕ) → t ≤ s →
-  (y : ObjName) (i : ℕ) → has_byte rs y i ≡ (has_byte rs y i || range_has ((x, s), t) y i)
+    (y : ObjName) (i : ℕ) → has_byte rs y i ≡ (has_byte rs y i || range_has ((x, s), t) y i)
 none_added rs x s t le y i = or_false _ _ (empty_range x s t le y i)
 
 pub all_there : (rs : List ((ObjName × ℕ) × ℕ)) (x : ObjName) (s t : ℕ) → ((i : ℕ) → s ≤ i → i < t → has_byte rs x i ≡ true) →
-  (y : ObjName) (i : ℕ) → has_byte rs y i ≡ (has_byte rs y i || range_has ((x, s), t) y i)
+    (y : ObjName) (i : ℕ) → has_byte rs y i ≡ (has_byte rs y i || range_has ((x, s), t) y i)
 all_there rs x s t all y i = or_in _ _ (λ h.
     let bounds = within s i t (and_right (same_object x y) _ h) in
     subst (λ (z : ObjName). has_byte rs z i ≡ true) (same_object_is x y (and_left _ _ h)) (all i bounds.0 bounds.1))
 
 -- ---- what the last range that begins in time tells
 pub all_before_end : (ends : BTreeMap (ObjName × ℕ) ℕ) (x : ObjName) (s t : ℕ) (r : Span) → IsLast ends x s r → t ≤ r.end →
-  (i : ℕ) → s ≤ i → i < t → has_byte ends.entries x i ≡ true
+    (i : ℕ) → s ≤ i → i < t → has_byte ends.entries x i ≡ true
 all_before_end ends x s t r last le i from to = has_from_held ends x i (r.from, r.end, last.found, omega (arith, last.early), omega arith)
 
 some_is : (a b : ℕ) → Some a ≡ Some b → a ≡ b
 some_is a b h = cc
 
 pub has_none : (ends : BTreeMap (ObjName × ℕ) ℕ) (x : ObjName) (i : ℕ) → IsOrdered start_cmp ends → ((f : ℕ) → f ≤ i → end_at ends x f ≡ None) →
-  has_byte ends.entries x i ≡ false
+    has_byte ends.entries x i ≡ false
 has_none ends x i ordered none = by (has_byte ends.entries x i) refl
   where
     by : (b : Bool) → has_byte ends.entries x i ≡ b → b ≡ false
@@ -171,7 +200,7 @@ has_none ends x i ordered none = by (has_byte ends.entries x i) refl
         absurd (cc)
 
 pub has_last : (ends : BTreeMap (ObjName × ℕ) ℕ) (x : ObjName) (i : ℕ) (r : Span) → IsOrdered start_cmp ends → Separate ends → IsLast ends x i r →
-  has_byte ends.entries x i ≡ nat_lt i r.end
+    has_byte ends.entries x i ≡ nat_lt i r.end
 has_last ends x i r ordered sep last = both_ways _ _
     (λ h.
     let held = held_from_has ends x i ordered h in
@@ -212,7 +241,7 @@ separate_same old new e sep = record {
     back x f = ap (λ (es : List ((ObjName × ℕ) × ℕ)). lookup (is_at (start_cmp (x, f))) es) (sym e)
 
 pub all_before_by : (ends : BTreeMap (ObjName × ℕ) ℕ) (x : ObjName) (s t : ℕ) (r : Span) → IsLast ends x s r → IsTrue (nat_le t r.end) →
-  (i : ℕ) → s ≤ i → i < t → has_byte ends.entries x i ≡ true
+    (i : ℕ) → s ≤ i → i < t → has_byte ends.entries x i ≡ true
 all_before_by ends x s t r last le = all_before_end ends x s t r last (le_of le)
   where
     le_of : IsTrue (nat_le t r.end) → t ≤ r.end
@@ -228,7 +257,7 @@ not_there rs x i h = by (has_byte rs x i) refl
 
 -- no byte lies between the first one looked at, which isn't there, and the next range
 pub none_until : (ends : BTreeMap (ObjName × ℕ) ℕ) (x : ObjName) (s n : ℕ) → IsOrdered start_cmp ends → has_byte ends.entries x s ≡ false →
-  ((f e : ℕ) → s ≤ f → end_at ends x f ≡ Some e → n ≤ f) → (i : ℕ) → s ≤ i → i < n → has_byte ends.entries x i ≡ false
+    ((f e : ℕ) → s ≤ f → end_at ends x f ≡ Some e → n ≤ f) → (i : ℕ) → s ≤ i → i < n → has_byte ends.entries x i ≡ false
 none_until ends x s n ordered absent first i from lt = not_there ends.entries x i (λ h.
     let held = held_from_has ends x i ordered h in
     ⊎_elim
@@ -244,22 +273,25 @@ none_until ends x s n ordered absent first i from lt = not_there ends.entries x 
     either a b = grind arith
 
 pub none_at_all : (ends : BTreeMap (ObjName × ℕ) ℕ) (x : ObjName) (s t : ℕ) → IsOrdered start_cmp ends → has_byte ends.entries x s ≡ false →
-  ((f : ℕ) → s ≤ f → end_at ends x f ≡ None) → (i : ℕ) → s ≤ i → i < t → has_byte ends.entries x i ≡ false
+    ((f : ℕ) → s ≤ f → end_at ends x f ≡ None) → (i : ℕ) → s ≤ i → i < t → has_byte ends.entries x i ≡ false
 none_at_all ends x s t ordered absent none = none_until ends x s t ordered absent (λ f e from got. let gone = none f from in absurd (cc))
 
 pub next_too_far : (ends : BTreeMap (ObjName × ℕ) ℕ) (x : ObjName) (s t : ℕ) (r : Span) → IsOrdered start_cmp ends → has_byte ends.entries x s ≡ false →
-  IsNext ends x s r → t ≤ r.from → (i : ℕ) → s ≤ i → i < t → has_byte ends.entries x i ≡ false
+    IsNext ends x s r → t ≤ r.from → (i : ℕ) → s ≤ i → i < t → has_byte ends.entries x i ≡ false
 next_too_far ends x s t r ordered absent next far = none_until ends x s t ordered absent (λ f e from got. omega (arith, next.first f e from got, far))
 
 pub next_is_first : (ends : BTreeMap (ObjName × ℕ) ℕ) (x : ObjName) (s t : ℕ) (r : Span) → IsOrdered start_cmp ends → Separate ends →
-  has_byte ends.entries x s ≡ false → IsNext ends x s r → r.from < t → IsFirstByte ends.entries x s t (Some r.from)
-next_is_first ends x s t r ordered sep absent next lt =
-    (next.late, lt, has_from_held ends x r.from (r.from, r.end, next.found, omega arith, sep.filled x r.from r.end next.found),
-      none_until ends x s r.from ordered absent next.first)
+    has_byte ends.entries x s ≡ false → IsNext ends x s r → r.from < t → IsFirstByte ends.entries x s t (Some r.from)
+next_is_first ends x s t r ordered sep absent next lt = (
+  next.late,
+  lt,
+  has_from_held ends x r.from (r.from, r.end, next.found, omega arith, sep.filled x r.from r.end next.found),
+  none_until ends x s r.from ordered absent next.first,
+)
 
 -- ---- an object's ranges taken away
 pub forgotten : (old new : BTreeMap (ObjName × ℕ) ℕ) (x : ObjName) (last : ℕ) → last + 1 ≡ 2 ^ 64 → IsOrdered start_cmp old → IsOrdered start_cmp new →
-  Without old new x 0 last → Separate old → (y : ObjName) (i : ℕ) → has_byte new.entries y i ≡ (has_byte old.entries y i && not (same_object x y))
+    Without old new x 0 last → Separate old → (y : ObjName) (i : ℕ) → has_byte new.entries y i ≡ (has_byte old.entries y i && not (same_object x y))
 forgotten old new x last top was now out sep y i = by (same_object x y) refl
   where
     cleared : (o : Option ℕ) (f : ℕ) → end_at old x f ≡ o → end_at new x f ≡ None
@@ -270,7 +302,7 @@ forgotten old new x last top was now out sep y i = by (same_object x y) refl
         none_if false p h = h
     cleared (Some g) f e =
         out x f ∙ ap (λ b. cond b None (end_at old x f))
-          (begins_own x 0 last f (omega arith) (let some = sep.filled x f g e in let small = sep.bound x f g e in omega arith))
+        (begins_own x 0 last f (omega arith) (let some = sep.filled x f g e in let small = sep.bound x f g e in omega arith))
 
     none_new : (i : ℕ) → has_byte new.entries x i ≡ false
     none_new i = not_there new.entries x i (λ h. let held = held_from_has new x i now h in let gone = cleared _ held.0 refl in let got = held.2 in absurd (cc))
@@ -311,10 +343,10 @@ without_separate old new x from last out sep = record {
 
 -- ---- loops over ranges
 pub merge_turn : (rest more : List ((ObjName × ℕ) × ℕ)) (r : (ObjName × ℕ) × ℕ) (x : ObjName) (i : ℕ) (now new whole : Bool) → rest ≡ r ∷ more →
-  new ≡ (now || range_has r x i) → (now || has_byte rest x i) ≡ whole → (new || has_byte more x i) ≡ whole
+    new ≡ (now || range_has r x i) → (now || has_byte rest x i) ≡ whole → (new || has_byte more x i) ≡ whole
 merge_turn rest more r x i now new whole e step before =
     ap (λ b. b || has_byte more x i) step ∙ assoc now (range_has r x i) (has_byte more x i) ∙ ap (λ (rs : List ((ObjName × ℕ) × ℕ)). now || has_byte rs x i)
-      (sym e) ∙ before
+    (sym e) ∙ before
   where
     assoc : (a b c : Bool) → ((a || b) || c) ≡ (a || (b || c))
     assoc true b c = refl

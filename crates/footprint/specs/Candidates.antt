@@ -23,10 +23,10 @@ abbrev pub whole_pair : List Row → ObjName → State → State → Option (Ite
 whole_pair rows x s t =
     least_of_three rows
     (least_of_three rows (when (s.born && t.dies) (Born x) (Dies x)) (when (s.born && t.alive) (Born x) (Alive x))
-      (when (s.born && t.expose) (Born x) (Expose x)))
+    (when (s.born && t.expose) (Born x) (Expose x)))
     (least_of_three rows (when (s.dies && t.born) (Dies x) (Born x)) (when (s.dies && t.dies) (Dies x) (Dies x)) (when (s.dies && t.alive) (Dies x) (Alive x)))
     (least_of_three rows (when (s.alive && t.born) (Alive x) (Born x)) (when (s.alive && t.dies) (Alive x) (Dies x))
-      (when (s.expose && t.born) (Expose x) (Born x)))
+    (when (s.expose && t.born) (Expose x) (Born x)))
 
 -- of an address that was looked up and an object that may stand there
 abbrev pub beside : List Row → ℕ → Foot → Option ObjName → Option (Item × Item)

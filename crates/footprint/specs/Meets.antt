@@ -53,7 +53,7 @@ SettledAbove s d x = (y : ObjName) × (contains narrow_cmp s (d, y) ≡ true) ×
 -- some ambiguity is settled to different objects
 abbrev pub SomeNarrow : BTreeSet (Event × ObjName) → BTreeSet (Event × ObjName) → Type 0
 SomeNarrow s t = (d : Event) × (x : ObjName) × (y : ObjName) × (contains narrow_cmp s (d, x) ≡ true) × (contains narrow_cmp t (d, y) ≡ true) ×
-  (not (same_object x y) ≡ true)
+    (not (same_object x y) ≡ true)
 
 -- both use one stream, or one ends the run beside what stands for every event
 abbrev pub streams_meet : Foot → Foot → Bool

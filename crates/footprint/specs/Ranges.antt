@@ -1,6 +1,27 @@
 -- Sets of bytes of objects, kept as ranges (own).
-use Rattle.std.specs.Prelude.{◌≡◌, ◌<◌, ◌≤◌, ℕ, Bool, true, false, ◌&&◌, ◌||◌, ◌==◌, nat_lt, nat_le, ◌^◌, List, [], ◌∷◌, Option, Some, None, IsSome,
-  if◌then◌else◌}
+use Rattle.std.specs.Prelude.{
+  ◌≡◌,
+  ◌<◌,
+  ◌≤◌,
+  ℕ,
+  Bool,
+  true,
+  false,
+  ◌&&◌,
+  ◌||◌,
+  ◌==◌,
+  nat_lt,
+  nat_le,
+  ◌^◌,
+  List,
+  [],
+  ◌∷◌,
+  Option,
+  Some,
+  None,
+  IsSome,
+  if◌then◌else◌,
+}
 use Rattle.std.specs.declared.cmp.Ordering.{Ordering}
 use Rattle.std.specs.Ordering.{nat_cmp, ordering_then}
 use Rattle.std.specs.BTreeMap.{BTreeMap, get}
@@ -55,4 +76,4 @@ IsFirstByte rs x from end (Some at) = (from ≤ at) × (at < end) × (has_byte r
 -- the ranges with that one in place of those of its object that begin from its first byte up to its end
 abbrev pub Joins : (old new : BTreeMap (ObjName × ℕ) ℕ) → ObjName → (from end : ℕ) → Type 0
 Joins old new x from end = (y : ObjName) (f : ℕ) →
-  end_at new y f ≡ (if same_object x y && (f == from) then Some end else (if begins_in x from end y f then None else end_at old y f))
+    end_at new y f ≡ (if same_object x y && (f == from) then Some end else (if begins_in x from end y f then None else end_at old y f))

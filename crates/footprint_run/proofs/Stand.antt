@@ -10,7 +10,7 @@ use Rattle.footprint_run.specs.Apart.{place_of, IsApart, AreApart, SeenApart}
 use Rattle.footprint_run.specs.declared.seen.Seen.{Seen}
 
 pub found_at : (roots : List (Bor Typed)) (n : ℕ) (root : Bor Typed) (taken : Taken) (race : Bool) (event against : Event) → n < length roots →
-  root ≡ get_or roots n root
+    root ≡ get_or roots n root
     → IsApart taken (tree_at root) race (place_of event) (place_of against) → AreApart (trees_at roots) race event against
 found_at roots n root taken race event against h e a = ∣ record {
   number = n;

@@ -1,6 +1,31 @@
 -- A set grows by each element of a list that has none twice.
-use Rattle.std.proofs.Common.{arith, ◌≡◌, ◌⊎◌, inl, inr, ◌≢◌, ℕ, ◌+◌, ◌<◌, Bool, true, false, cond, List, [], ◌∷◌, ◌++◌, length, get_or, take, refl, sym, ap,
-  ◌∙◌, subst}
+use Rattle.std.proofs.Common.{
+  arith,
+  ◌≡◌,
+  ◌⊎◌,
+  inl,
+  inr,
+  ◌≢◌,
+  ℕ,
+  ◌+◌,
+  ◌<◌,
+  Bool,
+  true,
+  false,
+  cond,
+  List,
+  [],
+  ◌∷◌,
+  ◌++◌,
+  length,
+  get_or,
+  take,
+  refl,
+  sym,
+  ap,
+  ◌∙◌,
+  subst,
+}
 use Rattle.std.specs.List.{All, AllPairs, Contains}
 use Rattle.std.specs.BTreeMap.{is_at}
 use Rattle.std.specs.Ordering.{nat_cmp}
@@ -29,7 +54,7 @@ module _ {K : Type 0} (R : K → K → Ordering) where
       )
 
   pub more : (xs : List K) (i : ℕ) (x : K) (old new : BTreeSet K) → i < length xs → x ≡ get_or xs i x → contains R old x ≡ false → Updates R old new x true →
-    Seen old (take i xs) → Seen new (take (i + 1) xs)
+      Seen old (take i xs) → Seen new (take (i + 1) xs)
   more xs i x old new l e fresh u h =
       let t : take (i + 1) xs ≡ take i xs ++ x ∷ [] =
       take_more xs i x l ∙ ap (λ (y : K). take i xs ++ y ∷ []) (sym e) in

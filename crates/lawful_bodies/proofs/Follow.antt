@@ -1,6 +1,28 @@
 -- How what one part of a function's statements adds is joined to what the next one adds.
-use Rattle.std.proofs.Common.{◌≡◌, ◌≢◌, ◌<◌, ◌^◌, false, ℕ, ◌+◌, List, [], ◌∷◌, ◌++◌, length, refl, sym, ap, ◌∙◌, subst, arith, append_assoc, append-nil,
-  length-append, ℤ}
+use Rattle.std.proofs.Common.{
+  ◌≡◌,
+  ◌≢◌,
+  ◌<◌,
+  ◌^◌,
+  false,
+  ℕ,
+  ◌+◌,
+  List,
+  [],
+  ◌∷◌,
+  ◌++◌,
+  length,
+  refl,
+  sym,
+  ap,
+  ◌∙◌,
+  subst,
+  arith,
+  append_assoc,
+  append-nil,
+  length-append,
+  ℤ,
+}
 use Rattle.std.specs.List.{All, AllPairs, Contains}
 use Rattle.std.proofs.lemmas.List.Elements.{All-append, All-nil, All-cons}
 use Rattle.c_types.specs.declared.tags.Tag.{Tag}
@@ -29,7 +51,7 @@ none_of_both s u p q = omega arith
 
 -- one part, and the next
 pub compose : (tags : List Tag) (inside : Inside) (a b c : Found) (s u : Summary) → Follows tags inside a s b → Follows tags inside b u c →
-  Follows tags inside a (and s u) c
+    Follows tags inside a (and s u) c
 compose tags inside a b c s u p q = record {
   numbered = numbered_append a.next s.blocks u.blocks p.numbered (subst (λ (k : ℕ). NumberedFrom k u.blocks) p.next q.numbered);
   next = added a.next b.next c.next (length s.blocks) (length u.blocks) p.next q.next ∙ ap (λ (k : ℕ). a.next + k) (sym (length-append s.blocks u.blocks));
@@ -62,7 +84,7 @@ behind : {X : Type 0} (a b : List X) (x : X) (s : List X) → b ≡ (a ++ x ∷ 
 behind a b x s p = p ∙ append_assoc a (x ∷ []) s
 
 pub labelled : (tags : List Tag) (inside : Inside) (a m b : Found) (s : Summary) (label : ℕ) → m ≡ record a { labels = a.labels ++ label ∷ [] } →
-  Follows tags inside m s b → Follows tags inside a (record s { labels = label ∷ s.labels }) b
+    Follows tags inside m s b → Follows tags inside a (record s { labels = label ∷ s.labels }) b
 labelled tags inside a m b s label e q =
     let p = subst (λ (z : Found). Follows tags inside z s b) e q in
     record {
@@ -79,7 +101,7 @@ labelled tags inside a m b s label e q =
     }
 
 pub cased : (tags : List Tag) (inside : Inside) (a m b : Found) (s : Summary) (value : ℤ) → m ≡ record a { cases = a.cases ++ value ∷ [] } →
-  Follows tags inside m s b → Follows tags inside a (record s { cases = value ∷ s.cases }) b
+    Follows tags inside m s b → Follows tags inside a (record s { cases = value ∷ s.cases }) b
 cased tags inside a m b s value e q =
     let p = subst (λ (z : Found). Follows tags inside z s b) e q in
     record {
@@ -112,7 +134,7 @@ still tags inside a = record {
 
 -- a block, and what is in it
 pub block : (tags : List Tag) (inside : Inside) (a m b : Found) (s : Summary) (row : BlockRow) → row.number ≡ a.next → m ≡ record a { next = a.next + 1 } →
-  BlockIsLawful tags row → Follows tags inside m s b → Follows tags inside a (record s { blocks = row ∷ s.blocks }) b
+    BlockIsLawful tags row → Follows tags inside m s b → Follows tags inside a (record s { blocks = row ∷ s.blocks }) b
 block tags inside a m b s row n e h q =
     let p = subst (λ (z : Found). Follows tags inside z s b) e q in
     let up : a.next + 1 ≡ 1 + a.next = omega arith in

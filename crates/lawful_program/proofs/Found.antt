@@ -1,6 +1,35 @@
 -- Which addresses suit a scalar of a type.
-use Rattle.std.proofs.Common.{◌≡◌, ◌≢◌, ℕ, zero, suc, ◌+◌, ◌-◌, ◌*◌, ◌/◌, ◌%◌, ◌<◌, ◌≤◌, List, [], ◌∷◌, ◌++◌, length, get_or, Option, Some, None, refl, sym,
-  ap, subst, ◌∙◌, arith, inl, inr}
+use Rattle.std.proofs.Common.{
+  ◌≡◌,
+  ◌≢◌,
+  ℕ,
+  zero,
+  suc,
+  ◌+◌,
+  ◌-◌,
+  ◌*◌,
+  ◌/◌,
+  ◌%◌,
+  ◌<◌,
+  ◌≤◌,
+  List,
+  [],
+  ◌∷◌,
+  ◌++◌,
+  length,
+  get_or,
+  Option,
+  Some,
+  None,
+  refl,
+  sym,
+  ap,
+  subst,
+  ◌∙◌,
+  arith,
+  inl,
+  inr,
+}
 use Rattle.std.specs.Prelude.{slice_get}
 use Rattle.std.proofs.lemmas.Bool.{cases_lt}
 use Rattle.std.proofs.lemmas.Nat.{div-add-mod'}
@@ -31,7 +60,7 @@ module _ (p : Program) (target : Target) (offset : ℕ) where
 
   -- one that the element suits which holds the offset
   pub suits_repeated : (n s q r at : ℕ) (xs : List Scalar) → q * s + r ≡ at → q < n → SuitsSome p target offset r xs →
-    SuitsSome p target offset at (repeated_scalars n s xs)
+      SuitsSome p target offset at (repeated_scalars n s xs)
   suits_repeated zero s q r at xs e lt h = absurd (omega arith)
   suits_repeated (suc n) s q r at xs e lt h =
       elim (cases_lt q n) [
@@ -64,17 +93,17 @@ module _ (p : Program) (target : Target) (offset : ℕ) where
 -- the element that holds the offset decides of an array
 pub element : (p : Program) (q : Qualified) (count at : ℕ) → at / size_of p.tags q.ty < count → (depth : ℕ) (target : Target) (offset : ℕ) →
     SuitsSome p target offset (at % size_of p.tags q.ty) (scalars_within depth p.tags q.ty) →
-      SuitsSome p target offset at (elements_within depth p.tags q count)
+    SuitsSome p target offset at (elements_within depth p.tags q count)
 element p q count at there depth target offset h =
     let step = size_of p.tags q.ty in
     suits_repeated p target offset count step (at / step) (at % step) at (scalars_within depth p.tags q.ty) (div-add-mod' at step) there h
 
 -- one that suits a member of a tag
 pub of_tag_member : (p : Program) (target : Target) (offset at depth tag : ℕ) (t : Tag) (i stands : ℕ) (m : Member) → depth ≢ 0 →
-  slice_get p.tags tag ≡ Some t →
+    slice_get p.tags tag ≡ Some t →
     i < length t.members → m ≡ get_or t.members i m → stands ≡ member_offset p.tags tag i →
     SuitsSome p target offset at (shifted stands (scalars_within (depth - 1) p.tags (type_of_member m))) →
-      SuitsSome p target offset at (scalars_by depth p.tags tag)
+    SuitsSome p target offset at (scalars_by depth p.tags tag)
 of_tag_member p target offset at zero tag t i stands m some is lt one there h = absurd (some refl)
 of_tag_member p target offset at (suc n) tag t i stands m some is lt one there h =
     let same : suc n - 1 ≡ n = omega arith in

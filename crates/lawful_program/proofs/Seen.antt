@@ -21,7 +21,7 @@ pub qualified_of-seen : (q : Qual) → (qualified_of q).ty ≡ type_of q.ty
 qualified_of-seen q = search (rules, TheQual.the_lemmas)
 
 pub element_there : (p : Program) (q : Qual) (count at step : ℕ) → step ≡ size_of p.tags (type_of q.ty) → at / step < count →
-  LooksOnElement p (qualified_of q) count at (at % step)
+    LooksOnElement p (qualified_of q) count at (at % step)
 element_there p q count at step is there depth target offset h =
     let same : step ≡ size_of p.tags (qualified_of q).ty = is ∙ ap (size_of p.tags) (sym (qualified_of-seen q)) in
     element p (qualified_of q) count at (subst (λ (n : ℕ). at / n < count) same there) depth target offset
@@ -29,7 +29,7 @@ element_there p q count at step is there depth target offset h =
 
 -- an array whose count is known by two names
 module _ (p : Program) (t : CType) (q : Qual) (count known at : ℕ) (is : t ≡ array (qualified_of q).constant (qualified_of q).ty (Some count))
-  (same : known ≡ count) where
+    (same : known ≡ count) where
   looks_on_array : (further : ℕ) → LooksOnElement p (qualified_of q) known at further → LooksOn p t at (type_of q.ty) further
   looks_on_array further on depth target offset h =
       subst (λ (u : CType). SuitsSome p target offset at (scalars_within depth p.tags u)) (sym is)
@@ -54,13 +54,13 @@ lone p target offset at (union tag) s is h depth = absurd s
 lone p target offset at (function r ps v) s is h depth = absurd s
 
 pub tagged : (p : Program) (target : Target) (offset at depth : ℕ) (t : CType) (tag : ℕ) → IsOfTag t tag →
-  SuitsSome p target offset at (scalars_by depth p.tags tag) →
+    SuitsSome p target offset at (scalars_by depth p.tags tag) →
     SuitsSome p target offset at (scalars_within depth p.tags t)
 tagged p target offset at depth t tag (inl e) h = subst (λ (u : CType). SuitsSome p target offset at (scalars_within depth p.tags u)) (sym e) h
 tagged p target offset at depth t tag (inr e) h = subst (λ (u : CType). SuitsSome p target offset at (scalars_within depth p.tags u)) (sym e) h
 
 pub member_inside : (p : Program) (target : Target) (offset at depth stands : ℕ) (m : Member) → stands ≤ at →
-  SuitsSome p target offset (at - stands) (scalars_within depth p.tags (type_of m.qual.ty)) →
+    SuitsSome p target offset (at - stands) (scalars_within depth p.tags (type_of m.qual.ty)) →
     SuitsSome p target offset at (shifted stands (scalars_within depth p.tags (type_of_member m)))
 member_inside p target offset at depth stands m le h =
     suits_shifted p target offset stands at (scalars_within depth p.tags (type_of_member m)) le
@@ -68,7 +68,7 @@ member_inside p target offset at depth stands m le h =
 
 -- where an address stands in a type
 pub aligned : (p : Program) (k : Constant) (target : Target) (offset depth : ℕ) (t : CType) → depth ≡ length p.tags →
-  k.content ≡ content.Address target offset →
+    k.content ≡ content.Address target offset →
     SuitsSome p target offset k.at (scalars_within depth p.tags t) → ContentSuits p (scalars p.tags t) k.at k.content
 aligned p k target offset depth t all is h =
     subst (ContentSuits p (scalars p.tags t) k.at) (sym is) (subst (λ (n : ℕ). SuitsSome p target offset k.at (scalars_within n p.tags t)) all h)

@@ -8,8 +8,22 @@ use Rattle.c_typed.specs.declared.program.Constant.{Constant}
 use Rattle.c_typed.specs.declared.program.Function.{Function}
 use Rattle.c_typed.specs.declared.program.Static.{Static}
 use Rattle.c_typed.specs.declared.program.Program.{Program}
-use Rattle.c_typed.specs.Lawful.{There, IsSized, IsComplete, ContentIsLawful, ContentSuits, PartsFit, StaticIsLawful, HasMain, MainHasType, IsExternal,
-  HasBytes, IsNumbered, FunctionIsLawful, IsLawful}
+use Rattle.c_typed.specs.Lawful.{
+  There,
+  IsSized,
+  IsComplete,
+  ContentIsLawful,
+  ContentSuits,
+  PartsFit,
+  StaticIsLawful,
+  HasMain,
+  MainHasType,
+  IsExternal,
+  HasBytes,
+  IsNumbered,
+  FunctionIsLawful,
+  IsLawful,
+}
 use Rattle.lawful_program.proofs.Seen.{qualified_of-seen}
 
 lawful_of : (p : Program) (s : Static) (t : CType) → t ≡ (qualified_of s.qual).ty → IsSized p.tags t → All (λ c. ContentIsLawful p c.content) s.constants →
@@ -23,9 +37,9 @@ lawful_of p s t is sized contents aligned fits =
     }
 
 pub static_lawful : (p : Program) (s : Static) (ks : List Constant) (size : ℕ) → ks ≡ s.constants → size ≡ size_of p.tags (type_of s.qual.ty) →
-  IsSized p.tags (type_of s.qual.ty) →
+    IsSized p.tags (type_of s.qual.ty) →
     All (λ c. ContentIsLawful p c.content) ks → All (λ c. ContentSuits p (scalars p.tags (type_of s.qual.ty)) c.at c.content) ks → PartsFit size ks →
-      StaticIsLawful p s
+    StaticIsLawful p s
 static_lawful p s ks size all is sized contents aligned fits =
     lawful_of p s (type_of s.qual.ty) (sym (qualified_of-seen s.qual)) sized (subst (All (λ c. ContentIsLawful p c.content)) all contents)
     (subst (All (λ c. ContentSuits p (scalars p.tags (type_of s.qual.ty)) c.at c.content)) all aligned)
@@ -39,7 +53,7 @@ complete : (p : Program) (ss : List Static) → All (StaticIsLawful p) ss → Al
 complete p ss h i d lt = let s = h i d lt in there_some (extent (extents p.tags) (qualified_of (get_or ss i d).qual).ty) s.sized
 
 pub program_lawful : (p : Program) (fs : List Function) (ls : List (List ℕ)) (ss : List Static) → HasMain p → MainHasType p → IsNumbered p →
-  fs ≡ p.functions → ls ≡ p.literals → ss ≡ p.statics →
+    fs ≡ p.functions → ls ≡ p.literals → ss ≡ p.statics →
     All IsExternal fs → All HasBytes ls → All (StaticIsLawful p) ss → All (FunctionIsLawful p) fs → IsLawful p
 program_lawful p fs ls ss main main_type numbered f l s external bytes statics functions =
     let objects = subst (All (StaticIsLawful p)) s statics in

@@ -16,7 +16,7 @@ scalars_within depth tags t = scalars_with (scalars_by depth tags) tags t
 abbrev pub LooksOn : Program → CType → ℕ → CType → ℕ → Type 0
 LooksOn p t at inner further =
     (depth : ℕ) (target : Target) (offset : ℕ) → SuitsSome p target offset further (scalars_within depth p.tags inner) →
-      SuitsSome p target offset at (scalars_within depth p.tags t)
+    SuitsSome p target offset at (scalars_within depth p.tags t)
 
 -- the scalars of an array of so many elements
 abbrev pub elements_within : ℕ → List Tag → Qualified → ℕ → List Scalar
@@ -25,7 +25,7 @@ elements_within depth tags element count = repeated_scalars count (size_of tags 
 abbrev pub LooksOnElement : Program → Qualified → ℕ → ℕ → ℕ → Type 0
 LooksOnElement p element count at further =
     (depth : ℕ) (target : Target) (offset : ℕ) → SuitsSome p target offset further (scalars_within depth p.tags element.ty) →
-      SuitsSome p target offset at (elements_within depth p.tags element count)
+    SuitsSome p target offset at (elements_within depth p.tags element count)
 
 -- the structure or union of this number
 abbrev pub IsOfTag : CType → ℕ → Type 0

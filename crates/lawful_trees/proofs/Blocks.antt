@@ -11,6 +11,6 @@ block_from found number [] = found
 block_from found number (a ∷ rest) = block_from (if number == a.number then Some (objects_of a) else found) number rest
 
 pub blocks_of-at : (blocks : Blocks) (number : ℕ) (around : List Around) →
-  block_from (blocks.objects number) number around ≡ (blocks_of blocks around).objects number
+    block_from (blocks.objects number) number around ≡ (blocks_of blocks around).objects number
 blocks_of-at blocks number [] = refl
 blocks_of-at blocks number (a ∷ rest) = blocks_of-at (inside a.number (objects_of a) blocks) number rest

@@ -1,6 +1,32 @@
 -- Ranges each of which begins where all before it end, or later.
-use Rattle.std.proofs.Common.{◌≡◌, ℕ, suc, ◌+◌, ◌<◌, ◌≤◌, max, List, [], ◌∷◌, length, get_or, drop, drop-cons, add-one, map, All, AllPairs, IsPermutation,
-  sym, ap, subst, ◌∙◌, arith, inl, inr}
+use Rattle.std.proofs.Common.{
+  ◌≡◌,
+  ℕ,
+  suc,
+  ◌+◌,
+  ◌<◌,
+  ◌≤◌,
+  max,
+  List,
+  [],
+  ◌∷◌,
+  length,
+  get_or,
+  drop,
+  drop-cons,
+  add-one,
+  map,
+  All,
+  AllPairs,
+  IsPermutation,
+  sym,
+  ap,
+  subst,
+  ◌∙◌,
+  arith,
+  inl,
+  inr,
+}
 use Rattle.std.proofs.lemmas.List.{length-map, get_or-map, drop_all}
 use Rattle.std.proofs.lemmas.List.Kept.{AllPairs-cons}
 use Rattle.std.proofs.lemmas.List.Elements.{All-nil, All-cons}
@@ -28,10 +54,10 @@ turned a b (inr h) = inl h
 
 -- one of them less
 pub next : (end i : ℕ) (rs : List (ℕ × ℕ)) (r : ℕ × ℕ) → i < length rs → r ≡ get_or rs i r → end ≤ r.0 → FollowFrom (max end r.1) (drop (i + 1) rs) →
-  FollowFrom end (drop i rs)
+    FollowFrom end (drop i rs)
 next end i rs r lt is late rest =
     let here : drop i rs ≡ r ∷ drop (i + 1) rs = drop-cons rs i r lt ∙
-          (ap (λ (x : ℕ × ℕ). x ∷ drop (suc i) rs) (sym is) ∙ ap (λ (k : ℕ). r ∷ drop k rs) (sym (add-one i))) in
+    (ap (λ (x : ℕ × ℕ). x ∷ drop (suc i) rs) (sym is) ∙ ap (λ (k : ℕ). r ∷ drop k rs) (sym (add-one i))) in
     subst (FollowFrom end) (sym here) (late, rest)
 
 inside_each : (size : ℕ) (cs : List Constant) → All (λ (r : ℕ × ℕ). r.1 ≤ size) (map range_of cs) → All (λ c. end_of c ≤ size) cs
@@ -48,7 +74,7 @@ apart_each cs h i j d lt within =
     (subst (λ (r : ℕ × ℕ). AreApart r (get_or (map range_of cs) j (range_of d))) (get_or-map range_of cs i d (range_of d) (omega arith)) here)
 
 pub fit : (size : ℕ) (cs : List Constant) (rs ss : List (ℕ × ℕ)) → rs ≡ map range_of cs → All (λ (r : ℕ × ℕ). r.1 ≤ size) rs → IsPermutation rs ss →
-  AllPairs AreApart ss → PartsFit size cs
+    AllPairs AreApart ss → PartsFit size cs
 fit size cs rs ss made below sorted follows =
     record {
       inside = inside_each size cs (subst (All (λ (r : ℕ × ℕ). r.1 ≤ size)) made below);

@@ -19,7 +19,7 @@ LastIs-end own t (a ∷ []) e = e
 LastIs-end own t (a ∷ b ∷ ts) e = LastIs-end own t (b ∷ ts) e
 
 pub LastIs-last : (own : CType) (front : List Typed) (last : Typed) (all : List Typed) → all ≡ front ++ last ∷ [] →
-  ValueIs own (type_of (out-Typed last).ty) → LastIs own (types_of all)
+    ValueIs own (type_of (out-Typed last).ty) → LastIs own (types_of all)
 LastIs-last own front last all e is =
     let P : List CType → Type 0 = LastIs own in
     let Q : CType → Type 0 = ValueIs own in

@@ -45,7 +45,7 @@ module _ {X : Type 0} where
 
 -- the same of two different places
 parted : (i j a b x y : ℕ) → i < j → (i ≡ a → x ≡ b) → (i ≢ a → i ≡ b → x ≡ a) → (i ≢ a → i ≢ b → x ≡ i) → (j ≡ a → y ≡ b) → (j ≢ a → j ≡ b → y ≡ a) →
-  (j ≢ a → j ≢ b → y ≡ j) → x ≢ y
+    (j ≢ a → j ≢ b → y ≡ j) → x ≢ y
 parted i j a b x y lt xa xb xo ya yb yo e =
     elim (cases_eq i a) [
       | inl ia ↦

@@ -22,9 +22,9 @@ pub All-sites : (P : Site → Type 0) (t : Typed) (operands : List Typed) → op
 All-sites P t operands e own inner rest =
     let Q : List Typed → Type 0 = λ ts. All P (root t ts ∷ ((node_seen (out-Typed t).node).inner ++ sites_of ts)) in
     let all = All-cons P (root t operands) ((node_seen (out-Typed t).node).inner ++ sites_of operands) own
-          (All-append P (node_seen (out-Typed t).node).inner (sites_of operands) inner rest) in
+    (All-append P (node_seen (out-Typed t).node).inner (sites_of operands) inner rest) in
     All-same P (sites t) (root t (out-Typed t).children ∷ ((node_seen (out-Typed t).node).inner ++ sites_of (out-Typed t).children)) (sites-root t)
-      (subst Q e all)
+    (subst Q e all)
 
 -- a step of a loop over trees
 pub All-sites_of : (P : Site → Type 0) (ts : List Typed) (i : ℕ) (t : Typed) → i < length ts → t ≡ get_or ts i t

@@ -1,6 +1,33 @@
 -- The scalars of a part that begins at an offset, one part after the other.
-use Rattle.std.proofs.Common.{◌≡◌, ℕ, suc, ◌+◌, ◌-◌, ◌*◌, ◌^◌, ◌<◌, min, List, [], ◌∷◌, ◌++◌, length, get_or, drop, drop-cons, add-one, map, refl, sym, ap,
-  ◌∙◌, append_assoc, zero-add, arith, rules}
+use Rattle.std.proofs.Common.{
+  ◌≡◌,
+  ℕ,
+  suc,
+  ◌+◌,
+  ◌-◌,
+  ◌*◌,
+  ◌^◌,
+  ◌<◌,
+  min,
+  List,
+  [],
+  ◌∷◌,
+  ◌++◌,
+  length,
+  get_or,
+  drop,
+  drop-cons,
+  add-one,
+  map,
+  refl,
+  sym,
+  ap,
+  ◌∙◌,
+  append_assoc,
+  zero-add,
+  arith,
+  rules,
+}
 use Rattle.std.proofs.lemmas.List.{map-append}
 use Rattle.c_types.specs.Types.{CType, type_of}
 use Rattle.c_types.specs.Shapes.{Form, form_of, forms_of, put_of}
@@ -65,7 +92,7 @@ next_part ps i p h e =
 
 pub part_placed :
     (ps : List Placed) (i : ℕ) (p : Placed) (o at : ℕ) (now new total : List Scalar) → i < length ps → p ≡ get_or ps i p →
-      at ≡ min (o + p.offset) (2 ^ 64 - 1) →
+    at ≡ min (o + p.offset) (2 ^ 64 - 1) →
     new ≡ now ++ map capped (shifted at (leaves (form_of p.part))) →
     now ++ map capped (shifted o (all_leaves (forms_of (map put_of (drop i ps))))) ≡ total →
     new ++ map capped (shifted o (all_leaves (forms_of (map put_of (drop (i + 1) ps))))) ≡ total
@@ -87,7 +114,7 @@ shifted_none (x ∷ xs) =
 
 pub from_start :
     (new old : List Leaf) (xs ys : List Scalar) → old ≡ [] → map scalar_of new ≡ map scalar_of old ++ map capped (shifted 0 xs) → xs ≡ ys →
-      map capped ys ≡ ys → map scalar_of new ≡ ys
+    map capped ys ≡ ys → map scalar_of new ≡ ys
 from_start new old xs ys none is seen exact =
     is
     ∙ (ap (λ (ls : List Leaf). map scalar_of ls ++ map capped (shifted 0 xs)) none

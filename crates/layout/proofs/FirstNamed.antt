@@ -1,6 +1,37 @@
 -- The first member of a name, from one member to the next.
-use Rattle.std.proofs.Common.{◌≡◌, ℕ, zero, suc, ◌+◌, ◌-◌, ◌^◌, ◌<◌, ◌≤◌, min, Bool, true, false, List, [], ◌∷◌, ◌++◌, length, get_or, drop, drop-cons,
-  add-one, map, Option, Some, None, refl, sym, ap, ◌∙◌, arith}
+use Rattle.std.proofs.Common.{
+  ◌≡◌,
+  ℕ,
+  zero,
+  suc,
+  ◌+◌,
+  ◌-◌,
+  ◌^◌,
+  ◌<◌,
+  ◌≤◌,
+  min,
+  Bool,
+  true,
+  false,
+  List,
+  [],
+  ◌∷◌,
+  ◌++◌,
+  length,
+  get_or,
+  drop,
+  drop-cons,
+  add-one,
+  map,
+  Option,
+  Some,
+  None,
+  refl,
+  sym,
+  ap,
+  ◌∙◌,
+  arith,
+}
 use Rattle.std.specs.Prelude.{slice_get, if◌then◌else◌}
 use Rattle.std.specs.Option.{option_map}
 use Rattle.std.specs.Str.{bytes_eq}
@@ -47,7 +78,7 @@ near_const name c ns = ap (option_map nearer) (named-const name c ns) ∙ const_
 
 unnamed : (text name : List ℕ) (c : Bool) (own ns inner : List Named) (r s : Option Place) → length text ≡ 0 → inner ≡ ns →
     r ≡ option_map nearer (named name ns) → s ≡ option_map (const_place c) r →
-      s ≡ option_map nearer (named name (if_named text own (map (also_const c) inner)))
+    s ≡ option_map nearer (named name (if_named text own (map (also_const c) inner)))
 unnamed [] name c own ns inner r s z i e k =
     let at : List Named → Option Place = λ l. option_map nearer (named name (map (also_const c) l)) in
     k ∙ (ap (option_map (const_place c)) e ∙ (sym (near_const name c ns) ∙ ap at (sym i)))
@@ -102,9 +133,9 @@ miss o (Some q) y h = absurd (cc)
 -- the member at a place has the name
 pub found_here :
     (name : List ℕ) (f : ℕ → List Named) (tags : List Tag) (tag i : ℕ) (ms : List Member) (m : Member) (r : Option Place) (p : Place) (total : Option Place)
-      (at o : ℕ) →
+    (at o : ℕ) →
     i < length ms → m ≡ get_or ms i m → r ≡ option_map nearer (named name (brought f m)) → r ≡ Some p → o ≡ member_offset tags tag i →
-      at ≡ min (o + p.offset) (2 ^ 64 - 1) →
+    at ≡ min (o + p.offset) (2 ^ 64 - 1) →
     option_map nearer (named name (member_names f tags tag i (drop i ms))) ≡ total → Some (record p { offset = at }) ≡ total
 found_here name f tags tag i ms m r p total at o h e is some stands sum before =
     let rest : Option Place = named name (member_names f tags tag (i + 1) (drop (i + 1) ms)) in
@@ -120,7 +151,7 @@ pub found_later :
     (name : List ℕ) (f : ℕ → List Named) (tags : List Tag) (tag i : ℕ) (ms : List Member) (m : Member) (r : Option Place) (total : Option Place) →
     i < length ms → m ≡ get_or ms i m → r ≡ option_map nearer (named name (brought f m)) → r ≡ None →
     option_map nearer (named name (member_names f tags tag i (drop i ms))) ≡ total →
-      option_map nearer (named name (member_names f tags tag (i + 1) (drop (i + 1) ms))) ≡ total
+    option_map nearer (named name (member_names f tags tag (i + 1) (drop (i + 1) ms))) ≡ total
 found_later name f tags tag i ms m r total h e is none before =
     ap (option_map nearer)
     (sym (miss (member_offset tags tag i) (named name (brought f m)) (named name (member_names f tags tag (i + 1) (drop (i + 1) ms))) (sym is ∙ none))

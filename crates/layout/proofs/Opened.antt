@@ -1,6 +1,36 @@
 -- What opening, placing and closing structures and unions keeps: the scalars, the room and the work that is left.
-use Rattle.std.proofs.Common.{◌≡◌, ℕ, zero, suc, ◌+◌, ◌*◌, ◌^◌, ◌≤◌, Bool, true, false, List, [], ◌∷◌, ◌++◌, drop, add-one, Option, Some, None, refl, sym, ap,
-  subst, ◌∙◌, append_assoc, append-nil, inl, inr, arith}
+use Rattle.std.proofs.Common.{
+  ◌≡◌,
+  ℕ,
+  zero,
+  suc,
+  ◌+◌,
+  ◌*◌,
+  ◌^◌,
+  ◌≤◌,
+  Bool,
+  true,
+  false,
+  List,
+  [],
+  ◌∷◌,
+  ◌++◌,
+  drop,
+  add-one,
+  Option,
+  Some,
+  None,
+  refl,
+  sym,
+  ap,
+  subst,
+  ◌∙◌,
+  append_assoc,
+  append-nil,
+  inl,
+  inr,
+  arith,
+}
 use Rattle.std.specs.Prelude.{slice_get, ◌==◌, if◌then◌else◌}
 use Rattle.std.proofs.lemmas.List.{map-append}
 use Rattle.std.proofs.lemmas.Bool.Decides.{eqb_tells}
@@ -11,8 +41,21 @@ use Rattle.c_types.specs.Types.{CType, void, int, enumeration, pointer, array, s
 use Rattle.c_types.specs.Layout.{Known, extent, extents, extent_of, repeated, size_of, type_of_member, member_offset}
 use Rattle.c_types.specs.Leaves.{Scalar, moved, shifted, repeated_scalars, scalars_with, member_scalars, tag_scalars, scalars_by}
 use Rattle.c_types.specs.Table.{IsSettled}
-use Rattle.layout.specs.Opened.{single_of, entered, members_in, left_in, contribution, remaining, IsRoomy, AreRoomy, weight_with, members_weight, weight_by,
-  open_work, work}
+use Rattle.layout.specs.Opened.{
+  single_of,
+  entered,
+  members_in,
+  left_in,
+  contribution,
+  remaining,
+  IsRoomy,
+  AreRoomy,
+  weight_with,
+  members_weight,
+  weight_by,
+  open_work,
+  work,
+}
 use Rattle.layout.specs.declared.shapes.Open.{Open}
 use Rattle.layout.proofs.Added.{shifted_none}
 use Rattle.layout.proofs.Slots.{fits, limited_some}
@@ -27,7 +70,7 @@ once step xs = let none : 0 * step ≡ 0 = omega arith in ap (λ (n : ℕ). shif
 
 array_scalars :
     (f : ℕ → List Scalar) (tags : List Tag) (c : Bool) (t : CType) (n : ℕ) → scalars_with f tags (single_of t) ≡ scalars_with f tags t → (b : Bool) →
-      (b ≡ true → n ≡ 1) →
+    (b ≡ true → n ≡ 1) →
     scalars_with f tags (if b then single_of t else array c t (Some n)) ≡ repeated_scalars n (size_of tags t) (scalars_with f tags t)
 array_scalars f tags c t n same true h =
     same ∙ (sym (once (size_of tags t) (scalars_with f tags t)) ∙ ap (λ (k : ℕ). repeated_scalars k (size_of tags t) (scalars_with f tags t)) (sym (h refl)))
@@ -59,9 +102,9 @@ same_extent x a e h g = let same : a ≡ e = cc in subst (λ (y : Extent). y.siz
 
 array_extent :
     (known : Known) (c : Bool) (t : CType) (n : ℕ) (a e : Extent) →
-      ((d : Extent) → extent known t ≡ Some d → extent known (single_of t) ≡ Some e → e.size ≤ d.size) →
+    ((d : Extent) → extent known t ≡ Some d → extent known (single_of t) ≡ Some e → e.size ≤ d.size) →
     (b : Bool) → (b ≡ true → n ≡ 1) → repeated n (extent known t) ≡ Some a → extent known (if b then single_of t else array c t (Some n)) ≡ Some e →
-      e.size ≤ a.size
+    e.size ≤ a.size
 array_extent known c t n a e inner true h whole part = element_extent n (extent known t) a e (h refl) whole (λ d g. inner d g part)
 array_extent known c t n a e inner false h whole part = same_extent (repeated n (extent known t)) a e whole part
 
@@ -77,7 +120,7 @@ single_extent known (union tag) a e h g = same_extent (known tag) a e h g
 single_extent known (function r ps v) a e h g = absurd (cc)
 
 array_weight : (f : ℕ → ℕ) (c : Bool) (t : CType) (n : ℕ) → weight_with f (single_of t) ≤ weight_with f t →
-  (b : Bool) → weight_with f (if b then single_of t else array c t (Some n)) ≤ 1 + weight_with f t
+    (b : Bool) → weight_with f (if b then single_of t else array c t (Some n)) ≤ 1 + weight_with f t
 array_weight f c t n h true = omega arith
 array_weight f c t n h false = omega arith
 
@@ -98,7 +141,7 @@ pub remaining-more : (tags : List Tag) (os : List Open) (o : Open) → remaining
 remaining-more tags [] o = sym (append-nil (contribution tags o))
 remaining-more tags (p ∷ ps) o =
     ap (λ (xs : List Scalar). xs ++ contribution tags p) (remaining-more tags ps o) ∙ append_assoc (contribution tags o) (remaining tags ps)
-      (contribution tags p)
+    (contribution tags p)
 
 pub work-more : (tags : List Tag) (os : List Open) (o : Open) → work tags (os ++ o ∷ []) ≡ open_work tags o + work tags os
 work-more tags [] o = omega arith
@@ -113,24 +156,24 @@ roomy-fewer tags [] o h = (tt, h.0)
 roomy-fewer tags (p ∷ ps) o h = let rest = roomy-fewer tags ps o h.1 in ((h.0, rest.0), rest.1)
 
 content_scalars : (f : ℕ → List Scalar) (tags : List Tag) (tag : ℕ) (o : Option Tag) →
-  member_scalars f tags tag 0 (drop 0 (members_in o)) ≡ tag_scalars f tags tag o
+    member_scalars f tags tag 0 (drop 0 (members_in o)) ≡ tag_scalars f tags tag o
 content_scalars f tags tag None = refl
 content_scalars f tags tag (Some t) = refl
 
 pub remaining-entered : (tags : List Tag) (depth tag offset : ℕ) (os : List Open) →
-  remaining tags (entered depth tag offset os) ≡ shifted offset (scalars_by depth tags tag) ++ remaining tags os
+    remaining tags (entered depth tag offset os) ≡ shifted offset (scalars_by depth tags tag) ++ remaining tags os
 remaining-entered tags zero tag offset os = refl
 remaining-entered tags (suc depth) tag offset os =
     remaining-more tags os (record { tag = tag; next = 0; offset = offset; depth = depth })
     ∙ ap (λ (xs : List Scalar). shifted offset xs ++ remaining tags os) (content_scalars (scalars_by depth tags) tags tag (slice_get tags tag))
 
 pub work-entered : (tags : List Tag) (depth tag offset : ℕ) (os : List Open) →
-  work tags (entered depth tag offset os) ≤ 1 + weight_by depth tags tag + work tags os
+    work tags (entered depth tag offset os) ≤ 1 + weight_by depth tags tag + work tags os
 work-entered tags zero tag offset os = omega arith
 work-entered tags (suc depth) tag offset os = let more = work-more tags os (record { tag = tag; next = 0; offset = offset; depth = depth }) in omega arith
 
 pub roomy-entered : (tags : List Tag) (depth tag offset : ℕ) (os : List Open) → AreRoomy tags os →
-  ((e : Extent) → extents tags tag ≡ Some e → offset + e.size ≤ 2 ^ 40) → AreRoomy tags (entered depth tag offset os)
+    ((e : Extent) → extents tags tag ≡ Some e → offset + e.size ≤ 2 ^ 40) → AreRoomy tags (entered depth tag offset os)
 roomy-entered tags zero tag offset os h g = h
 roomy-entered tags (suc depth) tag offset os h g = roomy-more tags os (record { tag = tag; next = 0; offset = offset; depth = depth }) h g
 
@@ -181,7 +224,7 @@ module _ (tags : List Tag) (o : Open) (t : Tag) (m : Member) (at : slice_get tag
 
   pub contribution_is :
       contribution tags o ≡ shifted (o.offset + member_offset tags o.tag o.next) (scalars_with (scalars_by o.depth tags) tags (type_of_member m)) ++
-        contribution tags (after o)
+      contribution tags (after o)
   contribution_is =
       let f : ℕ → List Scalar = scalars_by o.depth tags in
       let one : List Scalar = scalars_with f tags (type_of_member m) in
@@ -203,7 +246,7 @@ module _ (tags : List Tag) (o : Open) (t : Tag) (m : Member) (at : slice_get tag
   complete settled (Some e) h = (e, h)
 
   pub fits_is : (settled : IsSettled tags) → IsRoomy tags o → (own : Extent) ×
-    ((extent (extents tags) (type_of_member m) ≡ Some own) × (o.offset + member_offset tags o.tag o.next + own.size ≤ 2 ^ 40))
+      ((extent (extents tags) (type_of_member m) ≡ Some own) × (o.offset + member_offset tags o.tag o.next + own.size ≤ 2 ^ 40))
   fits_is settled roomy =
       let whole = complete settled (extents tags o.tag) refl in
       let room : o.offset + whole.0.size ≤ 2 ^ 40 = roomy whole.0 whole.1 in

@@ -1,6 +1,33 @@
 -- The steps of placing the members of a structure or union.
-use Rattle.std.proofs.Common.{◌≡◌, ℕ, ◌+◌, ◌*◌, ◌^◌, ◌<◌, ◌≤◌, List, [], ◌∷◌, ◌++◌, length, get_or, map, Some, None, refl, sym, ap, subst, ◌∙◌, append-nil,
-  inl, inr, true, arith, rules}
+use Rattle.std.proofs.Common.{
+  ◌≡◌,
+  ℕ,
+  ◌+◌,
+  ◌*◌,
+  ◌^◌,
+  ◌<◌,
+  ◌≤◌,
+  List,
+  [],
+  ◌∷◌,
+  ◌++◌,
+  length,
+  get_or,
+  map,
+  Some,
+  None,
+  refl,
+  sym,
+  ap,
+  subst,
+  ◌∙◌,
+  append-nil,
+  inl,
+  inr,
+  true,
+  arith,
+  rules,
+}
 use Rattle.std.specs.Prelude.{slice_get, nat_lt, ◌⊎◌}
 use Rattle.std.proofs.lemmas.Bool.{ltb-true}
 use Rattle.std.proofs.lemmas.Option.{slice_get-get_or}
@@ -21,8 +48,26 @@ use Rattle.layout.specs.declared.shapes.Open.{Open}
 use Rattle.layout.proofs.Added.{shifted_none}
 use Rattle.layout.proofs.Scalars.{all_leaves-more, put_of-roll, type_of_member-seen}
 use Rattle.layout.proofs.Within.{tag_le}
-use Rattle.layout.proofs.Opened.{single_scalars, single_extent, single_weight, remaining-more, work-more, roomy-more, roomy-fewer, remaining-entered,
-  work-entered, roomy-entered, nothing_left, left-no_member, after, contribution_is, work_is, fits_is, placed_so, opened_so}
+use Rattle.layout.proofs.Opened.{
+  single_scalars,
+  single_extent,
+  single_weight,
+  remaining-more,
+  work-more,
+  roomy-more,
+  roomy-fewer,
+  remaining-entered,
+  work-entered,
+  roomy-entered,
+  nothing_left,
+  left-no_member,
+  after,
+  contribution_is,
+  work_is,
+  fits_is,
+  placed_so,
+  opened_so,
+}
 
 -- the scalars of the parts
 abbrev pub seen : List Placed → List Scalar
@@ -30,13 +75,13 @@ seen ps = all_leaves (forms_of (map put_of ps))
 
 pub begins :
     (tags : List Tag) (depth tag : ℕ) (parts : List Placed) (made opened : List Open) → IsSettled tags → parts ≡ [] → made ≡ [] →
-      opened ≡ entered depth tag 0 made →
+    opened ≡ entered depth tag 0 made →
     (seen parts ++ remaining tags opened ≡ scalars_by depth tags tag) × (AreRoomy tags opened × (work tags opened ≤ 1 + weight_by depth tags tag))
 begins tags depth tag parts made opened settled p m o =
     let is : opened ≡ entered depth tag 0 [] = o ∙ ap (entered depth tag 0) m in
     let less = work-entered tags depth tag 0 [] in
     let room : (e : Extent) → extents tags tag ≡ Some e → 0 + e.size ≤ 2 ^ 40 = λ e h. let small = tag_le tags settled tag e h (slice_get tags tag) refl in
-      omega arith in (
+    omega arith in (
       ap (λ (ps : List Placed). seen ps ++ remaining tags opened) p
           ∙ (ap (remaining tags) is
           ∙ (remaining-entered tags depth tag 0 []
@@ -56,13 +101,13 @@ pops tags os mid o bound is roomy le =
     (omega arith, (both.1, both.0))
 
 pub smaller : (tags : List Tag) (os mid new : List Open) (o : Open) → os ≡ mid ++ o ∷ [] → work tags new < open_work tags o + work tags mid →
-  work tags new < work tags os
+    work tags new < work tags os
 smaller tags os mid new o is less = subst (λ (n : ℕ). work tags new < n) (sym (ap (work tags) is ∙ work-more tags mid o)) less
 
 pub goes_on :
     (tags : List Tag) (os mid new : List Open) (o : Open) (parts placed : List Placed) (total : List Scalar) (bound : ℕ) → os ≡ mid ++ o ∷ [] →
     seen placed ++ remaining tags new ≡ seen parts ++ (contribution tags o ++ remaining tags mid) → AreRoomy tags new →
-      work tags new < open_work tags o + work tags mid →
+    work tags new < open_work tags o + work tags mid →
     (seen parts ++ remaining tags os ≡ total) × (AreRoomy tags os × (work tags os ≤ bound)) →
     (seen placed ++ remaining tags new ≡ total) × (AreRoomy tags new × (work tags new ≤ bound))
 goes_on tags os mid new o parts placed total bound is step roomy less before =
@@ -73,7 +118,7 @@ goes_on tags os mid new o parts placed total bound is step roomy less before =
     )
 
 pub ends : (tags : List Tag) (os : List Open) (parts : List Placed) (total : List Scalar) → os ≡ [] → seen parts ++ remaining tags os ≡ total →
-  seen parts ≡ total
+    seen parts ≡ total
 ends tags os parts total none is = sym (append-nil (seen parts)) ∙ (ap (λ (x : List Open). seen parts ++ remaining tags x) (sym none) ∙ is)
 
 -- an element by its number
@@ -100,19 +145,19 @@ module _ (tags : List Tag) (o : Open) (t : Tag) (m : Member) (at : Some t ≡ sl
       let w : ℕ → ℕ = weight_by o.depth tags in
       let less = single_weight w (type_of_member m) in
       let own : weight_with w ty ≡ weight_with w (single_of (type_of_member m)) =
-            ap (weight_with w) same ∙ ap (λ (x : CType). weight_with w (single_of x)) (sym (type_of_member-seen m)) in
+      ap (weight_with w) same ∙ ap (λ (x : CType). weight_with w (single_of x)) (sym (type_of_member-seen m)) in
       let whole = work_is tags o t m (sym at) (sym is) in
       omega (arith, own, whole)
 
   -- the scalars of the member, as of what it is an array of one of
   brings : (ty : CType) (offset at_offset : ℕ) → ty ≡ single_of (type_of m.qual.ty) → offset ≡ member_offset tags o.tag o.next →
-    at_offset ≡ o.offset + offset →
+      at_offset ≡ o.offset + offset →
       contribution tags o ≡ shifted at_offset (scalars_with (scalars_by o.depth tags) tags ty) ++ contribution tags (after o)
   brings ty offset at_offset same stands sum =
       let f : ℕ → List Scalar = scalars_by o.depth tags in
       let own : scalars_with f tags (type_of_member m) ≡ scalars_with f tags ty
       = sym (single_scalars f tags (type_of_member m)) ∙
-        (ap (λ (x : CType). scalars_with f tags (single_of x)) (type_of_member-seen m) ∙ ap (scalars_with f tags) (sym same)) in
+      (ap (λ (x : CType). scalars_with f tags (single_of x)) (type_of_member-seen m) ∙ ap (scalars_with f tags) (sym same)) in
       let begins_at : o.offset + member_offset tags o.tag o.next ≡ at_offset = omega (arith, stands, sum) in
       contribution_is tags o t m (sym at) (sym is)
       ∙ (ap (λ (n : ℕ). shifted n (scalars_with f tags (type_of_member m)) ++ contribution tags (after o)) begins_at
@@ -120,18 +165,18 @@ module _ (tags : List Tag) (o : Open) (t : Tag) (m : Member) (at : Some t ≡ sl
 
   pub part_placed :
       (ty : CType) (offset at_offset : ℕ) (s : Shape) (parts placed : List Placed) (os new : List Open) → ty ≡ single_of (type_of m.qual.ty) →
-        offset ≡ member_offset tags o.tag o.next →
+      offset ≡ member_offset tags o.tag o.next →
       at_offset ≡ o.offset + offset → leaves (form_of s) ≡ scalars_with (scalars_by o.depth tags) tags ty → placed ≡ parts ++
-        roll-Placed (record { offset = at_offset; part = s }) ∷ [] →
+      roll-Placed (record { offset = at_offset; part = s }) ∷ [] →
       new ≡ os ++ after o ∷ [] → seen placed ++ remaining tags new ≡ seen parts ++ (contribution tags o ++ remaining tags os)
   part_placed ty offset at_offset s parts placed os new same stands sum own p n =
       let put : Placed = roll-Placed (record { offset = at_offset; part = s }) in
       let one : List Scalar = shifted at_offset (scalars_with (scalars_by o.depth tags) tags ty) in
       let more : seen placed ≡ seen parts ++ one
       = ap seen p ∙ (all_leaves-more parts put ∙ ap (λ (xs : List Scalar). seen parts ++ xs)
-        (ap (λ (q : Put). shifted q.offset (leaves q.part)) (put_of-roll at_offset s) ∙ ap (shifted at_offset) own)) in
+      (ap (λ (q : Put). shifted q.offset (leaves q.part)) (put_of-roll at_offset s) ∙ ap (shifted at_offset) own)) in
       placed_so (seen parts) one (contribution tags (after o)) (remaining tags os) (seen placed) (remaining tags new) (seen placed ++ remaining tags new)
-        (contribution tags o)
+      (contribution tags o)
       more (ap (remaining tags) n ∙ remaining-more tags os (after o)) (brings ty offset at_offset same stands sum) refl
 
   pub part_roomy : (os new : List Open) → IsRoomy tags o → AreRoomy tags os → new ≡ os ++ after o ∷ [] → AreRoomy tags new
@@ -144,7 +189,7 @@ module _ (tags : List Tag) (o : Open) (t : Tag) (m : Member) (at : Some t ≡ sl
       omega (arith, more, whole)
 
   module _ (ty : CType) (tag offset at_offset : ℕ) (same : ty ≡ single_of (type_of m.qual.ty)) (kind : (ty ≡ struct tag) ⊎ (ty ≡ union tag))
-    (stands : offset ≡ member_offset tags o.tag o.next)
+      (stands : offset ≡ member_offset tags o.tag o.next)
       (sum : at_offset ≡ o.offset + offset) where
     scalars_are : scalars_with (scalars_by o.depth tags) tags ty ≡ scalars_by o.depth tags tag
     scalars_are = elim kind [ inl p ↦ ap (scalars_with (scalars_by o.depth tags) tags) p | inr p ↦ ap (scalars_with (scalars_by o.depth tags) tags) p ]
@@ -161,12 +206,12 @@ module _ (tags : List Tag) (o : Open) (t : Tag) (m : Member) (at : Some t ≡ sl
         let one : List Scalar = shifted at_offset (scalars_by o.depth tags tag) in
         let left : remaining tags new ≡ one ++ (contribution tags (after o) ++ remaining tags os)
         = ap (remaining tags) e ∙ (remaining-entered tags o.depth tag at_offset mid ∙ ap (λ (xs : List Scalar). one ++ xs)
-          (ap (remaining tags) n ∙ remaining-more tags os (after o))) in
+        (ap (remaining tags) n ∙ remaining-more tags os (after o))) in
         opened_so done one (contribution tags (after o)) (remaining tags os) (remaining tags new) (contribution tags o) left
         (brings ty offset at_offset same stands sum ∙ ap (λ (xs : List Scalar). shifted at_offset xs ++ contribution tags (after o)) scalars_are)
 
     pub tag_less : (os mid new : List Open) → mid ≡ os ++ after o ∷ [] → new ≡ entered o.depth tag at_offset mid →
-      work tags new < open_work tags o + work tags os
+        work tags new < open_work tags o + work tags os
     tag_less os mid new n e =
         let more : work tags mid ≡ open_work tags (after o) + work tags os = ap (work tags) n ∙ work-more tags os (after o) in
         let entered_work : work tags new ≤ 1 + weight_by o.depth tags tag + work tags mid
@@ -174,12 +219,12 @@ module _ (tags : List Tag) (o : Open) (t : Tag) (m : Member) (at : Some t ≡ sl
         let w : ℕ → ℕ = weight_by o.depth tags in
         let less = single_weight w (type_of_member m) in
         let own : weight_with w ty ≡ weight_with w (single_of (type_of_member m)) =
-              ap (weight_with w) same ∙ ap (λ (x : CType). weight_with w (single_of x)) (sym (type_of_member-seen m)) in
+        ap (weight_with w) same ∙ ap (λ (x : CType). weight_with w (single_of x)) (sym (type_of_member-seen m)) in
         let whole = work_is tags o t m (sym at) (sym is) in
         omega (arith, more, own, whole, weight_is)
 
     pub tag_roomy : (os mid new : List Open) → IsSettled tags → IsRoomy tags o → AreRoomy tags os → mid ≡ os ++ after o ∷ [] →
-      new ≡ entered o.depth tag at_offset mid → AreRoomy tags new
+        new ≡ entered o.depth tag at_offset mid → AreRoomy tags new
     tag_roomy os mid new settled roomy others n e =
         let f = fits_is tags o t m (sym at) (sym is) settled roomy in
         let room : o.offset + member_offset tags o.tag o.next + f.0.size ≤ 2 ^ 40 = f.1.1 in

@@ -7,8 +7,30 @@ use Rattle.c_types.specs.declared.tags.TagKind.{TagKind}
 use Rattle.c_types.specs.declared.tags.Member.{Member}
 use Rattle.c_types.specs.declared.tags.Tag.{Tag}
 use Rattle.c_types.specs.declared.tags.Extent.{Extent}
-use Rattle.c_types.specs.Layout.{Known, extent, extents, extent_of, limited, rounded, offset, with_member, and_then, placed, members_extent, no_members,
-  padded, if_any, tag_extent, extent_of_tag, type_of_member, extent_of_member, offset_behind, offset_in, number_in, member_offset}
+use Rattle.c_types.specs.Layout.{
+  Known,
+  extent,
+  extents,
+  extent_of,
+  limited,
+  rounded,
+  offset,
+  with_member,
+  and_then,
+  placed,
+  members_extent,
+  no_members,
+  padded,
+  if_any,
+  tag_extent,
+  extent_of_tag,
+  type_of_member,
+  extent_of_member,
+  offset_behind,
+  offset_in,
+  number_in,
+  member_offset,
+}
 use Rattle.c_types.specs.Table.{IsSettled}
 
 pub limited_some : (a e : Extent) → limited a ≡ Some e → (a ≡ e) × (e.size ≤ 2 ^ 40)
@@ -69,7 +91,7 @@ grows kind k b0 b (m ∷ ms) h = grows_on kind k b0 b m ms (placed kind b0 (exte
 
 slot_on :
     (kind : TagKind) (k : Known) (b0 b : Extent) (n : Member) (ms : List Member) (i : ℕ) (m : Member) (o : Option Extent) →
-      placed kind b0 (extent k (type_of_member n)) ≡ o →
+    placed kind b0 (extent k (type_of_member n)) ≡ o →
     members_extent kind k o ms ≡ Some b → slice_get (n ∷ ms) i ≡ Some m →
     ((b1 : Extent) (j : ℕ) → members_extent kind k (Some b1) ms ≡ Some b → slice_get ms j ≡ Some m →
     Slot kind k (members_extent kind k (Some b1) (take j ms)) (extent k (type_of_member m)) b.size) →
@@ -87,7 +109,7 @@ slot_on kind k b0 b n ms (suc i) m (Some b1) p h g rest =
 
 pub slot :
     (kind : TagKind) (k : Known) (b0 b : Extent) (ms : List Member) (i : ℕ) (m : Member) → members_extent kind k (Some b0) ms ≡ Some b →
-      slice_get ms i ≡ Some m →
+    slice_get ms i ≡ Some m →
     Slot kind k (members_extent kind k (Some b0) (take i ms)) (extent k (type_of_member m)) b.size
 slot kind k b0 b [] i m h g = absurd (cc)
 slot kind k b0 b (n ∷ ms) i m h g =
@@ -104,14 +126,14 @@ pub record Fits (tags : List Tag) (tag i : ℕ) (m : Member) (size : ℕ) : Type
   pub ends : member_offset tags tag i + own.size ≤ size
 
 offset_is : (kind : TagKind) (before member : Option Extent) (start own : Extent) → before ≡ Some start → member ≡ Some own →
-  number_in (offset_behind kind before member) ≡ offset kind start own
+    number_in (offset_behind kind before member) ≡ offset kind start own
 offset_is kind None member start own b m = absurd (cc)
 offset_is kind (Some s) None start own b m = absurd (cc)
 offset_is kind (Some s) (Some o) start own b m = let same : s ≡ start = cc in let one : o ≡ own = cc in ap (λ (x : Extent). offset kind x o) same ∙ ap
-  (λ (x : Extent). offset kind start x) one
+    (λ (x : Extent). offset kind start x) one
 
 module _ (tags : List Tag) (settled : IsSettled tags) (tag : ℕ) (t : Tag) (e : Extent) (at : slice_get tags tag ≡ Some t)
-  (known : extents tags tag ≡ Some e) where
+    (known : extents tags tag ≡ Some e) where
   whole : (b : Extent) × ((members_extent t.kind (extents tags) (Some no_members) t.members ≡ Some b) × (padded b ≡ Some e))
   whole =
       let seen : tag_extent (extents tags) t ≡ Some e = ap (extent_of_tag (extents tags)) (sym at) ∙ (sym (settled.known tag) ∙ known) in
@@ -125,7 +147,7 @@ module _ (tags : List Tag) (settled : IsSettled tags) (tag : ℕ) (t : Tag) (e :
       let stands : member_offset tags tag i ≡ offset t.kind s.start s.own
       = ap (λ (o : Option Tag). number_in (offset_in (extents tags) o i)) at
       ∙ offset_is t.kind (members_extent t.kind (extents tags) (Some no_members) (take i t.members)) (extent_of_member (extents tags) (slice_get t.members i))
-        s.start s.own s.starts there in
+      s.start s.own s.starts there in
       let ends = s.ends in
       record { own = s.own; owns = s.owns; ends = omega arith }
 

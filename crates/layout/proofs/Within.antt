@@ -1,6 +1,32 @@
 -- Each scalar and each named member of a complete type begins within it, so no offset is cut short.
-use Rattle.std.proofs.Common.{◌≡◌, ℕ, zero, suc, ◌+◌, ◌-◌, ◌*◌, ◌^◌, ◌≤◌, min, List, [], ◌∷◌, ◌++◌, length, map, Option, Some, None, refl, sym, ap, subst,
-  ◌∙◌, zero-add, arith}
+use Rattle.std.proofs.Common.{
+  ◌≡◌,
+  ℕ,
+  zero,
+  suc,
+  ◌+◌,
+  ◌-◌,
+  ◌*◌,
+  ◌^◌,
+  ◌≤◌,
+  min,
+  List,
+  [],
+  ◌∷◌,
+  ◌++◌,
+  length,
+  map,
+  Option,
+  Some,
+  None,
+  refl,
+  sym,
+  ap,
+  subst,
+  ◌∙◌,
+  zero-add,
+  arith,
+}
 use Rattle.std.specs.Prelude.{slice_get, IsSome}
 use Rattle.c_types.specs.declared.tags.Member.{Member}
 use Rattle.c_types.specs.declared.tags.Tag.{Tag}
@@ -42,7 +68,7 @@ under_repeated (suc n) s xs u =
     (under_shifted (n * s) s (suc n * s) xs more u)
 
 under_array : (n : ℕ) (x : Option Extent) (e : Extent) (xs : List Scalar) → repeated n x ≡ Some e → ((d : Extent) → x ≡ Some d → Under d.size xs) →
-  Under e.size (repeated_scalars n (size_in x) xs)
+    Under e.size (repeated_scalars n (size_in x) xs)
 under_array n None e xs h u = absurd (cc)
 under_array n (Some d) e xs h u =
     let l = limited_some (extent_of (n * d.size) d.align) e h in
@@ -68,7 +94,7 @@ some_extent None P h f = absurd (cc)
 some_extent (Some e) P h f = f e refl
 
 module _ (tags : List Tag) (settled : IsSettled tags) (of_tag : ℕ → List Scalar)
-  (inner : (tag : ℕ) (e : Extent) → extents tags tag ≡ Some e → Under e.size (of_tag tag)) where
+    (inner : (tag : ℕ) (e : Extent) → extents tags tag ≡ Some e → Under e.size (of_tag tag)) where
   under_type : (t : CType) (e : Extent) → extent (extents tags) t ≡ Some e → Under e.size (scalars_with of_tag tags t)
   under_type void e h = tt
   under_type (int kind) e h = (omega arith, tt)
@@ -95,7 +121,7 @@ module _ (tags : List Tag) (settled : IsSettled tags) (of_tag : ℕ → List Sca
   under_content : (tag : ℕ) (o : Option Tag) (e : Extent) → slice_get tags tag ≡ o → extents tags tag ≡ Some e → Under e.size (tag_scalars of_tag tags tag o)
   under_content tag None e g h = tt
   under_content tag (Some t) e g h = under_members tag e 0 t.members
-    (λ j m at. subst (λ k. Fits tags tag k m e.size) (sym (zero-add j)) (fits tags settled tag t e g h j m at))
+      (λ j m at. subst (λ k. Fits tags tag k m e.size) (sym (zero-add j)) (fits tags settled tag t e g h j m at))
 
 module _ (tags : List Tag) (settled : IsSettled tags) where
   under_tag : (n tag : ℕ) (e : Extent) → extents tags tag ≡ Some e → Under e.size (scalars_by n tags tag)

@@ -1,6 +1,33 @@
 -- Each named member begins within its structure or union, so no offset is cut short.
-use Rattle.std.proofs.Common.{◌≡◌, ℕ, zero, suc, ◌+◌, ◌-◌, ◌^◌, ◌≤◌, min, Bool, true, false, List, [], ◌∷◌, ◌++◌, length, map, Option, Some, None, refl, sym,
-  ap, subst, zero-add, arith}
+use Rattle.std.proofs.Common.{
+  ◌≡◌,
+  ℕ,
+  zero,
+  suc,
+  ◌+◌,
+  ◌-◌,
+  ◌^◌,
+  ◌≤◌,
+  min,
+  Bool,
+  true,
+  false,
+  List,
+  [],
+  ◌∷◌,
+  ◌++◌,
+  length,
+  map,
+  Option,
+  Some,
+  None,
+  refl,
+  sym,
+  ap,
+  subst,
+  zero-add,
+  arith,
+}
 use Rattle.std.specs.Prelude.{slice_get, if◌then◌else◌}
 use Rattle.std.specs.Option.{option_map}
 use Rattle.std.specs.Str.{bytes_eq}
@@ -41,7 +68,7 @@ under_brought size [] own inner e u = u
 under_brought size (c ∷ cs) own inner e u = (omega arith, tt)
 
 module _ (tags : List Tag) (settled : IsSettled tags) (of_tag : ℕ → List Named)
-  (inner : (tag : ℕ) (e : Extent) → extents tags tag ≡ Some e → Under e.size (of_tag tag)) where
+    (inner : (tag : ℕ) (e : Extent) → extents tags tag ≡ Some e → Under e.size (of_tag tag)) where
   under_inside : (t : CType) (e : Extent) → extent (extents tags) t ≡ Some e → Under e.size (inside of_tag t)
   under_inside void e h = tt
   under_inside (int kind) e h = tt
@@ -70,7 +97,7 @@ module _ (tags : List Tag) (settled : IsSettled tags) (of_tag : ℕ → List Nam
   under_content : (tag : ℕ) (o : Option Tag) (e : Extent) → slice_get tags tag ≡ o → extents tags tag ≡ Some e → Under e.size (tag_names of_tag tags tag o)
   under_content tag None e g h = tt
   under_content tag (Some t) e g h = under_members tag e 0 t.members
-    (λ j m at. subst (λ k. Fits tags tag k m e.size) (sym (zero-add j)) (fits tags settled tag t e g h j m at))
+      (λ j m at. subst (λ k. Fits tags tag k m e.size) (sym (zero-add j)) (fits tags settled tag t e g h j m at))
 
 module _ (tags : List Tag) (settled : IsSettled tags) where
   under_tag : (n tag : ℕ) (e : Extent) → extents tags tag ≡ Some e → Under e.size (names_by n tags tag)
@@ -78,14 +105,14 @@ module _ (tags : List Tag) (settled : IsSettled tags) where
   under_tag (suc n) tag e h = under_content tags settled (names_by n tags) (under_tag n) tag (slice_get tags tag) e refl h
 
   small_content : (n tag : ℕ) (o : Option Tag) (x : Option Extent) → slice_get tags tag ≡ o → extents tags tag ≡ x →
-    Under (2 ^ 40) (tag_names (names_by n tags) tags tag o)
+      Under (2 ^ 40) (tag_names (names_by n tags) tags tag o)
   small_content n tag None x g h = tt
   small_content n tag (Some t) None g h =
       let f : List Member → List Named = member_names (names_by n tags) tags tag 0 in
       subst (λ (ms : List Member). Under (2 ^ 40) (f ms)) (sym (settled.filled tag t g h)) tt
   small_content n tag (Some t) (Some e) g h =
       under_more e.size (2 ^ 40) (tag_names (names_by n tags) tags tag (Some t)) (tag_small tags settled tag t e g h)
-        (under_content tags settled (names_by n tags) (under_tag n) tag (Some t) e g h)
+      (under_content tags settled (names_by n tags) (under_tag n) tag (Some t) e g h)
 
   small_names : (n tag : ℕ) → Under (2 ^ 40) (names_by n tags tag)
   small_names zero tag = tt

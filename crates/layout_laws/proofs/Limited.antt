@@ -7,10 +7,45 @@ use Rattle.c_types.specs.declared.tags.Member.{Member}
 use Rattle.c_types.specs.declared.tags.Tag.{Tag}
 use Rattle.c_types.specs.declared.tags.Extent.{Extent}
 use Rattle.c_types.specs.Types.{CType, void, int, enumeration, pointer, array, struct, union, function}
-use Rattle.c_types.specs.Layout.{Known, extent, extents, repeated, limited, placed, and_then, members_extent, type_of_member, padded, if_any, no_members,
-  with_member, extent_of_tag, known_by}
-use Rattle.layout_laws.specs.Complete.{complete_with, all_complete, has_members, complete_tag, complete_by, is_complete, times, whole_with, whole_members,
-  rounded_up, whole_tag, whole_by, whole_extent, is_small, within_with, all_within, within_tag, within_by, is_within, only_if}
+use Rattle.c_types.specs.Layout.{
+  Known,
+  extent,
+  extents,
+  repeated,
+  limited,
+  placed,
+  and_then,
+  members_extent,
+  type_of_member,
+  padded,
+  if_any,
+  no_members,
+  with_member,
+  extent_of_tag,
+  known_by,
+}
+use Rattle.layout_laws.specs.Complete.{
+  complete_with,
+  all_complete,
+  has_members,
+  complete_tag,
+  complete_by,
+  is_complete,
+  times,
+  whole_with,
+  whole_members,
+  rounded_up,
+  whole_tag,
+  whole_by,
+  whole_extent,
+  is_small,
+  within_with,
+  all_within,
+  within_tag,
+  within_by,
+  is_within,
+  only_if,
+}
 
 tested : (b : Bool) (e : Extent) → (if b then Some e else None) ≡ only_if b e
 tested true e = refl
@@ -24,7 +59,7 @@ repeated_if n false e = refl
 repeated_if n true e = limited_if (times n e)
 
 placed_if : (kind : TagKind) (before : Extent) (b : Bool) (e : Extent) →
-  placed kind before (only_if b e) ≡ only_if (b && is_small (with_member kind before e)) (with_member kind before e)
+    placed kind before (only_if b e) ≡ only_if (b && is_small (with_member kind before e)) (with_member kind before e)
 placed_if kind before false e = refl
 placed_if kind before true e = limited_if (with_member kind before e)
 
@@ -83,7 +118,7 @@ module _ (kind : TagKind) (known : Known) (c w : ℕ → Bool) (s : ℕ → Exte
   next_if : (b : Bool) (before : Extent) (t : CType) →
       and_then (only_if (b && is_small before) before) (λ x. placed kind x (extent known t))
       ≡ only_if ((b && (complete_with c t && within_with w s t)) && is_small (with_member kind before (whole_with s t)))
-        (with_member kind before (whole_with s t))
+      (with_member kind before (whole_with s t))
   next_if b before t =
       let e = whole_with s t in
       let next = with_member kind before e in
@@ -96,7 +131,7 @@ module _ (kind : TagKind) (known : Known) (c w : ℕ → Bool) (s : ℕ → Exte
   members_if : (ms : List Member) (b : Bool) (before : Extent) →
       and_then (members_extent kind known (only_if (b && is_small before) before) ms) padded
       ≡ only_if ((b && all_complete c ms) && (all_within w s ms && is_small (rounded_up (whole_members kind s before ms))))
-        (rounded_up (whole_members kind s before ms))
+      (rounded_up (whole_members kind s before ms))
   members_if [] b before =
       let next = rounded_up before in
       then_kept (b && is_small before) before padded
@@ -113,7 +148,7 @@ module _ (kind : TagKind) (known : Known) (c w : ℕ → Bool) (s : ℕ → Exte
   any_if : (ms : List Member) →
       if_any ms (and_then (members_extent kind known (Some no_members) ms) padded)
       ≡ only_if ((has_members ms && all_complete c ms) && (all_within w s ms && is_small (rounded_up (whole_members kind s no_members ms))))
-        (rounded_up (whole_members kind s no_members ms))
+      (rounded_up (whole_members kind s no_members ms))
   any_if [] = refl
   any_if (m ∷ ms) = members_if (m ∷ ms) true no_members
 
@@ -128,4 +163,4 @@ known_if (suc n) tags tag = tag_if (known_by n tags) (complete_by n tags) (withi
 
 pub extent-limited : (tags : List Tag) (t : CType) → extent (extents tags) t ≡ only_if (is_complete tags t && is_within tags t) (whole_extent tags t)
 extent-limited tags t = extent_if (extents tags) (complete_by (length tags) tags) (within_by (length tags) tags) (whole_by (length tags) tags)
-  (known_if (length tags) tags) t
+    (known_if (length tags) tags) t

@@ -28,7 +28,7 @@ pub rounded-multiple : (d n : ℕ) → 0 < d → rounded d n % d ≡ 0
 rounded-multiple d n positive = elim (slack d (n % d) (mod_below n d positive)) [
   | inl h ↦ (let same : rounded d n ≡ n = omega arith in ap (λ m. m % d) same ∙ h.0)
   | inr h ↦ (let same : rounded d n ≡ (n / d + 1) * d + 0 = let e = up d n h.0 h.1 (mod_below n d positive) in omega arith in ap
-    (λ m. m % d) same ∙ mod-mul-add (n / d + 1) d 0 positive)
+      (λ m. m % d) same ∙ mod-mul-add (n / d + 1) d 0 positive)
 ]
 
 -- a multiple that isn't below an offset with a rest is above the multiple below it

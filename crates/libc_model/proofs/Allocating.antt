@@ -19,7 +19,7 @@ use Rattle.libc_model.specs.Answers.{Does, given_value}
 use Rattle.libc_model.proofs.Scripts.{then, behind, run_then, behind_done}
 
 pub does_same : {A B : Type 0} (f : B → A) (r : Result A LibAnswer) (is : List Item) (s : Store) (act other : Act B) → act ≡ other → Does f r is s other →
-  Does f r is s act
+    Does f r is s act
 does_same {A = A} {B = B} f r is s act other e h = subst (λ (act : Act B). Does f r is s act) (sym e) h
 
 -- a new object as a value
@@ -42,14 +42,14 @@ limit_kept n s Unplaced e h = rw (e, h) refl
 
 malloc_is : (rows : List Row) (who : Event) (n : ℕ) (s : Store) → is_given n ≡ true → nat_lt (2 ^ 26) (created_with s n) ≡ false →
     created_within n s (run rows (malloc rows who n) s) ≡ then (run rows (new_object rows who n) s)
-      (λ base u. Done (pointer base (Whole (heap_name who))) [] u)
+    (λ base u. Done (pointer base (Whole (heap_name who))) [] u)
 malloc_is rows who n s e h = limit_kept n s (run rows (malloc rows who n) s) e h ∙ malloc_then rows who n s e
 
 value_then : (x : ObjName) (p : Pointer) (is : List Item) (t : Store) (act : Act ℕ) → Does (based x) (Ok p) is t act →
     Does given_value (Ok (Ptr p.addr p.prov)) is t (then act (λ base u. Done (pointer base (Whole x)) [] u))
 value_then x p is t (Done b js u) h =
     does_same given_value (Ok (Ptr p.addr p.prov)) is t (behind js (Done (pointer b (Whole x)) [] u)) (Done (pointer b (Whole x)) (js ++ []) u)
-      (behind_done js [] (pointer b (Whole x)) u)
+    (behind_done js [] (pointer b (Whole x)) u)
     (ap (λ (q : Pointer). Ptr q.addr q.prov) h.0, h.1 ∙ sym (append-nil js), h.2)
 value_then x p is t act h = absurd h
 
@@ -77,7 +77,7 @@ within_split false a e = refl
 
 -- an object of this name and size is the one that is asked for
 pub same_object_asked : (rows : List Row) (who : Event) (n k : ℕ) (x : ObjName) (s : Store) (r : Result Pointer LibAnswer) (is : List Item) (t : Store) →
-  k ≡ n → x ≡ heap_name who →
+    k ≡ n → x ≡ heap_name who →
     Does (based x) r is t (run rows (create rows x k 16 heap_kind None) s) → Does (based (heap_name who)) r is t (run rows (new_object rows who n) s)
 same_object_asked rows who n k x s r is t size name d =
     subst (λ (y : ObjName). Does (based y) r is t (run rows (create rows y n 16 heap_kind None) s)) name
@@ -88,22 +88,22 @@ limit_of n k s e h = subst (λ (j : ℕ). nat_lt (2 ^ 26) (created_with s j) ≡
 
 -- the object is created
 pub malloc_done : (rows : List Row) (who : Event) (n k : ℕ) (x : ObjName) (s : Store) (p : Pointer) (is : List Item) (t : Store) → k ≡ n → x ≡ heap_name who →
-  is_given n ≡ true → nat_lt (2 ^ 26) (created_with s k) ≡ false →
+    is_given n ≡ true → nat_lt (2 ^ 26) (created_with s k) ≡ false →
     Does (based x) (Ok p) is t (run rows (create rows x k 16 heap_kind None) s) →
     Does given_value (Ok (Ptr p.addr p.prov)) is t (created_within n s (run rows (malloc rows who n) s))
 malloc_done rows who n k x s p is t size name e h d =
     does_same given_value (Ok (Ptr p.addr p.prov)) is t (created_within n s (run rows (malloc rows who n) s))
-      (then (run rows (new_object rows who n) s) (λ base u. Done (pointer base (Whole (heap_name who))) [] u))
-      (malloc_is rows who n s e (limit_of n k s size h))
+    (then (run rows (new_object rows who n) s) (λ base u. Done (pointer base (Whole (heap_name who))) [] u))
+    (malloc_is rows who n s e (limit_of n k s size h))
     (value_then (heap_name who) p is t (run rows (new_object rows who n) s) (same_object_asked rows who n k x s (Ok p) is t size name d))
 
 -- it isn't
 pub malloc_failed : (rows : List Row) (who : Event) (n k : ℕ) (x : ObjName) (s : Store) (a : LibAnswer) (is : List Item) (t : Store) → k ≡ n →
-  x ≡ heap_name who → is_given n ≡ true → nat_lt (2 ^ 26) (created_with s k) ≡ false →
+    x ≡ heap_name who → is_given n ≡ true → nat_lt (2 ^ 26) (created_with s k) ≡ false →
     Does (based x) (Err a) is t (run rows (create rows x k 16 heap_kind None) s) →
     Does given_value (Err a) is t (created_within n s (run rows (malloc rows who n) s))
 malloc_failed rows who n k x s a is t size name e h d =
     does_same given_value (Err a) is t (created_within n s (run rows (malloc rows who n) s))
-      (then (run rows (new_object rows who n) s) (λ base u. Done (pointer base (Whole (heap_name who))) [] u))
-      (malloc_is rows who n s e (limit_of n k s size h))
+    (then (run rows (new_object rows who n) s) (λ base u. Done (pointer base (Whole (heap_name who))) [] u))
+    (malloc_is rows who n s e (limit_of n k s size h))
     (fault_then (heap_name who) a is t (run rows (new_object rows who n) s) (same_object_asked rows who n k x s (Err a) is t size name d))

@@ -22,8 +22,25 @@ use Rattle.mem_spec.specs.Store.{Store}
 use Rattle.mem_spec.specs.Script.{Act, Done, Raised, Ended, Outside, Unplaced, Give, ◌>>◌, run}
 use Rattle.mem_spec.specs.Streams.{Io}
 use Rattle.prov_memory.specs.Memory.{Kept, HasCell}
-use Rattle.libc_spec.specs.Library.{LibValue, pointer, nothing, free, malloc, calloc, library, asked, argument_at, pointer_in, address_in, prov_in,
-  integer_in, size_of_value, output_within, created_within, called}
+use Rattle.libc_spec.specs.Library.{
+  LibValue,
+  pointer,
+  nothing,
+  free,
+  malloc,
+  calloc,
+  library,
+  asked,
+  argument_at,
+  pointer_in,
+  address_in,
+  prov_in,
+  integer_in,
+  size_of_value,
+  output_within,
+  created_within,
+  called,
+}
 use Rattle.libc_model.specs.Answers.{Does, Answers, IsCall, HaveCells, are_sizes, given_value, answer_in}
 use Rattle.libc_model.proofs.Scripts.{then, run_then, behind_done}
 
@@ -32,7 +49,7 @@ output_kept v is s h = rw (le-ltb (2 ^ 24) (length s.output) h) refl
 
 -- a value by the act that gives it
 answers_done : (v : Value) (w : LibValue) (is js : List Item) (s u : Store) (act : Act LibValue) → act ≡ Done w js u → v ≡ given_value w → is ≡ js → s ≡ u →
-  Answers (answers.Value v) is s act
+    Answers (answers.Value v) is s act
 answers_done v w is js s u act e value items store = subst (λ (act : Act LibValue). Answers (answers.Value v) is s act) (sym e) (value, items, store)
 
 -- a part of a call whose streams stay within their limits is the call
@@ -52,7 +69,7 @@ freed : (s t : Store) (is : List Item) (act : Act (Unit {0})) → Does (λ u. u)
     Does given_value (Ok Nothing) is t (created_within 0 s (then act (λ v u. Done nothing [] u)))
 freed s t is (Done v js u) h =
     subst (λ (act : Act LibValue). Does given_value (Ok Nothing) is t (created_within 0 s act)) (sym (behind_done js [] nothing u))
-      (refl, h.1 ∙ sym (append-nil js), h.2)
+    (refl, h.1 ∙ sym (append-nil js), h.2)
 freed s t is act h = absurd h
 
 not_freed : (s t : Store) (is : List Item) (a : LibAnswer) (act : Act (Unit {0})) → Does {A = Unit {0}} (λ u. u) (Err a) is t act →
@@ -64,22 +81,22 @@ not_freed s t is answers.Unplaced Unplaced h = tt
 not_freed s t is a act h = absurd h
 
 pub freed_by : (rows : List Row) (a : ℕ) (prov : Prov) (c : Clause) (s t : Store) (is : List Item) →
-  Does (λ u. u) (Ok tt) is t (run rows (free rows a prov c) s) →
+    Does (λ u. u) (Ok tt) is t (run rows (free rows a prov c) s) →
     Does given_value (Ok Nothing) is t (created_within 0 s (run rows (free rows a prov c >> Give nothing) s))
 freed_by rows a prov c s t is h =
     subst (λ (act : Act LibValue). Does given_value (Ok Nothing) is t (created_within 0 s act))
-      (sym (run_then rows (free rows a prov c) (λ v. Give nothing) s)) (freed s t is (run rows (free rows a prov c) s) h)
+    (sym (run_then rows (free rows a prov c) (λ v. Give nothing) s)) (freed s t is (run rows (free rows a prov c) s) h)
 
 pub not_freed_by : (rows : List Row) (a : ℕ) (prov : Prov) (c : Clause) (s t : Store) (is : List Item) (r : LibAnswer) →
-  Does {A = Unit {0}} (λ u. u) (Err r) is t (run rows (free rows a prov c) s) →
+    Does {A = Unit {0}} (λ u. u) (Err r) is t (run rows (free rows a prov c) s) →
     Does given_value (Err r) is t (created_within 0 s (run rows (free rows a prov c >> Give nothing) s))
 not_freed_by rows a prov c s t is r h =
     subst (λ (act : Act LibValue). Does given_value (Err r) is t (created_within 0 s act)) (sym (run_then rows (free rows a prov c) (λ v. Give nothing) s))
-      (not_freed s t is r (run rows (free rows a prov c) s) h)
+    (not_freed s t is r (run rows (free rows a prov c) s) h)
 
 -- ---- calls
 pub malloc_called : (rows : List Row) (vs : List LibValue) (who : Event) (n : ℕ) (s t : Store) (r : Result Value LibAnswer) (is : List Item) →
-  length t.output ≤ 2 ^ 24 → n ≡ size_of_value (argument_at vs 0) →
+    length t.output ≤ 2 ^ 24 → n ≡ size_of_value (argument_at vs 0) →
     Does given_value r is t (created_within n s (run rows (malloc rows who n) s)) → Answers (answer_in r) is t (called rows Malloc vs who s)
 malloc_called rows vs who n s t r is o size h =
     answers_of r is t (created_within (size_of_value (argument_at vs 0)) s (run rows (malloc rows who (size_of_value (argument_at vs 0))) s)) o
@@ -89,26 +106,26 @@ pub address_is : (a b : ℕ) (p q : Prov) → pointer a p ≡ pointer b q → (a
 address_is a b p q e = (cc, cc)
 
 pub free_called : (rows : List Row) (vs : List LibValue) (who : Event) (a : ℕ) (p : Prov) (s t : Store) (is : List Item) → length t.output ≤ 2 ^ 24 →
-  pointer a p ≡ pointer_in (argument_at vs 0) →
+    pointer a p ≡ pointer_in (argument_at vs 0) →
     Does (λ u. u) (Ok tt) is t (run rows (free rows a p FreeOfOther) s) → Answers (answers.Value Nothing) is t (called rows Free vs who s)
 free_called rows vs who a p s t is out same h =
     let q = address_is a (address_in (argument_at vs 0)) p (prov_in (argument_at vs 0)) same in
     answers_of (Ok Nothing) is t (created_within 0 s
-      (run rows (free rows (address_in (argument_at vs 0)) (prov_in (argument_at vs 0)) FreeOfOther >> Give nothing) s)) out
+    (run rows (free rows (address_in (argument_at vs 0)) (prov_in (argument_at vs 0)) FreeOfOther >> Give nothing) s)) out
     (freed_by rows (address_in (argument_at vs 0)) (prov_in (argument_at vs 0)) FreeOfOther s t is
     (subst (λ (a : ℕ). Does (λ u. u) (Ok tt) is t (run rows (free rows a (prov_in (argument_at vs 0)) FreeOfOther) s)) q.0
-      (subst (λ (p : Prov). Does (λ u. u) (Ok tt) is t (run rows (free rows a p FreeOfOther) s)) q.1 h)))
+    (subst (λ (p : Prov). Does (λ u. u) (Ok tt) is t (run rows (free rows a p FreeOfOther) s)) q.1 h)))
 
 pub free_refused : (rows : List Row) (vs : List LibValue) (who : Event) (a : ℕ) (p : Prov) (s t : Store) (is : List Item) (r : LibAnswer) →
-  length t.output ≤ 2 ^ 24 → pointer a p ≡ pointer_in (argument_at vs 0) →
+    length t.output ≤ 2 ^ 24 → pointer a p ≡ pointer_in (argument_at vs 0) →
     Does {A = Unit {0}} {B = Unit {0}} (λ u. u) (Err r) is t (run rows (free rows a p FreeOfOther) s) → Answers r is t (called rows Free vs who s)
 free_refused rows vs who a p s t is r out same h =
     let q = address_is a (address_in (argument_at vs 0)) p (prov_in (argument_at vs 0)) same in
     answers_of (Err r) is t (created_within 0 s
-      (run rows (free rows (address_in (argument_at vs 0)) (prov_in (argument_at vs 0)) FreeOfOther >> Give nothing) s)) out
+    (run rows (free rows (address_in (argument_at vs 0)) (prov_in (argument_at vs 0)) FreeOfOther >> Give nothing) s)) out
     (not_freed_by rows (address_in (argument_at vs 0)) (prov_in (argument_at vs 0)) FreeOfOther s t is r
     (subst (λ (a : ℕ). Does {A = Unit {0}} {B = Unit {0}} (λ u. u) (Err r) is t (run rows (free rows a (prov_in (argument_at vs 0)) FreeOfOther) s)) q.0
-      (subst (λ (p : Prov). Does {A = Unit {0}} {B = Unit {0}} (λ u. u) (Err r) is t (run rows (free rows a p FreeOfOther) s)) q.1 h)))
+    (subst (λ (p : Prov). Does {A = Unit {0}} {B = Unit {0}} (λ u. u) (Err r) is t (run rows (free rows a p FreeOfOther) s)) q.1 h)))
 
 -- the first pointer's ambiguity is one of the memory
 pub first_cell : (m : Kept) (vs : List LibValue) (a : ℕ) (p : Prov) → HaveCells m vs → pointer a p ≡ pointer_in (argument_at vs 0) → HasCell m p
@@ -133,16 +150,16 @@ arm f g rows vs who m io a is s u e h = subst (λ (k : LibFunc). IsCall k vs m i
 
 -- a calloc whose streams stay within their limits is the call
 pub calloc_called : (rows : List Row) (vs : List LibValue) (who : Event) (s t : Store) (r : Result Value LibAnswer) (is : List Item) →
-  length t.output ≤ 2 ^ 24 →
+    length t.output ≤ 2 ^ 24 →
     Does given_value r is t (created_within (asked Calloc vs) s (run rows (calloc rows who (asked Calloc vs)) s)) →
-      Answers (answer_in r) is t (called rows Calloc vs who s)
+    Answers (answer_in r) is t (called rows Calloc vs who s)
 calloc_called rows vs who s t r is o h = answers_of r is t (created_within (asked Calloc vs) s (run rows (calloc rows who (asked Calloc vs)) s)) o h
 
 -- the same of a realloc
 pub realloc_called : (rows : List Row) (vs : List LibValue) (who : Event) (s t : Store) (r : Result Value LibAnswer) (is : List Item) →
-  length t.output ≤ 2 ^ 24 →
+    length t.output ≤ 2 ^ 24 →
     Does given_value r is t (created_within (asked Realloc vs) s (run rows (library rows Realloc vs who) s)) →
-      Answers (answer_in r) is t (called rows Realloc vs who s)
+    Answers (answer_in r) is t (called rows Realloc vs who s)
 realloc_called rows vs who s t r is o h = answers_of r is t (created_within (asked Realloc vs) s (run rows (library rows Realloc vs who) s)) o h
 
 -- the first pointer's ambiguity, where it is null for want of an argument too

@@ -1,6 +1,31 @@
 -- Lemmas on a realloc that moves its object: what memory is once the bytes stand in the new one.
-use Rattle.std.proofs.Common.{◌≡◌, ℕ, ◌≤◌, ◌==◌, ◌&&◌, Bool, true, false, cond, arith, min, List, [], ◌∷◌, ◌++◌, length, refl, ap, ap₂, sym, subst, ◌∙◌,
-  Option, Some, None}
+use Rattle.std.proofs.Common.{
+  ◌≡◌,
+  ℕ,
+  ◌≤◌,
+  ◌==◌,
+  ◌&&◌,
+  Bool,
+  true,
+  false,
+  cond,
+  arith,
+  min,
+  List,
+  [],
+  ◌∷◌,
+  ◌++◌,
+  length,
+  refl,
+  ap,
+  ap₂,
+  sym,
+  subst,
+  ◌∙◌,
+  Option,
+  Some,
+  None,
+}
 use Rattle.std.specs.Prelude.{IfSome, Ok, is_some}
 use Rattle.std.proofs.lemmas.List.{length-map}
 use Rattle.ub_base.specs.declared.names.Item.{Item}
@@ -57,11 +82,11 @@ absent_none o e = ap is_some e
 -- the new object isn't the old one
 pub other_name : (m mid : Kept) (h x : ObjName) (a b n : ℕ) → IsStart m x a → IsBorn m mid h b n 16 heap_kind None → same_object h x ≡ false
 other_name m mid h x a b n start made = apart_by (same_object h x) m h x refl (absent_none (held_of m.objects h) made.absent)
-  (is_held (row_of m.rows x) a (held_of m.objects x) start.begins)
+    (is_held (row_of m.rows x) a (held_of m.objects x) start.begins)
 
 -- the old object's range can still be read
 pub old_place : (m mid set : Kept) (h x : ObjName) (a b n len : ℕ) → IsStart m x a → IsBorn m mid h b n 16 heap_kind None → mid.rows ≡ rows_made m h n →
-  IsButCells mid set → len ≡ min (size_in (row_of m.rows x)) n → IsPlace set a (old_range x len)
+    IsButCells mid set → len ≡ min (size_in (row_of m.rows x)) n → IsPlace set a (old_range x len)
 old_place m mid set h x a b n len start made rows rest size =
     let o = row_of m.rows x in
     let l = life_in (held_of m.objects x) in
@@ -69,7 +94,7 @@ old_place m mid set h x a b n len start made rows rest size =
     let row : row_of set.rows x ≡ o = ap (λ (k : Kept). row_of k.rows x) rest ∙ ap (λ (rs : List Row). row_of rs x) rows ∙ row_kept m h x n there in
     let held : held_of set.objects x ≡ held_of m.objects x =
     ap (λ (k : Kept). held_of k.objects x) rest ∙ ap (λ (hs : List Held). held_of hs x) made.objects.1 ∙ held_beside m.objects
-      (newborn h b n heap_kind None made.objects.0) x there in
+    (newborn h b n heap_kind None made.objects.0) x there in
     let q = row_at_base o a start.there (base_start o a l start.begins) in
     record {
       address = above_null a start.there;
@@ -85,7 +110,7 @@ tags_added n (g ∷ hs) h here tagged = (tagged.0, tags_added n hs h here tagged
 
 born_tagged : (m mid : Kept) (h : ObjName) (b n : ℕ) → IsBorn m mid h b n 16 heap_kind None → AreTagged m → AreTagged mid
 born_tagged m mid h b n made tagged = rw (made.objects.1, made.types)
-  (tags_added (length m.types) m.objects (newborn h b n heap_kind None made.objects.0) tt tagged)
+    (tags_added (length m.types) m.objects (newborn h b n heap_kind None made.objects.0) tt tagged)
 
 but_tagged : (mid set : Kept) → IsButCells mid set → AreTagged mid → AreTagged set
 but_tagged mid set rest tagged = subst (λ (k : Kept). ObjectsTagged (length k.types) k.objects) (sym rest) tagged
@@ -95,13 +120,13 @@ but_known mid set rest known = subst (λ (k : Kept). ObjectsKnown (length k.orig
 
 -- ---- the old object has no declared type
 bare_by : (o : Option Row) (a : ℕ) (l : Option Life) → is_heap_start o a l ≡ true → IfSome l (λ l. l.kind.heap ≡ true → l.declared ≡ None) →
-  declared_of l ≡ None
+    declared_of l ≡ None
 bare_by o a None e bare = refl
 bare_by o a (Some l) e bare = bare (both_left l.kind.heap (base_in o == a) (both_right l.live (l.kind.heap && base_in o == a) e))
 
 -- ---- the bytes in the new object
 settled_born : (settles : Settling) (s : Store) (h : ObjName) (n : ℕ) →
-  after_settling settles (born s h n heap_kind None) ≡ born (after_settling settles s) h n heap_kind None
+    after_settling settles (born s h n heap_kind None) ≡ born (after_settling settles s) h n heap_kind None
 settled_born None s h n = refl
 settled_born (Some p) s h n = refl
 
@@ -128,29 +153,29 @@ bare_bytes o bs e = ap (λ (f : Option Form). retagged f 0 bs) e
 
 -- what stands in the block is what the old object held
 loaded_bytes : (m mid set : Kept) (io : Io) (h x : ObjName) (a b n len : ℕ) (settles : Settling) (bs : List TaggedByte) → AreBare m → IsStart m x a →
-  IsBorn m mid h b n 16 heap_kind None →
+    IsBorn m mid h b n 16 heap_kind None →
     store_of set io ≡ born (after_settling settles (store_of m io)) h n heap_kind None →
-      bs ≡ retagged (declared_of (life_in (held_of set.objects x))) 0 (bytes_of set (old_range x len)) →
+    bs ≡ retagged (declared_of (life_in (held_of set.objects x))) 0 (bytes_of set (old_range x len)) →
     bs ≡ range_from ((after_settling settles (store_of m io)).bytes x) 0 len
 loaded_bytes m mid set io h x a b n len settles bs bare start made store loaded =
     let u = after_settling settles (store_of m io) in
     let other = other_name m mid h x a b n start made in
     let life : life_in (held_of set.objects x) ≡ life_in (held_of m.objects x) =
-          ap (λ (s : Store). s.life x) store ∙ ap (λ (q : Bool). cond q (Some new_life) (u.life x)) other ∙ settled_life settles (store_of m io) x in
+    ap (λ (s : Store). s.life x) store ∙ ap (λ (q : Bool). cond q (Some new_life) (u.life x)) other ∙ settled_life settles (store_of m io) x in
     let none : declared_of (life_in (held_of set.objects x)) ≡ None =
-          ap declared_of life ∙ bare_by (row_of m.rows x) a (life_in (held_of m.objects x)) start.begins (bare x) in
+    ap declared_of life ∙ bare_by (row_of m.rows x) a (life_in (held_of m.objects x)) start.begins (bare x) in
     loaded ∙ bare_bytes (declared_of (life_in (held_of set.objects x))) (bytes_of set (old_range x len)) none
     ∙ ap (λ (s : Store). range_from (s.bytes x) 0 len) store
     ∙ ap (λ (q : Bool). range_from (λ (i : ℕ). cond q fresh (u.bytes x i)) 0 len) other
 
 -- ---- the store then
 pub carried : (m mid set loaded put new : Kept) (io : Io) (h x : ObjName) (a n len : ℕ) (settles : Settling) (p : Pointer) (is ks : List Item)
-  (cells : List Cell) → CanMove m → CanSettle m.cells settles → IsStart m x a → IsBorn m mid h p.addr n 16 heap_kind None →
+    (cells : List Cell) → CanMove m → CanSettle m.cells settles → IsStart m x a → IsBorn m mid h p.addr n 16 heap_kind None →
     mid.rows ≡ rows_made m h n → Does (based h) (Ok p) is (store_of mid io) (run mid.rows (create mid.rows h n 16 heap_kind None) (store_of m io)) →
-      len ≡ min (size_in (row_of m.rows x)) n →
+    len ≡ min (size_in (row_of m.rows x)) n →
     (CanSettle mid.cells settles → store_of set io ≡ after_settling settles (store_of mid io)) → IsButCells mid set →
     (AreTagged set → tagged_all loaded cells ≡ retagged (declared_of (life_in (held_of set.objects x))) 0 (bytes_of set (old_range x len))) →
-      (AreTagged set → store_of loaded io ≡ store_of set io) → length cells ≡ len → IsKept set loaded →
+    (AreTagged set → store_of loaded io ≡ store_of set io) → length cells ≡ len → IsKept set loaded →
     Fills loaded put vias.Whole h p.addr cells → run new.rows (kill x) (store_of put io) ≡ Done tt ks (store_of new io) →
     store_of new io ≡ moved_store (rows_made m h n) x h n (after_settling settles (store_of m io))
 carried m mid set loaded put new io h x a n len settles p is ks cells can settle start made rows does size settled rest bytes store long kept fills killed =
@@ -162,15 +187,15 @@ carried m mid set loaded put new io h x a n len settles p is ks cells can settle
     let store_set : store_of set io ≡ born u h n heap_kind None =
     settled (subst (λ (c : Cells). CanSettle c settles) (sym made.cells) settle) ∙ ap (after_settling settles) made_is.store ∙ settled_born settles s h n in
     let block : tagged_all loaded cells ≡ range_from (u.bytes x) 0 len =
-          loaded_bytes m mid set io h x a p.addr n len settles (tagged_all loaded cells) can.bare start made store_set (bytes tagged) in
+    loaded_bytes m mid set io h x a p.addr n len settles (tagged_all loaded cells) can.bare start made store_set (bytes tagged) in
     let count : length (tagged_all loaded cells) ≡ len = length-map cells _ ∙ long in
     let fits : length (tagged_all loaded cells) ≤ n = subst (λ (k : ℕ). k ≤ n) (sym count) (short len (size_in (row_of m.rows x)) n size) in
     let at : IsNewAt loaded h p.addr (length (tagged_all loaded cells)) =
     new_kept mid loaded h p.addr (length (tagged_all loaded cells)) (ap (λ (k : Kept). k.rows) kept ∙ ap (λ (k : Kept). k.rows) rest)
-      (ap (λ (k : Kept). k.objects) kept ∙ ap (λ (k : Kept). k.objects) rest)
+    (ap (λ (k : Kept). k.objects) kept ∙ ap (λ (k : Kept). k.objects) rest)
     (new_at mid h n p.addr (length (tagged_all loaded cells)) is s io made_is high fits) in
     let held = is_held (row_of m.rows x) a (held_of m.objects x) start.begins in
     let same : len ≡ min (size_in (row_of (rows_made m h n) x)) n = size ∙ ap (λ (o : Option Row). min (size_in o) n) (sym (row_kept m h x n held)) in
     done_left tt tt ks (Dies x ∷ []) (buried (store_of put io) x) (store_of new io) killed
     ∙ ap (λ (t : Store). buried t x) (fills tt whole tt at io ∙ ap₂ (λ (t : Store) (bs : List TaggedByte). with_bytes t h 0 bs) (store tagged ∙ store_set)
-      (stored_whole 0 (tagged_all loaded cells) ∙ block ∙ ap (λ (k : ℕ). range_from (u.bytes x) 0 k) same))
+    (stored_whole 0 (tagged_all loaded cells) ∙ block ∙ ap (λ (k : ℕ). range_from (u.bytes x) 0 k) same))

@@ -35,12 +35,12 @@ pub freed_whole : (a : ℕ) (x : ObjName) (c : Clause) (old new : Kept) (is : Li
     Does (λ u. u) (Ok tt) is (store_of new io) (run new.rows (free new.rows a (Whole x) c) (store_of old io))
 freed_whole a x c old new is io h e rows k =
     let e' : is_heap_start (row_of new.rows x) a (life_in (held_of old.objects x)) ≡ true =
-          subst (λ (rs : List Row). is_heap_start (row_of rs x) a (life_in (held_of old.objects x)) ≡ true) (sym rows) e in
+    subst (λ (rs : List Row). is_heap_start (row_of rs x) a (life_in (held_of old.objects x)) ≡ true) (sym rows) e in
     does_same (λ u. u) (Ok tt) is (store_of new io) (run new.rows (free new.rows a (Whole x) c) (store_of old io)) (Done tt is (store_of new io))
-      (freed_is a x c new.rows (store_of old io) h e' ∙ k) (refl, refl, refl)
+    (freed_is a x c new.rows (store_of old io) h e' ∙ k) (refl, refl, refl)
 
 freed_start_is : (a : ℕ) (id : Event) (past x : ObjName) (c : Clause) (rows : List Row) (s : Store) →
-  (a ≡ 0 → ⊥) → is_heap_start (row_of rows x) a (s.life x) ≡ true → is_other (s.kept id) x ≡ false →
+    (a ≡ 0 → ⊥) → is_heap_start (row_of rows x) a (s.life x) ≡ true → is_other (s.kept id) x ≡ false →
     run rows (free rows a (Either id past x) c) s ≡ Done tt (Narrow id x ∷ Dies x ∷ []) (buried (settled s id x) x)
 freed_start_is zero id past x c rows s h e o = absurd (h refl)
 freed_start_is (suc a) id past x c rows s h e o = rw (o, e) refl
@@ -53,10 +53,10 @@ pub freed_start : (a : ℕ) (id : Event) (past x : ObjName) (c : Clause) (old mi
     Does (λ u. u) (Ok tt) is (store_of new io) (run new.rows (free new.rows a (Either id past x) c) (store_of old io))
 freed_start a id past x c old mid new is js io h e o settles rows k items =
     let e' : is_heap_start (row_of new.rows x) a (life_in (held_of old.objects x)) ≡ true =
-          subst (λ (rs : List Row). is_heap_start (row_of rs x) a (life_in (held_of old.objects x)) ≡ true) (sym rows) e in
+    subst (λ (rs : List Row). is_heap_start (row_of rs x) a (life_in (held_of old.objects x)) ≡ true) (sym rows) e in
     let q : buried (store_of mid io) x ≡ store_of new io = done_store tt tt (Dies x ∷ []) js (buried (store_of mid io) x) (store_of new io) k in
     does_same (λ u. u) (Ok tt) is (store_of new io) (run new.rows (free new.rows a (Either id past x) c) (store_of old io))
-      (Done tt (Narrow id x ∷ Dies x ∷ []) (buried (settled (store_of old io) id x) x))
+    (Done tt (Narrow id x ∷ Dies x ∷ []) (buried (settled (store_of old io) id x) x))
     (freed_start_is a id past x c new.rows (store_of old io) h e' o) (refl, items, sym q ∙ ap (λ (s : Store). buried s x) settles)
 
 not_other : (b : Bool) → true ≡ not b → b ≡ false

@@ -28,9 +28,9 @@ no_streams = record { input = []; position = 0; output = [] }
 
 -- an object is exposed
 pub expose_lives : (m new : Kept) (x : ObjName) (is : List Item) →
-  ((io : Io) → run new.rows (expose (Whole x)) (store_of m io) ≡ Done tt is (store_of new io)) → LiveOn m new
+    ((io : Io) → run new.rows (expose (Whole x)) (store_of m io) ≡ Done tt is (store_of new io)) → LiveOn m new
 expose_lives m new x is e y = ap (λ (s : Store). s.life y)
-  (sym (done_store tt tt (Expose x ∷ []) is (shown (store_of m no_streams) x) (store_of new no_streams) (e no_streams)))
+    (sym (done_store tt tt (Expose x ∷ []) is (shown (store_of m no_streams) x) (store_of new no_streams) (e no_streams)))
 
 -- the rest of the items leads to where all lead, and each object lives as before
 pub record SettlesAlive (old now : Kept) (all rest : List Item) : Type 0 where
@@ -58,7 +58,10 @@ pub narrow_tagged : (m new : Kept) → record new { cells = [] } ≡ record m { 
 narrow_tagged m new e h = subst (λ (k : Kept). ObjectsTagged (length k.types) k.objects) (sym e) h
 
 pub alive_on : (old now new : Kept) (all : List Item) (k : ℕ) (d : Item) → k < length all → SettlesAlive old now all (drop k all) →
-  IsSettled now new (slice_index_or all k d) → LiveOn now new →
+    IsSettled now new (slice_index_or all k d) → LiveOn now new →
     (is_expose (slice_index_or all k d) ≡ false → AreTagged now → AreTagged new) → SettlesAlive old new all (drop (k + 1) all)
-alive_on old now new all k d h r one lives tagged = record { settles = settles_on old now new all k d h r.settles one; lives = λ x. lives x ∙ r.lives x;
-  tagged = λ none t. tagged (exposes_none all k d h none) (r.tagged none t) }
+alive_on old now new all k d h r one lives tagged = record {
+  settles = settles_on old now new all k d h r.settles one;
+  lives = λ x. lives x ∙ r.lives x;
+  tagged = λ none t. tagged (exposes_none all k d h none) (r.tagged none t);
+}

@@ -1,6 +1,35 @@
 -- Lemmas on the parts of a call that look at memory.
-use Rattle.std.proofs.Common.{◌≡◌, ℕ, zero, suc, ◌+◌, ◌==◌, Bool, true, false, ◌&&◌, ◌||◌, cond, List, [], ◌∷◌, ◌++◌, map, append_assoc, refl, ap, ap₂, sym,
-  subst, ◌∙◌, arith, eq-eqb, Option, Some, None}
+use Rattle.std.proofs.Common.{
+  ◌≡◌,
+  ℕ,
+  zero,
+  suc,
+  ◌+◌,
+  ◌==◌,
+  Bool,
+  true,
+  false,
+  ◌&&◌,
+  ◌||◌,
+  cond,
+  List,
+  [],
+  ◌∷◌,
+  ◌++◌,
+  map,
+  append_assoc,
+  refl,
+  ap,
+  ap₂,
+  sym,
+  subst,
+  ◌∙◌,
+  arith,
+  eq-eqb,
+  Option,
+  Some,
+  None,
+}
 use Rattle.std.specs.Prelude.{Result, Ok, Err}
 use Rattle.std.proofs.lemmas.List.{append-nil, map-append}
 use Rattle.ub_base.specs.declared.clause.Clause.{Clause}
@@ -199,7 +228,7 @@ joined_behind [] js h = refl
 joined_behind (i ∷ is) js h =
     let e = or_false (is_read i) (has_read is) h in
     ap (joins i) (joined_behind is js e.1) ∙ joins_quiet i (joined is ++ joined js) e.0 ∙ ap (λ (ks : List Item). ks ++ joined js)
-      (sym (joins_quiet i (joined is) e.0))
+    (sym (joins_quiet i (joined is) e.0))
 
 -- so many reads of a byte
 abbrev pub units : ObjName → ℕ → ℕ → List Item
@@ -213,7 +242,7 @@ joined_units x a (suc n) =
     let more : 1 + suc n ≡ suc (suc n) = omega arith in
     ap (joins (Read x a 1)) (joined_units x (suc a) n)
     ∙ ap₂ (λ (b c : Bool). cond (b && c) (Read x a (1 + suc n) ∷ []) (Read x a 1 ∷ Read x (suc a) (suc n) ∷ [])) (same_object_refl x)
-      (eq-eqb (suc a) (a + 1) next)
+    (eq-eqb (suc a) (a + 1) next)
     ∙ ap (λ (k : ℕ). Read x a k ∷ []) more
 
 -- ---- one part after another
@@ -223,9 +252,9 @@ then_gives q r A B m io old mid new p v k w f g = record {
   items = f.items ++ g.items;
   apart = apart_append q r f.items g.items f.apart g.apart;
   added = g.added ∙ ap (λ (is : List Item). is ++ joined g.items) f.added ∙ append_assoc old (joined f.items) (joined g.items) ∙ ap
-    (λ (is : List Item). old ++ is) (sym (joined_append f.items g.items (apart_starts r g.items g.apart)));
+      (λ (is : List Item). old ++ is) (sym (joined_append f.items g.items (apart_starts r g.items g.apart)));
   done = run_then m.rows p k (after old (store_of m io)) ∙ ap (λ (act : Act A). then act (λ a u. run m.rows (k a) u)) f.done ∙ ap
-    (behind f.items) g.done ∙ behind_done f.items g.items w (after new (store_of m io));
+      (behind f.items) g.done ∙ behind_done f.items g.items w (after new (store_of m io));
   able = λ h. g.able (f.able h);
 }
 
@@ -237,7 +266,7 @@ pub then_raises : (q : Bool) (A B : Type 0) (m : Kept) (io : Io) (old mid : List
     Gives q A m io old mid p v → run m.rows (k v) (after mid (store_of m io)) ≡ Raised c → run m.rows (p >>= k) (after old (store_of m io)) ≡ Raised c
 then_raises q A B m io old mid p v k c f e =
     run_then m.rows p k (after old (store_of m io)) ∙ ap (λ (act : Act A). then act (λ a u. run m.rows (k a) u)) f.done ∙ ap
-      (behind f.items) e ∙ behind_raised f.items c
+    (behind f.items) e ∙ behind_raised f.items c
 
 pub raises_then : (A B : Type 0) (rows : List Row) (s : Store) (p : Script A) (k : A → Script B) (c : Clause) →
     run rows p s ≡ Raised c → run rows (p >>= k) s ≡ Raised c
@@ -245,7 +274,7 @@ raises_then A B rows s p k c e = run_then rows p k s ∙ ap (λ (act : Act A). t
 
 -- the next part follows on what the first gave
 pub then_follows : {C : Type 0} (q u : Bool) (A B : Type 0) (seen : C → B) (r : Result C LibAnswer) (m : Kept) (io : Io) (old mid new : List Item)
-  (p : Script A) (v : A) (k : A → Script B) →
+    (p : Script A) (v : A) (k : A → Script B) →
     Gives q A m io old mid p v → Follows u seen r m io mid new (k v) → Follows (q && u) seen r m io old new (p >>= k)
 then_follows q u A B seen (Ok c) m io old mid new p v k f h = then_gives q u A B m io old mid new p v k (seen c) f h
 then_follows q u A B seen (Err answers.NoMemory) m io old mid new p v k f h = tt
@@ -254,7 +283,7 @@ then_follows q u A B seen (Err answer) m io old mid new p v k f h = absurd h
 
 -- the first part gave nothing
 pub err_follows : {C D : Type 0} (q u : Bool) (A B : Type 0) (seen : C → A) (seen2 : D → B) (e : LibAnswer) (m : Kept) (io : Io) (old mid new : List Item)
-  (p : Script A) (k : A → Script B) →
+    (p : Script A) (k : A → Script B) →
     Follows q seen (Err e) m io old mid p → Follows u seen2 (Err e) m io old new (p >>= k)
 err_follows q u A B seen seen2 answers.NoMemory m io old mid new p k h = tt
 err_follows q u A B seen seen2 (answers.Raise c) m io old mid new p k h = raises_then A B m.rows (after old (store_of m io)) p k c h
@@ -262,7 +291,7 @@ err_follows q u A B seen seen2 answer m io old mid new p k h = absurd h
 
 -- the next part gave nothing
 pub fails_then : {C D : Type 0} (A B : Type 0) (seen : C → B) (seen2 : D → B) (e : LibAnswer) (m : Kept) (io : Io) (old mid end new : List Item)
-  (p : Script A) (v : A) (k : A → Script B) →
+    (p : Script A) (v : A) (k : A → Script B) →
     Gives true A m io old mid p v → Follows true seen (Err e) m io mid end (k v) → Follows true seen2 (Err e) m io old new (p >>= k)
 fails_then A B seen seen2 answers.NoMemory m io old mid end new p v k g h = tt
 fails_then A B seen seen2 (answers.Raise c) m io old mid end new p v k g h = then_raises true A B m io old mid p v k c g h
@@ -287,22 +316,22 @@ until_more : (x : ObjName) (a n : ℕ) (s : Store) (size : Option ℕ) →
     ≡ Done (found (s.bytes x) a (one_more size)) (units x a (size_or (suc n) (one_more size))) s
 until_more x a n s None = ap (λ (is : List Item). Done None (Read x a 1 ∷ is) s) (append-nil (units x (suc a) n))
 until_more x a n s (Some k) = ap (λ (is : List Item). Done (Some (s.bytes x a ∷ range_from (s.bytes x) (suc a) k)) (Read x a 1 ∷ is) s)
-  (append-nil (units x (suc a) k))
+    (append-nil (units x (suc a) k))
 
 until_by : (b : Bool) (rows : List Row) (x : ObjName) (a n : ℕ) (s : Store) →
     run rows (until_zero n x (suc a)) s ≡ Done (found (s.bytes x) (suc a) (string_size (s.bytes x) n (suc a)))
-      (units x (suc a) (size_or n (string_size (s.bytes x) n (suc a)))) s →
+    (units x (suc a) (size_or n (string_size (s.bytes x) n (suc a)))) s →
     touched (Read x a 1) (run rows (cond b (Give (Some (s.bytes x a ∷ []))) (until_zero n x (suc a) >>= (λ more. Give (more_bytes (s.bytes x a ∷ []) more))))
-      s)
+    s)
     ≡ Done (found (s.bytes x) a (cond b (Some 1) (one_more (string_size (s.bytes x) n (suc a)))))
-      (units x a (size_or (suc n) (cond b (Some 1) (one_more (string_size (s.bytes x) n (suc a)))))) s
+    (units x a (size_or (suc n) (cond b (Some 1) (one_more (string_size (s.bytes x) n (suc a)))))) s
 until_by true rows x a n s h = refl
 until_by false rows x a n s h =
     ap (touched (Read x a 1))
     (run_then rows (until_zero n x (suc a)) (λ more. Give (more_bytes (s.bytes x a ∷ []) more)) s
     ∙ ap (λ (act : Act (Option (List TaggedByte))). then act (λ more u. run rows (Give (more_bytes (s.bytes x a ∷ []) more)) u)) h
     ∙ behind_done (units x (suc a) (size_or n (string_size (s.bytes x) n (suc a)))) []
-      (more_bytes (s.bytes x a ∷ []) (found (s.bytes x) (suc a) (string_size (s.bytes x) n (suc a)))) s)
+    (more_bytes (s.bytes x a ∷ []) (found (s.bytes x) (suc a) (string_size (s.bytes x) n (suc a)))) s)
     ∙ until_more x a n s (string_size (s.bytes x) n (suc a))
 
 pub run_until : (rows : List Row) (n : ℕ) (x : ObjName) (a : ℕ) (s : Store) →
@@ -316,14 +345,14 @@ run_shows rows [] s = refl
 run_shows rows (x ∷ xs) s = ap (touched (Expose x)) (run_shows rows xs (effect (Expose x) s))
 
 shows_append : (xs ys : List ObjName) (s : Store) (act : Act (Unit {0})) →
-  act ≡ Done tt (map Expose xs ++ map Expose ys) (after (map Expose ys) (after (map Expose xs) s)) →
-  act ≡ Done tt (map Expose (xs ++ ys)) (after (map Expose (xs ++ ys)) s)
+    act ≡ Done tt (map Expose xs ++ map Expose ys) (after (map Expose ys) (after (map Expose xs) s)) →
+    act ≡ Done tt (map Expose (xs ++ ys)) (after (map Expose (xs ++ ys)) s)
 shows_append xs ys s act e =
     subst (λ (is : List Item). act ≡ Done tt is (after is s)) (sym (map-append Expose xs ys))
     (subst (λ (u : Store). act ≡ Done tt (map Expose xs ++ map Expose ys) u) (sym (after_append (map Expose xs) (map Expose ys) s)) e)
 
 run_pieces : (rows : List Row) (bs : List TaggedByte) (s : Store) → run rows (show_pieces bs) s ≡ Done tt (map Expose (origins_of bs))
-  (after (map Expose (origins_of bs)) s)
+    (after (map Expose (origins_of bs)) s)
 run_pieces rows [] s = refl
 run_pieces rows (b ∷ bs) s =
     shows_append (origins_in b.byte) (origins_of bs) s (run rows (show_pieces (b ∷ bs)) s)
@@ -331,7 +360,7 @@ run_pieces rows (b ∷ bs) s =
     ∙ ap (λ (act : Act (Unit {0})). then act (λ v u. run rows (show_pieces bs) u)) (run_shows rows (origins_in b.byte) s)
     ∙ ap (behind (map Expose (origins_in b.byte))) (run_pieces rows bs (after (map Expose (origins_in b.byte)) s))
     ∙ behind_done (map Expose (origins_in b.byte)) (map Expose (origins_of bs)) tt
-      (after (map Expose (origins_of bs)) (after (map Expose (origins_in b.byte)) s)))
+    (after (map Expose (origins_of bs)) (after (map Expose (origins_in b.byte)) s)))
 
 shows_quiet : (xs : List ObjName) → has_read (map Expose xs) ≡ false
 shows_quiet [] = refl
@@ -358,11 +387,11 @@ numbers_given m io old new bs all is = record {
       ∙ ap (λ (act : Act (Unit {0})). then act (λ v u. run m.rows (Give (numbers bs)) u)) (run_pieces m.rows bs (after old (store_of m io)))
       ∙ behind_done (map Expose (origins_of bs)) [] (numbers bs) (after (map Expose (origins_of bs)) (after old (store_of m io)))
       ∙ ap (λ (js : List Item). Done (numbers bs) js (after (map Expose (origins_of bs)) (after old (store_of m io))))
-        (append-nil (map Expose (origins_of bs)))
+      (append-nil (map Expose (origins_of bs)))
       ∙ ap (Done (numbers bs) (map Expose (origins_of bs)))
-        (sym (after_append old (map Expose (origins_of bs)) (store_of m io)) ∙ ap (λ (js : List Item). after js (store_of m io)) (sym is));
+      (sym (after_append old (map Expose (origins_of bs)) (store_of m io)) ∙ ap (λ (js : List Item). after js (store_of m io)) (sym is));
   able = λ h. subst (λ (js : List Item). CanFollow m.cells js (store_of m io)) (sym is)
-    (follow_append m.cells old (map Expose (origins_of bs)) (store_of m io) h (follow_shows m.cells (origins_of bs) (after old (store_of m io))));
+      (follow_append m.cells old (map Expose (origins_of bs)) (store_of m io) h (follow_shows m.cells (origins_of bs) (after old (store_of m io))));
 }
 
 pub numbers_raised : (rows : List Row) (bs : List TaggedByte) (s : Store) → all_written bs ≡ false → run rows (read_numbers bs) s ≡ Raised Indeterminate

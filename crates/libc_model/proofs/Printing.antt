@@ -1,6 +1,31 @@
 -- Lemmas on calls that print.
-use Rattle.std.proofs.Common.{◌≡◌, ℕ, suc, ◌+◌, ◌-◌, ◌≤◌, ◌^◌, Bool, true, false, cond, List, [], ◌∷◌, ◌++◌, length, length-append, take, refl, ap, sym,
-  subst, ◌∙◌, arith, pos}
+use Rattle.std.proofs.Common.{
+  ◌≡◌,
+  ℕ,
+  suc,
+  ◌+◌,
+  ◌-◌,
+  ◌≤◌,
+  ◌^◌,
+  Bool,
+  true,
+  false,
+  cond,
+  List,
+  [],
+  ◌∷◌,
+  ◌++◌,
+  length,
+  length-append,
+  take,
+  refl,
+  ap,
+  sym,
+  subst,
+  ◌∙◌,
+  arith,
+  pos,
+}
 use Rattle.std.specs.Prelude.{Result, Ok, Err, nat_lt}
 use Rattle.ub_base.specs.declared.clause.Cause.TheVariants.{Output as PastOutput}
 use Rattle.ub_base.specs.declared.names.Item.{Item}
@@ -17,8 +42,23 @@ use Rattle.mem_spec.specs.Store.{Store}
 use Rattle.mem_spec.specs.Script.{Script, Give, ◌>>=◌, Act, Done, Outside, run}
 use Rattle.mem_spec.specs.Streams.{Io}
 use Rattle.prov_memory.specs.Memory.{Kept, store_of}
-use Rattle.libc_spec.specs.Library.{LibValue, number, pointer, pointer_in, address_in, prov_in, argument_at, Text, text, read_numbers, without_zero, puts,
-  joined, called, output_within}
+use Rattle.libc_spec.specs.Library.{
+  LibValue,
+  number,
+  pointer,
+  pointer_in,
+  address_in,
+  prov_in,
+  argument_at,
+  Text,
+  text,
+  read_numbers,
+  without_zero,
+  puts,
+  joined,
+  called,
+  output_within,
+}
 use Rattle.libc_model.specs.Seen.{value_seen}
 use Rattle.libc_model.specs.Answers.{Answers, AreWithin}
 use Rattle.libc_model.specs.Parts.{effect, after, CanDo, CanFollow, Gives, Follows, line, line_at, printed, printing, limited}
@@ -79,12 +119,15 @@ do_wrote cells Any s bs h = h
 
 follow_wrote : (cells : Cells) (is : List Item) (s : Store) (bs : List ℕ) → CanFollow cells is s → CanFollow cells is (wrote s bs)
 follow_wrote cells [] s bs h = tt
-follow_wrote cells (i ∷ is) s bs h = (do_wrote cells i s bs h.0, subst (λ (u : Store). CanFollow cells is u) (sym (effect_wrote i s bs))
-  (follow_wrote cells is (effect i s) bs h.1))
+follow_wrote cells (i ∷ is) s bs h = (
+  do_wrote cells i s bs h.0,
+  subst (λ (u : Store). CanFollow cells is u) (sym (effect_wrote i s bs))
+      (follow_wrote cells is (effect i s) bs h.1),
+)
 
 -- ---- the end of a call that prints
 prints : (m : Kept) (rows : List Row) (io : Io) (is : List Item) (bs : List ℕ) (script : List Row → Script (List ℕ)) → rows ≡ m.rows →
-  (g : Gives false (List ℕ) m io [] is (script m.rows) bs) →
+    (g : Gives false (List ℕ) m io [] is (script m.rows) bs) →
     run rows (printing (script rows)) (store_of m io) ≡ Done (number (pos 1)) (g.items ++ Output ∷ []) (wrote (after is (store_of m io)) bs)
 prints m rows io is bs script same g =
     ap (λ (rs : List Row). run rs (printing (script rs)) (store_of m io)) same
@@ -93,52 +136,52 @@ prints m rows io is bs script same g =
     ∙ behind_done g.items (Output ∷ []) (number (pos 1)) (wrote (after is (store_of m io)) bs)
 
 after_store : (is : List Item) (m : Kept) (io : Io) (bs : List ℕ) → after is (store_of m (record io { output = io.output ++ bs })) ≡ wrote
-  (after is (store_of m io)) bs
+    (after is (store_of m io)) bs
 after_store is m io bs = after_wrote is (store_of m io) bs
 
 -- the bytes are printed, and what the call settles and exposes took effect
 pub print_gives : (m new : Kept) (io out : Io) (is js : List Item) (bs : List ℕ) (script : List Row → Script (List ℕ)) → AreWithin io →
-  length io.output + length bs ≤ 2 ^ 24 → Gives false (List ℕ) m io [] is (script m.rows) bs →
+    length io.output + length bs ≤ 2 ^ 24 → Gives false (List ℕ) m io [] is (script m.rows) bs →
     js ≡ is ++ Output ∷ [] → out ≡ record io { output = io.output ++ bs } → new.rows ≡ m.rows →
-      ((io : Io) → CanFollow m.cells js (store_of m io) → store_of new io ≡ after js (store_of m io)) →
+    ((io : Io) → CanFollow m.cells js (store_of m io) → store_of new io ≡ after js (store_of m io)) →
     Answers (answers.Value (Int (pos 1))) js (store_of new out) (limited (store_of m io) (run new.rows (printing (script new.rows)) (store_of m io)))
 print_gives m new io out is js bs script within fits g more put rows settled =
     let end : Io = record io { output = io.output ++ bs } in
     let items : js ≡ joined (g.items ++ Output ∷ []) = more ∙ ap (λ (ks : List Item). ks ++ Output ∷ []) g.added ∙ sym
-          (joined_append g.items (Output ∷ []) refl) in
+    (joined_append g.items (Output ∷ []) refl) in
     let able : CanFollow m.cells js (store_of m end) = subst (λ (ks : List Item). CanFollow m.cells ks (store_of m end)) (sym more)
-          (follow_append m.cells is (Output ∷ []) (store_of m end) (follow_wrote m.cells is (store_of m io) bs (g.able tt)) (tt, tt)) in
+    (follow_append m.cells is (Output ∷ []) (store_of m end) (follow_wrote m.cells is (store_of m io) bs (g.able tt)) (tt, tt)) in
     let store : store_of new out ≡ wrote (after is (store_of m io)) bs =
     ap (store_of new) put ∙ settled end able ∙ ap (λ (ks : List Item). after ks (store_of m end)) more ∙ after_append is (Output ∷ [])
-      (store_of m end) ∙ after_store is m io bs in
+    (store_of m end) ∙ after_store is m io bs in
     let size : length (io.output ++ bs) ≤ 2 ^ 24 = omega (arith, fits, length-append io.output bs) in
     subst (λ (act : Act LibValue). Answers (answers.Value (Int (pos 1))) js (store_of new out) (limited (store_of m io) act))
-      (sym (prints m new.rows io is bs script rows g))
+    (sym (prints m new.rows io is bs script rows g))
     (answers_of (Ok (Int (pos 1))) js (store_of new out) (Done (number (pos 1)) (joined (g.items ++ Output ∷ [])) (wrote (after is (store_of m io)) bs))
     (subst (λ (o : Io). length o.output ≤ 2 ^ 24) (sym put) size) (refl, items, store))
 
 -- the output would pass its limit
 past_split : (b : Bool) (n : ℕ) (e : LibAnswer) (r : Result (Unit {0}) LibAnswer) → r ≡ Err e → r ≡ cond b (Err (answers.Outside PastOutput n)) (Ok tt) →
-  (b ≡ true) × (e ≡ answers.Outside PastOutput n)
+    (b ≡ true) × (e ≡ answers.Outside PastOutput n)
 past_split true n e r err h = (refl, cc)
 past_split false n e r err h = absurd (cc)
 
 past_act : (n : ℕ) (v : LibValue) (is : List Item) (u : Store) → length u.output ≡ n → nat_lt (2 ^ 24) n ≡ true →
-  output_within (Done v is u) ≡ Outside PastOutput n
+    output_within (Done v is u) ≡ Outside PastOutput n
 past_act n v is u size past = ap (λ (k : ℕ). cond (nat_lt (2 ^ 24) k) (Outside PastOutput k) (Done v is u)) size ∙ ap
-  (λ (b : Bool). cond b (Outside PastOutput n) (Done v is u)) past
+    (λ (b : Bool). cond b (Outside PastOutput n) (Done v is u)) past
 
 pub print_past : (m : Kept) (io : Io) (is : List Item) (bs : List ℕ) (script : List Row → Script (List ℕ)) (e : LibAnswer) (r : Result (Unit {0}) LibAnswer) →
-  Gives false (List ℕ) m io [] is (script m.rows) bs → r ≡ Err e →
+    Gives false (List ℕ) m io [] is (script m.rows) bs → r ≡ Err e →
     r ≡ cond (nat_lt (2 ^ 24) (length io.output + length bs)) (Err (answers.Outside PastOutput (length io.output + length bs))) (Ok tt) →
     Answers e is (store_of m io) (limited (store_of m io) (run m.rows (printing (script m.rows)) (store_of m io)))
 print_past m io is bs script e r g err past =
     let q = past_split (nat_lt (2 ^ 24) (length io.output + length bs)) (length io.output + length bs) e r err past in
     let size : length (wrote (after is (store_of m io)) bs).output ≡ length io.output + length bs =
-          ap (λ (u : Store). length (u.output ++ bs)) (bare_after is (store_of m io)) ∙ length-append io.output bs in
+    ap (λ (u : Store). length (u.output ++ bs)) (bare_after is (store_of m io)) ∙ length-append io.output bs in
     let act : limited (store_of m io) (run m.rows (printing (script m.rows)) (store_of m io)) ≡ Outside PastOutput (length io.output + length bs) =
     ap (limited (store_of m io)) (prints m m.rows io is bs script refl g) ∙ past_act (length io.output + length bs) (number (pos 1))
-      (joined (g.items ++ Output ∷ [])) (wrote (after is (store_of m io)) bs) size q.0 in
+    (joined (g.items ++ Output ∷ [])) (wrote (after is (store_of m io)) bs) size q.0 in
     subst (λ (a : LibAnswer). Answers a is (store_of m io) (limited (store_of m io) (run m.rows (printing (script m.rows)) (store_of m io)))) (sym q.1)
     (subst (λ (act : Act LibValue). Answers (answers.Outside PastOutput (length io.output + length bs)) is (store_of m io) act) (sym act) (refl, refl))
 
@@ -147,22 +190,22 @@ puts_is : (rows : List Row) (a : ℕ) (p : Prov) (s : Store) → run rows (print
 puts_is rows a p s =
     run_twice rows (text rows a p) (λ t. read_numbers t.bytes >>= (λ ns. Give (line ns))) printed s
     ∙ run_same rows (text rows a p) (λ t. (read_numbers t.bytes >>= (λ ns. Give (line ns))) >>= printed)
-      (λ t. read_numbers t.bytes >>= (λ ns. printed (line ns))) s
+    (λ t. read_numbers t.bytes >>= (λ ns. printed (line ns))) s
     (λ t u. run_twice rows (read_numbers t.bytes) (λ ns. Give (line ns)) printed u)
 
 pub puts_called : (rows : List Row) (vs : List LibValue) (who : Event) (a : ℕ) (p : Prov) (s t : Store) (is : List Item) (e : LibAnswer) →
-  pointer a p ≡ pointer_in (argument_at vs 0) →
+    pointer a p ≡ pointer_in (argument_at vs 0) →
     Answers e is t (limited s (run rows (printing (line_at rows a p)) s)) → Answers e is t (called rows Puts vs who s)
 puts_called rows vs who a p s t is e same h =
     let q = address_is a (address_in (argument_at vs 0)) p (prov_in (argument_at vs 0)) same in
     subst (λ (b : ℕ). Answers e is t (limited s (run rows (puts rows b (prov_in (argument_at vs 0))) s))) q.0
-      (subst (λ (r : Prov). Answers e is t (limited s (run rows (puts rows a r) s))) q.1
+    (subst (λ (r : Prov). Answers e is t (limited s (run rows (puts rows a r) s))) q.1
     (subst (λ (act : Act LibValue). Answers e is t (limited s act)) (puts_is rows a p s) h))
 
 -- the string isn't read
 pub puts_fails : {A : Type 0} (seen : A → List ℕ) (m : Kept) (io : Io) (is : List Item) (a : ℕ) (p : Prov) (e : LibAnswer) →
-  Follows false seen (Err e) m io [] is (line_at m.rows a p) →
+    Follows false seen (Err e) m io [] is (line_at m.rows a p) →
     Answers e is (store_of m io) (limited (store_of m io) (run m.rows (printing (line_at m.rows a p)) (store_of m io)))
 puts_fails seen m io is a p e h =
     finish_fails e m io is (λ rows. printing (line_at rows a p))
-      (err_follows false false (List ℕ) LibValue seen value_seen e m io [] is is (line_at m.rows a p) printed h)
+    (err_follows false false (List ℕ) LibValue seen value_seen e m io [] is is (line_at m.rows a p) printed h)

@@ -1,6 +1,36 @@
 -- Lemmas on realloc.
-use Rattle.std.proofs.Common.{◌≡◌, ◌≢◌, ℕ, zero, suc, ◌<◌, ◌≤◌, ◌==◌, Bool, true, false, ◌&&◌, ◌||◌, arith, cond, min, List, [], ◌∷◌, ◌++◌, length, refl, ap,
-  ap₂, sym, subst, ◌∙◌, Option, Some, None}
+use Rattle.std.proofs.Common.{
+  ◌≡◌,
+  ◌≢◌,
+  ℕ,
+  zero,
+  suc,
+  ◌<◌,
+  ◌≤◌,
+  ◌==◌,
+  Bool,
+  true,
+  false,
+  ◌&&◌,
+  ◌||◌,
+  arith,
+  cond,
+  min,
+  List,
+  [],
+  ◌∷◌,
+  ◌++◌,
+  length,
+  refl,
+  ap,
+  ap₂,
+  sym,
+  subst,
+  ◌∙◌,
+  Option,
+  Some,
+  None,
+}
 use Rattle.std.specs.Prelude.{Result, Ok, Err, is_some, nat_lt, ◌^◌}
 use Rattle.std.proofs.lemmas.Bool.Decides.{nat_tests}
 use Rattle.std.proofs.lemmas.List.{append-nil}
@@ -25,8 +55,27 @@ use Rattle.prov_memory.specs.declared.cell.Cell.{Cell}
 use Rattle.prov_memory.specs.declared.value.Value.{Value}
 use Rattle.prov_memory.specs.declared.value.Value.TheVariants.{Ptr}
 use Rattle.mem_spec.specs.Store.{Store, TaggedByte, Life, is_live, range_from, with_bytes, born, dead, buried, settled}
-use Rattle.mem_spec.specs.Script.{Ask, Get, Put, Bury, Settle, Script, Give, touch, require, ◌>>=◌, ◌>>◌, Act, Done, Raised, Ended, Outside, Unplaced,
-  touched, run}
+use Rattle.mem_spec.specs.Script.{
+  Ask,
+  Get,
+  Put,
+  Bury,
+  Settle,
+  Script,
+  Give,
+  touch,
+  require,
+  ◌>>=◌,
+  ◌>>◌,
+  Act,
+  Done,
+  Raised,
+  Ended,
+  Outside,
+  Unplaced,
+  touched,
+  run,
+}
 use Rattle.mem_spec.specs.Acts.{access, load_block, create, kill, retagged, declared_of, offset_in, has_place, base_in, size_in}
 use Rattle.mem_spec.specs.Streams.{Io}
 use Rattle.prov_memory.specs.Held.{Held, held_of}
@@ -35,8 +84,24 @@ use Rattle.prov_memory.specs.Made.{Settling, CanSettle, after_settling, settling
 use Rattle.prov_memory.proofs.AccessLemmas.{done_then}
 use Rattle.prov_memory.proofs.BlockLemmas.{block_in}
 use Rattle.prov_memory.proofs.StoreLemmas.{inserted_other}
-use Rattle.libc_spec.specs.Library.{LibValue, heap_kind, pointer, null, is_given, is_heap_start, heap_name, new_object, start_object, malloc, free, moved,
-  resized, realloc, created_with, created_within}
+use Rattle.libc_spec.specs.Library.{
+  LibValue,
+  heap_kind,
+  pointer,
+  null,
+  is_given,
+  is_heap_start,
+  heap_name,
+  new_object,
+  start_object,
+  malloc,
+  free,
+  moved,
+  resized,
+  realloc,
+  created_with,
+  created_within,
+}
 use Rattle.libc_model.specs.declared.arguments.Pointer.{Pointer}
 use Rattle.libc_model.specs.Answers.{Does, given_value}
 use Rattle.libc_model.specs.Making.{rows_made, released, moved_bytes, moved_store, IsStart, start_in, start_if, heap_start_in}
@@ -55,7 +120,7 @@ start_by true id start c s = refl
 start_by false id start c s = refl
 
 start_run : (rows : List Row) (m : Kept) (prov : Prov) (c : Clause) (io : Io) →
-  run rows (start_object prov c) (store_of m io) ≡ start_act (start_in m.cells prov) c (store_of m io)
+    run rows (start_object prov c) (store_of m io) ≡ start_act (start_in m.cells prov) c (store_of m io)
 start_run rows m Empty c io = refl
 start_run rows m (Whole x) c io = refl
 start_run rows m (Either id past start) c io = start_by (is_other (kept_in m.cells id) start) id start c (store_of m io)
@@ -69,13 +134,13 @@ resized_from rows who a n x = do
 
 resized_then : (rows : List Row) (m : Kept) (io : Io) (who : Event) (a : ℕ) (prov : Prov) (n : ℕ) →
     run rows (resized rows who a prov n) (store_of m io) ≡ then (start_act (start_in m.cells prov) ReallocOfOther (store_of m io))
-      (λ x u. run rows (resized_from rows who a n x) u)
+    (λ x u. run rows (resized_from rows who a n x) u)
 resized_then rows m io who a prov n =
     run_then rows (start_object prov ReallocOfOther) (resized_from rows who a n) (store_of m io)
     ∙ ap (λ (act : Act ObjName). then act (λ x u. run rows (resized_from rows who a n x) u)) (start_run rows m prov ReallocOfOther io)
 
 not_start : (rows : List Row) (who : Event) (a n : ℕ) (x : ObjName) (settles : Settling) (s : Store) → is_heap_start (row_of rows x) a (s.life x) ≡ false →
-  run rows (resized_from rows who a n x) (after_settling settles s) ≡ Raised ReallocOfOther
+    run rows (resized_from rows who a n x) (after_settling settles s) ≡ Raised ReallocOfOther
 not_start rows who a n x None s e = rw e refl
 not_start rows who a n x (Some p) s e = rw e refl
 
@@ -90,32 +155,32 @@ cond_none false p e = refl
 -- rows under which each object begins where it does under those of the memory
 abbrev pub SameStarts : List Row → Kept → ℕ → Type 0
 SameStarts rows m a = (x : ObjName) → is_heap_start (row_of rows x) a (life_in (held_of m.objects x)) ≡ is_heap_start (row_of m.rows x) a
-  (life_in (held_of m.objects x))
+    (life_in (held_of m.objects x))
 
 refused_from : (o : Option (ObjName × Settling)) (rows : List Row) (m : Kept) (io : Io) (who : Event) (a n : ℕ) → SameStarts rows m a → start_if m a o ≡ None →
     then (start_act o ReallocOfOther (store_of m io)) (λ x u. run rows (resized_from rows who a n x) u) ≡ Raised ReallocOfOther
 refused_from None rows m io who a n same e = refl
 refused_from (Some p) rows m io who a n same e =
     ap (behind (settling_items p.1)) (not_start rows who a n p.0 p.1 (store_of m io)
-      (same p.0 ∙ cond_none (is_heap_start (row_of m.rows p.0) a (life_in (held_of m.objects p.0))) p e))
+    (same p.0 ∙ cond_none (is_heap_start (row_of m.rows p.0) a (life_in (held_of m.objects p.0))) p e))
     ∙ behind_raised (settling_items p.1) ReallocOfOther
 
 -- no live heap object begins there
 pub resized_refused : (rows : List Row) (m : Kept) (io : Io) (who : Event) (a : ℕ) (prov : Prov) (n : ℕ) → SameStarts rows m a →
-  heap_start_in m a prov ≡ None → run rows (resized rows who a prov n) (store_of m io) ≡ Raised ReallocOfOther
+    heap_start_in m a prov ≡ None → run rows (resized rows who a prov n) (store_of m io) ≡ Raised ReallocOfOther
 resized_refused rows m io who a prov n same e = resized_then rows m io who a prov n ∙ refused_from (start_in m.cells prov) rows m io who a n same e
 
 is_start : (rows : List Row) (who : Event) (a n : ℕ) (x : ObjName) (settles : Settling) (s : Store) → is_heap_start (row_of rows x) a (s.life x) ≡ true →
     run rows (resized_from rows who a n x) (after_settling settles s) ≡ touched (Alive x)
-      (run rows (cond (is_given n) (moved rows who x n) (Give null)) (after_settling settles s))
+    (run rows (cond (is_given n) (moved rows who x n) (Give null)) (after_settling settles s))
 is_start rows who a n x None s e = rw e refl
 is_start rows who a n x (Some p) s e = rw e refl
 
 -- one does
 pub resized_found : (rows : List Row) (m : Kept) (io : Io) (who : Event) (a : ℕ) (prov : Prov) (n : ℕ) (x : ObjName) (settles : Settling) →
-  start_in m.cells prov ≡ Some (x, settles) → is_heap_start (row_of rows x) a (life_in (held_of m.objects x)) ≡ true →
+    start_in m.cells prov ≡ Some (x, settles) → is_heap_start (row_of rows x) a (life_in (held_of m.objects x)) ≡ true →
     run rows (resized rows who a prov n) (store_of m io) ≡ behind (settling_items settles)
-      (touched (Alive x) (run rows (cond (is_given n) (moved rows who x n) (Give null)) (after_settling settles (store_of m io))))
+    (touched (Alive x) (run rows (cond (is_given n) (moved rows who x n) (Give null)) (after_settling settles (store_of m io))))
 resized_found rows m io who a prov n x settles found begins =
     resized_then rows m io who a prov n
     ∙ ap (λ (o : Option (ObjName × Settling)). then (start_act o ReallocOfOther (store_of m io)) (λ x u. run rows (resized_from rows who a n x) u)) found
@@ -127,7 +192,7 @@ row_other (Some r) m h x b n e = refl
 row_other None m h x b n e = inserted_other (λ r. same_object r.name x) (row_at h b n 16) m.rows e
 
 pub apart_by : (b : Bool) (m : Kept) (h x : ObjName) → same_object h x ≡ b → is_some (held_of m.objects h) ≡ false → is_some (held_of m.objects x) ≡ true →
-  same_object h x ≡ false
+    same_object h x ≡ false
 apart_by true m h x e gone there = absurd (true_false (sym there ∙ ap (λ (y : ObjName). is_some (held_of m.objects y)) (sym (same_object_is h x e)) ∙ gone))
 apart_by false m h x e gone there = e
 
@@ -144,7 +209,7 @@ first_false false b e = refl
 pub row_kept : (m : Kept) (h x : ObjName) (n : ℕ) → is_some (held_of m.objects x) ≡ true → row_of (rows_made m h n) x ≡ row_of m.rows x
 row_kept m h x n there =
     row_kept_by (cannot_create m h n 16) m h x (base_by (row_of m.rows h) m.mode m.rows 16) n
-      (λ e. first_false (is_some (held_of m.objects h)) (no_place m (row_of m.rows h) m.mode n 16) e) there
+    (λ e. first_false (is_some (held_of m.objects h)) (no_place m (row_of m.rows h) m.mode n 16) e) there
 
 pub is_held : (o : Option Row) (a : ℕ) (k : Option Held) → is_heap_start o a (life_in k) ≡ true → is_some k ≡ true
 is_held o a None e = absurd (cc)
@@ -191,7 +256,7 @@ made_as m mid h n p is io rows does =
       store_of mid io,
       subst (λ (rs : List Row). Does (based h) (Ok p) (Born h ∷ []) (store_of mid io) (run rs (create rs h n 16 heap_kind None) (store_of m io))) rows
           (subst (λ (js : List Item). Does (based h) (Ok p) js (store_of mid io) (run mid.rows (create mid.rows h n 16 heap_kind None) (store_of m io)))
-            new.items does),
+          new.items does),
     )
 
 does_fault : (h : ObjName) (a : LibAnswer) (is js : List Item) (s t : Store) (act : Act ℕ) → Does (based h) (Err a) is s act → Does (based h) (Err a) js t act
@@ -202,14 +267,14 @@ does_fault h answers.Unplaced is js s t Unplaced d = tt
 does_fault h a is js s t act d = absurd d
 
 pub unmade_as : (m mid : Kept) (h : ObjName) (n : ℕ) (a : LibAnswer) (is : List Item) (io : Io) →
-  (unmade a ≢ Err answers.NoMemory → mid.rows ≡ rows_made m h n) →
+    (unmade a ≢ Err answers.NoMemory → mid.rows ≡ rows_made m h n) →
     Does (based h) (Err a) is (store_of mid io) (run mid.rows (create mid.rows h n 16 heap_kind None) (store_of m io)) → IsMadeAs (Err a) m io h n
 unmade_as m mid h n answers.NoMemory is io rows does = (store_of m io, tt)
 unmade_as m mid h n a is io rows does = (
   store_of m io,
   does_fault h a is (Born h ∷ []) (store_of mid io) (store_of m io) (run (rows_made m h n) (create (rows_made m h n) h n 16 heap_kind None) (store_of m io))
       (subst (λ (rs : List Row). Does (based h) (Err a) is (store_of mid io) (run rs (create rs h n 16 heap_kind None) (store_of m io)))
-        (rows (λ e. absurd (cc))) does),
+      (rows (λ e. absurd (cc))) does),
 )
 
 -- ---- what is moved
@@ -219,10 +284,10 @@ moved_items x h read write = Read x 0 read ∷ Born h ∷ Alive h ∷ Write h 0 
 abbrev pub moved_act : Bool → Bool → List Row → ObjName → ObjName → ℕ → Store → Act LibValue
 moved_act p q rows x h n u =
     cond p (cond q Unplaced (Done (pointer (base_in (row_of rows h)) (Whole h))
-      (moved_items x h (min (size_in (row_of rows x)) n) (length (moved_bytes rows x n u))) (moved_store rows x h n u))) Unplaced
+    (moved_items x h (min (size_in (row_of rows x)) n) (length (moved_bytes rows x n u))) (moved_store rows x h n u))) Unplaced
 
 moved_run : (p q : Bool) (rows : List Row) (who : Event) (x : ObjName) (n : ℕ) (u : Store) → has_place (row_of rows (heap_name who)) n 16 ≡ p →
-  is_some (u.life (heap_name who)) ≡ q →
+    is_some (u.life (heap_name who)) ≡ q →
     run rows (moved rows who x n) u ≡ moved_act p q rows x (heap_name who) n u
 moved_run true true rows who x n u e f = rw (e, f) refl
 moved_run true false rows who x n u e f = rw (e, f) refl
@@ -233,12 +298,12 @@ life_after None s x = refl
 life_after (Some p) s x = refl
 
 start_same_by : (o : Option Held) (m : Kept) (h x : ObjName) (n a : ℕ) → held_of m.objects x ≡ o →
-  is_heap_start (row_of (rows_made m h n) x) a (life_in o) ≡ is_heap_start (row_of m.rows x) a (life_in o)
+    is_heap_start (row_of (rows_made m h n) x) a (life_in o) ≡ is_heap_start (row_of m.rows x) a (life_in o)
 start_same_by None m h x n a e = refl
 start_same_by (Some k) m h x n a e = ap (λ (r : Option Row). is_heap_start r a (life_in (Some k))) (row_kept m h x n (ap is_some e))
 
 start_same : (m : Kept) (h x : ObjName) (n a : ℕ) → is_heap_start (row_of (rows_made m h n) x) a (life_in (held_of m.objects x)) ≡ is_heap_start
-  (row_of m.rows x) a (life_in (held_of m.objects x))
+    (row_of m.rows x) a (life_in (held_of m.objects x))
 start_same m h x n a = start_same_by (held_of m.objects x) m h x n a refl
 
 found_by : (b : Bool) (p q : ObjName × Settling) → cond b (Some p) None ≡ Some q → (b ≡ true) × (p ≡ q)
@@ -246,7 +311,7 @@ found_by true p q e = (refl, cc)
 found_by false p q e = absurd (cc)
 
 started : (o : Option (ObjName × Settling)) (m : Kept) (a : ℕ) (q : ObjName × Settling) → start_if m a o ≡ Some q → (o ≡ Some q) ×
-  (is_heap_start (row_of m.rows q.0) a (life_in (held_of m.objects q.0)) ≡ true)
+    (is_heap_start (row_of m.rows q.0) a (life_in (held_of m.objects q.0)) ≡ true)
 started None m a q e = absurd (cc)
 started (Some p) m a q e =
     let r = found_by (is_heap_start (row_of m.rows p.0) a (life_in (held_of m.objects p.0))) p q e in
@@ -265,28 +330,28 @@ settles_is : (y x : ObjName) (t settles : Settling) → meant y t ≡ meant x se
 settles_is y x t settles e = ap (λ (z : ObjName × Settling). z.1) (some_pair (y, t) (x, settles) e)
 
 can_by : (b : Bool) (m : Kept) (id : Event) (start x : ObjName) (settles : Settling) → is_other (kept_in m.cells id) start ≡ b → has_cell m.cells id ≡ true →
-  cond b None (meant start (Some (id, start))) ≡ meant x settles → CanSettle m.cells settles
+    cond b None (meant start (Some (id, start))) ≡ meant x settles → CanSettle m.cells settles
 can_by true m id start x settles o has e = absurd (cc)
 can_by false m id start x settles o has e = subst (λ (z : Settling). CanSettle m.cells z) (settles_is start x (Some (id, start)) settles e) (has, o)
 
 can_settle : (m : Kept) (prov : Prov) (x : ObjName) (settles : Settling) → start_in m.cells prov ≡ Some (x, settles) → HasCell m prov →
-  CanSettle m.cells settles
+    CanSettle m.cells settles
 can_settle m Empty x settles e has = absurd (cc)
 can_settle m (Whole y) x settles e has = subst (λ (z : Settling). CanSettle m.cells z) (settles_is y x None settles e) tt
 can_settle m (Either id past start) x settles e has = can_by (is_other (kept_in m.cells id) start) m id start x settles refl has e
 
 pub can_settle_start : (m : Kept) (a : ℕ) (prov : Prov) (x : ObjName) (settles : Settling) → Some (x, settles) ≡ heap_start_in m a prov → HasCell m prov →
-  CanSettle m.cells settles
+    CanSettle m.cells settles
 can_settle_start m a prov x settles e has = can_settle m prov x settles (started (start_in m.cells prov) m a (x, settles) (sym e)).0 has
 
 -- ---- a realloc to some bytes
 abbrev pub resized_act : List Row → Kept → Io → ObjName → ℕ → ObjName → Settling → Act LibValue
 resized_act rows m io h n x settles =
     behind (settling_items settles) (touched (Alive x)
-      (moved_act (has_place (row_of rows h) n 16) (is_some (life_in (held_of m.objects h))) rows x h n (after_settling settles (store_of m io))))
+    (moved_act (has_place (row_of rows h) n 16) (is_some (life_in (held_of m.objects h))) rows x h n (after_settling settles (store_of m io))))
 
 resized_moves : (rows : List Row) (m : Kept) (io : Io) (who : Event) (a : ℕ) (prov : Prov) (n : ℕ) (x : ObjName) (settles : Settling) → SameStarts rows m a →
-  Some (x, settles) ≡ heap_start_in m a prov → is_given n ≡ true →
+    Some (x, settles) ≡ heap_start_in m a prov → is_given n ≡ true →
     run rows (resized rows who a prov n) (store_of m io) ≡ resized_act rows m io (heap_name who) n x settles
 resized_moves rows m io who a prov n x settles same found given =
     let u = after_settling settles (store_of m io) in
@@ -295,7 +360,7 @@ resized_moves rows m io who a prov n x settles same found given =
     ∙ ap (λ (b : Bool). behind (settling_items settles) (touched (Alive x) (run rows (cond b (moved rows who x n) (Give null)) u))) given
     ∙ ap (λ (act : Act LibValue). behind (settling_items settles) (touched (Alive x) act))
     (moved_run (has_place (row_of rows (heap_name who)) n 16) (is_some (life_in (held_of m.objects (heap_name who)))) rows who x n u refl
-      (ap is_some (life_after settles (store_of m io) (heap_name who))))
+    (ap is_some (life_after settles (store_of m io) (heap_name who))))
 
 abbrev pub Unraised : Act LibValue → Type 0
 Unraised (Raised c) = ⊥
@@ -318,7 +383,7 @@ moved_unraised true false rows x h n u = tt
 moved_unraised false q rows x h n u = tt
 
 limit_passed : (n : ℕ) (s : Store) (act : Act LibValue) → is_given n ≡ true → nat_lt (2 ^ 26) (created_with s n) ≡ true → Unraised act →
-  created_within n s act ≡ Outside PastCreated (created_with s n)
+    created_within n s act ≡ Outside PastCreated (created_with s n)
 limit_passed n s (Raised c) e h unraised = absurd unraised
 limit_passed n s (Done v is u) e h unraised = rw (e, h) refl
 limit_passed n s (Ended k is u) e h unraised = rw (e, h) refl
@@ -339,14 +404,14 @@ resizing m io rows who a prov n = created_within n (store_of m io) (run rows (re
 
 -- no live heap object begins there
 pub refused_does : (m : Kept) (io : Io) (who : Event) (a : ℕ) (prov : Prov) (n : ℕ) (is : List Item) → None ≡ heap_start_in m a prov →
-  Does given_value (Err (answers.Raise ReallocOfOther)) is (store_of m io) (resizing m io m.rows who a prov n)
+    Does given_value (Err (answers.Raise ReallocOfOther)) is (store_of m io) (resizing m io m.rows who a prov n)
 refused_does m io who a prov n is e =
     does_same given_value (Err (answers.Raise ReallocOfOther)) is (store_of m io) (resizing m io m.rows who a prov n) (Raised ReallocOfOther)
     (ap (created_within n (store_of m io)) (resized_refused m.rows m io who a prov n (λ x. refl) (sym e))) refl
 
 -- too many bytes
 null_run : (rows : List Row) (m : Kept) (io : Io) (who : Event) (a : ℕ) (prov : Prov) (n : ℕ) (x : ObjName) (settles : Settling) →
-  Some (x, settles) ≡ heap_start_in m a prov → is_given n ≡ false → rows ≡ m.rows →
+    Some (x, settles) ≡ heap_start_in m a prov → is_given n ≡ false → rows ≡ m.rows →
     resizing m io rows who a prov n ≡ Done null (settling_items settles ++ Alive x ∷ []) (after_settling settles (store_of m io))
 null_run rows m io who a prov n x settles found given same =
     let u = after_settling settles (store_of m io) in
@@ -356,32 +421,32 @@ null_run rows m io who a prov n x settles found given same =
     ∙ ap (λ (b : Bool). behind (settling_items settles) (touched (Alive x) (run rows (cond b (moved rows who x n) (Give null)) u))) given
     ∙ behind_done (settling_items settles) (Alive x ∷ []) null u in
     ap (created_within n (store_of m io)) run_is ∙ ap
-      (λ (b : Bool). cond (b && nat_lt (2 ^ 26) (created_with (store_of m io) n)) (Outside PastCreated (created_with (store_of m io) n))
-      (Done null (settling_items settles ++ Alive x ∷ []) u)) given
+    (λ (b : Bool). cond (b && nat_lt (2 ^ 26) (created_with (store_of m io) n)) (Outside PastCreated (created_with (store_of m io) n))
+    (Done null (settling_items settles ++ Alive x ∷ []) u)) given
 
 pub null_does : (rows : List Row) (m : Kept) (io : Io) (who : Event) (a : ℕ) (prov : Prov) (n : ℕ) (x : ObjName) (settles : Settling) (v : Value)
-  (old is : List Item) (s : Store) → Some (x, settles) ≡ heap_start_in m a prov → 1048576 < n → rows ≡ m.rows →
+    (old is : List Item) (s : Store) → Some (x, settles) ≡ heap_start_in m a prov → 1048576 < n → rows ≡ m.rows →
     v ≡ Ptr 0 Empty → old ≡ [] → is ≡ old ++ (settling_items settles ++ Alive x ∷ []) → s ≡ after_settling settles (store_of m io) →
-      Does given_value (Ok v) is s (resizing m io rows who a prov n)
+    Does given_value (Ok v) is s (resizing m io rows who a prov n)
 null_does rows m io who a prov n x settles v old is s found over same value none noted after =
     does_same given_value (Ok v) is s (resizing m io rows who a prov n)
-      (Done null (settling_items settles ++ Alive x ∷ []) (after_settling settles (store_of m io)))
+    (Done null (settling_items settles ++ Alive x ∷ []) (after_settling settles (store_of m io)))
     (null_run rows m io who a prov n x settles found (over_given n over) same)
-      (value, noted ∙ ap (λ (os : List Item). os ++ (settling_items settles ++ Alive x ∷ [])) none, after)
+    (value, noted ∙ ap (λ (os : List Item). os ++ (settling_items settles ++ Alive x ∷ [])) none, after)
 
 -- too many bytes in all
 outside_is : (m : Kept) (io : Io) (who : Event) (a : ℕ) (prov : Prov) (n : ℕ) (x : ObjName) (settles : Settling) →
-  Some (x, settles) ≡ heap_start_in m a prov → is_given n ≡ true → nat_lt (2 ^ 26) (created_with (store_of m io) n) ≡ true →
+    Some (x, settles) ≡ heap_start_in m a prov → is_given n ≡ true → nat_lt (2 ^ 26) (created_with (store_of m io) n) ≡ true →
     resizing m io m.rows who a prov n ≡ Outside PastCreated (created_with (store_of m io) n)
 outside_is m io who a prov n x settles found given limit =
     limit_passed n (store_of m io) (run m.rows (resized m.rows who a prov n) (store_of m io)) given limit
     (subst Unraised (sym (resized_moves m.rows m io who a prov n x settles (λ y. refl) found given))
     (unraised_behind (settling_items settles) _
-      (unraised_touched (Alive x) _ (moved_unraised (has_place (row_of m.rows (heap_name who)) n 16) (is_some (life_in (held_of m.objects (heap_name who))))
-      m.rows x (heap_name who) n (after_settling settles (store_of m io))))))
+    (unraised_touched (Alive x) _ (moved_unraised (has_place (row_of m.rows (heap_name who)) n 16) (is_some (life_in (held_of m.objects (heap_name who))))
+    m.rows x (heap_name who) n (after_settling settles (store_of m io))))))
 
 resizing_is : (m : Kept) (io : Io) (who : Event) (a : ℕ) (prov : Prov) (n : ℕ) (x : ObjName) (settles : Settling) →
-  Some (x, settles) ≡ heap_start_in m a prov → is_given n ≡ true → nat_lt (2 ^ 26) (created_with (store_of m io) n) ≡ false →
+    Some (x, settles) ≡ heap_start_in m a prov → is_given n ≡ true → nat_lt (2 ^ 26) (created_with (store_of m io) n) ≡ false →
     resizing m io (rows_made m (heap_name who) n) who a prov n ≡ resized_act (rows_made m (heap_name who) n) m io (heap_name who) n x settles
 resizing_is m io who a prov n x settles found given limit =
     limit_kept n (store_of m io) (run (rows_made m (heap_name who) n) (resized (rows_made m (heap_name who) n) who a prov n) (store_of m io)) given limit
@@ -390,7 +455,7 @@ resizing_is m io who a prov n x settles found given limit =
 -- ---- the object isn't made
 create_run : (p q : Bool) (rows : List Row) (h : ObjName) (n : ℕ) (s : Store) → has_place (row_of rows h) n 16 ≡ p → is_some (s.life h) ≡ q →
     run rows (create rows h n 16 heap_kind None) s ≡ cond p (cond q Unplaced (Done (base_in (row_of rows h)) (Born h ∷ []) (born s h n heap_kind None)))
-      Unplaced
+    Unplaced
 create_run true true rows h n s e f = rw (e, f) refl
 create_run true false rows h n s e f = rw (e, f) refl
 create_run false q rows h n s e f = rw e refl
@@ -400,25 +465,25 @@ behind_unplaced [] = refl
 behind_unplaced (i ∷ is) = ap (touched i) (behind_unplaced is)
 
 unplaced_does : (a : LibAnswer) (h : ObjName) (is js : List Item) (s t : Store) (act : Act LibValue) → act ≡ Unplaced → Does (based h) (Err a) is s Unplaced →
-  Does given_value (Err a) js t act
+    Does given_value (Err a) js t act
 unplaced_does answers.NoMemory h is js s t act e d = tt
 unplaced_does answers.Unplaced h is js s t act e d = does_same given_value (Err answers.Unplaced) js t act Unplaced e tt
 unplaced_does a h is js s t act e d = absurd d
 
 made_does : (a : LibAnswer) (h : ObjName) (is js : List Item) (s t u : Store) (b : ℕ) (act : Act LibValue) →
-  Does (based h) (Err a) is s (Done b (Born h ∷ []) u) → Does given_value (Err a) js t act
+    Does (based h) (Err a) is s (Done b (Born h ∷ []) u) → Does given_value (Err a) js t act
 made_does answers.NoMemory h is js s t u b act d = tt
 made_does a h is js s t u b act d = absurd d
 
 fault_by : (p q : Bool) (a : LibAnswer) (settles : Settling) (rows : List Row) (x h : ObjName) (n : ℕ) (is js : List Item) (s t u v : Store) →
     Does (based h) (Err a) is s (cond p (cond q Unplaced (Done (base_in (row_of rows h)) (Born h ∷ []) v)) Unplaced) →
-      Does given_value (Err a) js t (behind (settling_items settles) (touched (Alive x) (moved_act p q rows x h n u)))
+    Does given_value (Err a) js t (behind (settling_items settles) (touched (Alive x) (moved_act p q rows x h n u)))
 fault_by true true a settles rows x h n is js s t u v d = unplaced_does a h is js s t _ (behind_unplaced (settling_items settles)) d
 fault_by true false a settles rows x h n is js s t u v d = made_does a h is js s t v (base_in (row_of rows h)) _ d
 fault_by false q a settles rows x h n is js s t u v d = unplaced_does a h is js s t _ (behind_unplaced (settling_items settles)) d
 
 failed_does : (m : Kept) (io : Io) (who : Event) (a : ℕ) (prov : Prov) (n : ℕ) (x : ObjName) (settles : Settling) (b : LibAnswer) (is : List Item)
-  (t : Store) → Some (x, settles) ≡ heap_start_in m a prov → is_given n ≡ true → nat_lt (2 ^ 26) (created_with (store_of m io) n) ≡ false →
+    (t : Store) → Some (x, settles) ≡ heap_start_in m a prov → is_given n ≡ true → nat_lt (2 ^ 26) (created_with (store_of m io) n) ≡ false →
     IsMadeAs (Err b) m io (heap_name who) n → Does given_value (Err b) is t (resizing m io (rows_made m (heap_name who) n) who a prov n)
 failed_does m io who a prov n x settles b is t found given limit made =
     let rows = rows_made m (heap_name who) n in
@@ -426,7 +491,7 @@ failed_does m io who a prov n x settles b is t found given limit made =
     let p = has_place (row_of rows h) n 16 in
     let q = is_some (life_in (held_of m.objects h)) in
     does_same given_value (Err b) is t (resizing m io rows who a prov n) (resized_act rows m io h n x settles)
-      (resizing_is m io who a prov n x settles found given limit)
+    (resizing_is m io who a prov n x settles found given limit)
     (fault_by p q b settles rows x h n (Born h ∷ []) is made.0 t (after_settling settles (store_of m io)) (born (store_of m io) h n heap_kind None)
     (subst (λ (act : Act ℕ). Does (based h) (Err b) (Born h ∷ []) made.0 act) (create_run p q rows h n (store_of m io) refl refl) made.1))
 
@@ -444,24 +509,24 @@ append_twice [] js ks i = refl
 append_twice (k ∷ is) js ks i = ap (λ (ls : List Item). k ∷ ls) (append_twice is js ks i)
 
 moved_noted : (settles : Settling) (m : Kept) (rows : List Row) (x h : ObjName) (n : ℕ) (u : Store) (old mid new : List Item) →
-  row_of rows x ≡ row_of m.rows x → old ≡ [] → mid ≡ old ++ (settling_items settles ++ Alive x ∷ []) →
+    row_of rows x ≡ row_of m.rows x → old ≡ [] → mid ≡ old ++ (settling_items settles ++ Alive x ∷ []) →
     new ≡ mid ++ moved_items x h (min (size_in (row_of m.rows x)) n) (min (size_in (row_of m.rows x)) n) →
     new ≡ settling_items settles ++ (Alive x ∷ moved_items x h (min (size_in (row_of rows x)) n) (length (moved_bytes rows x n u)))
 moved_noted settles m rows x h n u old mid new kept none first rest =
     let size : min (size_in (row_of m.rows x)) n ≡ min (size_in (row_of rows x)) n = ap (λ (o : Option Row). min (size_in o) n) (sym kept) in
     let long : min (size_in (row_of m.rows x)) n ≡ length (moved_bytes rows x n u) = size ∙ sym (range_length (u.bytes x) 0 (min (size_in (row_of rows x)) n))
-      in
+    in
     rest ∙ ap (λ (is : List Item). is ++ moved_items x h (min (size_in (row_of m.rows x)) n) (min (size_in (row_of m.rows x)) n))
-      (first ∙ ap (λ (os : List Item). os ++ (settling_items settles ++ Alive x ∷ [])) none)
+    (first ∙ ap (λ (os : List Item). os ++ (settling_items settles ++ Alive x ∷ [])) none)
     ∙ append_twice (settling_items settles) [] (moved_items x h (min (size_in (row_of m.rows x)) n) (min (size_in (row_of m.rows x)) n)) (Alive x)
     ∙ ap₂ (λ (i j : ℕ). settling_items settles ++ (Alive x ∷ moved_items x h i j)) size long
 
 moved_does : (m : Kept) (io : Io) (who : Event) (a : ℕ) (prov : Prov) (n : ℕ) (x : ObjName) (settles : Settling) (p : Pointer) (old mid is : List Item)
-  (t : Store) → Some (x, settles) ≡ heap_start_in m a prov → is_given n ≡ true → nat_lt (2 ^ 26) (created_with (store_of m io) n) ≡ false →
+    (t : Store) → Some (x, settles) ≡ heap_start_in m a prov → is_given n ≡ true → nat_lt (2 ^ 26) (created_with (store_of m io) n) ≡ false →
     IsMadeAs (Ok p) m io (heap_name who) n → old ≡ [] → mid ≡ old ++ (settling_items settles ++ Alive x ∷ []) → is ≡ mid ++
-      moved_items x (heap_name who) (min (size_in (row_of m.rows x)) n) (min (size_in (row_of m.rows x)) n) →
+    moved_items x (heap_name who) (min (size_in (row_of m.rows x)) n) (min (size_in (row_of m.rows x)) n) →
     t ≡ moved_store (rows_made m (heap_name who) n) x (heap_name who) n (after_settling settles (store_of m io)) →
-      Does given_value (Ok (Ptr p.addr p.prov)) is t (resizing m io (rows_made m (heap_name who) n) who a prov n)
+    Does given_value (Ok (Ptr p.addr p.prov)) is t (resizing m io (rows_made m (heap_name who) n) who a prov n)
 moved_does m io who a prov n x settles p old mid is t found given limit made none first rest store =
     let rows = rows_made m (heap_name who) n in
     let h = heap_name who in
@@ -469,20 +534,22 @@ moved_does m io who a prov n x settles p old mid is t found given limit made non
     let new = is_new rows h n p (Born h ∷ []) (store_of m io) made.0 made.1 in
     let held = is_held (row_of m.rows x) a (held_of m.objects x) (started (start_in m.cells prov) m a (x, settles) (sym found)).1 in
     let act : resized_act rows m io h n x settles ≡ Done (pointer (base_in (row_of rows h)) (Whole h))
-      (settling_items settles ++ (Alive x ∷ moved_items x h (min (size_in (row_of rows x)) n) (length (moved_bytes rows x n u)))) (moved_store rows x h n u) =
+    (settling_items settles ++ (Alive x ∷ moved_items x h (min (size_in (row_of rows x)) n) (length (moved_bytes rows x n u)))) (moved_store rows x h n u) =
     ap₂ (λ (b c : Bool). behind (settling_items settles) (touched (Alive x) (moved_act b c rows x h n u))) new.place new.absent
     ∙ behind_done (settling_items settles) (Alive x ∷ moved_items x h (min (size_in (row_of rows x)) n) (length (moved_bytes rows x n u)))
-      (pointer (base_in (row_of rows h)) (Whole h)) (moved_store rows x h n u) in
+    (pointer (base_in (row_of rows h)) (Whole h)) (moved_store rows x h n u) in
     does_same given_value (Ok (Ptr p.addr p.prov)) is t (resizing m io rows who a prov n)
     (Done (pointer (base_in (row_of rows h)) (Whole h)) (settling_items settles ++
-      (Alive x ∷ moved_items x h (min (size_in (row_of rows x)) n) (length (moved_bytes rows x n u)))) (moved_store rows x h n u))
-    (resizing_is m io who a prov n x settles found given limit ∙ act)
-    (ap₂ Ptr new.base (prov_by h p (Born h ∷ []) made.0 (run rows (create rows h n 16 heap_kind None) (store_of m io)) made.1),
-      moved_noted settles m rows x h n u old mid is (row_kept m h x n held) none first rest, store)
+    (Alive x ∷ moved_items x h (min (size_in (row_of rows x)) n) (length (moved_bytes rows x n u)))) (moved_store rows x h n u))
+    (resizing_is m io who a prov n x settles found given limit ∙ act) (
+      ap₂ Ptr new.base (prov_by h p (Born h ∷ []) made.0 (run rows (create rows h n 16 heap_kind None) (store_of m io)) made.1),
+      moved_noted settles m rows x h n u old mid is (row_kept m h x n held) none first rest,
+      store,
+    )
 
 -- the same under the rows that there are then
 under_made : (r : Result Value LibAnswer) (is : List Item) (t : Store) (m : Kept) (io : Io) (after : List Row) (who : Event) (a : ℕ) (prov : Prov) (n : ℕ)
-  (h : ObjName) → h ≡ heap_name who → after ≡ rows_made m h n →
+    (h : ObjName) → h ≡ heap_name who → after ≡ rows_made m h n →
     Does given_value r is t (resizing m io (rows_made m (heap_name who) n) who a prov n) → Does given_value r is t (resizing m io after who a prov n)
 under_made r is t m io after who a prov n h name rows does =
     subst (λ (rs : List Row). Does given_value r is t (resizing m io rs who a prov n)) (sym (rows ∙ ap (λ (y : ObjName). rows_made m y n) name)) does
@@ -499,47 +566,47 @@ passed_split false a limit e = absurd (cc)
 
 -- the limit on created bytes
 pub limit_does : (m : Kept) (io : Io) (who : Event) (a : ℕ) (prov : Prov) (n : ℕ) (x : ObjName) (settles : Settling) (b : LibAnswer) (is : List Item) →
-  Some (x, settles) ≡ heap_start_in m a prov → n ≢ 0 → n ≤ 1048576 →
+    Some (x, settles) ≡ heap_start_in m a prov → n ≢ 0 → n ≤ 1048576 →
     refusing b ≡ cond (nat_lt (2 ^ 26) (created_with (store_of m io) n)) (refusing (answers.Outside PastCreated (created_with (store_of m io) n))) (Ok tt) →
-      Does given_value (Err b) is (store_of m io) (resizing m io m.rows who a prov n)
+    Does given_value (Err b) is (store_of m io) (resizing m io m.rows who a prov n)
 limit_does m io who a prov n x settles b is found some most limit =
     let q = passed_split (nat_lt (2 ^ 26) (created_with (store_of m io) n)) b (answers.Outside PastCreated (created_with (store_of m io) n)) limit in
     subst (λ (c : LibAnswer). Does given_value (Err c) is (store_of m io) (resizing m io m.rows who a prov n)) (sym q.1)
     (does_same given_value (Err (answers.Outside PastCreated (created_with (store_of m io) n))) is (store_of m io) (resizing m io m.rows who a prov n)
-      (Outside PastCreated (created_with (store_of m io) n))
+    (Outside PastCreated (created_with (store_of m io) n))
     (outside_is m io who a prov n x settles found (some_given n some most) q.0) (refl, refl))
 
 named_as : (r : Result Pointer LibAnswer) (m : Kept) (io : Io) (h k : ObjName) (n : ℕ) → h ≡ k → IsMadeAs r m io h n → IsMadeAs r m io k n
 named_as r m io h k n e made = subst (λ (y : ObjName). IsMadeAs r m io y n) e made
 
 failing_there : (m : Kept) (after : List Row) (io : Io) (who : Event) (a : ℕ) (prov : Prov) (n : ℕ) (x h : ObjName) (settles : Settling) (b : LibAnswer)
-  (is : List Item) (t : Store) → Some (x, settles) ≡ heap_start_in m a prov → n ≢ 0 → n ≤ 1048576 → h ≡ heap_name who →
+    (is : List Item) (t : Store) → Some (x, settles) ≡ heap_start_in m a prov → n ≢ 0 → n ≤ 1048576 → h ≡ heap_name who →
     nat_lt (2 ^ 26) (created_with (store_of m io) n) ≡ false → after ≡ rows_made m h n → IsMadeAs (Err b) m io h n →
-      Does given_value (Err b) is t (resizing m io after who a prov n)
+    Does given_value (Err b) is t (resizing m io after who a prov n)
 failing_there m after io who a prov n x h settles b is t found some most name limit rows made =
     under_made (Err b) is t m io after who a prov n h name rows
-      (failed_does m io who a prov n x settles b is t found (some_given n some most) limit (named_as (Err b) m io h (heap_name who) n name made))
+    (failed_does m io who a prov n x settles b is t found (some_given n some most) limit (named_as (Err b) m io h (heap_name who) n name made))
 
 pub failing_does : (m : Kept) (after : List Row) (io : Io) (who : Event) (a : ℕ) (prov : Prov) (n : ℕ) (x h : ObjName) (settles : Settling) (b : LibAnswer)
-  (is : List Item) (t : Store) → Some (x, settles) ≡ heap_start_in m a prov → n ≢ 0 → n ≤ 1048576 → h ≡ heap_name who →
+    (is : List Item) (t : Store) → Some (x, settles) ≡ heap_start_in m a prov → n ≢ 0 → n ≤ 1048576 → h ≡ heap_name who →
     nat_lt (2 ^ 26) (created_with (store_of m io) n) ≡ false → (unmade b ≢ Err answers.NoMemory → after ≡ rows_made m h n) → IsMadeAs (Err b) m io h n →
-      Does given_value (Err b) is t (resizing m io after who a prov n)
+    Does given_value (Err b) is t (resizing m io after who a prov n)
 failing_does m after io who a prov n x h settles answers.NoMemory is t found some most name limit rows made = tt
 failing_does m after io who a prov n x h settles b is t found some most name limit rows made =
     failing_there m after io who a prov n x h settles b is t found some most name limit (rows (λ e. absurd (cc))) made
 
 pub done_does : (m : Kept) (after : List Row) (io : Io) (who : Event) (a : ℕ) (prov : Prov) (n : ℕ) (x h : ObjName) (settles : Settling) (p : Pointer)
-  (v : Value) (old mid is : List Item) (t : Store) → Some (x, settles) ≡ heap_start_in m a prov → n ≢ 0 → n ≤ 1048576 → h ≡ heap_name who →
+    (v : Value) (old mid is : List Item) (t : Store) → Some (x, settles) ≡ heap_start_in m a prov → n ≢ 0 → n ≤ 1048576 → h ≡ heap_name who →
     nat_lt (2 ^ 26) (created_with (store_of m io) n) ≡ false → v ≡ Ptr p.addr p.prov → after ≡ rows_made m h n → IsMadeAs (Ok p) m io h n → old ≡ [] →
-      mid ≡ old ++ (settling_items settles ++ Alive x ∷ []) →
+    mid ≡ old ++ (settling_items settles ++ Alive x ∷ []) →
     is ≡ mid ++ moved_items x h (min (size_in (row_of m.rows x)) n) (min (size_in (row_of m.rows x)) n) →
-      t ≡ moved_store (rows_made m h n) x h n (after_settling settles (store_of m io)) → Does given_value (Ok v) is t (resizing m io after who a prov n)
+    t ≡ moved_store (rows_made m h n) x h n (after_settling settles (store_of m io)) → Does given_value (Ok v) is t (resizing m io after who a prov n)
 done_does m after io who a prov n x h settles p v old mid is t found some most name limit value rows made none first rest store =
     let size = min (size_in (row_of m.rows x)) n in
     subst (λ (w : Value). Does given_value (Ok w) is t (resizing m io after who a prov n)) (sym value)
     (under_made (Ok (Ptr p.addr p.prov)) is t m io after who a prov n h name rows
     (moved_does m io who a prov n x settles p old mid is t found (some_given n some most) limit (named_as (Ok p) m io h (heap_name who) n name made) none
-      first (rest ∙ ap (λ (y : ObjName). mid ++ moved_items x y size size) name)
+    first (rest ∙ ap (λ (y : ObjName). mid ++ moved_items x y size size) name)
     (store ∙ ap (λ (y : ObjName). moved_store (rows_made m y n) x y n (after_settling settles (store_of m io))) name)))
 
 pub rows_rest : (new m : Kept) → record new { cells = [] } ≡ record m { cells = [] } → new.rows ≡ m.rows
@@ -547,19 +614,19 @@ rows_rest new m e = ap (λ (k : Kept). k.rows) e
 
 -- ---- realloc to no bytes
 null_by : (v : Value) (is : List Item) (t : Store) (act : Act (Unit {0})) → v ≡ Ptr 0 Empty → Does (λ u. u) (Ok tt) is t act →
-  Does given_value (Ok v) is t (then act (λ w u. Done null [] u))
+    Does given_value (Ok v) is t (then act (λ w u. Done null [] u))
 null_by v is t (Done w js u) value h = does_same given_value (Ok v) is t (behind js (Done null [] u)) (Done null (js ++ []) u) (behind_done js [] null u)
-  (value, h.1 ∙ sym (append-nil js), h.2)
+    (value, h.1 ∙ sym (append-nil js), h.2)
 null_by v is t act value h = absurd h
 
 pub released_null : (rows : List Row) (a : ℕ) (prov : Prov) (v : Value) (is : List Item) (s t : Store) → v ≡ Ptr 0 Empty →
-  Does (λ u. u) (Ok tt) is t (run rows (free rows a prov ReallocOfOther) s) → Does given_value (Ok v) is t (run rows (released rows a prov) s)
+    Does (λ u. u) (Ok tt) is t (run rows (free rows a prov ReallocOfOther) s) → Does given_value (Ok v) is t (run rows (released rows a prov) s)
 released_null rows a prov v is s t value h =
     does_same given_value (Ok v) is t (run rows (released rows a prov) s) (then (run rows (free rows a prov ReallocOfOther) s) (λ w u. Done null [] u))
-      (run_then rows (free rows a prov ReallocOfOther) (λ w. Give null) s) (null_by v is t (run rows (free rows a prov ReallocOfOther) s) value h)
+    (run_then rows (free rows a prov ReallocOfOther) (λ w. Give null) s) (null_by v is t (run rows (free rows a prov ReallocOfOther) s) value h)
 
 fault_null : (b : LibAnswer) (is : List Item) (t : Store) (act : Act (Unit {0})) → Does {A = Unit {0}} {B = Unit {0}} (λ u. u) (Err b) is t act →
-  Does given_value (Err b) is t (then act (λ w u. Done null [] u))
+    Does given_value (Err b) is t (then act (λ w u. Done null [] u))
 fault_null answers.NoMemory is t act h = tt
 fault_null (answers.Raise c) is t (Raised d) h = h
 fault_null (answers.Outside c n) is t (Outside d k) h = h
@@ -567,11 +634,11 @@ fault_null answers.Unplaced is t Unplaced h = tt
 fault_null b is t act h = absurd h
 
 pub released_fault : (rows : List Row) (a : ℕ) (prov : Prov) (b : LibAnswer) (is : List Item) (s t : Store) →
-  Does {A = Unit {0}} {B = Unit {0}} (λ u. u) (Err b) is t (run rows (free rows a prov ReallocOfOther) s) →
-  Does given_value (Err b) is t (run rows (released rows a prov) s)
+    Does {A = Unit {0}} {B = Unit {0}} (λ u. u) (Err b) is t (run rows (free rows a prov ReallocOfOther) s) →
+    Does given_value (Err b) is t (run rows (released rows a prov) s)
 released_fault rows a prov b is s t h =
     does_same given_value (Err b) is t (run rows (released rows a prov) s) (then (run rows (free rows a prov ReallocOfOther) s) (λ w u. Done null [] u))
-      (run_then rows (free rows a prov ReallocOfOther) (λ w. Give null) s) (fault_null b is t (run rows (free rows a prov ReallocOfOther) s) h)
+    (run_then rows (free rows a prov ReallocOfOther) (λ w. Give null) s) (fault_null b is t (run rows (free rows a prov ReallocOfOther) s) h)
 
 -- ---- realloc by its pointer and its size
 realloc_null : (rows : List Row) (who : Event) (a : ℕ) (prov : Prov) (n : ℕ) → a ≡ 0 → malloc rows who n ≡ realloc rows who a prov n
@@ -591,12 +658,12 @@ abbrev pub changing : Kept → Io → List Row → Event → ℕ → Prov → �
 changing m io rows who a prov n = created_within n (store_of m io) (run rows (realloc rows who a prov n) (store_of m io))
 
 pub null_changes : (r : Result Value LibAnswer) (is : List Item) (t : Store) (m : Kept) (io : Io) (rows : List Row) (who : Event) (a : ℕ) (prov : Prov)
-  (n : ℕ) → a ≡ 0 →
+    (n : ℕ) → a ≡ 0 →
     Does given_value r is t (created_within n (store_of m io) (run rows (malloc rows who n) (store_of m io))) →
-      Does given_value r is t (changing m io rows who a prov n)
+    Does given_value r is t (changing m io rows who a prov n)
 null_changes r is t m io rows who a prov n e h =
     subst (λ (q : Script LibValue). Does given_value r is t (created_within n (store_of m io) (run rows q (store_of m io))))
-      (realloc_null rows who a prov n e) h
+    (realloc_null rows who a prov n e) h
 
 limit_none : (s : Store) (act : Act LibValue) → created_within 0 s act ≡ act
 limit_none s (Raised c) = refl
@@ -606,28 +673,28 @@ limit_none s (Outside c k) = refl
 limit_none s Unplaced = refl
 
 none_changes_by : (r : Result Value LibAnswer) (is : List Item) (t : Store) (m : Kept) (io : Io) (rows : List Row) (who : Event) (a : ℕ) (prov : Prov) →
-  a ≢ 0 →
+    a ≢ 0 →
     Does given_value r is t (run rows (released rows a prov) (store_of m io)) → Does given_value r is t (changing m io rows who a prov 0)
 none_changes_by r is t m io rows who a prov some h =
     does_same given_value r is t (changing m io rows who a prov 0) (run rows (released rows a prov) (store_of m io))
     (limit_none (store_of m io) (run rows (realloc rows who a prov 0) (store_of m io)) ∙ ap (λ (q : Script LibValue). run rows q (store_of m io))
-      (sym (realloc_none rows who a prov some))) h
+    (sym (realloc_none rows who a prov some))) h
 
 pub none_changes : (r : Result Value LibAnswer) (is : List Item) (t : Store) (m : Kept) (io : Io) (rows : List Row) (who : Event) (a : ℕ) (prov : Prov)
-  (n : ℕ) → a ≢ 0 → n ≡ 0 →
+    (n : ℕ) → a ≢ 0 → n ≡ 0 →
     Does given_value r is t (run rows (released rows a prov) (store_of m io)) → Does given_value r is t (changing m io rows who a prov n)
 none_changes r is t m io rows who a prov n some none h =
     subst (λ (k : ℕ). Does given_value r is t (changing m io rows who a prov k)) (sym none) (none_changes_by r is t m io rows who a prov some h)
 
 pub some_changes : (r : Result Value LibAnswer) (is : List Item) (t : Store) (m : Kept) (io : Io) (rows : List Row) (who : Event) (a : ℕ) (prov : Prov)
-  (n : ℕ) → a ≢ 0 → n ≢ 0 → Does given_value r is t (resizing m io rows who a prov n) → Does given_value r is t (changing m io rows who a prov n)
+    (n : ℕ) → a ≢ 0 → n ≢ 0 → Does given_value r is t (resizing m io rows who a prov n) → Does given_value r is t (changing m io rows who a prov n)
 some_changes r is t m io rows who a prov n some more h =
     subst (λ (q : Script LibValue). Does given_value r is t (created_within n (store_of m io) (run rows q (store_of m io))))
-      (realloc_some rows who a prov n some more) h
+    (realloc_some rows who a prov n some more) h
 
 -- ---- by arguments
 pub does_args : (r : Result Value LibAnswer) (is : List Item) (t : Store) (m : Kept) (io : Io) (rows : List Row) (who : Event) (a b : ℕ) (p q : Prov)
-  (n k : ℕ) → a ≡ b → p ≡ q → n ≡ k →
+    (n k : ℕ) → a ≡ b → p ≡ q → n ≡ k →
     Does given_value r is t (changing m io rows who a p n) → Does given_value r is t (changing m io rows who b q k)
 does_args r is t m io rows who a b p q n k address prov size h =
     subst (λ (j : ℕ). Does given_value r is t (changing m io rows who b q j)) size

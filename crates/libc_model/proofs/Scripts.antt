@@ -3,8 +3,40 @@ use Rattle.std.proofs.Common.{◌≡◌, Bool, true, false, cond, List, [], ◌�
 use Rattle.ub_base.specs.declared.names.Item.{Item}
 use Rattle.addr_map.specs.declared.map.Row.{Row}
 use Rattle.mem_spec.specs.Store.{Store}
-use Rattle.mem_spec.specs.Script.{Touch, Ask, Get, Put, Bear, Bury, Show, Find, Settle, Take, Print, item_of, refuses, refused, answer, left, Script, Give,
-  Raise, Finish, Exceed, Misplace, Do, ◌>>=◌, Act, Done, Raised, Ended, Outside, Unplaced, touched, run}
+use Rattle.mem_spec.specs.Script.{
+  Touch,
+  Ask,
+  Get,
+  Put,
+  Bear,
+  Bury,
+  Show,
+  Find,
+  Settle,
+  Take,
+  Print,
+  item_of,
+  refuses,
+  refused,
+  answer,
+  left,
+  Script,
+  Give,
+  Raise,
+  Finish,
+  Exceed,
+  Misplace,
+  Do,
+  ◌>>=◌,
+  Act,
+  Done,
+  Raised,
+  Ended,
+  Outside,
+  Unplaced,
+  touched,
+  run,
+}
 
 -- an act behind these items
 abbrev pub behind : {V : Type 0} → List Item → Act V → Act V
@@ -53,7 +85,7 @@ run_then rows (Exceed c n) k s = refl
 run_then rows Misplace k s = refl
 run_then rows (Do t g) k s =
     step_then (refuses t s) t (item_of t) (λ v u. run rows (k v) u) (run rows (g (answer rows t s)) (left t s))
-      (run rows (g (answer rows t s) >>= k) (left t s))
+    (run rows (g (answer rows t s) >>= k) (left t s))
     (run_then rows (g (answer rows t s)) k (left t s))
 
 pub behind_done : {V : Type 0} (is js : List Item) (v : V) (s : Store) → behind is (Done v js s) ≡ Done v (is ++ js) s
@@ -69,15 +101,15 @@ then_same (Outside c n) k j h = refl
 then_same Unplaced k j h = refl
 
 pub run_same : {A B : Type 0} (rows : List Row) (p : Script A) (k j : A → Script B) (s : Store) →
-  ((v : A) (u : Store) → run rows (k v) u ≡ run rows (j v) u) → run rows (p >>= k) s ≡ run rows (p >>= j) s
+    ((v : A) (u : Store) → run rows (k v) u ≡ run rows (j v) u) → run rows (p >>= k) s ≡ run rows (p >>= j) s
 run_same rows p k j s h = run_then rows p k s ∙ then_same (run rows p s) (λ v u. run rows (k v) u) (λ v u. run rows (j v) u) h ∙ sym (run_then rows p j s)
 
 pub run_twice : {A B C : Type 0} (rows : List Row) (p : Script A) (k : A → Script B) (j : B → Script C) (s : Store) →
-  run rows ((p >>= k) >>= j) s ≡ run rows (p >>= (λ v. k v >>= j)) s
+    run rows ((p >>= k) >>= j) s ≡ run rows (p >>= (λ v. k v >>= j)) s
 run_twice rows (Give v) k j s = refl
 run_twice rows (Raise c) k j s = refl
 run_twice rows (Finish n) k j s = refl
 run_twice rows (Exceed c n) k j s = refl
 run_twice rows Misplace k j s = refl
 run_twice {C = C} rows (Do t g) k j s = ap (λ (act : Act C). cond (refuses t s) (refused t) (touched (item_of t) act))
-  (run_twice rows (g (answer rows t s)) k j (left t s))
+    (run_twice rows (g (answer rows t s)) k j (left t s))

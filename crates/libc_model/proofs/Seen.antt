@@ -1,6 +1,34 @@
 -- Lemmas on arguments and lists of bytes.
-use Rattle.std.proofs.Common.{◌≡◌, ℕ, zero, suc, ◌<◌, ◌==◌, cond, ◌≤◌, inl, inr, eq-eqb, List, [], ◌∷◌, length, get_or, refl, ap, sym, ◌∙◌, arith, add-one, ℤ,
-  pos, negsuc, if◌then◌else◌, nat_lt, Some}
+use Rattle.std.proofs.Common.{
+  ◌≡◌,
+  ℕ,
+  zero,
+  suc,
+  ◌<◌,
+  ◌==◌,
+  cond,
+  ◌≤◌,
+  inl,
+  inr,
+  eq-eqb,
+  List,
+  [],
+  ◌∷◌,
+  length,
+  get_or,
+  refl,
+  ap,
+  sym,
+  ◌∙◌,
+  arith,
+  add-one,
+  ℤ,
+  pos,
+  negsuc,
+  if◌then◌else◌,
+  nat_lt,
+  Some,
+}
 use Rattle.std.proofs.lemmas.Bool.{le-ltb, lt-ltb, ne_eqb, cases_lt}
 use Rattle.std.specs.Cmp.Lexicographic.{slice_cmp}
 use Rattle.std.specs.Ordering.{ordering_then, nat_cmp}

@@ -1,7 +1,32 @@
 -- The parts of a call that look at memory, against the parts of its script (own). A call lists its items while memory stays as it is;
 -- what they settle and expose takes effect at its end.
-use Rattle.std.specs.Prelude.{◌≡◌, ℕ, zero, suc, ◌+◌, ◌<◌, ◌^◌, Bool, true, false, ◌||◌, ◌==◌, List, [], ◌∷◌, ◌++◌, map, Option, Some, None, Result, Ok, Err,
-  if◌then◌else◌, pos}
+use Rattle.std.specs.Prelude.{
+  ◌≡◌,
+  ℕ,
+  zero,
+  suc,
+  ◌+◌,
+  ◌<◌,
+  ◌^◌,
+  Bool,
+  true,
+  false,
+  ◌||◌,
+  ◌==◌,
+  List,
+  [],
+  ◌∷◌,
+  ◌++◌,
+  map,
+  Option,
+  Some,
+  None,
+  Result,
+  Ok,
+  Err,
+  if◌then◌else◌,
+  pos,
+}
 use Rattle.ub_base.specs.declared.clause.Clause.TheVariants.{LibraryArgument, Indeterminate}
 use Rattle.ub_base.specs.declared.names.Item.{Item}
 use Rattle.ub_base.specs.declared.names.Item.TheVariants.{Read, Expose, Narrow}
@@ -21,8 +46,21 @@ use Rattle.prov_memory.specs.Loads.{origins_of}
 use Rattle.mem_spec.specs.Streams.{Io}
 use Rattle.prov_memory.specs.Held.{held_of}
 use Rattle.prov_memory.specs.Memory.{Kept, AreKnown, store_of, life_in, tagged_in_object}
-use Rattle.libc_spec.specs.Library.{LibValue, number, Text, text, is_zero, numbers, number_of_byte, read_numbers, without_zero, joined, in_ranges,
-  created_within, output_within}
+use Rattle.libc_spec.specs.Library.{
+  LibValue,
+  number,
+  Text,
+  text,
+  is_zero,
+  numbers,
+  number_of_byte,
+  read_numbers,
+  without_zero,
+  joined,
+  in_ranges,
+  created_within,
+  output_within,
+}
 use Rattle.libc_model.specs.declared.arguments.Range.{Range}
 use Rattle.libc_model.specs.Answers.{given_value}
 use Rattle.libc_model.specs.Seen.{value_seen}

@@ -1,6 +1,28 @@
 -- Parts of a call whose reads are noted one by one, and the bytes that a call writes (own).
-use Rattle.std.specs.Prelude.{◌≡◌, ℕ, ◌≤◌, ◌==◌, ◌||◌, Bool, true, false, not, List, [], ◌∷◌, ◌++◌, length, map, Option, Some, None, Result, Ok, Err,
-  if◌then◌else◌}
+use Rattle.std.specs.Prelude.{
+  ◌≡◌,
+  ℕ,
+  ◌≤◌,
+  ◌==◌,
+  ◌||◌,
+  Bool,
+  true,
+  false,
+  not,
+  List,
+  [],
+  ◌∷◌,
+  ◌++◌,
+  length,
+  map,
+  Option,
+  Some,
+  None,
+  Result,
+  Ok,
+  Err,
+  if◌then◌else◌,
+}
 use Rattle.ub_base.specs.declared.clause.Clause.{Clause}
 use Rattle.ub_base.specs.declared.clause.Clause.TheVariants.{StoreToLiteral, StoreToConst, MemcpyOverlap, StrcpyOverlap}
 use Rattle.ub_base.specs.declared.names.Item.{Item}
@@ -64,14 +86,14 @@ target_at rows n a prov = argument rows n a prov >>= (λ target. check_target n 
 abbrev pub string_to_copy : List Row → (to : ℕ) → Prov → (from : ℕ) → Prov → Script (List ℕ × Option Accessed)
 string_to_copy rows to p from q =
     text rows from q >>= (λ source. argument rows (length source.bytes) to p >>=
-      (λ target. read_numbers source.bytes >>= (λ ns. check_target (length source.bytes) target >>= (λ u.
+    (λ target. read_numbers source.bytes >>= (λ ns. check_target (length source.bytes) target >>= (λ u.
     require (not (overlap (length source.bytes) to from)) StrcpyOverlap >>= (λ w. Give (ns, target))))))
 
 -- the ranges of a copy
 abbrev pub ranges_to_copy : List Row → (may_overlap : Bool) → (to : ℕ) → Prov → (from : ℕ) → Prov → ℕ → Script (Option Accessed × Option Accessed)
 ranges_to_copy rows may_overlap to p from q n =
     argument rows n to p >>= (λ target. argument rows n from q >>=
-      (λ source. check_target n target >>= (λ u. require (may_overlap || not (overlap n to from)) MemcpyOverlap >>= (λ w. Give (target, source)))))
+    (λ source. check_target n target >>= (λ u. require (may_overlap || not (overlap n to from)) MemcpyOverlap >>= (λ w. Give (target, source)))))
 
 -- none for a range of no bytes
 abbrev pub without_empty : Option Range → Option Range
@@ -101,8 +123,8 @@ moved_items target source = []
 -- the bytes of the one range replace those of the other as they stand, with pieces and tags
 abbrev pub moved : Kept → Option Range → Option Range → Store → Store
 moved m (Some target) (Some source) s = if target.len == 0 then s else with_bytes s target.object target.from
-  (stored_from (declared_of (life_in (held_of m.objects target.object))) whole 0
-  (retagged (declared_of (life_in (held_of m.objects source.object))) source.from (bytes_of m source)))
+    (stored_from (declared_of (life_in (held_of m.objects target.object))) whole 0
+    (retagged (declared_of (life_in (held_of m.objects source.object))) source.from (bytes_of m source)))
 moved m target source s = s
 
 -- bytes without a type

@@ -1,6 +1,28 @@
 -- Lemmas on the end of a call of printf: its output, and what its items settle and expose.
-use Rattle.std.proofs.Common.{◌≡◌, ℕ, ◌+◌, ◌≤◌, ◌^◌, Bool, true, false, cond, List, [], ◌∷◌, ◌++◌, length, length-append, refl, ap, sym, subst, ◌∙◌, arith,
-  pos}
+use Rattle.std.proofs.Common.{
+  ◌≡◌,
+  ℕ,
+  ◌+◌,
+  ◌≤◌,
+  ◌^◌,
+  Bool,
+  true,
+  false,
+  cond,
+  List,
+  [],
+  ◌∷◌,
+  ◌++◌,
+  length,
+  length-append,
+  refl,
+  ap,
+  sym,
+  subst,
+  ◌∙◌,
+  arith,
+  pos,
+}
 use Rattle.std.specs.Prelude.{Result, Ok, Err, nat_lt}
 use Rattle.ub_base.specs.declared.clause.Cause.{Cause}
 use Rattle.ub_base.specs.declared.clause.Cause.TheVariants.{Output as PastOutput}
@@ -65,12 +87,15 @@ do_wrote cells Any s bs h = h
 
 follow_wrote : (cells : Cells) (is : List Item) (s : Store) (bs : List ℕ) → CanFollow cells is s → CanFollow cells is (wrote s bs)
 follow_wrote cells [] s bs h = tt
-follow_wrote cells (i ∷ is) s bs h = (do_wrote cells i s bs h.0, subst (λ (u : Store). CanFollow cells is u) (sym (effect_wrote i s bs))
-  (follow_wrote cells is (effect i s) bs h.1))
+follow_wrote cells (i ∷ is) s bs h = (
+  do_wrote cells i s bs h.0,
+  subst (λ (u : Store). CanFollow cells is u) (sym (effect_wrote i s bs))
+      (follow_wrote cells is (effect i s) bs h.1),
+)
 
 -- ---- the bytes are printed
 prints : (m : Kept) (rows : List Row) (io : Io) (is : List Item) (bs : List ℕ) (script : List Row → Script (List ℕ)) → rows ≡ m.rows →
-  (g : Gives false (List ℕ) m io [] is (script m.rows) bs) →
+    (g : Gives false (List ℕ) m io [] is (script m.rows) bs) →
     run rows (printing (script rows)) (store_of m io) ≡ Done (number (pos (length bs))) (g.items ++ Output ∷ []) (wrote (after is (store_of m io)) bs)
 prints m rows io is bs script same g =
     ap (λ (rs : List Row). run rs (printing (script rs)) (store_of m io)) same
@@ -80,48 +105,48 @@ prints m rows io is bs script same g =
 
 -- what the call settles and exposes took effect
 pub print_gives : (m new : Kept) (io out : Io) (is js : List Item) (bs : List ℕ) (script : List Row → Script (List ℕ)) → AreWithin io →
-  length io.output + length bs ≤ 2 ^ 24 → Gives false (List ℕ) m io [] is (script m.rows) bs →
+    length io.output + length bs ≤ 2 ^ 24 → Gives false (List ℕ) m io [] is (script m.rows) bs →
     js ≡ is ++ Output ∷ [] → out ≡ record io { output = io.output ++ bs } → new.rows ≡ m.rows →
-      ((io : Io) → CanFollow m.cells js (store_of m io) → store_of new io ≡ after js (store_of m io)) →
+    ((io : Io) → CanFollow m.cells js (store_of m io) → store_of new io ≡ after js (store_of m io)) →
     Answers (answers.Value (Int (pos (length bs)))) js (store_of new out) (limited (run new.rows (printing (script new.rows)) (store_of m io)))
 print_gives m new io out is js bs script within fits g more put rows settled =
     let end : Io = record io { output = io.output ++ bs } in
     let items : js ≡ joined (g.items ++ Output ∷ []) = more ∙ ap (λ (ks : List Item). ks ++ Output ∷ []) g.added ∙ sym
-          (joined_append g.items (Output ∷ []) refl) in
+    (joined_append g.items (Output ∷ []) refl) in
     let able : CanFollow m.cells js (store_of m end) = subst (λ (ks : List Item). CanFollow m.cells ks (store_of m end)) (sym more)
-          (follow_append m.cells is (Output ∷ []) (store_of m end) (follow_wrote m.cells is (store_of m io) bs (g.able tt)) (tt, tt)) in
+    (follow_append m.cells is (Output ∷ []) (store_of m end) (follow_wrote m.cells is (store_of m io) bs (g.able tt)) (tt, tt)) in
     let store : store_of new out ≡ wrote (after is (store_of m io)) bs =
     ap (store_of new) put ∙ settled end able ∙ ap (λ (ks : List Item). after ks (store_of m end)) more ∙ after_append is (Output ∷ [])
-      (store_of m end) ∙ after_wrote is (store_of m io) bs in
+    (store_of m end) ∙ after_wrote is (store_of m io) bs in
     let size : length (io.output ++ bs) ≤ 2 ^ 24 = omega (arith, fits, length-append io.output bs) in
     subst (λ (act : Act LibValue). Answers (answers.Value (Int (pos (length bs)))) js (store_of new out) (limited act))
-      (sym (prints m new.rows io is bs script rows g))
+    (sym (prints m new.rows io is bs script rows g))
     (answers_of (Ok (Int (pos (length bs)))) js (store_of new out)
-      (Done (number (pos (length bs))) (joined (g.items ++ Output ∷ [])) (wrote (after is (store_of m io)) bs))
+    (Done (number (pos (length bs))) (joined (g.items ++ Output ∷ [])) (wrote (after is (store_of m io)) bs))
     (subst (λ (o : Io). length o.output ≤ 2 ^ 24) (sym put) size) (refl, items, store))
 
 -- the output would pass its limit
 past_split : (b : Bool) (n : ℕ) (e : LibAnswer) (r : Result (Unit {0}) LibAnswer) → r ≡ Err e → r ≡ cond b (Err (answers.Outside PastOutput n)) (Ok tt) →
-  (b ≡ true) × (e ≡ answers.Outside PastOutput n)
+    (b ≡ true) × (e ≡ answers.Outside PastOutput n)
 past_split true n e r err h = (refl, cc)
 past_split false n e r err h = absurd (cc)
 
 past_act : (n : ℕ) (v : LibValue) (is : List Item) (u : Store) → length u.output ≡ n → nat_lt (2 ^ 24) n ≡ true →
-  output_within (Done v is u) ≡ Outside PastOutput n
+    output_within (Done v is u) ≡ Outside PastOutput n
 past_act n v is u size past = ap (λ (k : ℕ). cond (nat_lt (2 ^ 24) k) (Outside PastOutput k) (Done v is u)) size ∙ ap
-  (λ (b : Bool). cond b (Outside PastOutput n) (Done v is u)) past
+    (λ (b : Bool). cond b (Outside PastOutput n) (Done v is u)) past
 
 pub print_past : (m : Kept) (io : Io) (is : List Item) (bs : List ℕ) (script : List Row → Script (List ℕ)) (e : LibAnswer) (r : Result (Unit {0}) LibAnswer) →
-  Gives false (List ℕ) m io [] is (script m.rows) bs → r ≡ Err e →
+    Gives false (List ℕ) m io [] is (script m.rows) bs → r ≡ Err e →
     r ≡ cond (nat_lt (2 ^ 24) (length io.output + length bs)) (Err (answers.Outside PastOutput (length io.output + length bs))) (Ok tt) →
     Answers e is (store_of m io) (limited (run m.rows (printing (script m.rows)) (store_of m io)))
 print_past m io is bs script e r g err past =
     let q = past_split (nat_lt (2 ^ 24) (length io.output + length bs)) (length io.output + length bs) e r err past in
     let size : length (wrote (after is (store_of m io)) bs).output ≡ length io.output + length bs =
-          ap (λ (u : Store). length (u.output ++ bs)) (bare_after is (store_of m io)) ∙ length-append io.output bs in
+    ap (λ (u : Store). length (u.output ++ bs)) (bare_after is (store_of m io)) ∙ length-append io.output bs in
     let act : limited (run m.rows (printing (script m.rows)) (store_of m io)) ≡ Outside PastOutput (length io.output + length bs) =
     ap limited (prints m m.rows io is bs script refl g) ∙ past_act (length io.output + length bs) (number (pos (length bs))) (joined (g.items ++ Output ∷ []))
-      (wrote (after is (store_of m io)) bs) size q.0 in
+    (wrote (after is (store_of m io)) bs) size q.0 in
     subst (λ (a : LibAnswer). Answers a is (store_of m io) (limited (run m.rows (printing (script m.rows)) (store_of m io)))) (sym q.1)
     (subst (λ (act : Act LibValue). Answers (answers.Outside PastOutput (length io.output + length bs)) is (store_of m io) act) (sym act) (refl, refl))
 
@@ -131,15 +156,15 @@ pub passes_then : (A B : Type 0) (rows : List Row) (s : Store) (p : Script A) (k
 passes_then A B rows s p k c n e = run_then rows p k s ∙ ap (λ (act : Act A). then act (λ a u. run rows (k a) u)) e
 
 pub print_fails : {A : Type 0} (items : A → List ℕ) (e : LibAnswer) (m : Kept) (io : Io) (is : List Item) (script : Script (List ℕ)) →
-  Prints items (Err e) m io [] is script →
+    Prints items (Err e) m io [] is script →
     Answers e is (store_of m io) (limited (run m.rows (printing script) (store_of m io)))
 print_fails items answers.NoMemory m io is script h = tt
 print_fails items (answers.Raise c) m io is script h =
     subst (λ (act : Act LibValue). Answers (answers.Raise c) is (store_of m io) (limited act))
-      (sym (raises_then (List ℕ) LibValue m.rows (store_of m io) script put_out c h)) refl
+    (sym (raises_then (List ℕ) LibValue m.rows (store_of m io) script put_out c h)) refl
 print_fails items (answers.Outside c n) m io is script h =
     subst (λ (act : Act LibValue). Answers (answers.Outside c n) is (store_of m io) (limited act))
-      (sym (passes_then (List ℕ) LibValue m.rows (store_of m io) script put_out c n h)) (refl, refl)
+    (sym (passes_then (List ℕ) LibValue m.rows (store_of m io) script put_out c n h)) (refl, refl)
 print_fails items e m io is script h = absurd h
 
 -- ---- the definition of printf
@@ -148,11 +173,11 @@ printf_is : (rows : List Row) (format : LibValue) (as' : List Argument) (s : Sto
 printf_is rows format as' s =
     run_twice rows (text rows (address_in format) (prov_in format)) (with_format rows as') put_out s
     ∙ run_same rows (text rows (address_in format) (prov_in format)) (λ t. with_format rows as' t >>= put_out)
-      (λ t. read_numbers t.bytes >>= (λ ns. with_numbers rows as' ns >>= put_out)) s
+    (λ t. read_numbers t.bytes >>= (λ ns. with_numbers rows as' ns >>= put_out)) s
     (λ t u. run_twice rows (read_numbers t.bytes) (with_numbers rows as') put_out u)
 
 pub printf_called : (rows : List Row) (vs : List LibValue) (as' : List Argument) (a : ℕ) (p : Prov) (s t : Store) (is : List Item) (e : LibAnswer) →
-  pointer a p ≡ pointer_in (argument_at vs 0) →
+    pointer a p ≡ pointer_in (argument_at vs 0) →
     Answers e is t (limited (run rows (printing (printed_text rows a p as')) s)) → Answers e is t (limited (run rows (printf rows (argument_at vs 0) as') s))
 printf_called rows vs as' a p s t is e same h =
     let q = address_is a (address_in (argument_at vs 0)) p (prov_in (argument_at vs 0)) same in

@@ -31,7 +31,7 @@ length_without n [] = refl
 length_without n (m ∷ ns) = ap suc (length_without m ns)
 
 pub text_without : (rows : List Row) (ns fs : List ℕ) (as' : List Argument) → fs ≡ without_zero ns →
-  text_of (suc (length fs)) rows 0 fs as' ≡ text_of (length ns) rows 0 (without_zero ns) as'
+    text_of (suc (length fs)) rows 0 fs as' ≡ text_of (length ns) rows 0 (without_zero ns) as'
 text_without rows [] fs as' e = rw e refl
 text_without rows (n ∷ ns) fs as' e =
     ap (λ (l : List ℕ). text_of (suc (length l)) rows 0 l as') e ∙ ap (λ (k : ℕ). text_of k rows 0 (without_zero (n ∷ ns)) as') (sym (length_without n ns))
@@ -45,7 +45,7 @@ pub then_passes : (q : _) (A B : Type 0) (m : Kept) (io : Io) (old mid : List It
     Gives q A m io old mid p v → run m.rows (k v) (after mid (store_of m io)) ≡ Outside c n → run m.rows (p >>= k) (after old (store_of m io)) ≡ Outside c n
 then_passes q A B m io old mid p v k c n f e =
     run_then m.rows p k (after old (store_of m io)) ∙ ap (λ (act : Act A). then act (λ a u. run m.rows (k a) u)) f.done ∙ ap
-      (behind f.items) e ∙ behind_passes f.items c n
+    (behind f.items) e ∙ behind_passes f.items c n
 
 -- ---- the text of a call
 abbrev pub with_numbers : List Row → List Argument → List ℕ → Script (List ℕ)
@@ -58,16 +58,16 @@ pub no_format : {A : Type 0} (items : A → List ℕ) (e : LibAnswer) (m : Kept)
     Follows {A = Range} {V = Text} false (text_in m) (Err e) m io old mid (text m.rows a p) → Prints items (Err e) m io old new (printed_text m.rows a p as')
 no_format items answers.NoMemory m io old mid new a p as' h = tt
 no_format items (answers.Raise c) m io old mid new a p as' h = raises_then Text (List ℕ) m.rows (after old (store_of m io)) (text m.rows a p)
-  (with_format m.rows as') c h
+    (with_format m.rows as') c h
 no_format items e m io old mid new a p as' h = absurd h
 
 pub no_numbers : {A : Type 0} (items : A → List ℕ) (e : LibAnswer) (m : Kept) (io : Io) (old mid end new : List Item) (a : ℕ) (p : Prov) (as' : List Argument)
-  (r : Range) →
+    (r : Range) →
     Gives false Text m io old mid (text m.rows a p) (text_in m r) → ReadsAll items (Err e) (bytes_of m r) mid end →
-      Prints items (Err e) m io old new (printed_text m.rows a p as')
+    Prints items (Err e) m io old new (printed_text m.rows a p as')
 no_numbers items answers.NoMemory m io old mid end new a p as' r g h = tt
 no_numbers items (answers.Raise c) m io old mid end new a p as' r g h =
     then_raises false Text (List ℕ) m io old mid (text m.rows a p) (text_in m r) (with_format m.rows as') c g
     (raises_then (List ℕ) (List ℕ) m.rows (after mid (store_of m io)) (read_numbers (bytes_of m r)) (with_numbers m.rows as') c
-      (reads_follow items (Err (answers.Raise c)) m io mid end (bytes_of m r) h))
+    (reads_follow items (Err (answers.Raise c)) m io mid end (bytes_of m r) h))
 no_numbers items e m io old mid end new a p as' r g h = absurd h

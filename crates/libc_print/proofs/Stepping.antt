@@ -17,7 +17,7 @@ sized_step n p = Give (record { bytes = p.item; len = n; rest = p.rest })
 
 -- a directive that is refused
 form_refused : (r : Refusal) (rows : List Row) (at : ℕ) (old new : List ℕ) (as' rest : List Argument) (d : directives.Directive) (f : Form)
-  (k : Taken (List ℕ) → Script Step) →
+    (k : Taken (List ℕ) → Script Step) →
     Some r ≡ refusal_of f at → Steps (Err (answer_of r)) old new rest (put_formed rows f d at as' >>= k)
 form_refused r rows at old new as' rest d taken k e = absurd (cc)
 form_refused r rows at old new as' rest d left_out k e = let q : r ≡ Outside _ at = cc in rw q (refl, refl)
@@ -43,7 +43,7 @@ none_left [] h = refl
 none_left (c ∷ cs) h = absurd cc
 
 pub fits_turn : (len turn n : ℕ) (all cs behind : List ℕ) (c : ℕ) → length all + turn ≤ len → all ≡ c ∷ cs → behind ≡ drop n cs →
-  length behind + (turn + 1) ≤ len
+    length behind + (turn + 1) ≤ len
 fits_turn len turn n all cs behind c fits d b =
     let g : suc (length cs) + turn ≤ len = subst (λ (l : List ℕ). length l + turn ≤ len) d fits in
     let q : length behind ≡ length cs - n = ap length b ∙ length-drop n cs in

@@ -1,6 +1,35 @@
 -- Lemmas on the bytes of conversions.
-use Rattle.std.proofs.Common.{◌≡◌, ℕ, zero, suc, ◌+◌, ◌-◌, ◌/◌, ◌%◌, ◌<◌, ◌≤◌, Bool, List, [], ◌∷◌, ◌++◌, Result, Ok, Err, Option, ℤ, refl, sym, ap, ◌∙◌,
-  subst, arith, append_assoc, replicate, reverse}
+use Rattle.std.proofs.Common.{
+  ◌≡◌,
+  ℕ,
+  zero,
+  suc,
+  ◌+◌,
+  ◌-◌,
+  ◌/◌,
+  ◌%◌,
+  ◌<◌,
+  ◌≤◌,
+  Bool,
+  List,
+  [],
+  ◌∷◌,
+  ◌++◌,
+  Result,
+  Ok,
+  Err,
+  Option,
+  ℤ,
+  refl,
+  sym,
+  ap,
+  ◌∙◌,
+  subst,
+  arith,
+  append_assoc,
+  replicate,
+  reverse,
+}
 use Rattle.std.proofs.lemmas.Bool.{ne_eqb}
 use Rattle.std.proofs.lemmas.List.{append-nil, replicate-append-replicate, reverse-append}
 use Rattle.ub_base.specs.declared.clause.Clause.{Clause}
@@ -34,7 +63,7 @@ puts_refused c old new rest s k e = subst (λ s. Puts (Err (Raise c)) old new re
 
 -- an argument that is taken
 pub puts_taken : {A : Type 0} (r : Result (Unit {0}) Refusal) (old new : List ℕ) (rest : List Argument) (a : Taken A) (s : Script (Taken A))
-  (k : Taken A → Script (Taken (List ℕ))) →
+    (k : Taken A → Script (Taken (List ℕ))) →
     Give a ≡ s → Puts r old new rest (k a) → Puts r old new rest (s >>= k)
 puts_taken r old new rest a s k e h = subst (λ s. Puts r old new rest (s >>= k)) e h
 
@@ -81,14 +110,14 @@ pub digits_left-read : (turns : ℕ) (upper : Bool) (base n whole : ℕ) (ds : L
     digits_left 64 upper base whole ≡ digits_left turns upper base n ++ reverse ds → reverse ds ≡ digits_of upper base whole
 digits_left-read turns upper base n whole ds q e =
     sym (sym (digits_left-all upper base whole) ∙ e ∙ ap (λ m. digits_left turns upper base m ++ reverse ds) q ∙ ap (λ l. l ++ reverse ds)
-      (digits_left-zero turns upper base))
+    (digits_left-zero turns upper base))
 
 pub digits_left-done : (turns : ℕ) (upper : Bool) (base n whole : ℕ) (ds : List ℕ) → 64 ≤ turns →
     digits_left 64 upper base whole ≡ digits_left (64 - turns) upper base n ++ reverse ds → reverse ds ≡ digits_of upper base whole
 digits_left-done turns upper base n whole ds h e =
     let q : 64 - turns ≡ 0 = omega (arith, h) in
     sym (sym (digits_left-all upper base whole) ∙ e ∙ ap (λ f. digits_left f upper base n ++ reverse ds) q ∙ ap (λ l. l ++ reverse ds)
-      (digits_left-none upper base n))
+    (digits_left-none upper base n))
 
 pub digits_left-first : (upper : Bool) (base n : ℕ) (ds : List ℕ) → ds ≡ [] →
     digits_left 64 upper base n ≡ digits_left (64 - 0) upper base n ++ reverse ds

@@ -1,6 +1,30 @@
 -- The directives of a printf format (7.21.6.1p3 to p9), and which of them are left out (own).
-use Rattle.std.specs.Prelude.{ℕ, ◌+◌, ◌-◌, ◌*◌, ◌^◌, Bool, true, false, not, ◌&&◌, ◌||◌, ◌==◌, nat_le, min, List, [], ◌∷◌, length, drop, take_while, Option,
-  Some, None, if◌then◌else◌}
+use Rattle.std.specs.Prelude.{
+  ℕ,
+  ◌+◌,
+  ◌-◌,
+  ◌*◌,
+  ◌^◌,
+  Bool,
+  true,
+  false,
+  not,
+  ◌&&◌,
+  ◌||◌,
+  ◌==◌,
+  nat_le,
+  min,
+  List,
+  [],
+  ◌∷◌,
+  length,
+  drop,
+  take_while,
+  Option,
+  Some,
+  None,
+  if◌then◌else◌,
+}
 
 pub record Flags : Type 0 where
   pub minus : Bool

@@ -1,11 +1,50 @@
 -- The functions of the library, but for printf, as scripts of touches (7.21.7.6, 7.21.7.8, 7.21.7.9, 7.22.3, 7.22.4, 7.24).
 -- A pointer argument is checked in the order: null, dead, range; then unwritten bytes, writability and overlap (own: the order).
-use Rattle.std.specs.Prelude.{ℕ, zero, suc, ◌+◌, ◌-◌, ◌*◌, ◌^◌, Bool, true, false, not, ◌&&◌, ◌||◌, ◌==◌, nat_lt, nat_le, min, max, List, [], ◌∷◌, ◌++◌,
-  length, map, replicate, Option, Some, None, if◌then◌else◌, ℤ, pos, negsuc, unsigned_abs}
+use Rattle.std.specs.Prelude.{
+  ℕ,
+  zero,
+  suc,
+  ◌+◌,
+  ◌-◌,
+  ◌*◌,
+  ◌^◌,
+  Bool,
+  true,
+  false,
+  not,
+  ◌&&◌,
+  ◌||◌,
+  ◌==◌,
+  nat_lt,
+  nat_le,
+  min,
+  max,
+  List,
+  [],
+  ◌∷◌,
+  ◌++◌,
+  length,
+  map,
+  replicate,
+  Option,
+  Some,
+  None,
+  if◌then◌else◌,
+  ℤ,
+  pos,
+  negsuc,
+  unsigned_abs,
+}
 use Rattle.std.specs.Int.{int_rem_euclid}
 use Rattle.ub_base.specs.declared.clause.Clause.{Clause}
-use Rattle.ub_base.specs.declared.clause.Clause.TheVariants.{LibraryArgument, Indeterminate, MemcpyOverlap, StrcpyOverlap, Free as FreeOfOther,
-  Realloc as ReallocOfOther}
+use Rattle.ub_base.specs.declared.clause.Clause.TheVariants.{
+  LibraryArgument,
+  Indeterminate,
+  MemcpyOverlap,
+  StrcpyOverlap,
+  Free as FreeOfOther,
+  Realloc as ReallocOfOther,
+}
 use Rattle.ub_base.specs.declared.clause.Cause.TheVariants.{Output as PastOutput, Created as PastCreated}
 use Rattle.ub_base.specs.declared.names.Event.{Event}
 use Rattle.ub_base.specs.declared.names.ObjName.{ObjName}
@@ -18,14 +57,65 @@ use Rattle.addr_map.specs.Rows.{row_of}
 use Rattle.exposure.specs.declared.prov.Prov.{Prov}
 use Rattle.exposure.specs.declared.prov.Prov.TheVariants.{Empty, Whole, Either}
 use Rattle.c_types.specs.declared.library.LibFunc.{LibFunc}
-use Rattle.c_types.specs.declared.library.LibFunc.TheVariants.{Malloc, Calloc, Realloc, Free, Memcpy, Memmove, Memset, Memcmp, Strlen, Strcpy, Strcmp, Strchr,
-  Getchar, Putchar, Puts, Printf, Exit, Abort}
+use Rattle.c_types.specs.declared.library.LibFunc.TheVariants.{
+  Malloc,
+  Calloc,
+  Realloc,
+  Free,
+  Memcpy,
+  Memmove,
+  Memset,
+  Memcmp,
+  Strlen,
+  Strcpy,
+  Strcmp,
+  Strchr,
+  Getchar,
+  Putchar,
+  Puts,
+  Printf,
+  Exit,
+  Abort,
+}
 use Rattle.mem_spec.specs.declared.kind.ObjKind.{ObjKind}
 use Rattle.mem_spec.specs.Store.{Byte, written, TaggedByte, Life, Store}
-use Rattle.mem_spec.specs.Script.{Ask, Get, Put, Bury, Settle, Take, Print, Script, Give, Raise, Finish, touch, require, ◌>>=◌, ◌>>◌, Act, Done, Raised,
-  Outside, run}
-use Rattle.mem_spec.specs.Acts.{Accessed, argument, check_writable, copy_between, create, declared_of, stored_from, bytes, all_written, number_in,
-  show_pieces, size_in, base_in}
+use Rattle.mem_spec.specs.Script.{
+  Ask,
+  Get,
+  Put,
+  Bury,
+  Settle,
+  Take,
+  Print,
+  Script,
+  Give,
+  Raise,
+  Finish,
+  touch,
+  require,
+  ◌>>=◌,
+  ◌>>◌,
+  Act,
+  Done,
+  Raised,
+  Outside,
+  run,
+}
+use Rattle.mem_spec.specs.Acts.{
+  Accessed,
+  argument,
+  check_writable,
+  copy_between,
+  create,
+  declared_of,
+  stored_from,
+  bytes,
+  all_written,
+  number_in,
+  show_pieces,
+  size_in,
+  base_in,
+}
 
 -- an argument, or what a function gives
 pub data LibValue : Type 0 where
@@ -319,18 +409,18 @@ library rows Calloc vs who = calloc rows who (size_of_value (argument_at vs 0) *
 library rows Realloc vs who = realloc rows who (address_in (argument_at vs 0)) (prov_in (argument_at vs 0)) (size_of_value (argument_at vs 1))
 library rows Free vs who = free rows (address_in (argument_at vs 0)) (prov_in (argument_at vs 0)) FreeOfOther >> Give nothing
 library rows Memcpy vs who = memmove rows false (address_in (argument_at vs 0)) (prov_in (argument_at vs 0)) (address_in (argument_at vs 1))
-  (prov_in (argument_at vs 1)) (size_of_value (argument_at vs 2))
+    (prov_in (argument_at vs 1)) (size_of_value (argument_at vs 2))
 library rows Memmove vs who = memmove rows true (address_in (argument_at vs 0)) (prov_in (argument_at vs 0)) (address_in (argument_at vs 1))
-  (prov_in (argument_at vs 1)) (size_of_value (argument_at vs 2))
+    (prov_in (argument_at vs 1)) (size_of_value (argument_at vs 2))
 library rows Memset vs who = memset rows (address_in (argument_at vs 0)) (prov_in (argument_at vs 0)) (integer_in (argument_at vs 1))
-  (size_of_value (argument_at vs 2))
+    (size_of_value (argument_at vs 2))
 library rows Memcmp vs who = memcmp rows (address_in (argument_at vs 0)) (prov_in (argument_at vs 0)) (address_in (argument_at vs 1))
-  (prov_in (argument_at vs 1)) (size_of_value (argument_at vs 2))
+    (prov_in (argument_at vs 1)) (size_of_value (argument_at vs 2))
 library rows Strlen vs who = strlen rows (address_in (argument_at vs 0)) (prov_in (argument_at vs 0))
 library rows Strcpy vs who = strcpy rows (address_in (argument_at vs 0)) (prov_in (argument_at vs 0)) (address_in (argument_at vs 1))
-  (prov_in (argument_at vs 1))
+    (prov_in (argument_at vs 1))
 library rows Strcmp vs who = strcmp rows (address_in (argument_at vs 0)) (prov_in (argument_at vs 0)) (address_in (argument_at vs 1))
-  (prov_in (argument_at vs 1))
+    (prov_in (argument_at vs 1))
 library rows Strchr vs who = strchr rows (address_in (argument_at vs 0)) (prov_in (argument_at vs 0)) (integer_in (argument_at vs 1))
 library rows Getchar vs who = getchar
 library rows Putchar vs who = putchar (integer_in (argument_at vs 0))

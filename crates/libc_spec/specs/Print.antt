@@ -1,6 +1,41 @@
 -- printf as a script of touches: its directives from left to right, each with its arguments and its bytes (7.21.6.1, 7.21.6.3).
-use Rattle.std.specs.Prelude.{ℕ, zero, suc, ◌+◌, ◌-◌, ◌/◌, ◌%◌, Bool, true, false, not, ◌&&◌, ◌||◌, ◌==◌, nat_lt, nat_le, min, max, List, [], ◌∷◌, ◌++◌,
-  length, drop, replicate, Option, Some, None, is_none, if◌then◌else◌, ℤ, pos, negsuc, int_lt, unsigned_abs}
+use Rattle.std.specs.Prelude.{
+  ℕ,
+  zero,
+  suc,
+  ◌+◌,
+  ◌-◌,
+  ◌/◌,
+  ◌%◌,
+  Bool,
+  true,
+  false,
+  not,
+  ◌&&◌,
+  ◌||◌,
+  ◌==◌,
+  nat_lt,
+  nat_le,
+  min,
+  max,
+  List,
+  [],
+  ◌∷◌,
+  ◌++◌,
+  length,
+  drop,
+  replicate,
+  Option,
+  Some,
+  None,
+  is_none,
+  if◌then◌else◌,
+  ℤ,
+  pos,
+  negsuc,
+  int_lt,
+  unsigned_abs,
+}
 use Rattle.c_arith.specs.Operators.{conv}
 use Rattle.c_types.specs.declared.kind.IntKind.{IntKind}
 use Rattle.c_types.specs.declared.kind.IntKind.TheVariants.{SChar, UChar, Short, UShort, Int, UInt, Long, ULong, LLong}
@@ -14,10 +49,44 @@ use Rattle.addr_map.specs.Rows.{row_of}
 use Rattle.mem_spec.specs.Store.{TaggedByte, Store}
 use Rattle.mem_spec.specs.Script.{Get, Print, Script, Give, Raise, Exceed, touch, require, ◌>>=◌, ◌>>◌, Act, run}
 use Rattle.mem_spec.specs.Acts.{Accessed, argument, expose, size_in}
-use Rattle.libc_spec.specs.Library.{LibValue, number, pointer_in, address_in, prov_in, integer_in, low_byte, read_numbers, without_zero, text, ends_in_zero,
-  in_ranges, output_within}
-use Rattle.libc_spec.specs.Directives.{Flags, Count, absent, count, Length, hh, h, l, ll, j, z, t, Directive, most, directive_of, Form, taken, left_out,
-  invalid, form, is_in}
+use Rattle.libc_spec.specs.Library.{
+  LibValue,
+  number,
+  pointer_in,
+  address_in,
+  prov_in,
+  integer_in,
+  low_byte,
+  read_numbers,
+  without_zero,
+  text,
+  ends_in_zero,
+  in_ranges,
+  output_within,
+}
+use Rattle.libc_spec.specs.Directives.{
+  Flags,
+  Count,
+  absent,
+  count,
+  Length,
+  hh,
+  h,
+  l,
+  ll,
+  j,
+  z,
+  t,
+  Directive,
+  most,
+  directive_of,
+  Form,
+  taken,
+  left_out,
+  invalid,
+  form,
+  is_in,
+}
 use Rattle.libc_spec.specs.Directives as directives
 
 -- an argument with its type

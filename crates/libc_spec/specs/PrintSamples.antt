@@ -118,12 +118,12 @@ pub record PrintSamples : Type 0 where
   pub row_7 : prints (codes "%.0d") ((given_int Int (pos 0)) ∷ []) ≡ []
   -- %ld of -9223372036854775808
   pub row_8 : prints (codes "%ld") ((given_int Long (negsuc 9223372036854775807)) ∷ []) ≡ 45 ∷ 57 ∷ 50 ∷ 50 ∷ 51 ∷ 51 ∷ 55 ∷ 50 ∷ 48 ∷ 51 ∷ 54 ∷ 56 ∷ 53 ∷ 52
-    ∷ 55 ∷ 55 ∷ 53 ∷ 56 ∷ 48 ∷ 56 ∷ []
+      ∷ 55 ∷ 55 ∷ 53 ∷ 56 ∷ 48 ∷ 56 ∷ []
   -- %hhd of 200
   pub row_9 : prints (codes "%hhd") ((given_int Int (pos 200)) ∷ []) ≡ 45 ∷ 53 ∷ 54 ∷ []
   -- %lu of 18446744073709551615
   pub row_10 : prints (codes "%lu") ((given_int ULong (pos 18446744073709551615)) ∷ []) ≡ 49 ∷ 56 ∷ 52 ∷ 52 ∷ 54 ∷ 55 ∷ 52 ∷ 52 ∷ 48 ∷ 55 ∷ 51 ∷ 55 ∷ 48 ∷ 57
-    ∷ 53 ∷ 53 ∷ 49 ∷ 54 ∷ 49 ∷ 53 ∷ []
+      ∷ 53 ∷ 53 ∷ 49 ∷ 54 ∷ 49 ∷ 53 ∷ []
   -- %hu of 65537
   pub row_11 : prints (codes "%hu") ((given_int UInt (pos 65537)) ∷ []) ≡ 49 ∷ []
   -- %#o of 0
@@ -173,4 +173,4 @@ pub record PrintSamples : Type 0 where
   pub items_1 : items (codes "%.1s") (word ∷ []) ≡ Alive (Lit 0) ∷ Read (Lit 0) 0 5 ∷ Alive (Lit 1) ∷ Read (Lit 1) 0 1 ∷ Output ∷ []
   -- two strings of which one begins where the other's bytes end
   pub items_2 : items (codes "%.1s%s") (word ∷ tail ∷ []) ≡ Alive (Lit 0) ∷ Read (Lit 0) 0 7 ∷ Alive (Lit 1) ∷ Read (Lit 1) 0 1 ∷ Alive (Lit 1) ∷ Read
-    (Lit 1) 1 2 ∷ Output ∷ []
+      (Lit 1) 1 2 ∷ Output ∷ []

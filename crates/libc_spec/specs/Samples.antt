@@ -98,7 +98,7 @@ pub record Samples : Type 0 where
   pub null_text : given (call Strlen (null ∷ [])) ≡ raises LibraryArgument
   pub below : given (call Strcmp (text ∷ text ∷ [])) ≡ value (number (pos 0))
   pub below_items : items (call Strcmp (text ∷ pointer 16777217 (Whole (Static 0)) ∷ [])) ≡ Alive (Static 0) ∷ Read (Static 0) 0 3 ∷ Alive (Static 0) ∷ Read
-    (Static 0) 1 2 ∷ []
+      (Static 0) 1 2 ∷ []
   pub found : given (call Strchr (text ∷ number (pos 98) ∷ [])) ≡ value (pointer 16777217 (Whole (Static 0)))
   pub not_found : given (call Strchr (text ∷ number (pos 122) ∷ [])) ≡ value null
   pub on_itself : given (call Strcpy (text ∷ text ∷ [])) ≡ raises StrcpyOverlap

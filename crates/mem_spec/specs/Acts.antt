@@ -1,9 +1,52 @@
 -- The acts that loads, stores, casts, arithmetic and comparison of pointers are made of.
-use Rattle.std.specs.Prelude.{ℕ, zero, suc, ◌+◌, ◌-◌, ◌*◌, ◌%◌, ◌^◌, Bool, true, false, not, ◌&&◌, ◌||◌, ◌==◌, nat_lt, nat_le, List, [], ◌∷◌, length,
-  replicate, Option, Some, None, is_some, if◌then◌else◌, ℤ, pos, ◌+ℤ◌, ◌-ℤ◌, int_le}
+use Rattle.std.specs.Prelude.{
+  ℕ,
+  zero,
+  suc,
+  ◌+◌,
+  ◌-◌,
+  ◌*◌,
+  ◌%◌,
+  ◌^◌,
+  Bool,
+  true,
+  false,
+  not,
+  ◌&&◌,
+  ◌||◌,
+  ◌==◌,
+  nat_lt,
+  nat_le,
+  List,
+  [],
+  ◌∷◌,
+  length,
+  replicate,
+  Option,
+  Some,
+  None,
+  is_some,
+  if◌then◌else◌,
+  ℤ,
+  pos,
+  ◌+ℤ◌,
+  ◌-ℤ◌,
+  int_le,
+}
 use Rattle.ub_base.specs.declared.clause.Clause.{Clause}
-use Rattle.ub_base.specs.declared.clause.Clause.TheVariants.{DeadObject, TrapRepresentation, StoreToLiteral, InvalidPointer, OutOfBounds, PointerDifference,
-  PointerComparison, EffectiveType, StoreToConst, LibraryArgument, Indeterminate}
+use Rattle.ub_base.specs.declared.clause.Clause.TheVariants.{
+  DeadObject,
+  TrapRepresentation,
+  StoreToLiteral,
+  InvalidPointer,
+  OutOfBounds,
+  PointerDifference,
+  PointerComparison,
+  EffectiveType,
+  StoreToConst,
+  LibraryArgument,
+  Indeterminate,
+}
 use Rattle.ub_base.specs.declared.names.Event.{Event}
 use Rattle.ub_base.specs.declared.names.ObjName.{ObjName}
 use Rattle.ub_base.specs.Names.{same_event, same_object}
@@ -350,7 +393,7 @@ argument_object rows len a Empty = Raise LibraryArgument
 argument_object rows len a (Whole x) = Give (Some x)
 argument_object rows len a (Either id past start) =
     settle_by (in_row (row_of rows past) a len) (in_row (row_of rows start) a len) id past start LibraryArgument >> Give
-      (the_one_in (in_row (row_of rows past) a len) (in_row (row_of rows start) a len) past start)
+    (the_one_in (in_row (row_of rows past) a len) (in_row (row_of rows start) a len) past start)
 
 abbrev pub argument_in : List Row → ℕ → ℕ → Option ObjName → Script (Option Accessed)
 argument_in rows len a None = Give None

@@ -57,8 +57,11 @@ fits_of world d s h = go (nat_lt world.limits.depth d) (nat_lt world.limits.crea
     go : (a b c : Bool) → nat_lt world.limits.created s.created ≡ b → nat_lt world.limits.output (length s.output) ≡ c
         → if◌then◌else◌ {A = Option (Cause × ℕ)} a (Some (Depth, d)) (if◌then◌else◌ {A = Option (Cause × ℕ)} b (Some (Created, s.created))
         (if◌then◌else◌ {A = Option (Cause × ℕ)} c (Some (Output, length s.output)) None)) ≡ None → Within world.limits.created world.limits.output s
-    go false false false e k h = record { created_at_most = low world.limits.created s.created e; output_at_most =
-      low world.limits.output (length s.output) k }
+    go false false false e k h = record {
+      created_at_most = low world.limits.created s.created e;
+      output_at_most =
+          low world.limits.output (length s.output) k;
+    }
     go true b c e k h = absurd (cc)
     go false true c e k h = absurd (cc)
     go false false true e k h = absurd (cc)
@@ -399,7 +402,7 @@ module _ (world : World) (asked : LibraryAsked world) (status : ℕ) (output : L
         let k = ap length b.way in
         let un2 = subst (λ z. is_under x.path z ≡ true) b.way un in
         let past = all_logged world st.trace x lf y.past (λ w dw. other_frame world.rows lf.scene.path lf.scene.turn w x (omega (arith, k, l))) b.done b.past
-          in
+        in
         let own = logged_more world.rows st.trace lf.scene.path lf.scene.turn u y.items x b.body
         (other_frame world.rows lf.scene.path lf.scene.turn u x (omega (arith, k, l))) un2 b.own in
         let own2 = subst (λ z. Logged world.rows (x ∷ st.trace) lf.scene.path lf.scene.turn u (y.items ++ z)) xi own in

@@ -427,7 +427,7 @@ module _ (world : World) (small : world.limits.created < 2 ^ 62) (f0 : Local × 
 
     -- the end of the run
     run_ends_at : (st : State) (qs : List Pick) (r : Reach st qs) (p : Pick) (n : ℕ) (is : List Item) (s1 : Store) →
-      May M E (st.top, depth_of st.top st.held) p
+        May M E (st.top, depth_of st.top st.held) p
         → orders.Ends M E (st.top, depth_of st.top st.held) p st.store n is s1 → Leads (qs ++ p ∷ []) (step world st p)
     run_ends_at st qs r p n is s1 may e =
         let D = depth_of st.top st.held in

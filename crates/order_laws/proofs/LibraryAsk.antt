@@ -135,7 +135,7 @@ calloc_last who n base = touch (Ask (heap_name who)) >>= (λ life. touch (Put (h
 abbrev moved_last : Event → ObjName → List TaggedByte → ℕ → Script LibValue
 moved_last who x ds base =
     touch (Ask (heap_name who)) >>= (λ life. touch (Put (heap_name who) 0 ds) >>
-      (touch (Bury x) >>= (λ old. Give (pointer base (prov.Whole (heap_name who))))))
+    (touch (Bury x) >>= (λ old. Give (pointer base (prov.Whole (heap_name who))))))
 
 copy_asks : (rows : List Row) (n : ℕ) (target source : Option Accessed) (bs : List Item) → OptKnown target bs → OptKnown source bs
     → Asked rows (copy_between n target source) bs

@@ -138,7 +138,7 @@ store_goes_on rows first via align a p bs =
 whole_goes_on : (rows : List Row) (first : Bool) (size align : ℕ) (p : Pointer) (v : Value) → NoEnd (put_whole rows first size align p v)
 whole_goes_on rows first size align p (values.Whole bs source) =
     bind (store rows first whole align p.address p.prov bs)
-      (λ u. require (not (overlap_inexactly size p.address source)) OverlappingAssignment >> Give Nothing)
+    (λ u. require (not (overlap_inexactly size p.address source)) OverlappingAssignment >> Give Nothing)
     (store_goes_on rows first whole align p.address p.prov bs) (λ u. need (not (overlap_inexactly size p.address source)) OverlappingAssignment
     (Give Nothing) tt)
 whole_goes_on rows first size align p _ = tt

@@ -160,7 +160,7 @@ module _ (world : World) where
   -- the events of a frame's full expression stand in the trace with the frame's path and turn, and none has a later turn
   pub record FrameOk (trace : List Entry) (f : Local) (es : List Event) : Type 0 where
     pub covers : (e : Entry) (v : Place) → Has trace e v → f.scene.path ≡ e.path → f.scene.turn ≡ e.turn → is_some f.begun ≡ true →
-      Among (Matches trace v e) es
+        Among (Matches trace v e) es
     pub pairs : (d e : Entry) (u v : Place) → Both trace d u e v → f.scene.path ≡ d.path → f.scene.turn ≡ d.turn → is_some f.begun ≡ true
         → Paired (Matches trace u d) (Matches trace v e) es
     pub old : (e : Entry) (v : Place) → Has trace e v → f.scene.path ≡ e.path → e.turn ≤ f.scene.turn

@@ -218,7 +218,7 @@ module _ (taken : Taken) (done : Place → Bool) (m : ℕ) (value : done (place 
         next_open (nat_lt m (k + size t)) (goes class choice i) (due_in taken k t (place m Val))
         (due_among taken class choice (suc i) (k + size t) ts (place m Val))
         (update_at k t m) (update_among (k + size t) ts m) (update_is_open taken done k t) (operand_is_open taken done class choice (suc i) (k + size t) ts) d
-          u
+        u
         (open_at t k) (open_among ts class choice (suc i) (k + size t))
 
 -- lists of places

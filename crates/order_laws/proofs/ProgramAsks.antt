@@ -153,7 +153,7 @@ module _ (world : World)
 
   -- an act that ends the run leaves the store as it was
   pub ends_still : (f : Local) (p : Pick) (s : Store) (n : ℕ) (is : List Item) (s1 : Store) → run world.rows (does world f f.begun p) s ≡ Ended n is s1 →
-    s ≡ s1
+      s ≡ s1
   ends_still f p s n is s1 h = go (does_asks f f.begun p [])
     where
       store_in : Act Value → Store

@@ -77,7 +77,7 @@ module _ {Part Seen Fact : Type 0} (world : World) (parts : StorePart Part Seen 
   end_laws = record {
     gives_none = λ f q s n is s1 e. not_done (run world.rows (act_at f q) s) (record { number = n; items = is; store = s1 }) e;
     starts_none = λ f g q s n is s1 e mv. not_started world.rows (act_at f q) (move world f f.begun q) s g (record { number = n; items = is; store = s1 }) e
-      mv;
+        mv;
     half_goes_on = λ f g q s n is s1 o e. half_of f.begun g q s (record { number = n; items = is; store = s1 }) o e;
     half_stays = λ f g h q o mv. half_moves f.begun g h q o mv;
   }

@@ -56,7 +56,7 @@ ending_joined (_ ∷ is) js h k = ending_joined is js h k
 endless_under : (q : Path) (es : List Entry) → Endless es → has_ending (items_under q es) ≡ false
 endless_under q [] h = refl
 endless_under q (e ∷ es) (h, hs) = ending_joined (if is_under e.path q then e.items else []) (items_under q es) (go (is_under e.path q))
-  (endless_under q es hs)
+    (endless_under q es hs)
   where
     go : (b : Bool) → has_ending (if b then e.items else []) ≡ false
     go true = h
@@ -428,7 +428,7 @@ module _ (world : World) where
   -- where a pick ends the run, alone as the bodies that wait
   module _ (x : Entry) (trace : List Entry) (ms : List (Local × Place)) (hs : List Held) (held : HeldOk world trace ms hs x.path) (all : AllAlone M E hs) where
     pub end_free : ConflictFree world trace → ((e : Entry) (u v : Place) → IsNewest x trace x u e v → AreApart x.begun u v → ⊥) →
-      ConflictFree world (x ∷ trace)
+        ConflictFree world (x ∷ trace)
     end_free free fresh d e u v bo apart = go (both_cases x trace d u e v bo)
       where
         old : Both trace d u e v → Grows x.path d u ⊎ StaysSame x.path d u → Grows x.path e v ⊎ StaysSame x.path e v
@@ -464,7 +464,7 @@ module _ (world : World) where
 
   pub no_race : (trace : List Entry) → ConflictFree world trace → (d e : Entry) (u v : Place) → Race world trace d u e v → ⊥
   no_race trace free d e u v r = true≢false
-    (sym (accesses_conflict world.rows d.items e.items r.clash) ∙ own_items trace d e u v (free d e u v r.both r.apart))
+      (sym (accesses_conflict world.rows d.items e.items r.clash) ∙ own_items trace d e u v (free d e u v r.both r.apart))
 
   pub no_quarrel : (trace : List Entry) → ConflictFree world trace → (d e : Entry) (u v : Place) → Quarrel world trace d u e v → ⊥
   no_quarrel trace free d e u v q = true≢false (sym q.clash ∙ free d e u v q.both q.apart)

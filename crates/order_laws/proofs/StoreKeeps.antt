@@ -140,7 +140,7 @@ module _ (world : World) where
       → (t1 : Store) × Does M f p t v is t1 × Diff M j s1 t1
   elsewhere f p s t v is s1 j h d a =
       let n = script_same world.rows Value (does world f f.begun p) s t s1 (gives v) is j (ran f p s v is s1 h) (to_items j s t d) (sym (apart_any is j) ∙ a)
-        in
+      in
       (n.0, ap done_by n.1, to_diff j s1 n.0 n.2)
 
   interferes_sym : (i j : Item) → interferes world.rows i j ≡ false → interferes world.rows j i ≡ false

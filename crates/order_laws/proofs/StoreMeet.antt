@@ -11,8 +11,20 @@ use Rattle.ub_base.proofs.NameLemmas.{same_object_is, same_object_refl, same_eve
 use Rattle.addr_map.specs.declared.map.Row.{Row}
 use Rattle.mem_spec.specs.Store.{Store}
 use Rattle.addr_map.specs.Conflict.{items_conflict, stands_at, overlap}
-use Rattle.mem_laws.specs.Frame.{bears, ends_life, shows, writes, settles, takes, prints, any_of, life_conflict, interferes, interferes_with,
-  some_interference}
+use Rattle.mem_laws.specs.Frame.{
+  bears,
+  ends_life,
+  shows,
+  writes,
+  settles,
+  takes,
+  prints,
+  any_of,
+  life_conflict,
+  interferes,
+  interferes_with,
+  some_interference,
+}
 use Rattle.order_laws.specs.StoreParts.{Part, life_of, is_exposed, byte_of, kept_for, a_truth, an_object, look, alters, was_shown, was_settled}
 use Rattle.order_laws.specs.StoreParts.{settles_to, shown_after, says, same_truth, is_the, is_so}
 

@@ -137,7 +137,7 @@ module _ (rows : List Row) where
 
   -- a body that waits has the items of the frames that it started
   pub logged_more : (trace : List Entry) (path : Path) (turn : ℕ) (u : Place) (js : List Item) (x : Entry) → is_body u.kind ≡ true →
-    is_of path turn u x ≡ false
+      is_of path turn u x ≡ false
       → is_under x.path ((turn, u.node) ∷ path) ≡ true → Logged trace path turn u js → Logged (x ∷ trace) path turn u (js ++ x.items)
   logged_more trace path turn u js x ub other under l = record {
     entry = l.entry;
@@ -169,7 +169,7 @@ module _ (rows : List Row) where
 
   -- two logged events whose items in the trace have no conflict
   pub logged_apart : (trace : List Entry) (path : Path) (turn : ℕ) (u v : Place) (is js : List Item) → Logged trace path turn u is →
-    Logged trace path turn v js
+      Logged trace path turn v js
       → conflict rows (items_by trace trace path turn u) (items_by trace trace path turn v) ≡ false → conflict rows is js ≡ false
   logged_apart trace path turn u v is js a b h =
       let one = a.sub (items_of trace b.entry v) (ap₂ (conflict rows) (sym (a.found trace)) (sym (b.found trace)) ∙ h) in

@@ -1,6 +1,33 @@
 -- Declarations that are spelled are read.
-use Rattle.std.proofs.Common.{◌≡◌, ℕ, zero, suc, ◌<◌, ◌≤◌, Bool, true, false, ◌⊎◌, inl, inr, List, [], ◌∷◌, ◌++◌, Option, Some, None, refl, sym, ap, ◌∙◌,
-  subst, arith, append_assoc, append-nil}
+use Rattle.std.proofs.Common.{
+  ◌≡◌,
+  ℕ,
+  zero,
+  suc,
+  ◌<◌,
+  ◌≤◌,
+  Bool,
+  true,
+  false,
+  ◌⊎◌,
+  inl,
+  inr,
+  List,
+  [],
+  ◌∷◌,
+  ◌++◌,
+  Option,
+  Some,
+  None,
+  refl,
+  sym,
+  ap,
+  ◌∙◌,
+  subst,
+  arith,
+  append_assoc,
+  append-nil,
+}
 use Rattle.c_lex.specs.declared.token.TokenKind.TheVariants as token
 use Rattle.c_lex.specs.declared.token.Mark.TheVariants as m
 use Rattle.c_ast.specs.declared.declaration.Declaration.{Declaration}
@@ -13,8 +40,17 @@ use Rattle.c_ast.specs.Input.{Input, kind, next}
 use Rattle.c_grammar.specs.Grammar.{Named, AssertionRule, MaybeInit, MoreParts, DeclarationSpecifiers, DeclarationRule, name_of}
 use Rattle.c_grammar.specs.Rules.{Mark, Declares, is_declaration_word, declares_typedef}
 use Rattle.parse_spec.specs.Steps.{left, turns, same_mark, sees}
-use Rattle.parse_spec.specs.Declarations.{assertion, declaration_specs, named_declarator, maybe_init, part_of, parts_from, more_parts, maybe_parts,
-  declaration}
+use Rattle.parse_spec.specs.Declarations.{
+  assertion,
+  declaration_specs,
+  named_declarator,
+  maybe_init,
+  part_of,
+  parts_from,
+  more_parts,
+  maybe_parts,
+  declaration,
+}
 use Rattle.parse_sound.proofs.Declarations.{PartsEnd}
 use Rattle.parse_sound.proofs.Holding.{sees_of}
 use Rattle.parse_sound.proofs.Rows.{NamedRule}
@@ -83,7 +119,7 @@ after_part typedef [] s q t h end = inr (ap kind (sym h) ∙ end.0)
 after_part typedef (p ∷ rest) s q t h end = inl h.1.0.0
 
 parts_found : (typedef : Bool) (rest : List Part) (s q t : Input) → MoreParts typedef rest s q → Mark m.Semicolon q t → (n : ℕ) → left s < n →
-  (found : List Part)
+    (found : List Part)
     → parts_from typedef n found s ≡ Some (found ++ rest, t)
 unfolding parts_from same_mark
 parts_found typedef rest s q t h end zero lt found = absurd (omega (arith, lt))
@@ -105,7 +141,7 @@ parts_found typedef (p ∷ rest) s q t h end (suc n) lt found =
     rw (sees_of m.Comma s comma.0, eat_yes m.Comma s comma.0, ← comma.1, one, two, more) (ap (λ l. Some (l, t)) (append_assoc found (p ∷ []) rest))
 
 pub more_parts_read : (typedef : Bool) (p : Part) (rest : List Part) (s y q t : Input) → MaybeInit p.init s y → MoreParts typedef rest y q →
-  Mark m.Semicolon q t
+    Mark m.Semicolon q t
     → more_parts typedef p.declarator s ≡ Some (p ∷ rest, t)
 unfolding more_parts
 more_parts_read typedef p rest s y q t h g end =
@@ -134,5 +170,7 @@ maybe_parts_read typedef (p ∷ rest) s t (q, ((y, ((x, (h, (z, (n, g)))), more)
 pub declaration_read : (d : Declaration) (s t : Input) → DeclarationRule d s t → declaration s ≡ Some (d, t)
 unfolding declaration
 declaration_read d s t (x, (h, g)) =
-    rw (specs_read d.specs s x h (parts_begin (declares_typedef d.specs.words) d.parts x t g),
-      maybe_parts_read (declares_typedef d.specs.words) d.parts x t g) refl
+    rw (
+      specs_read d.specs s x h (parts_begin (declares_typedef d.specs.words) d.parts x t g),
+      maybe_parts_read (declares_typedef d.specs.words) d.parts x t g,
+    ) refl

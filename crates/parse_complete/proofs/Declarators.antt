@@ -1,6 +1,30 @@
 -- What reading finds of a declarator that is spelled, bare or in parentheses.
-use Rattle.std.proofs.Common.{◌≡◌, ◌≢◌, ℕ, zero, suc, ◌<◌, ◌≤◌, Bool, true, false, ◌⊎◌, inl, inr, ⊎_elim, List, Option, Some, None, refl, sym, ap, ◌∙◌, subst,
-  arith}
+use Rattle.std.proofs.Common.{
+  ◌≡◌,
+  ◌≢◌,
+  ℕ,
+  zero,
+  suc,
+  ◌<◌,
+  ◌≤◌,
+  Bool,
+  true,
+  false,
+  ◌⊎◌,
+  inl,
+  inr,
+  ⊎_elim,
+  List,
+  Option,
+  Some,
+  None,
+  refl,
+  sym,
+  ap,
+  ◌∙◌,
+  subst,
+  arith,
+}
 use Rattle.c_lex.specs.declared.token.TokenKind.{TokenKind}
 use Rattle.c_lex.specs.declared.token.TokenKind.TheVariants as token
 use Rattle.c_lex.specs.declared.token.Word.{Word as AWord}
@@ -141,7 +165,7 @@ empty_at (array_of e j a) mode n s t i h = absurd i
 empty_at (function e k row more) mode n s t i h = absurd i
 
 whole_of : (d : ℕ) (mode : Mode) (s : Input) (f : Declarator) (t : Input) → Chains d mode s f t →
-  one_declarator (expr d) (declarator d) (specs d) mode s ≡ Some (f, t)
+    one_declarator (expr d) (declarator d) (specs d) mode s ≡ Some (f, t)
 unfolding one_declarator
 whole_of d mode s f t c = rw (c.plain, eat_no m.Star s c.plain) c.gives
 
@@ -162,7 +186,7 @@ First mode s = (kind s ≡ Some (token.Punct m.Star)) ⊎ ((kind s ≡ Some (tok
 
 first_operand : (e : Declarator) (mode : Mode) (least : ℕ) (s x : Input) → ((t : Input) → DeclaratorRule e mode s t → ¬ (IsEmpty e 0) → First mode s)
     → DeclaratorOperand mode least e (DeclaratorRule e mode) s x → (kind x ≡ Some (token.Punct m.OpenParen)) ⊎ (kind x ≡ Some (token.Punct m.OpenBracket)) →
-      First mode s
+    First mode s
 first_operand e mode least s x f (suc n, (may, h)) after = inr (inl h.1.0.0)
 first_operand (Ident None) mode least s x f (zero, (may, h)) after =
     ⊎_elim (λ y. inr (inl (ap kind (sym h.1) ∙ y))) (λ y. inr (inr (inl (ap kind (sym h.1) ∙ y)))) after
@@ -187,7 +211,7 @@ first_bare (function e q row more) mode s t h ne = first_operand e mode 1 s h.0 
 
 -- so what stands in parentheses opens no parameters
 no_opening : (mode : Mode) (y : Input) → (kind y ≡ Some token.Name → mode ≢ Abstract → is_typedef y ≡ false) → First mode y →
-  opens_by (is_typedef y) (kind y) ≡ false
+    opens_by (is_typedef y) (kind y) ≡ false
 no_opening mode y name (inl is) = rw is refl
 no_opening mode y name (inr (inl is)) = rw is refl
 no_opening mode y name (inr (inr (inl is))) = rw is refl
@@ -207,7 +231,7 @@ opens_not Either i x y e h f =
     ∙ no_opening Either y (λ is ne. ap is_typedef h.0 ∙ h.1 (ap kind (sym h.0) ∙ is)) f
 
 first_within : (e : Declarator) (mode : Mode) (n : ℕ) (s t : Input) → StarMayStand 0 e n → StarMayStand 0 e (suc n) →
-  WithinIn mode n (DeclaratorRule e mode) s t → First mode s
+    WithinIn mode n (DeclaratorRule e mode) s t → First mode s
 first_within e mode (suc n) s t may may2 h = inr (inl h.1.0.0)
 first_within (Ident None) mode zero s t may may2 h = absurd (omega (arith, may2))
 first_within (Ident (Some k)) mode zero s t may may2 h = first_bare (Ident (Some k)) mode s t h (λ x. x)
@@ -248,7 +272,7 @@ inner_read e mode n w may s t h stop zero lt = absurd (omega (arith, lt))
 inner_read e mode n w may s t h stop (suc d) lt = w may s t h stop d (omega (arith, lt))
 
 paren_inner : (e : Declarator) (mode : Mode) (n : ℕ) → Wholes e mode n → StarMayStand 0 e (suc n) →
-  (s t : Input) → WithinIn mode (suc n) (DeclaratorRule e mode) s t
+    (s t : Input) → WithinIn mode (suc n) (DeclaratorRule e mode) s t
     → (d : ℕ) → left s ≤ d → at_innermost d mode s ≡ Some (e, t)
 unfolding innermost nested
 paren_inner e mode n w may s t (x, (before, (y, (none, (z, (h, behind)))))) d le =
@@ -275,7 +299,7 @@ IsDeclared e = (mode : Mode) → Found e mode 0
 
 -- a declarator that nothing goes on with is what is read there
 pub declarator_read : (e : Declarator) → IsDeclared e → (mode : Mode) (s t : Input) → DeclaratorOperand mode 0 e (DeclaratorRule e mode) s t →
-  stops (kind t) ≡ true
+    stops (kind t) ≡ true
     → (d : ℕ) → left s < d → declarator d mode s ≡ Some (e, t)
 declarator_read e c mode s t (n, (may, h)) stop d lt = inner_read e mode n (parens e mode (c mode) n).whole may s t h stop d lt
 
@@ -284,7 +308,7 @@ declarator_less mode least e s t h = (declarator_operand_keeps mode least e (Dec
 
 -- what a suffix goes on from
 pub operand_posts : (e : Declarator) → IsDeclared e → (mode : Mode) (s x : Input) → DeclaratorOperand mode 1 e (DeclaratorRule e mode) s x →
-  (d : ℕ) → left s ≤ d
+    (d : ℕ) → left s ≤ d
     → (HasName mode None → x ≡ s → Empty d mode s) → (f : Declarator) (t2 : Input) → SuffixTo d e x f t2 → Chains d mode s f t2
 operand_posts e c mode s x (n, (may, h)) d le i f t2 go =
     (parens e mode (c mode) n).posts may s x h d le (λ k. let y = empty_at e mode n s x k h in i y.0 y.1) f t2 go
@@ -374,5 +398,5 @@ named_ends e least s t h = first_ends Named s (named_first e least s t h)
 
 -- ..nor with this one
 pub named_no_colon : (e : Declarator) (least : ℕ) (s t : Input) → DeclaratorOperand Named least e (DeclaratorRule e Named) s t →
-  kind s ≢ Some (token.Punct m.Colon)
+    kind s ≢ Some (token.Punct m.Colon)
 named_no_colon e least s t h is = let g = named_no_stop e least s t h in let f = rw is at g in cc

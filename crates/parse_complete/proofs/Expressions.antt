@@ -1,6 +1,32 @@
 -- What reading finds of each case of an expression.
-use Rattle.std.proofs.Common.{◌≡◌, ℕ, zero, suc, ◌+◌, ◌<◌, ◌≤◌, Bool, true, false, not, ◌&&◌, nat_lt, List, [], ◌∷◌, ◌++◌, Some, None, refl, sym, ap, ◌∙◌,
-  arith, append_assoc, append-nil}
+use Rattle.std.proofs.Common.{
+  ◌≡◌,
+  ℕ,
+  zero,
+  suc,
+  ◌+◌,
+  ◌<◌,
+  ◌≤◌,
+  Bool,
+  true,
+  false,
+  not,
+  ◌&&◌,
+  nat_lt,
+  List,
+  [],
+  ◌∷◌,
+  ◌++◌,
+  Some,
+  None,
+  refl,
+  sym,
+  ap,
+  ◌∙◌,
+  arith,
+  append_assoc,
+  append-nil,
+}
 use Rattle.std.proofs.lemmas.Bool.Decides.{nat_tests}
 use mathlib.Core.Former.{this, arity}
 use Rattle.sqlite_items.specs.formers.items.Items.{the_former}
@@ -22,29 +48,123 @@ use Rattle.c_ast.specs.declared.expression.BinaryOp.{BinaryOp}
 use Rattle.c_ast.specs.declared.expression.AssignOp.{AssignOp}
 use Rattle.c_ast.specs.Input.{Input, kind, next}
 use Rattle.c_grammar.specs.Operators as op
-use Rattle.c_grammar.specs.Grammar.{Abstract, DeclaratorOperand, DeclaratorRule, Specifiers, BaseRule, Spells, Arguments, Several, MoreExprs,
-  level as level_of_node}
+use Rattle.c_grammar.specs.Grammar.{
+  Abstract,
+  DeclaratorOperand,
+  DeclaratorRule,
+  Specifiers,
+  BaseRule,
+  Spells,
+  Arguments,
+  Several,
+  MoreExprs,
+  level as level_of_node,
+}
 use Rattle.c_grammar.specs.Rules.{Rule, ◌⨾◌, Mark, Operand, is_qualified_word}
 use Rattle.parse_spec.specs.Steps.{left, turns, sees, same_mark}
 use Rattle.parse_spec.specs.Nested.{expr, declarator, specs}
 use Rattle.parse_spec.specs.Places.{begins_type_after}
-use Rattle.parse_spec.specs.Expressions.{made, tight, begins_cast, name_expr, string_expr, primary, arguments_from, argument_list, arguments, subscript, post,
-  type_name, casted, size, alignment, bracketed, operated, prefix_by, prefix, choice, assigned, joined, step, operators, commas_from, commas, whole, level}
+use Rattle.parse_spec.specs.Expressions.{
+  made,
+  tight,
+  begins_cast,
+  name_expr,
+  string_expr,
+  primary,
+  arguments_from,
+  argument_list,
+  arguments,
+  subscript,
+  post,
+  type_name,
+  casted,
+  size,
+  alignment,
+  bracketed,
+  operated,
+  prefix_by,
+  prefix,
+  choice,
+  assigned,
+  joined,
+  step,
+  operators,
+  commas_from,
+  commas,
+  whole,
+  level,
+}
 use Rattle.parse_sound.proofs.Holding.{sees_of, sees_is}
 use Rattle.parse_sound.proofs.Operators.{level_low, level_high, operand_high}
 use Rattle.parse_complete.proofs.Declarators.{IsDeclared, declarator_read, declarator_less, declarator_ends}
 use Rattle.parse_complete.proofs.Firsts.{expr_opens, no_opening}
 use Rattle.parse_complete.proofs.Keeps.{identifier_keeps, arguments_keep}
-use Rattle.parse_complete.proofs.Parens.{Reaches, Found, IsRead, whole_from, reaches_from, found_post, no_comma, operand_post, operand_reach, operand_less,
-  operand_expr}
+use Rattle.parse_complete.proofs.Parens.{
+  Reaches,
+  Found,
+  IsRead,
+  whole_from,
+  reaches_from,
+  found_post,
+  no_comma,
+  operand_post,
+  operand_reach,
+  operand_less,
+  operand_expr,
+}
 use Rattle.parse_complete.proofs.Runs.{Plain, posts_step, chain_from, climb_stop, climb_step, operators_from}
 use Rattle.parse_complete.proofs.Specifiers.{qualified_tags, IsSpecified, specifiers_less, specs_begin}
 use Rattle.parse_complete.proofs.Steps.{mark_takes, word_takes, expect_of, eat_yes, eat_no, sees_by, sees_not}
-use Rattle.parse_complete.proofs.Tables.{grip, grip_is, grip_tight, no_string, tight_is, tight_post, tight_at_binary, tight_at_assign, grip_at_binary,
-  grip_at_assign, binary_op_of, assign_op_of, no_binary_op, operand_low, no_question_binary, no_question_assign, no_paren_unary}
-use Rattle.parse_complete.proofs.Trees.{unary, postfix, binary, assign, cond, index, dot, arrow, call, cast, sizeof_expr, sizeof_type, alignof_type, exprs,
-  named_type, unary_is, postfix_is, binary_is, assign_is, cond_is, index_is, dot_is, arrow_is, comma_is, call_is, cast_is, sizeof_expr_is, sizeof_type_is,
-  alignof_type_is}
+use Rattle.parse_complete.proofs.Tables.{
+  grip,
+  grip_is,
+  grip_tight,
+  no_string,
+  tight_is,
+  tight_post,
+  tight_at_binary,
+  tight_at_assign,
+  grip_at_binary,
+  grip_at_assign,
+  binary_op_of,
+  assign_op_of,
+  no_binary_op,
+  operand_low,
+  no_question_binary,
+  no_question_assign,
+  no_paren_unary,
+}
+use Rattle.parse_complete.proofs.Trees.{
+  unary,
+  postfix,
+  binary,
+  assign,
+  cond,
+  index,
+  dot,
+  arrow,
+  call,
+  cast,
+  sizeof_expr,
+  sizeof_type,
+  alignof_type,
+  exprs,
+  named_type,
+  unary_is,
+  postfix_is,
+  binary_is,
+  assign_is,
+  cond_is,
+  index_is,
+  dot_is,
+  arrow_is,
+  comma_is,
+  call_is,
+  cast_is,
+  sizeof_expr_is,
+  sizeof_type_is,
+  alignof_type_is,
+}
 use Rattle.parse_complete.proofs.Words.{identifier_read, strings_read}
 
 -- a node that is no postfix expression, but is reached
@@ -115,12 +235,12 @@ postfix_found o j a c i = found_post (postfix o j a) i 0 (omega arith) (omega ar
     let read : post (expr d) (declarator d) (specs d) s.at (made j a) x ≡ Some (made i (postfix o j a), t) =
     post_of d o s.at (made j a) x mark.0 ∙ rw (e, mark.1, postfix_is o j a) refl in
     operand_post a c j s x h (omega arith) d le f t2
-      (posts_step d s.at (made j a) x (made i (postfix o j a)) t f t2 (omega arith) read (mark_takes (op.post_mark o) x t mark) go))
+    (posts_step d s.at (made j a) x (made i (postfix o j a)) t f t2 (omega arith) read (mark_takes (op.post_mark o) x t mark) go))
 
 pub index_found : (j : ℕ) (a : ExprNode) (l : ℕ) (b : ExprNode) → IsRead a → IsRead b → IsRead (index j a l b)
 unfolding post subscript
 index_found j a l b c c2 i = found_post (index j a l b) i 0 (omega arith) (omega arith)
-  (λ _ s t (e, (x, (h, (y, (before, (z, (g, behind))))))) stop d le f t2 go.
+    (λ _ s t (e, (x, (h, (y, (before, (z, (g, behind))))))) stop d le f t2 go.
     let wide = tight_is x m.OpenBracket before.0 in
     let here = grip_is x m.OpenBracket before.0 in
     let p1 = operand_less a c j 15 s x h in
@@ -182,7 +302,7 @@ unary_found o j a c i = found_reach (unary o j a) i (omega arith) (omega arith) 
 -- ---- binary operators, the conditional operator, assignment
 
 binary_step : (d : ℕ) (o : BinaryOp) (at : ℕ) (lone : Bool) (left_one right : Expr) (s x t : Input) → Mark (op.binary_mark o) s x →
-  expr d (op.level_of o + 1) x ≡ Some (right, t)
+    expr d (op.level_of o + 1) x ≡ Some (right, t)
     → step (expr d) (declarator d) (specs d) at lone left_one s ≡ Some (made at (node.Binary o left_one right), t)
 unfolding step joined
 binary_step d o at lone left_one right s x t mark inner =
@@ -201,16 +321,16 @@ binary_found o j a l b c c2 i =
     let p3 = operand_less b c2 l (op.level_of o + 1) y t g in
     let inner = operand_expr b c2 l (op.level_of o + 1) (omega arith) y t g (omega (arith, ends.above)) ends.within d (omega arith) in
     operand_reach a c j (op.level_of o) (omega arith) (omega arith) s x h
-      (record { within = omega arith; above = omega arith; low = λ k. absurd (omega arith) }) d le least (omega arith) f t2 (λ lone _.
+    (record { within = omega arith; above = omega arith; low = λ k. absurd (omega arith) }) d le least (omega arith) f t2 (λ lone _.
     climb_step d least s.at lone (made j a) x (made i (binary o j a l b)) t f t2 (omega arith)
     (binary_step d o s.at lone (made j a) (made l b) x y t mark inner ∙ rw (e, binary_is o j a l b) refl) (omega arith)
-      (go false (λ k. absurd (omega arith)))))
+    (go false (λ k. absurd (omega arith)))))
 
 pub cond_found : (j : ℕ) (a : ExprNode) (l : ℕ) (b : ExprNode) (q : ℕ) (z : ExprNode) → IsRead a → IsRead b → IsRead z → IsRead (cond j a l b q z)
 unfolding step choice
 cond_found j a l b q z c c2 c3 i =
     found_reach (cond j a l b q z) i (omega arith) (omega arith)
-      (λ own first last may s t (e, (x, (h, (y, (mark, (v, (g, (n, (colon, k))))))))) ends d le least le2 f t2 go.
+    (λ own first last may s t (e, (x, (h, (y, (mark, (v, (g, (n, (colon, k))))))))) ends d le least le2 f t2 go.
     let wide = tight_is x m.Question mark.0 in
     let here = grip_is x m.Question mark.0 in
     let p1 = operand_less a c j 3 s x h in
@@ -223,10 +343,10 @@ cond_found j a l b q z c c2 c3 i =
     let last2 = ends.low (omega arith) in
     let inner2 = operand_expr z c3 q 2 (omega arith) n t k (omega arith) ends.within d (omega arith) in
     operand_reach a c j 3 (omega arith) (omega arith) s x h (record { within = omega arith; above = omega arith; low = λ r. absurd (omega arith) }) d le least
-      (omega arith) f t2 (λ lone _.
+    (omega arith) f t2 (λ lone _.
     climb_step d least s.at lone (made j a) x (made i (cond j a l b q z)) t f t2 (omega arith)
     (rw (sees_of m.Question x mark.0, eat_yes m.Question x mark.0, ← mark.1, inner, expect_of m.Colon v colon.0, ← colon.1, inner2, e, cond_is j a l b q z)
-      refl)
+    refl)
     (omega arith) (go false (λ r. absurd (omega arith)))))
 
 assign_step : (d : ℕ) (o : AssignOp) (at : ℕ) (left_one right : Expr) (s x t : Input) → Mark (op.assign_mark o) s x → expr d 1 x ≡ Some (right, t)
@@ -247,10 +367,10 @@ assign_found o j a l b c c2 i =
     let last2 = ends.low (omega arith) in
     let inner = operand_expr b c2 l 1 (omega arith) y t g (omega arith) ends.within d (omega arith) in
     operand_reach a c j 14 (omega arith) (omega arith) s x h (record { within = omega arith; above = omega arith; low = λ k. absurd (omega arith) }) d le
-      least (omega arith) f t2 (λ lone only.
+    least (omega arith) f t2 (λ lone only.
     climb_step d least s.at lone (made j a) x (made i (assign o j a l b)) t f t2 (omega arith)
     (ap (λ b0. step (expr d) (declarator d) (specs d) s.at b0 (made j a) x) (only (omega arith)) ∙
-      (assign_step d o s.at (made j a) (made l b) x y t mark inner ∙ rw (e, assign_is o j a l b) refl))
+    (assign_step d o s.at (made j a) (made l b) x y t mark inner ∙ rw (e, assign_is o j a l b) refl))
     (omega arith) (go false (λ k. absurd (omega arith)))))
 
 -- ---- lists of expressions
@@ -272,7 +392,7 @@ more_end (more_of-Expr i a row) s t h stop = omega (arith, grip_is s m.Comma h.1
 
 -- one or more arguments
 arguments_found : {n : _} (i : ℕ) (a : ExprNode) (row : Row_of-Expr n) → IsRead a → AreRead row →
-  (s x t : Input) → Operand 1 (level_of_node a) i (Spells a) s x
+    (s x t : Input) → Operand 1 (level_of_node a) i (Spells a) s x
     → MoreExprs row x t → grip t ≤ 0 → (d : ℕ) → left s < d → (n : ℕ) → left s < n → (found : List Expr)
     → arguments_from (expr d) (declarator d) (specs d) n found s ≡ Some (found ++ made i a ∷ exprs row, t)
 unfolding arguments_from
@@ -307,10 +427,10 @@ list_found (more_of-Expr i a row) cs s t t2 h behind d le =
     rw (none, eat_no m.CloseParen s none, found, expect_of m.CloseParen t behind.0, behind.1) refl
 
 pub call_found : (j : ℕ) (f : ExprNode) (n : List (Unit {0})) (row : Row_of-Expr (arity (the_former (this {0})) n)) → IsRead f → AreRead row →
-  IsRead (call j f n row)
+    IsRead (call j f n row)
 unfolding post
 call_found j f n row c cs i = found_post (call j f n row) i 0 (omega arith) (omega arith)
-  (λ _ s t (e, (x, (h, (y, (before, (z, (g, behind))))))) stop d le r t2 go.
+    (λ _ s t (e, (x, (h, (y, (before, (z, (g, behind))))))) stop d le r t2 go.
     let wide = tight_is x m.OpenParen before.0 in
     let here = grip_is x m.OpenParen before.0 in
     let p1 = operand_less f c j 15 s x h in
@@ -324,7 +444,7 @@ call_found j f n row c cs i = found_post (call j f n row) i 0 (omega arith) (ome
 
 -- the rest of a list with commas
 commas_found : {n : _} (row : Row_of-Expr n) → AreRead row → (s t : Input) → MoreExprs row s t → grip t ≤ 0 → (d : ℕ) → left s ≤ d → (at n : ℕ) → left s < n →
-  (found : List Expr)
+    (found : List Expr)
     → commas_from (expr d) (declarator d) (specs d) at n found s ≡ Some (made at (node.Comma (found ++ exprs row)), t)
 unfolding commas_from
 commas_found row cs s t g stop d le at zero lt found = absurd (omega arith)
@@ -372,7 +492,7 @@ abbrev InParens : List AWord → Base → Declarator → Rule
 InParens words b e = Mark m.OpenParen ⨾ TypeRule words b e ⨾ Mark m.CloseParen
 
 type_read : (words : List AWord) (b : Base) (e : Declarator) → IsSpecified b words → IsDeclared e → (s t : Input) → InParens words b e s t →
-  (d : ℕ) → left s ≤ d
+    (d : ℕ) → left s ≤ d
     → type_name (expr d) (declarator d) (specs d) s ≡ Some (named_type words b e, t)
 unfolding type_name
 type_read words b e c c2 s t (x, (before, (y, ((z, (h, g)), behind)))) d le =
@@ -384,8 +504,13 @@ type_read words b e c c2 s t (x, (before, (y, ((z, (h, g)), behind)))) d le =
 
 type_less : (words : List AWord) (b : Base) (e : Declarator) (s t : Input) → InParens words b e s t → left t < left s
 type_less words b e s t (x, (before, (y, ((z, (h, g)), behind)))) =
-    omega (arith, mark_takes m.OpenParen s x before, specifiers_less is_qualified_word b words x z h, declarator_less Abstract 0 e z y g,
-      mark_takes m.CloseParen y t behind)
+    omega (
+      arith,
+      mark_takes m.OpenParen s x before,
+      specifiers_less is_qualified_word b words x z h,
+      declarator_less Abstract 0 e z y g,
+      mark_takes m.CloseParen y t behind,
+    )
 
 type_begins : (words : List AWord) (b : Base) (e : Declarator) (s t : Input) → InParens words b e s t → begins_type_after s ≡ true
 type_begins words b e s t (x, (before, (y, ((z, (h, g)), behind)))) = rw (← before.1) (specs_begin is_qualified_word b words x z h)
@@ -396,7 +521,7 @@ cast_refused zero s h b = refl
 cast_refused (suc d) s h b = rw (h, b) refl
 
 no_type_case : (d : ℕ) (s : Input) (p0 : Expr × Input) (x y : Bool) → expr d 14 s ≡ Some p0 → sees m.OpenParen s ≡ x → begins_type_after s ≡ y →
-  (x && y) ≡ false
+    (x && y) ≡ false
 no_type_case d s p0 false y h is type = refl
 no_type_case d s p0 true false h is type = refl
 no_type_case d s p0 true true h is type = absurd (let g = sym h ∙ cast_refused d s (sees_is m.OpenParen s is) type in cc)
@@ -405,11 +530,11 @@ operand_no_type : (d : ℕ) (s : Input) (p0 : Expr × Input) → expr d 14 s ≡
 operand_no_type d s p0 h = no_type_case d s p0 (sees m.OpenParen s) (begins_type_after s) h refl refl
 
 pub cast_found : (words : List AWord) (b : Base) (e : Declarator) (j : ℕ) (a : ExprNode) → IsSpecified b words → IsDeclared e → IsRead a →
-  IsRead (cast words b e j a)
+    IsRead (cast words b e j a)
 unfolding prefix bracketed casted
 cast_found words b e j a c c2 c3 i =
     found_reach (cast words b e j a) i (omega arith) (omega arith)
-      (λ own first last may s t (at, (x, (before, (y, (type, (z, (behind, h))))))) ends d le least le2 f t2 go.
+    (λ own first last may s t (at, (x, (before, (y, (type, (z, (behind, h))))))) ends d le least le2 f t2 go.
     let whole_type : InParens words b e s z = (x, (before, (y, (type, behind)))) in
     let to = type_read words b e c c2 s z whole_type d le in
     let p1 = type_less words b e s z whole_type in
@@ -424,7 +549,7 @@ cast_found words b e j a c c2 c3 i =
 pub sizeof_expr_found : (j : ℕ) (a : ExprNode) → IsRead a → IsRead (sizeof_expr j a)
 unfolding prefix size same_mark
 sizeof_expr_found j a c i = found_reach (sizeof_expr j a) i (omega arith) (omega arith)
-  (reaches_from (sizeof_expr j a) i 0 (λ s t (e, (x, (word, h))) stop d le least.
+    (reaches_from (sizeof_expr j a) i 0 (λ s t (e, (x, (word, h))) stop d le least.
     let p1 = word_takes w.Sizeof s x word in
     let inner = operand_expr a c j 14 (omega arith) x t h (omega arith) stop d (omega arith) in
     let none = operand_no_type d x (made j a, t) inner in
@@ -436,7 +561,7 @@ begins_a_cast words b e s t h = rw (sees_of m.OpenParen s h.1.0.0, type_begins w
 pub sizeof_type_found : (words : List AWord) (b : Base) (e : Declarator) → IsSpecified b words → IsDeclared e → IsRead (sizeof_type words b e)
 unfolding prefix size same_mark
 sizeof_type_found words b e c c2 i = found_reach (sizeof_type words b e) i (omega arith) (omega arith)
-  (reaches_from (sizeof_type words b e) i 0 (λ s t (at, (x, (word, h))) stop d le least.
+    (reaches_from (sizeof_type words b e) i 0 (λ s t (at, (x, (word, h))) stop d le least.
     let p1 = word_takes w.Sizeof s x word in
     let of = type_read words b e c c2 x t h d (omega arith) in
     (rw (word.0, ← word.1, begins_a_cast words b e x t h, of, at, sizeof_type_is words b e) refl, no_cast s (sees_by m.OpenParen s _ word.0 refl))))
@@ -444,7 +569,7 @@ sizeof_type_found words b e c c2 i = found_reach (sizeof_type words b e) i (omeg
 pub alignof_type_found : (words : List AWord) (b : Base) (e : Declarator) → IsSpecified b words → IsDeclared e → IsRead (alignof_type words b e)
 unfolding prefix alignment same_mark
 alignof_type_found words b e c c2 i = found_reach (alignof_type words b e) i (omega arith) (omega arith)
-  (reaches_from (alignof_type words b e) i 0 (λ s t (at, (x, (word, h))) stop d le least.
+    (reaches_from (alignof_type words b e) i 0 (λ s t (at, (x, (word, h))) stop d le least.
     let p1 = word_takes w.Alignof s x word in
     let of = type_read words b e c c2 x t h d (omega arith) in
     (rw (word.0, ← word.1, of, at, alignof_type_is words b e) refl, no_cast s (sees_by m.OpenParen s _ word.0 refl))))

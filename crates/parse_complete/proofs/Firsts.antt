@@ -44,7 +44,7 @@ module _ (d : ℕ) where
   name_opens false i p is h = refl
 
   primary_opens : (k : Option TokenKind) (i : Input) (p : Expr × Input) → kind i ≡ k → primary_by (expr d) (declarator d) (specs d) k i ≡ Some p →
-    opens (is_typedef i) k ≡ true
+      opens (is_typedef i) k ≡ true
   primary_opens (Some token.Name) i p is h = name_opens (is_typedef i) i p refl h
   primary_opens (Some token.Number) i p is h = refl
   primary_opens (Some token.CharLit) i p is h = refl
@@ -63,7 +63,7 @@ module _ (d : ℕ) where
       primary_opens (kind i) i q.0 refl q.1
 
   prefix_by_opens : (at least : ℕ) (k : Option TokenKind) (i : Input) (p : Expr × Input) → kind i ≡ k →
-    prefix_by (expr d) (declarator d) (specs d) at least k i ≡ Some p
+      prefix_by (expr d) (declarator d) (specs d) at least k i ≡ Some p
       → opens (is_typedef i) k ≡ true
   prefix_by_opens at least (Some (token.Keyword w.Sizeof)) i p is h = refl
   prefix_by_opens at least (Some (token.Keyword w.Alignof)) i p is h = refl
@@ -132,9 +132,9 @@ opens_no_designator typedef _ h = refl
 
 -- a punctuator that no expression begins with
 pub no_opening : (mark : AMark) (i : Input) → opens (is_typedef i) (Some (token.Punct mark)) ≡ false → opens_expr i ≡ true →
-  kind i ≡ Some (token.Punct mark) → ⊥
+    kind i ≡ Some (token.Punct mark) → ⊥
 no_opening mark i never begins is = let wrong : true ≡ false = sym begins ∙ ap (opens (is_typedef i)) is ∙ never in cc
 
 pub no_opening_word : (word : AWord) (i : Input) → opens (is_typedef i) (Some (token.Keyword word)) ≡ false → opens_expr i ≡ true →
-  kind i ≡ Some (token.Keyword word) → ⊥
+    kind i ≡ Some (token.Keyword word) → ⊥
 no_opening_word word i never begins is = let wrong : true ≡ false = sym begins ∙ ap (opens (is_typedef i)) is ∙ never in cc

@@ -1,6 +1,29 @@
 -- Initializers that are spelled are read.
-use Rattle.std.proofs.Common.{◌≡◌, ◌≢◌, ℕ, zero, suc, ◌<◌, ◌≤◌, true, false, inl, inr, List, [], ◌∷◌, ◌++◌, Some, refl, sym, ap, ◌∙◌, subst, arith,
-  append_assoc}
+use Rattle.std.proofs.Common.{
+  ◌≡◌,
+  ◌≢◌,
+  ℕ,
+  zero,
+  suc,
+  ◌<◌,
+  ◌≤◌,
+  true,
+  false,
+  inl,
+  inr,
+  List,
+  [],
+  ◌∷◌,
+  ◌++◌,
+  Some,
+  refl,
+  sym,
+  ap,
+  ◌∙◌,
+  subst,
+  arith,
+  append_assoc,
+}
 use mathlib.Core.Former.{this, arity}
 use Rattle.sqlite_items.specs.formers.items.Items.{the_former}
 use Rattle.c_lex.specs.declared.token.TokenKind.TheVariants as token
@@ -8,8 +31,16 @@ use Rattle.c_lex.specs.declared.token.Mark.TheVariants as m
 use Rattle.c_ast.specs.declared.declaration.Designator.{Designator}
 use Rattle.c_ast.specs.declared.declaration.Designator.TheVariants.{Member, Element}
 use Rattle.c_ast.specs.declared.declaration.Init.{Init, roll-Init, roll-out-Init}
-use Rattle.c_ast.specs.declared.declaration.Init.TheBlock.{Single, Braced', Row_of-InitEntry, end_of-InitEntry, more_of-InitEntry, items-the_row-InitEntry,
-  items_shown-the_row-InitEntry-0, shown-the_row-InitEntry-0}
+use Rattle.c_ast.specs.declared.declaration.Init.TheBlock.{
+  Single,
+  Braced',
+  Row_of-InitEntry,
+  end_of-InitEntry,
+  more_of-InitEntry,
+  items-the_row-InitEntry,
+  items_shown-the_row-InitEntry-0,
+  shown-the_row-InitEntry-0,
+}
 use Rattle.c_ast.specs.declared.declaration.Init.TheVariants as init
 use Rattle.c_ast.specs.declared.declaration.InitEntry.{InitEntry}
 use Rattle.c_ast.specs.declared.expression.Expr.{Expr}
@@ -105,7 +136,7 @@ after_init end_of-InitEntry s q t h end = subst EndsEnumerator h (list_ends q t 
 after_init (more_of-InitEntry designators a rest) s q t h end = inl h.1.0.0
 
 no_brace : (designators : List Designator) (a : Init) (s x t : Input) → Designation designators s x → InitRule a x t → grip t ≤ 1 →
-  kind s ≢ Some (token.Punct m.CloseBrace)
+    kind s ≢ Some (token.Punct m.CloseBrace)
 no_brace [] (Single e) s x t h g stop is = absurd (no_opening m.CloseBrace x refl (begins_expr e 1 (omega (arith, stop)) x t g stop) (ap kind h ∙ is))
 no_brace [] (Braced' at n row) s x t h g stop is = absurd (let e = sym (ap kind h ∙ is) ∙ g.1.0.1.0 in cc)
 no_brace (d ∷ rest) a s x t h g stop is = absurd (let e = designator_opens d s h.1.0.0 h.1.0.1.0 in let f = rw is at e in cc)
@@ -119,10 +150,10 @@ last_init d n found designators a s y x t head one (z, (inl same, close)) =
     rw (head, one, none, eat_no m.Comma x none, expect_of m.CloseBrace x here, ← same, close.1) refl
 last_init d n found designators a s y x t head one (z, (inr comma, close)) =
     rw (head, one, sees_of m.Comma x comma.0, eat_yes m.Comma x comma.0, ← comma.1, sees_of m.CloseBrace z close.0, eat_yes m.CloseBrace z close.0, close.1)
-      refl
+    refl
 
 inits_found : {n : _} (designators : List Designator) (a : Init) (rest : Row_of-InitEntry n) → IsInit a → AreInits rest →
-  (s y x q t : Input) → Designation designators s y
+    (s y x q t : Input) → Designation designators s y
     → InitRule a y x → MoreInits rest x q → ListEnd q t → (d : ℕ) → left s < d → (n : ℕ) → left s < n → (found : List InitEntry)
     → entries_from (initializer d) n found s ≡ Some (found ++ entry_of designators a ∷ inits rest, t)
 unfolding entries_from

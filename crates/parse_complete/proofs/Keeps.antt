@@ -1,6 +1,32 @@
 -- A rule of the grammar takes no token back, and leaves the tokens as they are.
-use Rattle.std.proofs.Common.{◌≡◌, ℕ, zero, suc, ◌≤◌, Bool, true, false, List, [], ◌∷◌, ◌++◌, Option, Some, None, ap, if◌then◌else◌, drop, length, subst, sym,
-  refl, inl, inr, ◌∙◌, arith}
+use Rattle.std.proofs.Common.{
+  ◌≡◌,
+  ℕ,
+  zero,
+  suc,
+  ◌≤◌,
+  Bool,
+  true,
+  false,
+  List,
+  [],
+  ◌∷◌,
+  ◌++◌,
+  Option,
+  Some,
+  None,
+  ap,
+  if◌then◌else◌,
+  drop,
+  length,
+  subst,
+  sym,
+  refl,
+  inl,
+  inr,
+  ◌∙◌,
+  arith,
+}
 use Rattle.c_lex.specs.declared.token.TokenKind.{TokenKind}
 use Rattle.c_lex.specs.declared.token.TokenKind.TheVariants as token
 use Rattle.c_lex.specs.declared.token.Word.{Word as AWord}
@@ -8,13 +34,66 @@ use Rattle.c_lex.specs.declared.token.Word.TheVariants as w
 use Rattle.c_lex.specs.declared.token.Mark.{Mark as AMark}
 use Rattle.c_lex.specs.declared.token.Mark.TheVariants as m
 use Rattle.c_ast.specs.declared.declaration.Base.{Base}
-use Rattle.c_ast.specs.declared.declaration.Base.TheBlock.{Plain, Tagged', Base-Tagged-2-None', Base-Tagged-2-Some', Held-Base-Tagged-2, Enumerated',
-  Base-Enumerated-1-None', Base-Enumerated-1-Some', Held-Base-Enumerated-1, Typedef, Fields', Assertion', Ident, Pointer', Array', Declarator-Array-1-None',
-  Declarator-Array-1-Some', Held-Declarator-Array-1, Function', Enumerator-value-None', Enumerator-value-Some', Held-Enumerator-value, Name, Number, CharLit,
-  Strings as StringsNode, Unary', Postfix', Binary', Assign', Cond', Comma', Call', Index', Dot', Arrow', Cast', SizeofExpr', SizeofType', AlignofType',
-  Row_of-Expr, end_of-Expr, more_of-Expr, Row_of-TypeName, end_of-TypeName, more_of-TypeName, Row_of-Declarator, end_of-Declarator, more_of-Declarator,
-  Row_of-Enumerator, end_of-Enumerator, more_of-Enumerator, Row_of-MemberEntry, end_of-MemberEntry, more_of-MemberEntry, Row_of-Param, end_of-Param,
-  more_of-Param}
+use Rattle.c_ast.specs.declared.declaration.Base.TheBlock.{
+  Plain,
+  Tagged',
+  Base-Tagged-2-None',
+  Base-Tagged-2-Some',
+  Held-Base-Tagged-2,
+  Enumerated',
+  Base-Enumerated-1-None',
+  Base-Enumerated-1-Some',
+  Held-Base-Enumerated-1,
+  Typedef,
+  Fields',
+  Assertion',
+  Ident,
+  Pointer',
+  Array',
+  Declarator-Array-1-None',
+  Declarator-Array-1-Some',
+  Held-Declarator-Array-1,
+  Function',
+  Enumerator-value-None',
+  Enumerator-value-Some',
+  Held-Enumerator-value,
+  Name,
+  Number,
+  CharLit,
+  Strings as StringsNode,
+  Unary',
+  Postfix',
+  Binary',
+  Assign',
+  Cond',
+  Comma',
+  Call',
+  Index',
+  Dot',
+  Arrow',
+  Cast',
+  SizeofExpr',
+  SizeofType',
+  AlignofType',
+  Row_of-Expr,
+  end_of-Expr,
+  more_of-Expr,
+  Row_of-TypeName,
+  end_of-TypeName,
+  more_of-TypeName,
+  Row_of-Declarator,
+  end_of-Declarator,
+  more_of-Declarator,
+  Row_of-Enumerator,
+  end_of-Enumerator,
+  more_of-Enumerator,
+  Row_of-MemberEntry,
+  end_of-MemberEntry,
+  more_of-MemberEntry,
+  Row_of-Param,
+  end_of-Param,
+  more_of-Param,
+}
 use Rattle.c_ast.specs.declared.declaration.MemberEntry.{MemberEntry}
 use Rattle.c_ast.specs.declared.declaration.Declarator.{Declarator}
 use Rattle.c_ast.specs.declared.declaration.Enumerator.{Enumerator, Enumerator'}
@@ -22,13 +101,75 @@ use Rattle.c_ast.specs.declared.expression.ExprNode.{ExprNode}
 use Rattle.c_ast.specs.declared.expression.BinaryOp.{BinaryOp}
 use Rattle.c_ast.specs.Input.{Input, next, declared, back_to}
 use Rattle.c_grammar.specs.Operators as op
-use Rattle.c_grammar.specs.Rules.{Rule, ◌⨾◌, Nothing, Never, Takes, Mark, Word, Numbered, Identifier, MaybeIdentifier, NameThat, NoTypedef, MaybeMark,
-  Literals, Strings, Message, Within, From, Operand, Declares, Scoped, Prototype, Apart, Words, is_qualifier, is_qualified_word, is_declaration_word,
-  has_type_word}
-use Rattle.c_grammar.specs.Grammar.{Mode, Named, Abstract, Either, NoParameters, WithinIn, DeclaratorOperand, name_of, is_own_name, level, tag_word,
-  Specifiers, Spells, Stands, StandsAbove, Arguments, Several, AnotherExpr, MoreExprs, TypeNames, BaseRule, TagMembers, Members, MoreMembers, MemberRule,
-  MemberNames, MoreNames, TagEnumerators, Enumerators, MoreEnumerators, EnumeratorRule, ValueRule, DeclaratorRule, Declarators, SizeRule, Parameters,
-  MoreParameters}
+use Rattle.c_grammar.specs.Rules.{
+  Rule,
+  ◌⨾◌,
+  Nothing,
+  Never,
+  Takes,
+  Mark,
+  Word,
+  Numbered,
+  Identifier,
+  MaybeIdentifier,
+  NameThat,
+  NoTypedef,
+  MaybeMark,
+  Literals,
+  Strings,
+  Message,
+  Within,
+  From,
+  Operand,
+  Declares,
+  Scoped,
+  Prototype,
+  Apart,
+  Words,
+  is_qualifier,
+  is_qualified_word,
+  is_declaration_word,
+  has_type_word,
+}
+use Rattle.c_grammar.specs.Grammar.{
+  Mode,
+  Named,
+  Abstract,
+  Either,
+  NoParameters,
+  WithinIn,
+  DeclaratorOperand,
+  name_of,
+  is_own_name,
+  level,
+  tag_word,
+  Specifiers,
+  Spells,
+  Stands,
+  StandsAbove,
+  Arguments,
+  Several,
+  AnotherExpr,
+  MoreExprs,
+  TypeNames,
+  BaseRule,
+  TagMembers,
+  Members,
+  MoreMembers,
+  MemberRule,
+  MemberNames,
+  MoreNames,
+  TagEnumerators,
+  Enumerators,
+  MoreEnumerators,
+  EnumeratorRule,
+  ValueRule,
+  DeclaratorRule,
+  Declarators,
+  SizeRule,
+  Parameters,
+  MoreParameters,
+}
 use Rattle.parse_spec.specs.Steps.{left}
 use Rattle.parse_complete.proofs.Steps.{takes_one}
 
@@ -97,8 +238,11 @@ literals_keep (suc count) = then_keeps _ _ (takes_keeps token.StringLit) (litera
 
 strings_keep : (n count : ℕ) → Keeps (Strings n count)
 strings_keep n zero = record { keeps = λ s t h. absurd h; tokens = λ s t h. absurd h }
-strings_keep n (suc count) = record { keeps = λ s t h. (literals_keep (suc count)).keeps s t h.1; tokens = λ s t h.
-  (literals_keep (suc count)).tokens s t h.1 }
+strings_keep n (suc count) = record {
+  keeps = λ s t h. (literals_keep (suc count)).keeps s t h.1;
+  tokens = λ s t h.
+      (literals_keep (suc count)).tokens s t h.1;
+}
 
 pub message_keeps : (n : ℕ) → Keeps (Message n)
 message_keeps n = record { keeps = λ s t h. (strings_keep n h.0).keeps s t h.1; tokens = λ s t h. (strings_keep n h.0).tokens s t h.1 }
@@ -118,8 +262,11 @@ within_keeps zero R f = f
 within_keeps (suc n) R f = then_keeps _ _ (mark_keeps m.OpenParen) (then_keeps _ _ (within_keeps n R f) (mark_keeps m.CloseParen))
 
 pub operand_keeps : (least own at : ℕ) (R : Rule) → Keeps R → Keeps (Operand least own at R)
-operand_keeps least own at R f = record { keeps = λ s t h. (within_keeps h.0 (From at R) (from_keeps at R f)).keeps s t h.1.1; tokens = λ s t h.
-  (within_keeps h.0 (From at R) (from_keeps at R f)).tokens s t h.1.1 }
+operand_keeps least own at R f = record {
+  keeps = λ s t h. (within_keeps h.0 (From at R) (from_keeps at R f)).keeps s t h.1.1;
+  tokens = λ s t h.
+      (within_keeps h.0 (From at R) (from_keeps at R f)).tokens s t h.1.1;
+}
 
 left_declared : (n : ℕ) (typedef : Bool) (s : Input) → left (declared n typedef s) ≡ left s
 unfolding declared left
@@ -168,8 +315,12 @@ apart_keeps R f = record {
 pub prototype_keeps : (own : Bool) (R : Rule) → Keeps R → Keeps (Prototype own R)
 prototype_keeps own R f = record {
   keeps = λ s t h. subst (λ x. left x ≤ left s) (sym h.1.1)
-      (omega (arith, left_kept s [], left_with h.0 s.names (if own then drop (length s.names) h.0.names else s.prototype),
-        f.keeps (record s { prototype = [] }) h.0 h.1.0));
+      (omega (
+        arith,
+        left_kept s [],
+        left_with h.0 s.names (if own then drop (length s.names) h.0.names else s.prototype),
+        f.keeps (record s { prototype = [] }) h.0 h.1.0,
+      ));
   tokens = λ s t h. ap (λ x. x.tokens) h.1.1 ∙ f.tokens (record s { prototype = [] }) h.0 h.1.0;
 }
 
@@ -184,8 +335,11 @@ within_in_keeps mode (suc n) R f =
     then_keeps _ _ (mark_keeps m.OpenParen) (then_keeps _ _ (no_parameters_keeps mode) (then_keeps _ _ (within_in_keeps mode n R f) (mark_keeps m.CloseParen)))
 
 pub declarator_operand_keeps : (mode : Mode) (least : ℕ) (d : Declarator) (R : Rule) → Keeps R → Keeps (DeclaratorOperand mode least d R)
-declarator_operand_keeps mode least d R f = record { keeps = λ s t h. (within_in_keeps mode h.0 R f).keeps s t h.1.1; tokens = λ s t h.
-  (within_in_keeps mode h.0 R f).tokens s t h.1.1 }
+declarator_operand_keeps mode least d R f = record {
+  keeps = λ s t h. (within_in_keeps mode h.0 R f).keeps s t h.1.1;
+  tokens = λ s t h.
+      (within_in_keeps mode h.0 R f).tokens s t h.1.1;
+}
 
 abbrev Between : (AWord → Bool) → (Bool → Rule) → List AWord → Rule
 Between allowed R words s t =
@@ -201,7 +355,7 @@ between_keeps allowed R words f = record {
 }
 
 pub specifiers_keep : (allowed : AWord → Bool) (b : Base) (R : Bool → Rule) (words : List AWord) →
-  ((typed : Bool) → Keeps (R typed)) → Keeps (Specifiers allowed b R words)
+    ((typed : Bool) → Keeps (R typed)) → Keeps (Specifiers allowed b R words)
 specifiers_keep allowed Plain R [] f = record { keeps = λ s t h. absurd h; tokens = λ s t h. absurd h }
 specifiers_keep allowed Plain R (a ∷ rest) f = then_keeps _ _ (words_keep allowed (a ∷ rest)) (f (has_type_word (a ∷ rest)))
 specifiers_keep allowed (Typedef n) R words f = between_keeps allowed R words f
@@ -269,7 +423,7 @@ mutual
   type_names_keep : {n : _} (row : Row_of-TypeName n) → Keeps (TypeNames row)
   type_names_keep end_of-TypeName = never_keeps
   type_names_keep (more_of-TypeName words base d rest) = then_keeps _ _
-    (specifiers_keep is_qualified_word base (BaseRule base) words (λ typed. base_keeps base typed))
+      (specifiers_keep is_qualified_word base (BaseRule base) words (λ typed. base_keeps base typed))
       (declarator_operand_keeps Abstract 0 d (DeclaratorRule d Abstract) (declarator_keeps d Abstract))
 
   pub base_keeps : (b : Base) (typed : Bool) → Keeps (BaseRule b typed)
@@ -278,7 +432,7 @@ mutual
   base_keeps (Typedef n) true = never_keeps
   base_keeps (Typedef n) false = name_that_keeps true n
   base_keeps (Tagged' union tag all) typed = then_keeps _ _ (word_keeps (tag_word union))
-    (then_keeps _ _ (maybe_identifier_keeps tag) (tag_members_keep tag all))
+      (then_keeps _ _ (maybe_identifier_keeps tag) (tag_members_keep tag all))
   base_keeps (Enumerated' tag all) typed = then_keeps _ _ (word_keeps w.Enum) (then_keeps _ _ (maybe_identifier_keeps tag) (tag_enumerators_keep tag all))
 
   pub tag_members_keep : (tag : Option ℕ) (all : Held-Base-Tagged-2) → Keeps (TagMembers tag all)
@@ -355,7 +509,7 @@ mutual
   parameters_keep end_of-Param true = never_keeps
   parameters_keep end_of-Param false = nothing_keeps
   parameters_keep (more_of-Param words base d rest) ellipsis = then_keeps _ _
-    (specifiers_keep is_declaration_word base (BaseRule base) words (λ typed. base_keeps base typed))
+      (specifiers_keep is_declaration_word base (BaseRule base) words (λ typed. base_keeps base typed))
       (then_keeps _ _ (declarator_operand_keeps Either 0 d (DeclaratorRule d Either) (declarator_keeps d Either))
       (then_keeps _ _ (declares_keeps false (name_of d)) (more_parameters_keep rest ellipsis)))
 

@@ -55,7 +55,7 @@ expr_label e s t h stop label =
   where
     name_known : (i : Input) → opens_expr i ≡ true → kind i ≡ Some token.Name → is_typedef i ≡ false
     name_known i begins is = no_case (is_typedef i)
-      (λ e. let g : opens true (Some token.Name) ≡ true = sym (ap (λ b. opens b (kind i)) e ∙ ap (opens true) is) ∙ begins in cc)
+        (λ e. let g : opens true (Some token.Name) ≡ true = sym (ap (λ b. opens b (kind i)) e ∙ ap (opens true) is) ∙ begins in cc)
 
 pub expr_no_label : (e : Expr) (s t : Input) → IsExpr 0 e s t → kind t ≡ Some (token.Punct m.Semicolon) → is_label s ≡ false
 expr_no_label e s t h is = no_case (is_label s) (λ label.
@@ -64,7 +64,7 @@ expr_no_label e s t h is = no_case (is_label s) (λ label.
 
 -- ..nor does a declaration
 between_no_label : (b : Base) (before behind : List AWord) (s x : Input) → b ≢ Plain →
-  (Words is_declaration_word before ⨾ BaseRule b (has_type_word before) ⨾ Words is_declaration_word behind) s x
+    (Words is_declaration_word before ⨾ BaseRule b (has_type_word before) ⨾ Words is_declaration_word behind) s x
     → kind x ≢ Some (token.Punct m.Colon) → is_label s ≡ false
 between_no_label b (a ∷ rest) behind s x ne h colon = no_name_no_label s _ h.1.0.1.0.1.0 refl
 between_no_label Plain [] behind s x ne h colon = absurd (ne refl)
@@ -78,7 +78,7 @@ between_no_label (Typedef n) [] (a ∷ rest) s x ne h colon =
     no_colon_no_label s (λ is. absurd (let wrong = sym (h.1.1.1.1.1.0.1.0) ∙ (ap kind after ∙ is) in cc))
 
 specs_no_label : (b : Base) (words : List AWord) (s x : Input) → Specifiers is_declaration_word b (BaseRule b) words s x →
-  kind x ≢ Some (token.Punct m.Colon) → is_label s ≡ false
+    kind x ≢ Some (token.Punct m.Colon) → is_label s ≡ false
 specs_no_label Plain [] s x h colon = absurd h
 specs_no_label Plain (a ∷ rest) s x h colon = no_name_no_label s _ h.1.0.1.0.1.0 refl
 specs_no_label (Typedef n) words s x h colon = between_no_label (Typedef n) h.0 h.1.0 s x (λ e. absurd (cc)) h.1.1.1 colon
@@ -113,7 +113,7 @@ and_not false true h = refl
 and_not true true h = refl
 
 starts_by : (s : Input) (k : Option TokenKind) → kind s ≡ k → ((typedef : Bool) → begins_by is_declaration_word typedef k ≡ false) →
-  is_word w.StaticAssert k ≡ false
+    is_word w.StaticAssert k ≡ false
     → is_mark m.CloseBrace k ≡ false → Starts s
 starts_by s k is never word mark = record {
   declaration = and_left (begins_declaration s) _ (ap (begins_by is_declaration_word (is_typedef s)) is ∙ never (is_typedef s));

@@ -1,6 +1,33 @@
 -- Structures, unions, enumerations and typedef names that are spelled are read.
-use Rattle.std.proofs.Common.{◌≡◌, ◌≢◌, ℕ, zero, suc, ◌<◌, ◌≤◌, Bool, true, false, ◌⊎◌, inl, inr, List, [], ◌∷◌, ◌++◌, Option, Some, None, refl, sym, ap, ◌∙◌,
-  subst, arith, append_assoc}
+use Rattle.std.proofs.Common.{
+  ◌≡◌,
+  ◌≢◌,
+  ℕ,
+  zero,
+  suc,
+  ◌<◌,
+  ◌≤◌,
+  Bool,
+  true,
+  false,
+  ◌⊎◌,
+  inl,
+  inr,
+  List,
+  [],
+  ◌∷◌,
+  ◌++◌,
+  Option,
+  Some,
+  None,
+  refl,
+  sym,
+  ap,
+  ◌∙◌,
+  subst,
+  arith,
+  append_assoc,
+}
 use mathlib.Core.Former.{this, arity}
 use Rattle.sqlite_items.specs.formers.items.Items.{the_former}
 use Rattle.c_lex.specs.declared.token.TokenKind.{TokenKind}
@@ -9,34 +36,99 @@ use Rattle.c_lex.specs.declared.token.Word.{Word as AWord}
 use Rattle.c_lex.specs.declared.token.Word.TheVariants as w
 use Rattle.c_lex.specs.declared.token.Mark.TheVariants as m
 use Rattle.c_ast.specs.declared.declaration.Base.{Base}
-use Rattle.c_ast.specs.declared.declaration.Base.TheBlock.{Typedef, Tagged', Base-Tagged-2-None', Base-Tagged-2-Some', Enumerated', Base-Enumerated-1-None',
-  Base-Enumerated-1-Some', Fields', Assertion', Enumerator-value-None', Enumerator-value-Some', Row_of-Declarator, end_of-Declarator, more_of-Declarator,
-  Row_of-MemberEntry, end_of-MemberEntry, more_of-MemberEntry, Row_of-Enumerator, end_of-Enumerator, more_of-Enumerator}
+use Rattle.c_ast.specs.declared.declaration.Base.TheBlock.{
+  Typedef,
+  Tagged',
+  Base-Tagged-2-None',
+  Base-Tagged-2-Some',
+  Enumerated',
+  Base-Enumerated-1-None',
+  Base-Enumerated-1-Some',
+  Fields',
+  Assertion',
+  Enumerator-value-None',
+  Enumerator-value-Some',
+  Row_of-Declarator,
+  end_of-Declarator,
+  more_of-Declarator,
+  Row_of-MemberEntry,
+  end_of-MemberEntry,
+  more_of-MemberEntry,
+  Row_of-Enumerator,
+  end_of-Enumerator,
+  more_of-Enumerator,
+}
 use Rattle.c_ast.specs.declared.declaration.Declarator.{Declarator}
 use Rattle.c_ast.specs.declared.declaration.Enumerator.{Enumerator, Enumerator'}
 use Rattle.c_ast.specs.declared.declaration.MemberEntry.{MemberEntry}
 use Rattle.c_ast.specs.declared.expression.ExprNode.{ExprNode}
 use Rattle.c_ast.specs.Input.{Input, kind, next, is_typedef, declared}
 use Rattle.c_grammar.specs.Operators as op
-use Rattle.c_grammar.specs.Grammar.{Named, DeclaratorOperand, DeclaratorRule, BaseRule, Members, MoreMembers, MemberRule, MemberNames, MoreNames, Enumerators,
-  MoreEnumerators, EnumeratorRule, Spells, level, tag_word}
+use Rattle.c_grammar.specs.Grammar.{
+  Named,
+  DeclaratorOperand,
+  DeclaratorRule,
+  BaseRule,
+  Members,
+  MoreMembers,
+  MemberRule,
+  MemberNames,
+  MoreNames,
+  Enumerators,
+  MoreEnumerators,
+  EnumeratorRule,
+  Spells,
+  level,
+  tag_word,
+}
 use Rattle.c_grammar.specs.Rules.{Rule, ◌⨾◌, Nothing, Mark, MaybeMark, Word, Identifier, MaybeIdentifier, Message, Operand, Strings, is_qualified_word}
 use Rattle.parse_spec.specs.Steps.{left, turns, maybe_identifier, same_mark, sees, allows}
 use Rattle.parse_spec.specs.Nested.{expr, declarator, specs}
 use Rattle.parse_spec.specs.Places.{begins_by}
 use Rattle.parse_spec.specs.Expressions.{made}
-use Rattle.parse_spec.specs.Specifiers.{message, assertion, names_from, member_names, one_member, members_from, tagged, enumerator_value, one_enumerator,
-  enumerators_from, enumerated, specifier_base}
+use Rattle.parse_spec.specs.Specifiers.{
+  message,
+  assertion,
+  names_from,
+  member_names,
+  one_member,
+  members_from,
+  tagged,
+  enumerator_value,
+  one_enumerator,
+  enumerators_from,
+  enumerated,
+  specifier_base,
+}
 use Rattle.parse_sound.proofs.Holding.{sees_of, sees_word_of}
 use Rattle.parse_complete.proofs.Declarators.{stops, ends_specs, IsDeclared, declarator_read, declarator_less, declarator_ends, named_no_stop}
-use Rattle.parse_complete.proofs.Keeps.{tag_members_keep, tag_enumerators_keep, then_keeps, mark_keeps, operand_keeps, spells_keeps, message_keeps,
-  member_names_keep, maybe_identifier_keeps, enumerator_keeps}
+use Rattle.parse_complete.proofs.Keeps.{
+  tag_members_keep,
+  tag_enumerators_keep,
+  then_keeps,
+  mark_keeps,
+  operand_keeps,
+  spells_keeps,
+  message_keeps,
+  member_names_keep,
+  maybe_identifier_keeps,
+  enumerator_keeps,
+}
 use Rattle.parse_complete.proofs.Parens.{IsRead, operand_expr}
 use Rattle.parse_complete.proofs.Specifiers.{NoTags, qualified_tags, IsSpecified, IsBase, specifiers_less, specs_begin, specified_from, between_read}
 use Rattle.parse_complete.proofs.Steps.{mark_takes, word_takes, takes_one, expect_of, expect_word_of, eat_yes, eat_no, sees_by, sees_not, sees_word_not}
 use Rattle.parse_complete.proofs.Tables.{grip, grip_is}
-use Rattle.parse_complete.proofs.Trees.{names, members_of, enumerators_of, fields_is, assertion_is, bare_enumerator_is, valued_enumerator_is, tagged_is,
-  enumerated_is}
+use Rattle.parse_complete.proofs.Trees.{
+  names,
+  members_of,
+  enumerators_of,
+  fields_is,
+  assertion_is,
+  bare_enumerator_is,
+  valued_enumerator_is,
+  tagged_is,
+  enumerated_is,
+}
 use Rattle.parse_complete.proofs.Words.{identifier_read, no_identifier, some_identifier, strings_read}
 
 -- ---- static assertions
@@ -127,11 +219,11 @@ abbrev pub IsMember : MemberEntry → Type 0
 IsMember a = (s t : Input) → MemberRule a s t → (d : ℕ) → left s < d → one_member (expr d) (declarator d) (specs d) s ≡ Some (a, t)
 
 no_assert : (allowed : AWord → Bool) (typedef : Bool) (k : Option TokenKind) → allowed w.StaticAssert ≡ false → begins_by allowed typedef k ≡ true →
-  k ≢ Some (token.Keyword w.StaticAssert)
+    k ≢ Some (token.Keyword w.StaticAssert)
 no_assert allowed typedef k never h is = let g = rw (is, never) at h in cc
 
 pub fields_found : (words : List AWord) (b : Base) (n : List (Unit {0})) (row : Row_of-Declarator (arity (the_former (this {0})) n)) → IsSpecified b words →
-  AreNames row
+    AreNames row
     → IsMember (Fields' words b n row)
 unfolding one_member
 fields_found words b n row c cs s t (x, (h, g)) d le =
@@ -144,7 +236,7 @@ fields_found words b n row c cs s t (x, (h, g)) d le =
 pub member_assertion_found : (at : ℕ) (a : ExprNode) (n : ℕ) → IsRead a → IsMember (Assertion' at a n)
 unfolding one_member
 member_assertion_found at a n c s t h d le = rw (sees_word_of w.StaticAssert s h.1.0.0, assertion_read at a n c s t h d (omega arith), assertion_is at a n)
-  refl
+    refl
 
 abbrev pub AreMembers : {n : _} → Row_of-MemberEntry n → Type 0
 AreMembers end_of-MemberEntry = Unit {0}
@@ -164,12 +256,12 @@ member_less (Fields' words b n row) s t (x, (h, (y, (g, end)))) =
     omega (arith, specifiers_less is_qualified_word b words s x h, (member_names_keep row).keeps x y g, mark_takes m.Semicolon y t end)
 member_less (Assertion' at a n) s t (x, (word, h)) =
     let rest = then_keeps _ _ (mark_keeps m.OpenParen)
-      (then_keeps _ _ (operand_keeps op.conditional (level a) at (Spells a) (spells_keeps a)) (then_keeps _ _ (mark_keeps m.Comma)
+    (then_keeps _ _ (operand_keeps op.conditional (level a) at (Spells a) (spells_keeps a)) (then_keeps _ _ (mark_keeps m.Comma)
     (then_keeps _ _ (message_keeps n) (then_keeps _ _ (mark_keeps m.CloseParen) (mark_keeps m.Semicolon))))) in
     omega (arith, word_takes w.StaticAssert s x word, rest.keeps x t h)
 
 members_found : {n : _} (a : MemberEntry) (rest : Row_of-MemberEntry n) → IsMember a → AreMembers rest →
-  (s x q t : Input) → MemberRule a s x → MoreMembers rest x q
+    (s x q t : Input) → MemberRule a s x → MoreMembers rest x q
     → Mark m.CloseBrace q t → (d : ℕ) → left s < d → (n : ℕ) → left s < n → (found : List MemberEntry)
     → members_from (expr d) (declarator d) (specs d) n found s ≡ Some (found ++ a ∷ members_of rest, t)
 unfolding members_from
@@ -222,7 +314,7 @@ defined_base union tag n row cs typed s t (x, (word, (y, (name, (z, (brace, all)
     let more = members_read row cs z t all d (omega arith) in
     tagged_at d typed union s word.0
     ∙ rw (← word.1, tag_read tag x y name brace.0, sees_of m.OpenBrace y brace.0, eat_yes m.OpenBrace y brace.0, ← brace.1, more, tagged_is union tag n row)
-      refl
+    refl
 
 alone_base : (union : Bool) (n : ℕ) (typed : Bool) (s t : Input) → (Word (tag_word union) ⨾ Identifier n) s t → sees m.OpenBrace t ≡ false → (d : ℕ)
     → specifier_base (expr d) (declarator d) (specs d) typed s ≡ Some (Tagged' union (Some n) Base-Tagged-2-None', t)
@@ -251,7 +343,7 @@ ends_tight t (inr is) = omega (arith, grip_is t m.CloseBrace is)
 
 abbrev pub IsEnumerator : Enumerator → Type 0
 IsEnumerator a = (s t : Input) → EnumeratorRule a s t → EndsEnumerator t →
-  (d : ℕ) → left s < d → one_enumerator (expr d) (declarator d) (specs d) s ≡ Some (a, t)
+    (d : ℕ) → left s < d → one_enumerator (expr d) (declarator d) (specs d) s ≡ Some (a, t)
 
 declared_end : (n : ℕ) (y t : Input) → t ≡ declared n false y → EndsEnumerator t → EndsEnumerator y
 declared_end n y t e end = subst (λ k. (k ≡ Some (token.Punct m.Comma)) ⊎ (k ≡ Some (token.Punct m.CloseBrace))) (ap kind e ∙ kind_declared n false y) end
@@ -290,7 +382,7 @@ enumerator_no_brace : (a : Enumerator) (s t : Input) → EnumeratorRule a s t �
 enumerator_no_brace (Enumerator' n value) s t h = sees_by m.CloseBrace s _ h.1.0.1.0 refl
 
 last_enumerator : (d n : ℕ) (found : List Enumerator) (a : Enumerator) (s x t : Input) → one_enumerator (expr d) (declarator d) (specs d) s ≡ Some (a, x) →
-  ListEnd x t
+    ListEnd x t
     → enumerators_from (expr d) (declarator d) (specs d) (suc n) found s ≡ Some (found ++ a ∷ [], t)
 unfolding enumerators_from same_mark
 last_enumerator d n found a s x t one (y, (inl same, close)) =
@@ -365,7 +457,7 @@ typedef_base n = record {
 }
   where
     typedef_read : (typed : Bool) (s t : Input) → BaseRule (Typedef n) typed s t →
-      (d : ℕ) → specifier_base (expr d) (declarator d) (specs d) typed s ≡ Some (Typedef n, t)
+        (d : ℕ) → specifier_base (expr d) (declarator d) (specs d) typed s ≡ Some (Typedef n, t)
     typedef_read true s t h d = absurd h
     typedef_read false s t h d = rw (h.1.1.0, h.0, h.1.0, h.1.1.1) refl
 
@@ -393,7 +485,7 @@ never_base b nothing = record {
 }
 
 pub defined_found : (union : Bool) (tag : Option ℕ) (n : List (Unit {0})) (row : Row_of-MemberEntry (arity (the_former (this {0})) n)) (words : List AWord) →
-  AreMembers row
+    AreMembers row
     → IsSpecified (Tagged' union tag (Base-Tagged-2-Some' n row)) words
 defined_found union None n row words cs = specified_from (Tagged' union None (Base-Tagged-2-Some' n row)) words
     (between_read (Tagged' union None (Base-Tagged-2-Some' n row)) words (record {
@@ -428,7 +520,7 @@ enumerated_less typed tag all s t (x, (word, h)) =
     omega (arith, word_takes w.Enum s x word, rest.keeps x t h)
 
 pub enumeration_found : (tag : Option ℕ) (n : List (Unit {0})) (row : Row_of-Enumerator (arity (the_former (this {0})) n)) (words : List AWord) →
-  AreEnumerators row
+    AreEnumerators row
     → IsSpecified (Enumerated' tag (Base-Enumerated-1-Some' n row)) words
 enumeration_found None n row words cs = specified_from (Enumerated' None (Base-Enumerated-1-Some' n row)) words
     (between_read (Enumerated' None (Base-Enumerated-1-Some' n row)) words (record {

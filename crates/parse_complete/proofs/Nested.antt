@@ -2,10 +2,41 @@
 use Rattle.std.proofs.Common.{◌≡◌, ℕ, ◌<◌, ◌≤◌, List, [], ◌∷◌, Some, None, arith}
 use Rattle.c_lex.specs.declared.token.Word.{Word as AWord}
 use Rattle.c_ast.specs.declared.declaration.Base.{Base}
-use Rattle.c_ast.specs.declared.declaration.Base.TheBlock.{Plain, Tagged', Base-Tagged-2-None', Base-Tagged-2-Some', Enumerated', Base-Enumerated-1-None',
-  Base-Enumerated-1-Some', Typedef, Fields', Assertion', Ident, Enumerator-value-None', Enumerator-value-Some', Name, Number, CharLit, Strings as StringsNode,
-  Comma', Row_of-Expr, end_of-Expr, more_of-Expr, Row_of-Declarator, end_of-Declarator, more_of-Declarator, Row_of-Enumerator, end_of-Enumerator,
-  more_of-Enumerator, Row_of-MemberEntry, end_of-MemberEntry, more_of-MemberEntry, Row_of-Param, end_of-Param, more_of-Param}
+use Rattle.c_ast.specs.declared.declaration.Base.TheBlock.{
+  Plain,
+  Tagged',
+  Base-Tagged-2-None',
+  Base-Tagged-2-Some',
+  Enumerated',
+  Base-Enumerated-1-None',
+  Base-Enumerated-1-Some',
+  Typedef,
+  Fields',
+  Assertion',
+  Ident,
+  Enumerator-value-None',
+  Enumerator-value-Some',
+  Name,
+  Number,
+  CharLit,
+  Strings as StringsNode,
+  Comma',
+  Row_of-Expr,
+  end_of-Expr,
+  more_of-Expr,
+  Row_of-Declarator,
+  end_of-Declarator,
+  more_of-Declarator,
+  Row_of-Enumerator,
+  end_of-Enumerator,
+  more_of-Enumerator,
+  Row_of-MemberEntry,
+  end_of-MemberEntry,
+  more_of-MemberEntry,
+  Row_of-Param,
+  end_of-Param,
+  more_of-Param,
+}
 use Rattle.c_ast.specs.declared.declaration.MemberEntry.{MemberEntry}
 use Rattle.c_ast.specs.declared.declaration.Declarator.{Declarator}
 use Rattle.c_ast.specs.declared.declaration.Enumerator.{Enumerator, Enumerator'}
@@ -16,17 +47,66 @@ use Rattle.c_grammar.specs.Grammar.{IsExpr}
 use Rattle.parse_spec.specs.Nested.{expr}
 use Rattle.parse_spec.specs.Steps.{left}
 use Rattle.parse_complete.proofs.Declarators.{IsDeclared, ident_found, name_found as declared_name, pointer_found}
-use Rattle.parse_complete.proofs.Expressions.{AreRead, name_found, number_found, char_found, strings_found, postfix_found, index_found, dot_found,
-  arrow_found, unary_found, binary_found, cond_found, assign_found, call_found, comma_found, cast_found, sizeof_expr_found, sizeof_type_found,
-  alignof_type_found}
-use Rattle.parse_complete.proofs.Members.{AreNames, IsMember, AreMembers, IsEnumerator, AreEnumerators, fields_found, member_assertion_found,
-  bare_enumerator_found, valued_enumerator_found, typedef_found, defined_found, tag_found, enumeration_found, enumeration_tag_found}
+use Rattle.parse_complete.proofs.Expressions.{
+  AreRead,
+  name_found,
+  number_found,
+  char_found,
+  strings_found,
+  postfix_found,
+  index_found,
+  dot_found,
+  arrow_found,
+  unary_found,
+  binary_found,
+  cond_found,
+  assign_found,
+  call_found,
+  comma_found,
+  cast_found,
+  sizeof_expr_found,
+  sizeof_type_found,
+  alignof_type_found,
+}
+use Rattle.parse_complete.proofs.Members.{
+  AreNames,
+  IsMember,
+  AreMembers,
+  IsEnumerator,
+  AreEnumerators,
+  fields_found,
+  member_assertion_found,
+  bare_enumerator_found,
+  valued_enumerator_found,
+  typedef_found,
+  defined_found,
+  tag_found,
+  enumeration_found,
+  enumeration_tag_found,
+}
 use Rattle.parse_complete.proofs.Parens.{IsRead, operand_expr}
 use Rattle.parse_complete.proofs.Specifiers.{IsSpecified, plain_found}
 use Rattle.parse_complete.proofs.Suffixes.{AreParams, array_found, array_of_found, function_found}
 use Rattle.parse_complete.proofs.Tables.{grip}
-use Rattle.parse_complete.proofs.Trees.{unary, postfix, binary, assign, cond, index, dot, arrow, call, cast, sizeof_expr, sizeof_type, alignof_type, pointer,
-  array, array_of, function}
+use Rattle.parse_complete.proofs.Trees.{
+  unary,
+  postfix,
+  binary,
+  assign,
+  cond,
+  index,
+  dot,
+  arrow,
+  call,
+  cast,
+  sizeof_expr,
+  sizeof_type,
+  alignof_type,
+  pointer,
+  array,
+  array_of,
+  function,
+}
 
 mutual
   pub read : (a : ExprNode) → IsRead a

@@ -67,7 +67,7 @@ Prefixed d least s e t = (prefix (expr d) (declarator d) (specs d) least s ≡ S
 
 -- what begins with its prefix is reached
 pub reaches_from : (a : ExprNode) (i n : ℕ) →
-  ((s t : Input) → Bare a i n s t → grip t ≤ 13 → (d : ℕ) → left s ≤ d → (least : ℕ) → Prefixed d least s (made i a) t)
+    ((s t : Input) → Bare a i n s t → grip t ≤ 13 → (d : ℕ) → left s ≤ d → (least : ℕ) → Prefixed d least s (made i a) t)
     → Reaches a i n
 reaches_from a i n p l low high may s t h e d le least le2 f t2 go =
     let q = p s t h e.within d le least in
@@ -144,5 +144,5 @@ module _ (a : ExprNode) (c : IsRead a) (i : ℕ) where
   operand_expr zero high s t (n, (may, h)) e e2 (suc d) lt = (parens a c i n).whole s t h e d (omega arith)
   operand_expr (suc l) high s t h e e2 (suc d) lt =
       rw (eqb-suc-zero l) (operand_reach (suc l) (omega arith) high s t h (record { within = e2; above = omega arith; low = λ _. e }) d (omega arith) (suc l)
-        (omega arith) _ t
+      (omega arith) _ t
       (λ lone _. climb_stop d (suc l) s.at lone (made i a) t (omega (arith, e, grip_tight t))))

@@ -42,7 +42,7 @@ module _ (d : ℕ) where
 
   pub climb_step : (least at : ℕ) (lone : Bool) (e : Expr) (i : Input) (e2 : Expr) (t : Input) (f : Expr) (t2 : Input) → least < tight i
       → step (expr d) (declarator d) (specs d) at lone e i ≡ Some (e2, t) → left t < left i → ClimbsTo least at false e2 t f t2 →
-        ClimbsTo least at lone e i f t2
+      ClimbsTo least at lone e i f t2
   unfolding climb
   climb_step least at lone e i e2 t f t2 h p shorter go zero lt = absurd (omega arith)
   climb_step least at lone e i e2 t f t2 h p shorter go (suc n) lt = rw (lt-leb (tight i) least h, p) (go n (omega arith))

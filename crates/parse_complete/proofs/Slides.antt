@@ -10,19 +10,54 @@ use Rattle.c_ast.specs.declared.declaration.Part.{Part}
 use Rattle.c_ast.specs.declared.declaration.Specs.{Specs}
 use Rattle.c_ast.specs.declared.expression.Expr.{Expr}
 use Rattle.c_grammar.specs.Operators as op
-use Rattle.c_grammar.specs.Grammar.{Named, IsExpr, Spells, BaseRule, DeclaratorRule, level, name_of, AssertionRule, DesignatorRule, DesignatorList,
-  Designation, InitRule, InitEntries, MoreInits, MaybeInit, PartRule, MoreParts, Parts, DeclarationSpecifiers}
+use Rattle.c_grammar.specs.Grammar.{
+  Named,
+  IsExpr,
+  Spells,
+  BaseRule,
+  DeclaratorRule,
+  level,
+  name_of,
+  AssertionRule,
+  DesignatorRule,
+  DesignatorList,
+  Designation,
+  InitRule,
+  InitEntries,
+  MoreInits,
+  MaybeInit,
+  PartRule,
+  MoreParts,
+  Parts,
+  DeclarationSpecifiers,
+}
 use Rattle.c_grammar.specs.Rules.{Mark, is_declaration_word}
 use Rattle.parse_sound.proofs.Declarations.{PartsEnd}
-use Rattle.parse_sound.proofs.Slides.{Slides, nothing_slides, never_slides, mark_slides, word_slides, identifier_slides, maybe_mark_slides, message_slides,
-  then_slides, operand_slides, declares_slides, declarator_operand_slides, specifiers_slide, spells_slides, base_slides, declarator_slides}
+use Rattle.parse_sound.proofs.Slides.{
+  Slides,
+  nothing_slides,
+  never_slides,
+  mark_slides,
+  word_slides,
+  identifier_slides,
+  maybe_mark_slides,
+  message_slides,
+  then_slides,
+  operand_slides,
+  declares_slides,
+  declarator_operand_slides,
+  specifiers_slide,
+  spells_slides,
+  base_slides,
+  declarator_slides,
+}
 
 expr_slides : (least : ℕ) (e : Expr) → Slides (IsExpr least e)
 expr_slides least e = operand_slides least (level e.node) e.at (Spells e.node) (spells_slides e.node)
 
 pub assertion_slides : (e : Expr) (message : ℕ) → Slides (AssertionRule e message)
 assertion_slides e message = then_slides _ _ (word_slides w.StaticAssert)
-  (then_slides _ _ (mark_slides m.OpenParen) (then_slides _ _ (expr_slides op.conditional e)
+    (then_slides _ _ (mark_slides m.OpenParen) (then_slides _ _ (expr_slides op.conditional e)
     (then_slides _ _ (mark_slides m.Comma) (then_slides _ _ (message_slides message) (then_slides _ _ (mark_slides m.CloseParen) (mark_slides m.Semicolon))))))
 
 designator_slides : (d : Designator) → Slides (DesignatorRule d)
@@ -49,7 +84,7 @@ mutual
   inits_slide : {n : _} (row : Row_of-InitEntry n) → Slides (InitEntries row)
   inits_slide end_of-InitEntry = never_slides
   inits_slide (more_of-InitEntry designators i rest) = then_slides _ _ (designation_slides designators)
-    (then_slides _ _ (init_slides i) (more_inits_slide rest))
+      (then_slides _ _ (init_slides i) (more_inits_slide rest))
 
   more_inits_slide : {n : _} (row : Row_of-InitEntry n) → Slides (MoreInits row)
   more_inits_slide end_of-InitEntry = nothing_slides
@@ -62,7 +97,7 @@ maybe_init_slides (Some a) = then_slides _ _ (mark_slides m.Equal) (init_slides 
 
 part_slides : (typedef : Bool) (p : Part) → Slides (PartRule typedef p)
 part_slides typedef p = then_slides _ _ (declarator_operand_slides Named 0 p.declarator (DeclaratorRule p.declarator Named)
-  (declarator_slides p.declarator Named))
+    (declarator_slides p.declarator Named))
     (then_slides _ _ (declares_slides typedef (name_of p.declarator)) (maybe_init_slides p.init))
 
 more_parts_slide : (typedef : Bool) (all : List Part) → Slides (MoreParts typedef all)

@@ -1,6 +1,32 @@
 -- Specifiers that are spelled are read.
-use Rattle.std.proofs.Common.{◌≡◌, ◌≢◌, ℕ, zero, suc, ◌<◌, ◌≤◌, ◌==◌, Bool, true, false, ◌||◌, List, [], ◌∷◌, ◌++◌, length, Option, Some, refl, sym, ap, ◌∙◌,
-  subst, arith, append-nil}
+use Rattle.std.proofs.Common.{
+  ◌≡◌,
+  ◌≢◌,
+  ℕ,
+  zero,
+  suc,
+  ◌<◌,
+  ◌≤◌,
+  ◌==◌,
+  Bool,
+  true,
+  false,
+  ◌||◌,
+  List,
+  [],
+  ◌∷◌,
+  ◌++◌,
+  length,
+  Option,
+  Some,
+  refl,
+  sym,
+  ap,
+  ◌∙◌,
+  subst,
+  arith,
+  append-nil,
+}
 use Rattle.std.proofs.lemmas.Bool.Decides.{nat_tests}
 use Rattle.c_lex.specs.declared.token.TokenKind.{TokenKind}
 use Rattle.c_lex.specs.declared.token.TokenKind.TheVariants as token
@@ -48,7 +74,7 @@ word_begins : (allowed : AWord → Bool) (typedef : Bool) (a : AWord) → allowe
 word_begins allowed typedef a may = rw may refl
 
 keyword_begins : (allowed : AWord → Bool) (a : AWord) (rest : List AWord) (s t : Input) → Words allowed (a ∷ rest) s t →
-  begins_by allowed (is_typedef s) (kind s) ≡ true
+    begins_by allowed (is_typedef s) (kind s) ≡ true
 keyword_begins allowed a rest s t h = ap (begins_by allowed (is_typedef s)) h.1.0.1.0 ∙ word_begins allowed (is_typedef s) a h.1.0.0
 
 or_true : (b : Bool) → (b || true) ≡ true
@@ -60,7 +86,7 @@ tag_begins_any allowed typedef true = or_true (allowed w.Union)
 tag_begins_any allowed typedef false = or_true (allowed w.Struct)
 
 base_begins : (allowed : AWord → Bool) (b : Base) (typed : Bool) (s t : Input) → b ≢ base.Plain → BaseRule b typed s t →
-  begins_by allowed (is_typedef s) (kind s) ≡ true
+    begins_by allowed (is_typedef s) (kind s) ≡ true
 base_begins allowed Plain typed s t ne h = absurd (ne refl)
 base_begins allowed (Typedef n) true s t ne h = absurd h
 base_begins allowed (Typedef n) false s t ne h = ap (begins_by allowed (is_typedef s)) h.1.1.0 ∙ h.0
@@ -75,11 +101,11 @@ Between allowed R words s t =
 between_begins : (allowed : AWord → Bool) (b : Base) (before behind : List AWord) (s t : Input) → b ≢ base.Plain
     → (Words allowed before ⨾ BaseRule b (has_type_word before) ⨾ Words allowed behind) s t → begins_by allowed (is_typedef s) (kind s) ≡ true
 between_begins allowed b [] behind s t ne h = subst (λ x. begins_by allowed (is_typedef x) (kind x) ≡ true) h.1.0
-  (base_begins allowed b false h.0 h.1.1.0 ne h.1.1.1.0)
+    (base_begins allowed b false h.0 h.1.1.0 ne h.1.1.1.0)
 between_begins allowed b (a ∷ rest) behind s t ne h = keyword_begins allowed a rest s h.0 h.1.0
 
 pub specs_begin : (allowed : AWord → Bool) (b : Base) (words : List AWord) (s t : Input) → Specifiers allowed b (BaseRule b) words s t →
-  begins_by allowed (is_typedef s) (kind s) ≡ true
+    begins_by allowed (is_typedef s) (kind s) ≡ true
 specs_begin allowed Plain [] s t h = absurd h
 specs_begin allowed Plain (a ∷ rest) s t h = keyword_begins allowed a rest s h.0 h.1.0
 specs_begin allowed (Typedef n) words s t h = between_begins allowed (Typedef n) h.0 h.1.0 s t (λ e. absurd (cc)) h.1.1.1
@@ -99,14 +125,14 @@ moved s y same less =
     grind (arith, nat_tests, ne)
 
 pub specified_from : (b : Base) (words : List AWord) →
-  ((allowed : AWord → Bool) → NoTags allowed → (s t : Input) → Specifiers allowed b (BaseRule b) words s t → ends_specs (kind t) ≡ true
+    ((allowed : AWord → Bool) → NoTags allowed → (s t : Input) → Specifiers allowed b (BaseRule b) words s t → ends_specs (kind t) ≡ true
     → (d : ℕ) → left s ≤ d → specifiers (expr d) (declarator d) (specs d) allowed s ≡ Some (specs_with words b, t)) → IsSpecified b words
 unfolding specs
 specified_from b words f allowed tags s t h stop zero lt = absurd (omega arith)
 specified_from b words f allowed tags s t h stop (suc d) lt = f allowed tags s t h stop d (omega arith)
 
 all_read : (d : ℕ) (allowed : AWord → Bool) (before behind : List AWord) (b : Base) (s x y t : Input) → Words allowed before s x →
-  allows allowed (kind x) ≡ false
+    allows allowed (kind x) ≡ false
     → base_at d (has_type_word before) x ≡ Some (b, y) → (y.at == s.at) ≡ false → Words allowed behind y t → allows allowed (kind t) ≡ false
     → specifiers (expr d) (declarator d) (specs d) allowed s ≡ Some (specs_with (before ++ behind) b, t)
 unfolding specifiers
@@ -143,7 +169,7 @@ plain_found a rest = specified_from base.Plain (a ∷ rest) (λ allowed tags s t
     let free : allows allowed (kind h.0) ≡ false = ap (λ x. allows allowed (kind x)) (sym p.0) ∙ ends_no_word allowed (kind t) stop in
     let new : (t.at == s.at) ≡ false = subst (λ x. (x.at == s.at) ≡ false) (sym p.0) (moved s h.0 same (omega arith)) in
     all_read d allowed (a ∷ rest) [] base.Plain s h.0 t t h.1.0 free (plain_base d (has_type_word (a ∷ rest)) h.0 t h.1.1 stop) new refl
-      (ends_no_word allowed (kind t) stop)
+    (ends_no_word allowed (kind t) stop)
     ∙ ap (λ l. Some (specs_with l base.Plain, t)) (append-nil (a ∷ rest)))
 
 -- a specifier that is no keyword, maybe with keywords round it
@@ -158,13 +184,13 @@ ends_no_brace : (t : Input) → ends_specs (kind t) ≡ true → sees m.OpenBrac
 ends_no_brace t stop = sees_not m.OpenBrace t (λ e. absurd (let g = rw e at stop in cc))
 
 behind_no_brace : (allowed : AWord → Bool) (behind : List AWord) (y t : Input) → Words allowed behind y t → ends_specs (kind t) ≡ true →
-  sees m.OpenBrace y ≡ false
+    sees m.OpenBrace y ≡ false
 unfolding same_mark
 behind_no_brace allowed [] y t h stop = ends_no_brace y (ap (λ x. ends_specs (kind x)) (sym h) ∙ stop)
 behind_no_brace allowed (a ∷ rest) y t h stop = sees_by m.OpenBrace y _ h.1.0.1.0 refl
 
 pub between_read : (b : Base) (words : List AWord) → IsBase b → (allowed : AWord → Bool) → NoTags allowed →
-  (s t : Input) → Between allowed (BaseRule b) words s t
+    (s t : Input) → Between allowed (BaseRule b) words s t
     → ends_specs (kind t) ≡ true → (d : ℕ) → left s ≤ d → specifiers (expr d) (declarator d) (specs d) allowed s ≡ Some (specs_with words b, t)
 between_read b words c allowed tags s t (before, (behind, (all, (x, (h, (y, (g, k))))))) stop d le =
     let typed = has_type_word before in

@@ -1,6 +1,30 @@
 -- Statements and block items that are spelled are read.
-use Rattle.std.proofs.Common.{◌≡◌, ◌≢◌, ℕ, zero, suc, ◌<◌, ◌≤◌, Bool, true, false, List, [], ◌∷◌, ◌++◌, Option, Some, None, refl, sym, ap, ◌∙◌, arith,
-  append_assoc, append-nil}
+use Rattle.std.proofs.Common.{
+  ◌≡◌,
+  ◌≢◌,
+  ℕ,
+  zero,
+  suc,
+  ◌<◌,
+  ◌≤◌,
+  Bool,
+  true,
+  false,
+  List,
+  [],
+  ◌∷◌,
+  ◌++◌,
+  Option,
+  Some,
+  None,
+  refl,
+  sym,
+  ap,
+  ◌∙◌,
+  arith,
+  append_assoc,
+  append-nil,
+}
 use mathlib.Core.Former.{this, arity}
 use Rattle.sqlite_items.specs.formers.items.Items.{the_former}
 use Rattle.c_lex.specs.declared.token.TokenKind.{TokenKind}
@@ -23,8 +47,32 @@ use Rattle.c_grammar.specs.Rules.{Mark, Word, Scoped, is_declaration_word}
 use Rattle.parse_spec.specs.Operators.{tight_mark}
 use Rattle.parse_spec.specs.Places.{begins_by, begins_declaration}
 use Rattle.parse_spec.specs.Scopes.{OnlyAdds}
-use Rattle.parse_spec.specs.Statements.{whole_expr, in_parentheses, maybe_expr, for_init, simple_stmt, plain_by, plain_stmt, case_value, else_part, if_stmt,
-  switch_stmt, while_stmt, do_stmt, for_stmt, label_stmt, case_stmt, default_stmt, one_entry, entries_from, entries, block, unlabelled_by, one_stmt, statement}
+use Rattle.parse_spec.specs.Statements.{
+  whole_expr,
+  in_parentheses,
+  maybe_expr,
+  for_init,
+  simple_stmt,
+  plain_by,
+  plain_stmt,
+  case_value,
+  else_part,
+  if_stmt,
+  switch_stmt,
+  while_stmt,
+  do_stmt,
+  for_stmt,
+  label_stmt,
+  case_stmt,
+  default_stmt,
+  one_entry,
+  entries_from,
+  entries,
+  block,
+  unlabelled_by,
+  one_stmt,
+  statement,
+}
 use Rattle.parse_spec.specs.Steps.{Parser, ◌>>◌, left, turns, same_mark, take_token, sees, scoped, scoped_in}
 use Rattle.parse_spec.proofs.Adding.{then_adds, take_adds}
 use Rattle.parse_sound.proofs.Holding.{sees_of, sees_word_of, closed_is}
@@ -35,10 +83,45 @@ use Rattle.parse_complete.proofs.Firsts.{opens, opens_no_declaration, no_opening
 use Rattle.parse_complete.proofs.Initializers.{turns_read, begins_expr}
 use Rattle.parse_complete.proofs.Keeps.{scoped_keeps}
 use Rattle.parse_complete.proofs.Labels.{no_name_no_label, expr_no_label, declaration_no_label, declaration_begins, label_at, stmt_starts}
-use Rattle.parse_complete.proofs.StatementTrees.{if_only, if_else, switch_on, while_do, do_while, for_each, label, case_of, default_of, entries_of,
-  if_only_is, if_else_is, switch_is, while_is, do_is, for_is, label_is, case_is, default_is, block_is, statement_is, declaration_is, entry_assertion_is}
-use Rattle.parse_complete.proofs.Steps.{mark_takes, word_takes, takes_one, expect_of, expect_word_of, eat_yes, eat_no, eat_word_yes, eat_word_no, sees_by,
-  sees_not, sees_word_not}
+use Rattle.parse_complete.proofs.StatementTrees.{
+  if_only,
+  if_else,
+  switch_on,
+  while_do,
+  do_while,
+  for_each,
+  label,
+  case_of,
+  default_of,
+  entries_of,
+  if_only_is,
+  if_else_is,
+  switch_is,
+  while_is,
+  do_is,
+  for_is,
+  label_is,
+  case_is,
+  default_is,
+  block_is,
+  statement_is,
+  declaration_is,
+  entry_assertion_is,
+}
+use Rattle.parse_complete.proofs.Steps.{
+  mark_takes,
+  word_takes,
+  takes_one,
+  expect_of,
+  expect_word_of,
+  eat_yes,
+  eat_no,
+  eat_word_yes,
+  eat_word_no,
+  sees_by,
+  sees_not,
+  sees_word_not,
+}
 use Rattle.parse_complete.proofs.Tables.{grip, grip_is}
 use Rattle.parse_complete.proofs.Takes.{takes_keep, expr_keeps, in_parentheses_keep, maybe_expr_keeps, for_start_keeps, stmt_takes, entry_takes}
 use Rattle.parse_complete.proofs.Words.{identifier_read}
@@ -228,7 +311,7 @@ switch_found e a c s t (v, ((x, (word, (y, (test, body)))), out)) d le =
     let inner : switch_stmt (statement d) x ≡ Some (switch_on e a, v) =
     rw (in_parentheses_read e x y test, body_read a c y v body d (omega arith), switch_is e a) refl in
     rw (no_label, word.0) (word_scoped (switch_stmt (statement d)) (switch_stmt_adds (statement d) (statement_adds d)) w.Switch
-      (switch_on e a) s x v t word inner out)
+    (switch_on e a) s x v t word inner out)
 
 while_found : (e : Expr) (a : Stmt) → IsStmt a → IsStmt (while_do e a)
 unfolding one_stmt while_stmt
@@ -239,7 +322,7 @@ while_found e a c s t (v, ((x, (word, (y, (test, body)))), out)) d le =
     let inner : while_stmt (statement d) x ≡ Some (while_do e a, v) =
     rw (in_parentheses_read e x y test, body_read a c y v body d (omega arith), while_is e a) refl in
     rw (no_label, word.0) (word_scoped (while_stmt (statement d)) (while_stmt_adds (statement d) (statement_adds d)) w.While
-      (while_do e a) s x v t word inner out)
+    (while_do e a) s x v t word inner out)
 
 do_found : (a : Stmt) (e : Expr) → IsStmt a → IsStmt (do_while a e)
 unfolding one_stmt do_stmt
@@ -247,8 +330,15 @@ do_found a e c s t (v, ((x, (word, (y, (body, (z, (word2, (u, (test, mark)))))))
     let no_label = no_name_no_label s _ word.0 refl in
     let p1 = word_takes w.Do s x word in
     let inner : do_stmt (statement d) x ≡ Some (do_while a e, v) =
-    rw (body_read a c x y body d (omega arith), expect_word_of w.While y word2.0, ← word2.1, in_parentheses_read e z u test, expect_of m.Semicolon u mark.0,
-      mark.1, do_is a e) refl in
+    rw (
+      body_read a c x y body d (omega arith),
+      expect_word_of w.While y word2.0,
+      ← word2.1,
+      in_parentheses_read e z u test,
+      expect_of m.Semicolon u mark.0,
+      mark.1,
+      do_is a e,
+    ) refl in
     rw (no_label, word.0) (word_scoped (do_stmt (statement d)) (do_stmt_adds (statement d) (statement_adds d)) w.Do (do_while a e) s x v t word inner out)
 
 for_found : (i : ForInit) (test step : Option Expr) (a : Stmt) → IsStmt a → IsStmt (for_each i test step a)
@@ -273,7 +363,7 @@ for_found i test step a c s t (v, ((x, (word, (y, (before, (z, (first, (u, (h, (
       for_is i test step a,
     ) refl in
     rw (no_label, word.0) (word_scoped (for_stmt (statement d)) (for_stmt_adds (statement d) (statement_adds d)) w.For
-      (for_each i test step a) s x v t word inner out)
+    (for_each i test step a) s x v t word inner out)
 
 -- ---- blocks
 
@@ -303,15 +393,17 @@ declaration_entry a s t h d le =
 
 assertion_entry : (e : Expr) (n : ℕ) → IsEntry (tree.Assertion e n)
 unfolding one_entry same_mark
-assertion_entry e n s t h d le = (rw (sees_word_of w.StaticAssert s h.1.0.0, assertion_read e n s t h, entry_assertion_is e n) refl,
-  sees_by m.CloseBrace s _ h.1.0.0 refl)
+assertion_entry e n s t h d le = (
+  rw (sees_word_of w.StaticAssert s h.1.0.0, assertion_read e n s t h, entry_assertion_is e n) refl,
+  sees_by m.CloseBrace s _ h.1.0.0 refl,
+)
 
 abbrev pub AllEntries : List Entry → Type 0
 AllEntries [] = Unit {0}
 AllEntries (a ∷ rest) = IsEntry a × AllEntries rest
 
 entries_found : (all : List Entry) → AllEntries all → (s q t : Input) → Every EntryRule all s q → Mark m.CloseBrace q t → (d : ℕ) → left s < d →
-  (n : ℕ) → left s < n
+    (n : ℕ) → left s < n
     → (found : List Entry) → entries_from (statement d) n found s ≡ Some (found ++ all, t)
 unfolding entries_from
 entries_found all cs s q t h mark d le zero lt found = absurd (omega (arith, lt))

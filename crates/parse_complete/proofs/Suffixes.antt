@@ -1,6 +1,34 @@
 -- Arrays, functions and their parameters that are spelled are read.
-use Rattle.std.proofs.Common.{◌≡◌, ◌≢◌, ℕ, zero, suc, ◌<◌, ◌≤◌, Bool, true, false, if◌then◌else◌, length, take, drop, List, [], ◌∷◌, ◌++◌, Option, Some, None,
-  refl, sym, ap, ◌∙◌, subst, arith, append_assoc}
+use Rattle.std.proofs.Common.{
+  ◌≡◌,
+  ◌≢◌,
+  ℕ,
+  zero,
+  suc,
+  ◌<◌,
+  ◌≤◌,
+  Bool,
+  true,
+  false,
+  if◌then◌else◌,
+  length,
+  take,
+  drop,
+  List,
+  [],
+  ◌∷◌,
+  ◌++◌,
+  Option,
+  Some,
+  None,
+  refl,
+  sym,
+  ap,
+  ◌∙◌,
+  subst,
+  arith,
+  append_assoc,
+}
 use Rattle.std.proofs.Math.Seq.{take-append_seam}
 use mathlib.Core.Former.{this, arity}
 use Rattle.sqlite_items.specs.formers.items.Items.{the_former}
@@ -9,14 +37,36 @@ use Rattle.c_lex.specs.declared.token.TokenKind.TheVariants as token
 use Rattle.c_lex.specs.declared.token.Word.{Word as AWord}
 use Rattle.c_lex.specs.declared.token.Mark.TheVariants as m
 use Rattle.c_ast.specs.declared.declaration.Base.{Base}
-use Rattle.c_ast.specs.declared.declaration.Base.TheBlock.{Ident, Row_of-Param, end_of-Param, more_of-Param, end_of-Declarator, more_of-Declarator,
-  Declarator-Array-1-Some', end_of-Expr, more_of-Expr}
+use Rattle.c_ast.specs.declared.declaration.Base.TheBlock.{
+  Ident,
+  Row_of-Param,
+  end_of-Param,
+  more_of-Param,
+  end_of-Declarator,
+  more_of-Declarator,
+  Declarator-Array-1-Some',
+  end_of-Expr,
+  more_of-Expr,
+}
 use Rattle.c_ast.specs.declared.declaration.Declarator.{Declarator}
 use Rattle.c_ast.specs.declared.declaration.Param.{Param}
 use Rattle.c_ast.specs.declared.expression.ExprNode.{ExprNode}
 use Rattle.c_ast.specs.Input.{Input, kind, next, is_typedef, declared}
-use Rattle.c_grammar.specs.Grammar.{Mode, Named, Abstract, Either, HasName, DeclaratorOperand, DeclaratorRule, Specifiers, BaseRule, Parameters,
-  MoreParameters, name_of, is_own_name as is_own_row}
+use Rattle.c_grammar.specs.Grammar.{
+  Mode,
+  Named,
+  Abstract,
+  Either,
+  HasName,
+  DeclaratorOperand,
+  DeclaratorRule,
+  Specifiers,
+  BaseRule,
+  Parameters,
+  MoreParameters,
+  name_of,
+  is_own_name as is_own_row,
+}
 use Rattle.c_grammar.specs.Rules.{Declares, is_declaration_word}
 use Rattle.parse_spec.specs.Scopes.{Adds}
 use Rattle.parse_spec.specs.Steps.{left, turns, same_mark, declare, without_prototype, parameters_left}
@@ -26,8 +76,20 @@ use Rattle.parse_spec.specs.Expressions.{made}
 use Rattle.parse_spec.specs.Declarators.{is_own_name, one_parameter, parameters_from, parameters, array_suffix, function_suffix, one_suffix}
 use Rattle.parse_spec.proofs.AddingRules.{parameters_adds, expr_adds, declarator_adds, specs_adds}
 use Rattle.parse_sound.proofs.Holding.{sees_of}
-use Rattle.parse_complete.proofs.Declarators.{stops, ends_specs, IsDeclared, Found, found_posts, suffix_step, operand_posts, empty_bracket, empty_paren,
-  declarator_read, declarator_less, declarator_ends}
+use Rattle.parse_complete.proofs.Declarators.{
+  stops,
+  ends_specs,
+  IsDeclared,
+  Found,
+  found_posts,
+  suffix_step,
+  operand_posts,
+  empty_bracket,
+  empty_paren,
+  declarator_read,
+  declarator_less,
+  declarator_ends,
+}
 use Rattle.parse_complete.proofs.Firsts.{expr_opens, no_opening}
 use Rattle.parse_complete.proofs.Keeps.{left_kept, parameters_keep, declares_keeps, size_keeps, prototype_keeps}
 use Rattle.parse_complete.proofs.Parens.{IsRead, operand_expr}
@@ -55,15 +117,23 @@ array_found e c mode = found_posts (array e) mode 0 (λ _. tt) (λ may s t (x, (
     let close : kind y ≡ Some (token.Punct m.CloseBracket) = ap kind (sym none) ∙ behind.0 in
     let less : left t < left x = subst (λ u. left u < left x) (sym behind.1) (omega (arith, p, q, ap left none, ap left behind.1)) in
     let read : one_suffix (expr d) (declarator d) (specs d) e x ≡ Some (array e, t) =
-    rw (sees_of m.OpenBracket x before.0, eat_yes m.OpenBracket x before.0, ← before.1, sees_of m.CloseBracket y close, eat_yes m.CloseBracket y close,
-      ← none, ← behind.1, array_is e) refl in
+    rw (
+      sees_of m.OpenBracket x before.0,
+      eat_yes m.OpenBracket x before.0,
+      ← before.1,
+      sees_of m.CloseBracket y close,
+      eat_yes m.CloseBracket y close,
+      ← none,
+      ← behind.1,
+      array_is e,
+    ) refl in
     operand_posts e c mode s x h d le (λ name same. empty_bracket d mode s name (ap kind (sym same) ∙ before.0)) f t2
     (suffix_step d e x (array e) t f t2 here read less go))
 
 pub array_of_found : (e : Declarator) (j : ℕ) (a : ExprNode) → IsDeclared e → IsRead a → (mode : Mode) → Found (array_of e j a) mode 0
 unfolding one_suffix array_suffix
 array_of_found e j a c c2 mode = found_posts (array_of e j a) mode 0 (λ _. tt)
-  (λ may s t (x, (h, (y, (before, (z, ((q, (g, kept)), behind)))))) d le i f t2 go.
+    (λ may s t (x, (h, (y, (before, (z, ((q, (g, kept)), behind)))))) d le i f t2 go.
     let here : opens_suffix (kind x) ≡ true = rw before.0 refl in
     let inside = without_prototype y in
     let p0 = declarator_less mode 1 e s x h in
@@ -76,8 +146,18 @@ array_of_found e j a c c2 mode = found_posts (array_of e j a) mode 0 (λ _. tt)
     let r = (size_keeps (Declarator-Array-1-Some' tt (more_of-Expr j a end_of-Expr))).keeps y z (q, (g, kept)) in
     let u = mark_takes m.CloseBracket z t behind in
     let read : one_suffix (expr d) (declarator d) (specs d) e x ≡ Some (array_of e j a, t) =
-    rw (sees_of m.OpenBracket x before.0, eat_yes m.OpenBracket x before.0, ← before.1, none, eat_no m.CloseBracket y none, inner, ← kept,
-      expect_of m.CloseBracket z behind.0, ← behind.1, array_of_is e j a) refl in
+    rw (
+      sees_of m.OpenBracket x before.0,
+      eat_yes m.OpenBracket x before.0,
+      ← before.1,
+      none,
+      eat_no m.CloseBracket y none,
+      inner,
+      ← kept,
+      expect_of m.CloseBracket z behind.0,
+      ← behind.1,
+      array_of_is e j a,
+    ) refl in
     operand_posts e c mode s x h d le (λ name same. empty_bracket d mode s name (ap kind (sym same) ∙ before.0)) f t2
     (suffix_step d e x (array_of e j a) t f t2 here read (omega arith) go))
 
@@ -112,7 +192,7 @@ begins_no_paren : (typedef : Bool) (k : Option TokenKind) → begins_by is_decla
 begins_no_paren typedef k h is = let g = rw is at h in cc
 
 one_read : (words : List AWord) (b : Base) (e : Declarator) → IsSpecified b words → IsDeclared e →
-  (s x y z : Input) → Specifiers is_declaration_word b (BaseRule b) words s x
+    (s x y z : Input) → Specifiers is_declaration_word b (BaseRule b) words s x
     → DeclaratorOperand Either 0 e (DeclaratorRule e Either) x y → Declares false (name_of e) y z → (stops (kind z) ≡ true) × (ends_specs (kind z) ≡ true)
     → (d : ℕ) → left s < d → one_parameter (expr d) (declarator d) (specs d) s ≡ Some (param words b e, z)
 unfolding one_parameter
@@ -126,7 +206,7 @@ one_read words b e cs cd s x y z h g named after d le =
     rw (head, name, n.1) refl
 
 params_found : {n : _} (words : List AWord) (b : Base) (e : Declarator) (rest : Row_of-Param n) (ellipsis : Bool) → IsSpecified b words → IsDeclared e →
-  AreParams rest
+    AreParams rest
     → (s x y z q : Input) → Specifiers is_declaration_word b (BaseRule b) words s x → DeclaratorOperand Either 0 e (DeclaratorRule e Either) x y
     → Declares false (name_of e) y z → MoreParameters rest ellipsis z q → kind q ≡ Some (token.Punct m.CloseParen)
     → (d : ℕ) → left s < d → (n : ℕ) → left s < n → (found : List Param)
@@ -155,12 +235,12 @@ params_found words b e (more_of-Param words2 b2 e2 rest) ellipsis cs cd cr s x y
     let r = mark_takes m.Comma z x0 comma in
     let none = sees_not m.Ellipsis x0 (begins_no_ellipsis (is_typedef x0) (kind x0) (specs_begin is_declaration_word b2 words2 x0 x1 h2)) in
     let more = params_found words2 b2 e2 rest ellipsis cr.0 cr.1.0 cr.1.1 x0 x1 u.1.1.1.1.0 u.1.1.1.1.1.1.0 q h2 u.1.1.1.1.1.0 u.1.1.1.1.1.1.1.0
-          u.1.1.1.1.1.1.1.1 last d (omega arith) n (omega arith) (found ++ param words b e ∷ []) in
+    u.1.1.1.1.1.1.1.1 last d (omega arith) n (omega arith) (found ++ param words b e ∷ []) in
     rw (one, sees_of m.Comma z comma.0, eat_yes m.Comma z comma.0, ← comma.1, none, eat_no m.Ellipsis x0 none, more)
     (ap (λ l. Some ((l, ellipsis), q)) (append_assoc found (param words b e ∷ []) (param words2 b2 e2 ∷ params rest)))
 
 parameters_read : {n : _} (row : Row_of-Param n) (ellipsis : Bool) → AreParams row → (s q : Input) → Parameters row ellipsis s q →
-  kind q ≡ Some (token.Punct m.CloseParen)
+    kind q ≡ Some (token.Punct m.CloseParen)
     → (d : ℕ) → left s < d → parameters (expr d) (declarator d) (specs d) s ≡ Some ((params row, ellipsis), q)
 unfolding parameters
 parameters_read end_of-Param true cs s q h last d le = absurd h
@@ -180,7 +260,7 @@ paren_opens : (typedef : Bool) (k : Option TokenKind) → k ≡ Some (token.Punc
 paren_opens typedef k is = rw is refl
 
 row_opens : {n : _} (row : Row_of-Param n) (ellipsis : Bool) (y q : Input) → Parameters row ellipsis (without_prototype y) q →
-  kind q ≡ Some (token.Punct m.CloseParen)
+    kind q ≡ Some (token.Punct m.CloseParen)
     → opens_by (is_typedef y) (kind y) ≡ true
 unfolding kind is_typedef
 row_opens end_of-Param true y q h last = absurd h
@@ -191,7 +271,7 @@ row_opens (more_of-Param words b e rest) ellipsis y q h last =
     begins_opens (is_typedef y) (kind y) g
 
 parameters_open : {n : _} (row : Row_of-Param n) (ellipsis : Bool) (mode : Mode) (s y q : Input) → HasName mode None → y ≡ next s →
-  Parameters row ellipsis (without_prototype y) q
+    Parameters row ellipsis (without_prototype y) q
     → kind q ≡ Some (token.Punct m.CloseParen) → opens_parameters mode s ≡ true
 parameters_open row ellipsis Named s y q name e h last = absurd name
 parameters_open row ellipsis Abstract s y q name e h last = ap (λ u. opens_by (is_typedef u) (kind u)) (sym e) ∙ row_opens row ellipsis y q h last
@@ -214,11 +294,11 @@ left_is own own2 y q same g =
     (ap (take (length y.names)) g.names ∙ take-append_seam y.names g.more)
 
 pub function_found : (e : Declarator) (n : List (Unit {0})) (row : Row_of-Param (arity (the_former (this {0})) n)) (ellipsis : Bool) → IsDeclared e →
-  AreParams row
+    AreParams row
     → (mode : Mode) → Found (function e n row ellipsis) mode 0
 unfolding one_suffix function_suffix same_mark
 function_found e n row ellipsis c cs mode = found_posts (function e n row ellipsis) mode 0 (λ _. tt)
-  (λ may s t (x, (h, (y, (before, (z, ((q, (g, kept)), behind)))))) d le i f t2 go.
+    (λ may s t (x, (h, (y, (before, (z, ((q, (g, kept)), behind)))))) d le i f t2 go.
     let here : opens_suffix (kind x) ≡ true = rw before.0 refl in
     let inside = without_prototype y in
     let p0 = declarator_less mode 1 e s x h in
@@ -227,14 +307,14 @@ function_found e n row ellipsis c cs mode = found_posts (function e n row ellips
     let last : kind q ≡ Some (token.Punct m.CloseParen) = sym (ap kind kept ∙ kind_with q _ _) ∙ behind.0 in
     let inner = parameters_read row ellipsis cs inside q g last d low in
     let adds = (parameters_adds (expr d) (declarator d) (specs d) (expr_adds d) (declarator_adds d) (specs_adds d)).adds inside q (params row, ellipsis) inner
-      in
+    in
     let over : parameters_left (is_own_name e) y q ≡ z = left_is _ _ y q (own_same e) adds ∙ sym kept in
     let r = (prototype_keeps _ (Parameters row ellipsis) (parameters_keep row ellipsis)).keeps y z (q, (g, kept)) in
     let u = mark_takes m.CloseParen z t behind in
     let no_bracket = sees_by m.OpenBracket x _ before.0 refl in
     let read : one_suffix (expr d) (declarator d) (specs d) e x ≡ Some (function e n row ellipsis, t) =
     rw (no_bracket, eat_no m.OpenBracket x no_bracket, ← before.1, inner, over, expect_of m.CloseParen z behind.0, ← behind.1, function_is e n row ellipsis)
-      refl in
+    refl in
     operand_posts e c mode s x h d le (λ name same. empty_paren d mode s name (ap kind (sym same) ∙ before.0)
     (parameters_open row ellipsis mode s y q name (before.1 ∙ ap next same) g last)) f t2
     (suffix_step d e x (function e n row ellipsis) t f t2 here read (omega arith) go))

@@ -11,9 +11,37 @@ use Rattle.c_ast.specs.declared.declaration.Specs.{Specs}
 use Rattle.c_ast.specs.declared.expression.Expr.{Expr}
 use Rattle.c_ast.specs.Input.{Input}
 use Rattle.c_grammar.specs.Operators as op
-use Rattle.c_grammar.specs.Grammar.{Named, IsExpr, Spells, BaseRule, DeclaratorRule, level, name_of, AssertionRule, DesignatorRule, DesignatorList,
-  Designation, InitRule, InitEntries, MoreInits, MaybeInit, PartRule, MoreParts, Parts, DeclarationSpecifiers, DeclarationRule, ForStart, AtWord, StmtRule,
-  Stmts, ElseRule, Entries, EntryRule, MaybeExpr, InParentheses}
+use Rattle.c_grammar.specs.Grammar.{
+  Named,
+  IsExpr,
+  Spells,
+  BaseRule,
+  DeclaratorRule,
+  level,
+  name_of,
+  AssertionRule,
+  DesignatorRule,
+  DesignatorList,
+  Designation,
+  InitRule,
+  InitEntries,
+  MoreInits,
+  MaybeInit,
+  PartRule,
+  MoreParts,
+  Parts,
+  DeclarationSpecifiers,
+  DeclarationRule,
+  ForStart,
+  AtWord,
+  StmtRule,
+  Stmts,
+  ElseRule,
+  Entries,
+  EntryRule,
+  MaybeExpr,
+  InParentheses,
+}
 use Rattle.c_grammar.specs.Rules.{Rule, ◌⨾◌, Scoped, NotNext, Identifier, Mark, is_declaration_word}
 use Rattle.c_lex.specs.declared.token.TokenKind.TheVariants as token
 use Rattle.c_lex.specs.declared.token.Mark.{Mark as AMark}
@@ -26,8 +54,26 @@ use Rattle.c_ast.specs.declared.statement.ForInit.{ForInit}
 use Rattle.c_ast.specs.declared.statement.ForInit.TheVariants as for_init
 use Rattle.c_ast.specs.declared.statement.Stmt.{Stmt}
 use Rattle.parse_spec.specs.Steps.{left}
-use Rattle.parse_complete.proofs.Keeps.{Keeps, nothing_keeps, never_keeps, mark_keeps, word_keeps, identifier_keeps, maybe_mark_keeps, message_keeps,
-  then_keeps, operand_keeps, declares_keeps, declarator_operand_keeps, specifiers_keep, spells_keeps, base_keeps, declarator_keeps, scoped_keeps, left_back}
+use Rattle.parse_complete.proofs.Keeps.{
+  Keeps,
+  nothing_keeps,
+  never_keeps,
+  mark_keeps,
+  word_keeps,
+  identifier_keeps,
+  maybe_mark_keeps,
+  message_keeps,
+  then_keeps,
+  operand_keeps,
+  declares_keeps,
+  declarator_operand_keeps,
+  specifiers_keep,
+  spells_keeps,
+  base_keeps,
+  declarator_keeps,
+  scoped_keeps,
+  left_back,
+}
 use Rattle.parse_complete.proofs.Steps.{mark_takes, word_takes, takes_one}
 
 pub expr_keeps : (least : ℕ) (e : Expr) → Keeps (IsExpr least e)
@@ -130,7 +176,7 @@ declaration_takes d = last_takes _ _ (declaration_specs_keep d.specs) (last_take
 
 pub assertion_takes : (e : Expr) (message : ℕ) → Takes (AssertionRule e message)
 assertion_takes e message = first_takes _ _ (word_takes_one w.StaticAssert)
-  (then_keeps _ _ (mark_keeps m.OpenParen) (then_keeps _ _ (expr_keeps op.conditional e)
+    (then_keeps _ _ (mark_keeps m.OpenParen) (then_keeps _ _ (expr_keeps op.conditional e)
     (then_keeps _ _ (mark_keeps m.Comma) (then_keeps _ _ (message_keeps message) (then_keeps _ _ (mark_keeps m.CloseParen) (mark_keeps m.Semicolon))))))
 
 pub maybe_expr_keeps : (e : Option Expr) → Keeps (MaybeExpr e)
@@ -152,20 +198,20 @@ mutual
   pub stmt_takes : (a : Stmt) → Takes (StmtRule a)
   stmt_takes (s.Simple e) = last_takes _ _ (maybe_expr_keeps e) (mark_takes_one m.Semicolon)
   stmt_takes (s.Block' p entries) = first_takes _ _ (mark_takes_one m.OpenBrace)
-    (then_keeps _ _ (scoped_keeps _ (entries_keep entries)) (mark_keeps m.CloseBrace))
+      (then_keeps _ _ (scoped_keeps _ (entries_keep entries)) (mark_keeps m.CloseBrace))
   stmt_takes (s.If' e p body other) = scoped_takes _ (first_takes _ _ (word_takes_one w.If) (then_keeps _ _ (in_parentheses_keep e)
       (then_keeps _ _ (scoped_keeps _ (stmts_keep body)) (else_keeps other))))
   stmt_takes (s.Switch' e p body) = scoped_takes _
-    (first_takes _ _ (word_takes_one w.Switch) (then_keeps _ _ (in_parentheses_keep e) (scoped_keeps _ (stmts_keep body))))
+      (first_takes _ _ (word_takes_one w.Switch) (then_keeps _ _ (in_parentheses_keep e) (scoped_keeps _ (stmts_keep body))))
   stmt_takes (s.While' e p body) = scoped_takes _
-    (first_takes _ _ (word_takes_one w.While) (then_keeps _ _ (in_parentheses_keep e) (scoped_keeps _ (stmts_keep body))))
+      (first_takes _ _ (word_takes_one w.While) (then_keeps _ _ (in_parentheses_keep e) (scoped_keeps _ (stmts_keep body))))
   stmt_takes (s.Do' p body e) = scoped_takes _
-    (first_takes _ _ (word_takes_one w.Do) (then_keeps _ _ (scoped_keeps _ (stmts_keep body)) (then_keeps _ _ (word_keeps w.While)
+      (first_takes _ _ (word_takes_one w.Do) (then_keeps _ _ (scoped_keeps _ (stmts_keep body)) (then_keeps _ _ (word_keeps w.While)
       (then_keeps _ _ (in_parentheses_keep e) (mark_keeps m.Semicolon)))))
   stmt_takes (s.For' i test step p body) =
-    scoped_takes _ (first_takes _ _ (word_takes_one w.For) (then_keeps _ _ (mark_keeps m.OpenParen) (then_keeps _ _ (for_start_keeps i)
+      scoped_takes _ (first_takes _ _ (word_takes_one w.For) (then_keeps _ _ (mark_keeps m.OpenParen) (then_keeps _ _ (for_start_keeps i)
       (then_keeps _ _ (maybe_expr_keeps test) (then_keeps _ _ (mark_keeps m.Semicolon)
-        (then_keeps _ _ (maybe_expr_keeps step) (then_keeps _ _ (mark_keeps m.CloseParen)
+      (then_keeps _ _ (maybe_expr_keeps step) (then_keeps _ _ (mark_keeps m.CloseParen)
       (scoped_keeps _ (stmts_keep body)))))))))
   stmt_takes (s.Goto n) = first_takes _ _ (word_takes_one w.Goto) (then_keeps _ _ (identifier_keeps n) (mark_keeps m.Semicolon))
   stmt_takes (s.Continue n) = first_takes _ _ (at_word_takes w.Continue n) (mark_keeps m.Semicolon)
@@ -173,7 +219,7 @@ mutual
   stmt_takes (s.Return n e) = first_takes _ _ (at_word_takes w.Return n) (then_keeps _ _ (maybe_expr_keeps e) (mark_keeps m.Semicolon))
   stmt_takes (s.Label' n p body) = first_takes _ _ (identifier_takes n) (then_keeps _ _ (mark_keeps m.Colon) (stmts_keep body))
   stmt_takes (s.Case' n e p body) = first_takes _ _ (at_word_takes w.Case n)
-    (then_keeps _ _ (expr_keeps op.conditional e) (then_keeps _ _ (mark_keeps m.Colon) (stmts_keep body)))
+      (then_keeps _ _ (expr_keeps op.conditional e) (then_keeps _ _ (mark_keeps m.Colon) (stmts_keep body)))
   stmt_takes (s.Default' n p body) = first_takes _ _ (at_word_takes w.Default n) (then_keeps _ _ (mark_keeps m.Colon) (stmts_keep body))
 
   stmts_keep : {n : _} (row : s.Row_of-Stmt n) → Keeps (Stmts row)

@@ -4,15 +4,69 @@ use mathlib.Core.Former.{this, arity}
 use denote.Hole.Carrier.{hidden, shown, roll}
 use Rattle.sqlite_items.specs.formers.items.Items.{the_former}
 use Rattle.c_lex.specs.declared.token.Word.{Word as AWord}
-use Rattle.c_ast.specs.declared.declaration.Base.TheBlock.{Pointer', Array', Function', Unary', Postfix', Binary', Assign', Cond', Comma', Call', Index',
-  Dot', Arrow', Cast', SizeofExpr', SizeofType', AlignofType', Row_of-Expr, end_of-Expr, more_of-Expr, Row_of-Declarator, end_of-Declarator,
-  more_of-Declarator, end_of-TypeName, more_of-TypeName, Row_of-Param, Declarator-Array-1-None', Declarator-Array-1-Some', items-the_row-Expr,
-  items_shown-the_row-Expr-6, shown-the_row-Expr-6, hidden-the_row-Expr-3, shape-the_row-Expr-3, shown-the_row-Expr-3, hidden-the_row-TypeName-7,
-  shape-the_row-TypeName-7, hidden-the_row-Declarator-2, shape-the_row-Declarator-2, shown-the_row-Declarator-2, items-the_row-Param,
-  items_shown-the_row-Param-4, shown-the_row-Param-4, Fields', Assertion', Enumerator-value-None', Enumerator-value-Some', Tagged', Base-Tagged-2-Some',
-  Enumerated', Base-Enumerated-1-Some', Row_of-MemberEntry, Row_of-Enumerator, items-the_row-Declarator, items_shown-the_row-Declarator-5,
-  shown-the_row-Declarator-5, items-the_row-MemberEntry, items_shown-the_row-MemberEntry-0, items-the_row-Enumerator, items_shown-the_row-Enumerator-1,
-  backs-Base-Tagged-2, backs-Base-Enumerated-1}
+use Rattle.c_ast.specs.declared.declaration.Base.TheBlock.{
+  Pointer',
+  Array',
+  Function',
+  Unary',
+  Postfix',
+  Binary',
+  Assign',
+  Cond',
+  Comma',
+  Call',
+  Index',
+  Dot',
+  Arrow',
+  Cast',
+  SizeofExpr',
+  SizeofType',
+  AlignofType',
+  Row_of-Expr,
+  end_of-Expr,
+  more_of-Expr,
+  Row_of-Declarator,
+  end_of-Declarator,
+  more_of-Declarator,
+  end_of-TypeName,
+  more_of-TypeName,
+  Row_of-Param,
+  Declarator-Array-1-None',
+  Declarator-Array-1-Some',
+  items-the_row-Expr,
+  items_shown-the_row-Expr-6,
+  shown-the_row-Expr-6,
+  hidden-the_row-Expr-3,
+  shape-the_row-Expr-3,
+  shown-the_row-Expr-3,
+  hidden-the_row-TypeName-7,
+  shape-the_row-TypeName-7,
+  hidden-the_row-Declarator-2,
+  shape-the_row-Declarator-2,
+  shown-the_row-Declarator-2,
+  items-the_row-Param,
+  items_shown-the_row-Param-4,
+  shown-the_row-Param-4,
+  Fields',
+  Assertion',
+  Enumerator-value-None',
+  Enumerator-value-Some',
+  Tagged',
+  Base-Tagged-2-Some',
+  Enumerated',
+  Base-Enumerated-1-Some',
+  Row_of-MemberEntry,
+  Row_of-Enumerator,
+  items-the_row-Declarator,
+  items_shown-the_row-Declarator-5,
+  shown-the_row-Declarator-5,
+  items-the_row-MemberEntry,
+  items_shown-the_row-MemberEntry-0,
+  items-the_row-Enumerator,
+  items_shown-the_row-Enumerator-1,
+  backs-Base-Tagged-2,
+  backs-Base-Enumerated-1,
+}
 use Rattle.c_ast.specs.declared.declaration.Base.{Base}
 use Rattle.c_ast.specs.declared.declaration.Base.TheVariants as base
 use Rattle.c_ast.specs.declared.declaration.Base.TheViews.{roll-Enumerator}
@@ -117,7 +171,7 @@ comma_is n row = ap node.Comma (sym (items_shown-the_row-Expr-6 n row)) ∙ (sym
     ∙ (ap roll-ExprNode (sym (node.outs-Comma' n row)) ∙ roll-out-ExprNode (Comma' n row)))
 
 pub call_is : (i : ℕ) (f : ExprNode) (n : List (Unit {0})) (row : Row_of-Expr (arity (the_former (this {0})) n)) →
-  node.Call (made i f) (exprs row) ≡ call i f n row
+    node.Call (made i f) (exprs row) ≡ call i f n row
 unfolding shown-the_row-Expr-3 shown
 call_is i f n row = ap (node.Call (made i f)) (sym (items_shown-the_row-Expr-6 n row)) ∙ (sym (node.rolls-Call (made i f) (shown-the_row-Expr-6 n row))
     ∙ (ap roll-ExprNode (sym (node.outs-Call' tt (more_of-Expr i f end_of-Expr) n row)) ∙ roll-out-ExprNode (call i f n row)))
@@ -173,7 +227,7 @@ unfolding shown-the_row-Declarator-2 shown
 function_is d n row ellipsis = ap (λ l. declarator.Function d l ellipsis) (sym (items_shown-the_row-Param-4 n row))
     ∙ (sym (declarator.rolls-Function d (shown-the_row-Param-4 n row) ellipsis)
     ∙ (ap roll-Declarator (sym (declarator.outs-Function' tt (more_of-Declarator d end_of-Declarator) n row ellipsis)) ∙ roll-out-Declarator
-      (function d n row ellipsis)))
+    (function d n row ellipsis)))
 
 -- ---- members and enumerators
 
@@ -203,7 +257,7 @@ unfolding roll-Enumerator roll
 bare_enumerator_is n = refl
 
 pub valued_enumerator_is : (n i : ℕ) (a : ExprNode) → roll-Enumerator (record { name = n; value = Some (made i a) }) ≡ Enumerator' n
-  (Enumerator-value-Some' i a)
+    (Enumerator-value-Some' i a)
 unfolding roll-Enumerator roll
 valued_enumerator_is n i a = refl
 

@@ -1,6 +1,33 @@
 -- Translation units that are spelled are read.
-use Rattle.std.proofs.Common.{◌≡◌, ◌≢◌, ℕ, zero, suc, ◌<◌, ◌≤◌, Bool, true, false, inl, inr, List, [], ◌∷◌, ◌++◌, Option, Some, None, refl, sym, ap, ◌∙◌,
-  subst, arith, append_assoc, append-nil}
+use Rattle.std.proofs.Common.{
+  ◌≡◌,
+  ◌≢◌,
+  ℕ,
+  zero,
+  suc,
+  ◌<◌,
+  ◌≤◌,
+  Bool,
+  true,
+  false,
+  inl,
+  inr,
+  List,
+  [],
+  ◌∷◌,
+  ◌++◌,
+  Option,
+  Some,
+  None,
+  refl,
+  sym,
+  ap,
+  ◌∙◌,
+  subst,
+  arith,
+  append_assoc,
+  append-nil,
+}
 use Rattle.c_lex.specs.declared.token.TokenKind.{TokenKind}
 use Rattle.c_lex.specs.declared.token.TokenKind.TheVariants as token
 use Rattle.c_lex.specs.declared.token.Word.TheVariants as w
@@ -77,9 +104,15 @@ unfolding unit_entry same_mark
 assertion_found e n s t h p =
     let more = (assertion_slides e n).slides s t h p in
     let is = more.1.1.0.0 in
-    let none = sees_by m.Semicolon (keeping s p) _ is refl in
-    (more.0, rw (none, eat_no m.Semicolon (keeping s p) none, sees_word_of w.StaticAssert (keeping s p) is,
-      assertion_read e n (keeping s p) (keeping t more.0) more.1) refl)
+    let none = sees_by m.Semicolon (keeping s p) _ is refl in (
+      more.0,
+      rw (
+        none,
+        eat_no m.Semicolon (keeping s p) none,
+        sees_word_of w.StaticAssert (keeping s p) is,
+        assertion_read e n (keeping s p) (keeping t more.0) more.1,
+      ) refl,
+    )
 
 specs_no_semicolon : (typedef : Bool) (k : Option TokenKind) → begins_by is_declaration_word typedef k ≡ true → k ≢ Some (token.Punct m.Semicolon)
 specs_no_semicolon typedef k h is = let g = rw is at h in cc
@@ -101,7 +134,7 @@ named_no_semicolon d s x h = sees_not m.Semicolon s (λ is. absurd (let e = name
 
 -- the specifiers, and what goes on from them with no parameters kept
 declared_from : (all : Specs) (s x : Input) → DeclarationSpecifiers all s x → ends_specs (kind x) ≡ true → sees m.Semicolon x ≡ false →
-  unit_entry s ≡ declared_as all x
+    unit_entry s ≡ declared_as all x
 unfolding declared
 declared_from all s x h ends none = declared_at all s x h ∙ rw (specs_read all s x h ends, none, eat_no m.Semicolon x none) refl
 
@@ -110,7 +143,7 @@ unfolding sees kind
 kept_semicolon i none = none
 
 function_read : (all : Specs) (d : Declarator) (entries : List Entry) (s x y z u v t : Input) → DeclarationSpecifiers all s x →
-  NamedRule d (without_prototype x) y
+    NamedRule d (without_prototype x) y
     → Declares (declares_typedef all.words) (name_of d) y z → Mark m.OpenBrace z u → InPrototype (Body entries) u v → Mark m.CloseBrace v t
     → unit_entry s ≡ Some (unit.Function all d entries, t)
 unfolding declared_as
@@ -138,7 +171,7 @@ part_no_brace None s t h (inr is) = sees_by m.OpenBrace s _ (ap kind (sym h) ∙
 part_no_brace (Some a) s t h end = sees_by m.OpenBrace s _ h.1.0.0 refl
 
 parts_read : (all : Specs) (p : Part) (rest : List Part) (s x t : Input) → DeclarationSpecifiers all s x →
-  PartsEnd (declares_typedef all.words) (p ∷ rest) (without_prototype x) t
+    PartsEnd (declares_typedef all.words) (p ∷ rest) (without_prototype x) t
     → unit_entry s ≡ Some (unit.Declaration (record { specs = all; parts = p ∷ rest }), t)
 unfolding declared_as sees kind
 parts_read all p rest s x t h (q, ((y, ((y0, (g, (z, (n, a)))), more)), end)) =
@@ -155,7 +188,7 @@ parts_read all p rest s x t h (q, ((y, ((y0, (g, (z, (n, a)))), more)), end)) =
     ) refl
 
 none_read : (all : Specs) (s x t : Input) → DeclarationSpecifiers all s x → Mark m.Semicolon x t →
-  unit_entry s ≡ Some (unit.Declaration (record { specs = all; parts = [] }), t)
+    unit_entry s ≡ Some (unit.Declaration (record { specs = all; parts = [] }), t)
 unfolding declared
 none_read all s x t h end =
     declared_at all s x h ∙ rw (specs_read all s x h (rw end.0 refl), sees_of m.Semicolon x end.0, eat_yes m.Semicolon x end.0, ← end.1) refl

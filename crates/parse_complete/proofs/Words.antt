@@ -1,6 +1,29 @@
 -- Keywords, identifiers and string literals that are spelled are read.
-use Rattle.std.proofs.Common.{◌≡◌, ℕ, zero, suc, ◌+◌, ◌<◌, Bool, true, false, List, [], ◌∷◌, ◌++◌, Option, Some, None, refl, sym, ap, ◌∙◌, arith,
-  append_assoc, append-nil}
+use Rattle.std.proofs.Common.{
+  ◌≡◌,
+  ℕ,
+  zero,
+  suc,
+  ◌+◌,
+  ◌<◌,
+  Bool,
+  true,
+  false,
+  List,
+  [],
+  ◌∷◌,
+  ◌++◌,
+  Option,
+  Some,
+  None,
+  refl,
+  sym,
+  ap,
+  ◌∙◌,
+  arith,
+  append_assoc,
+  append-nil,
+}
 use Rattle.std.proofs.Math.Dec.{eqb-suc-zero}
 use Rattle.c_lex.specs.declared.token.TokenKind.{TokenKind}
 use Rattle.c_lex.specs.declared.token.TokenKind.TheVariants as token
@@ -24,7 +47,7 @@ words_from_read allowed (a ∷ rest) s t h stop (suc n) lt found =
     rw (word.0, h.1.0.0, ← word.1, more) (ap (λ l. Some (l, t)) (append_assoc found (a ∷ []) rest))
 
 pub words_read : (allowed : AWord → Bool) (all : List AWord) (s t : Input) → Words allowed all s t → allows allowed (kind t) ≡ false →
-  words allowed s ≡ Some (all, t)
+    words allowed s ≡ Some (all, t)
 words_read allowed all s t h stop = words_from_read allowed all s t h stop (turns s) (omega arith) []
 
 pub identifier_read : (n : ℕ) (s t : Input) → Identifier n s t → identifier s ≡ Some (n, t)

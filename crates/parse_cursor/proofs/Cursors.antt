@@ -1,6 +1,31 @@
 -- What a cursor keeps, as tokens are taken and names declared.
-use Rattle.std.proofs.Common.{◌≡◌, ℕ, ◌+◌, ◌<◌, Bool, false, List, [], ◌∷◌, length, drop, get_or, map, refl, sym, ◌∙◌, ap, subst, arith, inl, inr, Some, None,
-  Ok, Err}
+use Rattle.std.proofs.Common.{
+  ◌≡◌,
+  ℕ,
+  ◌+◌,
+  ◌<◌,
+  Bool,
+  false,
+  List,
+  [],
+  ◌∷◌,
+  length,
+  drop,
+  get_or,
+  map,
+  refl,
+  sym,
+  ◌∙◌,
+  ap,
+  subst,
+  arith,
+  inl,
+  inr,
+  Some,
+  None,
+  Ok,
+  Err,
+}
 use Rattle.std.specs.Prelude.{if◌then◌else◌, nat_lt, Result, OnOk, OnErr, All, slice_index_or}
 use Rattle.std.specs.Option.{option_map}
 use Rattle.std.proofs.lemmas.Bool.{cases_lt, lt-ltb, cond-true}
@@ -49,7 +74,7 @@ typedef_after i at r same h is = typedef_here (next i) at r same h is
 
 -- what the scope says of a token's number is what the declarations say of its text
 pub same_typedef : (t : TokenText) (at : ℕ) (spelled : List ℕ) (scope : InScope) (p : List Declared) (n : ℕ) → IsCursor t at spelled scope p →
-  n < length spelled
+    n < length spelled
     → is_typedef_in scope (get_or spelled n 0) ≡ lookup t (text_at t n) false (map said_of scope.names)
 same_typedef t at spelled scope p n c h =
     let low = c.spelling.within n h in
@@ -61,14 +86,14 @@ same_typedef t at spelled scope p n c h =
 -- ---- a declaration
 
 declared_ok : (t : TokenText) (at : ℕ) (spelled : List ℕ) (scope : InScope) (ps : List Declared) (d : Declared) → IsCursor t at spelled scope ps →
-  d.at < length spelled
+    d.at < length spelled
     → IsCursor t at spelled (with_name d (get_or spelled d.at 0) scope) ps
 declared_ok t at spelled scope ps d c h = record {
   within = c.within;
   spelling = c.spelling;
   count = c.count;
   numbered = All-push (IsNumbered spelled) scope.names
-    (record { declared = d; name = get_or spelled d.at 0; hidden = is_typedef_in scope (get_or spelled d.at 0) })
+      (record { declared = d; name = get_or spelled d.at 0; hidden = is_typedef_in scope (get_or spelled d.at 0) })
       c.numbered (record { within = h; name = refl });
   kept = c.kept;
 }
@@ -92,7 +117,7 @@ declared_shown t at scope p d name h =
     ∙ sym (cond-true (nat_lt d.at (length t.list)) (declared d.at d.typedef (shown t at scope p)) (shown t at scope p) (lt-ltb d.at (length t.list) h))
 
 pub declared_view : (t : TokenText) (at : ℕ) (spelled : List ℕ) (old new : InScope) (p : List (ℕ × Bool)) (ps : List Declared) (d : Declared) (i : Input)
-  (r : Result (Unit {0}) Refusal)
+    (r : Result (Unit {0}) Refusal)
     → IsCursor t at spelled old ps → d.at < length spelled → shown t at old p ≡ i → OnOk r (new ≡ with_name d (get_or spelled d.at 0) old)
     → OnOk r (shown t at new p ≡ declared_at d.at d.typedef i)
 declared_view t at spelled old new p ps d i (Ok u) c h is ok =
@@ -104,7 +129,7 @@ declared_view t at spelled old new p ps d i (Err e) c h is ok = tt
 -- ---- the end of a scope
 
 pub closed_cursor : (t : TokenText) (at : ℕ) (spelled : List ℕ) (old new : InScope) (ps : List Declared) (count : ℕ) → IsCursor t at spelled old ps →
-  new ≡ first_names count old
+    new ≡ first_names count old
     → IsCursor t at spelled new ps
 closed_cursor t at spelled old new ps count c is = subst (λ s. IsCursor t at spelled s ps) (sym is) (record {
   within = c.within;
@@ -115,11 +140,11 @@ closed_cursor t at spelled old new ps count c is = subst (λ s. IsCursor t at sp
 })
 
 pub closed_view : (t : TokenText) (at : ℕ) (old new : InScope) (p : List (ℕ × Bool)) (count : ℕ) (i : Input) → new ≡ first_names count old →
-  shown t at old p ≡ i
+    shown t at old p ≡ i
     → shown t at new p ≡ closed_at count i
 closed_view t at old new p count i is now =
     ap (λ s. shown t at s p) is ∙ ap (λ ns. record { tokens = t; at = at; names = ns; prototype = p }) (sym (take-map said_of count old.names)) ∙ ap
-      (closed_at count) now
+    (closed_at count) now
 
 -- ---- parameters that are kept
 

@@ -43,16 +43,16 @@ known_more ts us names x known same each hides = record {
       let there : name < length ts = omega arith in
       each name h ∙ ap (λ b. if x.name == name then x.declared.typedef else b) (known.now name there) ∙ sym (newest_push name false names x);
   before = λ k d h. elim (cases_lt k (length names)) as
-    (λ _. (get_or (names ++ x ∷ []) k d).hidden ≡ is_typedef_in (record { count = length us; names = take k (names ++ x ∷ []) })
-    (get_or (names ++ x ∷ []) k d).name) [
-    | inl lt ↦
-        let here = get_or_append_left names (x ∷ []) d k lt in
-        let front : take k (names ++ x ∷ []) ≡ take k names = take-append-le k names (x ∷ []) (omega arith) in
-        rw (here, front, same) (known.before k d lt)
-    | inr ge ↦
-        let last : k ≡ length names = omega (arith, length_push names x) in
-        rw (last, get_or-append_seam names x [] d, take-append_seam names (x ∷ []), same) hides
-  ];
+      (λ _. (get_or (names ++ x ∷ []) k d).hidden ≡ is_typedef_in (record { count = length us; names = take k (names ++ x ∷ []) })
+      (get_or (names ++ x ∷ []) k d).name) [
+        | inl lt ↦
+            let here = get_or_append_left names (x ∷ []) d k lt in
+            let front : take k (names ++ x ∷ []) ≡ take k names = take-append-le k names (x ∷ []) (omega arith) in
+            rw (here, front, same) (known.before k d lt)
+        | inr ge ↦
+            let last : k ≡ length names = omega (arith, length_push names x) in
+            rw (last, get_or-append_seam names x [] d, take-append_seam names (x ∷ []), same) hides
+      ];
 }
 
 pub set_more : (ts : List Bool) (names : List Named) (x : Named) → AreKnown ts names → x.name < length ts

@@ -1,6 +1,30 @@
 -- Runs of keywords, and names that are declared one after another.
-use Rattle.std.proofs.Common.{◌≡◌, ℕ, suc, Bool, true, false, List, [], ◌∷◌, ◌++◌, refl, sym, ap, subst, ◌∙◌, ◌+◌, ◌<◌, map, take, get_or, arith, inl, inr,
-  Some}
+use Rattle.std.proofs.Common.{
+  ◌≡◌,
+  ℕ,
+  suc,
+  Bool,
+  true,
+  false,
+  List,
+  [],
+  ◌∷◌,
+  ◌++◌,
+  refl,
+  sym,
+  ap,
+  subst,
+  ◌∙◌,
+  ◌+◌,
+  ◌<◌,
+  map,
+  take,
+  get_or,
+  arith,
+  inl,
+  inr,
+  Some,
+}
 use Rattle.c_lex.specs.declared.token.Word.{Word as AWord}
 use Rattle.std.specs.Prelude.{nat_lt, length, Option, None}
 use Rattle.std.proofs.lemmas.Bool.{cases_lt, cond-true, lt-ltb}
@@ -73,7 +97,7 @@ string_taken s m turn to literals is =
     let here : kind (record s { at = s.at + turn }) ≡ Some token.StringLit = subst (λ i. kind i ≡ Some token.StringLit) to is in
     let on : s.at + turn + 1 ≡ s.at + (turn + 1) = omega arith in (
       ap next to ∙ next_at (record s { at = s.at + turn }) (kind_within (record s { at = s.at + turn }) token.StringLit here) ∙ ap
-        (λ n. record s { at = n }) on,
+          (λ n. record s { at = n }) on,
       (λ k h. elim (cases_lt k turn) [
         | inl less ↦ literals k less
         | inr more ↦ (let last : turn ≡ k = omega arith in subst (λ n. kind_at s.tokens (s.at + n) ≡ Some token.StringLit) last here)

@@ -26,7 +26,7 @@ name_within : (depth : ℕ) (i j k : Input) (n : ℕ) (v : Option Expr) → iden
 name_within depth i j k n v name value =
     let is = (given i.tokens (IsName i.tokens) (identifier i) n j ((identifier_reads i.tokens).reads i refl) name).1 in
     let same = ((enumerator_value_adds (expr depth) (declarator depth) (specs depth) (expr_adds depth) (declarator_adds depth) (specs_adds depth)).adds j k v
-          value).tokens ∙ (identifier_adds.adds i j n name).tokens in
+    value).tokens ∙ (identifier_adds.adds i j n name).tokens in
     subst (λ t. n < length t.list) (sym same) (kind_within i.tokens n token.Name is)
 
 kept_case : (l x : Input) (v w : Option Expr) (r : Result (Unit {0}) Refusal) (t : Result (Option Expr) Refusal) → OnOk r (l ≡ x)
@@ -47,6 +47,6 @@ pub enumerator_reads : (depth : ℕ) (i j k l : Input) (n : ℕ) (v w : Option E
 enumerator_reads depth i j k l n v w r t name value ok is was =
     let both = kept_case l (declared_at n false k) v w r t ok is was in
     let there = both.1 ∙ cond-true (nat_lt n (length k.tokens.list)) (declared n false k) k
-          (lt-ltb n (length k.tokens.list) (name_within depth i j k n v name value)) in
+    (lt-ltb n (length k.tokens.list) (name_within depth i j k n v name value)) in
     enumerator_is depth i j k n v name value ∙ ap (λ o. Some (roll-Enumerator (record { name = n; value = o }), declared n false k)) both.0
     ∙ ap (λ m. Some (roll-Enumerator (record { name = n; value = w }), m)) (sym there)

@@ -19,10 +19,28 @@ use Rattle.c_grammar.specs.Rules.{is_declaration_word, declares_typedef}
 use Rattle.parse_spec.specs.Steps.{Parser, turns}
 use Rattle.parse_spec.specs.Places.{opens_designator}
 use Rattle.parse_spec.specs.Nested.{expr, declarator, specs}
-use Rattle.parse_spec.specs.Initializers.{one_designator, designators_from, no_designators, designation, entry_of, entries_from, initializer_at,
-  one_initializer, initializer}
-use Rattle.parse_spec.specs.Declarations.{assertion, declaration_specs, named_declarator, maybe_init, part_of, parts_from, more_parts, maybe_parts,
-  declaration}
+use Rattle.parse_spec.specs.Initializers.{
+  one_designator,
+  designators_from,
+  no_designators,
+  designation,
+  entry_of,
+  entries_from,
+  initializer_at,
+  one_initializer,
+  initializer,
+}
+use Rattle.parse_spec.specs.Declarations.{
+  assertion,
+  declaration_specs,
+  named_declarator,
+  maybe_init,
+  part_of,
+  parts_from,
+  more_parts,
+  maybe_parts,
+  declaration,
+}
 use Rattle.parse_spec.proofs.Adding.{eat_adds, expect_adds, declares_adds}
 use Rattle.parse_names.proofs.Declarators.{expr_reads, declarator_reads, specs_reads}
 use Rattle.parse_names.proofs.Reading.{Reads, pure_reads, refuse_reads, bind_reads, skip_reads, then_reads, if_reads, here_reads}

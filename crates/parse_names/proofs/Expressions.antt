@@ -1,6 +1,27 @@
 -- Expressions: each number in one is that of a token of its kind.
-use Rattle.std.proofs.Common.{◌≡◌, ℕ, zero, suc, ◌+◌, ◌==◌, Bool, true, false, not, nat_le, nat_lt, List, [], ◌∷◌, ◌++◌, All, Option, Some, None,
-  if◌then◌else◌}
+use Rattle.std.proofs.Common.{
+  ◌≡◌,
+  ℕ,
+  zero,
+  suc,
+  ◌+◌,
+  ◌==◌,
+  Bool,
+  true,
+  false,
+  not,
+  nat_le,
+  nat_lt,
+  List,
+  [],
+  ◌∷◌,
+  ◌++◌,
+  All,
+  Option,
+  Some,
+  None,
+  if◌then◌else◌,
+}
 use Rattle.std.proofs.lemmas.List.Elements.{All-nil, All-cons, All-push}
 use Rattle.c_lex.specs.TokenText.{TokenText, kind_at}
 use Rattle.c_lex.specs.declared.token.TokenKind.{TokenKind}
@@ -20,17 +41,72 @@ use Rattle.c_ast.specs.declared.expression.BinaryOp.{BinaryOp}
 use Rattle.c_ast.specs.declared.expression.AssignOp.{AssignOp}
 use Rattle.c_ast.specs.Input.{Input, kind, is_typedef}
 use Rattle.c_ast.specs.Names.{NodeNames, ExprNames, TypeNameNames, DeclaratorNames, SpecsName}
-use Rattle.c_ast.proofs.Trees.{unary_names, postfix_names, binary_names, assign_names, cond_names, comma_names, call_names, index_names, dot_names,
-  arrow_names, cast_names, sizeof_expr_names, sizeof_type_names, alignof_type_names}
+use Rattle.c_ast.proofs.Trees.{
+  unary_names,
+  postfix_names,
+  binary_names,
+  assign_names,
+  cond_names,
+  comma_names,
+  call_names,
+  index_names,
+  dot_names,
+  arrow_names,
+  cast_names,
+  sizeof_expr_names,
+  sizeof_type_names,
+  alignof_type_names,
+}
 use Rattle.c_grammar.specs.Operators as op
 use Rattle.c_grammar.specs.Grammar.{Mode, Abstract}
 use Rattle.c_grammar.specs.Rules.{is_qualified_word}
 use Rattle.parse_spec.specs.Operators.{unary_op}
 use Rattle.parse_spec.specs.Places.{begins_type_after}
 use Rattle.parse_spec.specs.Steps.{Parser, refuse, turns, mark_of, sees, strings}
-use Rattle.parse_spec.specs.Expressions.{made, leaf, name_expr, string_expr, tight, begins_cast, binary_sign, assignment_sign, inside, primary_by, primary,
-  arguments_from, argument_list, arguments, subscript, post_by, post, posts_from, posts, type_name, casted, size, alignment, chained, bracketed, operated,
-  operated_by, prefix_by, prefix, choice, assigned_by, assigned, joined_by, joined, step, climb, climbed, operators, commas_from, commas, whole, level}
+use Rattle.parse_spec.specs.Expressions.{
+  made,
+  leaf,
+  name_expr,
+  string_expr,
+  tight,
+  begins_cast,
+  binary_sign,
+  assignment_sign,
+  inside,
+  primary_by,
+  primary,
+  arguments_from,
+  argument_list,
+  arguments,
+  subscript,
+  post_by,
+  post,
+  posts_from,
+  posts,
+  type_name,
+  casted,
+  size,
+  alignment,
+  chained,
+  bracketed,
+  operated,
+  operated_by,
+  prefix_by,
+  prefix,
+  choice,
+  assigned_by,
+  assigned,
+  joined_by,
+  joined,
+  step,
+  climb,
+  climbed,
+  operators,
+  commas_from,
+  commas,
+  whole,
+  level,
+}
 use Rattle.parse_spec.proofs.Adding.{take_adds, eat_adds, expect_adds}
 use Rattle.parse_names.proofs.Reading.{Gives, Reads, pure_reads, refuse_reads, bind_gives, bind_reads, skip_reads, then_reads, if_reads, here_reads}
 use Rattle.parse_names.proofs.Tokens.{tokens_stay, kind_of_next, identifier_reads, strings_gives}
@@ -184,7 +260,7 @@ module _ (t : TokenText) (expr : ℕ → Parser Expr) (declarator : Mode → Par
   one_step_reads : (at : ℕ) (lone : Bool) (left : Expr) → ExprNames t left → Reads t (ExprNames t) (step expr declarator specs at lone left)
   unfolding step
   one_step_reads at lone left l = skip_reads _ _ (eat_adds m.Question)
-    (λ question. if_reads question _ _ (choice_reads at left l) (joined_reads at lone left l))
+      (λ question. if_reads question _ _ (choice_reads at left l) (joined_reads at lone left l))
 
   climb_reads : (least at n : ℕ) (lone : Bool) (left : Expr) → ExprNames t left → Reads t (ExprNames t) (climb expr declarator specs least at n lone left)
   unfolding climb

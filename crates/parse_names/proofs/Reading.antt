@@ -3,8 +3,24 @@ use Rattle.std.proofs.Common.{◌≡◌, Bool, true, false, Some, None, if◌the
 use Rattle.c_lex.specs.TokenText.{TokenText}
 use Rattle.c_ast.specs.Input.{Input}
 use Rattle.parse_spec.specs.Scopes.{OnlyAdds}
-use Rattle.parse_spec.specs.Steps.{Outcome, Parser, and_then, ◌>>=◌, ◌>>◌, pure, refuse, scoped_in, scoped, with_parameters, in_prototype, without_prototype,
-  with_prototype_of, apart, prototype_in, prototype}
+use Rattle.parse_spec.specs.Steps.{
+  Outcome,
+  Parser,
+  and_then,
+  ◌>>=◌,
+  ◌>>◌,
+  pure,
+  refuse,
+  scoped_in,
+  scoped,
+  with_parameters,
+  in_prototype,
+  without_prototype,
+  with_prototype_of,
+  apart,
+  prototype_in,
+  prototype,
+}
 
 -- an outcome leaves these tokens, and what was read is such a value
 abbrev pub Gives : {A : Type 0} → TokenText → (A → Type 0) → Outcome A → Type 0

@@ -20,23 +20,88 @@ use Rattle.c_ast.specs.declared.declaration.Param.{Param}
 use Rattle.c_ast.specs.declared.declaration.Specs.{Specs}
 use Rattle.c_ast.specs.declared.expression.Expr.{Expr}
 use Rattle.c_ast.specs.Input.{Input, kind, next, is_typedef}
-use Rattle.c_ast.specs.Names.{IsToken, IsName, MaybeName, ExprNames, MaybeExprNames, DeclaratorNames, SpecsName, BaseNames, MemberNames, EnumeratorNames,
-  ParamNames}
-use Rattle.c_ast.proofs.Trees.{pointer_names, array_names, array_of_names, function_names, members_names, enumerators_names, fields_names,
-  member_assertion_names}
+use Rattle.c_ast.specs.Names.{
+  IsToken,
+  IsName,
+  MaybeName,
+  ExprNames,
+  MaybeExprNames,
+  DeclaratorNames,
+  SpecsName,
+  BaseNames,
+  MemberNames,
+  EnumeratorNames,
+  ParamNames,
+}
+use Rattle.c_ast.proofs.Trees.{
+  pointer_names,
+  array_names,
+  array_of_names,
+  function_names,
+  members_names,
+  enumerators_names,
+  fields_names,
+  member_assertion_names,
+}
 use Rattle.c_grammar.specs.Operators as op
 use Rattle.c_grammar.specs.Grammar.{Mode, Named, Abstract, Either, name_of}
 use Rattle.c_grammar.specs.Rules.{is_qualified_word, is_declaration_word, is_qualifier, has_type_word}
 use Rattle.parse_spec.specs.Places.{opens_parameters, opens_suffix}
 use Rattle.parse_spec.specs.Steps.{Parser, pure, turns, sees, sees_word}
-use Rattle.parse_spec.specs.Specifiers.{specs_of, assertion, names_from, member_names, one_member, members_from, tagged_by, tagged, enumerator_value,
-  one_enumerator, enumerators_from, enumerated_by, enumerated, name_base, base_by, specifier_base, specifiers_behind, specifiers}
-use Rattle.parse_spec.specs.Declarators.{is_own_name, no_parameters, nameless, named, one_parameter, parameters_from, parameters, array_suffix,
-  function_suffix, one_suffix, suffixes_from, suffixes, nested, innermost_by, innermost, pointed, one_declarator}
+use Rattle.parse_spec.specs.Specifiers.{
+  specs_of,
+  assertion,
+  names_from,
+  member_names,
+  one_member,
+  members_from,
+  tagged_by,
+  tagged,
+  enumerator_value,
+  one_enumerator,
+  enumerators_from,
+  enumerated_by,
+  enumerated,
+  name_base,
+  base_by,
+  specifier_base,
+  specifiers_behind,
+  specifiers,
+}
+use Rattle.parse_spec.specs.Declarators.{
+  is_own_name,
+  no_parameters,
+  nameless,
+  named,
+  one_parameter,
+  parameters_from,
+  parameters,
+  array_suffix,
+  function_suffix,
+  one_suffix,
+  suffixes_from,
+  suffixes,
+  nested,
+  innermost_by,
+  innermost,
+  pointed,
+  one_declarator,
+}
 use Rattle.parse_spec.proofs.Adding.{take_adds, eat_adds, expect_adds, expect_word_adds, declares_adds}
 use Rattle.parse_spec.proofs.AddingRules.{words_adds}
-use Rattle.parse_names.proofs.Reading.{Gives, Reads, pure_reads, refuse_reads, bind_reads, skip_reads, then_reads, if_reads, here_reads, apart_reads,
-  prototype_reads}
+use Rattle.parse_names.proofs.Reading.{
+  Gives,
+  Reads,
+  pure_reads,
+  refuse_reads,
+  bind_reads,
+  skip_reads,
+  then_reads,
+  if_reads,
+  here_reads,
+  apart_reads,
+  prototype_reads,
+}
 use Rattle.parse_names.proofs.Tokens.{tokens_stay, kind_of_next, identifier_reads, maybe_identifier_reads, message_reads}
 
 abbrev pub AssertionNames : TokenText → Expr × ℕ → Type 0
@@ -72,7 +137,7 @@ module _ (t : TokenText) (expr : ℕ → Parser Expr) (declarator : Mode → Par
       then_reads _ _ (expect_adds m.Comma) (bind_reads _ _ (message_reads t) (λ n k. pure_reads (e, n) (h, k))))))
 
   names_from_reads : (n : ℕ) (found : List Declarator) → All (DeclaratorNames t) found →
-    Reads t (All (DeclaratorNames t)) (names_from expr declarator specs n found)
+      Reads t (All (DeclaratorNames t)) (names_from expr declarator specs n found)
   unfolding names_from
   names_from_reads zero found all = refuse_reads
   names_from_reads (suc n) found all = bind_reads _ _ (gd Named) (λ d h.
@@ -90,10 +155,10 @@ module _ (t : TokenText) (expr : ℕ → Parser Expr) (declarator : Mode → Par
   one_member_reads = here_reads _ (λ i. if_reads (sees_word w.StaticAssert i) _ _
       (bind_reads _ _ assertion_reads (λ p h. pure_reads (member-entry.Assertion p.0 p.1) (member_assertion_names t p.0 p.1 h.0 h.1)))
       (bind_reads _ _ (gs is_qualified_word) (λ s h. bind_reads _ _ member_names_reads
-        (λ ds k. pure_reads (member-entry.Fields s ds) (fields_names t s ds h k)))))
+      (λ ds k. pure_reads (member-entry.Fields s ds) (fields_names t s ds h k)))))
 
   members_from_reads : (n : ℕ) (found : List MemberEntry) → All (MemberNames t) found →
-    Reads t (All (MemberNames t)) (members_from expr declarator specs n found)
+      Reads t (All (MemberNames t)) (members_from expr declarator specs n found)
   unfolding members_from
   members_from_reads zero found all = refuse_reads
   members_from_reads (suc n) found all = bind_reads _ _ one_member_reads (λ a h.
@@ -128,7 +193,7 @@ module _ (t : TokenText) (expr : ℕ → Parser Expr) (declarator : Mode → Par
       let more = All-push (EnumeratorNames t) found a all h in
       skip_reads _ _ (eat_adds m.Comma) (λ comma. if_reads comma _ _
       (skip_reads _ _ (eat_adds m.CloseBrace) (λ done. if_reads done _ _ (pure_reads (found ++ a ∷ []) more)
-        (enumerators_from_reads n (found ++ a ∷ []) more)))
+      (enumerators_from_reads n (found ++ a ∷ []) more)))
       (then_reads _ _ (expect_adds m.CloseBrace) (pure_reads (found ++ a ∷ []) more))))
 
   enumerated_by_reads : (tag : Option ℕ) (more : Bool) → MaybeName t tag → Reads t (BaseNames t) (enumerated_by expr declarator specs tag more)
@@ -142,7 +207,7 @@ module _ (t : TokenText) (expr : ℕ → Parser Expr) (declarator : Mode → Par
   enumerated_reads = bind_reads _ _ (maybe_identifier_reads t) (λ tag h. skip_reads _ _ (eat_adds m.OpenBrace) (λ more. enumerated_by_reads tag more h))
 
   name_base_gives : (i : Input) (typed : Bool) → i.tokens ≡ t → kind_at t i.at ≡ Some token.Name →
-    Gives t (BaseNames t) (name_base expr declarator specs typed i)
+      Gives t (BaseNames t) (name_base expr declarator specs typed i)
   name_base_gives i true same is = (same, tt)
   name_base_gives i false same is = typedef_case t i (is_typedef i) same is
 
@@ -183,7 +248,7 @@ module _ (t : TokenText) (expr : ℕ → Parser Expr) (declarator : Mode → Par
       let more = All-push (ParamNames t) found p all h in
       skip_reads _ _ (eat_adds m.Comma) (λ comma. if_reads comma _ _
       (skip_reads _ _ (eat_adds m.Ellipsis) (λ ellipsis. if_reads ellipsis _ _ (pure_reads (found ++ p ∷ [], true) more)
-        (parameters_from_reads n (found ++ p ∷ []) more)))
+      (parameters_from_reads n (found ++ p ∷ []) more)))
       (pure_reads (found ++ p ∷ [], false) more)))
 
   parameters_reads : Reads t (λ p. All (ParamNames t) p.0) (parameters expr declarator specs)

@@ -18,9 +18,34 @@ use Rattle.c_ast.proofs.Trees.{block_names, if_names, switch_names, while_names,
 use Rattle.c_grammar.specs.Operators as op
 use Rattle.parse_spec.specs.Steps.{Parser, ◌>>=◌, turns, sees_word, identifier, scoped}
 use Rattle.parse_spec.specs.Places.{begins_declaration, is_label}
-use Rattle.parse_spec.specs.Statements.{whole_expr, in_parentheses, maybe_expr, for_value, for_init, simple_stmt, plain_by, plain_stmt, case_value, else_part,
-  if_stmt, switch_stmt, while_stmt, do_stmt, for_stmt, label_stmt, case_stmt, default_stmt, one_entry, entries_from, entries, block, unlabelled_by, one_stmt,
-  statement, body}
+use Rattle.parse_spec.specs.Statements.{
+  whole_expr,
+  in_parentheses,
+  maybe_expr,
+  for_value,
+  for_init,
+  simple_stmt,
+  plain_by,
+  plain_stmt,
+  case_value,
+  else_part,
+  if_stmt,
+  switch_stmt,
+  while_stmt,
+  do_stmt,
+  for_stmt,
+  label_stmt,
+  case_stmt,
+  default_stmt,
+  one_entry,
+  entries_from,
+  entries,
+  block,
+  unlabelled_by,
+  one_stmt,
+  statement,
+  body,
+}
 use Rattle.parse_spec.proofs.Adding.{take_adds, eat_adds, eat_word_adds, expect_adds, expect_word_adds}
 use Rattle.parse_names.proofs.Declarations.{assertion_reads, declaration_reads}
 use Rattle.parse_names.proofs.Declarators.{expr_reads}

@@ -1,6 +1,29 @@
 -- The tokens that names, literals and messages are read from.
-use Rattle.std.proofs.Common.{◌≡◌, ℕ, zero, suc, ◌+◌, ◌==◌, ◌<◌, Bool, true, false, if◌then◌else◌, length, Option, Some, None, refl, sym, ap, subst, ◌∙◌, inl,
-  inr, arith}
+use Rattle.std.proofs.Common.{
+  ◌≡◌,
+  ℕ,
+  zero,
+  suc,
+  ◌+◌,
+  ◌==◌,
+  ◌<◌,
+  Bool,
+  true,
+  false,
+  if◌then◌else◌,
+  length,
+  Option,
+  Some,
+  None,
+  refl,
+  sym,
+  ap,
+  subst,
+  ◌∙◌,
+  inl,
+  inr,
+  arith,
+}
 use Rattle.std.specs.Prelude.{nat_lt}
 use Rattle.std.specs.Option.{option_map}
 use Rattle.std.proofs.lemmas.Bool.{cases_lt, lt-ltb}
@@ -14,8 +37,21 @@ use Rattle.c_lex.specs.declared.token.Mark.TheVariants as m
 use Rattle.c_ast.specs.Input.{Input, kind, next}
 use Rattle.c_ast.specs.Names.{IsToken, IsName, MaybeName, AreStrings}
 use Rattle.parse_spec.specs.Specifiers.{message}
-use Rattle.parse_spec.specs.Steps.{turns, take_token, ◌>>◌, pure, refuse, identifier_by, identifier, maybe_identifier_by, maybe_identifier, is_string,
-  strings_from, some_strings, strings}
+use Rattle.parse_spec.specs.Steps.{
+  turns,
+  take_token,
+  ◌>>◌,
+  pure,
+  refuse,
+  identifier_by,
+  identifier,
+  maybe_identifier_by,
+  maybe_identifier,
+  is_string,
+  strings_from,
+  some_strings,
+  strings,
+}
 use Rattle.parse_spec.proofs.Adding.{expect_adds}
 use Rattle.parse_names.proofs.Reading.{Gives, Reads, pure_reads, refuse_reads, bind_gives, then_reads}
 

@@ -8,8 +8,17 @@ use Rattle.c_grammar.specs.Grammar.{Named, AssertionRule, MaybeInit, PartRule, M
 use Rattle.c_grammar.specs.Rules.{Rule, ◌⨾◌, Mark, Declares, is_declaration_word, declares_typedef}
 use Rattle.parse_spec.specs.Nested.{expr, declarator, specs}
 use Rattle.parse_spec.specs.Steps.{turns}
-use Rattle.parse_spec.specs.Declarations.{assertion, declaration_specs, named_declarator, maybe_init, part_of, parts_from, more_parts, maybe_parts,
-  declaration}
+use Rattle.parse_spec.specs.Declarations.{
+  assertion,
+  declaration_specs,
+  named_declarator,
+  maybe_init,
+  part_of,
+  parts_from,
+  more_parts,
+  maybe_parts,
+  declaration,
+}
 use Rattle.parse_sound.proofs.Holding.{Holds, holds, refused, bind_holds, weaken, eat_holds, expect_holds, declares_is}
 use Rattle.parse_sound.proofs.Initializers.{initializer_holds}
 use Rattle.parse_sound.proofs.Nested.{expr_holds, declarator_holds, specs_hold}
@@ -19,7 +28,7 @@ use Rattle.parse_sound.proofs.Specifiers.{assertion_holds as any_assertion_holds
 pub assertion_holds : (i : Input) → Holds (λ p j. AssertionRule p.0 p.1 i j) (assertion i)
 unfolding assertion
 assertion_holds i = any_assertion_holds (expr (turns i)) (declarator (turns i)) (specs (turns i)) (expr_holds (turns i)) (declarator_holds (turns i))
-  (specs_hold (turns i)) i
+    (specs_hold (turns i)) i
 
 pub declaration_specs_hold : (i : Input) → Holds (λ s j. DeclarationSpecifiers s i j) (declaration_specs i)
 unfolding declaration_specs

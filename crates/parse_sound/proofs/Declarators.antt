@@ -1,30 +1,102 @@
 -- What is read as a declarator is spelled.
-use Rattle.std.proofs.Common.{◌≡◌, ◌⊎◌, ℕ, zero, suc, Bool, true, false, List, [], ◌∷◌, ◌++◌, Option, Some, None, refl, sym, ap, subst, ◌∙◌, inl, inr, ⊎_elim,
-  arith}
+use Rattle.std.proofs.Common.{
+  ◌≡◌,
+  ◌⊎◌,
+  ℕ,
+  zero,
+  suc,
+  Bool,
+  true,
+  false,
+  List,
+  [],
+  ◌∷◌,
+  ◌++◌,
+  Option,
+  Some,
+  None,
+  refl,
+  sym,
+  ap,
+  subst,
+  ◌∙◌,
+  inl,
+  inr,
+  ⊎_elim,
+  arith,
+}
 use denote.Hole.Carrier.{hidden}
 use Rattle.c_lex.specs.declared.token.TokenKind.{TokenKind}
 use Rattle.c_lex.specs.declared.token.TokenKind.TheVariants as token
 use Rattle.c_lex.specs.declared.token.Word.{Word as AWord}
 use Rattle.c_lex.specs.declared.token.Mark.TheVariants as m
-use Rattle.c_ast.specs.declared.declaration.Base.TheBlock.{Ident, Pointer', Array', Function', hidden-the_row-Declarator-2, hidden-the_row-Expr-3,
-  hidden-the_row-Param-4}
+use Rattle.c_ast.specs.declared.declaration.Base.TheBlock.{
+  Ident,
+  Pointer',
+  Array',
+  Function',
+  hidden-the_row-Declarator-2,
+  hidden-the_row-Expr-3,
+  hidden-the_row-Param-4,
+}
 use Rattle.c_ast.specs.declared.declaration.Declarator.{Declarator}
 use Rattle.c_ast.specs.declared.declaration.Param.{Param}
 use Rattle.c_ast.specs.declared.declaration.Specs.{Specs}
 use Rattle.c_ast.specs.declared.expression.Expr.{Expr}
 use Rattle.c_ast.specs.Input.{Input, kind, next, is_typedef}
 use Rattle.c_grammar.specs.Operators as op
-use Rattle.c_grammar.specs.Grammar.{Mode, Named, Abstract, Either, HasName, NoParameters, StarMayStand, DeclaratorOperand, DeclaratorRule, IsExpr, Parameters,
-  is_own_name as is_own_row, name_of}
+use Rattle.c_grammar.specs.Grammar.{
+  Mode,
+  Named,
+  Abstract,
+  Either,
+  HasName,
+  NoParameters,
+  StarMayStand,
+  DeclaratorOperand,
+  DeclaratorRule,
+  IsExpr,
+  Parameters,
+  is_own_name as is_own_row,
+  name_of,
+}
 use Rattle.c_grammar.specs.Rules.{Rule, ◌⨾◌, Prototype, is_declaration_word, is_qualifier}
 use Rattle.parse_spec.specs.Scopes.{OnlyAdds}
 use Rattle.parse_spec.specs.Places.{opens_parameters, opens_by, opens_suffix}
 use Rattle.parse_spec.specs.Steps.{Parser, turns, sees, without_prototype}
-use Rattle.parse_spec.specs.Declarators.{is_own_name, nameless, named, one_parameter, parameters_from, parameters, array_suffix, function_suffix, one_suffix,
-  suffixes_from, suffixes, nested, innermost_by, innermost, pointed, one_declarator}
+use Rattle.parse_spec.specs.Declarators.{
+  is_own_name,
+  nameless,
+  named,
+  one_parameter,
+  parameters_from,
+  parameters,
+  array_suffix,
+  function_suffix,
+  one_suffix,
+  suffixes_from,
+  suffixes,
+  nested,
+  innermost_by,
+  innermost,
+  pointed,
+  one_declarator,
+}
 use Rattle.parse_spec.proofs.AddingRules.{parameters_adds}
-use Rattle.parse_sound.proofs.Holding.{Holds, holds, refused, bind_holds, weaken, if_holds, eat_holds, expect_holds, sees_of, declares_is, apart_holds,
-  prototype_holds}
+use Rattle.parse_sound.proofs.Holding.{
+  Holds,
+  holds,
+  refused,
+  bind_holds,
+  weaken,
+  if_holds,
+  eat_holds,
+  expect_holds,
+  sees_of,
+  declares_is,
+  apart_holds,
+  prototype_holds,
+}
 use Rattle.parse_sound.proofs.Expressions.{ExprHolds, DeclaratorHolds, SpecsHold}
 use Rattle.parse_sound.proofs.Rows.{Comma, Between, Extends, longer_then, ParamRule, LastRule, some_parameters, no_parameters as no_parameter_row}
 use Rattle.parse_sound.proofs.Specifiers.{words_hold}
@@ -65,7 +137,7 @@ not_empty Abstract i name opens is = let g = rw is at opens in cc
 not_empty Either i name opens is = let g = rw is at opens in cc
 
 may_stand : (d : Declarator) (mode : Mode) (i j : Input) (h : AnyOf mode d (next i) j) → opens_parameters mode i ≡ false →
-  kind j ≡ Some (token.Punct m.CloseParen)
+    kind j ≡ Some (token.Punct m.CloseParen)
     → StarMayStand 1 d (suc h.0)
 may_stand (Ident None) mode i j (zero, (may, (name, same))) opens is = absurd (not_empty mode i name opens (ap kind (sym same) ∙ is))
 may_stand (Ident None) mode i j (suc n, (may, h)) opens is = absurd (omega (arith, may))
@@ -101,7 +173,7 @@ paren_is i opens none = ⊎_elim (λ is. absurd (let wrong : true ≡ false = sy
 module _ (expr : ℕ → Parser Expr) (declarator : Mode → Parser Declarator) (specs : (AWord → Bool) → Parser Specs)
     (ge : ExprHolds expr) (gd : DeclaratorHolds declarator) (gs : SpecsHold specs)
     (only_e : (least : ℕ) → OnlyAdds (expr least)) (only_d : (mode : Mode) → OnlyAdds (declarator mode))
-      (only_s : (allowed : AWord → Bool) → OnlyAdds (specs allowed)) where
+    (only_s : (allowed : AWord → Bool) → OnlyAdds (specs allowed)) where
   one_parameter_holds : (i : Input) → Holds (λ p j. ParamRule p i j) (one_parameter expr declarator specs i)
   unfolding one_parameter
   one_parameter_holds i = bind_holds _ _ (gs is_declaration_word i) (λ s j h. bind_holds _ _ (gd Either j) (λ p k g.
@@ -164,7 +236,7 @@ module _ (expr : ℕ → Parser Expr) (declarator : Mode → Parser Declarator) 
       (λ e. bind_holds _ _ (one_suffix_holds mode s i inner l e) (λ d j h. suffixes_from_holds mode s n d j h)) (λ e. holds l)
 
   suffixes_hold : (mode : Mode) (s i : Input) (inner : Declarator) → DirectOf mode inner s i →
-    Holds (λ d j. DirectOf mode d s j) (suffixes expr declarator specs inner i)
+      Holds (λ d j. DirectOf mode d s j) (suffixes expr declarator specs inner i)
   unfolding suffixes
   suffixes_hold mode s i inner l = suffixes_from_holds mode s (turns i) inner i l
 
@@ -177,7 +249,7 @@ module _ (expr : ℕ → Parser Expr) (declarator : Mode → Parser Declarator) 
       holds (suc h.0, (may_stand d mode i j h opens c.0, (next i, ((is, refl), (next i, (no_typedef mode i opens, (j, (h.1.1, c))))))))))
 
   innermost_by_holds : (mode : Mode) (i : Input) (k : Option TokenKind) → kind i ≡ k →
-    Holds (λ d j. DirectOf mode d i j) (innermost_by expr declarator specs mode k i)
+      Holds (λ d j. DirectOf mode d i j) (innermost_by expr declarator specs mode k i)
   innermost_by_holds mode i (Some token.Name) is = named_holds mode i is
   innermost_by_holds mode i (Some (token.Punct m.OpenParen)) is = if_holds (opens_parameters mode i) _ _ i
       (λ e. nameless_holds mode i) (λ e. nested_holds mode i is e)
@@ -188,7 +260,7 @@ module _ (expr : ℕ → Parser Expr) (declarator : Mode → Parser Declarator) 
   innermost_holds mode i = innermost_by_holds mode i (kind i) refl
 
   pointed_holds : (mode : Mode) (i : Input) → kind i ≡ Some (token.Punct m.Star) →
-    Holds (λ d j. AnyOf mode d i j) (pointed expr declarator specs mode (next i))
+      Holds (λ d j. AnyOf mode d i j) (pointed expr declarator specs mode (next i))
   unfolding pointed hidden-the_row-Declarator-2 hidden
   pointed_holds mode i is = bind_holds _ _ (words_hold is_qualifier (next i)) (λ words j h. bind_holds _ _ (gd mode j) (λ d k g.
       holds (0, (inr refl, (next i, ((is, refl), (j, (h.0, g))))))))

@@ -1,6 +1,34 @@
 -- What is read as an expression is spelled.
-use Rattle.std.proofs.Common.{◌≡◌, ℕ, zero, suc, ◌+◌, ◌==◌, ◌≤◌, Bool, true, false, not, nat_le, nat_lt, List, [], ◌∷◌, ◌++◌, Option, Some, None, refl, sym,
-  ap, subst, ◌∙◌, append_assoc, append-nil, arith}
+use Rattle.std.proofs.Common.{
+  ◌≡◌,
+  ℕ,
+  zero,
+  suc,
+  ◌+◌,
+  ◌==◌,
+  ◌≤◌,
+  Bool,
+  true,
+  false,
+  not,
+  nat_le,
+  nat_lt,
+  List,
+  [],
+  ◌∷◌,
+  ◌++◌,
+  Option,
+  Some,
+  None,
+  refl,
+  sym,
+  ap,
+  subst,
+  ◌∙◌,
+  append_assoc,
+  append-nil,
+  arith,
+}
 use Rattle.std.proofs.lemmas.Bool.Decides.{nat_tests}
 use denote.Hole.Carrier.{hidden}
 use Rattle.c_lex.specs.declared.token.TokenKind.{TokenKind}
@@ -25,9 +53,50 @@ use Rattle.c_grammar.specs.Rules.{◌⨾◌, Mark, MayStand, Identifier, Literal
 use Rattle.parse_spec.specs.Operators.{unary_op, tight_of}
 use Rattle.parse_spec.specs.Places.{begins_type_after}
 use Rattle.parse_spec.specs.Steps.{Parser, turns, mark_of, sees, identifier_by, identifier, is_string, strings_from, strings}
-use Rattle.parse_spec.specs.Expressions.{made, leaf, name_expr, string_expr, tight, begins_cast, binary_sign, assignment_sign, inside, primary_by, primary,
-  arguments_from, argument_list, arguments, subscript, post_by, post, posts_from, posts, type_name, casted, size, alignment, chained, bracketed, operated,
-  operated_by, prefix_by, prefix, choice, assigned_by, assigned, joined_by, joined, step, climb, climbed, operators, commas_from, commas, whole, level}
+use Rattle.parse_spec.specs.Expressions.{
+  made,
+  leaf,
+  name_expr,
+  string_expr,
+  tight,
+  begins_cast,
+  binary_sign,
+  assignment_sign,
+  inside,
+  primary_by,
+  primary,
+  arguments_from,
+  argument_list,
+  arguments,
+  subscript,
+  post_by,
+  post,
+  posts_from,
+  posts,
+  type_name,
+  casted,
+  size,
+  alignment,
+  chained,
+  bracketed,
+  operated,
+  operated_by,
+  prefix_by,
+  prefix,
+  choice,
+  assigned_by,
+  assigned,
+  joined_by,
+  joined,
+  step,
+  climb,
+  climbed,
+  operators,
+  commas_from,
+  commas,
+  whole,
+  level,
+}
 use Rattle.parse_sound.proofs.Holding.{Holds, holds, refused, bind_holds, weaken, if_holds, eat_holds, expect_holds, sees_of, of_mark}
 use Rattle.parse_sound.proofs.Operators.{unary_is, binary_is, assign_is, tight_binary_is, tight_assign_is, level_low, level_high, operand_high}
 use Rattle.parse_sound.proofs.Rows.{Comma, Each, Between, Extends, longer, some_arguments, no_arguments, several, TypeNameRule}
@@ -64,7 +133,7 @@ counted i j (suc total) h e = (refl, subst (λ x. Literals x i j) (let same : h.
 pub strings_holds : (i : Input) → Holds (λ count j. Strings i.at count i j) (strings i)
 unfolding strings
 strings_holds i = bind_holds _ _ (strings_from_holds (turns i) 0 i)
-  (λ total j h. if_holds (total == 0) _ _ j (λ e. refused) (λ e. holds (counted i j total h e)))
+    (λ total j h. if_holds (total == 0) _ _ j (λ e. refused) (λ e. holds (counted i j total h e)))
 
 -- ---- levels
 
@@ -167,7 +236,7 @@ module _ (expr : ℕ → Parser Expr) (declarator : Mode → Parser Declarator) 
   -- ---- postfix operators
 
   arguments_from_holds : (n : ℕ) (found : List Expr) (i : Input) → Holds (Extends found (Between Comma (IsExpr op.assignment)) i)
-    (arguments_from expr declarator specs n found i)
+      (arguments_from expr declarator specs n found i)
   unfolding arguments_from
   arguments_from_holds zero found i = refused
   arguments_from_holds (suc n) found i = bind_holds _ _ (ge 1 (omega arith) i) (λ e j h. eat_holds m.Comma _ _ j
@@ -184,7 +253,7 @@ module _ (expr : ℕ → Parser Expr) (declarator : Mode → Parser Declarator) 
   arguments_holds i = eat_holds m.CloseParen _ _ i
       (λ is. holds (i, (no_arguments i, (is, refl))))
       (λ none. bind_holds _ _ (argument_list_holds i)
-        (λ all j h. bind_holds _ _ (expect_holds m.CloseParen j) (λ _ k c. holds (j, (some_arguments all i j h, c)))))
+      (λ all j h. bind_holds _ _ (expect_holds m.CloseParen j) (λ _ k c. holds (j, (some_arguments all i j h, c)))))
 
   subscript_holds : (i : Input) → Holds (λ e j. (IsExpr op.comma e ⨾ Mark m.CloseBracket) i j) (subscript expr declarator specs i)
   unfolding subscript
@@ -206,12 +275,12 @@ module _ (expr : ℕ → Parser Expr) (declarator : Mode → Parser Declarator) 
   post_by_holds s i left _ l is high = absurd (cc)
 
   post_holds : (s i : Input) (left : Expr) → IsExpr 15 left s i → nat_le (tight i) 15 ≡ false →
-    Holds (λ e j. IsExpr 15 e s j) (post expr declarator specs s.at left i)
+      Holds (λ e j. IsExpr 15 e s j) (post expr declarator specs s.at left i)
   unfolding post tight
   post_holds s i left l high = post_by_holds s i left (mark_of (kind i)) l refl high
 
   posts_from_holds : (s : Input) (n : ℕ) (left : Expr) (i : Input) → IsExpr 15 left s i →
-    Holds (λ e j. IsExpr 15 e s j) (posts_from expr declarator specs s.at n left i)
+      Holds (λ e j. IsExpr 15 e s j) (posts_from expr declarator specs s.at n left i)
   unfolding posts_from
   posts_from_holds s zero left i l = refused
   posts_from_holds s (suc n) left i l = if_holds (nat_le (tight i) op.postfix) _ _ i (λ e. holds l)
@@ -251,7 +320,7 @@ module _ (expr : ℕ → Parser Expr) (declarator : Mode → Parser Declarator) 
   chain_begins least i low = weaken _ (chained_holds i) (λ e j h. unary_begins least i j e low (looser 14 15 (omega arith) e i j h))
 
   bracketed_holds : (least : ℕ) (i : Input) → least ≤ 14 → kind i ≡ Some (token.Punct m.OpenParen) →
-    Holds (Begins least i) (bracketed expr declarator specs i.at least i)
+      Holds (Begins least i) (bracketed expr declarator specs i.at least i)
   unfolding bracketed
   bracketed_holds least i low is = if_holds (begins_type_after i) _ _ i
       (λ type. if_holds (nat_lt op.cast least) _ _ i (λ e. refused) (λ e. weaken _ (casted_holds i) (λ a j h. cast_begins least i j a e is type h)))
@@ -263,10 +332,10 @@ module _ (expr : ℕ → Parser Expr) (declarator : Mode → Parser Declarator) 
   operated_by_holds least i None mark low is e = refused
   operated_by_holds least i (Some o) mark low is e = bind_holds _ _ (ge (op.operand_level o) (operand_high o) (next i)) (λ a j h.
       holds (unary_begins least i j (made i.at (node.Unary o a)) low
-        (0, (omega arith, (refl, (next i, ((is ∙ ap (λ x. Some (token.Punct x)) (unary_is mark o e), refl), h.0)))))))
+      (0, (omega arith, (refl, (next i, ((is ∙ ap (λ x. Some (token.Punct x)) (unary_is mark o e), refl), h.0)))))))
 
   prefix_by_holds : (least : ℕ) (i : Input) (k : Option TokenKind) → least ≤ 14 → kind i ≡ k →
-    Holds (Begins least i) (prefix_by expr declarator specs i.at least k i)
+      Holds (Begins least i) (prefix_by expr declarator specs i.at least k i)
   prefix_by_holds least i (Some (token.Keyword w.Sizeof)) low is = weaken _ (size_holds i is) (λ e j h. unary_begins least i j e low h)
   prefix_by_holds least i (Some (token.Keyword w.Alignof)) low is = weaken _ (alignment_holds i is) (λ e j h. unary_begins least i j e low h)
   prefix_by_holds least i (Some (token.Punct m.OpenParen)) low is = bracketed_holds least i low is
@@ -357,7 +426,7 @@ module _ (expr : ℕ → Parser Expr) (declarator : Mode → Parser Declarator) 
       (λ e. holds (looser least cur low left s i l, (λ _. grind (arith, nat_tests, e))))
       (λ e. bind_holds _ _ (step_holds s i lone cur left only l f) (λ a j h.
       climb_holds s least n j false h.0 a (let above : least ≤ tight i = grind (arith, nat_tests, e) in grind (arith, nat_tests, e, h.1.0))
-        (λ never. absurd (cc)) h.1.1.0 h.1.1.1))
+      (λ never. absurd (cc)) h.1.1.0 h.1.1.1))
 
   operators_holds : (least : ℕ) → least ≤ 14 → (i : Input) → Holds (ReadsAt least i) (operators expr declarator specs least i)
   unfolding operators climbed
@@ -369,7 +438,7 @@ module _ (expr : ℕ → Parser Expr) (declarator : Mode → Parser Declarator) 
   -- the operands behind those that were found, behind which no comma stands
   abbrev Operands : ℕ → List Expr → Input → Expr → Input → Type 0
   Operands at found i e j = (more : List Expr) ×
-    ((e ≡ made at (node.Comma (found ++ more))) × (Each Comma (IsExpr op.assignment) more i j × (sees m.Comma j ≡ false)))
+      ((e ≡ made at (node.Comma (found ++ more))) × (Each Comma (IsExpr op.assignment) more i j × (sees m.Comma j ≡ false)))
 
   commas_from_holds : (at n : ℕ) (found : List Expr) (i : Input) → Holds (Operands at found i) (commas_from expr declarator specs at n found i)
   unfolding commas_from

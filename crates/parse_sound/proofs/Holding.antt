@@ -12,8 +12,33 @@ use Rattle.c_lex.specs.contracts.token.Word.{the_type as word_type}
 use Rattle.c_ast.specs.Input.{Input, kind, next, back_to}
 use Rattle.c_grammar.specs.Rules.{Rule, ◌⨾◌, Mark, Word, Declares, Scoped, Prototype, Apart}
 use Rattle.parse_spec.specs.Scopes.{Adds, OnlyAdds}
-use Rattle.parse_spec.specs.Steps.{Outcome, Parser, and_then, same_mark, same_word, is_mark, is_word, sees, sees_word, after, after_word, expect, expect_word,
-  mark_of, declare, scoped, scoped_in, closed_to, in_prototype, with_parameters, without_prototype, with_prototype_of, apart, prototype_in, prototype}
+use Rattle.parse_spec.specs.Steps.{
+  Outcome,
+  Parser,
+  and_then,
+  same_mark,
+  same_word,
+  is_mark,
+  is_word,
+  sees,
+  sees_word,
+  after,
+  after_word,
+  expect,
+  expect_word,
+  mark_of,
+  declare,
+  scoped,
+  scoped_in,
+  closed_to,
+  in_prototype,
+  with_parameters,
+  without_prototype,
+  with_prototype_of,
+  apart,
+  prototype_in,
+  prototype,
+}
 
 -- this holds of what is read and of what is left then
 abbrev pub Held : {A : Type 0} → (A → Input → Type 0) → Outcome A → Type 0
@@ -81,7 +106,7 @@ eat_case true p q i f g = f refl
 eat_case false p q i f g = g refl
 
 eat_by_case : {A : Type 0} {Q : A → Input → Type 0} (c : Bool) (f : Bool → Parser A) (i : Input) → (c ≡ true → Holds Q (f true (next i))) →
-  (c ≡ false → Holds Q (f false i))
+    (c ≡ false → Holds Q (f false i))
     → Holds Q (f c (if c then next i else i))
 eat_by_case true f i g h = g refl
 eat_by_case false f i g h = h refl
@@ -93,14 +118,14 @@ unfolding after
 eat_holds mark p q i f g = eat_case (sees mark i) p q i (λ e. f (sees_is mark i e)) g
 
 pub eat_word_holds : {A : Type 0} {Q : A → Input → Type 0} (word : AWord) (p q : Parser A) (i : Input) →
-  (kind i ≡ Some (token.Keyword word) → Holds Q (p (next i)))
+    (kind i ≡ Some (token.Keyword word) → Holds Q (p (next i)))
     → (sees_word word i ≡ false → Holds Q (q i)) → Holds Q ((if sees_word word i then p else q) (after_word word i))
 unfolding after_word
 eat_word_holds word p q i f g = eat_case (sees_word word i) p q i (λ e. f (sees_word_is word i e)) g
 
 -- ..where what comes next is read by the answer
 pub eat_by_holds : {A : Type 0} {Q : A → Input → Type 0} (mark : AMark) (f : Bool → Parser A) (i : Input) →
-  (kind i ≡ Some (token.Punct mark) → Holds Q (f true (next i)))
+    (kind i ≡ Some (token.Punct mark) → Holds Q (f true (next i)))
     → (sees mark i ≡ false → Holds Q (f false i)) → Holds Q (f (sees mark i) (after mark i))
 unfolding after
 eat_by_holds mark f i g h = eat_by_case (sees mark i) f i (λ e. g (sees_is mark i e)) h
@@ -142,7 +167,7 @@ scoped_out R i None h = refused
 scoped_out R i (Some q) h = holds (q.1, (h.held.1, closed_is i q.1 h.held.0))
 
 pub scoped_holds : {A : Type 0} (R : A → Rule) (p : Parser A) (i : Input) → OnlyAdds p → Holds (λ a j. R a i j) (p i) →
-  Holds (λ a j. Scoped (R a) i j) (scoped p i)
+    Holds (λ a j. Scoped (R a) i j) (scoped p i)
 scoped_holds R p i g h = scoped_out R i (p i) (also_adds p i g h)
 
 apart_out : {A : Type 0} (R : A → Rule) (i : Input) (o : Outcome A) → Holds (λ a j. R a (without_prototype i) j) o
@@ -155,7 +180,7 @@ pub apart_holds : {A : Type 0} (R : A → Rule) (p : Parser A) (i : Input) → H
 apart_holds R p i h = apart_out R i (p (without_prototype i)) h
 
 prototype_out : {A : Type 0} (own : Bool) (R : A → Rule) (i : Input) (o : Outcome A) →
-  Holds (λ a j. Adds (without_prototype i) j × R a (without_prototype i) j) o
+    Holds (λ a j. Adds (without_prototype i) j × R a (without_prototype i) j) o
     → Holds (λ a j. Prototype own (R a) i j) (prototype_in own i o)
 prototype_out own R i None h = refused
 prototype_out own R i (Some q) h = holds (
@@ -193,7 +218,7 @@ with_adds : (i j : Input) → Adds (with_parameters i) j → Adds i j
 with_adds i j g = record { tokens = g.tokens; more = i.prototype ++ g.more; names = g.names ∙ append_assoc i.names i.prototype g.more }
 
 pub body_holds : {A : Type 0} (R : A → Rule) (p : Parser A) (i : Input) → OnlyAdds p →
-  Holds (λ a j. (R a ⨾ Mark m.CloseBrace) (with_parameters i) j) (p (with_parameters i))
+    Holds (λ a j. (R a ⨾ Mark m.CloseBrace) (with_parameters i) j) (p (with_parameters i))
     → Holds (λ a j. Braced (R a) (with_parameters i) i j) (in_prototype p i)
 body_holds R p i g h = brace_out R i (with_parameters i) (p (with_parameters i))
     (weaken _ (also_adds p (with_parameters i) g h) (λ a j k. (with_adds i j k.0, k.1)))

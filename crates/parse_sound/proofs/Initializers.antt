@@ -63,7 +63,7 @@ braced_rule all i j is (x, (h, l)) = (next i, ((refl, (is, refl)), (x, (some_ini
 
 module _ (inner : Parser Init) (gi : InitHolds inner) where
   entries_from_holds : (n : ℕ) (found : List InitEntry) (i : Input) →
-    Holds (Extends found (λ more. Between Comma InitEntryRule more ⨾ InitsEnd) i) (entries_from inner n found i)
+      Holds (Extends found (λ more. Between Comma InitEntryRule more ⨾ InitsEnd) i) (entries_from inner n found i)
   unfolding entries_from
   entries_from_holds zero found i = refused
   entries_from_holds (suc n) found i = bind_holds _ _ (designation_holds i) (λ ds x h. bind_holds _ _ (gi x) (λ a j g. eat_holds m.Comma _ _ j

@@ -3,8 +3,13 @@ use Rattle.std.proofs.Common.{◌≡◌, Bool, true, false, List, [], ◌∷◌,
 use denote.Hole.Carrier.{hidden}
 use Rattle.c_lex.specs.declared.token.TokenKind.TheVariants as token
 use Rattle.c_lex.specs.declared.token.Mark.TheVariants as m
-use Rattle.c_ast.specs.declared.declaration.Base.TheBlock.{hidden-the_row-Declarator-5, hidden-the_row-Enumerator-1, hidden-the_row-Expr-6,
-  hidden-the_row-MemberEntry-0, hidden-the_row-Param-4}
+use Rattle.c_ast.specs.declared.declaration.Base.TheBlock.{
+  hidden-the_row-Declarator-5,
+  hidden-the_row-Enumerator-1,
+  hidden-the_row-Expr-6,
+  hidden-the_row-MemberEntry-0,
+  hidden-the_row-Param-4,
+}
 use Rattle.c_ast.specs.declared.declaration.Declarator.{Declarator}
 use Rattle.c_ast.specs.declared.declaration.Enumerator.{Enumerator}
 use Rattle.c_ast.specs.declared.declaration.Init.TheBlock.{hidden-the_row-InitEntry-0}
@@ -18,9 +23,36 @@ use Rattle.c_ast.specs.declared.statement.Entry.TheBlock as s
 use Rattle.c_ast.specs.Input.{Input, kind, next}
 use Rattle.c_grammar.specs.Operators as op
 use Rattle.c_grammar.specs.Rules.{Rule, ◌⨾◌, Nothing, Never, Mark, Declares, is_declaration_word, is_qualified_word}
-use Rattle.c_grammar.specs.Grammar.{Named, Abstract, Either, IsExpr, Specifiers, BaseRule, DeclaratorOperand, DeclaratorRule, name_of, Arguments, Several,
-  MoreExprs, Members, MoreMembers, MemberRule, MemberNames, MoreNames, Enumerators, MoreEnumerators, EnumeratorRule, Parameters, MoreParameters, Designation,
-  InitRule, InitEntries, MoreInits, Entries, EntryRule}
+use Rattle.c_grammar.specs.Grammar.{
+  Named,
+  Abstract,
+  Either,
+  IsExpr,
+  Specifiers,
+  BaseRule,
+  DeclaratorOperand,
+  DeclaratorRule,
+  name_of,
+  Arguments,
+  Several,
+  MoreExprs,
+  Members,
+  MoreMembers,
+  MemberRule,
+  MemberNames,
+  MoreNames,
+  Enumerators,
+  MoreEnumerators,
+  EnumeratorRule,
+  Parameters,
+  MoreParameters,
+  Designation,
+  InitRule,
+  InitEntries,
+  MoreInits,
+  Entries,
+  EntryRule,
+}
 
 -- each of them, with this before it
 abbrev pub Each : {A : Type 0} → Rule → (A → Rule) → List A → Rule
@@ -59,7 +91,7 @@ longer R found a i j h comma all k (b ∷ more, (same, g)) = (a ∷ b ∷ more, 
 
 -- ..where something stands behind the last
 pub longer_then : {A : Type 0} (R : A → Rule) (last : Rule) (found : List A) (a : A) (i j : Input) → R a i j → kind j ≡ Some (token.Punct m.Comma) →
-  (all : List A) (k : Input)
+    (all : List A) (k : Input)
     → Extends (found ++ a ∷ []) (λ more. Between Comma R more ⨾ last) (next j) all k → Extends found (λ more. Between Comma R more ⨾ last) i all k
 longer_then R last found a i j h comma all k ([], (same, (x, (g, l)))) = absurd g
 longer_then R last found a i j h comma all k (b ∷ more, (same, (x, (g, l)))) =

@@ -7,12 +7,63 @@ use Rattle.c_lex.specs.declared.token.Word.TheVariants as w
 use Rattle.c_lex.specs.declared.token.Mark.{Mark as AMark}
 use Rattle.c_lex.specs.declared.token.Mark.TheVariants as m
 use Rattle.c_ast.specs.declared.declaration.Base.{Base}
-use Rattle.c_ast.specs.declared.declaration.Base.TheBlock.{Plain, Tagged', Base-Tagged-2-None', Base-Tagged-2-Some', Held-Base-Tagged-2, Enumerated',
-  Base-Enumerated-1-None', Base-Enumerated-1-Some', Held-Base-Enumerated-1, Typedef, Fields', Assertion', Ident, Pointer', Array', Declarator-Array-1-None',
-  Declarator-Array-1-Some', Held-Declarator-Array-1, Function', Enumerator-value-None', Enumerator-value-Some', Held-Enumerator-value, Name, Number, CharLit,
-  Strings as StringsNode, Unary', Postfix', Binary', Assign', Cond', Comma', Call', Index', Dot', Arrow', Cast', SizeofExpr', SizeofType', AlignofType',
-  Row_of-Expr, end_of-Expr, more_of-Expr, Row_of-TypeName, end_of-TypeName, more_of-TypeName, Row_of-Declarator, end_of-Declarator, more_of-Declarator,
-  Row_of-Enumerator, end_of-Enumerator, more_of-Enumerator, Row_of-MemberEntry, end_of-MemberEntry, more_of-MemberEntry}
+use Rattle.c_ast.specs.declared.declaration.Base.TheBlock.{
+  Plain,
+  Tagged',
+  Base-Tagged-2-None',
+  Base-Tagged-2-Some',
+  Held-Base-Tagged-2,
+  Enumerated',
+  Base-Enumerated-1-None',
+  Base-Enumerated-1-Some',
+  Held-Base-Enumerated-1,
+  Typedef,
+  Fields',
+  Assertion',
+  Ident,
+  Pointer',
+  Array',
+  Declarator-Array-1-None',
+  Declarator-Array-1-Some',
+  Held-Declarator-Array-1,
+  Function',
+  Enumerator-value-None',
+  Enumerator-value-Some',
+  Held-Enumerator-value,
+  Name,
+  Number,
+  CharLit,
+  Strings as StringsNode,
+  Unary',
+  Postfix',
+  Binary',
+  Assign',
+  Cond',
+  Comma',
+  Call',
+  Index',
+  Dot',
+  Arrow',
+  Cast',
+  SizeofExpr',
+  SizeofType',
+  AlignofType',
+  Row_of-Expr,
+  end_of-Expr,
+  more_of-Expr,
+  Row_of-TypeName,
+  end_of-TypeName,
+  more_of-TypeName,
+  Row_of-Declarator,
+  end_of-Declarator,
+  more_of-Declarator,
+  Row_of-Enumerator,
+  end_of-Enumerator,
+  more_of-Enumerator,
+  Row_of-MemberEntry,
+  end_of-MemberEntry,
+  more_of-MemberEntry,
+}
 use Rattle.c_ast.specs.declared.declaration.MemberEntry.{MemberEntry}
 use Rattle.c_ast.specs.declared.declaration.Declarator.{Declarator}
 use Rattle.c_ast.specs.declared.declaration.Enumerator.{Enumerator, Enumerator'}
@@ -20,11 +71,71 @@ use Rattle.c_ast.specs.declared.expression.ExprNode.{ExprNode}
 use Rattle.c_ast.specs.declared.expression.BinaryOp.{BinaryOp}
 use Rattle.c_ast.specs.Input.{Input, kind, next, is_typedef, declared}
 use Rattle.c_grammar.specs.Operators as op
-use Rattle.c_grammar.specs.Rules.{Rule, ◌⨾◌, Nothing, Never, Takes, Mark, Word, Numbered, Identifier, MaybeIdentifier, NameThat, NoTypedef, MaybeMark,
-  Literals, Strings, Message, Within, From, Operand, Declares, Prototype, Apart, Words, is_qualifier, is_qualified_word, has_type_word}
-use Rattle.c_grammar.specs.Grammar.{Mode, Named, Abstract, Either, NoParameters, WithinIn, DeclaratorOperand, is_own_name, level, tag_word, Specifiers,
-  Spells, Stands, StandsAbove, Arguments, Several, AnotherExpr, MoreExprs, TypeNames, BaseRule, TagMembers, Members, MoreMembers, MemberRule, MemberNames,
-  MoreNames, TagEnumerators, Enumerators, MoreEnumerators, EnumeratorRule, ValueRule, DeclaratorRule, Declarators, SizeRule, Parameters}
+use Rattle.c_grammar.specs.Rules.{
+  Rule,
+  ◌⨾◌,
+  Nothing,
+  Never,
+  Takes,
+  Mark,
+  Word,
+  Numbered,
+  Identifier,
+  MaybeIdentifier,
+  NameThat,
+  NoTypedef,
+  MaybeMark,
+  Literals,
+  Strings,
+  Message,
+  Within,
+  From,
+  Operand,
+  Declares,
+  Prototype,
+  Apart,
+  Words,
+  is_qualifier,
+  is_qualified_word,
+  has_type_word,
+}
+use Rattle.c_grammar.specs.Grammar.{
+  Mode,
+  Named,
+  Abstract,
+  Either,
+  NoParameters,
+  WithinIn,
+  DeclaratorOperand,
+  is_own_name,
+  level,
+  tag_word,
+  Specifiers,
+  Spells,
+  Stands,
+  StandsAbove,
+  Arguments,
+  Several,
+  AnotherExpr,
+  MoreExprs,
+  TypeNames,
+  BaseRule,
+  TagMembers,
+  Members,
+  MoreMembers,
+  MemberRule,
+  MemberNames,
+  MoreNames,
+  TagEnumerators,
+  Enumerators,
+  MoreEnumerators,
+  EnumeratorRule,
+  ValueRule,
+  DeclaratorRule,
+  Declarators,
+  SizeRule,
+  Parameters,
+}
 
 abbrev pub Kept : Type 0
 Kept = List (ℕ × Bool)
@@ -146,7 +257,7 @@ within_in_slides : (mode : Mode) (n : ℕ) (R : Rule) → Slides R → Slides (W
 within_in_slides mode zero R f = f
 within_in_slides mode (suc n) R f =
     then_slides _ _ (mark_slides m.OpenParen)
-      (then_slides _ _ (no_parameters_slides mode) (then_slides _ _ (within_in_slides mode n R f) (mark_slides m.CloseParen)))
+    (then_slides _ _ (no_parameters_slides mode) (then_slides _ _ (within_in_slides mode n R f) (mark_slides m.CloseParen)))
 
 pub declarator_operand_slides : (mode : Mode) (least : ℕ) (d : Declarator) (R : Rule) → Slides R → Slides (DeclaratorOperand mode least d R)
 declarator_operand_slides mode least d R f = record {
@@ -168,7 +279,7 @@ between_slides allowed R words f = record {
 }
 
 pub specifiers_slide : (allowed : AWord → Bool) (b : Base) (R : Bool → Rule) (words : List AWord) →
-  ((typed : Bool) → Slides (R typed)) → Slides (Specifiers allowed b R words)
+    ((typed : Bool) → Slides (R typed)) → Slides (Specifiers allowed b R words)
 specifiers_slide allowed Plain R [] f = record { slides = λ i j h p. absurd h }
 specifiers_slide allowed Plain R (a ∷ rest) f = then_slides _ _ (words_slide allowed (a ∷ rest)) (f (has_type_word (a ∷ rest)))
 specifiers_slide allowed (Typedef n) R words f = between_slides allowed R words f
@@ -206,11 +317,11 @@ mutual
   spells_slides (Cast' p to q a) = then_slides _ _ (mark_slides m.OpenParen) (then_slides _ _ (type_names_slide to)
       (then_slides _ _ (mark_slides m.CloseParen) (stands_slides op.cast a)))
   spells_slides (Binary' o p a q b) = then_slides _ _ (stands_slides (op.level_of o) a)
-    (then_slides _ _ (mark_slides (op.binary_mark o)) (stands_above_slides o b))
+      (then_slides _ _ (mark_slides (op.binary_mark o)) (stands_above_slides o b))
   spells_slides (Cond' p a q b r c) = then_slides _ _ (stands_slides op.logical_or a) (then_slides _ _ (mark_slides m.Question)
       (then_slides _ _ (stands_slides op.comma b) (then_slides _ _ (mark_slides m.Colon) (stands_slides op.conditional c))))
   spells_slides (Assign' o p a q b) = then_slides _ _ (stands_slides op.unary a)
-    (then_slides _ _ (mark_slides (op.assign_mark o)) (stands_slides op.assignment b))
+      (then_slides _ _ (mark_slides (op.assign_mark o)) (stands_slides op.assignment b))
   spells_slides (Comma' p all) = several_slide all
 
   stands_slides : {n : _} (least : ℕ) (row : Row_of-Expr n) → Slides (Stands least row)
@@ -242,7 +353,7 @@ mutual
   type_names_slide : {n : _} (row : Row_of-TypeName n) → Slides (TypeNames row)
   type_names_slide end_of-TypeName = never_slides
   type_names_slide (more_of-TypeName words base d rest) = then_slides _ _
-    (specifiers_slide is_qualified_word base (BaseRule base) words (λ typed. base_slides base typed))
+      (specifiers_slide is_qualified_word base (BaseRule base) words (λ typed. base_slides base typed))
       (declarator_operand_slides Abstract 0 d (DeclaratorRule d Abstract) (declarator_slides d Abstract))
 
   pub base_slides : (b : Base) (typed : Bool) → Slides (BaseRule b typed)
@@ -251,17 +362,17 @@ mutual
   base_slides (Typedef n) true = never_slides
   base_slides (Typedef n) false = name_that_slides true n
   base_slides (Tagged' union tag all) typed = then_slides _ _ (word_slides (tag_word union))
-    (then_slides _ _ (maybe_identifier_slides tag) (tag_members_slide tag all))
+      (then_slides _ _ (maybe_identifier_slides tag) (tag_members_slide tag all))
   base_slides (Enumerated' tag all) typed = then_slides _ _ (word_slides w.Enum)
-    (then_slides _ _ (maybe_identifier_slides tag) (tag_enumerators_slide tag all))
+      (then_slides _ _ (maybe_identifier_slides tag) (tag_enumerators_slide tag all))
 
   tag_members_slide : (tag : Option ℕ) (all : Held-Base-Tagged-2) → Slides (TagMembers tag all)
   tag_members_slide None Base-Tagged-2-None' = never_slides
   tag_members_slide (Some n) Base-Tagged-2-None' = nothing_slides
   tag_members_slide None (Base-Tagged-2-Some' p all) = then_slides _ _ (mark_slides m.OpenBrace)
-    (then_slides _ _ (members_slide all) (mark_slides m.CloseBrace))
+      (then_slides _ _ (members_slide all) (mark_slides m.CloseBrace))
   tag_members_slide (Some n) (Base-Tagged-2-Some' p all) = then_slides _ _ (mark_slides m.OpenBrace)
-    (then_slides _ _ (members_slide all) (mark_slides m.CloseBrace))
+      (then_slides _ _ (members_slide all) (mark_slides m.CloseBrace))
 
   members_slide : {n : _} (row : Row_of-MemberEntry n) → Slides (Members row)
   members_slide end_of-MemberEntry = never_slides
@@ -303,7 +414,7 @@ mutual
   more_enumerators_slide : {n : _} (row : Row_of-Enumerator n) → Slides (MoreEnumerators row)
   more_enumerators_slide end_of-Enumerator = nothing_slides
   more_enumerators_slide (more_of-Enumerator a rest) = then_slides _ _ (mark_slides m.Comma)
-    (then_slides _ _ (enumerator_slides a) (more_enumerators_slide rest))
+      (then_slides _ _ (enumerator_slides a) (more_enumerators_slide rest))
 
   enumerator_slides : (a : Enumerator) → Slides (EnumeratorRule a)
   enumerator_slides (Enumerator' n value) = then_slides _ _ (identifier_slides n) (then_slides _ _ (value_slides value) (declares_slides false (Some n)))
@@ -315,7 +426,7 @@ mutual
   pub declarator_slides : (d : Declarator) (mode : Mode) → Slides (DeclaratorRule d mode)
   declarator_slides (Ident n) mode = ident_slides n mode
   declarator_slides (Pointer' words p d) mode = then_slides _ _ (mark_slides m.Star)
-    (then_slides _ _ (words_slide is_qualifier words) (declarators_slide 0 d mode))
+      (then_slides _ _ (words_slide is_qualifier words) (declarators_slide 0 d mode))
   declarator_slides (Array' p d size) mode = then_slides _ _ (declarators_slide 1 d mode) (then_slides _ _ (mark_slides m.OpenBracket)
       (then_slides _ _ (size_slides size) (mark_slides m.CloseBracket)))
   declarator_slides (Function' p d q params ellipsis) mode = then_slides _ _ (declarators_slide 1 d mode) (then_slides _ _ (mark_slides m.OpenParen)

@@ -1,6 +1,30 @@
 -- What is read as specifiers is spelled.
-use Rattle.std.proofs.Common.{◌≡◌, ℕ, zero, suc, ◌==◌, Bool, true, false, List, [], ◌∷◌, ◌++◌, Option, Some, None, refl, sym, ap, subst, ◌∙◌, append-nil, inl,
-  inr, arith}
+use Rattle.std.proofs.Common.{
+  ◌≡◌,
+  ℕ,
+  zero,
+  suc,
+  ◌==◌,
+  Bool,
+  true,
+  false,
+  List,
+  [],
+  ◌∷◌,
+  ◌++◌,
+  Option,
+  Some,
+  None,
+  refl,
+  sym,
+  ap,
+  subst,
+  ◌∙◌,
+  append-nil,
+  inl,
+  inr,
+  arith,
+}
 use Rattle.std.proofs.lemmas.Bool.Decides.{nat_tests}
 use denote.Hole.Carrier.{roll}
 use Rattle.c_lex.specs.declared.token.TokenKind.{TokenKind}
@@ -22,12 +46,42 @@ use Rattle.c_grammar.specs.Operators as op
 use Rattle.c_grammar.specs.Grammar.{Mode, Named, IsExpr, Specifiers, BaseRule, AssertionRule, MemberRule, MemberNames, EnumeratorRule, tag_word}
 use Rattle.c_grammar.specs.Rules.{Rule, ◌⨾◌, Nothing, Mark, MaybeMark, Identifier, MaybeIdentifier, Message, Words, is_qualified_word, has_type_word}
 use Rattle.parse_spec.specs.Steps.{Parser, turns, sees_word, allows, one_word, words_from, words, maybe_identifier_by, maybe_identifier}
-use Rattle.parse_spec.specs.Specifiers.{message, assertion, names_from, member_names, one_member, members_from, tagged_by, tagged, enumerator_value,
-  one_enumerator, enumerators_from, enumerated_by, enumerated, name_base, base_by, specifier_base, specifiers}
+use Rattle.parse_spec.specs.Specifiers.{
+  message,
+  assertion,
+  names_from,
+  member_names,
+  one_member,
+  members_from,
+  tagged_by,
+  tagged,
+  enumerator_value,
+  one_enumerator,
+  enumerators_from,
+  enumerated_by,
+  enumerated,
+  name_base,
+  base_by,
+  specifier_base,
+  specifiers,
+}
 use Rattle.parse_sound.proofs.Holding.{Holds, holds, refused, bind_holds, weaken, if_holds, eat_holds, eat_by_holds, expect_holds, expect_word_holds}
 use Rattle.parse_sound.proofs.Expressions.{ExprHolds, DeclaratorHolds, SpecsHold, identifier_holds, strings_holds}
-use Rattle.parse_sound.proofs.Rows.{Comma, Between, AtLeastOne, Extends, longer, longer_then, pushed, at_least_then, NamedRule, some_names, no_names, members,
-  enumerators}
+use Rattle.parse_sound.proofs.Rows.{
+  Comma,
+  Between,
+  AtLeastOne,
+  Extends,
+  longer,
+  longer_then,
+  pushed,
+  at_least_then,
+  NamedRule,
+  some_names,
+  no_names,
+  members,
+  enumerators,
+}
 
 -- ---- keywords
 
@@ -45,9 +99,10 @@ unfolding words_from
 words_from_holds allowed zero found i = refused
 words_from_holds allowed (suc n) found i = if_holds (allows allowed (kind i)) _ _ i
     (λ e. let a = allows_is allowed (kind i) e in
-    weaken _ (words_from_holds allowed n (found ++ one_word (kind i)) (next i)) (λ all j h.
-    ((a.0 ∷ h.0.0, (pushed found a.0 h.0.0 all (subst (λ x. all ≡ (found ++ x) ++ h.0.0) a.1.1.0 h.0.1.0), (next i, ((a.1.1.1, (a.1.0, refl)), h.0.1.1)))),
-      h.1)))
+    weaken _ (words_from_holds allowed n (found ++ one_word (kind i)) (next i)) (λ all j h. (
+      (a.0 ∷ h.0.0, (pushed found a.0 h.0.0 all (subst (λ x. all ≡ (found ++ x) ++ h.0.0) a.1.1.0 h.0.1.0), (next i, ((a.1.1.1, (a.1.0, refl)), h.0.1.1)))),
+      h.1,
+    )))
     (λ e. holds (([], (sym (append-nil found), refl)), e))
 
 pub words_hold : (allowed : AWord → Bool) (i : Input) → Holds (λ all j. Words allowed all i j × (allows allowed (kind j) ≡ false)) (words allowed i)
@@ -86,7 +141,7 @@ members_base union (Some n) all typed i x j is h brace (y, (g, c)) =
 
 enumerators_base : (tag : Option ℕ) (all : List Enumerator) (typed : Bool) (i x j : Input) → kind i ≡ Some (token.Keyword w.Enum)
     → MaybeIdentifier tag (next i) x → kind x ≡ Some (token.Punct m.OpenBrace) →
-      (Between Comma EnumeratorRule all ⨾ MaybeMark m.Comma ⨾ Mark m.CloseBrace) (next x) j
+    (Between Comma EnumeratorRule all ⨾ MaybeMark m.Comma ⨾ Mark m.CloseBrace) (next x) j
     → ReadsBase typed i (base.Enumerated tag (Some all)) j
 enumerators_base None all typed i x j is h brace (y, (g, c)) =
     ((next i, ((is, refl), (x, (h, (next x, ((brace, refl), (y, (enumerators all (next x) y g, c)))))))), (λ e. absurd (cc)))
@@ -137,7 +192,7 @@ module _ (expr : ℕ → Parser Expr) (declarator : Mode → Parser Declarator) 
       holds (a, (h, (b, (k, (c, (l.0, (d, (n, o)))))))))))))
 
   names_from_holds : (n : ℕ) (found : List Declarator) (i : Input) →
-    Holds (Extends found (Between Comma NamedRule) i) (names_from expr declarator specs n found i)
+      Holds (Extends found (Between Comma NamedRule) i) (names_from expr declarator specs n found i)
   unfolding names_from
   names_from_holds zero found i = refused
   names_from_holds (suc n) found i = bind_holds _ _ (gd Named i) (λ d j h. eat_holds m.Comma _ _ j
@@ -145,7 +200,7 @@ module _ (expr : ℕ → Parser Expr) (declarator : Mode → Parser Declarator) 
       (λ none. holds (d ∷ [], (refl, (j, (h, refl))))))
 
   member_names_holds : (i : Input) → Holds (λ ds j. (MemberNames (hidden-the_row-Declarator-5 ds) ⨾ Mark m.Semicolon) i j)
-    (member_names expr declarator specs i)
+      (member_names expr declarator specs i)
   unfolding member_names
   member_names_holds i = eat_holds m.Semicolon _ _ i
       (λ is. holds (i, (no_names i, (is, refl))))
@@ -177,10 +232,10 @@ module _ (expr : ℕ → Parser Expr) (declarator : Mode → Parser Declarator) 
   tagged_alone_holds union typed (Some n) i x is h = holds ((next i, ((is, refl), (x, (h, refl)))), (λ e. absurd (cc)))
 
   tagged_holds : (union typed : Bool) (i : Input) → kind i ≡ Some (token.Keyword (tag_word union)) →
-    Holds (ReadsBase typed i) (tagged expr declarator specs union (next i))
+      Holds (ReadsBase typed i) (tagged expr declarator specs union (next i))
   unfolding tagged
   tagged_holds union typed i is = bind_holds _ _ (maybe_identifier_holds (next i))
-    (λ tag x h. eat_by_holds m.OpenBrace (tagged_by expr declarator specs union tag) x
+      (λ tag x h. eat_by_holds m.OpenBrace (tagged_by expr declarator specs union tag) x
       (λ brace. tagged_by_holds union typed tag i x is h brace) (λ none. tagged_alone_holds union typed tag i x is h))
 
   enumerator_value_holds : (i : Input) → Holds (λ v j. MaybeValue v i j) (enumerator_value expr declarator specs i)
@@ -192,7 +247,7 @@ module _ (expr : ℕ → Parser Expr) (declarator : Mode → Parser Declarator) 
   one_enumerator_holds : (i : Input) → Holds (λ a j. EnumeratorRule a i j) (one_enumerator expr declarator specs i)
   unfolding one_enumerator
   one_enumerator_holds i = bind_holds _ _ (identifier_holds i)
-    (λ n x h. bind_holds _ _ (enumerator_value_holds x) (λ v y g. holds (enumerator_rule n v i x y h g)))
+      (λ n x h. bind_holds _ _ (enumerator_value_holds x) (λ v y g. holds (enumerator_rule n v i x y h g)))
 
   abbrev EnumeratorsEnd : Rule
   EnumeratorsEnd = MaybeMark m.Comma ⨾ Mark m.CloseBrace
@@ -205,7 +260,7 @@ module _ (expr : ℕ → Parser Expr) (declarator : Mode → Parser Declarator) 
       (λ comma. eat_holds m.CloseBrace _ _ (next j)
       (λ brace. holds (a ∷ [], (refl, (j, ((j, (h, refl)), (next j, (inr (comma, refl), (brace, refl))))))))
       (λ none. weaken _ (enumerators_from_holds n (found ++ a ∷ []) (next j))
-        (λ all k g. longer_then EnumeratorRule EnumeratorsEnd found a i j h comma all k g)))
+      (λ all k g. longer_then EnumeratorRule EnumeratorsEnd found a i j h comma all k g)))
       (λ none. bind_holds _ _ (expect_holds m.CloseBrace j) (λ _ k c. holds (a ∷ [], (refl, (j, ((j, (h, refl)), (j, (inl refl, c)))))))))
 
   enumerated_by_holds : (typed : Bool) (tag : Option ℕ) (i x : Input) → kind i ≡ Some (token.Keyword w.Enum) → MaybeIdentifier tag (next i) x
@@ -221,13 +276,13 @@ module _ (expr : ℕ → Parser Expr) (declarator : Mode → Parser Declarator) 
   enumerated_holds : (typed : Bool) (i : Input) → kind i ≡ Some (token.Keyword w.Enum) → Holds (ReadsBase typed i) (enumerated expr declarator specs (next i))
   unfolding enumerated
   enumerated_holds typed i is = bind_holds _ _ (maybe_identifier_holds (next i))
-    (λ tag x h. eat_by_holds m.OpenBrace (enumerated_by expr declarator specs tag) x
+      (λ tag x h. eat_by_holds m.OpenBrace (enumerated_by expr declarator specs tag) x
       (λ brace. enumerated_by_holds typed tag i x is h brace) (λ none. enumerated_alone_holds typed tag i x is h))
 
   name_base_holds : (typed : Bool) (i : Input) → kind i ≡ Some token.Name → Holds (ReadsBase typed i) (name_base expr declarator specs typed i)
   name_base_holds true i is = holds (refl, (λ _. refl))
   name_base_holds false i is = if_holds (is_typedef i) _ _ i (λ e. holds ((e, (refl, (is, refl))), (λ e. absurd (cc))))
-    (λ e. holds ((refl, (λ _. e)), (λ _. refl)))
+      (λ e. holds ((refl, (λ _. e)), (λ _. refl)))
 
   base_by_holds : (typed : Bool) (i : Input) (k : Option TokenKind) → kind i ≡ k → Holds (ReadsBase typed i) (base_by expr declarator specs typed k i)
   base_by_holds typed i (Some (token.Keyword w.Struct)) is = tagged_holds false typed i is

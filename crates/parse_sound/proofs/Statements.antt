@@ -18,16 +18,55 @@ use Rattle.c_grammar.specs.Grammar.{IsExpr, MaybeExpr, InParentheses, ForStart, 
 use Rattle.c_grammar.specs.Rules.{Rule, ◌⨾◌, Mark, Word, Identifier, NotNext, Scoped}
 use Rattle.parse_spec.specs.Places.{begins_declaration, is_label}
 use Rattle.parse_spec.specs.Steps.{Parser, ◌>>◌, turns, take_token, sees_word, scoped}
-use Rattle.parse_spec.specs.Statements.{whole_expr, in_parentheses, maybe_expr, for_value, for_init, simple_stmt, plain_by, plain_stmt, case_value, else_part,
-  if_stmt, switch_stmt, while_stmt, do_stmt, for_stmt, label_stmt, case_stmt, default_stmt, one_entry, entries_from, entries, block, unlabelled_by, one_stmt,
-  statement, body}
+use Rattle.parse_spec.specs.Statements.{
+  whole_expr,
+  in_parentheses,
+  maybe_expr,
+  for_value,
+  for_init,
+  simple_stmt,
+  plain_by,
+  plain_stmt,
+  case_value,
+  else_part,
+  if_stmt,
+  switch_stmt,
+  while_stmt,
+  do_stmt,
+  for_stmt,
+  label_stmt,
+  case_stmt,
+  default_stmt,
+  one_entry,
+  entries_from,
+  entries,
+  block,
+  unlabelled_by,
+  one_stmt,
+  statement,
+  body,
+}
 use Rattle.parse_spec.specs.Scopes.{OnlyAdds}
 use Rattle.parse_spec.proofs.Adding.{then_adds, take_adds}
 use Rattle.parse_spec.proofs.AddingUnits.{if_stmt_adds, switch_stmt_adds, while_stmt_adds, do_stmt_adds, for_stmt_adds, entries_adds, statement_adds}
 use Rattle.parse_sound.proofs.Declarations.{assertion_holds, declaration_holds}
 use Rattle.parse_sound.proofs.Expressions.{identifier_holds}
-use Rattle.parse_sound.proofs.Holding.{Holds, holds, refused, bind_holds, weaken, if_holds, eat_holds, eat_word_holds, expect_holds, expect_word_holds,
-  sees_word_of, scoped_holds, Braced, block_holds}
+use Rattle.parse_sound.proofs.Holding.{
+  Holds,
+  holds,
+  refused,
+  bind_holds,
+  weaken,
+  if_holds,
+  eat_holds,
+  eat_word_holds,
+  expect_holds,
+  expect_word_holds,
+  sees_word_of,
+  scoped_holds,
+  Braced,
+  block_holds,
+}
 use Rattle.parse_sound.proofs.Nested.{expr_holds}
 use Rattle.parse_sound.proofs.Rows.{Every, Extends, every_then, entries as entries_row}
 
@@ -120,12 +159,12 @@ module _ (inner : Parser Stmt) (gi : StmtHolds inner) (only : OnlyAdds inner) wh
   if_inside_holds : (i : Input) → kind i ≡ Some (token.Keyword w.If) → Holds (λ a j. Made if_made IfInside a i j) (if_stmt inner (next i))
   unfolding if_stmt
   if_inside_holds i is = bind_holds _ _ (in_parentheses_holds (next i))
-    (λ e a h. bind_holds _ _ (sub_holds a) (λ body b g. bind_holds _ _ (else_part_holds b) (λ other c l.
+      (λ e a h. bind_holds _ _ (sub_holds a) (λ body b g. bind_holds _ _ (else_part_holds b) (λ other c l.
       holds ((e, (body, other)), (refl, (next i, ((is, refl), (a, (h, (b, (g, l)))))))))))
 
   if_stmt_holds : (i : Input) → kind i ≡ Some (token.Keyword w.If) → Holds (λ a j. StmtRule a i j) (scoped (take_token >> if_stmt inner) i)
   if_stmt_holds i is = weaken _ (scoped_holds (Made if_made IfInside) (take_token >> if_stmt inner) i (then_adds _ _ take_adds (if_stmt_adds inner only))
-    (if_inside_holds i is))
+      (if_inside_holds i is))
       (λ a j h. made_scoped if_made IfInside a i j (λ x g. if_rule x.0 x.1.0 x.1.1 i j g) h)
 
   abbrev switch_made : Expr × Stmt → Stmt
@@ -142,7 +181,7 @@ module _ (inner : Parser Stmt) (gi : StmtHolds inner) (only : OnlyAdds inner) wh
   switch_stmt_holds : (i : Input) → kind i ≡ Some (token.Keyword w.Switch) → Holds (λ a j. StmtRule a i j) (scoped (take_token >> switch_stmt inner) i)
   unfolding hidden-the_row-Stmt-1 hidden
   switch_stmt_holds i is = weaken _ (scoped_holds (Made switch_made SwitchInside) (take_token >> switch_stmt inner) i
-    (then_adds _ _ take_adds (switch_stmt_adds inner only))
+      (then_adds _ _ take_adds (switch_stmt_adds inner only))
       (switch_inside_holds i is)) (λ a j h. made_scoped switch_made SwitchInside a i j (λ x g. g) h)
 
   abbrev while_made : Expr × Stmt → Stmt
@@ -159,7 +198,7 @@ module _ (inner : Parser Stmt) (gi : StmtHolds inner) (only : OnlyAdds inner) wh
   while_stmt_holds : (i : Input) → kind i ≡ Some (token.Keyword w.While) → Holds (λ a j. StmtRule a i j) (scoped (take_token >> while_stmt inner) i)
   unfolding hidden-the_row-Stmt-1 hidden
   while_stmt_holds i is = weaken _ (scoped_holds (Made while_made WhileInside) (take_token >> while_stmt inner) i
-    (then_adds _ _ take_adds (while_stmt_adds inner only))
+      (then_adds _ _ take_adds (while_stmt_adds inner only))
       (while_inside_holds i is)) (λ a j h. made_scoped while_made WhileInside a i j (λ x g. g) h)
 
   abbrev do_made : Stmt × Expr → Stmt
@@ -184,7 +223,7 @@ module _ (inner : Parser Stmt) (gi : StmtHolds inner) (only : OnlyAdds inner) wh
 
   abbrev ForInside : ForInit × (Option Expr × (Option Expr × Stmt)) → Rule
   ForInside x = Word w.For ⨾ Mark m.OpenParen ⨾ ForStart x.0 ⨾ MaybeExpr x.1.0 ⨾ Mark m.Semicolon ⨾ MaybeExpr x.1.1.0 ⨾ Mark m.CloseParen ⨾ Scoped
-    (StmtRule x.1.1.1)
+      (StmtRule x.1.1.1)
 
   for_inside_holds : (i : Input) → kind i ≡ Some (token.Keyword w.For) → Holds (λ a j. Made for_made ForInside a i j) (for_stmt inner (next i))
   unfolding for_stmt
@@ -230,7 +269,7 @@ module _ (inner : Parser Stmt) (gi : StmtHolds inner) (only : OnlyAdds inner) wh
       (λ f. bind_holds _ _ (gi i) (λ a j h. holds h)))
 
   entries_from_holds : (n : ℕ) (found : List Entry) (i : Input) → Holds (Extends found (λ more. Every EntryRule more ⨾ Mark m.CloseBrace) i)
-    (entries_from inner n found i)
+      (entries_from inner n found i)
   unfolding entries_from
   entries_from_holds zero found i = refused
   entries_from_holds (suc n) found i = eat_holds m.CloseBrace _ _ i

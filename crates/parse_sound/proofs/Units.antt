@@ -19,9 +19,32 @@ use Rattle.c_ast.specs.declared.statement.UnitEntry.{UnitEntry}
 use Rattle.c_ast.specs.declared.statement.UnitEntry.TheVariants as unit
 use Rattle.c_ast.specs.Input.{Input, kind, next, start_of}
 use Rattle.c_grammar.specs.Operators as op
-use Rattle.c_grammar.specs.Grammar.{Named, IsExpr, Spells, BaseRule, DeclaratorRule, level, name_of, AssertionRule, DesignatorRule, DesignatorList,
-  Designation, InitRule, InitEntries, MoreInits, MaybeInit, PartRule, MoreParts, Parts, DeclarationSpecifiers, EntryRule, Body, UnitEntryRule, UnitEntries,
-  SpellsUnit}
+use Rattle.c_grammar.specs.Grammar.{
+  Named,
+  IsExpr,
+  Spells,
+  BaseRule,
+  DeclaratorRule,
+  level,
+  name_of,
+  AssertionRule,
+  DesignatorRule,
+  DesignatorList,
+  Designation,
+  InitRule,
+  InitEntries,
+  MoreInits,
+  MaybeInit,
+  PartRule,
+  MoreParts,
+  Parts,
+  DeclarationSpecifiers,
+  EntryRule,
+  Body,
+  UnitEntryRule,
+  UnitEntries,
+  SpellsUnit,
+}
 use Rattle.c_grammar.specs.Rules.{Rule, Mark, is_declaration_word, declares_typedef}
 use Rattle.parse_spec.specs.Steps.{Outcome, turns, sees_word, with_parameters, without_prototype}
 use Rattle.parse_spec.specs.Statements.{body}
@@ -30,8 +53,26 @@ use Rattle.parse_sound.specs.SoundLaws.{TreesSpell}
 use Rattle.parse_sound.proofs.Declarations.{assertion_holds, declaration_specs_hold, DeclaredRule, named_declarator_holds, PartsEnd, more_parts_hold}
 use Rattle.parse_sound.proofs.Holding.{Holds, holds, refused, bind_holds, weaken, if_holds, eat_holds, Braced, body_holds}
 use Rattle.parse_sound.proofs.Rows.{Every, Extends, pushed}
-use Rattle.parse_sound.proofs.Slides.{Kept, keeping, Slides, nothing_slides, never_slides, mark_slides, word_slides, identifier_slides, maybe_mark_slides,
-  message_slides, then_slides, operand_slides, declares_slides, declarator_operand_slides, specifiers_slide, spells_slides, base_slides, declarator_slides}
+use Rattle.parse_sound.proofs.Slides.{
+  Kept,
+  keeping,
+  Slides,
+  nothing_slides,
+  never_slides,
+  mark_slides,
+  word_slides,
+  identifier_slides,
+  maybe_mark_slides,
+  message_slides,
+  then_slides,
+  operand_slides,
+  declares_slides,
+  declarator_operand_slides,
+  specifiers_slide,
+  spells_slides,
+  base_slides,
+  declarator_slides,
+}
 use Rattle.parse_spec.proofs.AddingUnits.{body_adds}
 use Rattle.parse_sound.proofs.Statements.{function_body_holds}
 
@@ -42,7 +83,7 @@ expr_slides least e = operand_slides least (level e.node) e.at (Spells e.node) (
 
 assertion_slides : (e : Expr) (message : ℕ) → Slides (AssertionRule e message)
 assertion_slides e message = then_slides _ _ (word_slides w.StaticAssert)
-  (then_slides _ _ (mark_slides m.OpenParen) (then_slides _ _ (expr_slides op.conditional e)
+    (then_slides _ _ (mark_slides m.OpenParen) (then_slides _ _ (expr_slides op.conditional e)
     (then_slides _ _ (mark_slides m.Comma) (then_slides _ _ (message_slides message) (then_slides _ _ (mark_slides m.CloseParen) (mark_slides m.Semicolon))))))
 
 designator_slides : (d : Designator) → Slides (DesignatorRule d)
@@ -69,7 +110,7 @@ mutual
   inits_slide : {n : _} (row : Row_of-InitEntry n) → Slides (InitEntries row)
   inits_slide end_of-InitEntry = never_slides
   inits_slide (more_of-InitEntry designators i rest) = then_slides _ _ (designation_slides designators)
-    (then_slides _ _ (init_slides i) (more_inits_slide rest))
+      (then_slides _ _ (init_slides i) (more_inits_slide rest))
 
   more_inits_slide : {n : _} (row : Row_of-InitEntry n) → Slides (MoreInits row)
   more_inits_slide end_of-InitEntry = nothing_slides
@@ -82,7 +123,7 @@ maybe_init_slides (Some a) = then_slides _ _ (mark_slides m.Equal) (init_slides 
 
 part_slides : (typedef : Bool) (p : Part) → Slides (PartRule typedef p)
 part_slides typedef p = then_slides _ _ (declarator_operand_slides Named 0 p.declarator (DeclaratorRule p.declarator Named)
-  (declarator_slides p.declarator Named))
+    (declarator_slides p.declarator Named))
     (then_slides _ _ (declares_slides typedef (name_of p.declarator)) (maybe_init_slides p.init))
 
 more_parts_slide : (typedef : Bool) (all : List Part) → Slides (MoreParts typedef all)
@@ -153,7 +194,7 @@ function_kept s d all i x y j h (z, (g, n)) is (v, ((u, (b, same)), c)) p =
 
 -- the parameters that were kept are forgotten before the first declarator
 declaration_kept : (s : Specs) (all : List Part) (i x j : Input) → DeclarationSpecifiers s i x →
-  PartsEnd (declares_typedef s.words) all (without_prototype x) j
+    PartsEnd (declares_typedef s.words) all (without_prototype x) j
     → AnyKept (unit.Declaration (record { specs = s; parts = all })) i j
 declaration_kept s all i x j h g p =
     let first = (declaration_specs_slide s).slides i x h p in

@@ -1,22 +1,77 @@
 -- Parsers only add declarations: how that follows from their parts.
-use Rattle.std.proofs.Common.{◌≡◌, ℕ, Bool, true, false, [], ◌∷◌, ◌++◌, take, length, Option, Some, None, if◌then◌else◌, refl, sym, ap, subst, append_assoc,
-  append-nil, ◌∙◌, rules}
+use Rattle.std.proofs.Common.{
+  ◌≡◌,
+  ℕ,
+  Bool,
+  true,
+  false,
+  [],
+  ◌∷◌,
+  ◌++◌,
+  take,
+  length,
+  Option,
+  Some,
+  None,
+  if◌then◌else◌,
+  refl,
+  sym,
+  ap,
+  subst,
+  append_assoc,
+  append-nil,
+  ◌∙◌,
+  rules,
+}
 use Rattle.std.proofs.Math.Seq.{take-append_seam}
 use Rattle.c_lex.specs.declared.token.Word.{Word as AWord}
 use Rattle.c_lex.specs.declared.token.Mark.{Mark as AMark}
 use Rattle.c_ast.specs.Input.{Input, next, declared}
 use Rattle.parse_spec.specs.Scopes.{Adds, OnlyAdds, Ends}
 use Rattle.parse_spec.specs.Units.{afresh}
-use Rattle.parse_spec.specs.Steps.{Outcome, Parser, and_then, ◌>>=◌, ◌>>◌, pure, refuse, take_token, eat, eat_word, expect, expect_word, sees, sees_word,
-  after, after_word, declare, declares, closed_to, scoped_in, scoped, with_parameters, in_prototype, without_prototype, prototype_back, with_prototype_of,
-  apart, parameters_left, prototype_in, prototype}
+use Rattle.parse_spec.specs.Steps.{
+  Outcome,
+  Parser,
+  and_then,
+  ◌>>=◌,
+  ◌>>◌,
+  pure,
+  refuse,
+  take_token,
+  eat,
+  eat_word,
+  expect,
+  expect_word,
+  sees,
+  sees_word,
+  after,
+  after_word,
+  declare,
+  declares,
+  closed_to,
+  scoped_in,
+  scoped,
+  with_parameters,
+  in_prototype,
+  without_prototype,
+  prototype_back,
+  with_prototype_of,
+  apart,
+  parameters_left,
+  prototype_in,
+  prototype,
+}
 
 pub stays : (i : Input) → Adds i i
 stays i = record { tokens = refl; more = []; names = search rules }
 
 pub goes_on : (i j k : Input) → Adds i j → Adds j k → Adds i k
-goes_on i j k p q = record { tokens = q.tokens ∙ p.tokens; more = p.more ++ q.more; names =
-  q.names ∙ ap (λ l. l ++ q.more) p.names ∙ append_assoc i.names p.more q.more }
+goes_on i j k p q = record {
+  tokens = q.tokens ∙ p.tokens;
+  more = p.more ++ q.more;
+  names =
+      q.names ∙ ap (λ l. l ++ q.more) p.names ∙ append_assoc i.names p.more q.more;
+}
 
 subst_input : (i j : Input) → i ≡ j → Adds i j
 subst_input i j e = let P : Input → Type 0 = λ k. Adds i k in subst P e (stays i)
@@ -154,8 +209,12 @@ prototype_case own p i j a (Some q) gp e h =
     let inner = gp.adds (without_prototype i) q.1 q.0 e in
     let P : Input → Type 0 = λ k. Adds i k in
     subst P (same_input q.0 a (parameters_left own i q.1) j h)
-    (record { tokens = inner.tokens; more = []; names = ap (take (length i.names)) inner.names ∙ take-append_seam i.names inner.more ∙ sym
-      (append-nil i.names) })
+    (record {
+      tokens = inner.tokens;
+      more = [];
+      names = ap (take (length i.names)) inner.names ∙ take-append_seam i.names inner.more ∙ sym
+          (append-nil i.names);
+    })
 
 pub prototype_adds : {A : Type 0} (own : Bool) (p : Parser A) → OnlyAdds p → OnlyAdds (prototype own p)
 prototype_adds own p gp = record { adds = λ i j a h. prototype_case own p i j a (p (without_prototype i)) gp refl h }

@@ -27,16 +27,74 @@ use Rattle.parse_spec.specs.Scopes.{OnlyAdds}
 use Rattle.parse_spec.specs.Steps.{Parser, turns, sees_word, scoped}
 use Rattle.parse_spec.specs.Places.{opens_designator, begins_declaration, is_label}
 use Rattle.parse_spec.specs.Nested.{expr, declarator, specs}
-use Rattle.parse_spec.specs.Initializers.{one_designator, designators_from, no_designators, designation, entry_of, entries_from as init_entries_from,
-  initializer_at, one_initializer, initializer}
-use Rattle.parse_spec.specs.Declarations.{assertion, declaration_specs, named_declarator, maybe_init, part_of, parts_from, more_parts, maybe_parts,
-  declaration}
-use Rattle.parse_spec.specs.Statements.{whole_expr, in_parentheses, maybe_expr, for_value, for_init, simple_stmt, plain_by, plain_stmt, case_value, else_part,
-  if_stmt, switch_stmt, while_stmt, do_stmt, for_stmt, label_stmt, case_stmt, default_stmt, one_entry, entries_from, entries, block, unlabelled_by, one_stmt,
-  statement, body}
+use Rattle.parse_spec.specs.Initializers.{
+  one_designator,
+  designators_from,
+  no_designators,
+  designation,
+  entry_of,
+  entries_from as init_entries_from,
+  initializer_at,
+  one_initializer,
+  initializer,
+}
+use Rattle.parse_spec.specs.Declarations.{
+  assertion,
+  declaration_specs,
+  named_declarator,
+  maybe_init,
+  part_of,
+  parts_from,
+  more_parts,
+  maybe_parts,
+  declaration,
+}
+use Rattle.parse_spec.specs.Statements.{
+  whole_expr,
+  in_parentheses,
+  maybe_expr,
+  for_value,
+  for_init,
+  simple_stmt,
+  plain_by,
+  plain_stmt,
+  case_value,
+  else_part,
+  if_stmt,
+  switch_stmt,
+  while_stmt,
+  do_stmt,
+  for_stmt,
+  label_stmt,
+  case_stmt,
+  default_stmt,
+  one_entry,
+  entries_from,
+  entries,
+  block,
+  unlabelled_by,
+  one_stmt,
+  statement,
+  body,
+}
 use Rattle.parse_spec.specs.Units.{declared_as, declared, unit_entry, unit_of, is_end, entries_from as unit_entries_from, whole_unit}
-use Rattle.parse_spec.proofs.Adding.{pure_adds, refuse_adds, bind_adds, then_adds, if_adds, here_adds, take_adds, eat_adds, eat_word_adds, expect_adds,
-  expect_word_adds, declares_adds, scoped_adds, in_prototype_adds, afresh_adds}
+use Rattle.parse_spec.proofs.Adding.{
+  pure_adds,
+  refuse_adds,
+  bind_adds,
+  then_adds,
+  if_adds,
+  here_adds,
+  take_adds,
+  eat_adds,
+  eat_word_adds,
+  expect_adds,
+  expect_word_adds,
+  declares_adds,
+  scoped_adds,
+  in_prototype_adds,
+  afresh_adds,
+}
 use Rattle.parse_spec.proofs.AddingRules.{identifier_adds, expr_adds, declarator_adds, specs_adds, assertion_adds as any_assertion_adds}
 
 -- ---- initializers
@@ -64,7 +122,7 @@ module _ (inner : Parser Init) (gi : OnlyAdds inner) where
   init_entries_adds zero found = refuse_adds
   init_entries_adds (suc n) found = bind_adds _ _ designation_adds (λ ds. bind_adds _ _ gi (λ i. bind_adds _ _ (eat_adds m.Comma) (λ more. if_adds more _ _
       (bind_adds _ _ (eat_adds m.CloseBrace) (λ done. if_adds done _ _ (pure_adds (found ++ entry_of ds i ∷ []))
-        (init_entries_adds n (found ++ entry_of ds i ∷ []))))
+      (init_entries_adds n (found ++ entry_of ds i ∷ []))))
       (then_adds _ _ (expect_adds m.CloseBrace) (pure_adds (found ++ entry_of ds i ∷ []))))))
 
   initializer_at_adds : (at : ℕ) → OnlyAdds (initializer_at inner at)
@@ -87,7 +145,7 @@ initializer_adds (suc depth) = one_initializer_adds (initializer depth) (initial
 assertion_adds : OnlyAdds assertion
 unfolding assertion
 assertion_adds = here_adds _ (λ i. any_assertion_adds (expr (turns i)) (declarator (turns i)) (specs (turns i)) (expr_adds (turns i))
-  (declarator_adds (turns i)) (specs_adds (turns i)))
+    (declarator_adds (turns i)) (specs_adds (turns i)))
 
 declaration_specs_adds : OnlyAdds declaration_specs
 unfolding declaration_specs
@@ -96,7 +154,7 @@ declaration_specs_adds = here_adds _ (λ i. specs_adds (turns i) is_declaration_
 named_declarator_adds : (typedef : Bool) → OnlyAdds (named_declarator typedef)
 unfolding named_declarator
 named_declarator_adds typedef = bind_adds _ _ (here_adds _ (λ i. declarator_adds (turns i) Named))
-  (λ d. then_adds _ _ (declares_adds typedef (name_of d)) (pure_adds d))
+    (λ d. then_adds _ _ (declares_adds typedef (name_of d)) (pure_adds d))
 
 maybe_init_adds : OnlyAdds maybe_init
 unfolding maybe_init
@@ -152,7 +210,7 @@ simple_stmt_adds = bind_adds _ _ (maybe_expr_adds m.Semicolon) (λ e. pure_adds 
 
 plain_by_adds : (at : ℕ) (k : Option TokenKind) → OnlyAdds (plain_by at k)
 plain_by_adds at (Some (token.Keyword w.Goto)) = then_adds _ _ take_adds
-  (bind_adds _ _ identifier_adds (λ n. then_adds _ _ (expect_adds m.Semicolon) (pure_adds _)))
+    (bind_adds _ _ identifier_adds (λ n. then_adds _ _ (expect_adds m.Semicolon) (pure_adds _)))
 plain_by_adds at (Some (token.Keyword w.Continue)) = then_adds _ _ take_adds (then_adds _ _ (expect_adds m.Semicolon) (pure_adds _))
 plain_by_adds at (Some (token.Keyword w.Break)) = then_adds _ _ take_adds (then_adds _ _ (expect_adds m.Semicolon) (pure_adds _))
 plain_by_adds at (Some (token.Keyword w.Return)) = then_adds _ _ take_adds (bind_adds _ _ (maybe_expr_adds m.Semicolon) (λ e. pure_adds _))
@@ -189,7 +247,7 @@ module _ (inner : Parser Stmt) (gi : OnlyAdds inner) where
   pub do_stmt_adds : OnlyAdds (do_stmt inner)
   unfolding do_stmt
   do_stmt_adds = bind_adds _ _ sub_adds (λ a. then_adds _ _ (expect_word_adds w.While)
-    (bind_adds _ _ in_parentheses_adds (λ e. then_adds _ _ (expect_adds m.Semicolon) (pure_adds _))))
+      (bind_adds _ _ in_parentheses_adds (λ e. then_adds _ _ (expect_adds m.Semicolon) (pure_adds _))))
 
   pub for_stmt_adds : OnlyAdds (for_stmt inner)
   unfolding for_stmt
@@ -257,7 +315,7 @@ body_adds = here_adds _ (λ i. entries_adds (statement (turns i)) (statement_add
 declared_as_adds : (s : Specs) → OnlyAdds (declared_as s)
 unfolding declared_as
 declared_as_adds s = then_adds _ _ afresh_adds
-  (bind_adds _ _ (named_declarator_adds (declares_typedef s.words)) (λ d. bind_adds _ _ (eat_adds m.OpenBrace) (λ brace.
+    (bind_adds _ _ (named_declarator_adds (declares_typedef s.words)) (λ d. bind_adds _ _ (eat_adds m.OpenBrace) (λ brace.
     if_adds brace _ _ (bind_adds _ _ (in_prototype_adds _ body_adds) (λ all. pure_adds (unit.Function s d all)))
     (bind_adds _ _ (more_parts_adds (declares_typedef s.words) d) (λ all. pure_adds (unit.Declaration (record { specs = s; parts = all })))))))
 

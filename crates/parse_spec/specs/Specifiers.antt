@@ -17,8 +17,24 @@ use Rattle.c_ast.specs.Input.{kind, next, is_typedef}
 use Rattle.c_grammar.specs.Operators as op
 use Rattle.c_grammar.specs.Grammar.{Mode, Named}
 use Rattle.c_grammar.specs.Rules.{is_qualified_word, has_type_word}
-use Rattle.parse_spec.specs.Steps.{Parser, ◌>>=◌, ◌>>◌, pure, refuse, turns, sees_word, take_token, eat, expect, expect_word, identifier, maybe_identifier,
-  strings, words, declares}
+use Rattle.parse_spec.specs.Steps.{
+  Parser,
+  ◌>>=◌,
+  ◌>>◌,
+  pure,
+  refuse,
+  turns,
+  sees_word,
+  take_token,
+  eat,
+  expect,
+  expect_word,
+  identifier,
+  maybe_identifier,
+  strings,
+  words,
+  declares,
+}
 
 abbrev pub specs_of : List AWord → Base → Specs
 specs_of all b = record { words = all; base = b }

@@ -1,6 +1,38 @@
 -- What acts do to the store of a memory.
-use Rattle.std.proofs.Common.{min, max, ◌≡◌, ℕ, zero, suc, ◌+◌, ◌-◌, ◌<◌, ◌≤◌, Bool, true, false, ◌&&◌, cond, refl, sym, ap, ap₂, ◌∙◌, subst, arith, List, [],
-  ◌∷◌, ◌++◌, length, replicate, map, Option, Some, None}
+use Rattle.std.proofs.Common.{
+  min,
+  max,
+  ◌≡◌,
+  ℕ,
+  zero,
+  suc,
+  ◌+◌,
+  ◌-◌,
+  ◌<◌,
+  ◌≤◌,
+  Bool,
+  true,
+  false,
+  ◌&&◌,
+  cond,
+  refl,
+  sym,
+  ap,
+  ap₂,
+  ◌∙◌,
+  subst,
+  arith,
+  List,
+  [],
+  ◌∷◌,
+  ◌++◌,
+  length,
+  replicate,
+  map,
+  Option,
+  Some,
+  None,
+}
 use Rattle.c_types.specs.Shapes.{Form}
 use Rattle.std.specs.Prelude.{Result, Ok, Err, IfOk, OnOk, nat_lt, nat_le, option_map, slice_index_or, ◌==◌, ◌^◌}
 use Rattle.std.proofs.lemmas.Bool.Decides.{nat_tests}
@@ -31,8 +63,21 @@ use Rattle.mem_spec.specs.Acts.{candidates, expose, kill, unwrite, size_in, crea
 use Rattle.mem_spec.specs.Streams.{Io}
 use Rattle.prov_memory.specs.Cells.{no_cell, cell_at, byte_in_state, tag_in, tagged_in, prov_numbered}
 use Rattle.prov_memory.specs.Held.{Held, held_of, changed, emptied, killed, uncovered, Fits}
-use Rattle.prov_memory.specs.Memory.{Kept, store_of, life_in, is_shown, tagged_in_object, IsRowOf, HaveRows, uncovered_each, CellsKnown, ObjectsKnown,
-  AreKnown, newborn, IsBorn}
+use Rattle.prov_memory.specs.Memory.{
+  Kept,
+  store_of,
+  life_in,
+  is_shown,
+  tagged_in_object,
+  IsRowOf,
+  HaveRows,
+  uncovered_each,
+  CellsKnown,
+  ObjectsKnown,
+  AreKnown,
+  newborn,
+  IsBorn,
+}
 use Rattle.prov_memory.proofs.StoreLemmas.{buried_is, shows_each, held_same, held_other, part_kept}
 
 some_is : {X : Type 0} (a b : X) → Some a ≡ Some b → a ≡ b
@@ -49,12 +94,12 @@ pub first_noted_all : (old new is : List Item) → old ≡ [] → (length old + 
 first_noted_all old new is e noted = noted (rw e (omega arith)) ∙ ap (λ (js : List Item). js ++ is) e
 
 pub killed_act : (old : Kept) (x : ObjName) (items : List Item) (rows : List Row) → items ≡ Dies x ∷ [] →
-  (io : Io) → run rows (kill x) (store_of old io) ≡ Done tt items (store_of (record old { objects = changed killed x old.objects }) io)
+    (io : Io) → run rows (kill x) (store_of old io) ≡ Done tt items (store_of (record old { objects = changed killed x old.objects }) io)
 killed_act old x items rows noted io = ap₂ (λ (is : List Item) (s : Store). Done tt is s) (sym noted) (sym (buried_is old x io))
 
 pub exposed_act : (old new : Kept) (prov : Prov) (items : List Item) (rows : List Row) →
-  new ≡ record old { objects = uncovered_each (candidates prov) old.objects } → items ≡ map Expose (candidates prov) →
-  (io : Io) → run rows (expose prov) (store_of old io) ≡ Done tt items (store_of new io)
+    new ≡ record old { objects = uncovered_each (candidates prov) old.objects } → items ≡ map Expose (candidates prov) →
+    (io : Io) → run rows (expose prov) (store_of old io) ≡ Done tt items (store_of new io)
 exposed_act old new prov items rows e noted io =
     shows_each rows old (candidates prov) io ∙ ap₂ (λ (is : List Item) (s : Store). Done tt is s) (sym noted) (ap (λ (m : Kept). store_of m io) (sym e))
 
@@ -85,15 +130,15 @@ behind_end : (n m b : ℕ) → m ≡ n → (nat_le 0 b && nat_lt b (0 + m)) ≡ 
 behind_end n m b e t = grind (arith, nat_tests)
 
 empty_split : (s : Bool) (ps : List Prov) (ts : List Ty) (hs : List Held) (x y : ObjName) (h : Held) (n b : ℕ) → same_object x y ≡ s → held_of hs x ≡ Some h →
-  length h.cells ≤ n → tagged_in_object ps ts (held_of (changed emptied x hs) y) b ≡ cond (s && (nat_le 0 b && nat_lt b (0 + length (replicate n fresh))))
-  (slice_index_or (replicate n fresh) (b - 0) fresh) (tagged_in_object ps ts (held_of hs y) b)
+    length h.cells ≤ n → tagged_in_object ps ts (held_of (changed emptied x hs) y) b ≡ cond (s && (nat_le 0 b && nat_lt b (0 + length (replicate n fresh))))
+    (slice_index_or (replicate n fresh) (b - 0) fresh) (tagged_in_object ps ts (held_of hs y) b)
 empty_split true ps ts hs x y h n b same e fits =
     let xy : x ≡ y = same_object_is x y same in
     let now : held_of (changed emptied x hs) y ≡ Some (emptied h) = subst (λ (z : ObjName). held_of (changed emptied x hs) z ≡ Some (emptied h)) xy
-          (held_same emptied hs x (λ g. refl) ∙ ap (option_map emptied) e) in
+    (held_same emptied hs x (λ g. refl) ∙ ap (option_map emptied) e) in
     let was : held_of hs y ≡ Some h = subst (λ (z : ObjName). held_of hs z ≡ Some h) xy e in
     rw (now, was) (fresh_split (nat_le 0 b && nat_lt b (0 + length (replicate n fresh))) n b (tagged_in_object ps ts (Some h) b)
-      (λ t. past_cells ps ts h b (omega (arith, fits, behind_end n (length (replicate n fresh)) b (many n) t))))
+    (λ t. past_cells ps ts h b (omega (arith, fits, behind_end n (length (replicate n fresh)) b (many n) t))))
 empty_split false ps ts hs x y h n b same e fits = ap (λ (o : Option Held). tagged_in_object ps ts o b) (held_other emptied hs x y (λ g. refl) same)
 
 life_emptied : (o : Option Held) → life_in (option_map emptied o) ≡ life_in o
@@ -105,7 +150,7 @@ shown_emptied None = refl
 shown_emptied (Some h) = refl
 
 emptied_is : (m : Kept) (x : ObjName) (h : Held) (n : ℕ) (io : Io) → held_of m.objects x ≡ Some h → length h.cells ≤ n →
-  store_of (record m { objects = changed emptied x m.objects }) io ≡ with_bytes (store_of m io) x 0 (replicate n fresh)
+    store_of (record m { objects = changed emptied x m.objects }) io ≡ with_bytes (store_of m io) x 0 (replicate n fresh)
 emptied_is m x h n io e fits = λ i. record {
   life = λ y. part_kept life_in emptied m.objects x y (λ g. refl) life_emptied i;
   exposed = λ y. part_kept is_shown emptied m.objects x y (λ g. refl) shown_emptied i;
@@ -118,10 +163,10 @@ emptied_is m x h n io e fits = λ i. record {
 }
 
 found_split : (b : Bool) (rows : List Row) (h : Held) (x : ObjName) (g : Held) (rest : Option Held) → b ≡ same_object h.name x →
-  cond b (Some h) rest ≡ Some g → IsRowOf (row_of rows h.name) h → (rest ≡ Some g → IsRowOf (row_of rows x) g) → IsRowOf (row_of rows x) g
+    cond b (Some h) rest ≡ Some g → IsRowOf (row_of rows h.name) h → (rest ≡ Some g → IsRowOf (row_of rows x) g) → IsRowOf (row_of rows x) g
 found_split true rows h x g rest same e is next =
     subst (λ (k : Held). IsRowOf (row_of rows x) k) (some_is h g e)
-      (subst (λ (y : ObjName). IsRowOf (row_of rows y) h) (same_object_is h.name x (sym same)) is)
+    (subst (λ (y : ObjName). IsRowOf (row_of rows y) h) (same_object_is h.name x (sym same)) is)
 found_split false rows h x g rest same e is next = next e
 
 -- a created object has its row
@@ -134,22 +179,22 @@ size_is None h is = absurd is
 size_is (Some r) h is = is.1
 
 pub unwritten_act : (old : Kept) (x : ObjName) (h : Held) (items : List Item) → held_of old.objects x ≡ Some h → Fits h → HaveRows old.rows old.objects →
-  items ≡ Alive x ∷ Write x 0 h.size ∷ [] → (io : Io) → run old.rows (unwrite old.rows x) (store_of old io) ≡ Done tt items
-  (store_of (record old { objects = changed emptied x old.objects }) io)
+    items ≡ Alive x ∷ Write x 0 h.size ∷ [] → (io : Io) → run old.rows (unwrite old.rows x) (store_of old io) ≡ Done tt items
+    (store_of (record old { objects = changed emptied x old.objects }) io)
 unwritten_act old x h items e fits have noted io =
     let n = size_in (row_of old.rows x) in
     let is : n ≡ h.size = size_is (row_of old.rows x) h (row_found old.rows old.objects x h have e) in
     let s : store_of (record old { objects = changed emptied x old.objects }) io ≡ with_bytes (store_of old io) x 0 (replicate n fresh) =
-          emptied_is old x h n io e (rw is fits.1) in
+    emptied_is old x h n io e (rw is fits.1) in
     rw (noted, s, e) (ap (λ (k : ℕ). Done tt (Alive x ∷ Write x 0 k ∷ []) (with_bytes (store_of old io) x 0 (replicate n fresh))) (many n ∙ is))
 
 pub not_unwritten_act : (old : Kept) (x : ObjName) (items : List Item) (rows : List Row) → held_of old.objects x ≡ None → items ≡ Alive x ∷ [] →
-  (io : Io) → run rows (unwrite rows x) (store_of old io) ≡ Done tt items (store_of old io)
+    (io : Io) → run rows (unwrite rows x) (store_of old io) ≡ Done tt items (store_of old io)
 not_unwritten_act old x items rows e noted io = rw (noted, e) refl
 
 -- ---- birth
 added_split : (b c : Bool) (g h : Held) (rest : Option Held) → (b ≡ true → c ≡ true → ⊥) →
-  cond b (Some g) (cond c (Some h) rest) ≡ cond c (Some h) (cond b (Some g) rest)
+    cond b (Some g) (cond c (Some h) rest) ≡ cond c (Some h) (cond b (Some g) rest)
 added_split true true g h rest never = absurd (never refl refl)
 added_split true false g h rest never = refl
 added_split false true g h rest never = refl
@@ -168,19 +213,19 @@ both_same x z y e f = subst (λ (w : ObjName). same_object x w ≡ true) (sym (s
 
 -- the object of a name once a new one is there
 pub held_added : (hs : List Held) (h : Held) (y : ObjName) → held_of hs h.name ≡ None →
-  held_of (hs ++ h ∷ []) y ≡ cond (same_object h.name y) (Some h) (held_of hs y)
+    held_of (hs ++ h ∷ []) y ≡ cond (same_object h.name y) (Some h) (held_of hs y)
 held_added [] h y none = refl
 held_added (g ∷ hs) h y none =
     ap (λ (o : Option Held). cond (same_object g.name y) (Some g) o) (held_added hs h y (tail_none (same_object g.name h.name) g (held_of hs h.name) none))
     ∙ added_split (same_object g.name y) (same_object h.name y) g h (held_of hs y)
-      (λ s t. head_other (same_object g.name h.name) g (held_of hs h.name) none (both_same g.name h.name y s t))
+    (λ s t. head_other (same_object g.name h.name) g (held_of hs h.name) none (both_same g.name h.name y s t))
 
 part_added_split : {A : Type 0} (b : Bool) (part : Option Held → A) (h : Held) (o : Option Held) → part (cond b (Some h) o) ≡ cond b (part (Some h)) (part o)
 part_added_split true part h o = refl
 part_added_split false part h o = refl
 
 pub part_added : {A : Type 0} (part : Option Held → A) (hs : List Held) (h : Held) (y : ObjName) → held_of hs h.name ≡ None →
-  part (held_of (hs ++ h ∷ []) y) ≡ cond (same_object h.name y) (part (Some h)) (part (held_of hs y))
+    part (held_of (hs ++ h ∷ []) y) ≡ cond (same_object h.name y) (part (Some h)) (part (held_of hs y))
 part_added part hs h y none = ap part (held_added hs h y none) ∙ part_added_split (same_object h.name y) part h (held_of hs y)
 
 nth_longer : (ps : List Prov) (p : Prov) (n : ℕ) → n < length ps → slice_index_or (ps ++ p ∷ []) n Empty ≡ slice_index_or ps n Empty
@@ -215,24 +260,24 @@ known_held n [] y known = tt
 known_held n (h ∷ hs) y known = known_split n (same_object h.name y) h (held_of hs y) known.0 (known_held n hs y known.1)
 
 tagged_longer : (ps : List Prov) (p : Prov) (ts : List Ty) (o : Option Held) (at : ℕ) → KnownIn (length ps) o →
-  tagged_in_object (ps ++ p ∷ []) ts o at ≡ tagged_in_object ps ts o at
+    tagged_in_object (ps ++ p ∷ []) ts o at ≡ tagged_in_object ps ts o at
 tagged_longer ps p ts None at known = refl
 tagged_longer ps p ts (Some h) at known =
     ap (λ (b : Byte). record { byte = b; tag = tag_in (map type_of ts) (cell_at h.cells at) })
-      (byte_longer (cell_at h.cells at).state ps p (cell_at h.cells at) (known_at (length ps) h.cells at known))
+    (byte_longer (cell_at h.cells at).state ps p (cell_at h.cells at) (known_at (length ps) h.cells at known))
 
 bytes_added : (ps : List Prov) (p : Prov) (ts : List Ty) (hs : List Held) (h : Held) (y : ObjName) (at : ℕ) → held_of hs h.name ≡ None →
-  ObjectsKnown (length ps) hs → h.cells ≡ [] → tagged_in_object (ps ++ p ∷ []) ts (held_of (hs ++ h ∷ []) y) at ≡ cond (same_object h.name y) fresh
-  (tagged_in_object ps ts (held_of hs y) at)
+    ObjectsKnown (length ps) hs → h.cells ≡ [] → tagged_in_object (ps ++ p ∷ []) ts (held_of (hs ++ h ∷ []) y) at ≡ cond (same_object h.name y) fresh
+    (tagged_in_object ps ts (held_of hs y) at)
 bytes_added ps p ts hs h y at none known e =
     part_added (λ (o : Option Held). tagged_in_object (ps ++ p ∷ []) ts o at) hs h y none
     ∙ ap₂ (λ (a b : TaggedByte). cond (same_object h.name y) a b) (ap (λ (cs : List Cell). tagged_in (ps ++ p ∷ []) (map type_of ts) (cell_at cs at)) e)
-      (tagged_longer ps p ts (held_of hs y) at (known_held (length ps) hs y known))
+    (tagged_longer ps p ts (held_of hs y) at (known_held (length ps) hs y known))
 
 pub born_is : (old new : Kept) (x : ObjName) (base size : ℕ) (kind : ObjKind) (declared : Option Shape) (origin : Origin) (io : Io) →
-  held_of old.objects x ≡ None → AreKnown old → new.objects ≡ old.objects ++ newborn x base size kind declared origin ∷ [] → new.origins ≡ old.origins ++
-  Whole x ∷ [] → new.cells ≡ old.cells → new.types ≡ old.types → new.created ≡ min (old.created + max size 16) (2 ^ 62) →
-  store_of new io ≡ born (store_of old io) x size kind (option_map form_of declared)
+    held_of old.objects x ≡ None → AreKnown old → new.objects ≡ old.objects ++ newborn x base size kind declared origin ∷ [] → new.origins ≡ old.origins ++
+    Whole x ∷ [] → new.cells ≡ old.cells → new.types ≡ old.types → new.created ≡ min (old.created + max size 16) (2 ^ 62) →
+    store_of new io ≡ born (store_of old io) x size kind (option_map form_of declared)
 born_is old new x base size kind declared origin io none known objects origins cells types created =
     rw (objects, origins, cells, types, created) (λ i. record {
       life = λ y. part_added life_in old.objects (newborn x base size kind declared origin) y none i;
@@ -252,8 +297,8 @@ placed_is : (o : Option Row) (x : ObjName) (base size align : ℕ) → o ≡ Som
 placed_is o x base size align e = (rw (e, self_equal size, self_equal align) refl, rw e refl)
 
 pub created_act : (old new : Kept) (x : ObjName) (base size align : ℕ) (kind : ObjKind) (declared : Option Shape) (items : List Item) →
-  IsBorn old new x base size align kind declared → AreKnown old → items ≡ Born x ∷ [] →
-  (io : Io) → run new.rows (create new.rows x size align kind (option_map form_of declared)) (store_of old io) ≡ Done base items (store_of new io)
+    IsBorn old new x base size align kind declared → AreKnown old → items ≡ Born x ∷ [] →
+    (io : Io) → run new.rows (create new.rows x size align kind (option_map form_of declared)) (store_of old io) ≡ Done base items (store_of new io)
 created_act old new x base size align kind declared items b known noted io =
     let s = born_is old new x base size kind declared b.objects.0 io b.absent known b.objects.1 b.origins b.cells b.types b.created in
     let p = placed_is (row_of new.rows x) x base size align b.row in
@@ -264,12 +309,12 @@ map_twice f g None = refl
 map_twice f g (Some x) = refl
 
 pub created_all : {X E : Type 0} (r : Result ℕ E) (old new : Kept) (x : ObjName) (size align : ℕ) (kind : ObjKind) (g : X → Shape) (declared : Option X)
-  (items : List Item) → IfOk r (λ base. IsBorn old new x base size align kind (option_map g declared)) → OnOk r (items ≡ Born x ∷ []) →
-  IfOk r (λ base. AreKnown old → (io : Io) → run new.rows (create new.rows x size align kind (option_map (λ s. form_of (g s)) declared))
-  (store_of old io) ≡ Done base items (store_of new io))
+    (items : List Item) → IfOk r (λ base. IsBorn old new x base size align kind (option_map g declared)) → OnOk r (items ≡ Born x ∷ []) →
+    IfOk r (λ base. AreKnown old → (io : Io) → run new.rows (create new.rows x size align kind (option_map (λ s. form_of (g s)) declared))
+    (store_of old io) ≡ Done base items (store_of new io))
 created_all {X} (Ok base) old new x size align kind g declared items b noted = λ known io.
     ap (λ (form : Option Form). run new.rows (create new.rows x size align kind form) (store_of old io)) (sym (map_twice form_of g declared)) ∙ created_act
-      old new x base size align kind (option_map g declared) items b known noted io
+    old new x base size align kind (option_map g declared) items b known noted io
 created_all (Err e) old new x size align kind g declared items b noted = tt
 
 -- ---- pieces stay known
@@ -290,13 +335,13 @@ one_more [] p = omega arith
 one_more (q ∷ ps) p = omega (arith, one_more ps p)
 
 pub born_known : (old new : Kept) (x : ObjName) (base size align : ℕ) (kind : ObjKind) (declared : Option Shape) →
-  IsBorn old new x base size align kind declared → AreKnown old → AreKnown new
+    IsBorn old new x base size align kind declared → AreKnown old → AreKnown new
 born_known old new x base size align kind declared b known =
     rw (b.objects.1, b.origins) (objects_added (length (old.origins ++ Whole x ∷ [])) old.objects (newborn x base size kind declared b.objects.0) tt
-      (objects_more (length old.origins) (length (old.origins ++ Whole x ∷ [])) old.objects (one_more old.origins (Whole x)) known))
+    (objects_more (length old.origins) (length (old.origins ++ Whole x ∷ [])) old.objects (one_more old.origins (Whole x)) known))
 
 pub created_known : {X E : Type 0} (r : Result ℕ E) (old new : Kept) (x : ObjName) (size align : ℕ) (kind : ObjKind) (g : X → Shape) (declared : Option X) →
-  IfOk r (λ base. IsBorn old new x base size align kind (option_map g declared)) → AreKnown old → OnOk r (AreKnown new)
+    IfOk r (λ base. IsBorn old new x base size align kind (option_map g declared)) → AreKnown old → OnOk r (AreKnown new)
 created_known (Ok base) old new x size align kind g declared b known = born_known old new x base size align kind (option_map g declared) b known
 created_known (Err e) old new x size align kind g declared b known = tt
 
@@ -305,7 +350,7 @@ known_split_by true n f h old new = new
 known_split_by false n f h old new = old
 
 known_changed : (n : ℕ) (f : Held → Held) (x : ObjName) (hs : List Held) → ((h : Held) → CellsKnown n h.cells → CellsKnown n (f h).cells) →
-  ObjectsKnown n hs → ObjectsKnown n (changed f x hs)
+    ObjectsKnown n hs → ObjectsKnown n (changed f x hs)
 known_changed n f x [] keeps known = tt
 known_changed n f x (h ∷ hs) keeps known = (known_split_by (same_object h.name x) n f h known.0 (keeps h known.0), known_changed n f x hs keeps known.1)
 
@@ -325,7 +370,7 @@ and_true true c x y e = rw e refl
 and_true false c x y e = refl
 
 pub settled_is : (old : Kept) (new : Cells) (id : Event) (keep : ObjName) (io : Io) → Settles old.cells new id keep → has_cell old.cells id ≡ true →
-  store_of (record old { cells = new }) io ≡ settled (store_of old io) id keep
+    store_of (record old { cells = new }) io ≡ settled (store_of old io) id keep
 settled_is old new id keep io s has = λ i. record {
   life = λ x. life_in (held_of old.objects x);
   exposed = λ x. is_shown (held_of old.objects x);
@@ -338,6 +383,6 @@ settled_is old new id keep io s has = λ i. record {
 }
 
 pub settled_all : (b : Bool) (old : Kept) (new : Cells) (id : Event) (keep : ObjName) → OnTrue b (Settles old.cells new id keep) →
-  has_cell old.cells id ≡ true → OnTrue b ((io : Io) → store_of (record old { cells = new }) io ≡ settled (store_of old io) id keep)
+    has_cell old.cells id ≡ true → OnTrue b ((io : Io) → store_of (record old { cells = new }) io ≡ settled (store_of old io) id keep)
 settled_all true old new id keep s has = λ io. settled_is old new id keep io s has
 settled_all false old new id keep s has = tt

@@ -1,6 +1,34 @@
 -- Which accesses suit which bytes: the tests against the relations of the types.
-use Rattle.std.proofs.Common.{◌≡◌, ℕ, suc, zero, ◌-◌, ◌<◌, ◌≤◌, ◌⊎◌, inl, inr, Bool, true, false, ◌&&◌, ◌||◌, cond, refl, sym, ap, ◌∙◌, arith, List, [], ◌∷◌,
-  map, Option, Some, None}
+use Rattle.std.proofs.Common.{
+  ◌≡◌,
+  ℕ,
+  suc,
+  zero,
+  ◌-◌,
+  ◌<◌,
+  ◌≤◌,
+  ◌⊎◌,
+  inl,
+  inr,
+  Bool,
+  true,
+  false,
+  ◌&&◌,
+  ◌||◌,
+  cond,
+  refl,
+  sym,
+  ap,
+  ◌∙◌,
+  arith,
+  List,
+  [],
+  ◌∷◌,
+  map,
+  Option,
+  Some,
+  None,
+}
 use Rattle.std.specs.Prelude.{◌==◌, ◌/◌, ◌%◌, ◌↔◌, IsTrue, nat_lt, nat_le, slice_get, option_map}
 use Rattle.std.proofs.lemmas.Bool.Decides.{nat_tests}
 use Rattle.c_types.specs.declared.kind.IntKind.{IntKind}
@@ -94,23 +122,23 @@ mutual
   some_are a shapes.none at t = absurd (cc)
   some_are a (shapes.place offset part ps) at t =
       or_both (nat_le offset at && leaf_agrees a part (at - offset)) (some_agrees a ps at)
-        (λ e. let p = both (nat_le offset at) (leaf_agrees a part (at - offset)) e in (within_is offset at p.0, leaf_is a part (at - offset) p.1))
-        (λ e. some_are a ps at e) t
+      (λ e. let p = both (nat_le offset at) (leaf_agrees a part (at - offset)) e in (within_is offset at p.0, leaf_is a part (at - offset) p.1))
+      (λ e. some_are a ps at e) t
 
 mutual
   leaf_hold : (a : CType) (f : Form) (at : ℕ) → LeafAgrees a f at → leaf_agrees a f at ≡ true
   leaf_hold a (leaf e) at h = join (at == 0) (agrees a e) (number_same at 0 h.0) (agrees_hold a e h.1)
   leaf_hold a (repeat count step part) at h =
       join (nat_lt 0 step) (nat_lt (at / step) count && leaf_agrees a part (at % step)) (less_same 0 step h.0)
-        (join (nat_lt (at / step) count) (leaf_agrees a part (at % step)) (less_same (at / step) count h.1) (leaf_hold a part (at % step) h.2))
+      (join (nat_lt (at / step) count) (leaf_agrees a part (at % step)) (less_same (at / step) count h.1) (leaf_hold a part (at % step) h.2))
   leaf_hold a (parts ps) at h = some_hold a ps at h
 
   some_hold : (a : CType) (ps : Forms) (at : ℕ) → SomeAgrees a ps at → some_agrees a ps at ≡ true
   some_hold a shapes.none at h = absurd h
   some_hold a (shapes.place offset part ps) at (inl h) = first_or (nat_le offset at && leaf_agrees a part (at - offset)) (some_agrees a ps at)
-    (join (nat_le offset at) (leaf_agrees a part (at - offset)) (within_same offset at h.0) (leaf_hold a part (at - offset) h.1))
+      (join (nat_le offset at) (leaf_agrees a part (at - offset)) (within_same offset at h.0) (leaf_hold a part (at - offset) h.1))
   some_hold a (shapes.place offset part ps) at (inr h) = second_or (nat_le offset at && leaf_agrees a part (at - offset)) (some_agrees a ps at)
-    (some_hold a ps at h)
+      (some_hold a ps at h)
 
 suits_is : (a : CType) (f : Form) (at : ℕ) → (is_character a ≡ true) ⊎ (leaf_agrees a f at ≡ true) → Suits a f at
 suits_is a f at (inl c) = inl (true_is (is_character a) c)
@@ -123,11 +151,11 @@ suits_hold a f at (inr l) = second_or (is_character a) (leaf_agrees a f at) (lea
 -- the test of the shapes is that of the definitions
 pub suits_test : (r : Bool) (a : CType) (f : Form) (at : ℕ) → (IsTrue r ↔ Suits a f at) → r ≡ suits_form a f at
 suits_test r a f at h = same_test r (suits_form a f at) (λ t. suits_hold a f at (h.0 (true_is r t)))
-  (λ t. is_true r (h.1 (suits_is a f at (either (is_character a) (leaf_agrees a f at) t))))
+    (λ t. is_true r (h.1 (suits_is a f at (either (is_character a) (leaf_agrees a f at) t))))
 
 -- ---- types by their numbers
 kind_type_by : (b : Bool) (k : IntKind) (o : Option IntKind) (rest : Option CType) (ty : CType) → Some k ≡ o → cond b None (integer_or o rest) ≡ Some ty →
-  int k ≡ ty
+    int k ≡ ty
 kind_type_by true k o rest ty e f = absurd (cc)
 kind_type_by false k None rest ty e f = absurd (cc)
 kind_type_by false k (Some j) rest ty e f = cc
@@ -151,11 +179,11 @@ some_type a b h = cc
 pub other_type : (m : Kept) (n : ℕ) (t : Ty) (ty : CType) → None ≡ kind_numbered n → Some t ≡ slice_get m.types (n - 13) → IsTypeOf m n ty → type_of t ≡ ty
 other_type m n t ty e at is =
     some_type (type_of t) ty (ap (option_map type_of) at ∙ sym (mapped_at m.types (n - 13)) ∙ other_type_by (n == 0) (kind_numbered n)
-      (slice_get (map type_of m.types) (n - 13)) ty e is.numbered)
+    (slice_get (map type_of m.types) (n - 13)) ty e is.numbered)
 
 pub no_type : {A : Type 0} (m : Kept) (n : ℕ) (ty : CType) → None ≡ kind_numbered n → None ≡ slice_get m.types (n - 13) → IsTypeOf m n ty → A
 no_type m n ty e at is = absurd (none_some (ap (option_map type_of) at ∙ sym (mapped_at m.types (n - 13)) ∙ other_type_by (n == 0) (kind_numbered n)
-  (slice_get (map type_of m.types) (n - 13)) ty e is.numbered))
+    (slice_get (map type_of m.types) (n - 13)) ty e is.numbered))
   where
     none_some : None ≡ Some ty → ⊥
     none_some q = cc

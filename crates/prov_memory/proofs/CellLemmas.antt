@@ -1,6 +1,33 @@
 -- Cells as they are put.
-use Rattle.std.proofs.Common.{◌≡◌, ◌≢◌, ℕ, zero, suc, ◌+◌, ◌-◌, ◌<◌, ◌≤◌, Bool, true, false, ◌&&◌, refl, ap, ◌∙◌, arith, List, [], ◌∷◌, ◌++◌, length, set,
-  replicate, take, get_or-set_same, get_or-set_other}
+use Rattle.std.proofs.Common.{
+  ◌≡◌,
+  ◌≢◌,
+  ℕ,
+  zero,
+  suc,
+  ◌+◌,
+  ◌-◌,
+  ◌<◌,
+  ◌≤◌,
+  Bool,
+  true,
+  false,
+  ◌&&◌,
+  refl,
+  ap,
+  ◌∙◌,
+  arith,
+  List,
+  [],
+  ◌∷◌,
+  ◌++◌,
+  length,
+  set,
+  replicate,
+  take,
+  get_or-set_same,
+  get_or-set_other,
+}
 use Rattle.std.specs.Prelude.{nat_lt, nat_le, ◌==◌}
 use Rattle.std.proofs.lemmas.Bool.Decides.{nat_tests}
 use Rattle.prov_memory.specs.declared.cell.Cell.{Cell}
@@ -19,8 +46,8 @@ other_place : (k n : ℕ) → (k == n) ≡ false → k ≢ n
 other_place k n e = grind (arith, nat_tests)
 
 put_split : (b : Bool) (xs old cs : List Cell) (from at k : ℕ) (is_declared : Bool) (via : Via) (c : Cell) → (k == (from + at)) ≡ b → from + at < length xs →
-  c ≡ cell_left is_declared via at (cell_at cs at) → cell_at xs k ≡ cell_put old from at is_declared via cs k →
-  cell_at (set xs (from + at) c) k ≡ cell_put old from (at + 1) is_declared via cs k
+    c ≡ cell_left is_declared via at (cell_at cs at) → cell_at xs k ≡ cell_put old from at is_declared via cs k →
+    cell_at (set xs (from + at) c) k ≡ cell_put old from (at + 1) is_declared via cs k
 put_split true xs old cs from at k is_declared via c same room is before =
     let e : k ≡ from + at = same_place k (from + at) same in
     let t : (nat_le from k && nat_lt k (from + (at + 1))) ≡ true = grind (arith, nat_tests) in
@@ -32,8 +59,8 @@ put_split false xs old cs from at k is_declared via c other room is before =
     rw t (get_or-set_other xs (from + at) k c no_cell ne ∙ before)
 
 pub put_more : (xs old cs : List Cell) (from at : ℕ) (is_declared : Bool) (via : Via) (c : Cell) → from + at < length xs →
-  c ≡ cell_left is_declared via at (cell_at cs at) → ((k : ℕ) → cell_at xs k ≡ cell_put old from at is_declared via cs k) →
-  (k : ℕ) → cell_at (set xs (from + at) c) k ≡ cell_put old from (at + 1) is_declared via cs k
+    c ≡ cell_left is_declared via at (cell_at cs at) → ((k : ℕ) → cell_at xs k ≡ cell_put old from at is_declared via cs k) →
+    (k : ℕ) → cell_at (set xs (from + at) c) k ≡ cell_put old from (at + 1) is_declared via cs k
 put_more xs old cs from at is_declared via c room is before k =
     put_split (k == (from + at)) xs old cs from at k is_declared via c refl room is (before k)
 

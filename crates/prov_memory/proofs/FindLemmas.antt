@@ -1,6 +1,32 @@
 -- What a lookup of an address finds.
-use Rattle.std.proofs.Common.{◌≡◌, ℕ, ◌<◌, ◌≤◌, Bool, true, false, ◌&&◌, ◌||◌, cond, refl, sym, ap, ap₂, ◌∙◌, subst, arith, List, [], ◌∷◌, ◌++◌, length, map,
-  Option, Some, None}
+use Rattle.std.proofs.Common.{
+  ◌≡◌,
+  ℕ,
+  ◌<◌,
+  ◌≤◌,
+  Bool,
+  true,
+  false,
+  ◌&&◌,
+  ◌||◌,
+  cond,
+  refl,
+  sym,
+  ap,
+  ap₂,
+  ◌∙◌,
+  subst,
+  arith,
+  List,
+  [],
+  ◌∷◌,
+  ◌++◌,
+  length,
+  map,
+  Option,
+  Some,
+  None,
+}
 use Rattle.std.specs.Prelude.{Result, Ok, Err, IfOk, OnOk, OnErr, is_some, ◌==◌}
 use Rattle.ub_base.specs.declared.names.Event.{Event}
 use Rattle.ub_base.specs.declared.names.Item.{Item}
@@ -49,9 +75,9 @@ shown_some None b e = absurd (cc)
 shown_some (Some h) b e = refl
 
 find_split : (t : Bool) (m : Kept) (y x : ObjName) → (is_shown (held_of m.objects y) && is_live (life_in (held_of m.objects y))) ≡ t →
-  cond t (Some y) None ≡ Some x → is_some (held_of m.objects x) ≡ true
+    cond t (Some y) None ≡ Some x → is_some (held_of m.objects x) ≡ true
 find_split true m y x e h = subst (λ (z : ObjName). is_some (held_of m.objects z) ≡ true) (some_is y x h)
-  (shown_some (held_of m.objects y) (is_live (life_in (held_of m.objects y))) e)
+    (shown_some (held_of m.objects y) (is_live (life_in (held_of m.objects y))) e)
 find_split false m y x e h = not_some x h
 
 found_created : (m : Kept) (io : Io) (o : Option ObjName) (x : ObjName) → findable (store_of m io) o ≡ Some x → is_some (held_of m.objects x) ≡ true
@@ -59,7 +85,7 @@ found_created m io None x h = not_some x h
 found_created m io (Some y) x h = find_split (is_shown (held_of m.objects y) && is_live (life_in (held_of m.objects y))) m y x refl h
 
 chosen_created : (m : Kept) (f g : Option ObjName) (who : Event) → ((x : ObjName) → f ≡ Some x → is_some (held_of m.objects x) ≡ true) →
-  ((x : ObjName) → g ≡ Some x → is_some (held_of m.objects x) ≡ true) → AreCreated m (chosen f g who)
+    ((x : ObjName) → g ≡ Some x → is_some (held_of m.objects x) ≡ true) → AreCreated m (chosen f g who)
 chosen_created m None None who a b = tt
 chosen_created m (Some x) None who a b = a x refl
 chosen_created m None (Some y) who a b = b y refl
@@ -69,32 +95,32 @@ nothing : Io
 nothing = record { input = []; position = 0; output = [] }
 
 pub look_up_created : (m : Kept) (who : Event) (prov : Prov) (i p f g : Option ObjName) → ((io : Io) → f ≡ findable (store_of m io) i) →
-  ((io : Io) → g ≡ findable (store_of m io) p) → prov ≡ chosen f g who → AreCreated m prov
+    ((io : Io) → g ≡ findable (store_of m io) p) → prov ≡ chosen f g who → AreCreated m prov
 look_up_created m who prov i p f g ei ep is =
     subst (λ (q : Prov). AreCreated m q) (sym is)
-      (chosen_created m f g who (λ x e. found_created m nothing i x (sym (ei nothing) ∙ e)) (λ x e. found_created m nothing p x (sym (ep nothing) ∙ e)))
+    (chosen_created m f g who (λ x e. found_created m nothing i x (sym (ei nothing) ∙ e)) (λ x e. found_created m nothing p x (sym (ep nothing) ∙ e)))
 
 -- ---- the act
 pub look_up_none : (rows : List Row) (who : Event) (a : ℕ) (s : Store) → a ≡ 0 → run rows (from_int who a) s ≡ Done Empty (look_up_items a) s
 look_up_none rows who a s e = rw e refl
 
 look_up_act : (rows : List Row) (who : Event) (a : ℕ) (s : Store) → (a == 0) ≡ false →
-  run rows (from_int who a) s ≡ Done (chosen (findable s (covers rows a)) (findable s (past rows a)) who) (look_up_items a) s
+    run rows (from_int who a) s ≡ Done (chosen (findable s (covers rows a)) (findable s (past rows a)) who) (look_up_items a) s
 look_up_act rows who a s t = rw t refl
 
 pub look_up_done : (m : Kept) (who : Event) (a : ℕ) (prov : Prov) (i p f g : Option ObjName) → (a == 0) ≡ false → i ≡ covers m.rows a → p ≡ past m.rows a →
-  ((io : Io) → f ≡ findable (store_of m io) i) → ((io : Io) → g ≡ findable (store_of m io) p) → prov ≡ chosen f g who →
-  (io : Io) → run m.rows (from_int who a) (store_of m io) ≡ Done prov (look_up_items a) (store_of m io)
+    ((io : Io) → f ≡ findable (store_of m io) i) → ((io : Io) → g ≡ findable (store_of m io) p) → prov ≡ chosen f g who →
+    (io : Io) → run m.rows (from_int who a) (store_of m io) ≡ Done prov (look_up_items a) (store_of m io)
 look_up_done m who a prov i p f g t ei ep fi fp is io =
     let s = store_of m io in
     let inside : f ≡ findable s (covers m.rows a) = fi io ∙ ap (λ (o : Option ObjName). findable s o) ei in
     let ending : g ≡ findable s (past m.rows a) = fp io ∙ ap (λ (o : Option ObjName). findable s o) ep in
     let e : prov ≡ chosen (findable s (covers m.rows a)) (findable s (past m.rows a)) who = is ∙ ap₂ (λ (x y : Option ObjName). chosen x y who) inside ending
-      in
+    in
     look_up_act m.rows who a s t ∙ ap (λ (q : Prov). Done q (look_up_items a) s) (sym e)
 
 pub look_up_noted : (a : ℕ) (old new : List Item) → (a == 0) ≡ false → (length old < 32 → new ≡ old ++ Lookup a ∷ []) → length old < 32 → new ≡ old ++
-  look_up_items a
+    look_up_items a
 look_up_noted a old new t noted room = rw t (noted room)
 
 -- ---- a memory with more numbers and cells
@@ -119,7 +145,7 @@ or_true true c h = refl
 or_true false c h = h
 
 pub has_more_made : {T E : Type 0} (r : Result T E) (old : Kept) (ps : List Prov) (cells : Cells) (id : Event) → Extends old.origins ps →
-  OnOk r (MakesCell old.cells cells id) → OnErr r (cells ≡ old.cells) → HasMore old (record old { origins = ps; cells = cells })
+    OnOk r (MakesCell old.cells cells id) → OnErr r (cells ≡ old.cells) → HasMore old (record old { origins = ps; cells = cells })
 has_more_made (Ok v) old ps cells id more made same = record {
   origins = more;
   kept = made.kept;
@@ -138,8 +164,8 @@ or_first true c h = refl
 or_first false c h = absurd (cc)
 
 pub made_ambiguity : {T E : Type 0} (r : Result T E) (old : Kept) (ps : List Prov) (cells : Cells) (id : Event) (past start : ObjName) →
-  HasNumber ps (Either id past start) → OnOk r (MakesCell old.cells cells id) →
-  OnOk r (IsMade (record old { origins = ps; cells = cells }) (Either id past start))
+    HasNumber ps (Either id past start) → OnOk r (MakesCell old.cells cells id) →
+    OnOk r (IsMade (record old { origins = ps; cells = cells }) (Either id past start))
 made_ambiguity (Ok v) old ps cells id past start has made = (made.cells id ∙ or_first (same_event id id) (has_cell old.cells id) (same_event_refl id), has)
 made_ambiguity (Err w) old ps cells id past start has made = tt
 
@@ -150,14 +176,14 @@ byte_more states.Plain ps more c e = refl
 byte_more states.Piece ps more c e = ap (λ (q : Prov). written c.number (Some (q, c.piece_index))) (prov_more ps more c.origin.number e)
 
 tagged_more : (ps more : List Prov) (ts : List Ty) (o : Option Held) (at : ℕ) → KnownIn (length ps) o →
-  tagged_in_object (ps ++ more) ts o at ≡ tagged_in_object ps ts o at
+    tagged_in_object (ps ++ more) ts o at ≡ tagged_in_object ps ts o at
 tagged_more ps more ts None at known = refl
 tagged_more ps more ts (Some h) at known =
     ap (λ (b : Byte). record { byte = b; tag = tag_in (map type_of ts) (cell_at h.cells at) })
-      (byte_more (cell_at h.cells at).state ps more (cell_at h.cells at) (known_at (length ps) h.cells at known))
+    (byte_more (cell_at h.cells at).state ps more (cell_at h.cells at) (known_at (length ps) h.cells at known))
 
 bytes_more : (old new : Kept) → HasMore old new → AreKnown old → (x : ObjName) (at : ℕ) →
-  tagged_in_object new.origins new.types (held_of new.objects x) at ≡ tagged_in_object old.origins old.types (held_of old.objects x) at
+    tagged_in_object new.origins new.types (held_of new.objects x) at ≡ tagged_in_object old.origins old.types (held_of old.objects x) at
 bytes_more old new more known x at =
     ap (λ (m : Kept). tagged_in_object new.origins m.types (held_of m.objects x) at) more.rest
     ∙ ap (λ (ps : List Prov). tagged_in_object ps old.types (held_of old.objects x) at) more.origins.1
@@ -176,9 +202,9 @@ store_more old new more known io = λ i. record {
 }
 
 pub from_int_done : (old new : Kept) (who : Event) (a : ℕ) (prov : Prov) (start items : List Item) → HasMore old new → start ≡ [] →
-  (length start < 32 → items ≡ start ++ look_up_items a) →
-  ((io : Io) → run old.rows (from_int who a) (store_of old io) ≡ Done prov (look_up_items a) (store_of old io)) → AreKnown old →
-  (io : Io) → run new.rows (from_int who a) (store_of old io) ≡ Done prov items (store_of new io)
+    (length start < 32 → items ≡ start ++ look_up_items a) →
+    ((io : Io) → run old.rows (from_int who a) (store_of old io) ≡ Done prov (look_up_items a) (store_of old io)) → AreKnown old →
+    (io : Io) → run new.rows (from_int who a) (store_of old io) ≡ Done prov items (store_of new io)
 from_int_done old new who a prov start items more none noted act known io =
     let listed : items ≡ look_up_items a = noted (rw none (omega arith)) ∙ ap (λ (l : List Item). l ++ look_up_items a) none in
     ap (λ (m : Kept). run m.rows (from_int who a) (store_of old io)) more.rest
@@ -193,8 +219,8 @@ pub found_none : (s : Store) (o : Option ObjName) (x : ObjName) (t : Bool) → o
 found_none s o x t e is so = sym (ap (λ (p : Option ObjName). findable s p) e ∙ ap (λ (b : Bool). cond b (Some x) None) (sym is ∙ so))
 
 pub from_int_all : {E : Type 0} (r : Result Prov E) (old new : Kept) (who : Event) (a : ℕ) (start items : List Item) → HasMore old new → start ≡ [] →
-  OnOk r (length start < 32 → items ≡ start ++ look_up_items a) → IfOk r
-  (λ prov. (io : Io) → run old.rows (from_int who a) (store_of old io) ≡ Done prov (look_up_items a) (store_of old io)) →
-  IfOk r (λ prov. AreKnown old → (io : Io) → run new.rows (from_int who a) (store_of old io) ≡ Done prov items (store_of new io))
+    OnOk r (length start < 32 → items ≡ start ++ look_up_items a) → IfOk r
+    (λ prov. (io : Io) → run old.rows (from_int who a) (store_of old io) ≡ Done prov (look_up_items a) (store_of old io)) →
+    IfOk r (λ prov. AreKnown old → (io : Io) → run new.rows (from_int who a) (store_of old io) ≡ Done prov items (store_of new io))
 from_int_all (Ok prov) old new who a start items more none noted act = λ known io. from_int_done old new who a prov start items more none noted act known io
 from_int_all (Err e) old new who a start items more none noted act = tt

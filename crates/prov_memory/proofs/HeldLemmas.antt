@@ -1,6 +1,37 @@
 -- Objects in a list against objects by their names.
-use Rattle.std.proofs.Common.{Bor, ◌⊎◌, inl, inr, ◌≡◌, ℕ, zero, suc, ◌<◌, ◌≤◌, Bool, true, false, cond, refl, sym, ap, ◌∙◌, subst, arith, List, [], ◌∷◌, ◌++◌,
-  length, get_or, set, slice_get, Option, Some, None}
+use Rattle.std.proofs.Common.{
+  Bor,
+  ◌⊎◌,
+  inl,
+  inr,
+  ◌≡◌,
+  ℕ,
+  zero,
+  suc,
+  ◌<◌,
+  ◌≤◌,
+  Bool,
+  true,
+  false,
+  cond,
+  refl,
+  sym,
+  ap,
+  ◌∙◌,
+  subst,
+  arith,
+  List,
+  [],
+  ◌∷◌,
+  ◌++◌,
+  length,
+  get_or,
+  set,
+  slice_get,
+  Option,
+  Some,
+  None,
+}
 use Rattle.std.specs.Option.{option_and_then, option_copied, IfSome}
 use Rattle.std.specs.BTreeMap.{BTreeMap, get, is_at}
 use Rattle.std.specs.Map.{lookup}
@@ -49,7 +80,7 @@ found_is [] k x e once = absurd (cc)
 found_is (h ∷ hs) zero x e once = rw (same_if h.name x (some_is h.name x e)) refl
 found_is (h ∷ hs) (suc k) x e once =
     rw (other_if (same_object h.name x) h.name x refl (λ same. not_first k (once 0 (ap Some same))))
-      (found_is hs k x e (λ j at. pred_is j k (once (suc j) at)))
+    (found_is hs k x e (λ j at. pred_is j k (once (suc j) at)))
 
 pub none_is : (hs : List Held) (x : ObjName) → Nowhere hs x → held_of hs x ≡ None
 none_is [] x never = refl
@@ -63,13 +94,15 @@ changed_none f (h ∷ hs) x never =
 
 -- a change by name is one at the place
 pub changed_is : (f : Held → Held) (hs : List Held) (k : ℕ) (x : ObjName) (d : Held) → name_at hs k ≡ Some x → Once hs x k →
-  changed f x hs ≡ set hs k (f (get_or hs k d))
+    changed f x hs ≡ set hs k (f (get_or hs k d))
 changed_is f [] k x d e once = absurd (cc)
 changed_is f (h ∷ hs) zero x d e once =
     rw (same_if h.name x (some_is h.name x e), changed_none f hs x (λ j at. not_first j (sym (once (suc j) at)))) refl
 changed_is f (h ∷ hs) (suc k) x d e once =
-    rw (other_if (same_object h.name x) h.name x refl (λ same. not_first k (once 0 (ap Some same))),
-      changed_is f hs k x d e (λ j at. pred_is j k (once (suc j) at))) refl
+    rw (
+      other_if (same_object h.name x) h.name x refl (λ same. not_first k (once 0 (ap Some same))),
+      changed_is f hs k x d e (λ j at. pred_is j k (once (suc j) at)),
+    ) refl
 
 name_split : (b : Bool) (f : Held → Held) (h : Held) → (f h).name ≡ h.name → (cond b (f h) h).name ≡ h.name
 name_split true f h e = e
@@ -101,7 +134,7 @@ pub nowhere_at : (indices : BTreeMap ObjName ℕ) (hs : List Held) (x : ObjName)
 nowhere_at indices hs x s e = λ j at. none_some j (get object_cmp indices x) e (s.found x j at)
 
 pub indexed_changed : (f : Held → Held) (indices : BTreeMap ObjName ℕ) (hs : List Held) (x : ObjName) → ((h : Held) → (f h).name ≡ h.name) →
-  ((h : Held) → Fits h → Fits (f h)) → IsIndexed indices hs → IsIndexed indices (changed f x hs)
+    ((h : Held) → Fits h → Fits (f h)) → IsIndexed indices hs → IsIndexed indices (changed f x hs)
 indexed_changed f indices hs x names fits s = record {
   there = λ y k e. changed_names f hs x k names ∙ s.there y k e;
   found = λ y k e. s.found y k (sym (changed_names f hs x k names) ∙ e);
@@ -109,21 +142,21 @@ indexed_changed f indices hs x names fits s = record {
 }
 
 pub look_up_is : (indices : BTreeMap ObjName ℕ) (hs : List Held) (x : ObjName) (at : Option ℕ) → IsIndexed indices hs → get object_cmp indices x ≡ at →
-  held_of hs x ≡ option_and_then (λ k. slice_get hs k) at
+    held_of hs x ≡ option_and_then (λ k. slice_get hs k) at
 look_up_is indices hs x None s e = none_is hs x (nowhere_at indices hs x s e)
 look_up_is indices hs x (Some k) s e = found_is hs k x (s.there x k e) (once_at indices hs x k s (s.there x k e))
 
 pub set_changed : (f : Held → Held) (hs : List Held) (k : ℕ) (x : ObjName) (d new : Held) → name_at hs k ≡ Some x → Once hs x k → d ≡ get_or hs k d →
-  new ≡ f d → set hs k new ≡ changed f x hs
+    new ≡ f d → set hs k new ≡ changed f x hs
 set_changed f hs k x d new e once at is =
-  sym (changed_is f hs k x d e once ∙ ap (λ (h : Held). set hs k (f h)) (sym at) ∙ ap (λ (h : Held). set hs k h) (sym is))
+    sym (changed_is f hs k x d e once ∙ ap (λ (h : Held). set hs k (f h)) (sym at) ∙ ap (λ (h : Held). set hs k h) (sym is))
 
 pub indexed_set : (f : Held → Held) (indices : BTreeMap ObjName ℕ) (hs : List Held) (k : ℕ) (x : ObjName) (d new : Held) →
-  ((h : Held) → (f h).name ≡ h.name) → ((h : Held) → Fits h → Fits (f h)) → IsIndexed indices hs → name_at hs k ≡ Some x → d ≡ get_or hs k d → new ≡ f d →
-  IsIndexed indices (set hs k new)
+    ((h : Held) → (f h).name ≡ h.name) → ((h : Held) → Fits h → Fits (f h)) → IsIndexed indices hs → name_at hs k ≡ Some x → d ≡ get_or hs k d → new ≡ f d →
+    IsIndexed indices (set hs k new)
 indexed_set f indices hs k x d new names fits s e at is =
     subst (λ (l : List Held). IsIndexed indices l) (sym (set_changed f hs k x d new e (once_at indices hs x k s e) at is))
-      (indexed_changed f indices hs x names fits s)
+    (indexed_changed f indices hs x names fits s)
 
 absent_parts : (b : Bool) (h : Held) (rest : Option Held) → cond b (Some h) rest ≡ None → (b ≡ false) × (rest ≡ None)
 absent_parts true h rest e = absurd (cc)
@@ -146,7 +179,7 @@ uncovered_fits h fits = fits
 
 -- ---- an object at the end
 pub added_name : (hs : List Held) (h : Held) (k : ℕ) (x : ObjName) → name_at (hs ++ h ∷ []) k ≡ Some x → (name_at hs k ≡ Some x) ⊎
-  ((k ≡ length hs) × (h.name ≡ x))
+    ((k ≡ length hs) × (h.name ≡ x))
 added_name [] h zero x e = inr (refl, some_is h.name x e)
 added_name [] h (suc k) x e = absurd (cc)
 added_name (g ∷ hs) h zero x e = inl e
@@ -201,7 +234,7 @@ put_fit (h ∷ hs) zero new fits all = (fits, all.1)
 put_fit (h ∷ hs) (suc k) new fits all = (all.0, put_fit hs k new fits all.1)
 
 pub indexed_put : (indices : BTreeMap ObjName ℕ) (hs : List Held) (k : ℕ) (d new : Held) → IsIndexed indices hs → new.name ≡ (get_or hs k d).name → Fits new →
-  IsIndexed indices (set hs k new)
+    IsIndexed indices (set hs k new)
 indexed_put indices hs k d new s e fits = record {
   there = λ y j g. put_name hs k j d new e ∙ s.there y j g;
   found = λ y j g. s.found y j (sym (put_name hs k j d new e) ∙ g);
@@ -249,13 +282,13 @@ abbrev pub Places : BTreeMap ObjName ℕ → BTreeMap ObjName ℕ → ObjName �
 Places old new x n = (y : ObjName) → get object_cmp new y ≡ cond (is_at (object_cmp x) y) (Some n) (get object_cmp old y)
 
 there_split : (b : Bool) (hs : List Held) (h : Held) (x y : ObjName) (k : ℕ) (rest : Option ℕ) → same_object x y ≡ b → h.name ≡ x →
-  cond b (Some (length hs)) rest ≡ Some k → (rest ≡ Some k → name_at hs k ≡ Some y) → name_at (hs ++ h ∷ []) k ≡ Some y
+    cond b (Some (length hs)) rest ≡ Some k → (rest ≡ Some k → name_at hs k ≡ Some y) → name_at (hs ++ h ∷ []) k ≡ Some y
 there_split true hs h x y k rest same name e old =
     subst (λ (j : ℕ). name_at (hs ++ h ∷ []) j ≡ Some y) (some_is (length hs) k e) (added_last hs h ∙ ap Some (name ∙ same_object_is x y same))
 there_split false hs h x y k rest same name e old = added_old hs h k y (old e)
 
 found_split : (b : Bool) (hs : List Held) (h : Held) (x y : ObjName) (k : ℕ) (rest : Option ℕ) → same_object x y ≡ b → h.name ≡ x → Nowhere hs x →
-  (name_at hs k ≡ Some y) ⊎ ((k ≡ length hs) × (h.name ≡ y)) → (name_at hs k ≡ Some y → rest ≡ Some k) → cond b (Some (length hs)) rest ≡ Some k
+    (name_at hs k ≡ Some y) ⊎ ((k ≡ length hs) × (h.name ≡ y)) → (name_at hs k ≡ Some y → rest ≡ Some k) → cond b (Some (length hs)) rest ≡ Some k
 found_split true hs h x y k rest same name never (inl e) old = absurd (never k (e ∙ ap Some (sym (same_object_is x y same))))
 found_split false hs h x y k rest same name never (inl e) old = old e
 found_split true hs h x y k rest same name never (inr e) old = ap Some (sym e.0)
@@ -265,15 +298,15 @@ found_split false hs h x y k rest other name never (inr e) old = absurd (not_sam
     not_same t f = cc
 
 pub indexed_added : (old new : BTreeMap ObjName ℕ) (hs : List Held) (h : Held) (n : ℕ) → IsIndexed old hs → Places old new h.name n → n ≡ length hs →
-  held_of hs h.name ≡ None → Fits h → IsIndexed new (hs ++ h ∷ [])
+    held_of hs h.name ≡ None → Fits h → IsIndexed new (hs ++ h ∷ [])
 indexed_added old new hs h n s places is none fits =
     let at : (y : ObjName) → get object_cmp new y ≡ cond (same_object h.name y) (Some (length hs)) (get object_cmp old y) = λ y.
-          places y ∙ ap (λ (b : Bool). cond b (Some n) (get object_cmp old y)) (tie_object h.name y) ∙ ap
-          (λ (m : ℕ). cond (same_object h.name y) (Some m) (get object_cmp old y)) is in
+    places y ∙ ap (λ (b : Bool). cond b (Some n) (get object_cmp old y)) (tie_object h.name y) ∙ ap
+    (λ (m : ℕ). cond (same_object h.name y) (Some m) (get object_cmp old y)) is in
     record {
       there = λ y k e. there_split (same_object h.name y) hs h h.name y k (get object_cmp old y) refl refl (sym (at y) ∙ e) (s.there y k);
       found = λ y k e. at y ∙ found_split (same_object h.name y) hs h h.name y k (get object_cmp old y) refl refl (nowhere_from hs h.name none)
-        (added_name hs h k y e) (s.found y k);
+          (added_name hs h k y e) (s.found y k);
       fit = added_fit hs h s.fit fits;
     }
 

@@ -1,6 +1,38 @@
 -- The bytes of values as cells.
-use Rattle.std.proofs.Common.{◌≡◌, ℕ, zero, suc, ◌+◌, ◌-◌, ◌/◌, ◌%◌, ◌<◌, ◌≤◌, Bool, true, false, cond, refl, sym, ap, ◌∙◌, subst, arith, append_assoc, List,
-  [], ◌∷◌, ◌++◌, length, take, set, map, Option, Some, None}
+use Rattle.std.proofs.Common.{
+  ◌≡◌,
+  ℕ,
+  zero,
+  suc,
+  ◌+◌,
+  ◌-◌,
+  ◌/◌,
+  ◌%◌,
+  ◌<◌,
+  ◌≤◌,
+  Bool,
+  true,
+  false,
+  cond,
+  refl,
+  sym,
+  ap,
+  ◌∙◌,
+  subst,
+  arith,
+  append_assoc,
+  List,
+  [],
+  ◌∷◌,
+  ◌++◌,
+  length,
+  take,
+  set,
+  map,
+  Option,
+  Some,
+  None,
+}
 use Rattle.std.proofs.lemmas.List.{length-set, take_all, take_more_set}
 use Rattle.ub_base.specs.declared.names.ObjName.{ObjName}
 use Rattle.ub_base.specs.Names.{same_object}
@@ -21,10 +53,10 @@ use Rattle.mem_spec.specs.Bytes.{number_bytes, pointer_bytes}
 use Rattle.prov_memory.specs.Pieces.{plain_cells, piece_cells}
 
 pub seen_pieces : (ps : List Prov) (ts : List CType) (k i : ℕ) (o : Origin) (n : ℕ) →
-  map (tagged_in ps ts) (piece_cells k i o n) ≡ pointer_bytes k i (prov_numbered ps o.number) n
+    map (tagged_in ps ts) (piece_cells k i o n) ≡ pointer_bytes k i (prov_numbered ps o.number) n
 seen_pieces ps ts zero i o n = refl
 seen_pieces ps ts (suc k) i o n = ap (λ (bs : List TaggedByte). record { byte = written (n % 256) (Some (prov_numbered ps o.number, i)); tag = None } ∷ bs)
-  (seen_pieces ps ts k (suc i) o (n / 256))
+    (seen_pieces ps ts k (suc i) o (n / 256))
 
 pub seen_plain : (ps : List Prov) (ts : List CType) (k n : ℕ) → map (tagged_in ps ts) (plain_cells k n) ≡ number_bytes k n
 seen_plain ps ts zero n = refl
@@ -38,7 +70,7 @@ piece_step n i o r lt =
     ap (λ (k : ℕ). piece_cells k i o r) e ∙ ap (λ (j : ℕ). piece_cell (r % 256) o i ∷ piece_cells (n - (i + 1)) j o (r / 256)) f
 
 pub piece_pushed : (cs ds whole : List Cell) (n i : ℕ) (o : Origin) (r : ℕ) (c : Cell) → i < n → cs ++ piece_cells (n - i) i o r ≡ whole → ds ≡ cs ++ c ∷ [] →
-  c ≡ piece_cell (r % 256) o i → ds ++ piece_cells (n - (i + 1)) (i + 1) o (r / 256) ≡ whole
+    c ≡ piece_cell (r % 256) o i → ds ++ piece_cells (n - (i + 1)) (i + 1) o (r / 256) ≡ whole
 piece_pushed cs ds whole n i o r c lt before is one =
     let rest = piece_cells (n - (i + 1)) (i + 1) o (r / 256) in
     ap (λ (l : List Cell). l ++ rest) is
@@ -53,7 +85,7 @@ plain_step n i r lt =
     ap (λ (k : ℕ). plain_cells k r) e
 
 pub plain_pushed : (cs ds whole : List Cell) (n i r : ℕ) (c : Cell) → i < n → cs ++ plain_cells (n - i) r ≡ whole → ds ≡ cs ++ c ∷ [] →
-  c ≡ plain_cell (r % 256) → ds ++ plain_cells (n - (i + 1)) (r / 256) ≡ whole
+    c ≡ plain_cell (r % 256) → ds ++ plain_cells (n - (i + 1)) (r / 256) ≡ whole
 plain_pushed cs ds whole n i r c lt before is one =
     let rest = plain_cells (n - (i + 1)) (r / 256) in
     ap (λ (l : List Cell). l ++ rest) is
@@ -78,13 +110,13 @@ plain_all cs whole n i r end e =
 
 -- the same in an array
 pub plain_put : (cs whole : List Cell) (n i r : ℕ) (c : Cell) → i < n → length cs ≡ n → take i cs ++ plain_cells (n - i) r ≡ whole →
-  c ≡ plain_cell (r % 256) → (length (set cs i c) ≡ n) × (take (i + 1) (set cs i c) ++ plain_cells (n - (i + 1)) (r / 256) ≡ whole)
+    c ≡ plain_cell (r % 256) → (length (set cs i c) ≡ n) × (take (i + 1) (set cs i c) ++ plain_cells (n - (i + 1)) (r / 256) ≡ whole)
 plain_put cs whole n i r c lt len before one =
     let room : i < length cs = omega arith in
     (length-set cs i c ∙ len, plain_pushed (take i cs) (take (i + 1) (set cs i c)) whole n i r c lt before (take_more_set cs i c room) one)
 
 pub piece_put : (cs whole : List Cell) (n i : ℕ) (o : Origin) (r : ℕ) (c : Cell) → i < n → length cs ≡ n → take i cs ++ piece_cells (n - i) i o r ≡ whole →
-  c ≡ piece_cell (r % 256) o i → (length (set cs i c) ≡ n) × (take (i + 1) (set cs i c) ++ piece_cells (n - (i + 1)) (i + 1) o (r / 256) ≡ whole)
+    c ≡ piece_cell (r % 256) o i → (length (set cs i c) ≡ n) × (take (i + 1) (set cs i c) ++ piece_cells (n - (i + 1)) (i + 1) o (r / 256) ≡ whole)
 piece_put cs whole n i o r c lt len before one =
     let room : i < length cs = omega arith in
     (length-set cs i c ∙ len, piece_pushed (take i cs) (take (i + 1) (set cs i c)) whole n i o r c lt before (take_more_set cs i c room) one)
@@ -118,7 +150,7 @@ held_is : (a b : Held) → Some a ≡ Some b → a ≡ b
 held_is a b h = cc
 
 named_split : (b : Bool) (ps : List Prov) (h g : Held) (x : ObjName) (rest : Option Held) → same_object h.name x ≡ b → cond b (Some h) rest ≡ Some g →
-  prov_numbered ps h.origin.number ≡ Whole h.name → (rest ≡ Some g → prov_numbered ps g.origin.number ≡ Whole x) → prov_numbered ps g.origin.number ≡ Whole x
+    prov_numbered ps h.origin.number ≡ Whole h.name → (rest ≡ Some g → prov_numbered ps g.origin.number ≡ Whole x) → prov_numbered ps g.origin.number ≡ Whole x
 named_split true ps h g x rest same e here there =
     ap (λ (k : Held). prov_numbered ps k.origin.number) (sym (held_is h g e)) ∙ here ∙ ap Whole (same_object_is h.name x same)
 named_split false ps h g x rest same e here there = there e
@@ -130,22 +162,22 @@ no_held : (g : Held) → nothing_held ≡ Some g → ⊥
 no_held g h = cc
 
 pub named_held : (ps : List Prov) (hs : List Held) (x : ObjName) (g : Held) → EachNamed ps hs → held_of hs x ≡ Some g →
-  prov_numbered ps g.origin.number ≡ Whole x
+    prov_numbered ps g.origin.number ≡ Whole x
 named_held ps [] x g named e = absurd (no_held g e)
 named_held ps (h ∷ hs) x g named e = named_split (same_object h.name x) ps h g x (held_of hs x) refl e named.0 (named_held ps hs x g named.1)
 
 name_split : (b : Bool) (ps : List Prov) (f : Held → Held) (h : Held) → ((g : Held) → (f g).name ≡ g.name) →
-  ((g : Held) → (f g).origin.number ≡ g.origin.number) → prov_numbered ps h.origin.number ≡ Whole h.name →
-  prov_numbered ps (cond b (f h) h).origin.number ≡ Whole (cond b (f h) h).name
+    ((g : Held) → (f g).origin.number ≡ g.origin.number) → prov_numbered ps h.origin.number ≡ Whole h.name →
+    prov_numbered ps (cond b (f h) h).origin.number ≡ Whole (cond b (f h) h).name
 name_split true ps f h names numbers e = ap (λ (n : ℕ). prov_numbered ps n) (numbers h) ∙ e ∙ ap Whole (sym (names h))
 name_split false ps f h names numbers e = e
 
 -- a change that keeps names and numbers
 pub named_changed : (ps : List Prov) (f : Held → Held) (x : ObjName) (hs : List Held) → ((g : Held) → (f g).name ≡ g.name) →
-  ((g : Held) → (f g).origin.number ≡ g.origin.number) → EachNamed ps hs → EachNamed ps (changed f x hs)
+    ((g : Held) → (f g).origin.number ≡ g.origin.number) → EachNamed ps hs → EachNamed ps (changed f x hs)
 named_changed ps f x [] names numbers named = tt
 named_changed ps f x (h ∷ hs) names numbers named =
-  (name_split (same_object h.name x) ps f h names numbers named.0, named_changed ps f x hs names numbers named.1)
+    (name_split (same_object h.name x) ps f h names numbers named.0, named_changed ps f x hs names numbers named.1)
 
 pub named_uncovered : (ps : List Prov) (xs : List ObjName) (hs : List Held) → EachNamed ps hs → EachNamed ps (uncovered_each xs hs)
 named_uncovered ps [] hs named = named
@@ -164,8 +196,8 @@ named_end ps (g ∷ hs) h e named = (named.0, named_end ps hs h e named.1)
 
 -- a new object with the next number
 pub named_born : (ps qs : List Prov) (hs gs : List Held) (h : Held) → qs ≡ ps ++ Whole h.name ∷ [] → gs ≡ hs ++ h ∷ [] → h.origin.number ≡ length ps + 1 →
-  EachNamed ps hs → EachNamed qs gs
+    EachNamed ps hs → EachNamed qs gs
 named_born ps qs hs gs h e f at named =
     subst (λ (l : List Prov). EachNamed l gs) (sym e)
-      (subst (λ (l : List Held). EachNamed (ps ++ Whole h.name ∷ []) l) (sym f)
-      (named_end (ps ++ Whole h.name ∷ []) hs h (prov_last ps (Whole h.name) h.origin.number at) (named_longer ps (Whole h.name ∷ []) hs named)))
+    (subst (λ (l : List Held). EachNamed (ps ++ Whole h.name ∷ []) l) (sym f)
+    (named_end (ps ++ Whole h.name ∷ []) hs h (prov_last ps (Whole h.name) h.origin.number at) (named_longer ps (Whole h.name ∷ []) hs named)))

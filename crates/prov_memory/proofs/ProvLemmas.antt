@@ -1,6 +1,32 @@
 -- Provenances by their numbers.
-use Rattle.std.proofs.Common.{◌≡◌, ℕ, zero, suc, ◌+◌, ◌<◌, ◌≤◌, Bool, true, false, ◌&&◌, cond, refl, sym, ap, ◌∙◌, subst, arith, List, [], ◌∷◌, ◌++◌, length,
-  Option, Some, None}
+use Rattle.std.proofs.Common.{
+  ◌≡◌,
+  ℕ,
+  zero,
+  suc,
+  ◌+◌,
+  ◌<◌,
+  ◌≤◌,
+  Bool,
+  true,
+  false,
+  ◌&&◌,
+  cond,
+  refl,
+  sym,
+  ap,
+  ◌∙◌,
+  subst,
+  arith,
+  List,
+  [],
+  ◌∷◌,
+  ◌++◌,
+  length,
+  Option,
+  Some,
+  None,
+}
 use Rattle.std.specs.Prelude.{IfSome, is_some, slice_index_or}
 use Rattle.std.specs.declared.cmp.Ordering.{Ordering}
 use Rattle.std.specs.declared.cmp.Ordering.TheVariants.{Less, Equal, Greater}
@@ -77,7 +103,7 @@ prov_last ps p (suc n) e = subst (λ (k : ℕ). slice_index_or (ps ++ p ∷ []) 
 
 -- a provenance that isn't the empty one keeps its number
 nth_stays : (t : Bool) (ps more : List Prov) (n : ℕ) (p : Prov) → same_prov p Empty ≡ false → slice_index_or ps n Empty ≡ p →
-  slice_index_or (ps ++ more) n Empty ≡ p
+    slice_index_or (ps ++ more) n Empty ≡ p
 nth_stays t [] more n p some e = absurd (clash (subst (λ (q : Prov). same_prov q Empty ≡ false) (sym e) some))
   where
     clash : true ≡ false → ⊥
@@ -97,7 +123,7 @@ has_number_more ps qs p some more has = subst (λ (l : List Prov). HasNumber l p
 
 -- ---- the numbers of ambiguities
 pub numbered_some : (numbers : BTreeMap Prov ℕ) (ps : List Prov) (p : Prov) (r : Option ℕ) → AreNumbered numbers ps → get prov_cmp numbers p ≡ r →
-  IfSome r (λ n. prov_numbered ps n ≡ p)
+    IfSome r (λ n. prov_numbered ps n ≡ p)
 numbered_some numbers ps p None s e = tt
 numbered_some numbers ps p (Some n) s e = s.there p n e
 
@@ -105,7 +131,7 @@ none_clash : (o : Option ℕ) → o ≡ None → is_some o ≡ true → ⊥
 none_clash o e h = cc
 
 pub numbered_none : (numbers : BTreeMap Prov ℕ) (ps : List Prov) (p : Prov) → AreNumbered numbers ps → get prov_cmp numbers p ≡ None → is_ambiguous p ≡ true →
-  HasNumber ps p → ⊥
+    HasNumber ps p → ⊥
 numbered_none numbers ps p s e amb has = none_clash (get prov_cmp numbers p) e (s.found p amb has)
 
 pub has_number_if : (r : Option ℕ) (ps : List Prov) (p : Prov) → is_some r ≡ true → IfSome r (λ n. prov_numbered ps n ≡ p) → HasNumber ps p
@@ -129,7 +155,7 @@ ambiguous_some (Either id past start) amb = refl
 
 -- what isn't the last of the list is there before it
 nth_before : (ps : List Prov) (q p : Prov) (n : ℕ) → same_prov p Empty ≡ false → same_prov q p ≡ false → slice_index_or (ps ++ q ∷ []) n Empty ≡ p →
-  slice_index_or ps n Empty ≡ p
+    slice_index_or ps n Empty ≡ p
 nth_before [] q p zero some other e = absurd (clash (subst (λ (r : Prov). same_prov q r ≡ false) (sym e) other) (same_prov_refl q))
   where
     clash : same_prov q q ≡ false → same_prov q q ≡ true → ⊥
@@ -139,7 +165,7 @@ nth_before (r ∷ ps) q p zero some other e = e
 nth_before (r ∷ ps) q p (suc n) some other e = nth_before ps q p n some other e
 
 before : (ps : List Prov) (q p : Prov) (n : ℕ) → same_prov p Empty ≡ false → same_prov q p ≡ false → prov_numbered (ps ++ q ∷ []) n ≡ p →
-  prov_numbered ps n ≡ p
+    prov_numbered ps n ≡ p
 before ps q p zero some other e = e
 before ps q p (suc n) some other e = nth_before ps q p n some other e
 
@@ -161,12 +187,12 @@ some_is : (a b : ℕ) → Some a ≡ Some b → a ≡ b
 some_is a b h = cc
 
 there_split : (b : Bool) (ps : List Prov) (p q : Prov) (n m : ℕ) (rest : Option ℕ) → same_prov p q ≡ b → n ≡ length ps + 1 → cond b (Some n) rest ≡ Some m →
-  (rest ≡ Some m → same_prov q Empty ≡ false) → (rest ≡ Some m → prov_numbered ps m ≡ q) → prov_numbered (ps ++ p ∷ []) m ≡ q
+    (rest ≡ Some m → same_prov q Empty ≡ false) → (rest ≡ Some m → prov_numbered ps m ≡ q) → prov_numbered (ps ++ p ∷ []) m ≡ q
 there_split true ps p q n m rest same at e some old = prov_last ps p m (sym (some_is n m e) ∙ at) ∙ same_prov_is p q same
 there_split false ps p q n m rest same at e some old = number_stays ps (p ∷ []) m q (some e) (old e)
 
 only_split : (b : Bool) (p q : Prov) (n m : ℕ) (rest : Option ℕ) → same_prov p q ≡ b → is_ambiguous p ≡ true → cond b (Some n) rest ≡ Some m →
-  (rest ≡ Some m → is_ambiguous q ≡ true) → is_ambiguous q ≡ true
+    (rest ≡ Some m → is_ambiguous q ≡ true) → is_ambiguous q ≡ true
 only_split true p q n m rest same amb e old = subst (λ (r : Prov). is_ambiguous r ≡ true) (same_prov_is p q same) amb
 only_split false p q n m rest same amb e old = old e
 
@@ -175,16 +201,16 @@ found_split true n rest old = refl
 found_split false n rest old = old refl
 
 pub numbered_ambiguity : (old new : BTreeMap Prov ℕ) (ps : List Prov) (p : Prov) (n : ℕ) → is_ambiguous p ≡ true → n ≡ length ps + 1 →
-  ((q : Prov) → get prov_cmp new q ≡ cond (is_at (prov_cmp p) q) (Some n) (get prov_cmp old q)) → AreNumbered old ps → AreNumbered new (ps ++ p ∷ [])
+    ((q : Prov) → get prov_cmp new q ≡ cond (is_at (prov_cmp p) q) (Some n) (get prov_cmp old q)) → AreNumbered old ps → AreNumbered new (ps ++ p ∷ [])
 numbered_ambiguity old new ps p n amb at puts s =
     let here : (q : Prov) → get prov_cmp new q ≡ cond (same_prov p q) (Some n) (get prov_cmp old q) = λ q.
-          puts q ∙ ap (λ (b : Bool). cond b (Some n) (get prov_cmp old q)) (tie_prov p q) in
+    puts q ∙ ap (λ (b : Bool). cond b (Some n) (get prov_cmp old q)) (tie_prov p q) in
     record {
       there = λ q m e. there_split (same_prov p q) ps p q n m (get prov_cmp old q) refl at (sym (here q) ∙ e) (λ h. ambiguous_some q (s.only q m h))
-        (s.there q m);
+          (s.there q m);
       only = λ q m e. only_split (same_prov p q) p q n m (get prov_cmp old q) refl amb (sym (here q) ∙ e) (s.only q m);
       found = λ q amb' has. ap is_some (here q) ∙ found_split (same_prov p q) n (get prov_cmp old q)
-        (λ other. s.found q amb' (has.0, before ps p q has.0 (ambiguous_some q amb') other has.1));
+          (λ other. s.found q amb' (has.0, before ps p q has.0 (ambiguous_some q amb') other has.1));
     }
 
 pub extends_none : (ps : List Prov) → Extends ps ps

@@ -26,24 +26,24 @@ outcome (Ok k) v s = Done v (settling_items k) (after_settling k s)
 outcome (Err c) v s = Raised c
 
 to_run : {V : Type 0} (t : Bool) (rows : List Row) (s : Store) (id : Event) (x : ObjName) (c : Clause) (v : V) → is_other (s.kept id) x ≡ t →
-  run rows (touch (Settle id x c) >> Give v) s ≡ outcome (cond t (Err c) (Ok (Some (id, x)))) v s
+    run rows (touch (Settle id x c) >> Give v) s ≡ outcome (cond t (Err c) (Ok (Some (id, x)))) v s
 to_run true rows s id x c v e = rw e refl
 to_run false rows s id x c v e = rw e refl
 
 by_run : {V : Type 0} (b d : Bool) (rows : List Row) (m : Kept) (io : Io) (id : Event) (past start : ObjName) (c : Clause) (v : V) →
-  run rows (settle_by b d id past start c >> Give v) (store_of m io) ≡ outcome (settling_by b d m.cells id past start c) v (store_of m io)
+    run rows (settle_by b d id past start c >> Give v) (store_of m io) ≡ outcome (settling_by b d m.cells id past start c) v (store_of m io)
 by_run true true rows m io id past start c v = refl
 by_run true false rows m io id past start c v = to_run (is_other (kept_in m.cells id) past) rows (store_of m io) id past c v refl
 by_run false true rows m io id past start c v = to_run (is_other (kept_in m.cells id) start) rows (store_of m io) id start c v refl
 by_run false false rows m io id past start c v = refl
 
 require_run : {V : Type 0} (t : Bool) (rows : List Row) (s : Store) (c : Clause) (v : V) →
-  run rows (require t c >> Give v) s ≡ outcome (cond t (Ok None) (Err c)) v s
+    run rows (require t c >> Give v) s ≡ outcome (cond t (Ok None) (Err c)) v s
 require_run true rows s c v = refl
 require_run false rows s c v = refl
 
 pub shift_run : (rows : List Row) (m : Kept) (a : ℕ) (prov : Prov) (by : ℤ) (io : Io) →
-  run rows (shift rows a prov by) (store_of m io) ≡ outcome (shift_settling rows m.cells (pos a +ℤ by) prov) (pos a +ℤ by) (store_of m io)
+    run rows (shift rows a prov by) (store_of m io) ≡ outcome (shift_settling rows m.cells (pos a +ℤ by) prov) (pos a +ℤ by) (store_of m io)
 shift_run rows m a Empty by io = refl
 shift_run rows m a (Whole x) by io = require_run (in_bounds (row_of rows x) (pos a +ℤ by)) rows (store_of m io) OutOfBounds (pos a +ℤ by)
 shift_run rows m a (Either id past start) by io =
@@ -66,12 +66,12 @@ not_ok : {A : Type 0} (c : Clause) (k : Settling) → refused c ≡ fine k → A
 not_ok c k h = absurd (clash c k h)
 
 can_to : (t : Bool) (cells : Cells) (id : Event) (x : ObjName) (c : Clause) (k : Settling) → is_other (kept_in cells id) x ≡ t → has_cell cells id ≡ true →
-  cond t (Err c) (Ok (Some (id, x))) ≡ Ok k → CanSettle cells k
+    cond t (Err c) (Ok (Some (id, x))) ≡ Ok k → CanSettle cells k
 can_to true cells id x c k e has h = not_ok c k h
 can_to false cells id x c k e has h = subst (λ (s : Settling). CanSettle cells s) (ok_is (Some (id, x)) k h) (has, e)
 
 can_by : (b d : Bool) (cells : Cells) (id : Event) (past start : ObjName) (c : Clause) (k : Settling) → has_cell cells id ≡ true →
-  settling_by b d cells id past start c ≡ Ok k → CanSettle cells k
+    settling_by b d cells id past start c ≡ Ok k → CanSettle cells k
 can_by true true cells id past start c k has h = subst (λ (s : Settling). CanSettle cells s) (ok_is None k h) tt
 can_by true false cells id past start c k has h = can_to (is_other (kept_in cells id) past) cells id past c k refl has h
 can_by false true cells id past start c k has h = can_to (is_other (kept_in cells id) start) cells id start c k refl has h
@@ -82,15 +82,15 @@ can_require true cells c k h = subst (λ (s : Settling). CanSettle cells s) (ok_
 can_require false cells c k h = not_ok c k h
 
 pub can_shift : (rows : List Row) (m : Kept) (a : ℤ) (prov : Prov) (k : Settling) → IsMade m prov → shift_settling rows m.cells a prov ≡ Ok k →
-  CanSettle m.cells k
+    CanSettle m.cells k
 can_shift rows m a Empty k made h = not_ok OutOfBounds k h
 can_shift rows m a (Whole x) k made h = can_require (in_bounds (row_of rows x) a) m.cells OutOfBounds k h
 can_shift rows m a (Either id past start) k made h = can_by (in_bounds (row_of rows past) a) (in_bounds (row_of rows start) a) m.cells id past start
-  OutOfBounds k made.0 h
+    OutOfBounds k made.0 h
 
 -- what holds if either test passes holds where something may be settled
 pub address_by : (b d : Bool) (cells : Cells) (id : Event) (past start : ObjName) (c : Clause) (P : Type 0) (r : Result Settling Clause) →
-  r ≡ settling_by b d cells id past start c → (b ≡ true → P) → (d ≡ true → P) → OnOk r P
+    r ≡ settling_by b d cells id past start c → (b ≡ true → P) → (d ≡ true → P) → OnOk r P
 address_by true d cells id past start c P (Ok k) e f g = f refl
 address_by false true cells id past start c P (Ok k) e f g = g refl
 address_by false false cells id past start c P (Ok k) e f g = not_ok c k (sym e)
@@ -101,10 +101,10 @@ done_is v w is js s u e f g = λ i. Done (e i) (f i) (g i)
 
 -- ---- what settling leaves
 pub shift_done : (old new : Kept) (a b : ℕ) (prov : Prov) (by : ℤ) (r : Result Settling Clause) (k : Settling) (start items : List Item) →
-  record new { cells = [] } ≡ record old { cells = [] } → r ≡ shift_settling old.rows old.cells (pos a +ℤ by) prov → r ≡ Ok k → IsMade old prov →
-  pos b ≡ pos a +ℤ by → start ≡ [] → (length start < 32 → items ≡ start ++ settling_items k) →
-  (CanSettle old.cells k → (io : Io) → store_of new io ≡ after_settling k (store_of old io)) →
-  (io : Io) → run new.rows (shift new.rows a prov by) (store_of old io) ≡ Done (pos b) items (store_of new io)
+    record new { cells = [] } ≡ record old { cells = [] } → r ≡ shift_settling old.rows old.cells (pos a +ℤ by) prov → r ≡ Ok k → IsMade old prov →
+    pos b ≡ pos a +ℤ by → start ≡ [] → (length start < 32 → items ≡ start ++ settling_items k) →
+    (CanSettle old.cells k → (io : Io) → store_of new io ≡ after_settling k (store_of old io)) →
+    (io : Io) → run new.rows (shift new.rows a prov by) (store_of old io) ≡ Done (pos b) items (store_of new io)
 shift_done old new a b prov by r k start items rest is ok made to none noted left io =
     let rows : new.rows ≡ old.rows = ap (λ (m : Kept). m.rows) rest in
     let settles : shift_settling old.rows old.cells (pos a +ℤ by) prov ≡ Ok k = sym is ∙ ok in
@@ -113,22 +113,22 @@ shift_done old new a b prov by r k start items rest is ok made to none noted lef
     ∙ shift_run old.rows old a prov by io
     ∙ ap (λ (q : Result Settling Clause). outcome q (pos a +ℤ by) (store_of old io)) settles
     ∙ done_is (pos a +ℤ by) (pos b) (settling_items k) items (after_settling k (store_of old io)) (store_of new io) (sym to) (sym listed)
-      (sym (left (can_shift old.rows old (pos a +ℤ by) prov k made settles) io))
+    (sym (left (can_shift old.rows old (pos a +ℤ by) prov k made settles) io))
 
 pub shift_raised : (m : Kept) (a : ℕ) (prov : Prov) (by : ℤ) (r : Result Settling Clause) (c : Clause) →
-  r ≡ shift_settling m.rows m.cells (pos a +ℤ by) prov → r ≡ Err c → (io : Io) → run m.rows (shift m.rows a prov by) (store_of m io) ≡ Raised c
+    r ≡ shift_settling m.rows m.cells (pos a +ℤ by) prov → r ≡ Err c → (io : Io) → run m.rows (shift m.rows a prov by) (store_of m io) ≡ Raised c
 shift_raised m a prov by r c is err io =
     shift_run m.rows m a prov by io ∙ ap (λ (q : Result Settling Clause). outcome q (pos a +ℤ by) (store_of m io)) (sym is ∙ err)
 
 pub stays_made : (old new : Kept) → record new { cells = [] } ≡ record old { cells = [] } → ((e : Event) → has_cell new.cells e ≡ has_cell old.cells e) →
-  (p : Prov) → IsMade old p → IsMade new p
+    (p : Prov) → IsMade old p → IsMade new p
 stays_made old new rest cells Empty made = tt
 stays_made old new rest cells (Whole x) made = ap (λ (m : Kept). is_some (held_of m.objects x)) rest ∙ made
 stays_made old new rest cells (Either id past start) made =
     (cells id ∙ made.0, subst (λ (ps : List Prov). HasNumber ps (Either id past start)) (sym (ap (λ (m : Kept). m.origins) rest)) made.1)
 
 pub narrowed_cells : (b : Bool) (old new : Kept) (id : Event) (keep : ObjName) → OnTrue b (Settles old.cells new.cells id keep) → OnFalse b (new ≡ old) →
-  (e : Event) → has_cell new.cells e ≡ has_cell old.cells e
+    (e : Event) → has_cell new.cells e ≡ has_cell old.cells e
 narrowed_cells true old new id keep s same e = s.cells e
 narrowed_cells false old new id keep s same e = ap (λ (m : Kept). has_cell m.cells e) same
 
@@ -137,7 +137,7 @@ where_true true P e h = h
 where_true false P e h = absurd (cc)
 
 pub settled_free : (b : Bool) (cells : Cells) (id : Event) (keep : ObjName) → b ≡ not (is_other (kept_in cells id) keep) →
-  is_other (kept_in cells id) keep ≡ false → b ≡ true
+    is_other (kept_in cells id) keep ≡ false → b ≡ true
 settled_free b cells id keep e free = e ∙ ap not free
 
 pub append_none : (is : List Item) → is ≡ is ++ []

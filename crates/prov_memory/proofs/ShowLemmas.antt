@@ -1,6 +1,39 @@
 -- What a load exposes and settles, and its act where it succeeds.
-use Rattle.std.proofs.Common.{◌≡◌, ℕ, zero, suc, ◌+◌, ◌*◌, ◌<◌, ◌≤◌, Bool, true, false, ◌&&◌, cond, refl, sym, ap, ap₂, ◌∙◌, subst, arith, append_assoc,
-  length-append, ℤ, List, [], ◌∷◌, ◌++◌, length, map, slice_get, Option, Some, None}
+use Rattle.std.proofs.Common.{
+  ◌≡◌,
+  ℕ,
+  zero,
+  suc,
+  ◌+◌,
+  ◌*◌,
+  ◌<◌,
+  ◌≤◌,
+  Bool,
+  true,
+  false,
+  ◌&&◌,
+  cond,
+  refl,
+  sym,
+  ap,
+  ap₂,
+  ◌∙◌,
+  subst,
+  arith,
+  append_assoc,
+  length-append,
+  ℤ,
+  List,
+  [],
+  ◌∷◌,
+  ◌++◌,
+  length,
+  map,
+  slice_get,
+  Option,
+  Some,
+  None,
+}
 use Rattle.std.specs.Prelude.{Result, Ok, Err, IfOk, OnOk, nat_lt, option_map, ◌==◌}
 use Rattle.std.proofs.lemmas.List.{map-append, append-nil}
 use Rattle.ub_base.specs.declared.clause.Clause.{Clause}
@@ -20,8 +53,20 @@ use Rattle.prov_memory.specs.declared.memory.access.Accessed.{Accessed as Found}
 use Rattle.mem_spec.specs.Agreement.{number_of_kind, bytes_of_kind}
 use Rattle.mem_spec.specs.Store.{Store, Byte, unwritten, written, Life, TaggedByte, range_from}
 use Rattle.mem_spec.specs.Script.{Script, Give, Act, Done, touched, run, ◌>>=◌, ◌>>◌}
-use Rattle.mem_spec.specs.Acts.{Accessed, access, candidates, show_each, show_pieces, origins_in, all_written, number_of, suits_load, value_of, load_int,
-  load_func}
+use Rattle.mem_spec.specs.Acts.{
+  Accessed,
+  access,
+  candidates,
+  show_each,
+  show_pieces,
+  origins_in,
+  all_written,
+  number_of,
+  suits_load,
+  value_of,
+  load_int,
+  load_func,
+}
 use Rattle.mem_spec.specs.Streams.{Io}
 use Rattle.prov_memory.specs.Cells.{cell_at, byte_in, tagged_in}
 use Rattle.prov_memory.specs.Held.{Held, changed, uncovered}
@@ -46,10 +91,10 @@ range_more f from (suc n) =
 origins_append : (bs cs : List TaggedByte) → origins_of (bs ++ cs) ≡ origins_of bs ++ origins_of cs
 origins_append [] cs = refl
 origins_append (b ∷ bs) cs = ap (λ (xs : List ObjName). origins_in b.byte ++ xs) (origins_append bs cs) ∙ sym
-  (append_assoc (origins_in b.byte) (origins_of bs) (origins_of cs))
+    (append_assoc (origins_in b.byte) (origins_of bs) (origins_of cs))
 
 pub origins_next : (f : ℕ → TaggedByte) (from n : ℕ) → origins_of (range_from f from (n + 1)) ≡ origins_of (range_from f from n) ++
-  origins_in (f (from + n)).byte
+    origins_in (f (from + n)).byte
 origins_next f from n =
     let count : n + 1 ≡ suc n = omega arith in
     ap (λ (k : ℕ). origins_of (range_from f from k)) count
@@ -69,8 +114,12 @@ origins_few (written n (Some piece)) = candidates_few piece.0
 
 few_in : (f : ℕ → TaggedByte) (from n : ℕ) → length (origins_of (range_from f from n)) ≤ 2 * n
 few_in f from zero = omega arith
-few_in f from (suc n) = omega (arith, length-append (origins_in (f from).byte) (origins_of (range_from f (suc from) n)), origins_few (f from).byte,
-  few_in f (suc from) n)
+few_in f from (suc n) = omega (
+  arith,
+  length-append (origins_in (f from).byte) (origins_of (range_from f (suc from) n)),
+  origins_few (f from).byte,
+  few_in f (suc from) n,
+)
 
 -- ---- objects become exposed one after the other
 uncovered_append : (xs ys : List ObjName) (hs : List Held) → uncovered_each (xs ++ ys) hs ≡ uncovered_each ys (uncovered_each xs hs)
@@ -90,8 +139,11 @@ StaysAt hs k h = (g : Held) × (slice_get hs k ≡ Some g) × (g.cells ≡ h.cel
 
 stays_at : (x : ObjName) (hs : List Held) (k : ℕ) (h : Held) → slice_get hs k ≡ Some h → StaysAt (changed uncovered x hs) k h
 stays_at x [] k h e = absurd (cc)
-stays_at x (g ∷ hs) zero h e = (cond (same_object g.name x) (uncovered g) g, refl,
-  bytes_stay (same_object g.name x) g ∙ ap (λ (k : Held). k.cells) (held_is g h e))
+stays_at x (g ∷ hs) zero h e = (
+  cond (same_object g.name x) (uncovered g) g,
+  refl,
+  bytes_stay (same_object g.name x) g ∙ ap (λ (k : Held). k.cells) (held_is g h e),
+)
 stays_at x (g ∷ hs) (suc k) h e = stays_at x hs k h e
 
 pub stays_each : (xs : List ObjName) (hs : List Held) (k : ℕ) (h : Held) → slice_get hs k ≡ Some h → StaysAt (uncovered_each xs hs) k h
@@ -110,18 +162,18 @@ showing_append xs ys m = ap (λ (hs : List Held). record m { objects = hs }) (un
 
 -- ---- one byte more
 pub piece_seen : (m now : Kept) (h : Held) (at from n : ℕ) (cell : Cell) (prov : Prov) → slice_get m.objects at ≡ Some h →
-  now ≡ showing (origins_of (bytes_in m h from n)) m → ((g : Held) → slice_get now.objects at ≡ Some g → cell ≡ cell_at g.cells (from + n)) →
-  candidates prov ≡ origins_in (byte_in now.origins cell) → candidates prov ≡ origins_in (byte_in m.origins (cell_at h.cells (from + n)))
+    now ≡ showing (origins_of (bytes_in m h from n)) m → ((g : Held) → slice_get now.objects at ≡ Some g → cell ≡ cell_at g.cells (from + n)) →
+    candidates prov ≡ origins_in (byte_in now.origins cell) → candidates prov ≡ origins_in (byte_in m.origins (cell_at h.cells (from + n)))
 piece_seen m now h at from n cell prov e is here named =
     let k = stays_each (origins_of (bytes_in m h from n)) m.objects at h e in
     let found : slice_get now.objects at ≡ Some k.0 = ap (λ (q : Kept). slice_get q.objects at) is ∙ k.1 in
     named
     ∙ ap₂ (λ (ps : List Prov) (c : Cell). origins_in (byte_in ps c)) (ap (λ (q : Kept). q.origins) is)
-      (here k.0 found ∙ ap (λ (cs : List Cell). cell_at cs (from + n)) k.2)
+    (here k.0 found ∙ ap (λ (cs : List Cell). cell_at cs (from + n)) k.2)
 
 pub shown_next : (m now new : Kept) (cs : List Cell) (from n : ℕ) (prov : Prov) → now ≡ showing (origins_of (range_in m cs from n)) m →
-  candidates prov ≡ origins_in (byte_in m.origins (cell_at cs (from + n))) → new ≡ showing (candidates prov) now →
-  new ≡ showing (origins_of (range_in m cs from (n + 1))) m
+    candidates prov ≡ origins_in (byte_in m.origins (cell_at cs (from + n))) → new ≡ showing (candidates prov) now →
+    new ≡ showing (origins_of (range_in m cs from (n + 1))) m
 shown_next m now new cs from n prov is piece shown =
     let xs = origins_of (range_in m cs from n) in
     let ys = origins_in (byte_in m.origins (cell_at cs (from + n))) in
@@ -131,8 +183,8 @@ shown_next m now new cs from n prov is piece shown =
     ∙ ap (λ (zs : List ObjName). showing zs m) (sym (origins_next (λ k. tagged_in m.origins (map type_of m.types) (cell_at cs k)) from n))
 
 pub noted_next : (m : Kept) (cs : List Cell) (t now new : List Item) (from n : ℕ) (prov : Prov) → n < 8 → length t + 16 < 32 → now ≡ t ++
-  map Expose (origins_of (range_in m cs from n)) → candidates prov ≡ origins_in (byte_in m.origins (cell_at cs (from + n))) →
-  (length now + 1 < 32 → new ≡ now ++ map Expose (candidates prov)) → new ≡ t ++ map Expose (origins_of (range_in m cs from (n + 1)))
+    map Expose (origins_of (range_in m cs from n)) → candidates prov ≡ origins_in (byte_in m.origins (cell_at cs (from + n))) →
+    (length now + 1 < 32 → new ≡ now ++ map Expose (candidates prov)) → new ≡ t ++ map Expose (origins_of (range_in m cs from (n + 1)))
 noted_next m cs t now new from n prov lt room is piece noted =
     let f = λ (k : ℕ). tagged_in m.origins (map type_of m.types) (cell_at cs k) in
     let xs = origins_of (range_in m cs from n) in
@@ -151,17 +203,17 @@ noted_next m cs t now new from n prov lt room is piece noted =
 
 -- ---- the act
 shows_pieces : (rows : List Row) (m : Kept) (bs : List TaggedByte) (io : Io) →
-  run rows (show_pieces bs) (store_of m io) ≡ Done tt (map Expose (origins_of bs)) (store_of (showing (origins_of bs) m) io)
+    run rows (show_pieces bs) (store_of m io) ≡ Done tt (map Expose (origins_of bs)) (store_of (showing (origins_of bs) m) io)
 shows_pieces rows m [] io = refl
 shows_pieces rows m (b ∷ bs) io =
     let xs = origins_in b.byte in
     let mid = showing xs m in
     done_then rows (show_each xs) (λ (v : Unit {0}). show_pieces bs) (store_of m io) (store_of mid io) (store_of (showing (origins_of bs) mid) io) tt tt
-      (map Expose xs) (map Expose (origins_of bs)) (shows_each rows m xs io) (shows_pieces rows mid bs io)
+    (map Expose xs) (map Expose (origins_of bs)) (shows_each rows m xs io) (shows_pieces rows mid bs io)
     ∙ ap₂ (λ (js : List Item) (k : Kept). Done tt js (store_of k io)) (sym (map-append Expose xs (origins_of bs))) (sym (showing_append xs (origins_of bs) m))
 
 pub shows_then : {V : Type 0} (rows : List Row) (m : Kept) (bs : List TaggedByte) (w : V) (io : Io) →
-  run rows (show_pieces bs >> Give w) (store_of m io) ≡ Done w (map Expose (origins_of bs)) (store_of (showing (origins_of bs) m) io)
+    run rows (show_pieces bs >> Give w) (store_of m io) ≡ Done w (map Expose (origins_of bs)) (store_of (showing (origins_of bs) m) io)
 shows_then rows m bs w io =
     let end = store_of (showing (origins_of bs) m) io in
     done_then rows (show_pieces bs) (λ (v : Unit {0}). Give w) (store_of m io) end end tt w (map Expose (origins_of bs)) [] (shows_pieces rows m bs io) refl
@@ -180,10 +232,11 @@ ok_is : (a b : ℕ) → ok_of a ≡ ok_of b → a ≡ b
 ok_is a b e = cc
 
 tail_then_by : {V : Type 0} (t u v : Bool) (number : ℕ) (rows : List Row) (ty : CType) (is_bool : Bool) (rest : List TaggedByte → Script V) (n : ℕ)
-  (x : ObjName) (from : ℕ) (life : Life) (s : Store) (bs : List TaggedByte) (end : Act V) → range_from (s.bytes x) from n ≡ bs →
-  suits_load ty life.declared from bs ≡ t → all_written bs ≡ u → (is_bool && nat_lt 1 (number_of bs)) ≡ v →
-  Ok number ≡ cond t (number_checked is_bool (cond u (Some (number_of bs)) None)) (Err EffectiveType) → (number_of bs ≡ number → run rows (rest bs) s ≡ end) →
-  run rows (load_tail ty is_bool rest n (record { object = x; from = from; life = Some life })) s ≡ touched (Read x from n) end
+    (x : ObjName) (from : ℕ) (life : Life) (s : Store) (bs : List TaggedByte) (end : Act V) → range_from (s.bytes x) from n ≡ bs →
+    suits_load ty life.declared from bs ≡ t → all_written bs ≡ u → (is_bool && nat_lt 1 (number_of bs)) ≡ v →
+    Ok number ≡ cond t (number_checked is_bool (cond u (Some (number_of bs)) None)) (Err EffectiveType) →
+    (number_of bs ≡ number → run rows (rest bs) s ≡ end) →
+    run rows (load_tail ty is_bool rest n (record { object = x; from = from; life = Some life })) s ≡ touched (Read x from n) end
 tail_then_by false u v number rows ty is_bool rest n x from life s bs end g e f h is runs = absurd (not_err number EffectiveType is)
 tail_then_by true false v number rows ty is_bool rest n x from life s bs end g e f h is runs = absurd (not_err number Indeterminate is)
 tail_then_by true true true number rows ty is_bool rest n x from life s bs end g e f h is runs = absurd (not_err number TrapRepresentation (rw h at is))
@@ -194,20 +247,20 @@ tail_then_by true true false number rows ty is_bool rest n x from life s bs end 
 -- what a load reads of a memory
 abbrev pub Reads : Kept → Found → CType → Bool → ℕ → ℕ → Type 0
 Reads m f ty is_bool n number = (h : Held) → slice_get m.objects f.object ≡ Some h →
-  Ok number ≡ number_read ty is_bool (option_map form_of h.declared) f.from (bytes_in m h f.from n)
+    Ok number ≡ number_read ty is_bool (option_map form_of h.declared) f.from (bytes_in m h f.from n)
 
 -- the checks of a load hold, and what follows them runs on
 pub tail_then : {V : Type 0} (m : Kept) (f : Found) (ty : CType) (is_bool : Bool) (rest : List TaggedByte → Script V) (n number : ℕ) (end : Act V) (io : Io)
-  (r : IsReached m.objects f n) → Reads m f ty is_bool n number →
-  (number_of (bytes_in m r.object f.from n) ≡ number → run m.rows (rest (bytes_in m r.object f.from n)) (after_settling f.settles (store_of m io)) ≡ end) →
-  run m.rows (load_tail ty is_bool rest n (reached m.objects f)) (after_settling f.settles (store_of m io)) ≡ touched (Read f.name f.from n) end
+    (r : IsReached m.objects f n) → Reads m f ty is_bool n number →
+    (number_of (bytes_in m r.object f.from n) ≡ number → run m.rows (rest (bytes_in m r.object f.from n)) (after_settling f.settles (store_of m io)) ≡ end) →
+    run m.rows (load_tail ty is_bool rest n (reached m.objects f)) (after_settling f.settles (store_of m io)) ≡ touched (Read f.name f.from n) end
 tail_then m f ty is_bool rest n number end io r reads runs =
     let s = after_settling f.settles (store_of m io) in
     let bs = bytes_in m r.object f.from n in
     ap (λ (o : Option Held). run m.rows (load_tail ty is_bool rest n (record { object = f.name; from = f.from; life = life_in o })) s) r.held
     ∙ tail_then_by (suits_load ty (option_map form_of r.object.declared) f.from bs) (all_written bs) (is_bool && nat_lt 1 (number_of bs)) number m.rows ty
-      is_bool rest n f.name f.from (life_at r.object) s bs end (range_is m io f.settles f.name r.object f.from n r.held) refl refl refl
-      (reads r.object r.there) runs
+    is_bool rest n f.name f.from (life_at r.object) s bs end (range_is m io f.settles f.name r.object f.from n r.held) refl refl refl
+    (reads r.object r.there) runs
 
 -- the items of a load
 abbrev pub LoadItems : Found → ℕ → List ObjName → List Item → Type 0
@@ -217,9 +270,9 @@ abbrev pub number_tail : {V : Type 0} → CType → Bool → (ℕ → V) → ℕ
 number_tail ty is_bool g n = load_tail ty is_bool (λ bs. show_pieces bs >> Give (g (number_of bs))) n
 
 pub number_loaded : {V : Type 0} (m new : Kept) (f : Found) (ty : CType) (is_bool : Bool) (g : ℕ → V) (n align a : ℕ) (prov : Prov) (number : ℕ)
-  (items : List Item) → Makes m f n align a prov → (r : IsReached m.objects f n) → CanSettleOf m prov f.settles → Reads m f ty is_bool n number →
-  IsLoaded m new (origins_of (bytes_in m r.object f.from n)) f.settles → LoadItems f n (origins_of (bytes_in m r.object f.from n)) items → HasCell m prov →
-  (io : Io) → run m.rows (access m.rows n align a prov >>= number_tail ty is_bool g n) (store_of m io) ≡ Done (g number) items (store_of new io)
+    (items : List Item) → Makes m f n align a prov → (r : IsReached m.objects f n) → CanSettleOf m prov f.settles → Reads m f ty is_bool n number →
+    IsLoaded m new (origins_of (bytes_in m r.object f.from n)) f.settles → LoadItems f n (origins_of (bytes_in m r.object f.from n)) items → HasCell m prov →
+    (io : Io) → run m.rows (access m.rows n align a prov >>= number_tail ty is_bool g n) (store_of m io) ≡ Done (g number) items (store_of new io)
 number_loaded {V} m new f ty is_bool g n align a prov number items makes r can reads loaded noted has io =
     let bs = bytes_in m r.object f.from n in
     let xs = origins_of bs in
@@ -233,18 +286,18 @@ number_loaded {V} m new f ty is_bool g n align a prov number items makes r can r
     ∙ shows_then m.rows mid bs (g (number_of bs)) io
     ∙ ap₂ (λ (k : ℕ) (q : Kept). Done (g k) (map Expose xs) (store_of q io)) same (sym new_is) in
     done_then m.rows (access m.rows n align a prov) (number_tail ty is_bool g n) (store_of m io) s (store_of new io) (reached m.objects f) (g number) first
-      (Read f.name f.from n ∷ map Expose xs) (makes io)
-      (tail_then m f ty is_bool (λ bs. show_pieces bs >> Give (g (number_of bs))) n number (Done (g number) (map Expose xs) (store_of new io)) io r reads
-      shown)
+    (Read f.name f.from n ∷ map Expose xs) (makes io)
+    (tail_then m f ty is_bool (λ bs. show_pieces bs >> Give (g (number_of bs))) n number (Done (g number) (map Expose xs) (store_of new io)) io r reads
+    shown)
     ∙ ap (λ (js : List Item). Done (g number) js (store_of new io)) (sym (append_assoc first (Read f.name f.from n ∷ []) (map Expose xs)) ∙ sym noted)
 
 abbrev plain_number : ℕ → ℕ
 plain_number k = k
 
 pub func_loaded : (m new : Kept) (f : Found) (ty : CType) (a : ℕ) (prov : Prov) (number : ℕ) (items : List Item) → Makes m f 8 8 a prov →
-  (r : IsReached m.objects f 8) → CanSettleOf m prov f.settles → Reads m f ty false 8 number →
-  IsLoaded m new (origins_of (bytes_in m r.object f.from 8)) f.settles → LoadItems f 8 (origins_of (bytes_in m r.object f.from 8)) items → HasCell m prov →
-  (io : Io) → run m.rows (load_func m.rows ty a prov) (store_of m io) ≡ Done number items (store_of new io)
+    (r : IsReached m.objects f 8) → CanSettleOf m prov f.settles → Reads m f ty false 8 number →
+    IsLoaded m new (origins_of (bytes_in m r.object f.from 8)) f.settles → LoadItems f 8 (origins_of (bytes_in m r.object f.from 8)) items → HasCell m prov →
+    (io : Io) → run m.rows (load_func m.rows ty a prov) (store_of m io) ≡ Done number items (store_of new io)
 func_loaded m new f ty a prov number items makes r can reads loaded noted has io =
     number_loaded m new f ty false plain_number 8 8 a prov number items makes r can reads loaded noted has io
 
@@ -252,27 +305,27 @@ abbrev int_of : List Row → IntKind → ℕ → Prov → ℕ → Script ℤ
 int_of rows kind a prov n = access rows n n a prov >>= number_tail (int kind) (number_of_kind kind == 1) (value_of kind) n
 
 pub int_loaded : (m new : Kept) (f : Found) (kind : IntKind) (is_bool : Bool) (a n : ℕ) (prov : Prov) (number : ℕ) (value : ℤ) (items : List Item) →
-  n ≡ bytes_of_kind kind → is_bool ≡ (number_of_kind kind == 1) → value ≡ value_of kind number → Makes m f n n a prov →
-  (r : IsReached m.objects f n) → CanSettleOf m prov f.settles → Reads m f (int kind) is_bool n number →
-  IsLoaded m new (origins_of (bytes_in m r.object f.from n)) f.settles → LoadItems f n (origins_of (bytes_in m r.object f.from n)) items → HasCell m prov →
-  (io : Io) → run m.rows (load_int m.rows kind a prov) (store_of m io) ≡ Done value items (store_of new io)
+    n ≡ bytes_of_kind kind → is_bool ≡ (number_of_kind kind == 1) → value ≡ value_of kind number → Makes m f n n a prov →
+    (r : IsReached m.objects f n) → CanSettleOf m prov f.settles → Reads m f (int kind) is_bool n number →
+    IsLoaded m new (origins_of (bytes_in m r.object f.from n)) f.settles → LoadItems f n (origins_of (bytes_in m r.object f.from n)) items → HasCell m prov →
+    (io : Io) → run m.rows (load_int m.rows kind a prov) (store_of m io) ≡ Done value items (store_of new io)
 int_loaded m new f kind is_bool a n prov number value items size bool is makes r can reads loaded noted has io =
     ap (λ (k : ℕ). run m.rows (int_of m.rows kind a prov k) (store_of m io)) (sym size)
     ∙ number_loaded m new f (int kind) (number_of_kind kind == 1) (value_of kind) n n a prov number items makes r can
-      (subst (λ (b : Bool). Reads m f (int kind) b n number) bool reads) loaded noted has io
+    (subst (λ (b : Bool). Reads m f (int kind) b n number) bool reads) loaded noted has io
     ∙ ap (λ (z : ℤ). Done z items (store_of new io)) (sym is)
 
 -- ---- from what the steps of a load ensure
 pub loaded_by : (old mid new : Kept) (xs : List ObjName) (settles : Settling) → mid ≡ showing xs old → record new { cells = [] } ≡ record mid { cells = [] } →
-  (CanSettle mid.cells settles → (k : Kept) → k.cells ≡ mid.cells → (io : Io) →
-  store_of (record k { cells = new.cells }) io ≡ after_settling settles (store_of k io)) → IsLoaded old new xs settles
+    (CanSettle mid.cells settles → (k : Kept) → k.cells ≡ mid.cells → (io : Io) →
+    store_of (record k { cells = new.cells }) io ≡ after_settling settles (store_of k io)) → IsLoaded old new xs settles
 loaded_by old mid new xs settles is rest store_is = record {
   rest = rest ∙ ap (λ (k : Kept). record k { cells = [] }) is;
   cells = cells_settle old mid new.cells (uncovered_each xs old.objects) settles is store_is;
 }
 
 pub load_noted : (t mid new : List Item) (i : Item) (js : List Item) → length t + 17 < 32 → (length t < 32 → mid ≡ t ++ i ∷ []) →
-  (length mid + 16 < 32 → new ≡ mid ++ js) → new ≡ (t ++ i ∷ []) ++ js
+    (length mid + 16 < 32 → new ≡ mid ++ js) → new ≡ (t ++ i ∷ []) ++ js
 load_noted t mid new i js room one more =
     let is : mid ≡ t ++ i ∷ [] = one (omega arith) in
     let long : length mid ≡ length t + 1 = ap length is ∙ length-append t (i ∷ []) in
@@ -287,10 +340,10 @@ Loads m new f n = (h : Held) → slice_get m.objects f.object ≡ Some h → IsL
 
 abbrev pub Notes : Kept → Found → ℕ → List Item → List Item → Type 0
 Notes m f n t items = (h : Held) → slice_get m.objects f.object ≡ Some h → length t + 17 < 32 → items ≡ (t ++ Read f.name f.from n ∷ []) ++
-  map Expose (origins_of (bytes_in m h f.from n))
+    map Expose (origins_of (bytes_in m h f.from n))
 
 load_items : (m : Kept) (f : Found) (n : ℕ) (t items : List Item) (r : IsReached m.objects f n) → t ≡ settling_items f.settles ++ Alive f.name ∷ [] →
-  Notes m f n t items → LoadItems f n (origins_of (bytes_in m r.object f.from n)) items
+    Notes m f n t items → LoadItems f n (origins_of (bytes_in m r.object f.from n)) items
 load_items m f n t items r first notes =
     let long : length t ≡ length (settling_items f.settles ++ Alive f.name ∷ []) = ap length first in
     let few = two_at_most f.settles f.name in
@@ -298,37 +351,37 @@ load_items m f n t items r first notes =
     ∙ ap (λ (js : List Item). (js ++ Read f.name f.from n ∷ []) ++ map Expose (origins_of (bytes_in m r.object f.from n))) first
 
 func_all : (m new : Kept) (f : Found) (ty : CType) (a : ℕ) (prov : Prov) (number : ℕ) (t items : List Item) → Makes m f 8 8 a prov → IsReached m.objects f 8 →
-  CanSettleOf m prov f.settles → t ≡ settling_items f.settles ++ Alive f.name ∷ [] → Reads m f ty false 8 number → Loads m new f 8 → Notes m f 8 t items →
-  HasCell m prov → (io : Io) → run m.rows (load_func m.rows ty a prov) (store_of m io) ≡ Done number items (store_of new io)
+    CanSettleOf m prov f.settles → t ≡ settling_items f.settles ++ Alive f.name ∷ [] → Reads m f ty false 8 number → Loads m new f 8 → Notes m f 8 t items →
+    HasCell m prov → (io : Io) → run m.rows (load_func m.rows ty a prov) (store_of m io) ≡ Done number items (store_of new io)
 func_all m new f ty a prov number t items makes r can first reads loads notes has io =
     func_loaded m new f ty a prov number items makes r can reads (loads r.object r.there) (load_items m f 8 t items r first notes) has io
 
 pub func_exact : (r : Result ℕ Clause) (m acc new : Kept) (f : Found) (ty : CType) (a : ℕ) (prov : Prov) (t items : List Item) → acc ≡ m →
-  Makes m f 8 8 a prov → IsReached m.objects f 8 → CanSettleOf m prov f.settles → t ≡ settling_items f.settles ++ Alive f.name ∷ [] →
-  IfOk r (λ n. Reads acc f ty false 8 n) → OnOk r (Loads acc new f 8) → OnOk r (Notes acc f 8 t items) →
-  IfOk r (λ n. HasCell m prov → (io : Io) → run m.rows (load_func m.rows ty a prov) (store_of m io) ≡ Done n items (store_of new io))
+    Makes m f 8 8 a prov → IsReached m.objects f 8 → CanSettleOf m prov f.settles → t ≡ settling_items f.settles ++ Alive f.name ∷ [] →
+    IfOk r (λ n. Reads acc f ty false 8 n) → OnOk r (Loads acc new f 8) → OnOk r (Notes acc f 8 t items) →
+    IfOk r (λ n. HasCell m prov → (io : Io) → run m.rows (load_func m.rows ty a prov) (store_of m io) ≡ Done n items (store_of new io))
 func_exact (Err c) m acc new f ty a prov t items same makes reached_it can first reads loads notes = tt
 func_exact (Ok n) m acc new f ty a prov t items same makes reached_it can first reads loads notes =
     func_all m new f ty a prov n t items makes reached_it can first (subst (λ (k : Kept). Reads k f ty false 8 n) same reads)
-      (subst (λ (k : Kept). Loads k new f 8) same loads) (subst (λ (k : Kept). Notes k f 8 t items) same notes)
+    (subst (λ (k : Kept). Loads k new f 8) same loads) (subst (λ (k : Kept). Notes k f 8 t items) same notes)
 
 int_all : (m new : Kept) (f : Found) (kind : IntKind) (is_bool : Bool) (a n : ℕ) (prov : Prov) (number : ℕ) (value : ℤ) (t items : List Item) →
-  n ≡ bytes_of_kind kind → is_bool ≡ (number_of_kind kind == 1) → value ≡ value_of kind number → Makes m f n n a prov → IsReached m.objects f n →
-  CanSettleOf m prov f.settles → t ≡ settling_items f.settles ++ Alive f.name ∷ [] → Reads m f (int kind) is_bool n number → Loads m new f n →
-  Notes m f n t items → HasCell m prov → (io : Io) → run m.rows (load_int m.rows kind a prov) (store_of m io) ≡ Done value items (store_of new io)
+    n ≡ bytes_of_kind kind → is_bool ≡ (number_of_kind kind == 1) → value ≡ value_of kind number → Makes m f n n a prov → IsReached m.objects f n →
+    CanSettleOf m prov f.settles → t ≡ settling_items f.settles ++ Alive f.name ∷ [] → Reads m f (int kind) is_bool n number → Loads m new f n →
+    Notes m f n t items → HasCell m prov → (io : Io) → run m.rows (load_int m.rows kind a prov) (store_of m io) ≡ Done value items (store_of new io)
 int_all m new f kind is_bool a n prov number value t items size bool is makes r can first reads loads notes has io =
     int_loaded m new f kind is_bool a n prov number value items size bool is makes r can reads (loads r.object r.there)
-      (load_items m f n t items r first notes) has io
+    (load_items m f n t items r first notes) has io
 
 pub int_exact : (m acc new : Kept) (f : Found) (given : CType) (kind : IntKind) (is_bool : Bool) (a n : ℕ) (prov : Prov) (number : ℕ) (value : ℤ)
-  (t items : List Item) → acc ≡ m → given ≡ int kind → n ≡ bytes_of_kind kind → is_bool ≡ (number_of_kind kind == 1) → value ≡ value_of kind number →
-  Makes m f n n a prov → IsReached m.objects f n → CanSettleOf m prov f.settles → t ≡ settling_items f.settles ++ Alive f.name ∷ [] →
-  Reads acc f given is_bool n number → Loads acc new f n → Notes acc f n t items → HasCell m prov →
-  (io : Io) → run m.rows (load_int m.rows kind a prov) (store_of m io) ≡ Done value items (store_of new io)
+    (t items : List Item) → acc ≡ m → given ≡ int kind → n ≡ bytes_of_kind kind → is_bool ≡ (number_of_kind kind == 1) → value ≡ value_of kind number →
+    Makes m f n n a prov → IsReached m.objects f n → CanSettleOf m prov f.settles → t ≡ settling_items f.settles ++ Alive f.name ∷ [] →
+    Reads acc f given is_bool n number → Loads acc new f n → Notes acc f n t items → HasCell m prov →
+    (io : Io) → run m.rows (load_int m.rows kind a prov) (store_of m io) ≡ Done value items (store_of new io)
 int_exact m acc new f given kind is_bool a n prov number value t items same named size bool is makes r can first reads loads notes =
     int_all m new f kind is_bool a n prov number value t items size bool is makes r can first
-      (subst (λ (ty : CType). Reads m f ty is_bool n number) named (subst (λ (k : Kept). Reads k f given is_bool n number) same reads))
-      (subst (λ (k : Kept). Loads k new f n) same loads) (subst (λ (k : Kept). Notes k f n t items) same notes)
+    (subst (λ (ty : CType). Reads m f ty is_bool n number) named (subst (λ (k : Kept). Reads k f given is_bool n number) same reads))
+    (subst (λ (k : Kept). Loads k new f n) same loads) (subst (λ (k : Kept). Notes k f n t items) same notes)
 
 -- ---- what a load or a store leaves as it was
 abbrev pub Besides : Kept → Kept → Type 0
@@ -338,10 +391,10 @@ pub besides_after : (old acc new : Kept) → acc ≡ old → Besides acc new →
 besides_after old acc new same rest = rest ∙ ap (λ (k : Kept). record k { objects = []; cells = [] }) same
 
 pub besides_put : (old mid new : Kept) (hs : List Held) → mid ≡ record old { objects = hs } → record new { cells = [] } ≡ record mid { cells = [] } →
-  Besides old new
+    Besides old new
 besides_put old mid new hs put rest = ap (λ (k : Kept). record k { objects = [] }) rest ∙ ap (λ (k : Kept). record k { objects = []; cells = [] }) put
 
 pub besides_looked : (old acc looked new : Kept) → acc ≡ old → record looked { cells = []; origins = [] } ≡ record acc { cells = []; origins = [] } →
-  record new { cells = [] } ≡ record looked { cells = [] } → record new { origins = []; cells = [] } ≡ record old { origins = []; cells = [] }
+    record new { cells = [] } ≡ record looked { cells = [] } → record new { origins = []; cells = [] } ≡ record old { origins = []; cells = [] }
 besides_looked old acc looked new same more rest =
     ap (λ (k : Kept). record k { origins = [] }) rest ∙ more ∙ ap (λ (k : Kept). record k { origins = []; cells = [] }) same

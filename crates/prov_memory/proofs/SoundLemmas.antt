@@ -47,11 +47,11 @@ abbrev pub StayCells : Kept → Kept → Type 0
 StayCells old new = (e : Event) → has_cell old.cells e ≡ true → has_cell new.cells e ≡ true
 
 made_by : (old new : Kept) → Extends old.origins new.origins → StayCells old new →
-  ((x : ObjName) → is_some (held_of old.objects x) ≡ true → is_some (held_of new.objects x) ≡ true) → StayMade old new
+    ((x : ObjName) → is_some (held_of old.objects x) ≡ true → is_some (held_of new.objects x) ≡ true) → StayMade old new
 made_by old new more cells held Empty made = tt
 made_by old new more cells held (Whole x) made = held x made
 made_by old new more cells held (Either id past start) made =
-  (cells id made.0, has_number_more old.origins new.origins (Either id past start) refl more made.1)
+    (cells id made.0, has_number_more old.origins new.origins (Either id past start) refl more made.1)
 
 extends_same : (ps qs : List Prov) → qs ≡ ps → Extends ps qs
 extends_same ps qs e = subst (λ (l : List Prov). Extends ps l) (sym e) (extends_none ps)
@@ -67,7 +67,7 @@ pub record Alters (old new : Kept) (hs : List Held) : Type 0 where
 
 pub alters_made : (old new : Kept) (hs : List Held) → Alters old new hs → StayMade old new
 alters_made old new hs a = made_by old new (extends_same old.origins new.origins a.origins) a.cells
-  (λ x h. ap (λ (l : List Held). is_some (held_of l x)) a.objects ∙ a.held x ∙ h)
+    (λ x h. ap (λ (l : List Held). is_some (held_of l x)) a.objects ∙ a.held x ∙ h)
 
 pub alters_sound : (old new : Kept) (hs : List Held) → Alters old new hs → AreKnown new → IsSound old → IsSound new
 alters_sound old new hs a known s = record {
@@ -79,14 +79,14 @@ alters_sound old new hs a known s = record {
 pub alters_known : (old new : Kept) (hs : List Held) → Alters old new hs → ObjectsKnown (length old.origins) hs → AreKnown new
 alters_known old new hs a known =
     subst (λ (l : List Held). ObjectsKnown (length new.origins) l) (sym a.objects)
-      (subst (λ (ps : List Prov). ObjectsKnown (length ps) hs) (sym a.origins) known)
+    (subst (λ (ps : List Prov). ObjectsKnown (length ps) hs) (sym a.origins) known)
 
 some_map : (f : Held → Held) (o : Option Held) → is_some (option_map f o) ≡ is_some o
 some_map f None = refl
 some_map f (Some h) = refl
 
 pub held_changed : (f : Held → Held) (x : ObjName) (hs : List Held) (y : ObjName) →
-  ((h : Held) → (f h).name ≡ h.name) → is_some (held_of (changed f x hs) y) ≡ is_some (held_of hs y)
+    ((h : Held) → (f h).name ≡ h.name) → is_some (held_of (changed f x hs) y) ≡ is_some (held_of hs y)
 held_changed f x hs y names = part_kept is_some f hs x y names (some_map f)
 
 pub held_uncovered : (xs : List ObjName) (hs : List Held) (y : ObjName) → is_some (held_of (uncovered_each xs hs) y) ≡ is_some (held_of hs y)
@@ -99,8 +99,8 @@ SameCells old new = (e : Event) → has_cell new.cells e ≡ has_cell old.cells 
 
 -- first the objects change, then something is settled
 both_alter : (old mid new : Kept) (hs : List Held) → mid ≡ record old { objects = hs } → record new { cells = [] } ≡ record mid { cells = [] } →
-  SameCells mid new → ((x : ObjName) → is_some (held_of hs x) ≡ is_some (held_of old.objects x)) →
-  (EachNamed old.origins old.objects → EachNamed old.origins hs) → Alters old new hs
+    SameCells mid new → ((x : ObjName) → is_some (held_of hs x) ≡ is_some (held_of old.objects x)) →
+    (EachNamed old.origins old.objects → EachNamed old.origins hs) → Alters old new hs
 both_alter old mid new hs is rest cells held named = record {
   objects = ap (λ (m : Kept). m.objects) rest ∙ ap (λ (m : Kept). m.objects) is;
   origins = ap (λ (m : Kept). m.origins) rest ∙ ap (λ (m : Kept). m.origins) is;
@@ -110,16 +110,16 @@ both_alter old mid new hs is rest cells held named = record {
 }
 
 shown_alters : (old mid new : Kept) (xs : List ObjName) → mid ≡ record old { objects = uncovered_each xs old.objects } →
-  record new { cells = [] } ≡ record mid { cells = [] } → SameCells mid new → Alters old new (uncovered_each xs old.objects)
+    record new { cells = [] } ≡ record mid { cells = [] } → SameCells mid new → Alters old new (uncovered_each xs old.objects)
 shown_alters old mid new xs shown rest cells =
     both_alter old mid new (uncovered_each xs old.objects) shown rest cells (held_uncovered xs old.objects) (named_uncovered old.origins xs old.objects)
 
 pub shown_made : (old mid new : Kept) (xs : List ObjName) → mid ≡ record old { objects = uncovered_each xs old.objects } →
-  record new { cells = [] } ≡ record mid { cells = [] } → SameCells mid new → StayMade old new
+    record new { cells = [] } ≡ record mid { cells = [] } → SameCells mid new → StayMade old new
 shown_made old mid new xs shown rest cells = alters_made old new (uncovered_each xs old.objects) (shown_alters old mid new xs shown rest cells)
 
 pub shown_sound : (old mid new : Kept) (xs : List ObjName) → mid ≡ record old { objects = uncovered_each xs old.objects } →
-  record new { cells = [] } ≡ record mid { cells = [] } → SameCells mid new → IsSound old → IsSound new
+    record new { cells = [] } ≡ record mid { cells = [] } → SameCells mid new → IsSound old → IsSound new
 shown_sound old mid new xs shown rest cells s =
     let hs = uncovered_each xs old.objects in
     let a = shown_alters old mid new xs shown rest cells in
@@ -127,22 +127,22 @@ shown_sound old mid new xs shown rest cells s =
 
 -- ---- stores
 stored_alters : (old acc w new : Kept) (g : Held) (x : ObjName) → acc ≡ old → w ≡ record acc { objects = changed (holding g.cells) x acc.objects } →
-  record new { cells = [] } ≡ record w { cells = [] } → SameCells w new → Alters old new (changed (holding g.cells) x old.objects)
+    record new { cells = [] } ≡ record w { cells = [] } → SameCells w new → Alters old new (changed (holding g.cells) x old.objects)
 stored_alters old acc w new g x same put rest cells =
     let is : w ≡ record old { objects = changed (holding g.cells) x old.objects } =
-          put ∙ ap (λ (k : Kept). record k { objects = changed (holding g.cells) x k.objects }) same in
+    put ∙ ap (λ (k : Kept). record k { objects = changed (holding g.cells) x k.objects }) same in
     both_alter old w new (changed (holding g.cells) x old.objects) is rest cells (λ y. held_changed (holding g.cells) x old.objects y (λ h. refl))
-      (named_changed old.origins (holding g.cells) x old.objects (λ h. refl) (λ h. refl))
+    (named_changed old.origins (holding g.cells) x old.objects (λ h. refl) (λ h. refl))
 
 pub stored_made : (old acc w new : Kept) (g : Held) (x : ObjName) → acc ≡ old → w ≡ record acc { objects = changed (holding g.cells) x acc.objects } →
-  record new { cells = [] } ≡ record w { cells = [] } → SameCells w new → StayMade old new
+    record new { cells = [] } ≡ record w { cells = [] } → SameCells w new → StayMade old new
 stored_made old acc w new g x same put rest cells = alters_made old new (changed (holding g.cells) x old.objects)
-  (stored_alters old acc w new g x same put rest cells)
+    (stored_alters old acc w new g x same put rest cells)
 
 pub stored_sound : (old acc w new : Kept) (g : Held) (x : ObjName) → acc ≡ old → w ≡ record acc { objects = changed (holding g.cells) x acc.objects } →
-  record new { cells = [] } ≡ record w { cells = [] } → SameCells w new → AreKnown new → IsSound old → IsSound new
+    record new { cells = [] } ≡ record w { cells = [] } → SameCells w new → AreKnown new → IsSound old → IsSound new
 stored_sound old acc w new g x same put rest cells known s = alters_sound old new (changed (holding g.cells) x old.objects)
-  (stored_alters old acc w new g x same put rest cells) known s
+    (stored_alters old acc w new g x same put rest cells) known s
 
 -- what is settled changes nothing of it
 pub settled_sound : (old new : Kept) → record new { cells = [] } ≡ record old { cells = [] } → SameCells old new → IsSound old → IsSound new
@@ -150,7 +150,7 @@ settled_sound old new rest cells s = record {
   known = subst (λ (m : Kept). AreKnown m) (sym rest) s.known;
   named = subst (λ (m : Kept). AreNamed m) (sym rest) s.named;
   made = λ n. stays_made old new rest cells (prov_numbered new.origins n)
-    (subst (λ (ps : List Prov). IsMade old (prov_numbered ps n)) (sym (ap (λ (m : Kept). m.origins) rest)) (s.made n));
+      (subst (λ (ps : List Prov). IsMade old (prov_numbered ps n)) (sym (ap (λ (m : Kept). m.origins) rest)) (s.made n));
 }
 
 -- ---- what is looked up
@@ -167,14 +167,14 @@ more_sound old new more each s =
     let objects : new.objects ≡ old.objects = ap (λ (m : Kept). m.objects) more.rest in
     record {
       known = subst (λ (hs : List Held). ObjectsKnown (length new.origins) hs) (sym objects)
-        (objects_more (length old.origins) (length new.origins) old.objects (more_long old.origins new.origins more.origins) s.known);
+          (objects_more (length old.origins) (length new.origins) old.objects (more_long old.origins new.origins more.origins) s.known);
       named = subst (λ (hs : List Held). EachNamed new.origins hs) (sym objects)
-        (subst (λ (ps : List Prov). EachNamed ps old.objects) (sym more.origins.1) (named_longer old.origins more.origins.0 old.objects s.named));
+          (subst (λ (ps : List Prov). EachNamed ps old.objects) (sym more.origins.1) (named_longer old.origins more.origins.0 old.objects s.named));
       made = each s.made;
     }
 
 nth_each : (ps : List Prov) (p : Prov) (P : Prov → Type 0) → P p → P Empty → ((n : ℕ) → P (slice_index_or ps n Empty)) →
-  (n : ℕ) → P (slice_index_or (ps ++ p ∷ []) n Empty)
+    (n : ℕ) → P (slice_index_or (ps ++ p ∷ []) n Empty)
 nth_each [] p P here none each zero = here
 nth_each [] p P here none each (suc n) = none
 nth_each (q ∷ ps) p P here none each zero = each 0
@@ -201,20 +201,20 @@ pointer_if_made m (Some p) bs made = some_if (are_pieces p 0 bs) m p made
 pub pointer_made : (m : Kept) (h : Held) (from : ℕ) (o : Option Prov) → o ≡ pointer_in (bytes_in m h from 8) → AreMade m → IfSome o (λ p. IsMade m p)
 pointer_made m h from o is made =
     subst (λ (q : Option Prov). IfSome q (λ p. IsMade m p)) (sym is)
-      (pointer_if_made m (origin_in (byte_in_state m.origins (cell_at h.cells from).state (cell_at h.cells from))) (bytes_in m h from 8)
-      (origin_made m (cell_at h.cells from).state (cell_at h.cells from) made))
+    (pointer_if_made m (origin_in (byte_in_state m.origins (cell_at h.cells from).state (cell_at h.cells from))) (bytes_in m h from 8)
+    (origin_made m (cell_at h.cells from).state (cell_at h.cells from) made))
 
 pub pointer_value : (old acc looked new : Kept) (f : Found) (pointer : Option Prov) (target : Prov) → acc ≡ old → (r : IsReached old.objects f 8) →
-  ((h : Held) → slice_get acc.objects f.object ≡ Some h → pointer ≡ pointer_in (bytes_in acc h f.from 8)) →
-  (IfSome pointer (λ p. IsMade acc p) → IsMade looked target) → record new { cells = [] } ≡ record looked { cells = [] } → SameCells looked new →
-  IsSound old → IsMade new target
+    ((h : Held) → slice_get acc.objects f.object ≡ Some h → pointer ≡ pointer_in (bytes_in acc h f.from 8)) →
+    (IfSome pointer (λ p. IsMade acc p) → IsMade looked target) → record new { cells = [] } ≡ record looked { cells = [] } → SameCells looked new →
+    IsSound old → IsMade new target
 pointer_value old acc looked new f pointer target same r sees value rest cells s =
     let there : slice_get acc.objects f.object ≡ Some r.object = ap (λ (m : Kept). slice_get m.objects f.object) same ∙ r.there in
     let made : AreMade acc = subst (λ (m : Kept). AreMade m) (sym same) s.made in
     stays_made looked new rest cells target (value (pointer_made acc r.object f.from pointer (sees r.object there) made))
 
 pub pointer_kept : (old acc looked new : Kept) → acc ≡ old → HasMore acc looked → record new { cells = [] } ≡ record looked { cells = [] } →
-  SameCells looked new → StayMade old new
+    SameCells looked new → StayMade old new
 pointer_kept old acc looked new same more rest cells p made =
     stays_made looked new rest cells p (more_made acc looked more p (subst (λ (m : Kept). IsMade m p) (sym same) made))
 
@@ -252,30 +252,30 @@ plain_tagged n (suc k) r = (omega arith, plain_tagged n k (r / 256))
 -- ---- more types
 pub typed_made : (old new : Kept) → record new { types = [] } ≡ record old { types = [] } → StayMade old new
 typed_made old new rest = made_by old new (extends_same old.origins new.origins (ap (λ (m : Kept). m.origins) rest))
-  (λ e h. ap (λ (m : Kept). has_cell m.cells e) rest ∙ h) (λ x h. ap (λ (m : Kept). is_some (held_of m.objects x)) rest ∙ h)
+    (λ e h. ap (λ (m : Kept). has_cell m.cells e) rest ∙ h) (λ x h. ap (λ (m : Kept). is_some (held_of m.objects x)) rest ∙ h)
 
 pub typed_sound : (old new : Kept) → record new { types = [] } ≡ record old { types = [] } → IsSound old → IsSound new
 typed_sound old new rest s = record {
   known = subst (λ (m : Kept). AreKnown m) (sym rest) s.known;
   named = subst (λ (m : Kept). AreNamed m) (sym rest) s.named;
   made = λ n. typed_made old new rest (prov_numbered new.origins n)
-    (subst (λ (ps : List Prov). IsMade old (prov_numbered ps n)) (sym (ap (λ (m : Kept). m.origins) rest)) (s.made n));
+      (subst (λ (ps : List Prov). IsMade old (prov_numbered ps n)) (sym (ap (λ (m : Kept). m.origins) rest)) (s.made n));
 }
 
 pub block_made : (old acc mid new : Kept) → acc ≡ old → record mid { types = [] } ≡ record acc { types = [] } →
-  record new { cells = [] } ≡ record mid { cells = [] } → SameCells mid new → StayMade old new
+    record new { cells = [] } ≡ record mid { cells = [] } → SameCells mid new → StayMade old new
 block_made old acc mid new same types rest cells p made =
     stays_made mid new rest cells p (typed_made acc mid types p (subst (λ (m : Kept). IsMade m p) (sym same) made))
 
 pub block_sound : (old acc mid new : Kept) → acc ≡ old → record mid { types = [] } ≡ record acc { types = [] } →
-  record new { cells = [] } ≡ record mid { cells = [] } → SameCells mid new → IsSound old → IsSound new
+    record new { cells = [] } ≡ record mid { cells = [] } → SameCells mid new → IsSound old → IsSound new
 block_sound old acc mid new same types rest cells s =
     settled_sound mid new rest cells (typed_sound acc mid types (subst (λ (m : Kept). IsSound m) (sym same) s))
 
 pub block_known : (old acc mid new : Kept) (f : Found) (size : ℕ) (cs : List Cell) → acc ≡ old →
-  (r : IsReached old.objects f size) → record mid { types = [] } ≡ record acc { types = [] } → record new { cells = [] } ≡ record mid { cells = [] } →
-  (AreKnown acc → (h : Held) → slice_get acc.objects f.object ≡ Some h → CellsKnown (length acc.origins) cs) → AreKnown old →
-  CellsKnown (length new.origins) cs
+    (r : IsReached old.objects f size) → record mid { types = [] } ≡ record acc { types = [] } → record new { cells = [] } ≡ record mid { cells = [] } →
+    (AreKnown acc → (h : Held) → slice_get acc.objects f.object ≡ Some h → CellsKnown (length acc.origins) cs) → AreKnown old →
+    CellsKnown (length new.origins) cs
 block_known old acc mid new f size cs same r types rest cells known =
     let origins : new.origins ≡ acc.origins = ap (λ (m : Kept). m.origins) rest ∙ ap (λ (m : Kept). m.origins) types in
     let there : slice_get acc.objects f.object ≡ Some r.object = ap (λ (m : Kept). slice_get m.objects f.object) same ∙ r.there in
@@ -287,7 +287,7 @@ cells_end n (d ∷ cs) c known le = (known.0, cells_end n cs c known.1 le)
 
 -- one more byte of an object
 pub cell_known : (m : Kept) (h : Held) (at place : ℕ) (cs after : List Cell) (c d : Cell) → AreKnown m → slice_get m.objects at ≡ Some h →
-  c ≡ cell_at h.cells place → d.origin ≡ c.origin → after ≡ cs ++ d ∷ [] → CellsKnown (length m.origins) cs → CellsKnown (length m.origins) after
+    c ≡ cell_at h.cells place → d.origin ≡ c.origin → after ≡ cs ++ d ∷ [] → CellsKnown (length m.origins) cs → CellsKnown (length m.origins) after
 cell_known m h at place cs after c d known there is same pushed before =
     let n = length m.origins in
     let le : (cell_at h.cells place).origin.number ≤ n = known_at n h.cells place (held_known n m.objects at h there known) in
@@ -296,7 +296,7 @@ cell_known m h at place cs after c d known there is same pushed before =
 
 -- ---- birth and death
 changed_alters : (m : Kept) (f : Held → Held) (x : ObjName) → ((h : Held) → (f h).name ≡ h.name) → ((h : Held) → (f h).origin.number ≡ h.origin.number) →
-  Alters m (record m { objects = changed f x m.objects }) (changed f x m.objects)
+    Alters m (record m { objects = changed f x m.objects }) (changed f x m.objects)
 changed_alters m f x names numbers = record {
   objects = refl;
   origins = refl;
@@ -306,17 +306,17 @@ changed_alters m f x names numbers = record {
 }
 
 pub changed_made : (m : Kept) (f : Held → Held) (x : ObjName) → ((h : Held) → (f h).name ≡ h.name) → ((h : Held) → (f h).origin.number ≡ h.origin.number) →
-  StayMade m (record m { objects = changed f x m.objects })
+    StayMade m (record m { objects = changed f x m.objects })
 changed_made m f x names numbers = alters_made m (record m { objects = changed f x m.objects }) (changed f x m.objects) (changed_alters m f x names numbers)
 
 pub changed_sound : (m : Kept) (f : Held → Held) (x : ObjName) → ((h : Held) → (f h).name ≡ h.name) → ((h : Held) → (f h).origin.number ≡ h.origin.number) →
-  (ObjectsKnown (length m.origins) m.objects → ObjectsKnown (length m.origins) (changed f x m.objects)) → IsSound m →
-  IsSound (record m { objects = changed f x m.objects })
+    (ObjectsKnown (length m.origins) m.objects → ObjectsKnown (length m.origins) (changed f x m.objects)) → IsSound m →
+    IsSound (record m { objects = changed f x m.objects })
 changed_sound m f x names numbers known s =
     alters_sound m (record m { objects = changed f x m.objects }) (changed f x m.objects) (changed_alters m f x names numbers) (known s.known) s
 
 some_split : (b : Bool) (g : Held) (rest more : Option Held) → (is_some rest ≡ true → is_some more ≡ true) → is_some (cond b (Some g) rest) ≡ true →
-  is_some (cond b (Some g) more) ≡ true
+    is_some (cond b (Some g) more) ≡ true
 some_split true g rest more keeps h = refl
 some_split false g rest more keeps h = keeps h
 
@@ -336,46 +336,46 @@ held_last [] h = rw (same_object_refl h.name) refl
 held_last (g ∷ hs) h = some_either (same_object g.name h.name) g (held_of (hs ++ h ∷ []) h.name) (held_last hs h)
 
 born_made : (old new : Kept) (x : ObjName) (base size align : ℕ) (kind : ObjKind) (declared : Option Shape) → IsBorn old new x base size align kind declared →
-  StayMade old new
+    StayMade old new
 born_made old new x base size align kind declared b =
     let one = newborn x base size kind declared b.objects.0 in
     made_by old new (Whole x ∷ [], b.origins) (λ e h. ap (λ (cells : Cells). has_cell cells e) b.cells ∙ h)
-      (λ y h. ap (λ (hs : List Held). is_some (held_of hs y)) b.objects.1 ∙ held_end old.objects one y h)
+    (λ y h. ap (λ (hs : List Held). is_some (held_of hs y)) b.objects.1 ∙ held_end old.objects one y h)
 
 born_whole : (old new : Kept) (x : ObjName) (base size align : ℕ) (kind : ObjKind) (declared : Option Shape) →
-  IsBorn old new x base size align kind declared → IsMade new (Whole x)
+    IsBorn old new x base size align kind declared → IsMade new (Whole x)
 born_whole old new x base size align kind declared b =
     let one = newborn x base size kind declared b.objects.0 in
     ap (λ (hs : List Held). is_some (held_of hs x)) b.objects.1 ∙ held_last old.objects one
 
 born_sound : (old new : Kept) (x : ObjName) (base size align : ℕ) (kind : ObjKind) (declared : Option Shape) →
-  IsBorn old new x base size align kind declared → AreNamed new → IsSound old → IsSound new
+    IsBorn old new x base size align kind declared → AreNamed new → IsSound old → IsSound new
 born_sound old new x base size align kind declared b named s = record {
   known = born_known old new x base size align kind declared b s.known;
   named = named;
   made = subst (λ (ps : List Prov). AllMade new ps) (sym b.origins)
-    (each_last new old.origins (Whole x) (born_whole old new x base size align kind declared b)
-    (λ n. born_made old new x base size align kind declared b (prov_numbered old.origins n) (s.made n)));
+      (each_last new old.origins (Whole x) (born_whole old new x base size align kind declared b)
+      (λ n. born_made old new x base size align kind declared b (prov_numbered old.origins n) (s.made n)));
 }
 
 pub created_made : {E : Type 0} (r : Result ℕ E) (old new : Kept) (x : ObjName) (size align : ℕ) (kind : ObjKind) (declared : Option Shape) →
-  IfOk r (λ base. IsBorn old new x base size align kind declared) → (p : Prov) → IsMade old p → OnOk r (IsMade new p)
+    IfOk r (λ base. IsBorn old new x base size align kind declared) → (p : Prov) → IsMade old p → OnOk r (IsMade new p)
 created_made (Ok base) old new x size align kind declared b p made = born_made old new x base size align kind declared b p made
 created_made (Err e) old new x size align kind declared b p made = tt
 
 pub created_whole : {E : Type 0} (r : Result ℕ E) (old new : Kept) (x : ObjName) (size align : ℕ) (kind : ObjKind) (declared : Option Shape) →
-  IfOk r (λ base. IsBorn old new x base size align kind declared) → OnOk r (IsMade new (Whole x))
+    IfOk r (λ base. IsBorn old new x base size align kind declared) → OnOk r (IsMade new (Whole x))
 created_whole (Ok base) old new x size align kind declared b = born_whole old new x base size align kind declared b
 created_whole (Err e) old new x size align kind declared b = tt
 
 pub created_sound : {E : Type 0} (r : Result ℕ E) (old new : Kept) (x : ObjName) (size align : ℕ) (kind : ObjKind) (declared : Option Shape) →
-  IfOk r (λ base. IsBorn old new x base size align kind declared) → (AreNamed old → OnOk r (AreNamed new)) → IsSound old → OnOk r (IsSound new)
+    IfOk r (λ base. IsBorn old new x base size align kind declared) → (AreNamed old → OnOk r (AreNamed new)) → IsSound old → OnOk r (IsSound new)
 created_sound (Ok base) old new x size align kind declared b named s = born_sound old new x base size align kind declared b (named s.named) s
 created_sound (Err e) old new x size align kind declared b named s = tt
 
 -- ---- what settles
 pub cells_narrowed : (b : Bool) (old new : Cells) (id : Event) (keep : ObjName) → OnTrue b (Settles old new id keep) → OnFalse b (new ≡ old) →
-  (e : Event) → has_cell new e ≡ has_cell old e
+    (e : Event) → has_cell new e ≡ has_cell old e
 cells_narrowed true old new id keep s same e = s.cells e
 cells_narrowed false old new id keep s same e = ap (λ (cells : Cells). has_cell cells e) same
 

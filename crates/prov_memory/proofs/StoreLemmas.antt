@@ -1,6 +1,33 @@
 -- How the store of a memory changes with its objects.
-use Rattle.std.proofs.Common.{max, ◌≡◌, ℕ, zero, suc, ◌+◌, ◌≤◌, Bool, true, false, cond, refl, sym, ap, ◌∙◌, subst, arith, List, [], ◌∷◌, ◌++◌, get_or, set,
-  map, Option, Some, None}
+use Rattle.std.proofs.Common.{
+  max,
+  ◌≡◌,
+  ℕ,
+  zero,
+  suc,
+  ◌+◌,
+  ◌≤◌,
+  Bool,
+  true,
+  false,
+  cond,
+  refl,
+  sym,
+  ap,
+  ◌∙◌,
+  subst,
+  arith,
+  List,
+  [],
+  ◌∷◌,
+  ◌++◌,
+  get_or,
+  set,
+  map,
+  Option,
+  Some,
+  None,
+}
 use Rattle.std.specs.Prelude.{nat_lt, is_some, option_map}
 use Rattle.ub_base.specs.declared.names.Item.TheVariants.{Expose}
 use Rattle.ub_base.specs.declared.names.ObjName.{ObjName}
@@ -26,8 +53,8 @@ same_name : (f : Held → Held) (h : Held) (y : ObjName) → (f h).name ≡ h.na
 same_name f h y e = ap (λ (x : ObjName). same_object x y) e
 
 same_split : (b : Bool) (f : Held → Held) (h : Held) (x : ObjName) (rest rest' : Option Held) → b ≡ same_object h.name x →
-  (f h).name ≡ h.name → rest ≡ option_map f rest' → cond (same_object (cond b (f h) h).name x) (Some (cond b (f h) h)) rest ≡ option_map f
-  (cond b (Some h) rest')
+    (f h).name ≡ h.name → rest ≡ option_map f rest' → cond (same_object (cond b (f h) h).name x) (Some (cond b (f h) h)) rest ≡ option_map f
+    (cond b (Some h) rest')
 same_split true f h x rest rest' e names next = rw (same_name f h x names, ← e) refl
 same_split false f h x rest rest' e names next = rw (← e) next
 
@@ -39,37 +66,38 @@ apart : (x y z : ObjName) → same_object z x ≡ true → same_object x y ≡ f
 apart x y z e other = subst (λ (w : ObjName). same_object w y ≡ false) (sym (same_object_is z x e)) other
 
 other_split : (b : Bool) (f : Held → Held) (h : Held) (x y : ObjName) (rest rest' : Option Held) → b ≡ same_object h.name x →
-  (f h).name ≡ h.name → same_object x y ≡ false → rest ≡ rest' → cond (same_object (cond b (f h) h).name y) (Some (cond b (f h) h)) rest ≡ cond
-  (same_object h.name y) (Some h) rest'
+    (f h).name ≡ h.name → same_object x y ≡ false → rest ≡ rest' → cond (same_object (cond b (f h) h).name y) (Some (cond b (f h) h)) rest ≡ cond
+    (same_object h.name y) (Some h) rest'
 other_split true f h x y rest rest' e names other next = rw (same_name f h y names, apart x y h.name (sym e) other) next
 other_split false f h x y rest rest' e names other next = ap (λ (o : Option Held). cond (same_object h.name y) (Some h) o) next
 
 pub held_other : (f : Held → Held) (hs : List Held) (x y : ObjName) → KeepsNames f → same_object x y ≡ false → held_of (changed f x hs) y ≡ held_of hs y
 held_other f [] x y names other = refl
 held_other f (h ∷ hs) x y names other = other_split (same_object h.name x) f h x y (held_of (changed f x hs) y) (held_of hs y) refl (names h) other
-  (held_other f hs x y names other)
+    (held_other f hs x y names other)
 
 part_split : {A : Type 0} (s : Bool) (part g : Option Held → A) (f : Held → Held) (hs : List Held) (x y : ObjName) → KeepsNames f →
-  ((o : Option Held) → part (option_map f o) ≡ g o) → same_object x y ≡ s → part (held_of (changed f x hs) y) ≡ cond s (g (held_of hs x)) (part (held_of hs y))
+    ((o : Option Held) → part (option_map f o) ≡ g o) → same_object x y ≡ s →
+    part (held_of (changed f x hs) y) ≡ cond s (g (held_of hs x)) (part (held_of hs y))
 part_split {A} true part g f hs x y names gives e =
     subst (λ (z : ObjName). part (held_of (changed f x hs) z) ≡ g (held_of hs x)) (same_object_is x y e)
-      (ap part (held_same f hs x names) ∙ gives (held_of hs x))
+    (ap part (held_same f hs x names) ∙ gives (held_of hs x))
 part_split false part g f hs x y names gives e = ap part (held_other f hs x y names e)
 
 -- what a change makes of a part of each object
 pub part_changed : {A : Type 0} (part g : Option Held → A) (f : Held → Held) (hs : List Held) (x y : ObjName) → KeepsNames f →
-  ((o : Option Held) → part (option_map f o) ≡ g o) → part (held_of (changed f x hs) y) ≡ cond (same_object x y) (g (held_of hs x)) (part (held_of hs y))
+    ((o : Option Held) → part (option_map f o) ≡ g o) → part (held_of (changed f x hs) y) ≡ cond (same_object x y) (g (held_of hs x)) (part (held_of hs y))
 part_changed part g f hs x y names gives = part_split (same_object x y) part g f hs x y names gives refl
 
 kept_split : {A : Type 0} (s : Bool) (part : Option Held → A) (f : Held → Held) (hs : List Held) (x y : ObjName) → KeepsNames f →
-  ((o : Option Held) → part (option_map f o) ≡ part o) → same_object x y ≡ s → part (held_of (changed f x hs) y) ≡ part (held_of hs y)
+    ((o : Option Held) → part (option_map f o) ≡ part o) → same_object x y ≡ s → part (held_of (changed f x hs) y) ≡ part (held_of hs y)
 kept_split true part f hs x y names keeps e =
     subst (λ (z : ObjName). part (held_of (changed f x hs) z) ≡ part (held_of hs z)) (same_object_is x y e)
-      (ap part (held_same f hs x names) ∙ keeps (held_of hs x))
+    (ap part (held_same f hs x names) ∙ keeps (held_of hs x))
 kept_split false part f hs x y names keeps e = ap part (held_other f hs x y names e)
 
 pub part_kept : {A : Type 0} (part : Option Held → A) (f : Held → Held) (hs : List Held) (x y : ObjName) → KeepsNames f →
-  ((o : Option Held) → part (option_map f o) ≡ part o) → part (held_of (changed f x hs) y) ≡ part (held_of hs y)
+    ((o : Option Held) → part (option_map f o) ≡ part o) → part (held_of (changed f x hs) y) ≡ part (held_of hs y)
 part_kept part f hs x y names keeps = kept_split (same_object x y) part f hs x y names keeps refl
 
 -- ---- death
@@ -90,7 +118,7 @@ buried_is m x io = λ i. record {
   life = λ y. part_changed life_in (λ o. dead (life_in o)) killed m.objects x y (λ h. refl) life_killed i;
   exposed = λ y. part_kept is_shown killed m.objects x y (λ h. refl) shown_killed i;
   bytes = λ y at. part_changed (λ o. tagged_in_object m.origins m.types o at) (λ o. fresh) killed m.objects x y (λ h. refl)
-    (bytes_killed m.origins m.types at) i;
+      (bytes_killed m.origins m.types at) i;
   kept = λ e. kept_in m.cells e;
   input = io.input;
   position = io.position;
@@ -124,11 +152,11 @@ shown_is m x io = λ i. record {
 }
 
 pub shows_each : (rows : List Row) (m : Kept) (xs : List ObjName) (io : Io) →
-  run rows (show_each xs) (store_of m io) ≡ Done tt (map Expose xs) (store_of (record m { objects = uncovered_each xs m.objects }) io)
+    run rows (show_each xs) (store_of m io) ≡ Done tt (map Expose xs) (store_of (record m { objects = uncovered_each xs m.objects }) io)
 shows_each rows m [] io = refl
 shows_each rows m (x ∷ xs) io =
     ap (λ (s : Store). touched (Expose x) (run rows (show_each xs) s)) (sym (shown_is m x io)) ∙ ap (touched (Expose x))
-      (shows_each rows (record m { objects = changed uncovered x m.objects }) xs io)
+    (shows_each rows (record m { objects = changed uncovered x m.objects }) xs io)
 
 -- ---- the rows of objects stay
 row_keeps : (o : Option Row) (h g : Held) → g.base ≡ h.base → g.size ≡ h.size → IsRowOf o h → IsRowOf o g
@@ -136,13 +164,13 @@ row_keeps None h g base size is = is
 row_keeps (Some r) h g base size is = (is.0 ∙ sym base, is.1 ∙ sym size)
 
 row_split : (b : Bool) (rows : List Row) (f : Held → Held) (h : Held) →
-  ((h : Held) → IsRowOf (row_of rows h.name) h → IsRowOf (row_of rows (f h).name) (f h)) → IsRowOf (row_of rows h.name) h →
-  IsRowOf (row_of rows (cond b (f h) h).name) (cond b (f h) h)
+    ((h : Held) → IsRowOf (row_of rows h.name) h → IsRowOf (row_of rows (f h).name) (f h)) → IsRowOf (row_of rows h.name) h →
+    IsRowOf (row_of rows (cond b (f h) h).name) (cond b (f h) h)
 row_split true rows f h keeps is = keeps h is
 row_split false rows f h keeps is = is
 
 pub rows_changed : (rows : List Row) (f : Held → Held) (x : ObjName) (hs : List Held) →
-  ((h : Held) → IsRowOf (row_of rows h.name) h → IsRowOf (row_of rows (f h).name) (f h)) → HaveRows rows hs → HaveRows rows (changed f x hs)
+    ((h : Held) → IsRowOf (row_of rows h.name) h → IsRowOf (row_of rows (f h).name) (f h)) → HaveRows rows hs → HaveRows rows (changed f x hs)
 rows_changed rows f x [] keeps have = tt
 rows_changed rows f x (h ∷ hs) keeps have = (row_split (same_object h.name x) rows f h keeps have.0, rows_changed rows f x hs keeps have.1)
 
@@ -156,7 +184,7 @@ pub rows_uncovered : (rows : List Row) (x : ObjName) (hs : List Held) → HaveRo
 rows_uncovered rows x hs have = rows_changed rows uncovered x hs (λ h is. row_keeps (row_of rows h.name) h (uncovered h) refl refl is) have
 
 pub rows_set : (rows : List Row) (hs : List Held) (k : ℕ) (d new : Held) → new ≡ record d { cells = new.cells } → d ≡ get_or hs k d → HaveRows rows hs →
-  HaveRows rows (set hs k new)
+    HaveRows rows (set hs k new)
 rows_set rows [] k d new e at have = tt
 rows_set rows (h ∷ hs) zero d new e at have =
     let name : h.name ≡ new.name = sym (ap (λ (g : Held). g.name) e ∙ ap (λ (g : Held). g.name) at) in
@@ -167,7 +195,7 @@ rows_set rows (h ∷ hs) (suc k) d new e at have = (have.0, rows_set rows hs k d
 
 -- ---- a new row
 inserted_split : (t : Bool) (test : Row → Bool) (r s : Row) (rs : List Row) → test r ≡ false → first_row test (insert_row r rs) ≡ first_row test rs →
-  first_row test (cond t (r ∷ s ∷ rs) (s ∷ insert_row r rs)) ≡ first_row test (s ∷ rs)
+    first_row test (cond t (r ∷ s ∷ rs) (s ∷ insert_row r rs)) ≡ first_row test (s ∷ rs)
 inserted_split true test r s rs e next = rw e refl
 inserted_split false test r s rs e next = ap (λ (o : Option Row). cond (test s) (Some s) o) next
 
@@ -176,7 +204,7 @@ inserted_other test r [] e = rw e refl
 inserted_other test r (s ∷ rs) e = inserted_split (nat_lt r.base s.base) test r s rs e (inserted_other test r rs e)
 
 inserted_same_split : (t : Bool) (test : Row → Bool) (r s : Row) (rs : List Row) → test r ≡ true → test s ≡ false →
-  first_row test (insert_row r rs) ≡ Some r → first_row test (cond t (r ∷ s ∷ rs) (s ∷ insert_row r rs)) ≡ Some r
+    first_row test (insert_row r rs) ≡ Some r → first_row test (cond t (r ∷ s ∷ rs) (s ∷ insert_row r rs)) ≡ Some r
 inserted_same_split true test r s rs e f next = rw e refl
 inserted_same_split false test r s rs e f next = rw f next
 
@@ -191,23 +219,24 @@ inserted_same test r (s ∷ rs) e none =
     inserted_same_split (nat_lt r.base s.base) test r s rs e parts.0 (inserted_same test r rs e parts.1)
 
 unnamed : (t : Bool) (rows : List Row) (r : Row) (h : Held) → same_object r.name h.name ≡ t → row_of rows r.name ≡ None → IsRowOf (row_of rows h.name) h →
-  t ≡ false
+    t ≡ false
 unnamed true rows r h same none is =
     absurd (subst (λ (o : Option Row). IsRowOf o h) (subst (λ (x : ObjName). row_of rows x ≡ None) (same_object_is r.name h.name same) none) is)
 unnamed false rows r h same none is = refl
 
 pub rows_inserted : (rows : List Row) (r : Row) (hs : List Held) → row_of rows r.name ≡ None → HaveRows rows hs → HaveRows (insert_row r rows) hs
 rows_inserted rows r [] none have = tt
-rows_inserted rows r (h ∷ hs) none have =
-    (subst (λ (o : Option Row). IsRowOf o h)
+rows_inserted rows r (h ∷ hs) none have = (
+  subst (λ (o : Option Row). IsRowOf o h)
       (sym (inserted_other (λ s. same_object s.name h.name) r rows (unnamed (same_object r.name h.name) rows r h refl none have.0))) have.0,
-      rows_inserted rows r hs none have.1)
+  rows_inserted rows r hs none have.1,
+)
 
 row_is : (a b : Row) → Some a ≡ Some b → a ≡ b
 row_is a b h = cc
 
 end_split : (t : Bool) (r s : Row) (rest : Option Row) (n : ℕ) → cond t (Some s) rest ≡ Some r →
-  (rest ≡ Some r → r.base + r.size ≤ n) → r.base + r.size ≤ max (s.base + s.size) n
+    (rest ≡ Some r → r.base + r.size ≤ n) → r.base + r.size ≤ max (s.base + s.size) n
 end_split true r s rest n e next =
     let is : s ≡ r = row_is s r e in
     let base : s.base ≡ r.base = ap (λ (q : Row). q.base) is in
@@ -220,7 +249,7 @@ end_of_row test r [] e = absurd (cc)
 end_of_row test r (s ∷ rs) e = end_split (test s) r s (first_row test rs) (free_of rs) e (end_of_row test r rs)
 
 test_split : (t : Bool) (test : Row → Bool) (r s : Row) (rest : Option Row) → test s ≡ t → cond t (Some s) rest ≡ Some r →
-  (rest ≡ Some r → test r ≡ true) → test r ≡ true
+    (rest ≡ Some r → test r ≡ true) → test r ≡ true
 test_split true test r s rest same e next = subst (λ (q : Row). test q ≡ true) (row_is s r e) same
 test_split false test r s rest same e next = next e
 
@@ -232,7 +261,7 @@ pub row_has_name : (rows : List Row) (x : ObjName) (r : Row) → row_of rows x �
 row_has_name rows x r e = same_object_is r.name x (passes_row (λ s. same_object s.name x) r rows e)
 
 pub row_as : (rows : List Row) (x : ObjName) (r : Row) (size align : ℕ) → row_of rows x ≡ Some r → r.size ≡ size → r.align ≡ align →
-  row_of rows x ≡ Some (row_at x r.base size align)
+    row_of rows x ≡ Some (row_at x r.base size align)
 row_as rows x r size align e s a =
     let n = row_has_name rows x r e in
     e ∙ ap Some (λ i. record { name = n i; base = r.base; size = s i; align = a i })
@@ -242,5 +271,5 @@ rows_added rows [] h have is = (is, tt)
 rows_added rows (g ∷ hs) h have is = (have.0, rows_added rows hs h have.1 is)
 
 pub rows_created : (rows : List Row) (hs : List Held) (h : Held) (align : ℕ) → HaveRows rows hs →
-  row_of rows h.name ≡ Some (row_at h.name h.base h.size align) → HaveRows rows (hs ++ h ∷ [])
+    row_of rows h.name ≡ Some (row_at h.name h.base h.size align) → HaveRows rows (hs ++ h ∷ [])
 rows_created rows hs h align have e = rows_added rows hs h have (subst (λ (o : Option Row). IsRowOf o h) (sym e) (refl, refl))

@@ -62,7 +62,7 @@ below_all (t ∷ ts) zero ty e = omega arith
 below_all (t ∷ ts) (suc k) ty e = omega (arith, below_all ts k ty e)
 
 pub listed_is : (ts : List Ty) (k n : ℕ) (ty : CType) → n ≡ k + 13 → slice_get (map type_of ts) k ≡ Some ty → (type_numbered (map type_of ts) n ≡ Some ty) ×
-  (n ≤ length ts + 12)
+    (n ≤ length ts + 12)
 listed_is ts k n ty e at =
     (type_behind (map type_of ts) n k e ∙ at, omega (arith, e, below_all ts k ty at))
 
@@ -71,7 +71,7 @@ last_at [] t = refl
 last_at (s ∷ ts) t = last_at ts t
 
 pub last_is : (ts qs : List Ty) (t : Ty) (n : ℕ) → qs ≡ ts ++ t ∷ [] → n ≡ length ts + 13 → (type_numbered (map type_of qs) n ≡ Some (type_of t)) ×
-  (n ≤ length qs + 12)
+    (n ≤ length qs + 12)
 last_is ts qs t n is e = listed_is qs (length ts) n (type_of t) e (ap (λ (l : List Ty). slice_get (map type_of l) (length ts)) is ∙ last_at ts t)
 
 -- ---- types are added
@@ -135,36 +135,39 @@ low a b (suc (suc (suc (suc (suc (suc (suc zero))))))) le = low_7 a b (suc (suc 
 low a b (suc (suc (suc (suc (suc (suc (suc (suc zero)))))))) le = low_8 a b (suc (suc (suc (suc (suc (suc (suc (suc zero)))))))) (omega arith)
 low a b (suc (suc (suc (suc (suc (suc (suc (suc (suc zero))))))))) le = low_9 a b (suc (suc (suc (suc (suc (suc (suc (suc (suc zero))))))))) (omega arith)
 low a b (suc (suc (suc (suc (suc (suc (suc (suc (suc (suc zero)))))))))) le =
-  low_10 a b (suc (suc (suc (suc (suc (suc (suc (suc (suc (suc zero)))))))))) (omega arith)
+    low_10 a b (suc (suc (suc (suc (suc (suc (suc (suc (suc (suc zero)))))))))) (omega arith)
 low a b (suc (suc (suc (suc (suc (suc (suc (suc (suc (suc (suc zero))))))))))) le =
-  low_11 a b (suc (suc (suc (suc (suc (suc (suc (suc (suc (suc (suc zero))))))))))) (omega arith)
+    low_11 a b (suc (suc (suc (suc (suc (suc (suc (suc (suc (suc (suc zero))))))))))) (omega arith)
 low a b (suc (suc (suc (suc (suc (suc (suc (suc (suc (suc (suc (suc zero)))))))))))) le =
-  low_12 a b (suc (suc (suc (suc (suc (suc (suc (suc (suc (suc (suc (suc zero)))))))))))) (omega arith)
+    low_12 a b (suc (suc (suc (suc (suc (suc (suc (suc (suc (suc (suc (suc zero)))))))))))) (omega arith)
 low a b (suc (suc (suc (suc (suc (suc (suc (suc (suc (suc (suc (suc (suc k))))))))))))) le = absurd (omega (arith, le))
 
 type_stays_by : (t : Bool) (ts extra : List Ty) (n : ℕ) → nat_le n 12 ≡ t → n ≤ length ts + 12 →
-  type_numbered (map type_of (ts ++ extra)) n ≡ type_numbered (map type_of ts) n
+    type_numbered (map type_of (ts ++ extra)) n ≡ type_numbered (map type_of ts) n
 type_stays_by true ts extra n t e = low (slice_get (map type_of (ts ++ extra)) (n - 13)) (slice_get (map type_of ts) (n - 13)) n (grind (arith, nat_tests, t))
 type_stays_by false ts extra n t e =
     let past : 13 ≤ n = grind (arith, nat_tests, t) in
     let at : n ≡ (n - 13) + 13 = omega (arith, past) in
     type_behind (map type_of (ts ++ extra)) n (n - 13) at ∙ mapped_more ts extra (n - 13) (omega (arith, past, e)) ∙ sym
-      (type_behind (map type_of ts) n (n - 13) at)
+    (type_behind (map type_of ts) n (n - 13) at)
 
 type_stays : (ts extra : List Ty) (n : ℕ) → n ≤ length ts + 12 → type_numbered (map type_of (ts ++ extra)) n ≡ type_numbered (map type_of ts) n
 type_stays ts extra n e = type_stays_by (nat_le n 12) ts extra n refl e
 
 tagged_stays : (ps : List Prov) (ts extra : List Ty) (c : Cell) → c.tag.number ≤ length ts + 12 →
-  tagged_in ps (map type_of (ts ++ extra)) c ≡ tagged_in ps (map type_of ts) c
+    tagged_in ps (map type_of (ts ++ extra)) c ≡ tagged_in ps (map type_of ts) c
 tagged_stays ps ts extra c e =
     ap (λ (o : Option CType). record { byte = byte_in ps c; tag = option_map (λ (ty : CType). (ty, c.tag_index)) o }) (type_stays ts extra c.tag.number e)
 
 pub adds_then : (a b c : Kept) → AddsTypes a b → AddsTypes b c → AddsTypes a c
-adds_then a b c p q = (p.0 ++ q.0, q.1 ∙ ap (λ (k : Kept). record k { types = k.types ++ q.0 }) p.1 ∙ ap (λ (ts : List Ty). record a { types = ts })
-  (append_assoc a.types p.0 q.0))
+adds_then a b c p q = (
+  p.0 ++ q.0,
+  q.1 ∙ ap (λ (k : Kept). record k { types = k.types ++ q.0 }) p.1 ∙ ap (λ (ts : List Ty). record a { types = ts })
+      (append_assoc a.types p.0 q.0),
+)
 
 tagged_adds : (a b : Kept) (c : Cell) → AddsTypes a b → IsTagged (length a.types) c →
-  tagged_in b.origins (map type_of b.types) c ≡ tagged_in a.origins (map type_of a.types) c
+    tagged_in b.origins (map type_of b.types) c ≡ tagged_in a.origins (map type_of a.types) c
 tagged_adds a b c p known = ap (λ (k : Kept). tagged_in k.origins (map type_of k.types) c) p.1 ∙ tagged_stays a.origins a.types p.0 c known
 
 more_adds : (a b : Kept) → AddsTypes a b → length a.types ≤ length b.types
@@ -209,10 +212,10 @@ tagged_held n (h ∷ hs) y known = tagged_split n (same_object h.name y) h (held
 pub all_tagged_adds : (a b : Kept) → AddsTypes a b → AreTagged a → AreTagged b
 all_tagged_adds a b p known =
     subst (λ (hs : List Held). ObjectsTagged (length b.types) hs) (sym (ap (λ (k : Kept). k.objects) p.1))
-      (objects_more (length a.types) (length b.types) a.objects (more_adds a b p) known)
+    (objects_more (length a.types) (length b.types) a.objects (more_adds a b p) known)
 
 tagged_object_adds : (m : Kept) (extra : List Ty) (o : Option Held) (at : ℕ) → TaggedIn (length m.types) o →
-  tagged_in_object m.origins (m.types ++ extra) o at ≡ tagged_in_object m.origins m.types o at
+    tagged_in_object m.origins (m.types ++ extra) o at ≡ tagged_in_object m.origins m.types o at
 tagged_object_adds m extra None at known = refl
 tagged_object_adds m extra (Some h) at known = tagged_stays m.origins m.types extra (cell_at h.cells at) (tag_at (length m.types) h.cells at known)
 
@@ -235,7 +238,7 @@ store_adds a b p known io = ap (λ (k : Kept). store_of k io) p.1 ∙ store_type
 -- so many parts of a list were looked at
 abbrev pub SpansSo : List Placed → (at i : ℕ) → Spanned → Type 0
 SpansSo ps at i found = (xs : List Tag) × (spanning_parts (forms_of (map put_of ps)) at ≡ xs ++ spanning_parts (forms_of (map put_of (drop i ps))) at) ×
-  Spans found xs
+    Spans found xs
 
 drop_step : (ps : List Placed) (i : ℕ) (p : Placed) → i < length ps → p ≡ get_or ps i p → drop i ps ≡ p ∷ drop (i + 1) ps
 drop_step [] i p lt e = absurd (omega arith)
@@ -257,17 +260,20 @@ pub parts_first : (ps : List Placed) (at : ℕ) (found : Spanned) → Spans foun
 parts_first ps at found s = ([], refl, s)
 
 pub parts_next : (ps : List Placed) (at i : ℕ) (p : Placed) (found one next : Spanned) → i < length ps → p ≡ get_or ps i p → SpansSo ps at i found →
-  Spans one (spanning_in (put_of p) at) → ((xs ys : List Tag) → Spans found xs → Spans one ys → Spans next (xs ++ ys)) → SpansSo ps at (i + 1) next
+    Spans one (spanning_in (put_of p) at) → ((xs ys : List Tag) → Spans found xs → Spans one ys → Spans next (xs ++ ys)) → SpansSo ps at (i + 1) next
 parts_next ps at i p found one next lt e so here both =
-    let ys = spanning_in (put_of p) at in
-    (so.0 ++ ys, so.1 ∙ ap (λ (l : List Placed). so.0 ++ spanning_parts (forms_of (map put_of l)) at) (drop_step ps i p lt e) ∙ sym
-      (append_assoc so.0 ys (spanning_parts (forms_of (map put_of (drop (i + 1) ps))) at)), both so.0 ys so.2 here)
+    let ys = spanning_in (put_of p) at in (
+      so.0 ++ ys,
+      so.1 ∙ ap (λ (l : List Placed). so.0 ++ spanning_parts (forms_of (map put_of l)) at) (drop_step ps i p lt e) ∙ sym
+          (append_assoc so.0 ys (spanning_parts (forms_of (map put_of (drop (i + 1) ps))) at)),
+      both so.0 ys so.2 here,
+    )
 
 pub parts_end : (ps : List Placed) (at i : ℕ) (found : Spanned) → length ps ≤ i → SpansSo ps at i found →
-  Spans found (spanning_parts (forms_of (map put_of ps)) at)
+    Spans found (spanning_parts (forms_of (map put_of ps)) at)
 parts_end ps at i found le so =
     let all : spanning_parts (forms_of (map put_of ps)) at ≡ so.0 = so.1 ∙ ap (λ (l : List Placed). so.0 ++ spanning_parts (forms_of (map put_of l)) at)
-          (drop_end ps i le) ∙ no_more so.0 in
+    (drop_end ps i le) ∙ no_more so.0 in
     subst (λ (l : List Tag). Spans found l) (sym all) so.2
   where
     no_more : (l : List Tag) → l ++ [] ≡ l
@@ -284,18 +290,18 @@ range_more f from (suc n) =
     ap (λ (bs : List TaggedByte). f from ∷ bs) (range_more f (suc from) n ∙ ap (λ (k : ℕ). range_from f (suc from) n ++ f k ∷ []) same)
 
 form_more : (form : Form) (f : ℕ → TaggedByte) (from n : ℕ) → retagged (Some form) from (range_from f from (suc n)) ≡ retagged (Some form) from
-  (range_from f from n) ++ retagged_byte (Some form) (from + n) (f (from + n)) ∷ []
+    (range_from f from n) ++ retagged_byte (Some form) (from + n) (f (from + n)) ∷ []
 form_more form f from zero =
     let same : from ≡ from + 0 = omega arith in
     ap (λ (k : ℕ). retagged_byte (Some form) k (f k) ∷ []) same
 form_more form f from (suc n) =
     let same : suc from + n ≡ from + suc n = omega arith in
     ap (λ (bs : List TaggedByte). retagged_byte (Some form) from (f from) ∷ bs)
-      (form_more form f (suc from) n ∙ ap (λ (k : ℕ). retagged (Some form) (suc from) (range_from f (suc from) n) ++ retagged_byte (Some form) k (f k) ∷ [])
-      same)
+    (form_more form f (suc from) n ∙ ap (λ (k : ℕ). retagged (Some form) (suc from) (range_from f (suc from) n) ++ retagged_byte (Some form) k (f k) ∷ [])
+    same)
 
 retagged_more : (o : Option Form) (f : ℕ → TaggedByte) (from n : ℕ) → retagged o from (range_from f from (suc n)) ≡ retagged o from (range_from f from n) ++
-  retagged_byte o (from + n) (f (from + n)) ∷ []
+    retagged_byte o (from + n) (f (from + n)) ∷ []
 retagged_more None f from n = range_more f from n
 retagged_more (Some form) f from n = form_more form f from n
 
@@ -308,18 +314,18 @@ tagged_end n [] c known k = (k, tt)
 tagged_end n (d ∷ cs) c known k = (known.0, tagged_end n cs c known.1 k)
 
 pub taken_next : (old now new : Kept) (h : Held) (o : Option Form) (from n at : ℕ) (cs ds : List Cell) (cell c : Cell) → AddsTypes old now →
-  AddsTypes now new → AreTagged old → slice_get old.objects at ≡ Some h → IsTaken old now h o from n cs →
-  ((g : Held) → slice_get now.objects at ≡ Some g → cell ≡ cell_at g.cells (from + n)) →
-  tagged_in new.origins (map type_of new.types) c ≡ retagged_byte o (from + n) (tagged_in now.origins (map type_of now.types) cell) →
-  (IsTagged (length now.types) cell → IsTagged (length new.types) c) → ds ≡ cs ++ c ∷ [] → IsTaken old new h o from (n + 1) ds
+    AddsTypes now new → AreTagged old → slice_get old.objects at ≡ Some h → IsTaken old now h o from n cs →
+    ((g : Held) → slice_get now.objects at ≡ Some g → cell ≡ cell_at g.cells (from + n)) →
+    tagged_in new.origins (map type_of new.types) c ≡ retagged_byte o (from + n) (tagged_in now.origins (map type_of now.types) cell) →
+    (IsTagged (length now.types) cell → IsTagged (length new.types) c) → ds ≡ cs ++ c ∷ [] → IsTaken old new h o from (n + 1) ds
 taken_next old now new h o from n at cs ds cell c p q known there taken is byte keeps e =
     let count : n + 1 ≡ suc n = omega arith in
     let here : cell ≡ cell_at h.cells (from + n) = is h (ap (λ (k : Kept). slice_get k.objects at) p.1 ∙ there) in
     let was : IsTagged (length old.types) cell = subst (λ (d : Cell). IsTagged (length old.types) d) (sym here)
-          (tag_at (length old.types) h.cells (from + n) (tags_of (length old.types) old.objects at h there known)) in
+    (tag_at (length old.types) h.cells (from + n) (tags_of (length old.types) old.objects at h there known)) in
     let one : tagged_in new.origins (map type_of new.types) c ≡ retagged_byte o (from + n)
-          (tagged_in old.origins (map type_of old.types) (cell_at h.cells (from + n))) =
-          byte ∙ ap (retagged_byte o (from + n)) (tagged_adds old now cell p was ∙ ap (tagged_in old.origins (map type_of old.types)) here) in
+    (tagged_in old.origins (map type_of old.types) (cell_at h.cells (from + n))) =
+    byte ∙ ap (retagged_byte o (from + n)) (tagged_adds old now cell p was ∙ ap (tagged_in old.origins (map type_of old.types)) here) in
     record {
       bytes =
           ap (tagged_all new) e
@@ -328,21 +334,21 @@ taken_next old now new h o from n at cs ds cell c p q known there taken is byte 
           ∙ sym (retagged_more o (λ k. tagged_in old.origins (map type_of old.types) (cell_at h.cells k)) from n)
           ∙ ap (λ (k : ℕ). retagged o from (bytes_in old h from k)) (sym count);
       tags = subst (λ (l : List Cell). CellsTagged (length new.types) l) (sym e)
-        (tagged_end (length new.types) cs c (cells_more (length now.types) (length new.types) cs (more_adds now new q) taken.tags)
-        (keeps (tags_more (length old.types) (length now.types) cell (more_adds old now p) was)));
+          (tagged_end (length new.types) cs c (cells_more (length now.types) (length new.types) cs (more_adds now new q) taken.tags)
+          (keeps (tags_more (length old.types) (length now.types) cell (more_adds old now p) was)));
     }
 
 pub taken_all : (old new : Kept) (h : Held) (o : Option Form) (from n k : ℕ) (cs : List Cell) → k ≡ n → IsTaken old new h o from k cs →
-  IsTaken old new h o from n cs
+    IsTaken old new h o from n cs
 taken_all old new h o from n k cs e t = subst (λ (j : ℕ). IsTaken old new h o from j cs) e t
 
 pub taken_as : {V E : Type 0} (r : Result V E) (items : V → List Cell) (old new : Kept) (o : Option Form) (at from len : ℕ) →
-  ((h : Held) → slice_get old.objects at ≡ Some h → o ≡ option_map form_of h.declared) →
-  IfOk r (λ v. from + len ≤ 2 ^ 47 → AreTagged old → (h : Held) → slice_get old.objects at ≡ Some h → IsTaken old new h o from len (items v)) →
-  IfOk r (λ v. from + len ≤ 2 ^ 47 → AreTagged old → (h : Held) → slice_get old.objects at ≡ Some h →
-  IsTaken old new h (option_map form_of h.declared) from len (items v))
+    ((h : Held) → slice_get old.objects at ≡ Some h → o ≡ option_map form_of h.declared) →
+    IfOk r (λ v. from + len ≤ 2 ^ 47 → AreTagged old → (h : Held) → slice_get old.objects at ≡ Some h → IsTaken old new h o from len (items v)) →
+    IfOk r (λ v. from + len ≤ 2 ^ 47 → AreTagged old → (h : Held) → slice_get old.objects at ≡ Some h →
+    IsTaken old new h (option_map form_of h.declared) from len (items v))
 taken_as (Ok v) items old new o at from len is taken = λ range known h e.
-  subst (λ (x : Option Form). IsTaken old new h x from len (items v)) (is h e) (taken range known h e)
+    subst (λ (x : Option Form). IsTaken old new h x from len (items v)) (is h e) (taken range known h e)
 taken_as (Err w) items old new o at from len is taken = tt
 
 pub adds_objects : {V E : Type 0} (r : Result V E) (a b : Kept) → OnOk r (AddsTypes a b) → OnOk r (b.objects ≡ a.objects)

@@ -30,20 +30,20 @@ short_of vias.Bytes n e = tt
 
 -- the cells of a value are its bytes
 pub stored_as : (r : Result (Unit {0}) Clause) (m new : Kept) (first : Bool) (via : Via) (align a : ℕ) (prov : Prov) (cs : List Cell) (bs : List TaggedByte)
-  (items : List Item) → tagged_all m cs ≡ bs → length cs ≤ 256 → OnOk r
-  (HasCell m prov → IsShort via (length cs) → (seen : Seen) → Sees m via seen →
-  (io : Io) → run m.rows (store m.rows first seen align a prov (tagged_all m cs)) (store_of m io) ≡ Done tt items (store_of new io)) →
-  OnOk r (HasCell m prov → (seen : Seen) → Sees m via seen → (io : Io) → run m.rows (store m.rows first seen align a prov bs) (store_of m io) ≡ Done tt items
-  (store_of new io))
+    (items : List Item) → tagged_all m cs ≡ bs → length cs ≤ 256 → OnOk r
+    (HasCell m prov → IsShort via (length cs) → (seen : Seen) → Sees m via seen →
+    (io : Io) → run m.rows (store m.rows first seen align a prov (tagged_all m cs)) (store_of m io) ≡ Done tt items (store_of new io)) →
+    OnOk r (HasCell m prov → (seen : Seen) → Sees m via seen → (io : Io) → run m.rows (store m.rows first seen align a prov bs) (store_of m io) ≡ Done tt items
+    (store_of new io))
 stored_as (Ok u) m new first via align a prov cs bs items e few act = λ has seen sees io.
     ap (λ (l : List TaggedByte). run m.rows (store m.rows first seen align a prov l) (store_of m io)) (sym e) ∙ act has
-      (short_of via (length cs) few) seen sees io
+    (short_of via (length cs) few) seen sees io
 stored_as (Err c) m new first via align a prov cs bs items e few act = tt
 
 pub unstored_as : (r : Result (Unit {0}) Clause) (m : Kept) (first : Bool) (via : Via) (align a : ℕ) (prov : Prov) (cs : List Cell) (bs : List TaggedByte) →
-  tagged_all m cs ≡ bs → IfErr r (λ c. (seen : Seen) → Sees m via seen →
-  (io : Io) → run m.rows (store m.rows first seen align a prov (tagged_all m cs)) (store_of m io) ≡ Raised c) →
-  IfErr r (λ c. (seen : Seen) → Sees m via seen → (io : Io) → run m.rows (store m.rows first seen align a prov bs) (store_of m io) ≡ Raised c)
+    tagged_all m cs ≡ bs → IfErr r (λ c. (seen : Seen) → Sees m via seen →
+    (io : Io) → run m.rows (store m.rows first seen align a prov (tagged_all m cs)) (store_of m io) ≡ Raised c) →
+    IfErr r (λ c. (seen : Seen) → Sees m via seen → (io : Io) → run m.rows (store m.rows first seen align a prov bs) (store_of m io) ≡ Raised c)
 unstored_as (Ok u) m first via align a prov cs bs e act = tt
 unstored_as (Err c) m first via align a prov cs bs e act = λ seen sees io.
     ap (λ (l : List TaggedByte). run m.rows (store m.rows first seen align a prov l) (store_of m io)) (sym e) ∙ act seen sees io
@@ -64,7 +64,7 @@ few_bytes kinds.LLong = omega arith
 few_bytes kinds.ULLong = omega arith
 
 pub first_bytes : (cells : List Cell) (k : IntKind) (n low : ℕ) → cells ≡ plain_cells 8 low → n ≡ bytes_of_kind k →
-  take n cells ≡ plain_cells (bytes_of_kind k) low
+    take n cells ≡ plain_cells (bytes_of_kind k) low
 first_bytes cells k n low e size =
     ap (λ (l : List Cell). take n l) e ∙ ap (λ (j : ℕ). take j (plain_cells 8 low)) size ∙ plain_take (bytes_of_kind k) 8 low (few_bytes k)
 
@@ -81,7 +81,7 @@ number_known most cs k low e = rw e (plain_known most k low)
 
 -- ---- a pointer
 pub pieces_seen : (m : Kept) (cs : List Cell) (o : Origin) (prov : Prov) (a : ℕ) → cs ≡ piece_cells 8 0 o a → prov_numbered m.origins o.number ≡ prov →
-  tagged_all m cs ≡ pointer_bytes 8 0 prov a
+    tagged_all m cs ≡ pointer_bytes 8 0 prov a
 pieces_seen m cs o prov a e is = ap (tagged_all m) e ∙ seen_pieces m.origins (map type_of m.types) 8 0 o a ∙ ap (λ (p : Prov). pointer_bytes 8 0 p a) is
 
 pub pieces_short : (cs : List Cell) (o : Origin) (a : ℕ) → cs ≡ piece_cells 8 0 o a → length cs ≤ 256

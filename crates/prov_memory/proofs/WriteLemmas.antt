@@ -1,6 +1,37 @@
 -- What a store leaves of the bytes of an object, and its act.
-use Rattle.std.proofs.Common.{◌≡◌, ℕ, zero, suc, ◌+◌, ◌-◌, ◌<◌, ◌≤◌, Bool, true, false, not, ◌&&◌, cond, refl, sym, ap, ap₂, ◌∙◌, subst, arith, List, [], ◌∷◌,
-  ◌++◌, length, map, slice_get, Option, Some, None}
+use Rattle.std.proofs.Common.{
+  ◌≡◌,
+  ℕ,
+  zero,
+  suc,
+  ◌+◌,
+  ◌-◌,
+  ◌<◌,
+  ◌≤◌,
+  Bool,
+  true,
+  false,
+  not,
+  ◌&&◌,
+  cond,
+  refl,
+  sym,
+  ap,
+  ap₂,
+  ◌∙◌,
+  subst,
+  arith,
+  List,
+  [],
+  ◌∷◌,
+  ◌++◌,
+  length,
+  map,
+  slice_get,
+  Option,
+  Some,
+  None,
+}
 use Rattle.std.specs.Prelude.{Result, Ok, Err, nat_lt, nat_le, is_some, option_map, slice_index_or, ◌%◌}
 use Rattle.std.specs.Bool.{OnTrue}
 use Rattle.std.proofs.lemmas.Bool.Decides.{nat_tests}
@@ -47,7 +78,7 @@ byte_untagged ps states.Plain c = refl
 byte_untagged ps states.Piece c = refl
 
 byte_retagged : (ps : List Prov) (s : State) (c : Cell) (i : ℕ) (id : TypeId) →
-  byte_in_state ps s (record c { tag_index = i; tag = id }) ≡ byte_in_state ps s c
+    byte_in_state ps s (record c { tag_index = i; tag = id }) ≡ byte_in_state ps s c
 byte_retagged ps states.Unwritten c i id = refl
 byte_retagged ps states.Plain c i id = refl
 byte_retagged ps states.Piece c i id = refl
@@ -65,12 +96,12 @@ abbrev pub some_tag : CType → ℕ → Option Tag
 some_tag ty i = Some (ty, i)
 
 scalar_tag : (m : Kept) (id : TypeId) (ty : CType) (i : ℕ) → IsTypeOf m id.number ty → i < 256 →
-  option_map (at_index (i % 256)) (type_numbered (map type_of m.types) id.number) ≡ some_tag (read_as_int ty) i
+    option_map (at_index (i % 256)) (type_numbered (map type_of m.types) id.number) ≡ some_tag (read_as_int ty) i
 scalar_tag m id ty i s e = ap (option_map (at_index (i % 256))) s.numbered ∙ ap₂ some_tag (sym s.plain) (small i e)
 
 scalar_left : (b : Bool) (m : Kept) (id : TypeId) (ty : CType) (i : ℕ) (c : Cell) (old : Option Tag) → is_character_numbered id.number ≡ b →
-  IsTypeOf m id.number ty → i < 256 → tagged_in m.origins (map type_of m.types) (cell_left false (vias.Scalar id) i c) ≡ record
-  { byte = byte_in m.origins c; tag = tag_left (scalar ty) i old }
+    IsTypeOf m id.number ty → i < 256 → tagged_in m.origins (map type_of m.types) (cell_left false (vias.Scalar id) i c) ≡ record
+    { byte = byte_in m.origins c; tag = tag_left (scalar ty) i old }
 scalar_left true m id ty i c old e s lt =
     let k : is_character ty ≡ true = sym s.character ∙ e in
     let left : cell_left false (vias.Scalar id) i c ≡ untagged c = rw e refl in
@@ -81,7 +112,7 @@ scalar_left false m id ty i c old e s lt =
     let left : cell_left false (vias.Scalar id) i c ≡ record c { tag_index = i % 256; tag = id } = rw e refl in
     let tag : tag_left (scalar ty) i old ≡ some_tag (read_as_int ty) i = rw k refl in
     ap (tagged_in m.origins (map type_of m.types)) left ∙ ap₂ (λ (b : Byte) (t : Option Tag). record { byte = b; tag = t })
-      (byte_retagged m.origins c.state c (i % 256) id) (scalar_tag m id ty i s lt ∙ sym tag)
+    (byte_retagged m.origins c.state c (i % 256) id) (scalar_tag m id ty i s lt ∙ sym tag)
 
 -- the index is one that a tag counts
 abbrev pub IsBelow : Via → ℕ → Type 0
@@ -89,8 +120,8 @@ IsBelow (vias.Scalar id) i = i < 256
 IsBelow _ i = Unit {0}
 
 left_plain : (m : Kept) (via : Via) (seen : Seen) (i : ℕ) (c : Cell) → Sees m via seen → IsBelow via i →
-  tagged_in m.origins (map type_of m.types) (cell_left false via i c) ≡ record
-  { byte = byte_in m.origins c; tag = tag_left seen i (tag_in (map type_of m.types) c) }
+    tagged_in m.origins (map type_of m.types) (cell_left false via i c) ≡ record
+    { byte = byte_in m.origins c; tag = tag_left seen i (tag_in (map type_of m.types) c) }
 left_plain m (vias.Scalar id) (scalar ty) i c s lt = scalar_left (is_character_numbered id.number) m id ty i c (tag_in (map type_of m.types) c) refl s lt
 left_plain m (vias.Scalar id) whole i c s lt = absurd s
 left_plain m (vias.Scalar id) bytes i c s lt = absurd s
@@ -128,24 +159,24 @@ sees_same m cs vias.Bytes whole s = absurd s
 sees_same m cs vias.Bytes bytes s = tt
 
 stored_plain : (m : Kept) (via : Via) (seen : Seen) (k : ℕ) (cs : List Cell) (i j : ℕ) → Sees m via seen → IsShort via (k + length cs) → i < length cs →
-  j ≡ k + i → slice_index_or (stored_from None seen k (tagged_all m cs)) i fresh ≡ tagged_in m.origins (map type_of m.types)
-  (cell_left false via j (cell_at cs i))
+    j ≡ k + i → slice_index_or (stored_from None seen k (tagged_all m cs)) i fresh ≡ tagged_in m.origins (map type_of m.types)
+    (cell_left false via j (cell_at cs i))
 stored_plain m via seen k [] i j s short lt e = absurd (omega arith)
 stored_plain m via seen k (c ∷ cs) zero j s short lt e =
     let is : j ≡ k = omega arith in
     rw is (sym (left_plain m via seen k c s (below_first via k (length cs) short)))
 stored_plain m via seen k (c ∷ cs) (suc i) j s short lt e = stored_plain m via seen (suc k) cs i j s (short_next via k (length cs) short) (omega arith)
-  (omega arith)
+    (omega arith)
 
 stored_bare : (m : Kept) (form : Form) (via : Via) (seen : Seen) (k : ℕ) (cs : List Cell) (i j : ℕ) → i < length cs →
-  slice_index_or (stored_from (Some form) seen k (tagged_all m cs)) i fresh ≡ tagged_in m.origins (map type_of m.types) (cell_left true via j (cell_at cs i))
+    slice_index_or (stored_from (Some form) seen k (tagged_all m cs)) i fresh ≡ tagged_in m.origins (map type_of m.types) (cell_left true via j (cell_at cs i))
 stored_bare m form via seen k [] i j lt = absurd (omega arith)
 stored_bare m form via seen k (c ∷ cs) zero j lt = sym (bare m c)
 stored_bare m form via seen k (c ∷ cs) (suc i) j lt = stored_bare m form via seen (suc k) cs i j (omega arith)
 
 stored_at : (m : Kept) (declared : Option Shape) (via : Via) (seen : Seen) (cs : List Cell) (i : ℕ) → Sees m via seen → IsShort via (length cs) →
-  i < length cs → slice_index_or (stored_from (option_map form_of declared) seen 0 (tagged_all m cs)) i fresh ≡ tagged_in m.origins (map type_of m.types)
-  (cell_left (is_some declared) via i (cell_at cs i))
+    i < length cs → slice_index_or (stored_from (option_map form_of declared) seen 0 (tagged_all m cs)) i fresh ≡ tagged_in m.origins (map type_of m.types)
+    (cell_left (is_some declared) via i (cell_at cs i))
 stored_at m None via seen cs i s short lt = stored_plain m via seen 0 cs i i s (short_start via (length cs) short) lt (omega arith)
 stored_at m (Some shape) via seen cs i s short lt = stored_bare m (form_of shape) via seen 0 cs i i lt
 
@@ -164,33 +195,33 @@ inside : (from n b : ℕ) → (nat_le from b && nat_lt b (from + n)) ≡ true �
 inside from n b e = grind (arith, nat_tests)
 
 put_split : (t : Bool) (m : Kept) (h g : Held) (from : ℕ) (via : Via) (seen : Seen) (cs : List Cell) (b : ℕ) →
-  (nat_le from b && nat_lt b (from + length cs)) ≡ t → IsWritten h g from via cs → Sees m via seen → IsShort via (length cs) →
-  tagged_in m.origins (map type_of m.types) (cell_at g.cells b) ≡ cond t
-  (slice_index_or (stored_from (option_map form_of h.declared) seen 0 (tagged_all m cs)) (b - from) fresh)
-  (tagged_in m.origins (map type_of m.types) (cell_at h.cells b))
+    (nat_le from b && nat_lt b (from + length cs)) ≡ t → IsWritten h g from via cs → Sees m via seen → IsShort via (length cs) →
+    tagged_in m.origins (map type_of m.types) (cell_at g.cells b) ≡ cond t
+    (slice_index_or (stored_from (option_map form_of h.declared) seen 0 (tagged_all m cs)) (b - from) fresh)
+    (tagged_in m.origins (map type_of m.types) (cell_at h.cells b))
 put_split true m h g from via seen cs b e w s short =
     let put : cell_put h.cells from (length cs) (is_some h.declared) via cs b ≡ cell_left (is_some h.declared) via (b - from) (cell_at cs (b - from)) =
-          rw e refl in
+    rw e refl in
     ap (tagged_in m.origins (map type_of m.types)) (w.bytes b ∙ put) ∙ sym
-      (stored_at m h.declared via seen cs (b - from) s short (inside from (length cs) b e))
+    (stored_at m h.declared via seen cs (b - from) s short (inside from (length cs) b e))
 put_split false m h g from via seen cs b e w s short =
     let put : cell_put h.cells from (length cs) (is_some h.declared) via cs b ≡ cell_at h.cells b = rw e refl in
     ap (tagged_in m.origins (map type_of m.types)) (w.bytes b ∙ put)
 
 written_split : (t : Bool) (m : Kept) (h g : Held) (x : ObjName) (from : ℕ) (via : Via) (seen : Seen) (cs : List Cell) (y : ObjName) (b : ℕ) →
-  same_object x y ≡ t → held_of m.objects x ≡ Some h → IsWritten h g from via cs → Sees m via seen → IsShort via (length cs) →
-  tagged_in_object m.origins m.types (held_of (changed (holding g.cells) x m.objects) y) b ≡ cond (t && (nat_le from b && nat_lt b (from + length cs)))
-  (slice_index_or (stored_from (option_map form_of h.declared) seen 0 (tagged_all m cs)) (b - from) fresh)
-  (tagged_in_object m.origins m.types (held_of m.objects y) b)
+    same_object x y ≡ t → held_of m.objects x ≡ Some h → IsWritten h g from via cs → Sees m via seen → IsShort via (length cs) →
+    tagged_in_object m.origins m.types (held_of (changed (holding g.cells) x m.objects) y) b ≡ cond (t && (nat_le from b && nat_lt b (from + length cs)))
+    (slice_index_or (stored_from (option_map form_of h.declared) seen 0 (tagged_all m cs)) (b - from) fresh)
+    (tagged_in_object m.origins m.types (held_of m.objects y) b)
 written_split true m h g x from via seen cs y b same e w s short =
     let xy : x ≡ y = same_object_is x y same in
     let now : held_of (changed (holding g.cells) x m.objects) y ≡ Some (holding g.cells h) =
-          subst (λ (z : ObjName). held_of (changed (holding g.cells) x m.objects) z ≡ Some (holding g.cells h)) xy
-          (held_same (holding g.cells) m.objects x (λ k. refl) ∙ ap (option_map (holding g.cells)) e) in
+    subst (λ (z : ObjName). held_of (changed (holding g.cells) x m.objects) z ≡ Some (holding g.cells h)) xy
+    (held_same (holding g.cells) m.objects x (λ k. refl) ∙ ap (option_map (holding g.cells)) e) in
     let was : held_of m.objects y ≡ Some h = subst (λ (z : ObjName). held_of m.objects z ≡ Some h) xy e in
     rw (now, was) (put_split (nat_le from b && nat_lt b (from + length cs)) m h g from via seen cs b refl w s short)
 written_split false m h g x from via seen cs y b same e w s short = ap (λ (o : Option Held). tagged_in_object m.origins m.types o b)
-  (held_other (holding g.cells) m.objects x y (λ k. refl) same)
+    (held_other (holding g.cells) m.objects x y (λ k. refl) same)
 
 life_holding : (cs : List Cell) (o : Option Held) → life_in (option_map (holding cs) o) ≡ life_in o
 life_holding cs None = refl
@@ -201,9 +232,9 @@ shown_holding cs None = refl
 shown_holding cs (Some h) = refl
 
 written_is : (m : Kept) (h g : Held) (x : ObjName) (from : ℕ) (via : Via) (seen : Seen) (cs : List Cell) (bs : List TaggedByte) (io : Io) →
-  held_of m.objects x ≡ Some h → IsWritten h g from via cs → Sees m via seen → IsShort via (length cs) →
-  bs ≡ stored_from (option_map form_of h.declared) seen 0 (tagged_all m cs) → length bs ≡ length cs →
-  store_of (record m { objects = changed (holding g.cells) x m.objects }) io ≡ with_bytes (store_of m io) x from bs
+    held_of m.objects x ≡ Some h → IsWritten h g from via cs → Sees m via seen → IsShort via (length cs) →
+    bs ≡ stored_from (option_map form_of h.declared) seen 0 (tagged_all m cs) → length bs ≡ length cs →
+    store_of (record m { objects = changed (holding g.cells) x m.objects }) io ≡ with_bytes (store_of m io) x from bs
 written_is m h g x from via seen cs bs io e w s short is len = rw (len, is) (λ i. record {
   life = λ y. part_kept life_in (holding g.cells) m.objects x y (λ k. refl) (life_holding g.cells) i;
   exposed = λ y. part_kept is_shown (holding g.cells) m.objects x y (λ k. refl) (shown_holding g.cells) i;
@@ -224,12 +255,12 @@ settle_split true old new id keep e s = s
 settle_split false old new id keep e s = absurd (cc)
 
 pub settles_all : (b : Bool) (old new : Cells) (id : Event) (keep : ObjName) → b ≡ not (is_other (kept_in old id) keep) → OnTrue b (Settles old new id keep) →
-  has_cell old id ≡ true → is_other (kept_in old id) keep ≡ false → (m : Kept) → m.cells ≡ old →
-  (io : Io) → store_of (record m { cells = new }) io ≡ settled (store_of m io) id keep
+    has_cell old id ≡ true → is_other (kept_in old id) keep ≡ false → (m : Kept) → m.cells ≡ old →
+    (io : Io) → store_of (record m { cells = new }) io ≡ settled (store_of m io) id keep
 settles_all b old new id keep answer s has free m e io =
     let yes_is : b ≡ true = answer ∙ ap not free in
     settled_is m new id keep io (subst (λ (cs : Cells). Settles cs new id keep) (sym e) (settle_split b old new id keep yes_is s))
-      (ap (λ (cs : Cells). has_cell cs id) e ∙ has)
+    (ap (λ (cs : Cells). has_cell cs id) e ∙ has)
 
 -- ---- the act
 abbrev pub store_in : Bool → Seen → List TaggedByte → Accessed → Script (Unit {0})
@@ -249,9 +280,9 @@ abbrev pub placed : ObjName → ℕ → Life → Accessed
 placed x from life = record { object = x; from = from; life = Some life }
 
 tail_split : (b l k first : Bool) (rows : List Row) (via : Seen) (bs : List TaggedByte) (x : ObjName) (from : ℕ) (life : Life) (s : Store) →
-  suits_store via life.declared from ≡ b → life.kind.literal ≡ l → life.kind.constant ≡ k →
-  run rows (store_in first via bs (placed x from life)) s ≡ by_checks (checked_store first via (Some life) from)
-  (put_act s x from (stored_from life.declared via 0 bs))
+    suits_store via life.declared from ≡ b → life.kind.literal ≡ l → life.kind.constant ≡ k →
+    run rows (store_in first via bs (placed x from life)) s ≡ by_checks (checked_store first via (Some life) from)
+    (put_act s x from (stored_from life.declared via 0 bs))
 tail_split false l k first rows via bs x from life s e f g = rw e refl
 tail_split true l k true rows via bs x from life s e f g = rw e refl
 tail_split true true k false rows via bs x from life s e f g = rw (e, f) refl
@@ -259,11 +290,11 @@ tail_split true false true false rows via bs x from life s e f g = rw (e, f, g) 
 tail_split true false false false rows via bs x from life s e f g = rw (e, f, g) refl
 
 tail_is : (r : Result (Unit {0}) Clause) (first : Bool) (rows : List Row) (via : Seen) (bs : List TaggedByte) (x : ObjName) (from : ℕ) (life : Life)
-  (s : Store) → r ≡ checked_store first via (Some life) from → run rows (store_in first via bs (placed x from life)) s ≡ by_checks r
-  (put_act s x from (stored_from life.declared via 0 bs))
+    (s : Store) → r ≡ checked_store first via (Some life) from → run rows (store_in first via bs (placed x from life)) s ≡ by_checks r
+    (put_act s x from (stored_from life.declared via 0 bs))
 tail_is r first rows via bs x from life s e =
     tail_split (suits_store via life.declared from) life.kind.literal life.kind.constant first rows via bs x from life s refl refl refl ∙ ap
-      (λ (q : Result (Unit {0}) Clause). by_checks q (put_act s x from (stored_from life.declared via 0 bs))) (sym e)
+    (λ (q : Result (Unit {0}) Clause). by_checks q (put_act s x from (stored_from life.declared via 0 bs))) (sym e)
 
 abbrev pub life_at : Held → Life
 life_at h = record { live = h.state.live; kind = h.state.kind; declared = option_map form_of h.declared }
@@ -274,22 +305,22 @@ reached_is hs f h e = ap (λ (o : Option Held). record { object = f.name; from =
 -- an access that a memory made, for a store of n bytes
 abbrev pub Makes : Kept → Found → ℕ → ℕ → ℕ → Prov → Type 0
 Makes m f n align a prov = (io : Io) → run m.rows (access m.rows n align a prov) (store_of m io) ≡ Done (reached m.objects f)
-  (settling_items f.settles ++ Alive f.name ∷ []) (after_settling f.settles (store_of m io))
+    (settling_items f.settles ++ Alive f.name ∷ []) (after_settling f.settles (store_of m io))
 
 pub store_raises : (m : Kept) (f : Found) (first : Bool) (via : Seen) (align a : ℕ) (prov : Prov) (cs : List Cell) (c : Clause) →
-  Makes m f (length cs) align a prov → IsReached m.objects f (length cs) → Err c ≡ checked_store first via (life_in (held_of m.objects f.name)) f.from →
-  (io : Io) → run m.rows (store m.rows first via align a prov (tagged_all m cs)) (store_of m io) ≡ Raised c
+    Makes m f (length cs) align a prov → IsReached m.objects f (length cs) → Err c ≡ checked_store first via (life_in (held_of m.objects f.name)) f.from →
+    (io : Io) → run m.rows (store m.rows first via align a prov (tagged_all m cs)) (store_of m io) ≡ Raised c
 store_raises m f first via align a prov cs c makes r e io =
     let n : length (tagged_all m cs) ≡ length cs = tagged_length m cs in
     let is : Err c ≡ checked_store first via (Some (life_at r.object)) f.from =
-          e ∙ ap (λ (o : Option Held). checked_store first via (life_in o) f.from) r.held in
+    e ∙ ap (λ (o : Option Held). checked_store first via (life_in o) f.from) r.held in
     let at : reached m.objects f ≡ placed f.name f.from (life_at r.object) = reached_is m.objects f r.object r.held in
     let tail : run m.rows (store_in first via (tagged_all m cs) (reached m.objects f)) (after_settling f.settles (store_of m io)) ≡ Raised c =
-          ap (λ (q : Accessed). run m.rows (store_in first via (tagged_all m cs) q) (after_settling f.settles (store_of m io))) at ∙ tail_is
-          (Err c) first m.rows via (tagged_all m cs) f.name f.from (life_at r.object) (after_settling f.settles (store_of m io)) is in
+    ap (λ (q : Accessed). run m.rows (store_in first via (tagged_all m cs) q) (after_settling f.settles (store_of m io))) at ∙ tail_is
+    (Err c) first m.rows via (tagged_all m cs) f.name f.from (life_at r.object) (after_settling f.settles (store_of m io)) is in
     raised_then m.rows (access m.rows (length (tagged_all m cs)) align a prov) (store_in first via (tagged_all m cs)) (store_of m io)
-      (after_settling f.settles (store_of m io)) (reached m.objects f) (settling_items f.settles ++ Alive f.name ∷ []) c
-      (ap (λ (k : ℕ). run m.rows (access m.rows k align a prov) (store_of m io)) n ∙ makes io) tail
+    (after_settling f.settles (store_of m io)) (reached m.objects f) (settling_items f.settles ++ Alive f.name ∷ []) c
+    (ap (λ (k : ℕ). run m.rows (access m.rows k align a prov) (store_of m io)) n ∙ makes io) tail
 
 -- the memory after a store: the bytes are put, and what the access settles is settled
 pub record IsStored (old new : Kept) (f : Found) (g : Held) : Type 0 where
@@ -297,60 +328,62 @@ pub record IsStored (old new : Kept) (f : Found) (g : Held) : Type 0 where
   pub cells : CanSettle old.cells f.settles → (io : Io) → store_of (record old { cells = new.cells }) io ≡ after_settling f.settles (store_of old io)
 
 pub store_done : (old new : Kept) (f : Found) (g : Held) (first : Bool) (via : Via) (seen : Seen) (align a : ℕ) (prov : Prov) (cs : List Cell)
-  (items : List Item) → Makes old f (length cs) align a prov → (r : IsReached old.objects f (length cs)) → CanSettleOf old prov f.settles →
-  Ok tt ≡ checked_store first seen (life_in (held_of old.objects f.name)) f.from → IsStored old new f g → IsWritten r.object g f.from via cs →
-  items ≡ (settling_items f.settles ++ Alive f.name ∷ []) ++ Write f.name f.from (length cs) ∷ [] → HasCell old prov → IsShort via (length cs) →
-  Sees old via seen → (io : Io) → run old.rows (store old.rows first seen align a prov (tagged_all old cs)) (store_of old io) ≡ Done tt items (store_of new io)
+    (items : List Item) → Makes old f (length cs) align a prov → (r : IsReached old.objects f (length cs)) → CanSettleOf old prov f.settles →
+    Ok tt ≡ checked_store first seen (life_in (held_of old.objects f.name)) f.from → IsStored old new f g → IsWritten r.object g f.from via cs →
+    items ≡ (settling_items f.settles ++ Alive f.name ∷ []) ++ Write f.name f.from (length cs) ∷ [] → HasCell old prov → IsShort via (length cs) →
+    Sees old via seen → (io : Io) → run old.rows (store old.rows first seen align a prov (tagged_all old cs)) (store_of old io) ≡ Done tt items
+    (store_of new io)
 store_done old new f g first via seen align a prov cs items makes r can e stored w noted has short sees io =
     let n : length (tagged_all old cs) ≡ length cs = tagged_length old cs in
     let bs = stored_from (option_map form_of r.object.declared) seen 0 (tagged_all old cs) in
     let len : length bs ≡ length cs = stored_length (option_map form_of r.object.declared) seen 0 old cs in
     let is : Ok tt ≡ checked_store first seen (Some (life_at r.object)) f.from =
-          e ∙ ap (λ (o : Option Held). checked_store first seen (life_in o) f.from) r.held in
+    e ∙ ap (λ (o : Option Held). checked_store first seen (life_in o) f.from) r.held in
     let at : reached old.objects f ≡ placed f.name f.from (life_at r.object) = reached_is old.objects f r.object r.held in
     let middle = after_settling f.settles (store_of old io) in
     let tail : run old.rows (store_in first seen (tagged_all old cs) (reached old.objects f)) middle ≡ put_act middle f.name f.from bs =
-          ap (λ (q : Accessed). run old.rows (store_in first seen (tagged_all old cs) q) middle) at ∙ tail_is (Ok tt) first old.rows seen
-          (tagged_all old cs) f.name f.from (life_at r.object) middle is in
+    ap (λ (q : Accessed). run old.rows (store_in first seen (tagged_all old cs) q) middle) at ∙ tail_is (Ok tt) first old.rows seen
+    (tagged_all old cs) f.name f.from (life_at r.object) middle is in
     let settled_store : store_of (record old { cells = new.cells }) io ≡ middle = stored.cells (can has) io in
     let put : store_of (record old { cells = new.cells; objects = changed (holding g.cells) f.name old.objects }) io ≡ with_bytes
-          (store_of (record old { cells = new.cells }) io) f.name f.from bs =
-          written_is (record old { cells = new.cells }) r.object g f.name f.from via seen cs bs io r.held w (sees_same old new.cells via seen sees) short refl
-          len in
+    (store_of (record old { cells = new.cells }) io) f.name f.from bs =
+    written_is (record old { cells = new.cells }) r.object g f.name f.from via seen cs bs io r.held w (sees_same old new.cells via seen sees) short refl
+    len in
     let new_is : new ≡ record old { cells = new.cells; objects = changed (holding g.cells) f.name old.objects } =
-          ap (λ (k : Kept). record k { cells = new.cells }) stored.rest in
+    ap (λ (k : Kept). record k { cells = new.cells }) stored.rest in
     let end : with_bytes middle f.name f.from bs ≡ store_of new io = ap (λ (s : Store). with_bytes s f.name f.from bs) (sym settled_store) ∙ sym put ∙ ap
-          (λ (k : Kept). store_of k io) (sym new_is) in
+    (λ (k : Kept). store_of k io) (sym new_is) in
     done_then old.rows (access old.rows (length (tagged_all old cs)) align a prov) (store_in first seen (tagged_all old cs)) (store_of old io) middle
-      (with_bytes middle f.name f.from bs) (reached old.objects f) tt (settling_items f.settles ++ Alive f.name ∷ []) (Write f.name f.from (length bs) ∷ [])
-      (ap (λ (k : ℕ). run old.rows (access old.rows k align a prov) (store_of old io)) n ∙ makes io) tail
+    (with_bytes middle f.name f.from bs) (reached old.objects f) tt (settling_items f.settles ++ Alive f.name ∷ []) (Write f.name f.from (length bs) ∷ [])
+    (ap (λ (k : ℕ). run old.rows (access old.rows k align a prov) (store_of old io)) n ∙ makes io) tail
     ∙ ap₂ (λ (k : ℕ) (s : Store). Done tt ((settling_items f.settles ++ Alive f.name ∷ []) ++ Write f.name f.from k ∷ []) s) len end
     ∙ ap (λ (js : List Item). Done tt js (store_of new io)) (sym noted)
 
 pub cells_settle : (m w : Kept) (new : Cells) (objects : List Held) (settles : Settling) → w ≡ record m { objects = objects } →
-  (CanSettle w.cells settles → (k : Kept) → k.cells ≡ w.cells → (io : Io) → store_of (record k { cells = new }) io ≡ after_settling settles (store_of k io)) →
-  CanSettle m.cells settles → (io : Io) → store_of (record m { cells = new }) io ≡ after_settling settles (store_of m io)
+    (CanSettle w.cells settles → (k : Kept) → k.cells ≡ w.cells → (io : Io) → store_of (record k { cells = new }) io ≡ after_settling settles (store_of k io))
+    →
+    CanSettle m.cells settles → (io : Io) → store_of (record m { cells = new }) io ≡ after_settling settles (store_of m io)
 cells_settle m w new objects settles e store_is can io =
     store_is (subst (λ (k : Kept). CanSettle k.cells settles) (sym e) can) m (ap (λ (k : Kept). k.cells) (sym e)) io
 
 pub stored_by : (old acc w new : Kept) (f : Found) (g : Held) (x : ObjName) → acc ≡ old →
-  w ≡ record acc { objects = changed (holding g.cells) x acc.objects } → x ≡ f.name → record new { cells = [] } ≡ record w { cells = [] } →
-  (CanSettle w.cells f.settles → (k : Kept) → k.cells ≡ w.cells → (io : Io) →
-  store_of (record k { cells = new.cells }) io ≡ after_settling f.settles (store_of k io)) → IsStored old new f g
+    w ≡ record acc { objects = changed (holding g.cells) x acc.objects } → x ≡ f.name → record new { cells = [] } ≡ record w { cells = [] } →
+    (CanSettle w.cells f.settles → (k : Kept) → k.cells ≡ w.cells → (io : Io) →
+    store_of (record k { cells = new.cells }) io ≡ after_settling f.settles (store_of k io)) → IsStored old new f g
 stored_by old acc w new f g x same put name rest store_is =
     let is : w ≡ record old { objects = changed (holding g.cells) f.name old.objects } =
-          put ∙ ap₂ (λ (k : Kept) (y : ObjName). record k { objects = changed (holding g.cells) y k.objects }) same name in
+    put ∙ ap₂ (λ (k : Kept) (y : ObjName). record k { objects = changed (holding g.cells) y k.objects }) same name in
     record {
       rest = rest ∙ ap (λ (k : Kept). record k { cells = [] }) is;
       cells = cells_settle old w new.cells (changed (holding g.cells) f.name old.objects) f.settles is store_is;
     }
 
 pub access_fails : (m : Kept) (first : Bool) (via : Seen) (align a : ℕ) (prov : Prov) (cs : List Cell) (c : Clause) →
-  ((io : Io) → run m.rows (access m.rows (length cs) align a prov) (store_of m io) ≡ Raised c) →
-  (io : Io) → run m.rows (store m.rows first via align a prov (tagged_all m cs)) (store_of m io) ≡ Raised c
+    ((io : Io) → run m.rows (access m.rows (length cs) align a prov) (store_of m io) ≡ Raised c) →
+    (io : Io) → run m.rows (store m.rows first via align a prov (tagged_all m cs)) (store_of m io) ≡ Raised c
 access_fails m first via align a prov cs c raises io =
     raised_first m.rows (access m.rows (length (tagged_all m cs)) align a prov) (store_in first via (tagged_all m cs)) (store_of m io) c
-      (ap (λ (k : ℕ). run m.rows (access m.rows k align a prov) (store_of m io)) (tagged_length m cs) ∙ raises io)
+    (ap (λ (k : ℕ). run m.rows (access m.rows k align a prov) (store_of m io)) (tagged_length m cs) ∙ raises io)
 
 pub few : (o : Settling) (x : ObjName) → length (settling_items o ++ Alive x ∷ []) < 32
 few None x = omega arith
@@ -377,16 +410,16 @@ all_known n [] all = tt
 all_known n (c ∷ cs) all = (all zero, all_known n cs (λ at. all (suc at)))
 
 put_origin : (t d : Bool) (n : ℕ) (old new : Cell) (via : Via) (i : ℕ) → old.origin.number ≤ n → new.origin.number ≤ n →
-  (cond t (cell_left d via i new) old).origin.number ≤ n
+    (cond t (cell_left d via i new) old).origin.number ≤ n
 put_origin true d n old new via i e f = left_origin true d via i new n f
 put_origin false d n old new via i e f = e
 
 pub written_known : (n : ℕ) (h g : Held) (from : ℕ) (via : Via) (cs : List Cell) → IsWritten h g from via cs → CellsKnown n h.cells → CellsKnown n cs →
-  CellsKnown n g.cells
+    CellsKnown n g.cells
 written_known n h g from via cs w old new =
     all_known n g.cells (λ at. subst (λ (c : Cell). c.origin.number ≤ n) (sym (w.bytes at))
-      (put_origin (nat_le from at && nat_lt at (from + length cs)) (is_some h.declared) n (cell_at h.cells at) (cell_at cs (at - from)) via (at - from)
-      (known_at n h.cells at old) (known_at n cs (at - from) new)))
+    (put_origin (nat_le from at && nat_lt at (from + length cs)) (is_some h.declared) n (cell_at h.cells at) (cell_at cs (at - from)) via (at - from)
+    (known_at n h.cells at old) (known_at n cs (at - from) new)))
 
 pub held_known : (n : ℕ) (hs : List Held) (k : ℕ) (h : Held) → slice_get hs k ≡ Some h → ObjectsKnown n hs → CellsKnown n h.cells
 held_known n [] k h e known = absurd (cc)
@@ -405,10 +438,10 @@ holding_known n cs x [] new known = tt
 holding_known n cs x (h ∷ hs) new known = (holding_split (same_object h.name x) n cs h new known.0, holding_known n cs x hs new known.1)
 
 pub store_known : (old new : Kept) (f : Found) (g : Held) (via : Via) (cs : List Cell) (r : IsReached old.objects f (length cs)) → IsStored old new f g →
-  IsWritten r.object g f.from via cs → AreKnown old → CellsKnown (length old.origins) cs → AreKnown new
+    IsWritten r.object g f.from via cs → AreKnown old → CellsKnown (length old.origins) cs → AreKnown new
 store_known old new f g via cs r stored w known fresh_known =
     let n = length old.origins in
     let after : ObjectsKnown n (changed (holding g.cells) f.name old.objects) =
-          holding_known n g.cells f.name old.objects
-          (written_known n r.object g f.from via cs w (held_known n old.objects f.object r.object r.there known) fresh_known) known in
+    holding_known n g.cells f.name old.objects
+    (written_known n r.object g f.from via cs w (held_known n old.objects f.object r.object r.there known) fresh_known) known in
     subst (λ (k : Kept). AreKnown k) (ap (λ (k : Kept). record k { cells = new.cells }) (sym stored.rest)) after

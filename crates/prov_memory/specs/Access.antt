@@ -59,7 +59,7 @@ access_in rows len align a x = do
 abbrev pub checked_offset : Held → (len align a : ℕ) → Result ℕ Clause
 checked_offset h len align a =
     if h.state.live then (if has_range h a len then (if is_aligned align a then Ok (a - h.base) else Err InvalidPointer) else Err OutOfBounds) else Err
-      DeadObject
+    DeadObject
 
 -- the bytes of a range of cells
 abbrev pub range_in : Kept → List Cell → (from len : ℕ) → List TaggedByte

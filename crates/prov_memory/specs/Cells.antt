@@ -1,6 +1,30 @@
 -- The bytes of objects as a memory keeps them: provenances and scalar types by their numbers (own).
-use Rattle.std.specs.Prelude.{ℕ, zero, suc, ◌-◌, ◌+◌, ◌%◌, ◌^◌, Bool, true, false, ◌&&◌, nat_le, nat_lt, ◌==◌, List, take, drop, slice_get, slice_index_or,
-  Option, Some, None, option_map, if◌then◌else◌}
+use Rattle.std.specs.Prelude.{
+  ℕ,
+  zero,
+  suc,
+  ◌-◌,
+  ◌+◌,
+  ◌%◌,
+  ◌^◌,
+  Bool,
+  true,
+  false,
+  ◌&&◌,
+  nat_le,
+  nat_lt,
+  ◌==◌,
+  List,
+  take,
+  drop,
+  slice_get,
+  slice_index_or,
+  Option,
+  Some,
+  None,
+  option_map,
+  if◌then◌else◌,
+}
 use Rattle.exposure.specs.declared.prov.Prov.{Prov}
 use Rattle.exposure.specs.declared.prov.Prov.TheVariants.{Empty}
 use Rattle.c_types.specs.declared.kind.IntKind.{IntKind}
@@ -74,11 +98,11 @@ cell_put old from count is_declared via cs at =
 abbrev pub kind_numbered : ℕ → Option IntKind
 kind_numbered n =
     if n == 1 then Some kinds.Bool else (if n == 2 then Some kinds.Char
-      else (if n == 3 then Some kinds.SChar else (if n == 4 then Some kinds.UChar
-      else (if n == 5 then Some kinds.Short else (if n == 6 then Some kinds.UShort
-      else (if n == 7 then Some kinds.Int else (if n == 8 then Some kinds.UInt
-      else (if n == 9 then Some kinds.Long else (if n == 10 then Some kinds.ULong
-      else (if n == 11 then Some kinds.LLong else (if n == 12 then Some kinds.ULLong else None)))))))))))
+    else (if n == 3 then Some kinds.SChar else (if n == 4 then Some kinds.UChar
+    else (if n == 5 then Some kinds.Short else (if n == 6 then Some kinds.UShort
+    else (if n == 7 then Some kinds.Int else (if n == 8 then Some kinds.UInt
+    else (if n == 9 then Some kinds.Long else (if n == 10 then Some kinds.ULong
+    else (if n == 11 then Some kinds.LLong else (if n == 12 then Some kinds.ULLong else None)))))))))))
 
 -- the provenance of a number: 0 is the empty one
 abbrev pub prov_numbered : List Prov → ℕ → Prov

@@ -1,6 +1,31 @@
 -- The objects of a memory as it keeps them (own).
-use Rattle.std.specs.Prelude.{◌≡◌, ℕ, zero, suc, ◌+◌, ◌≤◌, ◌^◌, Bool, true, false, ◌&&◌, nat_le, List, [], ◌∷◌, length, slice_get, Option, Some, None,
-  is_some, if◌then◌else◌, ℤ, pos, int_le}
+use Rattle.std.specs.Prelude.{
+  ◌≡◌,
+  ℕ,
+  zero,
+  suc,
+  ◌+◌,
+  ◌≤◌,
+  ◌^◌,
+  Bool,
+  true,
+  false,
+  ◌&&◌,
+  nat_le,
+  List,
+  [],
+  ◌∷◌,
+  length,
+  slice_get,
+  Option,
+  Some,
+  None,
+  is_some,
+  if◌then◌else◌,
+  ℤ,
+  pos,
+  int_le,
+}
 use Rattle.std.specs.BTreeMap.{BTreeMap, get}
 use Rattle.ub_base.specs.declared.names.ObjName.{ObjName}
 use Rattle.ub_base.specs.Names.{same_object}

@@ -1,6 +1,28 @@
 -- Which provenances a memory made, and what settling leaves (own).
-use Rattle.std.specs.Prelude.{◌≡◌, ℕ, ◌≤◌, ◌^◌, Bool, true, false, List, [], ◌∷◌, ◌++◌, ◌==◌, Option, Some, None, is_some, if◌then◌else◌, Result, Ok, Err, ℤ,
-  pos}
+use Rattle.std.specs.Prelude.{
+  ◌≡◌,
+  ℕ,
+  ◌≤◌,
+  ◌^◌,
+  Bool,
+  true,
+  false,
+  List,
+  [],
+  ◌∷◌,
+  ◌++◌,
+  ◌==◌,
+  Option,
+  Some,
+  None,
+  is_some,
+  if◌then◌else◌,
+  Result,
+  Ok,
+  Err,
+  ℤ,
+  pos,
+}
 use Rattle.std.specs.BTreeMap.{BTreeMap, get}
 use Rattle.std.specs.declared.cmp.Ordering.{Ordering}
 use Rattle.ub_base.specs.declared.clause.Clause.{Clause}
@@ -79,7 +101,7 @@ abbrev pub shift_settling : List Row → Cells → ℤ → Prov → Result Settl
 shift_settling rows cells a Empty = Err OutOfBounds
 shift_settling rows cells a (Whole x) = if in_bounds (row_of rows x) a then Ok None else Err OutOfBounds
 shift_settling rows cells a (Either id past start) = settling_by (in_bounds (row_of rows past) a) (in_bounds (row_of rows start) a) cells id past start
-  OutOfBounds
+    OutOfBounds
 
 -- the ambiguity is there and wasn't settled to another object
 abbrev pub CanSettle : Cells → Settling → Type 0

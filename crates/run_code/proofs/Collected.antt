@@ -1,6 +1,35 @@
 -- What is noted of nodes as a tree is gone through.
-use Rattle.std.proofs.Common.{rules, arith, ◌≡◌, ◌<◌, ◌≤◌, ◌+◌, ◌⊎◌, inl, inr, ℕ, zero, suc, List, [], ◌∷◌, ◌++◌, length, map, drop, Option, Some, None,
-  slice_get, refl, sym, ap, subst, ◌∙◌, length-append}
+use Rattle.std.proofs.Common.{
+  rules,
+  arith,
+  ◌≡◌,
+  ◌<◌,
+  ◌≤◌,
+  ◌+◌,
+  ◌⊎◌,
+  inl,
+  inr,
+  ℕ,
+  zero,
+  suc,
+  List,
+  [],
+  ◌∷◌,
+  ◌++◌,
+  length,
+  map,
+  drop,
+  Option,
+  Some,
+  None,
+  slice_get,
+  refl,
+  sym,
+  ap,
+  subst,
+  ◌∙◌,
+  length-append,
+}
 use Rattle.std.proofs.Math.ListN.{get_or, set}
 use Rattle.std.proofs.Math.Seq.{get_or-append_seam}
 use Rattle.std.proofs.lemmas.List.{drop_more, length-set}
@@ -46,13 +75,13 @@ pub at_kept : (k : ℕ) (xs ys : List NodeInfo) (n : ℕ) (parent : Option ℕ) 
 at_kept k xs ys n parent t h l a = (a.0, h n a.0 l a.1, a.2, a.3)
 
 pub below_kept : (k : ℕ) (xs ys : List NodeInfo) (parent m : ℕ) (ts : List Typed) → KeptFrom k xs ys → k ≤ m → AreBelow xs parent m ts →
-  AreBelow ys parent m ts
+    AreBelow ys parent m ts
 below_kept k xs ys parent m [] h l b = tt
 below_kept k xs ys parent m (t ∷ ts) h l b =
     (at_kept k xs ys m (Some parent) t h l b.0, below_kept k xs ys parent (m + size (tree_of t)) ts h (omega (arith, l)) b.1)
 
 node_kept : (firsts : List ℕ) (k : ℕ) (xs ys : List NodeInfo) (n : ℕ) (x : NodeInfo) → KeptFrom k xs ys → k ≤ suc n → IsNode firsts xs n x →
-  IsNode firsts ys n x
+    IsNode firsts ys n x
 node_kept firsts k xs ys n x h l d = record {
   operand = d.operand;
   next = d.next;
@@ -70,7 +99,7 @@ pub record Between (firsts : List ℕ) (parent : Option ℕ) (t : Typed) (number
   pub each : (n : ℕ) (x : NodeInfo) → number < n → slice_get new n ≡ Some x → IsNode firsts new n x
   pub count : length new + sizes (trees_of left) ≡ number + size (tree_of t)
   pub below : (end : List NodeInfo) → KeptFrom (suc number) new end → AreBelow end number (length new) left →
-    AreBelow end number (suc number) (out-Typed t).children
+      AreBelow end number (suc number) (out-Typed t).children
 
 pub begun : (firsts : List ℕ) (parent : Option ℕ) (t : Typed) (number : ℕ) (old new : List NodeInfo) (x : NodeInfo) → number ≡ length old → new ≡ old ++ x ∷ []
     → x.tree.now ≡ t → x.parent ≡ parent → x.operand ≡ resolved firsts t number → Between firsts parent t number old new (out-Typed t).children
@@ -104,7 +133,7 @@ more_collected firsts parent t number old new newer child left rest e b a =
     let inside : number < length new = slice_get_within new number b.top.0 b.top.1 in
     let from : KeptFrom (suc number) new newer = λ n x l h. a.kept n x h in
     let count : length new + (size (tree_of child) + sizes (trees_of rest)) ≡ number + size (tree_of t) =
-          ap (λ ts. length new + sizes (trees_of ts)) (sym e) ∙ b.count in
+    ap (λ ts. length new + sizes (trees_of ts)) (sym e) ∙ b.count in
     record {
       at = b.at;
       kept = λ n x h. a.kept n x (b.kept n x h);
@@ -115,8 +144,10 @@ more_collected firsts parent t number old new newer child left rest e b a =
       ];
       count = omega (arith, a.count, count);
       below = λ end k c. b.below end (λ n x l h. k n x l (a.kept n x h))
-          (subst (AreBelow end number (length new)) (sym e) (at_kept (suc number) newer end (length new) (Some number) child k (omega (arith, inside)) a.top,
-            subst (λ m. AreBelow end number m rest) a.count c));
+          (subst (AreBelow end number (length new)) (sym e) (
+            at_kept (suc number) newer end (length new) (Some number) child k (omega (arith, inside)) a.top,
+            subst (λ m. AreBelow end number m rest) a.count c,
+          ));
     }
 
 pub collected : (firsts : List ℕ) (parent : Option ℕ) (t : Typed) (number : ℕ) (old new end : List NodeInfo) (left : List Typed) (last : NodeInfo)

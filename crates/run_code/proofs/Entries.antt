@@ -64,6 +64,6 @@ pub continued_by : (xs ys : List Listed) (first last : Listed) (node index : ℕ
 continued_by xs ys first last node index part e l =
     map_set ys (length xs) last
     ∙ ap (λ z. set z (length xs) (entry_of last))
-      (e ∙ ap (λ z. z ++ part) (map-append entry_of xs (first ∷ [])) ∙ append_assoc (entries_of xs) (entry_of first ∷ []) part)
+    (e ∙ ap (λ z. z ++ part) (map-append entry_of xs (first ∷ [])) ∙ append_assoc (entries_of xs) (entry_of first ∷ []) part)
     ∙ set_at (entries_of xs) (entry_of first) part (entry_of last) (length xs) (length-map xs entry_of)
     ∙ ap (λ z. entries_of xs ++ z ∷ part) l

@@ -1,6 +1,40 @@
 -- What is laid out stays as more is laid out behind it.
-use Rattle.std.proofs.Common.{rules, arith, ◌≡◌, ◌<◌, ◌≤◌, ◌+◌, ◌-◌, ◌^◌, min, Bool, true, false, if◌then◌else◌, ◌⊎◌, inl, inr, ℕ, zero, suc, List, [], ◌∷◌,
-  ◌++◌, length, Option, Some, None, slice_get, refl, sym, ap, subst, ◌∙◌, length-append}
+use Rattle.std.proofs.Common.{
+  rules,
+  arith,
+  ◌≡◌,
+  ◌<◌,
+  ◌≤◌,
+  ◌+◌,
+  ◌-◌,
+  ◌^◌,
+  min,
+  Bool,
+  true,
+  false,
+  if◌then◌else◌,
+  ◌⊎◌,
+  inl,
+  inr,
+  ℕ,
+  zero,
+  suc,
+  List,
+  [],
+  ◌∷◌,
+  ◌++◌,
+  length,
+  Option,
+  Some,
+  None,
+  slice_get,
+  refl,
+  sym,
+  ap,
+  subst,
+  ◌∙◌,
+  length-append,
+}
 use Rattle.std.proofs.Math.Logic.{∥∥₁_map}
 use Rattle.std.specs.List.{All}
 use Rattle.std.proofs.Math.ListN.{get_or, set}
@@ -25,8 +59,25 @@ use Rattle.run_code.specs.declared.steps.Listed.TheVariants as listed
 use Rattle.run_code.specs.declared.steps.Tables.{Tables}
 use Rattle.run_code.specs.Resolved.{resolved, operands_from}
 use Rattle.run_code.specs.Numbered.{AreNodes, AreNoted, AreBelow}
-use Rattle.run_code.specs.EventActs.{head_at, seen, sight_of, room_of, ends_with, Sight, Stores, Fills, Calls, IsEffect, IsBody, IsAct, IsDue, IsEntry,
-  AreEntries, AreFirst, AreGrown}
+use Rattle.run_code.specs.EventActs.{
+  head_at,
+  seen,
+  sight_of,
+  room_of,
+  ends_with,
+  Sight,
+  Stores,
+  Fills,
+  Calls,
+  IsEffect,
+  IsBody,
+  IsAct,
+  IsDue,
+  IsEntry,
+  AreEntries,
+  AreFirst,
+  AreGrown,
+}
 use Rattle.run_code.specs.LaidOut.{LaidOutBy, IsLaidOut}
 use Rattle.run_code.proofs.Collected.{slice_get-front}
 
@@ -37,7 +88,7 @@ pub same_grown : (old new : Tables) → new ≡ old → AreGrown old new
 same_grown old new e = subst (AreGrown old) (sym e) (nothing_grown old)
 
 stores_grown : (old new : Tables) (how : Access) (first : _) (object : CType) (place value : Operand) (a : Act) → AreGrown old new →
-  Stores old how first object place value a → Stores new how first object place value a
+    Stores old how first object place value a → Stores new how first object place value a
 stores_grown old new how first object place value a g s = (s.0, s.1, g.stores s.0 s.1 s.2, s.3, s.4)
 
 fills_grown : (old new : Tables) (object : Operand) (bytes : List Constant) (a : Act) → AreGrown old new → Fills old object bytes a → Fills new object bytes a
@@ -53,28 +104,28 @@ effect_grown firsts old new (shape.List slot bytes) s a g e = fills_grown old ne
 effect_grown firsts old new _ s a g e = e
 
 body_grown : (old new : Tables) (initializer : ℕ) (h : Head) (s : Sight) (a : Act) → AreGrown old new → IsBody old initializer h s a →
-  IsBody new initializer h s a
+    IsBody new initializer h s a
 body_grown old new initializer (shape.Call discarded) s a g e = calls_grown old new s.operands a g e
 body_grown old new initializer (shape.Isolated tree) s a g e = e
 body_grown old new initializer _ s a g e = e
 
 act_grown : (firsts : List ℕ) (old new : Tables) (initializer : ℕ) (h : Head) (s : Sight) (kind : Kind) (a : Act) → AreGrown old new →
-  IsAct firsts old initializer h s kind a → IsAct firsts new initializer h s kind a
+    IsAct firsts old initializer h s kind a → IsAct firsts new initializer h s kind a
 act_grown firsts old new initializer h s Val a g e = e
 act_grown firsts old new initializer h s Eff a g e = effect_grown firsts old new h s a g e
 act_grown firsts old new initializer h s Body a g e = body_grown old new initializer h s a g e
 
 -- an event of this kind has the act of the kind
 pub effect_acts : (firsts : List ℕ) (tables : Tables) (initializer : ℕ) (h : Head) (s : Sight) (kind : Kind) (a : Act) → kind ≡ Eff →
-  IsEffect firsts tables h s a → IsAct firsts tables initializer h s kind a
+    IsEffect firsts tables h s a → IsAct firsts tables initializer h s kind a
 effect_acts firsts tables initializer h s kind a e i = subst (λ k. IsAct firsts tables initializer h s k a) (sym e) i
 
 pub body_acts : (firsts : List ℕ) (tables : Tables) (initializer : ℕ) (h : Head) (s : Sight) (kind : Kind) (a : Act) → kind ≡ Body →
-  IsBody tables initializer h s a → IsAct firsts tables initializer h s kind a
+    IsBody tables initializer h s a → IsAct firsts tables initializer h s kind a
 body_acts firsts tables initializer h s kind a e i = subst (λ k. IsAct firsts tables initializer h s k a) (sym e) i
 
 pub entry_grown : (firsts : List ℕ) (old new : Tables) (nodes : List NodeInfo) → AreGrown old new → (x : Listed) → IsEntry firsts old nodes x →
-  IsEntry firsts new nodes x
+    IsEntry firsts new nodes x
 entry_grown firsts old new nodes g (listed.Event d) e = (
   e.0,
   e.1,
@@ -88,13 +139,13 @@ entry_grown firsts old new nodes g (listed.Event d) e = (
 entry_grown firsts old new nodes g (listed.Operand node index count) e = tt
 
 pub entries_grown : (firsts : List ℕ) (old new : Tables) (nodes : List NodeInfo) (es : List Listed) → AreGrown old new → AreEntries firsts old nodes es →
-  AreEntries firsts new nodes es
+    AreEntries firsts new nodes es
 entries_grown firsts old new nodes es g h noted = All-weaker (IsEntry firsts old nodes) (IsEntry firsts new nodes) (entry_grown firsts old new nodes g) es
-  (h noted)
+    (h noted)
 
 -- an element of two lists stands in the one or in the other
 in_both : {A : Type 0} (xs ys : List A) (i : ℕ) (x : A) → slice_get (xs ++ ys) i ≡ Some x → (slice_get xs i ≡ Some x) ⊎
-  ((j : ℕ) × (slice_get ys j ≡ Some x) × (i ≡ length xs + j))
+    ((j : ℕ) × (slice_get ys j ≡ Some x) × (i ≡ length xs + j))
 in_both [] ys i x h = inr (i, h, omega arith)
 in_both (z ∷ xs) ys zero x h = inl h
 in_both (z ∷ xs) ys (suc i) x h = elim (in_both xs ys i x h) [ inl a ↦ inl a | inr b ↦ inr (b.0, b.1, omega (arith, b.2)) ]
@@ -103,7 +154,7 @@ at_all : {A : Type 0} (P : A → Type 0) (xs : List A) (i : ℕ) (x : A) → All
 at_all P xs i x a h = subst P (get_or_from_slice_get xs i x x h) (All-get_or P xs i x (slice_get_within xs i x h) a)
 
 laid_out_grown : (old new : Tables) (entries more : List Listed) → AreGrown old new → (e : Expression) → IsLaidOut old entries e →
-  IsLaidOut new (entries ++ more) e
+    IsLaidOut new (entries ++ more) e
 laid_out_grown old new entries more g e l = (
   l.0,
   l.1,
@@ -121,16 +172,16 @@ laid_out_grown old new entries more g e l = (
 
 -- more in the tables, and more entries
 pub all_grown : (old new : Tables) (entries longer more : List Listed) (es : List Expression) → AreGrown old new → longer ≡ entries ++ more →
-  ∥ All (IsLaidOut old entries) es ∥₁ → ∥ All (IsLaidOut new longer) es ∥₁
+    ∥ All (IsLaidOut old entries) es ∥₁ → ∥ All (IsLaidOut new longer) es ∥₁
 all_grown old new entries longer more es g e h =
     ∥∥₁_map h (λ a. subst (λ z. All (IsLaidOut new z) es) (sym e)
-      (All-weaker (IsLaidOut old entries) (IsLaidOut new (entries ++ more)) (laid_out_grown old new entries more g) es a))
+    (All-weaker (IsLaidOut old entries) (IsLaidOut new (entries ++ more)) (laid_out_grown old new entries more g) es a))
 
 -- one more full expression, whose entries come last
 pub one_more : (tables : Tables) (entries longer more : List Listed) (es : List Expression) (firsts : List ℕ) (nodes : List NodeInfo) (e : Expression) →
-  longer ≡ entries ++ more
+    longer ≡ entries ++ more
     → AreNodes firsts e.root.now nodes → AreEntries firsts tables nodes more → e.value ≡ resolved firsts e.root.now 0 → e.first ≡ length entries →
-      e.end ≡ length longer
+    e.end ≡ length longer
     → ∥ All (IsLaidOut tables longer) es ∥₁ → ∥ All (IsLaidOut tables longer) (es ++ e ∷ []) ∥₁
 one_more tables entries longer more es firsts nodes e l n a v f t h =
     let count : length longer ≡ length entries + length more = ap length l ∙ length-append entries more in
@@ -155,29 +206,29 @@ no_entries firsts tables nodes es e = λ noted. subst (All (IsEntry firsts table
 
 -- one entry more, and one that is written over another
 pub entries_pushed : (firsts : List ℕ) (tables : Tables) (nodes : List NodeInfo) (es : List Listed) (node index count : ℕ) →
-  AreEntries firsts tables nodes es → AreEntries firsts tables nodes (es ++ listed.Operand node index count ∷ [])
+    AreEntries firsts tables nodes es → AreEntries firsts tables nodes (es ++ listed.Operand node index count ∷ [])
 entries_pushed firsts tables nodes es node index count h noted = All-push (IsEntry firsts tables nodes) es (listed.Operand node index count) (h noted) tt
 
 pub entries_set : (firsts : List ℕ) (tables : Tables) (nodes : List NodeInfo) (es : List Listed) (at node index count : ℕ) →
-  AreEntries firsts tables nodes es → AreEntries firsts tables nodes (set es at (listed.Operand node index count))
+    AreEntries firsts tables nodes es → AreEntries firsts tables nodes (set es at (listed.Operand node index count))
 entries_set firsts tables nodes es at node index count h noted = All-set (IsEntry firsts tables nodes) es at (listed.Operand node index count) tt (h noted)
 
 pub event_added : (firsts firsts2 : List ℕ) (old new : Tables) (nodes : List NodeInfo) (es longer : List Listed) (d : Due) (x : NodeInfo) (number : ℕ) →
-  firsts2 ≡ firsts → AreGrown old new → longer ≡ es ++ listed.Event d ∷ []
+    firsts2 ≡ firsts → AreGrown old new → longer ≡ es ++ listed.Event d ∷ []
     → d.place.node ≡ number → slice_get nodes number ≡ Some x →
-      (AreNoted firsts nodes → slice_get nodes number ≡ Some x → IsDue firsts new (length nodes) d x) → AreEntries firsts old nodes es →
-      AreEntries firsts2 new nodes longer
+    (AreNoted firsts nodes → slice_get nodes number ≡ Some x → IsDue firsts new (length nodes) d x) → AreEntries firsts old nodes es →
+    AreEntries firsts2 new nodes longer
 event_added firsts firsts2 old new nodes es longer d x number f g l p at due h =
     subst (λ fs. AreEntries fs new nodes longer) (sym f)
     (λ noted. subst (All (IsEntry firsts new nodes)) (sym l)
     (All-push (IsEntry firsts new nodes) es (listed.Event d) (entries_grown firsts old new nodes es g h noted) (x, ap (slice_get nodes) p ∙ at, due noted at)))
 
 pub noted_due : (firsts : List ℕ) (tables : Tables) (nodes : List NodeInfo) (number room : ℕ) (x : NodeInfo) (d : Due) (os : List Operand) →
-  AreNoted firsts nodes → slice_get nodes number ≡ Some x
+    AreNoted firsts nodes → slice_get nodes number ≡ Some x
     → d.place.node ≡ number → d.line ≡ (out-Typed x.tree.now).line → d.parent ≡ x.parent →
-      d.completes ≡ ends_with (head_at (out-Typed x.tree.now).node) d.place.kind
+    d.completes ≡ ends_with (head_at (out-Typed x.tree.now).node) d.place.kind
     → (AreNoted firsts nodes → AreBelow nodes number (suc number) (out-Typed x.tree.now).children →
-      os ≡ operands_from firsts (suc number) (out-Typed x.tree.now).children)
+    os ≡ operands_from firsts (suc number) (out-Typed x.tree.now).children)
     → room ≡ room_of (head_at (out-Typed x.tree.now).node) (min (length nodes) (2 ^ 32 - 1)) number x.room
     → IsAct firsts tables x.initializer (head_at (out-Typed x.tree.now).node) (seen x.tree.now os x.operand room) d.place.kind d.act
     → IsDue firsts tables (length nodes) d x
@@ -209,13 +260,13 @@ extended true xs ys zs e = e
 extended false xs ys zs e = e ∙ sym (append-nil xs)
 
 pub tables_grown : (old new : Tables) (entries : List Listed) (es : List Expression) → AreGrown old new → ∥ All (IsLaidOut old entries) es ∥₁ →
-  ∥ All (IsLaidOut new entries) es ∥₁
+    ∥ All (IsLaidOut new entries) es ∥₁
 tables_grown old new entries es g h = all_grown old new entries entries [] es g (sym (append-nil entries)) h
 
 pub expression_pushed : (b : Bool) (tables : Tables) (entries longer more : List Listed) (es fs : List Expression) (firsts : List ℕ) (nodes : List NodeInfo)
-  (e : Expression) → fs ≡ (if b then es ++ e ∷ [] else es) → longer ≡ entries ++ more
+    (e : Expression) → fs ≡ (if b then es ++ e ∷ [] else es) → longer ≡ entries ++ more
     → AreNodes firsts e.root.now nodes → AreEntries firsts tables nodes more → e.value ≡ resolved firsts e.root.now 0 → e.first ≡ length entries →
-      e.end ≡ length longer
+    e.end ≡ length longer
     → ∥ All (IsLaidOut tables longer) es ∥₁ → ∥ All (IsLaidOut tables longer) fs ∥₁
 expression_pushed true tables entries longer more es fs firsts nodes e p l n a v f t h =
     subst (λ z. ∥ All (IsLaidOut tables longer) z ∥₁) (sym p) (one_more tables entries longer more es firsts nodes e l n a v f t h)
@@ -223,7 +274,7 @@ expression_pushed false tables entries longer more es fs firsts nodes e p l n a 
 
 -- the value of the root
 pub root_value : (firsts : List ℕ) (root : Typed) (nodes : List NodeInfo) (x : NodeInfo) → AreNodes firsts root nodes →
-  (get_or nodes 0 x).operand ≡ resolved firsts root 0
+    (get_or nodes 0 x).operand ≡ resolved firsts root 0
 root_value firsts root nodes x n =
     ap (λ (y : NodeInfo). y.operand) (get_or_from_slice_get nodes 0 n.top.0 x n.top.1) ∙ (n.each 0 n.top.0 n.top.1).operand ∙ ap
-      (λ t. resolved firsts t 0) n.top.2
+    (λ t. resolved firsts t 0) n.top.2

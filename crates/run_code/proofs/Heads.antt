@@ -26,20 +26,20 @@ head_at-Load n a e = ap head_at (e ∙ sym (nodes.rolls-Load a)) ∙ ap head_see
 
 head_at-Assign : (n : Node) (first : Bool) (a : Access) → n ≡ nodes.Assign first a → head_at n ≡ shape.Assign first a
 head_at-Assign n first a e = ap head_at (e ∙ sym (nodes.rolls-Assign first a)) ∙ ap head_seen
-  (fold-roll-Node SeenNode Seen seen_node seen_tree (shape.Assign first a))
+    (fold-roll-Node SeenNode Seen seen_node seen_tree (shape.Assign first a))
 
 head_at-Update : (n : Node) (c : Change) (old : Bool) → n ≡ nodes.Update c old → head_at n ≡ shape.Update c old
 head_at-Update n c old e = ap head_at (e ∙ sym (nodes.rolls-Update c old)) ∙ ap head_seen
-  (fold-roll-Node SeenNode Seen seen_node seen_tree (shape.Update c old))
+    (fold-roll-Node SeenNode Seen seen_node seen_tree (shape.Update c old))
 
 pub loads : (t : Typed) (how : Access) (os : List Operand) (own place : Operand) (room : ℕ) (ty : Bor Ty) → (out-Typed t).node ≡ nodes.Load how
     → type_of ty.now ≡ pointed (first_type (type_of (out-Typed t).ty) (out-Typed t).children) → place ≡ value_at os 0 →
-      IsValue (head_at (out-Typed t).node) (seen t os own room) (act.Load how ty place)
+    IsValue (head_at (out-Typed t).node) (seen t os own room) (act.Load how ty place)
 loads t how os own place room ty e y p =
     subst (λ h. IsValue h (seen t os own room) (act.Load how ty place)) (sym (head_at-Load (out-Typed t).node how e)) (ty, y, ap (act.Load how ty) p)
 
 pub changes : (t : Typed) (c : Change) (old : Bool) (os : List Operand) (own place operand : Operand) (room : ℕ) (ty : Bor Ty) →
-  (out-Typed t).node ≡ nodes.Update c old
+    (out-Typed t).node ≡ nodes.Update c old
     → type_of ty.now ≡ pointed (first_type (type_of (out-Typed t).ty) (out-Typed t).children) → place ≡ value_at os 0 → operand ≡ amount old os
     → IsValue (head_at (out-Typed t).node) (seen t os own room) (act.Change c old ty place operand room)
 changes t c old os own place operand room ty e y p o =
@@ -47,9 +47,9 @@ changes t c old os own place operand room ty e y p o =
     (ty, y, ap (λ z. act.Change c old ty z operand room) p ∙ ap (λ z. act.Change c old ty (value_at os 0) z room) o)
 
 pub assigns : (firsts : List ℕ) (tables : Tables) (t : Typed) (first : Bool) (how : Access) (os : List Operand) (own place value : Operand) (room : ℕ)
-  (a : Act) → (out-Typed t).node ≡ nodes.Assign first how
+    (a : Act) → (out-Typed t).node ≡ nodes.Assign first how
     → place ≡ value_at os 0 → value ≡ value_at os 1 → Stores tables how first (pointed (first_type (type_of (out-Typed t).ty) (out-Typed t).children)) place
-      value a
+    value a
     → IsEffect firsts tables (head_at (out-Typed t).node) (seen t os own room) a
 assigns firsts tables t first how os own place value room a e p v s =
     let object = pointed (first_type (type_of (out-Typed t).ty) (out-Typed t).children) in
@@ -57,9 +57,9 @@ assigns firsts tables t first how os own place value room a e p v s =
     (subst (λ z. Stores tables how first object (value_at os 0) z a) v (subst (λ z. Stores tables how first object z value a) p s))
 
 pub updates : (firsts : List ℕ) (tables : Tables) (t : Typed) (c : Change) (old : Bool) (how : Access) (os : List Operand) (own place : Operand) (room : ℕ)
-  (a : Act) → (out-Typed t).node ≡ nodes.Update c old
+    (a : Act) → (out-Typed t).node ≡ nodes.Update c old
     → how ≡ change_access c → place ≡ value_at os 0 → Stores tables how false (pointed (first_type (type_of (out-Typed t).ty) (out-Typed t).children)) place
-      (Done room) a
+    (Done room) a
     → IsEffect firsts tables (head_at (out-Typed t).node) (seen t os own room) a
 updates firsts tables t c old how os own place room a e k p s =
     let object = pointed (first_type (type_of (out-Typed t).ty) (out-Typed t).children) in

@@ -67,14 +67,14 @@ two count taken a b xs ys p q es =
 
 mutual
   pub listed : (count : ℕ) (taken : Taken) (t : Term) (es : List Entry) → passed taken 0 (flat count t ++ es) ≡ within count (listing taken t) ++
-    passed taken 0 es
+      passed taken 0 es
   listed count taken (pure n) es = refl
   listed count taken (act n k) es = one_if (nat_lt n count) taken (place n k) es
   listed count taken (unseq ts) es = all_listed count taken ts es
   listed count taken (weak a b) es = two count taken (flat count a) (flat count b) (listing taken a) (listing taken b) (listed count taken a)
-    (listed count taken b) es
+      (listed count taken b) es
   listed count taken (strong a b) es = two count taken (flat count a) (flat count b) (listing taken a) (listing taken b) (listed count taken a)
-    (listed count taken b) es
+      (listed count taken b) es
   listed count taken (choose n test first second) es =
       let c1 : List Entry = continuation n 1 (flat count first) in
       let c2 : List Entry = continuation n 2 (flat count second) in

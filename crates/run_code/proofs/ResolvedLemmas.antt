@@ -29,13 +29,13 @@ root_of firsts t n u e =
     ∙ ap (λ z. node_at firsts z (type_of (out-Typed t).ty) (map (resolved firsts) (out-Typed t).children) n) e
 
 conversion_at : (firsts : List ℕ) (c : Conversion) (ty : CType) (os : List (ℕ → Operand)) (n : ℕ) →
-  node_at firsts (nodes.Conv c) ty os n ≡ by_conversion c n (first_resolved os n)
+    node_at firsts (nodes.Conv c) ty os n ≡ by_conversion c n (first_resolved os n)
 conversion_at firsts c ty os n =
     ap (λ z. node_at firsts z ty os n) (sym (nodes.rolls-Conv c))
     ∙ ap (λ (f : NodeResolved). f ty os n) (fold-roll-Node NodeResolved (ℕ → Operand) (node_resolved firsts) tree_resolved (shape.Conv c))
 
 member_at : (firsts : List ℕ) (offset : ℕ) (ty : CType) (os : List (ℕ → Operand)) (n : ℕ) →
-  node_at firsts (nodes.Member offset) ty os n ≡ member_of offset n (first_resolved os n)
+    node_at firsts (nodes.Member offset) ty os n ≡ member_of offset n (first_resolved os n)
 member_at firsts offset ty os n =
     ap (λ z. node_at firsts z ty os n) (sym (nodes.rolls-Member offset))
     ∙ ap (λ (f : NodeResolved). f ty os n) (fold-roll-Node NodeResolved (ℕ → Operand) (node_resolved firsts) tree_resolved (shape.Member offset))
@@ -45,27 +45,27 @@ none_converted (conversion.Integer k) n = refl
 none_converted _ n = refl
 
 pub resolved-conversion : (firsts : List ℕ) (t operand : Typed) (c : Conversion) (n : ℕ) →
-  (out-Typed t).node ≡ nodes.Conv c → Some operand ≡ slice_get (out-Typed t).children 0
+    (out-Typed t).node ≡ nodes.Conv c → Some operand ≡ slice_get (out-Typed t).children 0
     → resolved firsts t n ≡ by_conversion c n (resolved firsts operand n)
 resolved-conversion firsts t operand c n e h =
     root_of firsts t n (nodes.Conv c) e ∙ conversion_at firsts c (type_of (out-Typed t).ty) (map (resolved firsts) (out-Typed t).children) n
     ∙ ap (by_conversion c n) (first_of firsts (out-Typed t).children n ∙ ap (λ o. operand_at firsts o n) (sym h))
 
 pub resolved-lone_conversion : (firsts : List ℕ) (t : Typed) (c : Conversion) (n : ℕ) →
-  (out-Typed t).node ≡ nodes.Conv c → None ≡ slice_get (out-Typed t).children 0 → resolved firsts t n ≡ Done n
+    (out-Typed t).node ≡ nodes.Conv c → None ≡ slice_get (out-Typed t).children 0 → resolved firsts t n ≡ Done n
 resolved-lone_conversion firsts t c n e h =
     root_of firsts t n (nodes.Conv c) e ∙ conversion_at firsts c (type_of (out-Typed t).ty) (map (resolved firsts) (out-Typed t).children) n
     ∙ ap (by_conversion c n) (first_of firsts (out-Typed t).children n ∙ ap (λ o. operand_at firsts o n) (sym h)) ∙ none_converted c n
 
 pub resolved-member : (firsts : List ℕ) (t operand : Typed) (offset n : ℕ) → (out-Typed t).node ≡ nodes.Member offset →
-  Some operand ≡ slice_get (out-Typed t).children 0
+    Some operand ≡ slice_get (out-Typed t).children 0
     → resolved firsts t n ≡ member_of offset n (resolved firsts operand n)
 resolved-member firsts t operand offset n e h =
     root_of firsts t n (nodes.Member offset) e ∙ member_at firsts offset (type_of (out-Typed t).ty) (map (resolved firsts) (out-Typed t).children) n
     ∙ ap (member_of offset n) (first_of firsts (out-Typed t).children n ∙ ap (λ o. operand_at firsts o n) (sym h))
 
 pub resolved-lone_member : (firsts : List ℕ) (t : Typed) (offset n : ℕ) → (out-Typed t).node ≡ nodes.Member offset →
-  None ≡ slice_get (out-Typed t).children 0 → resolved firsts t n ≡ Done n
+    None ≡ slice_get (out-Typed t).children 0 → resolved firsts t n ≡ Done n
 resolved-lone_member firsts t offset n e h =
     root_of firsts t n (nodes.Member offset) e ∙ member_at firsts offset (type_of (out-Typed t).ty) (map (resolved firsts) (out-Typed t).children) n
     ∙ ap (member_of offset n) (first_of firsts (out-Typed t).children n ∙ ap (λ o. operand_at firsts o n) (sym h))

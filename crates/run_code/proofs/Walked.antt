@@ -15,9 +15,9 @@ abbrev pub Walks : List ℕ → List NodeInfo → (parent at : ℕ) → List Typ
 Walks firsts nodes parent at left so_far all = (so_far ++ operands_from firsts at left ≡ all) × AreBelow nodes parent at left
 
 pub one_walked : (firsts : List ℕ) (nodes : List NodeInfo) (parent at : ℕ) (left rest : List Typed) (child : Typed) (so_far more all : List Operand)
-  (x : NodeInfo) → left ≡ child ∷ rest
+    (x : NodeInfo) → left ≡ child ∷ rest
     → AreNoted firsts nodes → slice_get nodes at ≡ Some x → more ≡ so_far ++ x.operand ∷ [] → Walks firsts nodes parent at left so_far all →
-      Walks firsts nodes parent x.next rest more all
+    Walks firsts nodes parent x.next rest more all
 one_walked firsts nodes parent at left rest child so_far more all x e noted h m w =
     let below : AreBelow nodes parent at (child ∷ rest) = subst (AreBelow nodes parent at) e w.1 in
     let tree : x.tree.now ≡ child = ap (λ y. y.tree.now) (same_info nodes at x below.0.0 h below.0.1) ∙ below.0.2 in

@@ -122,7 +122,7 @@ IsEffect firsts tables _ s a = a ≡ act.Nothing
 abbrev pub Calls : Tables → List Operand → Act → Type 0
 Calls tables os a =
     (n : ℕ) × (call : CallCode) × (slice_get tables.calls.items n ≡ Some call) × (call.designator ≡ value_at os 0) × (call.arguments.items ≡ rest_of os) ×
-      (a ≡ act.Call n)
+    (a ≡ act.Call n)
 
 -- the act of a node's body
 abbrev pub IsBody : Tables → (initializer : ℕ) → Head → Sight → Act → Type 0

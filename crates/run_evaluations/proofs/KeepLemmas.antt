@@ -28,7 +28,7 @@ and_both : (p q : Bool) → p ≡ true → q ≡ true → (p && q) ≡ true
 and_both p q h k = (λ i. h i && k i)
 
 forgotten_by : (b : Bool) (f g : Foot) (x : ObjName) (i : Item) → is_forgotten x i ≡ b → ((j : Item) → holds g j ≡ (holds f j && not (is_forgotten x j))) →
-  holds f (Dies x) ≡ true → holds f i ≡ true → (holds g i ≡ true) ⊎ ((y : ObjName) × (is_forgotten y i ≡ true) × (holds g (Dies y) ≡ true))
+    holds f (Dies x) ≡ true → holds f i ≡ true → (holds g i ≡ true) ⊎ ((y : ObjName) × (is_forgotten y i ≡ true) × (holds g (Dies y) ≡ true))
 forgotten_by true f g x i e is dead h = inr (x, e, is (Dies x) ∙ and_both _ _ dead refl)
 forgotten_by false f g x i e is dead h = inl (is i ∙ and_both _ _ h (ap not e))
 

@@ -24,7 +24,7 @@ pub counted : (t : Typed) → count (operands (tree_of t)) ≡ length (out-Typed
 counted t = ap count (operands_of t) ∙ count_children (out-Typed t).children
 
 pub child_of : (t x : Typed) (ys : List Typed) (j : ℕ) → j < length (out-Typed t).children → ys ≡ (out-Typed t).children → x ≡ get_or ys j x →
-  nth (operands (tree_of t)) j ≡ Some (tree_of x)
+    nth (operands (tree_of t)) j ≡ Some (tree_of x)
 child_of t x ys j h q e = child t x j h (e ∙ ap (λ z. get_or z j x) q)
 
 nth_there : (ts : Trees) (j : ℕ) → j < count ts → (x : Tree) × (nth ts j ≡ Some x)

@@ -28,17 +28,17 @@ pub data Ordered (B : Place → Place → Bool) : List Place → Type 0 where
   first : (v : Place) (vs : List Place) → B v v ≡ false → Each (λ w. B w v ≡ false) vs → Ordered B vs → Ordered B (v ∷ vs)
 
 ordered_append : (B : Place → Place → Bool) (us vs : List Place) → Ordered B us → Ordered B vs → Each (λ v. Each (λ w. B w v ≡ false) vs) us →
-  Ordered B (us ++ vs)
+    Ordered B (us ++ vs)
 ordered_append B _ vs in_order g no_more = g
 ordered_append B _ vs (first u us a b h) g (and_then _ _ p q) = first u (us ++ vs) a (each_append (λ w. B w u ≡ false) us vs b p)
-  (ordered_append B us vs h g q)
+    (ordered_append B us vs h g q)
 
 each_both : (P Q R : Place → Type 0) (us : List Place) → ((u : Place) → P u → Q u → R u) → Each P us → Each Q us → Each R us
 each_both P Q R _ f no_more no_more = no_more
 each_both P Q R _ f (and_then u us p h) (and_then _ _ q g) = and_then u us (f u p q) (each_both P Q R us f h g)
 
 ordered_map : (B C : Place → Place → Bool) (P : Place → Type 0) (us : List Place) → ((u v : Place) → P u → P v → C u v ≡ B u v) → Each P us → Ordered B us →
-  Ordered C us
+    Ordered C us
 ordered_map B C P _ f no_more in_order = in_order
 ordered_map B C P _ f (and_then u us p h) (first _ _ a b g) =
     first u us (f u u p p ∙ a) (each_both P (λ w. B w u ≡ false) (λ w. C w u ≡ false) us (λ w q e. f w u q p ∙ e) h b) (ordered_map B C P us f h g)
@@ -65,13 +65,13 @@ own_at Plain k = and_then (place k Val) [] (record { at = refl; has = refl }) no
 own_at Choice k = and_then (place k Val) [] (record { at = refl; has = refl }) no_more
 own_at Comma k = and_then (place k Val) [] (record { at = refl; has = refl }) no_more
 own_at Store k = and_then (place k Val) (place k Eff ∷ []) (record { at = refl; has = refl })
-  (and_then (place k Eff) [] (record { at = refl; has = refl }) no_more)
+    (and_then (place k Eff) [] (record { at = refl; has = refl }) no_more)
 own_at Update k = and_then (place k Val) (place k Eff ∷ []) (record { at = refl; has = refl })
-  (and_then (place k Eff) [] (record { at = refl; has = refl }) no_more)
+    (and_then (place k Eff) [] (record { at = refl; has = refl }) no_more)
 own_at Call k = and_then (place k Body) (place k Val ∷ []) (record { at = refl; has = refl })
-  (and_then (place k Val) [] (record { at = refl; has = refl }) no_more)
+    (and_then (place k Val) [] (record { at = refl; has = refl }) no_more)
 own_at Isolated k = and_then (place k Body) (place k Val ∷ []) (record { at = refl; has = refl })
-  (and_then (place k Val) [] (record { at = refl; has = refl }) no_more)
+    (and_then (place k Val) [] (record { at = refl; has = refl }) no_more)
 
 each_if : (P : Place → Type 0) (c : Bool) (us : List Place) → (c ≡ true → Each P us) → Each P (if c then us else [])
 each_if P true us f = f refl
@@ -86,41 +86,49 @@ mutual
   listed_due taken (node class ts) k =
       each_append (Due taken k (node class ts)) (operand_events taken class (taken k) 0 (suc k) ts) (own_events k class)
       (each_map (DueAmong taken class (taken k) 0 (suc k) ts) (Due taken k (node class ts)) (operand_events taken class (taken k) 0 (suc k) ts)
-      (λ u d. let l = d.low in let h = d.high in record { low = omega (arith, l); high = omega (arith, h); due =
-        if_false _ _ _ (number_other u.node k (above k u.node l)) ∙ d.due })
+      (λ u d. let l = d.low in let h = d.high in record {
+        low = omega (arith, l);
+        high = omega (arith, h);
+        due =
+            if_false _ _ _ (number_other u.node k (above k u.node l)) ∙ d.due;
+      })
       (operands_due taken class (taken k) ts 0 (suc k)))
       (each_map (Own class k) (Due taken k (node class ts)) (own_events k class)
       (λ u d. let e = d.at in record { low = omega (arith, e); high = omega (arith, e); due = if_true _ _ _ (number_equal u.node k e) ∙ d.has })
       (own_at class k))
 
   operands_due : (taken : Taken) (class : Class) (choice : Option ℕ) (ts : Trees) (i m : ℕ) →
-    Each (DueAmong taken class choice i m ts) (operand_events taken class choice i m ts)
+      Each (DueAmong taken class choice i m ts) (operand_events taken class choice i m ts)
   operands_due taken class choice none i m = no_more
   operands_due taken class choice (more t ts) i m =
       each_append (DueAmong taken class choice i m (more t ts)) (if goes class choice i then events taken m t else [])
-        (operand_events taken class choice (suc i) (m + size t) ts)
+      (operand_events taken class choice (suc i) (m + size t) ts)
       (each_if (DueAmong taken class choice i m (more t ts)) (goes class choice i) (events taken m t) (λ g.
       each_map (Due taken m t) (DueAmong taken class choice i m (more t ts)) (events taken m t)
       (λ u d. let h = d.high in record { low = d.low; high = omega (arith, h); due = if_true _ _ _ (less_test u.node (m + size t) h) ∙ and_both _ _ g d.due })
       (listed_due taken t m)))
       (each_map (DueAmong taken class choice (suc i) (m + size t) ts) (DueAmong taken class choice i m (more t ts))
-        (operand_events taken class choice (suc i) (m + size t) ts)
-      (λ u d. let l = d.low in let h = d.high in record { low = omega (arith, l); high = omega (arith, h); due =
-        if_false _ _ _ (not_less_test u.node (m + size t) l) ∙ d.due })
+      (operand_events taken class choice (suc i) (m + size t) ts)
+      (λ u d. let l = d.low in let h = d.high in record {
+        low = omega (arith, l);
+        high = omega (arith, h);
+        due =
+            if_false _ _ _ (not_less_test u.node (m + size t) l) ∙ d.due;
+      })
       (operands_due taken class choice ts (suc i) (m + size t)))
 
 module _ (taken : Taken) where
   own_after : (k : ℕ) (class : Class) (ts : Trees) (a b : Kind) → own_rule class a b ≡ false →
-    is_before taken k (node class ts) (place k a) (place k b) ≡ false
+      is_before taken k (node class ts) (place k a) (place k b) ≡ false
   own_after k class ts a b h = if_true _ _ _ (number_equal k k refl) ∙ and_false (k == k) (own_rule class a b) h
 
   one_own : (k : ℕ) (class : Class) (ts : Trees) (a : Kind) → own_rule class a a ≡ false → Ordered (is_before taken k (node class ts)) (place k a ∷ [])
   one_own k class ts a h = first (place k a) [] (own_after k class ts a a h) no_more in_order
 
   two_own : (k : ℕ) (class : Class) (ts : Trees) (a b : Kind) → own_rule class a a ≡ false → own_rule class b b ≡ false → own_rule class b a ≡ false →
-    Ordered (is_before taken k (node class ts)) (place k a ∷ place k b ∷ [])
+      Ordered (is_before taken k (node class ts)) (place k a ∷ place k b ∷ [])
   two_own k class ts a b h g f = first (place k a) (place k b ∷ []) (own_after k class ts a a h)
-    (and_then (place k b) [] (own_after k class ts b a f) no_more) (one_own k class ts b g)
+      (and_then (place k b) [] (own_after k class ts b a f) no_more) (one_own k class ts b g)
 
   own_ordered : (class : Class) (k : ℕ) (ts : Trees) → Ordered (is_before taken k (node class ts)) (own_events k class)
   own_ordered Object k ts = in_order
@@ -140,23 +148,23 @@ module _ (taken : Taken) where
   -- an event of the root doesn't come before one of an operand
   root_last : (k : ℕ) (class : Class) (ts : Trees) (u v : Place) → u.node ≡ k → suc k ≤ v.node → is_before taken k (node class ts) u v ≡ false
   root_last k class ts u v e l = if_true _ _ _ (number_equal u.node k e) ∙ ap (λ z. z && own_rule class u.kind v.kind)
-    (number_other v.node k (above k v.node l))
+      (number_other v.node k (above k v.node l))
 
   inside : (k : ℕ) (class : Class) (ts : Trees) (u v : Place) → suc k ≤ u.node → suc k ≤ v.node →
-    is_before taken k (node class ts) u v ≡ between taken class (taken k) 0 (suc k) ts u v
+      is_before taken k (node class ts) u v ≡ between taken class (taken k) 0 (suc k) ts u v
   inside k class ts u v l h = if_false _ _ _ (number_other u.node k (above k u.node l)) ∙ if_false _ _ _ (number_other v.node k (above k v.node h))
 
   module _ (class : Class) (choice : Option ℕ) where
     in_first : (i m : ℕ) (t : Tree) (ts : Trees) (u v : Place) → u.node < m + size t → v.node < m + size t →
-      between taken class choice i m (more t ts) u v ≡ is_before taken m t u v
+        between taken class choice i m (more t ts) u v ≡ is_before taken m t u v
     in_first i m t ts u v l h = if_true _ _ _ (less_test u.node (m + size t) l) ∙ if_true _ _ _ (less_test v.node (m + size t) h)
 
     in_rest : (i m : ℕ) (t : Tree) (ts : Trees) (u v : Place) → m + size t ≤ u.node → m + size t ≤ v.node →
-      between taken class choice i m (more t ts) u v ≡ between taken class choice (suc i) (m + size t) ts u v
+        between taken class choice i m (more t ts) u v ≡ between taken class choice (suc i) (m + size t) ts u v
     in_rest i m t ts u v l h = if_false _ _ _ (not_less_test u.node (m + size t) l) ∙ if_false _ _ _ (not_less_test v.node (m + size t) h)
 
     later_first : (i m : ℕ) (t : Tree) (ts : Trees) (u v : Place) → m + size t ≤ u.node → v.node < m + size t →
-      between taken class choice i m (more t ts) u v ≡ false
+        between taken class choice i m (more t ts) u v ≡ false
     later_first i m t ts u v l h = if_false _ _ _ (not_less_test u.node (m + size t) l) ∙ if_true _ _ _ (less_test v.node (m + size t) h)
 
   mutual
@@ -171,10 +179,10 @@ module _ (taken : Taken) where
         (own_ordered class k ts)
         (each_map (DueAmong taken class (taken k) 0 (suc k) ts) (λ v. Each (λ w. is_before taken k (node class ts) w v ≡ false) (own_events k class)) below
         (λ v d. each_map (Own class k) (λ w. is_before taken k (node class ts) w v ≡ false) (own_events k class) (λ w o. root_last k class ts w v o.at d.low)
-          (own_at class k)) dues)
+        (own_at class k)) dues)
 
     among_ordered : (class : Class) (choice : Option ℕ) (ts : Trees) (i m : ℕ) →
-      Ordered (between taken class choice i m ts) (operand_events taken class choice i m ts)
+        Ordered (between taken class choice i m ts) (operand_events taken class choice i m ts)
     among_ordered class choice none i m = in_order
     among_ordered class choice (more t ts) i m =
         let here = if goes class choice i then events taken m t else [] in
@@ -184,11 +192,11 @@ module _ (taken : Taken) where
         ordered_append B here rest
         (ordered_if B (goes class choice i) (events taken m t)
         (ordered_map (is_before taken m t) B (Due taken m t) (events taken m t) (λ u v d e. in_first class choice i m t ts u v d.high e.high)
-          (listed_due taken t m) (listed_ordered t m)))
+        (listed_due taken t m) (listed_ordered t m)))
         (ordered_map (between taken class choice (suc i) (m + size t) ts) B (DueAmong taken class choice (suc i) (m + size t) ts) rest
         (λ u v d e. in_rest class choice i m t ts u v d.low e.low) dues (among_ordered class choice ts (suc i) (m + size t)))
         (each_if (λ v. Each (λ w. B w v ≡ false) rest) (goes class choice i) (events taken m t) (λ g.
         each_map (Due taken m t) (λ v. Each (λ w. B w v ≡ false) rest) (events taken m t)
         (λ v d. each_map (DueAmong taken class choice (suc i) (m + size t) ts) (λ w. B w v ≡ false) rest
-          (λ w o. later_first class choice i m t ts w v o.low d.high) dues)
+        (λ w o. later_first class choice i m t ts w v o.low d.high) dues)
         (listed_due taken t m)))

@@ -1,6 +1,31 @@
 -- What the definitions that go down to the operand that holds a node find there.
-use Rattle.std.proofs.Common.{◌≡◌, ℕ, zero, suc, ◌+◌, ◌^◌, ◌<◌, ◌≤◌, Bool, true, false, not, ◌&&◌, ◌||◌, ◌==◌, nat_lt, if◌then◌else◌, Option, Some, None,
-  refl, sym, ap, ◌∙◌, arith}
+use Rattle.std.proofs.Common.{
+  ◌≡◌,
+  ℕ,
+  zero,
+  suc,
+  ◌+◌,
+  ◌^◌,
+  ◌<◌,
+  ◌≤◌,
+  Bool,
+  true,
+  false,
+  not,
+  ◌&&◌,
+  ◌||◌,
+  ◌==◌,
+  nat_lt,
+  if◌then◌else◌,
+  Option,
+  Some,
+  None,
+  refl,
+  sym,
+  ap,
+  ◌∙◌,
+  arith,
+}
 use Rattle.std.proofs.lemmas.Bool.Decides.{nat_tests}
 use Rattle.ub_base.proofs.Tests.{number_other, less_test, not_less_test, if_true, if_false, some_is}
 use Rattle.ub_base.specs.declared.clause.Kind.{Kind}
@@ -45,7 +70,7 @@ pub data Walk (n : ℕ) (a : Spot) (x : Tree) : ℕ → ℕ → Trees → Type 0
   on : (i m : ℕ) (t : Tree) (ts : Trees) → nat_lt n (m + size t) ≡ false → Walk n a x (suc i) (m + size t) ts → Walk n a x i m (more t ts)
 
 spot_step : (b : Bool) (i m : ℕ) (o : Option Spot) (a : Spot) {C : Type 0} → (if b then Some (spot_at i m) else o) ≡ Some a →
-  (b ≡ true → a ≡ spot_at i m → C) → (b ≡ false → o ≡ Some a → C) → C
+    (b ≡ true → a ≡ spot_at i m → C) → (b ≡ false → o ≡ Some a → C) → C
 spot_step true i m o a h f g = f refl (sym (some_is (spot_at i m) a h))
 spot_step false i m o a h f g = g refl h
 
@@ -74,10 +99,10 @@ walk_room n a x _ _ _ (on i m t ts b w) = let r = walk_room n a x (suc i) (m + s
 
 module _ (taken : Taken) (class : Class) (choice : Option ℕ) where
   pub walk_due : (u : Place) (a : Spot) (x : Tree) (i m : ℕ) (ts : Trees) → Walk u.node a x i m ts →
-    due_among taken class choice i m ts u ≡ (goes class choice a.index && due_in taken a.number x u)
+      due_among taken class choice i m ts u ≡ (goes class choice a.index && due_in taken a.number x u)
   walk_due u a x _ _ _ (here i m t ts b e q) =
       if_true _ _ _ b ∙ (ap (λ (z : Spot). goes class choice z.index && due_in taken z.number t u) (sym e) ∙ ap
-        (λ z. goes class choice a.index && due_in taken a.number z u) (sym q))
+      (λ z. goes class choice a.index && due_in taken a.number z u) (sym q))
   walk_due u a x _ _ _ (on i m t ts b w) = if_false _ _ _ b ∙ walk_due u a x (suc i) (m + size t) ts w
 
   pub lost_due : (u : Place) (ts : Trees) (i m : ℕ) → plain_among i m ts u.node ≡ None → due_among taken class choice i m ts u ≡ false
@@ -96,14 +121,14 @@ module _ (taken : Taken) (class : Class) (choice : Option ℕ) where
 
   pub walk_rise : (u : Place) (kind : Kind) (a : Spot) (x : Tree) (i m : ℕ) (ts : Trees) → Walk u.node a x i m ts
       → rises taken class choice i m ts u kind ≡ (lifts class choice a.index (suc a.index == i + count ts) kind ||
-        (not (is_body kind) && (not (is_quiet x) && to_val taken a.number x u)))
+      (not (is_body kind) && (not (is_quiet x) && to_val taken a.number x u)))
   walk_rise u kind a x _ _ _ (here i m t ts b e q) =
       if_true _ _ _ b
       ∙ (ap (λ z. lifts class choice i z kind || (not (is_body kind) && (not (is_quiet t) && to_val taken m t u))) (last_is ts ∙ shift i (count ts))
       ∙ (ap (λ (z : Spot). lifts class choice z.index (suc z.index == i + suc (count ts)) kind ||
-        (not (is_body kind) && (not (is_quiet t) && to_val taken z.number t u))) (sym e)
+      (not (is_body kind) && (not (is_quiet t) && to_val taken z.number t u))) (sym e)
       ∙ ap (λ z. lifts class choice a.index (suc a.index == i + suc (count ts)) kind ||
-        (not (is_body kind) && (not (is_quiet z) && to_val taken a.number z u))) (sym q)))
+      (not (is_body kind) && (not (is_quiet z) && to_val taken a.number z u))) (sym q)))
     where
       shift : (i c : ℕ) → (1 == suc c) ≡ (suc i == i + suc c)
       shift i c = go (1 == suc c) refl
@@ -159,20 +184,20 @@ module _ (taken : Taken) (class : Class) (choice : Option ℕ) where
   pub lost_right : (u v : Place) (ts : Trees) (i m : ℕ) → plain_among i m ts v.node ≡ None → between taken class choice i m ts u v ≡ false
   lost_right u v none i m h = refl
   lost_right u v (more t ts) i m h = step (nat_lt u.node (m + size t)) (nat_lt v.node (m + size t)) _ (lost_right u v ts (suc i) (m + size t))
-    (crosses_lost i ts (suc i) (m + size t) v.node) h
+      (crosses_lost i ts (suc i) (m + size t) v.node) h
     where
       step : (b c : Bool) (x : Bool) → (plain_among (suc i) (m + size t) ts v.node ≡ None → between taken class choice (suc i) (m + size t) ts u v ≡ false)
           → (plain_among (suc i) (m + size t) ts v.node ≡ None → crosses class choice i (suc i) (m + size t) ts v.node ≡ false)
           → (if c then Some (spot_at i m) else plain_among (suc i) (m + size t) ts v.node) ≡ None
           → (if b then (if c then x else crosses class choice i (suc i) (m + size t) ts v.node)
-            else (if c then false else between taken class choice (suc i) (m + size t) ts u v)) ≡ false
+          else (if c then false else between taken class choice (suc i) (m + size t) ts u v)) ≡ false
       step b true x f g h = absurd (cc)
       step true false x f g h = g h
       step false false x f g h = f h
 
   -- both in one operand
   pub walk_same : (u v : Place) (a b : Spot) (x : Tree) (i m : ℕ) (ts : Trees) → Walk u.node a x i m ts → Walk v.node b x i m ts → a.index ≡ b.index →
-    between taken class choice i m ts u v ≡ is_before taken a.number x u v
+      between taken class choice i m ts u v ≡ is_before taken a.number x u v
   walk_same u v a b x i m ts w y s = go i m ts w y
     where
       low : (n : ℕ) (c : Spot) (i m : ℕ) (ts : Trees) → Walk n c x i m ts → i ≤ c.index
@@ -183,36 +208,36 @@ module _ (taken : Taken) (class : Class) (choice : Option ℕ) where
       go _ _ _ (here i m t ts c e q) (here _ _ _ _ d f r) =
           if_true _ _ _ c ∙ (if_true _ _ _ d ∙ (ap (λ (z : Spot). is_before taken z.number t u v) (sym e) ∙ ap (λ z. is_before taken a.number z u v) (sym q)))
       go _ _ _ (here i m t ts c e q) (on _ _ _ _ d f) =
-        absurd (let p = ap (λ (z : Spot). z.index) e in let l = low v.node b (suc i) (m + size t) ts f in omega (arith, p, l, s))
+          absurd (let p = ap (λ (z : Spot). z.index) e in let l = low v.node b (suc i) (m + size t) ts f in omega (arith, p, l, s))
       go _ _ _ (on i m t ts c e) (here _ _ _ _ d f r) =
-        absurd (let p = ap (λ (z : Spot). z.index) f in let l = low u.node a (suc i) (m + size t) ts e in omega (arith, p, l, s))
+          absurd (let p = ap (λ (z : Spot). z.index) f in let l = low u.node a (suc i) (m + size t) ts e in omega (arith, p, l, s))
       go _ _ _ (on i m t ts c e) (on _ _ _ _ d f) = if_false _ _ _ c ∙ (if_false _ _ _ d ∙ go (suc i) (m + size t) ts e f)
 
   -- in two operands
   pub walk_apart : (u v : Place) (a b : Spot) (ts : Trees) (i m : ℕ) → plain_among i m ts u.node ≡ Some a → plain_among i m ts v.node ≡ Some b →
-    (a.index ≡ b.index → ⊥) → between taken class choice i m ts u v ≡ (nat_lt a.index b.index && across class choice a.index b.index)
+      (a.index ≡ b.index → ⊥) → between taken class choice i m ts u v ≡ (nat_lt a.index b.index && across class choice a.index b.index)
   walk_apart u v a b none i m h g ne = absurd (cc)
   walk_apart u v a b (more t ts) i m h g ne =
       step (nat_lt u.node (m + size t)) (nat_lt v.node (m + size t)) _ h g (walk_apart u v a b ts (suc i) (m + size t))
-        (crosses_at i ts (suc i) (m + size t) v.node b)
+      (crosses_at i ts (suc i) (m + size t) v.node b)
       (index_low ts (suc i) (m + size t) v.node b) (index_low ts (suc i) (m + size t) u.node a)
     where
       step : (c d : Bool) (x : Bool) → (if c then Some (spot_at i m) else plain_among (suc i) (m + size t) ts u.node) ≡ Some a
           → (if d then Some (spot_at i m) else plain_among (suc i) (m + size t) ts v.node) ≡ Some b
           → (plain_among (suc i) (m + size t) ts u.node ≡ Some a → plain_among (suc i) (m + size t) ts v.node ≡ Some b →
-            (a.index ≡ b.index → ⊥) → between taken class choice (suc i) (m + size t) ts u v ≡ (nat_lt a.index b.index && across class choice a.index b.index))
+          (a.index ≡ b.index → ⊥) → between taken class choice (suc i) (m + size t) ts u v ≡ (nat_lt a.index b.index && across class choice a.index b.index))
           → (plain_among (suc i) (m + size t) ts v.node ≡ Some b → crosses class choice i (suc i) (m + size t) ts v.node ≡ across class choice i b.index)
           → (plain_among (suc i) (m + size t) ts v.node ≡ Some b → suc i ≤ b.index)
           → (plain_among (suc i) (m + size t) ts u.node ≡ Some a → suc i ≤ a.index)
           → (if c then (if d then x else crosses class choice i (suc i) (m + size t) ts v.node)
-            else (if d then false else between taken class choice (suc i) (m + size t) ts u v)) ≡ (nat_lt a.index b.index &&
-            across class choice a.index b.index)
+          else (if d then false else between taken class choice (suc i) (m + size t) ts u v)) ≡ (nat_lt a.index b.index &&
+          across class choice a.index b.index)
       step true true x h g f k l p = absurd (ne (ap (λ (z : Spot). z.index) (sym (some_is (spot_at i m) a h) ∙ some_is (spot_at i m) b g)))
       step true false x h g f k l p =
           let e : i ≡ a.index = ap (λ (z : Spot). z.index) (some_is (spot_at i m) a h) in
           let q = l g in
           k g ∙ (ap (λ z. across class choice z b.index) e ∙ ap (λ z. z && across class choice a.index b.index)
-            (sym (less_test a.index b.index (omega (arith, e, q)))))
+          (sym (less_test a.index b.index (omega (arith, e, q)))))
       step false true x h g f k l p =
           let e : i ≡ b.index = ap (λ (z : Spot). z.index) (some_is (spot_at i m) b g) in
           let q = p h in

@@ -1,9 +1,54 @@
 -- Where an update is open and what comes before a done event is done, its effect is ready.
-use Rattle.std.proofs.Common.{◌≡◌, ℕ, suc, ◌+◌, ◌<◌, ◌≤◌, Bool, true, false, not, ◌&&◌, ◌||◌, ◌==◌, nat_lt, if◌then◌else◌, List, [], ◌∷◌, ◌++◌, Option, Some,
-  None, refl, sym, ap, ◌∙◌, ◌⊎◌, inl, inr, true≢false, arith}
+use Rattle.std.proofs.Common.{
+  ◌≡◌,
+  ℕ,
+  suc,
+  ◌+◌,
+  ◌<◌,
+  ◌≤◌,
+  Bool,
+  true,
+  false,
+  not,
+  ◌&&◌,
+  ◌||◌,
+  ◌==◌,
+  nat_lt,
+  if◌then◌else◌,
+  List,
+  [],
+  ◌∷◌,
+  ◌++◌,
+  Option,
+  Some,
+  None,
+  refl,
+  sym,
+  ap,
+  ◌∙◌,
+  ◌⊎◌,
+  inl,
+  inr,
+  true≢false,
+  arith,
+}
 use Rattle.std.specs.List.{list_all}
-use Rattle.ub_base.proofs.Tests.{number_is, or_cases, and_left, and_right, not_true, or_left, or_right, number_equal, number_other, less_test, not_less_test,
-  if_true, if_false, and_both}
+use Rattle.ub_base.proofs.Tests.{
+  number_is,
+  or_cases,
+  and_left,
+  and_right,
+  not_true,
+  or_left,
+  or_right,
+  number_equal,
+  number_other,
+  less_test,
+  not_less_test,
+  if_true,
+  if_false,
+  and_both,
+}
 use Rattle.ub_base.specs.declared.clause.Kind.{Kind}
 use Rattle.ub_base.specs.declared.clause.Kind.TheVariants.{Val, Eff, Body}
 use Rattle.c_typed.specs.declared.tree.Place.{Place}
@@ -79,15 +124,15 @@ module _ (taken : Taken) (done : Place → Bool) where
   same_place w k kind e f = λ i. record { node = e i; kind = f i }
 
   led_own : (k : ℕ) (ts : Trees) (w : Place) → is_before taken k (node Update ts) w (place k Eff) ≡ true → (w ≡ place k Val) ⊎
-    (is_before taken k (node Update ts) w (place k Val) ≡ true)
+      (is_before taken k (node Update ts) w (place k Val) ≡ true)
   led_own k ts w h = step (w.node == k) refl
     where
       step : (b : Bool) → (w.node == k) ≡ b → (w ≡ place k Val) ⊎ (is_before taken k (node Update ts) w (place k Val) ≡ true)
       step true e = inl (same_place w k Val (number_is w.node k e)
-        (val_only w.kind (and_right (k == k) (own_rule Update w.kind Eff) (sym (if_true (w.node == k) _ _ e) ∙ h))))
+          (val_only w.kind (and_right (k == k) (own_rule Update w.kind Eff) (sym (if_true (w.node == k) _ _ e) ∙ h))))
       step false e =
           let up : rises taken Update (taken k) 0 (suc k) ts w Eff ≡ true =
-                sym (if_false (w.node == k) _ _ e ∙ if_true (k == k) _ _ (number_equal k k refl)) ∙ h in
+          sym (if_false (w.node == k) _ _ e ∙ if_true (k == k) _ _ (number_equal k k refl)) ∙ h in
           inr (if_false (w.node == k) _ _ e ∙ (if_true (k == k) _ _ (number_equal k k refl) ∙ (sym (same_rise (taken k) ts 0 (suc k) w) ∙ up)))
 
   stuck_own : (class : Class) (k : ℕ) (ts : Trees) → (own_rule class Val Eff && (done (place k Val) && not (done (place k Eff)))) ≡ true
@@ -100,7 +145,7 @@ module _ (taken : Taken) (done : Place → Bool) where
     effect = not_true _ (and_right (done (place k Val)) _ h);
     has_value = among_right (place k Val) (operand_events taken Update (taken k) 0 (suc k) ts) (own_events k Update) (now (place k Eff ∷ []));
     has_effect = among_right (place k Eff) (operand_events taken Update (taken k) 0 (suc k) ts) (own_events k Update)
-      (later (place k Val) (place k Eff ∷ []) (now []));
+        (later (place k Val) (place k Eff ∷ []) (now []));
     led = led_own k ts;
   }
   stuck_own _ k ts h = absurd (true≢false (sym h))
@@ -108,7 +153,7 @@ module _ (taken : Taken) (done : Place → Bool) where
   -- seen from the root
   led_below : (k n : ℕ) (class : Class) (ts : Trees) → suc k ≤ n
       → ((w : Place) → between taken class (taken k) 0 (suc k) ts w (place n Eff) ≡ true → (w ≡ place n Val) ⊎
-        (between taken class (taken k) 0 (suc k) ts w (place n Val) ≡ true))
+      (between taken class (taken k) 0 (suc k) ts w (place n Val) ≡ true))
       → (w : Place) → is_before taken k (node class ts) w (place n Eff) ≡ true → (w ≡ place n Val) ⊎ (is_before taken k (node class ts) w (place n Val) ≡ true)
   led_below k n class ts l f w h = step (w.node == k) refl
     where
@@ -125,7 +170,7 @@ module _ (taken : Taken) (done : Place → Bool) where
   module _ (class : Class) (choice : Option ℕ) (i m n : ℕ) (t : Tree) (ts : Trees) where
     led_first : n < m + size t → ((w : Place) → is_before taken m t w (place n Eff) ≡ true → (w ≡ place n Val) ⊎ (is_before taken m t w (place n Val) ≡ true))
         → (w : Place) → between taken class choice i m (more t ts) w (place n Eff) ≡ true → (w ≡ place n Val) ⊎
-          (between taken class choice i m (more t ts) w (place n Val) ≡ true)
+        (between taken class choice i m (more t ts) w (place n Val) ≡ true)
     led_first l f w h = step (nat_lt w.node (m + size t)) refl
       where
         near : nat_lt n (m + size t) ≡ true
@@ -140,9 +185,9 @@ module _ (taken : Taken) (done : Place → Bool) where
 
     led_rest : m + size t ≤ n
         → ((w : Place) → between taken class choice (suc i) (m + size t) ts w (place n Eff) ≡ true → (w ≡ place n Val) ⊎
-          (between taken class choice (suc i) (m + size t) ts w (place n Val) ≡ true))
+        (between taken class choice (suc i) (m + size t) ts w (place n Val) ≡ true))
         → (w : Place) → between taken class choice i m (more t ts) w (place n Eff) ≡ true → (w ≡ place n Val) ⊎
-          (between taken class choice i m (more t ts) w (place n Val) ≡ true)
+        (between taken class choice i m (more t ts) w (place n Val) ≡ true)
     led_rest l f w h = step (nat_lt w.node (m + size t)) refl
       where
         far : nat_lt n (m + size t) ≡ false
@@ -193,9 +238,9 @@ module _ (taken : Taken) (done : Place → Bool) where
             value = s.value;
             effect = s.effect;
             has_value = among_left (place s.number Val) here rest
-              (among_if (place s.number Val) (goes class choice i) (events taken m t) (and_left _ _ a) s.has_value);
+                (among_if (place s.number Val) (goes class choice i) (events taken m t) (and_left _ _ a) s.has_value);
             has_effect = among_left (place s.number Eff) here rest
-              (among_if (place s.number Eff) (goes class choice i) (events taken m t) (and_left _ _ a) s.has_effect);
+                (among_if (place s.number Eff) (goes class choice i) (events taken m t) (and_left _ _ a) s.has_effect);
             led = led_first class choice i m s.number t ts g s.led;
           })
       | inr a ↦
@@ -225,7 +270,7 @@ none_undone done [] h = refl
 none_undone done (u ∷ us) h = step (done u) (none_undone done us) h
   where
     step : (d : Bool) → (first_place (is_left done) us ≡ None → list_all done us ≡ true) → (if not d then Some u else first_place (is_left done) us) ≡ None →
-      (d && list_all done us) ≡ true
+        (d && list_all done us) ≡ true
     step true f e = f e
     step false f e = absurd (cc)
 
@@ -238,7 +283,7 @@ module _ (root : Tree) (taken : Taken) (done : Place → Bool) (closed : IsClose
       let dv = each_at (Due taken 0 root) v (events taken 0 root) (listed_due taken root 0) s.has_value in
       let ready : earlier_done root taken done u (events taken 0 root) ≡ true =
       all_listed (Due taken 0 root) (λ w. done w || not (is_before taken 0 root w u)) (events taken 0 root)
-        (λ w d. before_done w d.due s.number s.value dv.due s.led) (listed_due taken root 0) in
+      (λ w d. before_done w d.due s.number s.value dv.due s.led) (listed_due taken root 0) in
       let free : is_free_beside root taken done u ≡ true = and_both (not (done u)) _ (ap not s.effect) ready in
       true≢false (sym free ∙ none_of (is_free_beside root taken done) u (events taken 0 root) (first_beside root taken done h ∙ over) s.has_effect)
     where
@@ -258,7 +303,7 @@ module _ (root : Tree) (taken : Taken) (done : Place → Bool) (closed : IsClose
   all_done = step (first_place (is_left done) (events taken 0 root)) refl (update_is_open taken done 0 root) refl
     where
       step : (o : Option Place) → first_place (is_left done) (events taken 0 root) ≡ o → (b : Bool) → update_is_open taken done 0 root ≡ b →
-        list_all done (events taken 0 root) ≡ true
+          list_all done (events taken 0 root) ≡ true
       step None e b q = none_undone done (events taken 0 root) e
       step (Some u) e true q = absurd (not_open q)
       step (Some u) e false q = absurd (let a : Some u ≡ None = body_next root taken done 0 u (ap (walked 0) (sym e)) q ∙ over in cc)

@@ -1,6 +1,44 @@
 -- A walk over a node's events: operand by operand, and then the node's own.
-use Rattle.std.proofs.Common.{◌≡◌, ℕ, zero, suc, ◌+◌, ◌-◌, ◌^◌, ◌<◌, ◌≤◌, min, Bool, true, false, not, ◌&&◌, ◌||◌, if◌then◌else◌, List, [], ◌∷◌, ◌++◌, length,
-  drop, get_or, Option, Some, None, Result, Ok, Err, is_ok, refl, sym, ap, subst, ◌∙◌, true≢false, arith}
+use Rattle.std.proofs.Common.{
+  ◌≡◌,
+  ℕ,
+  zero,
+  suc,
+  ◌+◌,
+  ◌-◌,
+  ◌^◌,
+  ◌<◌,
+  ◌≤◌,
+  min,
+  Bool,
+  true,
+  false,
+  not,
+  ◌&&◌,
+  ◌||◌,
+  if◌then◌else◌,
+  List,
+  [],
+  ◌∷◌,
+  ◌++◌,
+  length,
+  drop,
+  get_or,
+  Option,
+  Some,
+  None,
+  Result,
+  Ok,
+  Err,
+  is_ok,
+  refl,
+  sym,
+  ap,
+  subst,
+  ◌∙◌,
+  true≢false,
+  arith,
+}
 use Rattle.c_typed.specs.declared.tree.Place.{Place}
 use Rattle.c_typed.specs.declared.tree.Typed.{Typed}
 use Rattle.c_typed.specs.declared.class.Class.{Class}
@@ -26,7 +64,7 @@ first_append test (u ∷ us) vs = step (test u) (first_append test us vs)
 pub record Walking (test : Place → Bool) (taken : Taken) (k : ℕ) (tree : Tree) (i number : ℕ) (ts : Trees) : Type 0 where
   pub room : number + sizes ts ≡ k + size tree
   pub rest : first_place test (operand_events taken (class_of tree) (taken k) i number ts) ≡ first_place test
-    (operand_events taken (class_of tree) (taken k) 0 (suc k) (operands tree))
+      (operand_events taken (class_of tree) (taken k) 0 (suc k) (operands tree))
 
 pub dropped : (cs : List Typed) (i : ℕ) (x : Typed) → i < length cs → x ≡ get_or cs i x → trees_of (drop i cs) ≡ more (tree_of x) (trees_of (drop (suc i) cs))
 dropped [] i x h e = absurd (omega (arith, h))
@@ -44,14 +82,14 @@ past k n number h e = omega (arith, h, e)
 
 module _ (test : Place → Bool) (taken : Taken) (k : ℕ) where
   pub begin : (tree : Tree) (number : ℕ) (ts : Trees) → k + size tree < 2 ^ 32 → number ≡ min (k + 1) (2 ^ 32 - 1) → ts ≡ operands tree →
-    Walking test taken k tree 0 number ts
+      Walking test taken k tree 0 number ts
   begin (node class us) number ts h e q =
       let n : number ≡ suc k = omega (arith, h, e) in
       let s = ap sizes q in
       record {
         room = omega (arith, n, s);
         rest = ap (λ z. first_place test (operand_events taken class (taken k) 0 z ts)) n ∙ ap
-          (λ z. first_place test (operand_events taken class (taken k) 0 (suc k) z)) q;
+            (λ z. first_place test (operand_events taken class (taken k) 0 (suc k) z)) q;
       }
 
   step_none : (number c next : ℕ) (o : Option Place) → Ok next ≡ walked (number + c) o → (next ≡ number + c) × (o ≡ None)
@@ -74,14 +112,14 @@ module _ (test : Place → Bool) (taken : Taken) (k : ℕ) where
         rest =
             ap (λ z. first_place test (operand_events taken (class_of tree) (taken k) (suc i) z ts)) n
             ∙ (sym (first_append test (events_if (goes (class_of tree) (taken k) i) taken number t)
-              (operand_events taken (class_of tree) (taken k) (suc i) (number + size t) ts)
+            (operand_events taken (class_of tree) (taken k) (suc i) (number + size t) ts)
             ∙ ap (λ z. or_else z (first_place test (operand_events taken (class_of tree) (taken k) (suc i) (number + size t) ts))) s.1)
             ∙ w.rest);
       }
 
   whole : (tree : Tree) → first_place test
-    (events taken k tree) ≡ or_else (first_place test (operand_events taken (class_of tree) (taken k) 0 (suc k) (operands tree)))
-    (first_place test (own_events k (class_of tree)))
+      (events taken k tree) ≡ or_else (first_place test (operand_events taken (class_of tree) (taken k) 0 (suc k) (operands tree)))
+      (first_place test (own_events k (class_of tree)))
   whole (node class ts) = first_append test (operand_events taken class (taken k) 0 (suc k) ts) (own_events k class)
 
   pub halt : (tree t : Tree) (i number : ℕ) (u : Place) (ts : Trees) → Walking test taken k tree i number (more t ts)
@@ -95,18 +133,18 @@ module _ (test : Place → Bool) (taken : Taken) (k : ℕ) where
       sym (ap (walked (k + size tree)) (whole tree ∙ ap (λ z. or_else z (first_place test (own_events k (class_of tree)))) f))
 
   all_past : (tree : Tree) (i number : ℕ) (ts : Trees) → ts ≡ none → Walking test taken k tree i number ts →
-    first_place test (events taken k tree) ≡ first_place test (own_events k (class_of tree))
+      first_place test (events taken k tree) ≡ first_place test (own_events k (class_of tree))
   all_past tree i number ts e w =
       whole tree ∙ ap (λ z. or_else z (first_place test (own_events k (class_of tree))))
-        (sym w.rest ∙ ap (λ z. first_place test (operand_events taken (class_of tree) (taken k) i number z)) e)
+      (sym w.rest ∙ ap (λ z. first_place test (operand_events taken (class_of tree) (taken k) i number z)) e)
 
   pub finish_some : (tree : Tree) (i number : ℕ) (u : Place) (ts : Trees) → ts ≡ none → Walking test taken k tree i number ts →
-    Some u ≡ first_place test (own_events k (class_of tree))
+      Some u ≡ first_place test (own_events k (class_of tree))
       → Err u ≡ walked (k + size tree) (first_place test (events taken k tree))
   finish_some tree i number u ts e w h = sym (ap (walked (k + size tree)) (all_past tree i number ts e w ∙ sym h))
 
   pub finish_none : (tree : Tree) (i number : ℕ) (ts : Trees) → ts ≡ none → Walking test taken k tree i number ts →
-    None ≡ first_place test (own_events k (class_of tree))
+      None ≡ first_place test (own_events k (class_of tree))
       → Ok number ≡ walked (k + size tree) (first_place test (events taken k tree))
   finish_none tree i number ts e w h =
       let r = w.room in
@@ -116,7 +154,7 @@ module _ (test : Place → Bool) (taken : Taken) (k : ℕ) where
 
   -- where the tree is evaluated
   pub if_evaluated : (evaluated : Bool) (tree : Tree) (r : Result ℕ Place) → evaluated ≡ true →
-    r ≡ walked (k + size tree) (first_place test (events taken k tree))
+      r ≡ walked (k + size tree) (first_place test (events taken k tree))
       → r ≡ walked (k + size tree) (first_place test (events_if evaluated taken k tree))
   if_evaluated true tree r e h = h
   if_evaluated false tree r e h = absurd (true≢false (sym e))
@@ -127,9 +165,9 @@ module _ (test : Place → Bool) (taken : Taken) (k : ℕ) where
   not_evaluated true tree number e h = absurd (true≢false e)
 
   module _ (tree : Tree) (xs : List Typed) (i number : ℕ) (class : Class) (room : k + size tree < 2 ^ 32)
-    (w : Walking test taken k tree i number (trees_of (drop i xs))) (same : class ≡ class_of tree) where
+      (w : Walking test taken k tree i number (trees_of (drop i xs))) (same : class ≡ class_of tree) where
     module _ (x : Typed) (choice : Option ℕ) (chosen : choice ≡ taken k) (within : i < length xs) (is : x ≡ get_or xs i x) (r : Result ℕ Place) (g : Bool)
-      (goes_on : g ≡ goes class choice i)
+        (goes_on : g ≡ goes class choice i)
         (found : number + size (tree_of x) < 2 ^ 32 → r ≡ walked (number + size (tree_of x)) (first_place test (events_if g taken number (tree_of x)))) where
       at : Walking test taken k tree i number (more (tree_of x) (trees_of (drop (suc i) xs)))
       at = subst (λ z. Walking test taken k tree i number z) (dropped xs i x within is) w
@@ -147,24 +185,24 @@ module _ (test : Place → Bool) (taken : Taken) (k : ℕ) where
           (advance tree (tree_of x) i number next (trees_of (drop (suc i) xs)) at (sym e ∙ result))
 
       pub halt_at : (evaluated : Bool) (u : Place) → evaluated ≡ true → r ≡ Err u →
-        Err u ≡ walked (k + size tree) (first_place test (events_if evaluated taken k tree))
+          Err u ≡ walked (k + size tree) (first_place test (events_if evaluated taken k tree))
       halt_at evaluated u f e = if_evaluated evaluated tree (Err u) f (halt tree (tree_of x) i number u (trees_of (drop (suc i) xs)) at (sym e ∙ result))
 
     pub finish_some_at : (evaluated : Bool) (u : Place) → evaluated ≡ true → length xs ≤ i → Some u ≡ first_place test (own_events k class) →
-      Err u ≡ walked (k + size tree) (first_place test (events_if evaluated taken k tree))
+        Err u ≡ walked (k + size tree) (first_place test (events_if evaluated taken k tree))
     finish_some_at evaluated u g h e =
         if_evaluated evaluated tree (Err u) g (finish_some tree i number u (trees_of (drop i xs)) (dropped_all xs i h) w
-          (e ∙ ap (λ z. first_place test (own_events k z)) same))
+        (e ∙ ap (λ z. first_place test (own_events k z)) same))
 
     pub finish_none_at : (evaluated : Bool) → evaluated ≡ true → length xs ≤ i → None ≡ first_place test (own_events k class) →
-      Ok number ≡ walked (k + size tree) (first_place test (events_if evaluated taken k tree))
+        Ok number ≡ walked (k + size tree) (first_place test (events_if evaluated taken k tree))
     finish_none_at evaluated g h e =
         if_evaluated evaluated tree (Ok number) g
-          (finish_none tree i number (trees_of (drop i xs)) (dropped_all xs i h) w (e ∙ ap (λ z. first_place test (own_events k z)) same))
+        (finish_none tree i number (trees_of (drop i xs)) (dropped_all xs i h) w (e ∙ ap (λ z. first_place test (own_events k z)) same))
 
 -- no event hinders u exactly where each that comes before it is done
 pub unhindered : (root : Tree) (taken : Taken) (done : Place → Bool) (u : Place) (n : ℕ) (vs : List Place) →
-  is_ok (walked n (first_place (hinders root taken done u) vs)) ≡ earlier_done root taken done u vs
+    is_ok (walked n (first_place (hinders root taken done u) vs)) ≡ earlier_done root taken done u vs
 unhindered root taken done u n [] = refl
 unhindered root taken done u n (v ∷ vs) = step (done v) (is_before taken 0 root v u) (unhindered root taken done u n vs)
   where

@@ -13,4 +13,4 @@ IsClosed root taken done =
 
 abbrev pub EndsOnlyWithDue : Type 0
 EndsOnlyWithDue = (root : Tree) (taken : Taken) (done : Place → Bool) → IsClosed root taken done → canonical root taken done ≡ None →
-  list_all done (events taken 0 root) ≡ true
+    list_all done (events taken 0 root) ≡ true

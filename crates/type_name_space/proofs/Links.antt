@@ -1,6 +1,37 @@
 -- Bindings one by one: where the newest of a symbol stands, and which one each hides.
-use Rattle.std.proofs.Common.{◌≡◌, ℕ, zero, suc, ◌+◌, ◌-◌, ◌<◌, ◌≤◌, ◌==◌, Bool, true, false, if◌then◌else◌, List, [], ◌∷◌, ◌++◌, length, map, get_or, Option,
-  Some, None, refl, sym, ap, ◌∙◌, subst, append_assoc, length-append, arith}
+use Rattle.std.proofs.Common.{
+  ◌≡◌,
+  ℕ,
+  zero,
+  suc,
+  ◌+◌,
+  ◌-◌,
+  ◌<◌,
+  ◌≤◌,
+  ◌==◌,
+  Bool,
+  true,
+  false,
+  if◌then◌else◌,
+  List,
+  [],
+  ◌∷◌,
+  ◌++◌,
+  length,
+  map,
+  get_or,
+  Option,
+  Some,
+  None,
+  refl,
+  sym,
+  ap,
+  ◌∙◌,
+  subst,
+  append_assoc,
+  length-append,
+  arith,
+}
 use Rattle.std.specs.Prelude.{slice_get, slice_set, nat_le, MatchOption}
 use Rattle.std.specs.Borrow.{Bor}
 use Rattle.std.specs.Option.{option_copied}
@@ -25,7 +56,7 @@ append_none [] = refl
 append_none (b ∷ bs) = ap (λ x. b ∷ x) (append_none bs)
 
 linked_more : {M : Type 0} (before bs : List (Binding M)) (b : Binding M) → AreLinked before bs → b.hidden ≡ place_of b.symbol (before ++ bs) →
-  AreLinked before (bs ++ b ∷ [])
+    AreLinked before (bs ++ b ∷ [])
 linked_more before [] b l h = (h ∙ ap (place_of b.symbol) (append_none before), tt)
 linked_more before (a ∷ bs) b l h =
     (l.0, linked_more (before ++ a ∷ []) bs b l.1 (h ∙ ap (place_of b.symbol) (sym (append_assoc before (a ∷ []) bs))))
@@ -54,7 +85,7 @@ added newest more bs b l h put = record {
 
 -- the same bindings, with further room
 pub moved_room : {M : Type 0} (newest more : List ℕ) (bs : List (Binding M)) → IsLinked newest bs → ((s : ℕ) → get_or more s 0 ≡ get_or newest s 0) →
-  IsLinked more bs
+    IsLinked more bs
 moved_room newest more bs l same = record { found = λ s. same s ∙ l.found s; linked = l.linked }
 
 -- the same with further room before, and the list by its equation
@@ -123,25 +154,25 @@ seen_copied None b h = absurd (cc)
 seen_copied (Some x) b h = let e : x.now ≡ b = cc in ap (λ z. Some (declared_of z)) e
 
 some_at : {M : Type 0} (p : ℕ) (bs : List (Binding M)) (v : Option (Declared M)) (r : Option (Bor (Binding M))) → Spot p bs v → 0 < p →
-  option_copied r ≡ slice_get bs (p - 1) → seen r ≡ v
+    option_copied r ≡ slice_get bs (p - 1) → seen r ≡ v
 some_at zero bs v r h z e = absurd (omega arith)
 some_at (suc n) bs v r h z e =
     let k : suc n - 1 ≡ n = omega arith in
     seen_copied r h.binding (e ∙ (ap (slice_get bs) k ∙ h.at)) ∙ sym h.is
 
 pub some_found : {M : Type 0} (newest : List ℕ) (bs : List (Binding M)) (now : List (Declared M)) (s place : ℕ) (r : Option (Bor (Binding M))) →
-  IsLinked newest bs →
+    IsLinked newest bs →
     map declared_of bs ≡ now → place ≡ get_or newest s 0 → 0 < place → option_copied r ≡ slice_get bs (place - 1) → seen r ≡ visible s now
 some_found newest bs now s place r l v e z h =
     let p : place ≡ place_of s bs = e ∙ l.found s in
     some_at (place_of s bs) bs (visible s (map declared_of bs)) r (spot s bs) (subst (λ (n : ℕ). 0 < n) p z) (h ∙ ap (λ n. slice_get bs (n - 1)) p) ∙ ap
-      (visible s) v
+    (visible s) v
 
 pub nothing_linked : {M : Type 0} (n : ℕ) (newest : List ℕ) → ((s : ℕ) → get_or newest s 0 ≡ 0) → IsLinked {M = M} newest []
 nothing_linked n newest h = record { found = h; linked = tt }
 
 pub ends_seen : {M : Type 0} (depth : ℕ) (bs : List (Binding M)) (b : Binding M) → Some b ≡ slice_get bs (length bs - 1) →
-  nat_le depth b.depth ≡ ends_at depth (map declared_of bs)
+    nat_le depth b.depth ≡ ends_at depth (map declared_of bs)
 ends_seen depth [] b h = absurd (cc)
 ends_seen depth (a ∷ []) b h = let e : b ≡ a = cc in ap (λ z. nat_le depth z.depth) e
 ends_seen depth (a ∷ e ∷ bs) b h =
@@ -168,7 +199,7 @@ pub record Alike {M : Type 0} (before more : List (Binding M)) : Type 0 where
   pub lengths : length before ≡ length more
 
 alike_last : {M : Type 0} (before more : List (Binding M)) (b c : Binding M) → Alike before more → b.symbol ≡ c.symbol →
-  Alike (before ++ b ∷ []) (more ++ c ∷ [])
+    Alike (before ++ b ∷ []) (more ++ c ∷ [])
 alike_last before more b c a e = record {
   places = λ s. place_last s before b
       ∙ (ap (λ n. if b.symbol == s then suc n else place_of s before) a.lengths
@@ -214,7 +245,7 @@ changed_seen : {M : Type 0} (s : ℕ) (m : M) (bs : List (Binding M)) → change
 changed_seen s m [] = refl
 changed_seen s m (b ∷ bs) =
     changed_behind (place_of s bs) (b.symbol == s) s m b bs (changed s m (map declared_of bs)) (visible s (map declared_of bs)) (spot s bs) refl
-      (changed_seen s m bs)
+    (changed_seen s m bs)
 
 some_renamed : {M : Type 0} (p : ℕ) (m : M) (bs : List (Binding M)) → 0 < p → map declared_of (renamed (p - 1) m bs) ≡ map declared_of (renamed_at p m bs)
 some_renamed zero m bs h = absurd (omega arith)
@@ -233,7 +264,7 @@ change_none newest bs now s place m l v e z =
     sym v ∙ (sym (ap (λ n. map declared_of (renamed_at n m bs)) p) ∙ (sym (changed_seen s m bs) ∙ ap (changed s m) v))
 
 pub set_renamed : {M : Type 0} (bs : List (Binding M)) (at : ℕ) (b : Binding M) (m : M) → b ≡ get_or bs at b →
-  slice_set bs at (record b { meaning = m }) ≡ renamed at m bs
+    slice_set bs at (record b { meaning = m }) ≡ renamed at m bs
 set_renamed [] at b m h = refl
 set_renamed {M} (a ∷ bs) zero b m h = let f : Binding M → List (Binding M) = λ z. (record z { meaning = m }) ∷ bs in ap f h
 set_renamed (a ∷ bs) (suc n) b m h = ap (λ z. a ∷ z) (set_renamed bs n b m h)

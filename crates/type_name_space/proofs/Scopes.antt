@@ -1,6 +1,28 @@
 -- Declarations one by one: which is visible, and what is left.
-use Rattle.std.proofs.Common.{◌≡◌, ℕ, ◌<◌, ◌≤◌, ◌==◌, Bool, true, false, if◌then◌else◌, nat_lt, nat_le, List, [], ◌∷◌, ◌++◌, Option, Some, None, refl, sym,
-  ap, ◌∙◌}
+use Rattle.std.proofs.Common.{
+  ◌≡◌,
+  ℕ,
+  ◌<◌,
+  ◌≤◌,
+  ◌==◌,
+  Bool,
+  true,
+  false,
+  if◌then◌else◌,
+  nat_lt,
+  nat_le,
+  List,
+  [],
+  ◌∷◌,
+  ◌++◌,
+  Option,
+  Some,
+  None,
+  refl,
+  sym,
+  ap,
+  ◌∙◌,
+}
 use Rattle.std.specs.List.{All}
 use Rattle.std.proofs.lemmas.List.Elements.{All-head, All-tail}
 use borrow.Author.Tests.{lt-ltb, le-ltb, leb-true, leb-false}
@@ -54,7 +76,7 @@ restores {M} depth (d ∷ outer) inner o i =
 
 -- the newest, of an inner scope, isn't left
 pub left_inner : {M : Type 0} (depth : ℕ) (ds : List (Declared M)) (d : Declared M) → ends_at depth (ds ++ d ∷ []) ≡ true →
-  left depth (ds ++ d ∷ []) ≡ left depth ds
+    left depth (ds ++ d ∷ []) ≡ left depth ds
 left_inner depth ds d h =
     let b : nat_le depth d.depth ≡ true = sym (ends_last depth ds d) ∙ h in
     left_last depth ds d ∙ ap (λ t. if t then ds ++ d ∷ [] else left depth ds) (le-ltb d.depth depth (leb-true depth d.depth b))

@@ -39,11 +39,11 @@ nothing_left (x ∷ xs) h = absurd (omega arith)
 
 -- a step of a walk over operands, where f makes a tree of the next one and g makes trees of those behind it
 pub stepped : (cs : List Typed) (t : Typed) (found : Option Term) (left all : Option Terms) → joined cs (before found left) ≡ all → found ≡ Some (term_of t) →
-  joined (cs ++ t ∷ []) left ≡ all
+    joined (cs ++ t ∷ []) left ≡ all
 stepped cs t found left all h e = joined_more cs t left ∙ (ap (λ z. joined cs (before z left)) (sym e) ∙ h)
 
 pub refused : (cs : List Typed) (e : Refused) (found : Option Term) (left all : Option Terms) → joined cs (before found left) ≡ all → Fails e found →
-  Fails e all
+    Fails e all
 refused cs NoMemory found left all h f = tt
 refused cs Constraint found left all h f =
     sym h ∙ (ap (λ z. joined cs (before z left)) f ∙ (ap (joined cs) (before_nothing left) ∙ joined_nothing cs))
@@ -56,22 +56,22 @@ unfinished cs left all h e = sym h ∙ (ap (joined cs) e ∙ joined_nothing cs)
 
 -- operands without values
 pub next_discarded : (tags : Layouts) (cs : List Typed) (os : List Operand) (o : Operand) (left : List Operand) (all : Option Terms) →
-  joined cs (without_values tags (map expression_of os)) ≡ all → os ≡ o ∷ left →
-  joined cs (before (discarded tags (expression_of o)) (without_values tags (map expression_of left))) ≡ all
+    joined cs (without_values tags (map expression_of os)) ≡ all → os ≡ o ∷ left →
+    joined cs (before (discarded tags (expression_of o)) (without_values tags (map expression_of left))) ≡ all
 next_discarded tags cs os o left all h e = ap (λ z. joined cs (without_values tags (map expression_of z))) (sym e) ∙ h
 
 pub none_discarded : (tags : Layouts) (cs : List Typed) (os : List Operand) (all : Option Terms) →
-  joined cs (without_values tags (map expression_of os)) ≡ all → os ≡ [] → all ≡ Some (terms_of cs)
+    joined cs (without_values tags (map expression_of os)) ≡ all → os ≡ [] → all ≡ Some (terms_of cs)
 none_discarded tags cs os all h e = finished cs (without_values tags (map expression_of os)) all h (ap (λ z. without_values tags (map expression_of z)) e)
 
 -- arguments
 pub next_argument : (tags : Layouts) (v : Bool) (ps : Params) (cs : List Typed) (os : List Operand) (o : Operand) (left : List Operand) (all : Option Terms) →
-  joined cs (arguments tags v ps (map expression_of os)) ≡ all → os ≡ o ∷ left →
-  joined cs (before (argument tags v ps (expression_of o)) (arguments tags v (rest ps) (map expression_of left))) ≡ all
+    joined cs (arguments tags v ps (map expression_of os)) ≡ all → os ≡ o ∷ left →
+    joined cs (before (argument tags v ps (expression_of o)) (arguments tags v (rest ps) (map expression_of left))) ≡ all
 next_argument tags v ps cs os o left all h e = ap (λ z. joined cs (arguments tags v ps (map expression_of z))) (sym e) ∙ h
 
 pub no_argument : (tags : Layouts) (v : Bool) (ps : Params) (cs : List Typed) (os : List Operand) (all : Option Terms) →
-  joined cs (arguments tags v ps (map expression_of os)) ≡ all → os ≡ [] → joined cs (arguments tags v ps []) ≡ all
+    joined cs (arguments tags v ps (map expression_of os)) ≡ all → os ≡ [] → joined cs (arguments tags v ps []) ≡ all
 no_argument tags v ps cs os all h e = ap (λ z. joined cs (arguments tags v ps (map expression_of z))) (sym e) ∙ h
 
 -- the last operand of a comma
@@ -103,39 +103,39 @@ sequence_of : (tags : Layouts) (es : List Expression) (e : Expression) → in_se
 sequence_of tags [] e = one_alone tags e (last tags e) refl
 sequence_of tags (x ∷ []) e = ap (after (discarded tags x)) (sequence_of tags [] e) ∙ closed_more (discarded tags x) (without_values tags []) (last tags e)
 sequence_of tags (x ∷ y ∷ ys) e = ap (after (discarded tags x)) (sequence_of tags (y ∷ ys) e) ∙ closed_more (discarded tags x) (without_values tags (y ∷ ys))
-  (last tags e)
+    (last tags e)
 
 expressions : (os : List Operand) (o : Operand) → map expression_of (os ++ o ∷ []) ≡ map expression_of os ++ expression_of o ∷ []
 expressions [] o = refl
 expressions (p ∷ os) o = ap (λ z. expression_of p ∷ z) (expressions os o)
 
 pub in_two : (tags : Layouts) (all os : List Operand) (o : Operand) → all ≡ os ++ o ∷ [] →
-  in_sequence tags (map expression_of all) ≡ closed (without_values tags (map expression_of os)) (last tags (expression_of o))
+    in_sequence tags (map expression_of all) ≡ closed (without_values tags (map expression_of os)) (last tags (expression_of o))
 in_two tags all os o e = ap (λ z. in_sequence tags (map expression_of z)) e ∙
-  (ap (in_sequence tags) (expressions os o) ∙ sequence_of tags (map expression_of os) (expression_of o))
+    (ap (in_sequence tags) (expressions os o) ∙ sequence_of tags (map expression_of os) (expression_of o))
 
 ended_terms : (cs : List Typed) (t : Typed) → ended (terms_of cs) (term_of t) ≡ terms_of (cs ++ t ∷ [])
 ended_terms [] t = refl
 ended_terms (c ∷ cs) t = ap (more (term_of c)) (ended_terms cs t)
 
 pub without_refused : (tags : Layouts) (all os : List Operand) (o : Operand) (e : Refused) → all ≡ os ++ o ∷ [] →
-  Fails e (without_values tags (map expression_of os)) → Fails e (in_sequence tags (map expression_of all))
+    Fails e (without_values tags (map expression_of os)) → Fails e (in_sequence tags (map expression_of all))
 without_refused tags all os o NoMemory h f = tt
 without_refused tags all os o Constraint h f = in_two tags all os o h ∙ ap (λ z. closed z (last tags (expression_of o))) f
 
 pub last_refused : (tags : Layouts) (all os : List Operand) (o : Operand) (e : Refused) → all ≡ os ++ o ∷ [] → Fails e (last tags (expression_of o)) →
-  Fails e (in_sequence tags (map expression_of all))
+    Fails e (in_sequence tags (map expression_of all))
 last_refused tags all os o NoMemory h f = tt
 last_refused tags all os o Constraint h f =
     in_two tags all os o h ∙ (ap (closed (without_values tags (map expression_of os))) f ∙ closed_nothing (without_values tags (map expression_of os)))
 
 pub both_found : (tags : Layouts) (all os : List Operand) (o : Operand) (cs : List Typed) (t : Typed) (ty : Ty) → all ≡ os ++ o ∷ [] →
-  without_values tags (map expression_of os) ≡ Some (terms_of cs) → last tags (expression_of o) ≡ Some (last_of (t, ty)) →
-  in_sequence tags (map expression_of all) ≡ Some (record { operands = terms_of (cs ++ t ∷ []); ty = type_of ty })
+    without_values tags (map expression_of os) ≡ Some (terms_of cs) → last tags (expression_of o) ≡ Some (last_of (t, ty)) →
+    in_sequence tags (map expression_of all) ≡ Some (record { operands = terms_of (cs ++ t ∷ []); ty = type_of ty })
 both_found tags all os o cs t ty h f l =
     in_two tags all os o h ∙ (ap (λ z. closed z (last tags (expression_of o))) f ∙
-      (ap (closed (Some (terms_of cs))) l ∙ (let P : Terms → Option Sequence = λ z.
-      Some (record { operands = z; ty = type_of ty }) in ap P (ended_terms cs t))))
+    (ap (closed (Some (terms_of cs))) l ∙ (let P : Terms → Option Sequence = λ z.
+    Some (record { operands = z; ty = type_of ty }) in ap P (ended_terms cs t))))
 
 pub started : (was cs : List Typed) (d : Typed) (x : Option Terms) → cs ≡ was ++ d ∷ [] → was ≡ [] → joined cs x ≡ before (Some (term_of d)) x
 started was cs d x e h = ap (λ z. joined z x) (e ∙ ap (λ z. z ++ d ∷ []) h)
@@ -144,52 +144,52 @@ pub begun : (cs : List Typed) (x : Option Terms) → cs ≡ [] → joined cs x �
 begun cs x h = ap (λ z. joined z x) h
 
 pub argument_taken : (tags : Layouts) (v : Bool) (ps qs : Params) (cs ds : List Typed) (t : Typed) (os : List Operand) (o : Operand) (left : List Operand)
-  (all : Option Terms) → joined cs (arguments tags v ps (map expression_of os)) ≡ all → os ≡ o ∷ left →
-  argument tags v ps (expression_of o) ≡ Some (term_of t) → ds ≡ cs ++ t ∷ [] → qs ≡ rest ps → joined ds (arguments tags v qs (map expression_of left)) ≡ all
+    (all : Option Terms) → joined cs (arguments tags v ps (map expression_of os)) ≡ all → os ≡ o ∷ left →
+    argument tags v ps (expression_of o) ≡ Some (term_of t) → ds ≡ cs ++ t ∷ [] → qs ≡ rest ps → joined ds (arguments tags v qs (map expression_of left)) ≡ all
 argument_taken tags v ps qs cs ds t os o left all h e f d q =
     ap (λ z. joined z (arguments tags v qs (map expression_of left))) d
     ∙ (ap (λ z. joined (cs ++ t ∷ []) (arguments tags v z (map expression_of left))) q
     ∙ stepped cs t (argument tags v ps (expression_of o)) (arguments tags v (rest ps) (map expression_of left)) all
-      (next_argument tags v ps cs os o left all h e) f)
+    (next_argument tags v ps cs os o left all h e) f)
 
 pub argument_refused : (tags : Layouts) (v : Bool) (ps : Params) (cs : List Typed) (os : List Operand) (o : Operand) (left : List Operand)
-  (all found : Option Terms) (e : Refused) → joined cs (arguments tags v ps (map expression_of os)) ≡ all → os ≡ o ∷ left → all ≡ found →
-  Fails e (argument tags v ps (expression_of o)) → Fails e found
+    (all found : Option Terms) (e : Refused) → joined cs (arguments tags v ps (map expression_of os)) ≡ all → os ≡ o ∷ left → all ≡ found →
+    Fails e (argument tags v ps (expression_of o)) → Fails e found
 argument_refused tags v ps cs os o left all found e h s a f =
     refused cs e (argument tags v ps (expression_of o)) (arguments tags v (rest ps) (map expression_of left)) found
-      (next_argument tags v ps cs os o left all h s ∙ a) f
+    (next_argument tags v ps cs os o left all h s ∙ a) f
 
 pub value_dropped : (tags : Layouts) (cs ds : List Typed) (t : Typed) (os : List Operand) (o : Operand) (left : List Operand) (all : Option Terms) →
-  joined cs (without_values tags (map expression_of os)) ≡ all → os ≡ o ∷ left → discarded tags (expression_of o) ≡ Some (term_of t) → ds ≡ cs ++ t ∷ [] →
-  joined ds (without_values tags (map expression_of left)) ≡ all
+    joined cs (without_values tags (map expression_of os)) ≡ all → os ≡ o ∷ left → discarded tags (expression_of o) ≡ Some (term_of t) → ds ≡ cs ++ t ∷ [] →
+    joined ds (without_values tags (map expression_of left)) ≡ all
 value_dropped tags cs ds t os o left all h e f d =
     ap (λ z. joined z (without_values tags (map expression_of left))) d
     ∙ stepped cs t (discarded tags (expression_of o)) (without_values tags (map expression_of left)) all (next_discarded tags cs os o left all h e) f
 
 pub drop_refused : (tags : Layouts) (cs : List Typed) (os : List Operand) (o : Operand) (left : List Operand) (all found : Option Terms) (e : Refused) →
-  joined cs (without_values tags (map expression_of os)) ≡ all → os ≡ o ∷ left → all ≡ found → Fails e (discarded tags (expression_of o)) → Fails e found
+    joined cs (without_values tags (map expression_of os)) ≡ all → os ≡ o ∷ left → all ≡ found → Fails e (discarded tags (expression_of o)) → Fails e found
 drop_refused tags cs os o left all found e h s a f =
     refused cs e (discarded tags (expression_of o)) (without_values tags (map expression_of left)) found (next_discarded tags cs os o left all h s ∙ a) f
 
 pub values_dropped : (tags : Layouts) (cs : List Typed) (os : List Operand) (all found : Option Terms) →
-  joined cs (without_values tags (map expression_of os)) ≡ all → length os ≡ 0 → all ≡ found → found ≡ Some (terms_of cs)
+    joined cs (without_values tags (map expression_of os)) ≡ all → length os ≡ 0 → all ≡ found → found ≡ Some (terms_of cs)
 values_dropped tags cs os all found h n a = sym a ∙ none_discarded tags cs os all h (nothing_left os n)
 
 ended_arguments : (tags : Layouts) (v : Bool) (left : List Qual) (cs : List Typed) (os : List Operand) (all found : Option Terms) →
-  joined cs (arguments tags v (params_of (map qualified_of left)) (map expression_of os)) ≡ all → length os ≡ 0 → all ≡ found →
-  joined cs (arguments tags v (params_of (map qualified_of left)) []) ≡ found
+    joined cs (arguments tags v (params_of (map qualified_of left)) (map expression_of os)) ≡ all → length os ≡ 0 → all ≡ found →
+    joined cs (arguments tags v (params_of (map qualified_of left)) []) ≡ found
 ended_arguments tags v left cs os all found h n a = no_argument tags v (params_of (map qualified_of left)) cs os all h (nothing_left os n) ∙ a
 
 pub arguments_missing : (tags : Layouts) (v : Bool) (left : List Qual) (cs : List Typed) (os : List Operand) (all found : Option Terms) (p : Qual)
-  (further : List Qual) → joined cs (arguments tags v (params_of (map qualified_of left)) (map expression_of os)) ≡ all → length os ≡ 0 → all ≡ found →
-  left ≡ p ∷ further → found ≡ None
+    (further : List Qual) → joined cs (arguments tags v (params_of (map qualified_of left)) (map expression_of os)) ≡ all → length os ≡ 0 → all ≡ found →
+    left ≡ p ∷ further → found ≡ None
 arguments_missing tags v left cs os all found p further h n a e =
     unfinished cs (arguments tags v (params_of (map qualified_of left)) []) found (ended_arguments tags v left cs os all found h n a)
     (ap (λ z. arguments tags v (params_of (map qualified_of z)) []) e)
 
 pub arguments_taken : (tags : Layouts) (v : Bool) (left : List Qual) (cs : List Typed) (os : List Operand) (all found : Option Terms) →
-  joined cs (arguments tags v (params_of (map qualified_of left)) (map expression_of os)) ≡ all → length os ≡ 0 → all ≡ found → length left ≡ 0 →
-  found ≡ Some (terms_of cs)
+    joined cs (arguments tags v (params_of (map qualified_of left)) (map expression_of os)) ≡ all → length os ≡ 0 → all ≡ found → length left ≡ 0 →
+    found ≡ Some (terms_of cs)
 arguments_taken tags v [] cs os all found h n a e =
     finished cs (arguments tags v (params_of (map qualified_of [])) []) found (ended_arguments tags v [] cs os all found h n a) refl
 arguments_taken tags v (p ∷ left) cs os all found h n a e = absurd (omega arith)
@@ -199,18 +199,18 @@ through x k NoMemory f = tt
 through x k Constraint f = ap (λ z. z >>= k) f
 
 pub front_refused : (tags : Layouts) (all os : List Operand) (o : Operand) (line : ℕ) (e : Refused) → all ≡ os ++ o ∷ [] →
-  Fails e (without_values tags (map expression_of os)) → Fails e (sequenced tags (map expression_of all) line)
+    Fails e (without_values tags (map expression_of os)) → Fails e (sequenced tags (map expression_of all) line)
 front_refused tags all os o line e h f =
     through (in_sequence tags (map expression_of all)) (λ s. Some (comma s.ty line s.operands)) e (without_refused tags all os o e h f)
 
 pub end_refused : (tags : Layouts) (all os : List Operand) (o : Operand) (line : ℕ) (e : Refused) → all ≡ os ++ o ∷ [] →
-  Fails e (last tags (expression_of o)) → Fails e (sequenced tags (map expression_of all) line)
+    Fails e (last tags (expression_of o)) → Fails e (sequenced tags (map expression_of all) line)
 end_refused tags all os o line e h f =
     through (in_sequence tags (map expression_of all)) (λ s. Some (comma s.ty line s.operands)) e (last_refused tags all os o e h f)
 
 pub sequence_found : (tags : Layouts) (all os : List Operand) (o : Operand) (line : ℕ) (cs ds : List Typed) (t : Typed) (ty : Ty) → all ≡ os ++ o ∷ [] →
-  without_values tags (map expression_of os) ≡ Some (terms_of cs) → last tags (expression_of o) ≡ Some (last_of (t, ty)) → ds ≡ cs ++ t ∷ [] →
-  sequenced tags (map expression_of all) line ≡ Some (comma (type_of ty) line (terms_of ds))
+    without_values tags (map expression_of os) ≡ Some (terms_of cs) → last tags (expression_of o) ≡ Some (last_of (t, ty)) → ds ≡ cs ++ t ∷ [] →
+    sequenced tags (map expression_of all) line ≡ Some (comma (type_of ty) line (terms_of ds))
 sequence_found tags all os o line cs ds t ty h f l d =
     ap (λ z. z >>= λ s. Some (comma s.ty line s.operands)) (both_found tags all os o cs t ty h f l)
     ∙ ap (λ z. Some (comma (type_of ty) line (terms_of z))) (sym d)

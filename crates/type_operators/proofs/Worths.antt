@@ -1,6 +1,29 @@
 -- How what a node is worth comes from what its operands are.
-use Rattle.std.proofs.Common.{◌≡◌, ℕ, zero, suc, ◌+◌, ◌<◌, Bool, true, false, if◌then◌else◌, List, [], ◌∷◌, length, get_or, Option, Some, None, refl, sym, ap,
-  ◌∙◌, arith}
+use Rattle.std.proofs.Common.{
+  ◌≡◌,
+  ℕ,
+  zero,
+  suc,
+  ◌+◌,
+  ◌<◌,
+  Bool,
+  true,
+  false,
+  if◌then◌else◌,
+  List,
+  [],
+  ◌∷◌,
+  length,
+  get_or,
+  Option,
+  Some,
+  None,
+  refl,
+  sym,
+  ap,
+  ◌∙◌,
+  arith,
+}
 use Rattle.std.specs.Prelude.{IfSome}
 use Rattle.c_typed.specs.declared.tree.Typed.{Typed, out-Typed, fold_out-Typed}
 use Rattle.type_operators.specs.declared.constant.Folded.{Folded}
@@ -39,23 +62,23 @@ third false true a b c h k = absurd (cc)
 third true k a b c h e = absurd (cc)
 
 pub comma_answers : (o : Option Places) (t : Typed) (ks : List Typed) (r : Folded) → ks ≡ (out-Typed t).children →
-  never_constant (seen_node (out-Typed t).node).head ≡ false → is_comma (seen_node (out-Typed t).node).head ≡ true →
-  IfSome o (λ at. r ≡ of_comma (parts at (terms_of ks))) → IfSome o (λ at. r ≡ worth at (term_of t))
+    never_constant (seen_node (out-Typed t).node).head ≡ false → is_comma (seen_node (out-Typed t).node).head ≡ true →
+    IfSome o (λ at. r ≡ of_comma (parts at (terms_of ks))) → IfSome o (λ at. r ≡ worth at (term_of t))
 comma_answers o t ks r e n k s =
     with_one o (λ at. r ≡ of_comma (parts at (terms_of ks))) (λ at. r ≡ worth at (term_of t)) s
     (λ at h. h ∙ (ap (λ z. of_comma (parts at (terms_of z))) e
     ∙ (sym (second (never_constant (seen_node (out-Typed t).node).head) (is_comma (seen_node (out-Typed t).node).head) Unknown
-      (of_comma (parts at (terms_of (out-Typed t).children))) (of_operands (seen_node (out-Typed t).node).head (parts at (terms_of (out-Typed t).children))) n
-      k)
+    (of_comma (parts at (terms_of (out-Typed t).children))) (of_operands (seen_node (out-Typed t).node).head (parts at (terms_of (out-Typed t).children))) n
+    k)
     ∙ sym (worth_at at t))))
 
 pub operand_answers : (o : Option Places) (t : Typed) (ks : List Typed) (r : Folded) → ks ≡ (out-Typed t).children →
-  never_constant (seen_node (out-Typed t).node).head ≡ false → is_comma (seen_node (out-Typed t).node).head ≡ false →
-  IfSome o (λ at. r ≡ of_operands (seen_node (out-Typed t).node).head (parts at (terms_of ks))) → IfSome o (λ at. r ≡ worth at (term_of t))
+    never_constant (seen_node (out-Typed t).node).head ≡ false → is_comma (seen_node (out-Typed t).node).head ≡ false →
+    IfSome o (λ at. r ≡ of_operands (seen_node (out-Typed t).node).head (parts at (terms_of ks))) → IfSome o (λ at. r ≡ worth at (term_of t))
 operand_answers o t ks r e n k s =
     with_one o (λ at. r ≡ of_operands (seen_node (out-Typed t).node).head (parts at (terms_of ks))) (λ at. r ≡ worth at (term_of t)) s
     (λ at h. h ∙ (ap (λ z. of_operands (seen_node (out-Typed t).node).head (parts at (terms_of z))) e
     ∙ (sym (third (never_constant (seen_node (out-Typed t).node).head) (is_comma (seen_node (out-Typed t).node).head) Unknown
-      (of_comma (parts at (terms_of (out-Typed t).children))) (of_operands (seen_node (out-Typed t).node).head (parts at (terms_of (out-Typed t).children))) n
-      k)
+    (of_comma (parts at (terms_of (out-Typed t).children))) (of_operands (seen_node (out-Typed t).node).head (parts at (terms_of (out-Typed t).children))) n
+    k)
     ∙ sym (worth_at at t))))

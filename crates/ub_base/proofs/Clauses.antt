@@ -1,6 +1,33 @@
 -- A text is that of one clause.
-use Rattle.std.proofs.Common.{◌≡◌, ℕ, List, Option, Some, None, refl, ap, sym, ◌∙◌, codes, ◌<◌, lit<, get_or, [], ◌∷◌, Bool, true, false, cond, zero, suc,
-  length, find, IfSome, IfNone, arith}
+use Rattle.std.proofs.Common.{
+  ◌≡◌,
+  ℕ,
+  List,
+  Option,
+  Some,
+  None,
+  refl,
+  ap,
+  sym,
+  ◌∙◌,
+  codes,
+  ◌<◌,
+  lit<,
+  get_or,
+  [],
+  ◌∷◌,
+  Bool,
+  true,
+  false,
+  cond,
+  zero,
+  suc,
+  length,
+  find,
+  IfSome,
+  IfNone,
+  arith,
+}
 use Rattle.std.specs.Prelude.{if◌then◌else◌}
 use Rattle.std.proofs.lemmas.Option.{none-some}
 use Rattle.std.proofs.lemmas.Slice.Eq.{bytes_eq-Decides}
@@ -9,10 +36,35 @@ use Rattle.std.specs.Str.{bytes_eq}
 use Rattle.ub_base.specs.Clause.{clause_text, ClausesHaveOwnTexts, IsNoClause}
 use Rattle.ub_base.specs.declared.clause.Clause.{Clause}
 use Rattle.ub_base.specs.declared.clause.TheConstants.{CLAUSES}
-use Rattle.ub_base.specs.declared.clause.Clause.TheVariants.{DeadObject, TrapRepresentation, PointerAlignment, StoreToLiteral, Unsequenced, Exceptional,
-  IncompatibleCall, InvalidPointer, DivideByZero, Unrepresentable, OutOfBounds, PointerDifference, ShiftCount, LeftShift, PointerComparison,
-  OverlappingAssignment, EffectiveType, StoreToConst, MissingValue, LibraryArgument, TooFewArguments, Conversion, Free, Realloc, MemcpyOverlap, StrcpyOverlap,
-  Indeterminate}
+use Rattle.ub_base.specs.declared.clause.Clause.TheVariants.{
+  DeadObject,
+  TrapRepresentation,
+  PointerAlignment,
+  StoreToLiteral,
+  Unsequenced,
+  Exceptional,
+  IncompatibleCall,
+  InvalidPointer,
+  DivideByZero,
+  Unrepresentable,
+  OutOfBounds,
+  PointerDifference,
+  ShiftCount,
+  LeftShift,
+  PointerComparison,
+  OverlappingAssignment,
+  EffectiveType,
+  StoreToConst,
+  MissingValue,
+  LibraryArgument,
+  TooFewArguments,
+  Conversion,
+  Free,
+  Realloc,
+  MemcpyOverlap,
+  StrcpyOverlap,
+  Indeterminate,
+}
 
 -- the clause of a text
 abbrev clause_from : List ℕ → Option Clause

@@ -1,6 +1,44 @@
 -- Rows of frames: what a look-up finds, and that a new row keeps the list of frames.
-use Rattle.std.proofs.Common.{◌≡◌, ◌<◌, ◌≤◌, ◌^◌, ◌+◌, ◌-◌, ◌==◌, ◌&&◌, ◌⊎◌, ℕ, zero, suc, Bool, true, false, not, List, [], ◌∷◌, ◌++◌, length, slice_get,
-  position, None, Some, Contains, refl, sym, ap, subst, ◌∙◌, true≢false, cond, nat_lt, arith, inl, inr, length-append}
+use Rattle.std.proofs.Common.{
+  ◌≡◌,
+  ◌<◌,
+  ◌≤◌,
+  ◌^◌,
+  ◌+◌,
+  ◌-◌,
+  ◌==◌,
+  ◌&&◌,
+  ◌⊎◌,
+  ℕ,
+  zero,
+  suc,
+  Bool,
+  true,
+  false,
+  not,
+  List,
+  [],
+  ◌∷◌,
+  ◌++◌,
+  length,
+  slice_get,
+  position,
+  None,
+  Some,
+  Contains,
+  refl,
+  sym,
+  ap,
+  subst,
+  ◌∙◌,
+  true≢false,
+  cond,
+  nat_lt,
+  arith,
+  inl,
+  inr,
+  length-append,
+}
 use Rattle.std.proofs.lemmas.Option.{slice_get_within, get_or_from_slice_get}
 use Rattle.std.specs.List.{list_any, position_or_len}
 use Rattle.std.proofs.lemmas.Bool.Decides.{nat_tests}
@@ -75,13 +113,13 @@ at_contains xs x i h = (i, slice_get_within xs i x h, get_or_from_slice_get xs i
 
 -- a new row that was started by a frame which is there keeps a list of frames
 pub IsFrameList-push : (rows : List Row) (row : Row) → IsFrameList rows → row.0.0 ≤ length rows → (Contains rows row → ⊥) → length rows < 2 ^ 32 - 1 →
-  IsFrameList (rows ++ row ∷ [])
+    IsFrameList (rows ++ row ∷ [])
 IsFrameList-push rows row f parent absent few = record {
   few = omega (arith, length-append rows (row ∷ []));
   earlier = λ i x h. elim (slice_get-push rows row x i h) [ inl a ↦ f.earlier i x a.1 | inr a ↦ rw (a.0, a.1) parent ];
   distinct = λ i j x h k. elim (slice_get-push rows row x i h) [
     | inl a ↦ (elim (slice_get-push rows row x j k)
-      [ inl b ↦ f.distinct i j x a.1 b.1 | inr b ↦ absurd (absent (subst (Contains rows) b.1 (at_contains rows x i a.1))) ])
+        [ inl b ↦ f.distinct i j x a.1 b.1 | inr b ↦ absurd (absent (subst (Contains rows) b.1 (at_contains rows x i a.1))) ])
     | inr a ↦ (elim (slice_get-push rows row x j k) [ inl b ↦ absurd (absent (subst (Contains rows) a.1 (at_contains rows x j b.1))) | inr b ↦ a.0 ∙ sym b.0 ])
   ];
 }

@@ -90,4 +90,4 @@ kind_ties _ _ = refl
 pub tie_event : (d e : Event) → is_eq (event_cmp d e) ≡ same_event d e
 tie_event d e =
     then_ties _ _ _ _ (numbers_tie d.frame.0 e.frame.0)
-      (then_ties _ _ _ _ (numbers_tie d.turn e.turn) (then_ties _ _ _ _ (numbers_tie d.node e.node) (kind_ties d.kind e.kind)))
+    (then_ties _ _ _ _ (numbers_tie d.turn e.turn) (then_ties _ _ _ _ (numbers_tie d.node e.node) (kind_ties d.kind e.kind)))

@@ -1,10 +1,35 @@
 -- The paragraph of ISO/IEC 9899:2011 that each clause names, as reports print it.
 use Rattle.std.specs.Prelude.{◌≡◌, ◌≢◌, ℕ, List, codes}
 use Rattle.ub_base.specs.declared.clause.Clause.{Clause}
-use Rattle.ub_base.specs.declared.clause.Clause.TheVariants.{DeadObject, TrapRepresentation, PointerAlignment, StoreToLiteral, Unsequenced, Exceptional,
-  IncompatibleCall, InvalidPointer, DivideByZero, Unrepresentable, OutOfBounds, PointerDifference, ShiftCount, LeftShift, PointerComparison,
-  OverlappingAssignment, EffectiveType, StoreToConst, MissingValue, LibraryArgument, TooFewArguments, Conversion, Free, Realloc, MemcpyOverlap, StrcpyOverlap,
-  Indeterminate}
+use Rattle.ub_base.specs.declared.clause.Clause.TheVariants.{
+  DeadObject,
+  TrapRepresentation,
+  PointerAlignment,
+  StoreToLiteral,
+  Unsequenced,
+  Exceptional,
+  IncompatibleCall,
+  InvalidPointer,
+  DivideByZero,
+  Unrepresentable,
+  OutOfBounds,
+  PointerDifference,
+  ShiftCount,
+  LeftShift,
+  PointerComparison,
+  OverlappingAssignment,
+  EffectiveType,
+  StoreToConst,
+  MissingValue,
+  LibraryArgument,
+  TooFewArguments,
+  Conversion,
+  Free,
+  Realloc,
+  MemcpyOverlap,
+  StrcpyOverlap,
+  Indeterminate,
+}
 
 abbrev pub clause_text : Clause → List ℕ
 clause_text DeadObject = codes "6.2.4p2"

@@ -37,7 +37,7 @@ race = record {
   of_turn = refl;
   race = record {
     both = newest (nth 0 self) (nth 2 self) _ (place 0 Eff) (place 2 Eff) refl
-      (later _ (nth 2 self) _ (place 2 Eff) (first (nth 2 self) _ (place 2 Eff) refl)) refl refl;
+        (later _ (nth 2 self) _ (place 2 Eff) (first (nth 2 self) _ (place 2 Eff) refl)) refl refl;
     apart = apart_by _ _ (one_of (place 0 Eff)) (one_of (place 2 Eff)) (place 0 Eff) (place 2 Eff) refl refl refl refl refl refl;
     bodiless = refl;
     clash = refl;
@@ -61,10 +61,10 @@ returns-clause-print_both c = record {
   of_turn = refl;
   quarrel = record {
     both = older _ (nth 1 prints) (nth 3 prints) _ (place 4 Body) (place 1 Body)
-      (newest (nth 1 prints) (nth 3 prints) _ (place 4 Body) (place 1 Body) refl
-      (later _ (nth 3 prints) _ (place 1 Body) (first (nth 3 prints) _ (place 1 Body) refl)) refl refl);
+        (newest (nth 1 prints) (nth 3 prints) _ (place 4 Body) (place 1 Body) refl
+        (later _ (nth 3 prints) _ (place 1 Body) (first (nth 3 prints) _ (place 1 Body) refl)) refl refl);
     apart = apart_by _ _ (or_three (place 4 Body) (place 4 Val) (place 0 Val)) (or_three (place 1 Body) (place 1 Val) (place 0 Val)) (place 4 Body)
-      (place 1 Body) refl refl refl refl refl refl;
+        (place 1 Body) refl refl refl refl refl refl;
     clash = refl;
     no_race = λ r. true≢false r.bodiless;
   };
@@ -81,14 +81,14 @@ returns-clause-increment_and_call c = record {
   of_turn = refl;
   quarrel = record {
     both = older _ (nth 6 calls) (nth 7 calls) _ (place 3 Body) (place 1 Eff)
-      (older _ (nth 6 calls) (nth 7 calls) _ (place 3 Body) (place 1 Eff)
-      (older _ (nth 6 calls) (nth 7 calls) _ (place 3 Body) (place 1 Eff)
-      (older _ (nth 6 calls) (nth 7 calls) _ (place 3 Body) (place 1 Eff)
-      (older _ (nth 6 calls) (nth 7 calls) _ (place 3 Body) (place 1 Eff)
-      (older _ (nth 6 calls) (nth 7 calls) _ (place 3 Body) (place 1 Eff)
-      (newest (nth 6 calls) (nth 7 calls) _ (place 3 Body) (place 1 Eff) refl (first (nth 7 calls) _ (place 1 Eff) refl) refl refl))))));
+        (older _ (nth 6 calls) (nth 7 calls) _ (place 3 Body) (place 1 Eff)
+        (older _ (nth 6 calls) (nth 7 calls) _ (place 3 Body) (place 1 Eff)
+        (older _ (nth 6 calls) (nth 7 calls) _ (place 3 Body) (place 1 Eff)
+        (older _ (nth 6 calls) (nth 7 calls) _ (place 3 Body) (place 1 Eff)
+        (older _ (nth 6 calls) (nth 7 calls) _ (place 3 Body) (place 1 Eff)
+        (newest (nth 6 calls) (nth 7 calls) _ (place 3 Body) (place 1 Eff) refl (first (nth 7 calls) _ (place 1 Eff) refl) refl refl))))));
     apart = apart_by _ _ (or_three (place 3 Body) (place 3 Val) (place 0 Val)) (one_of (place 1 Eff)) (place 3 Body)
-      (place 1 Eff) refl refl refl refl refl refl;
+        (place 1 Eff) refl refl refl refl refl refl;
     clash = refl;
     no_race = λ r. true≢false r.bodiless;
   };
@@ -104,12 +104,12 @@ returns-clause-quit_beside c = record {
   of_turn = refl;
   quarrel = record {
     here = later _ (nth 3 quits) _ (place 3 Body)
-      (later _ (nth 3 quits) _ (place 3 Body) (later _ (nth 3 quits) _ (place 3 Body) (first (nth 3 quits) _ (place 3 Body) refl)));
+        (later _ (nth 3 quits) _ (place 3 Body) (later _ (nth 3 quits) _ (place 3 Body) (first (nth 3 quits) _ (place 3 Body) refl)));
     ends = refl;
     due = refl;
     other = refl;
     apart = apart_by _ _ (or_three (place 3 Body) (place 3 Val) (place 0 Val)) (or_of (place 1 Val) (place 0 Val)) (place 3 Body)
-      (place 1 Val) refl refl refl refl refl refl;
+        (place 1 Val) refl refl refl refl refl refl;
   };
 }
 

@@ -6,4 +6,4 @@ use Rattle.c_model.proofs.law_past_the_end.Goals as goal
 
 pub returns : goal.returns
 returns c = starts _ _ _ refl (more _ _ Control _ _ _ tt refl
-  (more _ _ Control _ _ _ tt refl (more _ _ Control _ _ _ refl refl (too_late _ Control _ _ tt refl))))
+    (more _ _ Control _ _ _ tt refl (more _ _ Control _ _ _ refl refl (too_late _ Control _ _ tt refl))))

@@ -51,13 +51,13 @@ module _ (world : World) where
   Leads n = (st : State) (o : Outcome) → After world st (canonical_picks world n (Running st)) o → GoesOrEnds o → o ≡ canonical_after world n st
 
   one : (st : State) (o : Outcome) → After world st (canonical_pick world st.top st.top.begun ∷ []) o → GoesOrEnds o →
-    o ≡ step world st (canonical_pick world st.top st.top.begun)
+      o ≡ step world st (canonical_pick world st.top st.top.begun)
   one st _ (refused _ _ _ h) g = absurd g
   one st _ (last _ _ m) g = refl
 
   at_pick : (n : ℕ) → Leads (suc n) → (st : State) (o r : Outcome) → step world st (canonical_pick world st.top st.top.begun) ≡ r
       → After world st (canonical_pick world st.top st.top.begun ∷ canonical_picks world (suc n) r) o → GoesOrEnds o →
-        o ≡ on_running r (canonical_after world (suc n))
+      o ≡ on_running r (canonical_after world (suc n))
   at_pick n again st _ (Running st') q (refused _ _ _ h) g = absurd g
   at_pick n again st o (Running st') q (more _ next' _ _ _ _ m e a) g =
       again st' o (subst (λ z. After world z (canonical_picks world (suc n) (Running st')) o) (same_state next' st' (sym e ∙ q)) a) g
@@ -136,8 +136,8 @@ returns-clause-quarrel c = record {
       (record { of_frame = refl; of_turn = refl; of_line = refl })
       (record {
         both = older _ (nth 1 print_trace) (nth 3 print_trace) _ (place 4 Body) (place 1 Body)
-          (newest (nth 1 print_trace) (nth 3 print_trace) _ (place 4 Body) (place 1 Body) refl
-          (later _ (nth 3 print_trace) _ (place 1 Body) (first (nth 3 print_trace) _ (place 1 Body) refl)) refl refl);
+            (newest (nth 1 print_trace) (nth 3 print_trace) _ (place 4 Body) (place 1 Body) refl
+            (later _ (nth 3 print_trace) _ (place 1 Body) (first (nth 3 print_trace) _ (place 1 Body) refl)) refl refl);
         apart = record { not_before = λ b. true≢false (sym (before_found _ _ _ _ b)); not_after = λ b. true≢false (sym (before_found _ _ _ _ b)) };
         clash = refl;
         no_race = λ r. true≢false r.bodiless;

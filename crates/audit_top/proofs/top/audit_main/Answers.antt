@@ -1,7 +1,16 @@
 use Rattle.std.proofs.Common.{map, string_bytes}
 use Rattle.audit_top.specs.Cause.{disk}
-use Rattle.audit_top.proofs.Exact.{ends_with, ends_with_syntax, only_check_refused, only_check_stopped, only_refused, only_stopped, only_syntax, only_verdict,
-  stays}
+use Rattle.audit_top.proofs.Exact.{
+  ends_with,
+  ends_with_syntax,
+  only_check_refused,
+  only_check_stopped,
+  only_refused,
+  only_stopped,
+  only_syntax,
+  only_verdict,
+  stays,
+}
 use Rattle.audit_top.proofs.top.audit_main.Goals as goal
 
 pub returns-clause-stopped : goal.returns-clause-stopped

@@ -7,5 +7,5 @@ returns-in-Err-clause-why g c =
     stopped_check
     (disk (g.F.Files.held c.args.files.now) (g.F.Files.read_faults c.args.files.now) (g.F.Files.write_faults c.args.files.now))
     (disk (g.F.Files.held c.fetch_check_sources.new.files) (g.F.Files.read_faults c.fetch_check_sources.new.files)
-      (g.F.Files.write_faults c.fetch_check_sources.new.files))
+    (g.F.Files.write_faults c.fetch_check_sources.new.files))
     c.args.request.now c.in-Err.fault c.stopped.result c.stopped.ensures c.in-Err.ensures.fault

@@ -16,7 +16,7 @@ pub loop-at-preserved : goal.loop-at-preserved
 loop-at-preserved c =
     let w = c.in-Ok.ensures.within in
     so_far_step c.split_at.result.1.now c.in-Some.first.now c.in-Some.tail.now c.in-Ok.piece c.len-at.result c.line_after-line.result
-      c.fresh_after-fresh.result
+    c.fresh_after-fresh.result
     c.loop-at.invariant c.split_at.ensures.back c.in-Some.ensures.cases.0 c.in-Ok.ensures.value w.0 w.1 w.2
     c.in_ok-keep.ensures.ok c.line_after-line.ensures c.fresh_after-fresh.ensures c.len-at.ensures
 

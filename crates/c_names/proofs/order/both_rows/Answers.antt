@@ -8,7 +8,7 @@ returns-in_default-clause-one c = both_end_first _ _ (path_of-no_row c.args.fram
 
 pub returns-in_default-row_at-clause-one : goal.returns-in_default-row_at-clause-one
 returns-in_default-row_at-clause-one c =
-  both_end_second _ _ (path_of-no_row c.args.frames.now c.args.b.0 (sym c.row_at-2.ensures.row ∙ c.in_default-row_at.is)) c.requires
+    both_end_second _ _ (path_of-no_row c.args.frames.now c.args.b.0 (sym c.row_at-2.ensures.row ∙ c.in_default-row_at.is)) c.requires
 
 pub returns-clause-first : goal.returns-clause-first
 returns-clause-first c = path_of-row_of c.args.frames.now c.row_at.ensures.rows c.args.a.0 _ (sym c.row_at.ensures.row ∙ c.in-Some.is)

@@ -10,7 +10,7 @@ returns c =
     let a = c.args.a.now in
     let b = c.args.b.now in
     let whole : ordering_then (ordering_then (ordering_then (frame_cmp c.args.frames.now a.frame.0 b.frame.0) (nat_cmp a.turn b.turn))
-      (nat_cmp a.node b.node)) (kind_cmp a.kind b.kind) ≡ event_cmp c.args.frames.now a b =
+    (nat_cmp a.node b.node)) (kind_cmp a.kind b.kind) ≡ event_cmp c.args.frames.now a b =
     four_then (frame_cmp c.args.frames.now a.frame.0 b.frame.0) (nat_cmp a.turn b.turn) (nat_cmp a.node b.node) (kind_cmp a.kind b.kind)
-      (nat_cmp (kind_rank a.kind) (kind_rank b.kind)) (kinds_by_rank a.kind b.kind) in
+    (nat_cmp (kind_rank a.kind) (kind_rank b.kind)) (kinds_by_rank a.kind b.kind) in
     cc

@@ -7,7 +7,7 @@ pub loop-parent-preserved : goal.loop-parent-preserved
 loop-parent-preserved c = record {
   fits = omega (arith, c.in-Some.ensures.earlier);
   steps = depth_step _ _ _ _ _ (path_of-row_of c.args.frames.now c.row_at.ensures.rows c.loop-parent.frame.0 _ (sym c.row_at.ensures.row ∙ c.in-Some.is))
-    c.loop-parent.invariant.steps;
+      c.loop-parent.invariant.steps;
 }
 
 pub returns : goal.returns

@@ -9,7 +9,7 @@ loop-parent-preserved c =
     ∙ append_assoc c.loop-parent.path.items _ _
     ∙ ap (λ rest. c.loop-parent.path.items ++ rest)
     (sym (path_of-row_of c.args.frames.now c.row_at.ensures.rows c.loop-parent.frame.0 (c.in-Some.parent, c.in-Some.turn, c.in-Some.node)
-      (sym c.row_at.ensures.row ∙ c.in-Some.is)))
+    (sym c.row_at.ensures.row ∙ c.in-Some.is)))
     ∙ c.loop-parent.invariant
 
 pub returns : goal.returns

@@ -1,8 +1,13 @@
 use Rattle.std.proofs.Common.{◌∷◌, [], ◌∙◌, ap, arith, Some, None}
 use Rattle.std.proofs.lemmas.Slice.Eq.{strip_prefix_is}
 use Rattle.std.proofs.lemmas.Bool.Decides.{Decides-eqb}
-use Rattle.c_names.proofs.Cuts.{BeginsWithNoStep-from_slash, BeginsWithNoStep-from_colon, BeginsWithNoStep-from_turn, BeginsWithNoStep-from_node,
-  step_text-from}
+use Rattle.c_names.proofs.Cuts.{
+  BeginsWithNoStep-from_slash,
+  BeginsWithNoStep-from_colon,
+  BeginsWithNoStep-from_turn,
+  BeginsWithNoStep-from_node,
+  step_text-from,
+}
 use Rattle.c_names.proofs.ways.first_step.Goals as goal
 
 pub returns-in_default : goal.returns-in_default

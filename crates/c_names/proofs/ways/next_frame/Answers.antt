@@ -7,5 +7,5 @@ returns-in-Some-clause-next c = IsNext-found c.args.frames.now c.args.frame c.in
 pub returns-clause-next : goal.returns-clause-next
 returns-clause-next c =
     IsNext-started c.args.frames.now c.call.new.self c.args.frame c.args.step c.in_ok-started.started.0 c.requires.rows c.requires.there
-      c.in_default.ensures.none c.requires.room
+    c.in_default.ensures.none c.requires.room
     c.in_ok-started.ensures.frame c.in_ok-started.ensures.row

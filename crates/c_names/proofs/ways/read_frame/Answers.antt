@@ -11,4 +11,4 @@ pub returns-clause-answer : goal.returns-clause-answer
 returns-clause-answer c =
     let known = rw c.in-Some.is at c.in_ok-steps.ensures in
     frame_from c.args.text.now _ c.in-Some.steps.items (c.in_ok-frame.ensures.path ∙ ap reverse c.deref.ensures.value) known.0 known.1
-      (omega (arith, c.in-Some.steps.ok.0))
+    (omega (arith, c.in-Some.steps.ok.0))

@@ -12,7 +12,7 @@ returns-in_default c = IsNoPathText-from_main c.args.text.now (strip_prefix_is D
 pub returns-in_default-first_step : goal.returns-in_default-first_step
 returns-in_default-first_step c =
     IsNoPathText-from_step c.args.text.now c.loop-rest.rest.now c.loop-rest.steps.items c.loop-rest.invariant.whole c.loop-rest.invariant.steps
-      c.loop-rest.invariant.at
+    c.loop-rest.invariant.at
     (omega arith) c.in_default-first_step.ensures
 
 pub loop-rest-preserved : goal.loop-rest-preserved
@@ -20,12 +20,14 @@ loop-rest-preserved c = record {
   whole =
       subst (λ items. c.args.text.now ≡ codes "main" ++ (steps_text items ++ c.in-Some-first_step.more.now)) (sym c.in_ok-push.ensures.items)
       (read_more c.args.text.now c.loop-rest.rest.now c.in-Some-first_step.more.now c.loop-rest.steps.items c.in-Some-first_step.step
-        c.loop-rest.invariant.whole c.in-Some-first_step.ensures.0);
+      c.loop-rest.invariant.whole c.in-Some-first_step.ensures.0);
   steps = subst HasSteps (sym c.in_ok-push.ensures.items)
-    (HasSteps-push c.loop-rest.steps.items c.in-Some-first_step.step c.loop-rest.invariant.steps c.in-Some-first_step.ensures.1);
+      (HasSteps-push c.loop-rest.steps.items c.in-Some-first_step.step c.loop-rest.invariant.steps c.in-Some-first_step.ensures.1);
   at = λ some. c.in-Some-first_step.ensures.2;
 }
 
 pub returns : goal.returns
-returns c = (frame_text-read c.args.text.now c.loop-rest.rest.now c.loop-rest.steps.items c.loop-rest.invariant.whole (omega arith),
-  c.loop-rest.invariant.steps)
+returns c = (
+  frame_text-read c.args.text.now c.loop-rest.rest.now c.loop-rest.steps.items c.loop-rest.invariant.whole (omega arith),
+  c.loop-rest.invariant.steps,
+)

@@ -8,4 +8,4 @@ returns-in_default c = BeginsWithNoNumber-from_cut (2 ^ 64) c.args.text.now c.in
 pub returns-in_default-number : goal.returns-in_default-number
 returns-in_default-number c =
     BeginsWithNoNumber-from_front (2 ^ 64) c.args.text.now c.in-Some.digits.now c.in-Some.rest.now (omega arith) c.in-Some.ensures.0 c.in-Some.ensures.1
-      c.in_default-number.ensures
+    c.in_default-number.ensures

@@ -13,10 +13,10 @@ pub returns-in_default-small_number : goal.returns-in_default-small_number
 returns-in_default-small_number c =
     IsNoPlaceOf-from_number c.args.text.now c.in-Some.frame.now c.in-Some.rest.now c.in-Some.ensures.0 c.in-Some.ensures.1
     c.in-Some-number_and_rest.turn c.in-Some-number_and_rest.last.now c.in-Some-number_and_rest.ensures.1 c.in-Some-number_and_rest.ensures.0
-      c.in_default-small_number.ensures
+    c.in_default-small_number.ensures
 
 pub returns : goal.returns
 returns c =
     place_from c.args.text.now c.in-Some.frame.now c.in-Some.rest.now c.in-Some.ensures.0 c.in-Some.ensures.1
     c.in-Some-number_and_rest.turn c.in-Some-small_number.number c.in-Some-number_and_rest.last.now c.in-Some-number_and_rest.ensures.1
-      (omega arith) c.in-Some-number_and_rest.ensures.0 c.in-Some-small_number.ensures
+    (omega arith) c.in-Some-number_and_rest.ensures.0 c.in-Some-small_number.ensures

@@ -8,4 +8,4 @@ returns-in_default c = BeginsWithNoNumber-from_cut (2 ^ 32) c.args.text.now c.in
 pub returns-in_default-small_number : goal.returns-in_default-small_number
 returns-in_default-small_number c =
     BeginsWithNoNumber-from_front (2 ^ 32) c.args.text.now c.in-Some.digits.now c.in-Some.rest.now (omega arith) c.in-Some.ensures.0 c.in-Some.ensures.1
-      c.in_default-small_number.ensures
+    c.in_default-small_number.ensures

@@ -7,7 +7,7 @@ use Rattle.c_parse.proofs.declaration.named_declarator.Goals as goal
 pub returns : goal.returns
 returns c =
     let read = subst (λ n. declarator n Named c.args.tokens.now ≡ Some (c.in_ok-found.found, c.declarator.new.tokens)) c.turns-turns.ensures
-          c.in_ok-found.ensures in
+    c.in_ok-found.ensures in
     named_reads c.args.typedef c.args.tokens.now c.declarator.new.tokens c.declare_named-declared.new.tokens c.in_ok-found.found
-      c.declare_named-declared.result c.kept.result
+    c.declare_named-declared.result c.kept.result
     read c.declare_named-declared.ensures.ok c.declare_named-declared.ensures.err c.kept.ensures

@@ -8,28 +8,28 @@ use Rattle.c_parse.proofs.initializer.+init.Goals as goal
 pub init_entries-returns-in_err-found : goal.init_entries-returns-in_err-found
 init_entries-returns-in_err-found t c =
     let e = one_more (λ n. entries_from (initializer c.args.depth) n c.loop-turn.found c.loop-turn.tokens) _ c.loop-turn._turn c.loop-turn-test.true
-      c.loop-turn.invariant
+    c.loop-turn.invariant
     ∙ entries_more (initializer c.args.depth) _ c.loop-turn.found c.loop-turn.tokens in
     first_of (search rules, grind (arith, common_steps))
 
 pub init_entries-returns-then-not-eat : goal.init_entries-returns-then-not-eat
 init_entries-returns-then-not-eat t c =
     let e = one_more (λ n. entries_from (initializer c.args.depth) n c.loop-turn.found c.loop-turn.tokens) _ c.loop-turn._turn c.loop-turn-test.true
-      c.loop-turn.invariant
+    c.loop-turn.invariant
     ∙ entries_more (initializer c.args.depth) _ c.loop-turn.found c.loop-turn.tokens in
     first_of (search rules, grind (arith, common_steps))
 
 pub init_entries-returns-then-eat : goal.init_entries-returns-then-eat
 init_entries-returns-then-eat t c =
     let e = one_more (λ n. entries_from (initializer c.args.depth) n c.loop-turn.found c.loop-turn.tokens) _ c.loop-turn._turn c.loop-turn-test.true
-      c.loop-turn.invariant
+    c.loop-turn.invariant
     ∙ entries_more (initializer c.args.depth) _ c.loop-turn.found c.loop-turn.tokens in
     first_of (search rules, grind (arith, common_steps))
 
 pub init_entries-loop-turn-preserved : goal.init_entries-loop-turn-preserved
 init_entries-loop-turn-preserved t c =
     let e = one_more (λ n. entries_from (initializer c.args.depth) n c.loop-turn.found c.loop-turn.tokens) _ c.loop-turn._turn c.loop-turn-test.true
-      c.loop-turn.invariant
+    c.loop-turn.invariant
     ∙ entries_more (initializer c.args.depth) _ c.loop-turn.found c.loop-turn.tokens in
     first_of (search rules, grind (arith, common_steps))
 
@@ -37,7 +37,7 @@ pub init_entries-returns : goal.init_entries-returns
 unfolding entries_from
 init_entries-returns t c =
     let e = no_more (λ n. entries_from (initializer c.args.depth) n c.loop-turn.found c.loop-turn.tokens) _ c.loop-turn._turn c.loop-turn-test.false
-          c.loop-turn.invariant in
+    c.loop-turn.invariant in
     first_of (search rules, grind (arith, common_steps))
 
 pub initializer-returns-then-depth-eq0 : goal.initializer-returns-then-depth-eq0

@@ -6,4 +6,4 @@ use Rattle.c_typed.proofs.heights.height.Given as goal
 abbrev pub invariant-loop-function : goal.invariant-loop-function
 invariant-loop-function l =
     (l.most < 2 ^ 32) × (min (max l.most (greatest (map function_height (drop l.function-index l.function-items)))) (2 ^ 32 - 1) ≡ min (program_height l.p)
-      (2 ^ 32 - 1))
+    (2 ^ 32 - 1))

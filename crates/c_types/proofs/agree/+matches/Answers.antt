@@ -5,7 +5,7 @@ use Rattle.c_types.proofs.agree.+matches.Goals as goal
 
 -- no parameters are compatible with no parameters alone
 pub with_none : (as_int : _) (a b : List Qual) (empty : _) → length a ≡ 0 → empty ≡ (length b == 0) →
-  IsTrue empty ↔ EachMatches as_int (params_of (map qualified_of a)) (params_of (map qualified_of b))
+    IsTrue empty ↔ EachMatches as_int (params_of (map qualified_of a)) (params_of (map qualified_of b))
 with_none as_int [] [] empty h e = (λ t. tt, λ t. grind (arith, e))
 with_none as_int [] (y ∷ b) empty h e = (λ t. grind (arith, e, t), λ t. absurd t)
 with_none as_int (x ∷ a) b empty h e = absurd (omega arith)

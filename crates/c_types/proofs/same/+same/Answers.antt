@@ -5,7 +5,7 @@ use Rattle.c_types.proofs.same.+same.Goals as goal
 
 -- no parameters equal no parameters alone
 with_none : (a b : List Qual) (empty : _) → length a ≡ 0 → empty ≡ (length b == 0) →
-  IsTrue empty ↔ (params_of (map qualified_of a) ≡ params_of (map qualified_of b))
+    IsTrue empty ↔ (params_of (map qualified_of a) ≡ params_of (map qualified_of b))
 with_none [] [] empty h e = (λ t. refl, λ t. grind (arith, e))
 with_none [] (y ∷ b) empty h e = (λ t. absurd (grind (arith, e, t)), λ t. absurd (cc))
 with_none (x ∷ a) b empty h e = absurd (omega arith)

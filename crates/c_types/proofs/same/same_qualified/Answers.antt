@@ -7,5 +7,5 @@ use Rattle.c_types.proofs.same.same_qualified.Goals as goal
 pub returns-clause-test : goal.returns-clause-test
 returns-clause-test c =
     one_test c.is_equal_qualified.result (same_qualified (qualified_of c.args.a.now) (qualified_of c.args.b.now))
-      (qualified_of c.args.a.now ≡ qualified_of c.args.b.now)
+    (qualified_of c.args.a.now ≡ qualified_of c.args.b.now)
     c.is_equal_qualified.ensures (qualified_tell (qualified_of c.args.a.now) (qualified_of c.args.b.now))

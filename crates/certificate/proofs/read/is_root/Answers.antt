@@ -7,4 +7,4 @@ use Rattle.certificate.proofs.read.is_root.Goals as goal
 pub returns-in-Some : goal.returns-in-Some
 returns-in-Some c =
     names_of_object (is_member c.args.verdict) c.in-Some.members.now.entries (view c.args.value.now) c.has_members.result c.in-Some.ensures
-      c.has_members.ensures
+    c.has_members.ensures

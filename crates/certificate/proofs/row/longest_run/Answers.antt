@@ -20,7 +20,7 @@ pub returns-clause-found : goal.returns-clause-found
 returns-clause-found c =
     longest c.args.rows.now _ (record { apart = c.in_ok-stride.ensures.apart; stands = c.run_len-count.ensures.stands })
     (λ run begins. none_longer c.args.rows.now _ _ c.run_len-count.result c.stride_of.result run (there c.args.rows.now 0 _ _ (omega arith))
-      (there c.args.rows.now 1 _ _ (omega arith))
+    (there c.args.rows.now 1 _ _ (omega arith))
     c.stride_of.ensures.only (bound_by c.args.rows.now _ c.run_len-count.result c.stride_of.result c.in_ok-stride.stride c.in_ok-stride.was
     c.run_len-count.ensures.longest) (omega arith) begins)
 

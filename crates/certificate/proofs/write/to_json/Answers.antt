@@ -10,5 +10,5 @@ returns c =
     let v = c.in_ok-value.ensures.value in
     let same : c.in_ok-from_slice.field-0 ≡ string_bytes c.in_ok-text.text = search rules in
     let text : IsTextOf c.args.c.now c.in_ok-from_slice.field-0 = text_of c.args.c.now _ v.0 c.in_ok-from_slice.field-0
-          (string_bytes c.in_ok-text.text) v.1 v.2 same c.in_ok-text.ensures.text c.in_ok-text.ensures.reads_back in
+    (string_bytes c.in_ok-text.text) v.1 v.2 same c.in_ok-text.ensures.text c.in_ok-text.ensures.reads_back in
     record { text = text; states = text_states c.args.c.now c.in_ok-from_slice.field-0 c.in_ok-text.text same c.in_ok-value.ensures.bytes text }

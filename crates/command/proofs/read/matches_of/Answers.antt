@@ -8,7 +8,7 @@ use Rattle.command.proofs.read.matches_of.Goals as goal
 pub returns-in-Ok-try_get_matches_from-clause-taken : goal.returns-in-Ok-try_get_matches_from-clause-taken
 returns-in-Ok-try_get_matches_from-clause-taken c =
     takes_as (app_of c.in-Ok.command) (map string_bytes c.args.words.now) c.in-Ok.ensures.app
-      (c.in-Ok-try_get_matches_from.ensures.kinds (cub_is_simple (app_of c.in-Ok.command) c.in-Ok.ensures.app))
+    (c.in-Ok-try_get_matches_from.ensures.kinds (cub_is_simple (app_of c.in-Ok.command) c.in-Ok.ensures.app))
 
 pub returns-clause-refused : goal.returns-clause-refused
 returns-clause-refused c = λ is taken.

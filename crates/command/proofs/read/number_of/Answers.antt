@@ -11,7 +11,7 @@ pub returns : goal.returns
 returns c =
     let rows = one_text-rows (found_of c.args.matches.now) c.args.id.now in
     let number = spells c.args.least c.args.most (one_text (found_of c.args.matches.now) c.args.id.now) c.get_one.result c.get_one.ensures.none
-          c.get_one.ensures.value in
+    c.get_one.ensures.value in
     let same = c.max.ensures ∙ ap (λ n. max n c.args.least) (c.min.ensures ∙ ap (λ n. min n c.args.most) c.unwrap_or.ensures) in
     subst (λ n. Spells c.args.least c.args.most (one_of c.args.id.now (rows_of (found_of c.args.matches.now))) n) (sym same)
     (subst (λ o. Spells c.args.least c.args.most o (max (min (unwrap_or c.get_one.result 0) c.args.most) c.args.least)) rows number)

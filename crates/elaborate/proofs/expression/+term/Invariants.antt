@@ -10,4 +10,4 @@ abbrev pub invariant-loop-operand : goal.invariant-loop-operand
 invariant-loop-operand l =
     (l.next < 2 ^ 32) × (capped (l.next + sizes (trees_of (drop l.operand-index l.operand-items))) ≡ capped (l.number + size (tree_of l.root)))
     × (map term_of l.parts ++ capped_terms l.next (trees_of (drop l.operand-index l.operand-items)) ≡ capped_terms (capped (l.number + 1))
-      (trees_of (out-Typed l.root).children))
+    (trees_of (out-Typed l.root).children))

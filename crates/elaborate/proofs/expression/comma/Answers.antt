@@ -9,12 +9,12 @@ loop-turn-init c = elim c.match-pop.branch [
   | in-Some w ↦ (
     omega arith,
     comma_first c.args.number c.args.parts c.pop.new.self c.match-pop.operand c.in_ok-whole.whole c.value.result
-      (w.in-Some.ensures ∙ ap (λ z. c.pop.new.self ++ z ∷ []) (sym w.operand-is)) (c.in_ok-whole.ensures) c.value.ensures,
+        (w.in-Some.ensures ∙ ap (λ z. c.pop.new.self ++ z ∷ []) (sym w.operand-is)) (c.in_ok-whole.ensures) c.value.ensures,
   )
   | in-None w ↦ (
     omega arith,
     comma_none c.args.number c.args.parts c.pop.new.self c.match-pop.operand c.in_ok-whole.whole c.value.result w.in-None.ensures
-      (ap term_of w.operand-is ∙ w.quiet-operand.ensures) (c.in_ok-whole.ensures) c.value.ensures,
+        (ap term_of w.operand-is ∙ w.quiet-operand.ensures) (c.in_ok-whole.ensures) c.value.ensures,
   )
 ]
 
@@ -22,7 +22,7 @@ pub loop-turn-preserved : goal.loop-turn-preserved
 loop-turn-preserved c = elim c.match-pop-2.branch [
   | in-Some-pop+in_ok-whole-in-Some-pop w ↦
       comma_next c.loop-turn.parts c.pop-in-loop-turn.new.self w.in-Some-pop.operand c.loop-turn.whole c.match-pop-2.whole c.loop-turn._turn
-        c.len-turn-end.result _ w.in-Some-pop.ensures
+      c.len-turn-end.result _ w.in-Some-pop.ensures
       (ap term_of w.whole-is ∙ w.in_ok-whole-in-Some-pop.ensures) c.loop-turn.invariant
   | in-None-pop w ↦ absurd (omega (arith, ap length w.in-None-pop.ensures.0, c.loop-turn.invariant.0))
 ]

@@ -11,4 +11,4 @@ returns-clause-terms c = λ h. c.in_ok-terms.ensures ∙ ap terms_from (each_sam
 
 pub returns-clause-faithful : goal.returns-clause-faithful
 returns-clause-faithful c = λ h f. subst (AreFaithful (program_trees c.args.p.now)) (sym (c.in_ok-terms.ensures ∙ ap terms_from (each_same _ h)))
-  (all_faithful _ f)
+    (all_faithful _ f)

@@ -12,7 +12,7 @@ pub loop-list-preserved : goal.loop-list-preserved
 loop-list-preserved c =
     let next = read_at c.args.src.now c.loop-list.at c.loop-list.line (ap Ok c.in-Some.is) c.in_ok-token.ensures in
     rw c.in_ok-push.ensures.items (so_far_more c.args.src.now c.loop-list.list.items c.loop-list.at c.loop-list.line c.in-Some.token c.loop-list.invariant
-      next)
+    next)
 
 pub returns-clause-found : goal.returns-clause-found
 returns-clause-found c =

@@ -11,5 +11,5 @@ pub returns-else-meets-2 : goal.returns-else-meets-2
 returns-else-meets-2 c = (
   λ h. race_read c.args.a.now c.args.b.now (c.meets-else-meets-2.ensures.0 h),
   λ s. only_read c.args.a.now c.args.b.now c.meets.result c.meets-else-meets.result c.meets-else-meets-2.result c.meets.ensures c.meets-else-meets.ensures
-    c.meets-else-meets-2.ensures c.if-meets.false c.if-meets-2.false s,
+      c.meets-else-meets-2.ensures c.if-meets.false c.if-meets-2.false s,
 )

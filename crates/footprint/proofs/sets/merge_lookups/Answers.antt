@@ -4,4 +4,4 @@ use Rattle.footprint.proofs.sets.merge_lookups.Goals as goal
 
 pub loop-addr-preserved : goal.loop-addr-preserved
 loop-addr-preserved c = λ a. key_turn nat_cmp_total a c.in-Some.addr.now c.loop-addr.addr-iterator c.next.new.self _ _ _ c.in-Some.ensures.steps
-  (c.in_ok-insert.ensures.updates.0 a) (c.loop-addr.invariant a)
+    (c.in_ok-insert.ensures.updates.0 a) (c.loop-addr.invariant a)

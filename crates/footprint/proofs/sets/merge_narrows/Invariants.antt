@@ -10,4 +10,4 @@ use Rattle.footprint.proofs.sets.merge_narrows.Given as goal
 abbrev pub invariant-loop-narrow : goal.invariant-loop-narrow
 invariant-loop-narrow l = (k : Event × ObjName)
     → (contains narrow_cmp l.narrows k || list_any (is_at (narrow_cmp k)) l.narrow-iterator) ≡ (contains narrow_cmp l.fn.narrows k ||
-      contains narrow_cmp l.more k)
+    contains narrow_cmp l.more k)

@@ -7,9 +7,9 @@ returns-in-Some c =
     let same : c.eq.result ≡ true → c.in-Some.other.now.0 ≡ c.args.id = search rules in
     let back : c.in-Some.other.now.0 ≡ c.args.id → c.eq.result ≡ true = search rules in (
       λ t. below_here c.args.narrows.now c.args.id c.args.keep c.range.result c.next_back.new.self c.in-Some.other.now
-        (c.range.ensures.in_range tt) c.in-Some.ensures.steps (same t),
+          (c.range.ensures.in_range tt) c.in-Some.ensures.steps (same t),
       λ b. back (below_last c.args.narrows.now c.args.id c.args.keep c.range.result c.next_back.new.self c.in-Some.other.now
-        (c.range.ensures.in_range tt) c.in-Some.ensures.steps b),
+          (c.range.ensures.in_range tt) c.in-Some.ensures.steps b),
     )
 
 pub returns-in-None : goal.returns-in-None

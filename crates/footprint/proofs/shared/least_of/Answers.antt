@@ -11,8 +11,8 @@ loop-key-preserved c =
     let before = c.loop-key.invariant in
     record {
       shared = shared_turn rows few many rest more (c.in-Some.key.now, c.in-Some.end.now) c.in-Some.ensures.steps before.part c.loop-key.best
-        c.with_range-best.result before.shared c.with_range-best.ensures.from;
+          c.with_range-best.result before.shared c.with_range-best.ensures.from;
       left = left_turn rows few many rest more (c.in-Some.key.now, c.in-Some.end.now) c.in-Some.ensures.steps before.part c.loop-key.best
-        c.with_range-best.result before.left c.with_range-best.ensures.kept c.with_range-best.ensures.more;
+          c.with_range-best.result before.left c.with_range-best.ensures.kept c.with_range-best.ensures.more;
       part = part_turn rows few many rest more (c.in-Some.key.now, c.in-Some.end.now) c.in-Some.ensures.steps before.part;
     }

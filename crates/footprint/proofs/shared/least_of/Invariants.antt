@@ -8,6 +8,6 @@ abbrev pub invariant-loop-key : goal.invariant-loop-key
 invariant-loop-key l = record {
   shared : IfSome l.best (λ b. (has_byte l.few.ends.entries b.object b.at ≡ true) × (has_byte l.many.ends.entries b.object b.at ≡ true));
   left : (x : ObjName) (i : ℕ) → has_byte l.few.ends.entries x i ≡ true → has_byte l.many.ends.entries x i ≡ true →
-    (has_byte l.key-iterator x i ≡ true) ⊎ Reaches l.frames l.best x i;
+      (has_byte l.key-iterator x i ≡ true) ⊎ Reaches l.frames l.best x i;
   part : (x : ObjName) (i : ℕ) → has_byte l.key-iterator x i ≡ true → has_byte l.few.ends.entries x i ≡ true;
 }

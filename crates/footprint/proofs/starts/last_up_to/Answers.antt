@@ -10,7 +10,7 @@ pub returns-then-eq-clause-last : goal.returns-then-eq-clause-last
 returns-then-eq-clause-last c =
     let same : c.eq.result ≡ true → c.in-Some.key.now.0 ≡ c.args.object = search rules in
     let facts = last_own c.args.ends.now c.args.object c.args.at c.range.result c.next_back.new.self (c.in-Some.key.now, c.in-Some.end.now)
-          (c.range.ensures.in_range tt) c.in-Some.ensures.steps (same c.if-eq.true) in
+    (c.range.ensures.in_range tt) c.in-Some.ensures.steps (same c.if-eq.true) in
     record { own = refl; early = facts.early; found = facts.found; last = facts.last }
 
 pub returns-else-eq-clause-last : goal.returns-else-eq-clause-last
@@ -18,4 +18,4 @@ returns-else-eq-clause-last c =
     let same : c.in-Some.key.now.0 ≡ c.args.object → c.eq.result ≡ true = search rules in
     let off : c.eq.result ≡ false = c.if-eq.false in
     last_other c.args.ends.now c.args.object c.args.at c.range.result c.next_back.new.self (c.in-Some.key.now, c.in-Some.end.now)
-      (c.range.ensures.in_range tt) c.in-Some.ensures.steps (λ own. let on : c.eq.result ≡ true = same own in cc)
+    (c.range.ensures.in_range tt) c.in-Some.ensures.steps (λ own. let on : c.eq.result ≡ true = same own in cc)

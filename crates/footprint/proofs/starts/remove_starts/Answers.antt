@@ -14,7 +14,7 @@ returns-then-next-last-clause-without c =
 pub loop-preserved : goal.loop-preserved
 loop-preserved c = record {
   outside = λ y f h. outside_kept c.loop.ends _ _ c.args.object c.args.from c.args.last c.in-Some.next.from y f
-    (c.remove.ensures.updates.0 (y, f)) c.in-Some.ensures.late c.if-next-last.false h (c.loop.invariant.outside y f h);
+      (c.remove.ensures.updates.0 (y, f)) c.in-Some.ensures.late c.if-next-last.false h (c.loop.invariant.outside y f h);
   counted = fewer _ _ _ _ c.remove.result c.in-Some.next.end (c.remove.ensures.value ∙ c.in-Some.ensures.found) c.remove.ensures.len c.loop.invariant.counted;
   ordered = c.remove.ensures.ordered;
 }

@@ -9,5 +9,5 @@ returns-clause-apart c =
     let trees = program_trees c.args.p.now.program.now in
     c.finding_of.ensures.apart trees
     (seen_in _ trees c.into_parts-calls.result.1
-      (c.in_ok-state.ensures.trees ∙ (ap trees_at c.in_ok-watcher.ensures.roots ∙ (ap trees_at c.as_slice.ensures.value ∙ c.in_ok-roots.ensures)))
+    (c.in_ok-state.ensures.trees ∙ (ap trees_at c.in_ok-watcher.ensures.roots ∙ (ap trees_at c.as_slice.ensures.value ∙ c.in_ok-roots.ensures)))
     c.into_parts-calls.ensures.apart)

@@ -12,4 +12,4 @@ loop-object-preserved c =
 pub returns : goal.returns
 returns c =
     λ _. whole (λ (q : Qualified). IsSized c.args.tags.now q.ty) qualified_of c.args.objects.now c.loop-object.object-index
-      (omega arith) c.loop-object.invariant
+    (omega arith) c.loop-object.invariant

@@ -8,9 +8,9 @@ use Rattle.lawful_program.proofs.statics.are_aligned.Goals as goal
 pub loop-constant-preserved : goal.loop-constant-preserved
 loop-constant-preserved c =
     more (λ k. ContentSuits c.args.program.now (scalars c.args.program.now.tags (type_of c.args.ty.now)) k.at k.content) c.args.constants.now
-      c.loop-constant.constant-index c.constant-item.result
+    c.loop-constant.constant-index c.constant-item.result
     (omega arith) c.constant-item.is (c.is_aligned.ensures (search rules)) c.loop-constant.invariant
 
 pub returns : goal.returns
 returns c = λ _. whole (λ k. ContentSuits c.args.program.now (scalars c.args.program.now.tags (type_of c.args.ty.now)) k.at k.content) c.args.constants.now
-  c.loop-constant.constant-index (omega arith) c.loop-constant.invariant
+    c.loop-constant.constant-index (omega arith) c.loop-constant.invariant

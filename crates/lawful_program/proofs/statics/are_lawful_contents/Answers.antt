@@ -10,4 +10,4 @@ loop-constant-preserved c =
 
 pub returns : goal.returns
 returns c = λ _. whole (λ k. ContentIsLawful c.args.program.now k.content) c.args.constants.now c.loop-constant.constant-index
-  (omega arith) c.loop-constant.invariant
+    (omega arith) c.loop-constant.invariant

@@ -9,4 +9,4 @@ loop-operand-preserved c = λ rest.
     let P : Typed → Type 0 = λ t. IsListed c.args.slot (root_of t) in
     c.loop-operand.invariant
     (All-drop_one P c.args.operands.now c.loop-operand.operand-index c.operand-item.result (omega arith) c.operand-item.is
-      (c.is_listed.ensures c.if-not-is_listed.false) rest)
+    (c.is_listed.ensures c.if-not-is_listed.false) rest)

@@ -11,4 +11,4 @@ returns-in-Assign c =
     c.place_span.ensures h.initializing h.access
     ∙ (ap (λ (ts : List Typed). stored_span c.args.tags.now (shape.Assign h.initializing h.access) ts) c.as_slice.ensures
     ∙ sym (ap (λ (r : Root). stored_span c.args.tags.now r (out-Typed c.args.tree.now).children)
-      (root_of-Assign c.args.tree.now h.initializing h.access h.is)))
+    (root_of-Assign c.args.tree.now h.initializing h.access h.is)))

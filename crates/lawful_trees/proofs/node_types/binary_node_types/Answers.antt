@@ -6,7 +6,7 @@ returns-in-Bin c = rw (head_at-Bin c.args.node.now c.in-Bin.op c.in-Bin.kind c.i
 
 pub returns-in-PtrAdd : goal.returns-in-PtrAdd
 returns-in-PtrAdd c = rw (head_at-PtrAdd c.args.node.now c.in-PtrAdd.size c.in-PtrAdd.subtract c.in-PtrAdd.is)
-  (λ h blocks. c.pointer_sum_types.ensures h blocks c.in-PtrAdd.subtract)
+    (λ h blocks. c.pointer_sum_types.ensures h blocks c.in-PtrAdd.subtract)
 
 pub returns-in-PtrDiff : goal.returns-in-PtrDiff
 returns-in-PtrDiff c = rw (head_at-PtrDiff c.args.node.now c.in-PtrDiff.size c.in-PtrDiff.is) c.difference_types.ensures
@@ -16,4 +16,4 @@ returns-in-Assign c = rw (head_at-Assign c.args.node.now c.in-Assign.initializin
 
 pub returns-in-Update : goal.returns-in-Update
 returns-in-Update c = rw (head_at-Update c.args.node.now c.in-Update.change c.in-Update.old c.in-Update.is)
-  (λ h blocks. c.update_types.ensures h blocks c.in-Update.old)
+    (λ h blocks. c.update_types.ensures h blocks c.in-Update.old)

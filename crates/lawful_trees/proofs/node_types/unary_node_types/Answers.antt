@@ -6,4 +6,4 @@ returns-in-Load c = rw (head_at-Load c.args.node.now c.in-Load.access c.in-Load.
 
 pub returns-in-Update : goal.returns-in-Update
 returns-in-Update c = rw (head_at-Update c.args.node.now c.in-Update.change c.in-Update.old c.in-Update.is)
-  (λ h blocks. c.step_types.ensures h blocks c.in-Update.old)
+    (λ h blocks. c.step_types.ensures h blocks c.in-Update.old)

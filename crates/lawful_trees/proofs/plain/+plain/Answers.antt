@@ -15,4 +15,4 @@ are_plain-loop-tree-preserved t c = λ rest.
 pub is_plain_tree-returns-then-holds_none : goal.is_plain_tree-returns-then-holds_none
 is_plain_tree-returns-then-holds_none t c = λ h.
     All-sites Plain c.args.tree.now c.as_slice.result.now c.as_slice.ensures (c.is_plain.ensures c.if-not-is_plain.false)
-      (c.holds_none.ensures c.if-holds_none.true) (c.are_plain.ensures h)
+    (c.holds_none.ensures c.if-holds_none.true) (c.are_plain.ensures h)

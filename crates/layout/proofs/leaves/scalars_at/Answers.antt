@@ -9,4 +9,4 @@ pub returns : goal.returns
 returns c =
     from_start c.add_leaves.new.leaves c.new-leaves.result (leaves (form_of c.in_ok-shape.shape)) (scalars c.args.tags.now (type_of c.args.ty.now))
     c.new-leaves.ensures c.in_ok-add_leaves.ensures c.in_ok-shape.ensures
-      (exact_scalars c.args.tags.now c.law_extents.ensures (type_of c.args.ty.now) c.requires)
+    (exact_scalars c.args.tags.now c.law_extents.ensures (type_of c.args.ty.now) c.requires)

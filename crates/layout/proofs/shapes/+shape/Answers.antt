@@ -4,25 +4,42 @@ use Rattle.c_types.specs.Shapes.{form_of}
 use Rattle.c_types.specs.Leaves.{scalars_by, leaves}
 use Rattle.c_types.specs.Types.{type_of}
 use Rattle.layout.specs.Opened.{weight_with, weight_by, open_work}
-use Rattle.layout.proofs.Placing.{begins, pops, smaller, goes_on, within, falls, part_placed, part_roomy, part_less, single_falls, tag_placed, tag_less,
-  tag_roomy, at_number, kind_is, whole_is, seen}
+use Rattle.layout.proofs.Placing.{
+  begins,
+  pops,
+  smaller,
+  goes_on,
+  within,
+  falls,
+  part_placed,
+  part_roomy,
+  part_less,
+  single_falls,
+  tag_placed,
+  tag_less,
+  tag_roomy,
+  at_number,
+  kind_is,
+  whole_is,
+  seen,
+}
 use Rattle.layout.proofs.shapes.+shape.Goals as goal
 
 pub parts_within-loop-current-init : goal.parts_within-loop-current-init
 parts_within-loop-current-init t c =
     begins c.args.tags.now c.args.depth c.args.tag c.new-parts.result c.new-opened.result c.enter.new.opened c.law_extents.ensures c.new-parts.ensures
-      c.new-opened.ensures c.in_ok-enter.ensures
+    c.new-opened.ensures c.in_ok-enter.ensures
 
 pub parts_within-place_member-requires : goal.parts_within-place_member-requires
 parts_within-place_member-requires t c =
     let p = pops c.args.tags.now c.loop-current.opened c.pop.new.self c.in-Some.current _ c.in-Some.ensures c.loop-current.invariant.1.0
-          c.loop-current.invariant.1.1 in
+    c.loop-current.invariant.1.1 in
     (subst (λ (n : ℕ). 2 * open_work c.args.tags.now c.in-Some.current < n) c.decreases p.0, p.1)
 
 pub parts_within-loop-current-smaller : goal.parts_within-loop-current-smaller
 parts_within-loop-current-smaller t c =
     smaller c.args.tags.now c.loop-current.opened c.pop.new.self c.place_member.new.opened c.in-Some.current c.in-Some.ensures
-      c.in_ok-place_member.ensures.less
+    c.in_ok-place_member.ensures.less
 
 pub parts_within-loop-current-preserved : goal.parts_within-loop-current-preserved
 parts_within-loop-current-preserved t c =
@@ -43,7 +60,7 @@ place_member-single_shape-requires t c =
     c.as_slice.ensures c.in-Some-get.ensures.lookup.0 c.in-Some-get.ensures.lookup.1 in (
       subst (λ (n : ℕ). 2 * weight_with (weight_by c.args.current.depth c.args.tags.now) (type_of c.single_of.result.now) + 2 < n) c.decreases
           (falls c.args.tags.now c.args.current c.in-Some.content.now c.in-Some-get.member.now c.in-Some.ensures there
-            (type_of c.single_of.result.now) c.single_of.ensures),
+          (type_of c.single_of.result.now) c.single_of.ensures),
       tt,
     )
 
@@ -53,13 +70,13 @@ place_member-returns-in_ok-push-in_default-single_of t c =
     c.as_slice.ensures c.in-Some-get.ensures.lookup.0 c.in-Some-get.ensures.lookup.1 in
     record {
       placed = part_placed c.args.tags.now c.args.current c.in-Some.content.now c.in-Some-get.member.now c.in-Some.ensures there
-        (type_of c.single_of.result.now)
+          (type_of c.single_of.result.now)
           c.offset_of.result (c.args.current.offset + c.offset_of.result) c.in_ok-part-in_default-single_of.part c.args.parts.now
-            c.push-in_default-single_of.new.self
+          c.push-in_default-single_of.new.self
           c.args.opened.now c.push.new.self c.single_of.ensures c.offset_of.ensures refl c.in_ok-part-in_default-single_of.ensures
           c.in_ok-push-in_default-single_of.ensures.ok c.in_ok-push.ensures.ok;
       roomy = part_roomy c.args.tags.now c.args.current c.in-Some.content.now c.in-Some-get.member.now c.in-Some.ensures there c.args.opened.now
-        c.push.new.self
+          c.push.new.self
           c.requires.own c.requires.others c.in_ok-push.ensures.ok;
       less = part_less c.args.tags.now c.args.current c.in-Some.content.now c.in-Some-get.member.now c.in-Some.ensures there c.args.opened.now c.push.new.self
           c.in_ok-push.ensures.ok;
@@ -71,7 +88,7 @@ place_member-returns-in-Struct-clause-placed t c =
     c.as_slice.ensures c.in-Some-get.ensures.lookup.0 c.in-Some-get.ensures.lookup.1 in
     IfOk-weaker c.enter.result (λ _. _) (λ _. _)
     (λ _ e. tag_placed c.args.tags.now c.args.current c.in-Some.content.now c.in-Some-get.member.now c.in-Some.ensures there
-      (type_of c.single_of.result.now) c.in-Struct.tag
+    (type_of c.single_of.result.now) c.in-Struct.tag
     c.offset_of.result (c.args.current.offset + c.offset_of.result) c.single_of.ensures (kind_is c.single_of.result.now c.in-Struct.tag c.in-Struct.is)
     c.offset_of.ensures refl (seen c.args.parts.now) c.args.opened.now c.push.new.self c.enter.new.opened c.in_ok-push.ensures.ok e) c.enter.ensures
 
@@ -81,10 +98,10 @@ place_member-returns-in-Struct-clause-roomy t c =
     c.as_slice.ensures c.in-Some-get.ensures.lookup.0 c.in-Some-get.ensures.lookup.1 in
     IfOk-weaker c.enter.result (λ _. _) (λ _. _)
     (λ _ e. tag_roomy c.args.tags.now c.args.current c.in-Some.content.now c.in-Some-get.member.now c.in-Some.ensures there
-      (type_of c.single_of.result.now) c.in-Struct.tag
+    (type_of c.single_of.result.now) c.in-Struct.tag
     c.offset_of.result (c.args.current.offset + c.offset_of.result) c.single_of.ensures (kind_is c.single_of.result.now c.in-Struct.tag c.in-Struct.is)
     c.offset_of.ensures refl c.args.opened.now c.push.new.self c.enter.new.opened c.law_extents.ensures c.requires.own c.requires.others
-      c.in_ok-push.ensures.ok e) c.enter.ensures
+    c.in_ok-push.ensures.ok e) c.enter.ensures
 
 pub place_member-returns-in-Struct-clause-less : goal.place_member-returns-in-Struct-clause-less
 place_member-returns-in-Struct-clause-less t c =
@@ -92,7 +109,7 @@ place_member-returns-in-Struct-clause-less t c =
     c.as_slice.ensures c.in-Some-get.ensures.lookup.0 c.in-Some-get.ensures.lookup.1 in
     IfOk-weaker c.enter.result (λ _. _) (λ _. _)
     (λ _ e. tag_less c.args.tags.now c.args.current c.in-Some.content.now c.in-Some-get.member.now c.in-Some.ensures there
-      (type_of c.single_of.result.now) c.in-Struct.tag
+    (type_of c.single_of.result.now) c.in-Struct.tag
     c.offset_of.result (c.args.current.offset + c.offset_of.result) c.single_of.ensures (kind_is c.single_of.result.now c.in-Struct.tag c.in-Struct.is)
     c.offset_of.ensures refl c.args.opened.now c.push.new.self c.enter.new.opened c.in_ok-push.ensures.ok e) c.enter.ensures
 
@@ -107,5 +124,5 @@ pub shape_within-returns : goal.shape_within-returns
 shape_within-returns t c =
     IfOk-weaker c.single_shape.result (λ _. _) (λ _. _)
     (λ s e. whole_is (scalars_by c.args.depth c.args.tags.now) c.args.tags.now (type_of c.args.ty.now) (type_of c.single_of.result.now)
-      (leaves (form_of s)) c.single_of.ensures e)
+    (leaves (form_of s)) c.single_of.ensures e)
     c.single_shape.ensures

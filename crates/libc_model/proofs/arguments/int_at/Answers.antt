@@ -9,7 +9,7 @@ pub returns-in-Some : goal.returns-in-Some
 returns-in-Some c =
     let h = c.in-Some.ensures in
     let e : c.int_of.result ≡ integer_in (argument_at (values_seen c.args.args.now) c.args.at) =
-          c.int_of.ensures ∙ ap integer_in (sym (argument_at-there c.args.args.now c.args.at c.in-Some.value.now h.lookup.3.0 h.lookup.1)) in
+    c.int_of.ensures ∙ ap integer_in (sym (argument_at-there c.args.args.now c.args.at c.in-Some.value.now h.lookup.3.0 h.lookup.1)) in
     grind (arith, ints, to_z-of_z)
 
 pub returns-in-None : goal.returns-in-None

@@ -6,4 +6,4 @@ use Rattle.libc_model.proofs.arguments.kept.Goals as goal
 
 pub returns : goal.returns
 returns c = λ io. c.kept_after.ensures ∙ ap₂ (λ is k. kept_after is c.args.id k) c.items.ensures c.kept.ensures ∙ sym
-  (after_kept c.args.t.now (store_of c.args.m.now io) c.args.id)
+    (after_kept c.args.t.now (store_of c.args.m.now io) c.args.id)

@@ -12,7 +12,7 @@ pub returns-in-Some-clause-follows : goal.returns-in-Some-clause-follows
 returns-in-Some-clause-follows c = λ io.
     let on : c.is_live.result ≡ true = search rules in
     range_gives c.args.m.now io c.args.t.now c.add.new.self c.args.object c.args.addr c.args.len c.in-Some.from
-      (sym c.is_live.ensures ∙ on) c.in-Some.ensures.place c.in_ok-add.ensures.ok
+    (sym c.is_live.ensures ∙ on) c.in-Some.ensures.place c.in_ok-add.ensures.ok
 
 pub returns-in-None-clause-follows : goal.returns-in-None-clause-follows
 returns-in-None-clause-follows c = λ io.

@@ -6,4 +6,4 @@ pub returns : goal.returns
 returns c =
     let len : vec_len c.args.bytes.now ≡ length c.args.bytes.now.items = c.args.bytes.now.ok.0 in
     line_is c.args.bytes.now.items c.pop.new.self.items c.push.new.self.items (c.pop.ensures.rest ∙ ap (λ (n : ℕ). take (n - 1) c.args.bytes.now.items) len)
-      c.in_ok-push.ensures.items
+    c.in_ok-push.ensures.items

@@ -13,7 +13,7 @@ returns-in-Ok-clause-exact c = λ io known.
     let given = given_some (is_given c.from.result) c.from.result c.in-Some.size c.in-Some.ensures in
     let sum : ℕ = min (c.args.m.now.created + max c.in-Some.size 16) (2 ^ 62) in
     rw c.value-in-Ok.ensures (malloc_done c.created.new.m.rows c.args.who c.args.size c.in-Some.size c.name_of.result
-      (store_of c.args.m.now io) c.in-Ok.new c.created.new.t (store_of c.created.new.m io)
+    (store_of c.args.m.now io) c.in-Ok.new c.created.new.t (store_of c.created.new.m io)
     (given.1 ∙ asked) c.name_of.ensures (subst (λ (n : ℕ). is_given n ≡ true) asked given.0)
     (within_split (nat_lt (2 ^ 26) sum) (answers.Outside Created sum) c.in_ok-check_created.ensures)
     (c.in-Ok.ensures.exact io known))
@@ -24,7 +24,7 @@ returns-in-Err-clause-exact c = λ io known.
     let given = given_some (is_given c.from.result) c.from.result c.in-Some.size c.in-Some.ensures in
     let sum : ℕ = min (c.args.m.now.created + max c.in-Some.size 16) (2 ^ 62) in
     malloc_failed c.created.new.m.rows c.args.who c.args.size c.in-Some.size c.name_of.result (store_of c.args.m.now io) c.in-Err.answer c.created.new.t
-      (store_of c.created.new.m io)
+    (store_of c.created.new.m io)
     (given.1 ∙ asked) c.name_of.ensures (subst (λ (n : ℕ). is_given n ≡ true) asked given.0)
     (within_split (nat_lt (2 ^ 26) sum) (answers.Outside Created sum) c.in_ok-check_created.ensures)
     (c.in-Err.ensures.exact io known)

@@ -13,7 +13,7 @@ returns-clause-exact c = λ io call.
     let p = c.pointer_at.result in
     let at = address_is p.addr (address_in (argument_at vs 0)) p.prov (prov_in (argument_at vs 0)) c.pointer_at.ensures in
     does_args c.change_size.result c.change_size.new.t (store_of c.change_size.new.m io) c.args.m.now io c.change_size.new.m.rows c.args.who p.addr
-      (address_in (argument_at vs 0)) p.prov (prov_in (argument_at vs 0)) c.size_at.result (size_of_value (argument_at vs 1))
+    (address_in (argument_at vs 0)) p.prov (prov_in (argument_at vs 0)) c.size_at.result (size_of_value (argument_at vs 1))
     at.0 at.1 (c.size_at.ensures (one_size vs 1 call.sizes))
     (c.change_size.ensures.exact io (record { known = call.known; tagged = call.tags.0; bare = call.tags.1; high = call.high })
-      (subst (λ (q : Prov). HasCell c.args.m.now q) (sym at.1) (first_has c.args.m.now vs call.cells)))
+    (subst (λ (q : Prov). HasCell c.args.m.now q) (sym at.1) (first_has c.args.m.now vs call.cells)))

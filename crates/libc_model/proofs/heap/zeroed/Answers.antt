@@ -16,21 +16,21 @@ returns-in_err-new-clause-exact c =
     let given = given_some (is_given c.args.size) c.args.size c.in-Some.size c.in-Some.ensures in
     let sum : ℕ = min (c.args.m.now.created + max c.in-Some.size 16) (2 ^ 62) in
     calloc_failed c.args.m.now c.created.new.m c.args.who c.args.size c.in-Some.size c.name_of-name.result c.in_err-new.field-0.0 c.created.new.t
-      c.add_zeroed.new.t (store_of c.created.new.m io) io
+    c.add_zeroed.new.t (store_of c.created.new.m io) io
     given.1 c.name_of-name.ensures given.0 (within_split (nat_lt (2 ^ 26) sum) (answers.Outside Created sum) c.in_ok-check_created.ensures)
-      (c.in_err-new.ensures.exact io known))
+    (c.in_err-new.ensures.exact io known))
 
 pub returns-clause-exact : goal.returns-clause-exact
 returns-clause-exact c = λ io known above.
     let given = given_some (is_given c.args.size) c.args.size c.in-Some.size c.in-Some.ensures in
     let sum : ℕ = min (c.args.m.now.created + max c.in-Some.size 16) (2 ^ 62) in
     rw c.value-2.ensures (calloc_done c.args.m.now c.created.new.m c.fill.new.m c.args.who c.args.size c.in-Some.size c.name_of-name.result c.in_ok-new.new
-      c.created.new.t c.args.t.now c.add_zeroed.new.t c.in_ok-zeros.zeros.cells io
+    c.created.new.t c.args.t.now c.add_zeroed.new.t c.in_ok-zeros.zeros.cells io
     given.1 c.name_of-name.ensures given.0 (within_split (nat_lt (2 ^ 26) sum) (answers.Outside Created sum) c.in_ok-check_created.ensures)
     (c.in_ok-new.ensures.rows (made_value c.in_ok-new.new)) c.fill.ensures.rows above c.in_ok-zeros.ensures c.fill.ensures.exact c.requires.items
-      c.in_ok-add_zeroed.ensures (c.in_ok-new.ensures.exact io known))
+    c.in_ok-add_zeroed.ensures (c.in_ok-new.ensures.exact io known))
 
 pub returns-clause-known : goal.returns-clause-known
 returns-clause-known c = λ known.
     c.fill.ensures.known (c.in_ok-new.ensures.known known)
-      (zeros_in (length c.created.new.m.origins) c.in-Some.size c.in_ok-zeros.zeros.cells c.in_ok-zeros.ensures)
+    (zeros_in (length c.created.new.m.origins) c.in-Some.size c.in_ok-zeros.zeros.cells c.in_ok-zeros.ensures)

@@ -13,19 +13,19 @@ put_over-requires-clause-place c =
     kept_place c.settle-2.new.m c.copied.new.m c.args.to c.in-Some.target c.in_ok-block.ensures.kept
     (place_stays c.args.m.now c.settle-2.new.m c.args.to c.in-Some.target c.settle-2.ensures.lives c.settle-2.ensures.rows
     (subst (λ (o : Option Range). IfSome o (IsPlace c.args.m.now c.args.to))
-      (moving_is c.args.ranges.target c.args.ranges.source c.in-Some.target c.in-Some.source c.in-Some.ensures).1 c.requires.to))
+    (moving_is c.args.ranges.target c.args.ranges.source c.in-Some.target c.in-Some.source c.in-Some.ensures).1 c.requires.to))
 
 pub returns-clause-items : goal.returns-clause-items
 returns-clause-items c = moved_noted c.args.ranges.target c.args.ranges.source c.in-Some.target c.in-Some.source c.args.t.now c.add.new.self c.add_write.new.t
-  c.read_of.result c.in-Some.ensures c.requires.even c.read_of.ensures c.in_ok-add.ensures.ok c.in_ok-add_write.ensures
+    c.read_of.result c.in-Some.ensures c.requires.even c.read_of.ensures c.in_ok-add.ensures.ok c.in_ok-add_write.ensures
 
 pub returns-clause-store : goal.returns-clause-store
 returns-clause-store c = λ io none typed able.
     move_done c.args.m.now c.settle-2.new.m c.copied.new.m c.put_over.new.m io c.args.ranges.target c.args.ranges.source c.in-Some.target c.in-Some.source
-      c.in_ok-block.block.cells c.args.t.now c.add.new.self c.add_write.new.t c.read_of.result c.in-Some.ensures c.read_of.ensures c.in_ok-add.ensures.ok
-      c.in_ok-add_write.ensures
+    c.in_ok-block.block.cells c.args.t.now c.add.new.self c.add_write.new.t c.read_of.result c.in-Some.ensures c.read_of.ensures c.in_ok-add.ensures.ok
+    c.in_ok-add_write.ensures
     c.settle-2.ensures.lives (c.settle-2.ensures.store io) c.settle-2.ensures.tagged c.in_ok-block.ensures.bytes (λ now. c.in_ok-block.ensures.store now io)
-      c.in_ok-block.ensures.kept (c.put_over.ensures.store io whole tt) none typed able
+    c.in_ok-block.ensures.kept (c.put_over.ensures.store io whole tt) none typed able
 
 pub returns-clause-rows : goal.returns-clause-rows
 returns-clause-rows c = c.put_over.ensures.rows ∙ ap (λ (m : Kept). m.rows) c.in_ok-block.ensures.kept ∙ c.settle-2.ensures.rows

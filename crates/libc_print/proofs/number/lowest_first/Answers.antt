@@ -13,14 +13,14 @@ loop-turn-preserved c =
     (digits_left 64 (is_upper c.args.base) (base_number c.args.base) c.args.number) c.loop-turn-test.true c.if-rest-eq0.false
     (c.digit.ensures ∙ ap (λ k. digit (is_upper c.args.base) (c.loop-turn.rest % k)) c.number.ensures.value) c.loop-turn.invariant
     ∙ ap (λ k. digits_left (64 - (c.loop-turn._turn + 1)) (is_upper c.args.base) (base_number c.args.base) (c.loop-turn.rest / k) ++
-      reverse (c.loop-turn.digits.items ++ c.digit.result ∷ [])) (sym c.number-rest.ensures.value)
+    reverse (c.loop-turn.digits.items ++ c.digit.result ∷ [])) (sym c.number-rest.ensures.value)
     ∙ ap (λ l. digits_left (64 - (c.loop-turn._turn + 1)) (is_upper c.args.base) (base_number c.args.base) (c.loop-turn.rest / c.number-rest.result) ++
-      reverse l) (sym c.in_ok-push.ensures.items)
+    reverse l) (sym c.in_ok-push.ensures.items)
 
 pub returns-then-rest-eq0 : goal.returns-then-rest-eq0
 returns-then-rest-eq0 c = digits_left-read (64 - c.loop-turn._turn) (is_upper c.args.base) (base_number c.args.base) c.loop-turn.rest c.args.number
-  c.loop-turn.digits.items c.if-rest-eq0.true c.loop-turn.invariant
+    c.loop-turn.digits.items c.if-rest-eq0.true c.loop-turn.invariant
 
 pub returns : goal.returns
 returns c = digits_left-done c.loop-turn._turn (is_upper c.args.base) (base_number c.args.base) c.loop-turn.rest c.args.number c.loop-turn.digits.items
-  c.loop-turn-test.false c.loop-turn.invariant
+    c.loop-turn-test.false c.loop-turn.invariant

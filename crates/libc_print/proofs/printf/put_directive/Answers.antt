@@ -7,4 +7,4 @@ use Rattle.libc_print.proofs.printf.put_directive.Goals as goal
 pub returns-clause-exact : goal.returns-clause-exact
 returns-clause-exact c = λ io cells.
     puts_run (Ok tt) c.args.m.now io c.args.t.now c.args.out.now.items c.put_plain.new.out.items (left c.put_plain.new.args)
-      (put c.args.m.now.rows (directive_seen c.args.directive) (left c.args.args.now)) (c.in_ok-put_plain.ensures.exact c.args.m.now.rows)
+    (put c.args.m.now.rows (directive_seen c.args.directive) (left c.args.args.now)) (c.in_ok-put_plain.ensures.exact c.args.m.now.rows)

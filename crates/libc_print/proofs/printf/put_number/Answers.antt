@@ -13,7 +13,7 @@ returns-in-Err-clause-exact c =
     puts_refused c.in-Err.clause c.args.out.now.items c.args.out.now.items (left c.take_integer.new.args)
     (next_integer (length_seen c.args.directive.length) (is_signed_conversion c.args.directive.conversion) (left c.args.args.now))
     (λ n. field (integer_parts (flags_seen c.args.directive.flags) c.args.directive.conversion c.args.precision n.item)
-      (integer_field (flags_seen c.args.directive.flags) (width_seen c.args.width) c.args.precision) >>= (λ bytes. one bytes n.rest))
+    (integer_field (flags_seen c.args.directive.flags) (width_seen c.args.width) c.args.precision) >>= (λ bytes. one bytes n.rest))
     (e ∙ ap (λ b. next_integer (length_seen c.args.directive.length) b (left c.args.args.now)) c.is_signed.ensures)
 
 pub returns-in-Ok-clause-exact : goal.returns-in-Ok-clause-exact
@@ -24,12 +24,12 @@ returns-in-Ok-clause-exact c =
     (record { item = c.in-Ok.number; rest = left c.take_integer.new.args })
     (next_integer (length_seen c.args.directive.length) (is_signed_conversion c.args.directive.conversion) (left c.args.args.now))
     (λ n. field (integer_parts (flags_seen c.args.directive.flags) c.args.directive.conversion c.args.precision n.item)
-      (integer_field (flags_seen c.args.directive.flags) (width_seen c.args.width) c.args.precision) >>= (λ bytes. one bytes n.rest))
+    (integer_field (flags_seen c.args.directive.flags) (width_seen c.args.width) c.args.precision) >>= (λ bytes. one bytes n.rest))
     (e ∙ ap (λ b. next_integer (length_seen c.args.directive.length) b (left c.args.args.now)) c.is_signed.ensures)
     (puts_one c.put_integer.result c.args.out.now.items c.put_integer.new.out.items
     (field (integer_parts (flags_seen c.args.directive.flags) c.args.directive.conversion c.args.precision c.in-Ok.number)
-      (integer_field (flags_seen c.args.directive.flags) (width_seen c.args.width) c.args.precision))
+    (integer_field (flags_seen c.args.directive.flags) (width_seen c.args.width) c.args.precision))
     (left c.take_integer.new.args)
     (integer_opened c.put_integer.result c.args.out.now.items c.put_integer.new.out.items (flags_seen c.args.directive.flags) c.args.directive.conversion
-      c.args.precision c.in-Ok.number
+    c.args.precision c.in-Ok.number
     (integer_field (flags_seen c.args.directive.flags) (width_seen c.args.width) c.args.precision) (rw q at c.put_integer.ensures)))

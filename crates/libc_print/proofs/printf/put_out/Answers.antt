@@ -17,13 +17,13 @@ returns-in_err-check_output-clause-exact c =
     rw (p.1, p.2) (λ script within g.
     let past : length c.args.io.now.output + length c.args.bytes.now < 2 ^ 64 = omega (arith, within) in
     print_past c.args.m.now c.args.io.now c.args.t.now c.args.bytes.now script c.in_err-check_output.field-0.0 c.check_output.result g
-      c.in_err-check_output.was (c.check_output.ensures.past past))
+    c.in_err-check_output.was (c.check_output.ensures.past past))
 
 pub returns-clause-exact : goal.returns-clause-exact
 returns-clause-exact c = λ script within g.
     let value : to_z w128 (of_z w128 c.from.result) ≡ c.from.result = to_z-of_z w128 c.from.result (search rules) in
     subst (λ (z : ℤ). Answers (answers.Value (Int z)) c.add.new.self (store_of c.settle.new.m c.put.new.self)
-      (limited (run c.settle.new.m.rows (printing (script c.settle.new.m.rows)) (store_of c.args.m.now c.args.io.now)))) (sym (value ∙ c.from.ensures))
+    (limited (run c.settle.new.m.rows (printing (script c.settle.new.m.rows)) (store_of c.args.m.now c.args.io.now)))) (sym (value ∙ c.from.ensures))
     (print_gives c.args.m.now c.settle.new.m c.args.io.now c.put.new.self c.args.t.now c.add.new.self c.args.bytes.now script within
-      c.in_ok-check_output.ensures.within g
+    c.in_ok-check_output.ensures.within g
     c.in_ok-add.ensures.ok c.in_ok-put.ensures.ok c.settle.ensures.rows c.settle.ensures.store)

@@ -6,5 +6,5 @@ use Rattle.libc_print.proofs.strings.size_of.Goals as goal
 pub returns-in-Some-clause-low : goal.returns-in-Some-clause-low
 returns-in-Some-clause-low c =
     let end : c.in-Some.row.base + c.in-Some.row.size ≤ free_of c.map.result.now = row_ends c.map.result.now c.args.object c.in-Some.row c.in-Some.ensures.row
-      in
+    in
     omega (arith, c.in-Some.ensures.end)

@@ -6,4 +6,4 @@ use Rattle.libc_print.proofs.strings.zero_within.Given as goal
 
 abbrev pub invariant-loop-at : goal.invariant-loop-at
 invariant-loop-at l = more_by (l.at - l.from) (string_size (byte_at l.m l.object) (l.at-end - l.at) l.at) ≡ string_size (byte_at l.m l.object)
-  (l.at-end - l.from) l.from
+    (l.at-end - l.from) l.from

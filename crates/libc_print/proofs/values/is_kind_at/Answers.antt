@@ -7,7 +7,7 @@ pub returns-in-Some : goal.returns-in-Some
 returns-in-Some c =
     let h = c.in-Some.ensures in
     c.is_kind.ensures ∙ ap (same_kind c.args.kind)
-      (qual_ty c.in-Some.qual.now ∙ sym (type_at-there c.args.types.now c.args.at c.in-Some.qual.now h.lookup.3.0 h.lookup.1))
+    (qual_ty c.in-Some.qual.now ∙ sym (type_at-there c.args.types.now c.args.at c.in-Some.qual.now h.lookup.3.0 h.lookup.1))
 
 pub returns-in-None : goal.returns-in-None
 returns-in-None c =

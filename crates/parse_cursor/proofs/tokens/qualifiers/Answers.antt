@@ -15,7 +15,7 @@ loop-turn-preserved c =
           (one_more_word is_qualifier c.loop-turn.found c.in-Some.word c.args.tokens.now c.loop-turn.tokens c.take.new.self c.loop-turn.invariant.run allowed
           (is, c.take.ensures));
       read = subst (λ found. words is_qualifier c.args.tokens.now ≡ words_from is_qualifier (c.turns-turn-end.result - (c.loop-turn._turn + 1)) found
-        c.take.new.self)
+          c.take.new.self)
           (sym c.in_ok-push-in-Some.ensures.ok)
           (one_more (λ n. words_from is_qualifier n c.loop-turn.found c.loop-turn.tokens) _ c.loop-turn._turn c.loop-turn-test.true c.loop-turn.invariant.read
           ∙ words_more is_qualifier _ c.loop-turn.found c.in-Some.word c.loop-turn.tokens is allowed
@@ -27,7 +27,7 @@ returns-then-not-is_qualifier-clause-reads c =
     let other : is_qualifier c.in-Some.word ≡ false = grind (arith, c.is_qualifier.ensures, c.if-not-is_qualifier.true) in
     one_more (λ n. words_from is_qualifier n c.loop-turn.found c.loop-turn.tokens) _ c.loop-turn._turn c.loop-turn-test.true c.loop-turn.invariant.read
     ∙ words_stop is_qualifier _ c.loop-turn.found c.loop-turn.tokens
-      (other_word is_qualifier (kind c.loop-turn.tokens) c.in-Some.word (sym c.in-Some.ensures) other)
+    (other_word is_qualifier (kind c.loop-turn.tokens) c.in-Some.word (sym c.in-Some.ensures) other)
 
 pub returns-in-None-clause-reads : goal.returns-in-None-clause-reads
 returns-in-None-clause-reads c =

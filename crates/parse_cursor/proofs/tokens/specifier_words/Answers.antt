@@ -14,35 +14,35 @@ loop-turn-preserved c =
     record {
       run = subst (λ words. Words (allowed_in c.args.place) words c.args.tokens.now c.take.new.self) (sym c.in_ok-push-in-Some.ensures.ok)
           (one_more_word (allowed_in c.args.place) c.loop-turn.found c.in-Some.word c.args.tokens.now c.loop-turn.tokens c.take.new.self
-            c.loop-turn.invariant.run allowed
+          c.loop-turn.invariant.run allowed
           (is, c.take.ensures));
       read = subst (λ found. words (allowed_in c.args.place) c.args.tokens.now ≡ words_from (allowed_in c.args.place)
-        (c.turns-turn-end.result - (c.loop-turn._turn + 1)) found c.take.new.self)
+          (c.turns-turn-end.result - (c.loop-turn._turn + 1)) found c.take.new.self)
           (sym c.in_ok-push-in-Some.ensures.ok)
           (one_more (λ n. words_from (allowed_in c.args.place) n c.loop-turn.found c.loop-turn.tokens) _ c.loop-turn._turn c.loop-turn-test.true
-            c.loop-turn.invariant.read
+          c.loop-turn.invariant.read
           ∙ words_more (allowed_in c.args.place) _ c.loop-turn.found c.in-Some.word c.loop-turn.tokens is allowed
           ∙ ap (words_from (allowed_in c.args.place) (c.turns-turn-end.result - (c.loop-turn._turn + 1)) (c.loop-turn.found ++ c.in-Some.word ∷ []))
-            (sym c.take.ensures));
+          (sym c.take.ensures));
     }
 
 pub returns-then-not-is_specifier_word-clause-reads : goal.returns-then-not-is_specifier_word-clause-reads
 returns-then-not-is_specifier_word-clause-reads c =
     let other : (allowed_in c.args.place) c.in-Some.word ≡ false = grind (arith, c.is_specifier_word.ensures, c.if-not-is_specifier_word.true) in
     one_more (λ n. words_from (allowed_in c.args.place) n c.loop-turn.found c.loop-turn.tokens) _ c.loop-turn._turn c.loop-turn-test.true
-      c.loop-turn.invariant.read
+    c.loop-turn.invariant.read
     ∙ words_stop (allowed_in c.args.place) _ c.loop-turn.found c.loop-turn.tokens
-      (other_word (allowed_in c.args.place) (kind c.loop-turn.tokens) c.in-Some.word (sym c.in-Some.ensures) other)
+    (other_word (allowed_in c.args.place) (kind c.loop-turn.tokens) c.in-Some.word (sym c.in-Some.ensures) other)
 
 pub returns-in-None-clause-reads : goal.returns-in-None-clause-reads
 returns-in-None-clause-reads c =
     one_more (λ n. words_from (allowed_in c.args.place) n c.loop-turn.found c.loop-turn.tokens) _ c.loop-turn._turn c.loop-turn-test.true
-      c.loop-turn.invariant.read
+    c.loop-turn.invariant.read
     ∙ words_stop (allowed_in c.args.place) _ c.loop-turn.found c.loop-turn.tokens
-      (no_word (allowed_in c.args.place) (kind c.loop-turn.tokens) (sym c.in-None.ensures))
+    (no_word (allowed_in c.args.place) (kind c.loop-turn.tokens) (sym c.in-None.ensures))
 
 pub returns-clause-reads : goal.returns-clause-reads
 returns-clause-reads c = λ _.
     no_more (λ n. words_from (allowed_in c.args.place) n c.loop-turn.found c.loop-turn.tokens) _ c.loop-turn._turn c.loop-turn-test.false
-      c.loop-turn.invariant.read
+    c.loop-turn.invariant.read
     ∙ words_out (allowed_in c.args.place) c.loop-turn.found c.loop-turn.tokens

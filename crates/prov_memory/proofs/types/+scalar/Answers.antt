@@ -18,7 +18,7 @@ part_at-loop-placed-init t c = parts_first c.args.parts.now c.args.at spans.None
 pub part_at-loop-placed-preserved : goal.part_at-loop-placed-preserved
 part_at-loop-placed-preserved t c =
     parts_next c.args.parts.now c.args.at c.loop-placed.placed-index c.placed-item.result c.loop-placed.found c.placed_at.result c.and-found.result
-      c.loop-placed-test.true c.placed-item.is c.loop-placed.invariant c.placed_at.ensures c.and-found.ensures
+    c.loop-placed-test.true c.placed-item.is c.loop-placed.invariant c.placed_at.ensures c.and-found.ensures
 
 pub part_at-returns : goal.part_at-returns
 part_at-returns t c = parts_end c.args.parts.now c.args.at c.loop-placed.placed-index c.loop-placed.found (omega arith) c.loop-placed.invariant

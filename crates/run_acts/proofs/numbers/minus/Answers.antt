@@ -17,7 +17,7 @@ returns c = λ m rows s.
     let converted : to_z w128 (of_z w128 c.convert.result) ≡ c.convert.result = to_z-of_z w128 c.convert.result (search rules) in
     let value : to_z w128 (of_z w128 c.in_ok-value.value) ≡ c.in_ok-value.value = to_z-of_z w128 c.in_ok-value.value (search rules) in
     let is : Ok c.in_ok-value.value ≡ negated k (conv k c.args.number) =
-          c.in_ok-value.ensures ∙ ap (negated k) (converted ∙ c.convert.ensures ∙ ap (conv k) number) in
+    c.in_ok-value.ensures ∙ ap (negated k) (converted ∙ c.convert.ensures ∙ ap (conv k) number) in
     ap (λ (r : Result ℤ Clause). run rows (int_outcome r) s) (sym is) ∙ ap (λ (z : ℤ). Done (Int z) [] s) (sym value)
 
 pub returns-in_err-value : goal.returns-in_err-value
@@ -27,5 +27,5 @@ returns-in_err-value c =
     let number : to_z w128 (of_z w128 c.args.number) ≡ c.args.number = to_z-of_z w128 c.args.number (search rules) in
     let converted : to_z w128 (of_z w128 c.convert.result) ≡ c.convert.result = to_z-of_z w128 c.convert.result (search rules) in
     let is : Err c.in_err-value.field-0.0 ≡ negated k (conv k c.args.number) =
-          c.in_err-value.ensures ∙ ap (negated k) (converted ∙ c.convert.ensures ∙ ap (conv k) number) in
+    c.in_err-value.ensures ∙ ap (negated k) (converted ∙ c.convert.ensures ∙ ap (conv k) number) in
     rw (e.1, e.2) (λ m rows s. ap (λ (r : Result ℤ Clause). run rows (int_outcome r) s) (sym is))

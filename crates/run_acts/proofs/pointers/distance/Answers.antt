@@ -22,7 +22,7 @@ returns c = λ made other io.
     let same : to_z w128 (of_z w128 c.in_ok-count.count) ≡ c.in_ok-count.count = to_z-of_z w128 c.in_ok-count.count (search rules) in
     done_give old.rows (act old.rows) (λ (u : Unit {0}). Int n) (store_of old io) (store_of new io) tt c.diff.new.t
     (under old.rows new.rows act (store_of old io) (Done tt c.diff.new.t (store_of new io)) (rows_rest old new c.diff.ensures.rest)
-      (c.in_ok-count.ensures.exact made other io))
+    (c.in_ok-count.ensures.exact made other io))
     ∙ ap (λ (z : ℤ). Done (Int z) c.diff.new.t (store_of new io)) (sym (same ∙ c.in_ok-count.ensures.value))
 
 pub returns-in_err-count : goal.returns-in_err-count
@@ -37,4 +37,4 @@ returns-in_err-count c =
     rw (e.1, e.2) (λ made other io.
     raised_give old.rows (act old.rows) (λ (u : Unit {0}). Int n) (store_of old io) c.in_err-count.field-0.0
     (under old.rows new.rows act (store_of old io) (Raised c.in_err-count.field-0.0) (rows_rest old new c.diff.ensures.rest)
-      (c.in_err-count.ensures.exact made other io)))
+    (c.in_err-count.ensures.exact made other io)))

@@ -14,7 +14,7 @@ returns-then-is_nowhere c = λ made io.
     let old = c.args.m.now in
     let on : c.is_nowhere.result ≡ true = search rules in
     not_required old.rows _ InvalidPointer (nodes.shifted old.rows (pointer_at c.args.pointer) (pos c.args.offset)) (store_of old io)
-      (sym c.is_nowhere.ensures ∙ on)
+    (sym c.is_nowhere.ensures ∙ on)
 
 pub returns : goal.returns
 returns c = λ made io.
@@ -22,6 +22,6 @@ returns c = λ made io.
     let same : to_z w128 (of_z w128 c.from.result) ≡ c.from.result = to_z-of_z w128 c.from.result (search rules) in
     let off : c.is_nowhere.result ≡ false = search rules in
     required old.rows _ InvalidPointer (nodes.shifted old.rows (pointer_at c.args.pointer) (pos c.args.offset)) (store_of old io)
-      (sym c.is_nowhere.ensures ∙ off)
+    (sym c.is_nowhere.ensures ∙ off)
     ∙ ap (λ (z : ℤ). run old.rows (nodes.shifted old.rows (pointer_at c.args.pointer) z) (store_of old io)) (sym (same ∙ c.from.ensures))
     ∙ c.shifted.ensures made io

@@ -21,7 +21,7 @@ returns c = λ made io.
     let end = Done (pos c.in_ok-addr.addr) c.shift.new.t (store_of new io) in
     done_give old.rows (act old.rows) (λ (z : ℤ). Ptr (unsigned_abs z) prov) (store_of old io) (store_of new io) (pos c.in_ok-addr.addr) c.shift.new.t
     (under old.rows new.rows act (store_of old io) end (rows_rest old new c.shift.ensures.rest)
-      (subst (λ (z : ℤ). run new.rows (shift new.rows c.args.pointer.addr prov z) (store_of old io) ≡ end) same (c.in_ok-addr.ensures.exact made io)))
+    (subst (λ (z : ℤ). run new.rows (shift new.rows c.args.pointer.addr prov z) (store_of old io) ≡ end) same (c.in_ok-addr.ensures.exact made io)))
 
 pub returns-in_err-addr : goal.returns-in_err-addr
 returns-in_err-addr c =
@@ -34,5 +34,5 @@ returns-in_err-addr c =
     rw (p.1, p.2) (λ made io.
     raised_give old.rows (act old.rows) (λ (z : ℤ). Ptr (unsigned_abs z) prov) (store_of old io) c.in_err-addr.field-0.0
     (under old.rows new.rows act (store_of old io) (Raised c.in_err-addr.field-0.0) (rows_rest old new c.shift.ensures.rest)
-      (subst (λ (z : ℤ). run new.rows (shift new.rows c.args.pointer.addr prov z) (store_of old io) ≡ Raised c.in_err-addr.field-0.0) same
-      (c.in_err-addr.ensures.exact made io))))
+    (subst (λ (z : ℤ). run new.rows (shift new.rows c.args.pointer.addr prov z) (store_of old io) ≡ Raised c.in_err-addr.field-0.0) same
+    (c.in_err-addr.ensures.exact made io))))

@@ -11,7 +11,7 @@ returns-clause-exact c = λ has io.
     let old = c.args.m.now in
     let p = c.args.place in
     done_give old.rows (load_func old.rows (type_of c.args.ty.now) p.addr p.prov) Fun (store_of old io) (store_of c.load_func.new.self io) c.in_ok-addr.addr
-      c.load_func.new.t (c.in_ok-addr.ensures.exact has io)
+    c.load_func.new.t (c.in_ok-addr.ensures.exact has io)
 
 pub returns-in_err-addr-clause-raises : goal.returns-in_err-addr-clause-raises
 returns-in_err-addr-clause-raises c =
@@ -19,4 +19,4 @@ returns-in_err-addr-clause-raises c =
     let old = c.args.m.now in
     let p = c.args.place in
     rw (e.1, e.2) (λ io. raised_give old.rows (load_func old.rows (type_of c.args.ty.now) p.addr p.prov) Fun (store_of old io) c.in_err-addr.field-0.0
-      (c.in_err-addr.ensures.raises io))
+    (c.in_err-addr.ensures.raises io))

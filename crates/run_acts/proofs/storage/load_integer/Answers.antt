@@ -15,7 +15,7 @@ returns-clause-exact c = λ has io.
     let p = c.args.place in
     let same : to_z w128 (of_z w128 c.in_ok-number.number) ≡ c.in_ok-number.number = to_z-of_z w128 c.in_ok-number.number (search rules) in
     done_give old.rows (load_int old.rows c.args.kind p.addr p.prov) Int (store_of old io) (store_of c.load_int.new.self io) c.in_ok-number.number
-      c.load_int.new.t (c.in_ok-number.ensures.exact has io)
+    c.load_int.new.t (c.in_ok-number.ensures.exact has io)
     ∙ ap (λ (z : ℤ). Done (Int z) c.load_int.new.t (store_of c.load_int.new.self io)) (sym same)
 
 pub returns-in_err-number-clause-raises : goal.returns-in_err-number-clause-raises
@@ -24,4 +24,4 @@ returns-in_err-number-clause-raises c =
     let old = c.args.m.now in
     let p = c.args.place in
     rw (e.1, e.2) (λ io. raised_give old.rows (load_int old.rows c.args.kind p.addr p.prov) Int (store_of old io) c.in_err-number.field-0.0
-      (c.in_err-number.ensures.raises io))
+    (c.in_err-number.ensures.raises io))

@@ -10,11 +10,11 @@ returns-clause-exact c =
     let new = c.load_ptr.new.self in
     let p = c.args.place in
     pointer_given c.load_ptr.result (HasCell old p.prov) (AreKnown old) old.rows (load_ptr old.rows (type_of c.args.ty.now) c.args.who 8 p.addr p.prov)
-      (store_of old) new c.load_ptr.new.t (store_of new) c.load_ptr.ensures.exact
+    (store_of old) new c.load_ptr.new.t (store_of new) c.load_ptr.ensures.exact
 
 pub returns-clause-raises : goal.returns-clause-raises
 returns-clause-raises c =
     let old = c.args.m.now in
     let p = c.args.place in
     fault_given c.load_ptr.result old.rows (load_ptr old.rows (type_of c.args.ty.now) c.args.who 8 p.addr p.prov) as_pointer
-      (store_of old) c.load_ptr.ensures.raises
+    (store_of old) c.load_ptr.ensures.raises

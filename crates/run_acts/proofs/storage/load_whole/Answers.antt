@@ -16,7 +16,7 @@ returns-clause-exact c = λ has tagged io.
     let p = c.args.place in
     let b = c.in_ok-block.block in
     done_give old.rows (load_block old.rows c.args.size c.args.align p.addr p.prov) (λ (bs : List TaggedByte). Whole bs (Some p.addr)) (store_of old io)
-      (store_of new io) (seen new b.cells) c.load_block.new.t (c.in_ok-block.ensures.exact has tagged io)
+    (store_of new io) (seen new b.cells) c.load_block.new.t (c.in_ok-block.ensures.exact has tagged io)
     ∙ ap (λ (o : Option ℕ). Done (Whole (seen new b.cells) o) c.load_block.new.t (store_of new io)) (sym c.in_ok-block.ensures.source)
 
 pub returns-in_err-block-clause-raises : goal.returns-in_err-block-clause-raises
@@ -25,4 +25,4 @@ returns-in_err-block-clause-raises c =
     let old = c.args.m.now in
     let p = c.args.place in
     rw (e.1, e.2) (raise_given c.in_err-block.field-0.0 old.rows (load_block old.rows c.args.size c.args.align p.addr p.prov)
-      (λ (bs : List TaggedByte). Whole bs (Some p.addr)) (store_of old) c.in_err-block.ensures.raises)
+    (λ (bs : List TaggedByte). Whole bs (Some p.addr)) (store_of old) c.in_err-block.ensures.raises)

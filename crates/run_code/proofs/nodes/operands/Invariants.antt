@@ -10,4 +10,4 @@ abbrev pub invariant-loop-child : goal.invariant-loop-child
 invariant-loop-child l =
     (firsts : List ℕ) → AreNoted firsts l.nodes → AreBelow l.nodes l.number (suc l.number) (out-Typed l.tree).children
     → Walks firsts l.nodes l.number l.at (drop l._child-index l._child-items) l.operands.items
-      (operands_from firsts (suc l.number) (out-Typed l.tree).children)
+    (operands_from firsts (suc l.number) (out-Typed l.tree).children)

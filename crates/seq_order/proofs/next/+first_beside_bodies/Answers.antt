@@ -8,7 +8,7 @@ use Rattle.seq_order.proofs.next.+first_beside_bodies.Goals as goal
 pub loop-i-preserved : goal.loop-i-preserved
 loop-i-preserved t c = λ p h.
     advance_at (is_free_beside (tree_of c.args.root.now) (taken_in c.args.taken.now) (done_in c.args.done.now)) (taken_in c.args.taken.now) c.args.k
-      (tree_of c.args.tree.now)
+    (tree_of c.args.tree.now)
     c.as_slice-operand-items.result.now c.loop-i.i c.loop-i.number c.class_of-class.result h (c.loop-i.invariant p h) c.class_of-class.ensures
     c.operand-item.result c.chosen-choice.result c.chosen-choice.ensures c.loop-i-test.true c.operand-item.is c.first_beside_bodies.result
     c.goes-evaluated.result c.goes-evaluated.ensures (λ r. c.first_beside_bodies.ensures p r)
@@ -17,7 +17,7 @@ loop-i-preserved t c = λ p h.
 pub returns-in-Err : goal.returns-in-Err
 returns-in-Err t c = λ p h.
     halt_at (is_free_beside (tree_of c.args.root.now) (taken_in c.args.taken.now) (done_in c.args.done.now)) (taken_in c.args.taken.now) c.args.k
-      (tree_of c.args.tree.now)
+    (tree_of c.args.tree.now)
     c.as_slice-operand-items.result.now c.loop-i.i c.loop-i.number c.class_of-class.result h (c.loop-i.invariant p h) c.class_of-class.ensures
     c.operand-item.result c.chosen-choice.result c.chosen-choice.ensures c.loop-i-test.true c.operand-item.is c.first_beside_bodies.result
     c.goes-evaluated.result c.goes-evaluated.ensures (λ r. c.first_beside_bodies.ensures p r)
@@ -26,13 +26,13 @@ returns-in-Err t c = λ p h.
 pub returns-in-Some : goal.returns-in-Some
 returns-in-Some t c = λ p h.
     finish_some_at (is_free_beside (tree_of c.args.root.now) (taken_in c.args.taken.now) (done_in c.args.done.now)) (taken_in c.args.taken.now) c.args.k
-      (tree_of c.args.tree.now)
+    (tree_of c.args.tree.now)
     c.as_slice-operand-items.result.now c.loop-i.i c.loop-i.number c.class_of-class.result h (c.loop-i.invariant p h) c.class_of-class.ensures
     c.args.evaluated c.in-Some.event c.if-not-evaluated.false c.loop-i-test.false (sym c.in-Some.is ∙ c.own_beside.ensures p)
 
 pub returns-in-None : goal.returns-in-None
 returns-in-None t c = λ p h.
     finish_none_at (is_free_beside (tree_of c.args.root.now) (taken_in c.args.taken.now) (done_in c.args.done.now)) (taken_in c.args.taken.now) c.args.k
-      (tree_of c.args.tree.now)
+    (tree_of c.args.tree.now)
     c.as_slice-operand-items.result.now c.loop-i.i c.loop-i.number c.class_of-class.result h (c.loop-i.invariant p h) c.class_of-class.ensures
     c.args.evaluated c.if-not-evaluated.false c.loop-i-test.false (sym c.in-None.is ∙ c.own_beside.ensures p)

@@ -8,5 +8,5 @@ use Rattle.seq_order.proofs.next.+first_beside_bodies.Given as goal
 abbrev pub invariant-loop-i : goal.invariant-loop-i
 invariant-loop-i l =
     size (tree_of l.root) < 2 ^ 32 → l.k + size (tree_of l.tree) < 2 ^ 32 →
-      Walking (is_free_beside (tree_of l.root) (taken_in l.taken) (done_in l.done)) (taken_in l.taken) l.k (tree_of l.tree) l.i l.number
-      (trees_of (drop l.i l.operand-items))
+    Walking (is_free_beside (tree_of l.root) (taken_in l.taken) (done_in l.done)) (taken_in l.taken) l.k (tree_of l.tree) l.i l.number
+    (trees_of (drop l.i l.operand-items))

@@ -8,4 +8,4 @@ use Rattle.seq_order.proofs.next.+first_left.Given as goal
 abbrev pub invariant-loop-i : goal.invariant-loop-i
 invariant-loop-i l =
     l.k + size (tree_of l.tree) < 2 ^ 32 → Walking (is_left (done_in l.done)) (taken_in l.taken) l.k (tree_of l.tree) l.i l.number
-      (trees_of (drop l.i l.operand-items))
+    (trees_of (drop l.i l.operand-items))

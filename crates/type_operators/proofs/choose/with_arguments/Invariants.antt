@@ -11,6 +11,6 @@ use Rattle.type_operators.proofs.choose.with_arguments.Given as goal
 abbrev pub invariant-loop-operand : goal.invariant-loop-operand
 invariant-loop-operand l =
     (joined l.children (arguments (layouts l.tags) l.variadic (params_of (map qualified_of l.left)) (map expression_of (into_iter_items l.operand-iterator)))
-      ≡ operands (layouts l.tags) (term_of l.fn.designator) l.variadic (params_of (map qualified_of l.params))
-      (map expression_of (into_iter_items l.initial.operand-iterator)))
+    ≡ operands (layouts l.tags) (term_of l.fn.designator) l.variadic (params_of (map qualified_of l.params))
+    (map expression_of (into_iter_items l.initial.operand-iterator)))
     × (into_iter_len l.operand-iterator ≡ length (into_iter_items l.operand-iterator))

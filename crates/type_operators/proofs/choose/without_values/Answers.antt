@@ -24,7 +24,7 @@ returns-in_err-discarded c =
     let at = c.loop-operand in
     let all = ap (λ z. without_values (layouts c.args.tags.now) (map expression_of z)) c.into_iter-operand-iterator.ensures.into_iter_gives.0 in
     let h = drop_refused (layouts c.args.tags.now) at.children _ c.in-Some.operand _ _ _ c.in_err-discarded.field-0.0 at.invariant.0 c.in-Some.ensures.steps.0
-          all c.in_err-discarded.ensures in search rules
+    all c.in_err-discarded.ensures in search rules
 
 pub returns : goal.returns
 returns c =

@@ -10,5 +10,5 @@ use Rattle.type_operators.proofs.choose.without_values.Given as goal
 abbrev pub invariant-loop-operand : goal.invariant-loop-operand
 invariant-loop-operand l =
     (joined l.children (without_values (layouts l.tags) (map expression_of (into_iter_items l.operand-iterator))) ≡ without_values (layouts l.tags)
-      (map expression_of (into_iter_items l.initial.operand-iterator)))
+    (map expression_of (into_iter_items l.initial.operand-iterator)))
     × (into_iter_len l.operand-iterator ≡ length (into_iter_items l.operand-iterator))

@@ -14,5 +14,5 @@ worth-returns-then-is_comma g t c =
 pub worth-returns-else-is_comma : goal.worth-returns-else-is_comma
 worth-returns-else-is_comma g t c =
     operand_answers (g.O.Objects.places c.args.objects.now) c.args.tree.now c.as_slice-else-is_comma.result.now c.of_operands.result
-      c.as_slice-else-is_comma.ensures
+    c.as_slice-else-is_comma.ensures
     (sym c.never_constant.ensures ∙ c.if-never_constant.false) (sym c.is_comma.ensures ∙ c.if-is_comma.false) c.of_operands.ensures

@@ -9,9 +9,9 @@ returns-in_default c =
 pub returns-then-addr-row : goal.returns-then-addr-row
 returns-then-addr-row c =
     sym (past_in c.args.addr c.args.self.now c.in-Some.row c.last_below.ensures.apart c.last_below.ensures.sizes
-      (sym c.last_below.ensures.value ∙ c.in-Some.is) c.if-addr-row.true)
+    (sym c.last_below.ensures.value ∙ c.in-Some.is) c.if-addr-row.true)
 
 pub returns-else-addr-row : goal.returns-else-addr-row
 returns-else-addr-row c =
     sym (past_out c.args.addr c.args.self.now c.in-Some.row c.last_below.ensures.apart c.last_below.ensures.sizes
-      (sym c.last_below.ensures.value ∙ c.in-Some.is) c.if-addr-row.false)
+    (sym c.last_below.ensures.value ∙ c.in-Some.is) c.if-addr-row.false)

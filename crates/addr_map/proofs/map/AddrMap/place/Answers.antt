@@ -9,7 +9,7 @@ insert-requires-clause-lawful c =
     let room = c.requires.room in
     let e = c.next_base-base.ensures in
     lawful_placed (row_at c.args.name c.next_base-base.result c.args.size c.args.align) c.requires.some c.requires.power e.aligned
-      (omega (arith, free_floor c.args.self.now, e.behind)) (omega (arith, room, e.near))
+    (omega (arith, free_floor c.args.self.now, e.behind)) (omega (arith, room, e.near))
 
 pub insert-requires-clause-free : goal.insert-requires-clause-free
 insert-requires-clause-free c =

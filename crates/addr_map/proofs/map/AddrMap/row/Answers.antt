@@ -12,34 +12,34 @@ pub returns-in_err-base-clause-row : goal.returns-in_err-base-clause-row
 returns-in_err-base-clause-row c =
     let e : get object_cmp c.self.inside.bases c.args.name ≡ None = sym (c.copied.ensures ∙ c.get.ensures.value) ∙ c.in_err-base.was in
     rw (← c.self.view_is) (c.from_residual.ensures ∙ sym
-      (none_found c.self.inside.bases c.args.name (rows_in c.self.inside.rows.entries) e c.self.invariant.held))
+    (none_found c.self.inside.bases c.args.name (rows_in c.self.inside.rows.entries) e c.self.invariant.held))
 
 pub returns-in_err-row-clause-row : goal.returns-in_err-row-clause-row
 returns-in_err-row-clause-row c =
     let e : get object_cmp c.self.inside.bases c.args.name ≡ Some c.in_ok-base.base = sym (c.copied.ensures ∙ c.get.ensures.value) ∙ c.in_ok-base.was in
     let f : lookup (is_at (nat_cmp c.in_ok-base.base)) c.self.inside.rows.entries ≡ None = sym (c.copied-2.ensures ∙ c.get-2.ensures.value) ∙ c.in_err-row.was
-      in
+    in
     let g = found_is c.self.inside.bases c.args.name c.in_ok-base.base (rows_in c.self.inside.rows.entries) e c.self.invariant.apart c.self.invariant.held in
     rw (← c.self.view_is) (c.from_residual-in_err-row.ensures ∙ sym
-      (g ∙ ap (named c.args.name) (sym (lookup_is c.self.inside.rows.entries c.in_ok-base.base c.self.invariant.keyed) ∙ f)))
+    (g ∙ ap (named c.args.name) (sym (lookup_is c.self.inside.rows.entries c.in_ok-base.base c.self.invariant.keyed) ∙ f)))
 
 pub returns-then-eq-clause-row : goal.returns-then-eq-clause-row
 returns-then-eq-clause-row c =
     let e : get object_cmp c.self.inside.bases c.args.name ≡ Some c.in_ok-base.base = sym (c.copied.ensures ∙ c.get.ensures.value) ∙ c.in_ok-base.was in
     let f : lookup (is_at (nat_cmp c.in_ok-base.base)) c.self.inside.rows.entries ≡ Some c.in_ok-row.row =
-          sym (c.copied-2.ensures ∙ c.get-2.ensures.value) ∙ c.in_ok-row.was in
+    sym (c.copied-2.ensures ∙ c.get-2.ensures.value) ∙ c.in_ok-row.was in
     let g = found_is c.self.inside.bases c.args.name c.in_ok-base.base (rows_in c.self.inside.rows.entries) e c.self.invariant.apart c.self.invariant.held in
     let same : c.eq.result ≡ true → c.in_ok-row.row.name ≡ c.args.name = search rules in
     rw (← c.self.view_is) (sym (g ∙ ap (named c.args.name) (sym (lookup_is c.self.inside.rows.entries c.in_ok-base.base c.self.invariant.keyed) ∙ f) ∙
-      named_same c.args.name c.in_ok-row.row (same c.if-eq.true)))
+    named_same c.args.name c.in_ok-row.row (same c.if-eq.true)))
 
 pub returns-else-eq-clause-row : goal.returns-else-eq-clause-row
 returns-else-eq-clause-row c =
     let e : get object_cmp c.self.inside.bases c.args.name ≡ Some c.in_ok-base.base = sym (c.copied.ensures ∙ c.get.ensures.value) ∙ c.in_ok-base.was in
     let f : lookup (is_at (nat_cmp c.in_ok-base.base)) c.self.inside.rows.entries ≡ Some c.in_ok-row.row =
-          sym (c.copied-2.ensures ∙ c.get-2.ensures.value) ∙ c.in_ok-row.was in
+    sym (c.copied-2.ensures ∙ c.get-2.ensures.value) ∙ c.in_ok-row.was in
     let g = found_is c.self.inside.bases c.args.name c.in_ok-base.base (rows_in c.self.inside.rows.entries) e c.self.invariant.apart c.self.invariant.held in
     let same : c.in_ok-row.row.name ≡ c.args.name → c.eq.result ≡ true = search rules in
     let off : c.eq.result ≡ false = c.if-eq.false in
     rw (← c.self.view_is) (sym (g ∙ ap (named c.args.name) (sym (lookup_is c.self.inside.rows.entries c.in_ok-base.base c.self.invariant.keyed) ∙ f) ∙
-      named_other c.args.name c.in_ok-row.row (λ n. let on : c.eq.result ≡ true = same n in cc)))
+    named_other c.args.name c.in_ok-row.row (λ n. let on : c.eq.result ≡ true = same n in cc)))

@@ -17,26 +17,26 @@ returns-in-None-clause-settled c =
 pub returns-in-Some-Some-clause-answer : goal.returns-in-Some-Some-clause-answer
 returns-in-Some-Some-clause-answer c =
     let e : cell_of c.self.inside.cells.entries c.args.id ≡ Some (Some c.in-Some-Some.kept) =
-          sym (c.copied.ensures ∙ c.get.ensures.value) ∙ c.in-Some-Some.is ∙ ap Some c.in-Some-Some.field-0-is in
+    sym (c.copied.ensures ∙ c.get.ensures.value) ∙ c.in-Some-Some.is ∙ ap Some c.in-Some-Some.field-0-is in
     let s : c.eq.result ≡ same_object c.in-Some-Some.kept c.args.keep = same_by c.eq.result c.in-Some-Some.kept c.args.keep (search rules) (search rules) in
     rw (← c.self.view_is) (answer_if c.eq.result c.self.inside.cells.entries c.args.id c.args.keep c.in-Some-Some.kept e s)
 
 pub returns-in-Some-Some-clause-settled : goal.returns-in-Some-Some-clause-settled
 returns-in-Some-Some-clause-settled c =
     let e : cell_of c.self.inside.cells.entries c.args.id ≡ Some (Some c.in-Some-Some.kept) =
-          sym (c.copied.ensures ∙ c.get.ensures.value) ∙ c.in-Some-Some.is ∙ ap Some c.in-Some-Some.field-0-is in
+    sym (c.copied.ensures ∙ c.get.ensures.value) ∙ c.in-Some-Some.is ∙ ap Some c.in-Some-Some.field-0-is in
     let s : c.eq.result ≡ same_object c.in-Some-Some.kept c.args.keep = same_by c.eq.result c.in-Some-Some.kept c.args.keep (search rules) (search rules) in
     rw (← c.self.view_is) (settles_if c.eq.result c.self.inside.cells.entries c.args.id c.args.keep c.in-Some-Some.kept e s)
 
 pub returns-in-Some-None-clause-answer : goal.returns-in-Some-None-clause-answer
 returns-in-Some-None-clause-answer c =
     let e : cell_of c.self.inside.cells.entries c.args.id ≡ Some None =
-          sym (c.copied.ensures ∙ c.get.ensures.value) ∙ c.in-Some-None.is ∙ ap Some c.in-Some-None.field-0-is in
+    sym (c.copied.ensures ∙ c.get.ensures.value) ∙ c.in-Some-None.is ∙ ap Some c.in-Some-None.field-0-is in
     rw (← c.self.view_is, kept_in_is c.self.inside.cells.entries c.args.id, e) refl
 
 pub returns-in-Some-None-clause-settled : goal.returns-in-Some-None-clause-settled
 returns-in-Some-None-clause-settled c =
     let e : cell_of c.self.inside.cells.entries c.args.id ≡ Some None =
-          sym (c.copied.ensures ∙ c.get.ensures.value) ∙ c.in-Some-None.is ∙ ap Some c.in-Some-None.field-0-is in
+    sym (c.copied.ensures ∙ c.get.ensures.value) ∙ c.in-Some-None.is ∙ ap Some c.in-Some-None.field-0-is in
     rw (← c.self.view_is) (settles c.self.inside.cells.entries c.insert.new.self.entries c.args.id c.args.keep (ap is_some e)
-      (ok_of c.insert.result _ _ c.insert.ensures.updates c.insert.ensures.absent (some_not_none _ None e)).0)
+    (ok_of c.insert.result _ _ c.insert.ensures.updates c.insert.ensures.absent (some_not_none _ None e)).0)

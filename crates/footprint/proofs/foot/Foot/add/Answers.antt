@@ -8,4 +8,4 @@ pub returns-in_ok-insert-in-Narrow-clause-added : goal.returns-in_ok-insert-in-N
 returns-in_ok-insert-in-Narrow-clause-added c =
     let f = c.args.self.now in
     subst (λ (item : Item). (i : Item) → holds (record f { narrows = c.insert-in-Narrow.new.self }) i ≡ (holds f i || stands_for item i)) (sym c.in-Narrow.is)
-      (narrow_added f c.insert-in-Narrow.new.self c.in-Narrow.id c.in-Narrow.keep c.in_ok-insert-in-Narrow.ensures.updates.0)
+    (narrow_added f c.insert-in-Narrow.new.self c.in-Narrow.id c.in-Narrow.keep c.in_ok-insert-in-Narrow.ensures.updates.0)

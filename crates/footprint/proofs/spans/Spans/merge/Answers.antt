@@ -6,4 +6,4 @@ returns c = λ x i. merge_end c.loop-key.key-iterator x i _ _ c.in-None.ensures.
 
 pub loop-key-preserved : goal.loop-key-preserved
 loop-key-preserved c = λ x i. merge_turn c.loop-key.key-iterator c.next.new.self (c.in-Some.key.now, c.in-Some.end.now) x i _ _ _ c.in-Some.ensures.steps
-  (c.in_ok-add.ensures.added x i) (c.loop-key.invariant x i)
+    (c.in_ok-add.ensures.added x i) (c.loop-key.invariant x i)

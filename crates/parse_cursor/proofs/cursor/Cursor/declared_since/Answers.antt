@@ -14,7 +14,7 @@ returns c = record {
       ∙ ap (λ v. drop c.args.count v.names) c.self.view_is;
   within =
       let all = within_since c.self.inside.tokens.now c.self.inside.at c.self.inside.spelled.items c.self.inside.scope c.self.inside.prototype.items
-            c.args.count c.self.invariant in
+      c.args.count c.self.invariant in
       subst (All (IsWithin c.args.self.now.tokens)) (sym (c.in_ok-found.ensures ∙ ap (map (λ (x : Named). x.declared)) c.since.ensures))
       (subst (λ v. All (IsWithin v.tokens) (map (λ (x : Named). x.declared) (drop c.args.count c.self.inside.scope.names))) c.self.view_is all);
   memory = tt;

@@ -10,5 +10,5 @@ returns-then-at-len c = λ h.
     c.is_typedef.ensures
     ∙ ap (is_typedef_in c.self.inside.scope) (c.index.ensures ∙ get_or_default_zero c.self.inside.spelled.items c.args.at c.index.result.now within)
     ∙ same_typedef c.self.inside.tokens.now c.self.inside.at c.self.inside.spelled.items c.self.inside.scope c.self.inside.prototype.items c.args.at
-      c.self.invariant within
+    c.self.invariant within
     ∙ ap (names_typedef c.args.at) c.self.view_is

@@ -26,7 +26,7 @@ loop-k-preserved c =
     let kept : IsWithin c.args.self.now.tokens c.index-declared.result.now =
     subst (λ t. IsWithin t c.index-declared.result.now) text
     (subst (IsWithin c.self-in-loop-k.inside.tokens.now) (sym c.index-declared.ensures)
-      (c.self-in-loop-k.invariant.kept c.loop-k.k c.index-declared.result.now below)) in
+    (c.self-in-loop-k.invariant.kept c.loop-k.k c.index-declared.result.now below)) in
     one_more_parameter c.args.self.now.prototype c.args.self.now c.loop-k.self c.declare.new.self c.loop-k.k c.index-declared.result.now
-      c.self-in-loop-k.inside.prototype.items
+    c.self-in-loop-k.inside.prototype.items
     (now ∙ same) refl below c.index-declared.ensures kept c.loop-k.invariant c.in_ok-declare.ensures.ok

@@ -6,5 +6,5 @@ use Rattle.parse_declarators.proofs.nested.Declarators.enumerators.Given as goal
 
 abbrev pub invariant-loop-turn : goal.invariant-loop-turn
 invariant-loop-turn g l = enumerators_from (expr l.self.depth) (declarator l.self.depth) (specs l.self.depth)
-  (turns l.fn.tokens) [] l.fn.tokens ≡ enumerators_from (expr l.self.depth) (declarator l.self.depth) (specs l.self.depth)
-  (l._turn-end - l._turn) l.found l.tokens
+    (turns l.fn.tokens) [] l.fn.tokens ≡ enumerators_from (expr l.self.depth) (declarator l.self.depth) (specs l.self.depth)
+    (l._turn-end - l._turn) l.found l.tokens

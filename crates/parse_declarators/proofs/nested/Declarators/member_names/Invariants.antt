@@ -6,4 +6,4 @@ use Rattle.parse_declarators.proofs.nested.Declarators.member_names.Given as goa
 
 abbrev pub invariant-loop-turn : goal.invariant-loop-turn
 invariant-loop-turn g l = names_from (expr l.self.depth) (declarator l.self.depth) (specs l.self.depth) (turns l.fn.tokens) [] l.fn.tokens ≡ names_from
-  (expr l.self.depth) (declarator l.self.depth) (specs l.self.depth) (l._turn-end - l._turn) l.found l.tokens
+    (expr l.self.depth) (declarator l.self.depth) (specs l.self.depth) (l._turn-end - l._turn) l.found l.tokens

@@ -5,4 +5,4 @@ use Rattle.parse_expressions.proofs.nested.Expressions.commas.Given as goal
 
 abbrev pub invariant-loop-turn : goal.invariant-loop-turn
 invariant-loop-turn g l = commas (expr l.self.depth) (declarator l.self.depth) (specs l.self.depth) l.at l.fn.first l.fn.tokens ≡ commas_from
-  (expr l.self.depth) (declarator l.self.depth) (specs l.self.depth) l.at (l._turn-end - l._turn) l.found l.tokens
+    (expr l.self.depth) (declarator l.self.depth) (specs l.self.depth) l.at (l._turn-end - l._turn) l.found l.tokens

@@ -5,4 +5,4 @@ use Rattle.parse_expressions.proofs.nested.Expressions.posts.Given as goal
 
 abbrev pub invariant-loop-turn : goal.invariant-loop-turn
 invariant-loop-turn g l = posts (expr l.self.depth) (declarator l.self.depth) (specs l.self.depth) l.at l.fn.left l.fn.tokens ≡ posts_from (expr l.self.depth)
-  (declarator l.self.depth) (specs l.self.depth) l.at (l._turn-end - l._turn) l.left l.tokens
+    (declarator l.self.depth) (specs l.self.depth) l.at (l._turn-end - l._turn) l.left l.tokens

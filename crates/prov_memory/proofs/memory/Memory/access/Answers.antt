@@ -15,11 +15,11 @@ returns-clause-exact c =
     let m = c.args.self.now in
     let some : 0 + 1 ≤ c.args.addr = omega arith in
     access_done c.reach.result m.rows m c.args.len c.args.align c.args.addr c.args.prov c.in_ok-target.target.0 c.in_ok-target.target.1 some
-      c.in_ok-target.ensures.found c.reach.ensures.found c.reach.ensures.exact
+    c.in_ok-target.ensures.found c.reach.ensures.found c.reach.ensures.exact
 
 pub returns-clause-raises : goal.returns-clause-raises
 returns-clause-raises c =
     let m = c.args.self.now in
     let some : 0 + 1 ≤ c.args.addr = omega arith in
     access_raises c.reach.result m.rows m c.args.len c.args.align c.args.addr c.args.prov c.in_ok-target.target.0 c.in_ok-target.target.1 some
-      c.in_ok-target.ensures.found c.reach.ensures.raises
+    c.in_ok-target.ensures.found c.reach.ensures.raises

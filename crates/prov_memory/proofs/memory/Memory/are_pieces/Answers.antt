@@ -14,8 +14,8 @@ returns-then-not-is_piece c =
     let lt : c.loop-index.index < c.args.len = omega arith in
     let off : c.is_piece.result ≡ false = search rules in
     pieces_fail c.is_piece.result (are_pieces p 0 (range_in m c.args.cells.now c.args.from c.args.len)) p
-      (λ k. tagged_in m.origins (map type_of m.types) (cell_at c.args.cells.now k)) c.args.from c.loop-index.index c.args.len lt c.loop-index.invariant
-      (c.is_piece.ensures ∙ ap (λ (k : Cell). is_piece p c.loop-index.index (byte_in m.origins k)) c.cell_at.ensures) off
+    (λ k. tagged_in m.origins (map type_of m.types) (cell_at c.args.cells.now k)) c.args.from c.loop-index.index c.args.len lt c.loop-index.invariant
+    (c.is_piece.ensures ∙ ap (λ (k : Cell). is_piece p c.loop-index.index (byte_in m.origins k)) c.cell_at.ensures) off
 
 pub loop-index-preserved : goal.loop-index-preserved
 loop-index-preserved c =
@@ -24,5 +24,5 @@ loop-index-preserved c =
     let lt : c.loop-index.index < c.args.len = omega arith in
     let on : c.is_piece.result ≡ true = search rules in
     pieces_pass c.is_piece.result (are_pieces p 0 (range_in m c.args.cells.now c.args.from c.args.len)) p
-      (λ k. tagged_in m.origins (map type_of m.types) (cell_at c.args.cells.now k)) c.args.from c.loop-index.index c.args.len lt c.loop-index.invariant
-      (c.is_piece.ensures ∙ ap (λ (k : Cell). is_piece p c.loop-index.index (byte_in m.origins k)) c.cell_at.ensures) on
+    (λ k. tagged_in m.origins (map type_of m.types) (cell_at c.args.cells.now k)) c.args.from c.loop-index.index c.args.len lt c.loop-index.invariant
+    (c.is_piece.ensures ∙ ap (λ (k : Cell). is_piece p c.loop-index.index (byte_in m.origins k)) c.cell_at.ensures) on

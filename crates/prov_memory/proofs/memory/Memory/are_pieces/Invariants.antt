@@ -6,4 +6,4 @@ use Rattle.prov_memory.proofs.memory.Memory.are_pieces.Given as goal
 -- the pieces so far are there, so those that are left decide
 abbrev pub invariant-loop-index : goal.invariant-loop-index
 invariant-loop-index l = are_pieces l.prov 0 (range_in l.self l.cells l.from l.len) ≡ are_pieces l.prov l.index
-  (range_in l.self l.cells (l.from + l.index) (l.len - l.index))
+    (range_in l.self l.cells (l.from + l.index) (l.len - l.index))

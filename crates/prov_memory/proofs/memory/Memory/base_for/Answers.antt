@@ -10,21 +10,25 @@ use Rattle.prov_memory.proofs.memory.Memory.base_for.Goals as goal
 pub returns-then-row-align-clause-row : goal.returns-then-row-align-clause-row
 returns-then-row-align-clause-row c =
     rw (← c.self.view_is) (row_as c.self.inside.map c.args.name c.in-Some.row c.args.size c.args.align (sym c.in-Some.ensures.row) c.if-row-size.true
-      c.if-row-align.true)
+    c.if-row-align.true)
 
 pub returns-then-row-align-clause-end : goal.returns-then-row-align-clause-end
 returns-then-row-align-clause-end c =
-    omega (arith, end_of_row (λ s. same_object s.name c.args.name) c.in-Some.row c.self.inside.map (sym c.in-Some.ensures.row), c.in-Some.ensures.end,
-      c.if-row-size.true)
+    omega (
+      arith,
+      end_of_row (λ s. same_object s.name c.args.name) c.in-Some.row c.self.inside.map (sym c.in-Some.ensures.row),
+      c.in-Some.ensures.end,
+      c.if-row-size.true,
+    )
 
 pub invariant_of-self-2 : goal.invariant_of-self-2
 invariant_of-self-2 c =
     let none : row_of c.self.inside.map c.args.name ≡ None = sym c.row.ensures.row ∙ c.in_default.is in
     subst (λ (rows : List Row). HaveRows rows c.self.inside.objects) (sym c.in_ok-place.ensures.row)
-      (rows_inserted c.self.inside.map (row_at c.args.name c.in_ok-place.field-0 c.args.size c.args.align) c.self.inside.objects none c.self.invariant)
+    (rows_inserted c.self.inside.map (row_at c.args.name c.in_ok-place.field-0 c.args.size c.args.align) c.self.inside.objects none c.self.invariant)
 
 pub returns-clause-row : goal.returns-clause-row
 returns-clause-row c =
     let none : row_of c.self.inside.map c.args.name ≡ None = sym c.row.ensures.row ∙ c.in_default.is in
     rw c.in_ok-place.ensures.row (inserted_same (λ s. same_object s.name c.args.name) (row_at c.args.name c.in_ok-place.field-0 c.args.size c.args.align)
-      c.self.inside.map (same_object_refl c.args.name) none)
+    c.self.inside.map (same_object_refl c.args.name) none)

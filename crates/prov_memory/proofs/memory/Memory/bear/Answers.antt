@@ -11,10 +11,10 @@ use Rattle.prov_memory.proofs.memory.Memory.bear.Goals as goal
 pub invariant_of-self-2 : goal.invariant_of-self-2
 invariant_of-self-2 c =
     let row : row_of c.self-2.inside.map c.args.name ≡ Some (row_at c.args.name c.in_ok-base.base c.args.size c.args.align) =
-          subst (λ (m : Kept). row_of m.rows c.args.name ≡ Some (row_at c.args.name c.in_ok-base.base c.args.size c.args.align))
-          (sym c.self-2.view_is) c.in_ok-base.ensures.row in
+    subst (λ (m : Kept). row_of m.rows c.args.name ≡ Some (row_at c.args.name c.in_ok-base.base c.args.size c.args.align))
+    (sym c.self-2.view_is) c.in_ok-base.ensures.row in
     subst (λ (hs : List Held). HaveRows c.self-2.inside.map hs) (sym c.in_ok-add.ensures.ok)
-      (rows_created c.self-2.inside.map c.self-2.inside.objects _ c.args.align c.self-2.invariant row)
+    (rows_created c.self-2.inside.map c.self-2.inside.objects _ c.args.align c.self-2.invariant row)
 
 pub returns-clause-named : goal.returns-clause-named
 returns-clause-named c = λ named.

@@ -20,19 +20,20 @@ loop-offset-preserved c =
       more = adds_then m now c.retagged.new.self inv.more c.in_ok-tagged.ensures.more;
       rest = c.retagged.ensures.rest ∙ inv.rest;
       known = λ known h e. cell_known m h c.args.at c.saturating_add-place.result c.loop-offset.cells.items c.push.new.self.items c.cell_in-cell.result
-        c.in_ok-tagged.tagged known e (c.cell_in-cell.ensures h (ap (λ (k : Kept). slice_get k.objects c.args.at) inv.rest ∙ e)) c.in_ok-tagged.ensures.origin
-        c.in_ok-push.ensures.items (inv.known known h e);
+          c.in_ok-tagged.tagged known e (c.cell_in-cell.ensures h (ap (λ (k : Kept). slice_get k.objects c.args.at) inv.rest ∙ e))
+          c.in_ok-tagged.ensures.origin
+          c.in_ok-push.ensures.items (inv.known known h e);
       len = search rules;
       taken = λ range known h e.
           let place : c.saturating_add-place.result ≡ c.args.from + n = omega (arith, c.saturating_add-place.ensures, range, lt) in
           taken_next m now c.retagged.new.self h o c.args.from n c.args.at c.loop-offset.cells.items c.push.new.self.items c.cell_in-cell.result
-            c.in_ok-tagged.tagged inv.more c.in_ok-tagged.ensures.more known e (inv.taken range known h e)
-            (λ g there. c.cell_in-cell.ensures g there ∙ ap (λ (k : ℕ). cell_at g.cells k) place)
-            (c.in_ok-tagged.ensures.byte ∙ ap (λ (k : ℕ). retagged_byte o k (tagged_in now.origins (map type_of now.types) c.cell_in-cell.result)) place)
-            c.in_ok-tagged.ensures.known c.in_ok-push.ensures.items;
+          c.in_ok-tagged.tagged inv.more c.in_ok-tagged.ensures.more known e (inv.taken range known h e)
+          (λ g there. c.cell_in-cell.ensures g there ∙ ap (λ (k : ℕ). cell_at g.cells k) place)
+          (c.in_ok-tagged.ensures.byte ∙ ap (λ (k : ℕ). retagged_byte o k (tagged_in now.origins (map type_of now.types) c.cell_in-cell.result)) place)
+          c.in_ok-tagged.ensures.known c.in_ok-push.ensures.items;
     }
 
 pub returns-clause-taken : goal.returns-clause-taken
 returns-clause-taken c = λ range known h e.
     taken_all c.args.self.now c.loop-offset.self h (option_map (λ shape. form_of shape.value) c.args.declared.now) c.args.from c.args.len c.loop-offset.offset
-      c.loop-offset.cells.items (omega arith) (c.loop-offset.invariant.taken range known h e)
+    c.loop-offset.cells.items (omega arith) (c.loop-offset.invariant.taken range known h e)

@@ -13,5 +13,5 @@ invariant-loop-offset l = record {
   known : AreKnown l.initial.self → (h : Held) → slice_get l.initial.self.objects l.at ≡ Some h → CellsKnown (length l.initial.self.origins) l.cells.items;
   len : vec_len l.cells ≡ l.offset;
   taken : l.from + l.len ≤ 2 ^ 47 → AreTagged l.initial.self → (h : Held) → slice_get l.initial.self.objects l.at ≡ Some h →
-    IsTaken l.initial.self l.self h (option_map (λ shape. form_of shape.value) l.declared) l.from l.offset l.cells.items;
+      IsTaken l.initial.self l.self h (option_map (λ shape. form_of shape.value) l.declared) l.from l.offset l.cells.items;
 }

@@ -6,24 +6,24 @@ use Rattle.prov_memory.proofs.memory.Memory.create.Goals as goal
 pub returns-clause-exact : goal.returns-clause-exact
 returns-clause-exact c =
     created_all c.bear.result c.args.self.now c.bear.new.self c.args.name c.args.size c.args.align c.args.kind
-      (λ shape. shape.value) c.args.declared c.bear.new.t c.bear.ensures.born c.bear.ensures.items
+    (λ shape. shape.value) c.args.declared c.bear.new.t c.bear.ensures.born c.bear.ensures.items
 
 pub returns-clause-known : goal.returns-clause-known
 returns-clause-known c =
     created_known c.bear.result c.args.self.now c.bear.new.self c.args.name c.args.size c.args.align c.args.kind
-      (λ shape. shape.value) c.args.declared c.bear.ensures.born
+    (λ shape. shape.value) c.args.declared c.bear.ensures.born
 
 pub returns-clause-made : goal.returns-clause-made
 returns-clause-made c =
     created_made c.bear.result c.args.self.now c.bear.new.self c.args.name c.args.size c.args.align c.args.kind
-      (option_map (λ shape. shape.value) c.args.declared) c.bear.ensures.born
+    (option_map (λ shape. shape.value) c.args.declared) c.bear.ensures.born
 
 pub returns-clause-whole : goal.returns-clause-whole
 returns-clause-whole c =
     created_whole c.bear.result c.args.self.now c.bear.new.self c.args.name c.args.size c.args.align c.args.kind
-      (option_map (λ shape. shape.value) c.args.declared) c.bear.ensures.born
+    (option_map (λ shape. shape.value) c.args.declared) c.bear.ensures.born
 
 pub returns-clause-sound : goal.returns-clause-sound
 returns-clause-sound c =
     created_sound c.bear.result c.args.self.now c.bear.new.self c.args.name c.args.size c.args.align c.args.kind
-      (option_map (λ shape. shape.value) c.args.declared) c.bear.ensures.born c.bear.ensures.named
+    (option_map (λ shape. shape.value) c.args.declared) c.bear.ensures.born c.bear.ensures.named

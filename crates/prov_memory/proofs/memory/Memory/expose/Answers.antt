@@ -10,7 +10,7 @@ use Rattle.prov_memory.proofs.memory.Memory.expose.Goals as goal
 pub returns-clause-exact : goal.returns-clause-exact
 returns-clause-exact c =
     exposed_act c.args.self.now c.show_each.new.self c.args.prov c.show_each.new.t _ c.show_each.ensures.shown
-      (first_noted_all c.clear.new.self c.show_each.new.t _ c.clear.ensures c.show_each.ensures.items)
+    (first_noted_all c.clear.new.self c.show_each.new.t _ c.clear.ensures c.show_each.ensures.items)
 
 pub returns-clause-known : goal.returns-clause-known
 returns-clause-known c = λ known.

@@ -10,4 +10,4 @@ returns-in-Some c =
     let m = c.args.self.now in
     let have : HaveRows m.rows m.objects = subst (λ (k : Kept). HaveRows k.rows k.objects) c.self.view_is c.self.invariant in
     c.has_range.ensures ∙ sym (range_of_row (row_of m.rows c.args.name) c.in-Some.object.now c.args.addr c.args.len
-      (row_found m.rows m.objects c.args.name c.in-Some.object.now have (sym c.in-Some.ensures.object)))
+    (row_found m.rows m.objects c.args.name c.in-Some.object.now have (sym c.in-Some.ensures.object)))

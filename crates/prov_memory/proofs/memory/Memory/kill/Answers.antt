@@ -12,12 +12,12 @@ use Rattle.prov_memory.proofs.memory.Memory.kill.Goals as goal
 pub invariant_of-self : goal.invariant_of-self
 invariant_of-self c =
     subst (λ (hs : List Held). HaveRows c.self.inside.map hs) (sym c.kill.ensures)
-      (rows_killed c.self.inside.map c.args.name c.self.inside.objects c.self.invariant)
+    (rows_killed c.self.inside.map c.args.name c.self.inside.objects c.self.invariant)
 
 pub returns-clause-exact : goal.returns-clause-exact
 returns-clause-exact c = λ io.
     rw (← c.self.view_is, c.kill.ensures) (killed_act (the_view c.self.inside) c.args.name c.note.new.self c.self.inside.map
-      (first_noted c.clear.new.self c.note.new.self _ c.clear.ensures c.note.ensures) io)
+    (first_noted c.clear.new.self c.note.new.self _ c.clear.ensures c.note.ensures) io)
 
 pub returns-clause-known : goal.returns-clause-known
 returns-clause-known c = λ known.
@@ -36,7 +36,7 @@ returns-clause-made c = λ p.
 pub returns-clause-sound : goal.returns-clause-sound
 returns-clause-sound c =
     rw (← c.self.view_is, c.kill.ensures) (changed_sound (the_view c.self.inside) killed c.args.name (λ h. refl) (λ h. refl)
-      (known_killed (length c.self.inside.origins) c.args.name c.self.inside.objects))
+    (known_killed (length c.self.inside.origins) c.args.name c.self.inside.objects))
 
 pub returns-clause-rest : goal.returns-clause-rest
 returns-clause-rest c = rw (← c.self.view_is) refl

@@ -19,30 +19,30 @@ pub returns-clause-exact : goal.returns-clause-exact
 returns-clause-exact c =
     let f = c.in_ok-found.found in
     let noted : c.note_read.new.t ≡ (settling_items f.settles ++ Alive f.name ∷ []) ++ Read f.name f.from c.args.size ∷ [] =
-          noted_after c.access.new.t c.note_read.new.t (settling_items f.settles ++ Alive f.name ∷ []) _ (c.in_ok-found.ensures.items c.clear.ensures)
-          (few f.settles f.name) c.note_read.ensures in
+    noted_after c.access.new.t c.note_read.new.t (settling_items f.settles ++ Alive f.name ∷ []) _ (c.in_ok-found.ensures.items c.clear.ensures)
+    (few f.settles f.name) c.note_read.ensures in
     rw c.of_cells.ensures (block_done c.args.self.now c.access.new.self c.cells_of.new.self c.settle.new.self f c.args.size c.args.align c.args.addr
-      c.args.prov c.in_ok-cells.cells.items c.note_read.new.t c.access.ensures.same c.in_ok-found.ensures.exact c.in_ok-found.ensures.found
-      c.in_ok-found.ensures.settles c.in_ok-cells.ensures.more c.in_ok-cells.ensures.taken c.settle.ensures.rest c.settle.ensures.store noted)
+    c.args.prov c.in_ok-cells.cells.items c.note_read.new.t c.access.ensures.same c.in_ok-found.ensures.exact c.in_ok-found.ensures.found
+    c.in_ok-found.ensures.settles c.in_ok-cells.ensures.more c.in_ok-cells.ensures.taken c.settle.ensures.rest c.settle.ensures.store noted)
 
 pub returns-clause-cells : goal.returns-clause-cells
 returns-clause-cells c =
     rw c.of_cells.ensures (block_cells c.args.self.now c.access.new.self c.cells_of.new.self c.settle.new.self c.in_ok-found.found c.args.size
-      c.in_ok-cells.cells.items c.access.ensures.same c.in_ok-found.ensures.found c.in_ok-cells.ensures.taken c.settle.ensures.rest)
+    c.in_ok-cells.cells.items c.access.ensures.same c.in_ok-found.ensures.found c.in_ok-cells.ensures.taken c.settle.ensures.rest)
 
 pub returns-clause-tagged : goal.returns-clause-tagged
 returns-clause-tagged c = block_tagged c.args.self.now c.access.new.self c.cells_of.new.self c.settle.new.self c.access.ensures.same
-  c.in_ok-cells.ensures.more c.settle.ensures.rest
+    c.in_ok-cells.ensures.more c.settle.ensures.rest
 
 pub returns-clause-known : goal.returns-clause-known
 returns-clause-known c =
     rw c.of_cells.ensures (block_known c.args.self.now c.access.new.self c.cells_of.new.self c.settle.new.self c.in_ok-found.found c.args.size
-      c.in_ok-cells.cells.items c.access.ensures.same c.in_ok-found.ensures.found c.cells_of.ensures.rest c.settle.ensures.rest c.in_ok-cells.ensures.known)
+    c.in_ok-cells.cells.items c.access.ensures.same c.in_ok-found.ensures.found c.cells_of.ensures.rest c.settle.ensures.rest c.in_ok-cells.ensures.known)
 
 pub returns-clause-made : goal.returns-clause-made
 returns-clause-made c =
     block_made c.args.self.now c.access.new.self c.cells_of.new.self c.settle.new.self c.access.ensures.same c.cells_of.ensures.rest c.settle.ensures.rest
-      c.settle.ensures.cells
+    c.settle.ensures.cells
 
 pub returns-in_err-cells-clause-made : goal.returns-in_err-cells-clause-made
 returns-in_err-cells-clause-made c = λ p made.
@@ -51,7 +51,7 @@ returns-in_err-cells-clause-made c = λ p made.
 pub returns-clause-sound : goal.returns-clause-sound
 returns-clause-sound c =
     block_sound c.args.self.now c.access.new.self c.cells_of.new.self c.settle.new.self c.access.ensures.same c.cells_of.ensures.rest c.settle.ensures.rest
-      c.settle.ensures.cells
+    c.settle.ensures.cells
 
 pub returns-in_err-cells-clause-sound : goal.returns-in_err-cells-clause-sound
 returns-in_err-cells-clause-sound c = λ s.
@@ -60,7 +60,7 @@ returns-in_err-cells-clause-sound c = λ s.
 pub returns-clause-rest : goal.returns-clause-rest
 returns-clause-rest c =
     ap (λ (m : Kept). record m { types = [] }) c.settle.ensures.rest ∙ ap (λ (m : Kept). record m { cells = [] }) c.cells_of.ensures.rest ∙ ap
-      (λ (m : Kept). record m { cells = []; types = [] }) c.access.ensures.same
+    (λ (m : Kept). record m { cells = []; types = [] }) c.access.ensures.same
 
 pub returns-in_err-cells-clause-rest : goal.returns-in_err-cells-clause-rest
 returns-in_err-cells-clause-rest c =

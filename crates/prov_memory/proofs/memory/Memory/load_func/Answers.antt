@@ -12,14 +12,14 @@ returns-in_err-found-clause-raises c =
 pub returns-clause-raises : goal.returns-clause-raises
 returns-clause-raises c =
     func_raises_all c.load_number.result c.args.self.now c.access.new.self c.in_ok-found.found (type_of c.args.ty.now) c.args.addr c.args.prov
-      c.access.ensures.same c.in_ok-found.ensures.exact c.in_ok-found.ensures.found c.load_number.ensures.raises
+    c.access.ensures.same c.in_ok-found.ensures.exact c.in_ok-found.ensures.found c.load_number.ensures.raises
 
 pub returns-clause-exact : goal.returns-clause-exact
 returns-clause-exact c =
     func_exact c.load_number.result c.args.self.now c.access.new.self c.load_number.new.self c.in_ok-found.found
-      (type_of c.args.ty.now) c.args.addr c.args.prov c.access.new.t c.load_number.new.t c.access.ensures.same c.in_ok-found.ensures.exact
-      c.in_ok-found.ensures.found c.in_ok-found.ensures.settles (c.in_ok-found.ensures.items c.clear.ensures) c.load_number.ensures.number
-      c.load_number.ensures.loaded c.load_number.ensures.items
+    (type_of c.args.ty.now) c.args.addr c.args.prov c.access.new.t c.load_number.new.t c.access.ensures.same c.in_ok-found.ensures.exact
+    c.in_ok-found.ensures.found c.in_ok-found.ensures.settles (c.in_ok-found.ensures.items c.clear.ensures) c.load_number.ensures.number
+    c.load_number.ensures.loaded c.load_number.ensures.items
 
 pub returns-clause-rest : goal.returns-clause-rest
 returns-clause-rest c = besides_after c.args.self.now c.access.new.self c.load_number.new.self c.access.ensures.same c.load_number.ensures.rest

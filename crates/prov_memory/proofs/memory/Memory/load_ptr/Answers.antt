@@ -14,39 +14,39 @@ pub returns-in_err-found-clause-raises : goal.returns-in_err-found-clause-raises
 returns-in_err-found-clause-raises c =
     let p = err_from_is_err_and c.from_residual.result c.from_residual.ensures.1 in
     rw (p.1, p.2) (pointer_unreached c.args.self.now (type_of c.args.ty.now) c.args.who c.args.align c.args.addr c.args.prov c.in_err-found.field-0.0
-      c.in_err-found.ensures.raises)
+    c.in_err-found.ensures.raises)
 
 pub returns-in_err-number-clause-raises : goal.returns-in_err-number-clause-raises
 returns-in_err-number-clause-raises c =
     let p = err_from_is_err_and c.from_residual-in_err-number.result c.from_residual-in_err-number.ensures.1 in
     rw (p.1, p.2) (pointer_unread c.args.self.now c.access.new.self c.in_ok-found.found (type_of c.args.ty.now) c.args.who c.args.align c.args.addr
-      c.args.prov c.in_err-number.field-0.0 c.access.ensures.same c.in_ok-found.ensures.exact c.in_ok-found.ensures.found c.in_err-number.ensures)
+    c.args.prov c.in_err-number.field-0.0 c.access.ensures.same c.in_ok-found.ensures.exact c.in_ok-found.ensures.found c.in_err-number.ensures)
 
 pub returns-in_err-target-clause-raises : goal.returns-in_err-target-clause-raises
 returns-in_err-target-clause-raises c =
     let p = err_from_is_err_and c.from_residual-in_err-target.result c.from_residual-in_err-target.ensures.1 in
     rw (p.1, p.2) (unresolved c.in_err-target.field-0.0 c.args.self.now c.access.new.self c.in_ok-found.found (type_of c.args.ty.now) c.args.who c.args.align
-      c.args.addr c.args.prov c.pointer_of-pointer.result c.in_ok-number.number c.access.ensures.same c.in_ok-found.ensures.exact c.in_ok-found.ensures.found
-      c.in_ok-number.ensures c.pointer_of-pointer.ensures c.in_err-target.ensures.raises)
+    c.args.addr c.args.prov c.pointer_of-pointer.result c.in_ok-number.number c.access.ensures.same c.in_ok-found.ensures.exact c.in_ok-found.ensures.found
+    c.in_ok-number.ensures c.pointer_of-pointer.ensures c.in_err-target.ensures.raises)
 
 pub returns-clause-exact : goal.returns-clause-exact
 returns-clause-exact c =
     pointer_exact c.args.self.now c.access.new.self c.resolved.new.self c.settle.new.self c.in_ok-found.found (type_of c.args.ty.now) c.args.who c.args.align
-      c.args.addr c.args.prov c.in_ok-target.target c.pointer_of-pointer.result c.in_ok-number.number c.access.new.t c.note_read.new.t c.resolved.new.t
-      c.access.ensures.same c.in_ok-found.ensures.exact c.in_ok-found.ensures.found c.in_ok-found.ensures.settles
-      (c.in_ok-found.ensures.items c.clear.ensures) c.in_ok-number.ensures c.note_read.ensures c.pointer_of-pointer.ensures c.in_ok-target.ensures.exact
-      c.in_ok-target.ensures.items c.resolved.ensures.more c.settle.ensures.rest c.settle.ensures.store
+    c.args.addr c.args.prov c.in_ok-target.target c.pointer_of-pointer.result c.in_ok-number.number c.access.new.t c.note_read.new.t c.resolved.new.t
+    c.access.ensures.same c.in_ok-found.ensures.exact c.in_ok-found.ensures.found c.in_ok-found.ensures.settles
+    (c.in_ok-found.ensures.items c.clear.ensures) c.in_ok-number.ensures c.note_read.ensures c.pointer_of-pointer.ensures c.in_ok-target.ensures.exact
+    c.in_ok-target.ensures.items c.resolved.ensures.more c.settle.ensures.rest c.settle.ensures.store
 
 pub returns-clause-value : goal.returns-clause-value
 returns-clause-value c =
     pointer_value c.args.self.now c.access.new.self c.resolved.new.self c.settle.new.self c.in_ok-found.found c.pointer_of-pointer.result
-      c.in_ok-target.target c.access.ensures.same c.in_ok-found.ensures.found c.pointer_of-pointer.ensures c.in_ok-target.ensures.value c.settle.ensures.rest
-      c.settle.ensures.cells
+    c.in_ok-target.target c.access.ensures.same c.in_ok-found.ensures.found c.pointer_of-pointer.ensures c.in_ok-target.ensures.value c.settle.ensures.rest
+    c.settle.ensures.cells
 
 pub returns-clause-made : goal.returns-clause-made
 returns-clause-made c =
     pointer_kept c.args.self.now c.access.new.self c.resolved.new.self c.settle.new.self c.access.ensures.same c.resolved.ensures.more c.settle.ensures.rest
-      c.settle.ensures.cells
+    c.settle.ensures.cells
 
 pub returns-in_err-target-clause-made : goal.returns-in_err-target-clause-made
 returns-in_err-target-clause-made c = λ p made.
@@ -55,21 +55,21 @@ returns-in_err-target-clause-made c = λ p made.
 pub returns-clause-sound : goal.returns-clause-sound
 returns-clause-sound c = λ s.
     settled_sound c.resolved.new.self c.settle.new.self c.settle.ensures.rest c.settle.ensures.cells
-      (c.in_ok-target.ensures.sound (subst (λ (m : Kept). IsSound m) (sym c.access.ensures.same) s))
+    (c.in_ok-target.ensures.sound (subst (λ (m : Kept). IsSound m) (sym c.access.ensures.same) s))
 
 pub returns-clause-rest : goal.returns-clause-rest
 returns-clause-rest c = besides_looked c.args.self.now c.access.new.self c.resolved.new.self c.settle.new.self c.access.ensures.same
-  c.resolved.ensures.more.rest c.settle.ensures.rest
+    c.resolved.ensures.more.rest c.settle.ensures.rest
 
 pub returns-clause-origins : goal.returns-clause-origins
 returns-clause-origins c =
     subst (λ (ps : List Prov). Extends ps c.settle.new.self.origins) (ap (λ (k : Kept). k.origins) c.access.ensures.same)
-      (subst (λ (ps : List Prov). Extends c.access.new.self.origins ps) (sym (ap (λ (k : Kept). k.origins) c.settle.ensures.rest))
-      c.resolved.ensures.more.origins)
+    (subst (λ (ps : List Prov). Extends c.access.new.self.origins ps) (sym (ap (λ (k : Kept). k.origins) c.settle.ensures.rest))
+    c.resolved.ensures.more.origins)
 
 pub returns-in_err-target-clause-rest : goal.returns-in_err-target-clause-rest
 returns-in_err-target-clause-rest c = besides_looked c.args.self.now c.access.new.self c.resolved.new.self c.resolved.new.self c.access.ensures.same
-  c.resolved.ensures.more.rest refl
+    c.resolved.ensures.more.rest refl
 
 pub returns-in_err-target-clause-origins : goal.returns-in_err-target-clause-origins
 returns-in_err-target-clause-origins c =

@@ -6,12 +6,12 @@ use Rattle.prov_memory.proofs.memory.Memory.look_up.Goals as goal
 pub returns-clause-value : goal.returns-clause-value
 returns-clause-value c =
     c.in_ok-make.ensures.made (look_up_created c.args.self.now c.args.who c.choose-prov.result c.covering-inside.result.0 c.covering-inside.result.1
-      c.found.result c.found-2.result c.found.ensures c.found-2.ensures c.choose-prov.ensures)
+    c.found.result c.found-2.result c.found.ensures c.found-2.ensures c.choose-prov.ensures)
 
 pub returns-clause-sound : goal.returns-clause-sound
 returns-clause-sound c =
     more_sound c.args.self.now c.make.new.self c.make.ensures.more
-      (λ made. c.make.ensures.each c.make.new.self
-      (c.in_ok-make.ensures.made (look_up_created c.args.self.now c.args.who c.choose-prov.result c.covering-inside.result.0 c.covering-inside.result.1
-      c.found.result c.found-2.result c.found.ensures c.found-2.ensures c.choose-prov.ensures))
-      (λ n. more_made c.args.self.now c.make.new.self c.make.ensures.more (prov_numbered c.args.self.now.origins n) (made n)))
+    (λ made. c.make.ensures.each c.make.new.self
+    (c.in_ok-make.ensures.made (look_up_created c.args.self.now c.args.who c.choose-prov.result c.covering-inside.result.0 c.covering-inside.result.1
+    c.found.result c.found-2.result c.found.ensures c.found-2.ensures c.choose-prov.ensures))
+    (λ n. more_made c.args.self.now c.make.new.self c.make.ensures.more (prov_numbered c.args.self.now.origins n) (made n)))

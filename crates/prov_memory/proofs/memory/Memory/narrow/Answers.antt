@@ -17,10 +17,10 @@ pub returns-clause-made : goal.returns-clause-made
 returns-clause-made c = λ p.
     let m = the_view c.self.inside in
     rw (← c.self.view_is) (stays_made m (record m { cells = c.narrow.new.self }) refl
-      (cells_narrowed c.narrow.result m.cells c.narrow.new.self c.args.id c.args.keep c.narrow.ensures.settled c.narrow.ensures.unchanged) p)
+    (cells_narrowed c.narrow.result m.cells c.narrow.new.self c.args.id c.args.keep c.narrow.ensures.settled c.narrow.ensures.unchanged) p)
 
 pub returns-clause-sound : goal.returns-clause-sound
 returns-clause-sound c =
     let m = the_view c.self.inside in
     rw (← c.self.view_is) (settled_sound m (record m { cells = c.narrow.new.self }) refl
-      (cells_narrowed c.narrow.result m.cells c.narrow.new.self c.args.id c.args.keep c.narrow.ensures.settled c.narrow.ensures.unchanged))
+    (cells_narrowed c.narrow.result m.cells c.narrow.new.self c.args.id c.args.keep c.narrow.ensures.settled c.narrow.ensures.unchanged))

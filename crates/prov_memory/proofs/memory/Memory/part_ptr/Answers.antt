@@ -16,16 +16,16 @@ pub returns-clause-exact : goal.returns-clause-exact
 returns-clause-exact c =
     let m = c.args.self.now in
     pointer_done m c.part_target.new.self c.args.who (seen m c.range-cells.result.now) (seen m (part_of c.args.bytes.now c.args.from 8).cells)
-      c.in_ok-number.number c.pointer_among-pointer.result c.in_ok-prov.prov c.clear.new.self c.part_target.new.t
-      (ap (seen m) c.range-cells.ensures) c.in_ok-number.ensures c.pointer_among-pointer.ensures c.in_ok-prov.ensures.exact c.clear.ensures
-      c.in_ok-prov.ensures.items c.part_target.ensures.more
+    c.in_ok-number.number c.pointer_among-pointer.result c.in_ok-prov.prov c.clear.new.self c.part_target.new.t
+    (ap (seen m) c.range-cells.ensures) c.in_ok-number.ensures c.pointer_among-pointer.ensures c.in_ok-prov.ensures.exact c.clear.ensures
+    c.in_ok-prov.ensures.items c.part_target.ensures.more
 
 pub returns-in_err-number-clause-raises : goal.returns-in_err-number-clause-raises
 returns-in_err-number-clause-raises c =
     let m = c.args.self.now in
     let p = err_from_is_err_and c.from_residual.result c.from_residual.ensures.1 in
     rw (p.1, p.2) (pointer_fails m c.args.who (seen m c.range-cells.result.now) (seen m (part_of c.args.bytes.now c.args.from 8).cells)
-      c.in_err-number.field-0.0 (ap (seen m) c.range-cells.ensures) c.in_err-number.ensures)
+    c.in_err-number.field-0.0 (ap (seen m) c.range-cells.ensures) c.in_err-number.ensures)
 
 pub returns-clause-value : goal.returns-clause-value
 returns-clause-value c = λ s.

@@ -10,9 +10,9 @@ pub returns-clause-known : goal.returns-clause-known
 returns-clause-known c = λ named made.
     let n = length c.args.self.now.origins in
     subst (λ (cs : List Cell). CellsKnown n cs) (sym (ap (λ (b : Loaded). b.cells) c.of_cells.ensures ∙ c.in_ok-cells.ensures))
-      (pieces_known n 8 0 c.args.addr c.origin_of.result (c.origin_of.ensures.number named made))
+    (pieces_known n 8 0 c.args.addr c.origin_of.result (c.origin_of.ensures.number named made))
 
 pub returns-clause-tagged : goal.returns-clause-tagged
 returns-clause-tagged c = λ n.
     subst (λ (cs : List Cell). CellsTagged n cs) (sym (ap (λ (b : Loaded). b.cells) c.of_cells.ensures ∙ c.in_ok-cells.ensures))
-      (pieces_tagged n 8 0 c.args.addr c.origin_of.result)
+    (pieces_tagged n 8 0 c.args.addr c.origin_of.result)

@@ -15,4 +15,4 @@ pub returns-in-Some : goal.returns-in-Some
 returns-in-Some c =
     let m = c.args.self.now in
     c.then_some.ensures ∙ among_some m c.args.cells.now c.in-Some.prov c.are_pieces.result c.len.result
-      (c.in-Some.is ∙ c.origin_in.ensures ∙ ap (λ (k : Cell). origin_in (byte_in m.origins k)) c.cell_at.ensures) c.len.ensures c.are_pieces.ensures
+    (c.in-Some.is ∙ c.origin_in.ensures ∙ ap (λ (k : Cell). origin_in (byte_in m.origins k)) c.cell_at.ensures) c.len.ensures c.are_pieces.ensures

@@ -12,19 +12,19 @@ pub returns-in_err-settles-clause-exact : goal.returns-in_err-settles-clause-exa
 returns-in_err-settles-clause-exact c = λ made io.
     let by : to_z w128 (of_z w128 c.args.by) ≡ c.args.by = to_z-of_z c.ranges.by in
     shift_raised c.args.self.now c.args.addr c.args.prov c.args.by c.shifted.result c.in_err-settles.field-0.0
-      (c.shifted.ensures.settling ∙ ap (λ (z : ℤ). shift_settling c.args.self.now.rows c.args.self.now.cells (pos c.args.addr +ℤ z) c.args.prov) by)
-      c.in_err-settles.was io
+    (c.shifted.ensures.settling ∙ ap (λ (z : ℤ). shift_settling c.args.self.now.rows c.args.self.now.cells (pos c.args.addr +ℤ z) c.args.prov) by)
+    c.in_err-settles.was io
     ∙ ap (λ (r : Result ℕ Clause). act_of (address_result r) c.clear.new.self (store_of c.args.self.now io))
-      (sym (err_is c.from_residual.result c.in_err-settles.field-0.0 c.from_residual.ensures.1))
+    (sym (err_is c.from_residual.result c.in_err-settles.field-0.0 c.from_residual.ensures.1))
 
 pub returns-clause-exact : goal.returns-clause-exact
 returns-clause-exact c = λ made io.
     let by : to_z w128 (of_z w128 c.args.by) ≡ c.args.by = to_z-of_z c.ranges.by in
     shift_done c.args.self.now c.note_settled.new.self c.args.addr c.moved.result c.args.prov c.args.by c.shifted.result c.in_ok-settles.settles
-      c.clear.new.self c.note_settled.new.t c.note_settled.ensures.rest
-      (c.shifted.ensures.settling ∙ ap (λ (z : ℤ). shift_settling c.args.self.now.rows c.args.self.now.cells (pos c.args.addr +ℤ z) c.args.prov) by)
-      c.in_ok-settles.was made (c.moved.ensures ∙ ap (λ (z : ℤ). pos c.args.addr +ℤ z) by) c.clear.ensures c.note_settled.ensures.items
-      c.note_settled.ensures.store io
+    c.clear.new.self c.note_settled.new.t c.note_settled.ensures.rest
+    (c.shifted.ensures.settling ∙ ap (λ (z : ℤ). shift_settling c.args.self.now.rows c.args.self.now.cells (pos c.args.addr +ℤ z) c.args.prov) by)
+    c.in_ok-settles.was made (c.moved.ensures ∙ ap (λ (z : ℤ). pos c.args.addr +ℤ z) by) c.clear.ensures c.note_settled.ensures.items
+    c.note_settled.ensures.store io
 
 pub returns-clause-sound : goal.returns-clause-sound
 returns-clause-sound c = settled_sound c.args.self.now c.note_settled.new.self c.note_settled.ensures.rest c.note_settled.ensures.cells

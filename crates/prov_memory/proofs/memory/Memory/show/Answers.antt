@@ -7,4 +7,4 @@ use Rattle.prov_memory.proofs.memory.Memory.show.Goals as goal
 pub invariant_of-self : goal.invariant_of-self
 invariant_of-self c =
     subst (λ (hs : List Held). HaveRows c.self.inside.map hs) (sym c.expose.ensures)
-      (rows_uncovered c.self.inside.map c.args.name c.self.inside.objects c.self.invariant)
+    (rows_uncovered c.self.inside.map c.args.name c.self.inside.objects c.self.invariant)

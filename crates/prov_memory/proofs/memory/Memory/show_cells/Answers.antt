@@ -21,7 +21,7 @@ loop-cell-preserved c =
     let lt : n < length cs = c.loop-cell-test.true in
     let few : n < 8 = omega (arith, c.requires) in
     let piece : candidates prov ≡ origins_in (byte_in m.origins (cell_at cs (0 + n))) =
-          next_piece m now cs n c.cell-item.result prov lt c.cell-item.is (ap (λ (k : Kept). k.origins) inv.shown) c.piece_of-prov.ensures in
+    next_piece m now cs n c.cell-item.result prov lt c.cell-item.is (ap (λ (k : Kept). k.origins) inv.shown) c.piece_of-prov.ensures in
     record {
       shown = shown_next m now new cs 0 n prov inv.shown piece c.show_each.ensures.shown;
       items = λ room. noted_next m cs c.args.t.now c.loop-cell.t c.show_each.new.t 0 n prov few room (inv.items room) piece c.show_each.ensures.items;
@@ -35,5 +35,5 @@ returns c =
     record {
       shown = c.loop-cell.invariant.shown ∙ ap (λ (bs : List TaggedByte). showing (origins_of bs) m) (range_to m cs c.loop-cell.cell-index end);
       items = λ room. c.loop-cell.invariant.items room ∙ ap (λ (bs : List TaggedByte). c.args.t.now ++ map Expose (origins_of bs))
-        (range_to m cs c.loop-cell.cell-index end);
+          (range_to m cs c.loop-cell.cell-index end);
     }

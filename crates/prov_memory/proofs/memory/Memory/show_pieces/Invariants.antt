@@ -10,7 +10,7 @@ use Rattle.prov_memory.proofs.memory.Memory.show_pieces.Given as goal
 abbrev pub invariant-loop-offset : goal.invariant-loop-offset
 invariant-loop-offset l = record {
   shown : (h : Held) → slice_get l.initial.self.objects l.at ≡ Some h →
-    l.self ≡ showing (origins_of (bytes_in l.initial.self h l.from l.offset)) l.initial.self;
+      l.self ≡ showing (origins_of (bytes_in l.initial.self h l.from l.offset)) l.initial.self;
   items : (h : Held) → slice_get l.initial.self.objects l.at ≡ Some h → length l.initial.t + 16 < 32 → l.t ≡ l.initial.t ++
-    map Expose (origins_of (bytes_in l.initial.self h l.from l.offset));
+      map Expose (origins_of (bytes_in l.initial.self h l.from l.offset));
 }

@@ -17,18 +17,18 @@ pub returns-in_err-found-clause-raises : goal.returns-in_err-found-clause-raises
 returns-in_err-found-clause-raises c =
     let p = err_from_is_err_and c.from_residual.result c.from_residual.ensures.1 in
     rw (p.1, p.2) (λ seen sees. access_fails c.args.self.now c.args.first seen c.args.align c.args.addr c.args.prov c.args.cells.now c.in_err-found.field-0.0
-      c.in_err-found.ensures.raises)
+    c.in_err-found.ensures.raises)
 
 pub returns-in_err-check_store-clause-raises : goal.returns-in_err-check_store-clause-raises
 returns-in_err-check_store-clause-raises c =
     let p = err_from_is_err_and c.from_residual-in_err-check_store.result c.from_residual-in_err-check_store.ensures.1 in
     let f = c.in_ok-found.found in
     let checked : (seen : Seen) → Sees c.args.self.now c.args.via seen →
-      Err c.in_err-check_store.field-0.0 ≡ checked_store c.args.first seen (life_in (held_of c.args.self.now.objects f.name)) f.from =
+    Err c.in_err-check_store.field-0.0 ≡ checked_store c.args.first seen (life_in (held_of c.args.self.now.objects f.name)) f.from =
     subst (λ (k : Kept). (seen : Seen) → Sees k c.args.via seen → Err c.in_err-check_store.field-0.0 ≡ checked_store c.args.first seen
-      (life_in (held_of k.objects f.name)) f.from) c.access.ensures.same c.in_err-check_store.ensures in
+    (life_in (held_of k.objects f.name)) f.from) c.access.ensures.same c.in_err-check_store.ensures in
     rw (p.1, p.2) (λ seen sees. store_raises c.args.self.now f c.args.first seen c.args.align c.args.addr c.args.prov c.args.cells.now
-      c.in_err-check_store.field-0.0 c.in_ok-found.ensures.exact c.in_ok-found.ensures.found (checked seen sees))
+    c.in_err-check_store.field-0.0 c.in_ok-found.ensures.exact c.in_ok-found.ensures.found (checked seen sees))
 
 pub returns-clause-exact : goal.returns-clause-exact
 returns-clause-exact c = λ has short seen sees.
@@ -38,14 +38,14 @@ returns-clause-exact c = λ has short seen sees.
     let w = c.write.ensures.written r.object (ap (λ (k : Kept). slice_get k.objects f.object) c.access.ensures.same ∙ r.there) in
     let checked : Ok tt ≡ checked_store c.args.first seen (life_in (held_of m.objects f.name)) f.from =
     subst (λ (k : Kept). (seen : Seen) → Sees k c.args.via seen → Ok tt ≡ checked_store c.args.first seen (life_in (held_of k.objects f.name)) f.from)
-      c.access.ensures.same c.in_ok-check_store.ensures seen sees in
+    c.access.ensures.same c.in_ok-check_store.ensures seen sees in
     let first : c.access.new.t ≡ settling_items f.settles ++ Alive f.name ∷ [] = c.in_ok-found.ensures.items c.clear.ensures in
     let noted = noted_after c.access.new.t c.write.new.t (settling_items f.settles ++ Alive f.name ∷ []) _ first (few f.settles f.name) c.write.ensures.items
-      in
+    in
     store_done m c.settle.new.self f w.0 c.args.first c.args.via seen c.args.align c.args.addr c.args.prov c.args.cells.now c.write.new.t
-      c.in_ok-found.ensures.exact r c.in_ok-found.ensures.settles checked
-      (stored_by m c.access.new.self c.write.new.self c.settle.new.self f w.0 r.object.name c.access.ensures.same w.1 r.name c.settle.ensures.rest
-      c.settle.ensures.store) w.2 noted has short sees
+    c.in_ok-found.ensures.exact r c.in_ok-found.ensures.settles checked
+    (stored_by m c.access.new.self c.write.new.self c.settle.new.self f w.0 r.object.name c.access.ensures.same w.1 r.name c.settle.ensures.rest
+    c.settle.ensures.store) w.2 noted has short sees
 
 pub returns-clause-known : goal.returns-clause-known
 returns-clause-known c = λ known cells.
@@ -54,22 +54,22 @@ returns-clause-known c = λ known cells.
     let r = c.in_ok-found.ensures.found in
     let w = c.write.ensures.written r.object (ap (λ (k : Kept). slice_get k.objects f.object) c.access.ensures.same ∙ r.there) in
     store_known m c.settle.new.self f w.0 c.args.via c.args.cells.now r
-      (stored_by m c.access.new.self c.write.new.self c.settle.new.self f w.0 r.object.name c.access.ensures.same w.1 r.name c.settle.ensures.rest
-      c.settle.ensures.store) w.2 known cells
+    (stored_by m c.access.new.self c.write.new.self c.settle.new.self f w.0 r.object.name c.access.ensures.same w.1 r.name c.settle.ensures.rest
+    c.settle.ensures.store) w.2 known cells
 
 pub returns-clause-made : goal.returns-clause-made
 returns-clause-made c =
     let r = c.in_ok-found.ensures.found in
     let w = c.write.ensures.written r.object (ap (λ (k : Kept). slice_get k.objects c.in_ok-found.found.object) c.access.ensures.same ∙ r.there) in
     stored_made c.args.self.now c.access.new.self c.write.new.self c.settle.new.self w.0 r.object.name c.access.ensures.same w.1 c.settle.ensures.rest
-      c.settle.ensures.cells
+    c.settle.ensures.cells
 
 pub returns-clause-sound : goal.returns-clause-sound
 returns-clause-sound c = λ s cells.
     let r = c.in_ok-found.ensures.found in
     let w = c.write.ensures.written r.object (ap (λ (k : Kept). slice_get k.objects c.in_ok-found.found.object) c.access.ensures.same ∙ r.there) in
     stored_sound c.args.self.now c.access.new.self c.write.new.self c.settle.new.self w.0 r.object.name c.access.ensures.same w.1 c.settle.ensures.rest
-      c.settle.ensures.cells (returns-clause-known c s.known cells) s
+    c.settle.ensures.cells (returns-clause-known c s.known cells) s
 
 pub returns-clause-rows : goal.returns-clause-rows
 returns-clause-rows c =
@@ -82,4 +82,4 @@ returns-clause-rest c =
     let r = c.in_ok-found.ensures.found in
     let w = c.write.ensures.written r.object (ap (λ (k : Kept). slice_get k.objects c.in_ok-found.found.object) c.access.ensures.same ∙ r.there) in
     besides_after c.args.self.now c.access.new.self c.settle.new.self c.access.ensures.same
-      (besides_put c.access.new.self c.write.new.self c.settle.new.self _ w.1 c.settle.ensures.rest)
+    (besides_put c.access.new.self c.write.new.self c.settle.new.self _ w.1 c.settle.ensures.rest)

@@ -15,10 +15,10 @@ returns-clause-exact c =
     let n = c.bytes-len.result in
     let cs = take n c.number_cells-cells.result in
     let is : cs ≡ plain_cells (bytes_of_kind k) low = first_bytes c.number_cells-cells.result k n low
-          (c.number_cells-cells.ensures ∙ ap (plain_cells 8) (c.low_bits.ensures ∙ ap low_bits value)) (c.bytes-len.ensures.value ∙ same_bytes k) in
+    (c.number_cells-cells.ensures ∙ ap (plain_cells 8) (c.low_bits.ensures ∙ ap low_bits value)) (c.bytes-len.ensures.value ∙ same_bytes k) in
     stored_as c.store_cells.result c.args.self.now c.store_cells.new.self c.args.first c.args.via c.args.align c.args.addr c.args.prov cs
-      (number_bytes (bytes_of_kind k) low) c.store_cells.new.t (number_seen c.args.self.now cs (bytes_of_kind k) low is)
-      (number_short cs k low is) c.store_cells.ensures.exact
+    (number_bytes (bytes_of_kind k) low) c.store_cells.new.t (number_seen c.args.self.now cs (bytes_of_kind k) low is)
+    (number_short cs k low is) c.store_cells.ensures.exact
 
 pub returns-clause-raises : goal.returns-clause-raises
 returns-clause-raises c =
@@ -28,6 +28,6 @@ returns-clause-raises c =
     let n = c.bytes-len.result in
     let cs = take n c.number_cells-cells.result in
     let is : cs ≡ plain_cells (bytes_of_kind k) low = first_bytes c.number_cells-cells.result k n low
-          (c.number_cells-cells.ensures ∙ ap (plain_cells 8) (c.low_bits.ensures ∙ ap low_bits value)) (c.bytes-len.ensures.value ∙ same_bytes k) in
+    (c.number_cells-cells.ensures ∙ ap (plain_cells 8) (c.low_bits.ensures ∙ ap low_bits value)) (c.bytes-len.ensures.value ∙ same_bytes k) in
     unstored_as c.store_cells.result c.args.self.now c.args.first c.args.via c.args.align c.args.addr c.args.prov cs (number_bytes (bytes_of_kind k) low)
-      (number_seen c.args.self.now cs (bytes_of_kind k) low is) c.store_cells.ensures.raises
+    (number_seen c.args.self.now cs (bytes_of_kind k) low is) c.store_cells.ensures.raises

@@ -10,16 +10,16 @@ pub returns-in-Some : goal.returns-in-Some
 returns-in-Some c = λ ty is.
     suits_test c.suits.result (type_of c.int_type-ty.result) (form_of c.args.shape.now) c.args.from c.suits.ensures
     ∙ ap (λ (a : CType). suits_form a (form_of c.args.shape.now) c.args.from)
-      (c.int_type-ty.ensures ∙ kind_type c.args.self.now c.args.id.number c.in-Some.kind ty c.in-Some.ensures is)
+    (c.int_type-ty.ensures ∙ kind_type c.args.self.now c.args.id.number c.in-Some.kind ty c.in-Some.ensures is)
 
 pub returns-in-None : goal.returns-in-None
 returns-in-None c = λ ty is.
     no_type c.args.self.now c.args.id.number ty c.in_default.ensures
-      (c.in-None.ensures ∙ ap (λ (k : ℕ). slice_get c.args.self.now.types k) c.saturating_sub.ensures) is
+    (c.in-None.ensures ∙ ap (λ (k : ℕ). slice_get c.args.self.now.types k) c.saturating_sub.ensures) is
 
 pub returns-in-Some-type_at : goal.returns-in-Some-type_at
 returns-in-Some-type_at c = λ ty is.
     suits_test c.suits-in-Some-type_at.result (type_of c.in-Some-type_at.ty.now) (form_of c.args.shape.now) c.args.from c.suits-in-Some-type_at.ensures
     ∙ ap (λ (a : CType). suits_form a (form_of c.args.shape.now) c.args.from)
-      (other_type c.args.self.now c.args.id.number c.in-Some-type_at.ty.now ty c.in_default.ensures
-      (c.in-Some-type_at.ensures ∙ ap (λ (k : ℕ). slice_get c.args.self.now.types k) c.saturating_sub.ensures) is)
+    (other_type c.args.self.now c.args.id.number c.in-Some-type_at.ty.now ty c.in_default.ensures
+    (c.in-Some-type_at.ensures ∙ ap (λ (k : ℕ). slice_get c.args.self.now.types k) c.saturating_sub.ensures) is)

@@ -14,8 +14,8 @@ returns-then-not-suits_tag c =
     let lt : c.loop-index.index < c.args.len = omega arith in
     let off : c.suits_tag.result ≡ false = search rules in
     tags_fail c.suits_tag.result (tags_agree a 0 (bytes_in m c.args.object.now c.args.from c.args.len)) a
-      (λ k. tagged_in m.origins (map type_of m.types) (cell_at c.args.object.now.cells k)) c.args.from c.loop-index.index c.args.len lt c.loop-index.invariant
-      (c.suits_tag.ensures ∙ ap (λ (k : Cell). tag_agrees a c.loop-index.index (tag_in (map type_of m.types) k)) c.cell.ensures) off
+    (λ k. tagged_in m.origins (map type_of m.types) (cell_at c.args.object.now.cells k)) c.args.from c.loop-index.index c.args.len lt c.loop-index.invariant
+    (c.suits_tag.ensures ∙ ap (λ (k : Cell). tag_agrees a c.loop-index.index (tag_in (map type_of m.types) k)) c.cell.ensures) off
 
 pub loop-index-preserved : goal.loop-index-preserved
 loop-index-preserved c =
@@ -24,5 +24,5 @@ loop-index-preserved c =
     let lt : c.loop-index.index < c.args.len = omega arith in
     let on : c.suits_tag.result ≡ true = search rules in
     tags_pass c.suits_tag.result (tags_agree a 0 (bytes_in m c.args.object.now c.args.from c.args.len)) a
-      (λ k. tagged_in m.origins (map type_of m.types) (cell_at c.args.object.now.cells k)) c.args.from c.loop-index.index c.args.len lt c.loop-index.invariant
-      (c.suits_tag.ensures ∙ ap (λ (k : Cell). tag_agrees a c.loop-index.index (tag_in (map type_of m.types) k)) c.cell.ensures) on
+    (λ k. tagged_in m.origins (map type_of m.types) (cell_at c.args.object.now.cells k)) c.args.from c.loop-index.index c.args.len lt c.loop-index.invariant
+    (c.suits_tag.ensures ∙ ap (λ (k : Cell). tag_agrees a c.loop-index.index (tag_in (map type_of m.types) k)) c.cell.ensures) on

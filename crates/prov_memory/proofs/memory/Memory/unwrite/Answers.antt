@@ -14,17 +14,17 @@ use Rattle.prov_memory.proofs.memory.Memory.unwrite.Goals as goal
 pub invariant_of-self : goal.invariant_of-self
 invariant_of-self c =
     subst (λ (hs : List Held). HaveRows c.self.inside.map hs) (sym c.unwrite.ensures)
-      (rows_emptied c.self.inside.map c.args.name c.self.inside.objects c.self.invariant)
+    (rows_emptied c.self.inside.map c.args.name c.self.inside.objects c.self.invariant)
 
 pub returns-clause-exact : goal.returns-clause-exact
 returns-clause-exact c = λ io.
     let first : c.note.new.self ≡ Alive c.args.name ∷ [] = first_noted c.clear.new.self c.note.new.self _ c.clear.ensures c.note.ensures in
     let second : c.note-2.new.self ≡ Alive c.args.name ∷ Write c.args.name 0 c.object.inside.size ∷ [] =
-          noted_after c.note.new.self c.note-2.new.self (Alive c.args.name ∷ []) _ first (omega arith) c.note-2.ensures in
+    noted_after c.note.new.self c.note-2.new.self (Alive c.args.name ∷ []) _ first (omega arith) c.note-2.ensures in
     let size : c.object.inside.size ≡ c.in-Some.object.now.size = ap (λ (h : Held). h.size) c.object.view_is in
     rw (← c.self.view_is, c.unwrite.ensures)
-      (unwritten_act (the_view c.self.inside) c.args.name c.in-Some.object.now c.note-2.new.self (sym c.in-Some.ensures.object) c.in-Some.ensures.fit
-      c.self.invariant (second ∙ ap (λ n. Alive c.args.name ∷ Write c.args.name 0 n ∷ []) size) io)
+    (unwritten_act (the_view c.self.inside) c.args.name c.in-Some.object.now c.note-2.new.self (sym c.in-Some.ensures.object) c.in-Some.ensures.fit
+    c.self.invariant (second ∙ ap (λ n. Alive c.args.name ∷ Write c.args.name 0 n ∷ []) size) io)
 
 pub returns-clause-known : goal.returns-clause-known
 returns-clause-known c = λ known.
@@ -43,8 +43,8 @@ returns-clause-made c = λ p.
 pub returns-clause-sound : goal.returns-clause-sound
 returns-clause-sound c =
     rw (← c.self.view_is, c.unwrite.ensures)
-      (changed_sound (the_view c.self.inside) emptied c.args.name (λ h. refl) (λ h. refl)
-      (known_emptied (length c.self.inside.origins) c.args.name c.self.inside.objects))
+    (changed_sound (the_view c.self.inside) emptied c.args.name (λ h. refl) (λ h. refl)
+    (known_emptied (length c.self.inside.origins) c.args.name c.self.inside.objects))
 
 pub returns-clause-rest : goal.returns-clause-rest
 returns-clause-rest c = rw (← c.self.view_is) refl

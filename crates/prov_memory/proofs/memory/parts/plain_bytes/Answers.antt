@@ -16,9 +16,9 @@ returns-clause-bytes c = λ ps ts.
 pub returns-clause-known : goal.returns-clause-known
 returns-clause-known c = λ n.
     subst (λ (cs : List Cell). CellsKnown n cs) (sym (ap (λ (b : Loaded). b.cells) c.of_cells.ensures ∙ c.in_ok-cells.ensures))
-      (plain_known n c.args.count c.args.number)
+    (plain_known n c.args.count c.args.number)
 
 pub returns-clause-tagged : goal.returns-clause-tagged
 returns-clause-tagged c = λ n.
     subst (λ (cs : List Cell). CellsTagged n cs) (sym (ap (λ (b : Loaded). b.cells) c.of_cells.ensures ∙ c.in_ok-cells.ensures))
-      (plain_tagged n c.args.count c.args.number)
+    (plain_tagged n c.args.count c.args.number)

@@ -7,7 +7,7 @@ use Rattle.prov_memory.proofs.objects.Objects.find.Goals as goal
 pub returns-then-is_at-clause-object : goal.returns-then-is_at-clause-object
 returns-then-is_at-clause-object c =
     rw (← c.self.view_is) (found_is c.self.inside.list.items _ c.args.name (rw c.self.view_is (c.is_at.ensures c.if-is_at.true))
-      (once_at c.self.inside.indices c.self.inside.list.items c.args.name _ c.self.invariant (rw c.self.view_is (c.is_at.ensures c.if-is_at.true))))
+    (once_at c.self.inside.indices c.self.inside.list.items c.args.name _ c.self.invariant (rw c.self.view_is (c.is_at.ensures c.if-is_at.true))))
 
 pub returns-in_err-at-clause-object : goal.returns-in_err-at-clause-object
 returns-in_err-at-clause-object c =

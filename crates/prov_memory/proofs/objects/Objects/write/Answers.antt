@@ -14,7 +14,7 @@ invariant_of-self c =
 pub returns-then-at-len-clause-rows : goal.returns-then-at-len-clause-rows
 returns-then-at-len-clause-rows c = λ rows have.
     rows_set rows c.self.inside.list.items c.args.at c.index_mut-object.result.now c.write.new.self c.write.ensures.written.rest
-      c.index_mut-object.ensures.value (subst (λ (l : List Held). HaveRows rows l) (sym c.self.view_is) have)
+    c.index_mut-object.ensures.value (subst (λ (l : List Held). HaveRows rows l) (sym c.self.view_is) have)
 
 pub returns-then-at-len-clause-written : goal.returns-then-at-len-clause-written
 returns-then-at-len-clause-written c = λ h e.
@@ -24,10 +24,12 @@ returns-then-at-len-clause-written c = λ h e.
     let is : d ≡ h = c.index_mut-object.ensures.value ∙ got_is hs c.args.at h d there in
     let named : name_at hs c.args.at ≡ Some h.name = named_at hs c.args.at h there in
     let put : set hs c.args.at c.write.new.self ≡ changed (holding c.write.new.self.cells) h.name hs =
-          set_changed (holding c.write.new.self.cells) hs c.args.at h.name d c.write.new.self named
-          (once_at c.self.inside.indices hs h.name c.args.at c.self.invariant named) c.index_mut-object.ensures.value c.write.ensures.written.rest in
-    (c.write.new.self, put ∙ ap (λ (l : List Held). changed (holding c.write.new.self.cells) h.name l) c.self.view_is,
-      subst (λ (k : Held). IsWritten k c.write.new.self c.args.from c.args.via c.args.cells.now) is c.write.ensures.written)
+    set_changed (holding c.write.new.self.cells) hs c.args.at h.name d c.write.new.self named
+    (once_at c.self.inside.indices hs h.name c.args.at c.self.invariant named) c.index_mut-object.ensures.value c.write.ensures.written.rest in (
+      c.write.new.self,
+      put ∙ ap (λ (l : List Held). changed (holding c.write.new.self.cells) h.name l) c.self.view_is,
+      subst (λ (k : Held). IsWritten k c.write.new.self c.args.from c.args.via c.args.cells.now) is c.write.ensures.written,
+    )
 
 pub returns-else-at-len-clause-written : goal.returns-else-at-len-clause-written
 returns-else-at-len-clause-written c = λ h e.

@@ -10,7 +10,7 @@ use Rattle.prov_memory.proofs.origins.Origins.add_ambiguity.Goals as goal
 pub invariant_of-self-in_err-insert : goal.invariant_of-self-in_err-insert
 invariant_of-self-in_err-insert c =
     subst (λ (ps : List Prov). AreNumbered c.insert.new.self ps) (sym c.reserve.ensures.items)
-      (numbered_same c.self.inside.numbers c.insert.new.self c.self.inside.list.items c.in_err-insert.ensures.err c.self.invariant)
+    (numbered_same c.self.inside.numbers c.insert.new.self c.self.inside.list.items c.in_err-insert.ensures.err c.self.invariant)
 
 pub invariant_of-self-2 : goal.invariant_of-self-2
 invariant_of-self-2 c =
@@ -18,8 +18,8 @@ invariant_of-self-2 c =
     let p = Either c.args.id c.args.past c.args.start in
     let items : c.push_reserved.new.self.items ≡ ps ++ p ∷ [] = c.push_reserved.ensures.items ∙ ap (λ (l : List Prov). l ++ p ∷ []) c.reserve.ensures.items in
     subst (λ (l : List Prov). AreNumbered c.insert.new.self l) (sym items)
-      (numbered_ambiguity c.self.inside.numbers c.insert.new.self ps p c.in_ok-number.number refl (rw c.self.view_is c.in_ok-number.ensures)
-      c.in_ok-insert.ensures.updates.0 c.self.invariant)
+    (numbered_ambiguity c.self.inside.numbers c.insert.new.self ps p c.in_ok-number.number refl (rw c.self.view_is c.in_ok-number.ensures)
+    c.in_ok-insert.ensures.updates.0 c.self.invariant)
 
 pub returns-clause-each : goal.returns-clause-each
 returns-clause-each c = λ m made each.

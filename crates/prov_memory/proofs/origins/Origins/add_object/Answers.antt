@@ -7,4 +7,4 @@ use Rattle.prov_memory.proofs.origins.Origins.add_object.Goals as goal
 pub invariant_of-self-2 : goal.invariant_of-self-2
 invariant_of-self-2 c =
     subst (λ (ps : List Prov). AreNumbered c.self.inside.numbers ps) (sym c.in_ok-push.ensures.items)
-      (numbered_object c.self.inside.numbers c.self.inside.list.items c.args.name c.self.invariant)
+    (numbered_object c.self.inside.numbers c.self.inside.list.items c.args.name c.self.invariant)

@@ -24,7 +24,7 @@ continuation-returns-clause-listing t c =
     let end : c.len.result ≡ length c.term.new.entries.items = search rules in
     ap (λ z. entries_of (set c.term.new.entries.items z (Operand c.args.node c.args.operand (c.len.result - c.len-at.result - 1)))) at
     ∙ continued_by old c.term.new.entries.items first (Operand c.args.node c.args.operand (c.len.result - c.len-at.result - 1)) c.args.node c.args.operand
-      part told
+    part told
     (ap (operand c.args.node c.args.operand) (omega (arith, count, end, at)))
 
 pub term-loop-part-preserved : goal.term-loop-part-preserved
@@ -42,22 +42,22 @@ pub term-returns-in_ok-continuation-in-Choose-clause-listing : goal.term-returns
 term-returns-in_ok-continuation-in-Choose-clause-listing t c =
     let n : ℕ = length c.args.nodes.now in
     let whole : flat n (term_of c.args.core.now) ≡ flat n (term_of c.get.result.now) ++
-      (continuation c.in-Choose.number 1 (flat n (term_of c.get-in-Choose.result.now)) ++
-      continuation c.in-Choose.number 2 (flat n (term_of c.get-in-Choose-2.result.now))) =
+    (continuation c.in-Choose.number 1 (flat n (term_of c.get-in-Choose.result.now)) ++
+    continuation c.in-Choose.number 2 (flat n (term_of c.get-in-Choose-2.result.now))) =
     choice_flat n c.args.core.now c.in-Choose.number c.get.result.now c.get-in-Choose.result.now c.get-in-Choose-2.result.now (search rules) in
     choice_parts c.continuation-in-Choose.result (flat n (term_of c.get.result.now))
-      (continuation c.in-Choose.number 1 (flat n (term_of c.get-in-Choose.result.now)))
+    (continuation c.in-Choose.number 1 (flat n (term_of c.get-in-Choose.result.now)))
     (continuation c.in-Choose.number 2 (flat n (term_of c.get-in-Choose-2.result.now))) _ _ _ _ _
     whole c.in_ok-term-in-Choose.ensures.listing c.in_ok-continuation-in-Choose.ensures.listing c.continuation-in-Choose.ensures.listing
 
 pub term-returns-in_ok-term-in-Weak-clause-listing : goal.term-returns-in_ok-term-in-Weak-clause-listing
 term-returns-in_ok-term-in-Weak-clause-listing t c =
     let whole : flat (length c.args.nodes.now) (term_of c.args.core.now) ≡ flat (length c.args.nodes.now) (term_of c.get-in-Weak.result.now) ++
-      flat (length c.args.nodes.now) (term_of c.get-in-Weak-2.result.now) =
+    flat (length c.args.nodes.now) (term_of c.get-in-Weak-2.result.now) =
     pair_flat (length c.args.nodes.now) c.args.core.now c.get-in-Weak.result.now c.get-in-Weak-2.result.now
-      (rw (c.get-in-Weak.ensures, c.get-in-Weak-2.ensures) c.in-Weak.is) in
+    (rw (c.get-in-Weak.ensures, c.get-in-Weak-2.ensures) c.in-Weak.is) in
     two_parts c.term-in-Weak-2.result (flat (length c.args.nodes.now) (term_of c.get-in-Weak.result.now))
-      (flat (length c.args.nodes.now) (term_of c.get-in-Weak-2.result.now)) _ _ _ _
+    (flat (length c.args.nodes.now) (term_of c.get-in-Weak-2.result.now)) _ _ _ _
     whole c.in_ok-term-in-Weak.ensures.listing c.term-in-Weak-2.ensures.listing
 
 pub continuation-returns-clause-due : goal.continuation-returns-clause-due
@@ -66,15 +66,15 @@ continuation-returns-clause-due t c = λ h.
     let tables = c.args.self.now.expressions.tables in
     let pushed : AreEntries firsts tables c.args.nodes.now c.push.new.self.items =
     subst (AreEntries firsts tables c.args.nodes.now) (sym c.in_ok-push.ensures.items)
-      (entries_pushed firsts tables c.args.nodes.now c.args.entries.now.items c.args.node c.args.operand 0 h) in
+    (entries_pushed firsts tables c.args.nodes.now c.args.entries.now.items c.args.node c.args.operand 0 h) in
     entries_set c.term.new.self.function.objects.first.items c.term.new.self.expressions.tables c.args.nodes.now c.term.new.entries.items c.len-at.result
-      c.args.node c.args.operand
+    c.args.node c.args.operand
     (c.len.result - c.len-at.result - 1) (c.in_ok-term.ensures.due pushed)
 
 pub term-returns-in_ok-continuation-in-Choose-clause-objects : goal.term-returns-in_ok-continuation-in-Choose-clause-objects
 term-returns-in_ok-continuation-in-Choose-clause-objects t c =
     on_ok c.continuation-in-Choose.result _ _ (λ e. e ∙ (c.in_ok-continuation-in-Choose.ensures.objects ∙ c.in_ok-term-in-Choose.ensures.objects))
-      c.continuation-in-Choose.ensures.objects
+    c.continuation-in-Choose.ensures.objects
 
 pub term-returns-in_ok-continuation-in-Choose-clause-due : goal.term-returns-in_ok-continuation-in-Choose-clause-due
 term-returns-in_ok-continuation-in-Choose-clause-due t c = λ h.
@@ -82,7 +82,7 @@ term-returns-in_ok-continuation-in-Choose-clause-due t c = λ h.
 
 pub term-returns-in_ok-term-in-Weak-clause-objects : goal.term-returns-in_ok-term-in-Weak-clause-objects
 term-returns-in_ok-term-in-Weak-clause-objects t c = on_ok c.term-in-Weak-2.result _ _ (λ e. e ∙ c.in_ok-term-in-Weak.ensures.objects)
-  c.term-in-Weak-2.ensures.objects
+    c.term-in-Weak-2.ensures.objects
 
 pub term-returns-in_ok-term-in-Weak-clause-due : goal.term-returns-in_ok-term-in-Weak-clause-due
 term-returns-in_ok-term-in-Weak-clause-due t c = λ h. c.term-in-Weak-2.ensures.due (c.in_ok-term-in-Weak.ensures.due h)

@@ -13,8 +13,8 @@ returns-clause-due c = λ noted there.
     let firsts = c.args.self.now.function.objects.first.items in
     let h = head_at (out-Typed x.tree.now).node in
     noted_due firsts c.choice_at.new.self.expressions.tables c.args.nodes.now c.args.number c.room-room.result x _ c.deref.result.now noted there refl refl
-      refl c.completes.ensures
+    refl c.completes.ensures
     (λ n b. c.deref.ensures.value ∙ c.in_ok-operands.ensures firsts n b)
     (c.room-room.ensures ∙ ap (λ n. room_of h n c.args.number x.room) c.count_of_nodes.ensures)
     (subst (λ t. IsAct firsts t x.initializer h (seen x.tree.now c.deref.result.now x.operand c.room-room.result) c.args.kind c.in_ok-act.act)
-      (sym c.choice_at.ensures.tables) c.in_ok-act.ensures.act)
+    (sym c.choice_at.ensures.tables) c.in_ok-act.ensures.act)

@@ -5,12 +5,12 @@ use Rattle.run_code.proofs.draft.Draft.effect_act.Goals as goal
 pub returns-in-Assign-clause-act : goal.returns-in-Assign-clause-act
 returns-in-Assign-clause-act c = λ own.
     IfOk-weaker c.store.result _ _ (λ a s. assigns c.args.self.now.function.objects.first.items c.store.new.self.expressions.tables c.args.tree.now
-      c.in-Assign.initializing c.in-Assign.access c.args.operands.now own c.at.result c.at-value.result c.args.room a c.in-Assign.is c.at.ensures
-      c.at-value.ensures s) c.store.ensures.act
+    c.in-Assign.initializing c.in-Assign.access c.args.operands.now own c.at.result c.at-value.result c.args.room a c.in-Assign.is c.at.ensures
+    c.at-value.ensures s) c.store.ensures.act
 
 pub returns-in-Update-clause-act : goal.returns-in-Update-clause-act
 returns-in-Update-clause-act c = λ own.
     IfOk-weaker c.store-in-Update.result _ _
-      (λ a s. updates c.args.self.now.function.objects.first.items c.store-in-Update.new.self.expressions.tables c.args.tree.now c.in-Update.change
-      c.in-Update.old c.changes.result c.args.operands.now own c.at-in-Update.result c.args.room a c.in-Update.is c.changes.ensures c.at-in-Update.ensures s)
-      c.store-in-Update.ensures.act
+    (λ a s. updates c.args.self.now.function.objects.first.items c.store-in-Update.new.self.expressions.tables c.args.tree.now c.in-Update.change
+    c.in-Update.old c.changes.result c.args.operands.now own c.at-in-Update.result c.args.room a c.in-Update.is c.changes.ensures c.at-in-Update.ensures s)
+    c.store-in-Update.ensures.act

@@ -10,7 +10,7 @@ returns-clause-due c = λ h.
     let there : slice_get c.args.nodes.now c.args.number ≡ Some c.in-Some.info.now =
     slice_get_read c.args.nodes.now (length c.args.nodes.now) c.args.number c.in-Some.info.now refl found.3.0 found.1 in
     event_added c.args.self.now.function.objects.first.items c.due.new.self.function.objects.first.items c.args.self.now.expressions.tables
-      c.due.new.self.expressions.tables
+    c.due.new.self.expressions.tables
     c.args.nodes.now c.args.entries.now.items c.push.new.self.items c.in_ok-due.due c.in-Some.info.now c.args.number
     c.in_ok-due.ensures.objects c.in_ok-due.ensures.grown c.in_ok-push.ensures.items (ap (λ (p : Place). p.node) c.in_ok-due.ensures.place) there
-      c.in_ok-due.ensures.due h
+    c.in_ok-due.ensures.due h

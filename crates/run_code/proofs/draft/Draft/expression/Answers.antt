@@ -14,10 +14,9 @@ add_expression-requires c =
     let same : c.deref-2.result.now ≡ c.deref-3.result.now = c.deref-2.ensures.value ∙ sym c.deref-3.ensures.value in
     let laid : AreEntries firsts tables c.deref-2.result.now c.in_ok-entries.entries.items =
     subst (λ fs. AreEntries fs tables c.deref-2.result.now c.in_ok-entries.entries.items) (c.in_ok-entries.ensures.objects ∙ c.chosen.ensures.objects)
-      c.in_ok-entries.ensures.due in
-    (
+    c.in_ok-entries.ensures.due in (
       firsts,
       subst (AreNodes firsts root) (sym c.deref-3.ensures.value) (nodes_added firsts root c.collect.new.nodes.items added),
       subst (AreEntries firsts tables c.deref-3.result.now) (sym c.deref-4.ensures.value)
-        (subst (λ ns. AreEntries firsts tables ns c.in_ok-entries.entries.items) same laid),
+          (subst (λ ns. AreEntries firsts tables ns c.in_ok-entries.entries.items) same laid),
     )

@@ -21,7 +21,11 @@ returns-clause-grown c = record {
 pub invariant_of-self : goal.invariant_of-self
 invariant_of-self c = record {
   laid_out = tables_grown c.args.self.now.tables _ c.args.self.now.entries.items c.args.self.now.all.items
-      (record { calls = pushed_front (is_ok c.push.result) c.args.self.now.tables.calls.items c.push.new.self.items c.args.call c.push.ensures.items; stores =
-        λ n x h. h; constants = λ n x h. h })
+      (record {
+        calls = pushed_front (is_ok c.push.result) c.args.self.now.tables.calls.items c.push.new.self.items c.args.call c.push.ensures.items;
+        stores =
+            λ n x h. h;
+        constants = λ n x h. h;
+      })
       c.args.self.now.laid_out;
 }

@@ -21,7 +21,10 @@ returns-clause-grown c = record {
 pub invariant_of-self : goal.invariant_of-self
 invariant_of-self c = record {
   laid_out = tables_grown c.args.self.now.tables _ c.args.self.now.entries.items c.args.self.now.all.items
-      (record { stores = pushed_front (is_ok c.push.result) c.args.self.now.tables.stores.items c.push.new.self.items c.args.store c.push.ensures.items;
-        calls = λ n x h. h; constants = λ n x h. h })
+      (record {
+        stores = pushed_front (is_ok c.push.result) c.args.self.now.tables.stores.items c.push.new.self.items c.args.store c.push.ensures.items;
+        calls = λ n x h. h;
+        constants = λ n x h. h;
+      })
       c.args.self.now.laid_out;
 }

@@ -7,4 +7,4 @@ returns-then-has_born c =
     after c.args.self.now.foot c.add.new.self c.forget.new.self
     (added c.args.self.now.foot c.add.new.self (Dies c.args.object) c.in_ok-add.ensures.added)
     (forgotten c.add.new.self c.forget.new.self c.args.object c.forget.ensures
-      (died c.args.self.now.foot c.add.new.self c.args.object c.in_ok-add.ensures.added))
+    (died c.args.self.now.foot c.add.new.self c.args.object c.in_ok-add.ensures.added))

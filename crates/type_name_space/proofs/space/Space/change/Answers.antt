@@ -12,12 +12,12 @@ pub returns-then-place-gt0 : goal.returns-then-place-gt0
 returns-then-place-gt0 g c =
     ap (map declared_of) c.rename.ensures
     ∙ change_some c.self.inside.newest.items c.self.inside.bindings.items c.args.self.now c.args.symbol c.place_at-place.result c.args.meaning
-      c.self.invariant c.self.view_is
+    c.self.invariant c.self.view_is
     (c.place_at-place.ensures ∙ ap (λ (xs : List ℕ). get_or xs c.args.symbol 0) c.deref.ensures.value) c.if-place-gt0.true
 
 pub returns-else-place-gt0 : goal.returns-else-place-gt0
 returns-else-place-gt0 g c =
     let none : c.place_at-place.result ≡ 0 = omega arith in
     change_none c.self.inside.newest.items c.self.inside.bindings.items c.args.self.now c.args.symbol c.place_at-place.result c.args.meaning c.self.invariant
-      c.self.view_is
+    c.self.view_is
     (c.place_at-place.ensures ∙ ap (λ (xs : List ℕ). get_or xs c.args.symbol 0) c.deref.ensures.value) none

@@ -12,6 +12,6 @@ pub returns-else-place-eq0 : goal.returns-else-place-eq0
 returns-else-place-eq0 g c =
     let more : 0 < c.place_at-place.result = omega arith in
     some_found c.self.inside.newest.items c.self.inside.bindings.items c.args.self.now c.args.symbol c.place_at-place.result c.binding_at.result
-      c.self.invariant c.self.view_is
+    c.self.invariant c.self.view_is
     (c.place_at-place.ensures ∙ ap (λ (xs : List ℕ). get_or xs c.args.symbol 0) c.deref.ensures.value) more
     (c.binding_at.ensures ∙ ap (λ bs. slice_get bs (c.place_at-place.result - 1)) c.deref-else-place-eq0.ensures.value)

@@ -7,6 +7,6 @@ use Rattle.type_name_space.proofs.space.Space.lower.Given as goal
 abbrev pub invariant-loop-turn : goal.invariant-loop-turn
 invariant-loop-turn g l = record {
   all : l.self ++ map (put_at l.depth) (reverse (map declared_of l.lifted.items)) ≡ l.fn.self ++
-    map (put_at l.depth) (reverse (map declared_of l.fn.lifted.items));
+      map (put_at l.depth) (reverse (map declared_of l.fn.lifted.items));
   fewer : length l.lifted.items + l.turn ≤ length l.fn.lifted.items;
 }

@@ -10,9 +10,11 @@ add_sub n = omega arith
 pub returns-in-Some-clause-some : goal.returns-in-Some-clause-some
 returns-in-Some-clause-some c =
     let h : position (λ y. same_row (c.args.parent, c.args.turn, c.args.node) y) c.self.inside.rows.keys ≡ Some c.in-Some.at = sym c.in-Some.ensures.index in
-    let at = slice_get-position _ c.self.inside.rows.keys c.in-Some.at h in
-    (omega arith, rw (← c.self.view_is) (omega (arith, slice_get_within c.self.inside.rows.keys c.in-Some.at _ at)),
-      rw (← c.self.view_is) (ap (slice_get c.self.inside.rows.keys) (add_sub c.in-Some.at) ∙ at))
+    let at = slice_get-position _ c.self.inside.rows.keys c.in-Some.at h in (
+      omega arith,
+      rw (← c.self.view_is) (omega (arith, slice_get_within c.self.inside.rows.keys c.in-Some.at _ at)),
+      rw (← c.self.view_is) (ap (slice_get c.self.inside.rows.keys) (add_sub c.in-Some.at) ∙ at),
+    )
 
 pub returns-in-None-clause-none : goal.returns-in-None-clause-none
 returns-in-None-clause-none c h =
