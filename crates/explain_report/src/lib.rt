@@ -1,0 +1,8 @@
+//! Why a run has its verdict, for a person.
+#![tactic(auto)]
+
+mod asked;
+mod explain;
+
+pub use asked::Asked;
+pub use explain::{explanation, explanation_json};
