@@ -51,7 +51,7 @@ or_none : (a : Bool) → a ≡ (a || false)
 or_none true = refl
 or_none false = refl
 
-or_assoc : (a b c : Bool) → ((a || b) || c) ≡ (a || (b || c))
+pub or_assoc : (a b c : Bool) → ((a || b) || c) ≡ (a || (b || c))
 or_assoc true b c = refl
 or_assoc false b c = refl
 
@@ -61,7 +61,7 @@ either_nothing s = λ i. record { born = or_none s.born i; dies = or_none s.dies
 pub nothing_either : (s : State) → either nothing s ≡ s
 nothing_either s = refl
 
-either_assoc : (s t u : State) → either (either s t) u ≡ either s (either t u)
+pub either_assoc : (s t u : State) → either (either s t) u ≡ either s (either t u)
 either_assoc s t u = λ i. record {
   born = or_assoc s.born t.born u.born i;
   dies = or_assoc s.dies t.dies u.dies i;

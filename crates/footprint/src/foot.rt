@@ -2,6 +2,7 @@
 ghost use Rattle.std.specs.Prelude.{◌≡◌, ◌+◌, ◌-◌, ◌^◌, ◌&&◌, ◌||◌, not, min, false, OnOk, OnErr};
 ghost use Rattle.ub_base.specs.declared.names.Item.{Item};
 ghost use Rattle.ub_base.specs.declared.names.Item.TheVariants.{Born, Ending};
+ghost use Rattle.footprint.specs.Between.{IsBetween};
 ghost use Rattle.footprint.specs.States.{state_in};
 ghost use Rattle.footprint.specs.Holds.{holds, stands_for, is_forgotten};
 
@@ -147,7 +148,9 @@ impl Foot {
 
     /// Adds the items of another set, at the cost of that set's size. After NoMemory some of them may have been added.
     pub fn merge(&mut self, other: &Foot) -> Result<(), NoMemory>
-        ensures { OnOk result ((i : Item) → holds self.new i ≡ (holds self.old i || holds other.now i)) }
+        ensures ok { OnOk result ((i : Item) → holds self.new i ≡ (holds self.old i || holds other.now i)) }
+        // Where memory runs out, some of the other's items are added.
+        ensures err { OnErr result ((i : Item) → IsBetween (holds self.old i) (holds other.now i) (holds self.new i)) }
     {
         self.reads.merge(&other.reads)?;
         self.writes.merge(&other.writes)?;
@@ -161,15 +164,21 @@ impl Foot {
         Ok(())
     }
 
-    /// Adds the items of another set, at the cost of the smaller one. After NoMemory some of them may be lost.
+    /// Adds the items of another set, at the cost of the smaller one.
     pub fn absorb(&mut self, other: Foot) -> Result<(), NoMemory>
-        ensures { OnOk result ((i : Item) → holds self.new i ≡ (holds self.old i || holds other i)) }
+        ensures ok { OnOk result ((i : Item) → holds self.new i ≡ (holds self.old i || holds other i)) }
+        // Where memory runs out, some of the other's items are added.
+        ensures err { OnErr result ((i : Item) → IsBetween (holds self.old i) (holds other i) (holds self.new i)) }
     {
         let mut other = other;
-        if self.size() < other.size() {
+        if self.size() >= other.size() {
+            return self.merge(&other);
+        }
+        let merged = other.merge(self);
+        if merged.is_ok() {
             std::mem::swap(self, &mut other);
         }
-        self.merge(&other)
+        merged
     }
 
     /// Takes the Read, Write and Alive items of an object away.

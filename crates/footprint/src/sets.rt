@@ -6,6 +6,7 @@ ghost use Rattle.std.specs.BTreeSet.{contains};
 ghost use Rattle.ub_base.specs.declared.names.ObjName.{ObjName};
 ghost use Rattle.ub_base.specs.declared.names.Event.{Event};
 ghost use Rattle.ub_base.specs.Names.{same_object};
+ghost use Rattle.footprint.specs.Between.{IsBetween, AreBetween};
 ghost use Rattle.footprint.specs.States.{state_in, either, only_at, not_alive};
 ghost use Rattle.footprint.specs.Holds.{narrow_cmp};
 
@@ -57,8 +58,10 @@ pub fn merge_states(
     states: &mut BTreeMap<ObjName, State>,
     more: &BTreeMap<ObjName, State>,
 ) -> Result<(), NoMemory>
-    ensures { OnOk result ((x : ObjName)
+    ensures ok { OnOk result ((x : ObjName)
         → state_in states.new x ≡ either (state_in states.old x) (state_in more.now x)) }
+    ensures err { OnErr result ((x : ObjName)
+        → AreBetween (state_in states.old x) (state_in more.now x) (state_in states.new x)) }
 {
     for (object, state) in more.iter() {
         mark(states, *object, *state)?;
@@ -67,8 +70,10 @@ pub fn merge_states(
 }
 
 pub fn merge_lookups(lookups: &mut BTreeSet<u64>, more: &BTreeSet<u64>) -> Result<(), NoMemory>
-    ensures { OnOk result ((a : ℕ)
+    ensures ok { OnOk result ((a : ℕ)
         → contains nat_cmp lookups.new a ≡ (contains nat_cmp lookups.old a || contains nat_cmp more.now a)) }
+    ensures err { OnErr result ((a : ℕ)
+        → IsBetween (contains nat_cmp lookups.old a) (contains nat_cmp more.now a) (contains nat_cmp lookups.new a)) }
 {
     for addr in more.iter() {
         lookups.insert(*addr)?;
@@ -80,9 +85,11 @@ pub fn merge_narrows(
     narrows: &mut BTreeSet<(Event, ObjName)>,
     more: &BTreeSet<(Event, ObjName)>,
 ) -> Result<(), NoMemory>
-    ensures { OnOk result ((d : Event) (x : ObjName)
+    ensures ok { OnOk result ((d : Event) (x : ObjName)
         → contains narrow_cmp narrows.new (d, x)
         ≡ (contains narrow_cmp narrows.old (d, x) || contains narrow_cmp more.now (d, x))) }
+    ensures err { OnErr result ((d : Event) (x : ObjName)
+        → IsBetween (contains narrow_cmp narrows.old (d, x)) (contains narrow_cmp more.now (d, x)) (contains narrow_cmp narrows.new (d, x))) }
 {
     for narrow in more.iter() {
         narrows.insert(*narrow)?;

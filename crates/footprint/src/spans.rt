@@ -3,6 +3,7 @@ ghost use Rattle.std.specs.Prelude.{◌≡◌, ◌≤◌, ◌<◌, ◌&&◌, ◌
 ghost use Rattle.std.specs.BTreeMap.{IsOrdered};
 ghost use Rattle.ub_base.specs.declared.names.ObjName.{ObjName};
 ghost use Rattle.ub_base.specs.Names.{same_object};
+ghost use Rattle.footprint.specs.Between.{IsBetween};
 ghost use Rattle.footprint.specs.Ranges.{Separate, range_has, has_byte, start_cmp, IsFirstByte, Meet};
 ghost use Rattle.footprint.specs.Searches.{IsJoinedStart, IsJoinedEnd};
 
@@ -139,9 +140,11 @@ impl Spans {
 
     /// Adds the bytes of another set.
     pub fn merge(&mut self, other: &Spans) -> Result<(), NoMemory>
-        ensures { OnOk result ((x : ObjName) (i : ℕ)
+        ensures ok { OnOk result ((x : ObjName) (i : ℕ)
             → has_byte self.new.ends.entries x i
             ≡ (has_byte self.old.ends.entries x i || has_byte other.now.ends.entries x i)) }
+        ensures err { OnErr result ((x : ObjName) (i : ℕ)
+            → IsBetween (has_byte self.old.ends.entries x i) (has_byte other.now.ends.entries x i) (has_byte self.new.ends.entries x i)) }
     {
         for (key, end) in other.ends.iter() {
             self.add(Span {

@@ -39,7 +39,8 @@ use Rattle.c_lex.specs.declared.token.TokenKind.TheVariants as token
 use Rattle.c_ast.specs.Input.{Input, kind, next, declared, lookup, is_typedef}
 use Rattle.parse_cursor.specs.Cursors.{IsCursor}
 use Rattle.parse_cursor.specs.Declarations.{IsWithin, InScope, said, said_of, is_typedef_in, names_typedef, with_name, first_names, declared_at, closed_at}
-use Rattle.parse_cursor.specs.Spelling.{IsNumbered, IsSpelling}
+use Rattle.c_spelling.specs.Spelling.{IsSpelling}
+use Rattle.parse_cursor.specs.Spelling.{IsNumbered}
 use Rattle.parse_cursor.specs.declared.refusal.Refusal.{Refusal}
 use Rattle.parse_cursor.specs.declared.scope.Declared.{Declared}
 use Rattle.parse_cursor.specs.declared.scope.Named.{Named}

@@ -3,7 +3,8 @@ use Rattle.std.specs.Prelude.{◌≡◌, ℕ, ◌≤◌, List, All, length}
 use Rattle.c_lex.specs.TokenText.{TokenText}
 use Rattle.parse_cursor.specs.Declarations.{InScope, IsWithin}
 use Rattle.parse_cursor.specs.declared.scope.Declared.{Declared}
-use Rattle.parse_cursor.specs.Spelling.{IsSpelling, AreNumbered}
+use Rattle.c_spelling.specs.Spelling.{IsSpelling}
+use Rattle.parse_cursor.specs.Spelling.{AreNumbered}
 
 pub record IsCursor (t : TokenText) (at : ℕ) (spelled : List ℕ) (scope : InScope) (prototype : List Declared) : Type 0 where
   pub within : at ≤ length t.list

@@ -4,7 +4,7 @@ ghost use Rattle.std.specs.Prelude.{◌≡◌, ◌≢◌, ◌+◌, ◌<◌, [], 
 ghost use Rattle.c_lex.specs.declared.token.TokenKind.TheVariants as token;
 ghost use Rattle.c_ast.specs.Input.{start_of, kind, next, is_typedef};
 ghost use Rattle.parse_cursor.specs.Declarations.{IsWithin, said, names_typedef, declared_at, closed_at, with_prototype, left_at};
-ghost use Rattle.parse_cursor.specs.Spelling.{IsSpelling};
+ghost use Rattle.c_spelling.specs.Spelling.{IsSpelling};
 ghost use Rattle.parse_spec.specs.Operators.{tight_of};
 ghost use Rattle.parse_cursor.specs.Reads.{Reads};
 ghost use Rattle.parse_spec.specs.Steps as steps;

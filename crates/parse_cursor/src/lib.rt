@@ -7,11 +7,9 @@ pub mod operators;
 mod place;
 mod refusal;
 mod scope;
-mod spelling;
 pub mod tokens;
 
 pub use cursor::Cursor;
 pub use place::{Mode, Place};
 pub use refusal::Refusal;
 pub use scope::Declared;
-pub use spelling::spelled_by;

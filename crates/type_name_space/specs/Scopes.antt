@@ -36,6 +36,10 @@ abbrev pub left : {M : Type 0} → ℕ → List (Declared M) → List (Declared 
 left depth [] = []
 left depth (d ∷ ds) = kept depth d (left depth ds)
 
+-- a list that another one begins with
+abbrev pub IsFront : {A : Type 0} → List A → List A → Type 0
+IsFront {A} front all = (rest : List A) × (all ≡ front ++ rest)
+
 -- whether the newest is in a scope of this depth or of a greater one
 abbrev pub ends_at : {M : Type 0} → ℕ → List (Declared M) → Bool
 ends_at depth [] = false

@@ -1,7 +1,7 @@
 // A name space: what each name means in the scopes that are open (6.2.1, 6.2.3).
 ghost use Rattle.std.specs.Prelude.{◌≡◌, [], ◌∷◌, ◌++◌, map, reverse, length, slice_get, IfOk, OnOk, OnErr, MatchOption};
 ghost use Rattle.std.specs.Option.{option_copied};
-ghost use Rattle.type_name_space.specs.Scopes.{visible, at_depth, left, changed, put_at, ends_at};
+ghost use Rattle.type_name_space.specs.Scopes.{visible, at_depth, left, changed, put_at, ends_at, IsFront};
 ghost use Rattle.type_name_space.specs.Links.{seen, declared_of, renamed};
 
 use crate::places::{make_room, place_at, put_place};
@@ -168,6 +168,8 @@ impl<M: Drop> Space<M> {
     pub fn lift(&mut self, alloc: Global, depth: u32) -> Result<Vec<Binding<M>>, NoMemory>
         ensures ok { OnOk result (self.new ≡ left depth self.old) }
         ensures lifted { IfOk result (λ ds. self.old ≡ self.new ++ reverse (map declared_of ds.items)) }
+        // Where memory runs out, some of those that end are gone, the newest, and no other.
+        ensures err { OnErr result (IsFront self.new self.old × (left depth self.new ≡ left depth self.old)) }
     {
         let mut lifted = Vec::new(alloc);
         for turn in 0..self.len() {
@@ -181,7 +183,9 @@ impl<M: Drop> Space<M> {
 
     /// Declares all of these, the last one first, in the scope of this depth.
     pub fn lower(&mut self, depth: u32, lifted: Vec<Binding<M>>) -> Result<(), NoMemory>
-        ensures { OnOk result (self.new ≡ self.old ++ map (put_at depth) (reverse (map declared_of lifted.items))) }
+        ensures ok { OnOk result (self.new ≡ self.old ++ map (put_at depth) (reverse (map declared_of lifted.items))) }
+        // Where memory runs out, some of these are declared, in their order, and nothing else.
+        ensures err { OnErr result (IsFront self.old self.new × IsFront self.new (self.old ++ map (put_at depth) (reverse (map declared_of lifted.items)))) }
     {
         let mut lifted = lifted;
         for turn in 0..lifted.len() {

@@ -8,6 +8,8 @@ use Rattle.footprint.specs.Holds.{narrow_cmp}
 use Rattle.footprint.proofs.sets.merge_narrows.Given as goal
 
 abbrev pub invariant-loop-narrow : goal.invariant-loop-narrow
-invariant-loop-narrow l = (k : Event × ObjName)
-    → (contains narrow_cmp l.narrows k || list_any (is_at (narrow_cmp k)) l.narrow-iterator) ≡ (contains narrow_cmp l.fn.narrows k ||
-    contains narrow_cmp l.more k)
+invariant-loop-narrow l = record {
+  whole : (k : Event × ObjName) → (contains narrow_cmp l.narrows k || list_any (is_at (narrow_cmp k)) l.narrow-iterator)
+      ≡ (contains narrow_cmp l.fn.narrows k || contains narrow_cmp l.more k);
+  grown : (k : Event × ObjName) → (contains narrow_cmp l.fn.narrows k || contains narrow_cmp l.narrows k) ≡ contains narrow_cmp l.narrows k;
+}

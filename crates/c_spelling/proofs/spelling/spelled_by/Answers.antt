@@ -1,5 +1,5 @@
-use Rattle.parse_cursor.proofs.Spellings.{spelled_more}
-use Rattle.parse_cursor.proofs.spelling.spelled_by.Goals as goal
+use Rattle.c_spelling.proofs.Spellings.{spelled_more}
+use Rattle.c_spelling.proofs.spelling.spelled_by.Goals as goal
 
 pub loop-at-preserved : goal.loop-at-preserved
 loop-at-preserved c =

@@ -2,8 +2,8 @@ use Rattle.std.proofs.Common.{◌≡◌, ℕ, ◌<◌, ◌≤◌, List, length, 
 use Rattle.std.specs.HashMap.{get_by}
 use Rattle.std.specs.Str.{bytes_eq}
 use Rattle.c_lex.specs.TokenText.{text_at}
-use Rattle.parse_cursor.specs.Spelling.{IsFirst, IsFirstBefore}
-use Rattle.parse_cursor.proofs.spelling.spelled_by.Given as goal
+use Rattle.c_spelling.specs.Spelling.{IsFirst, IsFirstBefore}
+use Rattle.c_spelling.proofs.spelling.spelled_by.Given as goal
 
 abbrev pub invariant-loop-at : goal.invariant-loop-at
 invariant-loop-at l = record {

@@ -1,5 +1,5 @@
 use Rattle.std.proofs.lemmas.Map.Text.{hash_map_updates_str}
-use Rattle.parse_cursor.proofs.spelling.number_of.Goals as goal
+use Rattle.c_spelling.proofs.spelling.number_of.Goals as goal
 
 pub returns-in_ok-insert-in-None-clause-known : goal.returns-in_ok-insert-in-None-clause-known
 returns-in_ok-insert-in-None-clause-known c = λ other.

@@ -1,11 +1,10 @@
 //! Which tokens have the same text.
 
-ghost use Rattle.std.specs.Prelude.{◌≡◌, ℕ, List, Some, cond, unwrap_or, IfOk, IfErr};
+ghost use Rattle.std.specs.Prelude.{◌≡◌, ℕ, List, Some, cond, unwrap_or, IfOk};
 ghost use Rattle.std.specs.Str.{bytes_eq};
 ghost use Rattle.std.specs.HashMap.{get_by};
-ghost use Rattle.parse_cursor.specs.Spelling.{IsSpelling};
+ghost use Rattle.c_spelling.specs.Spelling.{IsSpelling};
 
-use crate::refusal::Refusal;
 use c_lex::Tokens;
 use std::alloc::Global;
 use std::collections::HashMap;
@@ -30,9 +29,8 @@ fn number_of<'a>(
 }
 
 /// For each token, the number of the first token with its text.
-pub fn spelled_by(alloc: Global, tokens: &Tokens<'_>) -> Result<Vec<u32>, Refusal>
+pub fn spelled_by(alloc: Global, tokens: &Tokens<'_>) -> Result<Vec<u32>, NoMemory>
     ensures ok { IfOk result (λ v. IsSpelling tokens.now v.items) }
-    ensures memory { IfErr result (λ e. e ≡ Refusal.NoMemory) }
 {
     let mut spelled = Vec::new(alloc);
     let mut numbers = HashMap::new(alloc);
