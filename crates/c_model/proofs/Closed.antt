@@ -297,19 +297,6 @@ rise_chain true false l nb nq x y a c e z f g o w q h k = or_a _ _ (g h)
 rise_chain false true l nb nq x y a c e z f g o w q h k = absurd (true≢false (sym h))
 rise_chain false false l nb nq x y a c e z f g o w q h k = q h k
 
-between_chain : (bu bv bw a a' a'' c c' e e' e'' : Bool) → (a ≡ true → a' ≡ true → a'' ≡ true) → (c ≡ true → e' ≡ true → c' ≡ true) →
-    (e ≡ true → e' ≡ true → e'' ≡ true)
-    → (if bu then (if bv then a else c) else (if bv then false else e)) ≡ true
-    → (if bv then (if bw then a' else c') else (if bw then false else e')) ≡ true
-    → (if bu then (if bw then a'' else c') else (if bw then false else e'')) ≡ true
-between_chain true true true a a' a'' c c' e e' e'' f g o h k = f h k
-between_chain true true false a a' a'' c c' e e' e'' f g o h k = k
-between_chain true false true a a' a'' c c' e e' e'' f g o h k = absurd (true≢false (sym k))
-between_chain true false false a a' a'' c c' e e' e'' f g o h k = g h k
-between_chain false true bw a a' a'' c c' e e' e'' f g o h k = absurd (true≢false (sym h))
-between_chain false false true a a' a'' c c' e e' e'' f g o h k = absurd (true≢false (sym k))
-between_chain false false false a a' a'' c c' e e' e'' f g o h k = o h k
-
 -- from an event of the node to a later one of it
 body_lifts : (class : Class) (choice : Option ℕ) (i : ℕ) (last x : Bool) → (lifts class choice i last Body || (false && x)) ≡ true →
     (lifts class choice i last Val || x) ≡ true

@@ -165,9 +165,6 @@ mutual
 pub due_has : (taken : Taken) (t : Tree) (k : ℕ) (u : Place) → due_in taken k t u ≡ true → has (events taken k t) u ≡ true
 due_has taken t k u h = has_due taken t k u ∙ h
 
-pub due_range : (taken : Taken) (t : Tree) (k : ℕ) (u : Place) → due_in taken k t u ≡ true → In k (size t) u.node
-due_range taken t k u h = events_in taken t k u (due_has taken t k u h)
-
 pub among_range : (taken : Taken) (class : Class) (choice : Option ℕ) (ts : Trees) (i m : ℕ) (u : Place) → due_among taken class choice i m ts u ≡ true →
     In m (sizes ts) u.node
 among_range taken class choice ts i m u h = operands_in taken class choice ts i m u (has_among taken class choice ts i m u ∙ h)

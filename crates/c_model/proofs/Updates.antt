@@ -74,9 +74,6 @@ or_map false b c d f g h = right c d (g h)
 and_map : (a b c d : Bool) → (a ≡ true → c ≡ true) → (b ≡ true → d ≡ true) → (a && b) ≡ true → (c && d) ≡ true
 and_map a b c d f g h = and_b c d (f (and_l a b h)) (g (and_r a b h))
 
-val_of : ℕ → Place
-val_of m = record { node = m; kind = Val }
-
 module _ (taken taken' : Taken) (kept : (k j : ℕ) → taken k ≡ Some j → taken' k ≡ Some j) where
   -- more choices order more
   number_kept : (k j : ℕ) → is_number (taken k) j ≡ true → is_number (taken' k) j ≡ true

@@ -80,13 +80,6 @@ first_after t at f g old each text =
     (omega arith, subst (λ x. IsFirst t x (unwrap_or (f (text_at t at)) at)) same here.0))
     (λ e. wider t at text (f text) (old text) (λ same. both_ways (bytes_eq (text_at t at) text) e ((bytes_eq-Decides (text_at t at) text).1 same))))
 
--- a map that isn't changed has what it has
-pub kept_at : (f : List ℕ → Option ℕ) (text : List ℕ) (n : ℕ) → f text ≡ Some n → (other : List ℕ) → f other ≡ cond (bytes_eq text other) (Some n) (f other)
-kept_at f text n is other =
-    cond_both (bytes_eq text other) (Some n) (f other) (λ o. f other ≡ o)
-    (λ e. ap f (sym ((bytes_eq-Decides text other).0 e)) ∙ is)
-    (λ e. refl)
-
 -- one token more is spelled
 pub spelled_more : (t : TokenText) (at : ℕ) (spelled new : List ℕ) (f g : List ℕ → Option ℕ) (text : List ℕ) (n : ℕ) → text ≡ text_at t at
     → n ≡ unwrap_or (f text) at → ((other : List ℕ) → g other ≡ cond (bytes_eq text other) (Some n) (f other)) → new ≡ spelled ++ n ∷ []

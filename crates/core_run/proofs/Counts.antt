@@ -3,10 +3,6 @@ use Rattle.std.proofs.Common.{◌≡◌, ℕ, ◌+◌, refl, ap, arith}
 use Rattle.std.specs.Prelude.{Option, Some, None}
 use Rattle.core_run.specs.Told.{more}
 
-pub more_more : (a b : ℕ) (o : Option ℕ) → more b (more a o) ≡ more (a + b) o
-more_more a b None = refl
-more_more a b (Some n) = let e : n + a + b ≡ n + (a + b) = omega arith in ap Some e
-
 pub more_zero : (o : Option ℕ) → more 0 o ≡ o
 more_zero None = refl
 more_zero (Some n) = let e : n + 0 ≡ n = omega arith in ap Some e

@@ -30,26 +30,6 @@ size_node (node class ts) = refl
 pub size_of : (t : Typed) → size (tree_of t) ≡ suc (sizes (trees_of (out-Typed t).children))
 size_of t = size_node (tree_of t) ∙ ap (λ ts. suc (sizes ts)) (operands_of t)
 
-term_node : (k : ℕ) (t : Tree) → term_for k t ≡ node_term k (class_of t) (terms_for (suc k) (operands t))
-term_node k (node class ts) = refl
-
-pub term_of_node : (k : ℕ) (t : Typed) → term_for k (tree_of t) ≡ node_term k (class_of (tree_of t)) (terms_for (suc k) (trees_of (out-Typed t).children))
-term_of_node k t = term_node k (tree_of t) ∙ ap (λ ts. node_term k (class_of (tree_of t)) (terms_for (suc k) ts)) (operands_of t)
-
-pub next_operand : (i n : ℕ) (ts : List Typed) (t : Typed) → i < length ts → t ≡ get_or ts i t →
-    terms_for n (trees_of (drop i ts)) ≡ term_for n (tree_of t) ∷ terms_for (n + size (tree_of t)) (trees_of (drop (i + 1) ts))
-next_operand i n ts t h e =
-    ap (λ xs. terms_for n (trees_of xs)) (drop-cons ts i t h)
-    ∙ (ap (λ x. term_for n (tree_of x) ∷ terms_for (n + size (tree_of x)) (trees_of (drop (suc i) ts))) (sym e)
-    ∙ ap (λ j. term_for n (tree_of t) ∷ terms_for (n + size (tree_of t)) (trees_of (drop j ts))) (sym (add-one i)))
-
-pub next_size : (i : ℕ) (ts : List Typed) (t : Typed) → i < length ts → t ≡ get_or ts i t →
-    sizes (trees_of (drop i ts)) ≡ size (tree_of t) + sizes (trees_of (drop (i + 1) ts))
-next_size i ts t h e =
-    ap (λ xs. sizes (trees_of xs)) (drop-cons ts i t h)
-    ∙ (ap (λ x. size (tree_of x) + sizes (trees_of (drop (suc i) ts))) (sym e)
-    ∙ ap (λ j. size (tree_of t) + sizes (trees_of (drop j ts))) (sym (add-one i)))
-
 pub comma_none : (k : ℕ) (old new : List Core) (t w v : Core) → (old ≡ []) × (new ≡ []) → term_of t ≡ pure k → term_of w ≡ weak (term_of t) (term_of v) →
     term_of v ≡ value k → strung (map term_of new) (term_of w) ≡ comma_of k (map term_of old)
 comma_none k old new t w v e p h g =

@@ -64,10 +64,6 @@ or_self : (a : Bool) → (a || false) ≡ true → a ≡ true
 or_self true h = refl
 or_self false h = h
 
-or_twice : (a b : Bool) → (a || b) ≡ true → (a ≡ b) → a ≡ true
-or_twice true b h e = refl
-or_twice false b h e = e ∙ h
-
 turned_place : (i k : ℕ) → overlap k 1 i 1 ≡ true → i ≡ k
 turned_place i k h = grind (arith, nat_tests)
 

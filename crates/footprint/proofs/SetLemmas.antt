@@ -58,9 +58,6 @@ or_assoc false b c = refl
 pub either_nothing : (s : State) → s ≡ either s nothing
 either_nothing s = λ i. record { born = or_none s.born i; dies = or_none s.dies i; alive = or_none s.alive i; expose = or_none s.expose i }
 
-pub nothing_either : (s : State) → either nothing s ≡ s
-nothing_either s = refl
-
 pub either_assoc : (s t u : State) → either (either s t) u ≡ either s (either t u)
 either_assoc s t u = λ i. record {
   born = or_assoc s.born t.born u.born i;

@@ -327,20 +327,6 @@ forgotten old new x last top was now out sep y i = by (same_object x y) refl
         (λ h. let held = held_from_has old y i was h in has_from_held new y i (held.0, held.1, outside_one held.0 apart ∙ held.2, held.3, held.4))
         ∙ same (has_byte old.entries y i)
 
-pub without_separate : (old new : BTreeMap (ObjName × ℕ) ℕ) (x : ObjName) (from last : ℕ) → Without old new x from last → Separate old → Separate new
-without_separate old new x from last out sep = record {
-  bound = λ y f e got. sep.bound y f e (was y f e got);
-  filled = λ y f e got. sep.filled y f e (was y f e got);
-  apart = λ y f e g h got gone lt. sep.apart y f e g h (was y f e got) (was y g h gone) lt;
-}
-  where
-    kept_if : (b : Bool) (o p : Option ℕ) (e : ℕ) → o ≡ cond b None p → o ≡ Some e → p ≡ Some e
-    kept_if true o p e h got = absurd (cc)
-    kept_if false o p e h got = sym h ∙ got
-
-    was : (y : ObjName) (f e : ℕ) → end_at new y f ≡ Some e → end_at old y f ≡ Some e
-    was y f e got = kept_if (begins_in x from last y f) _ _ e (out y f) got
-
 -- ---- loops over ranges
 pub merge_turn : (rest more : List ((ObjName × ℕ) × ℕ)) (r : (ObjName × ℕ) × ℕ) (x : ObjName) (i : ℕ) (now new whole : Bool) → rest ≡ r ∷ more →
     new ≡ (now || range_has r x i) → (now || has_byte rest x i) ≡ whole → (new || has_byte more x i) ≡ whole

@@ -1,10 +1,8 @@
 -- Pairs of items that may be the least ones that conflict.
-use Rattle.std.specs.Prelude.{◌≡◌, ◌⊎◌, ℕ, Bool, true, false, ◌&&◌, List, [], ◌∷◌, Option, Some, None, if◌then◌else◌}
-use Rattle.ub_base.specs.declared.names.Event.{Event}
+use Rattle.std.specs.Prelude.{ℕ, Bool, ◌&&◌, List, Option, Some, None, if◌then◌else◌}
 use Rattle.ub_base.specs.declared.names.ObjName.{ObjName}
 use Rattle.ub_base.specs.declared.names.Item.{Item}
-use Rattle.ub_base.specs.declared.names.Item.TheVariants.{Read, Write, Born, Dies, Alive, Expose, Lookup, Narrow, Input, Output, Ending, Any}
-use Rattle.ub_base.specs.Names.{same_object, same_event}
+use Rattle.ub_base.specs.declared.names.Item.TheVariants.{Born, Dies, Alive, Expose, Lookup, Input, Output, Ending, Any}
 use Rattle.ub_base.specs.Frames.{Row}
 use Rattle.footprint.specs.declared.foot.Foot.{Foot}
 use Rattle.footprint.specs.declared.state.State.{State}

@@ -1,9 +1,8 @@
 -- Items that may conflict, and kinds of items (own).
 use Rattle.std.specs.Prelude.{ℕ, Bool, true, false, IsTrue}
-use Rattle.ub_base.specs.declared.names.Event.{Event}
 use Rattle.ub_base.specs.declared.names.ObjName.{ObjName}
 use Rattle.ub_base.specs.declared.names.Item.{Item}
-use Rattle.ub_base.specs.declared.names.Item.TheVariants.{Read, Write, Born, Dies, Alive, Expose, Lookup, Narrow, Input, Output, Ending, Any}
+use Rattle.ub_base.specs.declared.names.Item.TheVariants.{Write, Born, Dies, Alive, Expose, Lookup, Narrow, Input, Output, Ending, Any}
 use Rattle.addr_map.specs.Conflict.{conflicts_one, items_conflict}
 
 -- two items that conflict, wherever the objects stand that they name

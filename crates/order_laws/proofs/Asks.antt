@@ -26,16 +26,9 @@ use Rattle.order_laws.specs.Asking.{Post, Anything, Asked}
 abbrev pub More : List Item → List Item → Type 0
 More bs cs = (x : ObjName) → any_of (λ j. asks j x) bs ≡ true → any_of (λ j. asks j x) cs ≡ true
 
-or_more : (a b c : Bool) → (b ≡ true → c ≡ true) → (a || b) ≡ true → (a || c) ≡ true
-or_more true b c f h = refl
-or_more false b c f h = f h
-
 or_right : (a b : Bool) → b ≡ true → (a || b) ≡ true
 or_right true b h = refl
 or_right false b h = h
-
-more_cons : (i : Item) (bs cs : List Item) → More bs cs → More (i ∷ bs) (i ∷ cs)
-more_cons i bs cs m = λ x h. or_more (asks i x) (any_of (λ j. asks j x) bs) (any_of (λ j. asks j x) cs) (m x) h
 
 pub more_one : (i : Item) (bs : List Item) → More bs (i ∷ bs)
 more_one i bs = λ x h. or_right (asks i x) (any_of (λ j. asks j x) bs) h

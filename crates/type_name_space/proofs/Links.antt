@@ -168,9 +168,6 @@ some_found newest bs now s place r l v e z h =
     some_at (place_of s bs) bs (visible s (map declared_of bs)) r (spot s bs) (subst (λ (n : ℕ). 0 < n) p z) (h ∙ ap (λ n. slice_get bs (n - 1)) p) ∙ ap
     (visible s) v
 
-pub nothing_linked : {M : Type 0} (n : ℕ) (newest : List ℕ) → ((s : ℕ) → get_or newest s 0 ≡ 0) → IsLinked {M = M} newest []
-nothing_linked n newest h = record { found = h; linked = tt }
-
 pub ends_seen : {M : Type 0} (depth : ℕ) (bs : List (Binding M)) (b : Binding M) → Some b ≡ slice_get bs (length bs - 1) →
     nat_le depth b.depth ≡ ends_at depth (map declared_of bs)
 ends_seen depth [] b h = absurd (cc)

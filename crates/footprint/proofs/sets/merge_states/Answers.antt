@@ -27,7 +27,7 @@ returns-in_err-mark-clause-err c =
     let p = err_from_is_err_and c.from_residual.result c.from_residual.ensures.1 in
     rw p.1 (λ x.
     let same : state_in c.mark.new.states x ≡ state_in c.loop-object.states x =
-        ap (λ (es : List (ObjName × State)). or_nothing (lookup (is_at (object_cmp x)) es)) c.in_err-mark.ensures.err in
+    ap (λ (es : List (ObjName × State)). or_nothing (lookup (is_at (object_cmp x)) es)) c.in_err-mark.ensures.err in
     subst (λ (n : State). AreBetween (state_in c.args.states.now x) (state_in c.args.more.now x) n) (sym same)
     (listed_between c.args.more.now x _ (state_in c.loop-object.states x) _ c.iter-object-items.ensures.ordered (c.loop-object.invariant.grown x)
     (c.loop-object.invariant.whole x)))
