@@ -1,12 +1,12 @@
 -- What the words of a command line ask for (own).
 use Rattle.std.specs.Prelude.{◌≤◌, ℕ, List, ⊤}
-use Rattle.command.specs.Asked.{IsRequest, IsTaken, named}
+use Rattle.command.specs.Asked.{AreFit, IsRequest, named}
 use Rattle.command.specs.declared.request.Request.{Request}
 use Rattle.command.specs.declared.request.Request.TheVariants.{Audit, Check, SelfAudit}
 
--- the command takes the words
+-- the command takes the words, and no certificate would be kept in the place of what is read
 abbrev pub TakesWords : List (List ℕ) → Type 0
-TakesWords words = IsTaken words
+TakesWords words = AreFit words
 
 -- the words ask for this
 unfoldable pub Asks : List (List ℕ) → Request → Type 0

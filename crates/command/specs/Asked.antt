@@ -1,5 +1,26 @@
 -- What the words ask for, as the command finds it (own).
-use Rattle.std.specs.Prelude.{◌≡◌, ◌⊎◌, ℕ, min, max, List, [], map, string_bytes, Bool, false, codes, Option, Some, None, Result, unwrap_or, option_copied}
+use Rattle.std.specs.Prelude.{
+  ◌≡◌,
+  ◌⊎◌,
+  ℕ,
+  min,
+  max,
+  List,
+  [],
+  map,
+  string_bytes,
+  Bool,
+  false,
+  ◌&&◌,
+  ◌||◌,
+  codes,
+  Option,
+  Some,
+  None,
+  Result,
+  unwrap_or,
+  option_copied,
+}
 use Rattle.std.specs.Str.{bytes_eq}
 use Rattle.std.specs.Str.Parse.{ParsesUnsigned}
 use Rattle.std.specs.Result.{result_unwrap_or}
@@ -24,6 +45,16 @@ IsName name = (name ≡ codes "audit") ⊎ ((name ≡ codes "check") ⊎ (name �
 -- the name of the subcommand that the words name, and what it was given; words that are taken name one
 abbrev pub named : List (List ℕ) → List ℕ × List Row
 named words = unwrap_or (subcommand_of cub_app words) ([], matches_of cub_app words)
+
+-- the text is that of an argument that has one
+abbrev pub is_given_as : List ℕ → Option (List ℕ) → Bool
+is_given_as text None = false
+is_given_as text (Some given) = bytes_eq text given
+
+-- what a certificate would be kept in the place of: a file that is read, or, under the name `-`, standard input
+abbrev pub displaces : Option (List ℕ) → List ℕ → Option (List ℕ) → Bool
+displaces None file input = false
+displaces (Some cert) file input = bytes_eq cert (codes "-") || (bytes_eq cert file || is_given_as cert input)
 
 -- the text of an argument that has one, and else the empty text
 abbrev pub text_given : List ℕ → List Row → List ℕ
@@ -67,3 +98,20 @@ abbrev pub IsRequest : List ℕ × List Row → Request → Type 0
 IsRequest found (Audit request) = (found.0 ≡ codes "audit") × IsAudit found.1 request
 IsRequest found (Check request) = (found.0 ≡ codes "check") × IsCheck found.1 request
 IsRequest found (SelfAudit request) = (found.0 ≡ codes "self") × IsSelf found.1 request
+
+-- a request whose certificate would be kept in the place of what is read
+abbrev pub overwrites : Request → Bool
+overwrites (Audit request) = displaces (option_copied request.cert) request.file.now (option_copied request.input)
+overwrites (Check request) = false
+overwrites (SelfAudit request) = false
+
+-- the same of words
+abbrev pub words_overwrite : List ℕ × List Row → Bool
+words_overwrite found =
+    bytes_eq found.0 (codes "audit") &&
+    displaces (first_of (codes "cert") found.1) (text_given (codes "FILE") found.1) (first_of (codes "input") found.1)
+
+-- the words ask for something: the command takes them, and no certificate would be kept in the place of what is read
+pub record AreFit (words : List (List ℕ)) : Type 0 where
+  pub taken : IsTaken words
+  pub spares : words_overwrite (named words) ≡ false

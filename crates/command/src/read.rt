@@ -1,11 +1,11 @@
 // From words to a request.
-ghost use Rattle.std.specs.Prelude.{◌≡◌, ◌≢◌, true, map, string_bytes, IfOk, OnOk, IsErrOf, option_copied, unwrap_or, codes, []};
+ghost use Rattle.std.specs.Prelude.{◌≡◌, ◌≢◌, ◌⊎◌, true, map, string_bytes, IfOk, OnOk, IsErrOf, option_copied, unwrap_or, codes, []};
 ghost use Rattle.clap.specs.Matches.{found_of};
 ghost use Rattle.clap.specs.Simple.{HasMatchesOf};
 ghost use Rattle.clap.specs.Takes.{takes};
 ghost use Rattle.clap.specs.Walk.{rows_of, first_of, one_of, all_of};
 ghost use Rattle.command.specs.App.{cub_app};
-ghost use Rattle.command.specs.Asked.{named, text_given, args_given, is_set, Spells, IsAudit, IsCheck, IsName, IsSelf, IsRequest, IsTaken};
+ghost use Rattle.command.specs.Asked.{named, text_given, args_given, is_set, Spells, IsAudit, IsCheck, IsName, IsSelf, IsRequest, IsTaken, is_given_as, displaces, overwrites, words_overwrite, AreFit};
 
 use crate::app::cub_command;
 use crate::request::{AuditRequest, CheckRequest, Request, SelfRequest, WordFault};
@@ -136,15 +136,48 @@ fn request_of<'a>(
     Ok(Request::SelfAudit(self_request(given)))
 }
 
-/// What the words ask for.
+// Whether the name is that of an argument that was given.
+fn is_given_as(name: &str, given: Option<&str>) -> bool
+    ensures { result ≡ is_given_as name.now (option_copied given.entry) }
+{
+    match given {
+        Some(given) => name == given,
+        None => false,
+    }
+}
+
+// Whether the certificate would be kept in the place of what is read.
+fn displaces(cert: Option<&str>, file: &str, input: Option<&str>) -> bool
+    ensures { result ≡ displaces (option_copied cert.entry) file.now (option_copied input.entry) }
+{
+    match cert {
+        Some(cert) => cert == "-" || cert == file || is_given_as(cert, input),
+        None => false,
+    }
+}
+
+/// Whether the certificate that is asked for would be kept in the place of the source or the input.
+pub fn overwrites(request: &Request<'_>) -> bool
+    ensures { result ≡ overwrites request.now }
+{
+    match request {
+        Request::Audit(request) => displaces(request.cert, request.file, request.input),
+        Request::Check(_) | Request::SelfAudit(_) => false,
+    }
+}
+
+/// What the words ask for. Words by which a certificate would be kept in the place of what is read ask for nothing.
 pub fn read_words<'a>(alloc: Global, words: &'a [String]) -> Result<Request<'a>, WordFault>
     ensures asked { IfOk result (IsRequest (named (map string_bytes words.now))) }
-    ensures taken { OnOk result (IsTaken (map string_bytes words.now)) }
-    ensures refused { IsErrOf result WordFault.Usage → ¬ IsTaken (map string_bytes words.now) }
-    ensures usage { IsErrOf result WordFault.Usage → takes cub_app (map string_bytes words.now) ≢ true }
+    ensures fit { OnOk result (AreFit (map string_bytes words.now)) }
+    ensures refused { IsErrOf result WordFault.Usage → ¬ AreFit (map string_bytes words.now) }
+    ensures usage { IsErrOf result WordFault.Usage → (takes cub_app (map string_bytes words.now) ≢ true) ⊎ (words_overwrite (named (map string_bytes words.now)) ≡ true) }
 {
     let matches = matches_of(alloc, words)?;
     let (name, given) = matches.subcommand().unwrap();
     let request = request_of(alloc, name, given)?;
+    if overwrites(&request) {
+        return Err(WordFault::Usage);
+    }
     Ok(request)
 }
