@@ -8,6 +8,7 @@ use type_expressions::declarator::{Declared, copy, name_of};
 use type_expressions::expression::{declared, specified};
 use type_expressions::words::{Storage, Words};
 use type_initializers::{automatic, initialize};
+use type_operators::Reason;
 use type_scope::{Linkage, Meaning, Source, State, TypeFault, copied_function};
 use ub_base::{Items, NoMemory};
 
@@ -68,8 +69,11 @@ pub fn begun(
     let at = near(&d.specs, first_declarator(d));
     let alone = d.parts.is_empty();
     let (words, base) = specified(source, state, &d.specs, at, alone)?;
-    if alone && (words.function || !declares_alone(&d.specs)) {
-        return Err(source.fault(at));
+    if alone && !declares_alone(&d.specs) {
+        return Err(source.fault(at, Reason::DeclaresNothing));
+    }
+    if alone && words.function {
+        return Err(source.fault(at, Reason::FunctionSpecifier));
     }
     Ok((words, base, at))
 }
@@ -87,7 +91,7 @@ pub fn named_part(
     let Declared { name, qual } = declared(source, state, &part.declarator, base, at, false)?;
     match name {
         Some(name) => Ok((name, qual)),
-        None => Err(source.fault(at)),
+        None => Err(source.fault(at, Reason::DeclaresNothing)),
     }
 }
 
@@ -100,9 +104,9 @@ pub fn typedef_name(
     name: u32,
     qual: Qual,
 ) -> Result<(), TypeFault> {
-    no_initializer(source, part, name)?;
+    no_initializer(source, part, name, Reason::InitializedEntity)?;
     if words.function {
-        return Err(source.fault(name));
+        return Err(source.fault(name, Reason::FunctionSpecifier));
     }
     state.declare_typedef(source, name, qual)
 }
@@ -113,9 +117,14 @@ pub fn may_say(source: &Source<'_>, words: &Words, name: u32) -> bool {
 }
 
 /// Without an initializer (6.7.9p3): a typedef name, a function or an `extern` object of block scope has none.
-pub fn no_initializer(source: &Source<'_>, part: &Part, at: u32) -> Result<(), TypeFault> {
+pub fn no_initializer(
+    source: &Source<'_>,
+    part: &Part,
+    at: u32,
+    reason: Reason,
+) -> Result<(), TypeFault> {
     if part.init.is_some() {
-        return Err(source.fault(at));
+        return Err(source.fault(at, reason));
     }
     Ok(())
 }
@@ -149,7 +158,7 @@ fn automatic_object(
     match init {
         None => {
             if state.tags.extent(&qual.ty).is_none() {
-                return Err(source.fault(name));
+                return Err(source.fault(name, Reason::IncompleteObject));
             }
             Ok(Entry::Declare(decl))
         }
@@ -182,7 +191,7 @@ fn local_static(
         Some(init) => initialize(source, state, number, qual, init, name)?,
     };
     if state.tags.extent(&qual.ty).is_none() {
-        return Err(source.fault(name));
+        return Err(source.fault(name, Reason::IncompleteObject));
     }
     state.complete_object(source.symbol(name), number, &qual)?;
     Ok(())
@@ -196,8 +205,11 @@ fn local_function(
     name: u32,
     ty: FuncTy,
 ) -> Result<(), TypeFault> {
-    if !matches!(words.storage, Storage::None | Storage::Extern) || !may_say(source, words, name) {
-        return Err(source.fault(name));
+    if !matches!(words.storage, Storage::None | Storage::Extern) {
+        return Err(source.fault(name, Reason::LocalFunctionStorage));
+    }
+    if !may_say(source, words, name) {
+        return Err(source.fault(name, Reason::MainSpecifier));
     }
     let _number = state.declare_function(source, name, ty, Linkage::Extern)?;
     Ok(())
@@ -218,16 +230,16 @@ fn local_part(
         return Ok(None);
     }
     if let Some(ty) = function_type(state.alloc, &qual)? {
-        no_initializer(source, part, name)?;
+        no_initializer(source, part, name, Reason::InitializedEntity)?;
         local_function(source, state, words, name, ty)?;
         return Ok(None);
     }
     if words.function {
-        return Err(source.fault(name));
+        return Err(source.fault(name, Reason::FunctionSpecifier));
     }
     match words.storage {
         Storage::Extern => {
-            no_initializer(source, part, name)?;
+            no_initializer(source, part, name, Reason::ExternInitializer)?;
             let _number = state.declare_object(source, name, qual, Linkage::Extern)?;
             Ok(None)
         }
@@ -287,12 +299,12 @@ pub fn loop_declaration(
         Storage::None | Storage::Auto | Storage::Register
     );
     if defines_type(&d.specs) || !automatic || d.parts.is_empty() {
-        return Err(source.fault(at));
+        return Err(source.fault(at, Reason::LoopDeclaration));
     }
     for part in d.parts.as_slice() {
         match local_part(source, state, &words, part, &base, at)? {
             Some(entry) => entries.push(entry)?,
-            None => return Err(source.fault(at)),
+            None => return Err(source.fault(at, Reason::LoopDeclaration)),
         }
     }
     Ok(())

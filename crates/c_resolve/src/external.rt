@@ -13,6 +13,7 @@ use type_expressions::declarator::{Declared, assertion, is_name};
 use type_expressions::expression::{constant, declared, specified};
 use type_expressions::words::{Storage, Words};
 use type_initializers::initialize;
+use type_operators::Reason;
 use type_program::{final_order, finished, is_main_type};
 use type_scope::{Definition, Linkage, Source, State, Task, TypeFault, copied_function};
 use ub_base::Items;
@@ -45,10 +46,10 @@ fn global_object(
     qual: Qual,
 ) -> Result<(), TypeFault> {
     let Some(linkage) = linkage_of(words.storage) else {
-        return Err(source.fault(name));
+        return Err(source.fault(name, Reason::ExternalStorage));
     };
     if words.function {
-        return Err(source.fault(name));
+        return Err(source.fault(name, Reason::FunctionSpecifier));
     }
     let copy = copied_qual(state.alloc, &qual)?;
     let number = state.declare_object(source, name, copy, linkage)?;
@@ -63,7 +64,7 @@ fn global_object(
         }
         None => {
             if words.storage == Storage::Static && state.tags.extent(&qual.ty).is_none() {
-                return Err(source.fault(name));
+                return Err(source.fault(name, Reason::IncompleteTentative));
             }
         }
     }
@@ -78,6 +79,14 @@ fn joined_type(state: &State, number: u32, qual: Qual) -> Result<Qual, TypeFault
     }
 }
 
+// Why a function of file scope doesn't have the storage class: a typedef name is no definition (6.9.1p4, 6.9p2).
+fn storage_reason(storage: Storage) -> Reason {
+    match storage {
+        Storage::Typedef => Reason::DefinitionStorage,
+        _ => Reason::ExternalStorage,
+    }
+}
+
 // A function declared at file scope; the answer is its number.
 fn global_function(
     source: &Source<'_>,
@@ -87,11 +96,14 @@ fn global_function(
     ty: FuncTy,
 ) -> Result<u32, TypeFault> {
     let Some(linkage) = function_linkage(words.storage) else {
-        return Err(source.fault(name));
+        return Err(source.fault(name, storage_reason(words.storage)));
     };
     let main = source.spelling(name) == b"main".as_slice();
-    if !may_say(source, words, name) || (main && !is_main_type(&ty)) {
-        return Err(source.fault(name));
+    if !may_say(source, words, name) {
+        return Err(source.fault(name, Reason::MainSpecifier));
+    }
+    if main && !is_main_type(&ty) {
+        return Err(source.fault(name, Reason::MainType));
     }
     let number = state.declare_function(source, name, ty, linkage)?;
     if main {
@@ -114,7 +126,7 @@ fn global_part(
     }
     match function_type(state.alloc, &qual)? {
         Some(ty) => {
-            no_initializer(source, part, name)?;
+            no_initializer(source, part, name, Reason::InitializedEntity)?;
             let _number = global_function(source, state, words, name, ty)?;
             Ok(())
         }
@@ -129,7 +141,7 @@ fn global_declaration(
 ) -> Result<(), TypeFault> {
     let (words, base, at) = begun(source, state, d)?;
     if matches!(words.storage, Storage::Auto | Storage::Register) {
-        return Err(source.fault(at));
+        return Err(source.fault(at, Reason::ExternalStorage));
     }
     for part in d.parts.as_slice() {
         global_part(source, state, &words, part, &base, at)?;
@@ -162,18 +174,32 @@ fn are_named(params: &[Param]) -> bool {
     true
 }
 
-// Whether a function of this type may be defined: with complete types, names for its parameters, and no ellipsis (6.9.1p3,
-// 6.9.1p5, 6.7.6.3p4; the ellipsis is own).
-fn may_be_defined(state: &State, ty: &FuncTy, params: &[Param]) -> bool {
-    if ty.variadic || !(ty.params.is_empty() || are_named(params)) {
-        return false;
-    }
-    for param in ty.params.as_slice() {
+fn are_complete(state: &State, params: &[Qual]) -> bool {
+    for param in params {
         if state.tags.extent(&param.ty).is_none() {
             return false;
         }
     }
-    matches!(ty.result, Ty::Void) || state.tags.extent(&ty.result).is_some()
+    true
+}
+
+// Why a function of this type may not be defined: its types are complete, its parameters have names, and there is no ellipsis
+// (6.9.1p3, 6.9.1p5, 6.7.6.3p4; the ellipsis is own).
+fn undefinable(state: &State, ty: &FuncTy, params: &[Param]) -> Option<Reason> {
+    if ty.variadic {
+        return Some(Reason::LeftOutVariadic);
+    }
+    if !(ty.params.is_empty() || are_named(params)) {
+        return Some(Reason::ParameterName);
+    }
+    if !are_complete(state, ty.params.as_slice()) {
+        return Some(Reason::ParameterType);
+    }
+    if matches!(ty.result, Ty::Void) || state.tags.extent(&ty.result).is_some() {
+        None
+    } else {
+        Some(Reason::DefinedResult)
+    }
 }
 
 // Declares the function in the scope around its parameters, which stay in scope; the answer is its number.
@@ -191,11 +217,16 @@ fn declare_around(
     Ok(number)
 }
 
-// Whether the function has no body yet, and is no library function.
-fn is_open(state: &State, number: u32) -> bool {
-    match state.functions.get(number as usize) {
-        Some(row) => matches!(row.definition, Definition::Nowhere),
-        None => false,
+// Why the function may not be defined again: it has a body, or is a library function (6.9p3, 6.9p5, 7.1.3p2).
+fn defined_before(state: &State, number: u32) -> Option<Reason> {
+    let Some(row) = state.functions.get(number as usize) else {
+        return Some(Reason::ExternalDefinition);
+    };
+    match &row.definition {
+        Definition::Nowhere => None,
+        Definition::Library(_) => Some(Reason::LibraryName),
+        Definition::Own(_, _) if row.internal => Some(Reason::InternalDefinition),
+        Definition::Own(_, _) => Some(Reason::ExternalDefinition),
     }
 }
 
@@ -219,7 +250,10 @@ fn end_body(
     entries: Items<c_typed::Entry>,
 ) -> Result<(), TypeFault> {
     if let Some(line) = state.task.undefined_label() {
-        return Err(TypeFault::NotTyped(line));
+        return Err(TypeFault::NotTyped {
+            line,
+            reason: Reason::GotoLabel,
+        });
     }
     let (block, objects) = state.task.leave(state.alloc);
     if let Some(row) = state.functions.get_mut(number as usize)
@@ -247,14 +281,14 @@ fn function_definition(
     let Declared { name, qual } = declared(source, state, declarator, base, at, true)?;
     let ty = function_type(state.alloc, &qual)?;
     let (Some(name), Some(params), Some(ty)) = (name, own_params(declarator), ty) else {
-        return Err(source.fault(at));
+        return Err(source.fault(at, Reason::DefinedByTypedef));
     };
-    if !may_be_defined(state, &ty, params) {
-        return Err(source.fault(name));
+    if let Some(reason) = undefinable(state, &ty, params) {
+        return Err(source.fault(name, reason));
     }
     let number = declare_around(source, state, &words, name, &ty)?;
-    if !is_open(state, number) {
-        return Err(source.fault(name));
+    if let Some(reason) = defined_before(state, number) {
+        return Err(source.fault(name, reason));
     }
     begin_body(state, number, &ty)?;
     let entries = block_items(source, state, body)?;
@@ -267,7 +301,7 @@ fn external(source: &Source<'_>, state: &mut State, entry: &UnitEntry) -> Result
     match entry {
         UnitEntry::Empty => Ok(()),
         UnitEntry::Assertion(e, message) => {
-            let number = constant(source, state, e)?;
+            let number = constant(source, state, e, Reason::AssertionConstant)?;
             assertion(source, state.alloc, number, e.at, *message)
         }
         UnitEntry::Declaration(d) => global_declaration(source, state, d),

@@ -7,8 +7,8 @@ use c_types::{IntKind, Ty};
 use std::collections::BTreeSet;
 use type_expressions::declarator::assertion;
 use type_expressions::expression::{constant, expression};
-use type_operators::{as_if_assigned, discarded, promoted, truth, value_of};
-use type_scope::{OpenSwitch, Source, State, TypeFault, placed};
+use type_operators::{Reason, as_if_assigned, discarded, promoted, truth, value_of};
+use type_scope::{OpenSwitch, Source, State, TypeFault, placed, placed_for};
 use type_values::take_label;
 use ub_base::{Boxed, Items};
 
@@ -33,9 +33,15 @@ fn unused_part(
 }
 
 // A controlling expression of scalar type (6.8.4.1p1, 6.8.5p2).
-fn condition(source: &Source<'_>, state: &mut State, e: &Expr) -> Result<Typed, TypeFault> {
+fn condition(
+    source: &Source<'_>,
+    state: &mut State,
+    e: &Expr,
+    reason: Reason,
+) -> Result<Typed, TypeFault> {
     let operand = expression(source, state, e)?;
-    placed(source.line(e.at), truth(state.alloc, &state.tags, operand))
+    let made = truth(state.alloc, &state.tags, operand);
+    placed_for(source.line(e.at), reason, made)
 }
 
 // The controlling expression of a `switch`, promoted, with its kind (6.8.4.2p1, 6.8.4.2p5).
@@ -46,8 +52,9 @@ fn selector(
 ) -> Result<(Typed, IntKind), TypeFault> {
     let line = source.line(e.at);
     let operand = expression(source, state, e)?;
-    let tree = placed(line, value_of(state.alloc, &state.tags, operand))?;
-    placed(line, promoted(state.alloc, tree))
+    let made = value_of(state.alloc, &state.tags, operand);
+    let tree = placed_for(line, Reason::SwitchTest, made)?;
+    placed_for(line, Reason::SwitchTest, promoted(state.alloc, tree))
 }
 
 // What `return` gives: nothing in a function that returns `void`, otherwise a value of its type (6.8.6.4p1, 6.8.6.4p3).
@@ -64,17 +71,26 @@ fn returned(
             let operand = expression(source, state, e)?;
             let result_type = &state.task.result;
             let made = as_if_assigned(state.alloc, &state.tags, operand, result_type);
-            Ok(Body::Return(Some(placed(source.line(e.at), made)?)))
+            let line = source.line(e.at);
+            Ok(Body::Return(Some(placed_for(line, Reason::ReturnedValue, made)?)))
         }
-        _ => Err(source.fault(at)),
+        _ => Err(source.fault(at, Reason::ReturnForm)),
     }
 }
 
-fn jump(source: &Source<'_>, at: u32, allowed: bool, body: Body) -> Result<Body, TypeFault> {
-    if allowed {
-        Ok(body)
+fn to_continue(source: &Source<'_>, state: &State, at: u32) -> Result<Body, TypeFault> {
+    if state.task.loops > 0 {
+        Ok(Body::Continue)
     } else {
-        Err(source.fault(at))
+        Err(source.fault(at, Reason::ContinuePlace))
+    }
+}
+
+fn to_break(source: &Source<'_>, state: &State, at: u32) -> Result<Body, TypeFault> {
+    if state.task.breakable > 0 {
+        Ok(Body::Break)
+    } else {
+        Err(source.fault(at, Reason::BreakPlace))
     }
 }
 
@@ -86,7 +102,7 @@ fn to_label(source: &Source<'_>, state: &mut State, at: u32) -> Result<Body, Typ
 fn define_label(source: &Source<'_>, state: &mut State, at: u32) -> Result<u32, TypeFault> {
     match state.task.define_label(source.symbol(at), source.line(at))? {
         Some(number) => Ok(number),
-        None => Err(source.fault(at)),
+        None => Err(source.fault(at, Reason::LabelTwice)),
     }
 }
 
@@ -97,15 +113,15 @@ fn case_value(
     at: u32,
     e: &Expr,
 ) -> Result<i128, TypeFault> {
-    let number = constant(source, state, e)?;
+    let number = constant(source, state, e, Reason::CaseLabels)?;
     let Some(switch) = state.task.switches.last_mut() else {
-        return Err(source.fault(at));
+        return Err(source.fault(at, Reason::LabelPlace));
     };
     let number = convert(switch.kind, number);
     if take_label(&mut switch.values, number)? {
         Ok(number)
     } else {
-        Err(source.fault(at))
+        Err(source.fault(at, Reason::CaseLabels))
     }
 }
 
@@ -116,7 +132,8 @@ fn default_label(source: &Source<'_>, state: &mut State, at: u32) -> Result<(), 
             switch.has_default = true;
             Ok(())
         }
-        _ => Err(source.fault(at)),
+        Some(_) => Err(source.fault(at, Reason::CaseLabels)),
+        None => Err(source.fault(at, Reason::LabelPlace)),
     }
 }
 
@@ -209,8 +226,8 @@ pub fn statement(source: &Source<'_>, state: &mut State, s: &Stmt) -> Result<Bod
         Stmt::Do(s, e) => do_loop(source, state, s.get(), e),
         Stmt::For(init, test, step, s) => for_loop(source, state, s.get(), init.get(), test, step),
         Stmt::Goto(at) => to_label(source, state, *at),
-        Stmt::Continue(at) => jump(source, *at, state.task.loops > 0, Body::Continue),
-        Stmt::Break(at) => jump(source, *at, state.task.breakable > 0, Body::Break),
+        Stmt::Continue(at) => to_continue(source, state, *at),
+        Stmt::Break(at) => to_break(source, state, *at),
         Stmt::Return(at, e) => returned(source, state, *at, e),
         Stmt::Label(at, s) => labelled(source, state, s.get(), *at),
         Stmt::Case(at, e, s) => case(source, state, s.get(), *at, e),
@@ -227,7 +244,7 @@ fn tested(
     s: &Stmt,
     e: &Expr,
 ) -> Result<(Typed, Boxed<Body>), TypeFault> {
-    let test = condition(source, state, e)?;
+    let test = condition(source, state, e, Reason::SelectionTest)?;
     let body = inner(source, state, s)?;
     Ok((test, body))
 }
@@ -242,7 +259,7 @@ fn selection(
     e: &Expr,
 ) -> Result<Body, TypeFault> {
     state.enter_scope();
-    let test = condition(source, state, e)?;
+    let test = condition(source, state, e, Reason::SelectionTest)?;
     let yes = inner(source, state, yes)?;
     state.leave_scope();
     Ok(Body::If(test, yes, None))
@@ -286,7 +303,7 @@ fn while_loop(
     e: &Expr,
 ) -> Result<Body, TypeFault> {
     state.enter_scope();
-    let test = condition(source, state, e)?;
+    let test = condition(source, state, e, Reason::LoopTest)?;
     let body = repeated(source, state, s)?;
     state.leave_scope();
     Ok(Body::While(test, body))
@@ -298,7 +315,7 @@ fn while_loop(
 fn do_loop(source: &Source<'_>, state: &mut State, s: &Stmt, e: &Expr) -> Result<Body, TypeFault> {
     state.enter_scope();
     let body = repeated(source, state, s)?;
-    let test = condition(source, state, e)?;
+    let test = condition(source, state, e, Reason::LoopTest)?;
     state.leave_scope();
     Ok(Body::Do(body, test))
 }
@@ -318,7 +335,7 @@ fn for_loop(
     let start = loop_start(source, state, init)?;
     let test = match test {
         None => None,
-        Some(e) => Some(condition(source, state, e)?),
+        Some(e) => Some(condition(source, state, e, Reason::LoopTest)?),
     };
     let step = unused_part(source, state, step)?;
     let body = repeated(source, state, s)?;
@@ -422,7 +439,7 @@ fn block_item(
     match item {
         SyntaxEntry::Declaration(d) => local_declaration(source, state, d, entries),
         SyntaxEntry::Assertion(e, message) => {
-            let number = constant(source, state, e)?;
+            let number = constant(source, state, e, Reason::AssertionConstant)?;
             assertion(source, state.alloc, number, e.at, *message)
         }
         SyntaxEntry::Statement(s) => {

@@ -13,7 +13,7 @@ pub type Row = (&'static str, &'static str, u32, &'static str);
 #[derive(Drop)]
 pub enum Answer {
     Typed(Program),
-    NotTyped(u32),
+    NotTyped(u32, &'static str),
     NoUnit,
     NoMemory,
 }
@@ -35,17 +35,27 @@ pub fn answer_to(alloc: Global, text: &str) -> Answer {
     };
     match resolve(alloc, &tokens, &unit) {
         Ok(program) => Answer::Typed(program),
-        Err(TypeFault::NotTyped(line)) => Answer::NotTyped(line),
+        Err(TypeFault::NotTyped { line, reason }) => Answer::NotTyped(line, reason.paragraph()),
         Err(TypeFault::NoMemory) => Answer::NoMemory,
+    }
+}
+
+/// The paragraph that a row wants of the reason: the one behind a `:`, where the rule in front of it is broken by breaking that
+/// one; "own" for a rule of the profile.
+pub fn wanted(row: &str) -> &str {
+    match row.split_once(':') {
+        Some((_, paragraph)) => paragraph,
+        None if row.ends_with("(own)") => "own",
+        None => row,
     }
 }
 
 /// The first row whose texts aren't answered so.
 pub fn first_wrong(alloc: Global, rows: &[Row]) -> Option<usize> {
     for (i, row) in rows.iter().enumerate() {
-        let (_, bad, line, good) = *row;
+        let (paragraph, bad, line, good) = *row;
         match answer_to(alloc, bad) {
-            Answer::NotTyped(told) if told == line => {}
+            Answer::NotTyped(told, reason) if told == line && reason == wanted(paragraph) => {}
             _ => return Some(i),
         }
         match answer_to(alloc, good) {

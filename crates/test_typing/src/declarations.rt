@@ -40,37 +40,37 @@ const ROWS: &[Row] = &[
         "\nenum{A=1<<30};\nint main(void){return 0;}",
     ),
     (
-        "6.6p6",
+        "6.6p6:6.7.2.2p2",
         "int x;\nenum{A=x};\nint main(void){return 0;}",
         2,
         "enum{X=1};\nenum{A=X};\nint main(void){return 0;}",
     ),
     (
-        "6.6p6",
+        "6.6p6:6.5.1p2",
         "\nenum{A=(int)(long)&main};\nint main(void){return 0;}",
         2,
         "\nenum{A=(int)1L};\nint main(void){return 0;}",
     ),
     (
-        "6.6p6",
+        "6.6p6:6.7.2.2p2",
         "\nenum{A=(int*)0==0};\nint main(void){return 0;}",
         2,
         "\nenum{A=0==0};\nint main(void){return 0;}",
     ),
     (
-        "6.6p7",
+        "6.6p7:6.7.9p4",
         "int a;\nint b=a;\nint main(void){return 0;}",
         2,
         "int a;\nint b=sizeof a;\nint main(void){return 0;}",
     ),
     (
-        "6.6p9 (own)",
+        "6.6p9 (own):6.7.9p4",
         "int a;\nint *p=&a+2;\nint main(void){return 0;}",
         2,
         "int a;\nint *p=&a+1;\nint main(void){return 0;}",
     ),
     (
-        "6.6p9",
+        "6.6p9:6.7.9p4",
         "int a[2];int i;\nint *p=&a[i];\nint main(void){return 0;}",
         2,
         "int a[2];int i;\nint *p=&a[1];\nint main(void){return 0;}",
@@ -142,7 +142,7 @@ const ROWS: &[Row] = &[
         "static int a;\nextern int a;\nint main(void){return 0;}",
     ),
     (
-        "6.2.2p2",
+        "6.2.2p2:6.2.7p2",
         "int q;\nint main(void){\nextern char q;\nreturn 0;}",
         3,
         "int q;\nint main(void){\nextern int q;q=1;\nreturn 0;}",
@@ -208,7 +208,7 @@ const ROWS: &[Row] = &[
         "\nstruct s{void*a;};\nint main(void){return 0;}",
     ),
     (
-        "6.2.3p1",
+        "6.7p3",
         "\nstruct s{int a;int a;};\nint main(void){return 0;}",
         2,
         "\nstruct s{int a;struct{int a;}b;};\nint main(void){return 0;}",
@@ -238,7 +238,7 @@ const ROWS: &[Row] = &[
         "\nenum{A=2147483646,B};\nint main(void){return 0;}",
     ),
     (
-        "6.7.2.2p3",
+        "6.7p3",
         "\nenum{A,A};\nint main(void){return 0;}",
         2,
         "\nenum{A,B=A};\nint main(void){return 0;}",
@@ -262,7 +262,7 @@ const ROWS: &[Row] = &[
         "enum e{A};\nenum e x;\nint main(void){return 0;}",
     ),
     (
-        "6.7.2.3p4",
+        "6.7.2.3p4:6.5.16.1p1",
         "struct s *p;\nint main(void){\nstruct s{int a;};struct s x;p=&x;\nreturn 0;}",
         3,
         "struct s *p;\nint main(void){\nstruct s*q=p;\nreturn 0;}",
@@ -280,7 +280,7 @@ const ROWS: &[Row] = &[
         "int a;\nint(*const p)(void)=0;\nint main(void){return 0;}",
     ),
     (
-        "6.7.3p9",
+        "6.7.3p9:6.5.16p2",
         "typedef int A[2];const A c={1,2};A d;\nint main(void){\nc[0]=1;\nreturn 0;}",
         3,
         "typedef int A[2];const A c={1,2};A d;\nint main(void){\nd[0]=1;\nreturn 0;}",
@@ -334,7 +334,7 @@ const ROWS: &[Row] = &[
         "int a;\nint(*b[2])(void);\nint main(void){return 0;}",
     ),
     (
-        "6.7.6.2p1",
+        "6.7.6.2p1:own",
         "int a;\nint b[*&a];\nint main(void){return 0;}",
         2,
         "int a;\nint b['a'];\nint main(void){return 0;}",
@@ -370,7 +370,7 @@ const ROWS: &[Row] = &[
         "\nint f(void);\nint main(void){return 0;}",
     ),
     (
-        "6.7.8",
+        "6.7.8:6.7.9p3",
         "\ntypedef int T=1;\nint main(void){return 0;}",
         2,
         "\ntypedef int T;\nint main(void){return 0;}",

@@ -83,7 +83,7 @@ const POSTFIX: &[Row] = &[
         "int printf(const char*,...);\nint main(void){\nprintf(\"\");\nreturn 0;}",
     ),
     (
-        "6.5.2.2p1",
+        "6.5.2.2p1:6.5.1p2",
         "\nint main(void){\nf();\nreturn 0;}",
         3,
         "\nint main(void){\nextern int main(void);main;\nreturn 0;}",
@@ -119,13 +119,13 @@ const POSTFIX: &[Row] = &[
         "union u{int a;char b;}*p;\nint main(void){\np->b;\nreturn 0;}",
     ),
     (
-        "6.5.2.3p3",
+        "6.5.2.3p3:6.5.16p2",
         "struct s{int a;};struct s g(void){struct s x={1};return x;}\nint main(void){\ng().a=2;\nreturn 0;}",
         3,
         "struct s{int a;};struct s g(void){struct s x={1};return x;}\nint main(void){\ng().a;\nreturn 0;}",
     ),
     (
-        "6.5.2.3p3",
+        "6.5.2.3p3:6.5.16p2",
         "const struct{int a;}x={1};struct{int a;}y;\nint main(void){\nx.a=2;\nreturn 0;}",
         3,
         "const struct{int a;}x={1};struct{int a;}y;\nint main(void){\ny.a=2;\nreturn 0;}",
@@ -309,7 +309,7 @@ const ARITHMETIC: &[Row] = &[
         "\nint main(void){\n(int*)0;(int(*)[2])0;\nreturn 0;}",
     ),
     (
-        "6.3.2.3",
+        "6.3.2.3:own",
         "int g(void){return 1;}\nint main(void){\n(void*)g;\nreturn 0;}",
         3,
         "int g(void){return 1;}\nint main(void){\n(void(*)(void))g;\nreturn 0;}",
@@ -517,7 +517,7 @@ const COMPARISONS: &[Row] = &[
         "struct s{int a;}x;struct t{int a;}y;\nint main(void){\n(1?x:x).a;\nreturn 0;}",
     ),
     (
-        "6.5.15p3",
+        "6.5.15p3:6.5.16p2",
         "int a;const int b=1;\nint main(void){\n(a?a:b)=1;\nreturn 0;}",
         3,
         "int a;const int b=1;\nint main(void){\na?a:b;*(a?&a:&b);\nreturn 0;}",
@@ -613,7 +613,7 @@ const COMPARISONS: &[Row] = &[
         "int *p;struct s*q;struct s**r;\nint main(void){\np+=1;r-=1;\nreturn 0;}",
     ),
     (
-        "6.5.16.2p2",
+        "6.5.16.2p1",
         "int *p,a;\nint main(void){\na+=p;\nreturn 0;}",
         3,
         "int *p,a;\nint main(void){\np+=a;\nreturn 0;}",
@@ -625,25 +625,25 @@ const COMPARISONS: &[Row] = &[
         "int *p;_Bool b;\nint main(void){\nb*=2;\nreturn 0;}",
     ),
     (
-        "6.5.16.2p2",
+        "6.5.16.2p1",
         "struct s{int a;}x,y;\nint main(void){\nx+=y;\nreturn 0;}",
         3,
         "struct s{int a;}x,y;\nint main(void){\nx.a+=y.a;\nreturn 0;}",
     ),
     (
-        "6.5.17p2",
+        "6.5.17p2:6.7.9p11",
         "\nint main(void){\nint a=(1,(void)2);\nreturn 0;}",
         3,
         "\nint main(void){\nint a;for(a=0;a<1;a++,(void)0);a?(1,(void)a):(void)a;\nreturn 0;}",
     ),
     (
-        "6.5.17p2",
+        "6.5.17p2:6.5.2.3p1",
         "struct s{int a;}x;\nint main(void){\n(1,(void)x).a;\nreturn 0;}",
         3,
         "struct s{int a;}x;\nint main(void){\n(void)x,(1,x).a,(void)(1,x);\nreturn 0;}",
     ),
     (
-        "6.5.17p2",
+        "6.5.17p2:6.7.9p11",
         "void v(void){}\nint main(void){\nint a=(1,v());\nreturn 0;}",
         3,
         "void v(void){}\nint main(void){\nint a=(v(),1);\nreturn 0;}",

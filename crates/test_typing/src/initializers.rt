@@ -70,7 +70,7 @@ const ROWS: &[Row] = &[
         "\nint main(void){\nint a[]={[1]=1};\nreturn 0;}",
     ),
     (
-        "6.7.9p6",
+        "6.7.9p7",
         "\nint main(void){\nint a[2]={.x=1};\nreturn 0;}",
         3,
         "\nint main(void){\nstruct{int x;}a={.x=1};\nreturn 0;}",
@@ -82,7 +82,7 @@ const ROWS: &[Row] = &[
         "\nint main(void){\nstruct{struct{int y;};}v={.y=1};\nreturn 0;}",
     ),
     (
-        "6.7.9p7",
+        "6.7.9p6",
         "\nint main(void){\nstruct{int x;}v={[0]=1};\nreturn 0;}",
         3,
         "\nint main(void){\nstruct{int x[1];}v={.x[0]=1};\nreturn 0;}",
@@ -124,7 +124,7 @@ const ROWS: &[Row] = &[
         "\nint main(void){\nint b[2]={1,2};int*a=b;\nreturn 0;}",
     ),
     (
-        "6.7.9p20",
+        "6.7.9p20:6.7.9p2",
         "\nint main(void){\nstruct{int a[2];int b;}v={1,2,3,4};\nreturn 0;}",
         3,
         "\nint main(void){\nstruct{int a[2];int b;}v={1,2,3};\nreturn 0;}",
@@ -184,7 +184,7 @@ const ROWS: &[Row] = &[
         "\n_Static_assert(1,\"x\");\nint main(void){return 0;}",
     ),
     (
-        "6.7.10p2",
+        "6.7.10p3",
         "int n;\n_Static_assert(n,\"x\");\nint main(void){return 0;}",
         2,
         "int n;\n_Static_assert(sizeof n==4,\"x\"\"y\");\nint main(void){return 0;}",
@@ -242,19 +242,19 @@ const PARTS: &[Row] = &[
         "\nint main(void){\nstruct{struct{int y[2];}x;}v={.x.y[1]=1,.x.y[0]=2};\nreturn 0;}",
     ),
     (
-        "6.7.9p13",
+        "6.7.9p13:6.7.9p11",
         "struct s{int a;}b;\nint main(void){\nstruct s a={b};\nreturn 0;}",
         3,
         "struct s{int a;}b;\nint main(void){\nstruct{struct s t;int c;}a={b,1},c={{2},1},d={2,1};\nreturn 0;}",
     ),
     (
-        "6.7.9p14",
+        "6.7.9p14:6.7.9p11",
         "\nint main(void){\nchar s[]={\"ab\",\"c\"};\nreturn 0;}",
         3,
         "\nint main(void){\nchar s[][3]={\"ab\",{\"c\"},{1,2}};\nreturn 0;}",
     ),
     (
-        "6.7.9p14",
+        "6.7.9p14:6.7.9p11",
         "\nint main(void){\nint*s[1]={\"a\"};\nreturn 0;}",
         3,
         "\nint main(void){\nchar*s[]={\"a\",\"b\"},c[2]={*\"a\"};\nreturn 0;}",

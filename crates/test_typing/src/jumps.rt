@@ -29,8 +29,8 @@ pub const ROWS: &str = "
 6.8.4.2p3 2 int main(void){int i=1;switch(0){$case i:;}return 0;}
 6.8.4.2p3 2 int main(void){switch(0){default:;$default:;}return 0;}
 6.8.4.2p3 0 int main(void){switch(0){default:switch(1){default:case 0:;}case 0:;}return 0;}
-6.8.4.2p5 2 int main(void){switch(0){case 0:;$case 4294967296:;}return 0;}
-6.8.4.2p5 2 int main(void){switch(0u){case-1:;$case 4294967295:;}return 0;}
+6.8.4.2p5:6.8.4.2p3 2 int main(void){switch(0){case 0:;$case 4294967296:;}return 0;}
+6.8.4.2p5:6.8.4.2p3 2 int main(void){switch(0u){case-1:;$case 4294967295:;}return 0;}
 6.8.4.2p5 0 int main(void){switch(0L){case 0:;case 4294967296:;}return 0;}
 6.8.4.2p5 0 int main(void){char c=0;switch(c){case 0:;case 256:;}return 0;}
 6.8.4.2p3 0 int main(void){switch(0){case sizeof(int):;case 'a':;case(1?2:3):;}return 0;}
@@ -63,13 +63,13 @@ pub const ROWS: &str = "
 6.8.6.4p3 2 struct S{int a;};struct T{int a;};struct S f(struct T t){$return t;}int main(void){return 0;}
 6.8.6.4p3 0 char f(void){return 300;}_Bool g(int*p){return p;}int main(void){return g(0);}
 6.9.1p2 0 int(f)(void){return 0;}int main(void){return f();}
-6.9.1p3 2 int$f(void)[2]{return 0;}int main(void){return 0;}
+6.7.6.3p1 2 int$f(void)[2]{return 0;}int main(void){return 0;}
 6.9.1p3 2 struct S;$struct S f(void){}int main(void){return 0;}
 6.9.1p3 0 struct S f(void);struct S{int a;};struct S f(void){struct S s={0};return s;}int main(void){return f().a;}
 6.9.1p5 0 int f(void){return 0;}int main(void){return f();}
 6.9.1p6 0 int f(register int a){return a;}int main(void){return f(0);}
 6.9.1p7 0 int f(int a[2],int g(void)){return a==0;}int main(void){return f(0,0)-1;}
-6.9.1p9 2 int f(const int a){$a=1;return a;}int main(void){return 0;}
+6.9.1p9:6.5.16p2 2 int f(const int a){$a=1;return a;}int main(void){return 0;}
 6.9p3 0 static int f(void);int main(void){return sizeof f()-4;}
 6.9p3 0 static int f(void);int main(void){return 0?sizeof f():0;}
 6.9p5 0 extern int x;int main(void){return sizeof x-4;}
@@ -80,5 +80,5 @@ pub const ROWS: &str = "
 5.1.2.2.1p1 2 $int main(int c){return 0;}
 5.1.2.2.1p1 0 int main(const int c,char**const v){return c-c+(v==0);}
 6.6p6 0 int main(void){static int x=sizeof(int[3]);return x-12;}
-6.6p6 2 int f(void){return 1;}$int x=f();int main(void){return 0;}
+6.6p6:6.7.9p4 2 int f(void){return 1;}$int x=f();int main(void){return 0;}
 ";

@@ -4,43 +4,43 @@ use crate::constraints::{Row, first_wrong};
 
 const ROWS: &[Row] = &[
     (
-        "6.3.2.3p3",
+        "6.3.2.3p3:6.7.9p11",
         "int n;\nint main(void){\nint*p=n*0;\nreturn 0;}",
         3,
         "enum{Z};\nint main(void){\nint*p=Z,*q='\\0',*r=(1-1),*s=(int)0,*t=0ul,*u=(void*)0;\nreturn 0;}",
     ),
     (
-        "6.3.2.3p3",
+        "6.3.2.3p3:6.7.9p11",
         "\nint main(void){\nint(*f)(void)=(void*)(void*)0;\nreturn 0;}",
         3,
         "\nint main(void){\nint(*f)(void)=(void*)0;\nreturn f==(void*)0;}",
     ),
     (
-        "6.3.2.3p3",
+        "6.3.2.3p3:6.5.9p2",
         "int*p;\nint main(void){\nreturn p==(char*)0;}",
         3,
         "int*p;\nint main(void){\nreturn p==(void*)(char*)0;}",
     ),
     (
-        "6.5.15p6",
+        "6.5.15p6:6.7.9p11",
         "int c,*p;const int*q;\nint main(void){\nint*r=c?p:q;\nreturn 0;}",
         3,
         "int c,*p;const int*q;\nint main(void){\nconst int*r=c?p:q;\nreturn 0;}",
     ),
     (
-        "6.5.15p6",
+        "6.5.15p6:6.7.9p11",
         "int c,*p;const void*v;\nint main(void){\nvoid*r=c?p:v;\nreturn 0;}",
         3,
         "int c,*p;const void*v;\nint main(void){\nconst char*r=c?p:v;\nreturn 0;}",
     ),
     (
-        "6.5.15p6",
+        "6.5.15p6:6.5.16p2",
         "int c,*p;void*v;\nint main(void){\n*(c?p:v)=1;\nreturn 0;}",
         3,
         "int c,*p;\nint main(void){\n*(c?p:(void*)0)=1;*(c?0:p)=1;\nreturn 0;}",
     ),
     (
-        "6.5.15p6",
+        "6.5.15p6:6.5.3.4p1",
         "int c,(*p)[],(*q)[3];\nint main(void){\nsizeof*(c?p:p);\nreturn 0;}",
         3,
         "int c,(*p)[],(*q)[3];\nint main(void){\n_Static_assert(sizeof*(c?p:q)==12,\"\");\nreturn 0;}",
@@ -82,7 +82,7 @@ const ROWS: &[Row] = &[
         "int*p;void v(void){}\nint main(void){\n(void)v();(_Bool)p;(char)(long)p;(int*)5l;(const void*)p;\nreturn 0;}",
     ),
     (
-        "6.5.16.2p1",
+        "6.5.16.2p2",
         "int*p;\nint main(void){\np*=1;\nreturn 0;}",
         3,
         "int*p;enum{A}e;\nint main(void){\np+=1ul;p-='a';p+=e;\nreturn 0;}",

@@ -12,7 +12,7 @@ pub const ROWS: &str = "
 6.7.1p7 2 int main(void){$static int f(int);return 0;}
 6.9p2 2 $auto int x;int main(void){return 0;}
 6.9p2 2 $register struct S{int a;};int main(void){return 0;}
-6.9p2 2 $typedef int f(void){return 0;}int main(void){return 0;}
+6.9.1p4 2 $typedef int f(void){return 0;}int main(void){return 0;}
 6.9.1p4 0 extern int f(void){return 0;}int main(void){return f();}
 6.7.6.3p2 2 int f($extern int a);int main(void){return 0;}
 6.7.6.3p2 2 int f($typedef int a);int main(void){return 0;}
@@ -23,7 +23,7 @@ pub const ROWS: &str = "
 6.7.6.3p4 0 struct S;int f(struct S);int main(void){return 0;}
 6.7.6.3p4 2 struct S;$int f(struct S s){return 0;}int main(void){return 0;}
 6.7.6.3p4 0 int f(int a[]){return a==0;}int main(void){return f(0);}
-6.7.6.3p4 2 struct S;$int f(struct S a[]);int main(void){return 0;}
+6.7.6.3p4:6.7.6.2p1 2 struct S;$int f(struct S a[]);int main(void){return 0;}
 6.7.6.3p1 2 typedef int A[2];$A f(void);int main(void){return 0;}
 6.7.6.3p1 2 typedef int F(void);$F f(void);int main(void){return 0;}
 6.7.6.3p1 0 typedef int F(void);F*f(void);int main(void){return 0;}
@@ -37,14 +37,14 @@ pub const ROWS: &str = "
 6.7.6.2p1 2 $int a[(void*)0];int main(void){return 0;}
 6.7.6.2p1 0 int a['A'-64];int main(void){return sizeof a-4;}
 6.7.6.1 0 int*const*p;int main(void){int*const q=0;p=&q;return*p!=0;}
-6.7.6.1 2 int*const p;int main(void){$p=0;return 0;}
+6.7.6.1:6.5.16p2 2 int*const p;int main(void){$p=0;return 0;}
 6.7.6.1 0 int*const p=0;int main(void){p==0;return 0;}
-6.7.3p9 2 typedef int A[2];int main(void){const A a={1};const int*p=a;$int*q=a;return 0;}
+6.7.3p9:6.7.9p11 2 typedef int A[2];int main(void){const A a={1};const int*p=a;$int*q=a;return 0;}
 6.7.3p9 2 typedef int F(void);$const F*p;int main(void){return 0;}
 6.7.3p2 0 int*restrict*restrict p;int main(void){return 0;}
 6.7.3p2 0 typedef int*P;restrict P p;int main(void){return 0;}
 6.7.3p2 2 typedef int P;$P restrict p;int main(void){return 0;}
-6.7.3p5 2 int main(void){const int a=1;$a=2;return a;}
+6.7.3p5:6.5.16p2 2 int main(void){const int a=1;$a=2;return a;}
 6.7.3p10 0 const const int a=1;int main(void){return a-1;}
 6.7.2p2 2 $int long char x;int main(void){return 0;}
 6.7.2p2 2 $void int x;int main(void){return 0;}
@@ -58,24 +58,24 @@ pub const ROWS: &str = "
 6.7.2.1p2 0 struct S{int a;struct{int b;}$;};int main(void){struct S s={1,{2}};return s.b-2;}
 6.7.2.1p3 0 struct S{int a[sizeof(struct T{int b;})];struct T t;};int main(void){return sizeof(struct S)-20;}
 6.7.2.1p3 3 struct S{$struct S*n;struct S$m;};int main(void){return 0;}
-6.7.2.1p3 2 struct S{int$a,*a;};int main(void){return 0;}
+6.7p3 2 struct S{int$a,*a;};int main(void){return 0;}
 6.7.2.1p13 0 struct S{struct{int a;}x;int a;};int main(void){return 0;}
-6.7.2.1p13 2 struct S{union{int a;struct{int b;};};$int b;};int main(void){return 0;}
+6.7.2.1p13:6.7p3 2 struct S{union{int a;struct{int b;};};$int b;};int main(void){return 0;}
 6.7.2.1p13 0 struct S{union{int a;struct{int b;};};};int main(void){struct S s;s.b=2;return s.a-2;}
-6.7.2.1p13 2 struct S{const struct{int a;}x;};int main(void){struct S s={{1}};$s.x.a=2;return 0;}
-6.7.2.1p13 2 union U{const struct{int a;};int b;};int main(void){union U u={{1}};$u=u;return 0;}
-6.7.2.1p13 2 struct S{const union{int a;long b;};};int main(void){struct S s={{1}};$s.b++;return 0;}
+6.7.2.1p13:6.5.16p2 2 struct S{const struct{int a;}x;};int main(void){struct S s={{1}};$s.x.a=2;return 0;}
+6.7.2.1p13:6.5.16p2 2 union U{const struct{int a;};int b;};int main(void){union U u={{1}};$u=u;return 0;}
+6.7.2.1p13:6.5.2.4p1 2 struct S{const union{int a;long b;};};int main(void){struct S s={{1}};$s.b++;return 0;}
 6.7.2.1p13 0 struct S{const struct{int*p;};};int x;int main(void){struct S s={{&x}};*s.p=3;return x-3;}
-6.7.2.1p13 2 struct S{const struct{int*p;};};int x;int main(void){struct S s={{&x}};$s.p=0;return 0;}
-6.7.2.1p13 2 struct S{const struct{int a[2];};};int main(void){struct S s={{{1,2}}};$s.a[0]=1;return 0;}
-6.7.2.1p13 2 struct S{const struct{int a[2];};};int main(void){struct S s={{{1,2}}},*p=&s;$int*q=p->a;return 0;}
-6.7.2.1p13 2 struct S{struct{const struct{int a;};int b;};};int main(void){struct S s={{{1},2}};s.b=3;$s.a=3;return 0;}
-6.7.2.1p13 1 struct S{const struct{int a;};};struct S f(void);int g(int*);int main(void){return sizeof g((int*)&f().a);}
+6.7.2.1p13:6.5.16p2 2 struct S{const struct{int*p;};};int x;int main(void){struct S s={{&x}};$s.p=0;return 0;}
+6.7.2.1p13:6.5.16p2 2 struct S{const struct{int a[2];};};int main(void){struct S s={{{1,2}}};$s.a[0]=1;return 0;}
+6.7.2.1p13:6.7.9p11 2 struct S{const struct{int a[2];};};int main(void){struct S s={{{1,2}}},*p=&s;$int*q=p->a;return 0;}
+6.7.2.1p13:6.5.16p2 2 struct S{struct{const struct{int a;};int b;};};int main(void){struct S s={{{1},2}};s.b=3;$s.a=3;return 0;}
+6.7.2.1p13:6.5.3.2p1 1 struct S{const struct{int a;};};struct S f(void);int g(int*);int main(void){return sizeof g((int*)&f().a);}
 6.7.2.2p2 0 enum{A=1L};int main(void){return A-1;}
 6.7.2.2p2 2 enum{$A=2147483648u};int main(void){return 0;}
 6.7.2.2p3 0 enum{A=-1,B};int main(void){return B;}
 6.7.2.2p3 0 enum E{A,B=A+2,C};int main(void){enum E e=C;return e-3;}
-6.7.2.2p4 2 enum E{A};enum F{B};enum E*p;int main(void){$enum F*q=p;return 0;}
+6.7.2.2p4:6.7.9p11 2 enum E{A};enum F{B};enum E*p;int main(void){$enum F*q=p;return 0;}
 6.7.2.3p1 2 enum E{A};$enum E{B};int main(void){return 0;}
 6.7.2.3p1 0 enum E{A};int main(void){enum E{B=1};enum E e=B;return e-1;}
 6.7.2.3p2 0 struct S{int a;};int main(void){union S{char c;}u;return sizeof u-1;}
@@ -89,7 +89,7 @@ pub const ROWS: &str = "
 6.7.2.3p8 0 struct T{struct S*p;};int main(void){struct S*q=0;struct T t={q};return t.p!=0;}
 6.7.2.3p8 0 int main(void){struct T{struct S*p;};struct S{int a;};struct S s={2};struct T t={&s};return t.p->a-2;}
 6.7.2.3p7 0 struct S;union U;struct S;int main(void){return 0;}
-6.7.2.3p7 2 struct S*p;int main(void){struct S;struct S{int a;}s;$p=&s;return 0;}
+6.7.2.3p7:6.5.16.1p1 2 struct S*p;int main(void){struct S;struct S{int a;}s;$p=&s;return 0;}
 6.7.2.3p8 0 static struct S;struct S{int a;};int main(void){struct S s={0};return s.a;}
 6.7.2.3p8 0 const union U;const enum{A};int main(void){return A;}
 6.7p2 2 typedef int T;$T;int main(void){return 0;}
@@ -123,8 +123,8 @@ pub const ROWS: &str = "
 6.7.8p3 0 typedef int A[];A a={1,2},b={1,2,3};int main(void){return sizeof a-8+sizeof b-12;}
 6.7.8p3 0 typedef int T;int main(void){T T=1;return T-1;}
 6.7.8p3 0 typedef int T;struct S{T T;};int main(void){struct S s={1};return s.T-1;}
-6.7.10p2 2 int main(void){const int a=1;$_Static_assert(a,\"\");return 0;}
+6.7.10p3 2 int main(void){const int a=1;$_Static_assert(a,\"\");return 0;}
 6.7.10p2 0 enum{A=1};struct S{_Static_assert(A,\"\");int a;};int main(void){return 0;}
-6.7.10p3 2 $_Static_assert(0,\"\");int main(void){return 0;}
+6.7.10p2 2 $_Static_assert(0,\"\");int main(void){return 0;}
 6.7.10p3 0 _Static_assert(sizeof(int)==4,\"\"\"\");int main(void){return 0;}
 ";

@@ -94,7 +94,7 @@ const ROWS: &[Row] = &[
         "\nint main(void){\nfor(auto int i=0;i;);\nreturn 0;}",
     ),
     (
-        "6.2.1p4",
+        "6.2.1p4:6.5.1p2",
         "\nint main(void){\nfor(int i=0;i;);i=1;\nreturn 0;}",
         3,
         "\nint main(void){\nint i;for(int i=0;i;);i=1;\nreturn 0;}",
@@ -184,7 +184,7 @@ const ROWS: &[Row] = &[
         "struct s{int a;};\nstruct s f(void){struct s x={1};return x;}\nint main(void){return 0;}",
     ),
     (
-        "6.9.1p4",
+        "6.9p2",
         "\nregister int f(void){return 0;}\nint main(void){return 0;}",
         2,
         "\nextern int f(void){return 0;}\nint main(void){return 0;}",
@@ -208,7 +208,7 @@ const ROWS: &[Row] = &[
         "int b;\nstatic int a[2];\nint main(void){return 0;}",
     ),
     (
-        "6.9.2p5",
+        "6.9.2p5:6.5.3.4p1",
         "int b;\nint a[];\nint main(void){return sizeof a;}",
         3,
         "int b;\nint a[];\nint main(void){return a[0]+b;}",
@@ -226,7 +226,7 @@ const ROWS: &[Row] = &[
         "int main(void){return 0;}\n;",
     ),
     (
-        "7.22.3.4p1",
+        "7.22.3.4p1:7.1.3p2",
         "typedef int T;\nint malloc(int);\nint main(void){return 0;}",
         2,
         "typedef unsigned long T;\nvoid*malloc(T);\nint main(void){return 0;}",

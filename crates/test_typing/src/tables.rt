@@ -1,5 +1,5 @@
 // Tables of texts, one a line.
-use crate::constraints::{Answer, answer_to};
+use crate::constraints::{Answer, answer_to, wanted};
 use crate::{jumps, scopes, specifiers};
 use std::alloc::Global;
 use ub_base::NoMemory;
@@ -13,7 +13,8 @@ fn text_of(alloc: Global, row: &str) -> Result<String, NoMemory> {
     Ok(text)
 }
 
-// The row with the line on which its text isn't typed, or 0 where it is typed.
+// The row with the line on which its text isn't typed, or 0 where it is typed; in front of it what is told of its paragraph,
+// where that isn't what the row wants.
 fn answered(alloc: Global, row: &str) -> Result<String, NoMemory> {
     let Some((paragraph, rest)) = row.split_once(' ') else {
         return Ok(String::from_str(alloc, "no paragraph")?);
@@ -22,17 +23,22 @@ fn answered(alloc: Global, row: &str) -> Result<String, NoMemory> {
         return Ok(String::from_str(alloc, "no line")?);
     };
     let source = text_of(alloc, text)?;
-    let line = match answer_to(alloc, source.as_str()) {
-        Answer::Typed(_) => 0,
-        Answer::NotTyped(line) => line,
-        Answer::NoUnit => return Ok(String::from_str(alloc, "no unit")?),
-        Answer::NoMemory => return Err(NoMemory),
-    };
-    Ok(format!(in alloc; "{paragraph} {line} {text}")?)
+    match answer_to(alloc, source.as_str()) {
+        Answer::Typed(_) => Ok(format!(in alloc; "{paragraph} 0 {text}")?),
+        Answer::NotTyped(line, told) if told == wanted(paragraph) => {
+            Ok(format!(in alloc; "{paragraph} {line} {text}")?)
+        }
+        Answer::NotTyped(line, told) => Ok(format!(in alloc;
+            "{told} for {paragraph} {line} {text}"
+        )?),
+        Answer::NoUnit => Ok(String::from_str(alloc, "no unit")?),
+        Answer::NoMemory => Err(NoMemory),
+    }
 }
 
-/// The first row that should read otherwise, as it should; an empty text where there is none. A row is a paragraph, the line on
-/// which its text isn't typed or 0 where it is typed, and the text, in which `$` ends a line.
+/// The first row that should read otherwise, as it should; an empty text where there is none. A row is a paragraph, with another one
+/// behind a `:` where that is the one which the text breaks, the line on which its text isn't typed or 0 where it is typed, and the
+/// text, in which `$` ends a line.
 pub fn first_other(alloc: Global, rows: &str) -> Result<String, NoMemory> {
     for row in rows.lines() {
         let given = if row.is_empty() {

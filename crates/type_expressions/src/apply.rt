@@ -5,8 +5,8 @@ use c_typed::{EqOp, Node, RelOp, Slot};
 use c_types::{BinOp, IntKind, Qual, Shared, Ty, copied, copied_qual};
 use std::alloc::Global;
 use type_operators as express;
-use type_operators::{Form, Operand, integer, leaf, object_of, place, value};
-use type_scope::{Meaning, Source, State, TypeFault, placed};
+use type_operators::{Form, Operand, Reason, integer, is_void, leaf, object_of, place, value};
+use type_scope::{Meaning, Source, State, TypeFault, placed, placed_for, placed_unless};
 use ub_base::NoMemory;
 
 fn object_operand(
@@ -81,7 +81,20 @@ pub fn named(source: &Source<'_>, state: &mut State, at: u32) -> Result<Operand,
             IntKind::Int,
             line,
         ))),
-        NameMeaning::Nothing => Err(TypeFault::NotTyped(line)),
+        NameMeaning::Nothing => Err(TypeFault::NotTyped {
+            line,
+            reason: Reason::UndeclaredName,
+        }),
+    }
+}
+
+// The constraint on the operand of a unary operator.
+fn unary_reason(op: UnaryOp) -> Reason {
+    match op {
+        UnaryOp::Address => Reason::Address,
+        UnaryOp::Deref => Reason::Indirection,
+        UnaryOp::Plus | UnaryOp::Minus | UnaryOp::Tilde | UnaryOp::Not => Reason::UnaryOperand,
+        UnaryOp::Increment | UnaryOp::Decrement => Reason::PrefixStep,
     }
 }
 
@@ -90,8 +103,9 @@ pub fn named(source: &Source<'_>, state: &mut State, at: u32) -> Result<Operand,
 pub fn unary(state: &State, op: UnaryOp, a: Operand, line: u32) -> Result<Operand, TypeFault> {
     let alloc = state.alloc;
     let tags = &state.tags;
-    placed(
+    placed_for(
         line,
+        unary_reason(op),
         match op {
             UnaryOp::Address => express::addressed(a),
             UnaryOp::Deref => express::dereferenced(alloc, tags, a, line),
@@ -112,8 +126,9 @@ pub fn postfix(state: &State, op: PostOp, a: Operand, line: u32) -> Result<Opera
         PostOp::Increment => BinOp::Add,
         PostOp::Decrement => BinOp::Sub,
     };
-    placed(
+    placed_for(
         line,
+        Reason::PostfixStep,
         express::incremented(state.alloc, &state.tags, state, op, a, line),
     )
 }
@@ -152,6 +167,25 @@ fn binary_of(op: BinaryOp) -> BinaryForm {
     }
 }
 
+// The constraint on the operands of a binary operator.
+fn binary_reason(op: BinaryOp) -> Reason {
+    match op {
+        BinaryOp::Mul | BinaryOp::Div | BinaryOp::Rem => Reason::Product,
+        BinaryOp::Add => Reason::Addition,
+        BinaryOp::Sub => Reason::Subtraction,
+        BinaryOp::Shl | BinaryOp::Shr => Reason::Shift,
+        BinaryOp::Less | BinaryOp::Greater | BinaryOp::LessEq | BinaryOp::GreaterEq => {
+            Reason::Relation
+        }
+        BinaryOp::Eq | BinaryOp::Ne => Reason::Equality,
+        BinaryOp::BitAnd => Reason::BitAnd,
+        BinaryOp::BitXor => Reason::BitXor,
+        BinaryOp::BitOr => Reason::BitOr,
+        BinaryOp::And => Reason::LogicalAnd,
+        BinaryOp::Or => Reason::LogicalOr,
+    }
+}
+
 /// A binary operator (6.5.5 to 6.5.14).
 #[inline(never)]
 pub fn binary(
@@ -163,8 +197,9 @@ pub fn binary(
 ) -> Result<Operand, TypeFault> {
     let alloc = state.alloc;
     let tags = &state.tags;
-    placed(
+    placed_for(
         line,
+        binary_reason(op),
         match binary_of(op) {
             BinaryForm::Common(op) => express::multiplied(alloc, tags, op, a, b, line),
             BinaryForm::Add => express::added(alloc, tags, a, b, line),
@@ -193,6 +228,22 @@ fn operator_of(op: AssignOp) -> Option<BinOp> {
     }
 }
 
+// The constraint on the operands of an assignment, apart from that on its left operand alone.
+fn assignment_reason(op: AssignOp) -> Reason {
+    match op {
+        AssignOp::Plain => Reason::AssignedValue,
+        AssignOp::Add | AssignOp::Sub => Reason::CompoundSum,
+        AssignOp::Mul
+        | AssignOp::Div
+        | AssignOp::Rem
+        | AssignOp::Shl
+        | AssignOp::Shr
+        | AssignOp::BitAnd
+        | AssignOp::BitXor
+        | AssignOp::BitOr => Reason::CompoundOther,
+    }
+}
+
 /// An assignment (6.5.16).
 #[inline(never)]
 pub fn assignment(
@@ -204,8 +255,10 @@ pub fn assignment(
 ) -> Result<Operand, TypeFault> {
     let alloc = state.alloc;
     let tags = &state.tags;
-    placed(
+    placed_unless(
         line,
+        Reason::NotModifiable,
+        assignment_reason(op),
         match operator_of(op) {
             None => express::assigned(alloc, tags, state, a, b, line),
             Some(op) => express::compound(alloc, tags, state, op, a, b, line),
@@ -222,8 +275,15 @@ pub fn conditional(
     c: Operand,
     line: u32,
 ) -> Result<Operand, TypeFault> {
-    placed(
+    let reason = if is_void(&a) {
+        Reason::ConditionalTest
+    } else {
+        Reason::ConditionalOperands
+    };
+    placed_unless(
         line,
+        Reason::ConditionalTest,
+        reason,
         express::chosen(state.alloc, &state.tags, a, b, c, line),
     )
 }
@@ -245,8 +305,15 @@ pub fn call(
     arguments: Vec<Operand>,
     line: u32,
 ) -> Result<Operand, TypeFault> {
-    placed(
+    let reason = if is_void(&designator) {
+        Reason::CalledType
+    } else {
+        Reason::CallArguments
+    };
+    placed_unless(
         line,
+        Reason::CalledType,
+        reason,
         express::called(state.alloc, &state.tags, designator, arguments, line),
     )
 }
@@ -254,7 +321,11 @@ pub fn call(
 /// A subscript (6.5.2.1).
 #[inline(never)]
 pub fn subscript(state: &State, a: Operand, b: Operand, line: u32) -> Result<Operand, TypeFault> {
-    placed(line, express::indexed(state.alloc, &state.tags, a, b, line))
+    placed_for(
+        line,
+        Reason::Subscript,
+        express::indexed(state.alloc, &state.tags, a, b, line),
+    )
 }
 
 /// `E.name`, or `E->name` where `arrow` is true (6.5.2.3).
@@ -270,14 +341,21 @@ pub fn member(
     let alloc = state.alloc;
     let tags = &state.tags;
     let name = source.spelling(name);
-    placed(
+    if arrow {
+        let made = express::member_of_pointer(alloc, tags, a, name, line);
+        placed_for(line, Reason::MemberOfPointer, made)
+    } else {
+        let made = express::member_of_value(alloc, tags, a, name, line);
+        placed_for(line, Reason::MemberOfValue, made)
+    }
+}
+
+// The fault of a size or an alignment of no complete object type.
+fn unmeasured(line: u32) -> TypeFault {
+    TypeFault::NotTyped {
         line,
-        if arrow {
-            express::member_of_pointer(alloc, tags, a, name, line)
-        } else {
-            express::member_of_value(alloc, tags, a, name, line)
-        },
-    )
+        reason: Reason::MeasuredType,
+    }
 }
 
 // The type of an operand that isn't evaluated (6.5.3.4p2).
@@ -297,7 +375,7 @@ fn operand_type(a: &Operand) -> Option<&Ty> {
 pub fn size_of_operand(state: &State, a: Operand, line: u32) -> Result<Operand, TypeFault> {
     match operand_type(&a) {
         Some(ty) => size_of_type(state, ty, line),
-        None => Err(TypeFault::NotTyped(line)),
+        None => Err(unmeasured(line)),
     }
 }
 
@@ -309,7 +387,7 @@ fn unsigned_long(alloc: Global, number: u64, line: u32) -> Operand {
 pub fn size_of_type(state: &State, ty: &Ty, line: u32) -> Result<Operand, TypeFault> {
     match state.tags.extent(ty) {
         Some(e) => Ok(unsigned_long(state.alloc, e.size, line)),
-        None => Err(TypeFault::NotTyped(line)),
+        None => Err(unmeasured(line)),
     }
 }
 
@@ -317,12 +395,21 @@ pub fn size_of_type(state: &State, ty: &Ty, line: u32) -> Result<Operand, TypeFa
 pub fn alignment_of_type(state: &State, ty: &Ty, line: u32) -> Result<Operand, TypeFault> {
     match state.tags.extent(ty) {
         Some(e) => Ok(unsigned_long(state.alloc, e.align, line)),
-        None => Err(TypeFault::NotTyped(line)),
+        None => Err(unmeasured(line)),
+    }
+}
+
+// Why an operand isn't cast to the type: to `void` any may be cast but an lvalue of incomplete type.
+fn cast_reason(to: &Ty) -> Reason {
+    match to {
+        Ty::Void => Reason::IncompleteValue,
+        _ => Reason::CastTypes,
     }
 }
 
 /// A cast (6.5.4).
 #[inline(never)]
 pub fn cast(state: &State, a: Operand, to: &Ty, line: u32) -> Result<Operand, TypeFault> {
-    placed(line, express::cast(state.alloc, &state.tags, a, to, line))
+    let made = express::cast(state.alloc, &state.tags, a, to, line);
+    placed_for(line, cast_reason(to), made)
 }

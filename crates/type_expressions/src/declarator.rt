@@ -7,7 +7,7 @@ use c_lex::Word;
 use c_typed::Slot;
 use c_types::{FuncTy, Qual, Shared, Ty, copied_qual};
 use std::alloc::Global;
-use type_operators::{Form, Operand, qualified};
+use type_operators::{Form, Operand, Reason, qualified};
 use type_scope::{Meaning, Source, State, TypeFault, placed};
 use ub_base::Items;
 
@@ -40,7 +40,7 @@ pub fn unqualified(ty: Ty) -> Qual {
 pub fn plain_type(source: &Source<'_>, words: &Words, at: u32) -> Result<Qual, TypeFault> {
     match words.named_type() {
         Some(ty) => Ok(unqualified(ty)),
-        None => Err(source.fault(at)),
+        None => Err(source.fault(at, Reason::TypeSpecifiers)),
     }
 }
 
@@ -49,9 +49,9 @@ pub fn typedef_type(source: &Source<'_>, state: &State, name: u32) -> Result<Qua
     match state.ordinary.find(source.symbol(name)) {
         Some(binding) => match &binding.meaning {
             Meaning::Typedef(qual) => copy(state, qual),
-            _ => Err(source.fault(name)),
+            _ => Err(source.fault(name, Reason::TypeSpecifiers)),
         },
-        None => Err(source.fault(name)),
+        None => Err(source.fault(name, Reason::TypeSpecifiers)),
     }
 }
 
@@ -73,17 +73,20 @@ pub fn with_words(
     at: u32,
 ) -> Result<Qual, TypeFault> {
     let plain = matches!(base, Base::Plain);
-    if !words.are_allowed() || (!plain && !words.name_no_type()) {
-        return Err(source.fault(at));
+    if let Some(reason) = words.refusal() {
+        return Err(source.fault(at, reason));
+    }
+    if !plain && !words.name_no_type() {
+        return Err(source.fault(at, Reason::TypeSpecifiers));
     }
     if words.restricted && !may_be_restricted(&qual.ty) {
-        return Err(source.fault(at));
+        return Err(source.fault(at, Reason::Restrict));
     }
     if !words.constant {
         return Ok(qual);
     }
     if matches!(qual.ty, Ty::Function(_)) {
-        return Err(source.fault(at));
+        return Err(source.fault(at, Reason::QualifiedFunction));
     }
     placed(source.line(at), qualified(alloc, &qual.ty, true))
 }
@@ -106,7 +109,7 @@ pub fn pointer_part(source: &Source<'_>, words: &[Word], at: u32) -> Result<Deri
             constant,
             restricted,
         }),
-        None => Err(source.fault(at)),
+        None => Err(source.fault(at, Reason::LeftOutQualifier)),
     }
 }
 
@@ -120,7 +123,7 @@ fn pointer(
     at: u32,
 ) -> Result<Qual, TypeFault> {
     if restricted && matches!(target.ty, Ty::Function(_)) {
-        return Err(source.fault(at));
+        return Err(source.fault(at, Reason::Restrict));
     }
     Ok(Qual {
         ty: Ty::Pointer(Shared::new(alloc, target)?),
@@ -146,18 +149,18 @@ fn array(
     at: u32,
 ) -> Result<Qual, TypeFault> {
     if state.tags.extent(&element.ty).is_none() {
-        return Err(source.fault(at));
+        return Err(source.fault(at, Reason::ArrayLength));
     }
     let element = Shared::new(state.alloc, element)?;
     let Some(number) = count else {
         return Ok(unqualified(Ty::Array(element, None)));
     };
     let Some(count) = count_of(number) else {
-        return Err(source.fault(at));
+        return Err(source.fault(at, Reason::ArrayLength));
     };
     let ty = Ty::Array(element, Some(count));
     if state.tags.extent(&ty).is_none() {
-        return Err(source.fault(at));
+        return Err(source.fault(at, Reason::TypeTooLarge));
     }
     Ok(unqualified(ty))
 }
@@ -173,7 +176,7 @@ fn function(
 ) -> Result<Qual, TypeFault> {
     let Qual { ty, constant: _ } = returned;
     if matches!(ty, Ty::Array(_, _) | Ty::Function(_)) {
-        return Err(source.fault(at));
+        return Err(source.fault(at, Reason::FunctionResult));
     }
     let f = FuncTy {
         result: ty,
@@ -272,10 +275,13 @@ pub fn parameter(
     let register = match words.storage {
         Storage::None => false,
         Storage::Register => true,
-        _ => return Err(source.fault(at)),
+        _ => return Err(source.fault(at, Reason::ParameterStorage)),
     };
-    if words.function || matches!(qual.ty, Ty::Void) {
-        return Err(source.fault(at));
+    if words.function {
+        return Err(source.fault(at, Reason::FunctionSpecifier));
+    }
+    if matches!(qual.ty, Ty::Void) {
+        return Err(source.fault(at, Reason::VoidParameter));
     }
     let qual = adjusted(state.alloc, qual)?;
     if let Some(name) = name {
@@ -293,7 +299,7 @@ pub fn parameter(
     Ok(qual)
 }
 
-/// A static assertion: its constant isn't 0, and its message is a string literal (6.7.10p2, 6.7.10p3).
+/// A static assertion: its constant isn't 0, and its message is a string literal (6.7.10p1, 6.7.10p2).
 pub fn assertion(
     source: &Source<'_>,
     alloc: Global,
@@ -302,7 +308,7 @@ pub fn assertion(
     message: u32,
 ) -> Result<(), TypeFault> {
     if number == 0 {
-        return Err(source.fault(at));
+        return Err(source.fault(at, Reason::AssertionFails));
     }
     let _bytes = literal_bytes(alloc, source, message, source.string_count(message))?;
     Ok(())

@@ -3,13 +3,13 @@
 use crate::declarator::{Declared, Derivation};
 use crate::tag::MemberList;
 use crate::words::{Storage, Words, read_words};
-use crate::{apply, declarator, literal, tag};
+use crate::{apply, constants, declarator, literal, tag};
 use c_ast::{
     AssignOp, Base, BinaryOp, Declarator, Enumerator, Expr, ExprNode, MemberEntry, Param, PostOp,
     Specs, TypeName, UnaryOp,
 };
 use c_types::Qual;
-use type_operators::{Operand, integer_constant};
+use type_operators::{Operand, Reason, integer_constant};
 use type_scope::{Meaning, Source, State, TypeFault};
 use type_values::enumerator;
 use ub_base::Items;
@@ -235,15 +235,20 @@ fn expressions(
     Ok(operands)
 }
 
-/// The value of an integer constant expression (6.6p6).
+/// The value of an integer constant expression (6.6p6); another one is refused for this reason, or for one of its own.
 #[cycle(expression)]
-pub fn constant(source: &Source<'_>, state: &mut State, e: &Expr) -> Result<i128, TypeFault> {
+pub fn constant(
+    source: &Source<'_>,
+    state: &mut State,
+    e: &Expr,
+    reason: Reason,
+) -> Result<i128, TypeFault> {
     let mark = state.mark();
     let operand = expression(source, state, e)?;
     state.forget_literals(mark);
     match integer_constant(&operand.tree) {
         Some(number) if declarator::is_value(&operand) => Ok(number),
-        _ => Err(source.fault(e.at)),
+        _ => Err(source.fault(e.at, constants::refusal(&operand, reason))),
     }
 }
 
@@ -257,7 +262,7 @@ pub fn type_name(
 ) -> Result<Qual, TypeFault> {
     let (words, base) = specified(source, state, &name.specs, at, false)?;
     if words.storage != Storage::None || words.function {
-        return Err(source.fault(at));
+        return Err(source.fault(at, Reason::TypeName));
     }
     let Declared { name: _, qual } = declared(source, state, &name.declarator, base, at, false)?;
     Ok(qual)
@@ -336,7 +341,7 @@ fn fields(
 ) -> Result<MemberList, TypeFault> {
     match entry {
         MemberEntry::Assertion(condition, message) => {
-            let number = constant(source, state, condition)?;
+            let number = constant(source, state, condition, Reason::AssertionConstant)?;
             declarator::assertion(source, state.alloc, number, condition.at, *message)?;
             Ok(list)
         }
@@ -380,10 +385,10 @@ fn enumerated(
     for e in list {
         let value = match &e.value {
             None => None,
-            Some(value) => Some(constant(source, state, value)?),
+            Some(value) => Some(constant(source, state, value, Reason::EnumeratorValue)?),
         };
         let Some(number) = enumerator(value, before) else {
-            return Err(source.fault(e.name));
+            return Err(source.fault(e.name, constants::enumerator_refusal(value)));
         };
         state.declare(source, e.name, Meaning::Constant(i128::from(number)))?;
         before = Some(number);
@@ -436,7 +441,7 @@ fn derivations(
         }
         Declarator::Array(d, Some(count)) => {
             let name = derivations(source, state, d.get(), at, keep, parts)?;
-            let number = constant(source, state, count.get())?;
+            let number = constant(source, state, count.get(), Reason::LeftOutVariableLength)?;
             parts.push(Derivation::Array(Some(number)))?;
             Ok(name)
         }

@@ -3,6 +3,7 @@
 #![tactic(auto)]
 
 mod apply;
+pub mod constants;
 pub mod declarator;
 pub mod expression;
 pub mod literal;

@@ -6,14 +6,16 @@ use c_lit::{LitFault, char_value, int_value, string_bytes};
 use c_typed::Node;
 use c_types::{IntKind, Qual, Shared, Ty};
 use std::alloc::Global;
-use type_operators::{Operand, integer, leaf, place, value};
+use type_operators::{Operand, Reason, integer, leaf, place, value};
 use type_scope::{Source, State, TypeFault};
 use ub_base::Bytes;
 
-fn literal_fault(source: &Source<'_>, at: u32, fault: LitFault) -> TypeFault {
+// The fault of a constant or literal that has no value: for this reason, where it isn't too wide.
+fn literal_fault(source: &Source<'_>, at: u32, fault: LitFault, reason: Reason) -> TypeFault {
     match fault {
         LitFault::NoMemory => TypeFault::NoMemory,
-        _ => source.fault(at),
+        LitFault::TooWide => source.fault(at, Reason::ConstantTooWide),
+        LitFault::BadEscape | LitFault::BadSuffix => source.fault(at, reason),
     }
 }
 
@@ -24,7 +26,7 @@ pub fn number(alloc: Global, source: &Source<'_>, at: u32) -> Result<Operand, Ty
             let number = i128::from(lit.value);
             Ok(value(integer(alloc, number, lit.kind, source.line(at))))
         }
-        Err(fault) => Err(literal_fault(source, at, fault)),
+        Err(fault) => Err(literal_fault(source, at, fault, Reason::ConstantTooWide)),
     }
 }
 
@@ -35,7 +37,7 @@ pub fn character(alloc: Global, source: &Source<'_>, at: u32) -> Result<Operand,
             let number = i128::from(number);
             Ok(value(integer(alloc, number, IntKind::Int, source.line(at))))
         }
-        Err(fault) => Err(literal_fault(source, at, fault)),
+        Err(fault) => Err(literal_fault(source, at, fault, Reason::CharacterConstant)),
     }
 }
 
@@ -52,7 +54,7 @@ pub fn literal_bytes(
     for k in 0..count {
         let at = first.saturating_add(k);
         if let Err(fault) = string_bytes(&mut bytes, source.spelling(at)) {
-            return Err(literal_fault(source, at, fault));
+            return Err(literal_fault(source, at, fault, Reason::StringLiteral));
         }
     }
     bytes.append(&[0])?;

@@ -5,7 +5,7 @@ use c_ast::{Base, Specs};
 use c_types::{Member, Qual, TagKind, Tags, Ty};
 use std::alloc::Global;
 use std::collections::BTreeSet;
-use type_operators::Constants;
+use type_operators::{Constants, Reason};
 use type_scope::{Source, State, TagMeaning, TypeFault};
 use ub_base::{Bytes, Items, NoMemory};
 
@@ -59,11 +59,11 @@ pub fn reference(
     alone: bool,
 ) -> Result<Ty, TypeFault> {
     let Some(tag) = tag else {
-        return Err(source.fault(at));
+        return Err(source.fault(at, Reason::TypeSpecifiers));
     };
     match found_tag(state, source.symbol(tag), alone) {
         Some(TagMeaning::Tagged(known, number)) if known == kind => Ok(tagged_type(kind, number)),
-        Some(_) => Err(source.fault(tag)),
+        Some(_) => Err(source.fault(tag, Reason::TagKind)),
         None => Ok(tagged_type(kind, declare_tag(source, state, tag, kind)?)),
     }
 }
@@ -81,7 +81,10 @@ pub fn open(
     match found_tag(state, source.symbol(tag), true) {
         Some(TagMeaning::Tagged(known, number))
             if known == kind && !state.tags.is_complete(number) => { Ok(number) }
-        Some(_) => Err(source.fault(tag)),
+        Some(TagMeaning::Tagged(known, _)) if known == kind => {
+            Err(source.fault(tag, Reason::DefinedTwice))
+        }
+        Some(_) => Err(source.fault(tag, Reason::TagKind)),
         None => Ok(declare_tag(source, state, tag, kind)?),
     }
 }
@@ -143,7 +146,7 @@ pub fn close(
         constant,
     } = list;
     if !completed(&mut state.tags, number, members) {
-        return Err(source.fault(at));
+        return Err(source.fault(at, Reason::TypeTooLarge));
     }
     if let Some(row) = state.tag_rows.get_mut(number as usize) {
         row.constant = constant;
@@ -155,7 +158,7 @@ pub fn close(
 /// The specifiers of members name a type and qualifiers alone (6.7.2.1).
 pub fn check_member_words(source: &Source<'_>, words: &Words, at: u32) -> Result<(), TypeFault> {
     if words.storage != Storage::None || words.function {
-        return Err(source.fault(at));
+        return Err(source.fault(at, Reason::MemberSpecifiers));
     }
     Ok(())
 }
@@ -180,10 +183,13 @@ pub fn add_member(
     let mut list = list;
     let Declared { name, qual } = member;
     let Some(name) = name else {
-        return Err(source.fault(at));
+        return Err(source.fault(at, Reason::UnnamedMember));
     };
-    if state.tags.extent(&qual.ty).is_none() || !list.add_name(source.symbol(name))? {
-        return Err(source.fault(name));
+    if state.tags.extent(&qual.ty).is_none() {
+        return Err(source.fault(name, Reason::MemberType));
+    }
+    if !list.add_name(source.symbol(name))? {
+        return Err(source.fault(name, Reason::DeclaredTwice));
     }
     let constant = qual.constant || has_constant(state, &qual.ty);
     let name = Bytes::from_slice(state.alloc, source.spelling(name))?;
@@ -226,10 +232,10 @@ pub fn add_unnamed(
     let mut list = list;
     let number = match &base.ty {
         Ty::Struct(number) | Ty::Union(number) if is_unnamed(specs) => *number,
-        _ => return Err(source.fault(at)),
+        _ => return Err(source.fault(at, Reason::UnnamedMember)),
     };
     if !add_names(state, number, &mut list)? {
-        return Err(source.fault(at));
+        return Err(source.fault(at, Reason::UnnamedMemberTwice));
     }
     let constant = base.constant || state.has_constant(number);
     let name = Bytes::from_slice(state.alloc, &[])?;
@@ -245,14 +251,15 @@ pub fn enumeration(
     at: u32,
 ) -> Result<Ty, TypeFault> {
     let Some(tag) = tag else {
-        return Err(source.fault(at));
+        return Err(source.fault(at, Reason::TypeSpecifiers));
     };
     match found_tag(state, source.symbol(tag), false) {
         Some(TagMeaning::Enumerated(number))
             if state.enumerations.get(number as usize).copied() == Some(true) => {
             Ok(Ty::Enum(number))
         }
-        _ => Err(source.fault(tag)),
+        Some(TagMeaning::Tagged(_, _)) => Err(source.fault(tag, Reason::TagKind)),
+        _ => Err(source.fault(tag, Reason::EnumerationAlone)),
     }
 }
 
@@ -266,8 +273,12 @@ pub fn open_enumeration(
     if let Some(tag) = tag {
         let symbol = source.symbol(tag);
         let depth = state.depth;
-        if state.tag_names.find_at(symbol, depth).is_some() {
-            return Err(source.fault(tag));
+        match found_tag(state, symbol, true) {
+            Some(TagMeaning::Enumerated(_)) => {
+                return Err(source.fault(tag, Reason::DefinedTwice));
+            }
+            Some(TagMeaning::Tagged(_, _)) => return Err(source.fault(tag, Reason::TagKind)),
+            None => {}
         }
         state
             .tag_names

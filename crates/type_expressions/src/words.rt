@@ -2,6 +2,7 @@
 
 use c_lex::Word;
 use c_types::{IntKind, Ty};
+use type_operators::Reason;
 
 /// The storage class that a declaration names (6.7.1).
 #[derive(Clone, Copy, Debug, PartialEq, Eq)]
@@ -23,7 +24,7 @@ pub struct Words {
     /// `inline` or `_Noreturn`.
     pub function: bool,
     storages: u8,
-    unknown: bool,
+    unknown: Option<Reason>,
     types: Types,
 }
 
@@ -117,6 +118,15 @@ impl Types {
     }
 }
 
+// The rule of the profile that leaves the keyword out.
+fn left_out(word: Word) -> Reason {
+    match word {
+        Word::Float | Word::Double | Word::Complex | Word::Imaginary => Reason::LeftOutFloating,
+        Word::Volatile | Word::Atomic => Reason::LeftOutQualifier,
+        _ => Reason::LeftOutSpecifier,
+    }
+}
+
 impl Words {
     fn store(&mut self, storage: Storage) {
         self.storage = storage;
@@ -135,15 +145,19 @@ impl Words {
             Word::Inline | Word::Noreturn => self.function = true,
             word => {
                 if !self.types.add(word) {
-                    self.unknown = true;
+                    self.unknown = Some(left_out(word));
                 }
             }
         }
     }
 
-    /// Whether at most one storage class stands among them, and no keyword that the profile leaves out (6.7.1p2).
-    pub fn are_allowed(&self) -> bool {
-        self.storages <= 1 && !self.unknown
+    /// Why no declaration may have them: a keyword that the profile leaves out, or more than one storage class (6.7.1p2).
+    pub fn refusal(&self) -> Option<Reason> {
+        match self.unknown {
+            Some(reason) => Some(reason),
+            None if self.storages > 1 => Some(Reason::StorageClasses),
+            None => None,
+        }
     }
 
     /// Whether no type specifier stands among them.
@@ -165,7 +179,7 @@ pub fn read_words(words: &[Word]) -> Words {
         restricted: false,
         function: false,
         storages: 0,
-        unknown: false,
+        unknown: None,
         types: NO_TYPES,
     };
     for word in words {

@@ -2,6 +2,7 @@
 
 use c_types::{Ty, copied};
 use std::alloc::Global;
+use type_operators::Reason;
 use type_scope::{Source, State, TypeFault};
 use ub_base::NoMemory;
 
@@ -146,6 +147,16 @@ impl Cursor {
             if outermost && level.next != EXHAUSTED {
                 self.reached = self.reached.max(level.next);
             }
+        }
+    }
+
+    // Why nothing comes next: the object's type is incomplete, or its list is full (6.7.9p2, 6.7.9p3).
+    fn refusal(&self, state: &State) -> Reason {
+        match self.levels.first() {
+            Some(level)
+                if !matches!(level.ty, Ty::Array(_, _)) && state.tags.extent(&level.ty).is_none() =>
+                { Reason::InitializedEntity }
+            _ => Reason::TooManyInitializers,
         }
     }
 
@@ -305,6 +316,6 @@ pub fn next_spot(
 ) -> Result<Spot, TypeFault> {
     match cursor.spot(state)? {
         Some(spot) => Ok(spot),
-        None => Err(source.fault(at)),
+        None => Err(source.fault(at, cursor.refusal(state))),
     }
 }

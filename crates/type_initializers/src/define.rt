@@ -2,16 +2,16 @@
 
 use crate::cursor::Spot;
 use crate::initial::{
-    Given, Listed, Listing, braced, is_text_array, lone_expression, lone_text, text,
+    Given, Listed, Listing, braced, is_text_array, lone_expression, lone_text, scalar_reason, text,
 };
 use crate::listing::{list_constants, list_node, object_place};
-use crate::statics::{keep_literal, static_content};
+use crate::statics::{keep_literal, part_reason, static_content};
 use c_ast::{Expr, ExprNode, Init, InitEntry};
 use c_typed::{Constant, Content, Slot, Typed};
 use c_types::{Qual, Ty, copied};
 use type_expressions::expression::expression;
-use type_operators::{is_scalar, stored};
-use type_scope::{Source, State, TypeFault, placed};
+use type_operators::{Reason, is_scalar, stored};
+use type_scope::{Source, State, TypeFault, placed_for};
 use ub_base::{Bytes, Items};
 
 // The form that an initializer has for its object.
@@ -28,12 +28,20 @@ fn text_of(e: &Expr) -> Option<(u32, u32)> {
     }
 }
 
+// Why the expression initializes no array.
+fn array_reason(e: &Expr) -> Reason {
+    match text_of(e) {
+        Some(_) => Reason::TextInitializer,
+        None => Reason::ListInitializer,
+    }
+}
+
 // Of an expression without braces: for an array only a string (6.7.9p11, 6.7.9p13, 6.7.9p14).
 fn single_shape<'a>(source: &Source<'_>, ty: &Ty, e: &'a Expr) -> Result<Shape<'a>, TypeFault> {
     match ty {
         Ty::Array(_, _) => match text_of(e) {
             Some((first, count)) if is_text_array(ty) => Ok(Shape::Text(first, count)),
-            _ => Err(source.fault(e.at)),
+            _ => Err(source.fault(e.at, array_reason(e))),
         },
         _ => Ok(Shape::Expression(e)),
     }
@@ -47,7 +55,7 @@ fn shape_of<'a>(source: &Source<'_>, ty: &Ty, init: &'a Init) -> Result<Shape<'a
             if is_scalar(ty) {
                 return match lone_expression(entries) {
                     Some(e) => Ok(Shape::Expression(e)),
-                    None => Err(source.fault(*at)),
+                    None => Err(source.fault(*at, scalar_reason(entries))),
                 };
             }
             if is_text_array(ty)
@@ -56,7 +64,7 @@ fn shape_of<'a>(source: &Source<'_>, ty: &Ty, init: &'a Init) -> Result<Shape<'a
                 return Ok(Shape::Text(first, count));
             }
             if entries.is_empty() {
-                return Err(source.fault(*at));
+                return Err(source.fault(*at, Reason::EmptyList));
             }
             Ok(Shape::List(*at, entries))
         }
@@ -133,7 +141,7 @@ fn complete_or_fault(
     if is_complete(state, &qual) {
         Ok(qual)
     } else {
-        Err(source.fault(at))
+        Err(source.fault(at, Reason::InitializedEntity))
     }
 }
 
@@ -149,8 +157,9 @@ fn stored_value(
     let operand = expression(source, state, e)?;
     let place = object_place(alloc, slot, qual, line)?;
     let ty = copied(alloc, &qual.ty)?;
-    placed(
+    placed_for(
         line,
+        part_reason(&qual.ty),
         stored(alloc, &state.tags, true, place, ty, operand, line),
     )
 }
@@ -253,12 +262,16 @@ pub fn initialize(
     at: u32,
 ) -> Result<Qual, TypeFault> {
     let (constants, qual) = fixed(source, state, qual, init, at)?;
-    match state.objects.get_mut(number as usize) {
-        Some(row) if !row.initialized => {
+    let mut twice = Reason::ExternalDefinition;
+    if let Some(row) = state.objects.get_mut(number as usize) {
+        if !row.initialized {
             row.initialized = true;
             row.constants = constants;
-            Ok(qual)
+            return Ok(qual);
         }
-        _ => Err(source.fault(at)),
+        if row.internal {
+            twice = Reason::InternalDefinition;
+        }
     }
+    Err(source.fault(at, twice))
 }

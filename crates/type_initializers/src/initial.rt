@@ -7,7 +7,7 @@ use c_types::Ty;
 use std::alloc::Global;
 use type_expressions::expression::{constant, expression};
 use type_expressions::literal::literal_bytes;
-use type_operators::{Form, Operand, is_scalar, object_of};
+use type_operators::{Form, Operand, Reason, is_scalar, object_of};
 use type_scope::{Source, State, TypeFault};
 use type_values::text_of;
 use ub_base::{Bytes, NoMemory};
@@ -108,7 +108,7 @@ pub fn text(
     };
     match text_of(bytes, room) {
         Some(bytes) => Ok(bytes),
-        None => Err(source.fault(first)),
+        None => Err(source.fault(first, Reason::TooManyInitializers)),
     }
 }
 
@@ -171,11 +171,11 @@ fn settle(
             return Ok(spot);
         }
         if is_scalar(&spot.ty) {
-            return Err(source.fault(at));
+            return Err(source.fault(at, Reason::ScalarInitializer));
         }
         cursor.enter(spot)?;
     }
-    Err(source.fault(at))
+    Err(source.fault(at, Reason::TooManyInitializers))
 }
 
 fn size_of(state: &State, ty: &Ty) -> u64 {
@@ -303,6 +303,23 @@ pub fn lone_expression(entries: &[InitEntry]) -> Option<&Expr> {
     lone(entries)
 }
 
+fn designator_reason(designator: &Designator) -> Reason {
+    match designator {
+        Designator::Member(_) => Reason::MemberDesignator,
+        Designator::Element(_) => Reason::ElementDesignator,
+    }
+}
+
+/// Why the entries in braces initialize no scalar: there is more than one, or none, or not an expression (6.7.9p1, 6.7.9p2,
+/// 6.7.9p11).
+pub fn scalar_reason(entries: &[InitEntry]) -> Reason {
+    match entries {
+        [] => Reason::EmptyList,
+        [_] => Reason::ScalarInitializer,
+        [_, ..] => Reason::TooManyInitializers,
+    }
+}
+
 // Goes to the part that the designators name (6.7.9p6, 6.7.9p7).
 fn designated(
     source: &Source<'_>,
@@ -321,12 +338,12 @@ fn designated(
                 cursor.to_member(state, source.spelling(*name), source.symbol(*name))?
             }
             Designator::Element(e) => {
-                let number = constant(source, state, e)?;
+                let number = constant(source, state, e, Reason::ElementDesignator)?;
                 cursor.to_element(number)
             }
         };
         if !found {
-            return Err(source.fault(at));
+            return Err(source.fault(at, designator_reason(designator)));
         }
     }
     Ok(())
@@ -337,7 +354,7 @@ fn place_of(source: &Source<'_>, designator: &Designator) -> (u32, TypeFault) {
         Designator::Member(name) => *name,
         Designator::Element(e) => e.at,
     };
-    (at, source.fault(at))
+    (at, source.fault(at, designator_reason(designator)))
 }
 
 /// The entries of a list for an aggregate or union; the answer is how many elements of it were reached (6.7.9p16 to
@@ -379,7 +396,7 @@ fn entry_at(
             if is_scalar(&spot.ty) {
                 return match lone_expression(entries) {
                     Some(e) => single(source, state, e, listing, cursor),
-                    None => Err(source.fault(*at)),
+                    None => Err(source.fault(*at, scalar_reason(entries))),
                 };
             }
             if is_text_array(&spot.ty)
@@ -389,7 +406,7 @@ fn entry_at(
                 return Ok(add_text(state, listing, spot, bytes, source.line(first))?);
             }
             if entries.is_empty() {
-                return Err(source.fault(*at));
+                return Err(source.fault(*at, Reason::EmptyList));
             }
             let _reached = braced(source, state, entries, listing, spot)?;
             Ok(())

@@ -1,12 +1,13 @@
 // The tree of an initializer list (6.7.9), and the constants of a static one.
 
 use crate::initial::{Given, Listed, Listing, Whole};
+use crate::statics::{not_constant, part_reason};
 use crate::zeros::{Zeros, add_zeros, push_runs};
 use c_typed::{Constant, Node, Slot, Typed};
 use c_types::{Qual, Shared, Ty, copied, copied_qual};
 use std::alloc::Global;
-use type_operators::{Operand, leaf, stored, with_child};
-use type_scope::{State, TypeFault, placed};
+use type_operators::{Operand, Reason, leaf, stored, with_child};
+use type_scope::{State, TypeFault, placed, placed_for};
 use ub_base::{Boxed, Items, NoMemory};
 
 // Whether no part overlaps another one, the parts being in order.
@@ -86,6 +87,14 @@ pub fn taken_ranges(
     Ok(Some(taken))
 }
 
+// The fault of a list that gives a part twice.
+fn twice(line: u32) -> TypeFault {
+    TypeFault::NotTyped {
+        line,
+        reason: Reason::PartGivenTwice,
+    }
+}
+
 /// A pointer to an object of this type.
 pub fn pointer_to(alloc: Global, qual: Qual) -> Result<Ty, NoMemory> {
     Ok(Ty::Pointer(Shared::new(alloc, qual)?))
@@ -117,8 +126,9 @@ fn isolated(
         line,
         with_child(alloc, Node::Member { offset }, pointer, line, whole),
     )?;
-    let tree = placed(
+    let tree = placed_for(
         line,
+        part_reason(&ty),
         stored(alloc, &state.tags, true, place, ty, operand, line),
     )?;
     let node = Node::Isolated(Boxed::new(alloc, tree)?);
@@ -136,7 +146,7 @@ pub fn list_node(
     let alloc = state.alloc;
     let mut listing = listing;
     let Some(taken) = taken_ranges(alloc, &mut listing)? else {
-        return Err(TypeFault::NotTyped(line));
+        return Err(twice(line));
     };
     let Listing {
         parts,
@@ -202,7 +212,7 @@ pub fn list_constants(
 ) -> Result<Items<Constant>, TypeFault> {
     let mut listing = listing;
     if taken_ranges(alloc, &mut listing)?.is_none() {
-        return Err(TypeFault::NotTyped(line));
+        return Err(twice(line));
     }
     let Listing {
         parts,
@@ -225,7 +235,7 @@ pub fn list_constants(
                 at: offset,
                 content,
             })?,
-            Given::Value(_) => return Err(TypeFault::NotTyped(line)),
+            Given::Value(_) => return Err(not_constant(line)),
         }
     }
     Ok(constants)

@@ -4,8 +4,9 @@ use c_arith::convert;
 use c_typed::{Content, Target};
 use c_types::{IntKind, Ty};
 use std::alloc::Global;
-use type_operators::{Folded, Operand, as_if_assigned, worth};
-use type_scope::{Mark, State, TypeFault, placed};
+use type_expressions::constants::valueless;
+use type_operators::{Folded, Operand, Reason, as_if_assigned, worth};
+use type_scope::{Mark, State, TypeFault, placed_for};
 use ub_base::{Bytes, NoMemory};
 
 // The so many lowest bytes of the number, the lowest first.
@@ -19,6 +20,22 @@ fn number_bytes(alloc: Global, number: i128, size: u64) -> Result<Bytes, NoMemor
     }
 }
 
+/// The constraint on an expression that initializes a part of this type: a structure or union, or a scalar (6.7.9p11, 6.7.9p13).
+pub fn part_reason(ty: &Ty) -> Reason {
+    match ty {
+        Ty::Struct(_) | Ty::Union(_) => Reason::WholeInitializer,
+        _ => Reason::ScalarInitializer,
+    }
+}
+
+/// The fault of an initializer that isn't constant and has to be (6.7.9p4).
+pub fn not_constant(line: u32) -> TypeFault {
+    TypeFault::NotTyped {
+        line,
+        reason: Reason::StaticInitializer,
+    }
+}
+
 /// What the constant expression stores in a part of this type and size (6.6p7); `line` is that of the expression.
 pub fn static_content(
     state: &State,
@@ -27,16 +44,24 @@ pub fn static_content(
     size: u64,
     line: u32,
 ) -> Result<Content, TypeFault> {
-    let tree = placed(line, as_if_assigned(state.alloc, &state.tags, operand, ty))?;
+    let tree = placed_for(
+        line,
+        part_reason(ty),
+        as_if_assigned(state.alloc, &state.tags, operand, ty),
+    )?;
     match worth(state, &tree) {
         Folded::Number(number) => Ok(Content::Bytes(number_bytes(state.alloc, number, size)?)),
         Folded::Address(target, offset) if matches!(ty, Ty::Pointer(_)) => {
             match u64::try_from(offset) {
                 Ok(offset) => Ok(Content::Address { target, offset }),
-                Err(_) => Err(TypeFault::NotTyped(line)),
+                Err(_) => Err(not_constant(line)),
             }
         }
-        _ => Err(TypeFault::NotTyped(line)),
+        Folded::Valueless => Err(TypeFault::NotTyped {
+            line,
+            reason: valueless(&tree),
+        }),
+        Folded::Unknown | Folded::Address(_, _) => Err(not_constant(line)),
     }
 }
 

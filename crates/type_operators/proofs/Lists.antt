@@ -45,7 +45,7 @@ stepped cs t found left all h e = joined_more cs t left ∙ (ap (λ z. joined cs
 pub refused : (cs : List Typed) (e : Refused) (found : Option Term) (left all : Option Terms) → joined cs (before found left) ≡ all → Fails e found →
     Fails e all
 refused cs NoMemory found left all h f = tt
-refused cs Constraint found left all h f =
+refused cs (Constraint r) found left all h f =
     sym h ∙ (ap (λ z. joined cs (before z left)) f ∙ (ap (joined cs) (before_nothing left) ∙ joined_nothing cs))
 
 pub finished : (cs : List Typed) (left all : Option Terms) → joined cs left ≡ all → left ≡ Some none → all ≡ Some (terms_of cs)
@@ -121,12 +121,12 @@ ended_terms (c ∷ cs) t = ap (more (term_of c)) (ended_terms cs t)
 pub without_refused : (tags : Layouts) (all os : List Operand) (o : Operand) (e : Refused) → all ≡ os ++ o ∷ [] →
     Fails e (without_values tags (map expression_of os)) → Fails e (in_sequence tags (map expression_of all))
 without_refused tags all os o NoMemory h f = tt
-without_refused tags all os o Constraint h f = in_two tags all os o h ∙ ap (λ z. closed z (last tags (expression_of o))) f
+without_refused tags all os o (Constraint r) h f = in_two tags all os o h ∙ ap (λ z. closed z (last tags (expression_of o))) f
 
 pub last_refused : (tags : Layouts) (all os : List Operand) (o : Operand) (e : Refused) → all ≡ os ++ o ∷ [] → Fails e (last tags (expression_of o)) →
     Fails e (in_sequence tags (map expression_of all))
 last_refused tags all os o NoMemory h f = tt
-last_refused tags all os o Constraint h f =
+last_refused tags all os o (Constraint r) h f =
     in_two tags all os o h ∙ (ap (closed (without_values tags (map expression_of os))) f ∙ closed_nothing (without_values tags (map expression_of os)))
 
 pub both_found : (tags : Layouts) (all os : List Operand) (o : Operand) (cs : List Typed) (t : Typed) (ty : Ty) → all ≡ os ++ o ∷ [] →
@@ -196,7 +196,7 @@ arguments_taken tags v (p ∷ left) cs os all found h n a e = absurd (omega arit
 
 through : (x : Option Sequence) (k : Sequence → Option Expression) (e : Refused) → Fails e x → Fails e (x >>= k)
 through x k NoMemory f = tt
-through x k Constraint f = ap (λ z. z >>= k) f
+through x k (Constraint r) f = ap (λ z. z >>= k) f
 
 pub front_refused : (tags : Layouts) (all os : List Operand) (o : Operand) (line : ℕ) (e : Refused) → all ≡ os ++ o ∷ [] →
     Fails e (without_values tags (map expression_of os)) → Fails e (sequenced tags (map expression_of all) line)

@@ -114,10 +114,10 @@ map_option f (Some x) = Some (f x)
 abbrev pub unless_refused : {A : Type 0} → Bool → A → Option A
 unless_refused allowed x = if allowed then Some x else None
 
--- What a call answers, seen by the view: what is found, or that a constraint forbids it; want of memory says nothing.
+-- What a call answers, seen by the view: what is found, or that a constraint forbids it, for whatever reason; want of memory says nothing.
 abbrev pub Fails : {Y : Type 0} → Refused → Option Y → Type 0
 Fails refused.NoMemory found = Unit {0}
-Fails refused.Constraint found = found ≡ None
+Fails (refused.Constraint reason) found = found ≡ None
 
 abbrev pub Gives : {X Y : Type 0} → (X → Y) → Result X Refused → Option Y → Type 0
 Gives view (Ok x) found = found ≡ Some (view x)

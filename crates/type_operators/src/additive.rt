@@ -6,10 +6,10 @@ ghost use Rattle.type_operators.specs.Terms.{term_of, expression_of, Gives};
 ghost use Rattle.type_operators.specs.Operators as spec;
 ghost use Rattle.type_operators.specs.Layouts.{layouts};
 
-use crate::Refused;
 use crate::binary::arithmetic;
 use crate::convert::is_pointer;
 use crate::operand::{Form, Operand, kind_of, object_of, place, value, value_of, with_children};
+use crate::{Reason, Refused};
 use c_typed::{Node, Typed};
 use c_types::{BinOp, IntKind, Qual, Tags, Ty, compatible, copied};
 use std::alloc::Global;
@@ -38,7 +38,7 @@ fn moved(
 {
     let (size, ty) = match (step_of(tags, &pointer.ty), kind_of(&index.ty)) {
         (Some(size), Some(_)) => (size, copied(alloc, &pointer.ty)?),
-        _ => return Err(Refused::Constraint),
+        _ => return Err(Refused::Constraint(Reason::Addition)),
     };
     let node = Node::PtrAdd { size, subtract };
     with_children(alloc, node, ty, line, pointer, index)
@@ -83,9 +83,9 @@ fn difference(alloc: Global, tags: &Tags, a: Typed, b: Typed, line: u32) -> Resu
             tags.extent(&y.ty),
         ) {
             (Some(e), Some(_)) => e.size,
-            _ => return Err(Refused::Constraint),
+            _ => return Err(Refused::Constraint(Reason::Subtraction)),
         },
-        _ => return Err(Refused::Constraint),
+        _ => return Err(Refused::Constraint(Reason::Subtraction)),
     };
     let node = Node::PtrDiff { size };
     let ty = Ty::Int(IntKind::Long);

@@ -7,13 +7,13 @@ ghost use Rattle.type_operators.specs.Assignments.{place_of, work_of, step_of};
 ghost use Rattle.type_operators.specs.Assignments as spec;
 ghost use Rattle.type_operators.specs.Layouts.{layouts};
 
-use crate::Refused;
 use crate::additive::step_of;
 use crate::convert::{as_if_assigned, promoted, to_kind, usual_kind};
 use crate::operand::{
     Form, Operand, access_of, integer, kind_of, object_of, value, value_of, with_child,
     with_children,
 };
+use crate::{Reason, Refused};
 use c_typed::{Change, Node, Typed};
 use c_types::{BinOp, IntKind, Qual, Tags, Ty, copied};
 use std::alloc::Global;
@@ -55,14 +55,14 @@ pub fn modifiable<C: Constants>(
         line: _,
     } = operand;
     let Form::Place { register: _ } = form else {
-        return Err(Refused::Constraint);
+        return Err(Refused::Constraint(Reason::NotModifiable));
     };
     match object_of(&tree.ty) {
         Some(object) if is_modifiable(constants, object) => {
             let ty = copied(alloc, &object.ty)?;
             Ok((tree, ty))
         }
-        _ => Err(Refused::Constraint),
+        _ => Err(Refused::Constraint(Reason::NotModifiable)),
     }
 }
 
@@ -80,7 +80,7 @@ pub fn stored(
     ensures { Gives term_of result (spec.stored (layouts tags.now) initializing (term_of place) (type_of ty) (expression_of operand) line) }
 {
     let Some(access) = access_of(tags, &ty) else {
-        return Err(Refused::Constraint);
+        return Err(Refused::Constraint(Reason::AssignedValue));
     };
     let tree = as_if_assigned(alloc, tags, operand, &ty)?;
     let node = Node::Assign {
@@ -150,7 +150,7 @@ fn integer_compound(
     ensures { Gives expression_of result (spec.integer_compound op (place_of (place, ty)) (term_of right) line) }
 {
     let Some((kind, work)) = working_kind(op, &ty, &right.ty) else {
-        return Err(Refused::Constraint);
+        return Err(Refused::Constraint(Reason::CompoundOther));
     };
     let right = integer_operand(alloc, op, work, right)?;
     let change = Change::Integer { op, kind, work };
@@ -194,7 +194,7 @@ fn pointer_compound(
             let node = Node::Update { change, old: false };
             Ok(value(with_children(alloc, node, ty, line, place, right)?))
         }
-        _ => Err(Refused::Constraint),
+        _ => Err(Refused::Constraint(Reason::CompoundSum)),
     }
 }
 
@@ -248,7 +248,7 @@ pub fn stepped<C: Constants>(
 {
     let (place, ty) = modifiable(alloc, constants, operand)?;
     let Some((change, kind)) = change_by_one(tags, op, &ty) else {
-        return Err(Refused::Constraint);
+        return Err(Refused::Constraint(Reason::PrefixStep));
     };
     let one = integer(alloc, 1, kind, line);
     let node = Node::Update { change, old: false };
@@ -269,7 +269,7 @@ pub fn incremented<C: Constants>(
 {
     let (place, ty) = modifiable(alloc, constants, operand)?;
     let Some((change, _kind)) = change_by_one(tags, op, &ty) else {
-        return Err(Refused::Constraint);
+        return Err(Refused::Constraint(Reason::PostfixStep));
     };
     let node = Node::Update { change, old: true };
     Ok(value(with_child(alloc, node, ty, line, place)?))

@@ -7,10 +7,10 @@ ghost use Rattle.type_operators.specs.Operators.{balanced_of, pair_of};
 ghost use Rattle.type_operators.specs.Operators as spec;
 ghost use Rattle.type_operators.specs.Layouts.{layouts};
 
-use crate::Refused;
 use crate::constant::{is_null, null_pointer};
 use crate::convert::{is_pointer, may_meet, promoted, to_kind, truth, usual_kind};
 use crate::operand::{Form, Operand, object_of, value, value_of, with_children};
+use crate::{Reason, Refused};
 use c_typed::{EqOp, Node, RelOp, Typed};
 use c_types::{BinOp, IntKind, Qual, Tags, Ty, compatible};
 use std::alloc::Global;
@@ -21,7 +21,7 @@ pub fn balanced(alloc: Global, a: Typed, b: Typed) -> Result<(Typed, Typed, IntK
     ensures { Gives balanced_of result (conversions.balanced (term_of a) (term_of b)) }
 {
     match usual_kind(&a.ty, &b.ty) {
-        None => Err(Refused::Constraint),
+        None => Err(Refused::Constraint(Reason::Product)),
         Some(kind) => Ok((to_kind(alloc, a, kind)?, to_kind(alloc, b, kind)?, kind)),
     }
 }
@@ -100,7 +100,7 @@ pub fn compared(
     let pointers = match (object_of(&a.ty), object_of(&b.ty)) {
         (Some(x), Some(y)) if are_comparable(x, y) => true,
         (None, None) => false,
-        _ => return Err(Refused::Constraint),
+        _ => return Err(Refused::Constraint(Reason::Relation)),
     };
     let node = Node::Rel { op, pointers };
     let (a, b) = if pointers {
@@ -145,7 +145,7 @@ fn met_pointers(a: Typed, b: Typed) -> Result<(Typed, Typed), Refused>
 {
     match (object_of(&a.ty), object_of(&b.ty)) {
         (Some(x), Some(y)) if may_meet(&x.ty, &y.ty) => Ok((a, b)),
-        _ => Err(Refused::Constraint),
+        _ => Err(Refused::Constraint(Reason::Equality)),
     }
 }
 

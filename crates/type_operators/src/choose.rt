@@ -7,12 +7,12 @@ ghost use Rattle.type_operators.specs.Calls as calls;
 ghost use Rattle.type_operators.specs.Choices as spec;
 ghost use Rattle.type_operators.specs.Layouts.{layouts};
 
-use crate::Refused;
 use crate::binary::{balanced, matched};
 use crate::convert::{as_if_assigned, converted, may_meet, promoted_argument, truth};
 use crate::operand::{
     Form, Operand, discarded, is_void_place, object_of, tree_of, value, value_of,
 };
+use crate::{Reason, Refused};
 use c_typed::{Node, Typed};
 use c_types::{FuncTy, Qual, Shared, Tags, Ty, compatible, composite, copied};
 use std::alloc::Global;
@@ -43,7 +43,7 @@ fn argument(
     match params.split_first() {
         Some((param, _)) => as_if_assigned(alloc, tags, operand, &param.ty),
         None if variadic => promoted_argument(alloc, tags, operand),
-        None => Err(Refused::Constraint),
+        None => Err(Refused::Constraint(Reason::CallArguments)),
     }
 }
 
@@ -76,7 +76,7 @@ fn with_arguments(
         left = further(left);
     }
     match left.split_first() {
-        Some(_) => Err(Refused::Constraint),
+        Some(_) => Err(Refused::Constraint(Reason::CallArguments)),
         None => Ok(children),
     }
 }
@@ -87,9 +87,9 @@ fn callee(alloc: Global, ty: &Ty) -> Result<Shared<FuncTy>, Refused>
     match object_of(ty) {
         Some(target) => match copied(alloc, &target.ty)? {
             Ty::Function(f) => Ok(f),
-            _ => Err(Refused::Constraint),
+            _ => Err(Refused::Constraint(Reason::CalledType)),
         },
-        None => Err(Refused::Constraint),
+        None => Err(Refused::Constraint(Reason::CalledType)),
     }
 }
 
@@ -108,7 +108,7 @@ pub fn called(
     let f = callee(alloc, &designator.ty)?;
     let f = f.get();
     if !may_return(tags, &f.result) {
-        return Err(Refused::Constraint);
+        return Err(Refused::Constraint(Reason::CalledType));
     }
     let ty = copied(alloc, &f.result)?;
     let params = f.params.as_slice();
@@ -171,7 +171,7 @@ fn joint_target(alloc: Global, a: &Qual, b: &Qual) -> Result<Qual, Refused>
     ensures { Gives qualified_of result (spec.joint_target (qualified_of a.now) (qualified_of b.now)) }
 {
     if !may_meet(&a.ty, &b.ty) {
-        return Err(Refused::Constraint);
+        return Err(Refused::Constraint(Reason::ConditionalOperands));
     }
     let ty = joint_type(alloc, &a.ty, &b.ty)?;
     Ok(Qual {
@@ -185,7 +185,7 @@ fn joint_pointer(alloc: Global, a: &Ty, b: &Ty) -> Result<Ty, Refused>
 {
     match (object_of(a), object_of(b)) {
         (Some(x), Some(y)) => Ok(Ty::Pointer(Shared::new(alloc, joint_target(alloc, x, y)?)?)),
-        _ => Err(Refused::Constraint),
+        _ => Err(Refused::Constraint(Reason::ConditionalOperands)),
     }
 }
 
@@ -230,7 +230,7 @@ fn chosen_whole(
     ensures { Gives expression_of result (spec.chosen_whole (term_of test) (term_of yes) (term_of no) line) }
 {
     if !compatible(&yes.ty, &no.ty) {
-        return Err(Refused::Constraint);
+        return Err(Refused::Constraint(Reason::ConditionalOperands));
     }
     let ty = copied(alloc, &yes.ty)?;
     choice(alloc, ty, line, test, yes, no)
@@ -288,7 +288,7 @@ pub fn chosen(
     match (is_void(&yes), is_void(&no)) {
         (true, true) => choice(alloc, Ty::Void, line, test, tree_of(yes), tree_of(no)),
         (false, false) => chosen_values(alloc, tags, test, yes, no, line),
-        _ => Err(Refused::Constraint),
+        _ => Err(Refused::Constraint(Reason::ConditionalOperands)),
     }
 }
 
@@ -341,7 +341,7 @@ pub fn sequenced(
     ensures { Gives expression_of result (spec.sequenced (layouts tags.now) (map expression_of operands.items) line) }
 {
     let Some(operand) = operands.pop() else {
-        return Err(Refused::Constraint);
+        return Err(Refused::Constraint(Reason::VoidValue));
     };
     let mut children = without_values(alloc, tags, operands)?;
     let (tree, ty) = last(alloc, tags, operand)?;

@@ -10,9 +10,9 @@ ghost use Rattle.type_operators.specs.Conversions as spec;
 ghost use Rattle.type_operators.specs.Operators as operators;
 ghost use Rattle.type_operators.specs.Layouts.{layouts};
 
-use crate::Refused;
 use crate::constant::{is_null, null_pointer};
 use crate::operand::{Form, Operand, discarded, kind_of, object_of, value, value_of, with_child};
+use crate::{Reason, Refused};
 use c_typed::{Conversion, Node, Typed};
 use c_types::{IntKind, Qual, Tags, Ty, compatible, copied, promote, same_type, usual};
 use std::alloc::Global;
@@ -36,7 +36,7 @@ pub fn to_kind(alloc: Global, tree: Typed, kind: IntKind) -> Result<Typed, Refus
             let node = Node::Conv(Conversion::Integer(kind));
             with_child(alloc, node, Ty::Int(kind), line, tree)
         }
-        _ => Err(Refused::Constraint),
+        _ => Err(Refused::Constraint(Reason::UnaryOperand)),
     }
 }
 
@@ -46,7 +46,7 @@ pub fn promoted(alloc: Global, tree: Typed) -> Result<(Typed, IntKind), Refused>
     ensures { Gives integer_of result (spec.promoted (term_of tree)) }
 {
     match kind_of(&tree.ty) {
-        None => Err(Refused::Constraint),
+        None => Err(Refused::Constraint(Reason::UnaryOperand)),
         Some(kind) => {
             let kind = promote(kind);
             Ok((to_kind(alloc, tree, kind)?, kind))
@@ -74,7 +74,9 @@ pub fn promoted_argument(alloc: Global, tags: &Tags, operand: Operand) -> Result
             Ok(tree)
         }
         Ty::Pointer(_) | Ty::Struct(_) | Ty::Union(_) => Ok(tree),
-        Ty::Void | Ty::Array(_, _) | Ty::Function(_) => Err(Refused::Constraint),
+        Ty::Void | Ty::Array(_, _) | Ty::Function(_) => Err(Refused::Constraint(
+            Reason::CallArguments,
+        )),
     }
 }
 
@@ -87,7 +89,7 @@ pub fn truth(alloc: Global, tags: &Tags, operand: Operand) -> Result<Typed, Refu
     if is_scalar(&tree.ty) {
         Ok(tree)
     } else {
-        Err(Refused::Constraint)
+        Err(Refused::Constraint(Reason::ConditionalTest))
     }
 }
 
@@ -163,6 +165,22 @@ fn conversion(tags: &Tags, from: &Ty, to: &Ty) -> Option<Conversion>
     }
 }
 
+fn is_function_pointer(ty: &Ty) -> bool {
+    match object_of(ty) {
+        Some(target) => is_function(&target.ty),
+        None => false,
+    }
+}
+
+// Why the one type isn't converted to the other.
+fn not_converted(from: &Ty, to: &Ty) -> Reason {
+    if is_function_pointer(from) || is_function_pointer(to) {
+        Reason::FunctionConversion
+    } else {
+        Reason::CastTypes
+    }
+}
+
 /// The value in another scalar type. No node stands between equal types.
 pub fn converted(alloc: Global, tags: &Tags, tree: Typed, to: &Ty) -> Result<Typed, Refused>
     ensures { Gives term_of result (spec.converted (layouts tags.now) (type_of to.now) (term_of tree)) }
@@ -186,7 +204,7 @@ fn converted_on(
         return Ok(tree);
     }
     match conversion(tags, &tree.ty, to) {
-        None => Err(Refused::Constraint),
+        None => Err(Refused::Constraint(not_converted(&tree.ty, to))),
         Some(conversion) => {
             let ty = copied(alloc, to)?;
             with_child(alloc, Node::Conv(conversion), ty, line, tree)
@@ -250,7 +268,7 @@ fn put_as(alloc: Global, tags: &Tags, tree: Typed, to: &Ty) -> Result<Typed, Ref
     ensures { Gives term_of result (assignments.put_as (layouts tags.now) (type_of to.now) (term_of tree)) }
 {
     if !may_assign(&tree.ty, to) {
-        return Err(Refused::Constraint);
+        return Err(Refused::Constraint(Reason::AssignedValue));
     }
     match to {
         Ty::Struct(_) | Ty::Union(_) => Ok(tree),
@@ -309,7 +327,7 @@ fn scalar_cast(
     if is_scalar(&tree.ty) && is_scalar(to) {
         Ok(value(converted_on(alloc, tags, tree, to, line)?))
     } else {
-        Err(Refused::Constraint)
+        Err(Refused::Constraint(Reason::CastTypes))
     }
 }
 

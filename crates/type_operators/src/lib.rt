@@ -10,6 +10,7 @@ mod constant;
 mod convert;
 mod member;
 mod operand;
+mod reason;
 mod refused;
 mod unary;
 
@@ -24,5 +25,6 @@ pub use operand::{
     Form, Operand, access_of, discarded, integer, kind_of, leaf, object_of, place, tree_of, value,
     value_of, with_child,
 };
+pub use reason::Reason;
 pub use refused::Refused;
 pub use unary::{addressed, complemented, dereferenced, inverted, negated, plus};

@@ -6,8 +6,8 @@ ghost use Rattle.type_operators.specs.Members.{found_of, part_of};
 ghost use Rattle.type_operators.specs.Members as spec;
 ghost use Rattle.type_operators.specs.Layouts.{layouts};
 
-use crate::Refused;
 use crate::operand::{Form, Operand, access_of, object_of, place, value, value_of, with_child};
+use crate::{Reason, Refused};
 use c_typed::{Access, Node, Typed};
 use c_types::{Qual, Shared, Tags, Ty, copied};
 use layout::find;
@@ -54,10 +54,10 @@ fn member_of(alloc: Global, tags: &Tags, object: &Qual, name: &[u8]) -> Result<F
     ensures { Gives found_of result (spec.member_of (layouts tags.now) (qualified_of object.now) name.now) }
 {
     let Some(tag) = tag_of(&object.ty) else {
-        return Err(Refused::Constraint);
+        return Err(Refused::Constraint(Reason::MemberOfValue));
     };
     match find(tags, tag, name) {
-        None => Err(Refused::Constraint),
+        None => Err(Refused::Constraint(Reason::MemberOfValue)),
         Some(member) => {
             let constant = member.constant || member.qual.constant || object.constant;
             let qual = qualified(alloc, &member.qual.ty, constant)?;
@@ -73,7 +73,7 @@ fn member_behind(alloc: Global, tags: &Tags, ty: &Ty, name: &[u8]) -> Result<Fou
     ensures { Gives found_of result (spec.member_behind (layouts tags.now) (type_of ty.now) name.now) }
 {
     match object_of(ty) {
-        None => Err(Refused::Constraint),
+        None => Err(Refused::Constraint(Reason::MemberOfPointer)),
         Some(object) => member_of(alloc, tags, object, name),
     }
 }
@@ -108,13 +108,13 @@ fn part_behind(alloc: Global, tags: &Tags, ty: &Ty, name: &[u8]) -> Result<Part,
     ensures { Gives part_of result (spec.part_behind (layouts tags.now) (type_of ty.now) name.now) }
 {
     let Some(tag) = tag_of(ty) else {
-        return Err(Refused::Constraint);
+        return Err(Refused::Constraint(Reason::MemberOfValue));
     };
     let Some(member) = find(tags, tag, name) else {
-        return Err(Refused::Constraint);
+        return Err(Refused::Constraint(Reason::MemberOfValue));
     };
     let Some(access) = access_of(tags, &member.qual.ty) else {
-        return Err(Refused::Constraint);
+        return Err(Refused::Constraint(Reason::ArrayOfValue));
     };
     let ty = copied(alloc, &member.qual.ty)?;
     Ok(Part {
@@ -158,7 +158,9 @@ pub fn member_of_value(
     match form {
         Form::Place { register } => member_place(alloc, tags, tree, name, register, line),
         Form::Value => member_part(alloc, tags, tree, name, line),
-        Form::NullPointer | Form::Designator | Form::Void => Err(Refused::Constraint),
+        Form::NullPointer | Form::Designator | Form::Void => Err(Refused::Constraint(
+            Reason::MemberOfValue,
+        )),
     }
 }
 

@@ -8,7 +8,7 @@ ghost use Rattle.type_operators.specs.Conversions.{target_seen, target_of, is_vo
 ghost use Rattle.type_operators.specs.Conversions as conversions;
 ghost use Rattle.type_operators.specs.Layouts.{layouts};
 
-use crate::Refused;
+use crate::{Reason, Refused};
 use c_typed::{Access, Node, Typed};
 use c_types::{FuncTy, IntKind, Qual, Shared, Tags, Ty, copied};
 use std::alloc::Global;
@@ -194,7 +194,7 @@ fn use_of(alloc: Global, tags: &Tags, object: &Qual) -> Result<Used, Refused>
             Ok(Used::Decayed(Ty::Pointer(Shared::new(alloc, target)?)))
         }
         ty => match access_of(tags, ty) {
-            None => Err(Refused::Constraint),
+            None => Err(Refused::Constraint(Reason::IncompleteValue)),
             Some(access) => Ok(Used::Loaded(access, copied(alloc, ty)?)),
         },
     }
@@ -204,7 +204,7 @@ fn use_behind(alloc: Global, tags: &Tags, ty: &Ty) -> Result<Used, Refused>
     ensures { Gives use_seen result (conversions.use_behind (layouts tags.now) (type_of ty.now)) }
 {
     match object_of(ty) {
-        None => Err(Refused::Constraint),
+        None => Err(Refused::Constraint(Reason::IncompleteValue)),
         Some(object) => use_of(alloc, tags, object),
     }
 }
@@ -236,7 +236,7 @@ pub fn value_of(alloc: Global, tags: &Tags, operand: Operand) -> Result<Typed, R
     let Operand { tree, form, line } = operand;
     match form {
         Form::Value | Form::NullPointer | Form::Designator => Ok(tree),
-        Form::Void => Err(Refused::Constraint),
+        Form::Void => Err(Refused::Constraint(Reason::VoidValue)),
         Form::Place { register: _ } => match use_behind(alloc, tags, &tree.ty)? {
             Used::Decayed(ty) => Ok(retyped(tree, ty)),
             Used::Loaded(access, ty) => with_child(alloc, Node::Load(access), ty, line, tree),

@@ -1,13 +1,14 @@
 // Why an operand can't be made.
 ghost use Rattle.std.specs.Prelude.{◌≡◌};
 
+use crate::Reason;
 use std::alloc::{AllocError, AllocFailed};
 use ub_base::NoMemory;
 
 /// Why no node is made: a constraint or a rule of the profile forbids it, or memory ran out.
 #[derive(Clone, Copy, Debug, PartialEq, Eq)]
 pub enum Refused {
-    Constraint,
+    Constraint(Reason),
     NoMemory,
 }
 

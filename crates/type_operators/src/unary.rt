@@ -6,9 +6,9 @@ ghost use Rattle.type_operators.specs.Terms.{term_of, expression_of, unary, as_v
 ghost use Rattle.type_operators.specs.Operators as spec;
 ghost use Rattle.type_operators.specs.Layouts.{layouts};
 
-use crate::Refused;
 use crate::convert::{promoted, truth};
 use crate::operand::{Form, Operand, object_of, value, value_of, with_child};
+use crate::{Reason, Refused};
 use c_typed::{Node, Typed, UnOp};
 use c_types::{IntKind, Tags, Ty};
 use std::alloc::Global;
@@ -79,7 +79,7 @@ pub fn addressed(operand: Operand) -> Result<Operand, Refused>
     match form {
         Form::Designator | Form::Place { register: false } => Ok(value(tree)),
         Form::Place { register: true } | Form::Value | Form::NullPointer | Form::Void => {
-            Err(Refused::Constraint)
+            Err(Refused::Constraint(Reason::Address))
         }
     }
 }
@@ -96,7 +96,7 @@ pub fn dereferenced(
 {
     let tree = value_of(alloc, tags, operand)?;
     let function = match object_of(&tree.ty) {
-        None => return Err(Refused::Constraint),
+        None => return Err(Refused::Constraint(Reason::Indirection)),
         Some(target) => matches!(target.ty, Ty::Function(_)),
     };
     let form = if function {

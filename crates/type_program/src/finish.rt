@@ -3,12 +3,13 @@ ghost use Rattle.std.specs.Prelude.{IfOk};
 ghost use Rattle.std.specs.List.{All};
 ghost use Rattle.c_typed.specs.Lawful.{HasMain, MainHasType, IsExternal, LibraryIsExternal, HasBytes, LiteralsHaveBytes, StaticsAreComplete, IsNumbered, IsLawful};
 
-use crate::lines::earlier;
+use crate::lines::{Broken, earlier, undefined};
 use crate::startup::main_of;
 use crate::statics::{Checked, program_statics};
 use c_typed::{Function, Program};
 use lawful_program::is_lawful;
 use std::alloc::Global;
+use type_operators::Reason;
 use type_scope::{Definition, FunctionRow, Literal, Source, State, TypeFault};
 use ub_base::{Bytes, Items, NoMemory};
 
@@ -35,20 +36,27 @@ pub fn final_order(alloc: Global, state: &State) -> Result<Option<Vec<u32>>, NoM
     Ok(if same { None } else { Some(order) })
 }
 
-fn function_fault(row: &FunctionRow) -> Option<u32> {
+fn function_fault(row: &FunctionRow) -> Option<Broken> {
     match &row.definition {
         Definition::Library(_) | Definition::Own(_, Some(_)) => None,
-        Definition::Nowhere | Definition::Own(_, None) => row.used,
+        Definition::Nowhere | Definition::Own(_, None) => undefined(row.used, row.internal),
     }
 }
 
 // The first line on which a function is used that isn't defined.
-fn first_fault(functions: &[FunctionRow]) -> Option<u32> {
-    let mut line = None;
+fn first_fault(functions: &[FunctionRow]) -> Option<Broken> {
+    let mut first = None;
     for row in functions {
-        line = earlier(line, function_fault(row));
+        first = earlier(first, function_fault(row));
     }
-    line
+    first
+}
+
+fn last_line(source: &Source<'_>, reason: Reason) -> TypeFault {
+    TypeFault::NotTyped {
+        line: source.last_line(),
+        reason,
+    }
 }
 
 // A function has the type of its definition, where the unit has one.
@@ -133,12 +141,12 @@ pub fn finished(alloc: Global, source: &Source<'_>, state: State) -> Result<Prog
         task: _,
     } = state;
     let Checked { statics, fault } = program_statics(alloc, &tags, objects)?;
-    if let Some(line) = earlier(fault, first_fault(functions.as_slice())) {
-        return Err(TypeFault::NotTyped(line));
+    if let Some(broken) = earlier(fault, first_fault(functions.as_slice())) {
+        return Err(broken.into());
     }
     let functions = program_functions(alloc, functions)?;
     let Some(main) = main_of(functions.as_slice(), main) else {
-        return Err(TypeFault::NotTyped(source.last_line()));
+        return Err(last_line(source, Reason::MainType));
     };
     let literals = program_literals(alloc, literals)?;
     let program = Program {
@@ -151,6 +159,6 @@ pub fn finished(alloc: Global, source: &Source<'_>, state: State) -> Result<Prog
     if is_lawful(alloc, &program)? {
         Ok(program)
     } else {
-        Err(TypeFault::NotTyped(source.last_line()))
+        Err(last_line(source, Reason::Unlawful))
     }
 }

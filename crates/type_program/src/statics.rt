@@ -3,10 +3,11 @@ ghost use Rattle.std.specs.Prelude.{IfOk};
 ghost use Rattle.std.specs.List.{All};
 ghost use Rattle.c_typed.specs.Lawful.{Where, IsComplete};
 
-use crate::lines::earlier;
+use crate::lines::{Broken, earlier, undefined};
 use c_typed::{Constant, Content, Static, Target};
 use c_types::{Extent, Qual, Tags, Ty};
 use std::alloc::Global;
+use type_operators::Reason;
 use type_scope::{CountedUse, ObjectRow};
 use ub_base::{Items, NoMemory};
 
@@ -15,7 +16,7 @@ use ub_base::{Items, NoMemory};
 #[derive(Drop)]
 pub struct Checked {
     pub statics: Items<Static>,
-    pub fault: Option<u32>,
+    pub fault: Option<Broken>,
 }
 
 // The number of elements of the array that a tentative definition without size defines at the end of the unit (6.9.2p5).
@@ -43,11 +44,14 @@ fn size_at_end(tags: &Tags, row: &ObjectRow) -> Option<u64> {
 }
 
 // The line of a use as an array of another size than the object has: a declaration of a block said so (6.2.7p2).
-fn size_fault(ty: &Ty, used: Option<CountedUse>) -> Option<u32> {
+fn size_fault(ty: &Ty, used: Option<CountedUse>) -> Option<Broken> {
     let used = used?;
     match ty {
         Ty::Array(_, Some(count)) if *count == used.count => None,
-        _ => Some(used.line),
+        _ => Some(Broken {
+            line: used.line,
+            reason: Reason::IncompatibleScopes,
+        }),
     }
 }
 
@@ -82,8 +86,22 @@ fn addresses_are_within(sizes: &[Option<u64>], constants: &[Constant]) -> bool {
     true
 }
 
+// An object that is defined on this line and has an incomplete type at the end.
+fn incomplete(line: u32, internal: bool) -> Broken {
+    let reason = if internal {
+        Reason::IncompleteTentative
+    } else {
+        Reason::IncompleteAtEnd
+    };
+    Broken { line, reason }
+}
+
 // The object, if it is defined; or the line on which it breaks a rule.
-fn program_static(tags: &Tags, sizes: &[Option<u64>], row: ObjectRow) -> Result<Option<Static>, u32>
+fn program_static(
+    tags: &Tags,
+    sizes: &[Option<u64>],
+    row: ObjectRow,
+) -> Result<Option<Static>, Broken>
     ensures { IfOk result (Where (IsComplete tags.now)) }
 {
     let ObjectRow {
@@ -99,19 +117,28 @@ fn program_static(tags: &Tags, sizes: &[Option<u64>], row: ObjectRow) -> Result<
         counted,
     } = row;
     if defined.is_none() {
-        return used.map_or(Ok(None), Err);
+        return match undefined(used, internal) {
+            None => Ok(None),
+            Some(broken) => Err(broken),
+        };
     }
     let Qual { ty, constant } = qual;
     let qual = Qual {
         ty: at_end(ty, internal),
         constant,
     };
-    if let Some(line) = size_fault(&qual.ty, counted) {
-        return Err(line);
+    if let Some(broken) = size_fault(&qual.ty, counted) {
+        return Err(broken);
     }
     let extent: Option<Extent> = tags.extent(&qual.ty);
-    if extent.is_none() || !addresses_are_within(sizes, constants.as_slice()) {
-        return Err(line);
+    if extent.is_none() {
+        return Err(incomplete(line, internal));
+    }
+    if !addresses_are_within(sizes, constants.as_slice()) {
+        return Err(Broken {
+            line,
+            reason: Reason::LeftOutAddress,
+        });
     }
     Ok(Some(Static { qual, constants }))
 }
@@ -131,7 +158,7 @@ pub fn program_statics(
         match program_static(tags, sizes.as_slice(), row) {
             Ok(Some(object)) => statics.push(object)?,
             Ok(None) => {}
-            Err(line) => fault = earlier(fault, Some(line)),
+            Err(broken) => fault = earlier(fault, Some(broken)),
         }
     }
     Ok(Checked { statics, fault })

@@ -1,13 +1,13 @@
 // Why a unit has no typed program.
 
 use std::alloc::{AllocError, AllocFailed};
-use type_operators::Refused;
+use type_operators::{Reason, Refused};
 use ub_base::NoMemory;
 
 /// Why there is no program: a constraint or a rule of the profile is broken on this line, or memory ran out.
 #[derive(Clone, Copy, Debug, PartialEq, Eq)]
 pub enum TypeFault {
-    NotTyped(u32),
+    NotTyped { line: u32, reason: Reason },
     NoMemory,
 }
 
@@ -33,7 +33,38 @@ impl<T: Drop> From<AllocFailed<T>> for TypeFault {
 pub fn placed<T>(line: u32, made: Result<T, Refused>) -> Result<T, TypeFault> {
     match made {
         Ok(value) => Ok(value),
-        Err(Refused::Constraint) => Err(TypeFault::NotTyped(line)),
+        Err(Refused::Constraint(reason)) => Err(TypeFault::NotTyped { line, reason }),
         Err(Refused::NoMemory) => Err(TypeFault::NoMemory),
     }
+}
+
+// Why a call refuses whose operand was refused for the reason `told`: a rule of the profile stays, and so does `kept`.
+fn reason_of(told: Reason, kept: Reason, reason: Reason) -> Reason {
+    match told {
+        Reason::FunctionConversion | Reason::ArrayOfValue => told,
+        told if told == kept => kept,
+        _ => reason,
+    }
+}
+
+/// The result, a refusal standing on this line and for this reason, unless it is for a rule of the profile or for `kept`.
+pub fn placed_unless<T>(
+    line: u32,
+    kept: Reason,
+    reason: Reason,
+    made: Result<T, Refused>,
+) -> Result<T, TypeFault> {
+    match made {
+        Ok(value) => Ok(value),
+        Err(Refused::Constraint(told)) => Err(TypeFault::NotTyped {
+            line,
+            reason: reason_of(told, kept, reason),
+        }),
+        Err(Refused::NoMemory) => Err(TypeFault::NoMemory),
+    }
+}
+
+/// The result, a refusal standing on this line and for this reason, unless it is for a rule of the profile.
+pub fn placed_for<T>(line: u32, reason: Reason, made: Result<T, Refused>) -> Result<T, TypeFault> {
+    placed_unless(line, reason, reason, made)
 }

@@ -11,7 +11,7 @@ mod source;
 mod state;
 mod task;
 
-pub use fault::{TypeFault, placed};
+pub use fault::{TypeFault, placed, placed_for, placed_unless};
 pub use library::{library_function, library_type};
 pub use linkage::{Linkage, copied_function};
 pub use literals::Literal;

@@ -8,6 +8,7 @@ use c_types::{
     FuncTy, LibFunc, Qual, Shared, Ty, compatible, composite, copied, copied_qual, same_type,
 };
 use std::alloc::Global;
+use type_operators::Reason;
 use ub_base::{Items, NoMemory};
 
 /// How a declaration gives linkage: `static` at file scope; nothing at file scope; `extern`.
@@ -154,6 +155,16 @@ impl State {
         self.ordinary.find_at(symbol, self.depth).is_some()
     }
 
+    // Why a declaration of the identifier clashes with an earlier one whose type isn't compatible: one in this scope, or in
+    // another one.
+    fn clash(&self, symbol: u32) -> Reason {
+        if self.is_taken(symbol) {
+            Reason::IncompatibleDeclarations
+        } else {
+            Reason::IncompatibleScopes
+        }
+    }
+
     /// Declares an identifier without linkage in this scope (6.7p3).
     pub fn declare(
         &mut self,
@@ -163,7 +174,7 @@ impl State {
     ) -> Result<(), TypeFault> {
         let symbol = source.symbol(at);
         if self.is_taken(symbol) {
-            return Err(source.fault(at));
+            return Err(source.fault(at, Reason::DeclaredTwice));
         }
         self.ordinary.add(symbol, self.depth, meaning)?;
         Ok(())
@@ -288,21 +299,21 @@ impl State {
         let symbol = source.symbol(at);
         let alloc = self.alloc;
         let Ok(known) = self.known_object(symbol) else {
-            return Err(source.fault(at));
+            return Err(source.fault(at, self.clash(symbol)));
         };
         let was = known.map(|object| object.1);
         let Some(internal) = self.linkage(symbol, linkage, was) else {
-            return Err(source.fault(at));
+            return Err(source.fault(at, Reason::LinkageClash));
         };
         if !self.may_redeclare(symbol) {
-            return Err(source.fault(at));
+            return Err(source.fault(at, Reason::DeclaredTwice));
         }
         let seen = self.visible_object_type(alloc, symbol, &qual)?;
         let number = match known {
             None => self.new_object(symbol, qual, internal)?,
             Some((number, _)) => {
                 if !self.redeclare_object(number, &qual, &seen)? {
-                    return Err(source.fault(at));
+                    return Err(source.fault(at, self.clash(symbol)));
                 }
                 number
             }
@@ -465,18 +476,18 @@ impl State {
         let symbol = source.symbol(at);
         let alloc = self.alloc;
         let Ok(known) = self.known_function(symbol) else {
-            return Err(source.fault(at));
+            return Err(source.fault(at, self.clash(symbol)));
         };
         let was = known.map(|function| function.1);
         let Some(internal) = self.linkage(symbol, linkage, was) else {
-            return Err(source.fault(at));
+            return Err(source.fault(at, Reason::LinkageClash));
         };
         if !self.may_redeclare(symbol) {
-            return Err(source.fault(at));
+            return Err(source.fault(at, Reason::DeclaredTwice));
         }
         let library = match self.library(source.spelling(at), internal, &ty) {
             Ok(library) => library,
-            Err(TypeRefused::Incompatible) => return Err(source.fault(at)),
+            Err(TypeRefused::Incompatible) => return Err(source.fault(at, Reason::LibraryName)),
             Err(TypeRefused::NoMemory) => return Err(TypeFault::NoMemory),
         };
         let seen = self.visible_function_type(alloc, symbol, &ty)?;
@@ -484,7 +495,7 @@ impl State {
             None => self.new_function(symbol, ty, internal, library)?,
             Some((number, _)) => {
                 if !self.redeclare_function(number, &ty)? {
-                    return Err(source.fault(at));
+                    return Err(source.fault(at, self.clash(symbol)));
                 }
                 number
             }

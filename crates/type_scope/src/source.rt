@@ -4,6 +4,7 @@ use crate::TypeFault;
 use c_lex::{TokenKind, Tokens};
 use indexmap::IndexMap;
 use std::alloc::Global;
+use type_operators::Reason;
 use ub_base::NoMemory;
 
 /// The tokens, and the symbol of each token that is a name: equal names have equal symbols, counted from 0.
@@ -100,8 +101,11 @@ impl<'a> Source<'a> {
         count
     }
 
-    /// The fault of a unit that breaks a rule at this token.
-    pub fn fault(&self, at: u32) -> TypeFault {
-        TypeFault::NotTyped(self.line(at))
+    /// The fault of a unit that breaks a rule at this token, for this reason.
+    pub fn fault(&self, at: u32, reason: Reason) -> TypeFault {
+        TypeFault::NotTyped {
+            line: self.line(at),
+            reason,
+        }
     }
 }
