@@ -1,36 +1,21 @@
-// The tokens of a text, with a number for each name.
+// The tokens of a text, with a number for each spelling.
 
 use crate::TypeFault;
 use c_lex::{TokenKind, Tokens};
-use indexmap::IndexMap;
+use c_spelling::spelled_by;
 use std::alloc::Global;
 use type_operators::Reason;
 use ub_base::NoMemory;
 
-/// The tokens, and the symbol of each token that is a name: equal names have equal symbols, counted from 0.
+/// The tokens, and the symbol of each: the number of the first token that is spelled so.
 #[derive(Drop)]
 pub struct Source<'a> {
     tokens: &'a Tokens<'a>,
     symbols: Vec<u32>,
-    count: usize,
 }
 
-/// The symbol of a token that is no name.
+/// The symbol behind the last token.
 const NO_SYMBOL: u32 = u32::MAX;
-
-// The symbol of a name, a new one where it is met first.
-fn symbol_of(
-    alloc: Global,
-    names: &mut IndexMap<Vec<u8>, u32>,
-    name: &[u8],
-) -> Result<u32, NoMemory> {
-    if let Some(symbol) = names.get(name) {
-        return Ok(*symbol);
-    }
-    let symbol = u32::try_from(names.len()).unwrap_or(NO_SYMBOL);
-    names.insert(Vec::from_slice(alloc, name)?, symbol)?;
-    Ok(symbol)
-}
 
 fn spelling<'a>(tokens: &Tokens<'a>, at: u32) -> &'a [u8] {
     if at < tokens.len() {
@@ -43,26 +28,15 @@ fn spelling<'a>(tokens: &Tokens<'a>, at: u32) -> &'a [u8] {
 impl<'a> Source<'a> {
     /// The tokens with their symbols.
     pub fn new(alloc: Global, tokens: &'a Tokens<'a>) -> Result<Source<'a>, NoMemory> {
-        let mut names = IndexMap::new(alloc);
-        let mut symbols = Vec::new(alloc);
-        for at in 0..tokens.len() {
-            let symbol = match tokens.kind(at) {
-                Some(TokenKind::Name) => symbol_of(alloc, &mut names, spelling(tokens, at))?,
-                _ => NO_SYMBOL,
-            };
-            symbols.push(symbol)?;
-        }
-        let count = names.len();
         Ok(Source {
             tokens,
-            symbols,
-            count,
+            symbols: spelled_by(alloc, tokens)?,
         })
     }
 
-    /// How many symbols there are.
+    /// A number above all symbols of tokens.
     pub fn symbol_count(&self) -> usize {
-        self.count
+        self.symbols.len()
     }
 
     /// The symbol of the token of this number.
