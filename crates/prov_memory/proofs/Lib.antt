@@ -19,3 +19,5 @@ pub mod TagLemmas
 pub mod BlockLemmas
 pub mod SoundLemmas
 pub mod PartLemmas
+pub mod KeepLemmas
+pub mod BirthLemmas

@@ -1,41 +1,7 @@
 -- Members of structure values: the bytes of a slice, and what reading them does.
-use Rattle.std.proofs.Common.{
-  ◌≡◌,
-  ℕ,
-  zero,
-  suc,
-  ◌+◌,
-  ◌-◌,
-  ◌<◌,
-  ◌≤◌,
-  Bool,
-  true,
-  false,
-  not,
-  ◌&&◌,
-  cond,
-  refl,
-  sym,
-  ap,
-  ap₂,
-  ◌∙◌,
-  subst,
-  arith,
-  ℤ,
-  List,
-  [],
-  ◌∷◌,
-  ◌++◌,
-  length,
-  map,
-  take,
-  drop,
-  get_or,
-  Option,
-  Some,
-  None,
-}
-use Rattle.std.specs.Prelude.{Result, Ok, Err, IfOk, IfErr, IfSome, OnOk, nat_lt, min, slice_index_or, ◌==◌}
+use Rattle.std.proofs.Common.{◌≡◌, ℕ, zero, suc, ◌+◌, ◌<◌, ◌≤◌, Bool, true, false, not, ◌&&◌, cond, refl, sym}
+use Rattle.std.proofs.Common.{ap, ap₂, ◌∙◌, subst, arith, ℤ, List, [], ◌∷◌, ◌++◌, length, map, take, Option, Some, None}
+use Rattle.std.specs.Prelude.{Result, Ok, Err, IfOk, IfErr, IfSome, OnOk, nat_lt, min, ◌==◌}
 use Rattle.std.specs.Bool.{then_some}
 use Rattle.std.proofs.lemmas.List.{append-nil, length-take}
 use Rattle.ub_base.specs.declared.clause.Clause.{Clause}
@@ -47,32 +13,17 @@ use Rattle.addr_map.specs.declared.map.Row.{Row}
 use Rattle.exposure.specs.declared.prov.Prov.{Prov}
 use Rattle.c_types.specs.declared.kind.IntKind.{IntKind}
 use Rattle.c_types.specs.Types.{CType, type_of}
-use Rattle.prov_memory.specs.declared.answer.MemFault.{MemFault}
-use Rattle.prov_memory.specs.declared.answer.MemFault.TheVariants as faults
 use Rattle.prov_memory.specs.declared.cell.Cell.{Cell}
-use Rattle.mem_spec.specs.Agreement.{number_of_kind, bytes_of_kind}
+use Rattle.mem_spec.specs.Agreement.{number_of_kind}
 use Rattle.mem_spec.specs.Store.{Store, TaggedByte, range_from}
-use Rattle.mem_spec.specs.Script.{Script, Give, Done, Raised, run, require, ◌>>=◌, ◌>>◌}
-use Rattle.mem_spec.specs.Acts.{
-  candidates,
-  all_written,
-  number_of,
-  is_piece,
-  are_pieces,
-  origin_in,
-  pointer_if,
-  pointer_in,
-  origins_in,
-  show_pieces,
-  value_of,
-  from_int,
-}
+use Rattle.mem_spec.specs.Script.{Script, Give, Done, Raised, run, require, ◌>>◌}
+use Rattle.mem_spec.specs.Acts.{candidates, all_written, number_of, are_pieces, origin_in, pointer_if, pointer_in, origins_in, show_pieces, value_of, from_int}
 use Rattle.mem_spec.specs.Streams.{Io}
-use Rattle.prov_memory.specs.Cells.{no_cell, cell_at, byte_in, tagged_in}
+use Rattle.prov_memory.specs.Cells.{cell_at, byte_in, tagged_in}
 use Rattle.prov_memory.specs.Memory.{Kept, AreKnown, store_of}
 use Rattle.prov_memory.specs.Access.{range_in}
 use Rattle.prov_memory.specs.Made.{HasMore, IsMade, look_up_items}
-use Rattle.prov_memory.specs.Loads.{IfRaise, number_if, number_checked, origins_of}
+use Rattle.prov_memory.specs.Loads.{number_if, number_checked, origins_of}
 use Rattle.prov_memory.specs.Parts.{part_int, part_func, part_ptr, pointer_or_found, part_items}
 use Rattle.prov_memory.specs.Pieces.{seen}
 use Rattle.prov_memory.specs.Sound.{AreMade}
@@ -98,16 +49,10 @@ range_seen m cs = range_all m.origins (map type_of m.types) cs
 pub range_to : (m : Kept) (cs : List Cell) (n : ℕ) → n ≡ length cs → range_in m cs 0 n ≡ seen m cs
 range_to m cs n e = ap (λ (k : ℕ). range_in m cs 0 k) e ∙ range_seen m cs
 
-got_cell : (cs : List Cell) (i : ℕ) (d : Cell) → i < length cs → get_or cs i d ≡ cell_at cs i
-got_cell [] i d lt = absurd (omega arith)
-got_cell (c ∷ cs) zero d lt = refl
-got_cell (c ∷ cs) (suc i) d lt = got_cell cs i d (omega arith)
-
 -- the next byte of a slice
-pub next_piece : (m now : Kept) (cs : List Cell) (i : ℕ) (c : Cell) (prov : Prov) → i < length cs → c ≡ get_or cs i c → now.origins ≡ m.origins →
-    candidates prov ≡ origins_in (byte_in now.origins c) → candidates prov ≡ origins_in (byte_in m.origins (cell_at cs (0 + i)))
-next_piece m now cs i c prov lt e same named =
-    named ∙ ap₂ (λ (ps : List Prov) (k : Cell). origins_in (byte_in ps k)) same (e ∙ got_cell cs i c lt)
+pub next_piece : (m now : Kept) (c d : Cell) (prov : Prov) → now.origins ≡ m.origins → c ≡ d → candidates prov ≡ origins_in (byte_in now.origins c) →
+    candidates prov ≡ origins_in (byte_in m.origins d)
+next_piece m now c d prov same is named = named ∙ ap₂ (λ (ps : List Prov) (k : Cell). origins_in (byte_in ps k)) same is
 
 -- ---- a part's length
 pub part_short : (n : ℕ) (cs ds : List Cell) → cs ≡ take n ds → n ≤ 8 → length cs ≤ 8
@@ -275,3 +220,9 @@ pub found_number : (rows : List Row) (who : Event) (prov : Prov) (a : ℕ) (s : 
 found_number rows who prov a s runs =
     done_then rows (from_int who a) (with_number a) s s s prov (a, prov) (look_up_items a) [] runs refl
     ∙ ap (λ (js : List Item). Done (a, prov) js s) (append-nil (look_up_items a))
+
+pub found_all : {E : Type 0} (r : Result Prov E) (rows : List Row) (who : Event) (a : ℕ) (m : Kept) →
+    IfOk r (λ prov. (io : Io) → run rows (from_int who a) (store_of m io) ≡ Done prov (look_up_items a) (store_of m io)) →
+    IfOk r (λ prov. (io : Io) → run rows (pointer_or_found who None a) (store_of m io) ≡ Done (a, prov) (look_up_items a) (store_of m io))
+found_all (Ok prov) rows who a m runs = λ io. found_number rows who prov a (store_of m io) (runs io)
+found_all (Err e) rows who a m runs = tt

@@ -5,6 +5,7 @@ use Rattle.std.proofs.Common.{
   zero,
   suc,
   ◌+◌,
+  ◌-◌,
   ◌<◌,
   ◌≤◌,
   Bool,
@@ -23,6 +24,8 @@ use Rattle.std.proofs.Common.{
   ◌∷◌,
   ◌++◌,
   length,
+  take,
+  length-append,
   Option,
   Some,
   None,
@@ -181,6 +184,23 @@ numbered_object numbers ps x s = record {
   only = s.only;
   found = λ p amb has. s.found p amb (has.0, before ps (Whole x) p has.0 (ambiguous_some p amb) (whole_other x p amb) has.1);
 }
+
+pub numbered_dropped : (numbers : BTreeMap Prov ℕ) (ps : List Prov) (x : ObjName) → AreNumbered numbers (ps ++ Whole x ∷ []) → AreNumbered numbers ps
+numbered_dropped numbers ps x s = record {
+  there = λ p n e. before ps (Whole x) p n (ambiguous_some p (s.only p n e)) (whole_other x p (s.only p n e)) (s.there p n e);
+  only = s.only;
+  found = λ p amb has. s.found p amb (has.0, number_stays ps (Whole x ∷ []) has.0 p (ambiguous_some p amb) has.1);
+}
+
+taken_before : (ps : List Prov) (p : Prov) → take (length ps) (ps ++ p ∷ []) ≡ ps
+taken_before [] p = refl
+taken_before (q ∷ ps) p = ap (λ (l : List Prov). q ∷ l) (taken_before ps p)
+
+pub last_dropped : (ps left olds : List Prov) (p : Prov) (n : ℕ) → olds ≡ ps ++ p ∷ [] → n ≡ length olds → left ≡ take (n - 1) olds → left ≡ ps
+last_dropped ps left olds p n is count taken =
+    let one : length (ps ++ p ∷ []) ≡ length ps + 1 = length-append ps (p ∷ []) in
+    let before_it : n - 1 ≡ length ps = omega (arith, count, ap length is, one) in
+    taken ∙ ap (λ (k : ℕ). take k olds) before_it ∙ ap (λ (l : List Prov). take (length ps) l) is ∙ taken_before ps p
 
 -- a new ambiguity at the end
 some_is : (a b : ℕ) → Some a ≡ Some b → a ≡ b

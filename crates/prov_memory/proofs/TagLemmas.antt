@@ -184,7 +184,7 @@ objects_more : (n m : ℕ) (hs : List Held) → n ≤ m → ObjectsTagged n hs �
 objects_more n m [] le known = tt
 objects_more n m (h ∷ hs) le known = (cells_more n m h.cells le known.0, objects_more n m hs le known.1)
 
-tag_at : (n : ℕ) (cs : List Cell) (at : ℕ) → CellsTagged n cs → IsTagged n (cell_at cs at)
+pub tag_at : (n : ℕ) (cs : List Cell) (at : ℕ) → CellsTagged n cs → IsTagged n (cell_at cs at)
 tag_at n [] at known = omega arith
 tag_at n (c ∷ cs) zero known = known.0
 tag_at n (c ∷ cs) (suc at) known = tag_at n cs at known.1
@@ -192,7 +192,7 @@ tag_at n (c ∷ cs) (suc at) known = tag_at n cs at known.1
 held_is : (a b : Held) → Some a ≡ Some b → a ≡ b
 held_is a b q = cc
 
-tags_of : (n : ℕ) (hs : List Held) (k : ℕ) (h : Held) → slice_get hs k ≡ Some h → ObjectsTagged n hs → CellsTagged n h.cells
+pub tags_of : (n : ℕ) (hs : List Held) (k : ℕ) (h : Held) → slice_get hs k ≡ Some h → ObjectsTagged n hs → CellsTagged n h.cells
 tags_of n [] k h e known = absurd (cc)
 tags_of n (g ∷ hs) zero h e known = subst (λ (f : Held). CellsTagged n f.cells) (held_is g h e) known.0
 tags_of n (g ∷ hs) (suc k) h e known = tags_of n hs k h e known.1
@@ -351,6 +351,6 @@ taken_as (Ok v) items old new o at from len is taken = λ range known h e.
     subst (λ (x : Option Form). IsTaken old new h x from len (items v)) (is h e) (taken range known h e)
 taken_as (Err w) items old new o at from len is taken = tt
 
-pub adds_objects : {V E : Type 0} (r : Result V E) (a b : Kept) → OnOk r (AddsTypes a b) → OnOk r (b.objects ≡ a.objects)
+pub adds_objects : {V E : Type 0} (r : Result V E) (a b : Kept) → AddsTypes a b → OnOk r (b.objects ≡ a.objects)
 adds_objects (Ok v) a b p = ap (λ (k : Kept). k.objects) p.1
 adds_objects (Err w) a b p = tt

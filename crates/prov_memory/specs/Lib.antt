@@ -10,3 +10,4 @@ pub mod Loads
 pub mod Parts
 pub mod Tags
 pub mod Sound
+pub mod Keeps

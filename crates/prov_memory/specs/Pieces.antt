@@ -1,6 +1,5 @@
 -- The bytes that hold a value, as a memory keeps them (own: little-endian).
 use Rattle.std.specs.Prelude.{ℕ, zero, suc, ◌/◌, ◌%◌, min, List, [], ◌∷◌, length, map}
-use Rattle.exposure.specs.declared.prov.Prov.{Prov}
 use Rattle.c_types.specs.Types.{type_of}
 use Rattle.prov_memory.specs.declared.cell.Cell.{Cell}
 use Rattle.prov_memory.specs.declared.cell.Origin.{Origin}

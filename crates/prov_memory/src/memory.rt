@@ -9,6 +9,7 @@ ghost use Rattle.prov_memory.specs.Cells.{prov_numbered};
 ghost use Rattle.prov_memory.specs.Held.{Fits, held_of, name_at};
 ghost use Rattle.prov_memory.specs.Memory.{Kept, empty, store_of, state_in, byte_in_object};
 ghost use Rattle.prov_memory.specs.Made.{AreNamed, IsMade};
+ghost use Rattle.prov_memory.specs.Keeps.{Keeps};
 ghost use Rattle.prov_memory.specs.Sound.{IsSound};
 ghost use Rattle.prov_memory.specs.Tags.{AreTagged};
 
@@ -186,6 +187,7 @@ impl Memory {
         ensures rest { record self.new { cells = [] } ≡ record self.old { cells = [] } }
         ensures made { (p : Prov) → IsMade self.old p → IsMade self.new p }
         ensures sound { IsSound self.old → IsSound self.new }
+        ensures kept { Keeps self.old self.new }
     {
         self.narrowed.narrow(id, keep)
     }

@@ -1,5 +1,7 @@
 // Provenances by their numbers.
-ghost use Rattle.std.specs.Prelude.{◌≡◌, ◌+◌, ◌++◌, ◌∷◌, [], None, true, length, IfOk, IfSome, OnOk, OnErr};
+ghost use Rattle.std.specs.Prelude.{◌≡◌, ◌+◌, ◌++◌, ◌∷◌, [], None, true, List, length, IfOk, IfSome, OnOk, OnErr};
+ghost use Rattle.ub_base.specs.declared.names.ObjName.{ObjName};
+ghost use Rattle.exposure.specs.declared.prov.Prov.{Prov};
 ghost use Rattle.prov_memory.specs.Cells.{prov_numbered};
 ghost use Rattle.exposure.specs.declared.prov.Prov.TheVariants.{Whole, Either};
 ghost use Rattle.prov_memory.specs.Made.{is_ambiguous, HasNumber, Extends, IsMade};
@@ -83,6 +85,14 @@ impl Origins {
         Ok(Origin { number })
     }
 
+    /// Takes the number of the last object's provenance back.
+    pub fn drop_object(&mut self)
+        requires { (ps : List Prov) × (x : ObjName) × (self.old ≡ ps ++ Whole x ∷ []) }
+        ensures { (ps : List Prov) (x : ObjName) → self.old ≡ ps ++ Whole x ∷ [] → self.new ≡ ps }
+    {
+        let _ = self.list.pop();
+    }
+
     /// Gives an ambiguity a number, where it has none.
     pub fn add_ambiguity(
         &mut self,
@@ -93,6 +103,7 @@ impl Origins {
         ensures number { OnOk result (HasNumber self.new (Either id past start)) }
         ensures more { Extends self.old self.new }
         ensures each { (m : Kept) → IsMade m (Either id past start) → AllMade m self.old → AllMade m self.new }
+        ensures err { OnErr result (self.new ≡ self.old) }
     {
         let prov = Prov::Either { id, past, start };
         if self.number(prov).is_some() {

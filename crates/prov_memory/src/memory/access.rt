@@ -9,6 +9,7 @@ ghost use Rattle.mem_spec.specs.Store.{Store};
 ghost use Rattle.mem_spec.specs.Script.{run, Done, Raised};
 ghost use Rattle.mem_spec.specs.Streams.{Io};
 ghost use Rattle.prov_memory.specs.Held.{held_of};
+ghost use Rattle.prov_memory.specs.Keeps.{Keeps};
 ghost use Rattle.prov_memory.specs.Memory.{Kept, store_of, life_in};
 ghost use Rattle.prov_memory.specs.Made.{CanSettle, after_settling, settling_items};
 ghost use Rattle.prov_memory.specs.Access.{IsReached, IsReachedBy, CanSettleOf, reached, access_in, chosen_of, checked_offset};
@@ -148,6 +149,7 @@ impl Memory {
         ensures rest { record self.new { cells = [] } ≡ record self.old { cells = [] } }
         ensures cells { (e : Event) → has_cell self.new.cells e ≡ has_cell self.old.cells e }
         ensures store { CanSettle self.old.cells settles → (m : Kept) → m.cells ≡ self.old.cells → (io : Io) → store_of (record m { cells = self.new.cells }) io ≡ after_settling settles (store_of m io) }
+        ensures kept { Keeps self.old self.new }
     {
         if let Some((id, keep)) = settles {
             let _ = self.narrowed.narrow(id, keep);

@@ -4,6 +4,7 @@ ghost use Rattle.ub_base.specs.Names.{same_object};
 ghost use Rattle.std.specs.Prelude.{◌≡◌, ◌++◌, ◌∷◌, ◌<◌, ◌/◌, ◌+ℤ◌, ◌-ℤ◌, [], pos, true, if◌then◌else◌, IfOk, OnOk, OnErr, length};
 ghost use Rattle.addr_map.specs.Rows.{row_of};
 ghost use Rattle.exposure.specs.declared.prov.Prov.TheVariants.{Either};
+ghost use Rattle.prov_memory.specs.Keeps.{Keeps};
 ghost use Rattle.prov_memory.specs.Sound.{AllMade, IsSound};
 ghost use Rattle.exposure.specs.Cells.{has_cell};
 ghost use Rattle.mem_spec.specs.Acts as acts;
@@ -107,6 +108,7 @@ impl Memory {
         ensures rest { record self.new { cells = [] } ≡ record self.old { cells = [] } }
         ensures cells { (e : Event) → has_cell self.new.cells e ≡ has_cell self.old.cells e }
         ensures store { CanSettle self.old.cells settles → (io : Io) → store_of self.new io ≡ after_settling settles (store_of self.old io) }
+        ensures kept { Keeps self.old self.new }
     {
         let Some((id, keep)) = settles else {
             return;
@@ -122,6 +124,7 @@ impl Memory {
         ensures rest { record self.new { cells = [] } ≡ record self.old { cells = [] } }
         ensures made { (p : Prov) → IsMade self.old p → IsMade self.new p }
         ensures sound { IsSound self.old → IsSound self.new }
+        ensures kept { Keeps self.old self.new }
     {
         t.clear();
         let settles = self.shifted(addr, prov, by)?;
@@ -187,6 +190,7 @@ impl Memory {
         ensures same { OnErr result (self.new ≡ self.old) }
         ensures rest { record self.new { cells = [] } ≡ record self.old { cells = [] } }
         ensures cells { (e : Event) → has_cell self.new.cells e ≡ has_cell self.old.cells e }
+        ensures kept { Keeps self.old self.new }
     {
         let (first, second) = self.compared(a, b, clause)?;
         self.note_settled(first, t);
@@ -211,6 +215,7 @@ impl Memory {
         ensures cells { (e : Event) → has_cell self.new.cells e ≡ has_cell self.old.cells e }
         ensures made { (p : Prov) → IsMade self.old p → IsMade self.new p }
         ensures sound { IsSound self.old → IsSound self.new }
+        ensures kept { Keeps self.old self.new }
     {
         t.clear();
         if !is_multiple(size, a, b) {
@@ -236,6 +241,7 @@ impl Memory {
         ensures cells { (e : Event) → has_cell self.new.cells e ≡ has_cell self.old.cells e }
         ensures made { (p : Prov) → IsMade self.old p → IsMade self.new p }
         ensures sound { IsSound self.old → IsSound self.new }
+        ensures kept { Keeps self.old self.new }
     {
         t.clear();
         self.settle_common(ap, bp, Clause::PointerComparison, t)?;
@@ -249,7 +255,8 @@ impl Memory {
         ensures value { IfOk result (λ prov. IsMade self.new prov) }
         ensures more { HasMore self.old self.new }
         ensures made { (p : Prov) → IsMade self.old p → IsMade self.new p }
-        ensures sound { OnOk result (IsSound self.old → IsSound self.new) }
+        ensures sound { IsSound self.old → IsSound self.new }
+        ensures kept { Keeps self.old self.new }
     {
         t.clear();
         self.look_up(who, addr, t)
@@ -265,7 +272,8 @@ impl Memory {
         ensures items { OnOk result (length t.old < 32 → t.new ≡ t.old ++ look_up_items addr) }
         ensures value { IfOk result (λ prov. IsMade self.new prov) }
         ensures more { HasMore self.old self.new }
-        ensures sound { OnOk result (IsSound self.old → IsSound self.new) }
+        ensures sound { IsSound self.old → IsSound self.new }
+        ensures kept { Keeps self.old self.new }
     {
         if addr == 0 {
             return Ok(Prov::Empty);
@@ -308,6 +316,7 @@ impl Memory {
         ensures more { HasMore self.old self.new }
         ensures made { AreCreated self.old prov → OnOk result (IsMade self.new prov) }
         ensures each { (m : Kept) → IsMade m prov → AllMade m self.old.origins → AllMade m self.new.origins }
+        ensures err { OnErr result (self.new.origins ≡ self.old.origins) }
     {
         match prov {
             Prov::Empty => Ok(()),
@@ -320,9 +329,10 @@ impl Memory {
         ensures more { HasMore self.old self.new }
         ensures made { OnOk result (IsMade self.new (Either id past start)) }
         ensures each { (m : Kept) → IsMade m (Either id past start) → AllMade m self.old.origins → AllMade m self.new.origins }
+        ensures err { OnErr result (self.new.origins ≡ self.old.origins) }
     {
-        self.origins.add_ambiguity(id, past, start)?;
-        self.narrowed.make(id)
+        self.narrowed.make(id)?;
+        self.origins.add_ambiguity(id, past, start)
     }
 }
 

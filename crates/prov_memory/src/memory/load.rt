@@ -16,6 +16,7 @@ ghost use Rattle.prov_memory.specs.Cells.{byte_in, cell_at, tag_in};
 ghost use Rattle.prov_memory.specs.Held.{Held, held_of};
 ghost use Rattle.prov_memory.specs.Memory.{Kept, HasCell, AreKnown, life_in, store_of, uncovered_each};
 ghost use Rattle.prov_memory.specs.Made.{Extends, HasMore, IsMade};
+ghost use Rattle.prov_memory.specs.Keeps.{Keeps};
 ghost use Rattle.prov_memory.specs.Sound.{IsSound};
 ghost use Rattle.prov_memory.specs.Access.{IsReached, bytes_in, range_in};
 ghost use Rattle.prov_memory.specs.Loads as loads;
@@ -78,6 +79,7 @@ impl Memory {
         ensures rest { record self.new { objects = []; cells = [] } ≡ record self.old { objects = []; cells = [] } }
         ensures made { (p : Prov) → IsMade self.old p → IsMade self.new p }
         ensures sound { IsSound self.old → IsSound self.new }
+        ensures kept { Keeps self.old self.new }
     {
         t.clear();
         let len = kind.bytes();
@@ -101,6 +103,7 @@ impl Memory {
         ensures rest { record self.new { objects = []; cells = [] } ≡ record self.old { objects = []; cells = [] } }
         ensures made { (p : Prov) → IsMade self.old p → IsMade self.new p }
         ensures sound { IsSound self.old → IsSound self.new }
+        ensures kept { Keeps self.old self.new }
     {
         t.clear();
         let found = self.access(8, 8, addr, prov, t)?;
@@ -166,6 +169,7 @@ impl Memory {
         ensures rest { record self.new { objects = []; cells = [] } ≡ record self.old { objects = []; cells = [] } }
         ensures made { (p : Prov) → IsMade self.old p → IsMade self.new p }
         ensures sound { IsSound self.old → IsSound self.new }
+        ensures kept { Keeps self.old self.new }
     {
         let number = self.read_number(found, ty, len, is_bool)?;
         note_read(found, len, t);
@@ -207,7 +211,8 @@ impl Memory {
         ensures origins { Extends self.old.origins self.new.origins }
         ensures value { IfOk result (λ value. IfPointer value (λ a p. IsSound self.old → IsMade self.new p)) }
         ensures made { (p : Prov) → IsMade self.old p → IsMade self.new p }
-        ensures sound { OnOk result (IsSound self.old → IsSound self.new) }
+        ensures sound { IsSound self.old → IsSound self.new }
+        ensures kept { Keeps self.old self.new }
     {
         t.clear();
         let found = self.access(8, align, addr, prov, t)?;
@@ -297,7 +302,8 @@ impl Memory {
         ensures items { OnOk result (length t.old + 1 < 32 → t.new ≡ t.old ++ pointer_items pointer number) }
         ensures more { HasMore self.old self.new }
         ensures value { IfOk result (λ prov. IfSome pointer (λ p. IsMade self.old p) → IsMade self.new prov) }
-        ensures sound { OnOk result (IsSound self.old → IsSound self.new) }
+        ensures sound { IsSound self.old → IsSound self.new }
+        ensures kept { Keeps self.old self.new }
     {
         let Some(prov) = pointer else {
             let prov = self.look_up(who, number, t)?;

@@ -1,5 +1,5 @@
 // Birth and death of objects.
-ghost use Rattle.std.specs.Prelude.{◌≡◌, ◌+◌, ◌<◌, ◌≤◌, ◌^◌, ◌∷◌, ◌++◌, [], Some, Err, true, false, length, map, min, max, option_map, IfOk, OnOk, OnErr};
+ghost use Rattle.std.specs.Prelude.{◌≡◌, ◌+◌, ◌<◌, ◌≤◌, ◌^◌, ◌∷◌, ◌++◌, [], Some, None, Err, true, false, List, length, map, min, max, option_map, IfOk, OnOk, OnErr};
 ghost use Rattle.addr_map.specs.Rows.{row_of, row_at};
 ghost use Rattle.ub_base.specs.declared.names.Item.TheVariants.{Expose, Born};
 ghost use Rattle.prov_memory.specs.declared.answer.CreateFault.TheVariants.{Unplaced};
@@ -10,8 +10,10 @@ ghost use Rattle.mem_spec.specs.Acts as acts;
 ghost use Rattle.mem_spec.specs.Acts.{candidates};
 ghost use Rattle.mem_spec.specs.Script.{run, Done};
 ghost use Rattle.mem_spec.specs.Streams.{Io};
-ghost use Rattle.prov_memory.specs.Held.{changed, uncovered};
+ghost use Rattle.ub_base.specs.declared.names.ObjName.{ObjName};
+ghost use Rattle.prov_memory.specs.Held.{changed, uncovered, held_of};
 ghost use Rattle.prov_memory.specs.Made.{AreNamed, IsMade};
+ghost use Rattle.prov_memory.specs.Keeps.{Keeps, MayHaveRow};
 ghost use Rattle.prov_memory.specs.Sound.{IsSound};
 ghost use Rattle.prov_memory.specs.Memory.{store_of, uncovered_each, AreKnown, IsBorn, cannot_create, no_place, base_by, rows_with};
 
@@ -34,15 +36,17 @@ impl Memory {
         ensures exact { IfOk result (λ base. AreKnown self.old → (io : Io) → run self.new.rows (acts.create self.new.rows name size align kind (option_map (λ shape. form_of shape.value) declared)) (store_of self.old io) ≡ Done base t.new (store_of self.new io)) }
         ensures known { AreKnown self.old → OnOk result (AreKnown self.new) }
         ensures named { AreNamed self.old → OnOk result (AreNamed self.new) }
-        ensures made { (p : Prov) → IsMade self.old p → OnOk result (IsMade self.new p) }
+        ensures made { (p : Prov) → IsMade self.old p → IsMade self.new p }
         ensures whole { OnOk result (IsMade self.new (Whole name)) }
-        ensures sound { IsSound self.old → OnOk result (IsSound self.new) }
+        ensures sound { IsSound self.old → IsSound self.new }
         ensures created { OnOk result (self.new.created ≡ min (self.old.created + max size 16) (2 ^ 62)) }
         ensures base { IfOk result (λ base. base ≡ base_by (row_of self.old.rows name) self.old.mode self.old.rows align) }
         ensures rows { IfOk result (λ base. self.new.rows ≡ rows_with (row_of self.old.rows name) (row_at name base size align) self.old.rows) }
         ensures able { OnOk result (cannot_create self.old name size align ≡ false) }
         ensures unplaced { result ≡ Err Unplaced → cannot_create self.old name size align ≡ true }
         ensures same { result ≡ Err Unplaced → self.new ≡ self.old }
+        ensures failed { OnErr result (MayHaveRow self.old self.new name size align) }
+        ensures kept { (kind.heap ≡ true → option_map (λ shape. form_of shape.value) declared ≡ None) → Keeps self.old self.new }
     {
         self.bear(name, size, align, kind, declared, t)
     }
@@ -64,6 +68,9 @@ impl Memory {
         ensures able { OnOk result (cannot_create self.old name size align ≡ false) }
         ensures unplaced { result ≡ Err Unplaced → cannot_create self.old name size align ≡ true }
         ensures same { result ≡ Err Unplaced → self.new ≡ self.old }
+        ensures failed { OnErr result (MayHaveRow self.old self.new name size align) }
+        ensures mode { self.new.mode ≡ self.old.mode }
+        ensures kept { OnErr result (Keeps self.old self.new) }
     {
         t.clear();
         if self.seek(name).is_some() {
@@ -88,7 +95,7 @@ impl Memory {
             origin,
             cells,
         };
-        self.objects.add(object)?;
+        add_last(&mut self.objects, &mut self.origins, object)?;
         self.created = counted(self.created, size);
         t.note(Item::Born(name));
         Ok(base)
@@ -104,6 +111,7 @@ impl Memory {
         ensures rows { IfOk result (λ base. self.new.rows ≡ rows_with (row_of self.old.rows name) (row_at name base size align) self.old.rows) }
         ensures able { OnOk result (no_place self.old (row_of self.old.rows name) self.old.mode size align ≡ false) }
         ensures unplaced { result ≡ Err Unplaced → no_place self.old (row_of self.old.rows name) self.old.mode size align ≡ true }
+        ensures kept { Keeps self.old self.new }
     {
         if let Some(row) = self.map.row(name) {
             if row.size == size && row.align == align {
@@ -126,6 +134,7 @@ impl Memory {
         ensures named { AreNamed self.old → AreNamed self.new }
         ensures made { (p : Prov) → IsMade self.old p → IsMade self.new p }
         ensures sound { IsSound self.old → IsSound self.new }
+        ensures kept { Keeps self.old self.new }
         ensures rows { self.new.rows ≡ self.old.rows }
         ensures rest { record self.new { objects = [] } ≡ record self.old { objects = [] } }
         ensures exact { (io : Io) → run self.new.rows (acts.kill name) (store_of self.old io) ≡ Done tt t.new (store_of self.new io) }
@@ -141,6 +150,7 @@ impl Memory {
         ensures named { AreNamed self.old → AreNamed self.new }
         ensures made { (p : Prov) → IsMade self.old p → IsMade self.new p }
         ensures sound { IsSound self.old → IsSound self.new }
+        ensures kept { Keeps self.old self.new }
         ensures rest { record self.new { objects = [] } ≡ record self.old { objects = [] } }
         ensures exact { (io : Io) → run self.new.rows (acts.unwrite self.new.rows name) (store_of self.old io) ≡ Done tt t.new (store_of self.new io) }
     {
@@ -173,6 +183,7 @@ impl Memory {
         ensures named { AreNamed self.old → AreNamed self.new }
         ensures made { (p : Prov) → IsMade self.old p → IsMade self.new p }
         ensures sound { IsSound self.old → IsSound self.new }
+        ensures kept { Keeps self.old self.new }
         ensures rest { record self.new { objects = [] } ≡ record self.old { objects = [] } }
         ensures exact { (io : Io) → run self.new.rows (acts.expose prov) (store_of self.old io) ≡ Done tt t.new (store_of self.new io) }
     {
@@ -201,4 +212,22 @@ fn counted(created: u64, size: u64) -> u64
 {
     const MOST: u64 = 1 << 62;
     created.saturating_add(size.max(16)).min(MOST)
+}
+
+/// Adds an object whose provenance has the last number, which is taken back where memory is wanted.
+fn add_last(objects: &mut Objects, origins: &mut Origins, object: Object) -> Result<(), NoMemory>
+    requires new { held_of objects.old object.name ≡ None }
+    requires last { (ps : List Prov) × (x : ObjName) × (origins.old ≡ ps ++ Whole x ∷ []) }
+    ensures ok { OnOk result (objects.new ≡ objects.old ++ object ∷ []) }
+    ensures origins { OnOk result (origins.new ≡ origins.old) }
+    ensures err { OnErr result (objects.new ≡ objects.old) }
+    ensures taken { (ps : List Prov) (x : ObjName) → origins.old ≡ ps ++ Whole x ∷ [] → OnErr result (origins.new ≡ ps) }
+{
+    match objects.add(object) {
+        Ok(()) => Ok(()),
+        Err(fault) => {
+            origins.drop_object();
+            Err(fault)
+        }
+    }
 }

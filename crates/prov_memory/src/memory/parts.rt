@@ -14,6 +14,7 @@ ghost use Rattle.prov_memory.specs.Loads.{IfPointer, IfRaise, number_if, origins
 ghost use Rattle.prov_memory.specs.Parts as parts;
 ghost use Rattle.prov_memory.specs.Parts.{part_items};
 ghost use Rattle.prov_memory.specs.Tags.{CellsTagged};
+ghost use Rattle.prov_memory.specs.Keeps.{Keeps};
 ghost use Rattle.prov_memory.specs.Sound.{IsSound};
 ghost use Rattle.mem_spec.specs.Bytes.{number_bytes, pointer_bytes};
 ghost use Rattle.prov_memory.specs.Pieces.{IsKnownValue, IsMadeValue, IsTaggedValue, seen, value_bytes, piece_cells, plain_cells};
@@ -32,8 +33,9 @@ impl Memory {
         ensures shown { self.new ≡ record self.old { objects = uncovered_each (origins_of (seen self.old cells.now)) self.old.objects } }
         ensures items { length t.old + 16 < 32 → t.new ≡ t.old ++ map Expose (origins_of (seen self.old cells.now)) }
     {
-        for cell in cells {
-            let prov = self.piece_of(*cell);
+        for at in 0..cells.len() {
+            let cell = cell_at(cells, at as u64);
+            let prov = self.piece_of(cell);
             self.show_each(prov, t);
         }
     }
@@ -49,6 +51,7 @@ impl Memory {
         ensures rest { record self.new { objects = [] } ≡ record self.old { objects = [] } }
         ensures made { (p : Prov) → IsMade self.old p → IsMade self.new p }
         ensures sound { IsSound self.old → IsSound self.new }
+        ensures kept { Keeps self.old self.new }
     {
         let number = self.read_cells(cells, is_bool)?;
         self.show_cells(cells, t);
@@ -77,6 +80,7 @@ impl Memory {
         ensures rest { record self.new { objects = [] } ≡ record self.old { objects = [] } }
         ensures made { (p : Prov) → IsMade self.old p → IsMade self.new p }
         ensures sound { IsSound self.old → IsSound self.new }
+        ensures kept { Keeps self.old self.new }
     {
         t.clear();
         let cells = bytes.range(from, kind.bytes());
@@ -92,6 +96,7 @@ impl Memory {
         ensures rest { record self.new { objects = [] } ≡ record self.old { objects = [] } }
         ensures made { (p : Prov) → IsMade self.old p → IsMade self.new p }
         ensures sound { IsSound self.old → IsSound self.new }
+        ensures kept { Keeps self.old self.new }
     {
         t.clear();
         self.part_number(bytes.range(from, 8), false, t)
@@ -111,7 +116,8 @@ impl Memory {
         ensures more { HasMore self.old self.new }
         ensures value { IfOk result (λ value. IfPointer value (λ a p. IsSound self.old → IsMade self.new p)) }
         ensures made { (p : Prov) → IsMade self.old p → IsMade self.new p }
-        ensures sound { OnOk result (IsSound self.old → IsSound self.new) }
+        ensures sound { IsSound self.old → IsSound self.new }
+        ensures kept { Keeps self.old self.new }
     {
         t.clear();
         let cells = bytes.range(from, 8);
@@ -146,7 +152,8 @@ impl Memory {
         ensures items { OnOk result (length t.old < 32 → t.new ≡ t.old ++ part_items pointer number) }
         ensures more { HasMore self.old self.new }
         ensures value { IfOk result (λ prov. IfSome pointer (λ p. IsMade self.old p) → IsMade self.new prov) }
-        ensures sound { OnOk result (IsSound self.old → IsSound self.new) }
+        ensures sound { IsSound self.old → IsSound self.new }
+        ensures kept { Keeps self.old self.new }
     {
         match pointer {
             Some(prov) => Ok(prov),

@@ -13,7 +13,9 @@ ghost use Rattle.prov_memory.specs.Held.{Held, IsWritten, FallsIn, held_of, chan
 ghost use Rattle.prov_memory.specs.Memory.{AreKnown, CellsKnown, HasCell, store_of, life_in};
 ghost use Rattle.prov_memory.specs.Access.{IsReached};
 ghost use Rattle.prov_memory.specs.Made.{AreNamed, IsMade};
+ghost use Rattle.prov_memory.specs.Keeps.{Keeps, IsNumbered};
 ghost use Rattle.prov_memory.specs.Sound.{IsSound};
+ghost use Rattle.prov_memory.specs.Tags.{CellsTagged};
 ghost use Rattle.mem_spec.specs.Bytes.{low_bits, number_bytes, pointer_bytes};
 ghost use Rattle.prov_memory.specs.Stores.{Sees, IsShort, IsTypeOf, tagged_all, checked_store, writable};
 
@@ -44,6 +46,7 @@ impl Memory {
         ensures known { AreKnown self.old → CellsKnown (length self.old.origins) bytes.now.cells → AreKnown self.new }
         ensures made { (p : Prov) → IsMade self.old p → IsMade self.new p }
         ensures sound { IsSound self.old → CellsKnown (length self.old.origins) bytes.now.cells → IsSound self.new }
+        ensures kept { IsNumbered (length self.old.types) via → CellsKnown (length self.old.origins) bytes.now.cells → CellsTagged (length self.old.types) bytes.now.cells → Keeps self.old self.new }
     {
         self.store_cells(first, via, align, addr, prov, bytes.cells(), t)
     }
@@ -67,6 +70,7 @@ impl Memory {
         ensures known { AreKnown self.old → AreKnown self.new }
         ensures made { (p : Prov) → IsMade self.old p → IsMade self.new p }
         ensures sound { IsSound self.old → IsSound self.new }
+        ensures kept { IsNumbered (length self.old.types) via → Keeps self.old self.new }
     {
         let cells = number_cells(low_bits(value));
         let len = kind.bytes() as usize;
@@ -92,6 +96,7 @@ impl Memory {
         ensures known { AreNamed self.old → IsMade self.old value_prov → AreKnown self.old → AreKnown self.new }
         ensures made { (p : Prov) → IsMade self.old p → IsMade self.new p }
         ensures sound { IsSound self.old → IsMade self.old value_prov → IsSound self.new }
+        ensures kept { IsNumbered (length self.old.types) via → AreNamed self.old → IsMade self.old value_prov → Keeps self.old self.new }
     {
         let cells = pointer_cells(value_addr, self.origin_of(value_prov));
         self.store_cells(first, via, align, addr, prov, &cells, t)
@@ -115,6 +120,7 @@ impl Memory {
         ensures known { AreKnown self.old → CellsKnown (length self.old.origins) cells.now → AreKnown self.new }
         ensures made { (p : Prov) → IsMade self.old p → IsMade self.new p }
         ensures sound { IsSound self.old → CellsKnown (length self.old.origins) cells.now → IsSound self.new }
+        ensures kept { IsNumbered (length self.old.types) via → CellsKnown (length self.old.origins) cells.now → CellsTagged (length self.old.types) cells.now → Keeps self.old self.new }
     {
         t.clear();
         let found = self.access(cells.len() as u64, align, addr, prov, t)?;

@@ -6,6 +6,7 @@ ghost use Rattle.mem_spec.specs.Agreement.{read_as_int};
 ghost use Rattle.prov_memory.specs.Cells.{tagged_in, type_numbered};
 ghost use Rattle.exposure.specs.declared.prov.Prov.{Prov};
 ghost use Rattle.prov_memory.specs.Made.{IsMade};
+ghost use Rattle.prov_memory.specs.Keeps.{Keeps};
 ghost use Rattle.prov_memory.specs.Sound.{IsSound};
 ghost use Rattle.prov_memory.specs.Tags.{AddsTypes, IsTagged, retagged_byte};
 
@@ -19,10 +20,11 @@ impl Memory {
     pub fn type_id(&mut self, ty: &Ty) -> Result<TypeId, NoMemory>
         ensures id { IfOk result (λ id. type_numbered (map type_of self.new.types) id.number ≡ Some (read_as_int (type_of ty.now))) }
         ensures known { IfOk result (λ id. id.number ≤ length self.new.types + 12) }
-        ensures more { OnOk result (AddsTypes self.old self.new) }
+        ensures more { AddsTypes self.old self.new }
         ensures rest { record self.new { types = [] } ≡ record self.old { types = [] } }
         ensures made { (p : Prov) → IsMade self.old p → IsMade self.new p }
         ensures sound { IsSound self.old → IsSound self.new }
+        ensures kept { Keeps self.old self.new }
     {
         if let Some(id) = kind_id(ty) {
             return Ok(id);
@@ -47,7 +49,7 @@ impl Memory {
     fn add_type(&mut self, ty: Ty) -> Result<TypeId, NoMemory>
         ensures id { IfOk result (λ id. type_numbered (map type_of self.new.types) id.number ≡ Some (type_of ty)) }
         ensures known { IfOk result (λ id. id.number ≤ length self.new.types + 12) }
-        ensures more { OnOk result (AddsTypes self.old self.new) }
+        ensures more { AddsTypes self.old self.new }
         ensures rest { record self.new { types = [] } ≡ record self.old { types = [] } }
     {
         let id = types::id_at(self.types.len())?;
@@ -62,7 +64,7 @@ impl Memory {
         declared: &Option<Rc<Shape>>,
         place: u64,
     ) -> Result<Cell, NoMemory>
-        ensures more { OnOk result (AddsTypes self.old self.new) }
+        ensures more { AddsTypes self.old self.new }
         ensures rest { record self.new { types = [] } ≡ record self.old { types = [] } }
         ensures byte { IfOk result (λ c. tagged_in self.new.origins (map type_of self.new.types) c ≡ retagged_byte (option_map (λ shape. form_of shape.value) declared.now) place (tagged_in self.old.origins (map type_of self.old.types) cell)) }
         ensures known { IfOk result (λ c. IsTagged (length self.old.types) cell → IsTagged (length self.new.types) c) }
@@ -75,7 +77,7 @@ impl Memory {
     }
 
     fn tagged_by(&mut self, cell: Cell, shape: &Shape, place: u64) -> Result<Cell, NoMemory>
-        ensures more { OnOk result (AddsTypes self.old self.new) }
+        ensures more { AddsTypes self.old self.new }
         ensures rest { record self.new { types = [] } ≡ record self.old { types = [] } }
         ensures byte { IfOk result (λ c. tagged_in self.new.origins (map type_of self.new.types) c ≡ retagged_byte (Some (form_of shape.now)) place (tagged_in self.old.origins (map type_of self.old.types) cell)) }
         ensures known { IfOk result (λ c. IsTagged (length self.old.types) cell → IsTagged (length self.new.types) c) }

@@ -7,6 +7,7 @@ ghost use Rattle.mem_spec.specs.Streams.{Io};
 ghost use Rattle.prov_memory.specs.Held.{Held};
 ghost use Rattle.prov_memory.specs.Memory.{HasCell, AreKnown, CellsKnown, store_of};
 ghost use Rattle.prov_memory.specs.Made.{IsMade};
+ghost use Rattle.prov_memory.specs.Keeps.{Keeps};
 ghost use Rattle.prov_memory.specs.Sound.{IsSound};
 ghost use Rattle.prov_memory.specs.Loads.{IfRaise};
 ghost use Rattle.prov_memory.specs.Stores.{tagged_all};
@@ -37,6 +38,7 @@ impl Memory {
         ensures made { (p : Prov) → IsMade self.old p → IsMade self.new p }
         ensures sound { IsSound self.old → IsSound self.new }
         ensures rest { record self.new { cells = []; types = [] } ≡ record self.old { cells = []; types = [] } }
+        ensures kept { Keeps self.old self.new }
     {
         t.clear();
         let found = self.access(size, align, addr, prov, t)?;
@@ -49,7 +51,7 @@ impl Memory {
     // The bytes of a range with their tags, those of an object with declared type by its scalars.
     pub(super) fn cells_of(&mut self, at: usize, from: u64, len: u64) -> Result<Vec<Cell>, NoMemory>
         ensures objects { OnOk result (self.new.objects ≡ self.old.objects) }
-        ensures more { OnOk result (AddsTypes self.old self.new) }
+        ensures more { AddsTypes self.old self.new }
         ensures rest { record self.new { types = [] } ≡ record self.old { types = [] } }
         ensures len { IfOk result (λ cells. length cells.items ≡ len) }
         ensures taken { IfOk result (λ cells. from + len ≤ 2 ^ 47 → AreTagged self.old → (h : Held) → slice_get self.old.objects at ≡ Some h → IsTaken self.old self.new h (option_map form_of h.declared) from len cells.items) }
@@ -77,7 +79,7 @@ impl Memory {
         from: u64,
         len: u64,
     ) -> Result<Vec<Cell>, NoMemory>
-        ensures more { OnOk result (AddsTypes self.old self.new) }
+        ensures more { AddsTypes self.old self.new }
         ensures rest { record self.new { types = [] } ≡ record self.old { types = [] } }
         ensures len { IfOk result (λ cells. length cells.items ≡ len) }
         ensures taken { IfOk result (λ cells. from + len ≤ 2 ^ 47 → AreTagged self.old → (h : Held) → slice_get self.old.objects at ≡ Some h → IsTaken self.old self.new h (option_map (λ shape. form_of shape.value) declared.now) from len cells.items) }

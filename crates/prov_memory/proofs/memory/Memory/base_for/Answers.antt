@@ -5,6 +5,10 @@ use Rattle.addr_map.specs.declared.map.Row.{Row}
 use Rattle.addr_map.specs.Rows.{row_of, row_at}
 use Rattle.prov_memory.specs.Memory.{HaveRows}
 use Rattle.prov_memory.proofs.StoreLemmas.{row_as, end_of_row, rows_inserted, inserted_same}
+use Rattle.std.proofs.Common.{true, rules, ◌≤◌}
+use Rattle.addr_map.specs.Rows.{is_power}
+use Rattle.prov_memory.specs.contracts.memory.Memory.{the_view}
+use Rattle.prov_memory.proofs.BirthLemmas.{keeps_placed, base_high}
 use Rattle.prov_memory.proofs.memory.Memory.base_for.Goals as goal
 
 pub returns-then-row-align-clause-row : goal.returns-then-row-align-clause-row
@@ -32,3 +36,12 @@ returns-clause-row c =
     let none : row_of c.self.inside.map c.args.name ≡ None = sym c.row.ensures.row ∙ c.in_default.is in
     rw c.in_ok-place.ensures.row (inserted_same (λ s. same_object s.name c.args.name) (row_at c.args.name c.in_ok-place.field-0 c.args.size c.args.align)
     c.self.inside.map (same_object_refl c.args.name) none)
+
+pub returns-clause-kept : goal.returns-clause-kept
+returns-clause-kept c =
+    let none : row_of c.self.inside.map c.args.name ≡ None = sym c.row.ensures.row ∙ c.in_default.is in
+    let power : is_power c.args.align ≡ true = search rules in
+    let high : 16777216 ≤ c.in_ok-place.field-0 =
+    omega (arith, c.in_ok-place.ensures.base, base_high c.in-Some-mode.mode c.self.inside.map c.args.align power) in
+    rw (← c.self.view_is, c.in_ok-place.ensures.row)
+    (keeps_placed (the_view c.self.inside) (row_at c.args.name c.in_ok-place.field-0 c.args.size c.args.align) none high)

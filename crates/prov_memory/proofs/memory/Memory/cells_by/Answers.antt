@@ -17,7 +17,7 @@ loop-offset-preserved c =
     let o = option_map (λ shape. form_of shape.value) c.args.declared.now in
     let lt : n < c.args.len = omega arith in
     record {
-      more = adds_then m now c.retagged.new.self inv.more c.in_ok-tagged.ensures.more;
+      more = adds_then m now c.retagged.new.self inv.more c.retagged.ensures.more;
       rest = c.retagged.ensures.rest ∙ inv.rest;
       known = λ known h e. cell_known m h c.args.at c.saturating_add-place.result c.loop-offset.cells.items c.push.new.self.items c.cell_in-cell.result
           c.in_ok-tagged.tagged known e (c.cell_in-cell.ensures h (ap (λ (k : Kept). slice_get k.objects c.args.at) inv.rest ∙ e))
@@ -27,7 +27,7 @@ loop-offset-preserved c =
       taken = λ range known h e.
           let place : c.saturating_add-place.result ≡ c.args.from + n = omega (arith, c.saturating_add-place.ensures, range, lt) in
           taken_next m now c.retagged.new.self h o c.args.from n c.args.at c.loop-offset.cells.items c.push.new.self.items c.cell_in-cell.result
-          c.in_ok-tagged.tagged inv.more c.in_ok-tagged.ensures.more known e (inv.taken range known h e)
+          c.in_ok-tagged.tagged inv.more c.retagged.ensures.more known e (inv.taken range known h e)
           (λ g there. c.cell_in-cell.ensures g there ∙ ap (λ (k : ℕ). cell_at g.cells k) place)
           (c.in_ok-tagged.ensures.byte ∙ ap (λ (k : ℕ). retagged_byte o k (tagged_in now.origins (map type_of now.types) c.cell_in-cell.result)) place)
           c.in_ok-tagged.ensures.known c.in_ok-push.ensures.items;

@@ -1,6 +1,7 @@
 use Rattle.prov_memory.proofs.ActLemmas.{created_all, created_known}
 use Rattle.std.proofs.Common.{option_map}
 use Rattle.prov_memory.proofs.SoundLemmas.{created_made, created_whole, created_sound}
+use Rattle.prov_memory.proofs.BirthLemmas.{keeps_created, made_either, sound_either}
 use Rattle.prov_memory.proofs.memory.Memory.create.Goals as goal
 
 pub returns-clause-exact : goal.returns-clause-exact
@@ -14,9 +15,10 @@ returns-clause-known c =
     (λ shape. shape.value) c.args.declared c.bear.ensures.born
 
 pub returns-clause-made : goal.returns-clause-made
-returns-clause-made c =
-    created_made c.bear.result c.args.self.now c.bear.new.self c.args.name c.args.size c.args.align c.args.kind
-    (option_map (λ shape. shape.value) c.args.declared) c.bear.ensures.born
+returns-clause-made c = λ p.
+    made_either c.bear.result c.args.self.now c.bear.new.self p
+    (created_made c.bear.result c.args.self.now c.bear.new.self c.args.name c.args.size c.args.align c.args.kind
+    (option_map (λ shape. shape.value) c.args.declared) c.bear.ensures.born p) c.bear.ensures.kept
 
 pub returns-clause-whole : goal.returns-clause-whole
 returns-clause-whole c =
@@ -25,5 +27,12 @@ returns-clause-whole c =
 
 pub returns-clause-sound : goal.returns-clause-sound
 returns-clause-sound c =
-    created_sound c.bear.result c.args.self.now c.bear.new.self c.args.name c.args.size c.args.align c.args.kind
-    (option_map (λ shape. shape.value) c.args.declared) c.bear.ensures.born c.bear.ensures.named
+    sound_either c.bear.result c.args.self.now c.bear.new.self
+    (created_sound c.bear.result c.args.self.now c.bear.new.self c.args.name c.args.size c.args.align c.args.kind
+    (option_map (λ shape. shape.value) c.args.declared) c.bear.ensures.born c.bear.ensures.named) c.bear.ensures.kept
+
+pub returns-clause-kept : goal.returns-clause-kept
+returns-clause-kept c =
+    keeps_created c.bear.result c.args.self.now c.bear.new.self c.args.name c.args.size c.args.align c.args.kind
+    (λ shape. shape.value) c.args.declared c.bear.ensures.born c.bear.ensures.named c.bear.ensures.base c.bear.ensures.rows c.bear.ensures.able
+    c.bear.ensures.mode c.bear.ensures.kept

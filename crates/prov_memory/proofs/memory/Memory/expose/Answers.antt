@@ -5,6 +5,7 @@ use Rattle.prov_memory.proofs.ActLemmas.{first_noted_all, exposed_act, known_unc
 use Rattle.prov_memory.proofs.PieceLemmas.{named_uncovered}
 use Rattle.std.proofs.Common.{refl}
 use Rattle.prov_memory.proofs.SoundLemmas.{shown_made, shown_sound}
+use Rattle.prov_memory.proofs.KeepLemmas.{keeps_shown}
 use Rattle.prov_memory.proofs.memory.Memory.expose.Goals as goal
 
 pub returns-clause-exact : goal.returns-clause-exact
@@ -30,3 +31,6 @@ returns-clause-made c =
 pub returns-clause-sound : goal.returns-clause-sound
 returns-clause-sound c =
     shown_sound c.args.self.now c.show_each.new.self c.show_each.new.self (candidates c.args.prov) c.show_each.ensures.shown refl (λ e. refl)
+
+pub returns-clause-kept : goal.returns-clause-kept
+returns-clause-kept c = keeps_shown c.args.self.now c.show_each.new.self (candidates c.args.prov) c.show_each.ensures.shown

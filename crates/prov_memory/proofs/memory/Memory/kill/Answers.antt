@@ -7,6 +7,7 @@ use Rattle.prov_memory.specs.contracts.memory.Memory.{the_view}
 use Rattle.prov_memory.proofs.StoreLemmas.{rows_killed}
 use Rattle.prov_memory.proofs.ActLemmas.{first_noted, killed_act, known_killed}
 use Rattle.prov_memory.proofs.SoundLemmas.{changed_made, changed_sound}
+use Rattle.prov_memory.proofs.KeepLemmas.{keeps_killed}
 use Rattle.prov_memory.proofs.memory.Memory.kill.Goals as goal
 
 pub invariant_of-self : goal.invariant_of-self
@@ -40,3 +41,6 @@ returns-clause-sound c =
 
 pub returns-clause-rest : goal.returns-clause-rest
 returns-clause-rest c = rw (← c.self.view_is) refl
+
+pub returns-clause-kept : goal.returns-clause-kept
+returns-clause-kept c = rw (← c.self.view_is, c.kill.ensures) (keeps_killed (the_view c.self.inside) c.args.name)

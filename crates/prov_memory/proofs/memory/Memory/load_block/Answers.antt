@@ -8,6 +8,7 @@ use Rattle.prov_memory.proofs.ActLemmas.{noted_after}
 use Rattle.prov_memory.proofs.WriteLemmas.{few}
 use Rattle.prov_memory.proofs.BlockLemmas.{block_unreached, block_done, block_cells, block_tagged}
 use Rattle.prov_memory.proofs.SoundLemmas.{block_made, block_sound, block_known, typed_made, typed_sound}
+use Rattle.prov_memory.proofs.KeepLemmas.{keeps_then, keeps_after, keeps_same, keeps_types}
 use Rattle.prov_memory.proofs.memory.Memory.load_block.Goals as goal
 
 pub returns-in_err-found-clause-raises : goal.returns-in_err-found-clause-raises
@@ -23,7 +24,7 @@ returns-clause-exact c =
     (few f.settles f.name) c.note_read.ensures in
     rw c.of_cells.ensures (block_done c.args.self.now c.access.new.self c.cells_of.new.self c.settle.new.self f c.args.size c.args.align c.args.addr
     c.args.prov c.in_ok-cells.cells.items c.note_read.new.t c.access.ensures.same c.in_ok-found.ensures.exact c.in_ok-found.ensures.found
-    c.in_ok-found.ensures.settles c.in_ok-cells.ensures.more c.in_ok-cells.ensures.taken c.settle.ensures.rest c.settle.ensures.store noted)
+    c.in_ok-found.ensures.settles c.cells_of.ensures.more c.in_ok-cells.ensures.taken c.settle.ensures.rest c.settle.ensures.store noted)
 
 pub returns-clause-cells : goal.returns-clause-cells
 returns-clause-cells c =
@@ -32,7 +33,7 @@ returns-clause-cells c =
 
 pub returns-clause-tagged : goal.returns-clause-tagged
 returns-clause-tagged c = block_tagged c.args.self.now c.access.new.self c.cells_of.new.self c.settle.new.self c.access.ensures.same
-    c.in_ok-cells.ensures.more c.settle.ensures.rest
+    c.cells_of.ensures.more c.settle.ensures.rest
 
 pub returns-clause-known : goal.returns-clause-known
 returns-clause-known c =
@@ -65,3 +66,17 @@ returns-clause-rest c =
 pub returns-in_err-cells-clause-rest : goal.returns-in_err-cells-clause-rest
 returns-in_err-cells-clause-rest c =
     ap (λ (m : Kept). record m { cells = [] }) c.cells_of.ensures.rest ∙ ap (λ (m : Kept). record m { cells = []; types = [] }) c.access.ensures.same
+
+pub returns-clause-kept : goal.returns-clause-kept
+returns-clause-kept c =
+    keeps_after c.args.self.now c.access.new.self c.settle.new.self c.access.ensures.same
+    (keeps_then c.access.new.self c.cells_of.new.self c.settle.new.self
+    (keeps_types c.access.new.self c.cells_of.new.self c.cells_of.ensures.more) c.settle.ensures.kept)
+
+pub returns-in_err-found-clause-kept : goal.returns-in_err-found-clause-kept
+returns-in_err-found-clause-kept c = keeps_same c.args.self.now c.access.new.self c.access.ensures.same
+
+pub returns-in_err-cells-clause-kept : goal.returns-in_err-cells-clause-kept
+returns-in_err-cells-clause-kept c =
+    keeps_after c.args.self.now c.access.new.self c.cells_of.new.self c.access.ensures.same
+    (keeps_types c.access.new.self c.cells_of.new.self c.cells_of.ensures.more)

@@ -2,6 +2,7 @@ use Rattle.std.proofs.lemmas.Result.{err_from_is_err_and}
 use Rattle.c_types.specs.Types.{type_of}
 use Rattle.prov_memory.proofs.LoadLemmas.{func_unreached, func_raises_all}
 use Rattle.prov_memory.proofs.ShowLemmas.{func_exact, besides_after}
+use Rattle.prov_memory.proofs.KeepLemmas.{keeps_after, keeps_same}
 use Rattle.prov_memory.proofs.memory.Memory.load_func.Goals as goal
 
 pub returns-in_err-found-clause-raises : goal.returns-in_err-found-clause-raises
@@ -23,3 +24,9 @@ returns-clause-exact c =
 
 pub returns-clause-rest : goal.returns-clause-rest
 returns-clause-rest c = besides_after c.args.self.now c.access.new.self c.load_number.new.self c.access.ensures.same c.load_number.ensures.rest
+
+pub returns-clause-kept : goal.returns-clause-kept
+returns-clause-kept c = keeps_after c.args.self.now c.access.new.self c.load_number.new.self c.access.ensures.same c.load_number.ensures.kept
+
+pub returns-in_err-found-clause-kept : goal.returns-in_err-found-clause-kept
+returns-in_err-found-clause-kept c = keeps_same c.args.self.now c.access.new.self c.access.ensures.same

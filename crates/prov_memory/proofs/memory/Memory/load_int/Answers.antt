@@ -5,6 +5,7 @@ use Rattle.std.proofs.lemmas.Result.{err_from_is_err_and}
 use Rattle.c_types.specs.Types.{int, type_of}
 use Rattle.prov_memory.proofs.LoadLemmas.{int_unreached, int_raises, fails_as, same_bytes}
 use Rattle.prov_memory.proofs.ShowLemmas.{int_exact, besides_after}
+use Rattle.prov_memory.proofs.KeepLemmas.{keeps_after, keeps_same}
 use Rattle.prov_memory.proofs.memory.Memory.load_int.Goals as goal
 
 pub returns-in_err-found-clause-raises : goal.returns-in_err-found-clause-raises
@@ -33,3 +34,12 @@ returns-clause-exact c =
 
 pub returns-clause-rest : goal.returns-clause-rest
 returns-clause-rest c = besides_after c.args.self.now c.access.new.self c.load_number.new.self c.access.ensures.same c.load_number.ensures.rest
+
+pub returns-clause-kept : goal.returns-clause-kept
+returns-clause-kept c = keeps_after c.args.self.now c.access.new.self c.load_number.new.self c.access.ensures.same c.load_number.ensures.kept
+
+pub returns-in_err-found-clause-kept : goal.returns-in_err-found-clause-kept
+returns-in_err-found-clause-kept c = keeps_same c.args.self.now c.access.new.self c.access.ensures.same
+
+pub returns-in_err-number-clause-kept : goal.returns-in_err-number-clause-kept
+returns-in_err-number-clause-kept c = keeps_after c.args.self.now c.access.new.self c.load_number.new.self c.access.ensures.same c.load_number.ensures.kept

@@ -4,6 +4,7 @@ use Rattle.prov_memory.specs.Access.{bytes_in}
 use Rattle.prov_memory.specs.Loads.{origins_of}
 use Rattle.prov_memory.proofs.ShowLemmas.{loaded_by, load_noted, besides_put}
 use Rattle.prov_memory.proofs.SoundLemmas.{shown_made, shown_sound}
+use Rattle.prov_memory.proofs.KeepLemmas.{keeps_then, keeps_shown, keeps_none}
 use Rattle.prov_memory.proofs.memory.Memory.load_number.Goals as goal
 
 pub returns-clause-loaded : goal.returns-clause-loaded
@@ -32,3 +33,13 @@ pub returns-clause-rest : goal.returns-clause-rest
 returns-clause-rest c =
     let r = c.requires.reached in
     besides_put c.args.self.now c.show_pieces.new.self c.settle.new.self _ (c.show_pieces.ensures.shown r.object r.there) c.settle.ensures.rest
+
+pub returns-clause-kept : goal.returns-clause-kept
+returns-clause-kept c =
+    let r = c.requires.reached in
+    keeps_then c.args.self.now c.show_pieces.new.self c.settle.new.self
+    (keeps_shown c.args.self.now c.show_pieces.new.self (origins_of (bytes_in c.args.self.now r.object c.args.found.from c.args.len))
+    (c.show_pieces.ensures.shown r.object r.there)) c.settle.ensures.kept
+
+pub returns-in_err-number-clause-kept : goal.returns-in_err-number-clause-kept
+returns-in_err-number-clause-kept c = keeps_none c.args.self.now

@@ -8,6 +8,7 @@ use Rattle.prov_memory.proofs.PointerLemmas.{pointer_unreached, pointer_unread, 
 use Rattle.prov_memory.proofs.SoundLemmas.{pointer_value, pointer_kept, more_made, settled_sound}
 use Rattle.prov_memory.proofs.ShowLemmas.{besides_looked}
 use Rattle.exposure.specs.declared.prov.Prov.{Prov}
+use Rattle.prov_memory.proofs.KeepLemmas.{keeps_then, keeps_after, keeps_same}
 use Rattle.prov_memory.proofs.memory.Memory.load_ptr.Goals as goal
 
 pub returns-in_err-found-clause-raises : goal.returns-in_err-found-clause-raises
@@ -55,7 +56,7 @@ returns-in_err-target-clause-made c = λ p made.
 pub returns-clause-sound : goal.returns-clause-sound
 returns-clause-sound c = λ s.
     settled_sound c.resolved.new.self c.settle.new.self c.settle.ensures.rest c.settle.ensures.cells
-    (c.in_ok-target.ensures.sound (subst (λ (m : Kept). IsSound m) (sym c.access.ensures.same) s))
+    (c.resolved.ensures.sound (subst (λ (m : Kept). IsSound m) (sym c.access.ensures.same) s))
 
 pub returns-clause-rest : goal.returns-clause-rest
 returns-clause-rest c = besides_looked c.args.self.now c.access.new.self c.resolved.new.self c.settle.new.self c.access.ensures.same
@@ -74,3 +75,20 @@ returns-in_err-target-clause-rest c = besides_looked c.args.self.now c.access.ne
 pub returns-in_err-target-clause-origins : goal.returns-in_err-target-clause-origins
 returns-in_err-target-clause-origins c =
     subst (λ (ps : List Prov). Extends ps c.resolved.new.self.origins) (ap (λ (k : Kept). k.origins) c.access.ensures.same) c.resolved.ensures.more.origins
+
+pub returns-clause-kept : goal.returns-clause-kept
+returns-clause-kept c =
+    keeps_after c.args.self.now c.access.new.self c.settle.new.self c.access.ensures.same
+    (keeps_then c.access.new.self c.resolved.new.self c.settle.new.self c.resolved.ensures.kept c.settle.ensures.kept)
+
+pub returns-in_err-found-clause-kept : goal.returns-in_err-found-clause-kept
+returns-in_err-found-clause-kept c = keeps_same c.args.self.now c.access.new.self c.access.ensures.same
+
+pub returns-in_err-number-clause-kept : goal.returns-in_err-number-clause-kept
+returns-in_err-number-clause-kept c = keeps_same c.args.self.now c.access.new.self c.access.ensures.same
+
+pub returns-in_err-target-clause-kept : goal.returns-in_err-target-clause-kept
+returns-in_err-target-clause-kept c = keeps_after c.args.self.now c.access.new.self c.resolved.new.self c.access.ensures.same c.resolved.ensures.kept
+
+pub returns-in_err-target-clause-sound : goal.returns-in_err-target-clause-sound
+returns-in_err-target-clause-sound c = (keeps_after c.args.self.now c.access.new.self c.resolved.new.self c.access.ensures.same c.resolved.ensures.kept).sound

@@ -6,6 +6,7 @@ use Rattle.prov_memory.proofs.ActLemmas.{settled_all}
 use Rattle.std.proofs.Common.{refl}
 use Rattle.prov_memory.proofs.SettleLemmas.{stays_made}
 use Rattle.prov_memory.proofs.SoundLemmas.{settled_sound, cells_narrowed}
+use Rattle.prov_memory.proofs.KeepLemmas.{keeps_narrowed}
 use Rattle.prov_memory.proofs.memory.Memory.narrow.Goals as goal
 
 pub returns-clause-store : goal.returns-clause-store
@@ -24,3 +25,9 @@ returns-clause-sound c =
     let m = the_view c.self.inside in
     rw (← c.self.view_is) (settled_sound m (record m { cells = c.narrow.new.self }) refl
     (cells_narrowed c.narrow.result m.cells c.narrow.new.self c.args.id c.args.keep c.narrow.ensures.settled c.narrow.ensures.unchanged))
+
+pub returns-clause-kept : goal.returns-clause-kept
+returns-clause-kept c =
+    let m = the_view c.self.inside in
+    rw (← c.self.view_is) (keeps_narrowed c.narrow.result m c.narrow.new.self c.args.id c.args.keep c.narrow.ensures.answer c.narrow.ensures.settled
+    c.narrow.ensures.unchanged)

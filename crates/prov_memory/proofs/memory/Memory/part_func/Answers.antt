@@ -1,11 +1,8 @@
-use Rattle.std.proofs.Common.{ap, arith, drop}
+use Rattle.std.proofs.Common.{ap}
 use Rattle.prov_memory.specs.Cells.{part_of}
 use Rattle.prov_memory.specs.Pieces.{seen}
-use Rattle.prov_memory.proofs.PartLemmas.{part_short, func_done, func_fails}
+use Rattle.prov_memory.proofs.PartLemmas.{func_done, func_fails}
 use Rattle.prov_memory.proofs.memory.Memory.part_func.Goals as goal
-
-pub part_number-requires : goal.part_number-requires
-part_number-requires c = part_short 8 c.range.result.now (drop c.args.from c.args.bytes.now.cells) c.range.ensures (omega arith)
 
 pub returns-clause-exact : goal.returns-clause-exact
 returns-clause-exact c =

@@ -1,4 +1,4 @@
-use Rattle.std.proofs.Common.{◌≡◌, ℕ, ◌≤◌, ◌∙◌, ap, subst, arith, rules, to_z, of_z, drop, length, take}
+use Rattle.std.proofs.Common.{◌≡◌, ℕ, ◌∙◌, ap, rules, to_z, of_z, drop, take}
 use Rattle.std.specs.Int.{w128}
 use Rattle.std.proofs.lemmas.Int.{to_z-of_z}
 use Rattle.std.proofs.lemmas.Result.{err_from_is_err_and}
@@ -6,14 +6,8 @@ use Rattle.mem_spec.specs.Agreement.{bytes_of_kind}
 use Rattle.prov_memory.specs.Cells.{part_of}
 use Rattle.prov_memory.specs.Pieces.{seen}
 use Rattle.prov_memory.proofs.LoadLemmas.{same_bytes}
-use Rattle.prov_memory.proofs.PartLemmas.{part_short, int_done, int_fails}
-use Rattle.prov_memory.proofs.ValueLemmas.{few_bytes}
+use Rattle.prov_memory.proofs.PartLemmas.{int_done, int_fails}
 use Rattle.prov_memory.proofs.memory.Memory.part_int.Goals as goal
-
-pub part_number-number-requires : goal.part_number-number-requires
-part_number-number-requires c =
-    let size : c.bytes.result ≡ bytes_of_kind c.args.kind = c.bytes.ensures.value ∙ same_bytes c.args.kind in
-    part_short c.bytes.result c.range-cells.result.now (drop c.args.from c.args.bytes.now.cells) c.range-cells.ensures (omega (arith, few_bytes c.args.kind))
 
 pub returns-clause-exact : goal.returns-clause-exact
 returns-clause-exact c =

@@ -3,6 +3,7 @@ use Rattle.prov_memory.specs.Loads.{origins_of}
 use Rattle.prov_memory.specs.Memory.{Kept}
 use Rattle.prov_memory.specs.Pieces.{seen}
 use Rattle.prov_memory.proofs.SoundLemmas.{shown_made, shown_sound}
+use Rattle.prov_memory.proofs.KeepLemmas.{keeps_shown, keeps_none}
 use Rattle.prov_memory.proofs.memory.Memory.part_number.Goals as goal
 
 pub returns-clause-made : goal.returns-clause-made
@@ -17,3 +18,11 @@ returns-clause-sound c =
 
 pub returns-clause-rest : goal.returns-clause-rest
 returns-clause-rest c = ap (λ (k : Kept). record k { objects = [] }) c.show_cells.ensures.shown
+
+pub returns-clause-kept : goal.returns-clause-kept
+returns-clause-kept c =
+    let m = c.args.self.now in
+    keeps_shown m c.show_cells.new.self (origins_of (seen m c.args.cells.now)) c.show_cells.ensures.shown
+
+pub returns-in_err-number-clause-kept : goal.returns-in_err-number-clause-kept
+returns-in_err-number-clause-kept c = keeps_none c.args.self.now

@@ -1,16 +1,11 @@
-use Rattle.std.proofs.Common.{ap, arith, drop}
+use Rattle.std.proofs.Common.{ap}
 use Rattle.std.proofs.lemmas.Result.{err_from_is_err_and}
 use Rattle.prov_memory.specs.Cells.{part_of}
 use Rattle.prov_memory.specs.Pieces.{seen}
-use Rattle.prov_memory.proofs.PartLemmas.{part_short, pointer_done, pointer_fails, seen_made}
+use Rattle.prov_memory.proofs.PartLemmas.{pointer_done, pointer_fails, seen_made}
 use Rattle.prov_memory.proofs.SoundLemmas.{more_made}
+use Rattle.prov_memory.proofs.KeepLemmas.{keeps_none}
 use Rattle.prov_memory.proofs.memory.Memory.part_ptr.Goals as goal
-
-pub read_cells-number-requires : goal.read_cells-number-requires
-read_cells-number-requires c = part_short 8 c.range-cells.result.now (drop c.args.from c.args.bytes.now.cells) c.range-cells.ensures (omega arith)
-
-pub pointer_among-pointer-requires : goal.pointer_among-pointer-requires
-pointer_among-pointer-requires c = part_short 8 c.range-cells.result.now (drop c.args.from c.args.bytes.now.cells) c.range-cells.ensures (omega arith)
 
 pub returns-clause-exact : goal.returns-clause-exact
 returns-clause-exact c =
@@ -36,3 +31,6 @@ returns-clause-made c = more_made c.args.self.now c.part_target.new.self c.part_
 
 pub returns-in_err-prov-clause-made : goal.returns-in_err-prov-clause-made
 returns-in_err-prov-clause-made c = more_made c.args.self.now c.part_target.new.self c.part_target.ensures.more
+
+pub returns-in_err-number-clause-kept : goal.returns-in_err-number-clause-kept
+returns-in_err-number-clause-kept c = keeps_none c.args.self.now

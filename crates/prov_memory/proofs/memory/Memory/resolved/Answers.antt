@@ -1,6 +1,7 @@
 use Rattle.std.proofs.Common.{◌≡◌, true, false, rules}
 use Rattle.prov_memory.specs.Memory.{store_of}
 use Rattle.prov_memory.proofs.PointerLemmas.{resolved_live, resolved_dead, resolved_number}
+use Rattle.prov_memory.proofs.KeepLemmas.{keeps_none}
 use Rattle.prov_memory.proofs.memory.Memory.resolved.Goals as goal
 
 pub returns-in_default-clause-exact : goal.returns-in_default-clause-exact
@@ -19,3 +20,9 @@ returns-clause-exact c =
     let off : c.is_dead.result ≡ false = search rules in
     rw c.in-Some.is (λ io. resolved_live c.args.self.now.rows c.args.who c.in-Some.prov c.args.number (store_of c.args.self.now io) c.is_dead.result
     (c.is_dead.ensures io) off)
+
+pub returns-then-is_dead-clause-kept : goal.returns-then-is_dead-clause-kept
+returns-then-is_dead-clause-kept c = keeps_none c.args.self.now
+
+pub returns-clause-kept : goal.returns-clause-kept
+returns-clause-kept c = keeps_none c.args.self.now

@@ -5,6 +5,7 @@ use Rattle.mem_spec.specs.Acts.{in_common, candidates}
 use Rattle.prov_memory.specs.Memory.{act_of, store_of}
 use Rattle.prov_memory.proofs.SettleLemmas.{err_is}
 use Rattle.prov_memory.proofs.CompareLemmas.{common_done, common_raised}
+use Rattle.prov_memory.proofs.KeepLemmas.{keeps_then, keeps_none}
 use Rattle.prov_memory.proofs.memory.Memory.settle_common.Goals as goal
 
 pub returns-in_err-first-clause-exact : goal.returns-in_err-first-clause-exact
@@ -20,3 +21,10 @@ returns-clause-exact c = λ none made made' io.
     c.args.clause c.compared.result c.in_ok-first.first c.in_ok-first.second c.args.t.now c.note_settled.new.t c.note_settled-2.new.t
     c.note_settled.ensures.rest c.note_settled-2.ensures.rest c.note_settled.ensures.cells c.compared.ensures c.in_ok-first.was none
     c.note_settled.ensures.items c.note_settled-2.ensures.items c.note_settled.ensures.store c.note_settled-2.ensures.store made made' io
+
+pub returns-clause-kept : goal.returns-clause-kept
+returns-clause-kept c =
+    keeps_then c.args.self.now c.note_settled.new.self c.note_settled-2.new.self c.note_settled.ensures.kept c.note_settled-2.ensures.kept
+
+pub returns-in_err-first-clause-kept : goal.returns-in_err-first-clause-kept
+returns-in_err-first-clause-kept c = keeps_none c.args.self.now

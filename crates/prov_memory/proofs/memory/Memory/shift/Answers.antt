@@ -6,6 +6,7 @@ use Rattle.prov_memory.specs.Memory.{act_of, store_of}
 use Rattle.prov_memory.specs.Made.{address_result, shift_settling}
 use Rattle.prov_memory.proofs.SettleLemmas.{shift_done, shift_raised, err_is}
 use Rattle.prov_memory.proofs.SoundLemmas.{settled_sound}
+use Rattle.prov_memory.proofs.KeepLemmas.{keeps_none}
 use Rattle.prov_memory.proofs.memory.Memory.shift.Goals as goal
 
 pub returns-in_err-settles-clause-exact : goal.returns-in_err-settles-clause-exact
@@ -28,3 +29,6 @@ returns-clause-exact c = λ made io.
 
 pub returns-clause-sound : goal.returns-clause-sound
 returns-clause-sound c = settled_sound c.args.self.now c.note_settled.new.self c.note_settled.ensures.rest c.note_settled.ensures.cells
+
+pub returns-in_err-settles-clause-kept : goal.returns-in_err-settles-clause-kept
+returns-in_err-settles-clause-kept c = keeps_none c.args.self.now

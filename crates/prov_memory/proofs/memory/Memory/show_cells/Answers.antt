@@ -9,31 +9,33 @@ use Rattle.prov_memory.proofs.PartLemmas.{next_piece, range_to}
 use Rattle.prov_memory.proofs.ShowLemmas.{showing, shown_next, noted_next}
 use Rattle.prov_memory.proofs.memory.Memory.show_cells.Goals as goal
 
-pub loop-cell-preserved : goal.loop-cell-preserved
-loop-cell-preserved c =
+pub loop-at-preserved : goal.loop-at-preserved
+loop-at-preserved c =
     let m = c.args.self.now in
-    let now = c.loop-cell.self in
+    let now = c.loop-at.self in
     let new = c.show_each.new.self in
     let cs = c.args.cells.now in
-    let n = c.loop-cell.cell-index in
+    let n = c.loop-at.at in
     let prov = c.piece_of-prov.result in
-    let inv = c.loop-cell.invariant in
-    let lt : n < length cs = c.loop-cell-test.true in
-    let few : n < 8 = omega (arith, c.requires) in
+    let inv = c.loop-at.invariant in
+    let lt : n < length cs = omega arith in
+    let few : n < 8 = omega (arith, lt, c.requires) in
+    let here : n ≡ 0 + n = omega arith in
     let piece : candidates prov ≡ origins_in (byte_in m.origins (cell_at cs (0 + n))) =
-    next_piece m now cs n c.cell-item.result prov lt c.cell-item.is (ap (λ (k : Kept). k.origins) inv.shown) c.piece_of-prov.ensures in
+    next_piece m now c.cell_at-cell.result (cell_at cs (0 + n)) prov (ap (λ (k : Kept). k.origins) inv.shown)
+    (c.cell_at-cell.ensures ∙ ap (cell_at cs) here) c.piece_of-prov.ensures in
     record {
       shown = shown_next m now new cs 0 n prov inv.shown piece c.show_each.ensures.shown;
-      items = λ room. noted_next m cs c.args.t.now c.loop-cell.t c.show_each.new.t 0 n prov few room (inv.items room) piece c.show_each.ensures.items;
+      items = λ room. noted_next m cs c.args.t.now c.loop-at.t c.show_each.new.t 0 n prov few room (inv.items room) piece c.show_each.ensures.items;
     }
 
 pub returns : goal.returns
 returns c =
     let m = c.args.self.now in
     let cs = c.args.cells.now in
-    let end : c.loop-cell.cell-index ≡ length cs = omega arith in
+    let end : c.loop-at.at ≡ length cs = omega arith in
     record {
-      shown = c.loop-cell.invariant.shown ∙ ap (λ (bs : List TaggedByte). showing (origins_of bs) m) (range_to m cs c.loop-cell.cell-index end);
-      items = λ room. c.loop-cell.invariant.items room ∙ ap (λ (bs : List TaggedByte). c.args.t.now ++ map Expose (origins_of bs))
-          (range_to m cs c.loop-cell.cell-index end);
+      shown = c.loop-at.invariant.shown ∙ ap (λ (bs : List TaggedByte). showing (origins_of bs) m) (range_to m cs c.loop-at.at end);
+      items = λ room. c.loop-at.invariant.items room ∙ ap (λ (bs : List TaggedByte). c.args.t.now ++ map Expose (origins_of bs))
+          (range_to m cs c.loop-at.at end);
     }

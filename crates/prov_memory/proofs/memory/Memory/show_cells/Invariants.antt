@@ -6,8 +6,8 @@ use Rattle.prov_memory.proofs.ShowLemmas.{showing}
 use Rattle.prov_memory.proofs.memory.Memory.show_cells.Given as goal
 
 -- what the bytes so far were made from is exposed
-abbrev pub invariant-loop-cell : goal.invariant-loop-cell
-invariant-loop-cell l = record {
-  shown : l.self ≡ showing (origins_of (range_in l.initial.self l.cells 0 l.cell-index)) l.initial.self;
-  items : length l.initial.t + 16 < 32 → l.t ≡ l.initial.t ++ map Expose (origins_of (range_in l.initial.self l.cells 0 l.cell-index));
+abbrev pub invariant-loop-at : goal.invariant-loop-at
+invariant-loop-at l = record {
+  shown : l.self ≡ showing (origins_of (range_in l.initial.self l.cells 0 l.at)) l.initial.self;
+  items : length l.initial.t + 16 < 32 → l.t ≡ l.initial.t ++ map Expose (origins_of (range_in l.initial.self l.cells 0 l.at));
 }

@@ -3,7 +3,7 @@ use Rattle.std.specs.Prelude.{slice_get, Err, Ok}
 use Rattle.std.proofs.lemmas.Result.{err_from_is_err_and}
 use Rattle.ub_base.specs.declared.names.Item.TheVariants.{Alive}
 use Rattle.mem_spec.specs.Acts.{Seen}
-use Rattle.prov_memory.specs.Held.{held_of}
+use Rattle.prov_memory.specs.Held.{held_of, changed, holding}
 use Rattle.prov_memory.specs.Memory.{Kept, life_in}
 use Rattle.prov_memory.specs.Made.{settling_items}
 use Rattle.prov_memory.specs.Stores.{Sees, checked_store}
@@ -11,6 +11,7 @@ use Rattle.prov_memory.proofs.ActLemmas.{noted_after}
 use Rattle.prov_memory.proofs.WriteLemmas.{access_fails, store_raises, store_done, store_known, stored_by, few}
 use Rattle.prov_memory.proofs.SoundLemmas.{stored_made, stored_sound}
 use Rattle.prov_memory.proofs.ShowLemmas.{besides_after, besides_put}
+use Rattle.prov_memory.proofs.KeepLemmas.{keeps_then, keeps_same, keeps_written}
 use Rattle.prov_memory.proofs.memory.Memory.store_cells.Goals as goal
 
 pub returns-in_err-found-clause-raises : goal.returns-in_err-found-clause-raises
@@ -83,3 +84,22 @@ returns-clause-rest c =
     let w = c.write.ensures.written r.object (ap (λ (k : Kept). slice_get k.objects c.in_ok-found.found.object) c.access.ensures.same ∙ r.there) in
     besides_after c.args.self.now c.access.new.self c.settle.new.self c.access.ensures.same
     (besides_put c.access.new.self c.write.new.self c.settle.new.self _ w.1 c.settle.ensures.rest)
+
+pub returns-clause-kept : goal.returns-clause-kept
+returns-clause-kept c = λ numbered known tagged.
+    let m = c.args.self.now in
+    let f = c.in_ok-found.found in
+    let r = c.in_ok-found.ensures.found in
+    let same = c.access.ensures.same in
+    let w = c.write.ensures.written r.object (ap (λ (k : Kept). slice_get k.objects f.object) same ∙ r.there) in
+    let put : c.write.new.self ≡ record m { objects = changed (holding w.0.cells) r.object.name m.objects } =
+    w.1 ∙ ap (λ (k : Kept). record k { objects = changed (holding w.0.cells) r.object.name k.objects }) same in
+    keeps_then m c.write.new.self c.settle.new.self
+    (keeps_written m c.write.new.self r.object w.0 r.object.name f.object f.from c.args.via c.args.cells.now r.there put w.2 numbered known tagged)
+    c.settle.ensures.kept
+
+pub returns-in_err-found-clause-kept : goal.returns-in_err-found-clause-kept
+returns-in_err-found-clause-kept c = λ numbered known tagged. keeps_same c.args.self.now c.access.new.self c.access.ensures.same
+
+pub returns-in_err-check_store-clause-kept : goal.returns-in_err-check_store-clause-kept
+returns-in_err-check_store-clause-kept c = λ numbered known tagged. keeps_same c.args.self.now c.access.new.self c.access.ensures.same

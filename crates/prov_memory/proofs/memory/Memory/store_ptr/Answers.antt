@@ -4,6 +4,8 @@ use Rattle.prov_memory.specs.Memory.{CellsKnown}
 use Rattle.prov_memory.proofs.SoundLemmas.{pieces_known}
 use Rattle.mem_spec.specs.Bytes.{pointer_bytes}
 use Rattle.prov_memory.proofs.ValueLemmas.{pieces_seen, pieces_short, stored_as, unstored_as}
+use Rattle.prov_memory.specs.Tags.{CellsTagged}
+use Rattle.prov_memory.proofs.SoundLemmas.{pieces_tagged}
 use Rattle.prov_memory.proofs.memory.Memory.store_ptr.Goals as goal
 
 pub returns-clause-exact : goal.returns-clause-exact
@@ -33,3 +35,11 @@ returns-clause-sound c = λ s made.
     let n = length c.args.self.now.origins in
     c.store_cells.ensures.sound s (subst (λ (cs : List Cell). CellsKnown n cs) (sym c.pointer_cells-cells.ensures)
     (pieces_known n 8 0 c.args.value_addr c.origin_of.result (c.origin_of.ensures.number s.named made)))
+
+pub returns-clause-kept : goal.returns-clause-kept
+returns-clause-kept c = λ numbered named made.
+    let n = length c.args.self.now.origins in
+    let types = length c.args.self.now.types in
+    c.store_cells.ensures.kept numbered (subst (λ (cs : List Cell). CellsKnown n cs) (sym c.pointer_cells-cells.ensures)
+    (pieces_known n 8 0 c.args.value_addr c.origin_of.result (c.origin_of.ensures.number named made)))
+    (subst (λ (cs : List Cell). CellsTagged types cs) (sym c.pointer_cells-cells.ensures) (pieces_tagged types 8 0 c.args.value_addr c.origin_of.result))

@@ -9,6 +9,7 @@ use Rattle.prov_memory.specs.contracts.memory.Memory.{the_view}
 use Rattle.prov_memory.proofs.StoreLemmas.{rows_emptied}
 use Rattle.prov_memory.proofs.ActLemmas.{first_noted, noted_after, unwritten_act, known_emptied}
 use Rattle.prov_memory.proofs.SoundLemmas.{changed_made, changed_sound}
+use Rattle.prov_memory.proofs.KeepLemmas.{keeps_emptied, keeps_none}
 use Rattle.prov_memory.proofs.memory.Memory.unwrite.Goals as goal
 
 pub invariant_of-self : goal.invariant_of-self
@@ -48,3 +49,9 @@ returns-clause-sound c =
 
 pub returns-clause-rest : goal.returns-clause-rest
 returns-clause-rest c = rw (← c.self.view_is) refl
+
+pub returns-clause-kept : goal.returns-clause-kept
+returns-clause-kept c = rw (← c.self.view_is, c.unwrite.ensures) (keeps_emptied (the_view c.self.inside) c.args.name)
+
+pub returns-in_default-clause-kept : goal.returns-in_default-clause-kept
+returns-in_default-clause-kept c = keeps_none c.args.self.now

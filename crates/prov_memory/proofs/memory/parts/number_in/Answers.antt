@@ -1,8 +1,7 @@
-use Rattle.std.proofs.Common.{◌∙◌, ap, List}
-use Rattle.mem_spec.specs.Store.{TaggedByte}
+use Rattle.std.proofs.Common.{◌∙◌, ap}
 use Rattle.prov_memory.specs.Loads.{number_if}
-use Rattle.prov_memory.proofs.PartLemmas.{range_to}
+use Rattle.prov_memory.proofs.PartLemmas.{range_seen}
 use Rattle.prov_memory.proofs.memory.parts.number_in.Goals as goal
 
 pub returns : goal.returns
-returns c = λ m. c.number_at.ensures m ∙ ap number_if (range_to m c.args.cells.now c.len.result c.len.ensures)
+returns c = λ m. c.number_at.ensures m ∙ ap number_if (range_seen m c.args.cells.now)
