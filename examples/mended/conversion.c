@@ -1,0 +1,5 @@
+int printf(const char *, ...);
+int main(void) {
+  printf("%ld\n", 1L);
+  return 0;
+}

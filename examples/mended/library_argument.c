@@ -1,0 +1,4 @@
+unsigned long strlen(const char *);
+int main(void) {
+  return (int)strlen("");
+}

@@ -1,0 +1,3 @@
+int main(void) {
+  return 1L << 32 == 4294967296L;
+}
