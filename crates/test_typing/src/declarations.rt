@@ -1,5 +1,6 @@
 // Constraints of constant expressions and declarations (6.6, 6.7). Beside each paragraph a text that breaks it, the line where it does, and one that just
 // meets it. "own" marks a rule of the profile.
+// Behind a `:` stands the paragraph that is told, where it is another one.
 use crate::constraints::{Row, first_wrong};
 
 const ROWS: &[Row] = &[

@@ -1,5 +1,6 @@
 // Constraints of expressions (6.5). Beside each paragraph a text that breaks it, the line where it does, and one that just
 // meets it. "own" marks a rule of the profile.
+// Behind a `:` stands the paragraph that is told, where it is another one.
 use crate::constraints::{Row, first_wrong};
 
 // Primary and postfix expressions (6.5.1, 6.5.2).

@@ -1,5 +1,6 @@
 // Constraints on pointers: null pointer constants, conditionals, casts, comparisons and arguments (6.3.2.3, 6.5.2.2, 6.5.3.4, 6.5.4,
 // 6.5.8, 6.5.9, 6.5.15, 6.5.16). Beside each paragraph a text that breaks it, the line where it does, and one that just meets it.
+// Behind a `:` stands the paragraph that is told, where it is another one.
 use crate::constraints::{Row, first_wrong};
 
 const ROWS: &[Row] = &[

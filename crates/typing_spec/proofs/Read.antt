@@ -1,6 +1,7 @@
 -- The samples hold by computation.
 use Rattle.std.proofs.Common.{refl}
 use Rattle.typing_spec.proofs.Computing.{computing}
+use Rattle.typing_spec.specs.Wholes.{Reached, Stored, Unreached}
 use Rattle.typing_spec.specs.Trees.{Statements}
 use Rattle.typing_spec.specs.Trees.{Pointers}
 use Rattle.typing_spec.specs.Trees.{Integers}
@@ -346,4 +347,62 @@ statements = record {
   not_declared = refl;
   parameters_first = refl;
   numbered = refl;
+}
+
+pub reached : Reached
+unfolding computing
+reached = record {
+  member = refl;
+  first_member = refl;
+  behind_pointer = refl;
+  of_target = refl;
+  of_address = refl;
+  element = refl;
+  first_element = refl;
+  of_element = refl;
+  address = refl;
+  assigned = refl;
+  changed = refl;
+  stepped = refl;
+  of_assigned = refl;
+  of_chosen = refl;
+  of_result = refl;
+  argument = refl;
+  size = refl;
+  difference = refl;
+  nested = refl;
+  unnamed = refl;
+  of_union = refl;
+  of_const = refl;
+  of_array_member = refl;
+}
+
+pub stored : Stored
+unfolding computing
+stored = record {
+  returned = refl;
+  assigned = refl;
+  initialized = refl;
+  listed = refl;
+  member_address = refl;
+}
+
+pub unreached : Unreached
+unfolding computing
+unreached = record {
+  no_such_member = refl;
+  no_such_behind_pointer = refl;
+  dot_of_pointer = refl;
+  arrow_of_structure = refl;
+  array_of_value = refl;
+  part_assigned = refl;
+  integer_assigned = refl;
+  tested = refl;
+  added = refl;
+  as_argument = refl;
+  as_result = refl;
+  const_member = refl;
+  const_inside = refl;
+  of_incomplete = refl;
+  other_structure = refl;
 }

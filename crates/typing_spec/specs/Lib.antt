@@ -13,3 +13,4 @@ pub mod Tags
 pub mod Trees
 pub mod Units
 pub mod Words
+pub mod Wholes

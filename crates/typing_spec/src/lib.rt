@@ -6,5 +6,6 @@ mod samples;
 
 pub use laws::{law_one_program, law_tags};
 pub use samples::{
-    law_declaration_samples, law_initializer_samples, law_refused_samples, law_tree_samples,
+    law_declaration_samples, law_initializer_samples, law_refused_samples, law_structure_samples,
+    law_tree_samples,
 };

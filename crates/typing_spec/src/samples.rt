@@ -4,6 +4,7 @@ ghost use Rattle.typing_spec.specs.Declarations.{Declarators, Specifiers, Linkag
 ghost use Rattle.typing_spec.specs.Initialized.{Scalars, Lists};
 ghost use Rattle.typing_spec.specs.Refused.{RefusedDeclarations, RefusedInitializers, RefusedStatements, RefusedExpressions};
 ghost use Rattle.typing_spec.specs.Trees.{Integers, Pointers, Statements};
+ghost use Rattle.typing_spec.specs.Wholes.{Reached, Stored, Unreached};
 
 /// What declarations declare: 51 texts.
 pub fn law_declaration_samples()
@@ -31,4 +32,11 @@ pub fn law_tree_samples()
     ensures integers { Integers }
     ensures pointers { Pointers }
     ensures statements { Statements }
+{}
+
+/// Members and whole structures: 43 texts.
+pub fn law_structure_samples()
+    ensures reached { Reached }
+    ensures stored { Stored }
+    ensures unreached { Unreached }
 {}
