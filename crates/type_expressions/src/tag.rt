@@ -122,12 +122,16 @@ impl MemberList {
     }
 }
 
-// Gives a structure or union its members; false where it is complete already, or stays incomplete (6.7.2.3p1).
-fn completed(tags: &mut Tags, number: u32, members: Items<Member>) -> bool {
+// Gives a structure or union its members; refused where it is complete already, or would be too large (6.7.2.3p1; own).
+fn completed(tags: &mut Tags, number: u32, members: Items<Member>) -> Result<(), Reason> {
     if tags.is_complete(number) || number as usize >= tags.len() {
-        return false;
+        return Err(Reason::DefinedTwice);
     }
-    tags.complete(number, members)
+    if tags.complete(number, members) {
+        Ok(())
+    } else {
+        Err(Reason::TypeTooLarge)
+    }
 }
 
 /// Ends the member list (6.7.2.1p8).
@@ -145,8 +149,8 @@ pub fn close(
         symbols,
         constant,
     } = list;
-    if !completed(&mut state.tags, number, members) {
-        return Err(source.fault(at, Reason::TypeTooLarge));
+    if let Err(reason) = completed(&mut state.tags, number, members) {
+        return Err(source.fault(at, reason));
     }
     if let Some(row) = state.tag_rows.get_mut(number as usize) {
         row.constant = constant;
