@@ -21,3 +21,4 @@ pub mod SoundLemmas
 pub mod PartLemmas
 pub mod KeepLemmas
 pub mod BirthLemmas
+pub mod RoomLemmas

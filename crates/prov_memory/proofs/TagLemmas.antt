@@ -1,7 +1,7 @@
 -- The tags of bytes by the types that a memory names by number.
 use Rattle.std.proofs.Common.{◌≡◌, ℕ, zero, suc, ◌+◌, ◌-◌, ◌<◌, ◌≤◌, Bool, true, false, cond, refl, sym, ap, ap₂, ◌∙◌, subst, arith}
 use Rattle.std.proofs.Common.{append_assoc, length-append, List, [], ◌∷◌, ◌++◌, length, map, drop, get_or, slice_get, Option, Some, None}
-use Rattle.std.specs.Prelude.{Result, Ok, Err, IfOk, OnOk, nat_le, option_map, ◌==◌, ◌^◌}
+use Rattle.std.specs.Prelude.{Result, Ok, Err, IfOk, OnOk, nat_le, nat_lt, option_map, ◌==◌, ◌^◌}
 use Rattle.std.proofs.lemmas.Bool.Decides.{nat_tests}
 use Rattle.std.proofs.lemmas.List.{map-append}
 use Rattle.exposure.specs.declared.prov.Prov.{Prov}
@@ -233,6 +233,41 @@ store_types m extra known io = λ i. record {
 
 pub store_adds : (a b : Kept) → AddsTypes a b → AreTagged a → (io : Io) → store_of b io ≡ store_of a io
 store_adds a b p known io = ap (λ (k : Kept). store_of k io) p.1 ∙ store_types a p.0 known io
+
+-- ---- where a type isn't listed
+type_is : (a b : CType) → Some a ≡ Some b → a ≡ b
+type_is a b e = cc
+
+not_there : (ty : CType) → None ≡ Some ty → ⊥
+not_there ty e = cc
+
+pub other_at : (ts : List Ty) (k : ℕ) (t : Ty) (ty : CType) → Some t ≡ slice_get ts k → (type_of t ≡ ty → ⊥) → slice_get (map type_of ts) k ≡ Some ty → ⊥
+other_at ts k t ty here differs e = differs (type_is (type_of t) ty (ap (option_map type_of) here ∙ sym (mapped_at ts k) ∙ e))
+
+pub nothing_at : (ts : List Ty) (k : ℕ) (ty : CType) → None ≡ slice_get ts k → slice_get (map type_of ts) k ≡ Some ty → ⊥
+nothing_at ts k ty here e = not_there ty (ap (option_map type_of) here ∙ sym (mapped_at ts k) ∙ e)
+
+-- none of the first types is this one
+abbrev pub Unlisted : List Ty → CType → ℕ → Type 0
+Unlisted ts ty n = (k : ℕ) → k < n → slice_get (map type_of ts) k ≡ Some ty → ⊥
+
+next_by : (b : Bool) (ts : List Ty) (ty : CType) (n k : ℕ) → nat_lt k n ≡ b → k < n + 1 → Unlisted ts ty n →
+    (slice_get (map type_of ts) n ≡ Some ty → ⊥) → slice_get (map type_of ts) k ≡ Some ty → ⊥
+next_by true ts ty n k t lt before here e = before k (grind (arith, nat_tests, t)) e
+next_by false ts ty n k t lt before here e =
+    let same : k ≡ n = grind (arith, nat_tests, t, lt) in
+    here (subst (λ (j : ℕ). slice_get (map type_of ts) j ≡ Some ty) same e)
+
+pub unlisted_next : (ts : List Ty) (ty : CType) (n : ℕ) → Unlisted ts ty n → (slice_get (map type_of ts) n ≡ Some ty → ⊥) → Unlisted ts ty (n + 1)
+unlisted_next ts ty n before here k lt e = next_by (nat_lt k n) ts ty n k refl lt before here e
+
+past_end : (ts : List Ty) (k : ℕ) (ty : CType) → slice_get (map type_of ts) k ≡ Some ty → k < length ts
+past_end [] k ty e = absurd (not_there ty e)
+past_end (t ∷ ts) zero ty e = omega arith
+past_end (t ∷ ts) (suc k) ty e = omega (arith, past_end ts k ty e)
+
+pub unlisted_all : (ts : List Ty) (ty : CType) (n : ℕ) → length ts ≤ n → Unlisted ts ty n → (k : ℕ) → slice_get (map type_of ts) k ≡ Some ty → ⊥
+unlisted_all ts ty n le all k e = all k (omega (arith, le, past_end ts k ty e)) e
 
 -- ---- what spans a byte
 -- so many parts of a list were looked at

@@ -11,3 +11,4 @@ pub mod Parts
 pub mod Tags
 pub mod Sound
 pub mod Keeps
+pub mod Room

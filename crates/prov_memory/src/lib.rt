@@ -5,6 +5,7 @@
 mod answer;
 mod block;
 mod cell;
+mod laws;
 mod memory;
 mod object;
 mod objects;
@@ -17,6 +18,7 @@ mod value;
 pub use answer::{CreateFault, LibAnswer, MemFault};
 pub use block::Block;
 pub use cell::{MemByte, Origin, TypeId, Via};
+pub use laws::law_room;
 pub use mem_spec::ObjKind;
 pub use memory::Memory;
 pub use object::ObjState;

@@ -1,5 +1,5 @@
 // The scalar types that tags name.
-ghost use Rattle.std.specs.Prelude.{◌≡◌, ℕ, ◌+◌, ◌-◌, ◌≤◌, ◌++◌, List, [], ◌∷◌, Some, None, map, true, slice_get, IfOk, IfSome, if◌then◌else◌, nat_le};
+ghost use Rattle.std.specs.Prelude.{◌≡◌, ℕ, ◌+◌, ◌-◌, ◌≤◌, ◌++◌, List, [], ◌∷◌, Some, None, map, true, false, slice_get, IfOk, IfSome, if◌then◌else◌, nat_le};
 ghost use Rattle.std.specs.Option.{option_copied};
 ghost use Rattle.c_types.specs.Types.{CType, type_of, int};
 ghost use Rattle.c_types.specs.Shapes.{form_of, put_of, forms_of};
@@ -71,7 +71,8 @@ impl<'a> Spanned<'a> {
 
 /// The place of the type in a list of types.
 pub(crate) fn place_of(types: &[Ty], ty: &Ty) -> Option<usize>
-    ensures { IfSome result (λ at. slice_get (map type_of types.now) at ≡ Some (type_of ty.now)) }
+    ensures some { IfSome result (λ at. slice_get (map type_of types.now) at ≡ Some (type_of ty.now)) }
+    ensures none { result ≡ None → (at : ℕ) → slice_get (map type_of types.now) at ≡ Some (type_of ty.now) → ⊥ }
 {
     for at in 0..types.len() {
         if is_at(types, at, ty) {
@@ -82,7 +83,8 @@ pub(crate) fn place_of(types: &[Ty], ty: &Ty) -> Option<usize>
 }
 
 fn is_at(types: &[Ty], at: usize, ty: &Ty) -> bool
-    ensures { result ≡ true → slice_get (map type_of types.now) at ≡ Some (type_of ty.now) }
+    ensures same { result ≡ true → slice_get (map type_of types.now) at ≡ Some (type_of ty.now) }
+    ensures other { result ≡ false → slice_get (map type_of types.now) at ≡ Some (type_of ty.now) → ⊥ }
 {
     match type_at(types, at) {
         None => false,

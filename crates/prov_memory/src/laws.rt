@@ -1,0 +1,10 @@
+// Laws of the definitions.
+ghost use Rattle.prov_memory.specs.Room.{BeginsPacked, StaysPacked, HasRoomWithin};
+
+/// Objects that a mode places stand so close that each has a place as long as the sum of what was created is within 2^40:
+/// the free address is at most 2^24 and three times that sum (own).
+pub fn law_room()
+    ensures begins { BeginsPacked }
+    ensures stays { StaysPacked }
+    ensures room { HasRoomWithin }
+{}
