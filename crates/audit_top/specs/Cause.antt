@@ -14,7 +14,7 @@ use Rattle.command.specs.declared.request.CheckRequest.{CheckRequest}
 use Rattle.command.specs.declared.request.SelfRequest.{SelfRequest}
 use Rattle.command.specs.declared.request.Request.{Request}
 use Rattle.command.specs.declared.request.Request.TheVariants.{Audit, Check, SelfAudit}
-use Rattle.certificate.specs.Reading.{IsRefused, States}
+use Rattle.certificate_text.specs.Reading.{IsRefused, States}
 use Rattle.certificate.specs.declared.cert.Cert.{Cert}
 use Rattle.certificate.specs.declared.cert.CertFault.TheVariants as cert_fault
 use Rattle.cert_check.specs.Parts.{NamesRace, added, is_formed}

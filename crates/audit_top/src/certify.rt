@@ -5,7 +5,9 @@ ghost use Rattle.audit_top.specs.Cause.{IsCertified, Spares};
 ghost use Rattle.footprint_run.specs.Findings.{picks_of};
 
 use audit_sources::{KeepFault, keep_certificate};
-use certificate::{Claim, of_audit, to_json};
+use certificate::Claim;
+use certificate_making::of_audit;
+use certificate_text::to_json;
 use footprint_run::{Audit, Finding};
 use std::alloc::Global;
 use ub_base::{Bytes, Files, NoMemory};

@@ -1,14 +1,15 @@
 // The answer to a source and a certificate for it.
 ghost use Rattle.std.specs.Prelude.{◌≡◌, ◌≤◌, ◌^◌, length, IfErr, IfOk};
 ghost use Rattle.audit_top.specs.Cause.{CertificateCause, WeighedCause, WhyBad};
-ghost use Rattle.certificate.specs.Reading.{States};
+ghost use Rattle.certificate_text.specs.Reading.{States};
 
 use crate::answer::{Answer, BadCertificate};
 use crate::front::{FrontFault, program_of};
 use audit_sources::CheckSources;
 use c_typed::Program;
 use cert_check::check;
-use certificate::{Cert, CertFault, from_json};
+use certificate::{Cert, CertFault};
+use certificate_text::from_json;
 use std::alloc::Global;
 use ub_base::NoMemory;
 

@@ -12,8 +12,8 @@ use Rattle.certificate.specs.declared.cert.Claim.{Claim}
 use Rattle.certificate.specs.declared.cert.Claim.TheVariants.{Clean, Undefined, OrderDependent, OutOfSteps, Outside}
 use Rattle.certificate.specs.declared.cert.Segment.{Segment}
 use Rattle.certificate.specs.declared.cert.Segment.TheVariants.{Canonical, Pick}
-use Rattle.certificate.specs.declared.words.Version.{Version}
-use Rattle.certificate.specs.declared.words.Version.TheVariants.{One, Two}
+use Rattle.certificate.specs.declared.cert.Version.{Version}
+use Rattle.certificate.specs.declared.cert.Version.TheVariants.{One, Two}
 
 -- the numbers of a frame that a body started: its turn and its node
 pub record IsFrameRow (row : frames.Row) : Type 0 where

@@ -46,6 +46,13 @@ pub enum Claim {
     },
 }
 
+/// The version of a certificate.
+#[derive(Clone, Copy, Debug, PartialEq, Eq)]
+pub enum Version {
+    One,
+    Two,
+}
+
 /// What shows a verdict: the frames that it names, the address map, the order of picks, and the claim.
 #[derive(Drop)]
 pub struct Cert {

@@ -1,7 +1,0 @@
--- The rows so far, and those that begin at `from` or behind it, are the rows of the map.
-use Rattle.certificate.specs.Making.{Rises}
-use Rattle.certificate.proofs.Rising.{Passed}
-use Rattle.certificate.proofs.make.rows_of.Given as goal
-
-abbrev pub invariant-loop-turn : goal.invariant-loop-turn
-invariant-loop-turn l = Rises 0 l.map → Passed l._turn l.from l.rows.items l.map

@@ -1,7 +1,0 @@
--- The rows before the loop's place are those of the run.
-use Rattle.std.proofs.Common.{◌≡◌, take, Some}
-use Rattle.certificate.specs.Reading.{run_rows}
-use Rattle.certificate.proofs.row.run_len.Given as goal
-
-abbrev pub invariant-loop-at : goal.invariant-loop-at
-invariant-loop-at l = run_rows l.first l.stride 0 l.at ≡ Some (take l.at l.rows)

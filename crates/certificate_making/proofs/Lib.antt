@@ -1,0 +1,5 @@
+pub mod Kept
+pub mod Made
+pub mod Marks
+pub mod Numbers
+pub mod Rising

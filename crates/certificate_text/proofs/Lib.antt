@@ -1,0 +1,12 @@
+pub mod Entries
+pub mod Runs
+pub mod Clauses
+pub mod Steps
+pub mod Forms
+pub mod FrameSteps
+pub mod RowSteps
+pub mod OrderSteps
+pub mod Answered
+pub mod Names
+pub mod Stating
+pub mod Stated
