@@ -82,7 +82,9 @@ fn typed(alloc: Global, tokens: &Tokens<'_>, unit: &Unit) -> Result<Program, Fro
 {
     match resolve(alloc, tokens, unit) {
         Ok(program) => Ok(program),
-        Err(TypeFault::NotTyped { line, reason: _ }) => Err(FrontFault::Refused(Refusal::NotTyped(line))),
+        Err(TypeFault::NotTyped { line, reason: _ }) => Err(FrontFault::Refused(Refusal::NotTyped(
+            line,
+        ))),
         Err(TypeFault::NoMemory) => Err(FrontFault::NoMemory),
     }
 }

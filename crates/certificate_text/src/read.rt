@@ -6,12 +6,12 @@ ghost use Rattle.serde_json.specs.View.{view};
 ghost use Rattle.certificate.specs.Form.{IsInForm};
 ghost use Rattle.certificate_text.specs.Reading.{version_in, verdict_in, is_member, is_root, cert_in, Answers, IsJsonOf, States, IsRefused, parts_in};
 
-use certificate::{Cert, CertFault, Field, Version};
 use crate::read_claim::read_claim;
 use crate::read_frames::read_frames;
 use crate::read_map::read_map;
 use crate::read_order::read_order;
 use crate::words::{Verdict, is_member, verdict_of};
+use certificate::{Cert, CertFault, Field, Version};
 use serde_json::{Map, Value};
 use std::alloc::Global;
 

@@ -3,8 +3,8 @@ ghost use Rattle.std.specs.Prelude.{◌≡◌, ◌++◌, ◌∷◌, [], false, t
 ghost use Rattle.serde_json.specs.View.{view};
 ghost use Rattle.certificate_text.specs.Reading.{frame_row_in, frame_row_of, can_follow, more_frames, list_at, need, Answers};
 
-use certificate::{CertFault, Field};
 use crate::values::{items, list_member, number, small_number};
+use certificate::{CertFault, Field};
 use serde_json::Value;
 use std::alloc::Global;
 use ub_base::{Frame, Frames};

@@ -3,10 +3,10 @@ ghost use Rattle.std.specs.Prelude.{◌≡◌, false, true, IfErr, map, codes, o
 ghost use Rattle.serde_json.specs.View.{view};
 ghost use Rattle.certificate_text.specs.Reading.{counted_name, framed_name, counted_in, framed_in, argv_in, placed, row_in, row_of, run_words, run_in, rows_of, entry_in, has_few_rows, map_in, list_at, need, Answers, Adds, IsTooMuch};
 
-use certificate::{CertFault, Field, Rows, Version};
 use crate::row::{MAX_ROWS, Run, Stride, row_at};
 use crate::values::{frame, items, list_member, number, small_number};
 use addr_map::Row;
+use certificate::{CertFault, Field, Rows, Version};
 use serde_json::Value;
 use std::alloc::Global;
 use ub_base::{Frame, Items, ObjName};

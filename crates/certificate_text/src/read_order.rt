@@ -4,9 +4,9 @@ ghost use Rattle.serde_json.specs.View.{view};
 ghost use Rattle.certificate.specs.Form.{picks_of, most_picks};
 ghost use Rattle.certificate_text.specs.Reading.{pick_in, segment_in, short_segments, order_in, is_one_number, suits, list_at, need, Answers};
 
-use certificate::{CertFault, Field, Segment, Segments, Version};
 use crate::values::{items, kind, list_member, number, small_number};
 use crate::words::Verdict;
+use certificate::{CertFault, Field, Segment, Segments, Version};
 use serde_json::Value;
 use std::alloc::Global;
 use ub_base::Items;

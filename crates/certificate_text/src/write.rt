@@ -9,10 +9,10 @@ ghost use Rattle.certificate_text.specs.Reading.{States};
 ghost use Rattle.certificate_text.specs.Writing.{list, frame_entry, event_entry, pair_entry, row_entry, run_entry, IsAlone, IsRun, Packs, segment_entry, pair_list, value_of, IsTextOf};
 ghost use Rattle.certificate_text.specs.Members.{common, with_claim};
 
-use certificate::{Cert, Claim, Segment};
 use crate::row::{Run, longest_run};
 use crate::words::{cause_text, kind_text};
 use addr_map::Row;
+use certificate::{Cert, Claim, Segment};
 use serde_json::{Map, Value, json, put};
 use std::alloc::{AllocError, Global};
 use ub_base::{Bytes, Event, Frame, Frames, NoMemory, ObjName};
