@@ -1,5 +1,30 @@
 -- What is kept: the paths of the named frames, and no frame that isn't needed.
-use Rattle.std.proofs.Common.{◌≡◌, ◌∙◌, ℕ, zero, suc, ◌-◌, ◌<◌, ◌≤◌, List, [], ◌∷◌, map, Bool, true, length, get_or, slice_get, Contains, Some, refl, ap, sym, subst, arith}
+use Rattle.std.proofs.Common.{
+  ◌≡◌,
+  ◌∙◌,
+  ℕ,
+  zero,
+  suc,
+  ◌-◌,
+  ◌<◌,
+  ◌≤◌,
+  List,
+  [],
+  ◌∷◌,
+  map,
+  Bool,
+  true,
+  length,
+  get_or,
+  slice_get,
+  Contains,
+  Some,
+  refl,
+  ap,
+  sym,
+  subst,
+  arith,
+}
 use Rattle.std.specs.List.{AllByRecursion}
 use Rattle.std.proofs.lemmas.Option.{slice_get_within}
 use Rattle.ub_base.specs.Frames.{IsFrameList, path_of}

@@ -1,5 +1,32 @@
 -- The parts of the certificate, with the frames by their new numbers.
-use Rattle.std.proofs.Common.{◌≡◌, ◌∙◌, ℕ, suc, ◌-◌, ◌<◌, ◌≤◌, min, List, [], ◌∷◌, ◌++◌, map, Bool, length, get_or, slice_get, All, Option, Some, None, refl, ap, sym, subst, arith}
+use Rattle.std.proofs.Common.{
+  ◌≡◌,
+  ◌∙◌,
+  ℕ,
+  suc,
+  ◌-◌,
+  ◌<◌,
+  ◌≤◌,
+  min,
+  List,
+  [],
+  ◌∷◌,
+  ◌++◌,
+  map,
+  Bool,
+  length,
+  get_or,
+  slice_get,
+  All,
+  Option,
+  Some,
+  None,
+  refl,
+  ap,
+  sym,
+  subst,
+  arith,
+}
 use Rattle.std.specs.List.{AllByRecursion}
 use Rattle.std.proofs.lemmas.List.Elements.{All-from_get_or, All-get_or, All-map, All-weaker, recursion_from_All}
 use Rattle.std.proofs.lemmas.Option.{get_or_from_slice_get}
@@ -193,7 +220,8 @@ form_made all marks rows picks claim form kept k ns is =
         numbers = All-from_get_or IsFrameRow kept (frame_at 0, 0, 0) (kept_row all marks kept ns is form.frames.numbers);
       };
       map = All-map (IsRowOf (length kept)) (renamed_row ns (length kept)) rows
-          (All-weaker (IsRowOf (length all)) (λ row. IsRowOf (length kept) (renamed_row ns (length kept) row)) (row_form ns (length kept) (length all)) rows form.map);
+          (All-weaker (IsRowOf (length all)) (λ row. IsRowOf (length kept) (renamed_row ns (length kept) row))
+          (row_form ns (length kept) (length all)) rows form.map);
       few = omega (arith, form.few, length_map (renamed_row ns (length kept)) rows);
       segments = form.segments;
       picks = form.picks;

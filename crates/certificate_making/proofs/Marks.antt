@@ -1,5 +1,40 @@
 -- Marks of frames: which stay, which are added.
-use Rattle.std.proofs.Common.{◌≡◌, ◌⊎◌, inl, inr, ◌∙◌, ℕ, zero, suc, ◌+◌, ◌-◌, ◌<◌, ◌≤◌, List, [], ◌∷◌, ◌++◌, Bool, cond, true, false, length, drop, set, get_or, replicate, slice_get, Option, Some, None, refl, ap, sym, subst, arith}
+use Rattle.std.proofs.Common.{
+  ◌≡◌,
+  ◌⊎◌,
+  inl,
+  inr,
+  ◌∙◌,
+  ℕ,
+  zero,
+  suc,
+  ◌+◌,
+  ◌-◌,
+  ◌<◌,
+  ◌≤◌,
+  List,
+  [],
+  ◌∷◌,
+  ◌++◌,
+  Bool,
+  cond,
+  true,
+  false,
+  length,
+  drop,
+  set,
+  get_or,
+  replicate,
+  slice_get,
+  Option,
+  Some,
+  None,
+  refl,
+  ap,
+  sym,
+  subst,
+  arith,
+}
 use Rattle.std.proofs.lemmas.List.{at_drop_all, at_drop_more, get_or-set_same, get_or-set_other, length-set}
 use Rattle.std.proofs.lemmas.Option.{slice_get_within}
 use Rattle.std.specs.List.{AllByRecursion}

@@ -1,5 +1,36 @@
 -- Frames are numbered one after the other.
-use Rattle.std.proofs.Common.{◌≡◌, ◌⊎◌, inl, inr, ◌∙◌, ℕ, zero, suc, ◌+◌, ◌-◌, ◌<◌, ◌≤◌, min, List, [], ◌∷◌, ◌++◌, Bool, true, false, length, get_or, slice_get, Some, refl, ap, sym, subst, arith, length-append}
+use Rattle.std.proofs.Common.{
+  ◌≡◌,
+  ◌⊎◌,
+  inl,
+  inr,
+  ◌∙◌,
+  ℕ,
+  zero,
+  suc,
+  ◌+◌,
+  ◌-◌,
+  ◌<◌,
+  ◌≤◌,
+  min,
+  List,
+  [],
+  ◌∷◌,
+  ◌++◌,
+  Bool,
+  true,
+  false,
+  length,
+  get_or,
+  slice_get,
+  Some,
+  refl,
+  ap,
+  sym,
+  subst,
+  arith,
+  length-append,
+}
 use Rattle.std.proofs.lemmas.Option.{slice_get_within}
 use Rattle.ub_base.specs.Frames.{IsFrameList}
 use Rattle.ub_base.specs.Frames as frames
