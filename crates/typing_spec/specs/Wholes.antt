@@ -1,12 +1,11 @@
 -- Small texts in which members are reached, and whole structures are loaded and stored (6.5.2.3, 6.5.16.1, 6.7.9p13).
-use Rattle.std.specs.Prelude.{◌≡◌, ℕ, Bool, true, false, pos, codes, List, [], ◌∷◌, ◌++◌, Option, Some, None}
+use Rattle.std.specs.Prelude.{◌≡◌, ℕ, Bool, true, false, pos, codes, List, [], ◌∷◌, ◌++◌, Option, Some}
 use Rattle.c_types.specs.declared.kind.IntKind.TheVariants.{Char, Int, Long, ULong}
 use Rattle.c_types.specs.declared.kind.BinOp.TheVariants as op
 use Rattle.c_types.specs.Types.{CType, int, void, pointer, struct, union, function}
 use Rattle.c_typed.specs.declared.tree.Node.TheOpen as shape
 use Rattle.c_typed.specs.declared.tree.Slot.TheVariants as slot
 use Rattle.c_typed.specs.declared.tree.Access.TheVariants as access
-use Rattle.c_typed.specs.declared.tree.Access.{Access}
 use Rattle.c_typed.specs.declared.tree.Target.TheVariants as target
 use Rattle.c_typed.specs.declared.tree.Change.TheVariants as change
 use Rattle.c_typed.specs.declared.tree.Conversion.TheVariants as conversion
@@ -14,9 +13,9 @@ use Rattle.c_typed.specs.declared.tree.EqOp.TheVariants as equality
 use Rattle.c_typed.specs.declared.program.Content.TheVariants as content
 use Rattle.type_operators.specs.Terms.{Term, term, none, more}
 use Rattle.typing_spec.specs.Env.{if_found}
-use Rattle.typing_spec.specs.Seen.{Statement, compound, section, end, statement, expressed, initializes}
+use Rattle.typing_spec.specs.Seen.{compound, section, end, statement, expressed, initializes}
 use Rattle.typing_spec.specs.Words.{plain}
-use Rattle.typing_spec.specs.Sampling.{returned_by, body_in, given_in, is_broken, node, number, at, get, parameters, to_int, ints, bytes_at}
+use Rattle.typing_spec.specs.Sampling.{returned_by, body_in, given_in, is_broken, node, number, at, get, parameters, to_int, bytes_at}
 
 -- the tree of the expression that the function declared first returns
 abbrev pub returned_in : List ℕ → Option Term
