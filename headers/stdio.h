@@ -1,4 +1,4 @@
-/* 7.21, in part: standard input and standard output. */
+/* 7.21, in part: standard input, standard output and standard error. */
 #ifndef _CUB_STDIO_H
 #define _CUB_STDIO_H
 
@@ -11,21 +11,30 @@ int getchar(void);
 int putchar(int);
 int puts(const char *);
 int printf(const char *, ...);
+int sprintf(char *, const char *, ...);
+int snprintf(char *, size_t, const char *, ...);
+
+/* fprintf to the stream of a number: 1 is standard output, 2 is standard error. */
+int _cub_fprintf(int, const char *, ...);
 
 /* _back is 1 more than the byte that was pushed back, or 0; _last is what the last read gave. */
-typedef struct _cub_file { int _back, _last, _wrong; } FILE;
+typedef struct _cub_file { int _number, _back, _last, _wrong; } FILE;
 
-static FILE _cub_stdin, _cub_stdout;
+static FILE _cub_stdin, _cub_stdout = {1}, _cub_stderr = {2};
 
 #define stdin (&_cub_stdin)
 #define stdout (&_cub_stdout)
+#define stderr (&_cub_stderr)
 
-/* The stream isn't the one that a function is for: it is the other one, or no stream (7.1.4p1). */
-static inline int _cub_other(FILE *_stream, FILE *_other)
+/* 7.21.6.1 */
+#define fprintf(_stream, ...) _cub_fprintf((_stream)->_number, __VA_ARGS__)
+
+/* The stream isn't one that a function is for: it is another one, or no stream (7.1.4p1). */
+static inline int _cub_other(FILE *_stream)
 {
-    if (_stream != _other)
+    if (_stream != stdin && _stream != stdout && _stream != stderr)
         puts(0);
-    _other->_wrong = 1;
+    _stream->_wrong = 1;
     return EOF;
 }
 
@@ -40,14 +49,14 @@ static inline int _cub_getchar(void)
 }
 
 /* 7.21.7.1, 7.21.7.5 */
-static inline int fgetc(FILE *_stream) { return _stream == stdin ? _cub_getchar() : _cub_other(_stream, stdout); }
-static inline int getc(FILE *_stream) { return _stream == stdin ? _cub_getchar() : _cub_other(_stream, stdout); }
+static inline int fgetc(FILE *_stream) { return _stream == stdin ? _cub_getchar() : _cub_other(_stream); }
+static inline int getc(FILE *_stream) { return _stream == stdin ? _cub_getchar() : _cub_other(_stream); }
 
 /* 7.21.7.10: one byte can be pushed back. */
 static inline int ungetc(int _c, FILE *_stream)
 {
     if (_stream != stdin)
-        return _cub_other(_stream, stdout);
+        return _cub_other(_stream);
     if (_c == EOF || _cub_stdin._back)
         return EOF;
     _cub_stdin._last = (unsigned char)_c;
@@ -63,7 +72,7 @@ static inline char *fgets(char *_s, int _n, FILE *_stream)
     if (!_s || _n <= 0)
         puts(0);
     if (_stream != stdin) {
-        _cub_other(_stream, stdout);
+        _cub_other(_stream);
         return NULL;
     }
     if (_n > 1) {
@@ -78,15 +87,24 @@ static inline char *fgets(char *_s, int _n, FILE *_stream)
 }
 
 /* 7.21.7.3, 7.21.7.7 */
-static inline int fputc(int _c, FILE *_stream) { return _stream == stdout ? putchar(_c) : _cub_other(_stream, stdin); }
-static inline int putc(int _c, FILE *_stream) { return _stream == stdout ? putchar(_c) : _cub_other(_stream, stdin); }
+static inline int fputc(int _c, FILE *_stream)
+{
+    if (_stream == stdout)
+        return putchar(_c);
+    if (_stream != stderr)
+        return _cub_other(_stream);
+    _cub_fprintf(2, "%c", _c);
+    return (unsigned char)_c;
+}
+
+static inline int putc(int _c, FILE *_stream) { return fputc(_c, _stream); }
 
 /* 7.21.7.4, in pieces that one conversion may have */
 static inline int fputs(const char *_s, FILE *_stream)
 {
-    if (_stream != stdout)
-        return _cub_other(_stream, stdin);
-    while (printf("%.4095s", _s) == 4095)
+    if (_stream != stdout && _stream != stderr)
+        return _cub_other(_stream);
+    while (_cub_fprintf(_stream->_number, "%.4095s", _s) == 4095)
         _s += 4095;
     return 1;
 }
@@ -108,7 +126,7 @@ static inline size_t fread(void *_p, size_t _size, size_t _n, FILE *_stream)
     if (!_p)
         puts(0);
     if (_stream != stdin) {
-        _cub_other(_stream, stdout);
+        _cub_other(_stream);
         return 0;
     }
     for (_i = 0; _size && _i < _n; _i++)
@@ -130,20 +148,20 @@ static inline size_t fwrite(const void *_p, size_t _size, size_t _n, FILE *_stre
     size_t _i, _j;
     if (!_p)
         puts(0);
-    if (_stream != stdout) {
-        _cub_other(_stream, stdin);
+    if (_stream != stdout && _stream != stderr) {
+        _cub_other(_stream);
         return 0;
     }
     for (_i = 0; _size && _i < _n; _i++)
         for (_j = 0; _j < _size; _j++)
-            putchar(*_byte++);
+            fputc(*_byte++, _stream);
     return _i;
 }
 
 /* 7.21.5.2: of standard input it is undefined. */
 static inline int fflush(FILE *_stream)
 {
-    if (_stream && _stream != stdout)
+    if (_stream && _stream != stdout && _stream != stderr)
         puts(0);
     return 0;
 }
@@ -170,7 +188,7 @@ static inline FILE *fopen(const char *_name, const char *_mode)
 static inline int fclose(FILE *_stream)
 {
     int _none;
-    if (_stream != stdin && _stream != stdout)
+    if (_stream != stdin && _stream != stdout && _stream != stderr)
         puts(0);
     printf("%n", &_none);
     return 0;

@@ -613,7 +613,11 @@ taking (t ∷ ts) = more false t (taking ts)
 abbrev pub fixed : CType → List CType → Signature
 fixed r ts = record { result = r; params = taking ts; variadic = false }
 
--- the types of the library functions (7.21.6.3, 7.21.7, 7.22.3, 7.22.4, 7.24)
+-- a function that takes a format and further arguments
+abbrev pub printing : List CType → Signature
+printing ts = record { result = int Int; params = taking ts; variadic = true }
+
+-- the types of the library functions (7.21.6.3, 7.21.6.5, 7.21.6.6, 7.21.7, 7.22.3, 7.22.4, 7.24)
 abbrev pub library_type : LibFunc → Signature
 library_type libc.Malloc = fixed memory (size_type ∷ [])
 library_type libc.Calloc = fixed memory (size_type ∷ size_type ∷ [])
@@ -630,7 +634,10 @@ library_type libc.Strchr = fixed text (const_text ∷ int Int ∷ [])
 library_type libc.Getchar = fixed (int Int) []
 library_type libc.Putchar = fixed (int Int) (int Int ∷ [])
 library_type libc.Puts = fixed (int Int) (const_text ∷ [])
-library_type libc.Printf = record { result = int Int; params = taking (const_text ∷ []); variadic = true }
+library_type libc.Printf = printing (const_text ∷ [])
+library_type libc.Fprintf = printing (int Int ∷ const_text ∷ [])
+library_type libc.Sprintf = printing (text ∷ const_text ∷ [])
+library_type libc.Snprintf = printing (text ∷ size_type ∷ const_text ∷ [])
 library_type libc.Exit = fixed void (int Int ∷ [])
 library_type libc.Abort = fixed void []
 

@@ -18,6 +18,10 @@ pub enum LibFunc {
     Putchar,
     Puts,
     Printf,
+    /// `printf` to the stream of a number, under a name of the headers: 1 is standard output and 2 standard error (own).
+    Fprintf,
+    Sprintf,
+    Snprintf,
     Exit,
     Abort,
 }

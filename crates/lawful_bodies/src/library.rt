@@ -2,7 +2,7 @@
 ghost use Rattle.std.specs.Prelude.{◌≡◌, IsTrue, false, map};
 ghost use Rattle.c_types.specs.Types.{void, int, pointer, type_of, qualified_of, params_of, signature_of, Matches, EachMatches, SameSignature};
 ghost use Rattle.c_types.specs.declared.kind.IntKind.TheVariants.{Char};
-ghost use Rattle.c_typed.specs.Lawful.{taking, fixed, library_type};
+ghost use Rattle.c_typed.specs.Lawful.{taking, fixed, printing, library_type};
 ghost use Rattle.lawful_bodies.specs.Parts.{part_type};
 
 use c_types::{FuncTy, IntKind, LibFunc, Qual, Ty};
@@ -101,17 +101,18 @@ pub(crate) fn library_fits(library: LibFunc, ty: &FuncTy) -> bool
         LibFunc::Getchar => is_fixed(Int, &[], ty),
         LibFunc::Putchar => is_fixed(Int, &[Int], ty),
         LibFunc::Puts => is_fixed(Int, &[ConstText], ty),
-        LibFunc::Printf => is_printf(ty),
+        LibFunc::Printf => is_printing(&[ConstText], ty),
+        LibFunc::Fprintf => is_printing(&[Int, ConstText], ty),
+        LibFunc::Sprintf => is_printing(&[Text, ConstText], ty),
+        LibFunc::Snprintf => is_printing(&[Text, Size, ConstText], ty),
         LibFunc::Exit => is_fixed(Nothing, &[Int], ty),
         LibFunc::Abort => is_fixed(Nothing, &[], ty),
     }
 }
 
-/// Whether the type is compatible with that of `printf` (7.21.6.3).
-fn is_printf(ty: &FuncTy) -> bool
-    ensures { IsTrue result → SameSignature false (library_type LibFunc.Printf) (signature_of ty.now) }
+/// Whether the type is that of a function from the parts to an int, with an ellipsis (7.21.6).
+fn is_printing(parts: &[Part], ty: &FuncTy) -> bool
+    ensures { IsTrue result → SameSignature false (printing (map part_type parts.now)) (signature_of ty.now) }
 {
-    ty.variadic
-        && is_part(Part::Int, &ty.result)
-        && are_parts(&[Part::ConstText], ty.params.as_slice())
+    ty.variadic && is_part(Part::Int, &ty.result) && are_parts(parts, ty.params.as_slice())
 }

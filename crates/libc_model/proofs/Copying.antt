@@ -480,7 +480,7 @@ writes_by : (b : Bool) (r : Range) → starts_in_read (cond b [] (Write r.object
 writes_by true r = refl
 writes_by false r = refl
 
-writes_apart : (target : Option Range) → starts_in_read (write_items target) ≡ false
+pub writes_apart : (target : Option Range) → starts_in_read (write_items target) ≡ false
 writes_apart None = refl
 writes_apart (Some r) = writes_by _ r
 
@@ -488,7 +488,7 @@ joined_by : (b : Bool) (r : Range) → joined (cond b [] (Write r.object r.from 
 joined_by true r = refl
 joined_by false r = refl
 
-writes_joined : (target : Option Range) → joined (write_items target) ≡ write_items target
+pub writes_joined : (target : Option Range) → joined (write_items target) ≡ write_items target
 writes_joined None = refl
 writes_joined (Some r) = joined_by _ r
 

@@ -1,6 +1,6 @@
 // The functions of the library, each with its act.
 ghost use Rattle.std.specs.Prelude.{◌≡◌, ◌≢◌, ℕ, ◌<◌, ◌≤◌, ◌+◌, ◌^◌, true, false, nat_lt, Some, None, Ok, Err, length, List, [], OnOk, OnErr, IfNone, if◌then◌else◌};
-ghost use Rattle.c_types.specs.declared.library.LibFunc.TheVariants.{Malloc, Free, Getchar, Putchar, Puts, Exit, Abort, Printf};
+ghost use Rattle.c_types.specs.declared.library.LibFunc.TheVariants.{Malloc, Free, Getchar, Putchar, Puts, Exit, Abort, Printf, Fprintf, Sprintf, Snprintf};
 ghost use Rattle.ub_base.specs.declared.clause.Cause.TheVariants.{Output};
 ghost use Rattle.addr_map.specs.declared.map.Row.{Row};
 ghost use Rattle.mem_spec.specs.Script.{Script, run};
@@ -27,7 +27,7 @@ const OUTPUT: u64 = 1 << 24;
 /// The status of a program that aborts (own).
 const ABORTED: u8 = 134;
 
-/// What a call of a library function gives, but for printf. `who` names the object that it may allocate. After each answer
+/// What a call of a library function gives, but for those that take a format. `who` names the object that it may allocate. After each answer
 /// but a value memory and streams are as before, unless memory was wanted.
 pub fn call(
     alloc: Global,
@@ -38,7 +38,10 @@ pub fn call(
     io: &mut Streams,
     t: &mut Touched,
 ) -> LibAnswer
-    requires { f ≢ Printf }
+    requires printf { f ≢ Printf }
+    requires fprintf { f ≢ Fprintf }
+    requires sprintf { f ≢ Sprintf }
+    requires snprintf { f ≢ Snprintf }
     ensures exact { IsCall f (values_seen args.now) m.old io.old → Answers result t.new (store_of m.new io.new) (called m.new.rows f (values_seen args.now) who (store_of m.old io.old)) }
     ensures known { AreKnown m.old → wants_memory result ≡ false → AreKnown m.new }
     ensures same { leaves_all result f ≡ true → (m.new ≡ m.old) × (io.new ≡ io.old) }
@@ -62,6 +65,9 @@ fn value_of(
     t: &mut Touched,
 ) -> Result<Value, LibAnswer>
     requires printf { f ≢ Printf }
+    requires fprintf { f ≢ Fprintf }
+    requires sprintf { f ≢ Sprintf }
+    requires snprintf { f ≢ Snprintf }
     requires items { t.old ≡ [] }
     ensures exact { IsCall f (values_seen args.now) m.old io.old → Answers (answer_in result) t.new (store_of m.new io.new) (called m.new.rows f (values_seen args.now) who (store_of m.old io.old)) }
     ensures known { AreKnown m.old → wants_memory (answer_in result) ≡ false → AreKnown m.new }
@@ -87,7 +93,9 @@ fn value_of(
         LibFunc::Puts => puts(alloc, args, m, io, t),
         LibFunc::Exit => exit(int_at(args, 0), t),
         LibFunc::Abort => abort(t),
-        LibFunc::Printf => unreachable!(),
+        LibFunc::Printf | LibFunc::Fprintf | LibFunc::Sprintf | LibFunc::Snprintf => {
+            unreachable!()
+        }
     }
 }
 

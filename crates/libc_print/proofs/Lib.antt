@@ -3,5 +3,7 @@ pub mod Ending
 pub mod Printing
 pub mod Running
 pub mod Stepping
+pub mod Storing
+pub mod Streaming
 pub mod Taking
 pub mod Writing

@@ -66,7 +66,7 @@ pub enum Form {
 }
 
 /// The first `n` bytes, or all where there are fewer.
-fn front(text: &[u8], n: usize) -> &[u8]
+pub fn front(text: &[u8], n: usize) -> &[u8]
     ensures { result.now ≡ take n text.now }
 {
     if n < text.len() { &text[..n] } else { text }

@@ -1,11 +1,15 @@
-//! printf (7.21.6.1, 7.21.6.3): the text of a format and its arguments, and what it answers.
+//! printf, fprintf, sprintf and snprintf (7.21.6): the text of a format and its arguments, and what they answer.
 #![tactic(auto)]
 
 mod directive;
 mod number;
 mod printf;
 mod refusal;
+mod stored;
+mod stream;
 mod strings;
 mod values;
 
 pub use printf::format;
+pub use stored::{format_into, format_within};
+pub use stream::format_to;

@@ -46,87 +46,98 @@ pub fn format(
     ensures streams { gives_value result ≡ false → io.new ≡ io.old }
 {
     t.clear();
-    match printed(alloc, args.as_slice(), types, m, io, t) {
+    match printed(alloc, args.as_slice(), types, 0, 1, m, io, t) {
         Ok(value) => LibAnswer::Value(value),
         Err(answer) => answer,
     }
 }
 
-// Prints, and gives the number of bytes.
-fn printed(
+/// Prints, and gives the number of bytes. The format is the argument `at`, and its own arguments are those from `first` on.
+pub fn printed(
     alloc: Global,
     args: &[Value],
     types: &[Qual],
+    at: usize,
+    first: usize,
     m: &mut Memory,
     io: &mut Streams,
     t: &mut Touched,
 ) -> Result<Value, LibAnswer>
     requires { t.old ≡ [] }
-    ensures exact { AreWithin io.old → HaveCells m.old (values_seen args.now) → Answers (answer_in result) t.new (store_of m.new io.new) (printed_by m.new.rows (argument_at (values_seen args.now) 0) (drop 1 (typed args.now types.now)) (store_of m.old io.old)) }
+    ensures exact { AreWithin io.old → HaveCells m.old (values_seen args.now) → Answers (answer_in result) t.new (store_of m.new io.new) (printed_by m.new.rows (argument_at (values_seen args.now) at) (drop first (typed args.now types.now)) (store_of m.old io.old)) }
     ensures known { AreKnown m.old → AreKnown m.new }
     ensures same { OnErr result ((m.new ≡ m.old) × (io.new ≡ io.old)) }
     ensures within { AreWithin io.old → AreWithin io.new }
     ensures streams { OnErr result (io.new ≡ io.old) }
 {
-    let text = printed_text(alloc, pointer_at(args, 0), args, types, m, t)?;
-    put_out(alloc, text.as_slice(), m, io, t)
+    let text = printed_text(alloc, pointer_at(args, at), args, types, first, m, t)?;
+    put_out(
+        alloc,
+        text.as_slice(),
+        text.as_slice().len() as u64,
+        m,
+        io,
+        t,
+    )
 }
 
-// The end of a call: its bytes are printed and counted.
-fn put_out(
+/// The end of a call: what is shown of its bytes is printed, and all are counted.
+pub fn put_out(
     alloc: Global,
-    bytes: &[u8],
+    shown: &[u8],
+    count: u64,
     m: &mut Memory,
     io: &mut Streams,
     t: &mut Touched,
 ) -> Result<Value, LibAnswer>
-    ensures exact { (script : List Row → Script (List ℕ)) → AreWithin io.old → Gives false (List ℕ) m.old io.old [] t.old (script m.old.rows) bytes.now → Answers (answer_in result) t.new (store_of m.new io.new) (limited (run m.new.rows (printing (script m.new.rows)) (store_of m.old io.old))) }
+    ensures exact { (script : List Row → Script (List ℕ)) (f : List ℕ → List ℕ) (bytes : List ℕ) → AreWithin io.old → shown.now ≡ f bytes → count ≡ length bytes → Gives false (List ℕ) m.old io.old [] t.old (script m.old.rows) bytes → Answers (answer_in result) t.new (store_of m.new io.new) (limited (run m.new.rows (printing f (script m.new.rows)) (store_of m.old io.old))) }
     ensures known { AreKnown m.old → AreKnown m.new }
     ensures same { OnErr result ((m.new ≡ m.old) × (io.new ≡ io.old)) }
     ensures within { AreWithin io.old → AreWithin io.new }
     ensures streams { OnErr result (io.new ≡ io.old) }
 {
-    let count = bytes.len() as u64;
-    check_output(io, count)?;
+    check_output(io, shown.len() as u64)?;
     t.add(Item::Output)?;
     let mut scratch = Touched::new(alloc)?;
-    io.put(bytes)?;
+    io.put(shown)?;
     settle(m, t, &mut scratch);
     Ok(Value::Int(i128::from(count)))
 }
 
-// The text that a call prints: the format is read first.
-fn printed_text(
+/// The text of a call: the format is read first. `first` is the number of the first argument behind it.
+pub fn printed_text(
     alloc: Global,
     pointer: Pointer,
     args: &[Value],
     types: &[Qual],
+    first: usize,
     m: &Memory,
     t: &mut Touched,
 ) -> Result<Vec<u8>, LibAnswer>
-    ensures { (io : Io) → HasCell m.now pointer.prov → HaveCells m.now (values_seen args.now) → Prints (λ v. v.items) result m.now io t.old t.new (printed_text m.now.rows pointer.addr pointer.prov (drop 1 (typed args.now types.now))) }
+    ensures { (io : Io) → HasCell m.now pointer.prov → HaveCells m.now (values_seen args.now) → Prints (λ v. v.items) result m.now io t.old t.new (printed_text m.now.rows pointer.addr pointer.prov (drop first (typed args.now types.now))) }
 {
     let range = check_string(m, pointer, t)?;
     let mut format = numbers(alloc, m, range, t)?;
     let _ = format.pop();
-    text_of(alloc, format.as_slice(), args, types, m, t)
+    text_of(alloc, format.as_slice(), args, types, first, m, t)
 }
 
-// The text of a format with its arguments.
+// The text of a format with its arguments, of which `first` is the number of the first.
 fn text_of(
     alloc: Global,
     format: &[u8],
     values: &[Value],
     types: &[Qual],
+    first: usize,
     m: &Memory,
     t: &mut Touched,
 ) -> Result<Vec<u8>, LibAnswer>
-    ensures { (io : Io) → HaveCells m.now (values_seen values.now) → Prints (λ v. v.items) result m.now io t.old t.new (text_of (suc (length format.now)) m.now.rows 0 format.now (drop 1 (typed values.now types.now))) }
+    ensures { (io : Io) → HaveCells m.now (values_seen values.now) → Prints (λ v. v.items) result m.now io t.old t.new (text_of (suc (length format.now)) m.now.rows 0 format.now (drop first (typed values.now types.now))) }
 {
     let mut args = Arguments {
         values,
         types,
-        next: 1,
+        next: first,
     };
     let mut out = Vec::new(alloc);
     let mut rest = format;

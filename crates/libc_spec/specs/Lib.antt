@@ -1,4 +1,5 @@
 pub mod Directives
+pub mod Formatted
 pub mod Library
 pub mod Print
 pub mod PrintSamples

@@ -1,4 +1,4 @@
--- The functions of the library, but for printf, as scripts of touches (7.21.7.6, 7.21.7.8, 7.21.7.9, 7.22.3, 7.22.4, 7.24).
+-- The functions of the library, but for those that take a format, as scripts of touches (7.21.7.6, 7.21.7.8, 7.21.7.9, 7.22.3, 7.22.4, 7.24).
 -- A pointer argument is checked in the order: null, dead, range; then unwritten bytes, writability and overlap (own: the order).
 use Rattle.std.specs.Prelude.{
   ℕ,
@@ -74,6 +74,9 @@ use Rattle.c_types.specs.declared.library.LibFunc.TheVariants.{
   Putchar,
   Puts,
   Printf,
+  Fprintf,
+  Sprintf,
+  Snprintf,
   Exit,
   Abort,
 }
@@ -426,6 +429,9 @@ library rows Getchar vs who = getchar
 library rows Putchar vs who = putchar (integer_in (argument_at vs 0))
 library rows Puts vs who = puts rows (address_in (argument_at vs 0)) (prov_in (argument_at vs 0))
 library rows Printf vs who = Give nothing
+library rows Fprintf vs who = Give nothing
+library rows Sprintf vs who = Give nothing
+library rows Snprintf vs who = Give nothing
 library rows Exit vs who = Finish (low_byte (integer_in (argument_at vs 0)))
 library rows Abort vs who = Finish 134
 

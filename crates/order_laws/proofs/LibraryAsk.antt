@@ -16,7 +16,7 @@ use Rattle.exposure.specs.declared.prov.Prov.{Prov}
 use Rattle.exposure.specs.declared.prov.Prov.TheVariants as prov
 use Rattle.c_types.specs.declared.library.LibFunc.{LibFunc}
 use Rattle.c_types.specs.declared.library.LibFunc.TheVariants.{Malloc, Calloc, Realloc, Free, Memcpy, Memmove, Memset, Memcmp, Strlen, Strcpy, Strcmp}
-use Rattle.c_types.specs.declared.library.LibFunc.TheVariants.{Strchr, Getchar, Putchar, Puts, Printf, Exit, Abort}
+use Rattle.c_types.specs.declared.library.LibFunc.TheVariants.{Strchr, Getchar, Putchar, Puts, Printf, Fprintf, Sprintf, Snprintf, Exit, Abort}
 use Rattle.mem_spec.specs.Store.{TaggedByte, is_live}
 use Rattle.mem_spec.specs.Script.{Ask, Get, Put, Bury, Print, Script, Give, touch, require, ◌>>=◌, ◌>>◌}
 use Rattle.mem_spec.specs.Acts.{Accessed, argument, argument_object, argument_in, the_one_in, in_row, offset_in, settle_by, check_writable, copy_between}
@@ -38,7 +38,7 @@ abbrev pub OptKnown : Option Accessed → List Item → Type 0
 OptKnown None cs = Unit {0}
 OptKnown (Some at) cs = Known at cs
 
-opt_more : (o : Option Accessed) (bs cs : List Item) → More bs cs → OptKnown o bs → OptKnown o cs
+pub opt_more : (o : Option Accessed) (bs cs : List Item) → More bs cs → OptKnown o bs → OptKnown o cs
 opt_more None bs cs m k = tt
 opt_more (Some at) bs cs m k = m at.object k
 
@@ -59,7 +59,7 @@ object_asks rows len a (prov.Either id past start) bs =
     (λ u. Give (the_one_in (in_row (row_of rows past) a len) (in_row (row_of rows start) a len) past start)) bs
     (settle_asks rows (in_row (row_of rows past) a len) (in_row (row_of rows start) a len) id past start LibraryArgument bs) (λ u cs. tt)
 
-argument_asks : (rows : List Row) (len a : ℕ) (p : Prov) (bs : List Item) → Post rows (argument rows len a p) bs OptKnown
+pub argument_asks : (rows : List Row) (len a : ℕ) (p : Prov) (bs : List Item) → Post rows (argument rows len a p) bs OptKnown
 argument_asks rows len a p bs =
     need rows (not (a == 0)) LibraryArgument (argument_object rows len a p >>= argument_in rows len a) bs OptKnown
     (bind rows (argument_object rows len a p) (argument_in rows len a) bs Anything OptKnown (object_asks rows len a p bs)
@@ -97,7 +97,7 @@ text_from_asks rows (Some at) bs k =
 pub text_asks : (rows : List Row) (a : ℕ) (p : Prov) (bs : List Item) → Asked rows (text rows a p) bs
 text_asks rows a p bs = with_argument rows 1 a p (text_from rows) bs (λ o cs m k. text_from_asks rows o cs k)
 
-target_asks : (rows : List Row) (n : ℕ) (o : Option Accessed) (bs : List Item) → Asked rows (check_target n o) bs
+pub target_asks : (rows : List Row) (n : ℕ) (o : Option Accessed) (bs : List Item) → Asked rows (check_target n o) bs
 target_asks rows zero None bs = tt
 target_asks rows zero (Some at) bs = tt
 target_asks rows (suc n) None bs = tt
@@ -109,7 +109,7 @@ bytes_at_asks rows zero (Some at) bs k = tt
 bytes_at_asks rows (suc n) None bs k = tt
 bytes_at_asks rows (suc n) (Some at) bs k = (k, (λ r. tt))
 
-write_asks : (rows : List Row) (ns : List ℕ) (o : Option Accessed) (bs : List Item) → OptKnown o bs → Asked rows (write_numbers ns o) bs
+pub write_asks : (rows : List Row) (ns : List ℕ) (o : Option Accessed) (bs : List Item) → OptKnown o bs → Asked rows (write_numbers ns o) bs
 write_asks rows [] None bs k = tt
 write_asks rows [] (Some at) bs k = tt
 write_asks rows (n ∷ ns) None bs k = tt
@@ -293,5 +293,8 @@ scripts_ask rows Getchar vs who bs = inl (λ b. tt)
 scripts_ask rows Putchar vs who bs = inl (λ r. tt)
 scripts_ask rows Puts vs who bs = inl (puts_asks rows (address_in (argument_at vs 0)) (prov_in (argument_at vs 0)) bs)
 scripts_ask rows Printf vs who bs = inl tt
+scripts_ask rows Fprintf vs who bs = inl tt
+scripts_ask rows Sprintf vs who bs = inl tt
+scripts_ask rows Snprintf vs who bs = inl tt
 scripts_ask rows Exit vs who bs = inr (low_byte (integer_in (argument_at vs 0)), refl)
 scripts_ask rows Abort vs who bs = inr (134, refl)

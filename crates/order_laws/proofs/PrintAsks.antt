@@ -1,23 +1,26 @@
--- The script of printf, and each of the library, asks before it reads or writes.
+-- The scripts of functions that take a format, and each of the library, asks before it reads or writes.
 use Rattle.std.proofs.Common.{◌≡◌, ℕ, zero, suc, ◌+◌, ◌-◌, Bool, true, false, if◌then◌else◌, List, [], ◌∷◌, ◌++◌, length, drop, Option, Some, None, inl}
 use Rattle.std.proofs.Common.{inr, ap}
 use Rattle.std.specs.Prelude.{◌==◌, nat_lt, min, map, pos, int_lt, unsigned_abs}
-use Rattle.ub_base.specs.declared.clause.Clause.TheVariants.{Conversion}
-use Rattle.ub_base.specs.declared.clause.Cause.TheVariants.{Conversion as PastConversion}
+use Rattle.std.specs.Prelude.{ℤ, not, ◌^◌}
+use Rattle.std.specs.Ordering.{int_eq}
+use Rattle.ub_base.specs.declared.clause.Clause.TheVariants.{Conversion, LibraryArgument}
+use Rattle.ub_base.specs.declared.clause.Cause.TheVariants.{Conversion as PastConversion, Output as PastOutput}
 use Rattle.ub_base.specs.declared.names.Event.{Event}
 use Rattle.ub_base.specs.declared.names.ObjName.{ObjName}
 use Rattle.ub_base.specs.declared.names.Item.{Item}
-use Rattle.ub_base.specs.declared.names.Item.TheVariants.{Read}
+use Rattle.ub_base.specs.declared.names.Item.TheVariants.{Read, Write, Born, Dies, Alive, Expose, Lookup, Narrow, Input, Output}
 use Rattle.addr_map.specs.declared.map.Row.{Row}
 use Rattle.addr_map.specs.Rows.{row_of}
 use Rattle.c_types.specs.declared.library.LibFunc.{LibFunc}
-use Rattle.c_types.specs.declared.library.LibFunc.TheVariants.{Printf}
+use Rattle.c_types.specs.declared.library.LibFunc.TheVariants.{Printf, Fprintf, Sprintf, Snprintf}
 use Rattle.c_types.specs.Types.{CType}
-use Rattle.mem_spec.specs.Script.{Print, Script, Give, Exceed, touch, require, ◌>>=◌, ◌>>◌}
-use Rattle.mem_spec.specs.Acts.{Accessed, expose, size_in}
+use Rattle.mem_spec.specs.Script.{Ask, Get, Put, Bear, Bury, Show, Find, Settle, Take, Print, item_of, Script, Give, Raise, Finish, Exceed}
+use Rattle.mem_spec.specs.Script.{Misplace, Do, touch, require, ◌>>=◌, ◌>>◌}
+use Rattle.mem_spec.specs.Acts.{Accessed, argument, expose, size_in}
 use Rattle.mem_laws.specs.Frame.{any_of}
 use Rattle.libc_spec.specs.Library.{LibValue, number, pointer_in, address_in, prov_in, integer_in, low_byte, read_numbers, without_zero, text}
-use Rattle.libc_spec.specs.Library.{ends_in_zero, argument_at}
+use Rattle.libc_spec.specs.Library.{ends_in_zero, argument_at, check_target, write_numbers, size_of_value}
 use Rattle.libc_spec.specs.Directives.{Flags, Count, absent, count, Length, Directive, directive_of, Form, taken, left_out, invalid, form}
 use Rattle.libc_spec.specs.Directives as directives
 use Rattle.libc_spec.specs.Print as print
@@ -26,13 +29,16 @@ use Rattle.libc_spec.specs.Print.{converted, fits_kind, next_integer, is_target,
 use Rattle.libc_spec.specs.Print.{integer_parts, integer_field, bare, spaced, is_signed_conversion, until_most, bounded_from, before_zero, string_bytes}
 use Rattle.libc_spec.specs.Print.{one, put_integer, put_byte, put_string, address_parts, put_address, put_sized, put_formed, Step, step_by, step, text_of}
 use Rattle.libc_spec.specs.Print.{printf}
+use Rattle.libc_spec.specs.Formatted.{formatted, short, short_text, complaint, fprintf, room, ended, array, Noted, noting, overlaps, Placed, placed}
+use Rattle.libc_spec.specs.Formatted.{store_text, sprintf}
 use Rattle.c_model.specs.Libraries.{passed, result, typed, script, library}
 use Rattle.order_laws.specs.StrictItems.{asks}
-use Rattle.order_laws.specs.Asking.{Anything, Asked, AskedOrEnds}
+use Rattle.order_laws.specs.Asking.{Post, Anything, Asked, AskedOrEnds}
 use Rattle.order_laws.specs.LibraryAsks.{LibraryAsks}
-use Rattle.order_laws.proofs.Asks.{need, when}
+use Rattle.order_laws.proofs.Asks.{bind, need, when}
 use Rattle.order_laws.proofs.ActsAsk.{go_on, expose_asks}
-use Rattle.order_laws.proofs.LibraryAsk.{OptKnown, with_argument, numbers_ask, text_asks, scripts_ask}
+use Rattle.order_laws.proofs.LibraryAsk.{OptKnown, opt_more, with_argument, argument_asks, target_asks, write_asks, numbers_ask, text_asks}
+use Rattle.order_laws.proofs.LibraryAsk.{scripts_ask}
 
 next_asks : (rows : List Row) (as' : List Argument) (bs : List Item) → Asked rows (next as') bs
 next_asks rows [] bs = tt
@@ -193,9 +199,86 @@ printf_asks rows format as' bs =
     (text_of_asks (length ns) rows 0 (without_zero ns) as' ds)
     (λ out es. λ r. tt)))
 
+formatted_asks : (rows : List Row) (format : LibValue) (as' : List Argument) (bs : List Item) → Asked rows (formatted rows format as') bs
+formatted_asks rows format as' bs =
+    go_on rows (text rows (address_in format) (prov_in format)) (λ s. read_numbers s.bytes >>= (λ ns. text_of (length ns) rows 0 (without_zero ns) as')) bs
+    (text_asks rows (address_in format) (prov_in format) bs)
+    (λ s cs. go_on rows (read_numbers s.bytes) (λ ns. text_of (length ns) rows 0 (without_zero ns) as') cs (numbers_ask rows s.bytes cs)
+    (λ ns ds. text_of_asks (length ns) rows 0 (without_zero ns) as' ds))
+
+short_asks : (rows : List Row) (format : LibValue) (as' : List Argument) (bs : List Item) → Asked rows (short_text rows format as') bs
+short_asks rows format as' bs =
+    go_on rows (formatted rows format as') short bs (formatted_asks rows format as' bs)
+    (λ out cs. when rows (nat_lt (2 ^ 24) (length out)) (Exceed PastOutput (length out)) (Give out) cs Anything tt tt)
+
+complaint_asks : (rows : List Row) (format : LibValue) (as' : List Argument) (bs : List Item) → Asked rows (complaint rows format as') bs
+complaint_asks rows format as' bs =
+    go_on rows (short_text rows format as') (λ out. touch (Print []) >> Give (number (pos (length out)))) bs (short_asks rows format as' bs)
+    (λ out cs. λ r. tt)
+
+fprintf_asks : (rows : List Row) (z : ℤ) (format : LibValue) (as' : List Argument) (bs : List Item) → Asked rows (fprintf rows z format as') bs
+fprintf_asks rows z format as' bs =
+    when rows (int_eq z (pos 1)) (printf rows format as') (if int_eq z (pos 2) then complaint rows format as' else Raise LibraryArgument) bs Anything
+    (printf_asks rows format as' bs)
+    (when rows (int_eq z (pos 2)) (complaint rows format as') (Raise LibraryArgument) bs Anything (complaint_asks rows format as' bs) tt)
+
+-- a script with its items does so as without them
+note_asks : {V : Type 0} → (rows : List Row) (x : Script V) (bs : List Item) (Q : V → List Item → Type 0) → Post rows x bs Q
+    → Post rows (noting x) bs (λ n cs. Q n.value cs)
+note_on : {V : Type 0} → (rows : List Row) (i : Item) (x : Script V) (bs : List Item) (Q : V → List Item → Type 0) → Post rows x bs Q
+    → Post rows (noting x >>= (λ n. Give (record { value = n.value; items = i ∷ n.items }))) bs (λ n cs. Q n.value cs)
+note_on rows i x bs Q h = bind rows (noting x) (λ n. Give (record { value = n.value; items = i ∷ n.items })) bs (λ n cs. Q n.value cs)
+    (λ n cs. Q n.value cs) (note_asks rows x bs Q h) (λ n cs m q. q)
+note_asks rows (Give v) bs Q h = h
+note_asks rows (Raise c) bs Q h = tt
+note_asks rows (Finish n) bs Q h = h
+note_asks rows (Exceed c n) bs Q h = tt
+note_asks rows Misplace bs Q h = tt
+note_asks rows (Do (Get x a n) f) bs Q h = (h.0, (λ r. note_on rows (Read x a n) (f r) (Read x a n ∷ bs) Q (h.1 r)))
+note_asks rows (Do (Put x a cs) f) bs Q h =
+    (h.0, (λ r. note_on rows (Write x a (length cs)) (f r) (Write x a (length cs) ∷ bs) Q (h.1 r)))
+note_asks rows (Do (Ask x) f) bs Q h = λ r. note_on rows (Alive x) (f r) (Alive x ∷ bs) Q (h r)
+note_asks rows (Do (Bear x size kind declared) f) bs Q h = (h.0, (λ r. note_on rows (Born x) (f r) (Born x ∷ bs) Q (h.1 r)))
+note_asks rows (Do (Bury x) f) bs Q h = λ r. note_on rows (Dies x) (f r) (Dies x ∷ bs) Q (h r)
+note_asks rows (Do (Show x) f) bs Q h = λ r. note_on rows (Expose x) (f r) (Expose x ∷ bs) Q (h r)
+note_asks rows (Do (Find a) f) bs Q h = λ r. note_on rows (Lookup a) (f r) (Lookup a ∷ bs) Q (h r)
+note_asks rows (Do (Settle id x c) f) bs Q h = λ r. note_on rows (Narrow id x) (f r) (Narrow id x ∷ bs) Q (h r)
+note_asks rows (Do Take f) bs Q h = λ r. note_on rows Input (f r) (Input ∷ bs) Q (h r)
+note_asks rows (Do (Print cs) f) bs Q h = λ r. note_on rows Output (f r) (Output ∷ bs) Q (h r)
+
+array_asks : (rows : List Row) (n : ℕ) (v : LibValue) (bs : List Item) → Post rows (array rows n v) bs OptKnown
+array_asks rows zero v bs = tt
+array_asks rows (suc n) v bs =
+    bind rows (argument rows (suc n) (address_in v) (prov_in v)) (λ at. check_target (suc n) at >> Give at) bs OptKnown OptKnown
+    (argument_asks rows (suc n) (address_in v) (prov_in v) bs)
+    (λ at cs m k. bind rows (check_target (suc n) at) (λ u. Give at) cs Anything OptKnown (target_asks rows (suc n) at cs)
+    (λ u ds m2 z. opt_more at cs ds m2 k))
+
+placed_asks : (rows : List Row) (most : Option ℕ) (to format : LibValue) (as' : List Argument) (bs : List Item)
+    → Post rows (placed rows most to format as') bs (λ p cs. OptKnown p.at cs)
+placed_asks rows most to format as' bs =
+    bind rows (short_text rows format as') (λ out. array rows (room most (length out)) to >>= (λ at. Give (record { bytes = out; at = at }))) bs Anything
+    (λ p cs. OptKnown p.at cs) (short_asks rows format as' bs)
+    (λ out cs m q. bind rows (array rows (room most (length out)) to) (λ at. Give (record { bytes = out; at = at })) cs OptKnown (λ p cs. OptKnown p.at cs)
+    (array_asks rows (room most (length out)) to cs) (λ at ds m2 k. k))
+
+sprintf_asks : (rows : List Row) (most : Option ℕ) (to format : LibValue) (as' : List Argument) (bs : List Item)
+    → Asked rows (sprintf rows most to format as') bs
+sprintf_asks rows most to format as' bs =
+    bind rows (noting (placed rows most to format as')) (store_text most) bs (λ n cs. OptKnown n.value.at cs) Anything
+    (note_asks rows (placed rows most to format as') bs (λ p cs. OptKnown p.at cs) (placed_asks rows most to format as' bs))
+    (λ n cs m k. need rows (not (overlaps n.value.at (room most (length n.value.bytes)) n.items)) LibraryArgument
+    (write_numbers (ended (room most (length n.value.bytes)) n.value.bytes) n.value.at >> Give (number (pos (length n.value.bytes)))) cs Anything
+    (go_on rows (write_numbers (ended (room most (length n.value.bytes)) n.value.bytes) n.value.at) (λ u. Give (number (pos (length n.value.bytes)))) cs
+    (write_asks rows (ended (room most (length n.value.bytes)) n.value.bytes) n.value.at cs k) (λ u ds. tt)))
+
 script_asks : (rows : List Row) (f : LibFunc) (who : Event) (ts : List CType) (vs : List LibValue) (bs : List Item)
     → AskedOrEnds rows (script rows f who ts vs) bs
 script_asks rows Printf who ts vs bs = inl (printf_asks rows (argument_at vs 0) (drop 1 (typed ts vs)) bs)
+script_asks rows Fprintf who ts vs bs = inl (fprintf_asks rows (integer_in (argument_at vs 0)) (argument_at vs 1) (drop 2 (typed ts vs)) bs)
+script_asks rows Sprintf who ts vs bs = inl (sprintf_asks rows None (argument_at vs 0) (argument_at vs 1) (drop 2 (typed ts vs)) bs)
+script_asks rows Snprintf who ts vs bs =
+    inl (sprintf_asks rows (Some (size_of_value (argument_at vs 1))) (argument_at vs 0) (argument_at vs 2) (drop 3 (typed ts vs)) bs)
 script_asks rows f who ts vs bs = scripts_ask rows f vs who bs
 
 pub library_asks : LibraryAsks

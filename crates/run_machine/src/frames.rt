@@ -72,6 +72,28 @@ impl<'p, 'c> Machine<'p, 'c> {
                 &mut self.streams,
                 &mut self.items,
             ),
+            LibFunc::Fprintf => libc_print::format_to(
+                self.alloc,
+                &arguments,
+                call.types.as_slice(),
+                &mut self.memory,
+                &mut self.streams,
+                &mut self.items,
+            ),
+            LibFunc::Sprintf => libc_print::format_into(
+                self.alloc,
+                &arguments,
+                call.types.as_slice(),
+                &mut self.memory,
+                &mut self.items,
+            ),
+            LibFunc::Snprintf => libc_print::format_within(
+                self.alloc,
+                &arguments,
+                call.types.as_slice(),
+                &mut self.memory,
+                &mut self.items,
+            ),
             _ => libc_model::call(
                 self.alloc,
                 library,

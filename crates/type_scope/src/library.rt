@@ -4,7 +4,7 @@ use c_types::{FuncTy, IntKind, LibFunc, Qual, Shared, Ty};
 use std::alloc::Global;
 use ub_base::{Items, NoMemory};
 
-const NAMES: [(&[u8], LibFunc); 18] = [
+const NAMES: [(&[u8], LibFunc); 21] = [
     (b"malloc", LibFunc::Malloc),
     (b"calloc", LibFunc::Calloc),
     (b"realloc", LibFunc::Realloc),
@@ -21,6 +21,9 @@ const NAMES: [(&[u8], LibFunc); 18] = [
     (b"putchar", LibFunc::Putchar),
     (b"puts", LibFunc::Puts),
     (b"printf", LibFunc::Printf),
+    (b"_cub_fprintf", LibFunc::Fprintf),
+    (b"sprintf", LibFunc::Sprintf),
+    (b"snprintf", LibFunc::Snprintf),
     (b"exit", LibFunc::Exit),
     (b"abort", LibFunc::Abort),
 ];
@@ -108,6 +111,9 @@ pub fn library_type(alloc: Global, library: LibFunc) -> Result<FuncTy, NoMemory>
         LibFunc::Putchar => function(alloc, Int, &[Int], false),
         LibFunc::Puts => function(alloc, Int, &[ConstText], false),
         LibFunc::Printf => function(alloc, Int, &[ConstText], true),
+        LibFunc::Fprintf => function(alloc, Int, &[Int, ConstText], true),
+        LibFunc::Sprintf => function(alloc, Int, &[Text, ConstText], true),
+        LibFunc::Snprintf => function(alloc, Int, &[Text, Size, ConstText], true),
         LibFunc::Exit => function(alloc, Nothing, &[Int], false),
         LibFunc::Abort => function(alloc, Nothing, &[], false),
     }

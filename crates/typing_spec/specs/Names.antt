@@ -283,12 +283,13 @@ give_initial name constants = do
 
 -- 7. Functions.
 
--- the functions of the library by name (7.21.6.3, 7.21.7, 7.22.3, 7.22.4, 7.24)
+-- the functions of the library by name (7.21.6.3, 7.21.6.5, 7.21.6.6, 7.21.7, 7.22.3, 7.22.4, 7.24)
 abbrev pub library_names : List (List ℕ × LibFunc)
 library_names = (codes "malloc", libc.Malloc) ∷ (codes "calloc", libc.Calloc) ∷ (codes "realloc", libc.Realloc) ∷ (codes "free", libc.Free)
     ∷ (codes "memcpy", libc.Memcpy) ∷ (codes "memmove", libc.Memmove) ∷ (codes "memset", libc.Memset) ∷ (codes "memcmp", libc.Memcmp)
     ∷ (codes "strlen", libc.Strlen) ∷ (codes "strcpy", libc.Strcpy) ∷ (codes "strcmp", libc.Strcmp) ∷ (codes "strchr", libc.Strchr)
     ∷ (codes "getchar", libc.Getchar) ∷ (codes "putchar", libc.Putchar) ∷ (codes "puts", libc.Puts) ∷ (codes "printf", libc.Printf)
+    ∷ (codes "_cub_fprintf", libc.Fprintf) ∷ (codes "sprintf", libc.Sprintf) ∷ (codes "snprintf", libc.Snprintf)
     ∷ (codes "exit", libc.Exit) ∷ (codes "abort", libc.Abort) ∷ []
 
 abbrev pub library_in : List ℕ → List (List ℕ × LibFunc) → Option LibFunc

@@ -14,5 +14,5 @@ invariant-loop-turn l = record {
   values : l.args.values.now ≡ l.fn.values;
   leads : (io : Io) → HaveCells l.m (values_seen l.fn.values) →
       Leads l.m io (suc (length l.fn.format) - l._turn) (length l.fn.format - length l.rest)
-      (text_of (suc (length l.fn.format)) l.m.rows 0 l.fn.format (drop 1 (typed l.fn.values l.fn.types))) l.fn.t l.t l.out.items l.rest (left l.args);
+      (text_of (suc (length l.fn.format)) l.m.rows 0 l.fn.format (drop l.fn.first (typed l.fn.values l.fn.types))) l.fn.t l.t l.out.items l.rest (left l.args);
 }
