@@ -8,7 +8,7 @@ mod heap;
 mod ranges;
 mod strings;
 
-pub use arguments::{Pointer, Range, check, check_string, int_at, pointer_at};
+pub use arguments::{Pointer, Range, check, check_string, int_at, pointer_at, size_at};
 pub use bytes::{add_read, block_of, expose, numbers, overwrite, settle};
 pub use calls::{call, check_output};
 pub use ranges::{low_byte, target_of};
