@@ -172,10 +172,10 @@ print_fails items e m io is f script h = absurd h
 printf_is : (rows : List Row) (format : LibValue) (as' : List Argument) (s : Store) →
     run rows (printing all_shown (printed_text rows (address_in format) (prov_in format) as')) s ≡ run rows (printf rows format as') s
 printf_is rows format as' s =
-    run_twice rows (text rows (address_in format) (prov_in format)) (with_format rows as') put_out all_shown s
+    run_twice rows (text rows (address_in format) (prov_in format)) (with_format rows as') (put_out all_shown) s
     ∙ run_same rows (text rows (address_in format) (prov_in format)) (λ t. with_format rows as' t >>= put_out all_shown)
     (λ t. read_numbers t.bytes >>= (λ ns. with_numbers rows as' ns >>= put_out all_shown)) s
-    (λ t u. run_twice rows (read_numbers t.bytes) (with_numbers rows as') put_out all_shown u)
+    (λ t u. run_twice rows (read_numbers t.bytes) (with_numbers rows as') (put_out all_shown) u)
 
 pub printf_called : (rows : List Row) (vs : List LibValue) (i : ℕ) (as' : List Argument) (a : ℕ) (p : Prov) (s t : Store) (is : List Item) (e : LibAnswer) →
     pointer a p ≡ pointer_in (argument_at vs i) →

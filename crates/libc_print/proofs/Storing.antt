@@ -37,7 +37,7 @@ use Rattle.std.proofs.Common.{
   pos,
 }
 use Rattle.std.specs.Prelude.{nat_lt, nat_le, min}
-use Rattle.std.proofs.lemmas.List.{append-nil}
+use Rattle.std.proofs.lemmas.List.{append-nil, length-append, length-take-le}
 use Rattle.std.proofs.lemmas.Bool.{lt-ltb, le-ltb, cases_lt}
 use Rattle.ub_base.specs.declared.clause.Clause.{Clause}
 use Rattle.ub_base.specs.declared.clause.Clause.TheVariants.{LibraryArgument}
@@ -96,7 +96,7 @@ use Rattle.prov_memory.specs.Memory.{Kept, store_of}
 use Rattle.libc_spec.specs.Library.{LibValue, number, pointer, pointer_in, address_in, prov_in, argument_at, joins, joined, write_numbers}
 use Rattle.libc_spec.specs.Print.{Argument}
 use Rattle.libc_spec.specs.Formatted as formatted
-use Rattle.libc_spec.specs.Formatted.{short, room, ended, array, Noted, noting, touches, touches_any, placed, store_text}
+use Rattle.libc_spec.specs.Formatted.{short, room, ended, array, Noted, noting, touches, touches_any, placed, store_text, stored_by}
 use Rattle.libc_model.specs.declared.arguments.Range.{Range}
 use Rattle.libc_model.specs.Answers.{Answers, AreWithin}
 use Rattle.libc_model.specs.Parts.{after, CanFollow, Gives, Follows, accessed_if}
@@ -108,7 +108,7 @@ use Rattle.libc_model.proofs.Writing.{write_run}
 use Rattle.libc_model.proofs.Copying.{writes_apart, writes_joined}
 use Rattle.libc_print.specs.Runs.{Prints, printed_text}
 use Rattle.libc_print.specs.Calls.{limited, short_text}
-use Rattle.libc_print.specs.Stored.{overlaps, noted}
+use Rattle.libc_print.specs.Stored.{overlaps, noted, storing}
 use Rattle.libc_print.proofs.Printing.{then_passes}
 use Rattle.libc_print.proofs.Running.{loud}
 use Rattle.libc_print.proofs.Ending.{passes_then}
@@ -146,7 +146,7 @@ past_short : (b : Bool) (bytes : List ℕ) (e : LibAnswer) (r : Result (Unit {0}
 past_short true bytes e r rows s err h = (cc, refl)
 past_short false bytes e r rows s err h = absurd (cc)
 
-pub too_long : {A B : Type 0} (seen : B → List ℕ) (m : Kept) (io : Io) (old new end : List Item) (a : ℕ) (p : Prov) (as' : List Argument) (bytes : List ℕ)
+pub too_long : {B : Type 0} (seen : B → List ℕ) (m : Kept) (io : Io) (old new end : List Item) (a : ℕ) (p : Prov) (as' : List Argument) (bytes : List ℕ)
     (e : LibAnswer) (r : Result (Unit {0}) LibAnswer) → Gives false (List ℕ) m io old new (printed_text m.rows a p as') bytes → r ≡ Err e →
     r ≡ cond (nat_lt (2 ^ 24) (length bytes)) (Err (answers.Outside PastOutput (length bytes))) (Ok tt) →
     Prints seen (Err e) m io old end (short_text m.rows a p as')
@@ -173,6 +173,29 @@ short_enough m io old new a p as' bytes r g ok h =
 pub array_is : (rows : List Row) (n a : ℕ) (p : Prov) → (n == 0) ≡ false → target_at rows n a p ≡ array rows n (pointer a p)
 array_is rows zero a p e = absurd (cc)
 array_is rows (suc n) a p e = refl
+
+abbrev pub at_place : List Row → Option ℕ → LibValue → List ℕ → Script formatted.Placed
+at_place rows most to bytes = array rows (room most (length bytes)) to >>= (λ at. Give (record { bytes = bytes; at = at }))
+
+pub no_place : {C : Type 0} (seen : C → formatted.Placed) (e : LibAnswer) (m : Kept) (io : Io) (old mid end new : List Item) (a : ℕ) (p : Prov)
+    (as' : List Argument) (most : Option ℕ) (to : LibValue) (bytes : List ℕ) → Gives false (List ℕ) m io old mid (short_text m.rows a p as') bytes →
+    Follows true (accessed_if m) (Err e) m io mid end (array m.rows (room most (length bytes)) to) →
+    Prints seen (Err e) m io old new (placed m.rows most to (pointer a p) as')
+no_place seen e m io old mid end new a p as' most to bytes g h =
+    prints_then seen (Err e) m io old mid new (short_text m.rows a p as') bytes (at_place m.rows most to) g
+    (prints_fails seen (accessed_if m) e m io mid end new (array m.rows (room most (length bytes)) to) (λ at. Give (record { bytes = bytes; at = at }))
+    (follows_prints (accessed_if m) (Err e) m io mid end (array m.rows (room most (length bytes)) to) h))
+
+pub place_gives : (m : Kept) (io : Io) (old mid new : List Item) (a : ℕ) (p : Prov) (as' : List Argument) (most : Option ℕ) (to : LibValue)
+    (bytes : List ℕ) (target : Option Range) → Gives false (List ℕ) m io old mid (short_text m.rows a p as') bytes →
+    Gives true (Option Accessed) m io mid new (array m.rows (room most (length bytes)) to) (accessed_if m target) →
+    Gives false formatted.Placed m io old new (placed m.rows most to (pointer a p) as') (record { bytes = bytes; at = accessed_if m target })
+place_gives m io old mid new a p as' most to bytes target g h =
+    then_gives false false (List ℕ) formatted.Placed m io old mid new (short_text m.rows a p as') bytes (at_place m.rows most to)
+    (record { bytes = bytes; at = accessed_if m target }) g
+    (then_gives true false (Option Accessed) formatted.Placed m io mid new new (array m.rows (room most (length bytes)) to) (accessed_if m target)
+    (λ at. Give (record { bytes = bytes; at = at })) (record { bytes = bytes; at = accessed_if m target }) h
+    (gives_at_once false formatted.Placed m io new (record { bytes = bytes; at = accessed_if m target })))
 
 -- ---- a script with its items
 then_noted : {V : Type 0} (i : Item) (act : Act V) →
@@ -336,7 +359,9 @@ text_written rows most p is js s u e w =
 -- as many bytes are stored as there is room for
 pub ended_length : (n : ℕ) (bytes : List ℕ) → n ≤ suc (length bytes) → length (ended n bytes) ≡ n
 ended_length zero bytes h = refl
-ended_length (suc n) bytes h = ?
+ended_length (suc n) bytes h =
+    let front : length (take n bytes) ≡ n = length-take-le n bytes (omega (arith, h)) in
+    length-append (take n bytes) (0 ∷ []) ∙ ap (λ (k : ℕ). k + 1) front ∙ omega arith
 
 pub room_fits : (most : Option ℕ) (n : ℕ) → room most n ≤ suc n
 room_fits None n = search arith
@@ -399,3 +424,22 @@ store_fails seen (answers.Outside c n) m io is most script h =
     (sym (passes_then (Noted formatted.Placed) LibValue m.rows (store_of m io) (noting script) (store_text most) c n
     (run_noting m.rows script (store_of m io) ∙ ap noted h))) (refl, refl)
 store_fails seen e m io is most script h = absurd h
+
+-- ---- the definition of sprintf
+array_pointer : (rows : List Row) (n : ℕ) (v : LibValue) → array rows n (pointer_in v) ≡ array rows n v
+array_pointer rows zero v = refl
+array_pointer rows (suc n) v = refl
+
+placed_pointer : (rows : List Row) (most : Option ℕ) (v f : LibValue) (as' : List Argument) → placed rows most (pointer_in v) f as' ≡ placed rows most v f as'
+placed_pointer rows most v f as' = λ i. formatted.short_text rows f as' >>=
+    (λ bytes. array_pointer rows (room most (length bytes)) v i >>= (λ at. Give (record { bytes = bytes; at = at })))
+
+pub stored_called : (rows : List Row) (vs : List LibValue) (i j : ℕ) (most : Option ℕ) (as' : List Argument) (a b : ℕ) (p q : Prov) (s t : Store)
+    (is : List Item) (e : LibAnswer) → pointer a p ≡ pointer_in (argument_at vs i) → pointer b q ≡ pointer_in (argument_at vs j) →
+    Answers e is t (limited (run rows (storing most (placed rows most (pointer a p) (pointer b q) as')) s)) →
+    Answers e is t (stored_by rows most (argument_at vs i) (argument_at vs j) as' s)
+stored_called rows vs i j most as' a b p q s t is e to format h =
+    subst (λ (x : Script formatted.Placed). Answers e is t (limited (run rows (storing most x) s)))
+    (placed_pointer rows most (argument_at vs i) (argument_at vs j) as')
+    (subst (λ (f : LibValue). Answers e is t (limited (run rows (storing most (placed rows most (pointer_in (argument_at vs i)) f as')) s))) format
+    (subst (λ (v : LibValue). Answers e is t (limited (run rows (storing most (placed rows most v (pointer b q) as')) s))) to h))

@@ -25,7 +25,6 @@ complaint_called rows vs i as' a p s t is e same h =
     subst (λ (b : ℕ). Answers e is t (limited (run rows (printing none_shown (short_text rows b (prov_in (argument_at vs i)) as')) s))) q.0
     (subst (λ (r : Prov). Answers e is t (limited (run rows (printing none_shown (short_text rows a r as')) s))) q.1 h)
 
-
 pub to_output : (rows : List Row) (z : ℤ) (format : LibValue) (as' : List Argument) (s t : Store) (is : List Item) (e : LibAnswer) →
     int_eq z (pos 1) ≡ true → Answers e is t (printed_by rows format as' s) → Answers e is t (printed_to_by rows z format as' s)
 to_output rows z format as' s t is e one h =

@@ -1,11 +1,11 @@
 -- What sprintf stores, as the code has it, against the parts of its script.
-use Rattle.std.specs.Prelude.{ℕ, Bool, false, List, length, Option, Some, None}
+use Rattle.std.specs.Prelude.{ℕ, Bool, false, List, Option, Some, None}
 use Rattle.ub_base.specs.declared.names.Item.{Item}
-use Rattle.addr_map.specs.declared.map.Row.{Row}
-use Rattle.mem_spec.specs.Script.{Script, Act, Done, Raised, Ended, Outside, Unplaced}
+use Rattle.mem_spec.specs.Script.{Script, ◌>>=◌, Act, Done, Raised, Ended, Outside, Unplaced}
 use Rattle.prov_memory.specs.Memory.{Kept}
 use Rattle.libc_spec.specs.Formatted as formatted
-use Rattle.libc_spec.specs.Formatted.{Noted, touches_any}
+use Rattle.libc_spec.specs.Library.{LibValue}
+use Rattle.libc_spec.specs.Formatted.{Noted, noting, touches_any, store_text}
 use Rattle.libc_model.specs.declared.arguments.Range.{Range}
 use Rattle.libc_model.specs.Parts.{accessed_if}
 use Rattle.libc_print.specs.declared.stored.Placed.{Placed}
@@ -25,3 +25,7 @@ noted (Raised c) = Raised c
 noted (Ended n is s) = Ended n is s
 noted (Outside c n) = Outside c n
 noted Unplaced = Unplaced
+
+-- what a script gives is stored
+abbrev pub storing : Option ℕ → Script formatted.Placed → Script LibValue
+storing most script = noting script >>= store_text most

@@ -1,6 +1,6 @@
 // sprintf and snprintf (7.21.6.5, 7.21.6.6).
 
-ghost use Rattle.std.specs.Prelude.{◌≡◌, ◌<◌, ◌^◌, length, take, drop, [], false, List, Some, None, Ok, Err, IsTrue, IfOk, IfSome, OnErr, if◌then◌else◌};
+ghost use Rattle.std.specs.Prelude.{◌≡◌, ◌<◌, ◌^◌, length, take, drop, [], true, false, List, Some, None, Ok, Err, IsTrue, IfOk, IfSome, OnErr, if◌then◌else◌};
 ghost use Rattle.ub_base.specs.declared.clause.Clause.TheVariants.{LibraryArgument};
 ghost use Rattle.ub_base.specs.Names.{same_object};
 ghost use Rattle.addr_map.specs.declared.map.Row.{Row};
@@ -8,7 +8,7 @@ ghost use Rattle.c_types.specs.declared.kind.IntKind.TheVariants.{ULong};
 ghost use Rattle.c_types.specs.Kinds.{holds};
 ghost use Rattle.libc_spec.specs.Library.{argument_at, integer_in, size_of_value};
 ghost use Rattle.libc_spec.specs.Formatted as formatted;
-ghost use Rattle.libc_spec.specs.Formatted.{array, ended, noting, placed, room, store_text, stored_by, touches, touches_any};
+ghost use Rattle.libc_spec.specs.Formatted.{array, ended, placed, room, stored_by, touches, touches_any};
 ghost use Rattle.libc_model.specs.Answers.{AreWithin, Answers, HaveCells, answer_in, gives_value};
 ghost use Rattle.libc_model.specs.Parts.{Follows, Gives, accessed_if};
 ghost use Rattle.libc_model.specs.Seen.{pointer_seen, values_seen};
@@ -16,8 +16,8 @@ ghost use Rattle.libc_model.specs.Writes.{FillsRange, IsPlace};
 ghost use Rattle.libc_print.specs.Seen.{typed};
 ghost use Rattle.libc_print.specs.Calls.{limited};
 ghost use Rattle.libc_print.specs.Runs.{Prints};
-ghost use Rattle.libc_print.specs.Stored.{overlaps, placed_seen};
-ghost use Rattle.mem_spec.specs.Script.{Script, ◌>>=◌, run};
+ghost use Rattle.libc_print.specs.Stored.{overlaps, placed_seen, storing};
+ghost use Rattle.mem_spec.specs.Script.{Script, run};
 ghost use Rattle.mem_spec.specs.Streams.{Io};
 ghost use Rattle.prov_memory.specs.Memory.{AreKnown, HasCell, store_of};
 
@@ -60,7 +60,7 @@ pub struct Placed {
 }
 
 // The text, and where as much of it is stored as there is room for.
-fn placed(
+fn place(
     alloc: Global,
     most: Option<u64>,
     to: Pointer,
@@ -146,7 +146,7 @@ fn put_in(
 ) -> Result<Value, LibAnswer>
     requires place { IfSome placed.now.target (IsPlace m.old addr) }
     requires fills { FillsRange (room most (length placed.now.text.items)) placed.now.target }
-    ensures exact { (script : List Row → Script formatted.Placed) (io : Io) → AreWithin io → Gives false formatted.Placed m.old io [] t.old (script m.old.rows) (placed_seen m.old placed.now) → Answers (answer_in result) t.new (store_of m.new io) (limited (run m.new.rows (noting (script m.new.rows) >>= store_text most) (store_of m.old io))) }
+    ensures exact { (script : List Row → Script formatted.Placed) (io : Io) → AreWithin io → Gives false formatted.Placed m.old io [] t.old (script m.old.rows) (placed_seen m.old placed.now) → Answers (answer_in result) t.new (store_of m.new io) (limited (run m.new.rows (storing most (script m.new.rows)) (store_of m.old io))) }
     ensures known { AreKnown m.old → AreKnown m.new }
     ensures same { OnErr result (m.new ≡ m.old) }
 {
@@ -175,7 +175,17 @@ fn stored(
     ensures same { OnErr result (m.new ≡ m.old) }
 {
     let to = pointer_at(args, 0);
-    let placed = placed(alloc, most, to, pointer_at(args, at), args, types, first, m, t)?;
+    let placed = place(
+        alloc,
+        most,
+        to,
+        pointer_at(args, at),
+        args,
+        types,
+        first,
+        m,
+        t,
+    )?;
     put_in(alloc, most, to.addr, &placed, m, t)
 }
 

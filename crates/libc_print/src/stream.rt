@@ -1,11 +1,11 @@
 // fprintf (7.21.6.1).
 
-ghost use Rattle.std.specs.Prelude.{◌≡◌, ◌>>=◌, drop, false, OnErr, Ok, Err, nat_lt, ◌^◌, if◌then◌else◌};
+ghost use Rattle.std.specs.Prelude.{◌≡◌, [], drop, false, OnErr, Ok, Err, nat_lt, ◌^◌, if◌then◌else◌};
 ghost use Rattle.std.specs.Ordering.{int_eq};
 ghost use Rattle.ub_base.specs.declared.clause.Cause.TheVariants.{Output};
 ghost use Rattle.prov_memory.specs.declared.answer.LibAnswer.TheVariants as answers;
 ghost use Rattle.libc_spec.specs.Library.{argument_at, integer_in};
-ghost use Rattle.libc_spec.specs.Formatted.{complaint, printed_to_by, short};
+ghost use Rattle.libc_spec.specs.Formatted.{complaint, printed_to_by};
 ghost use Rattle.libc_model.specs.Answers.{AreWithin, Answers, HaveCells, answer_in, gives_value};
 ghost use Rattle.libc_model.specs.Seen.{values_seen};
 ghost use Rattle.libc_print.specs.Seen.{typed};
@@ -42,7 +42,15 @@ pub fn format_to(
     ensures streams { gives_value result ≡ false → io.new ≡ io.old }
 {
     t.clear();
-    match written(alloc, int_at(args.as_slice(), 0), args.as_slice(), types, m, io, t) {
+    match written(
+        alloc,
+        int_at(args.as_slice(), 0),
+        args.as_slice(),
+        types,
+        m,
+        io,
+        t,
+    ) {
         Ok(value) => LibAnswer::Value(value),
         Err(answer) => answer,
     }

@@ -9,7 +9,7 @@ use Rattle.libc_model.specs.Parts.{Gives}
 use Rattle.libc_model.proofs.Finishing.{cell_of}
 use Rattle.libc_print.specs.Seen.{typed}
 use Rattle.libc_print.specs.Runs.{Prints, printed_text}
-use Rattle.std.proofs.Common.{refl}
+use Rattle.std.proofs.Common.{length, ap}
 use Rattle.libc_print.specs.Calls.{all_shown}
 use Rattle.libc_print.proofs.Ending.{printf_called, print_fails}
 use Rattle.libc_print.proofs.printf.printed.Goals as goal
@@ -36,7 +36,7 @@ returns-clause-exact c = λ within cells.
     (answer_in c.put_out.result) c.pointer_at.ensures
     (c.put_out.ensures.exact
     (λ rows. printed_text rows c.pointer_at.result.addr c.pointer_at.result.prov (drop c.args.first (typed c.args.args.now c.args.types.now)))
-    all_shown c.in_ok-text.text.items within c.as_slice.ensures.value ?
+    all_shown c.in_ok-text.text.items within c.as_slice.ensures.value (ap length c.as_slice-2.ensures.value)
     (subst (λ (is : List Item). Gives false (List ℕ) c.args.m.now c.args.io.now is c.printed_text.new.t
     (printed_text c.args.m.now.rows c.pointer_at.result.addr c.pointer_at.result.prov (drop c.args.first (typed c.args.args.now c.args.types.now)))
     c.in_ok-text.text.items) c.requires

@@ -1,0 +1,15 @@
+use Rattle.std.proofs.Common.{ℕ, Some, drop, subst}
+use Rattle.prov_memory.specs.Memory.{store_of}
+use Rattle.libc_spec.specs.Library.{argument_at}
+use Rattle.libc_spec.specs.Formatted.{stored_by}
+use Rattle.libc_model.specs.Answers.{Answers}
+use Rattle.libc_model.specs.Seen.{values_seen}
+use Rattle.libc_print.specs.Seen.{typed}
+use Rattle.libc_print.proofs.stored.format_within.Goals as goal
+
+pub returns-in-Err-clause-exact : goal.returns-in-Err-clause-exact
+returns-in-Err-clause-exact c = λ io within size cells.
+    subst (λ (n : ℕ). Answers c.in-Err.answer c.stored.new.t (store_of c.stored.new.m io)
+    (stored_by c.stored.new.m.rows (Some n) (argument_at (values_seen c.args.args.now) 0) (argument_at (values_seen c.args.args.now) 2)
+    (drop 3 (typed c.args.args.now c.args.types.now)) (store_of c.args.m.now io)))
+    ((rw c.as_slice.ensures at c.size_at.ensures) size) ((rw c.as_slice-2.ensures at c.in-Err.ensures.exact) io within cells)
