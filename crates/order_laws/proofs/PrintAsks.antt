@@ -222,29 +222,33 @@ fprintf_asks rows z format as' bs =
     (printf_asks rows format as' bs)
     (when rows (int_eq z (pos 2)) (complaint rows format as') (Raise LibraryArgument) bs Anything (complaint_asks rows format as' bs) tt)
 
+-- one more item is noted
+note_on : {V : Type 0} → (rows : List Row) (i : Item) (x : Script V) (bs : List Item) (Q : V → List Item → Type 0)
+    → Post {V = Noted V} rows (noting x) bs (λ n cs. Q n.value cs)
+    → Post {V = Noted V} rows (noting x >>= (λ n. Give (record { value = n.value; items = i ∷ n.items }))) bs (λ n cs. Q n.value cs)
+note_on {V = V} rows i x bs Q h =
+    bind {A = Noted V} {B = Noted V} rows (noting x) (λ n. Give (record { value = n.value; items = i ∷ n.items })) bs (λ n cs. Q n.value cs)
+    (λ n cs. Q n.value cs) h (λ n cs m q. q)
+
 -- a script with its items does so as without them
 note_asks : {V : Type 0} → (rows : List Row) (x : Script V) (bs : List Item) (Q : V → List Item → Type 0) → Post rows x bs Q
-    → Post rows (noting x) bs (λ n cs. Q n.value cs)
-note_on : {V : Type 0} → (rows : List Row) (i : Item) (x : Script V) (bs : List Item) (Q : V → List Item → Type 0) → Post rows x bs Q
-    → Post rows (noting x >>= (λ n. Give (record { value = n.value; items = i ∷ n.items }))) bs (λ n cs. Q n.value cs)
-note_on rows i x bs Q h = bind rows (noting x) (λ n. Give (record { value = n.value; items = i ∷ n.items })) bs (λ n cs. Q n.value cs)
-    (λ n cs. Q n.value cs) (note_asks rows x bs Q h) (λ n cs m q. q)
+    → Post {V = Noted V} rows (noting x) bs (λ n cs. Q n.value cs)
 note_asks rows (Give v) bs Q h = h
 note_asks rows (Raise c) bs Q h = tt
 note_asks rows (Finish n) bs Q h = h
 note_asks rows (Exceed c n) bs Q h = tt
 note_asks rows Misplace bs Q h = tt
-note_asks rows (Do (Get x a n) f) bs Q h = (h.0, (λ r. note_on rows (Read x a n) (f r) (Read x a n ∷ bs) Q (h.1 r)))
+note_asks rows (Do (Get x a n) f) bs Q h = (h.0, (λ r. note_on rows (Read x a n) (f r) (Read x a n ∷ bs) Q (note_asks rows (f r) (Read x a n ∷ bs) Q (h.1 r))))
 note_asks rows (Do (Put x a cs) f) bs Q h =
-    (h.0, (λ r. note_on rows (Write x a (length cs)) (f r) (Write x a (length cs) ∷ bs) Q (h.1 r)))
-note_asks rows (Do (Ask x) f) bs Q h = λ r. note_on rows (Alive x) (f r) (Alive x ∷ bs) Q (h r)
-note_asks rows (Do (Bear x size kind declared) f) bs Q h = (h.0, (λ r. note_on rows (Born x) (f r) (Born x ∷ bs) Q (h.1 r)))
-note_asks rows (Do (Bury x) f) bs Q h = λ r. note_on rows (Dies x) (f r) (Dies x ∷ bs) Q (h r)
-note_asks rows (Do (Show x) f) bs Q h = λ r. note_on rows (Expose x) (f r) (Expose x ∷ bs) Q (h r)
-note_asks rows (Do (Find a) f) bs Q h = λ r. note_on rows (Lookup a) (f r) (Lookup a ∷ bs) Q (h r)
-note_asks rows (Do (Settle id x c) f) bs Q h = λ r. note_on rows (Narrow id x) (f r) (Narrow id x ∷ bs) Q (h r)
-note_asks rows (Do Take f) bs Q h = λ r. note_on rows Input (f r) (Input ∷ bs) Q (h r)
-note_asks rows (Do (Print cs) f) bs Q h = λ r. note_on rows Output (f r) (Output ∷ bs) Q (h r)
+    (h.0, (λ r. note_on rows (Write x a (length cs)) (f r) (Write x a (length cs) ∷ bs) Q (note_asks rows (f r) (Write x a (length cs) ∷ bs) Q (h.1 r))))
+note_asks rows (Do (Ask x) f) bs Q h = λ r. note_on rows (Alive x) (f r) (Alive x ∷ bs) Q (note_asks rows (f r) (Alive x ∷ bs) Q (h r))
+note_asks rows (Do (Bear x size kind declared) f) bs Q h = (h.0, (λ r. note_on rows (Born x) (f r) (Born x ∷ bs) Q (note_asks rows (f r) (Born x ∷ bs) Q (h.1 r))))
+note_asks rows (Do (Bury x) f) bs Q h = λ r. note_on rows (Dies x) (f r) (Dies x ∷ bs) Q (note_asks rows (f r) (Dies x ∷ bs) Q (h r))
+note_asks rows (Do (Show x) f) bs Q h = λ r. note_on rows (Expose x) (f r) (Expose x ∷ bs) Q (note_asks rows (f r) (Expose x ∷ bs) Q (h r))
+note_asks rows (Do (Find a) f) bs Q h = λ r. note_on rows (Lookup a) (f r) (Lookup a ∷ bs) Q (note_asks rows (f r) (Lookup a ∷ bs) Q (h r))
+note_asks rows (Do (Settle id x c) f) bs Q h = λ r. note_on rows (Narrow id x) (f r) (Narrow id x ∷ bs) Q (note_asks rows (f r) (Narrow id x ∷ bs) Q (h r))
+note_asks rows (Do Take f) bs Q h = λ r. note_on rows Input (f r) (Input ∷ bs) Q (note_asks rows (f r) (Input ∷ bs) Q (h r))
+note_asks rows (Do (Print cs) f) bs Q h = λ r. note_on rows Output (f r) (Output ∷ bs) Q (note_asks rows (f r) (Output ∷ bs) Q (h r))
 
 array_asks : (rows : List Row) (n : ℕ) (v : LibValue) (bs : List Item) → Post rows (array rows n v) bs OptKnown
 array_asks rows zero v bs = tt
@@ -255,7 +259,7 @@ array_asks rows (suc n) v bs =
     (λ u ds m2 z. opt_more at cs ds m2 k))
 
 placed_asks : (rows : List Row) (most : Option ℕ) (to format : LibValue) (as' : List Argument) (bs : List Item)
-    → Post rows (placed rows most to format as') bs (λ p cs. OptKnown p.at cs)
+    → Post {V = Placed} rows (placed rows most to format as') bs (λ p cs. OptKnown p.at cs)
 placed_asks rows most to format as' bs =
     bind rows (short_text rows format as') (λ out. array rows (room most (length out)) to >>= (λ at. Give (record { bytes = out; at = at }))) bs Anything
     (λ p cs. OptKnown p.at cs) (short_asks rows format as' bs)
