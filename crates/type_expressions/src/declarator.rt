@@ -7,6 +7,7 @@ use c_lex::Word;
 use c_typed::Slot;
 use c_types::{FuncTy, Qual, Shared, Ty, copied_qual};
 use std::alloc::Global;
+use type_limits::is_within;
 use type_operators::{Form, Operand, Reason, qualified};
 use type_scope::{Meaning, Source, State, TypeFault, placed};
 use ub_base::Items;
@@ -206,7 +207,7 @@ fn derived_by(
 }
 
 /// The type that the parts of a declarator make of the type in front of it. The part next to the name, which is the first of
-/// them, is derived last (6.7.6p4).
+/// them, is derived last (6.7.6p4). It is within the limits of types (own).
 pub fn derived(
     source: &Source<'_>,
     state: &State,
@@ -214,12 +215,18 @@ pub fn derived(
     base: Qual,
     at: u32,
 ) -> Result<Qual, TypeFault> {
+    if parts.is_empty() {
+        return Ok(base);
+    }
     let mut parts = parts;
     let mut qual = base;
     for _ in 0..parts.len() {
         if let Some(part) = parts.pop() {
             qual = derived_by(source, state, part, qual, at)?;
         }
+    }
+    if !is_within(&qual.ty) {
+        return Err(source.fault(at, Reason::TypeTooHigh));
     }
     Ok(qual)
 }

@@ -28,7 +28,7 @@ abbrev mutual
 
 -- the greatest height, and the most parts, of a type that is declared
 abbrev pub height_limit : ℕ
-height_limit = 1000
+height_limit = 2000
 
 abbrev pub parts_limit : ℕ
 parts_limit = 4096

@@ -5,11 +5,11 @@ ghost use Rattle.type_limits.specs.Limits.{height_limit, parts_limit, is_within,
 
 use c_types::{FuncTy, Qual, Ty};
 
-const HEIGHT_LIMIT: u32 = 1000;
+const HEIGHT_LIMIT: u32 = 2000;
 
 const PARTS_LIMIT: u32 = 4096;
 
-/// Whether the type is at most 1,000 high and has at most 4,096 parts. No more parts are looked at than the limit allows, and the
+/// Whether the type is at most 2,000 high and has at most 4,096 parts. No more parts are looked at than the limit allows, and the
 /// call goes no deeper than the limit of the height.
 pub fn is_within(ty: &Ty) -> bool
     ensures test { result ≡ is_within (type_of ty.now) }

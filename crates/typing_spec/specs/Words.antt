@@ -17,6 +17,7 @@ use Rattle.c_ast.specs.declared.declaration.Base.TheBlock.{Tagged', Base-Tagged-
 use Rattle.type_name_space.specs.Scopes.{visible, at_depth}
 use Rattle.typing_spec.specs.Seen.{SeenMember, SeenTag}
 use Rattle.typing_spec.specs.Tags.{is_complete, names, are_distinct, completed}
+use Rattle.type_limits.specs.Limits.{is_within}
 use Rattle.typing_spec.specs.Env.{Env, Typing, if_found, ◌>>=◌, ◌>>◌, pure, refuse, known, knowing, found, holds, an_object, a_typedef}
 use Rattle.typing_spec.specs.Env.{Meaning, TagMeaning, a_tag, an_enumeration, symbol_of, spelling}
 use Rattle.typing_spec.specs.Names.{meaning_in, declare}
@@ -230,10 +231,17 @@ derived_by tags q (pointer_to c restricted) =
 derived_by tags q (array_of count) = array_with tags q count
 derived_by tags q (function_of params variadic) = function_with q.ty params variadic
 
+-- each derived type is within the limits of types (own)
+abbrev pub limited_type : Qualified → Option Qualified
+limited_type q = if is_within q.ty then Some q else None
+
+abbrev pub limited : Option Qualified → Option Qualified
+limited q = if_found q limited_type
+
 -- the type that a declarator makes of the type in front of it: the part next to the name is derived last (6.7.6p4)
 abbrev pub derived : List SeenTag → List Derivation → Qualified → Option Qualified
 derived tags [] q = Some q
-derived tags (d ∷ ds) q = if_found (derived_by tags q d) (derived tags ds)
+derived tags (d ∷ ds) q = if_found (limited (derived_by tags q d)) (derived tags ds)
 
 -- how many elements an array type says, if it says so
 abbrev pub count_of : CType → Option ℕ
