@@ -175,7 +175,7 @@ pub fn list_node(
             }
         }
     }
-    add_rest(state, object, &taken, &choices, &mut bytes)?;
+    add_rest(state, object, &taken, &choices, &mut bytes, line)?;
     Ok(Typed {
         node: Node::List {
             object: slot,
@@ -187,21 +187,22 @@ pub fn list_node(
     })
 }
 
-// Adds the zeros of what the list doesn't name.
+// Adds the zeros of what the list on this line doesn't name.
 fn add_rest(
     state: &State,
     object: &Qual,
     taken: &[(u64, u64)],
     choices: &[(u64, u32, u64)],
     bytes: &mut Items<Constant>,
-) -> Result<(), NoMemory> {
+    line: u32,
+) -> Result<(), TypeFault> {
     let mut zeros = Zeros {
         taken,
         choices,
         runs: Vec::new(state.alloc),
     };
-    add_zeros(state, &object.ty, &mut zeros)?;
-    push_runs(&zeros.runs, bytes)
+    add_zeros(state, &object.ty, &mut zeros, line)?;
+    Ok(push_runs(&zeros.runs, bytes)?)
 }
 
 /// The constants of an object with static storage.

@@ -3,7 +3,8 @@
 use crate::cursor::Choice;
 use c_typed::{Constant, Content};
 use c_types::{Member, Ty};
-use type_scope::State;
+use type_operators::Reason;
+use type_scope::{State, TypeFault};
 use ub_base::{Items, NoMemory};
 
 /// The zeros of an object: its bytes that are taken already, as (start, end) in order; the members of unions that are named,
@@ -15,7 +16,7 @@ pub struct Zeros<'a> {
     pub runs: Vec<(u64, u64)>,
 }
 
-// How many parts of an object are visited at most; more count as want of memory.
+// How many parts of an object are visited at most (own).
 const MOST_PARTS: u32 = 0x200_0000;
 
 impl Zeros<'_> {
@@ -122,9 +123,15 @@ struct Parts<'s> {
     count: u64,
 }
 
-/// Adds the zeros of an object of this type. The parts that are still to be visited stand in a list, the first last, so
-/// structures one inside the other cost none of the host's stack.
-pub fn add_zeros(state: &State, ty: &Ty, zeros: &mut Zeros<'_>) -> Result<(), NoMemory> {
+/// Adds the zeros of an object of this type, whose list stands on this line; an object with too many parts is refused (own).
+/// The parts that are still to be visited stand in a list, the first last, so structures one inside the other cost none of
+/// the host's stack.
+pub fn add_zeros(
+    state: &State,
+    ty: &Ty,
+    zeros: &mut Zeros<'_>,
+    line: u32,
+) -> Result<(), TypeFault> {
     let mut left = Vec::new(state.alloc);
     left.push(Parts {
         ty,
@@ -146,7 +153,10 @@ pub fn add_zeros(state: &State, ty: &Ty, zeros: &mut Zeros<'_>) -> Result<(), No
             open(state, parts.ty, parts.offset, &mut left, zeros)?;
         }
     }
-    Err(NoMemory)
+    Err(TypeFault::NotTyped {
+        line,
+        reason: Reason::ListTooLong,
+    })
 }
 
 // Adds the zeros of a part that has no parts, or puts those that it has on the list.
