@@ -199,7 +199,8 @@ added rows marks count kept numbers row at marked =
     }
 
 by_start : (rows : List frames.Row) (marks : List Bool) (count : ℕ) (kept now : List frames.Row) (numbers : List ℕ) (row : frames.Row) (f : ℕ)
-    → slice_get rows count ≡ Some row → is_marked marks (suc count) ≡ true → IsStarted kept now (moved numbers row) f → Step rows marks count kept now numbers f
+    → slice_get rows count ≡ Some row → is_marked marks (suc count) ≡ true → IsStarted kept now (moved numbers row) f →
+    Step rows marks count kept now numbers f
 by_start rows marks count kept now numbers row f at marked (inl is) =
     subst (λ n. Step rows marks count kept n numbers f) (sym is.0) (found rows marks count kept numbers row f at is.1 is.2)
 by_start rows marks count kept now numbers row f at marked (inr is) =

@@ -71,7 +71,12 @@ pub fn check_target(m: &Memory, target: Option<Range>) -> Result<(), Clause>
 }
 
 /// The range of a pointer argument that is written to.
-pub fn target_of(m: &Memory, to: Pointer, len: u64, t: &mut Touched) -> Result<Option<Range>, LibAnswer>
+pub fn target_of(
+    m: &Memory,
+    to: Pointer,
+    len: u64,
+    t: &mut Touched,
+) -> Result<Option<Range>, LibAnswer>
     ensures follows { (io : Io) → HasCell m.now to.prov → Follows true (accessed_if m.now) result m.now io t.old t.new (target_at m.now.rows len to.addr to.prov) }
     ensures range { IfOk result (IsRange len) }
     ensures place { IfOk result (λ target. IfSome target (IsPlace m.now to.addr)) }

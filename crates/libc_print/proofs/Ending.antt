@@ -179,7 +179,8 @@ printf_is rows format as' s =
 
 pub printf_called : (rows : List Row) (vs : List LibValue) (i : ℕ) (as' : List Argument) (a : ℕ) (p : Prov) (s t : Store) (is : List Item) (e : LibAnswer) →
     pointer a p ≡ pointer_in (argument_at vs i) →
-    Answers e is t (limited (run rows (printing all_shown (printed_text rows a p as')) s)) → Answers e is t (limited (run rows (printf rows (argument_at vs i) as') s))
+    Answers e is t (limited (run rows (printing all_shown (printed_text rows a p as')) s)) →
+    Answers e is t (limited (run rows (printf rows (argument_at vs i) as') s))
 printf_called rows vs i as' a p s t is e same h =
     let q = address_is a (address_in (argument_at vs i)) p (prov_in (argument_at vs i)) same in
     subst (λ (act : Act LibValue). Answers e is t (limited act)) (printf_is rows (argument_at vs i) as' s)

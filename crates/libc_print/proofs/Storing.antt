@@ -394,7 +394,8 @@ store_gives m new io is js most script bytes target r within fills g ok h rows m
     let size = ended_length (room most (length bytes)) bytes (room_fits most (length bytes)) in
     let filled : FillsRange (length (ended (room most (length bytes)) bytes)) target = subst (λ (n : ℕ). FillsRange n target) (sym size) fills in
     let act : run new.rows (noting (script new.rows) >>= store_text most) (store_of m io)
-    ≡ Done (number (pos (length bytes))) (g.items ++ write_items target) (overwritten target (ended (room most (length bytes)) bytes) (after is (store_of m io))) =
+    ≡ Done (number (pos (length bytes))) (g.items ++ write_items target)
+    (overwritten target (ended (room most (length bytes)) bytes) (after is (store_of m io))) =
     stores m new.rows io is most script p rows g
     ∙ ap (behind g.items) (text_written m.rows most p g.items (write_items target) (after is (store_of m io))
     (overwritten target (ended (room most (length bytes)) bytes) (after is (store_of m io))) apart

@@ -242,7 +242,8 @@ note_asks rows (Do (Get x a n) f) bs Q h = (h.0, (λ r. note_on rows (Read x a n
 note_asks rows (Do (Put x a cs) f) bs Q h =
     (h.0, (λ r. note_on rows (Write x a (length cs)) (f r) (Write x a (length cs) ∷ bs) Q (note_asks rows (f r) (Write x a (length cs) ∷ bs) Q (h.1 r))))
 note_asks rows (Do (Ask x) f) bs Q h = λ r. note_on rows (Alive x) (f r) (Alive x ∷ bs) Q (note_asks rows (f r) (Alive x ∷ bs) Q (h r))
-note_asks rows (Do (Bear x size kind declared) f) bs Q h = (h.0, (λ r. note_on rows (Born x) (f r) (Born x ∷ bs) Q (note_asks rows (f r) (Born x ∷ bs) Q (h.1 r))))
+note_asks rows (Do (Bear x size kind declared) f) bs Q h =
+    (h.0, (λ r. note_on rows (Born x) (f r) (Born x ∷ bs) Q (note_asks rows (f r) (Born x ∷ bs) Q (h.1 r))))
 note_asks rows (Do (Bury x) f) bs Q h = λ r. note_on rows (Dies x) (f r) (Dies x ∷ bs) Q (note_asks rows (f r) (Dies x ∷ bs) Q (h r))
 note_asks rows (Do (Show x) f) bs Q h = λ r. note_on rows (Expose x) (f r) (Expose x ∷ bs) Q (note_asks rows (f r) (Expose x ∷ bs) Q (h r))
 note_asks rows (Do (Find a) f) bs Q h = λ r. note_on rows (Lookup a) (f r) (Lookup a ∷ bs) Q (note_asks rows (f r) (Lookup a ∷ bs) Q (h r))

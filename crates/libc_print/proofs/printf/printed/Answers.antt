@@ -18,7 +18,8 @@ pub returns-in_err-text-clause-exact : goal.returns-in_err-text-clause-exact
 returns-in_err-text-clause-exact c =
     let p = err_from_is_err_and c.from_residual.result c.from_residual.ensures.1 in
     rw (p.1, p.2) (λ within cells.
-    printf_called c.args.m.now.rows (values_seen c.args.args.now) c.args.at (drop c.args.first (typed c.args.args.now c.args.types.now)) c.pointer_at.result.addr
+    printf_called c.args.m.now.rows (values_seen c.args.args.now) c.args.at (drop c.args.first (typed c.args.args.now c.args.types.now))
+    c.pointer_at.result.addr
     c.pointer_at.result.prov (store_of c.args.m.now c.args.io.now) (store_of c.args.m.now c.args.io.now) c.printed_text.new.t c.in_err-text.field-0.0
     c.pointer_at.ensures
     (print_fails (λ (v : Vec ℕ Global). v.items) c.in_err-text.field-0.0 c.args.m.now c.args.io.now c.printed_text.new.t

@@ -10,7 +10,8 @@ pub returns-in_err-range : goal.returns-in_err-range
 returns-in_err-range c =
     let p = err_from_is_err_and c.from_residual.result c.from_residual.ensures.1 in
     rw (p.1, p.2) (λ io cell cells. no_format (λ (v : Vec ℕ Global). v.items) c.in_err-range.field-0.0 c.args.m.now io c.args.t.now c.check_string.new.t
-    c.check_string.new.t c.args.pointer.addr c.args.pointer.prov (drop c.args.first (typed c.args.args.now c.args.types.now)) (c.in_err-range.ensures.follows io cell))
+    c.check_string.new.t c.args.pointer.addr c.args.pointer.prov (drop c.args.first (typed c.args.args.now c.args.types.now))
+    (c.in_err-range.ensures.follows io cell))
 
 pub returns-in_err-format : goal.returns-in_err-format
 returns-in_err-format c =

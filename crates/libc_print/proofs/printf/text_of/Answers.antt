@@ -21,7 +21,8 @@ pub returns-in_default : goal.returns-in_default
 returns-in_default c = λ io cells.
     let e : c.loop-turn.rest.now ≡ [] = none_left c.loop-turn.rest.now c.in_default.ensures.cases in
     leads_done c.args.m.now io (length c.args.format.now) c.loop-turn._turn (length c.args.format.now - length c.loop-turn.rest.now)
-    (text_of (suc (length c.args.format.now)) c.args.m.now.rows 0 c.args.format.now (drop c.args.first (typed c.args.values.now c.args.types.now))) c.args.t.now
+    (text_of (suc (length c.args.format.now)) c.args.m.now.rows 0 c.args.format.now (drop c.args.first (typed c.args.values.now c.args.types.now)))
+    c.args.t.now
     c.loop-turn.t c.loop-turn.out.items c.loop-turn.rest.now (left c.loop-turn.args) (search (arith, c.loop-turn.auto)) e
     (c.loop-turn.invariant.leads io cells)
 
@@ -32,7 +33,8 @@ returns-in_err-len c =
     rw (p.1, p.2) (λ io cells.
     leads_fails (λ (v : Vec ℕ Global). v.items) c.args.m.now io (length c.args.format.now) c.loop-turn._turn
     (length c.args.format.now - length c.loop-turn.rest.now) c.in-Some.byte.now c.in_err-len.field-0.0
-    (text_of (suc (length c.args.format.now)) c.args.m.now.rows 0 c.args.format.now (drop c.args.first (typed c.args.values.now c.args.types.now))) c.args.t.now
+    (text_of (suc (length c.args.format.now)) c.args.m.now.rows 0 c.args.format.now (drop c.args.first (typed c.args.values.now c.args.types.now)))
+    c.args.t.now
     c.loop-turn.t c.put_next.new.t c.loop-turn.out.items c.put_next.new.out.items c.loop-turn.rest.now c.in-Some.cs.now
     (left c.loop-turn.args) (left c.put_next.new.args) c.loop-turn-test.true refl d (c.loop-turn.invariant.leads io cells)
     (c.in_err-len.ensures.exact io (subst (λ (vs : List Value). HaveCells c.args.m.now (values_seen vs)) (sym c.loop-turn.invariant.values) cells)))
@@ -48,7 +50,8 @@ loop-turn-preserved c =
       values = ap (λ r. r.now) c.in_ok-len.ensures.values ∙ c.loop-turn.invariant.values;
       leads = λ io cells. leads_turn c.args.m.now io (length c.args.format.now) c.loop-turn._turn (length c.args.format.now - length c.loop-turn.rest.now)
           c.in-Some.byte.now c.in_ok-len.len
-          (text_of (suc (length c.args.format.now)) c.args.m.now.rows 0 c.args.format.now (drop c.args.first (typed c.args.values.now c.args.types.now))) c.args.t.now
+          (text_of (suc (length c.args.format.now)) c.args.m.now.rows 0 c.args.format.now (drop c.args.first (typed c.args.values.now c.args.types.now)))
+          c.args.t.now
           c.loop-turn.t c.put_next.new.t c.loop-turn.out.items c.put_next.new.out.items c.loop-turn.rest.now c.in-Some.cs.now c.behind-rest.result.now
           (left c.loop-turn.args) (left c.put_next.new.args) c.loop-turn-test.true c.loop-turn.invariant.fits small refl d b
           (c.loop-turn.invariant.leads io cells)
@@ -60,6 +63,7 @@ returns c = λ io cells.
     let z : length c.loop-turn.rest.now ≡ 0 = search (arith, c.loop-turn.invariant.fits, c.loop-turn-test.false) in
     let e : c.loop-turn.rest.now ≡ [] = none_left c.loop-turn.rest.now z in
     leads_done c.args.m.now io (length c.args.format.now) c.loop-turn._turn (length c.args.format.now - length c.loop-turn.rest.now)
-    (text_of (suc (length c.args.format.now)) c.args.m.now.rows 0 c.args.format.now (drop c.args.first (typed c.args.values.now c.args.types.now))) c.args.t.now
+    (text_of (suc (length c.args.format.now)) c.args.m.now.rows 0 c.args.format.now (drop c.args.first (typed c.args.values.now c.args.types.now)))
+    c.args.t.now
     c.loop-turn.t c.loop-turn.out.items c.loop-turn.rest.now (left c.loop-turn.args) (search (arith, c.loop-turn.invariant.fits)) e
     (c.loop-turn.invariant.leads io cells)
