@@ -1,0 +1,25 @@
+-- What conversions and comparisons of pointers do, as a node's act has it (6.3.2.3, 6.5.8).
+use Rattle.std.specs.Prelude.{ℕ, pos}
+use Rattle.ub_base.specs.declared.names.Event.{Event}
+use Rattle.ub_base.specs.declared.clause.Clause.TheVariants.{PointerAlignment}
+use Rattle.c_types.specs.declared.kind.IntKind.{IntKind}
+use Rattle.c_arith.specs.Operators.{conv}
+use Rattle.c_typed.specs.declared.tree.RelOp.{RelOp}
+use Rattle.mem_spec.specs.Script.{Script, Give, require, ◌>>=◌, ◌>>◌}
+use Rattle.mem_spec.specs.Acts.{is_aligned, expose, from_int, less}
+use Rattle.c_model.specs.Values.{Value, Int, Ptr, Pointer, pointer_value}
+use Rattle.c_model.specs.Nodes.{bool_value, in_order}
+
+-- the number of a pointer's address
+abbrev pub exposed_act : IntKind → Pointer → Script Value
+exposed_act kind p = expose p.prov >> Give (Int (conv kind (pos p.address)))
+
+-- the pointer that an address makes
+abbrev pub found_act : Event → ℕ → Script Value
+found_act who a = from_int who a >>= (λ prov. Give (Ptr a prov))
+
+abbrev pub aligned_act : ℕ → Pointer → Script Value
+aligned_act align p = require (is_aligned align p.address) PointerAlignment >> Give (pointer_value p)
+
+abbrev pub less_act : RelOp → Pointer → Pointer → Script Value
+less_act op p q = less p.prov q.prov >> Give (bool_value (in_order op (pos p.address) (pos q.address)))
