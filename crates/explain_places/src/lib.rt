@@ -1,0 +1,18 @@
+//! Where things stand in a text: columns, files, lines, and the tokens of an expression.
+#![tactic(auto)]
+
+mod brackets;
+mod declared;
+mod extent;
+mod functions;
+mod operand;
+mod operators;
+mod places;
+mod renumber;
+
+pub use brackets::close_of;
+pub use declared::declaration_of;
+pub use extent::{Extent, extent_of};
+pub use functions::function_of;
+pub use places::{FileName, column_of, file_of, line_end, line_start};
+pub use renumber::{one_a_line, token_of};
