@@ -1,6 +1,6 @@
 -- Lemmas on the lives of objects where items take effect.
-use Rattle.std.proofs.Common.{◌≡◌, ℕ, zero, suc, ◌+◌, ◌<◌, Bool, true, false, ◌||◌, drop, List, [], ◌∷◌, length, refl, ap, sym, subst, ◌∙◌, arith}
-use Rattle.std.specs.Prelude.{slice_index_or}
+use Rattle.std.proofs.Common.{◌≡◌, ℕ, zero, suc, ◌+◌, ◌<◌, Bool, true, false, ◌||◌, drop, List, [], ◌∷◌, length, refl, ap, sym, subst, ◌∙◌, arith, Ok, Err}
+use Rattle.std.specs.Prelude.{slice_index_or, Result, OnErr}
 use Rattle.ub_base.specs.declared.names.Item.{Item}
 use Rattle.ub_base.specs.declared.names.Item.TheVariants.{Expose}
 use Rattle.ub_base.specs.declared.names.ObjName.{ObjName}
@@ -8,6 +8,8 @@ use Rattle.exposure.specs.declared.prov.Prov.TheVariants.{Whole}
 use Rattle.mem_spec.specs.Store.{Store, shown}
 use Rattle.mem_spec.specs.Script.{Done, run}
 use Rattle.mem_spec.specs.Acts.{expose}
+use Rattle.prov_memory.specs.Keeps.{Keeps}
+use Rattle.prov_memory.proofs.KeepLemmas.{keeps_none, keeps_then}
 use Rattle.prov_memory.specs.Held.{held_of}
 use Rattle.mem_spec.specs.Streams.{Io}
 use Rattle.prov_memory.specs.Memory.{Kept, life_in, store_of}
@@ -37,9 +39,10 @@ pub record SettlesAlive (old now : Kept) (all rest : List Item) : Type 0 where
   pub settles : SettlesRest old now all rest
   pub lives : LiveOn old now
   pub tagged : has_expose all ≡ false → AreTagged old → AreTagged now
+  pub keeps : Keeps old now
 
 pub alive_all : (m : Kept) (is : List Item) → SettlesAlive m m is is
-alive_all m is = record { settles = settles_all m is; lives = λ x. refl; tagged = λ none h. h }
+alive_all m is = record { settles = settles_all m is; lives = λ x. refl; tagged = λ none h. h; keeps = keeps_none m }
 
 or_false_left : (a b : Bool) → a || b ≡ false → a ≡ false
 or_false_left true b h = absurd (cc)
@@ -59,9 +62,15 @@ narrow_tagged m new e h = subst (λ (k : Kept). ObjectsTagged (length k.types) k
 
 pub alive_on : (old now new : Kept) (all : List Item) (k : ℕ) (d : Item) → k < length all → SettlesAlive old now all (drop k all) →
     IsSettled now new (slice_index_or all k d) → LiveOn now new →
-    (is_expose (slice_index_or all k d) ≡ false → AreTagged now → AreTagged new) → SettlesAlive old new all (drop (k + 1) all)
-alive_on old now new all k d h r one lives tagged = record {
+    (is_expose (slice_index_or all k d) ≡ false → AreTagged now → AreTagged new) → Keeps now new → SettlesAlive old new all (drop (k + 1) all)
+alive_on old now new all k d h r one lives tagged keeps = record {
   settles = settles_on old now new all k d h r.settles one;
   lives = λ x. lives x ∙ r.lives x;
   tagged = λ none t. tagged (exposes_none all k d h none) (r.tagged none t);
+  keeps = keeps_then old now new r.keeps keeps;
 }
+
+-- what is kept by one call and then by another, where the second fails
+pub failed_after : {V E : Type 0} (r : Result V E) (a b c : Kept) → Keeps a b → Keeps b c → OnErr r (Keeps a c)
+failed_after (Ok v) a b c h g = tt
+failed_after (Err e) a b c h g = keeps_then a b c h g

@@ -3,6 +3,7 @@ ghost use Rattle.std.specs.Prelude.{◌≡◌, ℕ, ◌++◌, ◌∷◌, List, [
 ghost use Rattle.addr_map.specs.declared.map.Row.{Row};
 ghost use Rattle.ub_base.specs.declared.names.Item.TheVariants.{Expose};
 ghost use Rattle.mem_spec.specs.Acts.{Seen, candidates, declared_of, stored_from};
+ghost use Rattle.prov_memory.specs.Keeps.{Keeps};
 ghost use Rattle.prov_memory.specs.Cells.{plain_cell};
 ghost use Rattle.prov_memory.specs.Held.{held_of};
 ghost use Rattle.mem_spec.specs.Store.{with_bytes};
@@ -245,6 +246,7 @@ fn take_effect(m: &mut Memory, item: Item, scratch: &mut Touched)
     ensures settled { IsSettled m.old m.new item }
     ensures lives { LiveOn m.old m.new }
     ensures tagged { is_expose item ≡ false → AreTagged m.old → AreTagged m.new }
+    ensures keeps { Keeps m.old m.new }
 {
     match item {
         Item::Narrow { id, keep } => {
@@ -262,6 +264,7 @@ pub fn settle(m: &mut Memory, t: &Touched, scratch: &mut Touched)
     ensures known { AreKnown m.old → AreKnown m.new }
     ensures lives { LiveOn m.old m.new }
     ensures tagged { has_expose t.now ≡ false → AreTagged m.old → AreTagged m.new }
+    ensures keeps { Keeps m.old m.new }
 {
     settle_each(m, t.items(), scratch);
 }
@@ -270,6 +273,7 @@ fn settle_each(m: &mut Memory, items: &[Item], scratch: &mut Touched)
     ensures settled { AreSettled m.old m.new items.now }
     ensures lives { LiveOn m.old m.new }
     ensures tagged { has_expose items.now ≡ false → AreTagged m.old → AreTagged m.new }
+    ensures keeps { Keeps m.old m.new }
 {
     for item in items {
         take_effect(m, *item, scratch);

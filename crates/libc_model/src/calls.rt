@@ -4,6 +4,7 @@ ghost use Rattle.c_types.specs.declared.library.LibFunc.TheVariants.{Malloc, Fre
 ghost use Rattle.ub_base.specs.declared.clause.Cause.TheVariants.{Output};
 ghost use Rattle.addr_map.specs.declared.map.Row.{Row};
 ghost use Rattle.mem_spec.specs.Script.{Script, run};
+ghost use Rattle.prov_memory.specs.Keeps.{Keeps};
 ghost use Rattle.prov_memory.specs.Memory.{Kept, AreKnown, HasCell, store_of};
 ghost use Rattle.mem_spec.specs.Streams.{Io};
 ghost use Rattle.prov_memory.specs.declared.answer.LibAnswer.TheVariants as answers;
@@ -47,6 +48,7 @@ pub fn call(
     ensures same { leaves_all result f ≡ true → (m.new ≡ m.old) × (io.new ≡ io.old) }
     ensures within { AreWithin io.old → AreWithin io.new }
     ensures streams { gives_value result ≡ false → io.new ≡ io.old }
+    ensures failed { gives_value result ≡ false → Keeps m.old m.new }
 {
     t.clear();
     match value_of(alloc, f, args.as_slice(), who, m, io, t) {
@@ -74,6 +76,7 @@ fn value_of(
     ensures same { leaves_all (answer_in result) f ≡ true → (m.new ≡ m.old) × (io.new ≡ io.old) }
     ensures within { AreWithin io.old → AreWithin io.new }
     ensures streams { OnErr result (io.new ≡ io.old) }
+    ensures failed { OnErr result (Keeps m.old m.new) }
 {
     match f {
         LibFunc::Malloc => heap::allocate(size_at(args, 0), who, m, t),

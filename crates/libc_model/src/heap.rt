@@ -5,6 +5,7 @@ ghost use Rattle.ub_base.specs.declared.clause.Cause.TheVariants.{Created};
 ghost use Rattle.ub_base.specs.declared.names.Item.TheVariants.{Read, Born, Alive, Write, Dies};
 ghost use Rattle.exposure.specs.declared.prov.Prov.TheVariants.{Whole, Either};
 ghost use Rattle.exposure.specs.Cells.{has_cell, kept_in, is_other};
+ghost use Rattle.prov_memory.specs.Keeps.{Keeps};
 ghost use Rattle.prov_memory.specs.declared.answer.LibAnswer.TheVariants as answers;
 ghost use Rattle.mem_spec.specs.Acts.{Seen, create, base_in, size_in, stored_from};
 ghost use Rattle.prov_memory.specs.Held.{held_of};
@@ -92,6 +93,7 @@ fn created(m: &mut Memory, name: ObjName, size: u64, t: &mut Touched) -> Result<
     ensures born { IfOk result (λ new. IsBorn m.old m.new name new.addr size 16 heap_kind None) }
     ensures known { AreKnown m.old → OnOk result (AreKnown m.new) }
     ensures same { OnErr result (result ≢ Err answers.NoMemory → m.new ≡ m.old) }
+    ensures keeps { Keeps m.old m.new }
 {
     let kind = ObjKind {
         heap: true,
@@ -113,6 +115,7 @@ pub fn allocate(size: u64, who: Event, m: &mut Memory, t: &mut Touched) -> Resul
     ensures exact { (io : Io) → AreKnown m.old → Does given_value result t.new (store_of m.new io) (created_within size (store_of m.old io) (run m.new.rows (malloc m.new.rows who size) (store_of m.old io))) }
     ensures known { AreKnown m.old → OnOk result (AreKnown m.new) }
     ensures same { OnErr result (result ≢ Err answers.NoMemory → m.new ≡ m.old) }
+    ensures failed { OnErr result (Keeps m.old m.new) }
 {
     t.clear();
     let Some(size) = given(u128::from(size)) else {
@@ -137,6 +140,7 @@ pub fn allocate_zeros(
     ensures exact { (io : Io) → are_sizes (values_seen args.now) (0 ∷ 1 ∷ []) ≡ true → AreKnown m.old → Above 16777216 m.old.rows → Does given_value result t.new (store_of m.new io) (created_within (asked Calloc (values_seen args.now)) (store_of m.old io) (run m.new.rows (calloc m.new.rows who (asked Calloc (values_seen args.now))) (store_of m.old io))) }
     ensures known { AreKnown m.old → OnOk result (AreKnown m.new) }
     ensures same { OnErr result (result ≢ Err answers.NoMemory → m.new ≡ m.old) }
+    ensures failed { OnErr result (Keeps m.old m.new) }
 {
     zeroed(
         alloc,
@@ -159,6 +163,7 @@ fn zeroed(
     ensures exact { (io : Io) → AreKnown m.old → Above 16777216 m.old.rows → Does given_value result t.new (store_of m.new io) (created_within size (store_of m.old io) (run m.new.rows (calloc m.new.rows who size) (store_of m.old io))) }
     ensures known { AreKnown m.old → OnOk result (AreKnown m.new) }
     ensures same { OnErr result (result ≢ Err answers.NoMemory → m.new ≡ m.old) }
+    ensures failed { OnErr result (Keeps m.old m.new) }
 {
     let Some(size) = given(size) else {
         return Ok(Pointer::NULL.value());
@@ -343,6 +348,7 @@ pub fn reallocate(
     ensures exact { (io : Io) → IsCall Realloc (values_seen args.now) m.old io → Does given_value result t.new (store_of m.new io) (created_within (asked Realloc (values_seen args.now)) (store_of m.old io) (run m.new.rows (library m.new.rows Realloc (values_seen args.now) who) (store_of m.old io))) }
     ensures known { AreKnown m.old → OnOk result (AreKnown m.new) }
     ensures same { OnErr result (result ≢ Err answers.NoMemory → m.new ≡ m.old) }
+    ensures failed { OnErr result (Keeps m.old m.new) }
 {
     change_size(alloc, pointer_at(args, 0), size_at(args, 1), who, m, t)
 }
@@ -360,6 +366,7 @@ fn change_size(
     ensures exact { (io : Io) → CanMove m.old → HasCell m.old pointer.prov → Does given_value result t.new (store_of m.new io) (created_within size (store_of m.old io) (run m.new.rows (realloc m.new.rows who pointer.addr pointer.prov size) (store_of m.old io))) }
     ensures known { AreKnown m.old → OnOk result (AreKnown m.new) }
     ensures same { OnErr result (result ≢ Err answers.NoMemory → m.new ≡ m.old) }
+    ensures failed { OnErr result (Keeps m.old m.new) }
 {
     if pointer.addr == 0 {
         return allocate(size, who, m, t);
@@ -402,6 +409,7 @@ fn resize(
     ensures exact { (io : Io) → CanMove m.old → HasCell m.old pointer.prov → Does given_value result t.new (store_of m.new io) (created_within size (store_of m.old io) (run m.new.rows (resized m.new.rows who pointer.addr pointer.prov size) (store_of m.old io))) }
     ensures known { AreKnown m.old → OnOk result (AreKnown m.new) }
     ensures same { OnErr result (result ≢ Err answers.NoMemory → m.new ≡ m.old) }
+    ensures failed { OnErr result (Keeps m.old m.new) }
 {
     let Some((object, settles)) = heap_start(m, pointer) else {
         return Err(LibAnswer::Raise(Clause::Realloc));
@@ -445,6 +453,7 @@ fn add_start(
 fn settle_start(m: &mut Memory, settles: Option<(Event, ObjName)>)
     ensures store { CanSettle m.old.cells settles → (io : Io) → store_of m.new io ≡ after_settling settles (store_of m.old io) }
     ensures rest { record m.new { cells = [] } ≡ record m.old { cells = [] } }
+    ensures keeps { Keeps m.old m.new }
 {
     if let Some((id, keep)) = settles {
         let _ = m.narrow(id, keep);
@@ -469,6 +478,7 @@ fn move_to(
     ensures items { OnOk result (t.new ≡ t.old ++ (Read object 0 (min (size_in (row_of m.old.rows object)) size) ∷ Born name ∷ Alive name ∷ Write name 0 (min (size_in (row_of m.old.rows object)) size) ∷ Dies object ∷ [])) }
     ensures known { AreKnown m.old → OnOk result (AreKnown m.new) }
     ensures same { OnErr result (result ≢ Err answers.NoMemory → m.new ≡ m.old) }
+    ensures failed { OnErr result (Keeps m.old m.new) }
 {
     let len = size_in(m.map().row(object)).min(size);
     add_moved(object, len, name, t)?;

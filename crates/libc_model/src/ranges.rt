@@ -5,6 +5,7 @@ ghost use Rattle.ub_base.specs.declared.names.Event.{Event};
 ghost use Rattle.ub_base.specs.declared.clause.Clause.TheVariants.{MemcpyOverlap};
 ghost use Rattle.c_types.specs.declared.library.LibFunc.TheVariants.{Memset, Memcmp};
 ghost use Rattle.mem_spec.specs.Acts.{declared_of, retagged};
+ghost use Rattle.prov_memory.specs.Keeps.{Keeps};
 ghost use Rattle.prov_memory.specs.Held.{held_of};
 ghost use Rattle.mem_spec.specs.Streams.{Io};
 ghost use Rattle.prov_memory.specs.Memory.{AreKnown, CellsKnown, HasCell, life_in, store_of};
@@ -109,6 +110,7 @@ pub fn copied(
     ensures len { IfOk result (λ b. length b.cells ≡ range.len) }
     ensures pieces { IfOk result (λ b. AreKnown m.old → CellsKnown (length m.new.origins) b.cells) }
     ensures kept { OnOk result (IsKept m.old m.new) }
+    ensures keeps { Keeps m.old m.new }
 {
     match m.load_block(range.len, 1, addr, Prov::Whole(range.object), scratch) {
         Ok(block) => Ok(block),
@@ -168,6 +170,7 @@ pub fn copy(
     ensures exact { (io : Io) (who : Event) → IsCall (copy_function may_overlap) (values_seen args.now) m.old io → Answers (answer_in result) t.new (store_of m.new io) (called m.new.rows (copy_function may_overlap) (values_seen args.now) who (store_of m.old io)) }
     ensures known { AreKnown m.old → wants_memory (answer_in result) ≡ false → AreKnown m.new }
     ensures same { leaves_all (answer_in result) (copy_function may_overlap) ≡ true → m.new ≡ m.old }
+    ensures failed { OnErr result (Keeps m.old m.new) }
 {
     let to = pointer_at(args, 0);
     let from = pointer_at(args, 1);
@@ -203,6 +206,7 @@ fn move_bytes(
     ensures store { OnOk result ((io : Io) → has_expose t.old ≡ false → AreTagged m.old → CanFollow m.old.cells t.old (store_of m.old io) → store_of m.new io ≡ moved m.old ranges.target ranges.source (after t.old (store_of m.old io))) }
     ensures rows { OnOk result (m.new.rows ≡ m.old.rows) }
     ensures known { AreKnown m.old → OnOk result (AreKnown m.new) }
+    ensures failed { OnErr result (Keeps m.old m.new) }
 {
     let mut scratch = Touched::new(alloc)?;
     let Some((target, source)) = moving(ranges) else {

@@ -8,6 +8,8 @@ use Rattle.libc_model.proofs.Moving.{kept_known}
 use Rattle.libc_model.proofs.Making.{made_value}
 use Rattle.libc_model.proofs.Resizing.{made_as, unmade_as}
 use Rattle.libc_model.proofs.Carrying.{old_place, carried, but_known}
+use Rattle.prov_memory.proofs.KeepLemmas.{keeps_then}
+use Rattle.libc_model.proofs.Living.{failed_after}
 use Rattle.libc_model.proofs.heap.move_to.Goals as goal
 
 pub copied-requires : goal.copied-requires
@@ -67,3 +69,8 @@ returns-clause-known c = λ known.
     let there = but_known c.created.new.m c.settle_start.new.m c.settle_start.ensures.rest (c.in_ok-new.ensures.known known) in
     c.kill.ensures.known (c.fill.ensures.known (kept_known c.settle_start.new.m c.copied.new.m c.in_ok-block.ensures.kept there)
     (c.in_ok-block.ensures.pieces there))
+
+pub returns-in_err-block-clause-failed : goal.returns-in_err-block-clause-failed
+returns-in_err-block-clause-failed c =
+    failed_after c.from_residual-in_err-block.result c.args.m.now c.settle_start.new.m c.copied.new.m
+    (keeps_then c.args.m.now c.created.new.m c.settle_start.new.m c.created.ensures.keeps c.settle_start.ensures.keeps) c.copied.ensures.keeps

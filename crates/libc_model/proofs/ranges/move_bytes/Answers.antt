@@ -6,6 +6,7 @@ use Rattle.libc_model.specs.declared.arguments.Range.{Range}
 use Rattle.libc_model.specs.Writes.{IsPlace}
 use Rattle.libc_model.proofs.Writing.{place_stays}
 use Rattle.libc_model.proofs.Moving.{kept_place, moving_is, moved_noted, move_done}
+use Rattle.libc_model.proofs.Living.{failed_after}
 use Rattle.libc_model.proofs.ranges.move_bytes.Goals as goal
 
 pub put_over-requires-clause-place : goal.put_over-requires-clause-place
@@ -29,3 +30,7 @@ returns-clause-store c = λ io none typed able.
 
 pub returns-clause-rows : goal.returns-clause-rows
 returns-clause-rows c = c.put_over.ensures.rows ∙ ap (λ (m : Kept). m.rows) c.in_ok-block.ensures.kept ∙ c.settle-2.ensures.rows
+
+pub returns-in_err-block-clause-failed : goal.returns-in_err-block-clause-failed
+returns-in_err-block-clause-failed c =
+    failed_after c.from_residual-in_err-block.result c.args.m.now c.settle-2.new.m c.copied.new.m c.settle-2.ensures.keeps c.copied.ensures.keeps
