@@ -143,9 +143,6 @@ lex_refuses text LexFault.NoMemory refusal is why = absurd (no_memory_refuses_no
 abbrev pub SaysDeep : Result SyntaxTree ParseFault → ℕ → Type 0
 SaysDeep parsed count = 2000 < count → (parsed ≡ Err (ParseFault.TooDeep count)) ⊎ (parsed ≡ Err ParseFault.NoMemory)
 
-ok_is_no_fault : (unit : SyntaxTree) (fault : ParseFault) → ◌≡◌ {A = Result SyntaxTree ParseFault} (Ok unit) (Err fault) → ⊥
-ok_is_no_fault unit fault e = cc
-
 syntax_is_not_deep : (at count : ℕ) → ◌≡◌ {A = Result SyntaxTree ParseFault} (Err (ParseFault.Syntax at)) (Err (ParseFault.TooDeep count)) → ⊥
 syntax_is_not_deep at count e = cc
 
@@ -160,20 +157,9 @@ neither : {A B : Type 0} → (A → ⊥) → (B → ⊥) → A ⊎ B → ⊥
 neither a b (inl x) = a x
 neither a b (inr y) = b y
 
--- so what it takes, and what it refuses for its syntax, doesn't
-read_is_flat : (unit : SyntaxTree) (count : ℕ) → SaysDeep (Ok unit) count → count ≤ 2000
-read_is_flat unit count deep =
-    flat_or_beyond count (λ beyond. neither (ok_is_no_fault unit _) (ok_is_no_fault unit _) (deep beyond)) (cases_lt 2000 count)
-
 refused_is_flat : (at count : ℕ) → SaysDeep (Err (ParseFault.Syntax at)) count → count ≤ 2000
 refused_is_flat at count deep =
     flat_or_beyond count (λ beyond. neither (syntax_is_not_deep at count) (syntax_is_not_memory at) (deep beyond)) (cases_lt 2000 count)
-
--- a text whose tokens spell a tree has one
-pub has_tree : (tokens : TokenText) (parsed : Result SyntaxTree ParseFault) (unit : SyntaxTree) → lexed tokens.source ≡ Ok tokens.list → parsed ≡ Ok unit
-    → SaysDeep parsed (nest_of tokens.list) → SpellsUnit unit tokens → HasTree tokens.source
-has_tree tokens parsed unit are is deep spells =
-    (tokens, (refl, are, read_is_flat unit _ (subst (λ r. SaysDeep r (nest_of tokens.list)) is deep)), (unit, spells))
 
 pub has_no_tree : (tokens : TokenText) (parsed : Result SyntaxTree ParseFault) (at : ℕ) → lexed tokens.source ≡ Ok tokens.list
     → parsed ≡ Err (ParseFault.Syntax at) → SaysDeep parsed (nest_of tokens.list)
@@ -184,46 +170,6 @@ has_no_tree tokens parsed at are is deep none =
 -- a height within the limit is that of the program
 pub low : (height count : ℕ) → count ≡ min height (2 ^ 32 - 1) → count ≤ 1000 → height ≤ 1000
 low height count is within = omega arith
-
--- what a certificate is answered for a program that is run
-pub weighed_cause : (source text : List ℕ) (program : Program) (answer : Answer) → IsRunnable source program → WeighedCause text answer
-    → CertificateCause source text answer
-weighed_cause source text program (Clean s) runnable why = ((program, runnable), why)
-weighed_cause source text program (Undefined c l) runnable why = ((program, runnable), why)
-weighed_cause source text program (Found s b) runnable why = ((program, runnable), why)
-weighed_cause source text program (Generated m s b) runnable why = ((program, runnable), why)
-weighed_cause source text program (GeneratedRefused m r) runnable why = ((program, runnable), why)
-weighed_cause source text program (Checked v) runnable why = ((program, runnable), why)
-weighed_cause source text program (Bad b) runnable why = ((program, runnable), why)
-weighed_cause source text program Usage runnable why = ((program, runnable), why)
-weighed_cause source text program (TooLong role) runnable why = ((program, runnable), why)
-weighed_cause source text program (Refused r) runnable why = absurd why
-weighed_cause source text program CertificateTooLong runnable why = ((program, runnable), why)
-weighed_cause source text program NotKept runnable why = ((program, runnable), why)
-weighed_cause source text program ReadFault runnable why = ((program, runnable), why)
-weighed_cause source text program NoMemory runnable why = tt
-
--- the verdict on a unit is the answer to its text
-by_value : (request : AuditRequest) (before now : ℕ) (text : List ℕ) (line : ℕ) (answer : Answer) (found : Result ℤ Clause) → UsesForm request
-    → answer ≡ judged line found → HasVerdict text answer → TextCause request before now text answer
-by_value request before now text line answer (Ok z) uses is has =
-    subst (λ a. HasVerdict text a → TextCause request before now text a) (sym is) (λ v. (uses, v)) has
-by_value request before now text line answer (Err clause) uses is has =
-    subst (λ a. HasVerdict text a → TextCause request before now text a) (sym is) (λ v. (uses, v)) has
-
-pub form_cause : (request : AuditRequest) (before now : ℕ) (text : List ℕ) (answer : Answer) → UsesForm request → HasVerdict text answer
-    → TextCause request before now text answer
-form_cause request before now text answer uses has = by_value request before now text has.unit.line answer (value has.unit) uses has.is has
-
--- the verdict on a unit leaves the files
-by_value_leaves : (cert : Option (List ℕ)) (old new : Option Held) (line : ℕ) (answer : Answer) (found : Result ℤ Clause) → answer ≡ judged line found
-    → new ≡ old → Leaves cert old new answer
-by_value_leaves cert old new line answer (Ok z) is same = subst (λ a. Leaves cert old new a) (sym is) same
-by_value_leaves cert old new line answer (Err clause) is same = subst (λ a. Leaves cert old new a) (sym is) same
-
-pub form_leaves : (cert : Option (List ℕ)) (old new : Option Held) (text : List ℕ) (answer : Answer) → HasVerdict text answer → new ≡ old
-    → Leaves cert old new answer
-form_leaves cert old new text answer has same = by_value_leaves cert old new has.unit.line answer (value has.unit) has.is same
 
 -- files that stay are spared
 spares_self : (name : List ℕ) (held : Option Held) → Spares name held held
@@ -275,55 +221,6 @@ pub memory_cause : (words : List (List ℕ)) (old new : Disk) (answer : Answer) 
 memory_cause words old new answer (inl w) = inl (tt, w.1)
 memory_cause words old new answer (inr h) =
     inr (record { request = h.request; asked = h.asked; why = memory_request old new h.request answer h.why })
-
--- what is kept of a finding is the answer to its text
-pub kept_text : (request : AuditRequest) (before now : ℕ) (text : List ℕ) (s : ℕ) (bytes : List ℕ) (answer : Answer) → RunsWell request text
-    → IsFound request.steps s bytes → KeptCause s bytes before now answer → TextCause request before now text answer
-kept_text request before now text n bytes (Clean s) well found why = absurd why
-kept_text request before now text n bytes (Undefined c l) well found why = absurd why
-kept_text request before now text n bytes (Found s b) well found why =
-    (well, subst (λ m. IsFound request.steps m b) (sym why.0) (subst (λ r. IsFound request.steps n r) (sym why.1) found))
-kept_text request before now text n bytes (Generated m s b) well found why = absurd why
-kept_text request before now text n bytes (GeneratedRefused m r) well found why = absurd why
-kept_text request before now text n bytes (Checked v) well found why = absurd why
-kept_text request before now text n bytes (Bad b) well found why = absurd why
-kept_text request before now text n bytes Usage well found why = absurd why
-kept_text request before now text n bytes (TooLong role) well found why = absurd why
-kept_text request before now text n bytes (Refused r) well found why = absurd why
-kept_text request before now text n bytes CertificateTooLong well found why = well
-kept_text request before now text n bytes NotKept well found why = (well, why)
-kept_text request before now text n bytes ReadFault well found why = absurd why
-kept_text request before now text n bytes NoMemory well found why = tt
-
--- a text that was judged has the cause of its audit
-pub judged_audit : (old new : Disk) (request : AuditRequest) (answer : Answer) → IsJudged old new request answer → AuditCause old new request answer
-judged_audit old new request (Clean s) j = j
-judged_audit old new request (Undefined c l) j = j
-judged_audit old new request (Found s b) j = j
-judged_audit old new request (Generated m s b) j = j
-judged_audit old new request (GeneratedRefused m r) j = j
-judged_audit old new request (Checked v) j = j
-judged_audit old new request (Bad b) j = j
-judged_audit old new request Usage j = j
-judged_audit old new request (TooLong role) j = absurd j.why
-judged_audit old new request (Refused r) j = j
-judged_audit old new request CertificateTooLong j = j
-judged_audit old new request NotKept j = j
-judged_audit old new request ReadFault j = absurd j.why
-judged_audit old new request NoMemory j = tt
-
--- a file that stops an audit is its cause
-pub stopped_audit : (old new : Disk) (request : AuditRequest) (fault : FetchFault) (answer : Answer) → answer ≡ stopped fault → IsStopped old new request fault
-    → AuditCause old new request answer
-stopped_audit old new request Fault.ReadFault answer is stops = subst (AuditCause old new request) (sym is) stops
-stopped_audit old new request (Fault.TooLong role) answer is stops = subst (AuditCause old new request) (sym is) stops
-stopped_audit old new request Fault.NoMemory answer is stops = subst (AuditCause old new request) (sym is) tt
-
-pub stopped_leaves : (cert : Option (List ℕ)) (old new : Option Held) (fault : FetchFault) (answer : Answer) → answer ≡ stopped fault → new ≡ old
-    → Leaves cert old new answer
-stopped_leaves cert old new Fault.ReadFault answer is same = subst (Leaves cert old new) (sym is) same
-stopped_leaves cert old new (Fault.TooLong role) answer is same = subst (Leaves cert old new) (sym is) same
-stopped_leaves cert old new Fault.NoMemory answer is same = subst (Leaves cert old new) (sym is) (spares_others cert old new same)
 
 -- what is said of a generated text is said of its request
 pub generated_self : (request : SelfRequest) (source slice : List ℕ) (size : ℕ) (answer : Answer) → size ≡ length source → slice ≡ source

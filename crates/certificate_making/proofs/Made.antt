@@ -75,17 +75,6 @@ rows_same ns n (row ∷ rows) =
 event_same : (ns : List ℕ) (n : ℕ) (event : Event) → SameEvent event (renamed_event ns n event)
 event_same ns n event = record { turn = refl; node = refl; kind = refl }
 
-pair_same : (ns : List ℕ) (n : ℕ) (pair : Option (Event × Event)) → SamePair pair (renamed_pair ns n pair)
-pair_same ns n None = tt
-pair_same ns n (Some pair) = (event_same ns n pair.0, event_same ns n pair.1)
-
-pub claim_same : (ns : List ℕ) (n : ℕ) (claim : Claim) → SameClaim claim (renamed_claim ns n claim)
-claim_same ns n (Clean status output) = refl
-claim_same ns n (Undefined clause pair) = (refl, pair_same ns n pair)
-claim_same ns n (OrderDependent event against) = (event_same ns n event, event_same ns n against)
-claim_same ns n OutOfSteps = refl
-claim_same ns n (Outside cause limit) = refl
-
 -- ---- the frames that are named then
 
 name_frames_same : (ns : List ℕ) (n : ℕ) (name : ObjName) → name_frames (renamed_name ns n name) ≡ map (number ns n) (name_frames name)

@@ -227,17 +227,3 @@ numbers_more rows h marks count kept now numbers row f at is keeps =
     let k : IsKept (is_marked marks (suc count)) kept now (moved numbers row) f =
     subst (λ n. IsKept (is_marked marks (suc count)) kept now (frame_at n, row.1, row.2) f) e keeps in
     one_more rows h marks count kept now numbers f is (by_mark (is_marked marks (suc count)) rows marks count kept now numbers row f at refl k)
-
-nothing_within : (i : ℕ) → get_or (0 ∷ []) i 0 ≤ 0
-nothing_within zero = omega arith
-nothing_within (suc i) = omega arith
-
-pub none_yet : (rows : List frames.Row) (marks : List Bool) → IsNumbered rows marks 0 [] (0 ∷ [])
-none_yet rows marks = record {
-  size = refl;
-  few = omega arith;
-  main = refl;
-  within = nothing_within;
-  there = λ i row less marked at. absurd (omega arith);
-  only = λ i less. absurd (omega arith);
-}

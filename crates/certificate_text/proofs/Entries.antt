@@ -91,11 +91,6 @@ pub none_left : {A : Type 0} (xs : List A) → length xs ≤ 0 → xs ≡ []
 none_left [] le = refl
 none_left (x ∷ xs) le = absurd (omega arith)
 
--- rows are the first one and those behind it
-pub first_and_rest : (rows : List Row) (d : Row) → 0 < length rows → rows ≡ get_or rows 0 d ∷ drop 1 rows
-first_and_rest [] d some = absurd (omega arith)
-first_and_rest (row ∷ rows) d some = refl
-
 pub packs_all : (all rest : List Row) (items : List Data) → rest ≡ [] → ((entries : List Data) → Packs rest entries → Packs all (items ++ entries)) →
     Packs all items
 packs_all all rest items none so_far = subst (Packs all) (append-nil items) (so_far [] none)
@@ -207,14 +202,6 @@ value_depth c entries packs =
     omega arith
 
 -- ---- the members in order
-
-pub claim_members : (claim : Claim) (frames map order : Data) → with_claim claim (common frames map order) ≡ members claim frames map order
-unfolding serde_json_on_literals
-claim_members (Clean status output) frames map order = refl
-claim_members (Undefined clause pair) frames map order = refl
-claim_members (OrderDependent event against) frames map order = refl
-claim_members OutOfSteps frames map order = refl
-claim_members (Outside cause limit) frames map order = refl
 
 -- ---- lists of values and the text
 

@@ -56,9 +56,6 @@ pub segments_next : (d : Data) (ds : List Data) (order : List Segment) (segment 
     → behind order (segments_in (d ∷ ds)) ≡ behind (order ++ segment ∷ []) (segments_in ds)
 segments_next d ds order segment is = rw is (behind_one order segment (segments_in ds))
 
-pub segments_stop : (d : Data) (ds : List Data) (order : List Segment) → segment_in d ≡ None → behind order (segments_in (d ∷ ds)) ≡ None
-segments_stop d ds order is = rw is refl
-
 short_none : (b : Bool) (order : List Segment) → b ≡ false → cond b (Some order) None ≡ None
 short_none true order h = absurd (cc)
 short_none false order h = refl
@@ -71,12 +68,6 @@ too_many most order (Some more) many =
     let all = total_picks-append order more in
     let over : most < total_picks (order ++ more) = omega arith in
     short_none (nat_le (total_picks (order ++ more)) most) (order ++ more) (grind (arith, nat_tests, over))
-
-pub all_short : (most : ℕ) (order : List Segment) → total_picks order ≤ most →
-    (behind order (Some []) >>= kept (λ all. nat_le (total_picks all) most)) ≡ Some order
-all_short most order few =
-    let short : nat_le (total_picks order) most ≡ true = grind (arith, nat_tests, few) in
-    rw (append-nil order, short) refl
 
 -- a stretch was added
 pub segment_added : (xs : List Value) (i : ℕ) (x : Value) (order new : List Segment) (segment : Segment)

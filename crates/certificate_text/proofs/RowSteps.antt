@@ -50,14 +50,6 @@ behind_one : (taken : List Row) (row : Row) (rest : Option (List Row)) → behin
 behind_one taken row None = refl
 behind_one taken row (Some rows) = ap Some (sym (append_assoc taken (row ∷ []) rows))
 
-pub run_next : (first : Row) (stride : Stride) (at n : ℕ) (row : Row) (taken : List Row) → row_at first stride at ≡ Some row
-    → behind taken (run_rows first stride at (suc n)) ≡ behind (taken ++ row ∷ []) (run_rows first stride (at + 1) n)
-run_next first stride at n row taken is = rw is (behind_one taken row (run_rows first stride (at + 1) n))
-
-pub run_stops : (first : Row) (stride : Stride) (at n : ℕ) (taken : List Row) → row_at first stride at ≡ None →
-    behind taken (run_rows first stride at (suc n)) ≡ None
-run_stops first stride at n taken is = rw is refl
-
 len_by : (n : ℕ) (found : Option Row) (more : Option (List Row)) (rows : List Row) → (found >>= λ row. more >>= λ rest. Some (row ∷ rest)) ≡ Some rows
     → ((rest : List Row) → more ≡ Some rest → length rest ≡ n) → length rows ≡ suc n
 len_by n None more rows is len = absurd (cc)
@@ -81,14 +73,6 @@ too_long old n (Some rows) len many =
     let all = length-append old rows in
     let over : 4194304 < length (old ++ rows) = omega arith in
     grind (arith, nat_tests, over)
-
--- a run that is too long for the map
-pub run_too_long : (old : List Row) (first : Row) (stride : Stride) (n : ℕ) → 4194304 < length old + n → IsTooMuch Two old (run_rows first stride 0 n)
-run_too_long old first stride n many = too_long old n (run_rows first stride 0 n) (length-run_rows first stride 0 n) many
-
-pub too_much_none : (version : Version) (old : List Row) (made : Option (List Row)) → made ≡ None → IsTooMuch version old made
-too_much_none version old None is = tt
-too_much_none version old (Some rows) is = absurd (cc)
 
 -- ---- entries
 
@@ -118,13 +102,6 @@ too_much_by version rows (Some entry) (Some rest) much =
 pub rows_too_much : (version : Version) (count : ℕ) (d : Data) (ds : List Data) (rows : List Row) → IsTooMuch version rows (entry_in version count d)
     → (behind rows (rows_in version count (d ∷ ds)) >>= kept (has_few_rows version)) ≡ None
 rows_too_much version count d ds rows much = too_much_by version rows (entry_in version count d) (rows_in version count ds) much
-
-pub few_some : (version : Version) (rows : List Row) → has_few_rows version rows ≡ true → (behind rows (Some []) >>= kept (has_few_rows version)) ≡ Some rows
-few_some version rows few = rw (append-nil rows, few) refl
-
-pub few_nil : (version : Version) → has_few_rows version [] ≡ true
-few_nil One = refl
-few_nil Two = refl
 
 -- an entry was added
 pub entry_added : (version : Version) (count : ℕ) (xs : List Value) (i : ℕ) (x : Value) (rows new : List Row)

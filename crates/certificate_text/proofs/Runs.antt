@@ -167,15 +167,6 @@ first_at first stride row is =
     let base = kept_by (nat_lt (first.base + 0 * stride.step) (2 ^ 63)) (first.base + 0 * stride.step) row.base h.0 in
     same_row first row (sym (moved_none first.name (0 * stride.raise) row.name (omega arith) h.1)) (omega (arith, base)) h.2 h.3
 
--- the second row of a run shows its stride
-pub second_at : (first : Row) (stride : Stride) (row : Row) → row_at first stride 1 ≡ Some row
-    → (row.base ≡ first.base + stride.step) × (moving row.name ≡ moving first.name + stride.raise)
-second_at first stride row is =
-    let h = row_parts first stride 1 row is in
-    let base = kept_by (nat_lt (first.base + 1 * stride.step) (2 ^ 63)) (first.base + 1 * stride.step) row.base h.0 in
-    let name = moved_moving first.name (1 * stride.raise) row.name h.1 in
-    (omega (arith, base), omega (arith, name))
-
 -- ---- the longest run
 
 starts : (rows : List Row) (first : Row) (run : Run) → first ≡ get_or rows 0 first → BeginsWith rows run → 0 < run.count → run.first ≡ first

@@ -52,10 +52,6 @@ len_of_run p (b ∷ bs) rest each stops = rw each.0 (ap (λ n. 1 + n) (len_of_ru
 pub len_is : (p : ℕ → Bool) (part rest text : List ℕ) → text ≡ part ++ rest → IsRun p part rest → prefix_len p text ≡ length part
 len_is p part rest text is run = ap (prefix_len p) is ∙ len_of_run p part rest run.each run.stops
 
-pub each-append : (p : ℕ → Bool) (a b : List ℕ) → Each p a → Each p b → Each p (a ++ b)
-each-append p [] b x y = y
-each-append p (c ∷ cs) b x y = (x.0, each-append p cs b x.1 y)
-
 -- nothing or something is left
 pub some_left : (b : ℕ) (bs part rest : List ℕ) → b ∷ bs ≡ part ++ rest → 0 < length part → (others : List ℕ) × (part ≡ b ∷ others) × (bs ≡ others ++ rest)
 some_left b bs [] rest is some = absurd (omega arith)

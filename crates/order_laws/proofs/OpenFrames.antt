@@ -139,10 +139,6 @@ pub newer_of : (trace : List Entry) (d : Entry) (u : Place) (e : Entry) (v : Pla
 newer_of _ d u e v (newest _ _ es _ _ p h s t) = first d es u p
 newer_of _ d u e v (older c _ _ es _ _ b) = later c d es u (newer_of es d u e v b)
 
-pub older_of : (trace : List Entry) (d : Entry) (u : Place) (e : Entry) (v : Place) → Both trace d u e v → Has trace e v
-older_of _ d u e v (newest _ _ es _ _ p h s t) = later d e es v h
-older_of _ d u e v (older c _ _ es _ _ b) = later c e es v (older_of es d u e v b)
-
 pub one_frame : (trace : List Entry) (d : Entry) (u : Place) (e : Entry) (v : Place) → Both trace d u e v → (d.path ≡ e.path) × (d.turn ≡ e.turn)
 one_frame _ d u e v (newest _ _ es _ _ p h s t) = (path_is d.path e.path s, t)
 one_frame _ d u e v (older c _ _ es _ _ b) = one_frame es d u e v b
