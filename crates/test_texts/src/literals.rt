@@ -1,12 +1,12 @@
 // Constants and literals with their values, or with the fault. The expected values follow
 // ISO/IEC 9899:2011, 6.4.4.1, 6.4.4.4 and 6.4.5, by hand.
-use crate::rows::{Row, is_told};
+use crate::rows::Row;
 use c_lit::{char_value, int_value, string_bytes};
 use std::alloc::{AllocError, Global};
 use ub_base::Bytes;
 
 // 6.4.4.1p5; a constant too wide for every type of its list is refused.
-const INTEGERS: &[Row] = &[
+pub const INTEGERS: &[Row] = &[
     ("0", "0 Int"),
     ("7", "7 Int"),
     ("00", "0 Int"),
@@ -50,7 +50,7 @@ const INTEGERS: &[Row] = &[
 ];
 
 // 6.4.4.4; `char` is signed (own).
-const CHARACTERS: &[Row] = &[
+pub const CHARACTERS: &[Row] = &[
     ("'a'", "97"),
     ("'\"'", "34"),
     ("'\\''", "39"),
@@ -81,7 +81,7 @@ const CHARACTERS: &[Row] = &[
 ];
 
 // 6.4.5: the bytes between `<` and `>`; behind a fault, what was written before it.
-const STRINGS: &[Row] = &[
+pub const STRINGS: &[Row] = &[
     ("\"\"", "<>"),
     ("\"ab\"", "<ab>"),
     ("\"it's\"", "<it's>"),
@@ -97,7 +97,7 @@ const STRINGS: &[Row] = &[
     ("\"", "BadSuffix <"),
 ];
 
-fn integer(alloc: Global, text: &str) -> Result<String, AllocError> {
+pub fn integer(alloc: Global, text: &str) -> Result<String, AllocError> {
     match int_value(text.as_bytes()) {
         Ok(literal) => {
             let value = literal.value;
@@ -108,7 +108,7 @@ fn integer(alloc: Global, text: &str) -> Result<String, AllocError> {
     }
 }
 
-fn character(alloc: Global, text: &str) -> Result<String, AllocError> {
+pub fn character(alloc: Global, text: &str) -> Result<String, AllocError> {
     match char_value(text.as_bytes()) {
         Ok(value) => format!(in alloc; "{value}"),
         Err(fault) => format!(in alloc; "{fault:?}"),
@@ -116,7 +116,7 @@ fn character(alloc: Global, text: &str) -> Result<String, AllocError> {
 }
 
 // The bytes behind a `<` that stood there before, with a `>` behind them.
-fn string(alloc: Global, text: &str) -> Result<String, AllocError> {
+pub fn string(alloc: Global, text: &str) -> Result<String, AllocError> {
     let Ok(mut out) = Bytes::from_slice(alloc, b"<") else {
         return Err(AllocError);
     };
@@ -127,41 +127,4 @@ fn string(alloc: Global, text: &str) -> Result<String, AllocError> {
         Ok(()) => format!(in alloc; "{told}>"),
         Err(fault) => format!(in alloc; "{fault:?} {told}"),
     }
-}
-
-fn first_wrong_integer(alloc: Global, rows: &[Row]) -> Option<usize> {
-    for (i, row) in rows.iter().enumerate() {
-        let (text, want) = *row;
-        if !is_told(integer(alloc, text), want) {
-            return Some(i);
-        }
-    }
-    None
-}
-
-fn first_wrong_character(alloc: Global, rows: &[Row]) -> Option<usize> {
-    for (i, row) in rows.iter().enumerate() {
-        let (text, want) = *row;
-        if !is_told(character(alloc, text), want) {
-            return Some(i);
-        }
-    }
-    None
-}
-
-fn first_wrong_string(alloc: Global, rows: &[Row]) -> Option<usize> {
-    for (i, row) in rows.iter().enumerate() {
-        let (text, want) = *row;
-        if !is_told(string(alloc, text), want) {
-            return Some(i);
-        }
-    }
-    None
-}
-
-#[test]
-fn texts_have_their_values(rt: HostRuntime) {
-    assert_eq!(rt; first_wrong_integer(rt.alloc(), INTEGERS), None);
-    assert_eq!(rt; first_wrong_character(rt.alloc(), CHARACTERS), None);
-    assert_eq!(rt; first_wrong_string(rt.alloc(), STRINGS), None);
 }

@@ -1,11 +1,11 @@
 // Texts with their tokens, each as its kind, its span and its line, or with the fault. The expected values
 // follow ISO/IEC 9899:2011, 6.4, by hand.
-use crate::rows::{MOST, Row, is_told};
+use crate::rows::{MOST, Row};
 use c_lex::{Token, Tokens, lex};
 use std::alloc::{AllocError, Global};
 
 // Identifiers, keywords and punctuators (6.4.1, 6.4.2, 6.4.6).
-const WORDS_AND_PUNCTUATORS: &[Row] = &[
+pub const WORDS_AND_PUNCTUATORS: &[Row] = &[
     ("", ""),
     (
         "x+++++y",
@@ -65,7 +65,7 @@ const WORDS_AND_PUNCTUATORS: &[Row] = &[
 ];
 
 // Numbers (6.4.8), of which only integer constants (6.4.4.1) are read.
-const NUMBERS: &[Row] = &[
+pub const NUMBERS: &[Row] = &[
     (
         "0 00 07 0x1F 123u 5UL 6llu 7LLU 8lu 9Ull",
         "Number 0 1 1;Number 2 4 1;Number 5 7 1;Number 8 12 1;Number 13 17 1;Number 18 21 1;Number 22 26 1;Number 27 31 1;Number 32 35 1;Number 36 40 1;",
@@ -103,7 +103,7 @@ const NUMBERS: &[Row] = &[
 ];
 
 // Character constants and string literals (6.4.4.4, 6.4.5).
-const LITERALS: &[Row] = &[
+pub const LITERALS: &[Row] = &[
     (
         "'a' '\\'' '\\x41' ''",
         "CharLit 0 3 1;CharLit 4 8 1;CharLit 9 15 1;CharLit 16 18 1;",
@@ -124,7 +124,7 @@ const LITERALS: &[Row] = &[
 ];
 
 // Comments (6.4.9), line markers and pragmas (6.10.4, 6.10.6).
-const LINES: &[Row] = &[
+pub const LINES: &[Row] = &[
     (" \t\x0b\x0c\r\n", ""),
     ("a/*\n*/b//c\nd", "Name 0 1 1;Name 6 7 2;Name 11 12 3;"),
     ("a//", "Name 0 1 1;"),
@@ -167,7 +167,7 @@ fn tokens_told(alloc: Global, tokens: &Tokens<'_>) -> Result<String, AllocError>
     Ok(told)
 }
 
-fn told(alloc: Global, text: &str) -> Result<String, AllocError> {
+pub fn told(alloc: Global, text: &str) -> Result<String, AllocError> {
     let source = text.as_bytes();
     if source.len() > MOST {
         return Err(AllocError);
@@ -176,23 +176,4 @@ fn told(alloc: Global, text: &str) -> Result<String, AllocError> {
         Ok(tokens) => tokens_told(alloc, &tokens),
         Err(fault) => format!(in alloc; "{fault:?}"),
     }
-}
-
-/// The first row whose text has other tokens.
-fn first_wrong(alloc: Global, rows: &[Row]) -> Option<usize> {
-    for (i, row) in rows.iter().enumerate() {
-        let (text, want) = *row;
-        if !is_told(told(alloc, text), want) {
-            return Some(i);
-        }
-    }
-    None
-}
-
-#[test]
-fn texts_have_their_tokens(rt: HostRuntime) {
-    assert_eq!(rt; first_wrong(rt.alloc(), WORDS_AND_PUNCTUATORS), None);
-    assert_eq!(rt; first_wrong(rt.alloc(), NUMBERS), None);
-    assert_eq!(rt; first_wrong(rt.alloc(), LITERALS), None);
-    assert_eq!(rt; first_wrong(rt.alloc(), LINES), None);
 }

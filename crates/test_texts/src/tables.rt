@@ -1,6 +1,8 @@
 // Tables of texts, one a line.
 use crate::constraints::{Answer, answer_to, wanted};
-use crate::{jumps, scopes, specifiers};
+use crate::{
+    declarations, expressions, initializers, jumps, pointers, scopes, specifiers, statements, types,
+};
 use std::alloc::Global;
 use ub_base::NoMemory;
 
@@ -36,10 +38,10 @@ fn answered(alloc: Global, row: &str) -> Result<String, NoMemory> {
     }
 }
 
-/// The first row that should read otherwise, as it should; an empty text where there is none. A row is a paragraph, with another one
-/// behind a `:` where that is the one which the text breaks, the line on which its text isn't typed or 0 where it is typed, and the
-/// text, in which `$` ends a line.
-pub fn first_other(alloc: Global, rows: &str) -> Result<String, NoMemory> {
+// The first row that should read otherwise, as it should; an empty text where there is none. A row is a paragraph, with another one
+// behind a `:` where that is the one which the text breaks, the line on which its text isn't typed or 0 where it is typed, and the
+// text, in which `$` ends a line.
+fn first_other(alloc: Global, rows: &str) -> Result<String, NoMemory> {
     for row in rows.lines() {
         let given = if row.is_empty() {
             String::new(alloc)
@@ -55,7 +57,20 @@ pub fn first_other(alloc: Global, rows: &str) -> Result<String, NoMemory> {
 
 #[test]
 fn texts_are_typed_by_the_paragraph(rt: HostRuntime) -> Result<(), NoMemory> {
-    for rows in [scopes::ROWS, specifiers::ROWS, jumps::ROWS] {
+    for rows in [
+        expressions::POSTFIX,
+        expressions::ARITHMETIC,
+        expressions::COMPARISONS,
+        pointers::ROWS,
+        declarations::ROWS,
+        initializers::ROWS,
+        initializers::PARTS,
+        statements::ROWS,
+        scopes::ROWS,
+        specifiers::ROWS,
+        types::ROWS,
+        jumps::ROWS,
+    ] {
         let other = first_other(rt.alloc(), rows)?;
         assert_eq!(rt; other.as_str(), "");
     }

@@ -5,10 +5,6 @@ use c_resolve::{TypeFault, resolve};
 use c_typed::Program;
 use std::alloc::Global;
 
-/// A constraint: the paragraph that states it, a text that breaks it, the line of the expression, name or label that does,
-/// and a text that just meets it.
-pub type Row = (&'static str, &'static str, u32, &'static str);
-
 /// How a text ends.
 #[derive(Drop)]
 pub enum Answer {
@@ -48,20 +44,4 @@ pub fn wanted(row: &str) -> &str {
         None if row.ends_with("(own)") => "own",
         None => row,
     }
-}
-
-/// The first row whose texts aren't answered so.
-pub fn first_wrong(alloc: Global, rows: &[Row]) -> Option<usize> {
-    for (i, row) in rows.iter().enumerate() {
-        let (paragraph, bad, line, good) = *row;
-        match answer_to(alloc, bad) {
-            Answer::NotTyped(told, reason) if told == line && reason == wanted(paragraph) => {}
-            _ => return Some(i),
-        }
-        match answer_to(alloc, good) {
-            Answer::Typed(_) => {}
-            _ => return Some(i),
-        }
-    }
-    None
 }
