@@ -7,7 +7,7 @@ ghost use Rattle.footprint_run.specs.Findings.{picks_of};
 use audit_sources::{KeepFault, keep_certificate};
 use certificate::Claim;
 use certificate_making::of_audit;
-use certificate_text::to_json;
+use certificate_writing::to_json;
 use footprint_run::{Audit, Finding};
 use std::alloc::Global;
 use ub_base::{Bytes, Files, NoMemory};

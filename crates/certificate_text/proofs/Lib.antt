@@ -1,5 +1,3 @@
-pub mod Entries
-pub mod Runs
 pub mod Clauses
 pub mod Steps
 pub mod Forms
@@ -8,5 +6,3 @@ pub mod RowSteps
 pub mod OrderSteps
 pub mod Answered
 pub mod Names
-pub mod Stating
-pub mod Stated

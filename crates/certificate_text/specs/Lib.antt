@@ -1,4 +1,1 @@
-pub mod Members
 pub mod Reading
-pub mod Words
-pub mod Writing

@@ -1,4 +1,4 @@
-//! The text of certificates: read and written.
+//! The certificate that a text states.
 #![tactic(auto)]
 
 mod read;
@@ -9,7 +9,6 @@ mod read_order;
 mod row;
 mod values;
 mod words;
-mod write;
 
 pub use read::from_json;
-pub use write::to_json;
+pub use row::{Run, Stride, row_at};

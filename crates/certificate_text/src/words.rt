@@ -1,7 +1,6 @@
 // The words of a certificate's text.
 ghost use Rattle.std.specs.Prelude.{◌≡◌};
 ghost use Rattle.certificate_text.specs.Reading.{verdict_named, kind_named, cause_named, is_member, is_further, is_common, is_of_clean, is_of_undefined, is_of_outside};
-ghost use Rattle.certificate_text.specs.Words.{kind_text, cause_text};
 
 use ub_base::{Cause, Kind};
 
@@ -77,16 +76,6 @@ fn is_of_outside(name: &str) -> bool
     name == "cause" || name == "number"
 }
 
-pub fn kind_text(kind: Kind) -> &'static str
-    ensures { result.now ≡ kind_text kind }
-{
-    match kind {
-        Kind::Val => "val",
-        Kind::Eff => "eff",
-        Kind::Body => "body",
-    }
-}
-
 pub fn kind_of(text: &str) -> Option<Kind>
     ensures { result ≡ kind_named text.now }
 {
@@ -98,18 +87,6 @@ pub fn kind_of(text: &str) -> Option<Kind>
         Some(Kind::Body)
     } else {
         None
-    }
-}
-
-pub fn cause_text(cause: Cause) -> &'static str
-    ensures { result.now ≡ cause_text cause }
-{
-    match cause {
-        Cause::Output => "output",
-        Cause::Created => "created",
-        Cause::Depth => "depth",
-        Cause::Conversion => "conversion",
-        Cause::Directive => "directive",
     }
 }
 

@@ -1,6 +1,7 @@
 // Certificates written and read back, and texts that are none.
 use certificate::{CertFault, Field};
-use certificate_text::{from_json, to_json};
+use certificate_text::from_json;
+use certificate_writing::to_json;
 
 // The certificates of three runs, of a run of three rows, and of the other verdicts, in version 2.
 const WRITTEN: [&str; 8] = [

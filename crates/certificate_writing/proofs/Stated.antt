@@ -104,7 +104,7 @@ use Rattle.certificate_text.specs.Reading.{
   version_in,
   States,
 }
-use Rattle.certificate_text.specs.Writing.{
+use Rattle.certificate_writing.specs.Writing.{
   BeginsWith,
   IsAlone,
   IsRun,
@@ -122,9 +122,9 @@ use Rattle.certificate_text.specs.Writing.{
   whole,
 }
 use Rattle.certificate_text.proofs.Clauses.{clause_named-clause_text}
-use Rattle.certificate_text.proofs.Runs.{first_at, moved_moving, row_parts, run_item, stands_within}
+use Rattle.certificate_writing.proofs.Runs.{first_at, moved_moving, row_parts, run_item, stands_within}
 use Rattle.certificate_text.proofs.Steps.{kept_below, kept_some}
-use Rattle.certificate_text.proofs.Stating.{
+use Rattle.certificate_writing.proofs.Stating.{
   below,
   cause_back,
   frame_back,

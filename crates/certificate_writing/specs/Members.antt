@@ -5,8 +5,8 @@ use Rattle.serde_json.specs.Data.{Data, string, Members, no_members, put}
 use Rattle.ub_base.specs.Clause.{clause_text}
 use Rattle.certificate.specs.declared.cert.Claim.{Claim}
 use Rattle.certificate.specs.declared.cert.Claim.TheVariants.{Clean, Undefined, OrderDependent, OutOfSteps, Outside}
-use Rattle.certificate_text.specs.Words.{cause_text}
-use Rattle.certificate_text.specs.Writing.{whole, pair_entry, pair_list}
+use Rattle.certificate_writing.specs.Words.{cause_text}
+use Rattle.certificate_writing.specs.Writing.{whole, pair_entry, pair_list}
 
 -- the members of every certificate but the verdict
 abbrev pub common : Data → Data → Data → Members

@@ -43,7 +43,7 @@ use Rattle.addr_map.specs.declared.map.Row.{Row}
 use Rattle.certificate_text.specs.declared.row.Run.{Run}
 use Rattle.certificate_text.specs.declared.row.Stride.{Stride}
 use Rattle.certificate_text.specs.Reading.{◌>>=◌, kept, moved_name, row_at, run_rows}
-use Rattle.certificate_text.specs.Writing.{moving, BeginsWith, IsLongest}
+use Rattle.certificate_writing.specs.Writing.{moving, BeginsWith, IsLongest}
 use Rattle.certificate_text.proofs.RowSteps.{length-run_rows}
 
 -- the two parts of a run

@@ -53,8 +53,8 @@ use Rattle.certificate.specs.declared.cert.Claim.TheVariants.{Clean, Undefined, 
 use Rattle.certificate.specs.declared.cert.Segment.{Segment}
 use Rattle.certificate.specs.declared.cert.Segment.TheVariants.{Canonical, Pick}
 use Rattle.certificate_text.specs.declared.row.Run.{Run}
-use Rattle.certificate_text.specs.Members.{common, with_claim}
-use Rattle.certificate_text.specs.Writing.{IsAlone, IsRun, IsTextOf, Packs, frame_entry, list, members, row_entry, run_entry, segment_entry, value_of}
+use Rattle.certificate_writing.specs.Members.{common, with_claim}
+use Rattle.certificate_writing.specs.Writing.{IsAlone, IsRun, IsTextOf, Packs, frame_entry, list, members, row_entry, run_entry, segment_entry, value_of}
 use Rattle.serde_json.proofs.OnLiterals.{serde_json_on_literals}
 
 take_all : {A : Type 0} (xs : List A) (n : ℕ) → length xs ≤ n → take n xs ≡ xs

@@ -62,7 +62,7 @@ use Rattle.ub_base.specs.declared.names.Frame.{Frame}
 use Rattle.certificate.specs.declared.cert.Segment.{Segment}
 use Rattle.certificate.specs.declared.cert.Segment.TheVariants.{Canonical, Pick}
 use Rattle.certificate.specs.Form.{IsFrameRow, HasFrames, IsSegment, IsEventOf, total_picks}
-use Rattle.certificate_text.specs.Words.{kind_text, cause_text}
+use Rattle.certificate_writing.specs.Words.{kind_text, cause_text}
 use Rattle.certificate_text.specs.Reading.{
   ◌>>=◌,
   kept,
@@ -84,7 +84,7 @@ use Rattle.certificate_text.specs.Reading.{
   is_lower_digit,
   decoded,
 }
-use Rattle.certificate_text.specs.Writing.{whole, list, frame_entry, event_entry, segment_entry}
+use Rattle.certificate_writing.specs.Writing.{whole, list, frame_entry, event_entry, segment_entry}
 use Rattle.certificate_text.proofs.Steps.{list_of-items_of}
 use Rattle.certificate_text.proofs.FrameSteps.{follows}
 

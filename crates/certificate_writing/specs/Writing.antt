@@ -18,7 +18,7 @@ use Rattle.certificate.specs.declared.cert.Segment.{Segment}
 use Rattle.certificate.specs.declared.cert.Segment.TheVariants.{Canonical, Pick}
 use Rattle.certificate_text.specs.declared.row.Run.{Run}
 use Rattle.certificate_text.specs.Reading.{rows_of}
-use Rattle.certificate_text.specs.Words.{kind_text, cause_text}
+use Rattle.certificate_writing.specs.Words.{kind_text, cause_text}
 
 abbrev pub whole : ℕ → Data
 whole n = number (unsigned n)

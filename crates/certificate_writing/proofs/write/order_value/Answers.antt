@@ -1,9 +1,9 @@
 -- One more entry, and all of them.
 use Rattle.std.proofs.Common.{arith}
 use Rattle.std.proofs.lemmas.List.{get_or_default}
-use Rattle.certificate_text.specs.Writing.{segment_entry}
-use Rattle.certificate_text.proofs.Entries.{array_of, grown}
-use Rattle.certificate_text.proofs.write.order_value.Goals as goal
+use Rattle.certificate_writing.specs.Writing.{segment_entry}
+use Rattle.certificate_writing.proofs.Entries.{array_of, grown}
+use Rattle.certificate_writing.proofs.write.order_value.Goals as goal
 
 pub loop-segment-preserved : goal.loop-segment-preserved
 loop-segment-preserved c =

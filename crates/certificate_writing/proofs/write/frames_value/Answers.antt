@@ -1,9 +1,9 @@
 -- One more entry, and all of them.
 use Rattle.std.proofs.Common.{◌≡◌, Some, slice_get, sym, subst, arith}
 use Rattle.std.proofs.lemmas.Option.{get_or_from_slice_get}
-use Rattle.certificate_text.specs.Writing.{frame_entry}
-use Rattle.certificate_text.proofs.Entries.{array_of, grown}
-use Rattle.certificate_text.proofs.write.frames_value.Goals as goal
+use Rattle.certificate_writing.specs.Writing.{frame_entry}
+use Rattle.certificate_writing.proofs.Entries.{array_of, grown}
+use Rattle.certificate_writing.proofs.write.frames_value.Goals as goal
 
 pub loop-at-preserved : goal.loop-at-preserved
 loop-at-preserved c =

@@ -3,8 +3,8 @@ use Rattle.std.proofs.Common.{◌≡◌, [], length, map, arith}
 use Rattle.std.proofs.lemmas.Grind.{common_steps}
 use Rattle.serde_json.proofs.Views.{view-Array}
 use Rattle.serde_json.specs.View.{view}
-use Rattle.certificate_text.proofs.Entries.{none_left, packs_all, packs_grown}
-use Rattle.certificate_text.proofs.write.map_value.Goals as goal
+use Rattle.certificate_writing.proofs.Entries.{none_left, packs_all, packs_grown}
+use Rattle.certificate_writing.proofs.write.map_value.Goals as goal
 
 pub loop-turn-preserved : goal.loop-turn-preserved
 loop-turn-preserved c = record {

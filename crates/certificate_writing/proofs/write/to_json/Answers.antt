@@ -1,9 +1,9 @@
 -- The text is that of the value, and states the certificate.
 use Rattle.std.proofs.Common.{◌≡◌, string_bytes, rules}
-use Rattle.certificate_text.specs.Writing.{IsTextOf}
-use Rattle.certificate_text.proofs.Entries.{text_of}
-use Rattle.certificate_text.proofs.Stated.{text_states}
-use Rattle.certificate_text.proofs.write.to_json.Goals as goal
+use Rattle.certificate_writing.specs.Writing.{IsTextOf}
+use Rattle.certificate_writing.proofs.Entries.{text_of}
+use Rattle.certificate_writing.proofs.Stated.{text_states}
+use Rattle.certificate_writing.proofs.write.to_json.Goals as goal
 
 pub returns : goal.returns
 returns c =

@@ -2,8 +2,8 @@
 use Rattle.std.proofs.Common.{◌≤◌, ◌+◌, List, ◌++◌, length, map}
 use Rattle.serde_json.specs.Data.{Data}
 use Rattle.serde_json.specs.View.{view}
-use Rattle.certificate_text.specs.Writing.{Packs}
-use Rattle.certificate_text.proofs.write.map_value.Given as goal
+use Rattle.certificate_writing.specs.Writing.{Packs}
+use Rattle.certificate_writing.proofs.write.map_value.Given as goal
 
 abbrev pub invariant-loop-turn : goal.invariant-loop-turn
 invariant-loop-turn l = record {

@@ -6,13 +6,14 @@ ghost use Rattle.hex.specs.Hex.{IsBytes, encode_lower};
 ghost use Rattle.certificate.specs.declared.cert.Version.TheVariants.{Two};
 ghost use Rattle.certificate.specs.Form.{HasBytes, HasForm};
 ghost use Rattle.certificate_text.specs.Reading.{States};
-ghost use Rattle.certificate_text.specs.Writing.{list, frame_entry, event_entry, pair_entry, row_entry, run_entry, IsAlone, IsRun, Packs, segment_entry, pair_list, value_of, IsTextOf};
-ghost use Rattle.certificate_text.specs.Members.{common, with_claim};
+ghost use Rattle.certificate_writing.specs.Writing.{list, frame_entry, event_entry, pair_entry, row_entry, run_entry, IsAlone, IsRun, Packs, segment_entry, pair_list, value_of, IsTextOf};
+ghost use Rattle.certificate_writing.specs.Members.{common, with_claim};
 
-use crate::row::{Run, longest_run};
+use crate::runs::longest_run;
 use crate::words::{cause_text, kind_text};
 use addr_map::Row;
 use certificate::{Cert, Claim, Segment};
+use certificate_text::Run;
 use serde_json::{Map, Value, json, put};
 use std::alloc::{AllocError, Global};
 use ub_base::{Bytes, Event, Frame, Frames, NoMemory, ObjName};

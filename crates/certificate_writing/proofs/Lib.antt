@@ -1,0 +1,4 @@
+mod Entries
+mod Runs
+mod Stated
+mod Stating
