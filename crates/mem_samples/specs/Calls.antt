@@ -1,5 +1,5 @@
 -- Acts of memory one after the other under rows that are given, and what each gives: its value and its items, or its clause.
-use Rattle.std.specs.Prelude.{◌≡◌, ℕ, Bool, false, List, [], ◌∷◌, Option, None, ℤ, pos}
+use Rattle.std.specs.Prelude.{◌≡◌, ℕ, Bool, false, List, [], ◌∷◌, None, ℤ, pos}
 use Rattle.ub_base.specs.declared.clause.Clause.{Clause}
 use Rattle.ub_base.specs.declared.clause.Clause.TheVariants.{OutOfBounds}
 use Rattle.ub_base.specs.declared.names.Item.{Item}
@@ -11,7 +11,7 @@ use Rattle.c_types.specs.Types.{int}
 use Rattle.mem_spec.specs.Agreement.{bytes_of_kind}
 use Rattle.mem_spec.specs.Store.{TaggedByte, fresh, Store}
 use Rattle.mem_spec.specs.Bytes.{number_bytes, pointer_bytes, low_bits}
-use Rattle.mem_spec.specs.Script.{Settle, Script, Act, Done, Raised, Ended, Outside, Unplaced, touch, run}
+use Rattle.mem_spec.specs.Script.{Settle, Act, Done, Raised, Ended, Outside, Unplaced, touch, run}
 use Rattle.mem_spec.specs.Acts.{Seen, scalar, whole, bytes}
 use Rattle.mem_spec.specs.Acts as acts
 use Rattle.mem_samples.specs.Objects.{Definition, turn, pointer_type, function_type}
