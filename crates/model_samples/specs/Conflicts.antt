@@ -15,7 +15,7 @@ use Rattle.c_model.specs.Program.{Member, And, Or, Cond, Comma, Call, Listed, Is
 use Rattle.c_model.specs.FirstFinding.{Clean, Raced, Order_dependent}
 use Rattle.model_samples.specs.Build.{int_type, array_of, returning, node, constant, int, local, static, x, get, set, init, add, not_equal, convert}
 use Rattle.model_samples.specs.Build.{to_kind, increment, update, function_at, call, function, of_library, main_function, sample, found, main, with_x}
-use Rattle.model_samples.specs.Build.{file_object, frame_object, heap_object, pair_of, main_object}
+use Rattle.model_samples.specs.Build.{file_object, frame_object, heap_object, pair_of, main_object, literal, text}
 use Rattle.model_samples.specs.Accesses.{int_pointer, as_pointer, on, null, char_type, plain_function}
 use Rattle.model_samples.specs.Functions.{plain_pointer, length, giving, calling, doing, with_library, p}
 
@@ -144,6 +144,12 @@ two_inputs = found (with_library (lib.Getchar ∷ []) [] [] [] (Return (add (cal
 -- return putchar(97)+putchar(98);
 abbrev pub two_outputs : Type 0
 two_outputs = found (with_library (lib.Putchar ∷ []) [] [] [] (Return (add (calling 1 (int 97 ∷ [])) (calling 1 (int 98 ∷ []))) ∷ []))
+    ≡ Order_dependent (pair_of 2 (place 1 Body) (place 4 Body) (Output) (Output)) 6
+
+-- return putchar(97)+fprintf(stderr,"b");: the streams are two, and the order of what they show is one (own)
+abbrev pub outputs_of_two_streams : Type 0
+outputs_of_two_streams = found (with_library (lib.Putchar ∷ lib.Fprintf ∷ []) (literal 0 (98 ∷ 0 ∷ []) ∷ []) [] []
+    (Return (add (calling 1 (int 97 ∷ [])) (calling 2 (int 2 ∷ text 0 ∷ []))) ∷ []))
     ≡ Order_dependent (pair_of 2 (place 1 Body) (place 4 Body) (Output) (Output)) 6
 
 -- return getchar()+putchar(98);: no conflict

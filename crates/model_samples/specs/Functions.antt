@@ -202,6 +202,11 @@ abbrev pub byte_printed : Type 0
 byte_printed = found (with_library (lib.Printf ∷ []) (literal 0 (37 ∷ 99 ∷ 37 ∷ 37 ∷ 0 ∷ []) ∷ []) [] []
     (Return (calling 1 (text 0 ∷ int 65 ∷ [])) ∷ [])) ≡ Clean 2 (on_output (65 ∷ 37 ∷ [])) 6
 
+-- return fprintf(stderr,"%c%%",65);: standard error is a stream of its own (7.21.3p7)
+abbrev pub error_printed : Type 0
+error_printed = found (with_library (lib.Fprintf ∷ []) (literal 0 (37 ∷ 99 ∷ 37 ∷ 37 ∷ 0 ∷ []) ∷ []) [] []
+    (Return (calling 1 (int 2 ∷ text 0 ∷ int 65 ∷ [])) ∷ [])) ≡ Clean 2 (record { standard = []; errors = 65 ∷ 37 ∷ [] }) 6
+
 -- return printf("%d"); (7.21.6.1p2)
 abbrev pub too_few : Type 0
 too_few = found (with_library (lib.Printf ∷ []) (literal 0 (37 ∷ 100 ∷ 0 ∷ []) ∷ []) [] [] (Return (calling 1 (text 0 ∷ [])) ∷ []))

@@ -61,6 +61,12 @@ abbrev pub within_output : Type 0
 within_output = found (record (with_library (lib.Puts ∷ []) (literal 0 (97 ∷ 98 ∷ 0 ∷ []) ∷ literal 1 (97 ∷ 99 ∷ 0 ∷ []) ∷ []) [] []
     (doing 1 (text 0 ∷ []) ∷ Return (int 0) ∷ [])) { limits = record { depth = 100; created = 1000; output = 3 } }) ≡ Clean 0 (on_output (97 ∷ 98 ∷ 10 ∷ [])) 8
 
+-- putchar(97);fprintf(stderr,"b");, where one byte may be printed: the bytes of both streams count together
+abbrev pub outputs_together : Type 0
+outputs_together = found (record (with_library (lib.Putchar ∷ lib.Fprintf ∷ []) (literal 0 (98 ∷ 0 ∷ []) ∷ []) [] []
+    (doing 1 (int 97 ∷ []) ∷ doing 2 (int 2 ∷ text 0 ∷ []) ∷ [])) { limits = record { depth = 100; created = 1000; output = 1 } })
+    ≡ Outside cause.Output 2 6
+
 -- printf("%4096d",1);: a directive that gives more than 4095 bytes (7.21.6.1p15, own)
 abbrev pub long_conversion : Type 0
 long_conversion = found (with_library (lib.Printf ∷ []) (literal 0 (37 ∷ 52 ∷ 48 ∷ 57 ∷ 54 ∷ 100 ∷ 0 ∷ []) ∷ []) [] []
