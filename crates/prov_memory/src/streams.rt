@@ -1,5 +1,5 @@
 // Standard input, standard output and standard error (7.21.3p7).
-ghost use Rattle.std.specs.Prelude.{◌≡◌, ◌+◌, ◌-◌, ◌≤◌, ◌^◌, [], min, slice_get, is_some, if◌then◌else◌, OnOk, OnErr};
+ghost use Rattle.std.specs.Prelude.{◌≡◌, ◌+◌, slice_get, is_some, if◌then◌else◌, OnOk, OnErr};
 ghost use Rattle.mem_spec.specs.Streams.{printed_to, silent, total};
 
 use mem_spec::Stream;
@@ -44,11 +44,11 @@ impl Outputs {
         }
     }
 
-    // How many bytes were written to both; a sum above the numbers of 64 bits is the greatest of them.
+    // How many bytes were written to both.
     fn total(&self) -> u64
-        ensures { result ≡ min (total self.now) (2 ^ 64 - 1) }
+        ensures { result ≡ total self.now }
     {
-        (self.standard.len() as u64).saturating_add(self.errors.len() as u64)
+        self.standard.as_slice().len() as u64 + self.errors.as_slice().len() as u64
     }
 }
 
@@ -101,9 +101,9 @@ impl Streams {
         self.output.append(to, bytes)
     }
 
-    /// How many bytes were written to both streams; a sum above the numbers of 64 bits is the greatest of them.
+    /// How many bytes were written to both streams.
     pub fn written(&self) -> u64
-        ensures { result ≡ min (total self.now.output) (2 ^ 64 - 1) }
+        ensures { result ≡ total self.now.output }
     {
         self.output.total()
     }
