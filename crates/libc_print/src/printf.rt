@@ -22,10 +22,10 @@ use crate::refusal::Refusal;
 use crate::strings::string_of;
 use crate::values::{Arguments, take_int, take_integer, take_pointer, take_precision, take_width};
 use c_types::Qual;
-use mem_spec::Stream;
 use libc_model::{
     Pointer, check_output, check_string, expose, low_byte, numbers, pointer_at, settle,
 };
+use mem_spec::Stream;
 use prov_memory::{LibAnswer, Memory, Streams, Touched, Value, Values};
 use std::alloc::Global;
 use ub_base::{Cause, Clause, Item};
