@@ -3,6 +3,8 @@
 #define _CUB_STDIO_H
 
 #include <_cub_base.h>
+#include <_cub_errno.h>
+#include <_cub_error_text.h>
 
 #define EOF (-1)
 #define BUFSIZ 1024
@@ -174,6 +176,16 @@ static inline void clearerr(FILE *_stream)
 {
     _stream->_last = 0;
     _stream->_wrong = 0;
+}
+
+/* 7.21.10.4 */
+static inline void perror(const char *_s)
+{
+    if (_s && *_s) {
+        fputs(_s, stderr);
+        _cub_fprintf(2, ": ");
+    }
+    _cub_fprintf(2, "%s\n", _cub_error_text(_cub_errno));
 }
 
 /* 7.21.5.3: no file opens (own). */

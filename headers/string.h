@@ -3,6 +3,7 @@
 #define _CUB_STRING_H
 
 #include <_cub_base.h>
+#include <_cub_error_text.h>
 
 void *memcpy(void *, const void *, size_t);
 void *memmove(void *, const void *, size_t);
@@ -148,20 +149,6 @@ static inline char *strtok(char *_s, const char *_set)
 }
 
 /* 7.24.6.2 */
-static inline char *strerror(int _n)
-{
-    switch (_n) {
-    case 0:
-        return "Success";
-    case 33:
-        return "Numerical argument out of domain";
-    case 34:
-        return "Numerical result out of range";
-    case 84:
-        return "Invalid or incomplete multibyte or wide character";
-    default:
-        return "Unknown error";
-    }
-}
+static inline char *strerror(int _n) { return _cub_error_text(_n); }
 
 #endif

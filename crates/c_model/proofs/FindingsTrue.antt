@@ -32,6 +32,7 @@ use Rattle.c_typed.specs.Order.{is_body}
 use Rattle.c_typed.specs.Decide.{canonical}
 use Rattle.mem_spec.specs.Store.{Store}
 use Rattle.mem_spec.specs.Script.{Act, Done, Raised, Ended, Outside, Unplaced}
+use Rattle.mem_spec.specs.Streams.{Outputs}
 use Rattle.c_model.specs.Program.{Head, Call, Isolated, Expr, expr, tree_of, Stmt, Function}
 use Rattle.c_model.specs.Values.{Value, later_values}
 use Rattle.c_model.specs.World.{World, Limits}
@@ -358,7 +359,7 @@ module _ (world : World) where
     steps : (k : ℕ) (st' : State) → After world st (canonical_picks world k (Running st)) (Running st') → f ≡ Out_of_steps (n + k) → Told st n f
     limit : (k : ℕ) (cause : Cause) (number : ℕ) → After world st (canonical_picks world (suc k) (Running st)) (Over cause number)
         → f ≡ finding.Outside cause number (n + k) → Told st n f
-    clean : (status : ℕ) (output : List ℕ) (picks : ℕ) → f ≡ Clean status output picks → Told st n f
+    clean : (status : ℕ) (output : Outputs) (picks : ℕ) → f ≡ Clean status output picks → Told st n f
     race : (k : ℕ) (o : Outcome) (p : Pair) → After world st (canonical_picks world (suc k) (Running st)) o → GoesOrEnds o → f ≡ Raced p (n + suc k) →
         Told st n f
     quarrel : (k : ℕ) (o : Outcome) (p : Pair) → After world st (canonical_picks world (suc k) (Running st)) o → GoesOrEnds o

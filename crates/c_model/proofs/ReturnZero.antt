@@ -3,6 +3,7 @@ use Rattle.std.proofs.Common.{◌≡◌, ◌≢◌, ◌≤◌, ℕ, zero, suc, t
 use Rattle.ub_base.specs.declared.clause.Clause.{Clause}
 use Rattle.ub_base.specs.Frames.{path_of}
 use Rattle.c_typed.specs.declared.tree.Place.{Place}
+use Rattle.mem_spec.specs.Streams.{silent}
 use Rattle.c_model.specs.World.{World}
 use Rattle.c_model.specs.Steps.{Pick, Control, Ev}
 use Rattle.c_model.specs.Runs.{
@@ -80,7 +81,7 @@ meets_none _ c n p (raised _ trace) = n tt
 meets_none o _ n p (raced _ d e u v r) = no_both (trace_of o) d e u v p r.both
 
 record Fine (ps : List Pick) (n : ℕ) (o : Outcome) : Type 0 where
-  goes : o ≢ Refused → GoesWell world 0 [] o
+  goes : o ≢ Refused → GoesWell world 0 silent o
   bounded : o ≢ Refused → length ps ≤ n
   defined : (c : Clause) → Meets world o c → ⊥
 
@@ -157,7 +158,7 @@ from_start ps o (starts st _ _ q a) = from_enter ps o (subst (λ z. After world 
 from_start _ o (stops _ q n) = absurd (true≢false (ap is_running q ∙ n))
 from_start _ _ (refuses p ps n) = absurd (true≢false n)
 
-pub alike : EveryOrderAlike world [] [] 0 [] 4
+pub alike : EveryOrderAlike world [] [] 0 silent 4
 alike = record {
   alike = λ ps o a. (from_start ps o a).goes;
   bounded = λ ps o a. (from_start ps o a).bounded;
@@ -183,7 +184,7 @@ valid = record {
   map = refl;
   numbering = numbered;
   listed = listed;
-  shown = clean 0 [] whole
+  shown = clean 0 silent whole
       (starts before_enter _ _ refl (more before_enter before_begin Control _ _ _ tt refl
       (more before_begin before_settle Control _ _ _ tt refl (more before_settle before_leave Control _ _ _ refl refl (last before_leave Control tt)))))
       no_pair;

@@ -7,6 +7,7 @@ use Rattle.ub_base.specs.Frames as frames
 use Rattle.addr_map.specs.declared.map.Row.{Row}
 use Rattle.addr_map.specs.Rows.{breaks}
 use Rattle.c_typed.specs.declared.tree.Place.{Place}
+use Rattle.mem_spec.specs.Streams.{Outputs}
 use Rattle.c_model.specs.Values.{Value}
 use Rattle.c_model.specs.World.{World, NumbersFrames}
 use Rattle.c_model.specs.Steps.{Pick, Ev}
@@ -26,7 +27,7 @@ pub record Site : Type 0 where
   pub turn : ℕ
   pub event : Place
 
--- what a certificate says of its order
+-- what a certificate says of its order; of what was written it says standard output alone (own)
 pub data Claim : Type 0 where
   Says_clean : (status : ℕ) → (output : List ℕ) → Claim
   Says_undefined : Clause → Claim
@@ -75,8 +76,8 @@ LeadsTo world input vs order o = ComesTo world input vs (picks_in world order (s
 
 -- the order is permitted, stays within the limits, and is as the claim says
 pub data Shows (world : World) (input : List ℕ) (vs : List Value) (order : List Stretch) : Claim → Type 0 where
-  clean : (status : ℕ) (output : List ℕ) (trace : List Entry) → LeadsTo world input vs order (Ends status output trace) → HasNoPair world trace
-      → Shows world input vs order (Says_clean status output)
+  clean : (status : ℕ) (output : Outputs) (trace : List Entry) → LeadsTo world input vs order (Ends status output trace) → HasNoPair world trace
+      → Shows world input vs order (Says_clean status output.standard)
   undefined : (c : Clause) (trace : List Entry) → LeadsTo world input vs order (Raises c trace) → Shows world input vs order (Says_undefined c)
   race : (a b : Site) (o : Outcome) → LeadsTo world input vs order o → Races world (trace_of o) a b → Shows world input vs order (Says_race a b)
   quarrel : (a b : Site) (o : Outcome) → LeadsTo world input vs order o → Quarrels world (trace_of o) a b

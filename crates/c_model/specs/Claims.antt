@@ -7,6 +7,7 @@ use Rattle.ub_base.specs.declared.names.Item.{Item}
 use Rattle.ub_base.specs.declared.names.Item.TheVariants.{Ending, Any}
 use Rattle.ub_base.specs.Frames.{Path}
 use Rattle.c_typed.specs.declared.tree.Place.{Place}
+use Rattle.mem_spec.specs.Streams.{Outputs}
 use Rattle.c_model.specs.Values.{Value}
 use Rattle.c_model.specs.World.{World}
 use Rattle.c_model.specs.Steps.{Pick, Control, MayPick}
@@ -32,15 +33,15 @@ canonical_picks world (suc n) o = Control ∷ canonical_picks world n o
 abbrev pub canonical_order : World → List ℕ → List Value → ℕ → List Pick
 canonical_order world input vs n = canonical_picks world n (start world input vs)
 
--- an order that can go on, or has ended with this status and output
-abbrev pub GoesWell : World → (status : ℕ) → (output : List ℕ) → Outcome → Type 0
+-- an order that can go on, or has ended with this status and with these bytes of standard output and standard error
+abbrev pub GoesWell : World → (status : ℕ) → (output : Outputs) → Outcome → Type 0
 GoesWell world status output (Running st) = (p : Pick) × MayPick world st.top st.top.begun p
 GoesWell world status output (Ends n out trace) = (n ≡ status) × (out ≡ output)
 GoesWell world status output o = ⊥
 
--- Clean: every order that C permits, under this address map, goes on until it ends with this status and output, after at most so many
--- picks, without undefined behaviour on the way.
-pub record EveryOrderAlike (world : World) (input : List ℕ) (vs : List Value) (status : ℕ) (output : List ℕ) (picks : ℕ) : Type 0 where
+-- Clean: every order that C permits, under this address map, goes on until it ends with this status and with
+-- these bytes of standard output and standard error, after at most so many picks, without undefined behaviour on the way.
+pub record EveryOrderAlike (world : World) (input : List ℕ) (vs : List Value) (status : ℕ) (output : Outputs) (picks : ℕ) : Type 0 where
   pub alike : (ps : List Pick) (o : Outcome) → ComesTo world input vs ps o → o ≢ Refused → GoesWell world status output o
   pub bounded : (ps : List Pick) (o : Outcome) → ComesTo world input vs ps o → o ≢ Refused → length ps ≤ picks
   pub defined : (ps : List Pick) (o : Outcome) (c : Clause) → ComesTo world input vs ps o → Meets world o c → ⊥

@@ -9,6 +9,7 @@ use Rattle.c_typed.specs.Tree.{size}
 use Rattle.c_typed.specs.Order.{is_body, is_due}
 use Rattle.c_typed.specs.Decide.{is_before, first_place}
 use Rattle.addr_map.specs.declared.map.Row.{Row}
+use Rattle.mem_spec.specs.Streams.{Outputs}
 use Rattle.c_model.specs.Values.{Value}
 use Rattle.c_model.specs.World.{World}
 use Rattle.c_model.specs.Steps.{Local, Begun, is_done, taken_by}
@@ -30,7 +31,7 @@ pub record Pair : Type 0 where
 
 -- what was found first, and the picks that lead to it
 pub data Finding : Type 0 where
-  Clean : (status : ℕ) (output : List ℕ) (picks : ℕ) → Finding
+  Clean : (status : ℕ) (output : Outputs) (picks : ℕ) → Finding
   -- undefined by the clause at this event of this line
   Undefined : Clause → Path → (turn : ℕ) → Option Place → (line picks : ℕ) → Finding
   -- undefined by 6.5p2

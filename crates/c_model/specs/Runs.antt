@@ -37,6 +37,7 @@ use Rattle.c_typed.specs.Tree.{Tree}
 use Rattle.c_typed.specs.Order.{Taken}
 use Rattle.c_typed.specs.Decide.{canonical}
 use Rattle.mem_spec.specs.Store.{Store, fresh}
+use Rattle.mem_spec.specs.Streams.{Outputs, silent, total}
 use Rattle.mem_spec.specs.Script.{Script, Give, Act, Done, Raised, Ended, Outside, Unplaced, run, ◌>>◌}
 use Rattle.mem_spec.specs.Acts.{create}
 use Rattle.c_model.specs.Program.{Decl, Standing, Stmt, Function, Head, Call, Expr, expr, tree_of}
@@ -89,7 +90,7 @@ pub data Outcome : Type 0 where
   Raises : Clause → List Entry → Outcome
   Over : Cause → (number : ℕ) → Outcome
   No_row : Outcome
-  Ends : (status : ℕ) → (output : List ℕ) → List Entry → Outcome
+  Ends : (status : ℕ) → (output : Outputs) → List Entry → Outcome
   Running : State → Outcome
 
 abbrev pub is_running : Outcome → Bool
@@ -120,12 +121,12 @@ abbrev pub place_of : Pick → Option Place
 place_of Control = None
 place_of (Ev u) = Some u
 
--- the limits on depth, created bytes and output, in the order in which they count (own)
+-- the limits on depth, created bytes and the bytes of standard output and standard error together, in the order in which they count (own)
 abbrev pub limit_passed : Limits → ℕ → Store → Option (Cause × ℕ)
 limit_passed limits depth s =
     if nat_lt limits.depth depth then Some (cause.Depth, depth)
     else (if nat_lt limits.created s.created then Some (cause.Created, s.created)
-    else (if nat_lt limits.output (length s.output) then Some (cause.Output, length s.output) else None))
+    else (if nat_lt limits.output (total s.output) then Some (cause.Output, total s.output) else None))
 
 abbrev pub within : Option (Cause × ℕ) → Outcome → Outcome
 within None o = o
@@ -266,7 +267,7 @@ module _ (world : World) where
     kept = λ e. None;
     input = input;
     position = 0;
-    output = [];
+    output = silent;
     created = 0;
   }
 

@@ -10,6 +10,7 @@ ghost use Rattle.ub_base.specs.declared.clause.Cause.TheVariants.{Created};
 ghost use Rattle.ub_base.specs.declared.names.ObjName.TheVariants.{Static};
 ghost use Rattle.ub_base.specs.declared.names.Item.TheVariants.{Read, Write, Input, Output, Ending, Any};
 ghost use Rattle.c_typed.specs.Order.{place};
+ghost use Rattle.mem_spec.specs.Streams.{on_output, silent};
 ghost use Rattle.c_model.specs.World.{NumbersFrames};
 ghost use Rattle.c_model.specs.Numbering.{frame_number};
 ghost use Rattle.c_model.specs.Steps.{Control};
@@ -39,16 +40,16 @@ pub fn law_numbering()
 
 /// The first finding of small programs, as the definitions give it, with the picks that lead to it.
 pub fn law_example_findings()
-    ensures return_zero { audit return_zero [] 4 ≡ Clean 0 [] 4 }
+    ensures return_zero { audit return_zero [] 4 ≡ Clean 0 silent 4 }
     ensures short_budget { audit return_zero [] 3 ≡ Out_of_steps 3 }
-    ensures add_one { audit add_one local_rows 20 ≡ Clean 2 [] 15 }
+    ensures add_one { audit add_one local_rows 20 ≡ Clean 2 silent 15 }
     ensures self_increment { audit self_increment local_rows 20 ≡ Raced (pair_of 3 (place 0 Eff) (place 2 Eff) (Write main_local 0 1) (Write main_local 0 1)) 10 }
     ensures divide_by_zero { audit divide_by_zero [] 20 ≡ Undefined DivideByZero [] 2 (Some (place 0 Val)) 1 3 }
     ensures print_both { audit print_both [] 20 ≡ Order_dependent (pair_of 2 (place 1 Body) (place 4 Body) Output Output) 6 }
     ensures list_both { audit list_both list_rows 30 ≡ Order_dependent (pair_of 3 (place 1 Body) (place 2 Body) (Write main_local 0 1) (Read main_local 0 1)) 21 }
     ensures pass_both { audit pass_both global_rows 20 ≡ Raced (pair_of 2 (place 2 Eff) (place 4 Val) (Write (Static 0) 0 1) (Read (Static 0) 0 1)) 5 }
     ensures increment_and_call { audit increment_and_call global_rows 20 ≡ Order_dependent (pair_of 3 (place 1 Eff) (place 3 Body) (Write (Static 0) 0 1) (Read (Static 0) 0 1)) 15 }
-    ensures comma_between { audit comma_between local_rows 20 ≡ Clean 3 [] 13 }
+    ensures comma_between { audit comma_between local_rows 20 ≡ Clean 3 silent 13 }
     ensures and_skips { audit (and_beside 0) both_rows 20 ≡ Raced (pair_of 4 (place 0 Eff) (place 3 Eff) (Write main_local 0 1) (Write main_local 0 1)) 15 }
     ensures loop_forever { audit loop_forever [] 20 ≡ Out_of_steps 20 }
     ensures quit_beside { audit quit_beside global_rows 20 ≡ Order_dependent (pair_of 2 (place 1 Val) (place 3 Body) Any Ending) 7 }
@@ -59,19 +60,19 @@ pub fn law_example_findings()
 pub fn law_further_findings()
     ensures past_the_greatest { audit past_the_greatest [] 20 ≡ Undefined Exceptional [] 2 (Some (place 0 Val)) 1 3 }
     ensures shift_too_far { audit shift_too_far [] 20 ≡ Undefined LeftShift [] 2 (Some (place 0 Val)) 1 3 }
-    ensures divide { audit divide [] 20 ≡ Clean 3 [] 5 }
-    ensures and_goes_on { audit (and_beside 1) both_rows 30 ≡ Clean 1 [] 21 }
+    ensures divide { audit divide [] 20 ≡ Clean 3 silent 5 }
+    ensures and_goes_on { audit (and_beside 1) both_rows 30 ≡ Clean 1 silent 21 }
     ensures unwritten_load { audit unwritten_load local_rows 20 ≡ Undefined Indeterminate [] 2 (Some (place 0 Val)) 1 4 }
     ensures store_to_const { audit store_to_const global_rows 20 ≡ Undefined StoreToConst [] 2 (Some (place 0 Eff)) 1 5 }
     ensures missing_value { audit missing_value [] 20 ≡ Undefined MissingValue [] 2 (Some (place 0 Val)) 1 6 }
-    ensures value_unused { audit value_unused [] 20 ≡ Clean 0 [] 10 }
+    ensures value_unused { audit value_unused [] 20 ≡ Clean 0 silent 10 }
     ensures read_both { audit_on (97 ∷ 98 ∷ []) read_both [] 20 ≡ Order_dependent (pair_of 2 (place 1 Body) (place 3 Body) Input Input) 6 }
-    ensures read_in_turn { audit_on (97 ∷ 98 ∷ []) read_in_turn both_rows 30 ≡ Clean 1 [] 19 }
-    ensures quit_alone { audit quit_alone local_rows 20 ≡ Clean 3 [] 7 }
+    ensures read_in_turn { audit_on (97 ∷ 98 ∷ []) read_in_turn both_rows 30 ≡ Clean 1 silent 19 }
+    ensures quit_alone { audit quit_alone local_rows 20 ≡ Clean 3 silent 7 }
     ensures large_block { audit large_block [] 20 ≡ Outside Created 400000000 0 }
     ensures large_static { audit large_static [] 20 ≡ Outside Created 400000000 0 }
-    ensures jump_about { audit jump_about local_rows 100 ≡ Clean 5 [] 75 }
-    ensures jump_in { audit jump_in inner_rows 20 ≡ Clean 0 [] 7 }
+    ensures jump_about { audit jump_about local_rows 100 ≡ Clean 5 silent 75 }
+    ensures jump_in { audit jump_in inner_rows 20 ≡ Clean 0 silent 7 }
 {}
 
 /// And of calls of the library, each of which does what libc_spec's scripts say: the byte that is printed of a number, a number printed
@@ -79,15 +80,15 @@ pub fn law_further_findings()
 /// freed (7.22.3.3p2), and allocations beside an array of 67,108,848 bytes that alone has a row: one passes the limit on created bytes,
 /// one stays within it and lacks a row, and one is too large to be given an object.
 pub fn law_library_findings()
-    ensures print_low { audit print_low [] 20 ≡ Clean 97 (97 ∷ []) 6 }
-    ensures print_int { audit (print_as_int (number 42)) (text_row ∷ []) 20 ≡ Clean 3 (52 ∷ 50 ∷ 10 ∷ []) 6 }
+    ensures print_low { audit print_low [] 20 ≡ Clean 97 (on_output (97 ∷ [])) 6 }
+    ensures print_int { audit (print_as_int (number 42)) (text_row ∷ []) 20 ≡ Clean 3 (on_output (52 ∷ 50 ∷ 10 ∷ [])) 6 }
     ensures print_long { audit (print_as_int (long_number 42)) (text_row ∷ []) 20 ≡ Undefined Conversion [] 2 (Some (place 0 Body)) 1 3 }
-    ensures allocate_once { audit allocate_once heap_rows 40 ≡ Clean 7 [] 29 }
+    ensures allocate_once { audit allocate_once heap_rows 40 ≡ Clean 7 silent 29 }
     ensures release_twice { audit release_twice heap_rows 40 ≡ Undefined DeadObject [] 4 (Some (place 3 Val)) 1 16 }
     ensures release_local { audit release_local local_rows 20 ≡ Undefined Free [] 2 (Some (place 0 Body)) 1 5 }
     ensures past_the_limit { audit (allocate_beside 32) wide_rows 20 ≡ Outside Created 67108880 3 }
     ensures no_row { audit (allocate_beside 16) wide_rows 20 ≡ Not_placed 3 }
-    ensures null { audit (allocate_beside 1048577) wide_rows 20 ≡ Clean 0 [] 9 }
+    ensures null { audit (allocate_beside 1048577) wide_rows 20 ≡ Clean 0 silent 9 }
 {}
 
 /// The picks of small programs in canonical order.
@@ -134,15 +135,15 @@ pub fn law_open_blocks()
 
 /// And their findings.
 pub fn law_control_findings()
-    ensures return_before_block { audit return_before_block [] 20 ≡ Clean 0 [] 4 }
-    ensures loop_in_loop { audit loop_in_loop [] 20 ≡ Clean 0 [] 6 }
-    ensures into_blocks { audit into_blocks [] 20 ≡ Clean 0 [] 11 }
-    ensures out_of_blocks { audit out_of_blocks [] 20 ≡ Clean 0 [] 9 }
-    ensures case_in_block { audit case_in_block [] 20 ≡ Clean 0 [] 10 }
-    ensures no_case { audit no_case [] 20 ≡ Clean 0 [] 6 }
-    ensures continue_in_do { audit continue_in_do [] 20 ≡ Clean 0 [] 9 }
-    ensures continue_in_switch { audit continue_in_switch [] 20 ≡ Clean 0 [] 13 }
-    ensures nested_break { audit nested_break [] 20 ≡ Clean 0 [] 12 }
+    ensures return_before_block { audit return_before_block [] 20 ≡ Clean 0 silent 4 }
+    ensures loop_in_loop { audit loop_in_loop [] 20 ≡ Clean 0 silent 6 }
+    ensures into_blocks { audit into_blocks [] 20 ≡ Clean 0 silent 11 }
+    ensures out_of_blocks { audit out_of_blocks [] 20 ≡ Clean 0 silent 9 }
+    ensures case_in_block { audit case_in_block [] 20 ≡ Clean 0 silent 10 }
+    ensures no_case { audit no_case [] 20 ≡ Clean 0 silent 6 }
+    ensures continue_in_do { audit continue_in_do [] 20 ≡ Clean 0 silent 9 }
+    ensures continue_in_switch { audit continue_in_switch [] 20 ≡ Clean 0 silent 13 }
+    ensures nested_break { audit nested_break [] 20 ≡ Clean 0 silent 12 }
 {}
 
 /// What the traces of these runs hold: the race of `i = i++`, whose trace meets 6.5p2; the quarrels of two calls that print, and of
@@ -163,7 +164,7 @@ pub fn law_past_the_end()
 
 /// Of the same program every order ends alike, and a certificate that says so is valid.
 pub fn law_return_zero()
-    ensures alike { EveryOrderAlike (world_of return_zero []) [] [] 0 [] 4 }
+    ensures alike { EveryOrderAlike (world_of return_zero []) [] [] 0 silent 4 }
     ensures valid { IsValid (world_of return_zero []) [] [] [] (Next 4 ∷ []) (Says_clean 0 []) }
 {}
 

@@ -8,7 +8,7 @@ ghost use Rattle.core_run.specs.Told.{more};
 use crate::watch::{Go, Ran, RunState, Watch};
 use addr_map::{AddrMap, Mode};
 use core_ir::CoreProgram;
-use prov_memory::Memory;
+use prov_memory::{Memory, Outputs};
 use run_acts::start_bytes;
 use run_machine::{Completed, Halt, MOST_CREATED, Machine, Pick, View, code_of, prepare};
 use std::alloc::Global;
@@ -60,9 +60,11 @@ pub fn run<W: Watch>(
     let mut frames = Frames::new(alloc);
     let ran = follow(&mut machine, &mut frames, budget, watch)?;
     let (output, map) = machine.into_output_and_map();
+    let Outputs { standard, errors } = output;
     Ok(RunState {
         ran,
-        output,
+        output: standard,
+        errors,
         map,
         frames,
     })
@@ -88,6 +90,7 @@ fn unstarted(alloc: Global, number: u64, budget: u64) -> RunState
     RunState {
         ran,
         output: Bytes::from_vec(Vec::new(alloc)),
+        errors: Bytes::from_vec(Vec::new(alloc)),
         map: AddrMap::new(alloc),
         frames: Frames::new(alloc),
     }

@@ -85,11 +85,13 @@ pub enum Ran {
     },
 }
 
-/// How a run ended, with its output, its objects in the order of their creation, and the frames that its picks started.
+/// How a run ended, with what it wrote to standard output and to standard error, its objects in the order of their creation, and the
+/// frames that its picks started.
 #[derive(Drop)]
 pub struct RunState {
     pub ran: Ran,
     pub output: Bytes,
+    pub errors: Bytes,
     pub map: AddrMap,
     pub frames: Frames,
 }

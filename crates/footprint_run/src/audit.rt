@@ -53,6 +53,7 @@ pub fn audit_run(
     let RunState {
         ran,
         output,
+        errors,
         map,
         frames,
     } = state;
@@ -62,6 +63,7 @@ pub fn audit_run(
         ran,
         calls,
         output,
+        errors,
         map,
         frames,
     })

@@ -50,14 +50,15 @@ pub struct Race {
     pub items: (Item, Item),
 }
 
-/// A finding, with what ended the run, the calls of its watch, the output so far, the objects in the order of their
-/// creation, and `main` with the frames that the picks started.
+/// A finding, with what ended the run, the calls of its watch, what was written so far to standard output and to standard error, the
+/// objects in the order of their creation, and `main` with the frames that the picks started.
 #[derive(Drop)]
 pub struct Audit {
     pub finding: Finding,
     pub ran: Ran,
     pub calls: Calls,
     pub output: Bytes,
+    pub errors: Bytes,
     pub map: AddrMap,
     pub frames: Frames,
 }

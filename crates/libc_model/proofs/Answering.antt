@@ -20,7 +20,7 @@ use Rattle.prov_memory.specs.declared.answer.LibAnswer.{LibAnswer}
 use Rattle.prov_memory.specs.declared.answer.LibAnswer.TheVariants as answers
 use Rattle.mem_spec.specs.Store.{Store}
 use Rattle.mem_spec.specs.Script.{Act, Done, Raised, Ended, Outside, Unplaced, Give, ◌>>◌, run}
-use Rattle.mem_spec.specs.Streams.{Io}
+use Rattle.mem_spec.specs.Streams.{Io, total}
 use Rattle.prov_memory.specs.Memory.{Kept, HasCell}
 use Rattle.libc_spec.specs.Library.{
   LibValue,
@@ -44,8 +44,8 @@ use Rattle.libc_spec.specs.Library.{
 use Rattle.libc_model.specs.Answers.{Does, Answers, IsCall, HaveCells, are_sizes, given_value, answer_in}
 use Rattle.libc_model.proofs.Scripts.{then, run_then, behind_done}
 
-output_kept : (v : LibValue) (is : List Item) (s : Store) → length s.output ≤ 2 ^ 24 → output_within (Done v is s) ≡ Done v is s
-output_kept v is s h = rw (le-ltb (2 ^ 24) (length s.output) h) refl
+output_kept : (v : LibValue) (is : List Item) (s : Store) → total s.output ≤ 2 ^ 24 → output_within (Done v is s) ≡ Done v is s
+output_kept v is s h = rw (le-ltb (2 ^ 24) (total s.output) h) refl
 
 -- a value by the act that gives it
 answers_done : (v : Value) (w : LibValue) (is js : List Item) (s u : Store) (act : Act LibValue) → act ≡ Done w js u → v ≡ given_value w → is ≡ js → s ≡ u →
@@ -53,10 +53,10 @@ answers_done : (v : Value) (w : LibValue) (is js : List Item) (s u : Store) (act
 answers_done v w is js s u act e value items store = subst (λ (act : Act LibValue). Answers (answers.Value v) is s act) (sym e) (value, items, store)
 
 -- a part of a call whose streams stay within their limits is the call
-pub answers_of : (r : Result Value LibAnswer) (is : List Item) (t : Store) (act : Act LibValue) → length t.output ≤ 2 ^ 24 →
+pub answers_of : (r : Result Value LibAnswer) (is : List Item) (t : Store) (act : Act LibValue) → total t.output ≤ 2 ^ 24 →
     Does given_value r is t act → Answers (answer_in r) is t (output_within act)
 answers_of (Ok v) is t (Done w js u) o h =
-    let l : length u.output ≤ 2 ^ 24 = subst (λ (s : Store). length s.output ≤ 2 ^ 24) h.2 o in
+    let l : total u.output ≤ 2 ^ 24 = subst (λ (s : Store). total s.output ≤ 2 ^ 24) h.2 o in
     answers_done v w is js t u (output_within (Done w js u)) (output_kept w js u l) h.0 h.1 h.2
 answers_of (Err answers.NoMemory) is t act o h = tt
 answers_of (Err (answers.Raise c)) is t (Raised d) o h = h
@@ -96,7 +96,7 @@ not_freed_by rows a prov c s t is r h =
 
 -- ---- calls
 pub malloc_called : (rows : List Row) (vs : List LibValue) (who : Event) (n : ℕ) (s t : Store) (r : Result Value LibAnswer) (is : List Item) →
-    length t.output ≤ 2 ^ 24 → n ≡ size_of_value (argument_at vs 0) →
+    total t.output ≤ 2 ^ 24 → n ≡ size_of_value (argument_at vs 0) →
     Does given_value r is t (created_within n s (run rows (malloc rows who n) s)) → Answers (answer_in r) is t (called rows Malloc vs who s)
 malloc_called rows vs who n s t r is o size h =
     answers_of r is t (created_within (size_of_value (argument_at vs 0)) s (run rows (malloc rows who (size_of_value (argument_at vs 0))) s)) o
@@ -105,7 +105,7 @@ malloc_called rows vs who n s t r is o size h =
 pub address_is : (a b : ℕ) (p q : Prov) → pointer a p ≡ pointer b q → (a ≡ b) × (p ≡ q)
 address_is a b p q e = (cc, cc)
 
-pub free_called : (rows : List Row) (vs : List LibValue) (who : Event) (a : ℕ) (p : Prov) (s t : Store) (is : List Item) → length t.output ≤ 2 ^ 24 →
+pub free_called : (rows : List Row) (vs : List LibValue) (who : Event) (a : ℕ) (p : Prov) (s t : Store) (is : List Item) → total t.output ≤ 2 ^ 24 →
     pointer a p ≡ pointer_in (argument_at vs 0) →
     Does (λ u. u) (Ok tt) is t (run rows (free rows a p FreeOfOther) s) → Answers (answers.Value Nothing) is t (called rows Free vs who s)
 free_called rows vs who a p s t is out same h =
@@ -117,7 +117,7 @@ free_called rows vs who a p s t is out same h =
     (subst (λ (p : Prov). Does (λ u. u) (Ok tt) is t (run rows (free rows a p FreeOfOther) s)) q.1 h)))
 
 pub free_refused : (rows : List Row) (vs : List LibValue) (who : Event) (a : ℕ) (p : Prov) (s t : Store) (is : List Item) (r : LibAnswer) →
-    length t.output ≤ 2 ^ 24 → pointer a p ≡ pointer_in (argument_at vs 0) →
+    total t.output ≤ 2 ^ 24 → pointer a p ≡ pointer_in (argument_at vs 0) →
     Does {A = Unit {0}} {B = Unit {0}} (λ u. u) (Err r) is t (run rows (free rows a p FreeOfOther) s) → Answers r is t (called rows Free vs who s)
 free_refused rows vs who a p s t is r out same h =
     let q = address_is a (address_in (argument_at vs 0)) p (prov_in (argument_at vs 0)) same in
@@ -150,14 +150,14 @@ arm f g rows vs who m io a is s u e h = subst (λ (k : LibFunc). IsCall k vs m i
 
 -- a calloc whose streams stay within their limits is the call
 pub calloc_called : (rows : List Row) (vs : List LibValue) (who : Event) (s t : Store) (r : Result Value LibAnswer) (is : List Item) →
-    length t.output ≤ 2 ^ 24 →
+    total t.output ≤ 2 ^ 24 →
     Does given_value r is t (created_within (asked Calloc vs) s (run rows (calloc rows who (asked Calloc vs)) s)) →
     Answers (answer_in r) is t (called rows Calloc vs who s)
 calloc_called rows vs who s t r is o h = answers_of r is t (created_within (asked Calloc vs) s (run rows (calloc rows who (asked Calloc vs)) s)) o h
 
 -- the same of a realloc
 pub realloc_called : (rows : List Row) (vs : List LibValue) (who : Event) (s t : Store) (r : Result Value LibAnswer) (is : List Item) →
-    length t.output ≤ 2 ^ 24 →
+    total t.output ≤ 2 ^ 24 →
     Does given_value r is t (created_within (asked Realloc vs) s (run rows (library rows Realloc vs who) s)) →
     Answers (answer_in r) is t (called rows Realloc vs who s)
 realloc_called rows vs who s t r is o h = answers_of r is t (created_within (asked Realloc vs) s (run rows (library rows Realloc vs who) s)) o h

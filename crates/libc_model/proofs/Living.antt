@@ -11,7 +11,7 @@ use Rattle.mem_spec.specs.Acts.{expose}
 use Rattle.prov_memory.specs.Keeps.{Keeps}
 use Rattle.prov_memory.proofs.KeepLemmas.{keeps_none, keeps_then}
 use Rattle.prov_memory.specs.Held.{held_of}
-use Rattle.mem_spec.specs.Streams.{Io}
+use Rattle.mem_spec.specs.Streams.{Io, silent}
 use Rattle.prov_memory.specs.Memory.{Kept, life_in, store_of}
 use Rattle.prov_memory.specs.Tags.{AreTagged, ObjectsTagged}
 use Rattle.libc_model.specs.Parts.{IsSettled}
@@ -26,7 +26,7 @@ done_store : {V : Type 0} (v w : V) (is js : List Item) (s u : Store) → Done v
 done_store v w is js s u e = cc
 
 abbrev pub no_streams : Io
-no_streams = record { input = []; position = 0; output = [] }
+no_streams = record { input = []; position = 0; output = silent }
 
 -- an object is exposed
 pub expose_lives : (m new : Kept) (x : ObjName) (is : List Item) →

@@ -302,7 +302,7 @@ refused_none V (Bury x) = tt
 refused_none V (Show x) = tt
 refused_none V (Find a) = tt
 refused_none V Take = tt
-refused_none V (Print bs) = tt
+refused_none V (Print to bs) = tt
 
 touched_none : {V : Type 0} (i : Item) (act : Act V) → is_expose i ≡ false → ListsNone act → ListsNone (touched i act)
 touched_none i (Done v is s) h k = or_both (is_expose i) (has_expose is) h k

@@ -40,7 +40,9 @@ use Rattle.prov_memory.specs.declared.answer.LibAnswer.{LibAnswer}
 use Rattle.prov_memory.specs.declared.answer.LibAnswer.TheVariants as answers
 use Rattle.mem_spec.specs.Store.{Store}
 use Rattle.mem_spec.specs.Script.{Script, Give, ◌>>=◌, Act, Done, Outside, run}
-use Rattle.mem_spec.specs.Streams.{Io}
+use Rattle.mem_spec.specs.declared.stream.Stream.{Stream}
+use Rattle.mem_spec.specs.declared.stream.Stream.TheVariants as streams
+use Rattle.mem_spec.specs.Streams.{Io, Outputs, printed_to, total}
 use Rattle.prov_memory.specs.Memory.{Kept, store_of}
 use Rattle.libc_spec.specs.Library.{
   LibValue,
@@ -81,109 +83,120 @@ line_is ns ms ls less more = more ∙ ap (λ (ks : List ℕ). ks ++ 10 ∷ []) (
 abbrev pub line_value : Text → List ℕ → List ℕ
 line_value s ns = line ns
 
--- ---- the output beside what items settle and expose
-abbrev pub wrote : Store → List ℕ → Store
-wrote s bs = record s { output = s.output ++ bs }
+-- ---- the streams beside what items settle and expose
+abbrev pub wrote : Stream → Store → List ℕ → Store
+wrote to s bs = record s { output = printed_to to bs s.output }
 
-effect_wrote : (i : Item) (s : Store) (bs : List ℕ) → effect i (wrote s bs) ≡ wrote (effect i s) bs
-effect_wrote (Read y a n) s bs = refl
-effect_wrote (Write y a n) s bs = refl
-effect_wrote (Born y) s bs = refl
-effect_wrote (Dies y) s bs = refl
-effect_wrote (Alive y) s bs = refl
-effect_wrote (Expose y) s bs = refl
-effect_wrote (Lookup b) s bs = refl
-effect_wrote (Narrow id y) s bs = refl
-effect_wrote Input s bs = refl
-effect_wrote Output s bs = refl
-effect_wrote Ending s bs = refl
-effect_wrote Any s bs = refl
+effect_wrote : (i : Item) (to : Stream) (s : Store) (bs : List ℕ) → effect i (wrote to s bs) ≡ wrote to (effect i s) bs
+effect_wrote (Read y a n) to s bs = refl
+effect_wrote (Write y a n) to s bs = refl
+effect_wrote (Born y) to s bs = refl
+effect_wrote (Dies y) to s bs = refl
+effect_wrote (Alive y) to s bs = refl
+effect_wrote (Expose y) to s bs = refl
+effect_wrote (Lookup b) to s bs = refl
+effect_wrote (Narrow id y) to s bs = refl
+effect_wrote Input to s bs = refl
+effect_wrote Output to s bs = refl
+effect_wrote Ending to s bs = refl
+effect_wrote Any to s bs = refl
 
-after_wrote : (is : List Item) (s : Store) (bs : List ℕ) → after is (wrote s bs) ≡ wrote (after is s) bs
-after_wrote [] s bs = refl
-after_wrote (i ∷ is) s bs = ap (after is) (effect_wrote i s bs) ∙ after_wrote is (effect i s) bs
+pub after_wrote : (is : List Item) (to : Stream) (s : Store) (bs : List ℕ) → after is (wrote to s bs) ≡ wrote to (after is s) bs
+after_wrote [] to s bs = refl
+after_wrote (i ∷ is) to s bs = ap (after is) (effect_wrote i to s bs) ∙ after_wrote is to (effect i s) bs
 
-do_wrote : (cells : Cells) (i : Item) (s : Store) (bs : List ℕ) → CanDo cells i s → CanDo cells i (wrote s bs)
-do_wrote cells (Read y a n) s bs h = h
-do_wrote cells (Write y a n) s bs h = h
-do_wrote cells (Born y) s bs h = h
-do_wrote cells (Dies y) s bs h = h
-do_wrote cells (Alive y) s bs h = h
-do_wrote cells (Expose y) s bs h = h
-do_wrote cells (Lookup b) s bs h = h
-do_wrote cells (Narrow id y) s bs h = h
-do_wrote cells Input s bs h = h
-do_wrote cells Output s bs h = h
-do_wrote cells Ending s bs h = h
-do_wrote cells Any s bs h = h
+do_wrote : (cells : Cells) (i : Item) (to : Stream) (s : Store) (bs : List ℕ) → CanDo cells i s → CanDo cells i (wrote to s bs)
+do_wrote cells (Read y a n) to s bs h = h
+do_wrote cells (Write y a n) to s bs h = h
+do_wrote cells (Born y) to s bs h = h
+do_wrote cells (Dies y) to s bs h = h
+do_wrote cells (Alive y) to s bs h = h
+do_wrote cells (Expose y) to s bs h = h
+do_wrote cells (Lookup b) to s bs h = h
+do_wrote cells (Narrow id y) to s bs h = h
+do_wrote cells Input to s bs h = h
+do_wrote cells Output to s bs h = h
+do_wrote cells Ending to s bs h = h
+do_wrote cells Any to s bs h = h
 
-follow_wrote : (cells : Cells) (is : List Item) (s : Store) (bs : List ℕ) → CanFollow cells is s → CanFollow cells is (wrote s bs)
-follow_wrote cells [] s bs h = tt
-follow_wrote cells (i ∷ is) s bs h = (
-  do_wrote cells i s bs h.0,
-  subst (λ (u : Store). CanFollow cells is u) (sym (effect_wrote i s bs))
-      (follow_wrote cells is (effect i s) bs h.1),
+pub follow_wrote : (cells : Cells) (is : List Item) (to : Stream) (s : Store) (bs : List ℕ) → CanFollow cells is s → CanFollow cells is (wrote to s bs)
+follow_wrote cells [] to s bs h = tt
+follow_wrote cells (i ∷ is) to s bs h = (
+  do_wrote cells i to s bs h.0,
+  subst (λ (u : Store). CanFollow cells is u) (sym (effect_wrote i to s bs))
+      (follow_wrote cells is to (effect i s) bs h.1),
 )
+
+-- the bytes of both streams grow by what is printed
+pub total_printed : (to : Stream) (bs : List ℕ) (o : Outputs) → total (printed_to to bs o) ≡ total o + length bs
+total_printed streams.Output bs o =
+    let e : length (o.standard ++ bs) ≡ length o.standard + length bs = length-append o.standard bs in
+    omega (arith, e)
+total_printed streams.Errors bs o =
+    let e : length (o.errors ++ bs) ≡ length o.errors + length bs = length-append o.errors bs in
+    omega (arith, e)
 
 -- ---- the end of a call that prints
 prints : (m : Kept) (rows : List Row) (io : Io) (is : List Item) (bs : List ℕ) (script : List Row → Script (List ℕ)) → rows ≡ m.rows →
     (g : Gives false (List ℕ) m io [] is (script m.rows) bs) →
-    run rows (printing (script rows)) (store_of m io) ≡ Done (number (pos 1)) (g.items ++ Output ∷ []) (wrote (after is (store_of m io)) bs)
+    run rows (printing (script rows)) (store_of m io) ≡ Done (number (pos 1)) (g.items ++ Output ∷ []) (wrote streams.Output (after is (store_of m io)) bs)
 prints m rows io is bs script same g =
     ap (λ (rs : List Row). run rs (printing (script rs)) (store_of m io)) same
     ∙ run_then m.rows (script m.rows) printed (store_of m io)
     ∙ ap (λ (act : Act (List ℕ)). then act (λ v u. run m.rows (printed v) u)) g.done
-    ∙ behind_done g.items (Output ∷ []) (number (pos 1)) (wrote (after is (store_of m io)) bs)
+    ∙ behind_done g.items (Output ∷ []) (number (pos 1)) (wrote streams.Output (after is (store_of m io)) bs)
 
-after_store : (is : List Item) (m : Kept) (io : Io) (bs : List ℕ) → after is (store_of m (record io { output = io.output ++ bs })) ≡ wrote
+after_store : (is : List Item) (m : Kept) (io : Io) (bs : List ℕ) → after is (store_of m (record io { output = printed_to streams.Output bs io.output })) ≡ wrote streams.Output
     (after is (store_of m io)) bs
-after_store is m io bs = after_wrote is (store_of m io) bs
+after_store is m io bs = after_wrote is streams.Output (store_of m io) bs
 
 -- the bytes are printed, and what the call settles and exposes took effect
 pub print_gives : (m new : Kept) (io out : Io) (is js : List Item) (bs : List ℕ) (script : List Row → Script (List ℕ)) → AreWithin io →
-    length io.output + length bs ≤ 2 ^ 24 → Gives false (List ℕ) m io [] is (script m.rows) bs →
-    js ≡ is ++ Output ∷ [] → out ≡ record io { output = io.output ++ bs } → new.rows ≡ m.rows →
+    total io.output + length bs ≤ 2 ^ 24 → Gives false (List ℕ) m io [] is (script m.rows) bs →
+    js ≡ is ++ Output ∷ [] → out ≡ record io { output = printed_to streams.Output bs io.output } → new.rows ≡ m.rows →
     ((io : Io) → CanFollow m.cells js (store_of m io) → store_of new io ≡ after js (store_of m io)) →
     Answers (answers.Value (Int (pos 1))) js (store_of new out) (limited (store_of m io) (run new.rows (printing (script new.rows)) (store_of m io)))
 print_gives m new io out is js bs script within fits g more put rows settled =
-    let end : Io = record io { output = io.output ++ bs } in
+    let end : Io = record io { output = printed_to streams.Output bs io.output } in
     let items : js ≡ joined (g.items ++ Output ∷ []) = more ∙ ap (λ (ks : List Item). ks ++ Output ∷ []) g.added ∙ sym
     (joined_append g.items (Output ∷ []) refl) in
     let able : CanFollow m.cells js (store_of m end) = subst (λ (ks : List Item). CanFollow m.cells ks (store_of m end)) (sym more)
-    (follow_append m.cells is (Output ∷ []) (store_of m end) (follow_wrote m.cells is (store_of m io) bs (g.able tt)) (tt, tt)) in
-    let store : store_of new out ≡ wrote (after is (store_of m io)) bs =
+    (follow_append m.cells is (Output ∷ []) (store_of m end) (follow_wrote m.cells is streams.Output (store_of m io) bs (g.able tt)) (tt, tt)) in
+    let store : store_of new out ≡ wrote streams.Output (after is (store_of m io)) bs =
     ap (store_of new) put ∙ settled end able ∙ ap (λ (ks : List Item). after ks (store_of m end)) more ∙ after_append is (Output ∷ [])
     (store_of m end) ∙ after_store is m io bs in
-    let size : length (io.output ++ bs) ≤ 2 ^ 24 = omega (arith, fits, length-append io.output bs) in
+    let size : total (printed_to streams.Output bs io.output) ≤ 2 ^ 24 = subst (λ (n : ℕ). n ≤ 2 ^ 24)
+    (sym (total_printed streams.Output bs io.output)) fits in
     subst (λ (act : Act LibValue). Answers (answers.Value (Int (pos 1))) js (store_of new out) (limited (store_of m io) act))
     (sym (prints m new.rows io is bs script rows g))
-    (answers_of (Ok (Int (pos 1))) js (store_of new out) (Done (number (pos 1)) (joined (g.items ++ Output ∷ [])) (wrote (after is (store_of m io)) bs))
-    (subst (λ (o : Io). length o.output ≤ 2 ^ 24) (sym put) size) (refl, items, store))
+    (answers_of (Ok (Int (pos 1))) js (store_of new out) (Done (number (pos 1)) (joined (g.items ++ Output ∷ [])) (wrote streams.Output (after is (store_of m io)) bs))
+    (subst (λ (o : Io). total o.output ≤ 2 ^ 24) (sym put) size) (refl, items, store))
 
 -- the output would pass its limit
-past_split : (b : Bool) (n : ℕ) (e : LibAnswer) (r : Result (Unit {0}) LibAnswer) → r ≡ Err e → r ≡ cond b (Err (answers.Outside PastOutput n)) (Ok tt) →
+pub past_split : (b : Bool) (n : ℕ) (e : LibAnswer) (r : Result (Unit {0}) LibAnswer) → r ≡ Err e → r ≡ cond b (Err (answers.Outside PastOutput n)) (Ok tt) →
     (b ≡ true) × (e ≡ answers.Outside PastOutput n)
 past_split true n e r err h = (refl, cc)
 past_split false n e r err h = absurd (cc)
 
-past_act : (n : ℕ) (v : LibValue) (is : List Item) (u : Store) → length u.output ≡ n → nat_lt (2 ^ 24) n ≡ true →
+pub past_act : (n : ℕ) (v : LibValue) (is : List Item) (u : Store) → total u.output ≡ n → nat_lt (2 ^ 24) n ≡ true →
     output_within (Done v is u) ≡ Outside PastOutput n
 past_act n v is u size past = ap (λ (k : ℕ). cond (nat_lt (2 ^ 24) k) (Outside PastOutput k) (Done v is u)) size ∙ ap
     (λ (b : Bool). cond b (Outside PastOutput n) (Done v is u)) past
 
 pub print_past : (m : Kept) (io : Io) (is : List Item) (bs : List ℕ) (script : List Row → Script (List ℕ)) (e : LibAnswer) (r : Result (Unit {0}) LibAnswer) →
     Gives false (List ℕ) m io [] is (script m.rows) bs → r ≡ Err e →
-    r ≡ cond (nat_lt (2 ^ 24) (length io.output + length bs)) (Err (answers.Outside PastOutput (length io.output + length bs))) (Ok tt) →
+    r ≡ cond (nat_lt (2 ^ 24) (total io.output + length bs)) (Err (answers.Outside PastOutput (total io.output + length bs))) (Ok tt) →
     Answers e is (store_of m io) (limited (store_of m io) (run m.rows (printing (script m.rows)) (store_of m io)))
 print_past m io is bs script e r g err past =
-    let q = past_split (nat_lt (2 ^ 24) (length io.output + length bs)) (length io.output + length bs) e r err past in
-    let size : length (wrote (after is (store_of m io)) bs).output ≡ length io.output + length bs =
-    ap (λ (u : Store). length (u.output ++ bs)) (bare_after is (store_of m io)) ∙ length-append io.output bs in
-    let act : limited (store_of m io) (run m.rows (printing (script m.rows)) (store_of m io)) ≡ Outside PastOutput (length io.output + length bs) =
-    ap (limited (store_of m io)) (prints m m.rows io is bs script refl g) ∙ past_act (length io.output + length bs) (number (pos 1))
-    (joined (g.items ++ Output ∷ [])) (wrote (after is (store_of m io)) bs) size q.0 in
+    let q = past_split (nat_lt (2 ^ 24) (total io.output + length bs)) (total io.output + length bs) e r err past in
+    let size : total (wrote streams.Output (after is (store_of m io)) bs).output ≡ total io.output + length bs =
+    ap (λ (u : Store). total (printed_to streams.Output bs u.output)) (bare_after is (store_of m io))
+    ∙ total_printed streams.Output bs io.output in
+    let act : limited (store_of m io) (run m.rows (printing (script m.rows)) (store_of m io)) ≡ Outside PastOutput (total io.output + length bs) =
+    ap (limited (store_of m io)) (prints m m.rows io is bs script refl g) ∙ past_act (total io.output + length bs) (number (pos 1))
+    (joined (g.items ++ Output ∷ [])) (wrote streams.Output (after is (store_of m io)) bs) size q.0 in
     subst (λ (a : LibAnswer). Answers a is (store_of m io) (limited (store_of m io) (run m.rows (printing (script m.rows)) (store_of m io)))) (sym q.1)
-    (subst (λ (act : Act LibValue). Answers (answers.Outside PastOutput (length io.output + length bs)) is (store_of m io) act) (sym act) (refl, refl))
+    (subst (λ (act : Act LibValue). Answers (answers.Outside PastOutput (total io.output + length bs)) is (store_of m io) act) (sym act) (refl, refl))
 
 -- ---- puts
 puts_is : (rows : List Row) (a : ℕ) (p : Prov) (s : Store) → run rows (printing (line_at rows a p)) s ≡ run rows (puts rows a p) s

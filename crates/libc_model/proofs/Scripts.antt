@@ -61,7 +61,7 @@ refused_then (Bury x) k = refl
 refused_then (Show x) k = refl
 refused_then (Find a) k = refl
 refused_then Take k = refl
-refused_then (Print bs) k = refl
+refused_then (Print to bs) k = refl
 
 touched_then : {A B : Type 0} (i : Item) (act : Act A) (k : A → Store → Act B) → touched i (then act k) ≡ then (touched i act) k
 touched_then i (Done v is s) k = refl

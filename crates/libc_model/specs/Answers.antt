@@ -1,5 +1,5 @@
 -- What a call answers, against the act that the definitions give it.
-use Rattle.std.specs.Prelude.{◌≡◌, ℕ, ◌≤◌, ◌^◌, Bool, true, false, ◌&&◌, List, [], ◌∷◌, length, None, IfSome, Result, Ok, Err}
+use Rattle.std.specs.Prelude.{◌≡◌, ℕ, ◌≤◌, ◌^◌, Bool, true, false, ◌&&◌, List, [], ◌∷◌, None, IfSome, Result, Ok, Err}
 use Rattle.ub_base.specs.declared.names.Item.{Item}
 use Rattle.ub_base.specs.declared.names.ObjName.{ObjName}
 use Rattle.addr_map.specs.declared.map.Row.{Row}
@@ -14,7 +14,7 @@ use Rattle.prov_memory.specs.declared.answer.LibAnswer.{LibAnswer}
 use Rattle.prov_memory.specs.declared.answer.LibAnswer.TheVariants as answers
 use Rattle.mem_spec.specs.Store.{Store}
 use Rattle.mem_spec.specs.Script.{Act, Done, Raised, Ended, Outside, Unplaced}
-use Rattle.mem_spec.specs.Streams.{Io}
+use Rattle.mem_spec.specs.Streams.{Io, total}
 use Rattle.prov_memory.specs.Held.{held_of}
 use Rattle.prov_memory.specs.Memory.{Kept, AreKnown, HasCell, life_in}
 use Rattle.prov_memory.specs.Tags.{AreTagged}
@@ -26,9 +26,9 @@ given_value (number n) = Int n
 given_value (pointer a p) = Ptr a p
 given_value nothing = Nothing
 
--- the output is within its limit (own)
+-- what was printed to both streams is within its limit (own)
 abbrev pub AreWithin : Io → Type 0
-AreWithin io = length io.output ≤ 2 ^ 24
+AreWithin io = total io.output ≤ 2 ^ 24
 
 -- the answer of a part of a call, its items and the store after it are those of an act; where memory is wanted nothing is said
 abbrev pub Does : {A B : Type 0} → (B → A) → Result A LibAnswer → List Item → Store → Act B → Type 0

@@ -40,6 +40,7 @@ use Rattle.prov_memory.specs.declared.value.Value.{Value}
 use Rattle.prov_memory.specs.declared.answer.LibAnswer.{LibAnswer}
 use Rattle.prov_memory.specs.declared.answer.LibAnswer.TheVariants as answers
 use Rattle.mem_spec.specs.Store.{Store, TaggedByte, range_from, settled, shown}
+use Rattle.mem_spec.specs.declared.stream.Stream.TheVariants as streams
 use Rattle.mem_spec.specs.Script.{Settle, Print, Script, Give, touch, ◌>>=◌, ◌>>◌, Act, Done, Raised, run}
 use Rattle.mem_spec.specs.Acts.{Accessed, settle_by, the_one_in, in_row, offset_in, is_written, all_written, origins_in}
 use Rattle.prov_memory.specs.Loads.{origins_of}
@@ -227,7 +228,7 @@ line_at rows a prov = text rows a prov >>= (λ s. read_numbers s.bytes >>= (λ n
 
 -- bytes are printed; the value is that of puts
 abbrev pub printed : List ℕ → Script LibValue
-printed bs = touch (Print bs) >> Give (number (pos 1))
+printed bs = touch (Print streams.Output bs) >> Give (number (pos 1))
 
 -- what a script gives is printed
 abbrev pub printing : Script (List ℕ) → Script LibValue

@@ -6,7 +6,7 @@ ghost use Rattle.addr_map.specs.declared.map.Row.{Row};
 ghost use Rattle.mem_spec.specs.Script.{Script, run};
 ghost use Rattle.prov_memory.specs.Keeps.{Keeps};
 ghost use Rattle.prov_memory.specs.Memory.{Kept, AreKnown, HasCell, store_of};
-ghost use Rattle.mem_spec.specs.Streams.{Io};
+ghost use Rattle.mem_spec.specs.Streams.{Io, total};
 ghost use Rattle.prov_memory.specs.declared.answer.LibAnswer.TheVariants as answers;
 ghost use Rattle.libc_spec.specs.Library.{LibValue, called, byte_or_end, integer_in, argument_at};
 ghost use Rattle.ub_base.specs.declared.names.Event.{Event};
@@ -18,11 +18,12 @@ use crate::arguments::{Pointer, check_string, int_at, pointer_at, size_at};
 use crate::bytes::{numbers, settle};
 use crate::{heap, ranges, strings};
 use c_types::LibFunc;
+use mem_spec::Stream;
 use prov_memory::{LibAnswer, Memory, Streams, Touched, Value, Values};
 use std::alloc::Global;
 use ub_base::{Cause, Clause, Event, Item, NoMemory};
 
-/// The limit on the length of the output (own).
+/// The limit on the bytes of standard output and standard error together (own).
 const OUTPUT: u64 = 1 << 24;
 
 /// The status of a program that aborts (own).
@@ -134,7 +135,7 @@ fn byte_or_end(next: Option<u8>) -> Value
     }
 }
 
-// The length that the output would reach with so many more bytes, where that passes the limit.
+// How many bytes would be written in all with so many more, where that passes the limit.
 fn output_past(written: u64, more: u64) -> Option<u64>
     ensures past { written + more < 2 ^ 64 → result ≡ (if nat_lt (2 ^ 24) (written + more) then Some (written + more) else None) }
     ensures within { IfNone result (written + more ≤ 2 ^ 24) }
@@ -143,10 +144,10 @@ fn output_past(written: u64, more: u64) -> Option<u64>
     if total > OUTPUT { Some(total) } else { None }
 }
 
-/// Whether so many more bytes of output pass the limit.
+/// Whether so many more bytes pass the limit on standard output and standard error together.
 pub fn check_output(io: &Streams, more: u64) -> Result<(), LibAnswer>
-    ensures within { OnOk result (length io.now.output + more ≤ 2 ^ 24) }
-    ensures past { length io.now.output + more < 2 ^ 64 → result ≡ (if nat_lt (2 ^ 24) (length io.now.output + more) then Err (answers.Outside Output (length io.now.output + more)) else Ok tt) }
+    ensures within { OnOk result (total io.now.output + more ≤ 2 ^ 24) }
+    ensures past { total io.now.output + more < 2 ^ 64 → result ≡ (if nat_lt (2 ^ 24) (total io.now.output + more) then Err (answers.Outside Output (total io.now.output + more)) else Ok tt) }
 {
     match output_past(io.written(), more) {
         Some(total) => Err(LibAnswer::Outside(Cause::Output, total)),
@@ -164,7 +165,7 @@ fn putchar(number: i128, io: &mut Streams, t: &mut Touched) -> Result<Value, Lib
     let byte = ranges::low_byte(number);
     check_output(io, 1)?;
     t.add(Item::Output)?;
-    io.put(&[byte])?;
+    io.put(Stream::Output, &[byte])?;
     Ok(Value::Int(i128::from(byte)))
 }
 
@@ -222,7 +223,7 @@ fn print(
     check_output(io, bytes.len() as u64)?;
     t.add(Item::Output)?;
     let mut scratch = Touched::new(alloc)?;
-    io.put(bytes)?;
+    io.put(Stream::Output, bytes)?;
     settle(m, t, &mut scratch);
     Ok(Value::Int(1))
 }

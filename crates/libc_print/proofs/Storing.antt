@@ -218,7 +218,7 @@ refused_noted (Bury x) = refl
 refused_noted (Show x) = refl
 refused_noted (Find a) = refl
 refused_noted Take = refl
-refused_noted (Print bs) = refl
+refused_noted (Print to bs) = refl
 
 step_noted : {V : Type 0} (r : Bool) (t : Touch) (a : Act (Noted V)) (b : Act V) → touched (item_of t) a ≡ noted (touched (item_of t) b) →
     cond r (refused {V = Noted V} t) (touched (item_of t) a) ≡ noted (cond r (refused {V = V} t) (touched (item_of t) b))

@@ -4,7 +4,7 @@ ghost use Rattle.std.specs.Prelude.{◌≡◌, ◌≤◌, ℕ, suc, length, drop
 ghost use Rattle.addr_map.specs.declared.map.Row.{Row};
 ghost use Rattle.libc_spec.specs.Directives.{directive_of};
 ghost use Rattle.libc_spec.specs.Library.{argument_at};
-ghost use Rattle.libc_spec.specs.Print.{put_byte, put_integer, put_string, put_address, put_sized, put, step, text_of, printed_by};
+ghost use Rattle.libc_spec.specs.Print.{put_byte, put_integer, put_string, put_address, put_sized, put, step, text_of, print_to, printed_by};
 ghost use Rattle.libc_model.specs.Answers.{AreWithin, Answers, HaveCells, answer_in, gives_value};
 ghost use Rattle.libc_model.specs.Parts.{Gives};
 ghost use Rattle.libc_model.specs.Seen.{values_seen};
@@ -25,6 +25,7 @@ use c_types::Qual;
 use libc_model::{
     Pointer, check_output, check_string, expose, low_byte, numbers, pointer_at, settle,
 };
+use mem_spec::Stream;
 use prov_memory::{LibAnswer, Memory, Streams, Touched, Value, Values};
 use std::alloc::Global;
 use ub_base::{Cause, Clause, Item};
@@ -46,15 +47,27 @@ pub fn format(
     ensures streams { gives_value result ≡ false → io.new ≡ io.old }
 {
     t.clear();
-    match printed(alloc, args.as_slice(), types, 0, 1, m, io, t) {
+    match printed(
+        alloc,
+        Stream::Output,
+        args.as_slice(),
+        types,
+        0,
+        1,
+        m,
+        io,
+        t,
+    ) {
         Ok(value) => LibAnswer::Value(value),
         Err(answer) => answer,
     }
 }
 
-/// Prints, and gives the number of bytes. The format is the argument `at`, and its own arguments are those from `first` on.
+/// Prints to a stream, and gives the number of bytes. The format is the argument `at`, and its own arguments are those from `first`
+/// on.
 pub fn printed(
     alloc: Global,
+    to: Stream,
     args: &[Value],
     types: &[Qual],
     at: usize,
@@ -64,44 +77,37 @@ pub fn printed(
     t: &mut Touched,
 ) -> Result<Value, LibAnswer>
     requires { t.old ≡ [] }
-    ensures exact { AreWithin io.old → HaveCells m.old (values_seen args.now) → Answers (answer_in result) t.new (store_of m.new io.new) (printed_by m.new.rows (argument_at (values_seen args.now) at) (drop first (typed args.now types.now)) (store_of m.old io.old)) }
+    ensures exact { AreWithin io.old → HaveCells m.old (values_seen args.now) → Answers (answer_in result) t.new (store_of m.new io.new) (limited (run m.new.rows (print_to to m.new.rows (argument_at (values_seen args.now) at) (drop first (typed args.now types.now))) (store_of m.old io.old))) }
     ensures known { AreKnown m.old → AreKnown m.new }
     ensures same { OnErr result ((m.new ≡ m.old) × (io.new ≡ io.old)) }
     ensures within { AreWithin io.old → AreWithin io.new }
     ensures streams { OnErr result (io.new ≡ io.old) }
 {
     let text = printed_text(alloc, pointer_at(args, at), args, types, first, m, t)?;
-    put_out(
-        alloc,
-        text.as_slice(),
-        text.as_slice().len() as u64,
-        m,
-        io,
-        t,
-    )
+    put_out(alloc, to, text.as_slice(), m, io, t)
 }
 
-/// The end of a call: what is shown of its bytes is printed, and all are counted.
-pub fn put_out(
+// The end of a call: its bytes go to a stream.
+fn put_out(
     alloc: Global,
-    shown: &[u8],
-    count: u64,
+    to: Stream,
+    bytes: &[u8],
     m: &mut Memory,
     io: &mut Streams,
     t: &mut Touched,
 ) -> Result<Value, LibAnswer>
-    ensures exact { (script : List Row → Script (List ℕ)) (f : List ℕ → List ℕ) (bytes : List ℕ) → AreWithin io.old → shown.now ≡ f bytes → count ≡ length bytes → Gives false (List ℕ) m.old io.old [] t.old (script m.old.rows) bytes → Answers (answer_in result) t.new (store_of m.new io.new) (limited (run m.new.rows (printing f (script m.new.rows)) (store_of m.old io.old))) }
+    ensures exact { (script : List Row → Script (List ℕ)) → AreWithin io.old → Gives false (List ℕ) m.old io.old [] t.old (script m.old.rows) bytes.now → Answers (answer_in result) t.new (store_of m.new io.new) (limited (run m.new.rows (printing to (script m.new.rows)) (store_of m.old io.old))) }
     ensures known { AreKnown m.old → AreKnown m.new }
     ensures same { OnErr result ((m.new ≡ m.old) × (io.new ≡ io.old)) }
     ensures within { AreWithin io.old → AreWithin io.new }
     ensures streams { OnErr result (io.new ≡ io.old) }
 {
-    check_output(io, shown.len() as u64)?;
+    check_output(io, bytes.len() as u64)?;
     t.add(Item::Output)?;
     let mut scratch = Touched::new(alloc)?;
-    io.put(shown)?;
+    io.put(to, bytes)?;
     settle(m, t, &mut scratch);
-    Ok(Value::Int(i128::from(count)))
+    Ok(Value::Int(i128::from(bytes.len() as u64)))
 }
 
 /// The text of a call: the format is read first. `first` is the number of the first argument behind it.

@@ -5,19 +5,19 @@ ghost use Rattle.std.specs.Ordering.{int_eq};
 ghost use Rattle.ub_base.specs.declared.clause.Cause.TheVariants.{Output};
 ghost use Rattle.prov_memory.specs.declared.answer.LibAnswer.TheVariants as answers;
 ghost use Rattle.libc_spec.specs.Library.{argument_at, integer_in};
-ghost use Rattle.libc_spec.specs.Formatted.{complaint, printed_to_by};
+ghost use Rattle.libc_spec.specs.Formatted.{printed_to_by};
 ghost use Rattle.libc_model.specs.Answers.{AreWithin, Answers, HaveCells, answer_in, gives_value};
 ghost use Rattle.libc_model.specs.Seen.{values_seen};
 ghost use Rattle.libc_print.specs.Seen.{typed};
 ghost use Rattle.libc_print.specs.Runs.{Prints, printed_text};
-ghost use Rattle.libc_print.specs.Calls.{limited, short_text};
-ghost use Rattle.mem_spec.specs.Script.{run};
+ghost use Rattle.libc_print.specs.Calls.{short_text};
 ghost use Rattle.mem_spec.specs.Streams.{Io};
 ghost use Rattle.prov_memory.specs.Memory.{AreKnown, HasCell, store_of};
 
-use crate::printf::{printed, printed_text, put_out};
+use crate::printf::{printed, printed_text};
 use c_types::Qual;
-use libc_model::{Pointer, int_at, pointer_at};
+use libc_model::{Pointer, int_at};
+use mem_spec::Stream;
 use prov_memory::{LibAnswer, Memory, Streams, Touched, Value, Values};
 use std::alloc::Global;
 use ub_base::{Cause, Clause};
@@ -26,7 +26,7 @@ use ub_base::{Cause, Clause};
 const TEXT: u64 = 1 << 24;
 
 /// What fprintf gives for the number of a stream, a format and further arguments, which have these types: 1 is standard output
-/// and 2 is standard error, whose bytes aren't kept (own). After each answer but a value, memory and streams are as before.
+/// and 2 is standard error (own). After each answer but a value, memory and streams are as before.
 pub fn format_to(
     alloc: Global,
     args: &Values,
@@ -79,32 +79,12 @@ fn written(
     ensures streams { OnErr result (io.new ≡ io.old) }
 {
     if is_number(stream, 1) {
-        return printed(alloc, args, types, 1, 2, m, io, t);
+        return printed(alloc, Stream::Output, args, types, 1, 2, m, io, t);
     }
     if is_number(stream, 2) {
-        return complained(alloc, args, types, m, io, t);
+        return printed(alloc, Stream::Errors, args, types, 1, 2, m, io, t);
     }
     Err(LibAnswer::Raise(Clause::LibraryArgument))
-}
-
-// What goes to standard error.
-fn complained(
-    alloc: Global,
-    args: &[Value],
-    types: &[Qual],
-    m: &mut Memory,
-    io: &mut Streams,
-    t: &mut Touched,
-) -> Result<Value, LibAnswer>
-    requires { t.old ≡ [] }
-    ensures exact { AreWithin io.old → HaveCells m.old (values_seen args.now) → Answers (answer_in result) t.new (store_of m.new io.new) (limited (run m.new.rows (complaint m.new.rows (argument_at (values_seen args.now) 1) (drop 2 (typed args.now types.now))) (store_of m.old io.old))) }
-    ensures known { AreKnown m.old → AreKnown m.new }
-    ensures same { OnErr result ((m.new ≡ m.old) × (io.new ≡ io.old)) }
-    ensures within { AreWithin io.old → AreWithin io.new }
-    ensures streams { OnErr result (io.new ≡ io.old) }
-{
-    let text = short_text(alloc, pointer_at(args, 1), args, types, 2, m, t)?;
-    put_out(alloc, &[], text.as_slice().len() as u64, m, io, t)
 }
 
 fn check_short(len: u64) -> Result<(), LibAnswer>

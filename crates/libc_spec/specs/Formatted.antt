@@ -34,8 +34,9 @@ use Rattle.ub_base.specs.declared.names.Item.{Item}
 use Rattle.ub_base.specs.declared.names.Item.TheVariants.{Read}
 use Rattle.ub_base.specs.Names.{same_object}
 use Rattle.addr_map.specs.declared.map.Row.{Row}
+use Rattle.mem_spec.specs.declared.stream.Stream.TheVariants as streams
 use Rattle.mem_spec.specs.Store.{Store}
-use Rattle.mem_spec.specs.Script.{Print, item_of, Script, Give, Raise, Finish, Exceed, Misplace, Do, touch, require, ◌>>=◌, ◌>>◌, Act, run}
+use Rattle.mem_spec.specs.Script.{item_of, Script, Give, Raise, Finish, Exceed, Misplace, Do, touch, require, ◌>>=◌, ◌>>◌, Act, run}
 use Rattle.mem_spec.specs.Acts.{Accessed, argument}
 use Rattle.libc_spec.specs.Library.{
   LibValue,
@@ -50,7 +51,7 @@ use Rattle.libc_spec.specs.Library.{
   in_ranges,
   output_within,
 }
-use Rattle.libc_spec.specs.Print.{Argument, text_of, printf}
+use Rattle.libc_spec.specs.Print.{Argument, text_of, print_to}
 
 -- the text of a call
 abbrev pub formatted : List Row → LibValue → List Argument → Script (List ℕ)
@@ -59,25 +60,19 @@ formatted rows format as' = do
   ns ← read_numbers s.bytes
   text_of (length ns) rows 0 (without_zero ns) as'
 
--- a text that isn't printed has at most as many bytes as the output (own)
+-- a text that isn't printed has at most as many bytes as standard output and standard error together (own)
 abbrev pub short : List ℕ → Script (List ℕ)
 short bytes = if nat_lt (2 ^ 24) (length bytes) then Exceed PastOutput (length bytes) else Give bytes
 
 abbrev pub short_text : List Row → LibValue → List Argument → Script (List ℕ)
 short_text rows format as' = formatted rows format as' >>= short
 
--- what goes to standard error isn't kept: it has the item of output, and leaves the output as it is (own)
-abbrev pub complaint : List Row → LibValue → List Argument → Script LibValue
-complaint rows format as' = do
-  bytes ← short_text rows format as'
-  touch (Print [])
-  Give (number (pos (length bytes)))
-
--- the stream 1 is standard output, 2 is standard error, and there is no other (own)
+-- the stream 1 is standard output, 2 is standard error, and there is no other; what goes to either has the item of output, so any two
+-- outputs conflict, whichever streams they go to (own)
 abbrev pub fprintf : List Row → ℤ → LibValue → List Argument → Script LibValue
 fprintf rows stream format as' =
-    if int_eq stream (pos 1) then printf rows format as'
-    else if int_eq stream (pos 2) then complaint rows format as'
+    if int_eq stream (pos 1) then print_to streams.Output rows format as'
+    else if int_eq stream (pos 2) then print_to streams.Errors rows format as'
     else Raise LibraryArgument
 
 -- how many bytes of a text are stored, with the zero: all of them, or at most so many (7.21.6.5p2)
@@ -146,7 +141,7 @@ store_text most p = do
 abbrev pub sprintf : List Row → Option ℕ → (to format : LibValue) → List Argument → Script LibValue
 sprintf rows most to format as' = noting (placed rows most to format as') >>= store_text most
 
--- calls of them, with what is read of a string named by one range (own), and the limit on the output
+-- calls of them, with what is read of a string named by one range (own), and the limit on what is printed
 abbrev pub printed_to_by : List Row → ℤ → LibValue → List Argument → Store → Act LibValue
 printed_to_by rows stream format as' s = output_within (in_ranges (run rows (fprintf rows stream format as') s))
 

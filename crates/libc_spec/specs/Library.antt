@@ -81,6 +81,8 @@ use Rattle.c_types.specs.declared.library.LibFunc.TheVariants.{
   Abort,
 }
 use Rattle.mem_spec.specs.declared.kind.ObjKind.{ObjKind}
+use Rattle.mem_spec.specs.declared.stream.Stream.TheVariants as streams
+use Rattle.mem_spec.specs.Streams.{total}
 use Rattle.mem_spec.specs.Store.{Byte, written, TaggedByte, Life, Store}
 use Rattle.mem_spec.specs.Script.{
   Ask,
@@ -390,7 +392,7 @@ getchar = do
   Give (byte_or_end b)
 
 abbrev pub putchar : ℤ → Script LibValue
-putchar c = touch (Print (low_byte c ∷ [])) >> Give (number (pos (low_byte c)))
+putchar c = touch (Print streams.Output (low_byte c ∷ [])) >> Give (number (pos (low_byte c)))
 
 abbrev pub without_zero : List ℕ → List ℕ
 without_zero [] = []
@@ -402,7 +404,7 @@ abbrev pub puts : List Row → ℕ → Prov → Script LibValue
 puts rows a prov = do
   s ← text rows a prov
   ns ← read_numbers s.bytes
-  touch (Print (without_zero ns ++ 10 ∷ []))
+  touch (Print streams.Output (without_zero ns ++ 10 ∷ []))
   Give (number (pos 1))
 
 -- what a function does to the store
@@ -476,9 +478,9 @@ abbrev pub created_within : ℕ → Store → Act LibValue → Act LibValue
 created_within n s (Raised c) = Raised c
 created_within n s act = if is_given n && nat_lt (2 ^ 26) (created_with s n) then Outside PastCreated (created_with s n) else act
 
--- the limit on the output
+-- the limit on the bytes of standard output and standard error together (own)
 abbrev pub output_within : Act LibValue → Act LibValue
-output_within (Done v is s) = if nat_lt (2 ^ 24) (length s.output) then Outside PastOutput (length s.output) else Done v is s
+output_within (Done v is s) = if nat_lt (2 ^ 24) (total s.output) then Outside PastOutput (total s.output) else Done v is s
 output_within act = act
 
 -- a call of a library function, with the limits

@@ -47,6 +47,8 @@ use Rattle.ub_base.specs.declared.names.ObjName.{ObjName}
 use Rattle.addr_map.specs.declared.map.Row.{Row}
 use Rattle.addr_map.specs.Rows.{row_of}
 use Rattle.mem_spec.specs.Store.{TaggedByte, Store}
+use Rattle.mem_spec.specs.declared.stream.Stream.{Stream}
+use Rattle.mem_spec.specs.declared.stream.Stream.TheVariants as streams
 use Rattle.mem_spec.specs.Script.{Get, Print, Script, Give, Raise, Exceed, touch, require, ◌>>=◌, ◌>>◌, Act, run}
 use Rattle.mem_spec.specs.Acts.{Accessed, argument, expose, size_in}
 use Rattle.libc_spec.specs.Library.{
@@ -382,13 +384,17 @@ text_of (suc fuel) rows at (c ∷ cs) as' = do
   more ← text_of fuel rows (at + 1 + s.len) (drop s.len cs) s.rest
   Give (s.bytes ++ more)
 
-abbrev pub printf : List Row → LibValue → List Argument → Script LibValue
-printf rows format as' = do
+-- the text of a format goes to a stream; the value is its length (7.21.6.1p14)
+abbrev pub print_to : Stream → List Row → LibValue → List Argument → Script LibValue
+print_to to rows format as' = do
   s ← text rows (address_in format) (prov_in format)
   ns ← read_numbers s.bytes
   bytes ← text_of (length ns) rows 0 (without_zero ns) as'
-  touch (Print bytes)
+  touch (Print to bytes)
   Give (number (pos (length bytes)))
+
+abbrev pub printf : List Row → LibValue → List Argument → Script LibValue
+printf rows format as' = print_to streams.Output rows format as'
 
 -- a call of printf, whose items name what is read of a string by one range (own), with the limit on the output; the check of each
 -- string's pointer stands before its reads, so no range joins two strings

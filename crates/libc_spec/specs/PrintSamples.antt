@@ -1,7 +1,7 @@
 -- Calls of printf, with the bytes that the C library of an x86-64 GNU/Linux prints, and refusals by 7.21.6.1.
 use Rattle.std.specs.Prelude.{◌≡◌, ℕ, zero, suc, true, false, List, [], ◌∷◌, ◌++◌, map, length, codes, Option, Some, None, ℤ, pos, negsuc, slice_index_or, ◌+◌}
 use Rattle.ub_base.specs.declared.clause.Clause.{Clause}
-use Rattle.ub_base.specs.declared.clause.Clause.TheVariants.{Conversion, TooFewArguments}
+use Rattle.ub_base.specs.declared.clause.Clause.TheVariants.{Conversion, TooFewArguments, LibraryArgument}
 use Rattle.ub_base.specs.declared.clause.Cause.{Cause}
 use Rattle.ub_base.specs.declared.clause.Cause.TheVariants.{Conversion as PastConversion, Directive as PastDirective}
 use Rattle.ub_base.specs.declared.names.Item.{Item}
@@ -15,9 +15,11 @@ use Rattle.c_types.specs.declared.kind.IntKind.TheVariants.{Char, Int, UInt, Lon
 use Rattle.c_types.specs.Types.{CType, void, int}
 use Rattle.c_types.specs.Types as types
 use Rattle.mem_spec.specs.Store.{TaggedByte, fresh, Life, Store}
+use Rattle.mem_spec.specs.Streams.{Outputs, on_output, silent}
 use Rattle.mem_spec.specs.Script.{Act, Done, Raised, Outside}
 use Rattle.libc_spec.specs.Library.{LibValue, number, pointer, plain}
 use Rattle.libc_spec.specs.Print.{Argument, printed_by}
+use Rattle.libc_spec.specs.Formatted.{printed_to_by}
 
 -- lit 0 is the format, at 16777216, and lit 1 is "hi", at 16777472
 abbrev pub text_bytes : List ℕ → List TaggedByte
@@ -44,7 +46,7 @@ store_of format = record {
   kept = λ e. None;
   input = [];
   position = 0;
-  output = [];
+  output = silent;
   created = 32;
 }
 
@@ -82,7 +84,7 @@ abbrev pub answers : List ℕ → List Argument → Answer
 answers format args = answer_of (call format args)
 
 abbrev pub output_of : Act LibValue → List ℕ
-output_of (Done v is s) = s.output
+output_of (Done v is s) = s.output.standard
 output_of _ = []
 
 abbrev pub prints : List ℕ → List Argument → List ℕ
@@ -98,6 +100,14 @@ items format args = items_of (call format args)
 -- the same string from its second byte on
 abbrev pub tail : Argument
 tail = record { value = pointer 16777473 (Whole (Lit 1)); ty = pointer_to (int Char) }
+
+-- fprintf of "hi" to the stream of a number
+abbrev pub call_to : ℤ → Act LibValue
+call_to stream = printed_to_by (rows_of (codes "hi")) stream (pointer 16777216 (Whole (Lit 0))) [] (store_of (codes "hi"))
+
+abbrev pub outputs_of : Act LibValue → Outputs
+outputs_of (Done v is s) = s.output
+outputs_of _ = silent
 
 pub record PrintSamples : Type 0 where
   -- %d of 0
@@ -174,3 +184,9 @@ pub record PrintSamples : Type 0 where
   -- two strings of which one begins where the other's bytes end
   pub items_2 : items (codes "%.1s%s") (word ∷ tail ∷ []) ≡ Alive (Lit 0) ∷ Read (Lit 0) 0 7 ∷ Alive (Lit 1) ∷ Read (Lit 1) 0 1 ∷ Alive (Lit 1) ∷ Read
       (Lit 1) 1 2 ∷ Output ∷ []
+  -- standard output and standard error are two streams, both with the item of output
+  pub stream_0 : outputs_of (call_to (pos 1)) ≡ on_output (104 ∷ 105 ∷ [])
+  pub stream_1 : outputs_of (call_to (pos 2)) ≡ record { standard = []; errors = 104 ∷ 105 ∷ [] }
+  pub stream_2 : items_of (call_to (pos 2)) ≡ Alive (Lit 0) ∷ Read (Lit 0) 0 3 ∷ Output ∷ []
+  pub stream_3 : answer_of (call_to (pos 2)) ≡ value (number (pos 2))
+  pub stream_4 : answer_of (call_to (pos 0)) ≡ raises LibraryArgument

@@ -13,6 +13,7 @@ use Rattle.exposure.specs.declared.prov.Prov.TheVariants.{Whole}
 use Rattle.c_types.specs.declared.library.LibFunc.{LibFunc}
 use Rattle.c_types.specs.declared.library.LibFunc.TheVariants.{Malloc, Free, Memcpy, Memset, Strlen, Strcpy, Strcmp, Strchr, Getchar, Putchar, Puts, Exit}
 use Rattle.mem_spec.specs.Store.{TaggedByte, fresh, Life, Store}
+use Rattle.mem_spec.specs.Streams.{silent}
 use Rattle.mem_spec.specs.Script.{Act, Done, Raised, Ended}
 use Rattle.libc_spec.specs.Library.{LibValue, number, pointer, null, plain, called}
 
@@ -44,7 +45,7 @@ store = record {
   kept = λ e. None;
   input = 113 ∷ [];
   position = 0;
-  output = [];
+  output = silent;
   created = 32;
 }
 
@@ -81,7 +82,7 @@ items (Done v is s) = is
 items _ = []
 
 abbrev pub printed : Act LibValue → List ℕ
-printed (Done v is s) = s.output
+printed (Done v is s) = s.output.standard
 printed _ = []
 
 abbrev pub byte_after : Act LibValue → ObjName → ℕ → TaggedByte

@@ -46,7 +46,7 @@ module _ {V : Type 0} where
   not_done (Show x) e is s1 h = not_placed e is s1 h
   not_done (Find a) e is s1 h = not_placed e is s1 h
   not_done Take e is s1 h = not_placed e is s1 h
-  not_done (Print bs) e is s1 h = not_placed e is s1 h
+  not_done (Print to bs) e is s1 h = not_placed e is s1 h
 
   pub stepped : (b : Bool) (t : Touch) (i : Item) (a : Act V) (e : ActEnd V) (is : List Item) (s1 : Store)
       → (if b then refused t else touched i a) ≡ acted e is s1 → Stepped b i a e is s1

@@ -13,6 +13,7 @@ use Rattle.addr_map.specs.Conflict.{items_conflict, is_object, stands_at, overla
 use Rattle.addr_map.specs.Rows.{covers, past}
 use Rattle.exposure.specs.Cells.{is_other}
 use Rattle.mem_spec.specs.Store.{TaggedByte, Life, Store, range_from, is_live, dead, can_find, findable}
+use Rattle.mem_spec.specs.Streams.{printed_to}
 use Rattle.mem_spec.specs.Script.{Touch, Ask, Get, Put, Bear, Bury, Show, Find, Settle, Take, Print, item_of, refuses, answer, left}
 use Rattle.mem_laws.specs.Frame.{bears, ends_life, shows, writes, settles_away, takes, prints, any_of, Diff}
 
@@ -233,7 +234,7 @@ changes map Take s h = record {
   position = λ a. absurd (cc);
   output = λ a. refl;
 }
-changes map (Print bs) s h = record {
+changes map (Print to bs) s h = record {
   life = λ y a b. refl;
   known = λ y a. refl;
   exposed = λ y a b. refl;
@@ -361,7 +362,7 @@ module _ (map : List Row) where
       (find_same (past map a) s u (λ x e. h x (or_true (is_object (covers map a) x) _ (is_it (past map a) x e)))))
   same_answer (Settle e x k) s u j d c ex = refl
   same_answer Take s u j d c ex = ap₂ slice_get d.input (d.position (any_free takes Input j takes_takes c))
-  same_answer (Print bs) s u j d c ex = refl
+  same_answer (Print to bs) s u j d c ex = refl
 
   other_if : (b : Bool) (e d : Event) (x z : ObjName) (s u : Store) → (b ≡ false → is_other (s.kept d) z ≡ is_other (u.kept d) z)
       → is_other (if b then Some x else s.kept d) z ≡ is_other (if b then Some x else u.kept d) z
@@ -494,7 +495,7 @@ module _ (map : List Row) where
     position = λ p. ap₂ (λ (bs : List ℕ) (n : ℕ). n + (if is_some (slice_get bs n) then 1 else 0)) d.input (d.position p);
     output = d.output;
   }
-  left_diff (Print bs) s u j d c ex = record {
+  left_diff (Print to bs) s u j d c ex = record {
     life = d.life;
     known = d.known;
     exposed = d.exposed;
@@ -504,5 +505,5 @@ module _ (map : List Row) where
     kept = d.kept;
     input = d.input;
     position = d.position;
-    output = λ p. ap (λ z. z ++ bs) (d.output p);
+    output = λ p. ap (printed_to to bs) (d.output p);
   }

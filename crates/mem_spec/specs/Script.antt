@@ -11,6 +11,8 @@ use Rattle.addr_map.specs.Rows.{covers, past}
 use Rattle.exposure.specs.Cells.{is_other}
 use Rattle.c_types.specs.Shapes.{Form}
 use Rattle.mem_spec.specs.declared.kind.ObjKind.{ObjKind}
+use Rattle.mem_spec.specs.declared.stream.Stream.{Stream}
+use Rattle.mem_spec.specs.Streams.{printed_to}
 use Rattle.mem_spec.specs.Store.{TaggedByte, Life, Store, range_from, with_bytes, born, buried, shown, settled, findable}
 
 -- a single touch of the store
@@ -32,7 +34,8 @@ pub data Touch : Type 0 where
   Settle : (id : Event) (keep : ObjName) → Clause → Touch
   -- the next byte of the input; at its end none, and the position stands still
   Take : Touch
-  Print : List ℕ → Touch
+  -- bytes are written to a stream
+  Print : Stream → List ℕ → Touch
 
 abbrev pub item_of : Touch → Item
 item_of (Ask x) = Alive x
@@ -44,7 +47,7 @@ item_of (Show x) = Expose x
 item_of (Find a) = Lookup a
 item_of (Settle id x c) = Narrow id x
 item_of Take = Input
-item_of (Print bs) = Output
+item_of (Print to bs) = Output
 
 -- what a touch gives
 abbrev pub Answer : Touch → Type 0
@@ -111,7 +114,7 @@ answer map (Show x) s = tt
 answer map (Find a) s = (findable s (covers map a), findable s (past map a))
 answer map (Settle id x c) s = tt
 answer map Take s = slice_get s.input s.position
-answer map (Print bs) s = tt
+answer map (Print to bs) s = tt
 
 -- the store after a touch
 abbrev pub left : Touch → Store → Store
@@ -124,7 +127,7 @@ left (Show x) s = shown s x
 left (Find a) s = s
 left (Settle id x c) s = settled s id x
 left Take s = record s { position = s.position + (if is_some (slice_get s.input s.position) then 1 else 0) }
-left (Print bs) s = record s { output = s.output ++ bs }
+left (Print to bs) s = record s { output = printed_to to bs s.output }
 
 -- what a touch that can't be made leaves
 abbrev pub refused : {V : Type 0} → Touch → Act V

@@ -1,4 +1,4 @@
--- The store: objects with their bytes, ambiguities, standard input and output.
+-- The store: objects with their bytes, ambiguities, standard input, standard output and standard error.
 use Rattle.std.specs.Prelude.{
   ℕ,
   suc,
@@ -31,6 +31,7 @@ use Rattle.ub_base.specs.Names.{same_event, same_object}
 use Rattle.exposure.specs.declared.prov.Prov.{Prov}
 use Rattle.c_types.specs.Shapes.{Form}
 use Rattle.mem_spec.specs.declared.kind.ObjKind.{ObjKind}
+use Rattle.mem_spec.specs.Streams.{Outputs}
 use Rattle.mem_spec.specs.Agreement.{Tag}
 
 -- a byte: not written yet, or a number that may be the piece of this index of a pointer with this provenance
@@ -58,7 +59,7 @@ pub record Store : Type 0 where
   pub kept : Event → Option ObjName  -- the object to which an ambiguity was settled
   pub input : List ℕ
   pub position : ℕ
-  pub output : List ℕ
+  pub output : Outputs
   pub created : ℕ  -- the sum of created bytes
 
 abbrev pub range_from : (ℕ → TaggedByte) → ℕ → ℕ → List TaggedByte

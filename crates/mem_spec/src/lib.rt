@@ -2,5 +2,7 @@
 #![tactic(auto)]
 
 mod kind;
+mod stream;
 
 pub use kind::ObjKind;
+pub use stream::Stream;

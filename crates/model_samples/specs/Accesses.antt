@@ -12,6 +12,7 @@ use Rattle.c_typed.specs.declared.tree.Access.TheVariants as access
 use Rattle.c_typed.specs.declared.tree.Conversion.TheVariants as conversion
 use Rattle.c_typed.specs.declared.tree.RelOp.TheVariants as relation
 use Rattle.c_typed.specs.Order.{place}
+use Rattle.mem_spec.specs.Streams.{silent}
 use Rattle.c_model.specs.Program.{Object_at, Function_at, Comma, Call}
 use Rattle.c_model.specs.Program.{Null, Load, PtrAdd, PtrDiff, Rel, Member, Part, Assign, Expr, Stmt, Value, Declare, Return, Standing}
 use Rattle.c_model.specs.FirstFinding.{Clean, Undefined}
@@ -74,11 +75,11 @@ function_pointer = pointer_to plain_function
 
 -- int x=258;return *(unsigned char*)&x;: the least byte comes first (own)
 abbrev pub low_byte : Type 0
-low_byte = found (with_x (int 258) (Return (to_kind kind.Int (get (as_pointer 1 byte_type x))) ∷ [])) ≡ Clean 2 [] 11
+low_byte = found (with_x (int 258) (Return (to_kind kind.Int (get (as_pointer 1 byte_type x))) ∷ [])) ≡ Clean 2 silent 11
 
 -- int x=7;return *(unsigned*)&x; (6.5p7)
 abbrev pub as_unsigned : Type 0
-as_unsigned = found (with_x (int 7) (Return (to_kind kind.Int (get (as_pointer 4 (types.int kind.UInt) x))) ∷ [])) ≡ Clean 7 [] 11
+as_unsigned = found (with_x (int 7) (Return (to_kind kind.Int (get (as_pointer 4 (types.int kind.UInt) x))) ∷ [])) ≡ Clean 7 silent 11
 
 -- int x=7;return *(short*)&x;
 abbrev pub read_as_short : Type 0
@@ -105,7 +106,7 @@ store_to_null = found (main [] (Value (set (null int_type) (int 1)) ∷ [])) ≡
 
 -- return a[1];
 abbrev pub element : Type 0
-element = found (with_array [] (Return (get (on 4 int_type 1 a)) ∷ [])) ≡ Clean 5 [] 6
+element = found (with_array [] (Return (get (on 4 int_type 1 a)) ∷ [])) ≡ Clean 5 silent 6
 
 -- return a[2];: the address may be formed (6.5.6p8)
 abbrev pub load_past_the_end : Type 0
@@ -123,7 +124,7 @@ before_the_start = found (with_array [] (Return (get (back 4 int_type 1 a)) ∷ 
 abbrev pub element_of_pointer : Type 0
 element_of_pointer = found (with_array (pointer_to (array_of 2 int_type) ∷ [])
     (Value (init (local 0 (pointer_to (array_of 2 int_type))) (static 0 (array_of 2 int_type)))
-    ∷ Return (get (on 4 int_type 1 (node (Load access.Pointer) int_pointer (local 0 (pointer_to (array_of 2 int_type)) ∷ [])))) ∷ [])) ≡ Clean 5 [] 11
+    ∷ Return (get (on 4 int_type 1 (node (Load access.Pointer) int_pointer (local 0 (pointer_to (array_of 2 int_type)) ∷ [])))) ∷ [])) ≡ Clean 5 silent 11
 
 -- int*p;{int k;p=&k;}return *p; (6.2.4p2)
 abbrev pub dead_block : Type 0
@@ -145,13 +146,13 @@ no_bool = found (main (bool_type ∷ []) (Value (set (as_pointer 1 byte_type (lo
 abbrev pub whole_copied : Type 0
 whole_copied = found (with_pair (pair_type ∷ []) (Value (node (Assign false (access.Whole 8 4)) pair_type
     (local 0 pair_type ∷ node (Load (access.Whole 8 4)) pair_type (s ∷ []) ∷ []))
-    ∷ Return (get (node (Member 4) int_pointer (local 0 pair_type ∷ []))) ∷ [])) ≡ Clean 5 [] 10
+    ∷ Return (get (node (Member 4) int_pointer (local 0 pair_type ∷ []))) ∷ [])) ≡ Clean 5 silent 10
 
 -- return (t=s).b; (6.5.2.3p3)
 abbrev pub member_of_value : Type 0
 member_of_value = found (with_pair (pair_type ∷ []) (Return (node (Part 4 (access.Integer kind.Int)) int_type
     (node (Assign false (access.Whole 8 4)) pair_type (local 0 pair_type ∷ node (Load (access.Whole 8 4)) pair_type (s ∷ []) ∷ []) ∷ [])) ∷ []))
-    ≡ Clean 5 [] 8
+    ≡ Clean 5 silent 8
 
 -- the value (0,h) of a structure that stands in the file's object of this number
 abbrev pub value_of : ℕ → (size align : ℕ) → Expr
@@ -161,20 +162,20 @@ value_of n size align = node Comma pair_type (int 0 ∷ node (Load (access.Whole
 abbrev pub part_of_pointer : Type 0
 part_of_pointer = found (sample (main_function [] (Return (get (node (Part 0 access.Pointer) int_pointer (value_of 1 8 8 ∷ []))) ∷ []) ∷ [])
     (file_object 0 int_type (9 ∷ 0 ∷ 0 ∷ 0 ∷ []) ∷ record (file_object 1 (array_of 1 int_pointer) [])
-    { fillings = record { offset = 0; content = Object_at (Static 0) 0 } ∷ [] } ∷ []) []) ≡ Clean 9 [] 8
+    { fillings = record { offset = 0; content = Object_at (Static 0) 0 } ∷ [] } ∷ []) []) ≡ Clean 9 silent 8
 
 -- int g(void){return 4;}struct{int(*f)(void);}h={g};return (0,h).f();
 abbrev pub part_of_function : Type 0
 part_of_function = found (sample (main_function [] (Return (node (Call false) int_type
     (node (Part 0 access.Function) function_pointer (value_of 0 8 8 ∷ []) ∷ [])) ∷ []) ∷ function (returning int_type []) [] (Return (int 4) ∷ []) ∷ [])
     (record (file_object 0 (array_of 1 function_pointer) []) { fillings = record { offset = 0; content = Function_at 1 } ∷ [] } ∷ []) [])
-    ≡ Clean 4 [] 13
+    ≡ Clean 4 silent 13
 
 -- struct{struct s i,j;}h={{1,2},{3,5}};return (0,h).j.b;
 abbrev pub part_of_part : Type 0
 part_of_part = found (sample (main_function [] (Return (node (Part 4 (access.Integer kind.Int)) int_type
     (node (Part 8 (access.Whole 8 4)) pair_type (value_of 0 16 4 ∷ []) ∷ [])) ∷ []) ∷ [])
-    (file_object 0 (array_of 2 pair_type) (1 ∷ 0 ∷ 0 ∷ 0 ∷ 2 ∷ 0 ∷ 0 ∷ 0 ∷ 3 ∷ 0 ∷ 0 ∷ 0 ∷ 5 ∷ 0 ∷ 0 ∷ 0 ∷ []) ∷ []) []) ≡ Clean 5 [] 8
+    (file_object 0 (array_of 2 pair_type) (1 ∷ 0 ∷ 0 ∷ 0 ∷ 2 ∷ 0 ∷ 0 ∷ 0 ∷ 3 ∷ 0 ∷ 0 ∷ 0 ∷ 5 ∷ 0 ∷ 0 ∷ 0 ∷ []) ∷ []) []) ≡ Clean 5 silent 8
 
 -- int z[3]={1,2,3};*(struct s*)(z+1)=*(struct s*)z; (6.5.16.1p3)
 abbrev pub overlapping_copy : Type 0
@@ -187,7 +188,7 @@ overlapping_copy = found (sample (main_function [] (Value (node (Assign false (a
 abbrev pub exact_copy : Type 0
 exact_copy = found (sample (main_function [] (Value (node (Assign false (access.Whole 8 4)) pair_type
     (as_pointer 4 pair_type a ∷ node (Load (access.Whole 8 4)) pair_type (as_pointer 4 pair_type a ∷ []) ∷ [])) ∷ []) ∷ []) (array_object ∷ []) [])
-    ≡ Clean 0 [] 9
+    ≡ Clean 0 silent 9
 
 -- return ((struct s*)0)->b; (6.5.2.3p4)
 abbrev pub member_of_null : Type 0
@@ -197,12 +198,12 @@ member_of_null = found (returns (get (node (Member 4) int_pointer (null pair_typ
 abbrev pub member_by_pointer : Type 0
 member_by_pointer = found (with_pair (pointer_to pair_type ∷ [])
     (Value (init (local 0 (pointer_to pair_type)) s) ∷ Return (get (node (Member 4) int_pointer (get (local 0 (pointer_to pair_type)) ∷ []))) ∷ []))
-    ≡ Clean 5 [] 11
+    ≡ Clean 5 silent 11
 
 -- return a+2-a; (6.5.6p9)
 abbrev pub difference : Type 0
 difference = found (with_array [] (Return (to_kind kind.Int (node (PtrDiff 4) (types.int kind.Long) (on 4 int_type 2 a ∷ a ∷ []))) ∷ []))
-    ≡ Clean 2 [] 7
+    ≡ Clean 2 silent 7
 
 -- int x,y;return &x-&y;
 abbrev pub difference_of_two : Type 0
@@ -216,7 +217,7 @@ no_multiple = found (with_array [] (Return (to_kind kind.Int (node (PtrDiff 8) (
 
 -- return a<a+1; (6.5.8p5)
 abbrev pub less_within : Type 0
-less_within = found (with_array [] (Return (node (Rel relation.Less true) int_type (a ∷ on 4 int_type 1 a ∷ [])) ∷ [])) ≡ Clean 1 [] 6
+less_within = found (with_array [] (Return (node (Rel relation.Less true) int_type (a ∷ on 4 int_type 1 a ∷ [])) ∷ [])) ≡ Clean 1 silent 6
 
 -- int x,y;return &x<&y;
 abbrev pub less_of_two : Type 0
@@ -225,13 +226,13 @@ less_of_two = found (main (int_type ∷ int_type ∷ []) (Return (node (Rel rela
 
 -- int x;return &x==&x; (6.5.9p6)
 abbrev pub equal_pointers : Type 0
-equal_pointers = found (main (int_type ∷ []) (Return (equal x x) ∷ [])) ≡ Clean 1 [] 5
+equal_pointers = found (main (int_type ∷ []) (Return (equal x x) ∷ [])) ≡ Clean 1 silent 5
 
 -- int x;return &x!=0;
 abbrev pub not_null : Type 0
-not_null = found (main (int_type ∷ []) (Return (not_equal x (null int_type)) ∷ [])) ≡ Clean 1 [] 5
+not_null = found (main (int_type ∷ []) (Return (not_equal x (null int_type)) ∷ [])) ≡ Clean 1 silent 5
 
 -- int(*f)(void)=0;return f!=0;: a null pointer to a function is one (6.3.2.3p3)
 abbrev pub null_function : Type 0
 null_function = found (main (function_pointer ∷ []) (Value (init (local 0 function_pointer) (null plain_function))
-    ∷ Return (not_equal (get (local 0 function_pointer)) (null plain_function)) ∷ [])) ≡ Clean 0 [] 10
+    ∷ Return (not_equal (get (local 0 function_pointer)) (null plain_function)) ∷ [])) ≡ Clean 0 silent 10

@@ -10,11 +10,12 @@ use Rattle.c_types.specs.Types as types
 use Rattle.c_typed.specs.declared.tree.Slot.TheVariants as slot
 use Rattle.c_typed.specs.declared.tree.Conversion.TheVariants as conversion
 use Rattle.c_typed.specs.Order.{place}
+use Rattle.mem_spec.specs.Streams.{on_output, silent}
 use Rattle.c_model.specs.Program.{Member, And, Or, Cond, Comma, Call, Listed, Isolated, Value, Return}
 use Rattle.c_model.specs.FirstFinding.{Clean, Raced, Order_dependent}
 use Rattle.model_samples.specs.Build.{int_type, array_of, returning, node, constant, int, local, static, x, get, set, init, add, not_equal, convert}
 use Rattle.model_samples.specs.Build.{to_kind, increment, update, function_at, call, function, of_library, main_function, sample, found, main, with_x}
-use Rattle.model_samples.specs.Build.{file_object, frame_object, heap_object, pair_of, main_object}
+use Rattle.model_samples.specs.Build.{file_object, frame_object, heap_object, pair_of, main_object, literal, text}
 use Rattle.model_samples.specs.Accesses.{int_pointer, as_pointer, on, null, char_type, plain_function}
 use Rattle.model_samples.specs.Functions.{plain_pointer, length, giving, calling, doing, with_library, p}
 
@@ -40,12 +41,12 @@ own_operand = found (with_x (int 1) (Value (set x (increment x)) ∷ []))
 
 -- int x=1;x=x+1;: the value is read before it is stored (6.5.16p3)
 abbrev pub value_used : Type 0
-value_used = found (with_x (int 1) (Value (set x (add (get x) (int 1))) ∷ Return (get x) ∷ [])) ≡ Clean 2 [] 15
+value_used = found (with_x (int 1) (Value (set x (add (get x) (int 1))) ∷ Return (get x) ∷ [])) ≡ Clean 2 silent 15
 
 -- int a[2];return (a[0]=1)+(a[1]=2);: different bytes
 abbrev pub other_bytes : Type 0
 other_bytes = found (main (array_of 2 int_type ∷ []) (Return (add (set (on 4 int_type 0 (local 0 int_type)) (int 1))
-    (set (on 4 int_type 1 (local 0 int_type)) (int 2))) ∷ [])) ≡ Clean 3 [] 11
+    (set (on 4 int_type 1 (local 0 int_type)) (int 2))) ∷ [])) ≡ Clean 3 silent 11
 
 -- int x=1;return (x=2)+*(char*)&x;: one byte of four
 abbrev pub part_of_it : Type 0
@@ -54,19 +55,19 @@ part_of_it = found (with_x (int 1) (Return (add (set x (int 2)) (to_kind kind.In
 
 -- int x=1;return x++&&x; (6.5.13p4)
 abbrev pub test_before : Type 0
-test_before = found (with_x (int 1) (Return (node And int_type (increment x ∷ get x ∷ [])) ∷ [])) ≡ Clean 1 [] 12
+test_before = found (with_x (int 1) (Return (node And int_type (increment x ∷ get x ∷ [])) ∷ [])) ≡ Clean 1 silent 12
 
 -- int x=0;return x++||x; (6.5.14p4)
 abbrev pub test_before_either : Type 0
-test_before_either = found (with_x (int 0) (Return (node Or int_type (increment x ∷ get x ∷ [])) ∷ [])) ≡ Clean 1 [] 12
+test_before_either = found (with_x (int 0) (Return (node Or int_type (increment x ∷ get x ∷ [])) ∷ [])) ≡ Clean 1 silent 12
 
 -- int x=1;return x++?x:0; (6.5.15p4)
 abbrev pub test_before_branch : Type 0
-test_before_branch = found (with_x (int 1) (Return (node Cond int_type (increment x ∷ get x ∷ int 0 ∷ [])) ∷ [])) ≡ Clean 2 [] 12
+test_before_branch = found (with_x (int 1) (Return (node Cond int_type (increment x ∷ get x ∷ int 0 ∷ [])) ∷ [])) ≡ Clean 2 silent 12
 
 -- int x=0;return (x&&x++)+x;: what is not evaluated conflicts with nothing
 abbrev pub not_evaluated : Type 0
-not_evaluated = found (with_x (int 0) (Return (add (node And int_type (get x ∷ increment x ∷ [])) (get x)) ∷ [])) ≡ Clean 0 [] 12
+not_evaluated = found (with_x (int 0) (Return (add (node And int_type (get x ∷ increment x ∷ [])) (get x)) ∷ [])) ≡ Clean 0 silent 12
 
 -- int x=1;return (x&&x++)+x;
 abbrev pub evaluated : Type 0
@@ -75,7 +76,7 @@ evaluated = found (with_x (int 1) (Return (add (node And int_type (get x ∷ inc
 
 -- int x=1;return (x++,x); (6.5.17p2)
 abbrev pub comma_before : Type 0
-comma_before = found (with_x (int 1) (Return (node Comma int_type (increment x ∷ get x ∷ [])) ∷ [])) ≡ Clean 2 [] 12
+comma_before = found (with_x (int 1) (Return (node Comma int_type (increment x ∷ get x ∷ [])) ∷ [])) ≡ Clean 2 silent 12
 
 -- int n;int f(void){return ++n;}int main(void){return f()+f();} (6.5.2.2p10)
 abbrev pub two_bodies : Type 0
@@ -94,7 +95,7 @@ body_beside_write = found (sample (main_function [] (Return (add (set (static 0 
 abbrev pub body_after_argument : Type 0
 body_after_argument = found (sample (main_function [] (Return (call 1 (set (static 0 int_type) (int 1) ∷ [])) ∷ [])
     ∷ function (returning int_type (int_type ∷ [])) (int_type ∷ []) (Return (get (static 0 int_type)) ∷ []) ∷ [])
-    (file_object 0 int_type (0 ∷ 0 ∷ 0 ∷ 0 ∷ []) ∷ []) ((frame_object ((2, 0) ∷ []) 1 0, int_type) ∷ [])) ≡ Clean 1 [] 13
+    (file_object 0 int_type (0 ∷ 0 ∷ 0 ∷ 0 ∷ []) ∷ []) ((frame_object ((2, 0) ∷ []) 1 0, int_type) ∷ [])) ≡ Clean 1 silent 13
 
 -- int n;int g(void){return ++n;}int f(void){return g();}int main(void){return n+f();}: a body has the items of the frames that it started
 abbrev pub body_of_body : Type 0
@@ -145,10 +146,16 @@ abbrev pub two_outputs : Type 0
 two_outputs = found (with_library (lib.Putchar ∷ []) [] [] [] (Return (add (calling 1 (int 97 ∷ [])) (calling 1 (int 98 ∷ []))) ∷ []))
     ≡ Order_dependent (pair_of 2 (place 1 Body) (place 4 Body) (Output) (Output)) 6
 
+-- return putchar(97)+fprintf(stderr,"b");: the streams are two, and the order of what they show is one (own)
+abbrev pub outputs_of_two_streams : Type 0
+outputs_of_two_streams = found (with_library (lib.Putchar ∷ lib.Fprintf ∷ []) (literal 0 (98 ∷ 0 ∷ []) ∷ []) [] []
+    (Return (add (calling 1 (int 97 ∷ [])) (calling 2 (int 2 ∷ text 0 ∷ []))) ∷ []))
+    ≡ Order_dependent (pair_of 2 (place 1 Body) (place 4 Body) (Output) (Output)) 6
+
 -- return getchar()+putchar(98);: no conflict
 abbrev pub input_and_output : Type 0
 input_and_output = found (record (with_library (lib.Getchar ∷ lib.Putchar ∷ []) [] [] []
-    (Return (add (calling 1 []) (calling 2 (int 98 ∷ []))) ∷ [])) { input = 1 ∷ [] }) ≡ Clean 99 (98 ∷ []) 9
+    (Return (add (calling 1 []) (calling 2 (int 98 ∷ []))) ∷ [])) { input = 1 ∷ [] }) ≡ Clean 99 (on_output (98 ∷ [])) 9
 
 -- int n;int f(void){exit(3);return 0;}int main(void){return n+f();}
 abbrev pub end_beside_done : Type 0
@@ -166,13 +173,13 @@ end_beside_pending = found (sample (main_function [] (Return (add (call 1 []) (g
 abbrev pub end_alone : Type 0
 end_alone = found (sample (main_function [] (Return (call 1 []) ∷ [])
     ∷ function (returning int_type []) [] (doing 2 (int 3 ∷ []) ∷ Return (int 0) ∷ []) ∷ of_library plain_function lib.Exit ∷ [])
-    (file_object 0 int_type (0 ∷ 0 ∷ 0 ∷ 0 ∷ []) ∷ []) []) ≡ Clean 3 [] 6
+    (file_object 0 int_type (0 ∷ 0 ∷ 0 ∷ 0 ∷ []) ∷ []) []) ≡ Clean 3 silent 6
 
 -- return (n,f());: what comes before conflicts with nothing
 abbrev pub end_after : Type 0
 end_after = found (sample (main_function [] (Return (node Comma int_type (get (static 0 int_type) ∷ call 1 [] ∷ [])) ∷ [])
     ∷ function (returning int_type []) [] (doing 2 (int 3 ∷ []) ∷ Return (int 0) ∷ []) ∷ of_library plain_function lib.Exit ∷ [])
-    (file_object 0 int_type (0 ∷ 0 ∷ 0 ∷ 0 ∷ []) ∷ []) []) ≡ Clean 3 [] 7
+    (file_object 0 int_type (0 ∷ 0 ∷ 0 ∷ 0 ∷ []) ∷ []) []) ≡ Clean 3 silent 7
 
 -- int i=0;int a[2]={i++,i};: in which order they are evaluated is open (6.7.9p23)
 abbrev pub list_expressions : Type 0

@@ -14,6 +14,7 @@ use Rattle.c_typed.specs.Order.{place}
 use Rattle.exposure.specs.declared.prov.Prov.TheVariants.{Empty}
 use Rattle.exposure.specs.declared.prov.Prov.TheVariants as prov
 use Rattle.mem_spec.specs.Script.{Give, Raise, left, Take}
+use Rattle.mem_spec.specs.Streams.{silent}
 use Rattle.c_model.specs.Program.{Return}
 use Rattle.c_model.specs.Values.{Int, Ptr, Fun, Whole, truth, address_in, moved_source}
 use Rattle.c_model.specs.Numbering.{frame_number}
@@ -100,7 +101,7 @@ other_numbers = first_finding (doubled (sample (main_function [] (Return (call 1
 
 -- an order meets only what its own last pick or its own trace shows: one without picks that has ended meets no clause
 abbrev pub nothing_met : Type 0
-nothing_met = (c : Clause) → Meets plain (Ends 0 [] []) c → ⊥
+nothing_met = (c : Clause) → Meets plain (Ends 0 silent []) c → ⊥
 
 -- and one whose only pick raised a clause meets just this one
 abbrev pub raised_only : Type 0

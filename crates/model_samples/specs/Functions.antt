@@ -10,6 +10,7 @@ use Rattle.c_types.specs.declared.library.LibFunc.TheVariants as lib
 use Rattle.c_types.specs.Types as types
 use Rattle.c_types.specs.Types.{CType}
 use Rattle.c_typed.specs.Order.{place}
+use Rattle.mem_spec.specs.Streams.{on_output, silent}
 use Rattle.c_model.specs.Program.{Comma, Call, Expr, Stmt, Value, Return, Function, Standing}
 use Rattle.c_model.specs.FirstFinding.{Clean, Undefined}
 use Rattle.model_samples.specs.Build.{Sample, int_type, pointer_to, array_of, node, constant, int, local, static, x, y, get, set, init, equal}
@@ -58,7 +59,7 @@ p = local 0 int_pointer
 -- int*p=calloc(1,4);return *p; (7.22.3.2)
 abbrev pub zeroed_object : Type 0
 zeroed_object = found (with_library (lib.Calloc ∷ []) [] ((heap_object 2 3, array_of 4 char_type) ∷ []) (int_pointer ∷ [])
-    (Value (init p (as_pointer 4 int_type (giving 1 (length 1 ∷ length 4 ∷ [])))) ∷ Return (get (get p)) ∷ [])) ≡ Clean 0 [] 13
+    (Value (init p (as_pointer 4 int_type (giving 1 (length 1 ∷ length 4 ∷ [])))) ∷ Return (get (get p)) ∷ [])) ≡ Clean 0 silent 13
 
 -- int*p=malloc(4);return *p; (7.22.3.4)
 abbrev pub unwritten_object : Type 0
@@ -71,13 +72,13 @@ abbrev pub resized : Type 0
 resized = found (with_library (lib.Malloc ∷ lib.Realloc ∷ []) []
     ((heap_object 2 3, array_of 4 char_type) ∷ (heap_object 4 3, array_of 8 char_type) ∷ []) (int_pointer ∷ [])
     (Value (init p (as_pointer 4 int_type (giving 1 (length 4 ∷ [])))) ∷ Value (set (get p) (int 5))
-    ∷ Value (set p (as_pointer 4 int_type (giving 2 (plain_pointer (get p) ∷ length 8 ∷ [])))) ∷ Return (get (get p)) ∷ [])) ≡ Clean 5 [] 27
+    ∷ Value (set p (as_pointer 4 int_type (giving 2 (plain_pointer (get p) ∷ length 8 ∷ [])))) ∷ Return (get (get p)) ∷ [])) ≡ Clean 5 silent 27
 
 -- int*p=malloc(4);*p=7;free(p);return 0;
 abbrev pub freed : Type 0
 freed = found (with_library (lib.Malloc ∷ lib.Free ∷ []) [] ((heap_object 2 3, array_of 4 char_type) ∷ []) (int_pointer ∷ [])
     (Value (init p (as_pointer 4 int_type (giving 1 (length 4 ∷ [])))) ∷ Value (set (get p) (int 7)) ∷ doing 2 (plain_pointer (get p) ∷ [])
-    ∷ Return (int 0) ∷ [])) ≡ Clean 0 [] 22
+    ∷ Return (int 0) ∷ [])) ≡ Clean 0 silent 22
 
 -- int*p=malloc(4);free(p);return *p; (6.2.4p2)
 abbrev pub used_after_free : Type 0
@@ -87,7 +88,7 @@ used_after_free = found (with_library (lib.Malloc ∷ lib.Free ∷ []) [] ((heap
 
 -- free(0);return 1; (7.22.3.3p2)
 abbrev pub frees_null : Type 0
-frees_null = found (with_library (lib.Free ∷ []) [] [] [] (doing 1 (null types.void ∷ []) ∷ Return (int 1) ∷ [])) ≡ Clean 1 [] 8
+frees_null = found (with_library (lib.Free ∷ []) [] [] [] (doing 1 (null types.void ∷ []) ∷ Return (int 1) ∷ [])) ≡ Clean 1 silent 8
 
 -- int x;free(&x);
 abbrev pub frees_local : Type 0
@@ -108,12 +109,12 @@ resizes_local = found (with_library (lib.Realloc ∷ []) [] [] (int_type ∷ [])
 -- int*p=malloc(1048577);return p==0;: allocations above 2^20 bytes give null (own)
 abbrev pub too_large : Type 0
 too_large = found (with_library (lib.Malloc ∷ []) [] [] (int_pointer ∷ [])
-    (Value (init p (as_pointer 4 int_type (giving 1 (length 1048577 ∷ [])))) ∷ Return (equal (get p) (null int_type)) ∷ [])) ≡ Clean 1 [] 13
+    (Value (init p (as_pointer 4 int_type (giving 1 (length 1048577 ∷ [])))) ∷ Return (equal (get p) (null int_type)) ∷ [])) ≡ Clean 1 silent 13
 
 -- int x=7,y;memcpy(&y,&x,4);return y; (7.24.2.1)
 abbrev pub copied : Type 0
 copied = found (with_library (lib.Memcpy ∷ []) [] [] (int_type ∷ int_type ∷ [])
-    (Value (init x (int 7)) ∷ doing 1 (plain_pointer y ∷ plain_pointer x ∷ length 4 ∷ []) ∷ Return (get y) ∷ [])) ≡ Clean 7 [] 15
+    (Value (init x (int 7)) ∷ doing 1 (plain_pointer y ∷ plain_pointer x ∷ length 4 ∷ []) ∷ Return (get y) ∷ [])) ≡ Clean 7 silent 15
 
 -- memcpy(c+1,c,2);
 abbrev pub copied_onto_itself : Type 0
@@ -123,12 +124,12 @@ copied_onto_itself = found (with_library (lib.Memcpy ∷ []) (chars (1 ∷ 2 ∷
 -- memmove(c+1,c,2);return c[2]; (7.24.2.2)
 abbrev pub moved : Type 0
 moved = found (with_library (lib.Memmove ∷ []) (chars (1 ∷ 2 ∷ 3 ∷ 0 ∷ []) ∷ []) [] []
-    (doing 1 (on 1 char_type 1 c ∷ c ∷ length 2 ∷ []) ∷ Return (to_kind kind.Int (get (on 1 char_type 2 c))) ∷ [])) ≡ Clean 2 [] 12
+    (doing 1 (on 1 char_type 1 c ∷ c ∷ length 2 ∷ []) ∷ Return (to_kind kind.Int (get (on 1 char_type 2 c))) ∷ [])) ≡ Clean 2 silent 12
 
 -- memset(c,65,2);return c[1]; (7.24.6.1)
 abbrev pub filled : Type 0
 filled = found (with_library (lib.Memset ∷ []) (chars (1 ∷ 2 ∷ 3 ∷ 0 ∷ []) ∷ []) [] []
-    (doing 1 (c ∷ int 65 ∷ length 2 ∷ []) ∷ Return (to_kind kind.Int (get (on 1 char_type 1 c))) ∷ [])) ≡ Clean 65 [] 11
+    (doing 1 (c ∷ int 65 ∷ length 2 ∷ []) ∷ Return (to_kind kind.Int (get (on 1 char_type 1 c))) ∷ [])) ≡ Clean 65 silent 11
 
 -- memset(c,65,5); (7.1.4p1)
 abbrev pub past_the_object : Type 0
@@ -138,28 +139,28 @@ past_the_object = found (with_library (lib.Memset ∷ []) (chars (1 ∷ 2 ∷ 3 
 -- return memcmp("ab","ac",2);: below zero, and -1 is own (7.24.4.1)
 abbrev pub compared : Type 0
 compared = found (with_library (lib.Memcmp ∷ []) (literal 0 (97 ∷ 98 ∷ 0 ∷ []) ∷ literal 1 (97 ∷ 99 ∷ 0 ∷ []) ∷ []) [] []
-    (Return (calling 1 (text 0 ∷ text 1 ∷ length 2 ∷ [])) ∷ [])) ≡ Clean 255 [] 6
+    (Return (calling 1 (text 0 ∷ text 1 ∷ length 2 ∷ [])) ∷ [])) ≡ Clean 255 silent 6
 
 -- return strlen("ab"); (7.24.6.3)
 abbrev pub length_of_text : Type 0
 length_of_text = found (with_library (lib.Strlen ∷ []) (literal 0 (97 ∷ 98 ∷ 0 ∷ []) ∷ literal 1 (97 ∷ 99 ∷ 0 ∷ []) ∷ []) [] []
-    (Return (calling 1 (text 0 ∷ [])) ∷ [])) ≡ Clean 2 [] 6
+    (Return (calling 1 (text 0 ∷ [])) ∷ [])) ≡ Clean 2 silent 6
 
 -- return strcmp("ab","ab"); (7.24.4.2)
 abbrev pub texts_compared : Type 0
 texts_compared = found (with_library (lib.Strcmp ∷ []) (literal 0 (97 ∷ 98 ∷ 0 ∷ []) ∷ literal 1 (97 ∷ 99 ∷ 0 ∷ []) ∷ []) [] []
-    (Return (calling 1 (text 0 ∷ text 0 ∷ [])) ∷ [])) ≡ Clean 0 [] 6
+    (Return (calling 1 (text 0 ∷ text 0 ∷ [])) ∷ [])) ≡ Clean 0 silent 6
 
 -- return *strchr("ab",98); (7.24.5.2)
 abbrev pub byte_found : Type 0
 byte_found = found (with_library (lib.Strchr ∷ []) (literal 0 (97 ∷ 98 ∷ 0 ∷ []) ∷ literal 1 (97 ∷ 99 ∷ 0 ∷ []) ∷ []) [] []
     (Return (to_kind kind.Int (get (node (Call false) (pointer_to char_type) (function_at 1 plain_function ∷ text 0 ∷ int 98 ∷ [])))) ∷ []))
-    ≡ Clean 98 [] 8
+    ≡ Clean 98 silent 8
 
 -- strcpy(c,"ab");return c[1]; (7.24.2.3)
 abbrev pub text_copied : Type 0
 text_copied = found (with_library (lib.Strcpy ∷ []) (chars (1 ∷ 2 ∷ 3 ∷ 0 ∷ []) ∷ literal 0 (97 ∷ 98 ∷ 0 ∷ []) ∷ []) [] []
-    (doing 1 (c ∷ text 0 ∷ []) ∷ Return (to_kind kind.Int (get (on 1 char_type 1 c))) ∷ [])) ≡ Clean 98 [] 11
+    (doing 1 (c ∷ text 0 ∷ []) ∷ Return (to_kind kind.Int (get (on 1 char_type 1 c))) ∷ [])) ≡ Clean 98 silent 11
 
 -- strcpy(c+1,c);, where c is "a"
 abbrev pub text_copied_onto_itself : Type 0
@@ -184,22 +185,27 @@ text_of_unwritten = found (with_library (lib.Strlen ∷ []) [] [] (array_of 2 ch
 
 -- return getchar(); (7.21.7.6p3)
 abbrev pub end_of_input : Type 0
-end_of_input = found (with_library (lib.Getchar ∷ []) [] [] [] (Return (calling 1 []) ∷ [])) ≡ Clean 255 [] 6
+end_of_input = found (with_library (lib.Getchar ∷ []) [] [] [] (Return (calling 1 []) ∷ [])) ≡ Clean 255 silent 6
 
 -- return getchar(),getchar(),getchar();, of one byte: the end stays
 abbrev pub after_the_end : Type 0
 after_the_end = found (record (with_library (lib.Getchar ∷ []) [] [] []
-    (Return (node Comma int_type (calling 1 [] ∷ calling 1 [] ∷ calling 1 [] ∷ [])) ∷ [])) { input = 65 ∷ [] }) ≡ Clean 255 [] 11
+    (Return (node Comma int_type (calling 1 [] ∷ calling 1 [] ∷ calling 1 [] ∷ [])) ∷ [])) { input = 65 ∷ [] }) ≡ Clean 255 silent 11
 
 -- return puts("ab"); (7.21.7.9)
 abbrev pub line_printed : Type 0
 line_printed = found (with_library (lib.Puts ∷ []) (literal 0 (97 ∷ 98 ∷ 0 ∷ []) ∷ literal 1 (97 ∷ 99 ∷ 0 ∷ []) ∷ []) [] []
-    (Return (calling 1 (text 0 ∷ [])) ∷ [])) ≡ Clean 1 (97 ∷ 98 ∷ 10 ∷ []) 6
+    (Return (calling 1 (text 0 ∷ [])) ∷ [])) ≡ Clean 1 (on_output (97 ∷ 98 ∷ 10 ∷ [])) 6
 
 -- return printf("%c%%",65); (7.21.6.1p8)
 abbrev pub byte_printed : Type 0
 byte_printed = found (with_library (lib.Printf ∷ []) (literal 0 (37 ∷ 99 ∷ 37 ∷ 37 ∷ 0 ∷ []) ∷ []) [] []
-    (Return (calling 1 (text 0 ∷ int 65 ∷ [])) ∷ [])) ≡ Clean 2 (65 ∷ 37 ∷ []) 6
+    (Return (calling 1 (text 0 ∷ int 65 ∷ [])) ∷ [])) ≡ Clean 2 (on_output (65 ∷ 37 ∷ [])) 6
+
+-- return fprintf(stderr,"%c%%",65);: standard error is a stream of its own (7.21.3p7)
+abbrev pub error_printed : Type 0
+error_printed = found (with_library (lib.Fprintf ∷ []) (literal 0 (37 ∷ 99 ∷ 37 ∷ 37 ∷ 0 ∷ []) ∷ []) [] []
+    (Return (calling 1 (int 2 ∷ text 0 ∷ int 65 ∷ [])) ∷ [])) ≡ Clean 2 (record { standard = []; errors = 65 ∷ 37 ∷ [] }) 6
 
 -- return printf("%d"); (7.21.6.1p2)
 abbrev pub too_few : Type 0
@@ -218,8 +224,8 @@ invalid_directive = found (with_library (lib.Printf ∷ []) (literal 0 (37 ∷ 1
 
 -- exit(3); (7.22.4.4)
 abbrev pub exits : Type 0
-exits = found (with_library (lib.Exit ∷ []) [] [] [] (doing 1 (int 3 ∷ []) ∷ [])) ≡ Clean 3 [] 3
+exits = found (with_library (lib.Exit ∷ []) [] [] [] (doing 1 (int 3 ∷ []) ∷ [])) ≡ Clean 3 silent 3
 
 -- abort(); (7.22.4.1; the status 134 is own)
 abbrev pub aborts : Type 0
-aborts = found (with_library (lib.Abort ∷ []) [] [] [] (doing 1 [] ∷ [])) ≡ Clean 134 [] 3
+aborts = found (with_library (lib.Abort ∷ []) [] [] [] (doing 1 [] ∷ [])) ≡ Clean 134 silent 3

@@ -6,6 +6,7 @@ use Rattle.ub_base.specs.declared.clause.Cause.TheVariants as cause
 use Rattle.c_types.specs.declared.library.LibFunc.TheVariants as lib
 use Rattle.c_typed.specs.declared.tree.Conversion.TheVariants as conversion
 use Rattle.c_typed.specs.Order.{place}
+use Rattle.mem_spec.specs.Streams.{on_output, silent}
 use Rattle.c_model.specs.Program.{Call, Value, Return}
 use Rattle.c_model.specs.FirstFinding.{Clean, Undefined, Outside}
 use Rattle.model_samples.specs.Build.{int_type, pointer_to, array_of, returning, node, int, x, get, init, convert, function_at, call, text}
@@ -21,7 +22,7 @@ depth = found (record (sample (main_function [] (Return (call 1 []) ∷ []) ∷ 
 -- and where two may be
 abbrev pub within_depth : Type 0
 within_depth = found (record (sample (main_function [] (Return (call 1 []) ∷ []) ∷ function (returning int_type []) [] (Return (int 0) ∷ []) ∷ []) []
-    []) { limits = record { depth = 2; created = 1000; output = 100 } }) ≡ Clean 0 [] 10
+    []) { limits = record { depth = 2; created = 1000; output = 100 } }) ≡ Clean 0 silent 10
 
 -- int x;, at file level, where 8 bytes may be created: an object counts as at least 16
 abbrev pub created_at_start : Type 0
@@ -36,7 +37,7 @@ created_by_block = found (record (main (int_type ∷ int_type ∷ []) (Return (i
 -- and where 32 may be
 abbrev pub within_created : Type 0
 within_created = found (record (main (int_type ∷ int_type ∷ []) (Return (int 0) ∷ []))
-    { limits = record { depth = 100; created = 32; output = 100 } }) ≡ Clean 0 [] 4
+    { limits = record { depth = 100; created = 32; output = 100 } }) ≡ Clean 0 silent 4
 
 -- int*p=malloc(24);, where 39 bytes may be created
 abbrev pub created_by_call : Type 0
@@ -58,7 +59,13 @@ output = found (record (with_library (lib.Puts ∷ []) (literal 0 (97 ∷ 98 ∷
 -- and where three may be
 abbrev pub within_output : Type 0
 within_output = found (record (with_library (lib.Puts ∷ []) (literal 0 (97 ∷ 98 ∷ 0 ∷ []) ∷ literal 1 (97 ∷ 99 ∷ 0 ∷ []) ∷ []) [] []
-    (doing 1 (text 0 ∷ []) ∷ Return (int 0) ∷ [])) { limits = record { depth = 100; created = 1000; output = 3 } }) ≡ Clean 0 (97 ∷ 98 ∷ 10 ∷ []) 8
+    (doing 1 (text 0 ∷ []) ∷ Return (int 0) ∷ [])) { limits = record { depth = 100; created = 1000; output = 3 } }) ≡ Clean 0 (on_output (97 ∷ 98 ∷ 10 ∷ [])) 8
+
+-- putchar(97);fprintf(stderr,"b");, where one byte may be printed: the bytes of both streams count together
+abbrev pub outputs_together : Type 0
+outputs_together = found (record (with_library (lib.Putchar ∷ lib.Fprintf ∷ []) (literal 0 (98 ∷ 0 ∷ []) ∷ []) [] []
+    (doing 1 (int 97 ∷ []) ∷ doing 2 (int 2 ∷ text 0 ∷ []) ∷ [])) { limits = record { depth = 100; created = 1000; output = 1 } })
+    ≡ Outside cause.Output 2 6
 
 -- printf("%4096d",1);: a directive that gives more than 4095 bytes (7.21.6.1p15, own)
 abbrev pub long_conversion : Type 0

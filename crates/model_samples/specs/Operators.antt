@@ -11,6 +11,7 @@ use Rattle.c_types.specs.Types as types
 use Rattle.c_typed.specs.declared.tree.UnOp.TheVariants as unary
 use Rattle.c_typed.specs.declared.tree.RelOp.TheVariants as relation
 use Rattle.c_typed.specs.Order.{place}
+use Rattle.mem_spec.specs.Streams.{silent}
 use Rattle.c_model.specs.Program.{Bin, Un, And, Or, Cond, Comma, Expr, Return}
 use Rattle.c_model.specs.FirstFinding.{Clean, Undefined}
 use Rattle.model_samples.specs.Build.{int_type, node, constant, int, minus, x, get, binary, less, equal, not_equal, to_kind, found, returns, with_x}
@@ -21,7 +22,7 @@ unsigned o a b = node (Bin o kind.UInt) (types.int kind.UInt) (a ∷ b ∷ [])
 
 -- `return E;` gives the status after so many events
 abbrev pub Gives : Expr → (status events : ℕ) → Type 0
-Gives e status events = found (returns e) ≡ Clean status [] (events + 4)
+Gives e status events = found (returns e) ≡ Clean status silent (events + 4)
 
 -- `return E;` is undefined at the first event, of this node
 abbrev pub Breaks : Expr → Clause → ℕ → Type 0
@@ -225,4 +226,4 @@ to_long = Gives (to_kind kind.Int (to_kind kind.Long (minus 1))) 255 0
 
 -- int x=300;return (unsigned char)x;: a load, and two conversions
 abbrev pub of_object : Type 0
-of_object = found (with_x (int 300) (Return (to_kind kind.Int (to_kind kind.UChar (get x))) ∷ [])) ≡ Clean 44 [] 11
+of_object = found (with_x (int 300) (Return (to_kind kind.Int (to_kind kind.UChar (get x))) ∷ [])) ≡ Clean 44 silent 11

@@ -7,6 +7,7 @@ use Rattle.ub_base.specs.declared.names.Event.{Event}
 use Rattle.ub_base.specs.declared.names.Item.{Item}
 use Rattle.ub_base.specs.declared.names.Item.TheVariants.{Read, Born, Dies, Alive, Expose, Narrow, Input, Output, Ending, Any}
 use Rattle.c_typed.specs.Order.{place, same_place}
+use Rattle.mem_spec.specs.Streams.{silent}
 use Rattle.c_model.specs.Program.{tree_of}
 use Rattle.c_model.specs.Moments.{Open}
 use Rattle.c_model.specs.FirstFinding.{Finding, Clean, Order_dependent, found_in}
@@ -26,14 +27,14 @@ operands is js = record {
 
 -- what shows there at pick 5, where otherwise the run is clean
 abbrev pub beside : Item → Item → Finding
-beside i j = found_in (world_of (returns (int 0))) [] (operands (i ∷ []) (j ∷ []) ∷ []) 5 (Clean 0 [] 9)
+beside i j = found_in (world_of (returns (int 0))) [] (operands (i ∷ []) (j ∷ []) ∷ []) 5 (Clean 0 silent 9)
 
 -- they depend on the order, with these items
 abbrev pub conflict : Item → Item → Type 0
 conflict i j = beside i j ≡ Order_dependent (pair_of 2 (place 1 Val) (place 3 Val) i j) 5
 
 abbrev pub agree : Item → Item → Type 0
-agree i j = beside i j ≡ Clean 0 [] 9
+agree i j = beside i j ≡ Clean 0 silent 9
 
 abbrev pub one : ObjName
 one = Static 0

@@ -252,6 +252,7 @@ pub fn law_functions()
     ensures after_the_end { functions.after_the_end }
     ensures line_printed { functions.line_printed }
     ensures byte_printed { functions.byte_printed }
+    ensures error_printed { functions.error_printed }
     ensures too_few { functions.too_few }
     ensures wrong_type { functions.wrong_type }
     ensures invalid_directive { functions.invalid_directive }
@@ -270,6 +271,7 @@ pub fn law_limits()
     ensures created_without_row { limits.created_without_row }
     ensures output { limits.output }
     ensures within_output { limits.within_output }
+    ensures outputs_together { limits.outputs_together }
     ensures long_conversion { limits.long_conversion }
     ensures directive_left_out { limits.directive_left_out }
     ensures raise_before_limit { limits.raise_before_limit }
@@ -300,6 +302,7 @@ pub fn law_conflicts()
     ensures lookup_and_end_of_life { conflicts.lookup_and_end_of_life }
     ensures two_inputs { conflicts.two_inputs }
     ensures two_outputs { conflicts.two_outputs }
+    ensures outputs_of_two_streams { conflicts.outputs_of_two_streams }
     ensures input_and_output { conflicts.input_and_output }
     ensures end_beside_done { conflicts.end_beside_done }
     ensures end_beside_pending { conflicts.end_beside_pending }

@@ -61,7 +61,7 @@ bind rows (Do (Show x) f) k bs Q R h g = λ r. bind rows (f r) k (Expose x ∷ b
 bind rows (Do (Find a) f) k bs Q R h g = λ r. bind rows (f r) k (Lookup a ∷ bs) Q R (h r) (λ v cs m q. g v cs (after_one (Lookup a) bs cs m) q)
 bind rows (Do (Settle id x c) f) k bs Q R h g = λ r. bind rows (f r) k (Narrow id x ∷ bs) Q R (h r) (λ v cs m q. g v cs (after_one (Narrow id x) bs cs m) q)
 bind rows (Do Take f) k bs Q R h g = λ r. bind rows (f r) k (Input ∷ bs) Q R (h r) (λ v cs m q. g v cs (after_one Input bs cs m) q)
-bind rows (Do (Print ds) f) k bs Q R h g = λ r. bind rows (f r) k (Output ∷ bs) Q R (h r) (λ v cs m q. g v cs (after_one Output bs cs m) q)
+bind rows (Do (Print to ds) f) k bs Q R h g = λ r. bind rows (f r) k (Output ∷ bs) Q R (h r) (λ v cs m q. g v cs (after_one Output bs cs m) q)
 
 and_both : (a b : Bool) → a ≡ true → b ≡ true → (a && b) ≡ true
 and_both true b h k = k
@@ -135,10 +135,10 @@ module _ {V : Type 0} (rows : List Row) where
       subst (λ z. all_backed ds z ≡ true) (sym st.items)
       (sound (f (answer rows (Take) s)) (Input ∷ bs) ds (left (Take) s) v st.rest s1 (h (answer rows (Take) s))
       (more_here (Input) is bs st.rest ds st.items m n) (more_rest (Input) is st.rest ds st.items n) st.done)
-  sound (Do (Print cs) f) bs ds s v is s1 h m n e =
-      let st = stepped (refuses (Print cs) s) (Print cs) (Output) (run rows (f (answer rows (Print cs) s)) (left (Print cs) s)) (gives v) is s1 e in
+  sound (Do (Print to cs) f) bs ds s v is s1 h m n e =
+      let st = stepped (refuses (Print to cs) s) (Print to cs) (Output) (run rows (f (answer rows (Print to cs) s)) (left (Print to cs) s)) (gives v) is s1 e in
       subst (λ z. all_backed ds z ≡ true) (sym st.items)
-      (sound (f (answer rows (Print cs) s)) (Output ∷ bs) ds (left (Print cs) s) v st.rest s1 (h (answer rows (Print cs) s))
+      (sound (f (answer rows (Print to cs) s)) (Output ∷ bs) ds (left (Print to cs) s) v st.rest s1 (h (answer rows (Print to cs) s))
       (more_here (Output) is bs st.rest ds st.items m n) (more_rest (Output) is st.rest ds st.items n) st.done)
 
   -- and what it creates is what its births count
@@ -191,9 +191,9 @@ module _ {V : Type 0} (rows : List Row) where
       let st = stepped (refuses (Take) s) (Take) (Input) (run rows (f (answer rows (Take) s)) (left (Take) s)) (gives v) is s1 e in
       counted (f (answer rows (Take) s)) (Input ∷ bs) (left (Take) s) v st.rest s1 (h (answer rows (Take) s)) st.done
       ∙ ap (λ l. counted_after rows l s.created) (sym st.items)
-  counted (Do (Print cs) f) bs s v is s1 h e =
-      let st = stepped (refuses (Print cs) s) (Print cs) (Output) (run rows (f (answer rows (Print cs) s)) (left (Print cs) s)) (gives v) is s1 e in
-      counted (f (answer rows (Print cs) s)) (Output ∷ bs) (left (Print cs) s) v st.rest s1 (h (answer rows (Print cs) s)) st.done
+  counted (Do (Print to cs) f) bs s v is s1 h e =
+      let st = stepped (refuses (Print to cs) s) (Print to cs) (Output) (run rows (f (answer rows (Print to cs) s)) (left (Print to cs) s)) (gives v) is s1 e in
+      counted (f (answer rows (Print to cs) s)) (Output ∷ bs) (left (Print to cs) s) v st.rest s1 (h (answer rows (Print to cs) s)) st.done
       ∙ ap (λ l. counted_after rows l s.created) (sym st.items)
 
   -- and it doesn't end the run
@@ -234,9 +234,9 @@ module _ {V : Type 0} (rows : List Row) where
   never_ends (Do (Take) f) bs s n is s1 h e =
       let st = stepped (refuses (Take) s) (Take) (Input) (run rows (f (answer rows (Take) s)) (left (Take) s)) (finishes n) is s1 e in
       never_ends (f (answer rows (Take) s)) (Input ∷ bs) (left (Take) s) n st.rest s1 (h (answer rows (Take) s)) st.done
-  never_ends (Do (Print cs) f) bs s n is s1 h e =
-      let st = stepped (refuses (Print cs) s) (Print cs) (Output) (run rows (f (answer rows (Print cs) s)) (left (Print cs) s)) (finishes n) is s1 e in
-      never_ends (f (answer rows (Print cs) s)) (Output ∷ bs) (left (Print cs) s) n st.rest s1 (h (answer rows (Print cs) s)) st.done
+  never_ends (Do (Print to cs) f) bs s n is s1 h e =
+      let st = stepped (refuses (Print to cs) s) (Print to cs) (Output) (run rows (f (answer rows (Print to cs) s)) (left (Print to cs) s)) (finishes n) is s1 e in
+      never_ends (f (answer rows (Print to cs) s)) (Output ∷ bs) (left (Print to cs) s) n st.rest s1 (h (answer rows (Print to cs) s)) st.done
 
 pub need : {V : Type 0} → (rows : List Row) (b : Bool) (c : Clause) (t : Script V) (bs : List Item) (Q : V → List Item → Type 0) → Post rows t bs Q
     → Post rows (require b c >> t) bs Q

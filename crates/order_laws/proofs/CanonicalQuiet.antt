@@ -12,6 +12,7 @@ use Rattle.mem_spec.specs.Store.{Store}
 use Rattle.mem_spec.specs.Script.{Give, Act, Done, Raised, Ended, Outside, Unplaced, run, Touch, Bury, item_of, refuses, left}
 use Rattle.mem_laws.specs.Frame.{gives as gives_value}
 use Rattle.mem_laws.proofs.Scripts.{stepped}
+use Rattle.mem_spec.specs.Streams.{Outputs, total}
 use Rattle.c_model.specs.Program.{Decl}
 use Rattle.c_model.specs.Control.{Todo, Leave, ready_work}
 use Rattle.order_laws.specs.Asking.{LibraryAsked}
@@ -49,18 +50,18 @@ use Rattle.order_laws.proofs.QuietFrames.{held_keep, held_end, run_has_end}
 
 -- what stands behind the limits of a pick that passes none
 pub fits_of : (world : World) (d : ℕ) (s : Store) → limit_passed world.limits d s ≡ None → Within world.limits.created world.limits.output s
-fits_of world d s h = go (nat_lt world.limits.depth d) (nat_lt world.limits.created s.created) (nat_lt world.limits.output (length s.output)) refl refl h
+fits_of world d s h = go (nat_lt world.limits.depth d) (nat_lt world.limits.created s.created) (nat_lt world.limits.output (total s.output)) refl refl h
   where
     low : (a b : ℕ) → nat_lt a b ≡ false → b ≤ a
     low a b e = grind (arith, nat_tests, e)
 
-    go : (a b c : Bool) → nat_lt world.limits.created s.created ≡ b → nat_lt world.limits.output (length s.output) ≡ c
+    go : (a b c : Bool) → nat_lt world.limits.created s.created ≡ b → nat_lt world.limits.output (total s.output) ≡ c
         → if◌then◌else◌ {A = Option (Cause × ℕ)} a (Some (Depth, d)) (if◌then◌else◌ {A = Option (Cause × ℕ)} b (Some (Created, s.created))
-        (if◌then◌else◌ {A = Option (Cause × ℕ)} c (Some (Output, length s.output)) None)) ≡ None → Within world.limits.created world.limits.output s
+        (if◌then◌else◌ {A = Option (Cause × ℕ)} c (Some (Output, total s.output)) None)) ≡ None → Within world.limits.created world.limits.output s
     go false false false e k h = record {
       created_at_most = low world.limits.created s.created e;
       output_at_most =
-          low world.limits.output (length s.output) k;
+          low world.limits.output (total s.output) k;
     }
     go true b c e k h = absurd (cc)
     go false true c e k h = absurd (cc)
@@ -92,7 +93,7 @@ module _ (world : World) (c o : ℕ) where
   leave_still f None s v is s1 m h fit = work_still f (ready_work f.todo) s v is s1 m h fit
   leave_still f (Some e) s v is s1 m h fit = give_still (result_of world f) v s s1 is h fit
 
-module _ (world : World) (asked : LibraryAsked world) (status : ℕ) (output : List ℕ) (picks : ℕ) where
+module _ (world : World) (asked : LibraryAsked world) (status : ℕ) (output : Outputs) (picks : ℕ) where
   abbrev pub Fit : Store → Type 0
   Fit s = Within world.limits.created world.limits.output s
 
@@ -374,7 +375,7 @@ module _ (world : World) (asked : LibraryAsked world) (status : ℕ) (output : L
             (subst (λ z. QuietOrder M E (going (g, z) [] (y ∷ hs) st.store) r.k r.result r.last) (swap (weight g) D)
             (subst (λ z. QuietOrder M E (going (g, weight g + D) [] (y ∷ hs) z) r.k r.result r.last) (sym same.1) r.order)) r.ends r.count r.fits
 
-    clean_parts : (m i j : ℕ) (o : List ℕ) → Clean m o i ≡ Clean status output j → (m ≡ status) × (o ≡ output) × (i ≡ j)
+    clean_parts : (m i j : ℕ) (o : Outputs) → Clean m o i ≡ Clean status output j → (m ≡ status) × (o ≡ output) × (i ≡ j)
     clean_parts m i j o e = (cc, cc, cc)
 
     -- the frame ends

@@ -1,5 +1,6 @@
 -- A first finding *clean* is a run without conflicts.
 use Rattle.std.proofs.Common.{◌≡◌, ℕ, List, refl, sym, subst}
+use Rattle.mem_spec.specs.Streams.{Outputs}
 use Rattle.c_model.specs.World.{World}
 use Rattle.c_model.specs.Libraries as libc
 use Rattle.order_laws.proofs.PrintAsks.{library_asks}
@@ -37,7 +38,7 @@ told_order world asked =
       start_next = o.start_next;
     }
 
-module _ (world : World) (budget : ℕ) (input : List ℕ) (vs : List Value) (status : ℕ) (output : List ℕ) (picks : ℕ) (asked : LibraryAsked world) where
+module _ (world : World) (budget : ℕ) (input : List ℕ) (vs : List Value) (status : ℕ) (output : Outputs) (picks : ℕ) (asked : LibraryAsked world) where
   quiet_from : (o : Outcome) → start world input vs ≡ o → found_after world budget o ≡ Clean status output picks → CleanRun world input vs status output picks
   quiet_from (Running st) e h =
       let sd = started_as world input vs st e in

@@ -9,6 +9,7 @@ use Rattle.ub_base.specs.declared.clause.Cause.TheVariants.{Depth}
 use Rattle.mem_spec.specs.Store.{Store}
 use Rattle.mem_spec.specs.Script.{Act, Done, Raised, Ended, Outside, Unplaced, run}
 use Rattle.c_typed.specs.declared.tree.Place.{Place}
+use Rattle.mem_spec.specs.Streams.{Outputs}
 use Rattle.c_model.specs.World.{World}
 use Rattle.c_model.specs.Values.{Value}
 use Rattle.c_model.specs.Steps.{Pick}
@@ -90,7 +91,7 @@ none_traced (Ends n out t) = inr (λ h. cc)
 none_traced (Running st) = inr (λ h. cc)
 
 module _ (world : World) (asked : LibraryAsked world) (small : world.limits.created < 2 ^ 62) (input : List ℕ) (vs : List Value) (status : ℕ)
-    (output : List ℕ) (picks : ℕ)
+    (output : Outputs) (picks : ℕ)
     (c : CleanRun world input vs status output picks) where
   abbrev st : State
   st = c.first

@@ -9,6 +9,7 @@ use Rattle.c_typed.specs.declared.tree.Place.{Place}
 use Rattle.c_typed.specs.Order.{place, same_place, is_body}
 use Rattle.mem_spec.specs.Store.{Store}
 use Rattle.mem_spec.specs.Script.{Act, Done, Raised, Ended, Outside, Unplaced, run}
+use Rattle.mem_spec.specs.Streams.{Outputs}
 use Rattle.c_model.specs.World.{World}
 use Rattle.c_model.specs.Values.{Value}
 use Rattle.c_model.specs.Moves.{Move, Stay, Start, End}
@@ -91,7 +92,7 @@ module _ (world : World) (small : world.limits.created < 2 ^ 62) (f0 : Local × 
   -- what a pick leads to
   data Leads (qs : List Pick) : Outcome → Type 0 where
     goes_on : (st : State) → Reach st qs → Leads qs (Running st)
-    comes_to : (n : ℕ) (output : List ℕ) (trace : List Entry) → EndsWith o0 last_store n output → ConflictFree world trace → EndsApart trace → length qs ≤ k
+    comes_to : (n : ℕ) (output : Outputs) (trace : List Entry) → EndsWith o0 last_store n output → ConflictFree world trace → EndsApart trace → length qs ≤ k
         → Leads qs (Ends n output trace)
 
   within_none : (o : Option _) (r : Outcome) → o ≡ None → within o r ≡ r
@@ -489,7 +490,7 @@ module _ (world : World) (small : world.limits.created < 2 ^ 62) (f0 : Local × 
         leads st qs r p m a.0 a.1
 
     -- what is said of each order
-    pub record Alike (status : ℕ) (output : List ℕ) (n : ℕ) (o : Outcome) : Type 0 where
+    pub record Alike (status : ℕ) (output : Outputs) (n : ℕ) (o : Outcome) : Type 0 where
       pub goes_well : GoesWell world status output o
       pub bounded : n ≤ k
       pub free : ConflictFree world (trace_of o)
@@ -499,7 +500,7 @@ module _ (world : World) (small : world.limits.created < 2 ^ 62) (f0 : Local × 
     same_ends (gave v) n m a b h g = (sym h.0 ∙ g.0, sym h.1 ∙ g.1)
     same_ends (said j) n m a b h g = (sym h.0 ∙ g.0, sym h.1 ∙ g.1)
 
-    module _ (status : ℕ) (output : List ℕ) (ends_as : EndsWith o0 last_store status output) where
+    module _ (status : ℕ) (output : Outputs) (ends_as : EndsWith o0 last_store status output) where
       at_state : (st : State) (qs : List Pick) → Reach st qs → Alike status output (length qs) (Running st)
       at_state st qs r =
           let l = law (going (st.top, depth_of st.top st.held) r.es r.hs st.store) qs r.order in

@@ -18,6 +18,7 @@ use Rattle.c_types.specs.declared.library.LibFunc.{LibFunc}
 use Rattle.c_types.specs.declared.library.LibFunc.TheVariants.{Malloc, Calloc, Realloc, Free, Memcpy, Memmove, Memset, Memcmp, Strlen, Strcpy, Strcmp}
 use Rattle.c_types.specs.declared.library.LibFunc.TheVariants.{Strchr, Getchar, Putchar, Puts, Printf, Fprintf, Sprintf, Snprintf, Exit, Abort}
 use Rattle.mem_spec.specs.Store.{TaggedByte, is_live}
+use Rattle.mem_spec.specs.declared.stream.Stream.TheVariants as streams
 use Rattle.mem_spec.specs.Script.{Ask, Get, Put, Bury, Print, Script, Give, touch, require, ◌>>=◌, ◌>>◌}
 use Rattle.mem_spec.specs.Acts.{Accessed, argument, argument_object, argument_in, the_one_in, in_row, offset_in, settle_by, check_writable, copy_between}
 use Rattle.mem_spec.specs.Acts.{declared_of, stored_from, whole, all_written, show_pieces, size_in, retagged}
@@ -211,9 +212,9 @@ strchr_asks rows a p c bs =
 
 puts_asks : (rows : List Row) (a : ℕ) (p : Prov) (bs : List Item) → Asked rows (puts rows a p) bs
 puts_asks rows a p bs =
-    go_on rows (text rows a p) (λ s. read_numbers s.bytes >>= (λ ns. touch (Print (without_zero ns ++ 10 ∷ [])) >> Give (number (pos 1)))) bs
+    go_on rows (text rows a p) (λ s. read_numbers s.bytes >>= (λ ns. touch (Print streams.Output (without_zero ns ++ 10 ∷ [])) >> Give (number (pos 1)))) bs
     (text_asks rows a p bs)
-    (λ s cs. go_on rows (read_numbers s.bytes) (λ ns. touch (Print (without_zero ns ++ 10 ∷ [])) >> Give (number (pos 1))) cs (numbers_ask rows s.bytes cs)
+    (λ s cs. go_on rows (read_numbers s.bytes) (λ ns. touch (Print streams.Output (without_zero ns ++ 10 ∷ [])) >> Give (number (pos 1))) cs (numbers_ask rows s.bytes cs)
     (λ ns ds. λ r. tt))
 
 new_asks : (rows : List Row) (who : Event) (n : ℕ) (bs : List Item) → Asked rows (new_object rows who n) bs

@@ -37,7 +37,7 @@ touch_knows (Show y) s x h = h
 touch_knows (Find a) s x h = h
 touch_knows (Settle id y c) s x h = h
 touch_knows Take s x h = h
-touch_knows (Print bs) s x h = h
+touch_knows (Print to bs) s x h = h
 
 -- a birth makes its object known, and none was known before
 touch_born : (t : Touch) (s : Store) (x : ObjName) → bears (item_of t) x ≡ true → refuses t s ≡ false → (is_some (s.life x) ≡ false) × Knows (left t s) x
@@ -54,7 +54,7 @@ touch_born (Show y) s x b r = absurd (cc)
 touch_born (Find a) s x b r = absurd (cc)
 touch_born (Settle id y c) s x b r = absurd (cc)
 touch_born Take s x b r = absurd (cc)
-touch_born (Print bs) s x b r = absurd (cc)
+touch_born (Print to bs) s x b r = absurd (cc)
 
 module _ {V : Type 0} (map : List Row) where
   pub run_knows : (sc : Script V) (s s1 : Store) (v : V) (is : List Item) (x : ObjName) → run map sc s ≡ Done v is s1 → Knows s x → Knows s1 x

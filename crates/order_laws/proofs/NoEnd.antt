@@ -56,7 +56,7 @@ no_end_refused (Bury x) n is s e = cc
 no_end_refused (Show x) n is s e = cc
 no_end_refused (Find a) n is s e = cc
 no_end_refused Take n is s e = cc
-no_end_refused (Print bs) n is s e = cc
+no_end_refused (Print to bs) n is s e = cc
 
 no_end_if : {V : Type 0} → (b : Bool) (x y : Act V) (n : ℕ) (is : List Item) (s : Store) → (x ≡ Ended n is s → ⊥) → (y ≡ Ended n is s → ⊥)
     → if b then x else y ≡ Ended n is s → ⊥

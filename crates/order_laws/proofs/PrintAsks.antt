@@ -15,6 +15,8 @@ use Rattle.addr_map.specs.Rows.{row_of}
 use Rattle.c_types.specs.declared.library.LibFunc.{LibFunc}
 use Rattle.c_types.specs.declared.library.LibFunc.TheVariants.{Printf, Fprintf, Sprintf, Snprintf}
 use Rattle.c_types.specs.Types.{CType}
+use Rattle.mem_spec.specs.declared.stream.Stream.{Stream}
+use Rattle.mem_spec.specs.declared.stream.Stream.TheVariants as streams
 use Rattle.mem_spec.specs.Script.{Ask, Get, Put, Bear, Bury, Show, Find, Settle, Take, Print, item_of, Script, Give, Raise, Finish, Exceed}
 use Rattle.mem_spec.specs.Script.{Misplace, Do, touch, require, ◌>>=◌, ◌>>◌}
 use Rattle.mem_spec.specs.Acts.{Accessed, argument, expose, size_in}
@@ -28,8 +30,8 @@ use Rattle.libc_spec.specs.Print.{Argument, Taken, next, is_int, next_int, Width
 use Rattle.libc_spec.specs.Print.{converted, fits_kind, next_integer, is_target, next_pointer, Parts, Field, padded, own_size, whole_size, field}
 use Rattle.libc_spec.specs.Print.{integer_parts, integer_field, bare, spaced, is_signed_conversion, until_most, bounded_from, before_zero, string_bytes}
 use Rattle.libc_spec.specs.Print.{one, put_integer, put_byte, put_string, address_parts, put_address, put_sized, put_formed, Step, step_by, step, text_of}
-use Rattle.libc_spec.specs.Print.{printf}
-use Rattle.libc_spec.specs.Formatted.{formatted, short, short_text, complaint, fprintf, room, ended, array, Noted, noting, overlaps, Placed, placed}
+use Rattle.libc_spec.specs.Print.{print_to}
+use Rattle.libc_spec.specs.Formatted.{formatted, short, short_text, fprintf, room, ended, array, Noted, noting, overlaps, Placed, placed}
 use Rattle.libc_spec.specs.Formatted.{store_text, sprintf}
 use Rattle.c_model.specs.Libraries.{passed, result, typed, script, library}
 use Rattle.order_laws.specs.StrictItems.{asks}
@@ -187,15 +189,15 @@ text_of_asks (suc fuel) rows at (c ∷ cs) as' bs =
     (λ s ds. go_on rows (text_of fuel rows (at + 1 + s.len) (drop s.len cs) s.rest) (λ more. Give (s.bytes ++ more)) ds
     (text_of_asks fuel rows (at + 1 + s.len) (drop s.len cs) s.rest ds) (λ more es. tt))
 
-abbrev print_last : List Row → List Argument → List ℕ → Script LibValue
-print_last rows as' ns = text_of (length ns) rows 0 (without_zero ns) as' >>= (λ out. touch (Print out) >> Give (number (pos (length out))))
+abbrev print_last : Stream → List Row → List Argument → List ℕ → Script LibValue
+print_last to rows as' ns = text_of (length ns) rows 0 (without_zero ns) as' >>= (λ out. touch (Print to out) >> Give (number (pos (length out))))
 
-printf_asks : (rows : List Row) (format : LibValue) (as' : List Argument) (bs : List Item) → Asked rows (printf rows format as') bs
-printf_asks rows format as' bs =
-    go_on rows (text rows (address_in format) (prov_in format)) (λ s. read_numbers s.bytes >>= print_last rows as') bs
+print_to_asks : (to : Stream) (rows : List Row) (format : LibValue) (as' : List Argument) (bs : List Item) → Asked rows (print_to to rows format as') bs
+print_to_asks to rows format as' bs =
+    go_on rows (text rows (address_in format) (prov_in format)) (λ s. read_numbers s.bytes >>= print_last to rows as') bs
     (text_asks rows (address_in format) (prov_in format) bs)
-    (λ s cs. go_on rows (read_numbers s.bytes) (print_last rows as') cs (numbers_ask rows s.bytes cs)
-    (λ ns ds. go_on rows (text_of (length ns) rows 0 (without_zero ns) as') (λ out. touch (Print out) >> Give (number (pos (length out)))) ds
+    (λ s cs. go_on rows (read_numbers s.bytes) (print_last to rows as') cs (numbers_ask rows s.bytes cs)
+    (λ ns ds. go_on rows (text_of (length ns) rows 0 (without_zero ns) as') (λ out. touch (Print to out) >> Give (number (pos (length out)))) ds
     (text_of_asks (length ns) rows 0 (without_zero ns) as' ds)
     (λ out es. λ r. tt)))
 
@@ -211,16 +213,13 @@ short_asks rows format as' bs =
     go_on rows (formatted rows format as') short bs (formatted_asks rows format as' bs)
     (λ out cs. when rows (nat_lt (2 ^ 24) (length out)) (Exceed PastOutput (length out)) (Give out) cs Anything tt tt)
 
-complaint_asks : (rows : List Row) (format : LibValue) (as' : List Argument) (bs : List Item) → Asked rows (complaint rows format as') bs
-complaint_asks rows format as' bs =
-    go_on rows (short_text rows format as') (λ out. touch (Print []) >> Give (number (pos (length out)))) bs (short_asks rows format as' bs)
-    (λ out cs. λ r. tt)
-
 fprintf_asks : (rows : List Row) (z : ℤ) (format : LibValue) (as' : List Argument) (bs : List Item) → Asked rows (fprintf rows z format as') bs
 fprintf_asks rows z format as' bs =
-    when rows (int_eq z (pos 1)) (printf rows format as') (if int_eq z (pos 2) then complaint rows format as' else Raise LibraryArgument) bs Anything
-    (printf_asks rows format as' bs)
-    (when rows (int_eq z (pos 2)) (complaint rows format as') (Raise LibraryArgument) bs Anything (complaint_asks rows format as' bs) tt)
+    when rows (int_eq z (pos 1)) (print_to streams.Output rows format as')
+    (if int_eq z (pos 2) then print_to streams.Errors rows format as' else Raise LibraryArgument) bs Anything
+    (print_to_asks streams.Output rows format as' bs)
+    (when rows (int_eq z (pos 2)) (print_to streams.Errors rows format as') (Raise LibraryArgument) bs Anything
+    (print_to_asks streams.Errors rows format as' bs) tt)
 
 -- one more item is noted
 note_on : {V : Type 0} → (rows : List Row) (i : Item) (x : Script V) (bs : List Item) (Q : V → List Item → Type 0)
@@ -249,7 +248,7 @@ note_asks rows (Do (Show x) f) bs Q h = λ r. note_on rows (Expose x) (f r) (Exp
 note_asks rows (Do (Find a) f) bs Q h = λ r. note_on rows (Lookup a) (f r) (Lookup a ∷ bs) Q (note_asks rows (f r) (Lookup a ∷ bs) Q (h r))
 note_asks rows (Do (Settle id x c) f) bs Q h = λ r. note_on rows (Narrow id x) (f r) (Narrow id x ∷ bs) Q (note_asks rows (f r) (Narrow id x ∷ bs) Q (h r))
 note_asks rows (Do Take f) bs Q h = λ r. note_on rows Input (f r) (Input ∷ bs) Q (note_asks rows (f r) (Input ∷ bs) Q (h r))
-note_asks rows (Do (Print cs) f) bs Q h = λ r. note_on rows Output (f r) (Output ∷ bs) Q (note_asks rows (f r) (Output ∷ bs) Q (h r))
+note_asks rows (Do (Print to cs) f) bs Q h = λ r. note_on rows Output (f r) (Output ∷ bs) Q (note_asks rows (f r) (Output ∷ bs) Q (h r))
 
 array_asks : (rows : List Row) (n : ℕ) (v : LibValue) (bs : List Item) → Post rows (array rows n v) bs OptKnown
 array_asks rows zero v bs = tt
@@ -279,7 +278,7 @@ sprintf_asks rows most to format as' bs =
 
 script_asks : (rows : List Row) (f : LibFunc) (who : Event) (ts : List CType) (vs : List LibValue) (bs : List Item)
     → AskedOrEnds rows (script rows f who ts vs) bs
-script_asks rows Printf who ts vs bs = inl (printf_asks rows (argument_at vs 0) (drop 1 (typed ts vs)) bs)
+script_asks rows Printf who ts vs bs = inl (print_to_asks streams.Output rows (argument_at vs 0) (drop 1 (typed ts vs)) bs)
 script_asks rows Fprintf who ts vs bs = inl (fprintf_asks rows (integer_in (argument_at vs 0)) (argument_at vs 1) (drop 2 (typed ts vs)) bs)
 script_asks rows Sprintf who ts vs bs = inl (sprintf_asks rows None (argument_at vs 0) (argument_at vs 1) (drop 2 (typed ts vs)) bs)
 script_asks rows Snprintf who ts vs bs =

@@ -7,6 +7,7 @@ use Rattle.ub_base.specs.declared.names.Item.{Item}
 use Rattle.mem_spec.specs.Store.{Store}
 use Rattle.mem_spec.specs.Script.{Act, Done, Raised, Ended, Outside, Unplaced, run}
 use Rattle.mem_laws.specs.Frame.{gives, finishes, bears}
+use Rattle.mem_spec.specs.Streams.{total}
 use Rattle.c_model.specs.World.{World}
 use Rattle.c_model.specs.Values.{Value}
 use Rattle.c_model.specs.Steps.{Local, Pick, does}
@@ -83,7 +84,7 @@ ended_was Unplaced n is s1 h = absurd (cc)
 -- the limits on the store
 module _ (world : World) (small : world.limits.created < 2 ^ 62) where
   abbrev within : Store → Bool
-  within s = nat_le s.created world.limits.created && nat_le (length s.output) world.limits.output
+  within s = nat_le s.created world.limits.created && nat_le (total s.output) world.limits.output
 
   le_of : (a b : ℕ) → nat_le a b ≡ true → a ≤ b
   le_of a b h = grind (arith, nat_tests, h)
@@ -106,11 +107,11 @@ module _ (world : World) (small : world.limits.created < 2 ^ 62) where
   to_fits : (s : Store) → within s ≡ true → Fits world small s
   to_fits s h = record {
     created_at_most = le_of s.created world.limits.created (and_l (nat_le s.created world.limits.created) _ h);
-    output_at_most = le_of (length s.output) world.limits.output (and_r (nat_le s.created world.limits.created) _ h);
+    output_at_most = le_of (total s.output) world.limits.output (and_r (nat_le s.created world.limits.created) _ h);
   }
 
   of_fits : (s : Store) → Fits world small s → within s ≡ true
-  of_fits s w = and_b _ _ (to_le s.created world.limits.created w.created_at_most) (to_le (length s.output) world.limits.output w.output_at_most)
+  of_fits s w = and_b _ _ (to_le s.created world.limits.created w.created_at_most) (to_le (total s.output) world.limits.output w.output_at_most)
 
   shrinks : Shrinks (program_machine world (store_parts world.rows)) (program_ends world (store_parts world.rows)) within
   shrinks = record {

@@ -83,7 +83,7 @@ touch_goes_on (Show x) is h = h
 touch_goes_on (Find a) is h = h
 touch_goes_on (Settle id x c) is h = h
 touch_goes_on Take is h = h
-touch_goes_on (Print bs) is h = h
+touch_goes_on (Print to bs) is h = h
 
 -- an order's trace in which no two events of a full expression conflict where neither is before the other
 abbrev pub ConflictFree : World → List Entry → Type 0

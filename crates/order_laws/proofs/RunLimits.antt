@@ -9,6 +9,9 @@ use Rattle.ub_base.specs.declared.names.Item.{Item}
 use Rattle.addr_map.specs.declared.map.Row.{Row}
 use Rattle.addr_map.specs.Rows.{row_of}
 use Rattle.mem_spec.specs.Store.{Store}
+use Rattle.mem_spec.specs.declared.stream.Stream.{Stream}
+use Rattle.mem_spec.specs.declared.stream.Stream.TheVariants as streams
+use Rattle.mem_spec.specs.Streams.{Outputs, printed_to, total}
 use Rattle.mem_spec.specs.Script.{Touch, Ask, Get, Put, Bear, Bury, Show, Find, Settle, Take, Print, item_of, refuses, answer, left, Script, Give, Raise}
 use Rattle.mem_spec.specs.Script.{Finish, Exceed, Misplace, Do, ◌>>◌, touch, run}
 use Rattle.mem_spec.specs.Acts.{has_place, base_in}
@@ -31,10 +34,15 @@ touch_grows (Show x) s l b h = h
 touch_grows (Find a) s l b h = h
 touch_grows (Settle id x c) s l b h = h
 touch_grows Take s l b h = h
-touch_grows (Print bs) s l b h = h
+touch_grows (Print to bs) s l b h = h
 
-touch_prints : (t : Touch) (s : Store) (l : ℕ) → length (left t s).output ≤ l → length s.output ≤ l
-touch_prints (Print bs) s l h = let e = length-append s.output bs in omega (arith, e, h)
+-- what is printed leaves nothing out
+total_grows : (to : Stream) (bs : List ℕ) (o : Outputs) (l : ℕ) → total (printed_to to bs o) ≤ l → total o ≤ l
+total_grows streams.Output bs o l h = let e = length-append o.standard bs in omega (arith, e, h)
+total_grows streams.Errors bs o l h = let e = length-append o.errors bs in omega (arith, e, h)
+
+touch_prints : (t : Touch) (s : Store) (l : ℕ) → total (left t s).output ≤ l → total s.output ≤ l
+touch_prints (Print to bs) s l h = total_grows to bs s.output l h
 touch_prints (Bear x size kind declared) s l h = h
 touch_prints (Ask x) s l h = h
 touch_prints (Get x a n) s l h = h
@@ -48,7 +56,7 @@ touch_prints Take s l h = h
 -- a store within limits
 pub record Within (created output : ℕ) (s : Store) : Type 0 where
   pub created_at_most : s.created ≤ created
-  pub output_at_most : length s.output ≤ output
+  pub output_at_most : total s.output ≤ output
 
 module _ {V : Type 0} (map : List Row) where
   pub script_grows : (sc : Script V) (s : Store) (e : ActEnd V) (is : List Item) (s1 : Store) (c o : ℕ) → c < 2 ^ 62 → run map sc s ≡ acted e is s1
@@ -130,13 +138,13 @@ module _ (world : World) (small : world.limits.created < 2 ^ 62) where
   -- nor behind
   pub none_passed : (depth : ℕ) (s : Store) → depth ≤ world.limits.depth → Fits s → limit_passed world.limits depth s ≡ None
   none_passed depth s d w =
-      go (nat_lt world.limits.depth depth) (nat_lt world.limits.created s.created) (nat_lt world.limits.output (length s.output))
+      go (nat_lt world.limits.depth depth) (nat_lt world.limits.created s.created) (nat_lt world.limits.output (total s.output))
       (at_most depth world.limits.depth d)
-      (at_most s.created world.limits.created w.created_at_most) (at_most (length s.output) world.limits.output w.output_at_most)
+      (at_most s.created world.limits.created w.created_at_most) (at_most (total s.output) world.limits.output w.output_at_most)
     where
       go : (a b c : Bool) → a ≡ false → b ≡ false → c ≡ false
           → if◌then◌else◌ {A = Option (Cause × ℕ)} a (Some (Depth, depth)) (if◌then◌else◌ {A = Option (Cause × ℕ)} b (Some (Created, s.created))
-          (if◌then◌else◌ {A = Option (Cause × ℕ)} c (Some (Output, length s.output)) None)) ≡ None
+          (if◌then◌else◌ {A = Option (Cause × ℕ)} c (Some (Output, total s.output)) None)) ≡ None
       go false false false x y z = refl
       go true b c x y z = absurd (cc)
       go false true c x y z = absurd (cc)

@@ -78,7 +78,7 @@ shown_holds (Put y a bs) s j x h k = h (last_shown j (item_of (Put y a bs)) x k)
 shown_holds (Find a) s j x h k = h (last_shown j (item_of (Find a)) x k)
 shown_holds (Settle e y c) s j x h k = h (last_shown j (item_of (Settle e y c)) x k)
 shown_holds Take s j x h k = h (last_shown j (item_of Take) x k)
-shown_holds (Print bs) s j x h k = h (last_shown j (item_of (Print bs)) x k)
+shown_holds (Print to bs) s j x h k = h (last_shown j (item_of (Print to bs)) x k)
 
 not_other : (o : Option ObjName) (x y : ObjName) → is_the o x ≡ true → is_other o y ≡ false → same_object y x ≡ true
 not_other None x y h k = absurd (cc)
@@ -114,7 +114,7 @@ settled_holds (Get y a n) s j e x r h k = h (none_settled (λ i. settles_to i e 
 settled_holds (Put y a bs) s j e x r h k = h (none_settled (λ i. settles_to i e x) (item_of (Put y a bs)) j refl k)
 settled_holds (Find a) s j e x r h k = h (none_settled (λ i. settles_to i e x) (item_of (Find a)) j refl k)
 settled_holds Take s j e x r h k = h (none_settled (λ i. settles_to i e x) (item_of Take) j refl k)
-settled_holds (Print bs) s j e x r h k = h (none_settled (λ i. settles_to i e x) (item_of (Print bs)) j refl k)
+settled_holds (Print to bs) s j e x r h k = h (none_settled (λ i. settles_to i e x) (item_of (Print to bs)) j refl k)
 
 -- one touch
 pub touch_holds : (t : Touch) (s : Store) (j : List Item) → refuses t s ≡ false → Holds j s → Holds (j ++ item_of t ∷ []) (left t s)

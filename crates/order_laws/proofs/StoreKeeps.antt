@@ -5,6 +5,7 @@ use Rattle.ub_base.specs.declared.names.ObjName.{ObjName}
 use Rattle.ub_base.specs.declared.names.Item.{Item}
 use Rattle.ub_base.specs.declared.names.Item.TheVariants.{Born}
 use Rattle.exposure.specs.Cells.{is_other}
+use Rattle.mem_spec.specs.Streams.{Outputs}
 use Rattle.mem_spec.specs.Store.{TaggedByte, Life, Store}
 use Rattle.mem_spec.specs.Script.{Done, run}
 use Rattle.addr_map.specs.Conflict.{conflicts_one, stands_at}
@@ -20,7 +21,7 @@ use Rattle.c_model.specs.Machine.{Machine, Does, Diff, Apart, alter, clash_one, 
 use Rattle.c_model.specs.MachineLaws.{StoreLaws}
 use Rattle.c_model.specs.ModelMachine.{done_by, frame_machine}
 use Rattle.order_laws.specs.StoreParts.{Part, life_of, is_known, is_exposed, byte_of, is_found, kept_for, kept_away, the_input, the_position, the_output}
-use Rattle.order_laws.specs.StoreParts.{Seen, a_life, a_truth, a_byte, an_object, some_bytes, a_number, look, alters, Fact, was_shown, was_settled}
+use Rattle.order_laws.specs.StoreParts.{Seen, a_life, a_truth, a_byte, an_object, some_bytes, some_outputs, a_number, look, alters, Fact, was_shown, was_settled}
 use Rattle.order_laws.specs.StoreParts.{counts, store_parts}
 use Rattle.order_laws.specs.StoreParts.{counted_after}
 use Rattle.order_laws.specs.Asking.{ActsCount}
@@ -53,6 +54,9 @@ object_is a b h = cc
 
 bytes_are : (a b : List ℕ) → some_bytes a ≡ some_bytes b → a ≡ b
 bytes_are a b h = cc
+
+outputs_are : (a b : Outputs) → some_outputs a ≡ some_outputs b → a ≡ b
+outputs_are a b h = cc
 
 number_is : (a b : ℕ) → a_number a ≡ a_number b → a ≡ b
 number_is a b h = cc
@@ -103,7 +107,7 @@ module _ (world : World) where
     kept = λ e a. object_is (s.kept e) (t.kept e) (at j s t d (kept_for e) a);
     input = bytes_are s.input t.input (at j s t d the_input (none j));
     position = λ a. number_is s.position t.position (at j s t d the_position a);
-    output = λ a. bytes_are s.output t.output (at j s t d the_output a);
+    output = λ a. outputs_are s.output t.output (at j s t d the_output a);
   }
     where
       none : (j : List Item) → any_of (λ i. false) j ≡ false
@@ -126,7 +130,7 @@ module _ (world : World) where
   of_items j s t d (kept_away e x) h = ap a_truth (d.other e x h)
   of_items j s t d the_input h = ap some_bytes d.input
   of_items j s t d the_position h = ap a_number (d.position h)
-  of_items j s t d the_output h = ap some_bytes (d.output h)
+  of_items j s t d the_output h = ap some_outputs (d.output h)
 
   to_diff : (j : List Item) (s t : Store) → items.Diff j s t → Diff M j s t
   to_diff j s t d = λ p h. of_items j s t d p (sym (alter_any j p) ∙ h)
@@ -176,7 +180,7 @@ module _ (world : World) where
       position = number_is s.position t.position (by the_position (takes_interfere world.rows))
 
       output : s.output ≡ t.output
-      output = bytes_are s.output t.output (by the_output (prints_interfere world.rows))
+      output = outputs_are s.output t.output (by the_output (prints_interfere world.rows))
 
   counts_swap : (i j : Item) (n : ℕ) → counts world.rows i (counts world.rows j n) ≡ counts world.rows j (counts world.rows i n)
   counts_swap (Born x) (Born y) n = min_swap n _ _

@@ -8,6 +8,7 @@ use Rattle.ub_base.specs.Names.{same_event, same_object}
 use Rattle.addr_map.specs.declared.map.Row.{Row}
 use Rattle.addr_map.specs.Rows.{row_of}
 use Rattle.exposure.specs.Cells.{is_other}
+use Rattle.mem_spec.specs.Streams.{Outputs}
 use Rattle.mem_spec.specs.Store.{TaggedByte, Life, Store, can_find}
 use Rattle.mem_spec.specs.Acts.{size_in}
 use Rattle.mem_laws.specs.Frame.{bears, ends_life, shows, writes, settles, settles_away, takes, prints, any_of, interferes}
@@ -34,6 +35,7 @@ pub data Seen : Type 0 where
   a_byte : TaggedByte → Seen
   an_object : Option ObjName → Seen
   some_bytes : List ℕ → Seen
+  some_outputs : Outputs → Seen
   a_number : ℕ → Seen
 
 abbrev pub look : Part → Store → Seen
@@ -46,7 +48,7 @@ look (kept_for e) s = an_object (s.kept e)
 look (kept_away e x) s = a_truth (is_other (s.kept e) x)
 look the_input s = some_bytes s.input
 look the_position s = a_number s.position
-look the_output s = some_bytes s.output
+look the_output s = some_outputs s.output
 
 -- the parts that an item alters
 abbrev pub alters : Item → Part → Bool

@@ -9,6 +9,7 @@ ghost use Rattle.order_laws.specs.PermittedPicks.{CanonicalIsPermitted, PicksAgr
 ghost use Rattle.order_laws.specs.EveryRun.{CleanRunQuiet, CleanRunSpeaks, LibraryRunSpeaks};
 ghost use Rattle.order_laws.specs.CleanFinding.{CleanInEveryOrder, CleanIsQuiet, CleanIsRun};
 ghost use Rattle.std.specs.Prelude.{[]};
+ghost use Rattle.mem_spec.specs.Streams.{silent};
 ghost use Rattle.c_model.specs.Claims.{EveryOrderAlike};
 ghost use Rattle.c_model.specs.Examples.{world_of, local_rows, quit_alone};
 ghost use Rattle.order_laws.specs.CleanPrograms.{call_beside};
@@ -70,8 +71,8 @@ pub fn law_clean_in_every_order()
 /// There are such programs: of one with a call beside an update, and of one that exits inside a call, by their first findings every order ends
 /// alike.
 pub fn law_clean_programs()
-    ensures call_beside { EveryOrderAlike (world_of call_beside local_rows) [] [] 2 [] 17 }
-    ensures quit_alone { EveryOrderAlike (world_of quit_alone local_rows) [] [] 3 [] 7 }
+    ensures call_beside { EveryOrderAlike (world_of call_beside local_rows) [] [] 2 silent 17 }
+    ensures quit_alone { EveryOrderAlike (world_of quit_alone local_rows) [] [] 3 silent 7 }
 {}
 
 /// Two steps that don't conflict do the same in either order, and leave one store: of two frames, or of one in which both are ready at once,

@@ -107,7 +107,7 @@ refused_after rows k (Show x) = refl
 refused_after rows k (Find a) = refl
 refused_after rows k (Settle id x c) = refl
 refused_after rows k Take = refl
-refused_after rows k (Print bs) = refl
+refused_after rows k (Print to bs) = refl
 
 touched_after : {A B : Type 0} (rows : List Row) (k : A → Script B) (i : Item) (a : Act A) → touched i (after rows k a) ≡ after rows k (touched i a)
 touched_after rows k i (Done v is s) = refl

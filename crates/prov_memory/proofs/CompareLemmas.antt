@@ -16,7 +16,7 @@ use Rattle.exposure.specs.Cells.{Cells, kept_in, has_cell, is_other}
 use Rattle.mem_spec.specs.Store.{Store, settled}
 use Rattle.mem_spec.specs.Script.{Act, Done, Raised, Settle, touch, ◌>>◌, run, touched}
 use Rattle.mem_spec.specs.Acts.{settle_to, settle_common, diff, is_multiple, in_common, candidates}
-use Rattle.mem_spec.specs.Streams.{Io}
+use Rattle.mem_spec.specs.Streams.{Io, silent}
 use Rattle.prov_memory.specs.Memory.{Kept, store_of}
 use Rattle.prov_memory.specs.Made.{Settling, CanSettle, settling_items, after_settling, IsMade}
 use Rattle.prov_memory.specs.Comparing.{settling_of, both_settlings, common_settling}
@@ -144,7 +144,7 @@ short None = omega arith
 short (Some p) = omega arith
 
 nothing : Io
-nothing = record { input = []; position = 0; output = [] }
+nothing = record { input = []; position = 0; output = silent }
 
 pub common_done : (old mid new : Kept) (xs : List ObjName) (p q : Prov) (c : Clause) (r : Result (Settling × Settling) Clause) (k l : Settling)
     (start first second : List Item) → record mid { cells = [] } ≡ record old { cells = [] } → record new { cells = [] } ≡ record mid { cells = [] } →

@@ -48,7 +48,7 @@ use Rattle.prov_memory.specs.declared.cell.Cell.{Cell}
 use Rattle.mem_spec.specs.Store.{Store, Byte, written, findable, can_find, is_live}
 use Rattle.mem_spec.specs.Script.{Done, run}
 use Rattle.mem_spec.specs.Acts.{from_int}
-use Rattle.mem_spec.specs.Streams.{Io}
+use Rattle.mem_spec.specs.Streams.{Io, silent}
 use Rattle.prov_memory.specs.Cells.{cell_at, byte_in_state, tag_in}
 use Rattle.prov_memory.specs.Held.{Held, held_of}
 use Rattle.prov_memory.specs.Memory.{Kept, store_of, life_in, is_shown, tagged_in_object, AreKnown}
@@ -92,7 +92,7 @@ chosen_created m None (Some y) who a b = b y refl
 chosen_created m (Some x) (Some y) who a b = (b y refl, a x refl)
 
 nothing : Io
-nothing = record { input = []; position = 0; output = [] }
+nothing = record { input = []; position = 0; output = silent }
 
 pub look_up_created : (m : Kept) (who : Event) (prov : Prov) (i p f g : Option ObjName) → ((io : Io) → f ≡ findable (store_of m io) i) →
     ((io : Io) → g ≡ findable (store_of m io) p) → prov ≡ chosen f g who → AreCreated m prov

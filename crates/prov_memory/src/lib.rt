@@ -22,6 +22,6 @@ pub use laws::law_room;
 pub use mem_spec::ObjKind;
 pub use memory::Memory;
 pub use object::ObjState;
-pub use streams::Streams;
+pub use streams::{Outputs, Streams};
 pub use touched::Touched;
 pub use value::{Value, Values};

@@ -1,16 +1,63 @@
-// Standard input and output.
-ghost use Rattle.std.specs.Prelude.{◌≡◌, ◌+◌, ◌≤◌, ◌++◌, ◌∷◌, [], length, slice_get, is_some, if◌then◌else◌, OnOk, OnErr};
+// Standard input, standard output and standard error (7.21.3p7).
+ghost use Rattle.std.specs.Prelude.{◌≡◌, ◌+◌, slice_get, is_some, if◌then◌else◌, OnOk, OnErr};
+ghost use Rattle.mem_spec.specs.Streams.{printed_to, silent, total};
 
+use mem_spec::Stream;
 use std::alloc::Global;
 use std::marker::Model;
 use ub_base::{Bytes, NoMemory};
 
-/// The input with the position in it, and the output.
+/// What a run wrote to standard output and to standard error.
+#[derive(Drop)]
+pub struct Outputs {
+    pub standard: Bytes,
+    pub errors: Bytes,
+}
+
+impl Model for Outputs {
+    ghost use Rattle.mem_spec.specs.Streams as streams;
+
+    ghost Value = { streams.Outputs };
+
+    ghost view = { λ o. record { standard = o.standard; errors = o.errors } };
+}
+
+impl Outputs {
+    // Nothing was written.
+    fn silent(alloc: Global) -> Outputs
+        ensures { result ≡ silent }
+    {
+        Outputs {
+            standard: Bytes::from_vec(Vec::new(alloc)),
+            errors: Bytes::from_vec(Vec::new(alloc)),
+        }
+    }
+
+    // Appends to one of them.
+    fn append(&mut self, to: Stream, bytes: &[u8]) -> Result<(), NoMemory>
+        ensures ok { OnOk result (self.new ≡ printed_to to bytes.now self.old) }
+        ensures err { OnErr result (self.new ≡ self.old) }
+    {
+        match to {
+            Stream::Output => self.standard.append(bytes),
+            Stream::Errors => self.errors.append(bytes),
+        }
+    }
+
+    // How many bytes were written to both.
+    fn total(&self) -> u64
+        ensures { result ≡ total self.now }
+    {
+        self.standard.as_slice().len() as u64 + self.errors.as_slice().len() as u64
+    }
+}
+
+/// The input with the position in it, and what was written.
 #[derive(Drop)]
 pub struct Streams {
     input: Bytes,
     position: usize,
-    output: Bytes,
+    output: Outputs,
 }
 
 impl Model for Streams {
@@ -25,14 +72,14 @@ impl Model for Streams {
 }
 
 impl Streams {
-    /// With this input, of which nothing is taken yet, and no output.
+    /// With this input, of which nothing is taken yet; nothing was written.
     pub fn new(alloc: Global, input: Bytes) -> Streams
-        ensures { result ≡ record { input = input; position = 0; output = [] } }
+        ensures { result ≡ record { input = input; position = 0; output = silent } }
     {
         Streams {
             input,
             position: 0,
-            output: Bytes::from_vec(Vec::new(alloc)),
+            output: Outputs::silent(alloc),
         }
     }
 
@@ -46,23 +93,23 @@ impl Streams {
         Some(byte)
     }
 
-    /// Appends to the output.
-    pub fn put(&mut self, bytes: &[u8]) -> Result<(), NoMemory>
-        ensures ok { OnOk result (self.new ≡ record self.old { output = self.old.output ++ bytes.now }) }
+    /// Writes to standard output or standard error.
+    pub fn put(&mut self, to: Stream, bytes: &[u8]) -> Result<(), NoMemory>
+        ensures ok { OnOk result (self.new ≡ record self.old { output = printed_to to bytes.now self.old.output }) }
         ensures err { OnErr result (self.new ≡ self.old) }
     {
-        self.output.append(bytes)
+        self.output.append(to, bytes)
     }
 
-    /// The length of the output.
+    /// How many bytes were written to both streams.
     pub fn written(&self) -> u64
-        ensures { result ≡ length self.now.output }
+        ensures { result ≡ total self.now.output }
     {
-        self.output.len() as u64
+        self.output.total()
     }
 
-    /// The output.
-    pub fn into_output(self) -> Bytes
+    /// What was written.
+    pub fn into_output(self) -> Outputs
         ensures { result ≡ self.output }
     {
         let Streams {

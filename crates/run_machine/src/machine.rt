@@ -4,12 +4,12 @@ ghost use Rattle.std.specs.Prelude.{◌≡◌};
 use crate::watch::{Begun, View};
 use addr_map::AddrMap;
 use c_typed::Program;
-use prov_memory::{Memory, Streams, Touched, Value, Via};
+use prov_memory::{Memory, Outputs, Streams, Touched, Value, Via};
 use run_acts::{Filling, Places, Pointer, as_integer, as_pointer, pointer_to, truth};
 use run_code::{Code, Operand};
 use seq_order::Done;
 use std::alloc::Global;
-use ub_base::{Bytes, Frame, Frames, Items, NoMemory, ObjName};
+use ub_base::{Frame, Frames, Items, NoMemory, ObjName};
 
 // A full expression that has begun and isn't settled.
 #[derive(Clone, Copy, Debug)]
@@ -86,8 +86,10 @@ impl<'p, 'c> Machine<'p, 'c> {
         self.top.frame = frame;
     }
 
-    /// The output and the map of a run that has ended.
-    pub fn into_output_and_map(self) -> (Bytes, AddrMap) {
+    /// What was written to standard output and to standard error, and the map, of a run that has ended.
+    pub fn into_output_and_map(self) -> (Outputs, AddrMap)
+        ensures output { result.0 ≡ self.entry.streams.output }
+    {
         let Machine {
             memory,
             streams,

@@ -42,4 +42,9 @@ returns c = record {
   items_0 = refl;
   items_1 = refl;
   items_2 = refl;
+  stream_0 = refl;
+  stream_1 = refl;
+  stream_2 = refl;
+  stream_3 = refl;
+  stream_4 = refl;
 }

@@ -1,5 +1,6 @@
 use Rattle.std.proofs.Common.{◌+◌, ◌<◌, ◌^◌, length, arith}
 use Rattle.std.proofs.lemmas.Result.{err_from_is_err_and}
+use Rattle.mem_spec.specs.Streams.{total}
 use Rattle.libc_model.proofs.Printing.{print_past, print_gives}
 use Rattle.libc_model.proofs.calls.print.Goals as goal
 
@@ -7,7 +8,7 @@ pub returns-in_err-check_output-clause-exact : goal.returns-in_err-check_output-
 returns-in_err-check_output-clause-exact c =
     let p = err_from_is_err_and c.from_residual.result c.from_residual.ensures.1 in
     rw (p.1, p.2) (λ script within g.
-    let past : length c.args.io.now.output + length c.args.bytes.now < 2 ^ 64 = omega (arith, within) in
+    let past : total c.args.io.now.output + length c.args.bytes.now < 2 ^ 64 = omega (arith, within) in
     print_past c.args.m.now c.args.io.now c.args.t.now c.args.bytes.now script c.in_err-check_output.field-0.0 c.check_output.result g
     c.in_err-check_output.was (c.check_output.ensures.past past))
 

@@ -9,21 +9,19 @@ use Rattle.libc_model.specs.Parts.{Gives}
 use Rattle.libc_model.proofs.Finishing.{cell_of}
 use Rattle.libc_print.specs.Seen.{typed}
 use Rattle.libc_print.specs.Runs.{Prints, printed_text}
-use Rattle.std.proofs.Common.{length, ap}
-use Rattle.libc_print.specs.Calls.{all_shown}
-use Rattle.libc_print.proofs.Ending.{printf_called, print_fails}
+use Rattle.libc_print.proofs.Ending.{print_called, print_fails}
 use Rattle.libc_print.proofs.printf.printed.Goals as goal
 
 pub returns-in_err-text-clause-exact : goal.returns-in_err-text-clause-exact
 returns-in_err-text-clause-exact c =
     let p = err_from_is_err_and c.from_residual.result c.from_residual.ensures.1 in
     rw (p.1, p.2) (λ within cells.
-    printf_called c.args.m.now.rows (values_seen c.args.args.now) c.args.at (drop c.args.first (typed c.args.args.now c.args.types.now))
+    print_called c.args.to c.args.m.now.rows (values_seen c.args.args.now) c.args.at (drop c.args.first (typed c.args.args.now c.args.types.now))
     c.pointer_at.result.addr
     c.pointer_at.result.prov (store_of c.args.m.now c.args.io.now) (store_of c.args.m.now c.args.io.now) c.printed_text.new.t c.in_err-text.field-0.0
     c.pointer_at.ensures
     (print_fails (λ (v : Vec ℕ Global). v.items) c.in_err-text.field-0.0 c.args.m.now c.args.io.now c.printed_text.new.t
-    all_shown (printed_text c.args.m.now.rows c.pointer_at.result.addr c.pointer_at.result.prov (drop c.args.first (typed c.args.args.now c.args.types.now)))
+    c.args.to (printed_text c.args.m.now.rows c.pointer_at.result.addr c.pointer_at.result.prov (drop c.args.first (typed c.args.args.now c.args.types.now)))
     (subst (λ (is : List Item). Prints (λ (v : Vec ℕ Global). v.items) (Err c.in_err-text.field-0.0) c.args.m.now c.args.io.now is c.printed_text.new.t
     (printed_text c.args.m.now.rows c.pointer_at.result.addr c.pointer_at.result.prov (drop c.args.first (typed c.args.args.now c.args.types.now)))) c.requires
     (c.in_err-text.ensures c.args.io.now (cell_of c.args.m.now (values_seen c.args.args.now) c.args.at c.pointer_at.result.addr c.pointer_at.result.prov cells
@@ -32,15 +30,18 @@ returns-in_err-text-clause-exact c =
 
 pub returns-clause-exact : goal.returns-clause-exact
 returns-clause-exact c = λ within cells.
-    printf_called c.put_out.new.m.rows (values_seen c.args.args.now) c.args.at (drop c.args.first (typed c.args.args.now c.args.types.now))
+    print_called c.args.to c.put_out.new.m.rows (values_seen c.args.args.now) c.args.at (drop c.args.first (typed c.args.args.now c.args.types.now))
     c.pointer_at.result.addr c.pointer_at.result.prov (store_of c.args.m.now c.args.io.now) (store_of c.put_out.new.m c.put_out.new.io) c.put_out.new.t
     (answer_in c.put_out.result) c.pointer_at.ensures
     (c.put_out.ensures.exact
     (λ rows. printed_text rows c.pointer_at.result.addr c.pointer_at.result.prov (drop c.args.first (typed c.args.args.now c.args.types.now)))
-    all_shown c.in_ok-text.text.items within c.as_slice.ensures.value (ap length c.as_slice-2.ensures.value)
+    within
+    (subst (λ (bs : List ℕ). Gives false (List ℕ) c.args.m.now c.args.io.now [] c.printed_text.new.t
+    (printed_text c.args.m.now.rows c.pointer_at.result.addr c.pointer_at.result.prov (drop c.args.first (typed c.args.args.now c.args.types.now)))
+    bs) (sym c.as_slice.ensures.value)
     (subst (λ (is : List Item). Gives false (List ℕ) c.args.m.now c.args.io.now is c.printed_text.new.t
     (printed_text c.args.m.now.rows c.pointer_at.result.addr c.pointer_at.result.prov (drop c.args.first (typed c.args.args.now c.args.types.now)))
     c.in_ok-text.text.items) c.requires
     (c.in_ok-text.ensures c.args.io.now (cell_of c.args.m.now (values_seen c.args.args.now) c.args.at c.pointer_at.result.addr c.pointer_at.result.prov cells
     c.pointer_at.ensures)
-    cells)))
+    cells))))
