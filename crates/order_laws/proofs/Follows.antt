@@ -496,7 +496,7 @@ module _ (world : World) (small : world.limits.created < 2 ^ 62) (f0 : Local × 
       pub free : ConflictFree world (trace_of o)
       pub ends_apart : EndsApart (trace_of o)
 
-    same_ends : (o : Result Value ℕ) (n m : ℕ) (a b : List ℕ) → EndsWith o last_store n a → EndsWith o last_store m b → (n ≡ m) × (a ≡ b)
+    same_ends : (o : Result Value ℕ) (n m : ℕ) (a b : Outputs) → EndsWith o last_store n a → EndsWith o last_store m b → (n ≡ m) × (a ≡ b)
     same_ends (gave v) n m a b h g = (sym h.0 ∙ g.0, sym h.1 ∙ g.1)
     same_ends (said j) n m a b h g = (sym h.0 ∙ g.0, sym h.1 ∙ g.1)
 

@@ -87,9 +87,7 @@ impl<'p, 'c> Machine<'p, 'c> {
     }
 
     /// What was written to standard output and to standard error, and the map, of a run that has ended.
-    pub fn into_output_and_map(self) -> (Outputs, AddrMap)
-        ensures output { result.0 ≡ self.entry.streams.output }
-    {
+    pub fn into_output_and_map(self) -> (Outputs, AddrMap) {
         let Machine {
             memory,
             streams,
