@@ -12,3 +12,4 @@ mod words;
 
 pub use read::from_json;
 pub use row::{Run, Stride, row_at};
+pub use words::Verdict;

@@ -1,7 +1,7 @@
 //! The text of a certificate, as it is written.
 #![tactic(auto)]
 
-mod runs;
+mod longest;
 mod words;
 mod write;
 

@@ -9,7 +9,7 @@ ghost use Rattle.certificate_text.specs.Reading.{States};
 ghost use Rattle.certificate_writing.specs.Writing.{list, frame_entry, event_entry, pair_entry, row_entry, run_entry, IsAlone, IsRun, Packs, segment_entry, pair_list, value_of, IsTextOf};
 ghost use Rattle.certificate_writing.specs.Members.{common, with_claim};
 
-use crate::runs::longest_run;
+use crate::longest::longest_run;
 use crate::words::{cause_text, kind_text};
 use addr_map::Row;
 use certificate::{Cert, Claim, Segment};

@@ -1,7 +1,7 @@
 -- The first two rows determine the stride, and so the longest run.
 use Rattle.std.proofs.Common.{arith}
 use Rattle.certificate_writing.proofs.Runs.{bound_by, few_rows, longest, no_stride, none_longer, there}
-use Rattle.certificate_writing.proofs.runs.longest_run.Goals as goal
+use Rattle.certificate_writing.proofs.longest.longest_run.Goals as goal
 
 pub returns-in_err-stride-clause-short : goal.returns-in_err-stride-clause-short
 returns-in_err-stride-clause-short c = λ none run begins.

@@ -1,7 +1,7 @@
 -- A row is the next one of the run, or the run stops before it.
 use Rattle.std.proofs.Common.{◌≡◌, true, false, sym, ◌∙◌, arith, rules}
 use Rattle.certificate_writing.proofs.Runs.{stands_more, stands_until, stands_within}
-use Rattle.certificate_writing.proofs.runs.run_len.Goals as goal
+use Rattle.certificate_writing.proofs.longest.run_len.Goals as goal
 
 pub returns-then-not-is_row-clause-longest : goal.returns-then-not-is_row-clause-longest
 returns-then-not-is_row-clause-longest c = λ n is.
