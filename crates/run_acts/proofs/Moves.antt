@@ -7,6 +7,9 @@ use Rattle.std.proofs.Common.{
   ◌+◌,
   ◌*◌,
   ◌^◌,
+  ◌%◌,
+  to_z,
+  of_z,
   ◌<◌,
   ◌≤◌,
   refl,
@@ -31,7 +34,7 @@ use Rattle.std.specs.Prelude.{unsigned_abs}
 use Rattle.std.specs.Cmp.{int_ranks}
 use Rattle.std.specs.declared.cmp.Ordering.{Ordering}
 use Rattle.std.specs.declared.cmp.Ordering.TheVariants as order
-use Rattle.std.specs.Int.{w128}
+use Rattle.std.specs.Int.{w128, int_wrap}
 use Rattle.std.specs.Int.RustNames.{FitsSigned}
 use Rattle.c_typed.specs.declared.tree.RelOp.{RelOp}
 use Rattle.c_typed.specs.declared.tree.RelOp.TheVariants as relation
@@ -39,7 +42,7 @@ use Rattle.c_model.specs.Nodes.{in_order}
 use Rattle.run_acts.specs.Scripts.{holds_in}
 use Rattle.run_acts.specs.Updates.{IsNear}
 use Rattle.std.proofs.lemmas.Bool.Decides.{nat_tests}
-use Rattle.std.proofs.lemmas.Int.{ints}
+use Rattle.std.proofs.lemmas.Int.{ints, int_wrap_fits, wrapping_mul_is}
 use Rattle.ub_base.specs.declared.clause.Clause.{Clause}
 use Rattle.ub_base.specs.declared.names.Item.{Item}
 use Rattle.addr_map.specs.declared.map.Row.{Row}
@@ -134,3 +137,22 @@ pub far_fits : (z : ℤ) → unsigned_abs z < 2 ^ 127 → FitsSigned w128 (neg_�
 far_fits (pos zero) lt = record { sfits = omega (arith, lt) }
 far_fits (pos (suc n)) lt = record { sfits = omega (arith, lt) }
 far_fits (negsuc n) lt = record { sfits = omega (arith, lt) }
+
+size_fits : (n : ℕ) → n < 2 ^ 64 → FitsSigned w128 (pos n)
+size_fits n lt = record { sfits = omega (arith, lt) }
+
+product_comm : (m n : ℕ) → m * n ≡ n * m
+product_comm m n = omega arith
+
+opposite_comm : (m n : ℕ) → m ≡ n → neg_ℤ (pos m) ≡ neg_ℤ (pos n)
+opposite_comm m n e = ap (λ (k : ℕ). neg_ℤ (pos k)) e
+
+times_comm : (size : ℕ) (i : ℤ) → pos size *ℤ i ≡ i *ℤ pos size
+times_comm size (pos n) = ap pos (product_comm size n)
+times_comm size (negsuc n) = opposite_comm (size * suc n) (suc n * size) (product_comm size (suc n))
+
+pub product_of : (size : ℕ) (i f : ℤ) → f ≡ pos size → size < 2 ^ 64 → FitsSigned w128 i → IsNear size i →
+    to_z w128 ((of_z w128 f * of_z w128 i) % 2 ^ 128) ≡ i *ℤ pos size
+product_of size i f is lt fits near =
+    rw is (wrapping_mul_is w128 (pos size) i (size_fits size lt) fits ∙ ap (int_wrap w128) (times_comm size i)
+    ∙ int_wrap_fits w128 (i *ℤ pos size) (near_fits size i near))
