@@ -51,7 +51,7 @@ module _ (rows : List Row) where
 
   bears_pick : (first second : Bool) (id : Event) (past start : ObjName)
       → BearsIn rows (if first then touch (Settle id past OutOfBounds) >> Give past
-        else (if second then touch (Settle id start OutOfBounds) >> Give start else Raise OutOfBounds))
+      else (if second then touch (Settle id start OutOfBounds) >> Give start else Raise OutOfBounds))
   bears_pick true second id past start = λ r. tt
   bears_pick false true id past start = λ r. tt
   bears_pick false false id past start = tt
@@ -72,13 +72,13 @@ module _ (rows : List Row) where
   bears_access len align a prov =
       bears_then (not (a == 0)) InvalidPointer
       (object_of rows len a prov >>= (λ x. touch (Ask x) >>= (λ life. require (is_live life) DeadObject >> (require (in_row (row_of rows x) a len) OutOfBounds
-        >> (require (is_aligned align a) InvalidPointer >> Give (record { object = x; from = offset_in (row_of rows x) a; life = life }))))))
+      >> (require (is_aligned align a) InvalidPointer >> Give (record { object = x; from = offset_in (row_of rows x) a; life = life }))))))
       (bears_bind (object_of rows len a prov)
       (λ x. touch (Ask x) >>= (λ life. require (is_live life) DeadObject >> (require (in_row (row_of rows x) a len) OutOfBounds
-        >> (require (is_aligned align a) InvalidPointer >> Give (record { object = x; from = offset_in (row_of rows x) a; life = life })))))
+      >> (require (is_aligned align a) InvalidPointer >> Give (record { object = x; from = offset_in (row_of rows x) a; life = life })))))
       (bears_object len a prov)
       (λ x life. bears_checks (is_live life) (in_row (row_of rows x) a len) (is_aligned align a)
-        (record { object = x; from = offset_in (row_of rows x) a; life = life })))
+      (record { object = x; from = offset_in (row_of rows x) a; life = life })))
 
   -- ---- what an act does once its access has fallen into an object
   abbrev pub read_int : IntKind → Accessed → Script ℤ
@@ -123,7 +123,7 @@ module _ (rows : List Row) where
   bears_int kind at = λ bs.
       bears_then (suits_load (int kind) (declared_of at.life) at.from bs) EffectiveType
       (require (all_written bs) Indeterminate >> (require (not (is_trap kind (number_of bs))) TrapRepresentation
-        >> (show_pieces bs >> Give (value_of kind (number_of bs)))))
+      >> (show_pieces bs >> Give (value_of kind (number_of bs)))))
       (bears_then (all_written bs) Indeterminate
       (require (not (is_trap kind (number_of bs))) TrapRepresentation >> (show_pieces bs >> Give (value_of kind (number_of bs))))
       (bears_then (not (is_trap kind (number_of bs))) TrapRepresentation (show_pieces bs >> Give (value_of kind (number_of bs)))

@@ -34,8 +34,8 @@ module _ (few more : List Row) (ext : Extends few more) where
 
   found_none : (s : Store) → StandIn few s → (y : ObjName) (b : Bool) → can_find s y ≡ b → (is_some (row_of few y) ≡ true → ⊥)
       → (if b then Some y else None) ≡ None
-  found_none s st y true e no = absurd (no (can_stand s st y e))
-  found_none s st y false e no = refl
+  found_none s st y true e other = absurd (other (can_stand s st y e))
+  found_none s st y false e other = refl
 
   same_found : (s : Store) → StandIn few s → (f g : Option ObjName) → ((x : ObjName) → f ≡ Some x → g ≡ Some x)
       → ((x : ObjName) → is_some (row_of few x) ≡ true → g ≡ Some x → f ≡ Some x) → findable s g ≡ findable s f
@@ -46,8 +46,8 @@ module _ (few more : List Row) (ext : Extends few more) where
   -- ---- a touch
   same_answer : (t : Touch) (s : Store) → StandIn few s → answer more t s ≡ answer few t s
   same_answer (Find a) s st =
-      ap₂ (λ (x y : Option ObjName). (x, y)) (same_found s st (covers few a) (covers more a) (ext.covers a) (ext.covered a))
-      (same_found s st (past few a) (past more a) (ext.past a) (ext.passed a))
+      ap₂ (λ (x y : Option ObjName). (x, y)) (same_found s st (covers few a) (covers more a) (ext.covering a) (ext.covered a))
+      (same_found s st (past few a) (past more a) (ext.passing a) (ext.passed a))
   same_answer (Ask x) s st = refl
   same_answer (Get x a n) s st = refl
   same_answer (Put x a bs) s st = refl
@@ -144,9 +144,9 @@ module _ (few more : List Row) (ext : Extends few more) where
 
     picked : (id : Event) (past start : ObjName) (first second : Bool) (k l : ObjName → Script Accessed) → k past ≡ l past → k start ≡ l start
         → ((if first then touch (Settle id past OutOfBounds) >> Give past
-          else (if second then touch (Settle id start OutOfBounds) >> Give start else Raise OutOfBounds)) >>= k)
+        else (if second then touch (Settle id start OutOfBounds) >> Give start else Raise OutOfBounds)) >>= k)
         ≡ ((if first then touch (Settle id past OutOfBounds) >> Give past
-          else (if second then touch (Settle id start OutOfBounds) >> Give start else Raise OutOfBounds)) >>= l)
+        else (if second then touch (Settle id start OutOfBounds) >> Give start else Raise OutOfBounds)) >>= l)
     picked id past start true second k l e f = ap (λ (z : Script Accessed). Do (Settle id past OutOfBounds) (λ u. z)) e
     picked id past start false true k l e f = ap (λ (z : Script Accessed). Do (Settle id start OutOfBounds) (λ u. z)) f
     picked id past start false false k l e f = refl
@@ -159,11 +159,11 @@ module _ (few more : List Row) (ext : Extends few more) where
         let e = row_same past (row_of few past) refl in_few.0 in
         let f = row_same start (row_of few start) refl in_few.1 in
         ap₂ (λ (first second : Bool).
-          (if first then touch (Settle id past OutOfBounds) >> Give past
-          else (if second then touch (Settle id start OutOfBounds) >> Give start else Raise OutOfBounds)) >>= (λ x. reached (row_of more x) x))
+        (if first then touch (Settle id past OutOfBounds) >> Give past
+        else (if second then touch (Settle id start OutOfBounds) >> Give start else Raise OutOfBounds)) >>= (λ x. reached (row_of more x) x))
         (ap (λ (row : Option Row). in_row row a len) e) (ap (λ (row : Option Row). in_row row a len) f)
         ∙ picked id past start (in_row (row_of few past) a len) (in_row (row_of few start) a len) (λ x. reached (row_of more x) x)
-          (λ x. reached (row_of few x) x) (ap (λ (row : Option Row). reached row past) e) (ap (λ (row : Option Row). reached row start) f)
+        (λ x. reached (row_of few x) x) (ap (λ (row : Option Row). reached row past) e) (ap (λ (row : Option Row). reached row start) f)
 
     pub access_same : (prov : Prov) → AreIn few prov → access more len align a prov ≡ access few len align a prov
     access_same prov in_few = ap (λ (z : Script Accessed). require (not (a == 0)) InvalidPointer >> z) (objects_same prov in_few)

@@ -15,9 +15,9 @@ use Rattle.mem_spec.specs.Acts.{Seen, access, load_int, load_func, load_ptr, loa
 -- each row stays, and an address finds an object of the fewer rows among the more just where it finds it among the fewer
 pub record Extends (few more : List Row) : Type 0 where
   pub rows : (x : ObjName) (r : Row) → row_of few x ≡ Some r → row_of more x ≡ Some r
-  pub covers : (a : ℕ) (x : ObjName) → covers few a ≡ Some x → covers more a ≡ Some x
+  pub covering : (a : ℕ) (x : ObjName) → covers few a ≡ Some x → covers more a ≡ Some x
   pub covered : (a : ℕ) (x : ObjName) → is_some (row_of few x) ≡ true → covers more a ≡ Some x → covers few a ≡ Some x
-  pub past : (a : ℕ) (x : ObjName) → past few a ≡ Some x → past more a ≡ Some x
+  pub passing : (a : ℕ) (x : ObjName) → past few a ≡ Some x → past more a ≡ Some x
   pub passed : (a : ℕ) (x : ObjName) → is_some (row_of few x) ≡ true → past more a ≡ Some x → past few a ≡ Some x
 
 -- each object that was created has a row

@@ -87,7 +87,7 @@ pub record Fills (old now : Kept) (p : Pointer) (cs : List Filled) (i : ℕ) (t 
 first_of : (rows : List Row) (p : Pointer) (cs : List Filled) (c : Filled) (rest : List Filled) (s : Store) → cs ≡ c ∷ rest →
     run rows (fill rows p cs) s
     ≡ after rows (λ (u : Unit {0}). fill rows p rest)
-      (run rows (store rows true bytes 1 (address_after p.address c.offset) p.prov (content_bytes rows c.content)) s)
+    (run rows (store rows true bytes 1 (address_after p.address c.offset) p.prov (content_bytes rows c.content)) s)
 first_of rows p cs c rest s e =
     ap (λ (xs : List Filled). run rows (fill rows p xs) s) e
     ∙ run_bind rows (store rows true bytes 1 (address_after p.address c.offset) p.prov (content_bytes rows c.content)) (λ (u : Unit {0}). fill rows p rest) s

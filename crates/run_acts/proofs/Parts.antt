@@ -117,7 +117,7 @@ module _ (K : Type 0) (rows : List Row) (who : Event) (source : Option ℕ) (s :
   pointer_read (Ok (values.Ptr a q)) bs cs new items t is gives = λ k io.
       sym (written_part (all_written cs) (pointer_in cs) rows who (number_of cs) (s io))
       ∙ done_give rows (part_ptr who cs) as_pointer (s io) (t io) (a, q) items
-        (ap (λ (xs : List TaggedByte). run rows (part_ptr who xs) (s io)) (sym is) ∙ gives k io)
+      (ap (λ (xs : List TaggedByte). run rows (part_ptr who xs) (s io)) (sym is) ∙ gives k io)
   pointer_read (Ok (values.Int z)) bs cs new items t is gives = absurd gives
   pointer_read (Ok (values.Func a)) bs cs new items t is gives = absurd gives
   pointer_read (Ok (values.Block b)) bs cs new items t is gives = absurd gives
@@ -132,4 +132,4 @@ module _ (K : Type 0) (rows : List Row) (who : Event) (source : Option ℕ) (s :
   pointer_unread (Err (faults.Raise c)) bs cs is raises = λ io.
       sym (written_part (all_written cs) (pointer_in cs) rows who (number_of cs) (s io))
       ∙ raised_give rows (part_ptr who cs) as_pointer (s io) c
-        (ap (λ (xs : List TaggedByte). run rows (part_ptr who xs) (s io)) (sym is) ∙ raises io)
+      (ap (λ (xs : List TaggedByte). run rows (part_ptr who xs) (s io)) (sym is) ∙ raises io)

@@ -34,8 +34,8 @@ module _ (rows : List Row) (who : Event) (ty : CType) (p : Pointer) (op : BinOp)
       run rows (update_value rows who (change.Integer op kind work) old ty p n) s ≡ Done (given_back old (Int z) (Int (conv kind w))) items t
   integer_given z w items e is =
       let end : run rows (check_change rows (change.Integer op kind work) (Int z) n
-          >> Give (given_back old (Int z) (changed (change.Integer op kind work) (Int z) n))) t
-          ≡ Done (given_back old (Int z) (Int (conv kind w))) [] t =
+      >> Give (given_back old (Int z) (changed (change.Integer op kind work) (Int z) n))) t
+      ≡ Done (given_back old (Int z) (Int (conv kind w))) [] t =
       ap (λ (r : Result ℤ Clause). run rows (outcome r >> Give (given_back old (Int z) (Int (conv kind (or_zero r))))) t) (sym is) in
       done_then rows (load rows who (access.Integer kind) ty p)
       (λ (v : Value). check_change rows (change.Integer op kind work) v n >> Give (given_back old v (changed (change.Integer op kind work) v n)))
@@ -48,7 +48,7 @@ module _ (rows : List Row) (who : Event) (ty : CType) (p : Pointer) (op : BinOp)
       run rows (update_value rows who (change.Integer op kind work) old ty p n) s ≡ Raised c
   integer_raised z items c e is =
       let end : run rows (check_change rows (change.Integer op kind work) (Int z) n
-          >> Give (given_back old (Int z) (changed (change.Integer op kind work) (Int z) n))) t ≡ Raised c =
+      >> Give (given_back old (Int z) (changed (change.Integer op kind work) (Int z) n))) t ≡ Raised c =
       ap (λ (r : Result ℤ Clause). run rows (outcome r >> Give (given_back old (Int z) (Int (conv kind (or_zero r))))) t) (sym is) in
       raised_then rows (load rows who (access.Integer kind) ty p)
       (λ (v : Value). check_change rows (change.Integer op kind work) v n >> Give (given_back old v (changed (change.Integer op kind work) v n)))

@@ -186,7 +186,15 @@ pub fn store(
 {
     t.clear();
     match access {
-        Access::Integer(kind) => store_number(m, kind, via, initializing, place, as_integer(value), t),
+        Access::Integer(kind) => store_number(
+            m,
+            kind,
+            via,
+            initializing,
+            place,
+            as_integer(value),
+            t,
+        ),
         Access::Pointer => store_pointer(m, via, initializing, place, as_pointer(value), t),
         Access::Function => store_function(m, via, initializing, place, as_function(value), t),
         Access::Whole { size, align } => store_value(m, size, align, initializing, place, value, t),

@@ -29,7 +29,7 @@ returns-clause-exact c = λ has who ty old io.
     integer_given m.rows who ty (pointer_at c.args.place) c.args.op c.args.kind c.args.work old c.args.operand (store_of m io) (store_of new io) z w
     c.load_int.new.t (c.in_ok-old.ensures.exact has io) is
     ∙ ap₂ (λ (a b : ℤ). Done (given_back old (Int a) (Int b)) c.load_int.new.t (store_of new io)) (sym read)
-      (sym (kept ∙ c.convert-after.ensures ∙ ap (conv c.args.kind) worked))
+    (sym (kept ∙ c.convert-after.ensures ∙ ap (conv c.args.kind) worked))
 
 pub returns-clause-after : goal.returns-clause-after
 returns-clause-after c =
