@@ -1,24 +1,20 @@
 -- An initialization, one store after the other.
-use Rattle.std.proofs.Common.{◌≡◌, ℕ, zero, suc, ◌+◌, ◌<◌, true, refl, sym, ap, ◌∙◌, subst, arith, List, [], ◌∷◌, ◌++◌, length, drop, get_or, map}
-use Rattle.std.proofs.lemmas.List.{append-nil}
+use Rattle.std.proofs.Common.{◌≡◌, ℕ, zero, suc, ◌+◌, ◌<◌, true, refl, sym, ap, ◌∙◌, subst, arith, List, [], ◌∷◌, ◌++◌, length, drop, get_or}
 use Rattle.ub_base.specs.declared.clause.Clause.{Clause}
 use Rattle.ub_base.specs.declared.names.Item.{Item}
 use Rattle.addr_map.specs.declared.map.Row.{Row}
 use Rattle.exposure.specs.declared.prov.Prov.{Prov}
 use Rattle.exposure.specs.declared.prov.Prov.TheVariants.{Empty, Whole, Either}
-use Rattle.c_types.specs.Types.{type_of}
 use Rattle.mem_spec.specs.Store.{Store, TaggedByte}
-use Rattle.mem_spec.specs.Script.{Act, Done, Raised, Ended, Outside, Unplaced, run, touched, ◌>>=◌, ◌>>◌}
+use Rattle.mem_spec.specs.Script.{Act, Done, Raised, run, touched}
 use Rattle.mem_spec.specs.Acts.{store, bytes}
 use Rattle.mem_spec.specs.Streams.{Io}
-use Rattle.prov_memory.specs.declared.cell.Cell.{Cell}
-use Rattle.prov_memory.specs.Cells.{tagged_in}
 use Rattle.prov_memory.specs.Made.{IsMade}
 use Rattle.prov_memory.specs.Memory.{Kept, HasCell, store_of}
 use Rattle.prov_memory.specs.Pieces.{seen}
 use Rattle.prov_memory.proofs.AccessLemmas.{before, after, run_bind}
 use Rattle.c_model.specs.Program.{Filling as Filled}
-use Rattle.c_model.specs.Values.{Value, Nothing, Pointer, address_after}
+use Rattle.c_model.specs.Values.{Nothing, Pointer, address_after}
 use Rattle.c_model.specs.Nodes.{fill, content_bytes}
 use Rattle.run_acts.specs.declared.storage.Filling.{Filling}
 use Rattle.run_acts.specs.Fills.{IsFilling, AreFillings, filling_act}

@@ -1,34 +1,5 @@
 -- Moves of pointers: their distances, and what a script gives that ends with a value.
-use Rattle.std.proofs.Common.{
-  ◌≡◌,
-  ℕ,
-  zero,
-  suc,
-  ◌+◌,
-  ◌*◌,
-  ◌^◌,
-  ◌%◌,
-  to_z,
-  of_z,
-  ◌<◌,
-  ◌≤◌,
-  refl,
-  sym,
-  ap,
-  ◌∙◌,
-  arith,
-  ℤ,
-  pos,
-  negsuc,
-  ◌+ℤ◌,
-  ◌-ℤ◌,
-  ◌*ℤ◌,
-  neg_ℤ,
-  ◌<ℤ◌,
-  List,
-  [],
-  ◌∷◌,
-}
+use Rattle.std.proofs.Common.{◌≡◌, ℕ, zero, suc, ◌*◌, ◌^◌, ◌%◌, to_z, of_z, ◌<◌, refl, sym, ap, ◌∙◌, arith, ℤ, pos, negsuc, ◌+ℤ◌, ◌*ℤ◌, neg_ℤ, ◌<ℤ◌, List, [], ◌∷◌}
 use Rattle.std.specs.Ordering.{int_cmp, nat_cmp, MatchOrdering}
 use Rattle.std.specs.Prelude.{unsigned_abs}
 use Rattle.std.specs.Cmp.{int_ranks}
@@ -43,13 +14,12 @@ use Rattle.run_acts.specs.Scripts.{holds_in}
 use Rattle.run_acts.specs.Updates.{IsNear}
 use Rattle.std.proofs.lemmas.Bool.Decides.{nat_tests}
 use Rattle.std.proofs.lemmas.Int.{ints, int_wrap_fits, wrapping_mul_is}
-use Rattle.ub_base.specs.declared.clause.Clause.{Clause}
 use Rattle.ub_base.specs.declared.names.Item.{Item}
 use Rattle.addr_map.specs.declared.map.Row.{Row}
 use Rattle.exposure.specs.declared.prov.Prov.{Prov}
 use Rattle.exposure.specs.declared.prov.Prov.TheVariants.{Empty, Whole, Either}
 use Rattle.mem_spec.specs.Store.{Store}
-use Rattle.mem_spec.specs.Script.{Script, Give, Act, Done, Raised, Ended, Outside, Unplaced, run, touched, require, ◌>>=◌, ◌>>◌}
+use Rattle.mem_spec.specs.Script.{Script, Give, Act, Done, Raised, Ended, Outside, Unplaced, run, touched, require, ◌>>◌}
 use Rattle.ub_base.specs.declared.clause.Clause.TheVariants.{OutOfBounds}
 use Rattle.addr_map.specs.Rows.{row_of}
 use Rattle.mem_spec.specs.Acts.{shift, settle_by, in_bounds}

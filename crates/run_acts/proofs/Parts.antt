@@ -2,7 +2,6 @@
 use Rattle.std.proofs.Common.{◌≡◌, ℕ, ◌+◌, ◌%◌, ◌^◌, Bool, true, false, not, ℤ, [], refl, sym, ap, ◌∙◌, List, Option, Some, None, option_map, map, take, drop}
 use Rattle.std.specs.Prelude.{Result, Ok, Err, IfOk, IfErr, ◌==◌}
 use Rattle.std.proofs.lemmas.List.{take-map, drop-map}
-use Rattle.ub_base.specs.declared.clause.Clause.{Clause}
 use Rattle.ub_base.specs.declared.clause.Clause.TheVariants.{Indeterminate, TrapRepresentation}
 use Rattle.ub_base.specs.declared.names.Event.{Event}
 use Rattle.ub_base.specs.declared.names.Item.{Item}
@@ -27,7 +26,7 @@ use Rattle.prov_memory.specs.Memory.{Kept}
 use Rattle.prov_memory.specs.Parts.{part_ptr, pointer_or_found}
 use Rattle.prov_memory.specs.Pieces.{seen}
 use Rattle.c_model.specs.Nodes.{part_of, read_part, part_pointer}
-use Rattle.c_model.specs.Values.{Value, Int, Ptr, Fun, Nothing, part_bytes, moved_source}
+use Rattle.c_model.specs.Values.{Int, Ptr, Fun, Nothing, part_bytes, moved_source}
 use Rattle.run_acts.specs.Parts.{integer_part, function_part}
 use Rattle.run_acts.specs.Views.{value_in}
 use Rattle.run_acts.proofs.Acts.{as_pointer, done_give, raised_give}

@@ -1,5 +1,5 @@
 -- Stores as acts of nodes.
-use Rattle.std.proofs.Common.{◌≡◌, ℕ, ◌<◌, ◌^◌, Bool, true, false, not, refl, sym, ap, ◌∙◌, arith, ℤ, pos, List, [], ◌∷◌, ◌++◌}
+use Rattle.std.proofs.Common.{◌≡◌, ℕ, ◌<◌, ◌^◌, Bool, true, false, not, refl, ap, ◌∙◌, arith, ℤ, pos, List, []}
 use Rattle.std.specs.Prelude.{Result, Ok, Err, OnOk, IfOk, IfErr}
 use Rattle.std.proofs.lemmas.List.{append-nil}
 use Rattle.ub_base.specs.declared.clause.Clause.{Clause}
@@ -8,12 +8,11 @@ use Rattle.ub_base.specs.declared.names.Item.{Item}
 use Rattle.addr_map.specs.declared.map.Row.{Row}
 use Rattle.mem_spec.specs.Bytes.{low_bits}
 use Rattle.mem_spec.specs.Store.{Store}
-use Rattle.mem_spec.specs.Script.{Script, Give, Done, Raised, run, require, ◌>>=◌, ◌>>◌}
+use Rattle.mem_spec.specs.Script.{Script, Give, Done, Raised, run, require, ◌>>◌}
 use Rattle.prov_memory.specs.declared.answer.MemFault.{MemFault}
 use Rattle.prov_memory.specs.declared.answer.MemFault.TheVariants as faults
 use Rattle.prov_memory.specs.declared.value.Value.{Value as Held}
 use Rattle.prov_memory.specs.declared.value.Value.TheVariants as values
-use Rattle.prov_memory.specs.declared.cell.Cell.{Cell}
 use Rattle.prov_memory.specs.Loads.{IfRaise}
 use Rattle.prov_memory.specs.Cells.{Loaded}
 use Rattle.prov_memory.specs.Made.{IsMade}

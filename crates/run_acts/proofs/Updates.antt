@@ -1,6 +1,6 @@
 -- The value of an update: the object's, and what is worked out from it.
-use Rattle.std.proofs.Common.{◌≡◌, ℕ, Bool, refl, sym, ap, ◌∙◌, ℤ, pos, ◌+ℤ◌, List, [], ◌∷◌, ◌++◌}
-use Rattle.std.specs.Prelude.{Result, Ok, Err, IfOk, unsigned_abs}
+use Rattle.std.proofs.Common.{◌≡◌, ℕ, Bool, sym, ap, ◌∙◌, ℤ, pos, ◌+ℤ◌, List, [], ◌++◌}
+use Rattle.std.specs.Prelude.{Result, Ok, Err, unsigned_abs}
 use Rattle.std.proofs.lemmas.List.{append-nil}
 use Rattle.ub_base.specs.declared.clause.Clause.{Clause}
 use Rattle.ub_base.specs.declared.names.Event.{Event}
@@ -15,7 +15,7 @@ use Rattle.c_typed.specs.declared.tree.Access.TheVariants as access
 use Rattle.c_typed.specs.declared.tree.Change.TheVariants as change
 use Rattle.mem_spec.specs.Store.{Store}
 use Rattle.mem_spec.specs.Script.{Script, Give, Done, Raised, run, ◌>>=◌, ◌>>◌}
-use Rattle.mem_spec.specs.Acts.{load_int, load_ptr, shift}
+use Rattle.mem_spec.specs.Acts.{load_int, shift}
 use Rattle.mem_spec.specs.Streams.{Io}
 use Rattle.prov_memory.specs.declared.value.Value.{Value as Held}
 use Rattle.prov_memory.specs.declared.value.Value.TheVariants as values

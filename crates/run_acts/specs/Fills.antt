@@ -1,6 +1,5 @@
 -- What an initialization puts, as the definitions have it (6.7.9).
 use Rattle.std.specs.Prelude.{◌≡◌, List, [], ◌∷◌, true}
-use Rattle.addr_map.specs.declared.map.Row.{Row}
 use Rattle.mem_spec.specs.Script.{Script}
 use Rattle.mem_spec.specs.Acts.{store, bytes}
 use Rattle.prov_memory.specs.Memory.{Kept}

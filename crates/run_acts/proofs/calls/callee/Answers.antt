@@ -1,5 +1,5 @@
-use Rattle.std.proofs.Common.{◌≡◌, ◌∙◌, ℕ, ◌+◌, ◌<◌, ◌≤◌, ◌^◌, ◌||◌, sym, ap, arith, length, List, [], Option, get_or, rules}
-use Rattle.std.specs.Prelude.{Result, is_some}
+use Rattle.std.proofs.Common.{◌≡◌, ◌∙◌, ℕ, ◌<◌, ◌≤◌, sym, ap, arith, length, [], Option, get_or, rules}
+use Rattle.std.specs.Prelude.{Result}
 use Rattle.std.proofs.lemmas.Result.{err_from_is_err_and}
 use Rattle.ub_base.specs.declared.clause.Clause.{Clause}
 use Rattle.c_types.specs.Types.{signature_of}

@@ -1,4 +1,4 @@
-use Rattle.std.proofs.Common.{◌≡◌, ◌∙◌, sym, ap, ap₂, ℕ, List, Option, []}
+use Rattle.std.proofs.Common.{◌∙◌, sym, ap, ap₂, ℕ, List, Option, []}
 use Rattle.ub_base.specs.declared.names.Item.{Item}
 use Rattle.mem_spec.specs.Script.{Done}
 use Rattle.mem_spec.specs.Store.{TaggedByte}

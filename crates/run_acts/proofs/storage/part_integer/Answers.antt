@@ -3,7 +3,7 @@ use Rattle.std.specs.Int.{w128}
 use Rattle.std.proofs.lemmas.Int.{to_z-of_z}
 use Rattle.std.proofs.lemmas.Result.{err_from_is_err_and}
 use Rattle.mem_spec.specs.Agreement.{bytes_of_kind}
-use Rattle.mem_spec.specs.Script.{Done, Raised, run}
+use Rattle.mem_spec.specs.Script.{Done, run}
 use Rattle.mem_spec.specs.Store.{TaggedByte}
 use Rattle.prov_memory.specs.Memory.{store_of}
 use Rattle.prov_memory.specs.Parts.{part_int}

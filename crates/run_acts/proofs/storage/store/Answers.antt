@@ -1,13 +1,12 @@
 use Rattle.std.proofs.Common.{◌≡◌, ◌∙◌, to_z, of_z, rules}
 use Rattle.std.specs.Int.{w128}
 use Rattle.std.proofs.lemmas.Int.{to_z-of_z}
-use Rattle.ub_base.specs.declared.clause.Clause.{Clause}
 use Rattle.c_types.specs.Types.{int}
 use Rattle.mem_spec.specs.Acts.{store, scalar}
 use Rattle.mem_spec.specs.Agreement.{bytes_of_kind}
 use Rattle.mem_spec.specs.Bytes.{number_bytes, pointer_bytes}
 use Rattle.prov_memory.specs.Memory.{store_of}
-use Rattle.c_model.specs.Values.{int_bytes, integer_of, pointer_of, function_in}
+use Rattle.c_model.specs.Values.{int_bytes, integer_of, function_in}
 use Rattle.run_acts.specs.Stores.{CanStore}
 use Rattle.run_acts.specs.Views.{value_in, pointer_at}
 use Rattle.run_acts.proofs.Stores.{ok_then, err_then, ok_under, err_under, done_nothing, raised_nothing, made_pointer}
