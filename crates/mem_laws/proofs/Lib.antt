@@ -1,2 +1,4 @@
 mod Touches
 pub mod Scripts
+pub mod MoreRows
+pub mod MoreActs

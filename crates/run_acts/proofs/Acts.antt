@@ -1,6 +1,6 @@
 -- What acts of memory are as acts of nodes.
-use Rattle.std.proofs.Common.{◌≡◌, ℕ, Bool, true, false, not, ◌||◌, ◌&&◌, cond, refl, sym, ap, ◌∙◌, subst, ℤ, List, [], Option}
-use Rattle.std.specs.Prelude.{Result, Ok, Err, IfOk, IfErr, pos, ◌==◌, unsigned_abs, ◌-ℤ◌, ◌/◌}
+use Rattle.std.proofs.Common.{◌≡◌, ℕ, Bool, true, false, not, refl, ap, ◌∙◌, subst, List, []}
+use Rattle.std.specs.Prelude.{Result, Ok, Err, IfOk, IfErr}
 use Rattle.std.proofs.lemmas.List.{append-nil}
 use Rattle.ub_base.specs.declared.clause.Clause.{Clause}
 use Rattle.ub_base.specs.declared.names.Item.{Item}
@@ -8,12 +8,10 @@ use Rattle.addr_map.specs.declared.map.Row.{Row}
 use Rattle.exposure.specs.declared.prov.Prov.{Prov}
 use Rattle.mem_spec.specs.Store.{Store}
 use Rattle.mem_spec.specs.Script.{Script, Give, Act, Done, Raised, run, require, ◌>>=◌, ◌>>◌}
-use Rattle.mem_spec.specs.Acts.{shift, diff}
 use Rattle.mem_spec.specs.Streams.{Io}
-use Rattle.prov_memory.specs.Memory.{Kept, act_of, store_of}
-use Rattle.prov_memory.specs.Made.{address_result}
+use Rattle.prov_memory.specs.Memory.{Kept}
 use Rattle.prov_memory.proofs.AccessLemmas.{done_then, raised_first}
-use Rattle.c_model.specs.Values.{Value, Int, Ptr, Pointer}
+use Rattle.c_model.specs.Values.{Value, Ptr}
 use Rattle.prov_memory.specs.declared.answer.MemFault.{MemFault}
 use Rattle.prov_memory.specs.declared.answer.MemFault.TheVariants as faults
 use Rattle.prov_memory.specs.declared.value.Value.{Value as Held}

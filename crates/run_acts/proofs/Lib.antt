@@ -1,1 +1,7 @@
 pub mod Acts
+pub mod Moves
+pub mod Fills
+pub mod Updates
+pub mod Stores
+pub mod Parts
+pub mod CallLemmas

@@ -1,4 +1,17 @@
 // Calls and their results (6.5.2.2).
+ghost use Rattle.std.specs.Prelude.{◌≡◌, ℕ, ◌<◌, ◌≤◌, ◌^◌, ◌||◌, List, [], length, is_some, Bool, IfSome, IfNone};
+ghost use Rattle.addr_map.specs.declared.map.Row.{Row};
+ghost use Rattle.c_model.specs.Nodes.{call_value};
+ghost use Rattle.c_model.specs.Program.{Function as Called};
+ghost use Rattle.c_model.specs.Steps.{function_of};
+ghost use Rattle.c_model.specs.Values as model;
+ghost use Rattle.c_types.specs.Same.{compatible_functions};
+ghost use Rattle.c_types.specs.Types.{CType, signature_of};
+ghost use Rattle.mem_spec.specs.Script.{run};
+ghost use Rattle.mem_spec.specs.Store.{Store};
+ghost use Rattle.prov_memory.specs.Memory.{Kept, act_of};
+ghost use Rattle.run_acts.specs.Calls.{AreFunctions, AgreesAsCompatible, call_checks, checked_call, type_by};
+ghost use Rattle.run_acts.specs.Views.{value_in, value_result};
 
 use crate::storage::function_address;
 use crate::values::as_integer;
@@ -9,31 +22,47 @@ use ub_base::Clause;
 
 /// The number of the function that a call through this address and type calls: 6.5.3.2p4 where no function that is
 /// defined or of the library stands there, and 6.5.2.2p9 where its type isn't compatible.
-pub fn callee(p: &Program, addr: u64, ty: &FuncTy) -> Result<u32, Clause> {
-    let number = addr.saturating_sub(4096) / 16;
-    let Ok(number) = u32::try_from(number) else {
+pub fn callee(p: &Program, addr: u64, ty: &FuncTy) -> Result<u32, Clause>
+    ensures { length p.now.functions ≤ 2 ^ 32 → (fs : List Called) → AreFunctions p.now.functions fs → (agree : CType → CType → Bool) → AgreesAsCompatible agree → (rows : List Row) (s : Store) → run rows (checked_call agree (type_by (signature_of ty.now)) (function_of fs 0 addr)) s ≡ act_of result [] s }
+{
+    let Some(number) = number_at(addr) else {
         return Err(Clause::InvalidPointer);
     };
     let Some(function) = p.functions.as_slice().get(number as usize) else {
         return Err(Clause::InvalidPointer);
     };
-    if function_address(number) != addr || !is_callable(function) {
+    check_call(function, ty)?;
+    Ok(number)
+}
+
+// The number of the function whose address this is.
+fn number_at(addr: u64) -> Option<u32>
+    ensures some { IfSome result (λ n. addr ≡ model.function_address n) }
+    ensures none { IfNone result ((n : ℕ) → n < 2 ^ 32 → addr ≡ model.function_address n → ⊥) }
+{
+    let number = u32::try_from(addr.saturating_sub(4096) / 16).ok()?;
+    (function_address(number) == addr).then_some(number)
+}
+
+// Whether a call of this type may call it.
+fn check_call(function: &Function, ty: &FuncTy) -> Result<(), Clause>
+    ensures { result ≡ call_checks (is_some function.now.body || is_some function.now.library) (compatible_functions (signature_of function.now.ty) (signature_of ty.now)) }
+{
+    if function.body.is_none() && function.library.is_none() {
         return Err(Clause::InvalidPointer);
     }
     if compatible_functions(&function.ty, ty) {
-        Ok(number)
+        Ok(())
     } else {
         Err(Clause::IncompatibleCall)
     }
 }
 
-fn is_callable(function: &Function) -> bool {
-    function.body.is_some() || function.library.is_some()
-}
-
 /// The value of a call from what its body left: 6.9.1p12 where that is missing and the call isn't discarded; a structure
 /// or union stands nowhere any more (6.8.6.4p4).
-pub fn answer(left: Value, discarded: bool) -> Result<Value, Clause> {
+pub fn answer(left: Value, discarded: bool) -> Result<Value, Clause>
+    ensures { (m : Kept) (rows : List Row) (s : Store) → run rows (call_value discarded (value_in m left)) s ≡ act_of (value_result m result) [] s }
+{
     match left {
         Value::Missing => {
             if discarded {

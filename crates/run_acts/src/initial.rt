@@ -124,7 +124,7 @@ fn takes_arguments(p: &Program) -> bool {
 }
 
 /// Creates the objects with static storage, then the string literals, then the arguments of `main` where it has
-/// parameters, and gives them their bytes.
+/// parameters, and then gives them their bytes, in the same order (5.1.2p1, 6.4.5p6).
 pub fn start(
     alloc: Global,
     p: &Program,
@@ -133,29 +133,95 @@ pub fn start(
 ) -> Result<Started, CreateFault> {
     let mut t = Touched::new(alloc)?;
     let mut places = Places::new(alloc);
-    for object in p.statics.as_slice() {
-        let addr = create_static(alloc, p, object, count_of(&places.objects), m, &mut t)?;
-        add(&mut places.objects, addr)?;
-    }
-    for literal in p.literals.as_slice() {
-        let name = ObjName::Lit(count_of(&places.literals));
-        let addr = create_text(alloc, name, literal.as_slice(), true, m, &mut t)?;
-        add(&mut places.literals, addr)?;
-    }
-    for (number, object) in p.statics.as_slice().iter().enumerate() {
-        fill_static(alloc, p, object, number, &places, m, &mut t)?;
-    }
-    let mut count = 0;
-    let mut vector = Pointer::null();
+    create_statics(alloc, p, &mut places, m, &mut t)?;
+    create_literals(alloc, p, &mut places, m, &mut t)?;
     if takes_arguments(p) {
-        count = i128::from(args.len() as u64).wrapping_add(1);
-        vector = arguments(alloc, args, m, &mut t)?;
+        let arguments = create_arguments(alloc, args, m, &mut t)?;
+        let vector = create_vector(alloc, args, m, &mut t)?;
+        fill_named(alloc, p, &places, m, &mut t)?;
+        fill_arguments(alloc, arguments.as_slice(), m, &mut t)?;
+        point(alloc, arguments.as_slice(), vector, m, &mut t)?;
+        let count = i128::from(args.len() as u64).wrapping_add(1);
+        return Ok(standing(places, count, vector));
     }
-    Ok(Started {
+    fill_named(alloc, p, &places, m, &mut t)?;
+    Ok(standing(places, 0, Pointer::null()))
+}
+
+fn standing(places: Places, count: i128, vector: Pointer) -> Started {
+    Started {
         places,
         count: Value::Int(count),
         vector: vector.value(),
-    })
+    }
+}
+
+fn create_statics(
+    alloc: Global,
+    p: &Program,
+    places: &mut Places,
+    m: &mut Memory,
+    t: &mut Touched,
+) -> Result<(), CreateFault> {
+    for object in p.statics.as_slice() {
+        let addr = create_static(alloc, p, object, count_of(&places.objects), m, t)?;
+        add(&mut places.objects, addr)?;
+    }
+    Ok(())
+}
+
+fn create_literals(
+    alloc: Global,
+    p: &Program,
+    places: &mut Places,
+    m: &mut Memory,
+    t: &mut Touched,
+) -> Result<(), CreateFault> {
+    for literal in p.literals.as_slice() {
+        let name = ObjName::Lit(count_of(&places.literals));
+        let addr = create_text(alloc, name, literal.len() as u64, true, m, t)?;
+        add(&mut places.literals, addr)?;
+    }
+    Ok(())
+}
+
+// The objects with static storage, and then the string literals.
+fn fill_named(
+    alloc: Global,
+    p: &Program,
+    places: &Places,
+    m: &mut Memory,
+    t: &mut Touched,
+) -> Result<(), NoMemory> {
+    fill_statics(alloc, p, places, m, t)?;
+    fill_literals(alloc, p, places, m, t)
+}
+
+fn fill_statics(
+    alloc: Global,
+    p: &Program,
+    places: &Places,
+    m: &mut Memory,
+    t: &mut Touched,
+) -> Result<(), NoMemory> {
+    for (number, object) in p.statics.as_slice().iter().enumerate() {
+        fill_static(alloc, p, object, number, places, m, t)?;
+    }
+    Ok(())
+}
+
+fn fill_literals(
+    alloc: Global,
+    p: &Program,
+    places: &Places,
+    m: &mut Memory,
+    t: &mut Touched,
+) -> Result<(), NoMemory> {
+    for (number, literal) in p.literals.as_slice().iter().enumerate() {
+        let number = u32::try_from(number).unwrap_or(u32::MAX);
+        fill_text(alloc, literal.as_slice(), places.literal(number, 0), m, t)?;
+    }
+    Ok(())
 }
 
 // Adds an address to a list.
@@ -248,26 +314,35 @@ fn put(whole: Pointer, at: u64, bytes: &Block, m: &mut Memory, t: &mut Touched) 
     );
 }
 
-// A string object.
+// A string object of so many bytes.
 fn create_text(
     alloc: Global,
     name: ObjName,
-    bytes: &[u8],
+    count: u64,
     literal: bool,
     m: &mut Memory,
     t: &mut Touched,
 ) -> Result<u64, CreateFault> {
-    let count = bytes.len() as u64;
     let shape = repeated(alloc, count, 1, Ty::Int(IntKind::Char))?;
     let kind = ObjKind {
         heap: false,
         literal,
         constant: false,
     };
-    let addr = m.create(name, count, 1, kind, Some(shape), t)?;
+    m.create(name, count, 1, kind, Some(shape), t)
+}
+
+// The bytes of a string object.
+fn fill_text(
+    alloc: Global,
+    bytes: &[u8],
+    whole: Pointer,
+    m: &mut Memory,
+    t: &mut Touched,
+) -> Result<(), NoMemory> {
     let content = written(alloc, bytes)?;
-    put(pointer_to(name, addr, 0), 0, &content, m, t);
-    Ok(addr)
+    put(whole, 0, &content, m, t);
+    Ok(())
 }
 
 fn repeated(alloc: Global, count: u64, step: u64, leaf: Ty) -> Result<Rc<Shape>, NoMemory> {
@@ -276,21 +351,72 @@ fn repeated(alloc: Global, count: u64, step: u64, leaf: Ty) -> Result<Rc<Shape>,
     Ok(Rc::new(alloc, shape)?)
 }
 
-/// Creates the strings of the arguments, the first one the program's name, and then the array of pointers to them, the
-/// last of which is null (5.1.2.2.1). Gives a pointer to the array's first element.
-pub fn arguments(
+// A string that `main` is given, and where it stands.
+#[derive(Drop)]
+struct Argument {
+    text: Bytes,
+    place: Pointer,
+}
+
+// The strings of the arguments, the first one the program's name (5.1.2.2.1), each with a zero behind it.
+fn create_arguments(
+    alloc: Global,
+    args: &[String],
+    m: &mut Memory,
+    t: &mut Touched,
+) -> Result<Items<Argument>, CreateFault> {
+    let mut all = Items::new(alloc);
+    create_argument(alloc, NAME, &mut all, m, t)?;
+    for arg in args {
+        create_argument(alloc, arg.as_bytes(), &mut all, m, t)?;
+    }
+    Ok(all)
+}
+
+fn create_argument(
+    alloc: Global,
+    text: &[u8],
+    all: &mut Items<Argument>,
+    m: &mut Memory,
+    t: &mut Touched,
+) -> Result<(), CreateFault> {
+    let text = text_of(alloc, text)?;
+    let name = ObjName::Arg(u32::try_from(all.len()).unwrap_or(u32::MAX));
+    let addr = create_text(alloc, name, text.len() as u64, false, m, t)?;
+    keep(all, text, pointer_to(name, addr, 0))?;
+    Ok(())
+}
+
+fn text_of(alloc: Global, text: &[u8]) -> Result<Bytes, NoMemory> {
+    let mut bytes = Bytes::from_slice(alloc, text)?;
+    bytes.append(b"\0")?;
+    Ok(bytes)
+}
+
+fn keep(all: &mut Items<Argument>, text: Bytes, place: Pointer) -> Result<(), NoMemory> {
+    all.push(Argument { text, place })?;
+    Ok(())
+}
+
+fn fill_arguments(
+    alloc: Global,
+    arguments: &[Argument],
+    m: &mut Memory,
+    t: &mut Touched,
+) -> Result<(), NoMemory> {
+    for argument in arguments {
+        fill_text(alloc, argument.text.as_slice(), argument.place, m, t)?;
+    }
+    Ok(())
+}
+
+// The array of pointers to the arguments, with one for null behind them (5.1.2.2.1p2). Gives a pointer to its first element.
+fn create_vector(
     alloc: Global,
     args: &[String],
     m: &mut Memory,
     t: &mut Touched,
 ) -> Result<Pointer, CreateFault> {
-    let mut addresses = Items::new(alloc);
-    let addr = create_argument(alloc, 0, NAME, m, t)?;
-    add(&mut addresses, addr)?;
-    for arg in args {
-        let addr = create_argument(alloc, count_of(&addresses), arg.as_bytes(), m, t)?;
-        add(&mut addresses, addr)?;
-    }
     let count = (args.len() as u64).saturating_add(2);
     let character = any_character(alloc)?;
     let shape = repeated(alloc, count, 8, Ty::Pointer(character))?;
@@ -299,11 +425,8 @@ pub fn arguments(
         literal: false,
         constant: false,
     };
-    let size = vector_size(args);
-    let base = m.create(ObjName::Argv, size, 8, kind, Some(shape), t)?;
-    let vector = pointer_to(ObjName::Argv, base, 0);
-    point(alloc, addresses.as_slice(), vector, m, t)?;
-    Ok(vector)
+    let base = m.create(ObjName::Argv, vector_size(args), 8, kind, Some(shape), t)?;
+    Ok(pointer_to(ObjName::Argv, base, 0))
 }
 
 fn any_character(alloc: Global) -> Result<Shared<Qual>, NoMemory> {
@@ -314,31 +437,17 @@ fn any_character(alloc: Global) -> Result<Shared<Qual>, NoMemory> {
     Ok(Shared::new(alloc, qual)?)
 }
 
-fn create_argument(
-    alloc: Global,
-    number: u32,
-    text: &[u8],
-    m: &mut Memory,
-    t: &mut Touched,
-) -> Result<u64, CreateFault> {
-    let mut bytes = Bytes::from_slice(alloc, text)?;
-    bytes.append(b"\0")?;
-    create_text(alloc, ObjName::Arg(number), bytes.as_slice(), false, m, t)
-}
-
 // The pointers of the array, the last one null.
 fn point(
     alloc: Global,
-    addresses: &[u64],
+    arguments: &[Argument],
     vector: Pointer,
     m: &mut Memory,
     t: &mut Touched,
 ) -> Result<(), NoMemory> {
     let mut at = 0;
-    for (number, addr) in addresses.iter().enumerate() {
-        let number = u32::try_from(number).unwrap_or(u32::MAX);
-        let value = pointer_to(ObjName::Arg(number), *addr, 0).value();
-        let bytes = m.bytes_of(alloc, &value, 8)?;
+    for argument in arguments {
+        let bytes = m.bytes_of(alloc, &argument.place.value(), 8)?;
         put(vector, at, &bytes, m, t);
         at = at.saturating_add(8);
     }

@@ -10,7 +10,7 @@ mod values;
 
 pub use calls::{answer, callee, exit_status, left};
 pub use initial::{
-    Places, Started, arguments, counted, extent, is_constant, shape_of, start, start_bytes, total,
+    Places, Started, counted, extent, is_constant, shape_of, start, start_bytes, total,
 };
 pub use numbers::{binary, convert, equal, unary};
 pub use pointers::{changed, distance, member, moved, related};

@@ -1,22 +1,26 @@
 // Operators and conversions.
-ghost use Rattle.std.specs.Prelude.{◌≡◌, List, []};
+ghost use Rattle.std.specs.Prelude.{◌≡◌, List, [], IfOk, IfErr};
 ghost use Rattle.addr_map.specs.declared.map.Row.{Row};
 ghost use Rattle.c_arith.specs.Operators.{bits, conv, negated};
 ghost use Rattle.c_types.specs.declared.kind.IntKind.TheVariants.{ULong};
 ghost use Rattle.c_model.specs.Nodes as nodes;
 ghost use Rattle.c_model.specs.Nodes.{bool_value, int_outcome, operated, unary_value};
 ghost use Rattle.c_model.specs.Values.{address_in};
-ghost use Rattle.mem_spec.specs.Script.{run};
+ghost use Rattle.mem_spec.specs.Acts as acts;
+ghost use Rattle.mem_spec.specs.Script.{run, Done, Raised};
 ghost use Rattle.mem_spec.specs.Store.{Store};
-ghost use Rattle.prov_memory.specs.Memory.{Kept, act_of};
-ghost use Rattle.run_acts.specs.Views.{value_in, value_result};
+ghost use Rattle.mem_spec.specs.Streams.{Io};
+ghost use Rattle.prov_memory.specs.Loads.{IfRaise};
+ghost use Rattle.prov_memory.specs.Memory.{Kept, AreKnown, act_of, store_of};
+ghost use Rattle.run_acts.specs.Scripts.{exposed_act, found_act, aligned_act};
+ghost use Rattle.run_acts.specs.Views.{value_in, value_result, pointer_at};
 
 use crate::values::{Pointer, as_function, as_integer, as_pointer, truth};
 use c_arith::{apply, complement, is_operand, negate};
 use c_typed::{Conversion, EqOp, UnOp};
 use c_types::{BinOp, IntKind};
 use prov_memory::{MemFault, Memory, Touched, Value};
-use ub_base::{Clause, Event};
+use ub_base::{Clause, Event, NoMemory};
 
 /// The value of a conversion (6.3), or 6.3.2.3p7.
 pub fn convert(
@@ -25,39 +29,68 @@ pub fn convert(
     who: Event,
     operand: &Value,
     t: &mut Touched,
-) -> Result<Value, MemFault> {
+) -> Result<Value, MemFault>
+    ensures exact { IfOk result (λ value. AreKnown m.old → (io : Io) → run m.old.rows (nodes.convert who conversion (value_in m.old operand.now)) (store_of m.old io) ≡ Done (value_in m.new value) t.new (store_of m.new io)) }
+    ensures raises { IfErr result (λ fault. IfRaise fault (λ c. (io : Io) → run m.old.rows (nodes.convert who conversion (value_in m.old operand.now)) (store_of m.old io) ≡ Raised c)) }
+    ensures same { IfErr result (λ fault. IfRaise fault (λ c. m.new ≡ m.old)) }
+{
+    t.clear();
     match conversion {
         Conversion::Integer(kind) => Ok(Value::Int(c_arith::convert(kind, as_integer(operand)))),
-        Conversion::Address(kind) => {
-            let pointer = as_pointer(operand);
-            m.expose(pointer.prov, t);
-            Ok(Value::Int(c_arith::convert(kind, i128::from(pointer.addr))))
-        }
-        Conversion::NotNull => Ok(Value::Int(i128::from(truth(operand)))),
+        Conversion::Address(kind) => Ok(exposed(m, kind, as_pointer(operand), t)),
+        Conversion::NotNull => Ok(flag(truth(operand))),
         Conversion::Lookup => {
-            let addr = address(as_integer(operand));
-            let prov = m.from_int(who, addr, t)?;
-            Ok(Value::Ptr { addr, prov })
+            let pointer = found(m, who, address(as_integer(operand)), t)?;
+            Ok(pointer)
         }
         Conversion::Pointer { align } => {
-            let pointer = as_pointer(operand);
-            match pointer.addr.checked_rem(align) {
-                None | Some(0) => Ok(pointer.value()),
-                Some(_) => Err(MemFault::Raise(Clause::PointerAlignment)),
-            }
+            let pointer = aligned(align, as_pointer(operand))?;
+            Ok(pointer)
         }
         Conversion::Function => Ok(Value::Func(as_function(operand))),
     }
+}
+
+// The number of a pointer's address (6.3.2.3p6).
+fn exposed(m: &mut Memory, kind: IntKind, pointer: Pointer, t: &mut Touched) -> Value
+    ensures { (io : Io) → run m.old.rows (exposed_act kind (pointer_at pointer)) (store_of m.old io) ≡ Done (value_in m.new result) t.new (store_of m.new io) }
+{
+    m.expose(pointer.prov, t);
+    Value::Int(c_arith::convert(kind, i128::from(pointer.addr)))
+}
+
+// The pointer that an address makes (6.3.2.3p5).
+fn found(m: &mut Memory, who: Event, addr: u64, t: &mut Touched) -> Result<Value, NoMemory>
+    ensures { IfOk result (λ value. AreKnown m.old → (io : Io) → run m.old.rows (found_act who addr) (store_of m.old io) ≡ Done (value_in m.new value) t.new (store_of m.new io)) }
+{
+    let prov = m.from_int(who, addr, t)?;
+    Ok(Value::Ptr { addr, prov })
+}
+
+// A pointer that is aligned (6.3.2.3p7).
+fn aligned(align: u64, pointer: Pointer) -> Result<Value, Clause>
+    ensures { (m : Kept) (rows : List Row) (s : Store) → run rows (aligned_act align (pointer_at pointer)) s ≡ act_of (value_result m result) [] s }
+{
+    if is_aligned(align, pointer.addr) {
+        Ok(pointer.value())
+    } else {
+        Err(Clause::PointerAlignment)
+    }
+}
+
+// Aligned, where there is an alignment.
+fn is_aligned(align: u64, addr: u64) -> bool
+    ensures { result ≡ acts.is_aligned align addr }
+{
+    align == 0 || addr % align == 0
 }
 
 // The address that an integer gives, modulo 2^64 (own).
 fn address(number: i128) -> u64
     ensures { result ≡ bits ULong number }
 {
-    match u64::try_from(c_arith::convert(IntKind::ULong, number)) {
-        Ok(addr) => addr,
-        Err(_) => 0,
-    }
+    let low = number.rem_euclid(0x1_0000_0000_0000_0000);
+    u64::try_from(low).unwrap_or(0)
 }
 
 /// The value of `-`, `~` or `!` (6.5.3.3), or 6.5p5.
@@ -80,7 +113,7 @@ fn minus(kind: IntKind, number: i128) -> Result<Value, Clause>
 }
 
 // 1 or 0.
-fn flag(holds: bool) -> Value
+pub(crate) fn flag(holds: bool) -> Value
     ensures { (m : Kept) → value_in m result ≡ bool_value holds }
 {
     Value::Int(i128::from(holds))

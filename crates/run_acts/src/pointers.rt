@@ -1,31 +1,53 @@
 // Pointer arithmetic, comparisons, and updates.
-ghost use Rattle.std.specs.Prelude.{◌≡◌, ◌==◌, ◌||◌};
+ghost use Rattle.std.specs.Prelude.{◌≡◌, ◌<◌, ◌^◌, ◌==◌, ◌||◌, Bool, ℤ, pos, neg_ℤ, ◌*ℤ◌, unsigned_abs, IfOk, IfErr, OnErr};
 ghost use Rattle.c_model.specs.Nodes as nodes;
-ghost use Rattle.c_model.specs.Nodes.{is_empty};
-ghost use Rattle.mem_spec.specs.Script.{run};
+ghost use Rattle.c_model.specs.Nodes.{given_back, is_empty};
+ghost use Rattle.c_model.specs.Values.{pointer_value};
+ghost use Rattle.c_typed.specs.declared.tree.Access.TheVariants as access;
+ghost use Rattle.c_typed.specs.declared.tree.Change.TheVariants as change;
+ghost use Rattle.c_types.specs.Types.{CType, type_of};
+ghost use Rattle.mem_spec.specs.Script.{run, Done, Raised};
 ghost use Rattle.mem_spec.specs.Streams.{Io};
 ghost use Rattle.prov_memory.specs.Made.{IsMade};
-ghost use Rattle.prov_memory.specs.Memory.{act_of, store_of};
-ghost use Rattle.run_acts.specs.Views.{value_result, place_result, pointer_at};
+ghost use Rattle.prov_memory.specs.Loads.{IfRaise};
+ghost use Rattle.prov_memory.specs.Memory.{HasCell, AreKnown, act_of, store_of};
+ghost use Rattle.prov_memory.specs.Pieces.{IsMadeValue};
+ghost use Rattle.prov_memory.specs.Sound.{IsSound};
+ghost use Rattle.run_acts.specs.Scripts.{holds_in, less_act};
+ghost use Rattle.run_acts.specs.Updates.{CanChange, IsNear, IsNearChange};
+ghost use Rattle.run_acts.specs.Views.{value_in, value_result, place_result, pointer_at};
 
-use crate::numbers::binary;
-use crate::storage::load;
+use crate::numbers::{binary, flag};
 use crate::values::{Pointer, as_integer, as_pointer};
-use c_typed::{Access, Change, RelOp};
-use c_types::Ty;
+use c_typed::{Change, RelOp};
+use c_types::{BinOp, IntKind, Ty};
 use exposure::Prov;
 use prov_memory::{MemFault, Memory, Touched, Value};
 use std::cmp::Ordering;
 use ub_base::{Clause, Event};
 
 // So many bytes as the index and the size of an element make.
-fn distance_of(size: u64, subtract: bool, index: i128) -> i128 {
-    let distance = i128::from(size).wrapping_mul(index);
+fn distance_of(size: u64, subtract: bool, index: i128) -> i128
+    ensures { IsNear size index → result ≡ nodes.distance size subtract index }
+{
+    let distance = product(size, index);
     if subtract {
-        0i128.wrapping_sub(distance)
+        opposite(distance)
     } else {
         distance
     }
+}
+
+fn product(size: u64, index: i128) -> i128
+    ensures { IsNear size index → result ≡ index *ℤ pos size }
+{
+    i128::from(size).wrapping_mul(index)
+}
+
+fn opposite(distance: i128) -> i128
+    ensures { unsigned_abs distance < 2 ^ 127 → result ≡ neg_ℤ distance }
+{
+    distance.wrapping_neg()
 }
 
 /// A pointer plus or minus an index of elements of `size` bytes (6.5.6p8).
@@ -36,13 +58,17 @@ pub fn moved(
     subtract: bool,
     index: i128,
     t: &mut Touched,
-) -> Result<Pointer, Clause> {
+) -> Result<Pointer, Clause>
+    ensures exact { IsNear size index → IsMade m.old pointer.prov → (io : Io) → run m.old.rows (nodes.shifted m.old.rows (pointer_at pointer) (nodes.distance size subtract index)) (store_of m.old io) ≡ act_of (place_result result) t.new (store_of m.new io) }
+    ensures same { OnErr result (m.new ≡ m.old) }
+{
     shifted(m, pointer, distance_of(size, subtract, index), t)
 }
 
 // A pointer that moves so many bytes within its object (6.5.6p8).
 fn shifted(m: &mut Memory, pointer: Pointer, by: i128, t: &mut Touched) -> Result<Pointer, Clause>
-    ensures { IsMade m.old pointer.prov → (io : Io) → run m.old.rows (nodes.shifted m.old.rows (pointer_at pointer) by) (store_of m.old io) ≡ act_of (place_result result) t.new (store_of m.new io) }
+    ensures exact { IsMade m.old pointer.prov → (io : Io) → run m.old.rows (nodes.shifted m.old.rows (pointer_at pointer) by) (store_of m.old io) ≡ act_of (place_result result) t.new (store_of m.new io) }
+    ensures same { OnErr result (m.new ≡ m.old) }
 {
     let addr = m.shift(pointer.addr, pointer.prov, by, t)?;
     Ok(Pointer {
@@ -95,19 +121,41 @@ pub fn related(
     left: &Value,
     right: &Value,
     t: &mut Touched,
-) -> Result<Value, Clause> {
-    let order = if pointers {
-        let a = as_pointer(left);
-        let b = as_pointer(right);
-        m.less(a.addr, a.prov, b.addr, b.prov, t)?
-    } else {
-        as_integer(left).cmp(&as_integer(right))
-    };
-    Ok(Value::Int(i128::from(agrees(op, order))))
+) -> Result<Value, Clause>
+    ensures exact { IsMadeValue m.old left.now → IsMadeValue m.old right.now → (io : Io) → run m.old.rows (nodes.relational op pointers (value_in m.old left.now) (value_in m.old right.now)) (store_of m.old io) ≡ act_of (value_result m.new result) t.new (store_of m.new io) }
+    ensures same { OnErr result (m.new ≡ m.old) }
+{
+    t.clear();
+    if pointers {
+        let first = as_pointer(left);
+        let second = as_pointer(right);
+        return pointers_related(m, op, first, second, t);
+    }
+    let first = as_integer(left);
+    let second = as_integer(right);
+    let order = first.cmp(&second);
+    Ok(flag(agrees(op, order)))
+}
+
+// Of two pointers.
+fn pointers_related(
+    m: &mut Memory,
+    op: RelOp,
+    left: Pointer,
+    right: Pointer,
+    t: &mut Touched,
+) -> Result<Value, Clause>
+    ensures exact { IsMade m.old left.prov → IsMade m.old right.prov → (io : Io) → run m.old.rows (less_act op (pointer_at left) (pointer_at right)) (store_of m.old io) ≡ act_of (value_result m.new result) t.new (store_of m.new io) }
+    ensures same { OnErr result (m.new ≡ m.old) }
+{
+    let order = m.less(left.addr, left.prov, right.addr, right.prov, t)?;
+    Ok(flag(agrees(op, order)))
 }
 
 // Whether the operator holds of operands in this order.
-fn agrees(op: RelOp, order: Ordering) -> bool {
+fn agrees(op: RelOp, order: Ordering) -> bool
+    ensures { result ≡ holds_in op order }
+{
     match op {
         RelOp::Less => matches!(order, Ordering::Less),
         RelOp::Greater => matches!(order, Ordering::Greater),
@@ -127,18 +175,80 @@ pub fn changed(
     operand: i128,
     t: &mut Touched,
     spare: &mut Touched,
-) -> Result<(Value, Value), MemFault> {
+) -> Result<(Value, Value), MemFault>
+    ensures exact { IfOk result (λ both. CanChange m.old place → IsNearChange change operand → (old : Bool) (io : Io) → run m.old.rows (nodes.update_value m.old.rows who change old (type_of ty.now) (pointer_at place) operand) (store_of m.old io) ≡ Done (given_back old (value_in m.new both.0) (value_in m.new both.1)) t.new (store_of m.new io)) }
+    ensures raises { IfErr result (λ fault. IfRaise fault (λ c. CanChange m.old place → IsNearChange change operand → (old : Bool) (io : Io) → run m.old.rows (nodes.update_value m.old.rows who change old (type_of ty.now) (pointer_at place) operand) (store_of m.old io) ≡ Raised c)) }
+    ensures after { IfOk result (λ both. CanChange m.old place → IsNearChange change operand → (io : Io) → value_in m.new both.1 ≡ nodes.changed change (value_in m.new both.0) operand) }
+{
     match change {
-        Change::Integer { op, kind, work } => {
-            let old = m.load_int(kind, place.addr, place.prov, t)?;
-            let new = binary(op, work, c_arith::convert(work, old), operand)?;
-            Ok((Value::Int(old), Value::Int(c_arith::convert(kind, new))))
-        }
+        Change::Integer { op, kind, work } => changed_integer(m, op, kind, work, place, operand, t),
         Change::Pointer { size, subtract } => {
-            let old = as_pointer(&load(m, Access::Pointer, ty, who, place, t)?);
-            let new = moved(m, old, size, subtract, operand, spare)?;
-            t.join(spare)?;
-            Ok((old.value(), new.value()))
+            changed_pointer(m, size, subtract, ty, who, place, operand, t, spare)
         }
     }
+}
+
+fn changed_integer(
+    m: &mut Memory,
+    op: BinOp,
+    kind: IntKind,
+    work: IntKind,
+    place: Pointer,
+    operand: i128,
+    t: &mut Touched,
+) -> Result<(Value, Value), MemFault>
+    ensures exact { IfOk result (λ both. HasCell m.old place.prov → (who : Event) (ty : CType) (old : Bool) (io : Io) → run m.old.rows (nodes.update_value m.old.rows who (change.Integer op kind work) old ty (pointer_at place) operand) (store_of m.old io) ≡ Done (given_back old (value_in m.new both.0) (value_in m.new both.1)) t.new (store_of m.new io)) }
+    ensures raises { IfErr result (λ fault. IfRaise fault (λ c. HasCell m.old place.prov → (who : Event) (ty : CType) (old : Bool) (io : Io) → run m.old.rows (nodes.update_value m.old.rows who (change.Integer op kind work) old ty (pointer_at place) operand) (store_of m.old io) ≡ Raised c)) }
+    ensures after { IfOk result (λ both. value_in m.new both.1 ≡ nodes.changed (change.Integer op kind work) (value_in m.new both.0) operand) }
+{
+    let old = m.load_int(kind, place.addr, place.prov, t)?;
+    let before = c_arith::convert(work, old);
+    let new = binary(op, work, before, operand)?;
+    let after = c_arith::convert(kind, new);
+    Ok((Value::Int(old), Value::Int(after)))
+}
+
+fn changed_pointer(
+    m: &mut Memory,
+    size: u64,
+    subtract: bool,
+    ty: &Ty,
+    who: Event,
+    place: Pointer,
+    operand: i128,
+    t: &mut Touched,
+    spare: &mut Touched,
+) -> Result<(Value, Value), MemFault>
+    ensures exact { IfOk result (λ both. CanChange m.old place → IsNear size operand → (old : Bool) (io : Io) → run m.old.rows (nodes.update_value m.old.rows who (change.Pointer size subtract) old (type_of ty.now) (pointer_at place) operand) (store_of m.old io) ≡ Done (given_back old (value_in m.new both.0) (value_in m.new both.1)) t.new (store_of m.new io)) }
+    ensures raises { IfErr result (λ fault. IfRaise fault (λ c. CanChange m.old place → IsNear size operand → (old : Bool) (io : Io) → run m.old.rows (nodes.update_value m.old.rows who (change.Pointer size subtract) old (type_of ty.now) (pointer_at place) operand) (store_of m.old io) ≡ Raised c)) }
+    ensures after { IfOk result (λ both. CanChange m.old place → IsNear size operand → (io : Io) → value_in m.new both.1 ≡ nodes.changed (change.Pointer size subtract) (value_in m.new both.0) operand) }
+{
+    let old = pointer_there(m, ty, who, place, t)?;
+    let by = distance_of(size, subtract, operand);
+    let addr = m.shift(old.addr, old.prov, by, spare)?;
+    t.join(spare)?;
+    let new = Pointer {
+        addr,
+        prov: old.prov,
+    };
+    let before = old.value();
+    let after = new.value();
+    Ok((before, after))
+}
+
+// The pointer that an object holds.
+fn pointer_there(
+    m: &mut Memory,
+    ty: &Ty,
+    who: Event,
+    place: Pointer,
+    t: &mut Touched,
+) -> Result<Pointer, MemFault>
+    ensures exact { IfOk result (λ p. HasCell m.old place.prov → AreKnown m.old → (io : Io) → run m.old.rows (nodes.load m.old.rows who access.Pointer (type_of ty.now) (pointer_at place)) (store_of m.old io) ≡ Done (pointer_value (pointer_at p)) t.new (store_of m.new io)) }
+    ensures raises { IfErr result (λ fault. IfRaise fault (λ c. (io : Io) → run m.old.rows (nodes.load m.old.rows who access.Pointer (type_of ty.now) (pointer_at place)) (store_of m.old io) ≡ Raised c)) }
+    ensures made { IfOk result (λ p. IsSound m.old → IsMade m.new p.prov) }
+    ensures rows { m.new.rows ≡ m.old.rows }
+{
+    let value = m.load_ptr(ty, who, 8, place.addr, place.prov, t)?;
+    Ok(as_pointer(&value))
 }

@@ -1,14 +1,28 @@
 // Loads, stores, members of values, and constant bytes.
-ghost use Rattle.std.specs.Prelude.{◌≡◌, IfOk, IfErr};
+ghost use Rattle.std.specs.Prelude.{◌≡◌, List, [], ◌++◌, IfOk, IfErr, OnOk};
 ghost use Rattle.c_model.specs.Nodes as nodes;
+ghost use Rattle.c_model.specs.Nodes.{overlap_inexactly};
+ghost use Rattle.c_model.specs.Program.{Filling as Filled};
 ghost use Rattle.c_model.specs.Values as model;
-ghost use Rattle.c_types.specs.Types.{type_of};
+ghost use Rattle.c_model.specs.Values.{Nothing, int_bytes, part_bytes};
+ghost use Rattle.c_types.specs.Types.{CType, type_of};
+ghost use Rattle.mem_spec.specs.Acts as acts;
+ghost use Rattle.mem_spec.specs.Acts.{Seen};
+ghost use Rattle.mem_spec.specs.Agreement.{bytes_of_kind};
+ghost use Rattle.mem_spec.specs.Bytes.{number_bytes, pointer_bytes};
 ghost use Rattle.mem_spec.specs.Script.{run, Done, Raised};
 ghost use Rattle.mem_spec.specs.Streams.{Io};
 ghost use Rattle.prov_memory.specs.Loads.{IfRaise};
+ghost use Rattle.prov_memory.specs.Made.{AreNamed, IsMade};
 ghost use Rattle.prov_memory.specs.Memory.{HasCell, AreKnown, store_of};
+ghost use Rattle.prov_memory.specs.Pieces.{seen};
+ghost use Rattle.prov_memory.specs.Stores.{Sees};
 ghost use Rattle.prov_memory.specs.Tags.{AreTagged};
+ghost use Rattle.exposure.specs.declared.prov.Prov.{Prov};
+ghost use Rattle.run_acts.specs.Fills.{AreFillings, filling_act};
 ghost use Rattle.run_acts.specs.Loads.{integer_act, pointer_act, function_act, whole_act};
+ghost use Rattle.run_acts.specs.Parts.{integer_part, function_part};
+ghost use Rattle.run_acts.specs.Stores.{CanStore, SeesAs};
 ghost use Rattle.run_acts.specs.Views.{value_in, pointer_at};
 
 use crate::initial::Places;
@@ -107,25 +121,53 @@ pub fn part(
     whole: &Value,
     offset: u64,
     t: &mut Touched,
-) -> Result<Value, MemFault> {
+) -> Result<Value, MemFault>
+    ensures exact { IfOk result (λ value. AreKnown m.old → (io : Io) → run m.old.rows (nodes.part_of who offset access (value_in m.old whole.now)) (store_of m.old io) ≡ Done (value_in m.new value) t.new (store_of m.new io)) }
+    ensures raises { IfErr result (λ fault. IfRaise fault (λ c. (io : Io) → run m.old.rows (nodes.part_of who offset access (value_in m.old whole.now)) (store_of m.old io) ≡ Raised c)) }
+    ensures same { IfErr result (λ fault. IfRaise fault (λ c. m.new ≡ m.old)) }
+{
+    t.clear();
     let Value::Block(block) = whole else {
         return Ok(Value::Nothing);
     };
     match access {
-        Access::Integer(kind) => {
-            let number = m.part_int(kind, block, offset, t)?;
-            Ok(Value::Int(number))
-        }
+        Access::Integer(kind) => part_integer(m, kind, block, offset, t),
         Access::Pointer => m.part_ptr(who, block, offset, t),
-        Access::Function => {
-            let addr = m.part_func(block, offset, t)?;
-            Ok(Value::Func(addr))
-        }
+        Access::Function => part_function(m, block, offset, t),
         Access::Whole { size, align: _ } => {
             let part = block.part(alloc, offset, size)?;
             Ok(Value::Block(part))
         }
     }
+}
+
+fn part_integer(
+    m: &mut Memory,
+    kind: IntKind,
+    block: &Block,
+    offset: u64,
+    t: &mut Touched,
+) -> Result<Value, MemFault>
+    ensures exact { IfOk result (λ value. (io : Io) → run m.old.rows (integer_part kind (part_bytes offset (bytes_of_kind kind) (seen m.old block.now.cells))) (store_of m.old io) ≡ Done (value_in m.new value) t.new (store_of m.new io)) }
+    ensures raises { IfErr result (λ fault. IfRaise fault (λ c. (io : Io) → run m.old.rows (integer_part kind (part_bytes offset (bytes_of_kind kind) (seen m.old block.now.cells))) (store_of m.old io) ≡ Raised c)) }
+    ensures same { IfErr result (λ fault. IfRaise fault (λ c. m.new ≡ m.old)) }
+{
+    let number = m.part_int(kind, block, offset, t)?;
+    Ok(Value::Int(number))
+}
+
+fn part_function(
+    m: &mut Memory,
+    block: &Block,
+    offset: u64,
+    t: &mut Touched,
+) -> Result<Value, MemFault>
+    ensures exact { IfOk result (λ value. (io : Io) → run m.old.rows (function_part (part_bytes offset 8 (seen m.old block.now.cells))) (store_of m.old io) ≡ Done (value_in m.new value) t.new (store_of m.new io)) }
+    ensures raises { IfErr result (λ fault. IfRaise fault (λ c. (io : Io) → run m.old.rows (function_part (part_bytes offset 8 (seen m.old block.now.cells))) (store_of m.old io) ≡ Raised c)) }
+    ensures same { IfErr result (λ fault. IfRaise fault (λ c. m.new ≡ m.old)) }
+{
+    let addr = m.part_func(block, offset, t)?;
+    Ok(Value::Func(addr))
 }
 
 /// Stores a value at a place (6.5.16). `via` is the type of the access. A structure or union value that was loaded from a
@@ -138,64 +180,132 @@ pub fn store(
     place: Pointer,
     value: &Value,
     t: &mut Touched,
-) -> Result<(), Clause> {
+) -> Result<(), Clause>
+    ensures exact { OnOk result (CanStore m.old place value.now → (ty : CType) → SeesAs m.old via access ty → (io : Io) → run m.old.rows (nodes.put m.old.rows initializing access ty (pointer_at place) (value_in m.old value.now)) (store_of m.old io) ≡ Done Nothing t.new (store_of m.new io)) }
+    ensures raises { IfErr result (λ c. CanStore m.old place value.now → (ty : CType) → SeesAs m.old via access ty → (io : Io) → run m.old.rows (nodes.put m.old.rows initializing access ty (pointer_at place) (value_in m.old value.now)) (store_of m.old io) ≡ Raised c) }
+{
+    t.clear();
     match access {
-        Access::Integer(kind) => m.store_int(
-            initializing,
-            via,
+        Access::Integer(kind) => store_number(
+            m,
             kind,
-            as_integer(value),
-            kind.bytes(),
-            place.addr,
-            place.prov,
-            t,
-        ),
-        Access::Pointer => {
-            let pointer = as_pointer(value);
-            m.store_ptr(
-                initializing,
-                via,
-                8,
-                place.addr,
-                place.prov,
-                pointer.addr,
-                pointer.prov,
-                t,
-            )
-        }
-        Access::Function => m.store_int(
-            initializing,
             via,
-            IntKind::ULong,
-            i128::from(as_function(value)),
-            8,
-            place.addr,
-            place.prov,
+            initializing,
+            place,
+            as_integer(value),
             t,
         ),
-        Access::Whole { size, align } => {
-            let Value::Block(block) = value else {
-                return Ok(());
-            };
-            m.store(
-                initializing,
-                Via::Whole,
-                align,
-                place.addr,
-                place.prov,
-                block,
-                t,
-            )?;
-            if overlaps(block.source(), place.addr, size) {
-                return Err(Clause::OverlappingAssignment);
-            }
-            Ok(())
-        }
+        Access::Pointer => store_pointer(m, via, initializing, place, as_pointer(value), t),
+        Access::Function => store_function(m, via, initializing, place, as_function(value), t),
+        Access::Whole { size, align } => store_value(m, size, align, initializing, place, value, t),
     }
 }
 
+fn store_number(
+    m: &mut Memory,
+    kind: IntKind,
+    via: Via,
+    initializing: bool,
+    place: Pointer,
+    number: i128,
+    t: &mut Touched,
+) -> Result<(), Clause>
+    ensures exact { OnOk result (HasCell m.old place.prov → (seen : Seen) → Sees m.old via seen → (io : Io) → run m.old.rows (acts.store m.old.rows initializing seen (bytes_of_kind kind) place.addr place.prov (int_bytes kind number)) (store_of m.old io) ≡ Done tt t.new (store_of m.new io)) }
+    ensures raises { IfErr result (λ c. (seen : Seen) → Sees m.old via seen → (io : Io) → run m.old.rows (acts.store m.old.rows initializing seen (bytes_of_kind kind) place.addr place.prov (int_bytes kind number)) (store_of m.old io) ≡ Raised c) }
+{
+    m.store_int(
+        initializing,
+        via,
+        kind,
+        number,
+        kind.bytes(),
+        place.addr,
+        place.prov,
+        t,
+    )
+}
+
+fn store_pointer(
+    m: &mut Memory,
+    via: Via,
+    initializing: bool,
+    place: Pointer,
+    pointer: Pointer,
+    t: &mut Touched,
+) -> Result<(), Clause>
+    ensures exact { AreNamed m.old → IsMade m.old pointer.prov → OnOk result (HasCell m.old place.prov → (seen : Seen) → Sees m.old via seen → (io : Io) → run m.old.rows (acts.store m.old.rows initializing seen 8 place.addr place.prov (pointer_bytes 8 0 pointer.prov pointer.addr)) (store_of m.old io) ≡ Done tt t.new (store_of m.new io)) }
+    ensures raises { AreNamed m.old → IsMade m.old pointer.prov → IfErr result (λ c. (seen : Seen) → Sees m.old via seen → (io : Io) → run m.old.rows (acts.store m.old.rows initializing seen 8 place.addr place.prov (pointer_bytes 8 0 pointer.prov pointer.addr)) (store_of m.old io) ≡ Raised c) }
+{
+    m.store_ptr(
+        initializing,
+        via,
+        8,
+        place.addr,
+        place.prov,
+        pointer.addr,
+        pointer.prov,
+        t,
+    )
+}
+
+fn store_function(
+    m: &mut Memory,
+    via: Via,
+    initializing: bool,
+    place: Pointer,
+    addr: u64,
+    t: &mut Touched,
+) -> Result<(), Clause>
+    ensures exact { OnOk result (HasCell m.old place.prov → (seen : Seen) → Sees m.old via seen → (io : Io) → run m.old.rows (acts.store m.old.rows initializing seen 8 place.addr place.prov (number_bytes 8 addr)) (store_of m.old io) ≡ Done tt t.new (store_of m.new io)) }
+    ensures raises { IfErr result (λ c. (seen : Seen) → Sees m.old via seen → (io : Io) → run m.old.rows (acts.store m.old.rows initializing seen 8 place.addr place.prov (number_bytes 8 addr)) (store_of m.old io) ≡ Raised c) }
+{
+    m.store_int(
+        initializing,
+        via,
+        IntKind::ULong,
+        i128::from(addr),
+        8,
+        place.addr,
+        place.prov,
+        t,
+    )
+}
+
+fn store_value(
+    m: &mut Memory,
+    size: u64,
+    align: u64,
+    initializing: bool,
+    place: Pointer,
+    value: &Value,
+    t: &mut Touched,
+) -> Result<(), Clause>
+    requires { t.old ≡ [] }
+    ensures exact { OnOk result (HasCell m.old place.prov → (io : Io) → run m.old.rows (nodes.put_whole m.old.rows initializing size align (pointer_at place) (value_in m.old value.now)) (store_of m.old io) ≡ Done Nothing t.new (store_of m.new io)) }
+    ensures raises { IfErr result (λ c. HasCell m.old place.prov → (io : Io) → run m.old.rows (nodes.put_whole m.old.rows initializing size align (pointer_at place) (value_in m.old value.now)) (store_of m.old io) ≡ Raised c) }
+{
+    let Value::Block(block) = value else {
+        return Ok(());
+    };
+    m.store(
+        initializing,
+        Via::Whole,
+        align,
+        place.addr,
+        place.prov,
+        block,
+        t,
+    )?;
+    if overlaps(block.source(), place.addr, size) {
+        return Err(Clause::OverlappingAssignment);
+    }
+    Ok(())
+}
+
 // Two ranges of so many bytes overlap and aren't the same.
-fn overlaps(source: Option<u64>, addr: u64, size: u64) -> bool {
+fn overlaps(source: Option<u64>, addr: u64, size: u64) -> bool
+    ensures { result ≡ overlap_inexactly size addr source }
+{
     match source {
         Some(from) => {
             from != addr && from < addr.saturating_add(size) && addr < from.saturating_add(size)
@@ -293,21 +403,42 @@ pub fn fill(
     object: Pointer,
     t: &mut Touched,
     spare: &mut Touched,
-) -> Result<(), MemFault> {
+) -> Result<(), MemFault>
+    ensures exact { OnOk result (IsMade m.old object.prov → (cs : List Filled) → AreFillings m.old fillings.now cs → (io : Io) → run m.old.rows (nodes.fill m.old.rows (pointer_at object) cs) (store_of m.old io) ≡ Done Nothing t.new (store_of m.new io)) }
+    ensures raises { IfErr result (λ fault. IfRaise fault (λ c. IsMade m.old object.prov → (cs : List Filled) → AreFillings m.old fillings.now cs → (io : Io) → run m.old.rows (nodes.fill m.old.rows (pointer_at object) cs) (store_of m.old io) ≡ Raised c)) }
+{
     t.clear();
     for filling in fillings {
-        let addr = object.addr.saturating_add(filling.at);
-        m.store(
-            true,
-            Via::Bytes,
-            1,
-            addr,
-            object.prov,
-            &filling.bytes,
-            spare,
-        )?;
-        t.join(spare)?;
+        fill_one(m, filling, object, t, spare)?;
     }
+    Ok(())
+}
+
+// One store of an initialization. Its items go behind those of the stores before it.
+fn fill_one(
+    m: &mut Memory,
+    filling: &Filling,
+    object: Pointer,
+    t: &mut Touched,
+    spare: &mut Touched,
+) -> Result<(), MemFault>
+    ensures exact { OnOk result (IsMade m.old object.prov → (io : Io) → run m.old.rows (filling_act m.old filling.now (pointer_at object)) (store_of m.old io) ≡ Done tt spare.new (store_of m.new io)) }
+    ensures items { OnOk result (t.new ≡ t.old ++ spare.new) }
+    ensures raises { IfErr result (λ fault. IfRaise fault (λ c. (io : Io) → run m.old.rows (filling_act m.old filling.now (pointer_at object)) (store_of m.old io) ≡ Raised c)) }
+    ensures rest { record m.new { objects = []; cells = [] } ≡ record m.old { objects = []; cells = [] } }
+    ensures made { (p : Prov) → IsMade m.old p → IsMade m.new p }
+{
+    let addr = object.addr.saturating_add(filling.at);
+    m.store(
+        true,
+        Via::Bytes,
+        1,
+        addr,
+        object.prov,
+        &filling.bytes,
+        spare,
+    )?;
+    t.join(spare)?;
     Ok(())
 }
 

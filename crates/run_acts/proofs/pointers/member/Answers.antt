@@ -24,4 +24,4 @@ returns c = λ made io.
     required old.rows _ InvalidPointer (nodes.shifted old.rows (pointer_at c.args.pointer) (pos c.args.offset)) (store_of old io)
     (sym c.is_nowhere.ensures ∙ off)
     ∙ ap (λ (z : ℤ). run old.rows (nodes.shifted old.rows (pointer_at c.args.pointer) z) (store_of old io)) (sym (same ∙ c.from.ensures))
-    ∙ c.shifted.ensures made io
+    ∙ c.shifted.ensures.exact made io

@@ -11,8 +11,8 @@ use Rattle.c_model.specs.Values.{Ptr}
 use Rattle.run_acts.proofs.Acts.{done_give, raised_give, under, rows_rest}
 use Rattle.run_acts.proofs.pointers.shifted.Goals as goal
 
-pub returns : goal.returns
-returns c = λ made io.
+pub returns-clause-exact : goal.returns-clause-exact
+returns-clause-exact c = λ made io.
     let old = c.args.m.now in
     let new = c.shift.new.self in
     let prov = c.args.pointer.prov in
@@ -23,8 +23,8 @@ returns c = λ made io.
     (under old.rows new.rows act (store_of old io) end (rows_rest old new c.shift.ensures.rest)
     (subst (λ (z : ℤ). run new.rows (shift new.rows c.args.pointer.addr prov z) (store_of old io) ≡ end) same (c.in_ok-addr.ensures.exact made io)))
 
-pub returns-in_err-addr : goal.returns-in_err-addr
-returns-in_err-addr c =
+pub returns-in_err-addr-clause-exact : goal.returns-in_err-addr-clause-exact
+returns-in_err-addr-clause-exact c =
     let p = err_from_is_err_and c.from_residual.result c.from_residual.ensures.1 in
     let old = c.args.m.now in
     let new = c.shift.new.self in

@@ -1,0 +1,34 @@
+use Rattle.std.proofs.Common.{◌∙◌, refl, arith}
+use Rattle.std.proofs.lemmas.Result.{err_from_is_err_and}
+use Rattle.run_acts.specs.Views.{pointer_at}
+use Rattle.run_acts.proofs.Fills.{fills_next, fills_raise, fills_all}
+use Rattle.run_acts.proofs.Stores.{raise_then}
+use Rattle.run_acts.proofs.storage.fill.Goals as goal
+
+pub loop-filling-init : goal.loop-filling-init
+loop-filling-init c = record { alike = refl; made = λ p made. made; fills = λ made cs are io. record { so_far = rw c.clear.ensures refl } }
+
+pub loop-filling-preserved : goal.loop-filling-preserved
+loop-filling-preserved c =
+    let inv = c.loop-filling.invariant in
+    record {
+      alike = c.fill_one.ensures.rest ∙ inv.alike;
+      made = λ p made. c.fill_one.ensures.made p (inv.made p made);
+      fills = λ made cs are io.
+          fills_next c.args.m.now c.loop-filling.m c.fill_one.new.m (pointer_at c.args.object) c.args.fillings.now cs c.loop-filling.filling-index
+          c.filling-item.result c.loop-filling.t c.fill_one.new.spare c.fill_one.new.t io are c.loop-filling-test.true c.filling-item.is inv.alike
+          (c.in_ok-fill_one.ensures.exact (inv.made _ made) io) c.in_ok-fill_one.ensures.items (inv.fills made cs are io);
+    }
+
+pub returns-clause-exact : goal.returns-clause-exact
+returns-clause-exact c = λ made cs are io.
+    fills_all c.args.m.now c.loop-filling.m (pointer_at c.args.object) c.args.fillings.now cs c.loop-filling.filling-index c.loop-filling.t io are
+    (omega arith) (c.loop-filling.invariant.fills made cs are io)
+
+pub returns-in_err-fill_one-clause-raises : goal.returns-in_err-fill_one-clause-raises
+returns-in_err-fill_one-clause-raises c =
+    let e = err_from_is_err_and c.from_residual.result c.from_residual.ensures.1 in
+    let inv = c.loop-filling.invariant in
+    rw (e.1, e.2) (raise_then c.in_err-fill_one.field-0.0 _ _ (λ k raised made cs are io.
+    fills_raise c.args.m.now c.loop-filling.m (pointer_at c.args.object) c.args.fillings.now cs c.loop-filling.filling-index c.filling-item.result
+    c.loop-filling.t k io are c.loop-filling-test.true c.filling-item.is inv.alike (raised io) (inv.fills made cs are io)) c.in_err-fill_one.ensures.raises)
