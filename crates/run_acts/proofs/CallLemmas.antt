@@ -1,5 +1,6 @@
 -- The function that a call calls.
-use Rattle.std.proofs.Common.{◌≡◌, ℕ, zero, suc, ◌+◌, ◌<◌, ◌≤◌, Bool, true, false, ◌||◌, refl, sym, ap, ap₂, ◌∙◌, subst, arith, List, [], ◌∷◌, length, Option, Some, None, get_or}
+use Rattle.std.proofs.Common.{◌≡◌, ℕ, zero, suc, ◌+◌, ◌<◌, ◌≤◌, Bool, true, false, ◌||◌, refl, sym, ap, ap₂, ◌∙◌, subst, arith, List, [], ◌∷◌, length}
+use Rattle.std.proofs.Common.{Option, Some, None, get_or}
 use Rattle.std.specs.Prelude.{◌==◌, is_some, Result, Ok, Err}
 use Rattle.std.proofs.lemmas.Bool.Decides.{nat_tests}
 use Rattle.ub_base.specs.declared.clause.Clause.TheVariants.{InvalidPointer, IncompatibleCall}
@@ -39,7 +40,8 @@ found_at false f g fs n k a e is rest = record {
   found = rw e (rest.found ∙ ap (λ (m : ℕ). Some (m, rest.function)) (omega arith));
 }
 
-first_at : (b : Bool) (f : Typed) (g : Function) (fs : List Function) (n a : ℕ) → (function_address n == a) ≡ b → a ≡ function_address (n + 0) → IsFunction f g →
+first_at : (b : Bool) (f : Typed) (g : Function) (fs : List Function) (n a : ℕ) → (function_address n == a) ≡ b
+    → a ≡ function_address (n + 0) → IsFunction f g →
     IsFound f (g ∷ fs) n 0 a
 first_at false f g fs n a e at is = absurd (grind (arith, nat_tests, e, at))
 first_at true f g fs n a e at is = record { function = g; is = is; found = rw e (ap (λ (m : ℕ). Some (m, g)) (omega arith)) }
@@ -79,7 +81,8 @@ pub call_of : (held : List Typed) (fs : List Function) (f : Typed) (n a : ℕ) (
 call_of held fs f n a ty agree rows s are agrees lt there at =
     let found = found_function held fs 0 n a f are lt there (at ∙ ap function_address (omega arith)) in
     let g = found.function in
-    let callable : is_some g.body || is_some g.library ≡ is_some f.body || is_some f.library = ap₂ (λ (x y : Bool). x || y) found.is.body (ap is_some found.is.library) in
+    let callable : is_some g.body || is_some g.library ≡ is_some f.body || is_some f.library =
+    ap₂ (λ (x y : Bool). x || y) found.is.body (ap is_some found.is.library) in
     let fits : agree g.ty (type_by ty) ≡ compatible_functions (signature_of f.ty) ty =
     ap (λ (t : CType). agree t (type_by ty)) found.is.ty ∙ agrees (signature_of f.ty) ty in
     ap (λ (o : Option (ℕ × Function)). run rows (checked_call agree (type_by ty) o) s)
@@ -91,6 +94,7 @@ call_of held fs f n a ty agree rows s are agrees lt there at =
 same_number : (n k a : ℕ) → a ≡ function_address n → a ≡ function_address k → k ≡ n
 same_number n k a at at2 = omega (arith, at, at2)
 
-pub none_behind : (held : List Typed) (fs : List Function) (n a : ℕ) → AreFunctions held fs → length held ≤ n → a ≡ function_address n → function_of fs 0 a ≡ None
+pub none_behind : (held : List Typed) (fs : List Function) (n a : ℕ) → AreFunctions held fs
+    → length held ≤ n → a ≡ function_address n → function_of fs 0 a ≡ None
 none_behind held fs n a are end at = none_found fs 0 a (λ k lt at2.
     absurd (omega (arith, lt, end, same_length held fs are, same_number n k a at at2)))

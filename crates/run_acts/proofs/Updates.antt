@@ -30,7 +30,8 @@ use Rattle.run_acts.proofs.Acts.{done_give, raised_give, as_pointer}
 
 -- ---- of an integer
 module _ (rows : List Row) (who : Event) (ty : CType) (p : Pointer) (op : BinOp) (kind work : IntKind) (old : Bool) (n : ℤ) (s t : Store) where
-  pub integer_given : (z w : ℤ) (items : List Item) → run rows (load_int rows kind p.address p.prov) s ≡ Done z items t → Ok w ≡ operated op work (conv work z) n →
+  pub integer_given : (z w : ℤ) (items : List Item) → run rows (load_int rows kind p.address p.prov) s ≡ Done z items t
+      → Ok w ≡ operated op work (conv work z) n →
       run rows (update_value rows who (change.Integer op kind work) old ty p n) s ≡ Done (given_back old (Int z) (Int (conv kind w))) items t
   integer_given z w items e is =
       let end : run rows (check_change rows (change.Integer op kind work) (Int z) n
@@ -106,7 +107,8 @@ there (values.Block b) H K rows f s new q items t is gives h k io = absurd gives
 there values.Missing H K rows f s new q items t is gives h k io = absurd gives
 there values.Nothing H K rows f s new q items t is gives h k io = absurd gives
 
-pub made_there : (v : Held) (old new : Kept) (S : Type 0) (q : Pointer) → q ≡ pointer_of (value_in new v) → IfPointer v (λ a x. S → IsMade new x) → S → IsMade new q.prov
+pub made_there : (v : Held) (old new : Kept) (S : Type 0) (q : Pointer) → q ≡ pointer_of (value_in new v) → IfPointer v (λ a x. S → IsMade new x) → S
+    → IsMade new q.prov
 made_there (values.Ptr a x) old new S q is made s = rw is (made s)
 made_there (values.Int z) old new S q is made s = absurd made
 made_there (values.Func a) old new S q is made s = absurd made

@@ -28,7 +28,8 @@ returns-in_err-check_call c = λ few fs are agree agrees rows s.
     let n = c.in-Some.number in
     let lt : c.in-Some.number < length c.args.p.now.functions = search rules in
     let is : c.in-Some-get.function.now ≡ get_or c.args.p.now.functions c.in-Some.number c.in-Some-get.function.now = search rules in
-    rw (e.1, e.2) (call_of c.args.p.now.functions fs c.in-Some-get.function.now n c.args.addr (signature_of c.args.ty.now) agree rows s are agrees lt is c.in-Some.ensures.some
+    rw (e.1, e.2) (call_of c.args.p.now.functions fs c.in-Some-get.function.now n c.args.addr (signature_of c.args.ty.now)
+    agree rows s are agrees lt is c.in-Some.ensures.some
     ∙ ap (λ (r : Result (Unit {0}) Clause). act_of (numbered n r) [] s) (sym c.in_err-check_call.ensures))
 
 pub returns : goal.returns

@@ -25,7 +25,8 @@ returns-clause-exact c = λ made other io.
     let v = integer_of (value_in m c.args.left.now) in
     let w = integer_of (value_in m c.args.right.now) in
     let first : to_z w128 (of_z w128 c.as_integer-first.result) ≡ v = to_z-of_z w128 c.as_integer-first.result (search rules) ∙ c.as_integer-first.ensures m in
-    let second : to_z w128 (of_z w128 c.as_integer-second.result) ≡ w = to_z-of_z w128 c.as_integer-second.result (search rules) ∙ c.as_integer-second.ensures m in
+    let second : to_z w128 (of_z w128 c.as_integer-second.result) ≡ w =
+    to_z-of_z w128 c.as_integer-second.result (search rules) ∙ c.as_integer-second.ensures m in
     rw (c.if-pointers.false, c.clear.ensures) (ap (λ (x : Value). Done x [] (store_of m io))
     (sym (c.flag.ensures m ∙ ap bool_value (c.agrees.ensures ∙ ap (holds_in c.args.op) (c.cmp-order.ensures ∙ ap₂ int_cmp first second)
     ∙ holds_in_order c.args.op v w))))

@@ -24,4 +24,5 @@ returns-in_err-addr-clause-raises c =
     let old = c.args.m.now in
     let cells = c.args.block.now.cells in
     rw (e.1, e.2) (λ io. raised_give old.rows (part_func (part_bytes c.args.offset 8 (seen old cells))) Fun (store_of old io) c.in_err-addr.field-0.0
-    (ap (λ (bs : List TaggedByte). run old.rows (part_func bs) (store_of old io)) (sym (seen_part old cells c.args.offset 8)) ∙ c.in_err-addr.ensures.raises io))
+    (ap (λ (bs : List TaggedByte). run old.rows (part_func bs) (store_of old io)) (sym (seen_part old cells c.args.offset 8))
+    ∙ c.in_err-addr.ensures.raises io))
