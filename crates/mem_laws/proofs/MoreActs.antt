@@ -41,7 +41,7 @@ module _ (rows : List Row) where
   bears_bind (Do (Find a) g) k b h = λ r. bears_bind (g r) k (b r) h
   bears_bind (Do (Settle id x c) g) k b h = λ r. bears_bind (g r) k (b r) h
   bears_bind (Do Take g) k b h = λ r. bears_bind (g r) k (b r) h
-  bears_bind (Do (Print bs) g) k b h = λ r. bears_bind (g r) k (b r) h
+  bears_bind (Do (Print to bs) g) k b h = λ r. bears_bind (g r) k (b r) h
 
   bears_then : {B : Type 0} (b : Bool) (c : Clause) (p : Script B) → BearsIn rows p → BearsIn rows (require b c >> p)
   bears_then true c p h = h

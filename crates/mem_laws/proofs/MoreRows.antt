@@ -57,7 +57,7 @@ module _ (few more : List Row) (ext : Extends few more) where
   same_answer (Show x) s st = refl
   same_answer (Settle id x c) s st = refl
   same_answer Take s st = refl
-  same_answer (Print bs) s st = refl
+  same_answer (Print to bs) s st = refl
 
   -- what it creates has a row
   abbrev HasRow : Touch → Type 0
@@ -89,7 +89,7 @@ module _ (few more : List Row) (ext : Extends few more) where
   stays (Find a) s st row = st
   stays (Settle id x c) s st row = st
   stays Take s st row = st
-  stays (Print bs) s st row = st
+  stays (Print to bs) s st row = st
 
   -- ---- a script
   module _ (V : Type 0) where
@@ -103,7 +103,7 @@ module _ (few more : List Row) (ext : Extends few more) where
     row_born (Find a) k b = tt
     row_born (Settle id x c) k b = tt
     row_born Take k b = tt
-    row_born (Print bs) k b = tt
+    row_born (Print to bs) k b = tt
 
     bears_next : (t : Touch) (k : Answer t → Script V) → BearsIn few (Do t k) → (r : Answer t) → BearsIn few (k r)
     bears_next (Bear x size kind declared) k b r = b.1 r
@@ -115,7 +115,7 @@ module _ (few more : List Row) (ext : Extends few more) where
     bears_next (Find a) k b r = b r
     bears_next (Settle id x c) k b r = b r
     bears_next Take k b r = b r
-    bears_next (Print bs) k b r = b r
+    bears_next (Print to bs) k b r = b r
 
     pub run_same : (p : Script V) (s : Store) → StandIn few s → BearsIn few p → run more p s ≡ run few p s
     run_same (Give v) s st b = refl
