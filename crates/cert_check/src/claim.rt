@@ -84,7 +84,8 @@ pub fn claim_holds(
             let written = streams.into_output();
             Ok(
                 course == Course::Ended(*status)
-                    && (witness.finds_nothing() && written.standard.as_slice() == output.as_slice()),
+                    && (witness.finds_nothing()
+                        && written.standard.as_slice() == output.as_slice()),
             )
         }
         Claim::Undefined { clause, pair } => Ok(match pair {
