@@ -16,11 +16,11 @@ use Rattle.clap.specs.declared.error.kind.ErrorKind.TheVariants as kind
 use Rattle.command.specs.App.{cub_app}
 use Rattle.command.specs.Asked.{IsName, IsTaken}
 
-or_else_empty : (first next : Kinds) → or_else first next ≡ [] → next ≡ []
+pub or_else_empty : (first next : Kinds) → or_else first next ≡ [] → next ≡ []
 or_else_empty [] next same = same
 or_else_empty (k ∷ ks) next same = absurd (cc)
 
-missing : (kind.MissingSubcommand ∷ []) ≡ [] → ⊥
+pub missing : (kind.MissingSubcommand ∷ []) ≡ [] → ⊥
 missing same = cc
 
 -- a level of the command at which no fault is found enters a subcommand
@@ -65,7 +65,7 @@ taken_named words taken =
     (entered_name (stop words))
 
 -- matches with such a subcommand have one
-has_rows : {Z : Type 0} (o : Option (Box SubCommand Z)) (p : Text × List Row) → subcommand_rows o ≡ Some p → is_some o ≡ true
+pub has_rows : {Z : Type 0} (o : Option (Box SubCommand Z)) (p : Text × List Row) → subcommand_rows o ≡ Some p → is_some o ≡ true
 has_rows (Some b) p same = refl
 has_rows None p same = absurd (cc)
 
