@@ -1,5 +1,5 @@
 -- Runs are said one after the other.
-use Rattle.std.proofs.Common.{◌≡◌, ◌⊎◌, ◌∙◌, ℕ, ◌+◌, ◌<◌, List, [], ◌∷◌, Option, length, get_or, map, drop, refl, sym, ap, subst, inl, inr, add-one, drop-cons}
+use Rattle.std.proofs.Common.{◌≡◌, ◌∙◌, ℕ, ◌+◌, ◌<◌, List, [], ◌∷◌, length, get_or, map, drop, refl, sym, ap, subst, inl, inr, add-one, drop-cons}
 use Rattle.audit_batch.specs.Batch.{tally_after}
 use Rattle.audit_batch.specs.Runs.{Goes, IsSaid, Names, Reaches, Says, Stand, names_of}
 use Rattle.audit_batch.specs.declared.audit.Run.{Run}
@@ -23,8 +23,11 @@ pub reaches_next : (says : Says) (old : Stand) (runs : List Names) (at new : Sta
     → Reaches says old runs at (run ∷ rest) → Goes says at run new → Reaches says old runs new rest
 reaches_next says old [] at new run rest (same, none) goes = absurd (cc)
 reaches_next says old (first ∷ runs) at new run rest (inl (same, left)) goes =
-    inr (new, first_goes says old at new run first same (head_same run first rest runs left) goes,
-    subst (λ more. Reaches says new more new rest) (tail_same run first rest runs left) (reaches_none says new rest new refl))
+    inr (
+      new,
+      first_goes says old at new run first same (head_same run first rest runs left) goes,
+      subst (λ more. Reaches says new more new rest) (tail_same run first rest runs left) (reaches_none says new rest new refl),
+    )
 reaches_next says old (first ∷ runs) at new run rest (inr (next, goes_first, reaches)) goes =
     inr (next, goes_first, reaches_next says next runs at new run rest reaches goes)
 

@@ -1,5 +1,5 @@
 -- What a batch says of its runs (own).
-use Rattle.std.specs.Prelude.{◌≡◌, ◌==◌, ◌+◌, ◌-◌, ◌^◌, if◌then◌else◌, ℕ, List, [], ◌++◌, codes, decimal, min, max, Option, Some, None}
+use Rattle.std.specs.Prelude.{◌==◌, ◌+◌, ◌-◌, ◌^◌, if◌then◌else◌, ℕ, List, [], ◌++◌, codes, decimal, min, max, Option, Some, None}
 use Rattle.audit_batch.specs.declared.tally.Tally.{Tally}
 
 -- a number and what it counts

@@ -1,5 +1,5 @@
 -- Which runs a batch makes, and what it puts of them (own).
-use Rattle.std.specs.Prelude.{◌≡◌, ◌≢◌, ◌⊎◌, ℕ, List, [], ◌∷◌, ◌++◌, map, filter, length, nat_lt, Bool, Option, Some, None, option_copied}
+use Rattle.std.specs.Prelude.{◌≡◌, ◌⊎◌, ℕ, List, [], ◌∷◌, filter, length, nat_lt, Bool, Option, Some, None, option_copied}
 use Rattle.std.specs.Str.Lines.{lines}
 use Rattle.ub_base.specs.Sink.{Gains, GainsPart}
 use Rattle.audit_batch.specs.Batch.{run_line, tally_after}

@@ -1,18 +1,15 @@
 -- Words that a command for a person takes name a subcommand of it.
-use Rattle.std.proofs.Common.{◌≡◌, ◌⊎◌, ◌∙◌, ℕ, List, [], ◌∷◌, Bool, true, false, Option, Some, None, refl, ap, sym, subst, inl, inr, arith, codes}
+use Rattle.std.proofs.Common.{◌≡◌, ◌∙◌, ℕ, List, [], Bool, true, false, Option, Some, None, refl, sym, subst, inl, inr, codes}
 use Rattle.std.specs.Box.{box_value}
 use Rattle.std.specs.Prelude.{Box, IfSome, is_some, cond, option_map}
 use Rattle.clap.specs.Faults.{entered_fault, fault_of, is_simple_and_free, level_fault}
-use Rattle.clap.specs.Kinds.{HasKind, Kinds, or_else}
+use Rattle.clap.specs.Kinds.{Kinds}
 use Rattle.clap.specs.Matches.{has_subcommand, subcommand_name_of}
 use Rattle.clap.specs.Simple.{App, HasMatchesOf, Shape, built, entered, names_of, rows_at, subcommand_of, subcommand_rows}
-use Rattle.clap.specs.Values.{kind_of}
 use Rattle.clap.specs.Walk.{Held, Names, Row, Text, nothing_held, stop_after}
 use Rattle.clap.specs.declared.parser.matches.ArgMatches.{ArgMatches}
 use Rattle.clap.specs.declared.parser.matches.ArgMatches.TheViews.{out-SubCommand}
 use Rattle.clap.specs.declared.parser.matches.SubCommand.{SubCommand}
-use Rattle.clap.specs.declared.error.Error.{Error}
-use Rattle.clap.specs.declared.error.kind.ErrorKind.TheVariants as kind
 use Rattle.command.specs.PersonApp.{person_app}
 use Rattle.command.specs.PersonAsked.{IsPersonName, IsPersonTaken}
 use Rattle.command.proofs.Words.{has_rows, missing, or_else_empty}

@@ -1,5 +1,5 @@
 -- What words ask for by a command for a person (own).
-use Rattle.std.specs.Prelude.{◌≡◌, ◌⊎◌, ℕ, List, [], map, string_bytes, codes, Option, None, unwrap_or, option_copied}
+use Rattle.std.specs.Prelude.{◌≡◌, ◌⊎◌, ℕ, List, [], map, string_bytes, codes, None, unwrap_or, option_copied}
 use Rattle.clap.specs.Faults.{fault_of}
 use Rattle.clap.specs.Simple.{matches_of, subcommand_of}
 use Rattle.clap.specs.Walk.{Row, first_of, one_of}
