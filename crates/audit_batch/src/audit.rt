@@ -43,13 +43,13 @@ pub trait Auditor {
     /// to the next.
     ghost says: { Self → Limits → Moment → Moment → List ℕ → Option (List ℕ) → ℕ → List ℕ → Type 0 };
 
-    fn audit<F: Files>(
+    fn audit<'a, F: Files>(
         &self,
         alloc: Global,
         files: &mut F,
         limits: Limits,
-        program: &str,
-        input: Option<&str>,
+        program: &'a str,
+        input: Option<&'a str>,
     ) -> Result<Verdict, NoMemory>
         requires { limits.steps ≤ 100000000 }
         ensures said { IfOk result (λ verdict. says self.now limits
