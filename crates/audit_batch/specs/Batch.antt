@@ -1,6 +1,5 @@
 -- What a batch says of its runs (own).
-use Rattle.std.specs.Prelude.{◌≡◌, ◌==◌, ◌+◌, ◌-◌, ◌^◌, if◌then◌else◌, ℕ, List, [], ◌++◌, codes, decimal, min, max, Option, Some, None}
-use Rattle.ub_base.specs.Sink.{Gains}
+use Rattle.std.specs.Prelude.{◌==◌, ◌+◌, ◌-◌, ◌^◌, if◌then◌else◌, ℕ, List, [], ◌++◌, codes, decimal, min, max, Option, Some, None}
 use Rattle.audit_batch.specs.declared.tally.Tally.{Tally}
 
 -- a number and what it counts
@@ -45,10 +44,3 @@ summary tally =
     ++ (count_text tally.out_of_steps (codes " out of steps, ")
     ++ (count_text tally.outside (codes " outside, ")
     ++ count_text tally.refused (codes " not run\n"))))))
-
--- The run has an audit of this status, which says this line, and the line was put.
-pub record IsSaid (says : List ℕ → Option (List ℕ) → ℕ → List ℕ → Type 0) (program : List ℕ) (input : Option (List ℕ)) (before now : Option (List ℕ))
-    (status : ℕ) : Type 0 where
-  pub line : List ℕ
-  pub said : says program input status line
-  pub put : Gains before now (run_line program input line)

@@ -1,8 +1,10 @@
 // Runs, one after the other.
-ghost use Rattle.std.specs.Prelude.{◌≡◌, ◌≤◌, IfOk, OnOk, IsErrOf, option_copied};
+ghost use Rattle.std.specs.Prelude.{◌≡◌, ◌≤◌, ◌⊎◌, [], map, IfOk, OnOk, OnErr, IsErrOf, option_copied};
 ghost use Rattle.ub_base.specs.Causes.{Rose};
-ghost use Rattle.ub_base.specs.Sink.{Gains};
-ghost use Rattle.audit_batch.specs.Batch.{IsSaid, run_line};
+ghost use Rattle.ub_base.specs.Sink.{Gains, GainsPart};
+ghost use Rattle.audit_batch.specs.Batch.{no_runs, run_line};
+ghost use Rattle.audit_batch.specs.Moment.{moment};
+ghost use Rattle.audit_batch.specs.Runs.{Breaks, Goes, IsCut, IsSaid, Reaches, names_of, stand};
 
 use crate::line::run_line;
 use crate::tally::Tally;
@@ -33,23 +35,26 @@ pub struct Limits {
 
 /// Audits runs.
 pub trait Auditor {
-    ghost use Rattle.std.specs.Prelude.{◌≡◌, ◌≤◌, ℕ, List, Option, option_copied};
-    ghost use Rattle.ub_base.specs.Held.{Held};
+    ghost use Rattle.std.specs.Prelude.{◌≡◌, ◌≤◌, ℕ, List, Option, IfOk, option_copied};
+    ghost use Rattle.audit_batch.specs.Moment.{Moment, moment};
     ghost use Rattle.audit_batch.specs.declared.audit.Limits.{Limits};
 
-    /// Whether the audit of this program on this input within these limits may say this status and this line, where files hold this.
-    ghost says: { Self → Option Held → Limits → List ℕ → Option (List ℕ) → ℕ → List ℕ → Type 0 };
+    /// Whether the audit of this program on this input within these limits may say this status and this line, while the files went from one moment
+    /// to the next.
+    ghost says: { Self → Limits → Moment → Moment → List ℕ → Option (List ℕ) → ℕ → List ℕ → Type 0 };
 
-    fn audit<F: Files>(
+    fn audit<'a, F: Files>(
         &self,
         alloc: Global,
         files: &mut F,
         limits: Limits,
-        program: &str,
-        input: Option<&str>,
-    ) -> Verdict
+        program: &'a str,
+        input: Option<&'a str>,
+    ) -> Result<Verdict, NoMemory>
         requires { limits.steps ≤ 100000000 }
-        ensures said { says self.now (F.held files.old) limits program.now (option_copied input.entry) result.status result.line }
+        ensures said { IfOk result (λ verdict. says self.now limits
+            (moment (F.held files.old) (F.read_faults files.old) (F.write_faults files.old)) (moment (F.held files.new) (F.read_faults files.new) (F.write_faults files.new))
+            program.now (option_copied input.entry) verdict.status verdict.line) }
         ensures held { F.held files.new ≡ F.held files.old };
 }
 
@@ -68,7 +73,9 @@ fn put_line<O: Sink>(
     out: &mut O,
 ) -> Result<(), BatchFault>
     ensures put { OnOk result (Gains (O.told out.old) (O.told out.new) (run_line run.now.program.now (option_copied run.now.input) said.now)) }
+    ensures part { OnErr result ((O.told out.new ≡ O.told out.old) ⊎ GainsPart (O.told out.old) (O.told out.new) (run_line run.now.program.now (option_copied run.now.input) said.now)) }
     ensures failed { IsErrOf result BatchFault.Failed → Rose (O.faults out.old) (O.faults out.new) }
+    ensures later { O.faults out.old ≤ O.faults out.new }
 {
     let text = match run_line(alloc, run.program, run.input, said) {
         Ok(text) => text,
@@ -90,18 +97,27 @@ fn audit_one<A: Auditor, F: Files, O: Sink>(
     out: &mut O,
 ) -> Result<u8, BatchFault>
     requires { limits.steps ≤ 100000000 }
-    ensures said { IfOk result (IsSaid (A.says auditor.now (F.held files.old) limits) run.now.program.now (option_copied run.now.input) (O.told out.old) (O.told out.new)) }
+    ensures said { IfOk result (IsSaid (A.says auditor.now limits)
+        (moment (F.held files.old) (F.read_faults files.old) (F.write_faults files.old)) (moment (F.held files.new) (F.read_faults files.new) (F.write_faults files.new))
+        (names_of run.now) (O.told out.old) (O.told out.new)) }
+    ensures cut { OnErr result (IsCut (A.says auditor.now limits)
+        (moment (F.held files.old) (F.read_faults files.old) (F.write_faults files.old)) (moment (F.held files.new) (F.read_faults files.new) (F.write_faults files.new))
+        (names_of run.now) (O.told out.old) (O.told out.new)) }
     ensures held { F.held files.new ≡ F.held files.old }
     ensures failed { IsErrOf result BatchFault.Failed → Rose (O.faults out.old) (O.faults out.new) }
+    ensures later { O.faults out.old ≤ O.faults out.new }
 {
-    let Verdict { status, line } = auditor.audit(alloc, files, limits, run.program, run.input);
-    match put_line(alloc, run, line.as_slice(), out) {
-        Ok(()) => Ok(status),
+    let verdict = match auditor.audit(alloc, files, limits, run.program, run.input) {
+        Ok(verdict) => verdict,
+        Err(NoMemory) => return Err(BatchFault::NoMemory),
+    };
+    match put_line(alloc, run, verdict.line.as_slice(), out) {
+        Ok(()) => Ok(verdict.status),
         Err(fault) => Err(fault),
     }
 }
 
-/// Audits runs in turn, and puts a line for each as soon as it is done.
+/// Audits runs in turn, puts a line for each as soon as it is done, and counts them.
 pub fn audit_all<A: Auditor, F: Files, O: Sink>(
     alloc: Global,
     runs: &[Run<'_>],
@@ -111,7 +127,15 @@ pub fn audit_all<A: Auditor, F: Files, O: Sink>(
     out: &mut O,
 ) -> Result<Tally, BatchFault>
     requires { limits.steps ≤ 100000000 }
+    ensures said { IfOk result (λ tally. Reaches (A.says auditor.now limits)
+        (stand (moment (F.held files.old) (F.read_faults files.old) (F.write_faults files.old)) (O.told out.old) no_runs) (map names_of runs.now)
+        (stand (moment (F.held files.new) (F.read_faults files.new) (F.write_faults files.new)) (O.told out.new) tally) []) }
+    ensures cut { OnErr result (Breaks (A.says auditor.now limits)
+        (stand (moment (F.held files.old) (F.read_faults files.old) (F.write_faults files.old)) (O.told out.old) no_runs) (map names_of runs.now)
+        (moment (F.held files.new) (F.read_faults files.new) (F.write_faults files.new)) (O.told out.new)) }
     ensures held { F.held files.new ≡ F.held files.old }
+    ensures failed { IsErrOf result BatchFault.Failed → Rose (O.faults out.old) (O.faults out.new) }
+    ensures later { O.faults out.old ≤ O.faults out.new }
 {
     let mut tally = Tally::new();
     for run in runs {

@@ -12,4 +12,6 @@ mod value;
 mod weigh;
 mod words;
 
-pub use top::audit_main;
+pub use answer::Answer;
+pub use judge::judged;
+pub use top::{audit, audit_main, stopped};

@@ -17,8 +17,8 @@ use ub_base::{Failed, Files, Sink, put_all};
 
 const WRITE_FAULT: u8 = 21;
 
-// The answer where a file isn't fetched.
-fn stopped(fault: FetchFault) -> Answer
+/// The answer where a file isn't fetched.
+pub fn stopped(fault: FetchFault) -> Answer
     ensures { result ≡ stopped fault }
 {
     match fault {
@@ -28,8 +28,8 @@ fn stopped(fault: FetchFault) -> Answer
     }
 }
 
-// The answer to an audit.
-fn audit<F: Files>(alloc: Global, request: &AuditRequest<'_>, files: &mut F) -> Answer
+/// The answer to an audit.
+pub fn audit<F: Files>(alloc: Global, request: &AuditRequest<'_>, files: &mut F) -> Answer
     requires { request.now.steps ≤ 100000000 }
     ensures why { AuditCause (disk (F.held files.old) (F.read_faults files.old) (F.write_faults files.old)) (disk (F.held files.new) (F.read_faults files.new) (F.write_faults files.new)) request.now result }
     ensures files { Leaves (option_copied request.now.cert) (F.held files.old) (F.held files.new) result }

@@ -1,3 +1,4 @@
 pub mod Apps
+pub mod PersonWords
 pub mod Rows
 pub mod Words

@@ -1,5 +1,5 @@
 -- Words that are taken name a subcommand.
-use Rattle.std.proofs.Common.{◌≡◌, ◌⊎◌, ◌∙◌, ℕ, List, [], ◌∷◌, Bool, true, false, Option, Some, None, refl, ap, sym, subst, inl, inr, arith, codes}
+use Rattle.std.proofs.Common.{◌≡◌, ◌∙◌, ℕ, List, [], ◌∷◌, Bool, true, false, Option, Some, None, refl, sym, subst, inl, inr, codes}
 use Rattle.std.specs.Box.{box_value}
 use Rattle.std.specs.Prelude.{Box, IfSome, is_some, cond, option_map}
 use Rattle.clap.specs.Faults.{entered_fault, fault_of, is_simple_and_free, level_fault}
@@ -16,11 +16,11 @@ use Rattle.clap.specs.declared.error.kind.ErrorKind.TheVariants as kind
 use Rattle.command.specs.App.{cub_app}
 use Rattle.command.specs.Asked.{IsName, IsTaken}
 
-or_else_empty : (first next : Kinds) → or_else first next ≡ [] → next ≡ []
+pub or_else_empty : (first next : Kinds) → or_else first next ≡ [] → next ≡ []
 or_else_empty [] next same = same
 or_else_empty (k ∷ ks) next same = absurd (cc)
 
-missing : (kind.MissingSubcommand ∷ []) ≡ [] → ⊥
+pub missing : (kind.MissingSubcommand ∷ []) ≡ [] → ⊥
 missing same = cc
 
 -- a level of the command at which no fault is found enters a subcommand
@@ -65,7 +65,7 @@ taken_named words taken =
     (entered_name (stop words))
 
 -- matches with such a subcommand have one
-has_rows : {Z : Type 0} (o : Option (Box SubCommand Z)) (p : Text × List Row) → subcommand_rows o ≡ Some p → is_some o ≡ true
+pub has_rows : {Z : Type 0} (o : Option (Box SubCommand Z)) (p : Text × List Row) → subcommand_rows o ≡ Some p → is_some o ≡ true
 has_rows (Some b) p same = refl
 has_rows None p same = absurd (cc)
 

@@ -38,10 +38,12 @@ seed_rule = record (new_rule (codes "SEED")) { required = true; parser = Some (U
 abbrev pub lines_rule : Rule
 lines_rule = record (new_rule (codes "N")) { required = true; parser = Some (Unsigned 1 20000) }
 
+-- with the arguments that say which run is meant, but for the program's own
+abbrev pub with_run_rules : App → App
+with_run_rules app = with_rule (with_rule (with_rule (with_rule app file_rule) input_rule) steps_rule) tight_rule
+
 abbrev pub audit_app : App
-audit_app =
-    with_rule (with_rule (with_rule (with_rule (with_rule (with_rule (new_app (codes "audit")) file_rule) input_rule) steps_rule) tight_rule) cert_rule)
-    args_rule
+audit_app = with_rule (with_rule (with_run_rules (new_app (codes "audit"))) cert_rule) args_rule
 
 abbrev pub check_app : App
 check_app = with_rule (with_rule (with_rule (with_rule (new_app (codes "check")) file_rule) certificate_rule) input_rule) args_rule

@@ -60,9 +60,13 @@ displaces (Some cert) file input = bytes_eq cert (codes "-") || (bytes_eq cert f
 abbrev pub text_given : List ℕ → List Row → List ℕ
 text_given id rows = unwrap_or (first_of id rows) []
 
+-- the texts of an argument that has some
+abbrev pub texts_given : List ℕ → List Row → List (List ℕ)
+texts_given id rows = unwrap_or (all_of id rows) []
+
 -- the words that the program is given
 abbrev pub args_given : List Row → List (List ℕ)
-args_given rows = unwrap_or (all_of (codes "ARGS") rows) []
+args_given rows = texts_given (codes "ARGS") rows
 
 -- a flag is set
 abbrev pub is_set : Option (List ℕ) → Bool

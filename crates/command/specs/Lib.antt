@@ -1,2 +1,4 @@
 pub mod App
 pub mod Asked
+pub mod PersonApp
+pub mod PersonAsked

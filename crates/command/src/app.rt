@@ -3,7 +3,7 @@ ghost use Rattle.std.specs.Prelude.{◌≡◌, false, IfOk};
 ghost use Rattle.clap.specs.Simple.{app_of, with_rule, with_subcommand};
 ghost use Rattle.clap.specs.Walk.{rule_of};
 ghost use Rattle.clap.specs.declared.builder.command.Command.TheViews.{out-Command as fields_of};
-ghost use Rattle.command.specs.App.{file_rule, certificate_rule, args_rule, input_rule, steps_rule, tight_rule, cert_rule, seed_rule, lines_rule, audit_app, check_app, self_app, cub_alone, cub_app};
+ghost use Rattle.command.specs.App.{file_rule, certificate_rule, args_rule, input_rule, steps_rule, tight_rule, cert_rule, seed_rule, lines_rule, audit_app, with_run_rules, check_app, self_app, cub_alone, cub_app};
 
 use clap::builder::ValueParser;
 use clap::{Arg, ArgAction, Command};
@@ -23,7 +23,7 @@ fn certificate_arg<'a>(alloc: Global) -> Arg<'a>
     Arg::new(alloc, "CERT").required(true)
 }
 
-fn args_arg<'a>(alloc: Global) -> Arg<'a>
+pub fn args_arg<'a>(alloc: Global) -> Arg<'a>
     ensures rule { rule_of result ≡ args_rule }
     ensures local { result.global ≡ false }
 {
@@ -39,7 +39,7 @@ fn input_arg<'a>(alloc: Global) -> Arg<'a>
         .action(ArgAction::Set)
 }
 
-fn steps_arg<'a>(alloc: Global) -> Arg<'a>
+pub fn steps_arg<'a>(alloc: Global) -> Arg<'a>
     ensures rule { rule_of result ≡ steps_rule }
     ensures local { result.global ≡ false }
 {
@@ -50,7 +50,7 @@ fn steps_arg<'a>(alloc: Global) -> Arg<'a>
         .default_value("1000000")
 }
 
-fn tight_arg<'a>(alloc: Global) -> Arg<'a>
+pub fn tight_arg<'a>(alloc: Global) -> Arg<'a>
     ensures rule { rule_of result ≡ tight_rule }
     ensures local { result.global ≡ false }
 {
@@ -84,7 +84,7 @@ fn lines_arg<'a>(alloc: Global) -> Arg<'a>
         .value_parser(ValueParser::Unsigned(1, 20000))
 }
 
-fn with_arg<'a>(command: Command<'a>, arg: Arg<'a>) -> Result<Command<'a>, AllocError>
+pub fn with_arg<'a>(command: Command<'a>, arg: Arg<'a>) -> Result<Command<'a>, AllocError>
     requires local { arg.global ≡ false }
     requires no_globals { (fields_of command).has_globals ≡ false }
     ensures app { IfOk result (λ new. app_of new ≡ with_rule (app_of command.entry) (rule_of arg.entry)) }
@@ -93,15 +93,24 @@ fn with_arg<'a>(command: Command<'a>, arg: Arg<'a>) -> Result<Command<'a>, Alloc
     command.arg(arg)
 }
 
-fn audit_command<'a>(alloc: Global) -> Result<Command<'a>, AllocError>
-    ensures app { IfOk result (λ command. app_of command ≡ audit_app) }
-    ensures local { IfOk result (λ command. (fields_of command).has_globals ≡ false) }
+/// Adds the arguments that say which run is meant, but for the program's own.
+pub fn with_run_args<'a>(alloc: Global, command: Command<'a>) -> Result<Command<'a>, AllocError>
+    requires no_globals { (fields_of command).has_globals ≡ false }
+    ensures app { IfOk result (λ new. app_of new ≡ with_run_rules (app_of command.entry)) }
+    ensures local { IfOk result (λ new. (fields_of new).has_globals ≡ false) }
 {
-    let command = Command::new(alloc, "audit");
     let command = with_arg(command, file_arg(alloc))?;
     let command = with_arg(command, input_arg(alloc))?;
     let command = with_arg(command, steps_arg(alloc))?;
     let command = with_arg(command, tight_arg(alloc))?;
+    Ok(command)
+}
+
+fn audit_command<'a>(alloc: Global) -> Result<Command<'a>, AllocError>
+    ensures app { IfOk result (λ command. app_of command ≡ audit_app) }
+    ensures local { IfOk result (λ command. (fields_of command).has_globals ≡ false) }
+{
+    let command = with_run_args(alloc, Command::new(alloc, "audit"))?;
     let command = with_arg(command, cert_arg(alloc))?;
     let command = with_arg(command, args_arg(alloc))?;
     Ok(command)
@@ -129,7 +138,7 @@ fn self_command<'a>(alloc: Global) -> Result<Command<'a>, AllocError>
     Ok(command)
 }
 
-fn with_command<'a>(command: Command<'a>, sub: Command<'a>) -> Result<Command<'a>, AllocError>
+pub fn with_command<'a>(command: Command<'a>, sub: Command<'a>) -> Result<Command<'a>, AllocError>
     requires no_globals { (fields_of command).has_globals ≡ false }
     requires local { (fields_of sub).has_globals ≡ false }
     ensures app { IfOk result (λ new. app_of new ≡ with_subcommand (app_of command.entry) (app_of sub.entry).top) }
@@ -138,7 +147,7 @@ fn with_command<'a>(command: Command<'a>, sub: Command<'a>) -> Result<Command<'a
     command.subcommand(sub)
 }
 
-fn cub_without_commands<'a>(alloc: Global) -> Command<'a>
+pub fn cub_without_commands<'a>(alloc: Global) -> Command<'a>
     ensures app { app_of result ≡ cub_alone }
     ensures local { (fields_of result).has_globals ≡ false }
 {

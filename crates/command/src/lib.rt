@@ -2,8 +2,13 @@
 #![tactic(auto)]
 
 mod app;
+mod person_app;
+mod person_read;
+mod person_request;
 mod read;
 mod request;
 
+pub use person_read::read_person_words;
+pub use person_request::{BatchRequest, ExplainRequest, PersonRequest};
 pub use read::read_words;
 pub use request::{AuditRequest, CheckRequest, Request, SelfRequest, WordFault};

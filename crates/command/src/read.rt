@@ -5,7 +5,7 @@ ghost use Rattle.clap.specs.Simple.{HasMatchesOf};
 ghost use Rattle.clap.specs.Takes.{takes};
 ghost use Rattle.clap.specs.Walk.{rows_of, first_of, one_of, all_of};
 ghost use Rattle.command.specs.App.{cub_app};
-ghost use Rattle.command.specs.Asked.{named, text_given, args_given, is_set, Spells, IsAudit, IsCheck, IsName, IsSelf, IsRequest, IsTaken, is_given_as, displaces, overwrites, words_overwrite, AreFit};
+ghost use Rattle.command.specs.Asked.{named, text_given, texts_given, is_set, Spells, IsAudit, IsCheck, IsName, IsSelf, IsRequest, IsTaken, is_given_as, displaces, overwrites, words_overwrite, AreFit};
 
 use crate::app::cub_command;
 use crate::request::{AuditRequest, CheckRequest, Request, SelfRequest, WordFault};
@@ -13,7 +13,7 @@ use clap::ArgMatches;
 use clap::error::ErrorKind;
 use std::alloc::{AllocError, Global};
 
-const MAX_STEPS: u64 = 100000000;
+pub const MAX_STEPS: u64 = 100000000;
 
 const MAX_SEED: u64 = 65536;
 
@@ -37,13 +37,13 @@ fn matches_of<'a>(alloc: Global, words: &'a [String]) -> Result<ArgMatches<'a>, 
     }
 }
 
-fn text_of<'a>(matches: &ArgMatches<'a>, id: &str) -> Option<&'a str>
+pub fn text_of<'a>(matches: &ArgMatches<'a>, id: &str) -> Option<&'a str>
     ensures { option_copied result ≡ first_of id.now (rows_of (found_of matches.now)) }
 {
     matches.get_str(id)
 }
 
-fn text_given<'a>(matches: &ArgMatches<'a>, id: &str) -> &'a str
+pub fn text_given<'a>(matches: &ArgMatches<'a>, id: &str) -> &'a str
     ensures { result.now ≡ text_given id.now (rows_of (found_of matches.now)) }
 {
     match text_of(matches, id) {
@@ -52,7 +52,7 @@ fn text_given<'a>(matches: &ArgMatches<'a>, id: &str) -> &'a str
     }
 }
 
-fn is_set(matches: &ArgMatches<'_>, id: &str) -> bool
+pub fn is_set(matches: &ArgMatches<'_>, id: &str) -> bool
     ensures { result ≡ is_set (first_of id.now (rows_of (found_of matches.now))) }
 {
     match text_of(matches, id) {
@@ -61,7 +61,7 @@ fn is_set(matches: &ArgMatches<'_>, id: &str) -> bool
     }
 }
 
-fn number_of(matches: &ArgMatches<'_>, id: &str, least: u64, most: u64) -> u64
+pub fn number_of(matches: &ArgMatches<'_>, id: &str, least: u64, most: u64) -> u64
     ensures { Spells least most (one_of id.now (rows_of (found_of matches.now))) result }
 {
     matches.get_one::<u64>(id).unwrap_or(0).min(most).max(least)
@@ -77,10 +77,14 @@ fn copies(alloc: Global, texts: &[&str]) -> Result<Vec<String>, AllocError>
     Ok(copies)
 }
 
-fn args_of(alloc: Global, matches: &ArgMatches<'_>) -> Result<Vec<String>, AllocError>
-    ensures { IfOk result (λ args. map string_bytes args.items ≡ args_given (rows_of (found_of matches.now))) }
+pub fn texts_of(
+    alloc: Global,
+    matches: &ArgMatches<'_>,
+    id: &str,
+) -> Result<Vec<String>, AllocError>
+    ensures { IfOk result (λ texts. map string_bytes texts.items ≡ texts_given id.now (rows_of (found_of matches.now))) }
 {
-    match matches.get_strs("ARGS") {
+    match matches.get_strs(id) {
         Some(texts) => copies(alloc, texts),
         None => Ok(Vec::new(alloc)),
     }
@@ -95,7 +99,7 @@ fn audit_request<'a>(alloc: Global, given: &ArgMatches<'a>) -> Result<AuditReque
         steps: number_of(given, "steps", 1, MAX_STEPS),
         is_tight: is_set(given, "tight"),
         cert: text_of(given, "cert"),
-        args: args_of(alloc, given)?,
+        args: texts_of(alloc, given, "ARGS")?,
     })
 }
 
@@ -106,7 +110,7 @@ fn check_request<'a>(alloc: Global, given: &ArgMatches<'a>) -> Result<CheckReque
         file: text_given(given, "FILE"),
         cert: text_given(given, "CERT"),
         input: text_of(given, "input"),
-        args: args_of(alloc, given)?,
+        args: texts_of(alloc, given, "ARGS")?,
     })
 }
 

@@ -1,33 +1,31 @@
 // The commands, a line each.
-ghost use Rattle.std.specs.Prelude.{codes};
-ghost use Rattle.command_help.specs.Commands.{Begins};
+ghost use Rattle.std.specs.Prelude.{◌≡◌};
+ghost use Rattle.command_help.specs.Commands.{Begins, first_lines, version_text};
 
-/// What `cub` is for, and a line for each command.
+/// What `cub` is for, and a line for each command that a person needs first: the first six lines of `overview`.
 pub fn command_lines() -> &'static str
-    ensures { Begins (codes "cub follows") result.now }
+    ensures { result.now ≡ first_lines }
 {
     "cub follows one run of one preprocessed C11 program and says what C makes of it.
   cub audit FILE     the verdict, in lines for scripts
   cub explain FILE   the verdict, and why, for a person
   cub batch FILE..   a line for each of many programs or inputs, and how many had which verdict
   cub check FILE C   whether the certificate C holds for FILE
-  cub self SEED N    audits a generated program of N lines
   cub help COMMAND   what COMMAND takes, with an example
-  cub version        the version, and the checker that proved it
 "
 }
 
-/// The same, how to begin, and what the statuses mean.
+/// The same, the other commands, how to begin, and what the statuses mean.
 pub fn overview() -> &'static str
-    ensures { Begins (codes "cub follows") result.now }
+    ensures { Begins first_lines result.now }
 {
     "cub follows one run of one preprocessed C11 program and says what C makes of it.
   cub audit FILE     the verdict, in lines for scripts
   cub explain FILE   the verdict, and why, for a person
   cub batch FILE..   a line for each of many programs or inputs, and how many had which verdict
   cub check FILE C   whether the certificate C holds for FILE
-  cub self SEED N    audits a generated program of N lines
   cub help COMMAND   what COMMAND takes, with an example
+  cub self SEED N    audits a generated program of N lines
   cub version        the version, and the checker that proved it
 
 To begin:  cc -E -nostdinc -I headers prog.c | cub explain -
@@ -38,7 +36,7 @@ Statuses:  0 clean, 1 undefined, 2 order-dependent, 3 out of steps, 4 outside a 
 
 /// The version, and the line of the kit whose checker proved it.
 pub fn version() -> &'static str
-    ensures { Begins (codes "cub ") result.now }
+    ensures { result.now ≡ version_text }
 {
     "cub 1
 proved with rattle-kit-13f logic dac8208d650f15bf

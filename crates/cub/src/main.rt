@@ -1,14 +1,19 @@
-//! `cub audit FILE` follows one run of a C program, and says whether it is undefined.
+//! `cub audit FILE` follows one run of a C program, and says whether it is undefined; `cub explain FILE` says why.
 #![tactic(auto)]
 
 mod host;
 
+use audit_engine::Engine;
 use audit_top::audit_main;
+use command_help::command_lines;
 use host::{HostFiles, HostSink};
+use person_top::{is_for_person, person_main};
 use std::io::ErrorKind;
 use std::process::ExitCode;
-use std::{env, rt};
+use std::{env, fs, rt};
 use ub_base::{Failed, NoMemory, put_all};
+
+const USAGE: u8 = 10;
 
 const WRITE_FAULT: u8 = 21;
 
@@ -28,15 +33,32 @@ fn words<R: rt::Env + AllocGlobal>(rt: &R) -> Result<Vec<String>, NoMemory> {
     Ok(words)
 }
 
+// Does what the words ask for.
+fn answered<R: fs::Files + Input + Print + AllocGlobal>(rt: &R, words: &[String]) -> u8 {
+    let mut files = HostFiles::new(rt);
+    let mut out = HostSink::new(rt);
+    if is_for_person(words) {
+        person_main(rt.alloc(), words, &Engine, &mut files, &mut out)
+    } else {
+        audit_main(rt.alloc(), words, &mut files, &mut out)
+    }
+}
+
+// Tells a person which words there are. Where standard error can't be written nothing is told.
+fn tell_commands<R: Eprint>(rt: &R) {
+    let _ = eprint!(rt; "{}", command_lines());
+}
+
 fn main(rt: HostRuntime) -> ExitCode {
-    let mut files = HostFiles::new(&rt);
-    let mut out = HostSink::new(&rt);
     let status = match words(&rt) {
-        Ok(words) => audit_main(rt.alloc(), &words, &mut files, &mut out),
-        Err(NoMemory) => match put_all(&mut out, b"no memory\n") {
+        Ok(words) => answered(&rt, &words),
+        Err(NoMemory) => match put_all(&mut HostSink::new(&rt), b"no memory\n") {
             Ok(()) => NO_MEMORY,
             Err(Failed) => WRITE_FAULT,
         },
     };
+    if status == USAGE {
+        tell_commands(&rt);
+    }
     ExitCode::from(status)
 }

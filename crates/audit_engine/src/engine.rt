@@ -1,0 +1,101 @@
+// Audits, in a line each, and audits that are explained.
+ghost use Rattle.std.specs.Prelude.{◌≡◌, ◌<◌, ◌≤◌, ◌==◌, None, length, IfOk, IfSome, option_copied};
+ghost use Rattle.std.specs.List.{position};
+ghost use Rattle.audit_batch.specs.Moment.{moment};
+ghost use Rattle.audit_top.specs.Report.{report, status};
+ghost use Rattle.audit_engine.specs.Engine.{Explained, IsAudited, Says, first_line};
+
+use crate::explain::explained;
+use audit_batch::{Auditor, Limits, Verdict};
+use audit_top::{Answer, audit};
+use command::{AuditRequest, ExplainRequest};
+use person_top::{Explainer, Page};
+use std::alloc::Global;
+use ub_base::{Bytes, Files, NoMemory};
+
+/// Audits and explains by the top call's own functions.
+#[derive(Clone, Copy)]
+pub struct Engine;
+
+// Where the first line feed stands.
+fn line_end(text: &[u8]) -> Option<usize>
+    ensures value { result ≡ position (λ byte. byte == 10) text.now }
+    ensures within { IfSome result (λ at. at < length text.now) }
+{
+    text.iter().position(|byte| *byte == b'\n')
+}
+
+// The bytes before the first line feed.
+fn first_line(text: &[u8]) -> &[u8]
+    ensures { result.now ≡ first_line text.now }
+{
+    match line_end(text) {
+        Some(at) => &text[..at],
+        None => text,
+    }
+}
+
+// The status of an answer, and the first line of its report.
+fn verdict_of(alloc: Global, answer: &Answer) -> Result<Verdict, NoMemory>
+    ensures status { IfOk result (λ verdict. verdict.status ≡ status answer.now) }
+    ensures line { IfOk result (λ verdict. verdict.line ≡ first_line (report answer.now)) }
+{
+    let report = answer.report(alloc)?;
+    Ok(Verdict {
+        status: answer.status(),
+        line: Bytes::from_slice(alloc, first_line(report.as_slice()))?,
+    })
+}
+
+// What is said of the audit of a request.
+fn audited<F: Files>(
+    alloc: Global,
+    request: &AuditRequest<'_>,
+    files: &mut F,
+) -> Result<Verdict, NoMemory>
+    requires steps { request.now.steps ≤ 100000000 }
+    requires cert { option_copied request.now.cert ≡ None }
+    ensures said { IfOk result (λ verdict. IsAudited request.now
+        (moment (F.held files.old) (F.read_faults files.old) (F.write_faults files.old)) (moment (F.held files.new) (F.read_faults files.new) (F.write_faults files.new))
+        verdict.status verdict.line) }
+    ensures held { F.held files.new ≡ F.held files.old }
+{
+    let answer = audit(alloc, request, files);
+    verdict_of(alloc, &answer)
+}
+
+impl Auditor for Engine {
+    ghost says = { λ _ limits was is program input said line. Says limits was is program input said line };
+
+    fn audit<'a, F: Files>(
+        &self,
+        alloc: Global,
+        files: &mut F,
+        limits: Limits,
+        program: &'a str,
+        input: Option<&'a str>,
+    ) -> Result<Verdict, NoMemory> {
+        let request = AuditRequest {
+            file: program,
+            input,
+            steps: limits.steps,
+            is_tight: limits.is_tight,
+            cert: None,
+            args: Vec::new(alloc),
+        };
+        audited(alloc, &request, files)
+    }
+}
+
+impl Explainer for Engine {
+    ghost explains = { λ _ was is request said text. Explained was is request said text };
+
+    fn explain<F: Files>(
+        &self,
+        alloc: Global,
+        files: &mut F,
+        request: &ExplainRequest<'_>,
+    ) -> Result<Page, NoMemory> {
+        explained(alloc, request, files)
+    }
+}

@@ -1,0 +1,172 @@
+// The report of an audit, and why.
+ghost use Rattle.std.specs.Prelude.{◌≡◌, ◌≤◌, ◌^◌, true, false, None, length, IfOk, option_copied};
+ghost use Rattle.audit_batch.specs.Moment.{moment};
+ghost use Rattle.audit_top.specs.Cause.{stopped};
+ghost use Rattle.audit_top.specs.Report.{report, status};
+ghost use Rattle.audit_engine.specs.Engine.{Explained, Explains, IsJudgedPage, IsPage, IsPageOf, is_untold};
+
+use addr_map::Mode;
+use audit_sources::{FetchFault, Sources, fetch_sources};
+use audit_top::{Answer, judged, stopped};
+use command::ExplainRequest;
+use explain_report::{Asked, explanation, explanation_json};
+use person_top::Page;
+use std::alloc::Global;
+use ub_base::{Bytes, Files, NoMemory};
+
+fn mode_of(is_tight: bool) -> Mode {
+    if is_tight { Mode::Tight } else { Mode::Spaced }
+}
+
+// The report of an answer, a blank line and why it is so.
+fn with_reasons(alloc: Global, asked: &Asked<'_>) -> Result<Bytes, NoMemory>
+    requires text { length asked.now.text.now ≤ 2 ^ 20 }
+    requires steps { asked.now.steps ≤ 100000000 }
+    ensures { IfOk result (Explains false asked.now.report.now) }
+{
+    let reasons = explanation(alloc, asked)?;
+    let mut text = Bytes::from_slice(alloc, asked.report)?;
+    text.append(b"\n")?;
+    text.append(reasons.as_slice())?;
+    Ok(text)
+}
+
+// The same as one JSON object.
+fn as_json(alloc: Global, asked: &Asked<'_>) -> Result<Bytes, NoMemory>
+    requires text { length asked.now.text.now ≤ 2 ^ 20 }
+    requires steps { asked.now.steps ≤ 100000000 }
+    ensures { IfOk result (Explains true asked.now.report.now) }
+{
+    let mut text = explanation_json(alloc, asked)?;
+    text.append(b"\n")?;
+    Ok(text)
+}
+
+// The explanation, in words or as an object.
+fn explained_as(alloc: Global, is_json: bool, asked: &Asked<'_>) -> Result<Bytes, NoMemory>
+    requires text { length asked.now.text.now ≤ 2 ^ 20 }
+    requires steps { asked.now.steps ≤ 100000000 }
+    ensures { IfOk result (Explains is_json asked.now.report.now) }
+{
+    if is_json {
+        as_json(alloc, asked)
+    } else {
+        with_reasons(alloc, asked)
+    }
+}
+
+// What is asked of the explanation of a run.
+fn asked<'a>(
+    request: &'a ExplainRequest<'_>,
+    sources: &'a Sources,
+    report: &'a [u8],
+    status: u8,
+) -> Asked<'a>
+    ensures text { result.text.now ≡ sources.now.text }
+    ensures steps { result.steps ≡ request.now.audit.steps }
+    ensures report { result.report.now ≡ report.now }
+{
+    Asked {
+        text: sources.text.as_slice(),
+        file: request.audit.file.as_bytes(),
+        input: sources.input.as_slice(),
+        args: &request.audit.args,
+        mode: mode_of(request.audit.is_tight),
+        steps: request.audit.steps,
+        report,
+        status,
+    }
+}
+
+// Nothing is said of a text.
+fn is_untold(status: u8) -> bool
+    ensures { result ≡ is_untold status }
+{
+    status == 14 || status == 20 || status == 21 || status == 30
+}
+
+// The text that is put for an answer about these sources.
+fn page_text(
+    alloc: Global,
+    request: &ExplainRequest<'_>,
+    sources: &Sources,
+    report: Bytes,
+    status: u8,
+) -> Result<Bytes, NoMemory>
+    requires text { length sources.now.text ≤ 2 ^ 20 }
+    requires steps { request.now.audit.steps ≤ 100000000 }
+    ensures { IfOk result (λ text. IsPage request.now.is_json report text (is_untold status)) }
+{
+    if is_untold(status) {
+        return Ok(report);
+    }
+    let asked = asked(request, sources, report.as_slice(), status);
+    explained_as(alloc, request.is_json, &asked)
+}
+
+// The page of an answer about these sources.
+fn page_of(
+    alloc: Global,
+    request: &ExplainRequest<'_>,
+    sources: &Sources,
+    answer: &Answer,
+) -> Result<Page, NoMemory>
+    requires text { length sources.now.text ≤ 2 ^ 20 }
+    requires steps { request.now.audit.steps ≤ 100000000 }
+    ensures { IfOk result (λ page. IsPageOf request.now.is_json answer.now page.status page.text) }
+{
+    let status = answer.status();
+    let report = answer.report(alloc)?;
+    Ok(Page {
+        status,
+        text: page_text(alloc, request, sources, report, status)?,
+    })
+}
+
+// The page of the answer to a text.
+fn judged_page<F: Files>(
+    alloc: Global,
+    request: &ExplainRequest<'_>,
+    sources: &Sources,
+    files: &mut F,
+) -> Result<Page, NoMemory>
+    requires text { length sources.now.text ≤ 2 ^ 20 }
+    requires steps { request.now.audit.steps ≤ 100000000 }
+    requires cert { option_copied request.now.audit.cert ≡ None }
+    ensures page { IfOk result (λ page. IsJudgedPage request.now (F.write_faults files.old) (F.write_faults files.new) sources.now.text page.status page.text) }
+    ensures held { F.held files.new ≡ F.held files.old }
+{
+    let answer = judged(alloc, &request.audit, sources, files);
+    page_of(alloc, request, sources, &answer)
+}
+
+// The page where a file isn't fetched: the report alone.
+fn stopped_page(alloc: Global, fault: FetchFault) -> Result<Page, NoMemory>
+    ensures status { IfOk result (λ page. page.status ≡ status (stopped fault)) }
+    ensures page { IfOk result (λ page. page.text ≡ report (stopped fault)) }
+{
+    let answer = stopped(fault);
+    Ok(Page {
+        status: answer.status(),
+        text: answer.report(alloc)?,
+    })
+}
+
+/// The page of a request.
+pub fn explained<F: Files>(
+    alloc: Global,
+    request: &ExplainRequest<'_>,
+    files: &mut F,
+) -> Result<Page, NoMemory>
+    requires steps { request.now.audit.steps ≤ 100000000 }
+    requires cert { option_copied request.now.audit.cert ≡ None }
+    ensures page { IfOk result (λ page. Explained
+        (moment (F.held files.old) (F.read_faults files.old) (F.write_faults files.old)) (moment (F.held files.new) (F.read_faults files.new) (F.write_faults files.new))
+        request.now page.status page.text) }
+    ensures held { F.held files.new ≡ F.held files.old }
+{
+    match fetch_sources(alloc, request.audit.file, request.audit.input, files) {
+        Ok(sources) => judged_page(alloc, request, &sources, files),
+        Err(fault) => stopped_page(alloc, fault),
+    }
+}

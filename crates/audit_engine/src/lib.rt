@@ -1,0 +1,7 @@
+//! What audits and explains for the commands for a person.
+#![tactic(auto)]
+
+mod engine;
+mod explain;
+
+pub use engine::Engine;

@@ -1,0 +1,48 @@
+-- What words ask for by a command for a person (own).
+use Rattle.std.specs.Prelude.{◌≡◌, ◌⊎◌, ℕ, List, [], map, string_bytes, codes, None, unwrap_or, option_copied}
+use Rattle.clap.specs.Faults.{fault_of}
+use Rattle.clap.specs.Simple.{matches_of, subcommand_of}
+use Rattle.clap.specs.Walk.{Row, first_of, one_of}
+use Rattle.command.specs.Asked.{Spells, args_given, is_set, text_given, texts_given}
+use Rattle.command.specs.PersonApp.{person_app}
+use Rattle.command.specs.declared.person_request.BatchRequest.{BatchRequest}
+use Rattle.command.specs.declared.person_request.ExplainRequest.{ExplainRequest}
+use Rattle.command.specs.declared.person_request.PersonRequest.{PersonRequest}
+use Rattle.command.specs.declared.person_request.PersonRequest.TheVariants.{Explain, Batch, Help, Version}
+
+-- the command takes the words: no fault is found in them
+unfoldable pub IsPersonTaken : List (List ℕ) → Type 0
+IsPersonTaken words = fault_of person_app words ≡ []
+
+-- the names of the subcommands
+abbrev pub IsPersonName : List ℕ → Type 0
+IsPersonName name = (name ≡ codes "explain") ⊎ ((name ≡ codes "batch") ⊎ ((name ≡ codes "help") ⊎ (name ≡ codes "version")))
+
+-- the name of the subcommand that the words name, and what it was given; words that are taken name one
+abbrev pub person_named : List (List ℕ) → List ℕ × List Row
+person_named words = unwrap_or (subcommand_of person_app words) ([], matches_of person_app words)
+
+-- an audit without a certificate
+pub record IsExplain (rows : List Row) (request : ExplainRequest) : Type 0 where
+  pub file : request.audit.file.now ≡ text_given (codes "FILE") rows
+  pub input : option_copied request.audit.input ≡ first_of (codes "input") rows
+  pub steps : Spells 1 100000000 (one_of (codes "steps") rows) request.audit.steps
+  pub tight : request.audit.is_tight ≡ is_set (first_of (codes "tight") rows)
+  pub cert : option_copied request.audit.cert ≡ None
+  pub args : map string_bytes request.audit.args.items ≡ args_given rows
+  pub json : request.is_json ≡ is_set (first_of (codes "json") rows)
+  pub text : request.is_text ≡ is_set (first_of (codes "text") rows)
+
+pub record IsBatch (rows : List Row) (request : BatchRequest) : Type 0 where
+  pub names : map string_bytes request.names.items ≡ texts_given (codes "NAME") rows
+  pub program : option_copied request.program ≡ first_of (codes "program") rows
+  pub list : request.is_list ≡ is_set (first_of (codes "list") rows)
+  pub steps : Spells 1 100000000 (one_of (codes "steps") rows) request.steps
+  pub tight : request.is_tight ≡ is_set (first_of (codes "tight") rows)
+
+-- the request is that of this subcommand, with what it was given
+abbrev pub IsPersonRequest : List ℕ × List Row → PersonRequest → Type 0
+IsPersonRequest found (Explain request) = (found.0 ≡ codes "explain") × IsExplain found.1 request
+IsPersonRequest found (Batch request) = (found.0 ≡ codes "batch") × IsBatch found.1 request
+IsPersonRequest found (Help topic) = (found.0 ≡ codes "help") × (option_copied topic ≡ first_of (codes "COMMAND") found.1)
+IsPersonRequest found Version = found.0 ≡ codes "version"

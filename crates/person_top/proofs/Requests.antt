@@ -1,0 +1,24 @@
+-- What words ask for keeps its bounds.
+use Rattle.std.proofs.Common.{ℕ, ◌≤◌, List, codes, Option, Some, None, Result, Ok, Err, IfOk, arith}
+use Rattle.clap.specs.Walk.{Row, one_of}
+use Rattle.command.specs.Asked.{Spells}
+use Rattle.command.specs.PersonAsked.{IsPersonRequest}
+use Rattle.command.specs.declared.person_request.PersonRequest.{PersonRequest}
+use Rattle.command.specs.declared.person_request.PersonRequest.TheVariants.{Explain, Batch, Help, Version}
+use Rattle.person_top.specs.Person.{IsBounded}
+
+-- a spelled number is at most the greatest
+spells_below : (least most : ℕ) (text : Option (List ℕ)) (number : ℕ) → least ≤ most → Spells least most text number → number ≤ most
+spells_below least most None number below is = omega arith
+spells_below least most (Some text) number below h = let is = h.2 in omega arith
+
+bounded : (found : List ℕ × List Row) (request : PersonRequest) → IsPersonRequest found request → IsBounded request
+bounded found (Explain request) is = (spells_below 1 100000000 (one_of (codes "steps") found.1) request.audit.steps (omega arith) is.1.steps, is.1.cert)
+bounded found (Batch request) is = spells_below 1 100000000 (one_of (codes "steps") found.1) request.steps (omega arith) is.1.steps
+bounded found (Help topic) is = tt
+bounded found Version is = tt
+
+-- what is read of the words keeps its bounds
+pub read_bounded : {E : Type 0} (found : List ℕ × List Row) (read : Result PersonRequest E) → IfOk read (IsPersonRequest found) → IfOk read IsBounded
+read_bounded found (Ok request) is = bounded found request is
+read_bounded found (Err e) is = is

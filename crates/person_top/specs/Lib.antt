@@ -1,0 +1,4 @@
+pub mod Batch
+pub mod Ends
+pub mod Help
+pub mod Person

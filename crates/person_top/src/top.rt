@@ -1,0 +1,85 @@
+// The top call of the commands for a person.
+ghost use Rattle.std.specs.Prelude.{◌↔◌, IsTrue, map, string_bytes, option_copied};
+ghost use Rattle.command.specs.PersonAsked.{IsPersonName};
+ghost use Rattle.audit_batch.specs.Moment.{moment};
+ghost use Rattle.person_top.specs.Ends.{EndsTold};
+ghost use Rattle.person_top.specs.Person.{IsForPerson, PersonEnds, RequestEnds, IsBounded, IsVersion};
+ghost use Rattle.person_top.specs.Help.{IsHelp};
+
+use crate::batch::batch;
+use crate::explain::{Explainer, explain};
+use crate::help::help;
+use crate::put::{put_no_memory, put_text};
+use crate::words::asked;
+use audit_batch::Auditor;
+use command::{PersonRequest, WordFault};
+use command_help::version;
+use std::alloc::Global;
+use ub_base::{Files, Sink};
+
+const USAGE: u8 = 10;
+
+// A word names a command for a person.
+fn is_name(word: &str) -> bool
+    ensures { IsTrue result ↔ IsPersonName word.now }
+{
+    word == "explain" || word == "batch" || word == "help" || word == "version"
+}
+
+/// Whether words are for these commands: the first one names one of them.
+pub fn is_for_person(words: &[String]) -> bool
+    ensures { IsTrue result ↔ IsForPerson (map string_bytes words.now) }
+{
+    match words.first() {
+        Some(word) => is_name(word.as_str()),
+        None => false,
+    }
+}
+
+// Puts help on this command, or on all.
+fn put_help<O: Sink>(topic: Option<&str>, out: &mut O) -> u8
+    ensures { EndsTold (IsHelp (option_copied topic.entry)) (O.told out.old) (O.told out.new) (O.faults out.old) (O.faults out.new) result }
+{
+    let (status, text) = help(topic);
+    put_text(out, text.as_bytes(), status)
+}
+
+// Does what is asked for.
+fn answer_to<A: Auditor + Explainer, F: Files, O: Sink>(
+    alloc: Global,
+    request: &PersonRequest<'_>,
+    engine: &A,
+    files: &mut F,
+    out: &mut O,
+) -> u8
+    requires { IsBounded request.now }
+    ensures { RequestEnds (A.says engine.now) (A.explains engine.now)
+        (moment (F.held files.old) (F.read_faults files.old) (F.write_faults files.old)) (moment (F.held files.new) (F.read_faults files.new) (F.write_faults files.new))
+        (O.told out.old) (O.told out.new) (O.faults out.old) (O.faults out.new) result request.now }
+{
+    match request {
+        PersonRequest::Explain(request) => explain(alloc, request, engine, files, out),
+        PersonRequest::Batch(request) => batch(alloc, request, engine, files, out),
+        PersonRequest::Help(topic) => put_help(*topic, out),
+        PersonRequest::Version => put_text(out, version().as_bytes(), 0),
+    }
+}
+
+/// Does what the words ask for by a command for a person, and gives the status.
+pub fn person_main<A: Auditor + Explainer, F: Files, O: Sink>(
+    alloc: Global,
+    words: &[String],
+    engine: &A,
+    files: &mut F,
+    out: &mut O,
+) -> u8
+    ensures { PersonEnds (A.says engine.now) (A.explains engine.now) (map string_bytes words.now)
+        (moment (F.held files.old) (F.read_faults files.old) (F.write_faults files.old)) (moment (F.held files.new) (F.read_faults files.new) (F.write_faults files.new))
+        (O.told out.old) (O.told out.new) (O.faults out.old) (O.faults out.new) result }
+{
+    match asked(alloc, words) {
+        Ok(request) => answer_to(alloc, &request, engine, files, out),
+        Err(WordFault::Usage) => put_text(out, b"usage\n", USAGE),
+        Err(WordFault::NoMemory) => put_no_memory(out),
+    }
+}
