@@ -1,5 +1,5 @@
 -- Statements and work as the model sees them: a full expression by its number, and the objects of a block by its number.
-use Rattle.std.specs.Prelude.{◌≡◌, ℕ, ℤ, Bool, List, [], ◌∷◌, Option, Some, None, map}
+use Rattle.std.specs.Prelude.{◌≡◌, ℕ, ℤ, Bool, true, false, List, [], ◌∷◌, Option, Some, None, map}
 use Rattle.c_model.specs.Program as model
 use Rattle.c_model.specs.Program.{Expr, Decl, Stmt, Stmts, end, and_then}
 use Rattle.c_model.specs.Control as todo
@@ -51,6 +51,19 @@ pub record Meaning : Type 0 where
   pub root : ℕ → Expr
   pub decls : ℕ → List Decl
   pub body : ℕ → Stmt
+
+abbrev pub is_nothing : Todo → Bool
+is_nothing [] = true
+is_nothing (w ∷ ws) = false
+
+-- of work that is made ready: it is that of the rest, or has a step
+abbrev pub Ends : Bool → (ready rest : Todo) → Type 0
+Ends true ready rest = ready ≡ ready_work rest
+Ends false ready rest = is_nothing ready ≡ false
+
+abbrev pub is_nil : {A : Type 0} → List A → Bool
+is_nil [] = true
+is_nil (x ∷ xs) = false
 
 module _ (m : Meaning) where
   abbrev pub statement_step : Statement-F Stmt Tested Inner Rounds Selects → Stmt
@@ -142,6 +155,10 @@ module _ (m : Meaning) where
   abbrev pub ReadyFrom : Work → Option Step → (before after : List Work) → Type 0
   ReadyFrom w None before after = ready_work (todo_of (w ∷ before)) ≡ ready_work (todo_of after)
   ReadyFrom w (Some s) before after = step_of s ∷ todo_of after ≡ ready_work (todo_of (w ∷ before))
+
+  -- the end of a block or of a `switch` is passed over; other work begins with a step
+  abbrev pub IsEnd : Work → Bool → List Work → Type 0
+  IsEnd w ends rest = Ends ends (ready_work (todo_of (w ∷ rest))) (todo_of rest)
 
   -- what is left to do after the full expression; of a `switch` nothing is said here
   abbrev pub after : Bool → ℤ → Use → Todo → Todo

@@ -1,15 +1,16 @@
 //! What is left to do in all frames, and how each control step changes it.
 
-ghost use Rattle.std.specs.Prelude.{◌≡◌, [], ◌∷◌, ◌++◌, ◌≤◌, ℤ, length, take, drop, reverse, IfOk, OnOk, IsNone, Some};
+ghost use Rattle.std.specs.Prelude.{◌≡◌, [], ◌∷◌, ℤ, true, IfOk, OnOk, IsNone, Some};
 ghost use Rattle.c_model.specs.Control.{Break_here, ready_work, gone_to, moved_in};
 ghost use Rattle.run_control.specs.declared.work.Work.TheVariants as work;
-ghost use Rattle.run_control.specs.View.{Meaning, todo_of, readied, after};
+ghost use Rattle.run_control.specs.Stacked.{Closes, innermost};
+ghost use Rattle.run_control.specs.View.{Meaning, todo_of, readied, after, is_nothing};
 ghost use Rattle.run_control.specs.Moves.{moved};
 ghost use Rattle.run_control.specs.Links.{work_from, work_at};
 
 use crate::jumps::{Room, go_in, go_to};
 use crate::moves::go;
-use crate::{Link, Move, Place, Stack, Statement, Step, Use, Work};
+use crate::{Block, Link, Move, Place, Stack, Statement, Step, Use, Work};
 use std::alloc::Global;
 use std::marker::Model;
 use ub_base::NoMemory;
@@ -45,36 +46,47 @@ impl<'p> Control<'p> {
         }
     }
 
-    /// Starts a frame for a body; gives where the frame below begins.
-    pub fn start(&mut self, body: &'p Statement) -> Result<usize, NoMemory>
-        ensures below { OnOk result (self.new.below ≡ self.old.below ++ reverse self.old.now) }
+    /// Starts a frame for a body.
+    pub fn start(&mut self, body: &'p Statement) -> Result<(), NoMemory>
+        ensures below { OnOk result (self.new.below ≡ self.old.now ∷ self.old.below) }
         ensures now { OnOk result (self.new.now ≡ work.ToDo body.entry ∷ []) }
-        ensures base { IfOk result (λ base. base ≡ length self.old.below) }
     {
-        let base = self.stack.open();
-        self.stack.push(Work::ToDo(body))?;
-        Ok(base)
+        self.stack.open()?;
+        self.stack.push(Work::ToDo(body))
     }
 
     /// Starts a frame for an isolated initializer, by the number of its full expression.
-    pub fn start_initializer(&mut self, root: u32) -> Result<usize, NoMemory>
-        ensures below { OnOk result (self.new.below ≡ self.old.below ++ reverse self.old.now) }
+    pub fn start_initializer(&mut self, root: u32) -> Result<(), NoMemory>
+        ensures below { OnOk result (self.new.below ≡ self.old.now ∷ self.old.below) }
         ensures now { OnOk result (self.new.now ≡ work.Begin root ∷ []) }
-        ensures base { IfOk result (λ base. base ≡ length self.old.below) }
     {
-        let base = self.stack.open();
-        self.stack.push(Work::Begin(root))?;
-        Ok(base)
+        self.stack.open()?;
+        self.stack.push(Work::Begin(root))
     }
 
-    /// Ends a frame that has nothing left to do: the one that begins here goes on.
-    pub fn finish(&mut self, base: usize)
+    /// Ends a frame that has nothing left to do: the one below it goes on, if there is one, which the result tells.
+    pub fn finish(&mut self) -> bool
         requires empty { self.old.now ≡ [] }
-        requires within { base ≤ length self.old.below }
-        ensures below { self.new.below ≡ take base self.old.below }
-        ensures now { self.new.now ≡ reverse (drop base self.old.below) }
+        ensures { Closes self.old.below result self.new }
     {
-        self.stack.close(base);
+        self.stack.close()
+    }
+
+    /// Whether nothing is left to do in the top frame. Ends of blocks and of `switch` statements that come first are taken off.
+    pub fn is_over(&mut self) -> Result<bool, NoMemory>
+        ensures below { OnOk result (self.new.below ≡ self.old.below) }
+        ensures now { OnOk result ((m : Meaning) → ready_work (todo_of m self.new.now) ≡ ready_work (todo_of m self.old.now)) }
+        ensures over { IfOk result (λ over. (m : Meaning) → over ≡ is_nothing (ready_work (todo_of m self.old.now))) }
+        ensures empty { IfOk result (λ over. over ≡ true → self.new.now ≡ []) }
+    {
+        self.stack.is_over()
+    }
+
+    /// The innermost block that the top frame is to leave.
+    pub fn block(&self) -> Option<&'p Block>
+        ensures { result ≡ innermost self.now.now }
+    {
+        self.stack.block()
     }
 
     /// The next control step, which is taken off; none where the frame has nothing left to do.

@@ -1,8 +1,9 @@
 //! The next control step.
 
-ghost use Rattle.std.specs.Prelude.{◌≡◌, [], ◌∷◌, IfOk, OnOk, IsNone};
+ghost use Rattle.std.specs.Prelude.{◌≡◌, [], ◌∷◌, List, true, IfOk, OnOk, IsNone};
+ghost use Rattle.run_control.specs.declared.work.Work.{Work as WorkOf};
 ghost use Rattle.c_model.specs.Control.{opened, tested, ready_work};
-ghost use Rattle.run_control.specs.View.{Meaning, stmt_of, todo_of, step_of, readied, round_of, ReadyFrom};
+ghost use Rattle.run_control.specs.View.{Meaning, stmt_of, todo_of, step_of, readied, round_of, ReadyFrom, is_nothing, is_nil, IsEnd};
 
 use crate::{Round, Stack, Statement, Step, Use, Work};
 use ub_base::NoMemory;
@@ -20,6 +21,22 @@ impl<'p> Stack<'p> {
             }
         }
         Ok(None)
+    }
+
+    /// Whether nothing is left to do. Ends of blocks and of `switch` statements that come first are taken off.
+    pub fn is_over(&mut self) -> Result<bool, NoMemory>
+        ensures below { OnOk result (self.new.below ≡ self.old.below) }
+        ensures now { OnOk result ((m : Meaning) → ready_work (todo_of m self.new.now) ≡ ready_work (todo_of m self.old.now)) }
+        ensures over { IfOk result (λ over. (m : Meaning) → over ≡ is_nothing (ready_work (todo_of m self.old.now))) }
+        ensures empty { IfOk result (λ over. over ≡ true → self.new.now ≡ []) }
+    {
+        while let Some(work) = self.pop() {
+            if !is_end(work) {
+                self.push(work)?;
+                return Ok(false);
+            }
+        }
+        Ok(true)
     }
 
     // The step that a piece of work begins with; none where it has none.
@@ -119,5 +136,32 @@ impl<'p> Stack<'p> {
             }
             None => self.test(round),
         }
+    }
+}
+
+// Whether the work is no step: the end of a block, or of a `switch`.
+#[tactic(auto, using(crate::proofs::Searches::opened_some, crate::proofs::Searches::tested_some))]
+fn is_end<'p>(work: Work<'p>) -> bool
+    ensures { (m : Meaning) (rest : List WorkOf) → IsEnd m work.entry result rest }
+{
+    match work {
+        Work::Rest(statements) => is_empty(statements),
+        Work::BreakHere => true,
+        Work::ToDo(_)
+        | Work::Begin(_)
+        | Work::Leave(_)
+        | Work::Enter(_)
+        | Work::Round(_)
+        | Work::Again(_)
+        | Work::Test(_) => false,
+    }
+}
+
+fn is_empty(statements: &[Statement]) -> bool
+    ensures { result ≡ is_nil statements.now }
+{
+    match statements {
+        [] => true,
+        [_, ..] => false,
     }
 }

@@ -1,8 +1,10 @@
 //! The stack of work, which all frames share.
 
-ghost use Rattle.std.specs.Prelude.{◌≡◌, [], ◌∷◌, ◌++◌, ◌≤◌, length, take, drop, reverse, MatchOption, OnOk};
+ghost use Rattle.std.specs.Prelude.{◌≡◌, [], ◌∷◌, List, reverse, MatchOption, OnOk};
+ghost use Rattle.run_control.specs.declared.work.Work.{Work as WorkOf};
+ghost use Rattle.run_control.specs.Stacked.{Closes, innermost, or_else};
 
-use crate::Work;
+use crate::{Block, Work};
 use std::alloc::Global;
 use std::marker::Model;
 use ub_base::NoMemory;
@@ -11,12 +13,14 @@ use ub_base::NoMemory;
 #[derive(Drop)]
 pub struct Stack<'p> {
     items: Vec<Work<'p>>,
+    // Where the top frame begins, and the frames below it, the oldest first.
     base: usize,
+    bases: Vec<usize>,
 }
 
 impl<'p> Model for Stack<'p> {
     ghost use Rattle.std.specs.Prelude.{◌≤◌, length, take, drop, reverse};
-    ghost use Rattle.run_control.specs.Stacked.{Stacked};
+    ghost use Rattle.run_control.specs.Stacked.{Stacked, cut, Rise};
     ghost use Rattle.run_control.specs.contracts.statement.Statement as statement;
     ghost use Rattle.std.specs.Coded.{codes};
 
@@ -24,9 +28,9 @@ impl<'p> Model for Stack<'p> {
 
     ghost coded = { Prim.hlevel (codes, statement.the_row.coded) };
 
-    ghost view = { λ s. record { below = take s.base s.items.items; now = reverse (drop s.base s.items.items) } };
+    ghost view = { λ s. record { below = cut (take s.base s.items.items) (reverse s.bases.items); now = reverse (drop s.base s.items.items) } };
 
-    ghost invariant = { λ s. s.base ≤ length s.items.items };
+    ghost invariant = { λ s. (s.base ≤ length s.items.items) × Rise (reverse s.bases.items) s.base };
 }
 
 impl<'p> Stack<'p> {
@@ -36,6 +40,7 @@ impl<'p> Stack<'p> {
         Stack {
             items: Vec::new(alloc),
             base: 0,
+            bases: Vec::new(alloc),
         }
     }
 
@@ -59,24 +64,68 @@ impl<'p> Stack<'p> {
         }
     }
 
-    /// Starts a frame, which has nothing to do yet; gives where the one below it begins.
-    pub fn open(&mut self) -> usize
-        ensures below { self.new.below ≡ self.old.below ++ reverse self.old.now }
-        ensures now { self.new.now ≡ [] }
-        ensures base { result ≡ length self.old.below }
+    /// The innermost block that the top frame is to leave.
+    pub fn block(&self) -> Option<&'p Block>
+        ensures { result ≡ innermost self.now.now }
     {
-        let below = self.base;
-        self.base = self.items.len();
-        below
+        innermost_of(&self.items[self.base..])
     }
 
-    /// Ends a frame that has nothing left to do: the one that begins here goes on.
-    pub fn close(&mut self, base: usize)
-        requires empty { self.old.now ≡ [] }
-        requires within { base ≤ length self.old.below }
-        ensures below { self.new.below ≡ take base self.old.below }
-        ensures now { self.new.now ≡ reverse (drop base self.old.below) }
+    /// Starts a frame, which has nothing to do yet.
+    pub fn open(&mut self) -> Result<(), NoMemory>
+        ensures below { OnOk result (self.new.below ≡ self.old.now ∷ self.old.below) }
+        ensures now { OnOk result (self.new.now ≡ []) }
     {
-        self.base = base;
+        self.bases.push(self.base)?;
+        self.base = self.items.len();
+        Ok(())
+    }
+
+    /// Ends a frame that has nothing left to do: the one below it goes on, if there is one, which the result tells.
+    pub fn close(&mut self) -> bool
+        requires empty { self.old.now ≡ [] }
+        ensures { Closes self.old.below result self.new }
+    {
+        match self.bases.pop() {
+            Some(base) => {
+                self.base = base;
+                true
+            }
+            None => false,
+        }
+    }
+}
+
+// The innermost block that this work leaves, the first piece last.
+fn innermost_of<'p>(works: &[Work<'p>]) -> Option<&'p Block>
+    ensures { result ≡ innermost (reverse works.now) }
+{
+    let mut at = works.len();
+    while at > 0 {
+        at -= 1;
+        let Some(work) = works.get(at) else {
+            return None;
+        };
+        if let Some(block) = left_by(*work) {
+            return Some(block);
+        }
+    }
+    None
+}
+
+// The block that the work leaves.
+fn left_by<'p>(work: Work<'p>) -> Option<&'p Block>
+    ensures { (rest : List WorkOf) → innermost (work.entry ∷ rest) ≡ or_else result (innermost rest) }
+{
+    match work {
+        Work::Leave(block) => Some(block),
+        Work::Enter(_)
+        | Work::ToDo(_)
+        | Work::Rest(_)
+        | Work::Round(_)
+        | Work::Again(_)
+        | Work::Test(_)
+        | Work::BreakHere
+        | Work::Begin(_) => None,
     }
 }
