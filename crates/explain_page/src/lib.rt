@@ -1,0 +1,14 @@
+//! The parts of an explanation as text: places, lines of source with carets, notes, types.
+#![tactic(auto)]
+
+mod carets;
+mod kinds;
+mod notes;
+mod page;
+mod shown;
+
+pub use carets::{Mark, put_marks};
+pub use kinds::put_type;
+pub use notes::{put_long_note, put_note};
+pub use page::{Page, Stretch, empty};
+pub use shown::{put_excerpt, put_number};
