@@ -3,14 +3,16 @@
 use c_typed::{Program, Typed};
 use explain_page::Page;
 use explain_places::{Extent, extent_of};
-use explain_run::{Witness, node_at, root_with};
+use explain_run::{Moment, Opened, Outcome, Sought, Trail, node_at, root_with};
 use footprint_run::{Audit, Finding};
+use addr_map::AddrMap;
 use ub_base::{Clause, Event, Item};
 
-/// An evaluation of a finding: its event, its node with the tokens of that, and what it touches.
+/// An evaluation of a finding: its event, the full expression and the node of it with the tokens of that, and what it touches.
 #[derive(Clone, Copy)]
 pub struct Act<'p> {
     pub event: Event,
+    pub root: &'p Typed,
     pub tree: &'p Typed,
     pub extent: Extent,
     pub item: Option<Item>,
@@ -23,9 +25,18 @@ pub struct Case<'c, 'a> {
     pub program: &'c Program,
     pub roots: &'c [&'c Typed],
     pub audit: &'c Audit,
-    pub witness: &'c Witness,
+    /// Before the last pick.
+    pub moment: &'c Moment,
+    /// What was done to the object that is touched.
+    pub trail: &'c Trail,
+    /// What was done to the object that the pointer there points to.
+    pub target: &'c Trail,
     pub first: Option<Act<'c>>,
     pub second: Option<Act<'c>>,
+    /// The call of the program that led into a header of the library, where the finding stands in one.
+    pub call: Option<Act<'c>>,
+    /// How the run ends where the calls are made in the order of the text, and in the other one.
+    pub both: Option<(&'c Outcome, &'c Outcome)>,
 }
 
 /// Two events, their lines, and their items, where there are two; the first one alone, where it broke a clause by itself.
@@ -110,6 +121,7 @@ fn act_of<'p>(
     let tree = node_at(root, event.node)?;
     Some(Act {
         event,
+        root,
         tree,
         extent: extent_of(page.tokens, tree),
         item,
@@ -143,4 +155,46 @@ pub fn second_act<'p>(
         None => None,
     };
     act_of(page, roots, event, line, item)
+}
+
+fn range_of(item: Item) -> Option<Sought> {
+    match item {
+        Item::Read { object, from, len } | Item::Write { object, from, len } => Some(Sought {
+            object,
+            from,
+            len,
+        }),
+        Item::Born(object) | Item::Dies(object) | Item::Alive(object) => Some(Sought {
+            object,
+            from: 0,
+            len: 1,
+        }),
+        _ => None,
+    }
+}
+
+/// The bytes that two events share, or those that one accesses as it breaks a clause.
+pub fn sought_of(events: Option<Events>, moment: &Moment, map: &AddrMap) -> Option<Sought> {
+    match events?.items {
+        Some((item, _)) => range_of(item),
+        None => accessed(moment, map),
+    }
+}
+
+fn accessed(moment: &Moment, map: &AddrMap) -> Option<Sought> {
+    let aim = moment.place?;
+    let row = map.row(aim.object?)?;
+    Some(Sought {
+        object: row.name,
+        from: aim.addr.saturating_sub(row.base),
+        len: 1,
+    })
+}
+
+/// The innermost full expression that is open at the end of a run.
+pub fn last_open(moment: &Moment) -> Option<Opened> {
+    match moment.open.as_slice().last() {
+        Some(opened) => Some(*opened),
+        None => None,
+    }
 }

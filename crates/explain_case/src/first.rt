@@ -1,33 +1,67 @@
 // The explanation of a case.
 
-use crate::case::{Case, clause_of, verdict_of};
+use crate::calls::end_of;
+use crate::case::{Case, verdict_of};
 use crate::heads::put_head;
-use crate::marks::put_events;
+use crate::marks::{put_events, shown_first};
 use crate::notes::put_notes;
+use footprint_run::Finding;
 use std::alloc::Global;
-use ub_base::{Bytes, NoMemory};
+use ub_base::{Bytes, Cause, NoMemory};
+
+/// The token at which a case is told: the first one of the evaluation that is shown first, or where the run stands at its
+/// end.
+pub fn told_at(case: &Case<'_, '_>) -> Option<u32> {
+    if let Some(first) = shown_first(case) {
+        return Some(first.extent.first);
+    }
+    match case.audit.finding {
+        Finding::OutOfSteps { .. } | Finding::Outside { .. } => {
+            let (_, at) = end_of(case)?;
+            Some(at)
+        }
+        _ => None,
+    }
+}
 
 fn put_place(out: &mut Bytes, case: &Case<'_, '_>) -> Result<(), NoMemory> {
-    match &case.first {
-        Some(first) => {
-            case.page.put_token_place(out, first.extent.first)?;
+    match told_at(case) {
+        Some(at) => {
+            case.page.put_token_place(out, at)?;
             out.append(b": ")
         }
         None => Ok(()),
     }
 }
 
-fn put_paragraph(out: &mut Bytes, case: &Case<'_, '_>) -> Result<(), NoMemory> {
-    if case.first.is_none() {
-        return Ok(());
+fn cause_name(cause: Cause) -> &'static str {
+    match cause {
+        Cause::Output => "output",
+        Cause::Created => "created",
+        Cause::Depth => "depth",
+        Cause::Conversion => "conversion",
+        Cause::Directive => "directive",
     }
-    let paragraph = match clause_of(&case.audit.finding) {
-        Some(clause) => clause.text(),
-        None => "6.5.2.2p10",
-    };
-    out.append(b" (")?;
-    out.append(paragraph.as_bytes())?;
-    out.push(b')')
+}
+
+fn paragraph_of(case: &Case<'_, '_>) -> Option<&'static str> {
+    match case.audit.finding {
+        Finding::Undefined { clause, .. } => Some(clause.text()),
+        Finding::OrderDependent { .. } => Some("6.5.2.2p10"),
+        Finding::Outside { cause, .. } => Some(cause_name(cause)),
+        _ => None,
+    }
+}
+
+fn put_paragraph(out: &mut Bytes, case: &Case<'_, '_>) -> Result<(), NoMemory> {
+    match paragraph_of(case) {
+        Some(paragraph) => {
+            out.append(b" (")?;
+            out.append(paragraph.as_bytes())?;
+            out.push(b')')
+        }
+        None => Ok(()),
+    }
 }
 
 fn put_first_line(out: &mut Bytes, case: &Case<'_, '_>) -> Result<(), NoMemory> {
@@ -39,7 +73,7 @@ fn put_first_line(out: &mut Bytes, case: &Case<'_, '_>) -> Result<(), NoMemory> 
     out.push(b'\n')
 }
 
-/// Adds the explanation of a case in words.
+/// Adds the explanation of a case in words: the first line, the lines of source, the notes.
 pub fn put_case(alloc: Global, out: &mut Bytes, case: &Case<'_, '_>) -> Result<(), NoMemory> {
     put_first_line(out, case)?;
     put_events(alloc, out, case)?;

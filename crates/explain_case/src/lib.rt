@@ -1,16 +1,25 @@
 //! A finding with the nodes of its events, and its explanation in words.
 #![tactic(auto)]
 
+mod calls;
 mod case;
 mod first;
 mod heads;
+mod hints;
 mod marks;
 mod notes;
 mod objects;
 mod page;
+mod text;
+mod values;
 
-pub use case::{Act, Case, Events, clause_of, events_of, first_act, picks_of, second_act};
-pub use first::put_case;
+pub use calls::{end_of, library_call, sites_of};
+pub use case::{
+    Act, Case, Events, clause_of, events_of, first_act, picks_of, second_act, sought_of,
+};
+pub use first::{put_case, told_at};
 pub use heads::{put_does, put_head};
-pub use notes::{Note, notes_of, put_function, sites_of};
-pub use objects::{naming, object_of, size_of, storage_of};
+pub use marks::{shown_first, shown_second};
+pub use notes::{Note, notes_of};
+pub use objects::{naming, size_of, storage_of, subject, type_of};
+pub use text::{put_function, token_at};

@@ -32,15 +32,31 @@ fn put_second(
     put_marks(out, case.page, first, Some(&mark))
 }
 
+/// The evaluation that is shown first: the call of the program, where a finding stands in the library.
+pub fn shown_first<'c>(case: &Case<'c, '_>) -> Option<Act<'c>> {
+    match case.call {
+        Some(call) => Some(call),
+        None => case.first,
+    }
+}
+
+/// The evaluation that is shown second.
+pub fn shown_second<'c>(case: &Case<'c, '_>) -> Option<Act<'c>> {
+    match case.call {
+        Some(_) => None,
+        None => case.second,
+    }
+}
+
 /// Adds the lines of source of the events of a case.
 pub fn put_events(alloc: Global, out: &mut Bytes, case: &Case<'_, '_>) -> Result<(), NoMemory> {
-    let Some(first) = &case.first else {
+    let Some(first) = shown_first(case) else {
         return Ok(());
     };
-    let does = does_of(alloc, case, first)?;
-    let mark = mark_of(case, first, 1, does.as_slice());
-    match &case.second {
-        Some(second) => put_second(alloc, out, case, &mark, second),
+    let does = does_of(alloc, case, &first)?;
+    let mark = mark_of(case, &first, 1, does.as_slice());
+    match shown_second(case) {
+        Some(second) => put_second(alloc, out, case, &mark, &second),
         None => put_marks(out, case.page, &mark, None),
     }
 }

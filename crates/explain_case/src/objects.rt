@@ -1,13 +1,13 @@
 // Objects by the names that the text gives them.
 
 use crate::case::{Act, Case};
-use crate::page::put_tokens;
+use crate::text::{put_function, put_tree, token_at};
 use addr_map::Row;
 use c_typed::{Node, Slot, Typed};
 use c_types::Ty;
 use explain_page::{Page, put_number, put_type};
-use explain_places::{declaration_of, extent_of, function_of, token_of};
-use explain_run::tree_at;
+use explain_places::{declaration_of, function_of, token_of};
+use explain_run::{Named, Touch, Trail};
 use ub_base::{Bytes, Item, NoMemory, ObjName};
 
 /// The object that an item names.
@@ -19,32 +19,44 @@ pub fn object_of(item: Option<Item>) -> Option<ObjName> {
     }
 }
 
-// The first node in the tree that names this static object.
-fn static_in(tree: &Typed, number: u32) -> Option<&Typed> {
-    if let Node::Obj(Slot::Static(found)) = &tree.node
-        && *found == number
+/// The object that a finding is about.
+pub fn subject(case: &Case<'_, '_>) -> Option<ObjName> {
+    let first = case.first?;
+    match first.item {
+        Some(item) => object_of(Some(item)),
+        None => case.moment.place?.object,
+    }
+}
+
+// The first node in the tree that names this slot.
+fn slot_in(tree: &Typed, slot: Slot) -> Option<&Typed> {
+    if let Node::Obj(found) = &tree.node
+        && *found == slot
     {
         return Some(tree);
     }
     for operand in tree.children.as_slice() {
-        if let Some(found) = static_in(operand, number) {
+        if let Some(found) = slot_in(operand, slot) {
             return Some(found);
         }
     }
     None
 }
 
-fn named_static<'t>(roots: &[&'t Typed], number: u32) -> Option<&'t Typed> {
-    for root in roots {
-        if let Some(found) = static_in(root, number) {
+fn slot_among<'t>(roots: &[&'t Typed], named: Named) -> Option<&'t Typed> {
+    for (number, root) in roots.iter().enumerate() {
+        if number >= named.first as usize
+            && number <= named.last as usize
+            && let Some(found) = slot_in(root, named.slot)
+        {
             return Some(found);
         }
     }
     None
 }
 
-// What a node loads from or stores to.
-fn place_of(tree: &Typed) -> &Typed {
+/// What a node loads from or stores to.
+pub fn place_of(tree: &Typed) -> &Typed {
     match &tree.node {
         Node::Load(_) | Node::Assign { .. } | Node::Update { .. } => match tree.children.get(0) {
             Some(place) => place,
@@ -54,66 +66,72 @@ fn place_of(tree: &Typed) -> &Typed {
     }
 }
 
-// The named object, a member or all of which this place is.
-fn base_of(place: &Typed) -> Option<&Typed> {
-    match &place.node {
-        Node::Obj(_) => Some(place),
-        Node::Member { .. } => match place.children.get(0) {
-            Some(of) => base_of(of),
-            None => None,
-        },
-        _ => None,
+/// A node that names this object, of which these are the deeds.
+pub fn naming<'c>(case: &Case<'c, '_>, object: ObjName, trail: &Trail) -> Option<&'c Typed> {
+    match object {
+        ObjName::Static(number) => slot_among(
+            case.roots,
+            Named {
+                slot: Slot::Static(number),
+                first: 0,
+                last: u32::MAX,
+            },
+        ),
+        _ => slot_among(case.roots, trail.named?),
     }
 }
 
-/// A node that names the object which an event touches.
-pub fn naming<'c>(case: &Case<'c, '_>, act: &Act<'c>) -> Option<&'c Typed> {
-    if let Some(base) = base_of(place_of(act.tree)) {
-        return Some(base);
-    }
-    match object_of(act.item) {
-        Some(ObjName::Static(number)) => named_static(case.roots, number),
-        _ => None,
-    }
-}
-
-/// Adds what an event reads or writes, as the text has it.
-pub fn put_accessed(out: &mut Bytes, case: &Case<'_, '_>, act: &Act<'_>) -> Result<(), NoMemory> {
-    let place = place_of(act.tree);
+// Adds what an evaluation accesses: its name, or the tokens of the expression.
+pub fn put_accessed(
+    out: &mut Bytes,
+    case: &Case<'_, '_>,
+    act: &Act<'_>,
+) -> Result<(), NoMemory> {
     match &act.tree.node {
         Node::Load(_) | Node::Assign { .. } | Node::Update { .. } => {
-            put_tokens(out, case.page, &extent_of(case.page.tokens, place))
+            put_tree(out, case.page, place_of(act.tree))
         }
-        _ => match naming(case, act) {
-            Some(named) => out.append(case.page.spelling(token_of(named.line))),
-            None => out.append(b"one object"),
-        },
+        _ => put_subject(out, case),
     }
+}
+
+/// Adds the name of the object that a finding is about.
+pub fn put_subject(out: &mut Bytes, case: &Case<'_, '_>) -> Result<(), NoMemory> {
+    match subject_name(case) {
+        Some(name) => out.append(case.page.spelling(name)),
+        None => out.append(b"one object"),
+    }
+}
+
+/// The token that names the object which a finding is about.
+pub fn subject_name(case: &Case<'_, '_>) -> Option<u32> {
+    let named = naming(case, subject(case)?, case.trail)?;
+    Some(token_of(named.line))
 }
 
 /// The kind of storage of an object.
-pub fn storage_of(slot: Slot) -> &'static [u8] {
-    match slot {
-        Slot::Static(_) => b"static",
-        Slot::Auto { .. } => b"automatic",
+pub fn storage_of(object: ObjName) -> &'static [u8] {
+    match object {
+        ObjName::Static(_) => b"static",
+        ObjName::Lit(_) => b"literal",
+        ObjName::Argv | ObjName::Arg(_) => b"argument",
+        ObjName::Auto { .. } => b"automatic",
+        ObjName::Heap { .. } => b"allocated",
     }
 }
 
-// Adds the type of an object that a node names.
-fn put_object_type(out: &mut Bytes, named: &Typed) -> Result<(), NoMemory> {
+/// The type of an object that a node names.
+pub fn type_of(named: &Typed) -> &Ty {
     match &named.ty {
-        Ty::Pointer(target) => put_type(out, &target.get().ty),
-        _ => put_type(out, &named.ty),
+        Ty::Pointer(target) => &target.get().ty,
+        ty => ty,
     }
 }
 
-/// The bytes of an object that a node names.
-pub fn size_of(case: &Case<'_, '_>, named: &Typed) -> u64 {
-    let Ty::Pointer(target) = &named.ty else {
-        return 0;
-    };
-    match case.program.tags.extent(&target.get().ty) {
-        Some(extent) => extent.size,
+/// The bytes of an object.
+pub fn size_of(case: &Case<'_, '_>, object: ObjName) -> u64 {
+    match case.audit.map.row(object) {
+        Some(Row { size, .. }) => size,
         None => 0,
     }
 }
@@ -122,10 +140,10 @@ pub fn size_of(case: &Case<'_, '_>, named: &Typed) -> u64 {
 fn put_declared(
     out: &mut Bytes,
     page: &Page<'_, '_>,
-    slot: Slot,
+    object: ObjName,
     name: u32,
 ) -> Result<(), NoMemory> {
-    if let Slot::Auto { .. } = slot
+    if let ObjName::Auto { .. } = object
         && let Some(function) = function_of(page.tokens, name)
     {
         out.append(b" in ")?;
@@ -138,48 +156,95 @@ fn put_declared(
     Ok(())
 }
 
-/// Adds what is known of the object that a node names.
-pub fn put_object(
+// Adds what is known of an object that a node names.
+fn put_named(
     out: &mut Bytes,
     case: &Case<'_, '_>,
+    object: ObjName,
     named: &Typed,
-    slot: Slot,
 ) -> Result<(), NoMemory> {
     let name = token_of(named.line);
     out.append(case.page.spelling(name))?;
     out.append(b": ")?;
-    put_object_type(out, named)?;
+    put_type(out, case.page, type_of(named))?;
     out.append(b", ")?;
-    put_number(out, size_of(case, named))?;
+    put_number(out, size_of(case, object))?;
     out.append(b" bytes, ")?;
-    out.append(storage_of(slot))?;
-    put_declared(out, case.page, slot, name)
+    out.append(storage_of(object))?;
+    put_declared(out, case.page, object, name)
 }
 
-/// Adds what is known of an object without a name.
-pub fn put_unnamed(out: &mut Bytes, case: &Case<'_, '_>, object: ObjName) -> Result<(), NoMemory> {
-    if let Some(Row { size, .. }) = case.audit.map.row(object) {
-        put_number(out, size)?;
-        out.append(b" bytes, ")?;
-    }
+// Adds what is known of an object without a name.
+fn put_unnamed(
+    out: &mut Bytes,
+    case: &Case<'_, '_>,
+    object: ObjName,
+    trail: &Trail,
+) -> Result<(), NoMemory> {
+    put_number(out, size_of(case, object))?;
+    out.append(b" bytes, ")?;
     match object {
-        ObjName::Static(_) => out.append(b"static"),
         ObjName::Lit(_) => out.append(b"a string literal"),
         ObjName::Argv | ObjName::Arg(_) => out.append(b"argument of the program"),
-        ObjName::Auto { .. } => out.append(b"automatic"),
-        ObjName::Heap { .. } => put_allocated(out, case),
+        ObjName::Heap { .. } => put_allocated(out, case, trail),
+        _ => out.append(storage_of(object)),
     }
 }
 
-// Adds where the object that is sought was allocated.
-fn put_allocated(out: &mut Bytes, case: &Case<'_, '_>) -> Result<(), NoMemory> {
-    out.append(b"allocated")?;
-    let Some(born) = case.witness.born else {
+/// Adds what is known of an object of which these are the deeds.
+pub fn put_object(
+    out: &mut Bytes,
+    case: &Case<'_, '_>,
+    object: ObjName,
+    trail: &Trail,
+) -> Result<(), NoMemory> {
+    match naming(case, object, trail) {
+        Some(named) => put_named(out, case, object, named),
+        None => put_unnamed(out, case, object, trail),
+    }
+}
+
+/// Adds `by NAME at PLACE in FUNCTION` of a call.
+pub fn put_by(out: &mut Bytes, case: &Case<'_, '_>, touch: &Touch) -> Result<(), NoMemory> {
+    let Some(token) = token_at(case, touch.opened, touch.node) else {
         return Ok(());
     };
-    let Some(call) = tree_at(case.roots, born.opened.tree, born.node) else {
-        return Ok(());
-    };
+    out.append(b"by ")?;
+    out.append(case.page.spelling(token))?;
     out.append(b" at ")?;
-    case.page.put_token_place(out, token_of(call.line))
+    case.page.put_token_place(out, token)?;
+    out.append(b" in ")?;
+    put_function(out, case.page, token)
+}
+
+// Adds `, called at PLACE from FUNCTION` of the call that led to an act.
+fn put_caller(out: &mut Bytes, case: &Case<'_, '_>, touch: &Touch) -> Result<(), NoMemory> {
+    let Some(caller) = touch.caller else {
+        return Ok(());
+    };
+    let frame = touch.opened.frame;
+    if frame.0 == 0 || frame.0 > case.audit.frames.len() {
+        return Ok(());
+    }
+    let (_, _, node) = case.audit.frames.row(frame);
+    let Some(token) = token_at(case, caller, node) else {
+        return Ok(());
+    };
+    out.append(b", called at ")?;
+    case.page.put_token_place(out, token)?;
+    out.append(b" from ")?;
+    put_function(out, case.page, token)
+}
+
+// Adds where an object was allocated.
+fn put_allocated(out: &mut Bytes, case: &Case<'_, '_>, trail: &Trail) -> Result<(), NoMemory> {
+    out.append(b"allocated")?;
+    match &trail.born {
+        Some(born) => {
+            out.push(b' ')?;
+            put_by(out, case, born)?;
+            put_caller(out, case, born)
+        }
+        None => Ok(()),
+    }
 }

@@ -1,18 +1,19 @@
 // An explanation as JSON.
 
 use c_names::{write_event, write_object};
-use c_typed::{Node, Slot, Typed};
+use c_typed::Typed;
 use explain_case::{
-    Act, Case, Note, clause_of, naming, notes_of, put_does, put_function, put_head, sites_of, size_of,
-    storage_of,
+    Act, Case, end_of, naming, notes_of, put_does, put_function, put_head, shown_first,
+    shown_second, sites_of, size_of, storage_of, subject, token_at, told_at, type_of,
 };
-use explain_page::{Page, Stretch, empty, put_number};
-use explain_places::{declaration_of, token_of};
-use explain_refusal::{Refusal, left_out_at, left_out_rule, put_said};
-use explain_run::CallSite;
+use explain_page::{Page, Stretch, empty, put_number, put_type};
+use explain_places::{declaration_of, function_of, token_of};
+use explain_refusal::{Refusal, Rule, put_said, refusal_notes};
+use explain_run::{CallSite, Touch};
+use footprint_run::Finding;
 use serde_json::{Map, Value, put};
 use std::alloc::Global;
-use ub_base::{Bytes, Item, NoMemory, ObjName};
+use ub_base::{Bytes, Frame, Item, NoMemory, ObjName};
 
 type Members = Map<String, Value>;
 
@@ -138,20 +139,17 @@ fn note_value(alloc: Global, name: &[u8], text: &[u8]) -> Result<Value, NoMemory
     Ok(Value::Array(items))
 }
 
-fn push_note(alloc: Global, notes: &mut Vec<Value>, note: Option<Note>) -> Result<(), NoMemory> {
-    if let Some(note) = note {
-        notes.push(note_value(alloc, note.name.as_bytes(), note.text.as_bytes())?)?;
-    }
-    Ok(())
-}
-
 fn notes_value(alloc: Global, case: &Case<'_, '_>) -> Result<Value, NoMemory> {
-    let mut notes = Vec::new(alloc);
-    let all = notes_of(case);
-    for note in all.iter() {
-        push_note(alloc, &mut notes, *note)?;
+    let mut values = Vec::new(alloc);
+    let notes = notes_of(alloc, case)?;
+    for note in notes.iter() {
+        values.push(note_value(
+            alloc,
+            note.name.as_bytes(),
+            note.text.as_slice(),
+        )?)?;
     }
-    Ok(Value::Array(notes))
+    Ok(Value::Array(values))
 }
 
 // The members of a mark that tell its place.
@@ -196,7 +194,7 @@ fn put_event(
     let event = write_event(alloc, &case.audit.frames, &act.event)?;
     put_text(alloc, map, "event", event.as_slice())?;
     let mut ty = empty(alloc);
-    explain_page::put_type(&mut ty, &act.tree.ty)?;
+    put_type(&mut ty, case.page, &act.tree.ty)?;
     put_text(alloc, map, "type", ty.as_slice())
 }
 
@@ -263,7 +261,7 @@ fn mark_value(alloc: Global, case: &Case<'_, '_>, act: &Act<'_>) -> Result<Value
 fn marks_value(alloc: Global, case: &Case<'_, '_>, first: &Act<'_>) -> Result<Value, NoMemory> {
     let mut marks = Vec::new(alloc);
     marks.push(mark_value(alloc, case, first)?)?;
-    if let Some(second) = &case.second {
+    if let Some(second) = &shown_second(case) {
         marks.push(mark_value(alloc, case, second)?)?;
     }
     Ok(Value::Array(marks))
@@ -294,10 +292,15 @@ fn call_value(
     Ok(Value::Object(map))
 }
 
-fn calls_value(alloc: Global, case: &Case<'_, '_>, act: &Act<'_>) -> Result<Value, NoMemory> {
-    let sites = sites_of(alloc, case, act.event.frame)?;
+fn calls_value(
+    alloc: Global,
+    case: &Case<'_, '_>,
+    frame: Frame,
+    at: u32,
+) -> Result<Value, NoMemory> {
+    let sites = sites_of(alloc, case, frame)?;
     let mut calls = Vec::new(alloc);
-    let mut inside = act.extent.first;
+    let mut inside = at;
     for site in sites.as_slice() {
         calls.push(call_value(alloc, case.page, inside, *site)?)?;
         inside = token_of(site.line);
@@ -305,41 +308,95 @@ fn calls_value(alloc: Global, case: &Case<'_, '_>, act: &Act<'_>) -> Result<Valu
     Ok(Value::Array(calls))
 }
 
-fn put_named(
+fn put_token(
     alloc: Global,
     map: &mut Members,
-    case: &Case<'_, '_>,
-    named: &Typed,
-    slot: Slot,
+    name: &str,
+    page: &Page<'_, '_>,
+    token: Option<u32>,
 ) -> Result<(), NoMemory> {
-    let name = token_of(named.line);
-    put_text(alloc, map, "name", case.page.spelling(name))?;
-    put_text(alloc, map, "storage", storage_of(slot))?;
-    put_count(alloc, map, "bytes", size_of(case, named))?;
-    match declaration_of(case.page.tokens, name) {
-        Some(at) => put_place(
-            alloc,
-            map,
-            "declared",
-            case.page,
-            token_place(case.page, at),
-        ),
+    match token {
+        Some(token) => put_place(alloc, map, name, page, token_place(page, token)),
         None => Ok(()),
     }
 }
 
-fn put_object(
+// The function that a token stands in.
+fn put_inside(
+    alloc: Global,
+    map: &mut Members,
+    page: &Page<'_, '_>,
+    token: u32,
+) -> Result<(), NoMemory> {
+    match function_of(page.tokens, token) {
+        Some(name) => put_text(alloc, map, "function", page.spelling(name)),
+        None => Ok(()),
+    }
+}
+
+fn put_named(
     alloc: Global,
     map: &mut Members,
     case: &Case<'_, '_>,
-    act: &Act<'_>,
+    object: ObjName,
+    named: &Typed,
 ) -> Result<(), NoMemory> {
-    if let Some(named) = naming(case, act)
-        && let Node::Obj(slot) = &named.node
-    {
-        let mut object = Map::new(alloc);
-        put_named(alloc, &mut object, case, named, *slot)?;
-        put(map, alloc, "object", Value::Object(object))?;
+    let page = case.page;
+    let name = token_of(named.line);
+    put_text(alloc, map, "name", page.spelling(name))?;
+    let mut ty = empty(alloc);
+    put_type(&mut ty, page, type_of(named))?;
+    put_text(alloc, map, "type", ty.as_slice())?;
+    if let ObjName::Auto { .. } = object {
+        put_inside(alloc, map, page, name)?;
+    }
+    put_token(
+        alloc,
+        map,
+        "declared",
+        page,
+        declaration_of(page.tokens, name),
+    )
+}
+
+fn touched_at(case: &Case<'_, '_>, touch: Option<Touch>) -> Option<u32> {
+    let touch = touch?;
+    token_at(case, touch.opened, touch.node)
+}
+
+fn put_unnamed(
+    alloc: Global,
+    map: &mut Members,
+    case: &Case<'_, '_>,
+    object: ObjName,
+) -> Result<(), NoMemory> {
+    let ObjName::Heap { .. } = object else {
+        return Ok(());
+    };
+    let born = touched_at(case, case.trail.born);
+    if let Some(token) = born {
+        put_inside(alloc, map, case.page, token)?;
+    }
+    put_token(alloc, map, "allocated", case.page, born)?;
+    let died = touched_at(case, case.trail.died);
+    put_token(alloc, map, "ended", case.page, died)
+}
+
+fn object_value(alloc: Global, case: &Case<'_, '_>, object: ObjName) -> Result<Value, NoMemory> {
+    let mut map = Map::new(alloc);
+    put_text(alloc, &mut map, "storage", storage_of(object))?;
+    put_count(alloc, &mut map, "bytes", size_of(case, object))?;
+    match naming(case, object, case.trail) {
+        Some(named) => put_named(alloc, &mut map, case, object, named)?,
+        None => put_unnamed(alloc, &mut map, case, object)?,
+    }
+    Ok(Value::Object(map))
+}
+
+fn put_object(alloc: Global, map: &mut Members, case: &Case<'_, '_>) -> Result<(), NoMemory> {
+    if let Some(object) = subject(case) {
+        let value = object_value(alloc, case, object)?;
+        put(map, alloc, "object", value)?;
     }
     Ok(())
 }
@@ -350,29 +407,65 @@ fn put_head_text(alloc: Global, map: &mut Members, case: &Case<'_, '_>) -> Resul
     put_text(alloc, map, "head", head.as_slice())
 }
 
-fn put_act(
-    alloc: Global,
-    map: &mut Members,
-    case: &Case<'_, '_>,
-    first: &Act<'_>,
-) -> Result<(), NoMemory> {
-    put_place(
-        alloc,
-        map,
-        "at",
-        case.page,
-        token_place(case.page, first.extent.first),
-    )?;
-    put(map, alloc, "marks", marks_value(alloc, case, first)?)?;
-    put(map, alloc, "calls", calls_value(alloc, case, first)?)?;
-    put_object(alloc, map, case, first)
+// The members of a case that stands at a place.
+fn put_told(alloc: Global, map: &mut Members, case: &Case<'_, '_>) -> Result<(), NoMemory> {
+    put_token(alloc, map, "at", case.page, told_at(case))?;
+    if let Some(first) = &shown_first(case) {
+        put(map, alloc, "marks", marks_value(alloc, case, first)?)?;
+    }
+    put_calls(alloc, map, case)?;
+    put_object(alloc, map, case)
+}
+
+fn put_calls(alloc: Global, map: &mut Members, case: &Case<'_, '_>) -> Result<(), NoMemory> {
+    if let (Some(_), Some((frame, at))) = (told_at(case), end_of(case)) {
+        put(map, alloc, "calls", calls_value(alloc, case, frame, at)?)?;
+    }
+    Ok(())
 }
 
 fn put_clause(alloc: Global, map: &mut Members, case: &Case<'_, '_>) -> Result<(), NoMemory> {
-    match clause_of(&case.audit.finding) {
-        Some(clause) => put_text(alloc, map, "clause", clause.text().as_bytes()),
-        None => Ok(()),
+    match case.audit.finding {
+        Finding::Undefined { clause, .. } => put_text(alloc, map, "clause", clause.text().as_bytes()),
+        Finding::OrderDependent { .. } => put_text(alloc, map, "clause", b"6.5.2.2p10"),
+        _ => Ok(()),
     }
+}
+
+fn digit(value: u8) -> u8 {
+    if value < 10 {
+        b'0'.saturating_add(value)
+    } else {
+        b'a'.saturating_add(value.saturating_sub(10))
+    }
+}
+
+fn hexadecimal(alloc: Global, bytes: &[u8]) -> Result<Bytes, NoMemory> {
+    let mut text = empty(alloc);
+    for byte in bytes {
+        text.push(digit(byte / 16))?;
+        text.push(digit(byte % 16))?;
+    }
+    Ok(text)
+}
+
+// The bytes that a clean run wrote.
+fn put_output(alloc: Global, map: &mut Members, case: &Case<'_, '_>) -> Result<(), NoMemory> {
+    if let Finding::Clean { .. } = case.audit.finding {
+        let text = hexadecimal(alloc, case.audit.output.as_slice())?;
+        return put_text(alloc, map, "output", text.as_slice());
+    }
+    Ok(())
+}
+
+// The report without what the program wrote, which stands behind it where the run is clean.
+fn without_output<'a>(of: Reported<'a>, case: &Case<'_, '_>) -> Reported<'a> {
+    if let Finding::Clean { .. } = case.audit.finding {
+        let lines = of.report.len().saturating_sub(case.audit.output.len());
+        let (report, _) = of.report.split_at(lines);
+        return Reported { report, ..of };
+    }
+    of
 }
 
 /// Adds the explanation of a finding as JSON.
@@ -382,13 +475,12 @@ pub fn put_case_json(
     of: Reported<'_>,
     case: &Case<'_, '_>,
 ) -> Result<(), NoMemory> {
-    let mut map = common(alloc, of)?;
+    let mut map = common(alloc, without_output(of, case))?;
     put(&mut map, alloc, "notes", notes_value(alloc, case)?)?;
     put_head_text(alloc, &mut map, case)?;
     put_clause(alloc, &mut map, case)?;
-    if let Some(first) = &case.first {
-        put_act(alloc, &mut map, case, first)?;
-    }
+    put_told(alloc, &mut map, case)?;
+    put_output(alloc, &mut map, case)?;
     put_map(alloc, out, map)
 }
 
@@ -399,17 +491,24 @@ pub fn put_report_json(alloc: Global, out: &mut Bytes, of: Reported<'_>) -> Resu
     put_map(alloc, out, map)
 }
 
-fn refusal_notes(alloc: Global, page: &Page<'_, '_>, refusal: &Refusal) -> Result<Value, NoMemory> {
-    let mut notes = Vec::new(alloc);
-    if let Some(found) = left_out_at(page, &refusal.stretch) {
-        let rule = left_out_rule(alloc, &found)?;
-        notes.push(note_value(alloc, b"rule", rule.as_slice())?)?;
+fn refused_notes(alloc: Global, refusal: &Refusal) -> Result<Value, NoMemory> {
+    let mut values = Vec::new(alloc);
+    let notes = refusal_notes(alloc, refusal)?;
+    for note in notes.iter() {
+        values.push(note_value(
+            alloc,
+            note.name.as_bytes(),
+            note.text.as_slice(),
+        )?)?;
     }
-    Ok(Value::Array(notes))
+    Ok(Value::Array(values))
 }
 
 fn refusal_marks(alloc: Global, page: &Page<'_, '_>, refusal: &Refusal) -> Result<Value, NoMemory> {
-    let mark = stretch_members(alloc, page, &refusal.stretch, b"here")?;
+    let mut mark = stretch_members(alloc, page, &refusal.stretch, refusal.does.as_bytes())?;
+    if let Some(ty) = refusal.does.strip_prefix("a ") {
+        put_text(alloc, &mut mark, "type", ty.as_bytes())?;
+    }
     let mut marks = Vec::new(alloc);
     marks.push(Value::Object(mark))?;
     Ok(Value::Array(marks))
@@ -427,9 +526,9 @@ fn put_said_text(
 }
 
 fn put_paragraph(alloc: Global, map: &mut Members, refusal: &Refusal) -> Result<(), NoMemory> {
-    match refusal.paragraph {
-        Some(paragraph) => put_text(alloc, map, "clause", paragraph.as_bytes()),
-        None => Ok(()),
+    match (refusal.rule, refusal.paragraph) {
+        (Rule::LeftOut { .. }, _) | (_, None) => Ok(()),
+        (_, Some(paragraph)) => put_text(alloc, map, "clause", paragraph.as_bytes()),
     }
 }
 
@@ -446,7 +545,7 @@ pub fn put_refusal_json(
         &mut map,
         alloc,
         "notes",
-        refusal_notes(alloc, page, refusal)?,
+        refused_notes(alloc, refusal)?,
     )?;
     put(
         &mut map,

@@ -1,6 +1,8 @@
 // Types as C writes them.
 
+use crate::page::Page;
 use crate::shown::put_number;
+use c_lex::TokenKind;
 use c_types::{IntKind, Qual, Ty};
 use ub_base::{Bytes, NoMemory};
 
@@ -33,11 +35,11 @@ fn put_star(out: &mut Bytes) -> Result<(), NoMemory> {
 }
 
 #[cycle(written)]
-fn put_qualified(out: &mut Bytes, qual: &Qual, left: u32) -> Result<(), NoMemory> {
+fn put_qualified(out: &mut Bytes, page: &Page<'_, '_>, qual: &Qual, left: u32) -> Result<(), NoMemory> {
     if qual.constant {
         out.append(b"const ")?;
     }
-    put_within(out, &qual.ty, left)
+    put_within(out, page, &qual.ty, left)
 }
 
 fn put_count(out: &mut Bytes, count: Option<u64>) -> Result<(), NoMemory> {
@@ -49,22 +51,39 @@ fn put_count(out: &mut Bytes, count: Option<u64>) -> Result<(), NoMemory> {
 }
 
 #[cycle(written)]
-fn put_target(out: &mut Bytes, target: &Qual, left: u32) -> Result<(), NoMemory> {
+fn put_target(out: &mut Bytes, page: &Page<'_, '_>, target: &Qual, left: u32) -> Result<(), NoMemory> {
     match &target.ty {
         Ty::Array(_, _) | Ty::Function(_) => {
             out.append(b"pointer to ")?;
-            put_qualified(out, target, left)
+            put_qualified(out, page, target, left)
         }
         _ => {
-            put_qualified(out, target, left)?;
+            put_qualified(out, page, target, left)?;
             put_star(out)
         }
     }
 }
 
+// Adds the keyword of a structure or union, and its name where it has one.
+fn put_tag(
+    out: &mut Bytes,
+    page: &Page<'_, '_>,
+    keyword: &[u8],
+    number: u32,
+) -> Result<(), NoMemory> {
+    out.append(keyword)?;
+    match page.tags.get(number as usize) {
+        Some(name) if page.tokens.kind(*name) == Some(TokenKind::Name) => {
+            out.push(b' ')?;
+            out.append(page.spelling(*name))
+        }
+        _ => Ok(()),
+    }
+}
+
 // So many levels of the type at most.
 #[cycle(written)]
-fn put_within(out: &mut Bytes, ty: &Ty, left: u32) -> Result<(), NoMemory> {
+fn put_within(out: &mut Bytes, page: &Page<'_, '_>, ty: &Ty, left: u32) -> Result<(), NoMemory> {
     if left == 0 {
         return out.append(b"..");
     }
@@ -73,18 +92,18 @@ fn put_within(out: &mut Bytes, ty: &Ty, left: u32) -> Result<(), NoMemory> {
         Ty::Void => out.append(b"void"),
         Ty::Int(kind) => out.append(kind_words(*kind)),
         Ty::Enum(_) => out.append(b"enum"),
-        Ty::Struct(_) => out.append(b"struct"),
-        Ty::Union(_) => out.append(b"union"),
+        Ty::Struct(tag) => put_tag(out, page, b"struct", *tag),
+        Ty::Union(tag) => put_tag(out, page, b"union", *tag),
         Ty::Function(_) => out.append(b"function"),
-        Ty::Pointer(target) => put_target(out, target.get(), left),
+        Ty::Pointer(target) => put_target(out, page, target.get(), left),
         Ty::Array(element, count) => {
-            put_qualified(out, element.get(), left)?;
+            put_qualified(out, page, element.get(), left)?;
             put_count(out, *count)
         }
     }
 }
 
-/// Adds a type, without the names of its tags.
-pub fn put_type(out: &mut Bytes, ty: &Ty) -> Result<(), NoMemory> {
-    put_within(out, ty, 20)
+/// Adds a type; where a structure or union has a tag, its name is behind its keyword.
+pub fn put_type(out: &mut Bytes, page: &Page<'_, '_>, ty: &Ty) -> Result<(), NoMemory> {
+    put_within(out, page, ty, 20)
 }

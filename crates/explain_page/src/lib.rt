@@ -6,9 +6,11 @@ mod kinds;
 mod notes;
 mod page;
 mod shown;
+mod tags;
 
 pub use carets::{Mark, put_marks};
 pub use kinds::put_type;
 pub use notes::{put_long_note, put_note};
 pub use page::{Page, Stretch, empty};
 pub use shown::{put_excerpt, put_number};
+pub use tags::tags_of;

@@ -12,6 +12,8 @@ pub struct Page<'t, 'a> {
     pub text: &'t [u8],
     pub file: &'t [u8],
     pub tokens: &'t Tokens<'a>,
+    /// Where the structures and unions are named, in the order of their numbers.
+    pub tags: &'t [u32],
 }
 
 /// A stretch of the text: from `start` up to but without `end`, its operator, and the line that it begins on, as the line

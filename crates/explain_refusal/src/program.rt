@@ -53,6 +53,20 @@ pub fn tokens_of<'a>(alloc: Global, text: &'a [u8]) -> Result<Tokens<'a>, Refuse
 
 const MOST: usize = 1_048_576;
 
+/// Whether these tokens spell a text, whatever it means; the first token with which none goes on, where they don't.
+pub fn reading_of(alloc: Global, text: &[u8]) -> Result<(), Refused> {
+    if text.len() > MOST {
+        return Err(Refused::TooDeep);
+    }
+    let tokens = tokens_of(alloc, text)?;
+    match parse(alloc, &tokens) {
+        Ok(_) => Ok(()),
+        Err(ParseFault::TooDeep(_)) => Err(Refused::TooDeep),
+        Err(ParseFault::Syntax(token)) => Err(Refused::Syntax(token)),
+        Err(ParseFault::NoMemory) => Err(Refused::NoMemory),
+    }
+}
+
 fn typed(alloc: Global, tokens: &Tokens<'_>) -> Result<Program, Refused> {
     let unit = match parse(alloc, tokens) {
         Ok(unit) => unit,

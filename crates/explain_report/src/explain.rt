@@ -6,28 +6,34 @@ use c_lex::Tokens;
 use c_typed::{Program, Typed};
 use core_ir::CoreProgram;
 use elaborate::{elaborate, roots_of};
-use explain_case::{Case, Events, events_of, first_act, object_of, picks_of, put_case, second_act};
+use explain_case::{
+    Act, Case, Events, events_of, first_act, library_call, picks_of, put_case, second_act,
+    sought_of,
+};
 use explain_json::{Reported, put_case_json, put_refusal_json, put_report_json};
-use explain_page::{Page, empty};
+use explain_page::{Page, empty, tags_of};
 use explain_refusal::{
     Refusal, Refused, program_of, put_refusal, refusal_of, tokens_of, unlexed,
 };
-use explain_run::{Witness, witnessed};
-use footprint_run::{Audit, audit_run};
+use explain_run::{
+    Before, Course, Moment, Outcome, Sought, Trail, apart, moment_before, outcome_of, trail_of,
+};
+use footprint_run::{Audit, Finding, audit_run};
 use std::alloc::Global;
-use ub_base::{Bytes, NoMemory, ObjName};
-
-// The object that the events of a finding share.
-fn sought(events: Option<Events>) -> Option<ObjName> {
-    let (item, _) = events?.items?;
-    object_of(Some(item))
-}
+use ub_base::{Bytes, Event, Item, Kind, NoMemory, ObjName};
 
 // How an explanation is put.
 #[derive(Clone, Copy, Debug, PartialEq, Eq)]
 enum Form {
     Words,
     Json,
+}
+
+// What is asked, and in which form.
+#[derive(Clone, Copy)]
+struct Request<'a> {
+    asked: Asked<'a>,
+    form: Form,
 }
 
 fn reported<'a>(asked: &Asked<'a>) -> Reported<'a> {
@@ -37,108 +43,266 @@ fn reported<'a>(asked: &Asked<'a>) -> Reported<'a> {
     }
 }
 
+fn course_of<'a>(asked: &Asked<'a>) -> Course<'a> {
+    Course {
+        input: asked.input,
+        args: asked.args,
+        mode: asked.mode,
+    }
+}
+
 fn put_found(
     alloc: Global,
     out: &mut Bytes,
-    asked: &Asked<'_>,
+    request: &Request<'_>,
     case: &Case<'_, '_>,
-    form: Form,
 ) -> Result<(), NoMemory> {
-    match form {
+    match request.form {
         Form::Words => put_case(alloc, out, case),
-        Form::Json => put_case_json(alloc, out, reported(asked), case),
+        Form::Json => put_case_json(alloc, out, reported(&request.asked), case),
     }
 }
 
 const TOO_DEEP: &[u8] = b":1:1: too deep: the text is nested too deep, or too long, to be explained\n";
 
 // Adds that the text as a whole can't be explained.
-fn put_whole(
-    alloc: Global,
-    out: &mut Bytes,
-    asked: &Asked<'_>,
-    form: Form,
-) -> Result<(), NoMemory> {
-    match form {
+fn put_whole(alloc: Global, out: &mut Bytes, request: &Request<'_>) -> Result<(), NoMemory> {
+    match request.form {
         Form::Words => {
-            out.append(asked.file)?;
+            out.append(request.asked.file)?;
             out.append(TOO_DEEP)
         }
-        Form::Json => put_report_json(alloc, out, reported(asked)),
+        Form::Json => put_report_json(alloc, out, reported(&request.asked)),
     }
 }
 
 fn put_refused(
     alloc: Global,
     out: &mut Bytes,
-    asked: &Asked<'_>,
+    request: &Request<'_>,
     page: &Page<'_, '_>,
     refusal: Option<Refusal>,
-    form: Form,
 ) -> Result<(), NoMemory> {
     let Some(refusal) = refusal else {
-        return put_whole(alloc, out, asked, form);
+        return put_whole(alloc, out, request);
     };
-    match form {
+    match request.form {
         Form::Words => put_refusal(alloc, out, page, &refusal),
-        Form::Json => put_refusal_json(alloc, out, reported(asked), page, &refusal),
+        Form::Json => put_refusal_json(alloc, out, reported(&request.asked), page, &refusal),
     }
 }
 
-// Adds the explanation of a finding of this run.
+// A run with its finding.
+#[derive(Clone, Copy)]
+struct Found<'f, 'p> {
+    core: &'f CoreProgram<'p>,
+    roots: &'f [&'f Typed],
+    audit: &'f Audit,
+}
+
+// The event of the last pick, where it broke a clause by itself.
+fn last_event(finding: &Finding) -> Option<Event> {
+    match finding {
+        Finding::Undefined { event, race: None, .. } => Some(*event),
+        _ => None,
+    }
+}
+
+// The number of the pick before which a case is looked at: the last one, or one more where the run could go on.
+fn looked_at(finding: &Finding) -> u64 {
+    match finding {
+        Finding::Outside { picks, .. } => picks.saturating_add(1),
+        _ => picks_of(finding),
+    }
+}
+
+// The whole of the object.
+fn whole(object: ObjName) -> Sought {
+    Sought {
+        object,
+        from: 0,
+        len: u64::MAX,
+    }
+}
+
+fn is_call(act: &Act<'_>) -> bool {
+    act.event.kind == Kind::Body
+}
+
+fn is_access(act: &Act<'_>) -> bool {
+    matches!(act.item, Some(Item::Read { .. } | Item::Write { .. }))
+}
+
+// The events that come first in the other order of two calls.
+fn turned(first: &Act<'_>, second: &Act<'_>) -> Option<Before> {
+    if !is_call(first) || !is_call(second) || !is_access(first) {
+        return None;
+    }
+    let (from, end) = apart(first.root, first.event.node, second.event.node)?;
+    Some(Before {
+        event: second.event,
+        first: from,
+        end,
+    })
+}
+
+// No event comes before its turn.
+fn in_turn(event: Event) -> Before {
+    Before {
+        event,
+        first: 0,
+        end: 0,
+    }
+}
+
+// Both outcomes of two calls.
+#[derive(Drop)]
+struct Both {
+    one: Option<Outcome>,
+    other: Option<Outcome>,
+}
+
+fn outcomes(
+    alloc: Global,
+    asked: &Asked<'_>,
+    core: &CoreProgram<'_>,
+    before: &Before,
+) -> Result<Both, NoMemory> {
+    let course = course_of(asked);
+    let one = outcome_of(alloc, core, course, asked.steps, &in_turn(before.event))?;
+    let other = outcome_of(alloc, core, course, asked.steps, before)?;
+    Ok(Both { one, other })
+}
+
+// Both outcomes, where the finding is of two calls.
+fn both_of(
+    alloc: Global,
+    asked: &Asked<'_>,
+    core: &CoreProgram<'_>,
+    first: &Option<Act<'_>>,
+    second: &Option<Act<'_>>,
+    finding: &Finding,
+) -> Result<Both, NoMemory> {
+    let none = Both {
+        one: None,
+        other: None,
+    };
+    let (Finding::OrderDependent { .. }, Some(first), Some(second)) = (finding, first, second)
+    else {
+        return Ok(none);
+    };
+    match turned(first, second) {
+        Some(before) => outcomes(alloc, asked, core, &before),
+        None => Ok(none),
+    }
+}
+
+fn shown_both(both: &Both) -> Option<(&Outcome, &Outcome)> {
+    match (&both.one, &both.other) {
+        (Some(one), Some(other)) => Some((one, other)),
+        _ => None,
+    }
+}
+
+// What was looked at again.
+#[derive(Drop)]
+struct Looked {
+    moment: Moment,
+    trail: Trail,
+    target: Trail,
+}
+
+fn looked(
+    alloc: Global,
+    asked: &Asked<'_>,
+    found: &Found<'_, '_>,
+    events: Option<Events>,
+) -> Result<Looked, NoMemory> {
+    let finding = &found.audit.finding;
+    let course = course_of(asked);
+    let picks = picks_of(finding);
+    let moment = moment_before(
+        alloc,
+        found.core,
+        course,
+        looked_at(finding),
+        last_event(finding),
+    )?;
+    let sought = sought_of(events, &moment, &found.audit.map);
+    let trail = trail_of(alloc, found.core, course, picks, sought)?;
+    let target = match moment.held {
+        Some(object) => trail_of(alloc, found.core, course, picks, Some(whole(object)))?,
+        None => Trail::new(alloc, None),
+    };
+    Ok(Looked {
+        moment,
+        trail,
+        target,
+    })
+}
+
+// Adds the explanation of a finding, of which this was looked at.
+fn put_looked(
+    alloc: Global,
+    out: &mut Bytes,
+    request: &Request<'_>,
+    page: &Page<'_, '_>,
+    found: &Found<'_, '_>,
+    looked: &Looked,
+    events: Option<Events>,
+) -> Result<(), NoMemory> {
+    let first = first_act(page, found.roots, events);
+    let second = second_act(page, found.roots, events);
+    let both = both_of(
+        alloc,
+        &request.asked,
+        found.core,
+        &first,
+        &second,
+        &found.audit.finding,
+    )?;
+    let case = Case {
+        page,
+        program: found.core.program,
+        roots: found.roots,
+        audit: found.audit,
+        moment: &looked.moment,
+        trail: &looked.trail,
+        target: &looked.target,
+        first,
+        second,
+        call: None,
+        both: shown_both(&both),
+    };
+    let case = Case {
+        call: library_call(&case),
+        ..case
+    };
+    put_found(alloc, out, request, &case)
+}
+
 fn put_finding(
     alloc: Global,
     out: &mut Bytes,
-    asked: &Asked<'_>,
-    form: Form,
+    request: &Request<'_>,
     page: &Page<'_, '_>,
-    program: &Program,
-    roots: &[&Typed],
-    audit: &Audit,
-    witness: &Witness,
+    found: &Found<'_, '_>,
 ) -> Result<(), NoMemory> {
-    let events = events_of(&audit.finding);
-    let case = Case {
-        page,
-        program,
-        roots,
-        audit,
-        witness,
-        first: first_act(page, roots, events),
-        second: second_act(page, roots, events),
-    };
-    put_found(alloc, out, asked, &case, form)
-}
-
-const MOST_STEPS: u64 = 100_000_000;
-
-fn witness_of(
-    alloc: Global,
-    core: &CoreProgram<'_>,
-    asked: &Asked<'_>,
-    audit: &Audit,
-) -> Result<Witness, NoMemory> {
-    witnessed(
-        alloc,
-        core,
-        asked.input,
-        asked.args,
-        asked.mode,
-        picks_of(&audit.finding).min(MOST_STEPS),
-        sought(events_of(&audit.finding)),
-    )
+    let events = events_of(&found.audit.finding);
+    let looked = looked(alloc, &request.asked, found, events)?;
+    put_looked(alloc, out, request, page, found, &looked, events)
 }
 
 fn put_audit(
     alloc: Global,
     out: &mut Bytes,
-    asked: &Asked<'_>,
+    request: &Request<'_>,
     page: &Page<'_, '_>,
     core: &CoreProgram<'_>,
-    form: Form,
 ) -> Result<(), NoMemory>
-    requires { asked.now.steps ≤ 100000000 }
+    requires { request.now.asked.steps ≤ 100000000 }
 {
+    let asked = &request.asked;
     let audit = audit_run(
         alloc,
         core,
@@ -147,53 +311,55 @@ fn put_audit(
         asked.mode,
         asked.steps,
     )?;
-    let witness = witness_of(alloc, core, asked, &audit)?;
     let roots = roots_of(alloc, core.program)?;
     put_finding(
         alloc,
         out,
-        asked,
-        form,
+        request,
         page,
-        core.program,
-        roots.as_slice(),
-        &audit,
-        &witness,
+        &Found {
+            core,
+            roots: roots.as_slice(),
+            audit: &audit,
+        },
     )
 }
 
 fn put_run(
     alloc: Global,
     out: &mut Bytes,
-    asked: &Asked<'_>,
+    request: &Request<'_>,
     page: &Page<'_, '_>,
     program: &Program,
-    form: Form,
 ) -> Result<(), NoMemory>
-    requires { asked.now.steps ≤ 100000000 }
+    requires { request.now.asked.steps ≤ 100000000 }
 {
     let core = elaborate(alloc, program)?;
-    put_audit(alloc, out, asked, page, &core, form)
+    put_audit(alloc, out, request, page, &core)
 }
 
 fn put_program(
     alloc: Global,
     out: &mut Bytes,
-    asked: &Asked<'_>,
+    request: &Request<'_>,
     tokens: &Tokens<'_>,
-    form: Form,
 ) -> Result<(), NoMemory>
-    requires { asked.now.steps ≤ 100000000 }
+    requires { request.now.asked.steps ≤ 100000000 }
 {
+    let tags = tags_of(alloc, tokens)?;
     let page = Page {
-        text: asked.text,
-        file: asked.file,
+        text: request.asked.text,
+        file: request.asked.file,
         tokens,
+        tags: tags.as_slice(),
     };
     match program_of(alloc, tokens) {
-        Ok(program) => put_run(alloc, out, asked, &page, &program, form),
+        Ok(program) => put_run(alloc, out, request, &page, &program),
         Err(Refused::NoMemory) => Err(NoMemory),
-        Err(refused) => put_refused(alloc, out, asked, &page, refusal_of(&page, refused), form),
+        Err(refused) => {
+            let refusal = refusal_of(alloc, &page, refused)?;
+            put_refused(alloc, out, request, &page, refusal)
+        }
     }
 }
 
@@ -201,19 +367,19 @@ fn put_program(
 fn put_unlexed(
     alloc: Global,
     out: &mut Bytes,
-    asked: &Asked<'_>,
+    request: &Request<'_>,
     refused: Refused,
-    form: Form,
 ) -> Result<(), NoMemory> {
-    let refusal = unlexed(alloc, asked.text, refused)?;
     match tokens_of(alloc, b"") {
         Ok(tokens) => {
             let page = Page {
-                text: asked.text,
-                file: asked.file,
+                text: request.asked.text,
+                file: request.asked.file,
                 tokens: &tokens,
+                tags: &[],
             };
-            put_refused(alloc, out, asked, &page, refusal, form)
+            let refusal = unlexed(alloc, &page, refused)?;
+            put_refused(alloc, out, request, &page, refusal)
         }
         Err(_) => Err(NoMemory),
     }
@@ -223,16 +389,15 @@ fn put_unlexed(
 fn put_explanation(
     alloc: Global,
     out: &mut Bytes,
-    asked: &Asked<'_>,
-    form: Form,
+    request: &Request<'_>,
 ) -> Result<(), NoMemory>
-    requires text { length asked.now.text.now ≤ 2 ^ 20 }
-    requires steps { asked.now.steps ≤ 100000000 }
+    requires text { length request.now.asked.text.now ≤ 2 ^ 20 }
+    requires steps { request.now.asked.steps ≤ 100000000 }
 {
-    match tokens_of(alloc, asked.text) {
-        Ok(tokens) => put_program(alloc, out, asked, &tokens, form),
+    match tokens_of(alloc, request.asked.text) {
+        Ok(tokens) => put_program(alloc, out, request, &tokens),
         Err(Refused::NoMemory) => Err(NoMemory),
-        Err(refused) => put_unlexed(alloc, out, asked, refused, form),
+        Err(refused) => put_unlexed(alloc, out, request, refused),
     }
 }
 
@@ -242,7 +407,11 @@ pub fn explanation(alloc: Global, asked: &Asked<'_>) -> Result<Bytes, NoMemory>
     requires steps { asked.now.steps ≤ 100000000 }
 {
     let mut out = empty(alloc);
-    put_explanation(alloc, &mut out, asked, Form::Words)?;
+    let request = Request {
+        asked: *asked,
+        form: Form::Words,
+    };
+    put_explanation(alloc, &mut out, &request)?;
     Ok(out)
 }
 
@@ -252,6 +421,10 @@ pub fn explanation_json(alloc: Global, asked: &Asked<'_>) -> Result<Bytes, NoMem
     requires steps { asked.now.steps ≤ 100000000 }
 {
     let mut out = empty(alloc);
-    put_explanation(alloc, &mut out, asked, Form::Json)?;
+    let request = Request {
+        asked: *asked,
+        form: Form::Json,
+    };
+    put_explanation(alloc, &mut out, &request)?;
     Ok(out)
 }

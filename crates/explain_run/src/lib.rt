@@ -1,10 +1,18 @@
-//! What an explanation asks of a run: the expressions that are open at its end, and who touched an object.
+//! What an explanation asks of a run: what is open before its last pick, the values there, who touched an object, and how
+//! another order ends.
 #![tactic(auto)]
 
+mod again;
 mod calls;
+mod moment;
 mod node;
-mod witness;
+mod opened;
+mod replay;
+mod trail;
 
+pub use again::{Before, Course, Outcome, moment_before, outcome_of, trail_of};
 pub use calls::{CallSite, calls_of};
-pub use node::{node_at, root_with, tree_at};
-pub use witness::{Opened, Touch, Witness, witnessed};
+pub use moment::{Aim, Moment, Shown};
+pub use node::{apart, common, node_at, operand_number, parent_of, root_with, tree_at};
+pub use opened::Opened;
+pub use trail::{Named, Sought, Touch, Trail, is_within};

@@ -49,3 +49,64 @@ pub fn tree_at<'t>(roots: &[&'t Typed], tree: u32, node: u32) -> Option<&'t Type
         None => None,
     }
 }
+
+/// The number of an operand of the node of this number.
+pub fn operand_number(tree: &Typed, number: u32, operand: usize) -> u32 {
+    let mut at = number.saturating_add(1);
+    for (i, child) in tree.children.as_slice().iter().enumerate() {
+        if i == operand {
+            return at;
+        }
+        at = at.saturating_add(size(child));
+    }
+    at
+}
+
+/// The node above the one of this number.
+pub fn parent_of(root: &Typed, node: u32) -> Option<&Typed> {
+    let mut tree = root;
+    let mut number = 0u32;
+    for _ in 0..node {
+        let (next, at) = step(tree, number, node)?;
+        if at == node {
+            return Some(tree);
+        }
+        tree = next;
+        number = at;
+    }
+    None
+}
+
+/// Of two nodes that stand in different operands of a node, the nodes of the operand that has the second: from the first up to
+/// but without the second number.
+pub fn apart(root: &Typed, one: u32, other: u32) -> Option<(u32, u32)> {
+    let mut tree = root;
+    let mut number = 0u32;
+    for _ in 0..other {
+        let (next, at) = step(tree, number, other)?;
+        let end = at.saturating_add(size(next));
+        if one < at || one >= end {
+            return Some((at, end));
+        }
+        tree = next;
+        number = at;
+    }
+    None
+}
+
+/// The innermost node that has both of these nodes below it, or is one of them.
+pub fn common(root: &Typed, one: u32, other: u32) -> Option<&Typed> {
+    let mut tree = root;
+    let mut number = 0u32;
+    for _ in 0..other {
+        let Some((next, at)) = step(tree, number, other) else {
+            return Some(tree);
+        };
+        if one < at || one >= at.saturating_add(size(next)) {
+            return Some(tree);
+        }
+        tree = next;
+        number = at;
+    }
+    Some(tree)
+}
