@@ -1,6 +1,7 @@
 // The first line, and what stands behind carets.
 
 use crate::case::{Act, Case};
+use crate::format::{mismatch_of, put_mismatch};
 use crate::objects::{place_of, put_accessed, put_subject, subject, subject_name};
 use crate::page::{put_tokens, put_words_and};
 use crate::text::{put_a_type, put_integer, put_tree, token_at};
@@ -20,6 +21,10 @@ pub fn is_write(item: Option<Item>) -> bool {
 
 fn is_read(item: Option<Item>) -> bool {
     matches!(item, Some(Item::Read { .. }))
+}
+
+fn is_load(tree: &Typed) -> bool {
+    matches!(&tree.node, Node::Load(_))
 }
 
 // Whether the node stores.
@@ -149,8 +154,8 @@ fn put_outside(
     }
 }
 
-// Whether the access begins at the end of its object or behind it.
-fn is_behind(case: &Case<'_, '_>, act: &Act<'_>) -> bool {
+/// Whether the access begins at the end of its object or behind it.
+pub fn is_behind(case: &Case<'_, '_>, act: &Act<'_>) -> bool {
     match (&act.tree.node, case.moment.place, subject(case)) {
         (
             Node::Load(_) | Node::Assign { .. } | Node::Update { .. },
@@ -192,6 +197,9 @@ fn put_broken(
     clause: Clause,
     act: &Act<'_>,
 ) -> Result<(), NoMemory> {
+    if let Some(mismatch) = mismatch_of(case) {
+        return put_mismatch(out, case.page, &mismatch);
+    }
     match (clause, &act.tree.node) {
         (Clause::Exceptional | Clause::Unrepresentable, Node::Bin(_, _)) => {
             if let Some(pair) = pair_of(case, act) {
@@ -311,7 +319,7 @@ fn put_access(out: &mut Bytes, case: &Case<'_, '_>, act: &Act<'_>) -> Result<(),
         put_accessed(out, case, act)?;
         return put_store(out, case.page, act);
     }
-    if is_read(act.item) {
+    if is_read(act.item) || is_load(act.tree) {
         out.append(b"reads ")?;
         return put_accessed(out, case, act);
     }

@@ -1,14 +1,15 @@
 // What mends a program, with its names.
 
 use crate::case::{Act, Case, clause_of};
+use crate::format::{mismatch_of, printing};
 use crate::heads::is_write;
-use crate::objects::{naming, place_of, subject, type_of};
-use crate::text::put_tree;
+use crate::objects::{NamedObject, elements, naming, place_of, subject};
+use crate::text::{put_tree, token_at};
 use crate::values::pair_of;
 use c_typed::{Node, Typed};
 use c_types::{IntKind, Ty};
 use explain_page::{put_number, put_type};
-use explain_places::{declaration_of, token_of};
+use explain_places::declaration_of;
 use explain_run::parent_of;
 use explain_words::hint_of;
 use ub_base::{Bytes, Clause, Kind, NoMemory};
@@ -92,11 +93,11 @@ fn put_elements(out: &mut Bytes, case: &Case<'_, '_>) -> Result<(), NoMemory> {
     let Some(named) = naming(case, object, case.trail) else {
         return Ok(());
     };
-    let Ty::Array(_, Some(count)) = type_of(named) else {
+    let Some(count) = elements(case, object, named.ty) else {
         return Ok(());
     };
     put_words(out, "The elements of ")?;
-    out.append(case.page.spelling(token_of(named.line)))?;
+    out.append(case.page.spelling(named.name))?;
     put_words(out, " are 0 to ")?;
     put_number(out, count.saturating_sub(1))?;
     put_words(out, ".")
@@ -134,13 +135,23 @@ fn put_widened(out: &mut Bytes, case: &Case<'_, '_>, act: &Act<'_>) -> Result<()
     put_words(out, "`.")
 }
 
+// The name of the function whose call ended the object.
+fn ending_call(case: &Case<'_, '_>) -> Option<u32> {
+    let died = case.target.died?;
+    token_at(case, died.opened, died.node)
+}
+
 // Adds what has to be read before a pointer's object ends.
 fn put_read_before(
     out: &mut Bytes,
     case: &Case<'_, '_>,
     act: &Act<'_>,
 ) -> Result<(), NoMemory> {
-    put_words(out, "Read what is still needed before the object ends")?;
+    put_words(out, "Read what is still needed before ")?;
+    match ending_call(case) {
+        Some(token) => out.append(case.page.spelling(token))?,
+        None => put_words(out, "the object ends")?,
+    }
     if let Some(above) = parent_of(act.root, act.event.node)
         && let Node::Member { .. } = &above.node
     {
@@ -169,33 +180,47 @@ fn put_copied(out: &mut Bytes, case: &Case<'_, '_>, act: &Act<'_>) -> Result<(),
 
 // Adds how an object is given a value where it is declared.
 fn put_initialized(out: &mut Bytes, case: &Case<'_, '_>) -> Result<(), NoMemory> {
-    let Some(object) = subject(case) else {
+    if case.trail.stored.is_some() {
         return put_general(out, Clause::Indeterminate);
-    };
-    let Some(named) = naming(case, object, case.trail) else {
-        return put_general(out, Clause::Indeterminate);
-    };
-    put_declaration(out, case, named)
+    }
+    match subject(case) {
+        Some(object) => match naming(case, object, case.trail) {
+            Some(named) => put_declaration(out, case, named),
+            None => put_general(out, Clause::Indeterminate),
+        },
+        None => put_general(out, Clause::Indeterminate),
+    }
 }
 
 fn is_whole(ty: &Ty) -> bool {
     matches!(ty, Ty::Struct(_) | Ty::Union(_) | Ty::Int(_))
 }
 
+fn is_integer(ty: &Ty) -> bool {
+    matches!(ty, Ty::Int(_))
+}
+
 fn put_declaration(
     out: &mut Bytes,
     case: &Case<'_, '_>,
-    named: &Typed,
+    named: NamedObject<'_>,
 ) -> Result<(), NoMemory> {
-    if !is_whole(type_of(named)) {
+    if !is_whole(named.ty) {
         return put_general(out, Clause::Indeterminate);
     }
-    let name = token_of(named.line);
-    put_words(out, "Give it a value first: `")?;
-    put_type(out, case.page, type_of(named))?;
+    let name = named.name;
+    put_words(
+        out,
+        if is_integer(named.ty) {
+            "Give it a value first: `"
+        } else {
+            "Give every member a value first: `"
+        },
+    )?;
+    put_type(out, case.page, named.ty)?;
     put_words(out, " ")?;
     out.append(case.page.spelling(name))?;
-    match type_of(named) {
+    match named.ty {
         Ty::Int(_) => put_words(out, " = 0;`")?,
         _ => put_words(out, " = {0};`")?,
     }
@@ -204,6 +229,17 @@ fn put_declaration(
         case.page.put_token_place(out, at)?;
     }
     put_words(out, ".")
+}
+
+// Adds which conversion prints what is given.
+fn put_printing(out: &mut Bytes, case: &Case<'_, '_>) -> Result<(), NoMemory> {
+    let Some(mismatch) = mismatch_of(case) else {
+        return put_general(out, Clause::Conversion);
+    };
+    match printing(&mismatch.given.ty) {
+        Some(words) => put_words(out, words),
+        None => put_general(out, Clause::Conversion),
+    }
 }
 
 fn put_single(
@@ -218,6 +254,7 @@ fn put_single(
         Clause::DeadObject => put_read_before(out, case, act),
         Clause::EffectiveType => put_copied(out, case, act),
         Clause::Indeterminate => put_initialized(out, case),
+        Clause::Conversion => put_printing(out, case),
         _ => put_general(out, clause),
     }
 }

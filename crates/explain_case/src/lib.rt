@@ -4,6 +4,7 @@
 mod calls;
 mod case;
 mod first;
+mod format;
 mod heads;
 mod hints;
 mod marks;
@@ -19,7 +20,7 @@ pub use case::{
 };
 pub use first::{put_case, told_at};
 pub use heads::{put_does, put_head};
-pub use marks::{shown_first, shown_second};
+pub use marks::{Marked, marks_of, shown_first};
 pub use notes::{Note, notes_of};
-pub use objects::{naming, size_of, storage_of, subject, type_of};
+pub use objects::{NamedObject, naming, put_object_type, size_of, storage_of, subject};
 pub use text::{put_function, token_at};

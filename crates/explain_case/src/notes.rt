@@ -2,14 +2,14 @@
 
 use crate::calls::put_calls;
 use crate::case::{Act, Case, clause_of};
-use crate::heads::is_write;
+use crate::heads::{is_behind, is_write};
 use crate::hints::put_hint;
 use crate::objects::{place_of, put_by, put_object, subject};
 use crate::values::put_values;
 use c_typed::{Node, Typed};
 use explain_page::{empty, put_long_note, put_number};
 use explain_run::{Outcome, common};
-use explain_words::{ORDER_RULE, TWO_WRITES, rule_of};
+use explain_words::{ORDER_RULE, PAST_THE_END, TWO_WRITES, rule_of};
 use footprint_run::Finding;
 use std::alloc::Global;
 use ub_base::{Bytes, Clause, NoMemory, ObjName};
@@ -145,6 +145,9 @@ fn put_rule(out: &mut Bytes, case: &Case<'_, '_>) -> Result<(), NoMemory> {
     match (case.first, case.second) {
         (Some(first), Some(second)) if is_write(first.item) && is_write(second.item) => {
             out.append(TWO_WRITES.as_bytes())
+        }
+        (Some(first), None) if clause == Clause::OutOfBounds && is_behind(case, &first) => {
+            out.append(PAST_THE_END.as_bytes())
         }
         _ => out.append(rule_of(clause).as_bytes()),
     }

@@ -3,6 +3,7 @@
 use crate::case::{Act, Case};
 use crate::text::{put_function, put_tree, token_at};
 use addr_map::Row;
+use c_lex::{Mark, TokenKind, Tokens};
 use c_typed::{Node, Slot, Typed};
 use c_types::Ty;
 use explain_page::{Page, put_number, put_type};
@@ -28,26 +29,70 @@ pub fn subject(case: &Case<'_, '_>) -> Option<ObjName> {
     }
 }
 
-// The first node in the tree that names this slot.
-fn slot_in(tree: &Typed, slot: Slot) -> Option<&Typed> {
-    if let Node::Obj(found) = &tree.node
-        && *found == slot
-    {
-        return Some(tree);
+/// An object that the text names: the token of a name, and its type.
+#[derive(Clone, Copy)]
+pub struct NamedObject<'p> {
+    pub name: u32,
+    pub ty: &'p Ty,
+}
+
+// The name that a node of an object is, where it is one, or its address.
+fn name_at(tokens: &Tokens<'_>, tree: &Typed) -> Option<u32> {
+    let token = token_of(tree.line);
+    let next = token.saturating_add(1);
+    match (tokens.kind(token), tokens.kind(next)) {
+        (Some(TokenKind::Name), _) => Some(token),
+        (Some(TokenKind::Punct(Mark::Ampersand)), Some(TokenKind::Name)) => Some(next),
+        _ => None,
     }
-    for operand in tree.children.as_slice() {
-        if let Some(found) = slot_in(operand, slot) {
+}
+
+fn is_slot(tree: &Typed, slot: Slot) -> bool {
+    match &tree.node {
+        Node::Obj(found) => *found == slot,
+        _ => false,
+    }
+}
+
+// The number of the first operand that the text spells: the target of an initializer is spelled elsewhere.
+fn first_spelled(tree: &Typed) -> usize {
+    match &tree.node {
+        Node::Assign {
+            initializing: true,
+            ..
+        } => 1,
+        _ => 0,
+    }
+}
+
+// The first node in the tree that names this slot.
+fn slot_in<'t>(tokens: &Tokens<'_>, tree: &'t Typed, slot: Slot) -> Option<NamedObject<'t>> {
+    if is_slot(tree, slot) {
+        return Some(NamedObject {
+            name: name_at(tokens, tree)?,
+            ty: type_of(tree),
+        });
+    }
+    let first = first_spelled(tree);
+    for (number, operand) in tree.children.as_slice().iter().enumerate() {
+        if number >= first
+            && let Some(found) = slot_in(tokens, operand, slot)
+        {
             return Some(found);
         }
     }
     None
 }
 
-fn slot_among<'t>(roots: &[&'t Typed], named: Named) -> Option<&'t Typed> {
+fn slot_among<'t>(
+    tokens: &Tokens<'_>,
+    roots: &[&'t Typed],
+    named: Named,
+) -> Option<NamedObject<'t>> {
     for (number, root) in roots.iter().enumerate() {
         if number >= named.first as usize
             && number <= named.last as usize
-            && let Some(found) = slot_in(root, named.slot)
+            && let Some(found) = slot_in(tokens, root, named.slot)
         {
             return Some(found);
         }
@@ -66,10 +111,15 @@ pub fn place_of(tree: &Typed) -> &Typed {
     }
 }
 
-/// A node that names this object, of which these are the deeds.
-pub fn naming<'c>(case: &Case<'c, '_>, object: ObjName, trail: &Trail) -> Option<&'c Typed> {
+/// How the text names this object, of which these are the deeds.
+pub fn naming<'c>(
+    case: &Case<'c, '_>,
+    object: ObjName,
+    trail: &Trail,
+) -> Option<NamedObject<'c>> {
     match object {
         ObjName::Static(number) => slot_among(
+            case.page.tokens,
             case.roots,
             Named {
                 slot: Slot::Static(number),
@@ -77,7 +127,7 @@ pub fn naming<'c>(case: &Case<'c, '_>, object: ObjName, trail: &Trail) -> Option
                 last: u32::MAX,
             },
         ),
-        _ => slot_among(case.roots, trail.named?),
+        _ => slot_among(case.page.tokens, case.roots, trail.named?),
     }
 }
 
@@ -106,7 +156,7 @@ pub fn put_subject(out: &mut Bytes, case: &Case<'_, '_>) -> Result<(), NoMemory>
 /// The token that names the object which a finding is about.
 pub fn subject_name(case: &Case<'_, '_>) -> Option<u32> {
     let named = naming(case, subject(case)?, case.trail)?;
-    Some(token_of(named.line))
+    Some(named.name)
 }
 
 /// The kind of storage of an object.
@@ -120,8 +170,8 @@ pub fn storage_of(object: ObjName) -> &'static [u8] {
     }
 }
 
-/// The type of an object that a node names.
-pub fn type_of(named: &Typed) -> &Ty {
+// The type of an object that a node names.
+fn type_of(named: &Typed) -> &Ty {
     match &named.ty {
         Ty::Pointer(target) => &target.get().ty,
         ty => ty,
@@ -156,17 +206,50 @@ fn put_declared(
     Ok(())
 }
 
+/// How many elements of this type an object is an array of; none where it isn't one.
+pub fn elements(case: &Case<'_, '_>, object: ObjName, ty: &Ty) -> Option<u64> {
+    let extent = case.program.tags.extent(ty)?;
+    let size = size_of(case, object);
+    if extent.size == 0 || size == extent.size {
+        return None;
+    }
+    Some(size / extent.size)
+}
+
+/// Adds the type of an object that the text names.
+pub fn put_object_type(
+    out: &mut Bytes,
+    case: &Case<'_, '_>,
+    object: ObjName,
+    named: NamedObject<'_>,
+) -> Result<(), NoMemory> {
+    match (elements(case, object, named.ty), named.ty) {
+        (None, _) => put_type(out, case.page, named.ty),
+        (Some(count), Ty::Array(_, _)) => {
+            put_number(out, count)?;
+            out.append(b" times ")?;
+            put_type(out, case.page, named.ty)
+        }
+        (Some(count), _) => {
+            put_type(out, case.page, named.ty)?;
+            out.push(b'[')?;
+            put_number(out, count)?;
+            out.push(b']')
+        }
+    }
+}
+
 // Adds what is known of an object that a node names.
 fn put_named(
     out: &mut Bytes,
     case: &Case<'_, '_>,
     object: ObjName,
-    named: &Typed,
+    named: NamedObject<'_>,
 ) -> Result<(), NoMemory> {
-    let name = token_of(named.line);
+    let name = named.name;
     out.append(case.page.spelling(name))?;
     out.append(b": ")?;
-    put_type(out, case.page, type_of(named))?;
+    put_object_type(out, case, object, named)?;
     out.append(b", ")?;
     put_number(out, size_of(case, object))?;
     out.append(b" bytes, ")?;

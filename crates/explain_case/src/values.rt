@@ -1,7 +1,7 @@
 // The values of operands.
 
 use crate::case::{Act, Case};
-use crate::objects::{naming, place_of, subject};
+use crate::objects::{naming, place_of, put_subject, subject};
 use crate::text::{put_integer, put_tree, token_at};
 use c_typed::{Node, Typed};
 use c_types::{BinOp, IntKind};
@@ -133,7 +133,7 @@ fn put_object_name(
     object: ObjName,
 ) -> Result<(), NoMemory> {
     match naming(case, object, case.trail) {
-        Some(named) => out.append(case.page.spelling(token_of(named.line))),
+        Some(named) => out.append(case.page.spelling(named.name)),
         None => out.append(b"the object"),
     }
 }
@@ -256,7 +256,9 @@ fn put_unset(out: &mut Bytes, case: &Case<'_, '_>) -> Result<(), NoMemory> {
     match case.trail.stored {
         None => out.append(b"never stored"),
         Some(touch) => {
-            out.append(b"never stored by itself: it was stored whole")?;
+            out.append(b"never stored: ")?;
+            put_subject(out, case)?;
+            out.append(b" was stored whole")?;
             if let Some(token) = token_at(case, touch.opened, touch.node) {
                 out.append(b" at ")?;
                 case.page.put_token_place(out, token)?;

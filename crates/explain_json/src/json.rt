@@ -1,10 +1,9 @@
 // An explanation as JSON.
 
 use c_names::{write_event, write_object};
-use c_typed::Typed;
 use explain_case::{
-    Act, Case, end_of, naming, notes_of, put_does, put_function, put_head, shown_first,
-    shown_second, sites_of, size_of, storage_of, subject, token_at, told_at, type_of,
+    Act, Case, Marked, NamedObject, end_of, marks_of, naming, notes_of, put_function, put_head, put_object_type,
+    shown_first, sites_of, size_of, storage_of, subject, token_at, told_at,
 };
 use explain_page::{Page, Stretch, empty, put_number, put_type};
 use explain_places::{declaration_of, function_of, token_of};
@@ -166,7 +165,7 @@ fn stretch_members(
     Ok(map)
 }
 
-// The last token's line, which the end of a mark stands on.
+// The operator of an evaluation, and its end, which may stand on another line.
 fn put_operator(
     alloc: Global,
     map: &mut Members,
@@ -247,24 +246,36 @@ fn put_item(
     put_text(alloc, map, "item", text.as_slice())
 }
 
-fn mark_value(alloc: Global, case: &Case<'_, '_>, act: &Act<'_>) -> Result<Value, NoMemory> {
-    let mut does = empty(alloc);
-    put_does(&mut does, case, act)?;
-    let stretch = case.page.stretch(act.extent);
-    let mut map = stretch_members(alloc, case.page, &stretch, does.as_slice())?;
-    put_operator(alloc, &mut map, case, act)?;
-    put_event(alloc, &mut map, case, act)?;
-    put_item(alloc, &mut map, case, act)?;
+fn put_act(
+    alloc: Global,
+    map: &mut Members,
+    case: &Case<'_, '_>,
+    act: &Act<'_>,
+) -> Result<(), NoMemory> {
+    put_operator(alloc, map, case, act)?;
+    put_event(alloc, map, case, act)?;
+    put_item(alloc, map, case, act)
+}
+
+fn mark_value(
+    alloc: Global,
+    case: &Case<'_, '_>,
+    marked: &Marked<'_>,
+) -> Result<Value, NoMemory> {
+    let mut map = stretch_members(alloc, case.page, &marked.stretch, marked.does.as_slice())?;
+    if let Some(act) = &marked.act {
+        put_act(alloc, &mut map, case, act)?;
+    }
     Ok(Value::Object(map))
 }
 
-fn marks_value(alloc: Global, case: &Case<'_, '_>, first: &Act<'_>) -> Result<Value, NoMemory> {
-    let mut marks = Vec::new(alloc);
-    marks.push(mark_value(alloc, case, first)?)?;
-    if let Some(second) = &shown_second(case) {
-        marks.push(mark_value(alloc, case, second)?)?;
+fn marks_value(alloc: Global, case: &Case<'_, '_>) -> Result<Value, NoMemory> {
+    let mut values = Vec::new(alloc);
+    let marks = marks_of(alloc, case)?;
+    for marked in marks.iter() {
+        values.push(mark_value(alloc, case, marked)?)?;
     }
-    Ok(Value::Array(marks))
+    Ok(Value::Array(values))
 }
 
 fn function_value(alloc: Global, page: &Page<'_, '_>, inside: u32) -> Result<Value, NoMemory> {
@@ -339,13 +350,13 @@ fn put_named(
     map: &mut Members,
     case: &Case<'_, '_>,
     object: ObjName,
-    named: &Typed,
+    named: NamedObject<'_>,
 ) -> Result<(), NoMemory> {
     let page = case.page;
-    let name = token_of(named.line);
+    let name = named.name;
     put_text(alloc, map, "name", page.spelling(name))?;
     let mut ty = empty(alloc);
-    put_type(&mut ty, page, type_of(named))?;
+    put_object_type(&mut ty, case, object, named)?;
     put_text(alloc, map, "type", ty.as_slice())?;
     if let ObjName::Auto { .. } = object {
         put_inside(alloc, map, page, name)?;
@@ -410,8 +421,8 @@ fn put_head_text(alloc: Global, map: &mut Members, case: &Case<'_, '_>) -> Resul
 // The members of a case that stands at a place.
 fn put_told(alloc: Global, map: &mut Members, case: &Case<'_, '_>) -> Result<(), NoMemory> {
     put_token(alloc, map, "at", case.page, told_at(case))?;
-    if let Some(first) = &shown_first(case) {
-        put(map, alloc, "marks", marks_value(alloc, case, first)?)?;
+    if shown_first(case).is_some() {
+        put(map, alloc, "marks", marks_value(alloc, case)?)?;
     }
     put_calls(alloc, map, case)?;
     put_object(alloc, map, case)

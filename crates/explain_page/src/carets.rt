@@ -1,4 +1,6 @@
 // Lines of source with carets under them.
+ghost use Rattle.std.specs.Prelude.{◌≡◌};
+ghost use Rattle.explain_page.specs.Columns.{caret_under};
 
 use crate::page::{Page, Stretch, part};
 use crate::shown::{column_behind, put_number, put_shown, put_times, width_of};
@@ -50,7 +52,9 @@ fn put_source_line(out: &mut Bytes, number: u32, line: &[u8]) -> Result<(), NoMe
 }
 
 // What stands under a byte of the text.
-fn caret_under(stretch: &Stretch, at: usize) -> u8 {
+fn caret_under(stretch: &Stretch, at: usize) -> u8
+    ensures { result ≡ caret_under stretch.now at }
+{
     if at < stretch.start {
         b' '
     } else if at >= stretch.operator && at < stretch.operator_end {

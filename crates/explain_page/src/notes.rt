@@ -1,4 +1,5 @@
 // Notes.
+ghost use Rattle.std.specs.Prelude.{◌≡◌, ◌++◌, ◌∷◌, [], ◌-◌, length, replicate, codes, OnOk};
 
 use crate::shown::put_times;
 use ub_base::{Bytes, NoMemory};
@@ -8,14 +9,18 @@ const WIDTH: usize = 118;
 const INDENT: usize = 10;
 
 // Adds the name of a note, up to the column where its text begins.
-fn put_name(out: &mut Bytes, name: &[u8]) -> Result<(), NoMemory> {
+fn put_name(out: &mut Bytes, name: &[u8]) -> Result<(), NoMemory>
+    ensures { OnOk result (out.new ≡ ((out.old ++ codes "  ") ++ name.now) ++ replicate (8 - length name.now) 32) }
+{
     out.append(b"  ")?;
     out.append(name)?;
     put_times(out, b' ', 8usize.saturating_sub(name.len()))
 }
 
 /// Adds a note in one line.
-pub fn put_note(out: &mut Bytes, name: &[u8], text: &[u8]) -> Result<(), NoMemory> {
+pub fn put_note(out: &mut Bytes, name: &[u8], text: &[u8]) -> Result<(), NoMemory>
+    ensures { OnOk result (out.new ≡ ((((out.old ++ codes "  ") ++ name.now) ++ replicate (8 - length name.now) 32) ++ text.now) ++ 10 ∷ []) }
+{
     put_name(out, name)?;
     out.append(text)?;
     out.push(b'\n')

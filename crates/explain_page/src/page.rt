@@ -1,4 +1,5 @@
 // A text with its tokens, and the places in it.
+ghost use Rattle.std.specs.Prelude.{◌≡◌, drop, take};
 
 use crate::shown::put_number;
 use c_lex::Tokens;
@@ -28,7 +29,9 @@ pub struct Stretch {
 }
 
 /// The bytes from `start` up to but without `end`, as far as they are there.
-pub fn part(text: &[u8], start: usize, end: usize) -> &[u8] {
+pub fn part(text: &[u8], start: usize, end: usize) -> &[u8]
+    ensures { result.now ≡ drop start (take end text.now) }
+{
     let (front, _) = text.split_at(end.min(text.len()));
     let (_, behind) = front.split_at(start.min(front.len()));
     behind

@@ -1,24 +1,32 @@
 // Bytes as they are shown.
+ghost use Rattle.std.specs.Prelude.{◌≡◌, ◌++◌, ◌<◌, ◌^◌, decimal, replicate, OnOk};
+ghost use Rattle.explain_page.specs.Columns.{column_behind};
 
 use itoa::Buffer;
 use ub_base::{Bytes, NoMemory};
 
 /// Adds a number in decimal.
-pub fn put_number(out: &mut Bytes, number: u64) -> Result<(), NoMemory> {
+pub fn put_number(out: &mut Bytes, number: u64) -> Result<(), NoMemory>
+    ensures { OnOk result (out.new ≡ out.old ++ decimal number) }
+{
     let mut digits = Buffer::new();
     out.append(digits.format(number).as_bytes())
 }
 
 /// Adds a byte so many times.
-pub fn put_times(out: &mut Bytes, byte: u8, times: usize) -> Result<(), NoMemory> {
-    for _ in 0..times {
+pub fn put_times(out: &mut Bytes, byte: u8, times: usize) -> Result<(), NoMemory>
+    ensures { OnOk result (out.new ≡ out.old ++ replicate times byte) }
+{
+    for _turn in 0..times {
         out.push(byte)?;
     }
     Ok(())
 }
 
 /// The column behind a byte at this column, from 0; tabs go to multiples of 8.
-pub fn column_behind(column: usize, byte: u8) -> usize {
+pub fn column_behind(column: usize, byte: u8) -> usize
+    ensures { column < 2 ^ 62 → result ≡ column_behind column byte }
+{
     if byte == b'\t' {
         (column / 8).saturating_add(1).saturating_mul(8)
     } else {

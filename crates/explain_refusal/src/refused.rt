@@ -34,6 +34,8 @@ pub enum Rule {
     LeftOut { name: &'static str, paragraph: &'static str },
     /// A constraint.
     Constraint(&'static str),
+    /// A paragraph that is no constraint.
+    Broken(&'static str),
 }
 
 /// A note of a refusal.
@@ -73,6 +75,10 @@ fn put_rule(out: &mut Bytes, rule: Rule) -> Result<(), NoMemory> {
             out.append(b"); this tool reads no ")?;
             out.append(name.as_bytes())?;
             out.append(b" (PROFILE.md, Left out). Nothing was run.")
+        }
+        Rule::Broken(paragraph) => {
+            out.append(paragraph.as_bytes())?;
+            out.append(b" is broken. Nothing was run.")
         }
         Rule::Constraint(paragraph) => {
             out.append(paragraph.as_bytes())?;

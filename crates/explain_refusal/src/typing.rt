@@ -78,6 +78,53 @@ fn assigned(page: &Page<'_, '_>, token: u32) -> Option<Stretch> {
     None
 }
 
+// Whether the paragraph is no constraint, so that a compiler needn't say that it is broken.
+fn is_semantic(reason: Reason) -> bool {
+    matches!(
+        reason,
+        Reason::VoidValue
+            | Reason::IncompleteValue
+            | Reason::CharacterConstant
+            | Reason::StringLiteral
+            | Reason::IncompatibleScopes
+            | Reason::LinkageClash
+            | Reason::IncompleteObject
+            | Reason::LocalFunctionStorage
+            | Reason::UnnamedMemberTwice
+            | Reason::NextEnumerator
+            | Reason::QualifiedFunction
+            | Reason::VoidParameter
+    ) || is_semantic_behind(reason)
+}
+
+fn is_semantic_behind(reason: Reason) -> bool {
+    matches!(
+        reason,
+        Reason::TypeName
+            | Reason::ScalarInitializer
+            | Reason::WholeInitializer
+            | Reason::TextInitializer
+            | Reason::ListInitializer
+            | Reason::EmptyList
+            | Reason::AssertionConstant
+            | Reason::ExternalDefinition
+            | Reason::IncompleteAtEnd
+            | Reason::IncompleteTentative
+            | Reason::MainType
+            | Reason::LibraryName
+    )
+}
+
+fn rule_of(reason: Reason, paragraph: &'static str) -> Rule {
+    if paragraph == "own" {
+        Rule::Unsaid
+    } else if is_semantic(reason) {
+        Rule::Broken(paragraph)
+    } else {
+        Rule::Constraint(paragraph)
+    }
+}
+
 fn constraint(
     reason: Reason,
     quotes: bool,
@@ -92,7 +139,7 @@ fn constraint(
         sentence,
         stretch,
         does: "here",
-        rule: if paragraph == "own" { Rule::Unsaid } else { Rule::Constraint(paragraph) },
+        rule: rule_of(reason, paragraph),
         hint: None,
     }
 }

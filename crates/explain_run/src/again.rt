@@ -11,7 +11,7 @@ use run_machine::{Code, Machine, Pick, code_of, prepare};
 use std::alloc::Global;
 use ub_base::{Bytes, Event, Frames, Kind, NoMemory};
 
-/// A run: its program, its input and the words behind the program's name, and how its objects are placed.
+/// What a run is given: its input, the words behind the program's name, and how its objects are placed.
 #[derive(Clone, Copy)]
 pub struct Course<'r> {
     pub input: &'r [u8],
@@ -43,7 +43,20 @@ fn follow(machine: &mut Machine, frames: &mut Frames, picks: u64) -> Result<(), 
     Ok(())
 }
 
-/// What stands before the pick of this number, from 1, that this event is.
+const NEAR: u64 = 16;
+
+// Goes on to where a full expression is open, where one is within a few picks.
+fn follow_to_open(machine: &mut Machine, frames: &mut Frames) -> Result<(), NoMemory> {
+    for _ in 0..NEAR {
+        if machine.top.stage.is_some() || step(machine, frames)?.is_none() {
+            return Ok(());
+        }
+    }
+    Ok(())
+}
+
+/// What stands before the pick of this number, from 1, that this event is; without an event, what stands where a full
+/// expression is open there, or a few picks behind.
 pub fn moment_before(
     alloc: Global,
     core: &CoreProgram<'_>,
@@ -55,6 +68,9 @@ pub fn moment_before(
     let mut machine = started(alloc, core, &code, course)?;
     let mut frames = Frames::new(alloc);
     follow(&mut machine, &mut frames, pick.saturating_sub(1))?;
+    if event.is_none() {
+        follow_to_open(&mut machine, &mut frames)?;
+    }
     let mut moment = Moment::new(alloc);
     moment.keep(&machine, event)?;
     Ok(moment)
