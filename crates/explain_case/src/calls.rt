@@ -1,10 +1,10 @@
 // The calls that lead to an evaluation.
 
-use crate::case::{Act, Case, last_open};
+use crate::case::{Act, Case};
 use crate::text::put_function;
+use explain_facts::{CallSite, Opened, calls_of, tree_at};
 use explain_page::{Page, empty, put_note, put_number};
 use explain_places::{extent_of, token_of};
-use explain_run::{CallSite, Opened, calls_of, tree_at};
 use std::alloc::Global;
 use ub_base::{Bytes, Event, Frame, Kind, NoMemory};
 
@@ -103,7 +103,7 @@ pub fn sites_of(
     calls_of(
         alloc,
         case.roots,
-        &case.audit.frames,
+        case.found.frames,
         case.moment.open.as_slice(),
         frame,
     )
@@ -114,7 +114,7 @@ pub fn end_of(case: &Case<'_, '_>) -> Option<(Frame, u32)> {
     if let Some(first) = &case.first {
         return Some((first.event.frame, first.extent.first));
     }
-    let opened = last_open(case.moment)?;
+    let opened = case.moment.innermost()?;
     let root = tree_at(case.roots, opened.tree, 0)?;
     Some((opened.frame, token_of(root.line)))
 }
@@ -130,7 +130,7 @@ pub fn put_calls(alloc: Global, out: &mut Bytes, case: &Case<'_, '_>) -> Result<
 
 // The event that started a frame, where this full expression made it.
 fn call_from<'c>(case: &Case<'c, '_>, frame: Frame, opened: &Opened) -> Option<Act<'c>> {
-    let frames = &case.audit.frames;
+    let frames = case.found.frames;
     if frame.0 == 0 || frame.0 > frames.len() {
         return None;
     }

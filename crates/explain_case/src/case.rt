@@ -1,12 +1,11 @@
 // What is explained: a finding with the nodes of its events.
 
+use addr_map::AddrMap;
 use c_typed::{Program, Typed};
+use explain_facts::{Events, Found, Moment, Outcome, Sought, Trail, node_at, root_with};
 use explain_page::Page;
 use explain_places::{Extent, extent_of};
-use explain_run::{Moment, Opened, Outcome, Sought, Trail, node_at, root_with};
-use footprint_run::{Audit, Finding};
-use addr_map::AddrMap;
-use ub_base::{Clause, Event, Item};
+use ub_base::{Event, Item};
 
 /// An evaluation of a finding: its event, the full expression and the node of it with the tokens of that, and what it touches.
 #[derive(Clone, Copy)]
@@ -24,7 +23,7 @@ pub struct Case<'c, 'a> {
     pub page: &'c Page<'c, 'a>,
     pub program: &'c Program,
     pub roots: &'c [&'c Typed],
-    pub audit: &'c Audit,
+    pub found: Found<'c>,
     /// Before the last pick.
     pub moment: &'c Moment,
     /// What was done to the object that is touched.
@@ -37,76 +36,6 @@ pub struct Case<'c, 'a> {
     pub call: Option<Act<'c>>,
     /// How the run ends where the calls are made in the order of the text, and in the other one.
     pub both: Option<(&'c Outcome, &'c Outcome)>,
-}
-
-/// Two events, their lines, and their items, where there are two; the first one alone, where it broke a clause by itself.
-#[derive(Clone, Copy)]
-pub struct Events {
-    pub event: Event,
-    pub line: u32,
-    pub against: Option<(Event, u32)>,
-    pub items: Option<(Item, Item)>,
-}
-
-/// The events of a finding.
-pub fn events_of(finding: &Finding) -> Option<Events> {
-    match *finding {
-        Finding::Undefined {
-            event,
-            line,
-            race,
-            ..
-        } => Some(Events {
-            event,
-            line,
-            against: race.map(|race| (race.against, race.against_line)),
-            items: race.map(|race| race.items),
-        }),
-        Finding::OrderDependent {
-            event,
-            line,
-            against,
-            against_line,
-            items,
-            ..
-        } => Some(Events {
-            event,
-            line,
-            against: Some((against, against_line)),
-            items: Some(items),
-        }),
-        _ => None,
-    }
-}
-
-/// The clause of a finding.
-pub fn clause_of(finding: &Finding) -> Option<Clause> {
-    match finding {
-        Finding::Undefined { clause, .. } => Some(*clause),
-        _ => None,
-    }
-}
-
-/// Its first word in the report.
-pub fn verdict_of(finding: &Finding) -> &'static [u8] {
-    match finding {
-        Finding::Clean { .. } => b"clean",
-        Finding::Undefined { .. } => b"undefined",
-        Finding::OrderDependent { .. } => b"order-dependent",
-        Finding::OutOfSteps { .. } => b"out of steps",
-        Finding::Outside { .. } => b"outside",
-    }
-}
-
-/// How many picks lead to it.
-pub fn picks_of(finding: &Finding) -> u64 {
-    match finding {
-        Finding::Clean { picks, .. }
-        | Finding::Undefined { picks, .. }
-        | Finding::OrderDependent { picks, .. }
-        | Finding::OutOfSteps { picks }
-        | Finding::Outside { picks, .. } => *picks,
-    }
 }
 
 // An event with its node.
@@ -189,12 +118,4 @@ fn accessed(moment: &Moment, map: &AddrMap) -> Option<Sought> {
         from: aim.addr.saturating_sub(row.base),
         len: 1,
     })
-}
-
-/// The innermost full expression that is open at the end of a run.
-pub fn last_open(moment: &Moment) -> Option<Opened> {
-    match moment.open.as_slice().last() {
-        Some(opened) => Some(*opened),
-        None => None,
-    }
 }

@@ -1,11 +1,11 @@
 // The explanation of a case.
 
 use crate::calls::end_of;
-use crate::case::{Case, verdict_of};
+use crate::case::Case;
 use crate::heads::put_head;
 use crate::marks::{put_events, shown_first};
 use crate::notes::put_notes;
-use footprint_run::Finding;
+use explain_facts::Verdict;
 use std::alloc::Global;
 use ub_base::{Bytes, Cause, NoMemory};
 
@@ -15,8 +15,8 @@ pub fn told_at(case: &Case<'_, '_>) -> Option<u32> {
     if let Some(first) = shown_first(case) {
         return Some(first.extent.first);
     }
-    match case.audit.finding {
-        Finding::OutOfSteps { .. } | Finding::Outside { .. } => {
+    match case.found.verdict {
+        Verdict::OutOfSteps(_) | Verdict::Outside { .. } => {
             let (_, at) = end_of(case)?;
             Some(at)
         }
@@ -45,10 +45,10 @@ fn cause_name(cause: Cause) -> &'static str {
 }
 
 fn paragraph_of(case: &Case<'_, '_>) -> Option<&'static str> {
-    match case.audit.finding {
-        Finding::Undefined { clause, .. } => Some(clause.text()),
-        Finding::OrderDependent { .. } => Some("6.5.2.2p10"),
-        Finding::Outside { cause, .. } => Some(cause_name(cause)),
+    match case.found.verdict {
+        Verdict::Undefined(clause) => Some(clause.text()),
+        Verdict::OrderDependent => Some("6.5.2.2p10"),
+        Verdict::Outside { cause, .. } => Some(cause_name(cause)),
         _ => None,
     }
 }
@@ -66,7 +66,7 @@ fn put_paragraph(out: &mut Bytes, case: &Case<'_, '_>) -> Result<(), NoMemory> {
 
 fn put_first_line(out: &mut Bytes, case: &Case<'_, '_>) -> Result<(), NoMemory> {
     put_place(out, case)?;
-    out.append(verdict_of(&case.audit.finding))?;
+    out.append(case.found.verdict.word().as_bytes())?;
     put_paragraph(out, case)?;
     out.append(b": ")?;
     put_head(out, case)?;

@@ -1,6 +1,6 @@
 // The first conversion of a format that is given another type than it takes.
 
-use crate::case::{Act, Case, clause_of};
+use crate::case::{Act, Case};
 use crate::text::put_a_type;
 use c_lex::TokenKind;
 use c_typed::{Node, Typed};
@@ -210,7 +210,7 @@ fn format_of(page: &Page<'_, '_>, call: &Typed) -> Option<(usize, u32)> {
 
 /// The conversion that breaks 7.21.6.1p9, where the format is a literal and the type tells it.
 pub fn mismatch_of<'c>(case: &Case<'c, '_>) -> Option<Mismatch<'c>> {
-    if clause_of(&case.audit.finding) != Some(Clause::Conversion) || case.call.is_some() {
+    if case.found.verdict.clause() != Some(Clause::Conversion) || case.call.is_some() {
         return None;
     }
     let first: Act<'c> = case.first?;
@@ -219,11 +219,7 @@ pub fn mismatch_of<'c>(case: &Case<'c, '_>) -> Option<Mismatch<'c>> {
 }
 
 /// Adds what a conversion takes.
-pub fn put_taken(
-    out: &mut Bytes,
-    page: &Page<'_, '_>,
-    takes: Taken,
-) -> Result<(), NoMemory> {
+pub fn put_taken(out: &mut Bytes, page: &Page<'_, '_>, takes: Taken) -> Result<(), NoMemory> {
     match takes {
         Taken::Integer(kind) => put_a_type(out, page, &Ty::Int(kind)),
         Taken::Text => out.append(b"a pointer to characters"),

@@ -7,11 +7,10 @@ use crate::page::{put_tokens, put_words_and};
 use crate::text::{put_a_type, put_integer, put_tree, token_at};
 use crate::values::{Pair, pair_of};
 use c_typed::{Access, Node, Typed};
+use explain_facts::{Touch, Verdict, is_within, tree_at};
 use explain_page::{Page, put_number, put_type};
 use explain_places::{Extent, extent_of};
-use explain_run::{Touch, is_within, tree_at};
 use explain_words::head_of;
-use footprint_run::Finding;
 use ub_base::{Bytes, Cause, Clause, Item, Kind, NoMemory};
 
 /// Whether the item is a write.
@@ -137,11 +136,7 @@ fn put_out_of_range(
 }
 
 // Adds that an expression goes past an end of its object.
-fn put_outside(
-    out: &mut Bytes,
-    case: &Case<'_, '_>,
-    act: &Act<'_>,
-) -> Result<(), NoMemory> {
+fn put_outside(out: &mut Bytes, case: &Case<'_, '_>, act: &Act<'_>) -> Result<(), NoMemory> {
     put_tree(out, case.page, place_of(act.tree))?;
     if stores(act.tree) {
         out.append(b" is written behind the end of ")?;
@@ -157,14 +152,11 @@ fn put_outside(
 /// Whether the access begins at the end of its object or behind it.
 pub fn is_behind(case: &Case<'_, '_>, act: &Act<'_>) -> bool {
     match (&act.tree.node, case.moment.place, subject(case)) {
-        (
-            Node::Load(_) | Node::Assign { .. } | Node::Update { .. },
-            Some(aim),
-            Some(object),
-        ) => match case.audit.map.row(object) {
-            Some(row) => aim.addr >= row.base.saturating_add(row.size),
-            None => false,
-        },
+        (Node::Load(_) | Node::Assign { .. } | Node::Update { .. }, Some(aim), Some(object)) =>
+            match case.found.map.row(object) {
+                Some(row) => aim.addr >= row.base.saturating_add(row.size),
+                None => false,
+            },
         _ => false,
     }
 }
@@ -255,17 +247,22 @@ fn put_undefined(out: &mut Bytes, case: &Case<'_, '_>, clause: Clause) -> Result
     }
 }
 
+fn put_dependent(out: &mut Bytes, case: &Case<'_, '_>) -> Result<(), NoMemory> {
+    put_library_call(out, case)?;
+    match (case.first, case.second) {
+        (Some(first), Some(second)) => put_dependence(out, case, &first, &second),
+        _ => out.append(b"two evaluations depend on their order"),
+    }
+}
+
 /// Adds the sentence of the first line.
 pub fn put_head(out: &mut Bytes, case: &Case<'_, '_>) -> Result<(), NoMemory> {
-    match case.audit.finding {
-        Finding::Undefined { clause, .. } => put_undefined(out, case, clause),
-        Finding::OrderDependent { .. } => match (case.first, case.second) {
-            (Some(first), Some(second)) => put_dependence(out, case, &first, &second),
-            _ => out.append(b"two evaluations depend on their order"),
-        },
-        Finding::Clean { status, .. } => put_clean(out, status, case.audit.output.len()),
-        Finding::OutOfSteps { picks } => put_out_of_steps(out, picks),
-        Finding::Outside { cause, number, .. } => put_limit(out, cause, number),
+    match case.found.verdict {
+        Verdict::Undefined(clause) => put_undefined(out, case, clause),
+        Verdict::OrderDependent => put_dependent(out, case),
+        Verdict::Clean { status } => put_clean(out, status, case.found.output.len()),
+        Verdict::OutOfSteps(picks) => put_out_of_steps(out, picks),
+        Verdict::Outside { cause, number } => put_limit(out, cause, number),
     }
 }
 
@@ -329,9 +326,7 @@ fn put_access(out: &mut Bytes, case: &Case<'_, '_>, act: &Act<'_>) -> Result<(),
 // The first access in the body of a call to the bytes that two events share.
 fn touch_in(case: &Case<'_, '_>, act: &Act<'_>) -> Option<Touch> {
     for touch in case.trail.touches.as_slice() {
-        if touch.writes == is_write(act.item)
-            && is_within(&case.audit.frames, touch, &act.event)
-        {
+        if touch.writes == is_write(act.item) && is_within(case.found.frames, touch, &act.event) {
             return Some(*touch);
         }
     }
@@ -339,12 +334,12 @@ fn touch_in(case: &Case<'_, '_>, act: &Act<'_>) -> Option<Touch> {
 }
 
 // Adds what the call does to the object that two events share.
-fn put_shared_access(
-    out: &mut Bytes,
-    case: &Case<'_, '_>,
-    act: &Act<'_>,
-) -> Result<(), NoMemory> {
-    out.append(if is_write(act.item) { b"writes " } else { b"reads " })?;
+fn put_shared_access(out: &mut Bytes, case: &Case<'_, '_>, act: &Act<'_>) -> Result<(), NoMemory> {
+    out.append(if is_write(act.item) {
+        b"writes "
+    } else {
+        b"reads "
+    })?;
     put_subject(out, case)?;
     if let Some(touch) = touch_in(case, act)
         && let Some(token) = token_at(case, touch.opened, touch.node)
@@ -366,11 +361,7 @@ fn put_call(out: &mut Bytes, case: &Case<'_, '_>, act: &Act<'_>) -> Result<(), N
 }
 
 // Adds the types of the operands round the operator.
-fn put_operand_types(
-    out: &mut Bytes,
-    page: &Page<'_, '_>,
-    act: &Act<'_>,
-) -> Result<(), NoMemory> {
+fn put_operand_types(out: &mut Bytes, page: &Page<'_, '_>, act: &Act<'_>) -> Result<(), NoMemory> {
     match (act.tree.children.get(0), act.tree.children.get(1)) {
         (Some(left), Some(right)) => {
             put_type(out, page, &left.ty)?;

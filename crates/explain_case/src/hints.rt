@@ -1,6 +1,6 @@
 // What mends a program, with its names.
 
-use crate::case::{Act, Case, clause_of};
+use crate::case::{Act, Case};
 use crate::format::{mismatch_of, printing};
 use crate::heads::is_write;
 use crate::objects::{NamedObject, elements, naming, place_of, subject};
@@ -8,9 +8,9 @@ use crate::text::{put_tree, token_at};
 use crate::values::pair_of;
 use c_typed::{Node, Typed};
 use c_types::{IntKind, Ty};
+use explain_facts::parent_of;
 use explain_page::{put_number, put_type};
 use explain_places::declaration_of;
-use explain_run::parent_of;
 use explain_words::hint_of;
 use ub_base::{Bytes, Clause, Kind, NoMemory};
 
@@ -42,7 +42,14 @@ fn put_one_store(
     put_words(out, " = ")?;
     put_tree(out, case.page, place)?;
     let sign = case.page.spelling(second.extent.operator);
-    put_words(out, if sign == b"--".as_slice() { " - 1;`." } else { " + 1;`." })
+    put_words(
+        out,
+        if sign == b"--".as_slice() {
+            " - 1;`."
+        } else {
+            " + 1;`."
+        },
+    )
 }
 
 fn is_step(tree: &Typed) -> bool {
@@ -142,11 +149,7 @@ fn ending_call(case: &Case<'_, '_>) -> Option<u32> {
 }
 
 // Adds what has to be read before a pointer's object ends.
-fn put_read_before(
-    out: &mut Bytes,
-    case: &Case<'_, '_>,
-    act: &Act<'_>,
-) -> Result<(), NoMemory> {
+fn put_read_before(out: &mut Bytes, case: &Case<'_, '_>, act: &Act<'_>) -> Result<(), NoMemory> {
     put_words(out, "Read what is still needed before ")?;
     match ending_call(case) {
         Some(token) => out.append(case.page.spelling(token))?,
@@ -164,11 +167,15 @@ fn put_read_before(
 // Adds how the bytes of an element are copied.
 fn put_copied(out: &mut Bytes, case: &Case<'_, '_>, act: &Act<'_>) -> Result<(), NoMemory> {
     let place = place_of(act.tree);
-    let (Node::PtrAdd { subtract: false, .. }, Some(pointer), Some(index)) = (
-        &place.node,
-        place.children.get(0),
-        place.children.get(1),
-    ) else {
+    let (
+        Node::PtrAdd {
+            subtract: false,
+            ..
+        },
+        Some(pointer),
+        Some(index),
+    ) = (&place.node, place.children.get(0), place.children.get(1))
+    else {
         return put_words(out, "Copy the bytes with memcpy.");
     };
     put_words(out, "Copy the bytes: `memcpy(&word, ")?;
@@ -261,7 +268,7 @@ fn put_single(
 
 /// Adds what mends the program, where that doesn't hang on what is meant.
 pub fn put_hint(out: &mut Bytes, case: &Case<'_, '_>) -> Result<(), NoMemory> {
-    match (&case.first, &case.second, clause_of(&case.audit.finding)) {
+    match (&case.first, &case.second, case.found.verdict.clause()) {
         (Some(first), Some(second), _) => put_pair(out, case, first, second),
         (Some(first), None, Some(clause)) => put_single(out, case, clause, first),
         _ => Ok(()),

@@ -15,9 +15,7 @@ mod text;
 mod values;
 
 pub use calls::{end_of, library_call, sites_of};
-pub use case::{
-    Act, Case, Events, clause_of, events_of, first_act, picks_of, second_act, sought_of,
-};
+pub use case::{Act, Case, first_act, second_act, sought_of};
 pub use first::{put_case, told_at};
 pub use heads::{put_does, put_head};
 pub use marks::{Marked, marks_of, shown_first};

@@ -1,16 +1,15 @@
 // Notes.
 
 use crate::calls::put_calls;
-use crate::case::{Act, Case, clause_of};
+use crate::case::{Act, Case};
 use crate::heads::{is_behind, is_write};
 use crate::hints::put_hint;
 use crate::objects::{place_of, put_by, put_object, subject};
 use crate::values::put_values;
 use c_typed::{Node, Typed};
+use explain_facts::{Outcome, Verdict, common};
 use explain_page::{empty, put_long_note, put_number};
-use explain_run::{Outcome, common};
 use explain_words::{ORDER_RULE, PAST_THE_END, TWO_WRITES, rule_of};
-use footprint_run::Finding;
 use std::alloc::Global;
 use ub_base::{Bytes, Clause, NoMemory, ObjName};
 
@@ -41,13 +40,10 @@ fn put_member(out: &mut Bytes, case: &Case<'_, '_>, act: &Act<'_>) -> Result<(),
     let (Node::Member { .. }, Some(aim)) = (&place_of(act.tree).node, case.moment.place) else {
         return Ok(());
     };
-    let (Some(object), Some(extent)) = (
-        aim.object,
-        case.program.tags.extent(&act.tree.ty),
-    ) else {
+    let (Some(object), Some(extent)) = (aim.object, case.program.tags.extent(&act.tree.ty)) else {
         return Ok(());
     };
-    let Some(row) = case.audit.map.row(object) else {
+    let Some(row) = case.found.map.row(object) else {
         return Ok(());
     };
     let from = aim.addr.saturating_sub(row.base);
@@ -125,14 +121,14 @@ fn put_order(
         case,
         common(first.root, first.event.node, second.event.node),
     )?;
-    if clause_of(&case.audit.finding).is_none() {
+    if case.found.verdict.clause().is_none() {
         out.append(b" Bodies run whole, one after the other, so this is no race.")?;
     }
     Ok(())
 }
 
 fn put_rule(out: &mut Bytes, case: &Case<'_, '_>) -> Result<(), NoMemory> {
-    let Some(clause) = clause_of(&case.audit.finding) else {
+    let Some(clause) = case.found.verdict.clause() else {
         return out.append(ORDER_RULE.as_bytes());
     };
     if case.call.is_some() {
@@ -157,7 +153,9 @@ const SHORT: usize = 40;
 
 // Whether each byte can be shown, but for a line feed at the end.
 fn is_plain(output: &[u8]) -> bool {
-    output.iter().all(|byte| *byte >= b' ' && *byte < 127 && *byte != b'`')
+    output
+        .iter()
+        .all(|byte| *byte >= b' ' && *byte < 127 && *byte != b'`')
 }
 
 fn without_line_feed(output: &[u8]) -> &[u8] {
@@ -271,7 +269,7 @@ fn push_events(
     case: &Case<'_, '_>,
     first: &Act<'_>,
 ) -> Result<(), NoMemory> {
-    match (case.second, clause_of(&case.audit.finding)) {
+    match (case.second, case.found.verdict.clause()) {
         (Some(second), _) => push_pair(alloc, notes, case, first, &second)?,
         (None, Some(clause)) => push_single(alloc, notes, case, clause, first)?,
         (None, None) => {}
@@ -281,7 +279,8 @@ fn push_events(
 
 const FOR: &str = "this input, these arguments, this address map. Other inputs are not looked at.";
 
-const LIMIT: &str = "One of this tool, not of C (REPORTS.md, Limits). Nothing was found until there.";
+const LIMIT: &str =
+    "One of this tool, not of C (REPORTS.md, Limits). Nothing was found until there.";
 
 // Adds by which call a run ended.
 fn put_ending(out: &mut Bytes, case: &Case<'_, '_>) -> Result<(), NoMemory> {
@@ -291,11 +290,7 @@ fn put_ending(out: &mut Bytes, case: &Case<'_, '_>) -> Result<(), NoMemory> {
     }
 }
 
-fn push_clean(
-    alloc: Global,
-    notes: &mut Vec<Note>,
-    case: &Case<'_, '_>,
-) -> Result<(), NoMemory> {
+fn push_clean(alloc: Global, notes: &mut Vec<Note>, case: &Case<'_, '_>) -> Result<(), NoMemory> {
     let mut ended = empty(alloc);
     put_ending(&mut ended, case)?;
     push(notes, "ended", ended)?;
@@ -310,9 +305,9 @@ pub fn notes_of(alloc: Global, case: &Case<'_, '_>) -> Result<Vec<Note>, NoMemor
         push_events(alloc, &mut notes, case, first)?;
         return Ok(notes);
     }
-    match case.audit.finding {
-        Finding::Clean { .. } => push_clean(alloc, &mut notes, case)?,
-        Finding::Outside { .. } => notes.push(note_of(alloc, "limit", LIMIT)?)?,
+    match case.found.verdict {
+        Verdict::Clean { .. } => push_clean(alloc, &mut notes, case)?,
+        Verdict::Outside { .. } => notes.push(note_of(alloc, "limit", LIMIT)?)?,
         _ => {}
     }
     Ok(notes)

@@ -6,9 +6,9 @@ use addr_map::Row;
 use c_lex::{Mark, TokenKind, Tokens};
 use c_typed::{Node, Slot, Typed};
 use c_types::Ty;
+use explain_facts::{Named, Touch, Trail};
 use explain_page::{Page, put_number, put_type};
 use explain_places::{declaration_of, function_of, token_of};
-use explain_run::{Named, Touch, Trail};
 use ub_base::{Bytes, Item, NoMemory, ObjName};
 
 /// The object that an item names.
@@ -112,11 +112,7 @@ pub fn place_of(tree: &Typed) -> &Typed {
 }
 
 /// How the text names this object, of which these are the deeds.
-pub fn naming<'c>(
-    case: &Case<'c, '_>,
-    object: ObjName,
-    trail: &Trail,
-) -> Option<NamedObject<'c>> {
+pub fn naming<'c>(case: &Case<'c, '_>, object: ObjName, trail: &Trail) -> Option<NamedObject<'c>> {
     match object {
         ObjName::Static(number) => slot_among(
             case.page.tokens,
@@ -132,11 +128,7 @@ pub fn naming<'c>(
 }
 
 // Adds what an evaluation accesses: its name, or the tokens of the expression.
-pub fn put_accessed(
-    out: &mut Bytes,
-    case: &Case<'_, '_>,
-    act: &Act<'_>,
-) -> Result<(), NoMemory> {
+pub fn put_accessed(out: &mut Bytes, case: &Case<'_, '_>, act: &Act<'_>) -> Result<(), NoMemory> {
     match &act.tree.node {
         Node::Load(_) | Node::Assign { .. } | Node::Update { .. } => {
             put_tree(out, case.page, place_of(act.tree))
@@ -180,7 +172,7 @@ fn type_of(named: &Typed) -> &Ty {
 
 /// The bytes of an object.
 pub fn size_of(case: &Case<'_, '_>, object: ObjName) -> u64 {
-    match case.audit.map.row(object) {
+    match case.found.map.row(object) {
         Some(Row { size, .. }) => size,
         None => 0,
     }
@@ -306,10 +298,10 @@ fn put_caller(out: &mut Bytes, case: &Case<'_, '_>, touch: &Touch) -> Result<(),
         return Ok(());
     };
     let frame = touch.opened.frame;
-    if frame.0 == 0 || frame.0 > case.audit.frames.len() {
+    if frame.0 == 0 || frame.0 > case.found.frames.len() {
         return Ok(());
     }
-    let (_, _, node) = case.audit.frames.row(frame);
+    let (_, _, node) = case.found.frames.row(frame);
     let Some(token) = token_at(case, caller, node) else {
         return Ok(());
     };

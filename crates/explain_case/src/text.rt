@@ -4,9 +4,9 @@ use crate::case::Case;
 use crate::page::put_tokens;
 use c_typed::Typed;
 use c_types::{IntKind, Ty};
+use explain_facts::{Opened, tree_at};
 use explain_page::{Page, empty, put_number, put_type};
 use explain_places::{extent_of, function_of, token_of};
-use explain_run::{Opened, tree_at};
 use std::alloc::Global;
 use ub_base::{Bytes, NoMemory};
 
@@ -23,7 +23,12 @@ pub fn put_integer(out: &mut Bytes, number: i128) -> Result<(), NoMemory> {
 
 fn begins_with_vowel(kind: IntKind) -> bool {
     match kind {
-        IntKind::Int | IntKind::UChar | IntKind::UShort | IntKind::UInt | IntKind::ULong | IntKind::ULLong => true,
+        IntKind::Int
+        | IntKind::UChar
+        | IntKind::UShort
+        | IntKind::UInt
+        | IntKind::ULong
+        | IntKind::ULLong => true,
         _ => false,
     }
 }

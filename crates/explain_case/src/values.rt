@@ -5,9 +5,9 @@ use crate::objects::{naming, place_of, put_subject, subject};
 use crate::text::{put_integer, put_tree, token_at};
 use c_typed::{Node, Typed};
 use c_types::{BinOp, IntKind};
+use explain_facts::{Aim, Shown, operand_number};
 use explain_page::{put_number, put_type};
 use explain_places::token_of;
-use explain_run::{Aim, Shown, operand_number};
 use ub_base::{Bytes, Clause, NoMemory, ObjName};
 
 /// Two operands and their values.
@@ -50,12 +50,7 @@ pub fn pair_of<'p>(case: &Case<'_, '_>, act: &Act<'p>) -> Option<Pair<'p>> {
 }
 
 // Adds `NAME is VALUE`, where the node isn't a constant.
-fn put_is(
-    out: &mut Bytes,
-    case: &Case<'_, '_>,
-    tree: &Typed,
-    value: i128,
-) -> Result<(), NoMemory> {
+fn put_is(out: &mut Bytes, case: &Case<'_, '_>, tree: &Typed, value: i128) -> Result<(), NoMemory> {
     if let Node::Const(_) = &tree.node {
         return Ok(());
     }
@@ -123,15 +118,18 @@ fn put_pair(
 
 // The byte of its object that an address is.
 fn byte_of(case: &Case<'_, '_>, aim: Aim) -> Option<i128> {
-    let row = case.audit.map.row(aim.object?)?;
+    let row = case.found.map.row(aim.object?)?;
     Some(i128::from(aim.addr) - i128::from(row.base))
 }
 
-fn put_object_name(
-    out: &mut Bytes,
-    case: &Case<'_, '_>,
-    object: ObjName,
-) -> Result<(), NoMemory> {
+// The last of so many bytes, one at least.
+fn last_byte(first: i128, size: u64) -> i128 {
+    first
+        .saturating_add(i128::from(size.max(1)))
+        .saturating_sub(1)
+}
+
+fn put_object_name(out: &mut Bytes, case: &Case<'_, '_>, object: ObjName) -> Result<(), NoMemory> {
     match naming(case, object, case.trail) {
         Some(named) => out.append(case.page.spelling(named.name)),
         None => out.append(b"the object"),
@@ -189,15 +187,14 @@ fn put_moved(out: &mut Bytes, case: &Case<'_, '_>, act: &Act<'_>) -> Result<(), 
 
 // Adds which bytes an access is to.
 fn put_bytes(out: &mut Bytes, case: &Case<'_, '_>, act: &Act<'_>) -> Result<(), NoMemory> {
-    let (Node::Load(_) | Node::Assign { .. } | Node::Update { .. }, Some(aim)) =
-        (&act.tree.node, case.moment.place)
-    else {
+    let (Node::Load(_) | Node::Assign { .. } | Node::Update { .. }, Some(aim)) = (
+        &act.tree.node,
+        case.moment.place,
+    ) else {
         return Ok(());
     };
-    let (Some(byte), Some(extent)) = (
-        byte_of(case, aim),
-        case.program.tags.extent(&act.tree.ty),
-    ) else {
+    let (Some(byte), Some(extent)) = (byte_of(case, aim), case.program.tags.extent(&act.tree.ty))
+    else {
         return Ok(());
     };
     if !out.as_slice().is_empty() {
@@ -206,7 +203,7 @@ fn put_bytes(out: &mut Bytes, case: &Case<'_, '_>, act: &Act<'_>) -> Result<(), 
     out.append(b"the access is to bytes ")?;
     put_integer(out, byte)?;
     out.append(b" to ")?;
-    put_integer(out, byte + i128::from(extent.size.max(1)) - 1)?;
+    put_integer(out, last_byte(byte, extent.size))?;
     out.push(b'.')
 }
 
@@ -236,10 +233,8 @@ fn put_held(out: &mut Bytes, case: &Case<'_, '_>, act: &Act<'_>) -> Result<(), N
 }
 
 fn put_read_bytes(out: &mut Bytes, case: &Case<'_, '_>, act: &Act<'_>) -> Result<(), NoMemory> {
-    let (Some(aim), Some(extent)) = (
-        case.moment.place,
-        case.program.tags.extent(&act.tree.ty),
-    ) else {
+    let (Some(aim), Some(extent)) = (case.moment.place, case.program.tags.extent(&act.tree.ty))
+    else {
         return Ok(());
     };
     let Some(byte) = byte_of(case, aim) else {
@@ -248,7 +243,7 @@ fn put_read_bytes(out: &mut Bytes, case: &Case<'_, '_>, act: &Act<'_>) -> Result
     out.append(b"; 1 reads bytes ")?;
     put_integer(out, byte)?;
     out.append(b" to ")?;
-    put_integer(out, byte + i128::from(extent.size.max(1)) - 1)
+    put_integer(out, last_byte(byte, extent.size))
 }
 
 // Adds why what is read has no value.

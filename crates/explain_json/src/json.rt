@@ -2,14 +2,13 @@
 
 use c_names::{write_event, write_object};
 use explain_case::{
-    Act, Case, Marked, NamedObject, end_of, marks_of, naming, notes_of, put_function, put_head, put_object_type,
-    shown_first, sites_of, size_of, storage_of, subject, token_at, told_at,
+    Act, Case, Marked, NamedObject, end_of, marks_of, naming, notes_of, put_function, put_head,
+    put_object_type, shown_first, sites_of, size_of, storage_of, subject, token_at, told_at,
 };
+use explain_facts::{CallSite, Touch, Verdict};
 use explain_page::{Page, Stretch, empty, put_number, put_type};
 use explain_places::{declaration_of, function_of, token_of};
 use explain_refusal::{Refusal, Rule, put_said, refusal_notes};
-use explain_run::{CallSite, Touch};
-use footprint_run::Finding;
 use serde_json::{Map, Value, put};
 use std::alloc::Global;
 use ub_base::{Bytes, Frame, Item, NoMemory, ObjName};
@@ -142,11 +141,7 @@ fn notes_value(alloc: Global, case: &Case<'_, '_>) -> Result<Value, NoMemory> {
     let mut values = Vec::new(alloc);
     let notes = notes_of(alloc, case)?;
     for note in notes.iter() {
-        values.push(note_value(
-            alloc,
-            note.name.as_bytes(),
-            note.text.as_slice(),
-        )?)?;
+        values.push(note_value(alloc, note.name.as_bytes(), note.text.as_slice())?)?;
     }
     Ok(Value::Array(values))
 }
@@ -190,7 +185,7 @@ fn put_event(
     case: &Case<'_, '_>,
     act: &Act<'_>,
 ) -> Result<(), NoMemory> {
-    let event = write_event(alloc, &case.audit.frames, &act.event)?;
+    let event = write_event(alloc, case.found.frames, &act.event)?;
     put_text(alloc, map, "event", event.as_slice())?;
     let mut ty = empty(alloc);
     put_type(&mut ty, case.page, &act.tree.ty)?;
@@ -222,7 +217,7 @@ fn access_of(item: Item) -> Option<ByteAccess> {
 }
 
 fn access_text(alloc: Global, case: &Case<'_, '_>, access: ByteAccess) -> Result<Bytes, NoMemory> {
-    let name = write_object(alloc, &case.audit.frames, &access.object)?;
+    let name = write_object(alloc, case.found.frames, &access.object)?;
     let mut text = Bytes::from_slice(alloc, access.words)?;
     text.append(name.as_slice())?;
     text.append(b" byte ")?;
@@ -257,11 +252,7 @@ fn put_act(
     put_item(alloc, map, case, act)
 }
 
-fn mark_value(
-    alloc: Global,
-    case: &Case<'_, '_>,
-    marked: &Marked<'_>,
-) -> Result<Value, NoMemory> {
+fn mark_value(alloc: Global, case: &Case<'_, '_>, marked: &Marked<'_>) -> Result<Value, NoMemory> {
     let mut map = stretch_members(alloc, case.page, &marked.stretch, marked.does.as_slice())?;
     if let Some(act) = &marked.act {
         put_act(alloc, &mut map, case, act)?;
@@ -436,9 +427,9 @@ fn put_calls(alloc: Global, map: &mut Members, case: &Case<'_, '_>) -> Result<()
 }
 
 fn put_clause(alloc: Global, map: &mut Members, case: &Case<'_, '_>) -> Result<(), NoMemory> {
-    match case.audit.finding {
-        Finding::Undefined { clause, .. } => put_text(alloc, map, "clause", clause.text().as_bytes()),
-        Finding::OrderDependent { .. } => put_text(alloc, map, "clause", b"6.5.2.2p10"),
+    match case.found.verdict {
+        Verdict::Undefined(clause) => put_text(alloc, map, "clause", clause.text().as_bytes()),
+        Verdict::OrderDependent => put_text(alloc, map, "clause", b"6.5.2.2p10"),
         _ => Ok(()),
     }
 }
@@ -462,8 +453,8 @@ fn hexadecimal(alloc: Global, bytes: &[u8]) -> Result<Bytes, NoMemory> {
 
 // The bytes that a clean run wrote.
 fn put_output(alloc: Global, map: &mut Members, case: &Case<'_, '_>) -> Result<(), NoMemory> {
-    if let Finding::Clean { .. } = case.audit.finding {
-        let text = hexadecimal(alloc, case.audit.output.as_slice())?;
+    if let Verdict::Clean { .. } = case.found.verdict {
+        let text = hexadecimal(alloc, case.found.output)?;
         return put_text(alloc, map, "output", text.as_slice());
     }
     Ok(())
@@ -471,8 +462,8 @@ fn put_output(alloc: Global, map: &mut Members, case: &Case<'_, '_>) -> Result<(
 
 // The report without what the program wrote, which stands behind it where the run is clean.
 fn without_output<'a>(of: Reported<'a>, case: &Case<'_, '_>) -> Reported<'a> {
-    if let Finding::Clean { .. } = case.audit.finding {
-        let lines = of.report.len().saturating_sub(case.audit.output.len());
+    if let Verdict::Clean { .. } = case.found.verdict {
+        let lines = of.report.len().saturating_sub(case.found.output.len());
         let (report, _) = of.report.split_at(lines);
         return Reported { report, ..of };
     }
@@ -506,11 +497,7 @@ fn refused_notes(alloc: Global, refusal: &Refusal) -> Result<Value, NoMemory> {
     let mut values = Vec::new(alloc);
     let notes = refusal_notes(alloc, refusal)?;
     for note in notes.iter() {
-        values.push(note_value(
-            alloc,
-            note.name.as_bytes(),
-            note.text.as_slice(),
-        )?)?;
+        values.push(note_value(alloc, note.name.as_bytes(), note.text.as_slice())?)?;
     }
     Ok(Value::Array(values))
 }
@@ -552,12 +539,7 @@ pub fn put_refusal_json(
     refusal: &Refusal,
 ) -> Result<(), NoMemory> {
     let mut map = common(alloc, of)?;
-    put(
-        &mut map,
-        alloc,
-        "notes",
-        refused_notes(alloc, refusal)?,
-    )?;
+    put(&mut map, alloc, "notes", refused_notes(alloc, refusal)?)?;
     put(
         &mut map,
         alloc,

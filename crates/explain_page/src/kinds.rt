@@ -35,7 +35,12 @@ fn put_star(out: &mut Bytes) -> Result<(), NoMemory> {
 }
 
 #[cycle(written)]
-fn put_qualified(out: &mut Bytes, page: &Page<'_, '_>, qual: &Qual, left: u32) -> Result<(), NoMemory> {
+fn put_qualified(
+    out: &mut Bytes,
+    page: &Page<'_, '_>,
+    qual: &Qual,
+    left: u32,
+) -> Result<(), NoMemory> {
     if qual.constant {
         out.append(b"const ")?;
     }
@@ -51,7 +56,12 @@ fn put_count(out: &mut Bytes, count: Option<u64>) -> Result<(), NoMemory> {
 }
 
 #[cycle(written)]
-fn put_target(out: &mut Bytes, page: &Page<'_, '_>, target: &Qual, left: u32) -> Result<(), NoMemory> {
+fn put_target(
+    out: &mut Bytes,
+    page: &Page<'_, '_>,
+    target: &Qual,
+    left: u32,
+) -> Result<(), NoMemory> {
     match &target.ty {
         Ty::Array(_, _) | Ty::Function(_) => {
             out.append(b"pointer to ")?;

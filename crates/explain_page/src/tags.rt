@@ -8,14 +8,15 @@ const MOST: usize = 1000;
 
 /// Whether the token is `struct` or `union`.
 pub fn is_tag_word(kind: Option<TokenKind>) -> bool {
-    matches!(
-        kind,
-        Some(TokenKind::Keyword(Word::Struct | Word::Union))
-    )
+    matches!(kind, Some(TokenKind::Keyword(Word::Struct | Word::Union)))
 }
 
 fn spelling<'a>(tokens: &Tokens<'a>, at: u32) -> &'a [u8] {
-    if at < tokens.len() { tokens.text(at) } else { b"" }
+    if at < tokens.len() {
+        tokens.text(at)
+    } else {
+        b""
+    }
 }
 
 // Whether the name at this token was met before, among these.

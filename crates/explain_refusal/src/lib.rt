@@ -8,4 +8,6 @@ mod refused;
 mod typing;
 
 pub use program::{Refused, program_of, tokens_of};
-pub use refused::{Refusal, Rule, Saying, put_refusal, put_said, refusal_notes, refusal_of, unlexed};
+pub use refused::{
+    Refusal, Rule, Saying, put_refusal, put_said, refusal_notes, refusal_of, unlexed,
+};

@@ -14,9 +14,7 @@ fn front_of(alloc: Global, text: &[u8], at: usize) -> Result<Bytes, NoMemory> {
 }
 
 fn last_line(tokens: &Tokens<'_>) -> u32 {
-    tokens
-        .line(tokens.len().saturating_sub(1))
-        .unwrap_or(1)
+    tokens.line(tokens.len().saturating_sub(1)).unwrap_or(1)
 }
 
 const MOST: usize = 1_048_576;

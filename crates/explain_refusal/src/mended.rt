@@ -80,12 +80,7 @@ fn with_token(
 }
 
 // Whether the text goes on behind the refused token, with this one before it.
-fn goes_on(
-    alloc: Global,
-    tokens: &Tokens<'_>,
-    refused: u32,
-    more: u8,
-) -> Result<bool, NoMemory> {
+fn goes_on(alloc: Global, tokens: &Tokens<'_>, refused: u32, more: u8) -> Result<bool, NoMemory> {
     let text = with_token(alloc, tokens, refused, more)?;
     match reading_of(alloc, text.as_slice()) {
         Ok(()) => Ok(true),

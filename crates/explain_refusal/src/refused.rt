@@ -31,7 +31,10 @@ pub struct Refusal {
 pub enum Rule {
     Unsaid,
     /// It is left out of the profile, and the paragraph has it.
-    LeftOut { name: &'static str, paragraph: &'static str },
+    LeftOut {
+        name: &'static str,
+        paragraph: &'static str,
+    },
     /// A constraint.
     Constraint(&'static str),
     /// A paragraph that is no constraint.
@@ -62,7 +65,11 @@ pub fn of_left_out(found: LeftOut, stretch: Stretch, does: &'static str) -> Refu
             name: found.name,
             paragraph: found.paragraph,
         },
-        hint: Some(if found.name == "floating types" { WITHOUT } else { WITHOUT_IT }),
+        hint: Some(if found.name == "floating types" {
+            WITHOUT
+        } else {
+            WITHOUT_IT
+        }),
     }
 }
 
@@ -88,10 +95,7 @@ fn put_rule(out: &mut Bytes, rule: Rule) -> Result<(), NoMemory> {
 }
 
 /// The notes of a refusal.
-pub fn refusal_notes(
-    alloc: Global,
-    refusal: &Refusal,
-) -> Result<Vec<Saying>, NoMemory> {
+pub fn refusal_notes(alloc: Global, refusal: &Refusal) -> Result<Vec<Saying>, NoMemory> {
     let mut notes = Vec::new(alloc);
     if refusal.rule != Rule::Unsaid {
         let mut text = empty(alloc);
@@ -219,13 +223,12 @@ fn left_out_near(page: &Page<'_, '_>, token: u32) -> Option<(LeftOut, u32)> {
 // A token with which no program goes on.
 fn unspelled(alloc: Global, page: &Page<'_, '_>, token: u32) -> Result<Refusal, NoMemory> {
     if let Some((found, at)) = left_out_near(page, token) {
-        return Ok(of_left_out(
-            found,
-            token_stretch(page, at),
-            kind_of(page.spelling(at)),
-        ));
+        return Ok(of_left_out(found, token_stretch(page, at), kind_of(page.spelling(at))));
     }
-    let Mending { paragraph, sentence } = mended(alloc, page.tokens, token)?;
+    let Mending {
+        paragraph,
+        sentence,
+    } = mended(alloc, page.tokens, token)?;
     Ok(Refusal {
         verdict: "syntax",
         paragraph,

@@ -125,12 +125,7 @@ fn rule_of(reason: Reason, paragraph: &'static str) -> Rule {
     }
 }
 
-fn constraint(
-    reason: Reason,
-    quotes: bool,
-    sentence: &'static str,
-    stretch: Stretch,
-) -> Refusal {
+fn constraint(reason: Reason, quotes: bool, sentence: &'static str, stretch: Stretch) -> Refusal {
     let paragraph = reason.paragraph();
     Refusal {
         verdict: "not typed",

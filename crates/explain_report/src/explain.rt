@@ -2,22 +2,17 @@
 ghost use Rattle.std.specs.Prelude.{◌≤◌, ◌^◌, length};
 
 use crate::asked::Asked;
+use crate::found::{events_of, picks_of, verdict_of};
 use c_lex::Tokens;
 use c_typed::{Program, Typed};
 use core_ir::CoreProgram;
 use elaborate::{elaborate, roots_of};
-use explain_case::{
-    Act, Case, Events, events_of, first_act, library_call, picks_of, put_case, second_act,
-    sought_of,
-};
+use explain_case::{Act, Case, first_act, library_call, put_case, second_act, sought_of};
+use explain_facts::{Events, Found, Moment, Outcome, Sought, Trail, apart};
 use explain_json::{Reported, put_case_json, put_refusal_json, put_report_json};
 use explain_page::{Page, empty, tags_of};
-use explain_refusal::{
-    Refusal, Refused, program_of, put_refusal, refusal_of, tokens_of, unlexed,
-};
-use explain_run::{
-    Before, Course, Moment, Outcome, Sought, Trail, apart, moment_before, outcome_of, trail_of,
-};
+use explain_refusal::{Refusal, Refused, program_of, put_refusal, refusal_of, tokens_of, unlexed};
+use explain_run::{Before, Course, moment_before, outcome_of, trail_of};
 use footprint_run::{Audit, Finding, audit_run};
 use std::alloc::Global;
 use ub_base::{Bytes, Event, Item, Kind, NoMemory, ObjName};
@@ -63,7 +58,8 @@ fn put_found(
     }
 }
 
-const TOO_DEEP: &[u8] = b":1:1: too deep: the text is nested too deep, or too long, to be explained\n";
+const TOO_DEEP: &[u8] =
+    b":1:1: too deep: the text is nested too deep, or too long, to be explained\n";
 
 // Adds that the text as a whole can't be explained.
 fn put_whole(alloc: Global, out: &mut Bytes, request: &Request<'_>) -> Result<(), NoMemory> {
@@ -92,18 +88,32 @@ fn put_refused(
     }
 }
 
-// A run with its finding.
+// A run with its audit.
 #[derive(Clone, Copy)]
-struct Found<'f, 'p> {
+struct Audited<'f, 'p> {
     core: &'f CoreProgram<'p>,
     roots: &'f [&'f Typed],
     audit: &'f Audit,
 }
 
+fn found_of<'f>(audit: &'f Audit, events: Option<Events>) -> Found<'f> {
+    Found {
+        verdict: verdict_of(&audit.finding),
+        events,
+        map: &audit.map,
+        frames: &audit.frames,
+        output: audit.output.as_slice(),
+    }
+}
+
 // The event of the last pick, where it broke a clause by itself.
 fn last_event(finding: &Finding) -> Option<Event> {
     match finding {
-        Finding::Undefined { event, race: None, .. } => Some(*event),
+        Finding::Undefined {
+            event,
+            race: None,
+            ..
+        } => Some(*event),
         _ => None,
     }
 }
@@ -215,24 +225,24 @@ struct Looked {
 fn looked(
     alloc: Global,
     asked: &Asked<'_>,
-    found: &Found<'_, '_>,
+    audited: &Audited<'_, '_>,
     events: Option<Events>,
 ) -> Result<Looked, NoMemory> {
-    let finding = &found.audit.finding;
+    let finding = &audited.audit.finding;
     let course = course_of(asked);
     let picks = picks_of(finding);
     let moment = moment_before(
         alloc,
-        found.core,
+        audited.core,
         course,
         looked_at(finding),
         last_event(finding),
     )?;
-    let sought = sought_of(events, &moment, &found.audit.map);
-    let trail = trail_of(alloc, found.core, course, picks, sought)?;
+    let sought = sought_of(events, &moment, &audited.audit.map);
+    let trail = trail_of(alloc, audited.core, course, picks, sought)?;
     let target = match moment.held {
-        Some(object) => trail_of(alloc, found.core, course, picks, Some(whole(object)))?,
-        None => Trail::new(alloc, None),
+        Some(object) => trail_of(alloc, audited.core, course, picks, Some(whole(object)))?,
+        None => Trail::new(alloc),
     };
     Ok(Looked {
         moment,
@@ -247,25 +257,25 @@ fn put_looked(
     out: &mut Bytes,
     request: &Request<'_>,
     page: &Page<'_, '_>,
-    found: &Found<'_, '_>,
+    audited: &Audited<'_, '_>,
     looked: &Looked,
     events: Option<Events>,
 ) -> Result<(), NoMemory> {
-    let first = first_act(page, found.roots, events);
-    let second = second_act(page, found.roots, events);
+    let first = first_act(page, audited.roots, events);
+    let second = second_act(page, audited.roots, events);
     let both = both_of(
         alloc,
         &request.asked,
-        found.core,
+        audited.core,
         &first,
         &second,
-        &found.audit.finding,
+        &audited.audit.finding,
     )?;
     let case = Case {
         page,
-        program: found.core.program,
-        roots: found.roots,
-        audit: found.audit,
+        program: audited.core.program,
+        roots: audited.roots,
+        found: found_of(audited.audit, events),
         moment: &looked.moment,
         trail: &looked.trail,
         target: &looked.target,
@@ -286,11 +296,11 @@ fn put_finding(
     out: &mut Bytes,
     request: &Request<'_>,
     page: &Page<'_, '_>,
-    found: &Found<'_, '_>,
+    audited: &Audited<'_, '_>,
 ) -> Result<(), NoMemory> {
-    let events = events_of(&found.audit.finding);
-    let looked = looked(alloc, &request.asked, found, events)?;
-    put_looked(alloc, out, request, page, found, &looked, events)
+    let events = events_of(&audited.audit.finding);
+    let looked = looked(alloc, &request.asked, audited, events)?;
+    put_looked(alloc, out, request, page, audited, &looked, events)
 }
 
 fn put_audit(
@@ -317,7 +327,7 @@ fn put_audit(
         out,
         request,
         page,
-        &Found {
+        &Audited {
             core,
             roots: roots.as_slice(),
             audit: &audit,
@@ -386,11 +396,7 @@ fn put_unlexed(
 }
 
 // Adds the explanation in this form.
-fn put_explanation(
-    alloc: Global,
-    out: &mut Bytes,
-    request: &Request<'_>,
-) -> Result<(), NoMemory>
+fn put_explanation(alloc: Global, out: &mut Bytes, request: &Request<'_>) -> Result<(), NoMemory>
     requires text { length request.now.asked.text.now ≤ 2 ^ 20 }
     requires steps { request.now.asked.steps ≤ 100000000 }
 {

@@ -1,11 +1,12 @@
 // A run again, up to where it ended, or in another order.
 
-use crate::moment::Moment;
+use crate::moment::moment_of;
 use crate::replay::{event_of, step, taken};
-use crate::trail::{Sought, Trail, block_entered};
+use crate::trail::{Follower, block_entered};
 use addr_map::Mode;
 use c_typed::Place;
 use core_ir::CoreProgram;
+use explain_facts::{Moment, Outcome, Sought, Trail};
 use prov_memory::Memory;
 use run_machine::{Code, Machine, Pick, code_of, prepare};
 use std::alloc::Global;
@@ -71,23 +72,21 @@ pub fn moment_before(
     if event.is_none() {
         follow_to_open(&mut machine, &mut frames)?;
     }
-    let mut moment = Moment::new(alloc);
-    moment.keep(&machine, event)?;
-    Ok(moment)
+    moment_of(alloc, &machine, event)
 }
 
 fn follow_trail(
     machine: &mut Machine,
     frames: &mut Frames,
     picks: u64,
-    trail: &mut Trail,
+    follower: &mut Follower,
 ) -> Result<(), NoMemory> {
     for _ in 0..picks {
         let entered = block_entered(machine);
         let Some(pick) = step(machine, frames)? else {
             return Ok(());
         };
-        trail.see(machine, event_of(pick), entered)?;
+        follower.see(machine, event_of(pick), entered)?;
     }
     Ok(())
 }
@@ -100,19 +99,12 @@ pub fn trail_of(
     picks: u64,
     sought: Option<Sought>,
 ) -> Result<Trail, NoMemory> {
-    let mut trail = Trail::new(alloc, sought);
+    let mut follower = Follower::new(alloc, sought);
     let code = code_of(alloc, core.program, core.terms.items.as_slice())?;
     let mut machine = started(alloc, core, &code, course)?;
     let mut frames = Frames::new(alloc);
-    follow_trail(&mut machine, &mut frames, picks, &mut trail)?;
-    Ok(trail)
-}
-
-/// How a run ended: its status and its output.
-#[derive(Drop)]
-pub struct Outcome {
-    pub status: u8,
-    pub output: Bytes,
+    follow_trail(&mut machine, &mut frames, picks, &mut follower)?;
+    Ok(follower.into_trail())
 }
 
 /// Nodes of a full expression whose events are taken as soon as they may be: from `first` up to but without `end`.
@@ -124,7 +116,11 @@ pub struct Before {
 }
 
 // Takes the first of these events that may be taken.
-fn preferred(machine: &mut Machine, frames: &mut Frames, before: &Before) -> Result<Option<Pick>, NoMemory> {
+fn preferred(
+    machine: &mut Machine,
+    frames: &mut Frames,
+    before: &Before,
+) -> Result<Option<Pick>, NoMemory> {
     for node in before.first..before.end {
         for kind in [Kind::Val, Kind::Body, Kind::Eff] {
             if let Ok(Some(pick)) = machine.single(Place { node, kind }) {
@@ -141,7 +137,11 @@ fn is_open(machine: &Machine, before: &Before) -> bool {
         && machine.top.turn == before.event.turn
 }
 
-fn next(machine: &mut Machine, frames: &mut Frames, before: &Before) -> Result<Option<Pick>, NoMemory> {
+fn next(
+    machine: &mut Machine,
+    frames: &mut Frames,
+    before: &Before,
+) -> Result<Option<Pick>, NoMemory> {
     if is_open(machine, before)
         && let Some(pick) = preferred(machine, frames, before)?
     {

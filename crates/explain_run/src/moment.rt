@@ -1,37 +1,13 @@
 // A run before its last pick.
 
-use crate::opened::{Opened, opened_by};
+use crate::opened::opened_by;
+use explain_facts::{Aim, Moment, Shown};
 use exposure::Prov;
 use prov_memory::{MemByte, Value};
 use run_code::{Act, Listed, Operand};
 use run_machine::Machine;
 use std::alloc::Global;
 use ub_base::{Event, NoMemory, ObjName};
-
-/// An address, and the object that a pointer to it may be used for, where that is known to be one.
-#[derive(Clone, Copy, Debug, PartialEq, Eq)]
-pub struct Aim {
-    pub addr: u64,
-    pub object: Option<ObjName>,
-}
-
-/// A value as far as it can be shown.
-#[derive(Clone, Copy, Debug, PartialEq, Eq)]
-pub enum Shown {
-    Integer(i128),
-    Pointer(Aim),
-    Other,
-}
-
-/// What is open before the last pick of a run, the values of the nodes of the innermost full expression, the place that the
-/// event of that pick accesses, and the object that the pointer there points to.
-#[derive(Drop)]
-pub struct Moment {
-    pub open: Vec<Opened>,
-    pub values: Vec<Shown>,
-    pub place: Option<Aim>,
-    pub held: Option<ObjName>,
-}
 
 fn object_in(prov: Prov) -> Option<ObjName> {
     match prov {
@@ -51,61 +27,42 @@ fn shown(value: Option<&Value>) -> Shown {
     }
 }
 
-impl Moment {
-    /// Nothing is open.
-    pub fn new(alloc: Global) -> Moment {
-        Moment {
-            open: Vec::new(alloc),
-            values: Vec::new(alloc),
-            place: None,
-            held: None,
-        }
+fn put_open(moment: &mut Moment, machine: &Machine) -> Result<(), NoMemory> {
+    for one in machine.shown() {
+        moment.open.push(opened_by(one))?;
     }
+    Ok(())
+}
 
-    /// The value of the node of this number, where it has been evaluated.
-    pub fn value(&self, node: u32) -> Shown {
-        match self.values.get(node as usize) {
-            Some(value) => *value,
-            None => Shown::Other,
-        }
+fn put_values(moment: &mut Moment, machine: &Machine) -> Result<(), NoMemory> {
+    for room in 0..machine.top.rooms {
+        let at = machine.top.base.saturating_add(room as usize);
+        moment.values.push(shown(machine.values.get(at)))?;
     }
+    Ok(())
+}
 
-    fn put_open(&mut self, machine: &Machine) -> Result<(), NoMemory> {
-        self.open.clear();
-        for one in machine.shown() {
-            self.open.push(opened_by(one))?;
-        }
-        Ok(())
+fn put_place(moment: &mut Moment, machine: &Machine, event: Event) {
+    if let Some(operand) = place_of(machine, event) {
+        let aim = aim_of(machine, operand);
+        moment.place = Some(aim);
+        moment.held = held_at(machine, aim);
     }
+}
 
-    fn put_values(&mut self, machine: &Machine) -> Result<(), NoMemory> {
-        self.values.clear();
-        for room in 0..machine.top.rooms {
-            let at = machine.top.base.saturating_add(room as usize);
-            self.values.push(shown(machine.values.get(at)))?;
-        }
-        Ok(())
+/// What stands now, with the place that this event accesses.
+pub fn moment_of(
+    alloc: Global,
+    machine: &Machine,
+    event: Option<Event>,
+) -> Result<Moment, NoMemory> {
+    let mut moment = Moment::new(alloc);
+    put_open(&mut moment, machine)?;
+    put_values(&mut moment, machine)?;
+    if let Some(event) = event {
+        put_place(&mut moment, machine, event);
     }
-
-    fn put_place(&mut self, machine: &Machine, event: Event) {
-        self.place = None;
-        self.held = None;
-        if let Some(operand) = place_of(machine, event) {
-            let aim = aim_of(machine, operand);
-            self.place = Some(aim);
-            self.held = held_at(machine, aim);
-        }
-    }
-
-    /// Keeps what stands now, with the place that this event accesses.
-    pub fn keep(&mut self, machine: &Machine, event: Option<Event>) -> Result<(), NoMemory> {
-        self.put_open(machine)?;
-        self.put_values(machine)?;
-        if let Some(event) = event {
-            self.put_place(machine, event);
-        }
-        Ok(())
-    }
+    Ok(moment)
 }
 
 fn aim_of(machine: &Machine, operand: Operand) -> Aim {
@@ -119,7 +76,9 @@ fn aim_of(machine: &Machine, operand: Operand) -> Aim {
 // The operand that says where an act accesses memory.
 fn accessed(act: &Act<'_>) -> Option<Operand> {
     match act {
-        Act::Load { place, .. } | Act::Change { place, .. } | Act::Store { place, .. } => Some(*place),
+        Act::Load { place, .. } | Act::Change { place, .. } | Act::Store { place, .. } => Some(
+            *place,
+        ),
         Act::Member { pointer, .. } | Act::Move { pointer, .. } => Some(*pointer),
         _ => None,
     }
@@ -145,7 +104,10 @@ fn place_of(machine: &Machine, event: Event) -> Option<Operand> {
 fn held_at(machine: &Machine, aim: Aim) -> Option<ObjName> {
     let object = aim.object?;
     let row = machine.memory.map().row(object)?;
-    match machine.memory.byte(object, aim.addr.saturating_sub(row.base)) {
+    match machine
+        .memory
+        .byte(object, aim.addr.saturating_sub(row.base))
+    {
         MemByte::Written {
             piece: Some((origin, _)),
             ..

@@ -1,15 +1,8 @@
 // Full expressions that are open.
 
+use explain_facts::Opened;
 use run_machine::Begun;
-use ub_base::{Event, Frame};
-
-/// A full expression that is open, with the number of its tree.
-#[derive(Clone, Copy, Debug, PartialEq, Eq)]
-pub struct Opened {
-    pub frame: Frame,
-    pub turn: u64,
-    pub tree: u32,
-}
+use ub_base::Event;
 
 pub fn opened_by(begun: &Begun<'_>) -> Opened {
     Opened {

@@ -1,52 +1,20 @@
 // What a run does to one object.
 
-use crate::opened::{Opened, opened_of};
+use crate::opened::opened_of;
 use c_typed::Slot;
+use explain_facts::{Named, Sought, Touch, Trail};
 use run_code::{Code, Step};
 use run_machine::Machine;
 use std::alloc::Global;
-use ub_base::{Event, Frames, Item, NoMemory, ObjName};
-
-/// Bytes of an object.
-#[derive(Clone, Copy, Debug, PartialEq, Eq)]
-pub struct Sought {
-    pub object: ObjName,
-    pub from: u64,
-    pub len: u64,
-}
-
-/// An act on the object that is sought: its full expression, the one that called it, its node, and the bytes.
-#[derive(Clone, Copy, Debug, PartialEq, Eq)]
-pub struct Touch {
-    pub opened: Opened,
-    pub caller: Option<Opened>,
-    pub node: u32,
-    pub writes: bool,
-    pub from: u64,
-    pub len: u64,
-}
-
-/// How a text names an automatic object: by its slot, in one of these full expressions, from the first up to the last.
-#[derive(Clone, Copy, Debug, PartialEq, Eq)]
-pub struct Named {
-    pub slot: Slot,
-    pub first: u32,
-    pub last: u32,
-}
+use ub_base::{Event, Item, NoMemory, ObjName};
 
 const MOST_TOUCHES: usize = 10_000;
 
-/// Who touched the bytes that are sought, the first 10,000 of them; the last store to them; and where the object was born and ended.
+/// Follows what a run does to the bytes that are sought: keeps the first 10,000 touches.
 #[derive(Drop)]
-pub struct Trail {
+pub struct Follower {
     sought: Option<Sought>,
-    pub touches: Vec<Touch>,
-    pub stored: Option<Touch>,
-    pub born: Option<Touch>,
-    pub died: Option<Touch>,
-    pub named: Option<Named>,
-    /// What ended the program.
-    pub ending: Option<Touch>,
+    trail: Trail,
 }
 
 // What an item does to the bytes that are sought.
@@ -64,16 +32,18 @@ fn meets(sought: Sought, from: u64, len: u64) -> bool {
 
 fn does_to(item: &Item, sought: Sought) -> Does {
     match *item {
-        Item::Read { object, from, len } if object == sought.object && meets(sought, from, len) => Does::Accesses {
-            writes: false,
-            from,
-            len,
-        },
-        Item::Write { object, from, len } if object == sought.object && meets(sought, from, len) => Does::Accesses {
-            writes: true,
-            from,
-            len,
-        },
+        Item::Read { object, from, len } if object == sought.object && meets(sought, from, len) =>
+            Does::Accesses {
+                writes: false,
+                from,
+                len,
+            },
+        Item::Write { object, from, len } if object == sought.object && meets(sought, from, len) =>
+            Does::Accesses {
+                writes: true,
+                from,
+                len,
+            },
         Item::Born(object) if object == sought.object => Does::Bears,
         Item::Dies(object) if object == sought.object => Does::Ends,
         _ => Does::Nothing,
@@ -96,14 +66,18 @@ pub fn block_entered(machine: &Machine) -> Option<u32> {
     None
 }
 
+fn count(len: usize) -> u32 {
+    u32::try_from(len).unwrap_or(u32::MAX)
+}
+
 // The step at which the functions behind this one begin.
 fn steps_end(code: &Code<'_>, function: u32) -> u32 {
-    for number in function.saturating_add(1)..code.functions.len() as u32 {
+    for number in function.saturating_add(1)..count(code.functions.len()) {
         if let Some(Some(laid)) = code.functions.get(number as usize) {
             return laid.entry;
         }
     }
-    code.steps.len() as u32
+    count(code.steps.len())
 }
 
 // The first and the last of the full expressions between two steps.
@@ -141,64 +115,77 @@ fn named_in(machine: &Machine, block: u32, decl: u32) -> Option<Named> {
     })
 }
 
-impl Trail {
-    /// Nothing yet.
-    pub fn new(alloc: Global, sought: Option<Sought>) -> Trail {
-        Trail {
-            sought,
-            touches: Vec::new(alloc),
-            stored: None,
-            born: None,
-            died: None,
-            named: None,
-            ending: None,
-        }
+fn access(trail: &mut Trail, touch: Touch) -> Result<(), NoMemory> {
+    if touch.writes {
+        trail.stored = Some(touch);
     }
-
-    fn access(&mut self, touch: Touch) -> Result<(), NoMemory> {
-        if touch.writes {
-            self.stored = Some(touch);
-        }
-        if self.touches.len() < MOST_TOUCHES {
-            self.touches.push(touch)?;
-        }
-        Ok(())
+    if trail.touches.len() < MOST_TOUCHES {
+        trail.touches.push(touch)?;
     }
+    Ok(())
+}
 
-    fn note(&mut self, does: Does, touch: Touch) -> Result<(), NoMemory> {
-        match does {
-            Does::Nothing => Ok(()),
-            Does::Bears => {
-                self.born = Some(touch);
-                Ok(())
-            }
-            Does::Ends => {
-                self.died = Some(touch);
-                Ok(())
-            }
-            Does::Accesses { writes, from, len } => self.access(Touch {
+fn note(trail: &mut Trail, does: Does, touch: Touch) -> Result<(), NoMemory> {
+    match does {
+        Does::Nothing => Ok(()),
+        Does::Bears => {
+            trail.born = Some(touch);
+            Ok(())
+        }
+        Does::Ends => {
+            trail.died = Some(touch);
+            Ok(())
+        }
+        Does::Accesses { writes, from, len } => access(
+            trail,
+            Touch {
                 writes,
                 from,
                 len,
                 ..touch
-            }),
+            },
+        ),
+    }
+}
+
+impl Follower {
+    /// Nothing was seen yet.
+    pub fn new(alloc: Global, sought: Option<Sought>) -> Follower {
+        Follower {
+            sought,
+            trail: Trail::new(alloc),
         }
     }
 
-    fn see_item(&mut self, item: &Item, sought: Sought, touch: Option<Touch>) -> Result<(), NoMemory> {
-        match touch {
-            Some(touch) => self.note(does_to(item, sought), touch),
-            None => Ok(()),
+    /// What was seen.
+    pub fn into_trail(self) -> Trail {
+        let Follower { sought: _, trail } = self;
+        trail
+    }
+
+    fn see_items(&mut self, items: &[Item], sought: Sought, touch: Touch) -> Result<(), NoMemory> {
+        for item in items {
+            note(&mut self.trail, does_to(item, sought), touch)?;
         }
+        Ok(())
     }
 
     fn see_entered(&mut self, machine: &Machine, block: u32, sought: Sought) {
-        if let ObjName::Auto { decl, .. } = sought.object {
-            for item in machine.items.items() {
-                if *item == Item::Born(sought.object) {
-                    self.named = named_in(machine, block, decl);
-                }
-            }
+        if let ObjName::Auto { decl, .. } = sought.object
+            && machine.items.items().contains(&Item::Born(sought.object))
+        {
+            self.trail.named = named_in(machine, block, decl);
+        }
+    }
+
+    fn see_touch(&mut self, machine: &Machine, touch: Touch) -> Result<(), NoMemory> {
+        let items = machine.items.items();
+        if items.contains(&Item::Ending) {
+            self.trail.ending = Some(touch);
+        }
+        match self.sought {
+            Some(sought) => self.see_items(items, sought, touch),
+            None => Ok(()),
         }
     }
 
@@ -209,20 +196,13 @@ impl Trail {
         event: Option<Event>,
         entered: Option<u32>,
     ) -> Result<(), NoMemory> {
-        let touch = touch_by(machine, event);
-        if machine.items.items().contains(&Item::Ending) {
-            self.ending = touch;
-        }
-        let Some(sought) = self.sought else {
-            return Ok(());
-        };
-        if let Some(block) = entered {
+        if let (Some(sought), Some(block)) = (self.sought, entered) {
             self.see_entered(machine, block, sought);
         }
-        for item in machine.items.items() {
-            self.see_item(item, sought, touch)?;
+        match touch_by(machine, event) {
+            Some(touch) => self.see_touch(machine, touch),
+            None => Ok(()),
         }
-        Ok(())
     }
 }
 
@@ -238,20 +218,4 @@ fn touch_by(machine: &Machine, event: Option<Event>) -> Option<Touch> {
         from: 0,
         len: 0,
     })
-}
-
-/// Whether this touch happened in the body of the call that an event is: straight, or in a call from there.
-pub fn is_within(frames: &Frames, touch: &Touch, event: &Event) -> bool {
-    let mut frame = touch.opened.frame;
-    for _ in 0..frames.len() {
-        if frame.0 == 0 || frame.0 > frames.len() {
-            return false;
-        }
-        let (parent, turn, node) = frames.row(frame);
-        if parent == event.frame && turn == event.turn && node == event.node {
-            return true;
-        }
-        frame = parent;
-    }
-    false
 }

@@ -85,6 +85,12 @@ const RACE_JSON: &str =
 const HALF_JSON: &str =
     "{\"at\":[\"half.c\",4,16],\"head\":\"0.5 is a floating constant\",\"marks\":[{\"at\":[\"half.c\",4,16],\"does\":\"a double\",\"end\":[\"half.c\",4,19],\"type\":\"double\"}],\"notes\":[[\"rule\",\"C has it (6.4.4.2); this tool reads no floating types (PROFILE.md, Left out). Nothing was run.\"],[\"hint\",\"Audit the rest without it, or count in integers.\"]],\"report\":\"lex bad number 320\\n\",\"status\":11,\"verdict\":\"lex\",\"version\":1}";
 
+// A literal that is never closed, whose quote JSON escapes.
+const OPEN_TEXT: &str = "# 1 \"o.c\"\nint main(void) { char *s = \"x; }\n";
+
+const OPEN_JSON: &str =
+    "{\"at\":[\"o.c\",1,28],\"head\":\"\\\"x begins what is never closed\",\"marks\":[{\"at\":[\"o.c\",1,28],\"does\":\"here\",\"end\":[\"o.c\",1,30]}],\"notes\":[],\"report\":\"lex open literal 37\\n\",\"status\":11,\"verdict\":\"lex\",\"version\":1}";
+
 // What is asked of a text.
 fn asked<'a>(text: &'a str, args: &'a [String], report: &'a str, status: u8) -> Asked<'a> {
     Asked {
@@ -146,6 +152,15 @@ fn objects_are_those_of_the_schema(rt: HostRuntime) -> Result<(), NoMemory> {
     let (race, _) = FINDINGS[0];
     let (half, _) = REFUSALS[0];
     assert!(&rt; objects(rt.alloc(), race, RACE_REPORT, 1, RACE_JSON)?);
+    assert!(&rt;
+        objects(
+            rt.alloc(),
+            OPEN_TEXT,
+            "lex open literal 37\n",
+            11,
+            OPEN_JSON
+        )?
+    );
     assert!(&rt; objects(rt.alloc(), half, "lex bad number 320\n", 11, HALF_JSON)?);
     Ok(())
 }

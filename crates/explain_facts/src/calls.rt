@@ -1,7 +1,7 @@
 // The calls that are open.
 
+use crate::facts::Opened;
 use crate::node::tree_at;
-use crate::opened::Opened;
 use c_typed::Typed;
 use std::alloc::Global;
 use ub_base::{Frame, Frames, NoMemory};
