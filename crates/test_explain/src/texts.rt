@@ -1,8 +1,12 @@
 // Whole explanations: those of findings, and those of texts that aren't run.
+ghost use Rattle.std.specs.Prelude.{◌≡◌};
+
 use addr_map::Mode;
 use explain_report::{Asked, explanation, explanation_json};
 use std::alloc::Global;
-use ub_base::NoMemory;
+use std::process::Abort;
+use std::test::Fail;
+use ub_base::{Bytes, NoMemory};
 
 // Texts with a finding, and their explanations.
 const FINDINGS: [(&str, &str); 8] = [
@@ -92,7 +96,10 @@ const OPEN_JSON: &str =
     "{\"at\":[\"o.c\",1,28],\"head\":\"\\\"x begins what is never closed\",\"marks\":[{\"at\":[\"o.c\",1,28],\"does\":\"here\",\"end\":[\"o.c\",1,30]}],\"notes\":[],\"report\":\"lex open literal 37\\n\",\"status\":11,\"verdict\":\"lex\",\"version\":1}";
 
 // What is asked of a text.
-fn asked<'a>(text: &'a str, args: &'a [String], report: &'a str, status: u8) -> Asked<'a> {
+fn asked<'a>(text: &'a str, args: &'a [String], report: &'a str, status: u8) -> Asked<'a>
+    ensures text { result.text.now ≡ text.now }
+    ensures steps { result.steps ≡ 10000 }
+{
     Asked {
         text: text.as_bytes(),
         file: b"-",
@@ -105,62 +112,54 @@ fn asked<'a>(text: &'a str, args: &'a [String], report: &'a str, status: u8) -> 
     }
 }
 
-// Whether the explanation of a text is this one.
-fn explains(alloc: Global, text: &str, expected: &str) -> Result<bool, NoMemory> {
-    if text.len() > 1_048_576 {
-        return Ok(false);
-    }
+// The explanation of a text in words.
+fn words(rt: &impl Abort, alloc: Global, text: &str) -> Result<Bytes, NoMemory> {
+    assert!(rt; text.len() <= 1_048_576);
     let args = Vec::new(alloc);
-    let found = explanation(alloc, &asked(text, args.as_slice(), "", 1))?;
-    Ok(found.as_slice() == expected.as_bytes())
+    explanation(alloc, &asked(text, args.as_slice(), "", 1))
 }
 
-// Whether the object of a text is this one.
-fn objects(
+// The explanation of a text as JSON.
+fn object(
+    rt: &impl Abort,
     alloc: Global,
     text: &str,
     report: &str,
     status: u8,
-    expected: &str,
-) -> Result<bool, NoMemory> {
-    if text.len() > 1_048_576 {
-        return Ok(false);
-    }
+) -> Result<Bytes, NoMemory> {
+    assert!(rt; text.len() <= 1_048_576);
     let args = Vec::new(alloc);
-    let found = explanation_json(alloc, &asked(text, args.as_slice(), report, status))?;
-    Ok(found.as_slice() == expected.as_bytes())
+    explanation_json(alloc, &asked(text, args.as_slice(), report, status))
 }
 
 #[test]
-fn findings_are_explained(rt: HostRuntime) -> Result<(), NoMemory> {
+fn findings_are_explained(rt: HostRuntime) -> Result<(), Fail> {
     for (text, expected) in FINDINGS {
-        assert!(&rt; explains(rt.alloc(), text, expected)?, "{expected}");
+        let found = words(&rt, rt.alloc(), text)?;
+        assert_eq!(rt; found.as_slice(), expected.as_bytes(), "{expected}");
     }
     Ok(())
 }
 
 #[test]
-fn refusals_are_explained(rt: HostRuntime) -> Result<(), NoMemory> {
+fn refusals_are_explained(rt: HostRuntime) -> Result<(), Fail> {
     for (text, expected) in REFUSALS {
-        assert!(&rt; explains(rt.alloc(), text, expected)?, "{expected}");
+        let found = words(&rt, rt.alloc(), text)?;
+        assert_eq!(rt; found.as_slice(), expected.as_bytes(), "{expected}");
     }
     Ok(())
 }
 
 #[test]
-fn objects_are_those_of_the_schema(rt: HostRuntime) -> Result<(), NoMemory> {
+fn objects_are_those_of_the_schema(rt: HostRuntime) -> Result<(), Fail> {
+    let alloc = rt.alloc();
     let (race, _) = FINDINGS[0];
     let (half, _) = REFUSALS[0];
-    assert!(&rt; objects(rt.alloc(), race, RACE_REPORT, 1, RACE_JSON)?);
-    assert!(&rt;
-        objects(
-            rt.alloc(),
-            OPEN_TEXT,
-            "lex open literal 37\n",
-            11,
-            OPEN_JSON
-        )?
-    );
-    assert!(&rt; objects(rt.alloc(), half, "lex bad number 320\n", 11, HALF_JSON)?);
+    let found = object(&rt, alloc, race, RACE_REPORT, 1)?;
+    assert_eq!(rt; found.as_slice(), RACE_JSON.as_bytes());
+    let found = object(&rt, alloc, OPEN_TEXT, "lex open literal 37\n", 11)?;
+    assert_eq!(rt; found.as_slice(), OPEN_JSON.as_bytes());
+    let found = object(&rt, alloc, half, "lex bad number 320\n", 11)?;
+    assert_eq!(rt; found.as_slice(), HALF_JSON.as_bytes());
     Ok(())
 }
