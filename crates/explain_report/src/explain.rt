@@ -1,16 +1,424 @@
 // The explanation of a verdict.
 ghost use Rattle.std.specs.Prelude.{◌≤◌, ◌^◌, length};
 
-use crate::Asked;
+use crate::asked::Asked;
+use crate::found::{events_of, picks_of, verdict_of};
+use c_lex::Tokens;
+use c_typed::{Program, Typed};
+use core_ir::CoreProgram;
+use elaborate::{elaborate, roots_of};
+use explain_case::{Act, Case, first_act, library_call, put_case, second_act, sought_of};
+use explain_facts::{Events, Found, Moment, Outcome, Sought, Trail, apart};
+use explain_json::{Reported, put_case_json, put_refusal_json, put_report_json};
+use explain_page::{Page, empty, tags_of};
+use explain_refusal::{Refusal, Refused, program_of, put_refusal, refusal_of, tokens_of, unlexed};
+use explain_run::{Before, Course, moment_before, outcome_of, trail_of};
+use footprint_run::{Audit, Finding, audit_run};
 use std::alloc::Global;
-use ub_base::{Bytes, NoMemory};
+use ub_base::{Bytes, Event, Item, Kind, NoMemory, ObjName};
+
+// How an explanation is put.
+#[derive(Clone, Copy, Debug, PartialEq, Eq)]
+enum Form {
+    Words,
+    Json,
+}
+
+// What is asked, and in which form.
+#[derive(Clone, Copy)]
+struct Request<'a> {
+    asked: Asked<'a>,
+    form: Form,
+}
+
+fn reported<'a>(asked: &Asked<'a>) -> Reported<'a> {
+    Reported {
+        report: asked.report,
+        status: asked.status,
+    }
+}
+
+fn course_of<'a>(asked: &Asked<'a>) -> Course<'a> {
+    Course {
+        input: asked.input,
+        args: asked.args,
+        mode: asked.mode,
+    }
+}
+
+fn put_found(
+    alloc: Global,
+    out: &mut Bytes,
+    request: &Request<'_>,
+    case: &Case<'_, '_>,
+) -> Result<(), NoMemory> {
+    match request.form {
+        Form::Words => put_case(alloc, out, case),
+        Form::Json => put_case_json(alloc, out, reported(&request.asked), case),
+    }
+}
+
+const TOO_DEEP: &[u8] =
+    b":1:1: too deep: the text is nested too deep, or too long, to be explained\n";
+
+// Adds that the text as a whole can't be explained.
+fn put_whole(alloc: Global, out: &mut Bytes, request: &Request<'_>) -> Result<(), NoMemory> {
+    match request.form {
+        Form::Words => {
+            out.append(request.asked.file)?;
+            out.append(TOO_DEEP)
+        }
+        Form::Json => put_report_json(alloc, out, reported(&request.asked)),
+    }
+}
+
+fn put_refused(
+    alloc: Global,
+    out: &mut Bytes,
+    request: &Request<'_>,
+    page: &Page<'_, '_>,
+    refusal: Option<Refusal>,
+) -> Result<(), NoMemory> {
+    let Some(refusal) = refusal else {
+        return put_whole(alloc, out, request);
+    };
+    match request.form {
+        Form::Words => put_refusal(alloc, out, page, &refusal),
+        Form::Json => put_refusal_json(alloc, out, reported(&request.asked), page, &refusal),
+    }
+}
+
+// A run with its audit.
+#[derive(Clone, Copy)]
+struct Audited<'f, 'p> {
+    core: &'f CoreProgram<'p>,
+    roots: &'f [&'f Typed],
+    audit: &'f Audit,
+}
+
+fn found_of<'f>(audit: &'f Audit, events: Option<Events>) -> Found<'f> {
+    Found {
+        verdict: verdict_of(&audit.finding),
+        events,
+        map: &audit.map,
+        frames: &audit.frames,
+        output: audit.output.as_slice(),
+    }
+}
+
+// The event of the last pick, where it broke a clause by itself.
+fn last_event(finding: &Finding) -> Option<Event> {
+    match finding {
+        Finding::Undefined {
+            event,
+            race: None,
+            ..
+        } => Some(*event),
+        _ => None,
+    }
+}
+
+// The number of the pick before which a case is looked at: the last one, or one more where the run could go on.
+fn looked_at(finding: &Finding) -> u64 {
+    match finding {
+        Finding::Outside { picks, .. } => picks.saturating_add(1),
+        _ => picks_of(finding),
+    }
+}
+
+// The whole of the object.
+fn whole(object: ObjName) -> Sought {
+    Sought {
+        object,
+        from: 0,
+        len: u64::MAX,
+    }
+}
+
+fn is_call(act: &Act<'_>) -> bool {
+    act.event.kind == Kind::Body
+}
+
+fn is_access(act: &Act<'_>) -> bool {
+    matches!(act.item, Some(Item::Read { .. } | Item::Write { .. }))
+}
+
+// The events that come first in the other order of two calls.
+fn turned(first: &Act<'_>, second: &Act<'_>) -> Option<Before> {
+    if !is_call(first) || !is_call(second) || !is_access(first) {
+        return None;
+    }
+    let (from, end) = apart(first.root, first.event.node, second.event.node)?;
+    Some(Before {
+        event: second.event,
+        first: from,
+        end,
+    })
+}
+
+// No event comes before its turn.
+fn in_turn(event: Event) -> Before {
+    Before {
+        event,
+        first: 0,
+        end: 0,
+    }
+}
+
+// Both outcomes of two calls.
+#[derive(Drop)]
+struct Both {
+    one: Option<Outcome>,
+    other: Option<Outcome>,
+}
+
+fn outcomes(
+    alloc: Global,
+    asked: &Asked<'_>,
+    core: &CoreProgram<'_>,
+    before: &Before,
+) -> Result<Both, NoMemory> {
+    let course = course_of(asked);
+    let one = outcome_of(alloc, core, course, asked.steps, &in_turn(before.event))?;
+    let other = outcome_of(alloc, core, course, asked.steps, before)?;
+    Ok(Both { one, other })
+}
+
+// Both outcomes, where the finding is of two calls.
+fn both_of(
+    alloc: Global,
+    asked: &Asked<'_>,
+    core: &CoreProgram<'_>,
+    first: &Option<Act<'_>>,
+    second: &Option<Act<'_>>,
+    finding: &Finding,
+) -> Result<Both, NoMemory> {
+    let none = Both {
+        one: None,
+        other: None,
+    };
+    let (Finding::OrderDependent { .. }, Some(first), Some(second)) = (finding, first, second)
+    else {
+        return Ok(none);
+    };
+    match turned(first, second) {
+        Some(before) => outcomes(alloc, asked, core, &before),
+        None => Ok(none),
+    }
+}
+
+fn shown_both(both: &Both) -> Option<(&Outcome, &Outcome)> {
+    match (&both.one, &both.other) {
+        (Some(one), Some(other)) => Some((one, other)),
+        _ => None,
+    }
+}
+
+// What was looked at again.
+#[derive(Drop)]
+struct Looked {
+    moment: Moment,
+    trail: Trail,
+    target: Trail,
+}
+
+fn looked(
+    alloc: Global,
+    asked: &Asked<'_>,
+    audited: &Audited<'_, '_>,
+    events: Option<Events>,
+) -> Result<Looked, NoMemory> {
+    let finding = &audited.audit.finding;
+    let course = course_of(asked);
+    let picks = picks_of(finding);
+    let moment = moment_before(
+        alloc,
+        audited.core,
+        course,
+        looked_at(finding),
+        last_event(finding),
+    )?;
+    let sought = sought_of(events, &moment, &audited.audit.map);
+    let trail = trail_of(alloc, audited.core, course, picks, sought)?;
+    let target = match moment.held {
+        Some(object) => trail_of(alloc, audited.core, course, picks, Some(whole(object)))?,
+        None => Trail::new(alloc),
+    };
+    Ok(Looked {
+        moment,
+        trail,
+        target,
+    })
+}
+
+// Adds the explanation of a finding, of which this was looked at.
+fn put_looked(
+    alloc: Global,
+    out: &mut Bytes,
+    request: &Request<'_>,
+    page: &Page<'_, '_>,
+    audited: &Audited<'_, '_>,
+    looked: &Looked,
+    events: Option<Events>,
+) -> Result<(), NoMemory> {
+    let first = first_act(page, audited.roots, events);
+    let second = second_act(page, audited.roots, events);
+    let both = both_of(
+        alloc,
+        &request.asked,
+        audited.core,
+        &first,
+        &second,
+        &audited.audit.finding,
+    )?;
+    let case = Case {
+        page,
+        program: audited.core.program,
+        roots: audited.roots,
+        found: found_of(audited.audit, events),
+        moment: &looked.moment,
+        trail: &looked.trail,
+        target: &looked.target,
+        first,
+        second,
+        call: None,
+        both: shown_both(&both),
+    };
+    let case = Case {
+        call: library_call(&case),
+        ..case
+    };
+    put_found(alloc, out, request, &case)
+}
+
+fn put_finding(
+    alloc: Global,
+    out: &mut Bytes,
+    request: &Request<'_>,
+    page: &Page<'_, '_>,
+    audited: &Audited<'_, '_>,
+) -> Result<(), NoMemory> {
+    let events = events_of(&audited.audit.finding);
+    let looked = looked(alloc, &request.asked, audited, events)?;
+    put_looked(alloc, out, request, page, audited, &looked, events)
+}
+
+fn put_audit(
+    alloc: Global,
+    out: &mut Bytes,
+    request: &Request<'_>,
+    page: &Page<'_, '_>,
+    core: &CoreProgram<'_>,
+) -> Result<(), NoMemory>
+    requires { request.now.asked.steps ≤ 100000000 }
+{
+    let asked = &request.asked;
+    let audit = audit_run(
+        alloc,
+        core,
+        asked.input,
+        asked.args,
+        asked.mode,
+        asked.steps,
+    )?;
+    let roots = roots_of(alloc, core.program)?;
+    put_finding(
+        alloc,
+        out,
+        request,
+        page,
+        &Audited {
+            core,
+            roots: roots.as_slice(),
+            audit: &audit,
+        },
+    )
+}
+
+fn put_run(
+    alloc: Global,
+    out: &mut Bytes,
+    request: &Request<'_>,
+    page: &Page<'_, '_>,
+    program: &Program,
+) -> Result<(), NoMemory>
+    requires { request.now.asked.steps ≤ 100000000 }
+{
+    let core = elaborate(alloc, program)?;
+    put_audit(alloc, out, request, page, &core)
+}
+
+fn put_program(
+    alloc: Global,
+    out: &mut Bytes,
+    request: &Request<'_>,
+    tokens: &Tokens<'_>,
+) -> Result<(), NoMemory>
+    requires { request.now.asked.steps ≤ 100000000 }
+{
+    let tags = tags_of(alloc, tokens)?;
+    let page = Page {
+        text: request.asked.text,
+        file: request.asked.file,
+        tokens,
+        tags: tags.as_slice(),
+    };
+    match program_of(alloc, tokens) {
+        Ok(program) => put_run(alloc, out, request, &page, &program),
+        Err(Refused::NoMemory) => Err(NoMemory),
+        Err(refused) => {
+            let refusal = refusal_of(alloc, &page, refused)?;
+            put_refused(alloc, out, request, &page, refusal)
+        }
+    }
+}
+
+// Adds why the text has no tokens, on a page without tokens.
+fn put_unlexed(
+    alloc: Global,
+    out: &mut Bytes,
+    request: &Request<'_>,
+    refused: Refused,
+) -> Result<(), NoMemory> {
+    match tokens_of(alloc, b"") {
+        Ok(tokens) => {
+            let page = Page {
+                text: request.asked.text,
+                file: request.asked.file,
+                tokens: &tokens,
+                tags: &[],
+            };
+            let refusal = unlexed(alloc, &page, refused)?;
+            put_refused(alloc, out, request, &page, refusal)
+        }
+        Err(_) => Err(NoMemory),
+    }
+}
+
+// Adds the explanation in this form.
+fn put_explanation(alloc: Global, out: &mut Bytes, request: &Request<'_>) -> Result<(), NoMemory>
+    requires text { length request.now.asked.text.now ≤ 2 ^ 20 }
+    requires steps { request.now.asked.steps ≤ 100000000 }
+{
+    match tokens_of(alloc, request.asked.text) {
+        Ok(tokens) => put_program(alloc, out, request, &tokens),
+        Err(Refused::NoMemory) => Err(NoMemory),
+        Err(refused) => put_unlexed(alloc, out, request, refused),
+    }
+}
 
 /// The explanation in words: lines of text, the last one ended too.
 pub fn explanation(alloc: Global, asked: &Asked<'_>) -> Result<Bytes, NoMemory>
     requires text { length asked.now.text.now ≤ 2 ^ 20 }
     requires steps { asked.now.steps ≤ 100000000 }
 {
-    Bytes::from_slice(alloc, asked.report)
+    let mut out = empty(alloc);
+    let request = Request {
+        asked: *asked,
+        form: Form::Words,
+    };
+    put_explanation(alloc, &mut out, &request)?;
+    Ok(out)
 }
 
 /// The explanation as one JSON object, with no line feed behind it. It stands in place of the report too.
@@ -18,6 +426,11 @@ pub fn explanation_json(alloc: Global, asked: &Asked<'_>) -> Result<Bytes, NoMem
     requires text { length asked.now.text.now ≤ 2 ^ 20 }
     requires steps { asked.now.steps ≤ 100000000 }
 {
-    let _ = asked;
-    Bytes::from_slice(alloc, b"{}")
+    let mut out = empty(alloc);
+    let request = Request {
+        asked: *asked,
+        form: Form::Json,
+    };
+    put_explanation(alloc, &mut out, &request)?;
+    Ok(out)
 }

@@ -3,6 +3,7 @@
 
 mod asked;
 mod explain;
+mod found;
 
 pub use asked::Asked;
 pub use explain::{explanation, explanation_json};

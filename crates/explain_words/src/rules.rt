@@ -10,6 +10,9 @@ pub const TWO_WRITES: &str =
 pub const READ_AND_WRITE: &str =
     "6.5p2: a side effect that is unsequenced against another use of the same object's value is undefined.";
 
+/// The rule of an access that begins one past the last element.
+pub const PAST_THE_END: &str = "6.5.6p8: a pointer one past the last element mustn't be followed.";
+
 /// The rule of a dependence on the order.
 pub const ORDER_RULE: &str =
     "6.5.2.2p10: two calls that nothing sequences run one after the other, in either order.";

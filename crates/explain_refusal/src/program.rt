@@ -1,0 +1,102 @@
+// The program of a text whose lines are the numbers of tokens.
+ghost use Rattle.std.specs.Prelude.{◌≤◌, ◌^◌, length};
+
+use c_lex::{LexFault, Tokens, lex};
+use c_parse::{ParseFault, parse};
+use c_resolve::{TypeFault, resolve};
+use c_typed::{Program, height};
+use explain_places::{one_a_line, token_of};
+use std::alloc::Global;
+use type_operators::Reason;
+use ub_base::{Bytes, NoMemory};
+
+/// Why a text isn't run.
+#[derive(Clone, Copy, Debug, PartialEq, Eq)]
+pub enum Refused {
+    /// The byte at this offset begins no token.
+    Stray(u32),
+    OpenLiteral(u32),
+    BadNumber(u32),
+    /// No program goes on with this token.
+    Syntax(u32),
+    /// What begins at this token breaks a constraint, or leaves the profile.
+    NotTyped(u32, Reason),
+    /// It is nested too deep, or is too long to be explained.
+    TooDeep,
+    NoMemory,
+}
+
+impl From<NoMemory> for Refused {
+    fn from(_e: NoMemory) -> Refused {
+        Refused::NoMemory
+    }
+}
+
+fn lex_refusal(fault: LexFault) -> Refused {
+    match fault {
+        LexFault::Stray(at) => Refused::Stray(at),
+        LexFault::OpenLiteral(at) => Refused::OpenLiteral(at),
+        LexFault::BadNumber(at) => Refused::BadNumber(at),
+        LexFault::NoMemory => Refused::NoMemory,
+    }
+}
+
+/// The tokens of a text.
+pub fn tokens_of<'a>(alloc: Global, text: &'a [u8]) -> Result<Tokens<'a>, Refused>
+    requires { length text.now ≤ 2 ^ 20 }
+{
+    match lex(alloc, text) {
+        Ok(tokens) => Ok(tokens),
+        Err(fault) => Err(lex_refusal(fault)),
+    }
+}
+
+const MOST: usize = 1_048_576;
+
+/// Whether these tokens spell a text, whatever it means; the first token with which none goes on, where they don't.
+pub fn reading_of(alloc: Global, text: &[u8]) -> Result<(), Refused> {
+    if text.len() > MOST {
+        return Err(Refused::TooDeep);
+    }
+    let tokens = tokens_of(alloc, text)?;
+    match parse(alloc, &tokens) {
+        Ok(_) => Ok(()),
+        Err(ParseFault::TooDeep(_)) => Err(Refused::TooDeep),
+        Err(ParseFault::Syntax(token)) => Err(Refused::Syntax(token)),
+        Err(ParseFault::NoMemory) => Err(Refused::NoMemory),
+    }
+}
+
+fn typed(alloc: Global, tokens: &Tokens<'_>) -> Result<Program, Refused> {
+    let unit = match parse(alloc, tokens) {
+        Ok(unit) => unit,
+        Err(ParseFault::TooDeep(_)) => return Err(Refused::TooDeep),
+        Err(ParseFault::Syntax(token)) => return Err(Refused::Syntax(token)),
+        Err(ParseFault::NoMemory) => return Err(Refused::NoMemory),
+    };
+    match resolve(alloc, tokens, &unit) {
+        Ok(program) => Ok(program),
+        Err(TypeFault::NotTyped { line, reason }) => Err(Refused::NotTyped(token_of(line), reason)),
+        Err(TypeFault::NoMemory) => Err(Refused::NoMemory),
+    }
+}
+
+fn typed_of(alloc: Global, text: &[u8]) -> Result<Program, Refused> {
+    if text.len() > MOST {
+        return Err(Refused::TooDeep);
+    }
+    let tokens = tokens_of(alloc, text)?;
+    typed(alloc, &tokens)
+}
+
+const MAX_HEIGHT: u32 = 1000;
+
+/// The program of these tokens. Its lines are the numbers of tokens, and one more.
+pub fn program_of(alloc: Global, tokens: &Tokens<'_>) -> Result<Program, Refused> {
+    let text = one_a_line(alloc, tokens)?;
+    let program = typed_of(alloc, text.as_slice())?;
+    if height(&program) > MAX_HEIGHT {
+        return Err(Refused::TooDeep);
+    }
+    Ok(program)
+}

@@ -1,0 +1,190 @@
+// A run again, up to where it ended, or in another order.
+
+use crate::moment::moment_of;
+use crate::replay::{event_of, step, taken};
+use crate::trail::{Follower, block_entered};
+use addr_map::Mode;
+use c_typed::Place;
+use core_ir::CoreProgram;
+use explain_facts::{Moment, Outcome, Sought, Trail};
+use prov_memory::Memory;
+use run_machine::{Code, Machine, Pick, code_of, prepare};
+use std::alloc::Global;
+use ub_base::{Bytes, Event, Frames, Kind, NoMemory};
+
+/// What a run is given: its input, the words behind the program's name, and how its objects are placed.
+#[derive(Clone, Copy)]
+pub struct Course<'r> {
+    pub input: &'r [u8],
+    pub args: &'r [String],
+    pub mode: Mode,
+}
+
+// The machine before the first pick.
+fn started<'p, 'c>(
+    alloc: Global,
+    core: &CoreProgram<'p>,
+    code: &'c Code<'p>,
+    course: Course<'_>,
+) -> Result<Machine<'p, 'c>, NoMemory> {
+    let input = Bytes::from_slice(alloc, course.input)?;
+    let memory = Memory::new(alloc, course.mode);
+    match prepare(alloc, core.program, code, input, course.args, memory) {
+        Ok(machine) => Ok(machine),
+        Err(_) => Err(NoMemory),
+    }
+}
+
+fn follow(machine: &mut Machine, frames: &mut Frames, picks: u64) -> Result<(), NoMemory> {
+    for _ in 0..picks {
+        if step(machine, frames)?.is_none() {
+            return Ok(());
+        }
+    }
+    Ok(())
+}
+
+const NEAR: u64 = 16;
+
+// Goes on to where a full expression is open, where one is within a few picks.
+fn follow_to_open(machine: &mut Machine, frames: &mut Frames) -> Result<(), NoMemory> {
+    for _ in 0..NEAR {
+        if machine.top.stage.is_some() || step(machine, frames)?.is_none() {
+            return Ok(());
+        }
+    }
+    Ok(())
+}
+
+/// What stands before the pick of this number, from 1, that this event is; without an event, what stands where a full
+/// expression is open there, or a few picks behind.
+pub fn moment_before(
+    alloc: Global,
+    core: &CoreProgram<'_>,
+    course: Course<'_>,
+    pick: u64,
+    event: Option<Event>,
+) -> Result<Moment, NoMemory> {
+    let code = code_of(alloc, core.program, core.terms.items.as_slice())?;
+    let mut machine = started(alloc, core, &code, course)?;
+    let mut frames = Frames::new(alloc);
+    follow(&mut machine, &mut frames, pick.saturating_sub(1))?;
+    if event.is_none() {
+        follow_to_open(&mut machine, &mut frames)?;
+    }
+    moment_of(alloc, &machine, event)
+}
+
+fn follow_trail(
+    machine: &mut Machine,
+    frames: &mut Frames,
+    picks: u64,
+    follower: &mut Follower,
+) -> Result<(), NoMemory> {
+    for _ in 0..picks {
+        let entered = block_entered(machine);
+        let Some(pick) = step(machine, frames)? else {
+            return Ok(());
+        };
+        follower.see(machine, event_of(pick), entered)?;
+    }
+    Ok(())
+}
+
+/// What so many picks of the run do to the bytes that are sought, and what ends it.
+pub fn trail_of(
+    alloc: Global,
+    core: &CoreProgram<'_>,
+    course: Course<'_>,
+    picks: u64,
+    sought: Option<Sought>,
+) -> Result<Trail, NoMemory> {
+    let mut follower = Follower::new(alloc, sought);
+    let code = code_of(alloc, core.program, core.terms.items.as_slice())?;
+    let mut machine = started(alloc, core, &code, course)?;
+    let mut frames = Frames::new(alloc);
+    follow_trail(&mut machine, &mut frames, picks, &mut follower)?;
+    Ok(follower.into_trail())
+}
+
+/// Nodes of a full expression whose events are taken as soon as they may be: from `first` up to but without `end`.
+#[derive(Clone, Copy, Debug, PartialEq, Eq)]
+pub struct Before {
+    pub event: Event,
+    pub first: u32,
+    pub end: u32,
+}
+
+// Takes the first of these events that may be taken.
+fn preferred(
+    machine: &mut Machine,
+    frames: &mut Frames,
+    before: &Before,
+) -> Result<Option<Pick>, NoMemory> {
+    for node in before.first..before.end {
+        for kind in [Kind::Val, Kind::Body, Kind::Eff] {
+            if let Ok(Some(pick)) = machine.single(Place { node, kind }) {
+                return taken(machine, frames, Ok(pick));
+            }
+        }
+    }
+    Ok(None)
+}
+
+fn is_open(machine: &Machine, before: &Before) -> bool {
+    machine.top.stage.is_some()
+        && machine.top.frame == before.event.frame
+        && machine.top.turn == before.event.turn
+}
+
+fn next(
+    machine: &mut Machine,
+    frames: &mut Frames,
+    before: &Before,
+) -> Result<Option<Pick>, NoMemory> {
+    if is_open(machine, before)
+        && let Some(pick) = preferred(machine, frames, before)?
+    {
+        return Ok(Some(pick));
+    }
+    step(machine, frames)
+}
+
+// The status of a run that ends within so many picks.
+fn status_of(
+    machine: &mut Machine,
+    frames: &mut Frames,
+    picks: u64,
+    before: &Before,
+) -> Result<Option<u8>, NoMemory> {
+    for _ in 0..picks {
+        let Some(pick) = next(machine, frames, before)? else {
+            return Ok(None);
+        };
+        if let Some(status) = pick.status() {
+            return Ok(Some(status));
+        }
+    }
+    Ok(None)
+}
+
+/// How the run ends where these events are taken before the others of their full expression; none where it doesn't end within
+/// so many picks, or is undefined.
+pub fn outcome_of(
+    alloc: Global,
+    core: &CoreProgram<'_>,
+    course: Course<'_>,
+    picks: u64,
+    before: &Before,
+) -> Result<Option<Outcome>, NoMemory> {
+    let code = code_of(alloc, core.program, core.terms.items.as_slice())?;
+    let mut machine = started(alloc, core, &code, course)?;
+    let mut frames = Frames::new(alloc);
+    match status_of(&mut machine, &mut frames, picks, before)? {
+        Some(status) => {
+            let (output, _) = machine.into_output_and_map();
+            Ok(Some(Outcome { status, output }))
+        }
+        None => Ok(None),
+    }
+}

@@ -1,0 +1,221 @@
+// What a run does to one object.
+
+use crate::opened::opened_of;
+use c_typed::Slot;
+use explain_facts::{Named, Sought, Touch, Trail};
+use run_code::{Code, Step};
+use run_machine::Machine;
+use std::alloc::Global;
+use ub_base::{Event, Item, NoMemory, ObjName};
+
+const MOST_TOUCHES: usize = 10_000;
+
+/// Follows what a run does to the bytes that are sought: keeps the first 10,000 touches.
+#[derive(Drop)]
+pub struct Follower {
+    sought: Option<Sought>,
+    trail: Trail,
+}
+
+// What an item does to the bytes that are sought.
+#[derive(Clone, Copy, Debug, PartialEq, Eq)]
+enum Does {
+    Nothing,
+    Accesses { writes: bool, from: u64, len: u64 },
+    Bears,
+    Ends,
+}
+
+fn meets(sought: Sought, from: u64, len: u64) -> bool {
+    from < sought.from.saturating_add(sought.len) && sought.from < from.saturating_add(len)
+}
+
+fn does_to(item: &Item, sought: Sought) -> Does {
+    match *item {
+        Item::Read { object, from, len } if object == sought.object && meets(sought, from, len) =>
+            Does::Accesses {
+                writes: false,
+                from,
+                len,
+            },
+        Item::Write { object, from, len } if object == sought.object && meets(sought, from, len) =>
+            Does::Accesses {
+                writes: true,
+                from,
+                len,
+            },
+        Item::Born(object) if object == sought.object => Does::Bears,
+        Item::Dies(object) if object == sought.object => Does::Ends,
+        _ => Does::Nothing,
+    }
+}
+
+// The block that the next pick enters.
+pub fn block_entered(machine: &Machine) -> Option<u32> {
+    if machine.top.stage.is_some() {
+        return None;
+    }
+    let mut at = machine.top.at;
+    for _ in 0..machine.code.steps.len() {
+        match machine.code.steps.get(at as usize) {
+            Some(Step::Go(to)) => at = *to,
+            Some(Step::Enter { block, .. }) => return Some(*block),
+            _ => return None,
+        }
+    }
+    None
+}
+
+fn count(len: usize) -> u32 {
+    u32::try_from(len).unwrap_or(u32::MAX)
+}
+
+// The step at which the functions behind this one begin.
+fn steps_end(code: &Code<'_>, function: u32) -> u32 {
+    for number in function.saturating_add(1)..count(code.functions.len()) {
+        if let Some(Some(laid)) = code.functions.get(number as usize) {
+            return laid.entry;
+        }
+    }
+    count(code.steps.len())
+}
+
+// The first and the last of the full expressions between two steps.
+fn expressions_of(code: &Code<'_>, from: u32, to: u32) -> Option<(u32, u32)> {
+    let mut found = None;
+    for at in from..to {
+        if let Some(Step::Full { expression, .. }) = code.steps.get(at as usize) {
+            found = match found {
+                None => Some((*expression, *expression)),
+                Some((first, last)) => Some((first.min(*expression), last.max(*expression))),
+            };
+        }
+    }
+    found
+}
+
+// How the text names the objects of a block that a frame enters.
+fn named_in(machine: &Machine, block: u32, decl: u32) -> Option<Named> {
+    let code = machine.code;
+    let function = machine.top.function?;
+    let Some(Some(laid)) = code.functions.get(function as usize) else {
+        return None;
+    };
+    let Some(Step::Enter { block: body, .. }) = code.steps.get(laid.entry as usize) else {
+        return None;
+    };
+    let (first, last) = expressions_of(code, laid.entry, steps_end(code, function))?;
+    Some(Named {
+        slot: Slot::Auto {
+            block: block.saturating_sub(*body),
+            decl,
+        },
+        first,
+        last,
+    })
+}
+
+fn access(trail: &mut Trail, touch: Touch) -> Result<(), NoMemory> {
+    if touch.writes {
+        trail.stored = Some(touch);
+    }
+    if trail.touches.len() < MOST_TOUCHES {
+        trail.touches.push(touch)?;
+    }
+    Ok(())
+}
+
+fn note(trail: &mut Trail, does: Does, touch: Touch) -> Result<(), NoMemory> {
+    match does {
+        Does::Nothing => Ok(()),
+        Does::Bears => {
+            trail.born = Some(touch);
+            Ok(())
+        }
+        Does::Ends => {
+            trail.died = Some(touch);
+            Ok(())
+        }
+        Does::Accesses { writes, from, len } => access(
+            trail,
+            Touch {
+                writes,
+                from,
+                len,
+                ..touch
+            },
+        ),
+    }
+}
+
+impl Follower {
+    /// Nothing was seen yet.
+    pub fn new(alloc: Global, sought: Option<Sought>) -> Follower {
+        Follower {
+            sought,
+            trail: Trail::new(alloc),
+        }
+    }
+
+    /// What was seen.
+    pub fn into_trail(self) -> Trail {
+        let Follower { sought: _, trail } = self;
+        trail
+    }
+
+    fn see_items(&mut self, items: &[Item], sought: Sought, touch: Touch) -> Result<(), NoMemory> {
+        for item in items {
+            note(&mut self.trail, does_to(item, sought), touch)?;
+        }
+        Ok(())
+    }
+
+    fn see_entered(&mut self, machine: &Machine, block: u32, sought: Sought) {
+        if let ObjName::Auto { decl, .. } = sought.object
+            && machine.items.items().contains(&Item::Born(sought.object))
+        {
+            self.trail.named = named_in(machine, block, decl);
+        }
+    }
+
+    fn see_touch(&mut self, machine: &Machine, touch: Touch) -> Result<(), NoMemory> {
+        let items = machine.items.items();
+        if items.contains(&Item::Ending) {
+            self.trail.ending = Some(touch);
+        }
+        match self.sought {
+            Some(sought) => self.see_items(items, sought, touch),
+            None => Ok(()),
+        }
+    }
+
+    /// Sees a pick that was taken, with its event, or with the block that it entered.
+    pub fn see(
+        &mut self,
+        machine: &Machine,
+        event: Option<Event>,
+        entered: Option<u32>,
+    ) -> Result<(), NoMemory> {
+        if let (Some(sought), Some(block)) = (self.sought, entered) {
+            self.see_entered(machine, block, sought);
+        }
+        match touch_by(machine, event) {
+            Some(touch) => self.see_touch(machine, touch),
+            None => Ok(()),
+        }
+    }
+}
+
+// An act of this event, on no bytes yet.
+fn touch_by(machine: &Machine, event: Option<Event>) -> Option<Touch> {
+    let event = event?;
+    let (opened, caller) = opened_of(machine.shown(), &event)?;
+    Some(Touch {
+        opened,
+        caller,
+        node: event.node,
+        writes: false,
+        from: 0,
+        len: 0,
+    })
+}
