@@ -62,8 +62,8 @@ audited_line was is request answer (Ok verdict) cause code first = record { answ
 audited_line was is request answer (Err e) cause code first = code
 
 -- .. is what is said of the run that its request asks for
-pub said_line : {E : Type 0} (limits : Limits) (was is : Moment) (program : List ℕ) (input : Option (List ℕ)) (request : AuditRequest) (result : Result Verdict E)
-    → IfOk result (λ verdict. IsAudited request was is verdict.status verdict.line) → AsksFor limits program input request
+pub said_line : {E : Type 0} (limits : Limits) (was is : Moment) (program : List ℕ) (input : Option (List ℕ)) (request : AuditRequest)
+    (result : Result Verdict E) → IfOk result (λ verdict. IsAudited request was is verdict.status verdict.line) → AsksFor limits program input request
     → IfOk result (λ verdict. Says limits was is program input verdict.status verdict.line)
 said_line limits was is program input request (Ok verdict) audited asks = (request, asks, audited)
 said_line limits was is program input request (Err e) audited asks = audited

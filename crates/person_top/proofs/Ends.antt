@@ -21,5 +21,6 @@ told_earlier answers old new first before now result later (inr ends) = inr (by_
 pub break_ends : (fault : BatchFault) (told new : Option (List ℕ)) (first before now result : ℕ) → first ≤ before → (fault ≡ Fault.Failed → Rose first before)
     → ((fault ≡ Fault.Failed) × (result ≡ 21) × (new ≡ told) × (now ≡ before)) ⊎ EndsForMemory told new before now result
     → ((result ≡ 21) × Rose first now × (new ≡ told)) ⊎ EndsForMemory told new first now result
-break_ends fault told new first before now result later rose (inl (failed, is, stays, same)) = inl (is, subst (λ n. Rose first n) (sym same) (rose failed), stays)
+break_ends fault told new first before now result later rose (inl (failed, is, stays, same)) =
+    inl (is, subst (λ n. Rose first n) (sym same) (rose failed), stays)
 break_ends fault told new first before now result later rose (inr ends) = inr (by_earlier told new first before now result 30 _ later ends)

@@ -1,5 +1,32 @@
 -- Lists are fetched one after the other.
-use Rattle.std.proofs.Common.{◌≡◌, ◌∙◌, ℕ, ◌+◌, ◌<◌, ◌≤◌, List, [], ◌∷◌, ◌++◌, Option, length, get_or, map, drop, sym, ap, subst, inl, inr, arith, append_assoc, append-nil, add-one, drop-cons, drop_of_length-le}
+use Rattle.std.proofs.Common.{
+  ◌≡◌,
+  ◌∙◌,
+  ℕ,
+  ◌+◌,
+  ◌<◌,
+  ◌≤◌,
+  List,
+  [],
+  ◌∷◌,
+  ◌++◌,
+  Option,
+  length,
+  get_or,
+  map,
+  drop,
+  sym,
+  ap,
+  subst,
+  inl,
+  inr,
+  arith,
+  append_assoc,
+  append-nil,
+  add-one,
+  drop-cons,
+  drop_of_length-le,
+}
 use Rattle.ub_base.specs.Held.{Held}
 use Rattle.audit_sources.specs.Fetching.{IsUnread, IsWhole, Misses, Stops}
 use Rattle.audit_sources.specs.declared.fetch.FetchFault.{FetchFault}
@@ -17,7 +44,8 @@ unread_later : (held : Option Held) (name : List ℕ) (m n end : ℕ) → m ≤ 
 unread_later held name m n end later (inl absent) = inl absent
 unread_later held name m n end later (inr rose) = inr (omega (arith, later, rose))
 
-misses_later : (held : Option Held) (file : Role × List ℕ) (m n end : ℕ) (fault : FetchFault) → m ≤ n → Misses held n end file fault → Misses held m end file fault
+misses_later : (held : Option Held) (file : Role × List ℕ) (m n end : ℕ) (fault : FetchFault) → m ≤ n → Misses held n end file fault
+    → Misses held m end file fault
 misses_later held file m n end Fault.ReadFault later misses = unread_later held file.1 m n end later misses
 misses_later held file m n end (Fault.TooLong role) later misses = misses
 misses_later held file m n end Fault.NoMemory later misses = tt

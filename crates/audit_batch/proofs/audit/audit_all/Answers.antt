@@ -10,10 +10,11 @@ loop-run-init g c = (
   refl,
   omega arith,
   reaches_none (g.A.Auditor.says c.args.auditor.now c.args.limits)
-      (stand (moment (g.F.Files.held c.args.files.now) (g.F.Files.read_faults c.args.files.now) (g.F.Files.write_faults c.args.files.now)) (g.O.Sink.told c.args.out.now) no_runs)
+      (stand (moment (g.F.Files.held c.args.files.now) (g.F.Files.read_faults c.args.files.now) (g.F.Files.write_faults c.args.files.now))
+      (g.O.Sink.told c.args.out.now) no_runs)
       (map names_of c.args.runs.now)
-      (stand (moment (g.F.Files.held c.args.files.now) (g.F.Files.read_faults c.args.files.now) (g.F.Files.write_faults c.args.files.now)) (g.O.Sink.told c.args.out.now)
-      c.new-tally.result)
+      (stand (moment (g.F.Files.held c.args.files.now) (g.F.Files.read_faults c.args.files.now) (g.F.Files.write_faults c.args.files.now))
+      (g.O.Sink.told c.args.out.now) c.new-tally.result)
       (ap (stand (moment (g.F.Files.held c.args.files.now) (g.F.Files.read_faults c.args.files.now) (g.F.Files.write_faults c.args.files.now)) (g.O.Sink.told c.args.out.now))
       c.new-tally.ensures),
 )
@@ -23,9 +24,10 @@ loop-run-preserved g c = (
   c.in-Ok.ensures.held ∙ c.loop-run.invariant.0,
   omega (arith, c.loop-run.invariant.1, c.in-Ok.ensures.later),
   reaches_run (g.A.Auditor.says c.args.auditor.now c.args.limits)
-      (stand (moment (g.F.Files.held c.args.files.now) (g.F.Files.read_faults c.args.files.now) (g.F.Files.write_faults c.args.files.now)) (g.O.Sink.told c.args.out.now) no_runs)
-      (stand (moment (g.F.Files.held c.loop-run.files) (g.F.Files.read_faults c.loop-run.files) (g.F.Files.write_faults c.loop-run.files)) (g.O.Sink.told c.loop-run.out)
-      c.loop-run.tally)
+      (stand (moment (g.F.Files.held c.args.files.now) (g.F.Files.read_faults c.args.files.now) (g.F.Files.write_faults c.args.files.now))
+      (g.O.Sink.told c.args.out.now) no_runs)
+      (stand (moment (g.F.Files.held c.loop-run.files) (g.F.Files.read_faults c.loop-run.files) (g.F.Files.write_faults c.loop-run.files))
+      (g.O.Sink.told c.loop-run.out) c.loop-run.tally)
       (stand (moment (g.F.Files.held c.audit_one.new.files) (g.F.Files.read_faults c.audit_one.new.files) (g.F.Files.write_faults c.audit_one.new.files))
       (g.O.Sink.told c.audit_one.new.out) c.after-tally.result)
       c.args.runs.now c.loop-run.run-index _ c.in-Ok.status c.loop-run-test.true c.in-Ok.ensures.said c.after-tally.ensures c.loop-run.invariant.2,
