@@ -7,7 +7,7 @@ use addr_map::Mode;
 use c_typed::Place;
 use core_ir::CoreProgram;
 use explain_facts::{Moment, Outcome, Sought, Trail};
-use prov_memory::Memory;
+use prov_memory::{Memory, Outputs};
 use run_machine::{Code, Machine, Pick, code_of, prepare};
 use std::alloc::Global;
 use ub_base::{Bytes, Event, Frames, Kind, NoMemory};
@@ -182,8 +182,12 @@ pub fn outcome_of(
     let mut frames = Frames::new(alloc);
     match status_of(&mut machine, &mut frames, picks, before)? {
         Some(status) => {
-            let (output, _) = machine.into_output_and_map();
-            Ok(Some(Outcome { status, output }))
+            let (outputs, _) = machine.into_output_and_map();
+            let Outputs { standard, .. } = outputs;
+            Ok(Some(Outcome {
+                status,
+                output: standard,
+            }))
         }
         None => Ok(None),
     }
