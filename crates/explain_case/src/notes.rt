@@ -1,4 +1,5 @@
 // Notes.
+ghost use Rattle.std.specs.Prelude.{◌<◌, length, IfSome};
 
 use crate::calls::put_calls;
 use crate::case::{Act, Case};
@@ -151,6 +152,8 @@ fn put_rule(out: &mut Bytes, case: &Case<'_, '_>) -> Result<(), NoMemory> {
 
 const SHORT: usize = 40;
 
+const LINE: usize = 80;
+
 // Whether each byte can be shown, but for a line feed at the end.
 fn is_plain(output: &[u8]) -> bool {
     output
@@ -162,6 +165,20 @@ fn without_line_feed(output: &[u8]) -> &[u8] {
     match output.split_last() {
         Some((last, front)) if *last == b'\n' => front,
         _ => output,
+    }
+}
+
+// Where the first line feed stands.
+fn line_end(text: &[u8]) -> Option<usize>
+    ensures within { IfSome result (λ at. at < length text.now) }
+{
+    text.iter().position(|byte| *byte == b'\n')
+}
+
+fn first_line(text: &[u8]) -> &[u8] {
+    match line_end(text) {
+        Some(at) => &text[..at],
+        None => text,
     }
 }
 
@@ -298,18 +315,44 @@ fn push_clean(alloc: Global, notes: &mut Vec<Note>, case: &Case<'_, '_>) -> Resu
     Ok(())
 }
 
+// Adds what was written to standard error: how many bytes, and where it can be shown the first line.
+fn put_errors(out: &mut Bytes, errors: &[u8]) -> Result<(), NoMemory> {
+    if errors.is_empty() {
+        return Ok(());
+    }
+    put_number(out, errors.len() as u64)?;
+    out.append(b" bytes on standard error")?;
+    let first = first_line(errors);
+    if first.len() <= LINE && is_plain(first) {
+        out.append(b", first `")?;
+        out.append(first)?;
+        out.push(b'`')?;
+    }
+    Ok(())
+}
+
+// The notes on the finding itself.
+fn push_finding(alloc: Global, notes: &mut Vec<Note>, case: &Case<'_, '_>) -> Result<(), NoMemory> {
+    if let Some(first) = &case.first {
+        return push_events(alloc, notes, case, first);
+    }
+    match case.found.verdict {
+        Verdict::Clean { .. } => push_clean(alloc, notes, case),
+        Verdict::Outside { .. } => {
+            notes.push(note_of(alloc, "limit", LIMIT)?)?;
+            Ok(())
+        }
+        _ => Ok(()),
+    }
+}
+
 /// The notes of a case behind those of its calls and its object.
 pub fn notes_of(alloc: Global, case: &Case<'_, '_>) -> Result<Vec<Note>, NoMemory> {
     let mut notes = Vec::new(alloc);
-    if let Some(first) = &case.first {
-        push_events(alloc, &mut notes, case, first)?;
-        return Ok(notes);
-    }
-    match case.found.verdict {
-        Verdict::Clean { .. } => push_clean(alloc, &mut notes, case)?,
-        Verdict::Outside { .. } => notes.push(note_of(alloc, "limit", LIMIT)?)?,
-        _ => {}
-    }
+    push_finding(alloc, &mut notes, case)?;
+    let mut errors = empty(alloc);
+    put_errors(&mut errors, case.found.errors)?;
+    push(&mut notes, "errors", errors)?;
     Ok(notes)
 }
 

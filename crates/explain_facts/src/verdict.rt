@@ -52,5 +52,8 @@ pub struct Found<'f> {
     pub events: Option<Events>,
     pub map: &'f AddrMap,
     pub frames: &'f Frames,
+    /// What it wrote to standard output.
     pub output: &'f [u8],
+    /// What it wrote to standard error.
+    pub errors: &'f [u8],
 }

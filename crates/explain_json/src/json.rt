@@ -460,6 +460,15 @@ fn put_output(alloc: Global, map: &mut Members, case: &Case<'_, '_>) -> Result<(
     Ok(())
 }
 
+// The bytes that a run wrote to standard error, where there are any.
+fn put_errors(alloc: Global, map: &mut Members, case: &Case<'_, '_>) -> Result<(), NoMemory> {
+    if case.found.errors.is_empty() {
+        return Ok(());
+    }
+    let text = hexadecimal(alloc, case.found.errors)?;
+    put_text(alloc, map, "errors", text.as_slice())
+}
+
 // The report without what the program wrote, which stands behind it where the run is clean.
 fn without_output<'a>(of: Reported<'a>, case: &Case<'_, '_>) -> Reported<'a> {
     if let Verdict::Clean { .. } = case.found.verdict {
@@ -483,6 +492,7 @@ pub fn put_case_json(
     put_clause(alloc, &mut map, case)?;
     put_told(alloc, &mut map, case)?;
     put_output(alloc, &mut map, case)?;
+    put_errors(alloc, &mut map, case)?;
     put_map(alloc, out, map)
 }
 

@@ -103,6 +103,7 @@ fn found_of<'f>(audit: &'f Audit, events: Option<Events>) -> Found<'f> {
         map: &audit.map,
         frames: &audit.frames,
         output: audit.output.as_slice(),
+        errors: audit.errors.as_slice(),
     }
 }
 
