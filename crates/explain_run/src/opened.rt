@@ -12,15 +12,21 @@ pub fn opened_by(begun: &Begun<'_>) -> Opened {
     }
 }
 
-/// The full expression of an event, among those that are open, and the one below it.
+// The full expression below the one of this number.
+fn below(begun: &[Begun<'_>], at: usize) -> Option<Opened> {
+    match begun.get(at.checked_sub(1)?) {
+        Some(one) => Some(opened_by(one)),
+        None => None,
+    }
+}
+
+/// The full expression of an event, among those that are open, and the one below it. The innermost, which nearly all events are of,
+/// are looked at first.
 pub fn opened_of(begun: &[Begun<'_>], event: &Event) -> Option<(Opened, Option<Opened>)> {
-    let mut below = None;
-    for one in begun {
-        let opened = opened_by(one);
+    for (at, one) in begun.iter().enumerate().rev() {
         if one.frame == event.frame && one.turn == event.turn {
-            return Some((opened, below));
+            return Some((opened_by(one), below(begun, at)));
         }
-        below = Some(opened);
     }
     None
 }
