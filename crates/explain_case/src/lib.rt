@@ -1,24 +1,23 @@
-//! A finding with the nodes of its events, and its explanation in words.
+//! What is explained: a finding with the nodes of its events, its calls, its objects by name, and its values.
 #![tactic(auto)]
 
+mod accesses;
 mod calls;
 mod case;
-mod first;
 mod format;
-mod heads;
-mod hints;
-mod marks;
-mod notes;
 mod objects;
 mod page;
 mod text;
 mod values;
 
-pub use calls::{end_of, library_call, sites_of};
+pub use accesses::{is_behind, is_write, last_store};
+pub use calls::{end_of, library_call, put_calls, sites_of};
 pub use case::{Act, Case, first_act, second_act, sought_of};
-pub use first::{put_case, told_at};
-pub use heads::{put_does, put_head};
-pub use marks::{Marked, marks_of, shown_first};
-pub use notes::{Note, notes_of};
-pub use objects::{NamedObject, naming, put_object_type, size_of, storage_of, subject};
-pub use text::{put_function, token_at};
+pub use format::{Mismatch, Taken, mismatch_of, printing, put_mismatch, put_taken};
+pub use objects::{
+    NamedObject, elements, naming, place_of, put_accessed, put_by, put_object, put_object_type,
+    put_subject, size_of, storage_of, subject, subject_name,
+};
+pub use page::{put_tokens, put_words_and};
+pub use text::{put_a_type, put_function, put_integer, put_tree, token_at};
+pub use values::{Pair, pair_of, put_values};

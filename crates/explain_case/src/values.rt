@@ -1,8 +1,9 @@
 // The values of operands.
 
+use crate::accesses::last_store;
 use crate::case::{Act, Case};
 use crate::objects::{naming, place_of, put_subject, subject};
-use crate::text::{put_integer, put_tree, token_at};
+use crate::text::{put_a_type, put_integer, put_tree, token_at};
 use c_typed::{Node, Typed};
 use c_types::{BinOp, IntKind};
 use explain_facts::{Aim, Shown, operand_number};
@@ -218,7 +219,7 @@ fn put_nowhere(out: &mut Bytes, case: &Case<'_, '_>) -> Result<(), NoMemory> {
 
 // Adds what the bytes hold that are read by another type.
 fn put_held(out: &mut Bytes, case: &Case<'_, '_>, act: &Act<'_>) -> Result<(), NoMemory> {
-    let (Some(touch), Some(stored)) = (case.trail.stored, crate::heads::last_store(case)) else {
+    let (Some(touch), Some(stored)) = (case.trail.stored, last_store(case)) else {
         return Ok(());
     };
     out.append(b"bytes ")?;
@@ -226,7 +227,7 @@ fn put_held(out: &mut Bytes, case: &Case<'_, '_>, act: &Act<'_>) -> Result<(), N
     out.append(b" to ")?;
     put_number(out, touch.from.saturating_add(touch.len).saturating_sub(1))?;
     out.append(b" hold ")?;
-    crate::text::put_a_type(out, case.page, &stored.ty)?;
+    put_a_type(out, case.page, &stored.ty)?;
     out.append(b", stored at ")?;
     case.page.put_token_place(out, token_of(stored.line))?;
     put_read_bytes(out, case, act)

@@ -2,10 +2,11 @@
 
 use c_names::{write_event, write_object};
 use explain_case::{
-    Act, Case, Marked, NamedObject, end_of, marks_of, naming, notes_of, put_function, put_head,
-    put_object_type, shown_first, sites_of, size_of, storage_of, subject, token_at, told_at,
+    Act, Case, NamedObject, end_of, naming, put_function, put_object_type, sites_of, size_of,
+    storage_of, subject, token_at,
 };
 use explain_facts::{CallSite, Touch, Verdict};
+use explain_notes::{Marked, marks_of, notes_of, put_head, shown_first, told_at};
 use explain_page::{Page, Stretch, empty, put_number, put_type};
 use explain_places::{declaration_of, function_of, token_of};
 use explain_refusal::{Refusal, Rule, put_said, refusal_notes};

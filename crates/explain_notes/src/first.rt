@@ -1,10 +1,9 @@
 // The explanation of a case.
 
-use crate::calls::end_of;
-use crate::case::Case;
 use crate::heads::put_head;
 use crate::marks::{put_events, shown_first};
 use crate::notes::put_notes;
+use explain_case::{Case, end_of};
 use explain_facts::Verdict;
 use std::alloc::Global;
 use ub_base::{Bytes, Cause, NoMemory};

@@ -1,22 +1,16 @@
 // The first line, and what stands behind carets.
 
-use crate::case::{Act, Case};
-use crate::format::{mismatch_of, put_mismatch};
-use crate::objects::{place_of, put_accessed, put_subject, subject, subject_name};
-use crate::page::{put_tokens, put_words_and};
-use crate::text::{put_a_type, put_integer, put_tree, token_at};
-use crate::values::{Pair, pair_of};
 use c_typed::{Access, Node, Typed};
-use explain_facts::{Touch, Verdict, is_within, tree_at};
+use explain_case::{
+    Act, Case, Pair, is_behind, is_write, last_store, mismatch_of, pair_of, place_of, put_a_type,
+    put_accessed, put_integer, put_mismatch, put_subject, put_tokens, put_tree, put_words_and,
+    subject_name, token_at,
+};
+use explain_facts::{Touch, Verdict, is_within};
 use explain_page::{Page, put_number, put_type};
 use explain_places::{Extent, extent_of};
 use explain_words::head_of;
 use ub_base::{Bytes, Cause, Clause, Item, Kind, NoMemory};
-
-/// Whether the item is a write.
-pub fn is_write(item: Option<Item>) -> bool {
-    matches!(item, Some(Item::Write { .. }))
-}
 
 fn is_read(item: Option<Item>) -> bool {
     matches!(item, Some(Item::Read { .. }))
@@ -149,18 +143,6 @@ fn put_outside(out: &mut Bytes, case: &Case<'_, '_>, act: &Act<'_>) -> Result<()
     }
 }
 
-/// Whether the access begins at the end of its object or behind it.
-pub fn is_behind(case: &Case<'_, '_>, act: &Act<'_>) -> bool {
-    match (&act.tree.node, case.moment.place, subject(case)) {
-        (Node::Load(_) | Node::Assign { .. } | Node::Update { .. }, Some(aim), Some(object)) =>
-            match case.found.map.row(object) {
-                Some(row) => aim.addr >= row.base.saturating_add(row.size),
-                None => false,
-            },
-        _ => false,
-    }
-}
-
 // Adds which type is read where another one was stored.
 fn put_other_type(
     out: &mut Bytes,
@@ -174,12 +156,6 @@ fn put_other_type(
     out.append(b" where ")?;
     put_a_type(out, case.page, &stored.ty)?;
     out.append(b" was stored")
-}
-
-/// The node that stored last to the bytes that are accessed.
-pub fn last_store<'c>(case: &Case<'c, '_>) -> Option<&'c Typed> {
-    let touch = case.trail.stored?;
-    tree_at(case.roots, touch.opened.tree, touch.node)
 }
 
 // Adds the sentence of a clause that an event breaks.

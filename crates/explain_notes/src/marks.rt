@@ -1,9 +1,7 @@
 // The events of a case on their lines of source.
 
-use crate::case::{Act, Case};
-use crate::format::{Mismatch, mismatch_of, put_taken};
 use crate::heads::put_does;
-use crate::text::put_a_type;
+use explain_case::{Act, Case, Mismatch, mismatch_of, put_a_type, put_taken};
 use explain_page::{Mark, Stretch, empty, put_marks};
 use explain_places::extent_of;
 use std::alloc::Global;

@@ -1,13 +1,11 @@
 // What mends a program, with its names.
 
-use crate::case::{Act, Case};
-use crate::format::{mismatch_of, printing};
-use crate::heads::is_write;
-use crate::objects::{NamedObject, elements, naming, place_of, subject};
-use crate::text::{put_tree, token_at};
-use crate::values::pair_of;
 use c_typed::{Node, Typed};
 use c_types::{IntKind, Ty};
+use explain_case::{
+    Act, Case, NamedObject, elements, is_write, mismatch_of, naming, pair_of, place_of, printing,
+    put_tree, subject, token_at,
+};
 use explain_facts::parent_of;
 use explain_page::{put_number, put_type};
 use explain_places::declaration_of;

@@ -1,15 +1,14 @@
 // Notes.
 ghost use Rattle.std.specs.Prelude.{◌<◌, length, IfSome};
 
-use crate::calls::put_calls;
-use crate::case::{Act, Case};
-use crate::heads::{is_behind, is_write};
 use crate::hints::put_hint;
-use crate::objects::{place_of, put_by, put_object, subject};
-use crate::values::put_values;
 use c_typed::{Node, Typed};
+use explain_case::{
+    Act, Case, is_behind, is_write, place_of, put_by, put_calls, put_object, put_values, subject,
+};
 use explain_facts::{Outcome, Verdict, common};
 use explain_page::{empty, put_long_note, put_number};
+use explain_places::extent_of;
 use explain_words::{ORDER_RULE, PAST_THE_END, TWO_WRITES, rule_of};
 use std::alloc::Global;
 use ub_base::{Bytes, Clause, NoMemory, ObjName};
@@ -98,7 +97,7 @@ fn put_unordered(
             b"The operands of = are in no order, and its store follows their values alone (6.5.16p3).",
         ),
         _ => {
-            let extent = explain_places::extent_of(case.page.tokens, above);
+            let extent = extent_of(case.page.tokens, above);
             out.append(b"The operands of ")?;
             out.append(case.page.spelling(extent.operator))?;
             out.append(b" are in no order.")
