@@ -231,6 +231,16 @@ pub fn put_object_type(
     }
 }
 
+// Adds so many bytes.
+fn put_size(out: &mut Bytes, size: u64) -> Result<(), NoMemory> {
+    put_number(out, size)?;
+    if size == 1 {
+        out.append(b" byte")
+    } else {
+        out.append(b" bytes")
+    }
+}
+
 // Adds what is known of an object that a node names.
 fn put_named(
     out: &mut Bytes,
@@ -243,8 +253,8 @@ fn put_named(
     out.append(b": ")?;
     put_object_type(out, case, object, named)?;
     out.append(b", ")?;
-    put_number(out, size_of(case, object))?;
-    out.append(b" bytes, ")?;
+    put_size(out, size_of(case, object))?;
+    out.append(b", ")?;
     out.append(storage_of(object))?;
     put_declared(out, case.page, object, name)
 }
@@ -256,8 +266,8 @@ fn put_unnamed(
     object: ObjName,
     trail: &Trail,
 ) -> Result<(), NoMemory> {
-    put_number(out, size_of(case, object))?;
-    out.append(b" bytes, ")?;
+    put_size(out, size_of(case, object))?;
+    out.append(b", ")?;
     match object {
         ObjName::Lit(_) => out.append(b"a string literal"),
         ObjName::Argv | ObjName::Arg(_) => out.append(b"argument of the program"),

@@ -3,7 +3,7 @@
 use c_typed::{Access, Node, Typed};
 use explain_case::{
     Act, Case, Pair, is_behind, is_write, last_store, mismatch_of, pair_of, place_of, put_a_type,
-    put_accessed, put_integer, put_mismatch, put_subject, put_tokens, put_tree, put_words_and,
+    put_accessed, put_integer, put_mismatch, put_subject, put_tokens, put_words_and,
     subject_name, token_at,
 };
 use explain_facts::{Touch, Verdict, is_within};
@@ -25,9 +25,32 @@ fn stores(tree: &Typed) -> bool {
     matches!(&tree.node, Node::Assign { .. } | Node::Update { .. })
 }
 
-// The tokens of what the node loads or stores.
-fn place_extent(page: &Page<'_, '_>, tree: &Typed) -> Extent {
-    extent_of(page.tokens, place_of(tree))
+// The tokens beside the operator of a store.
+fn target_extent(extent: Extent) -> Extent {
+    if extent.operator == extent.first {
+        return Extent {
+            first: extent.first.saturating_add(1),
+            ..extent
+        };
+    }
+    Extent {
+        operator: extent.first,
+        last: extent.operator.saturating_sub(1),
+        ..extent
+    }
+}
+
+// The tokens of what an evaluation loads or stores.
+fn place_extent(page: &Page<'_, '_>, act: &Act<'_>) -> Extent {
+    match &act.tree.node {
+        Node::Load(_) => act.extent,
+        Node::Update { .. } => target_extent(act.extent),
+        Node::Assign {
+            initializing: false,
+            ..
+        } => target_extent(act.extent),
+        _ => extent_of(page.tokens, place_of(act.tree)),
+    }
 }
 
 // Adds what a race does to what.
@@ -131,7 +154,7 @@ fn put_out_of_range(
 
 // Adds that an expression goes past an end of its object.
 fn put_outside(out: &mut Bytes, case: &Case<'_, '_>, act: &Act<'_>) -> Result<(), NoMemory> {
-    put_tree(out, case.page, place_of(act.tree))?;
+    put_tokens(out, case.page, &place_extent(case.page, act))?;
     if stores(act.tree) {
         out.append(b" is written behind the end of ")?;
     } else {
@@ -150,7 +173,7 @@ fn put_other_type(
     act: &Act<'_>,
     stored: &Typed,
 ) -> Result<(), NoMemory> {
-    put_tree(out, case.page, place_of(act.tree))?;
+    put_tokens(out, case.page, &place_extent(case.page, act))?;
     out.append(b" reads ")?;
     put_a_type(out, case.page, &act.tree.ty)?;
     out.append(b" where ")?;
@@ -354,14 +377,14 @@ fn put_operand_types(out: &mut Bytes, page: &Page<'_, '_>, act: &Act<'_>) -> Res
 fn put_single(out: &mut Bytes, page: &Page<'_, '_>, act: &Act<'_>) -> Result<(), NoMemory> {
     match &act.tree.node {
         Node::Load(Access::Pointer | Access::Function) => {
-            put_words_and(out, b"reads ", page, &place_extent(page, act.tree))
+            put_words_and(out, b"reads ", page, &place_extent(page, act))
         }
         Node::Load(_) | Node::Part { .. } => {
             out.append(b"reads ")?;
             put_a_type(out, page, &act.tree.ty)
         }
         Node::Assign { .. } | Node::Update { .. } => {
-            put_words_and(out, b"writes ", page, &place_extent(page, act.tree))
+            put_words_and(out, b"writes ", page, &place_extent(page, act))
         }
         Node::Call { .. } => out.append(b"the call"),
         Node::Bin(_, _) => put_operand_types(out, page, act),

@@ -39,6 +39,22 @@ pub fn close_of(tokens: &Tokens<'_>, open: u32) -> u32 {
     tokens.len().saturating_sub(1)
 }
 
+/// The token from `reach` on at which all brackets are closed that open from `first` on; `reach`, where none is.
+pub fn closed_behind(tokens: &Tokens<'_>, first: u32, reach: u32) -> u32 {
+    let mut depth = 0u32;
+    for at in first..tokens.len() {
+        match side_of(tokens.kind(at)) {
+            Side::Opens => depth = depth.saturating_add(1),
+            Side::Closes => depth = depth.saturating_sub(1),
+            Side::Neither => {}
+        }
+        if at >= reach && depth == 0 {
+            return at;
+        }
+    }
+    reach
+}
+
 /// The innermost bracket that is open before this token.
 pub fn open_before(tokens: &Tokens<'_>, before: u32) -> Option<u32> {
     let mut depth = 0u32;

@@ -1,6 +1,6 @@
 // The tokens of an expression.
 
-use crate::brackets::close_of;
+use crate::brackets::{close_of, closed_behind};
 use crate::operand::{is_index, operand_end, operator_before, steps_end};
 use crate::operators::{
     ADD, AND, ASSIGN, BIT_AND, BIT_OR, BIT_XOR, CHOICE, COMMA, EQUAL, MULTIPLY, OR, RELATION, SHIFT,
@@ -191,6 +191,27 @@ fn extent_by(tokens: &Tokens<'_>, first: u32, shape: Shape) -> Extent {
     }
 }
 
+// The last token that an expression names on its right.
+fn rightmost(tree: &Typed) -> u32 {
+    let own = token_of(tree.line);
+    match tree.children.as_slice().last() {
+        Some(operand) => own.max(rightmost(operand)),
+        None => own,
+    }
+}
+
+// As far as its operands reach, which a cast before a sign hides: `(T)-x`.
+fn reaching(tokens: &Tokens<'_>, extent: Extent, reach: u32) -> Extent {
+    if reach <= extent.last {
+        return extent;
+    }
+    let closed = closed_behind(tokens, extent.first, reach);
+    Extent {
+        last: operand_end(tokens, closed, MULTIPLY),
+        ..extent
+    }
+}
+
 /// The tokens of the expression that this node stands for, in a program whose lines are the numbers of tokens. A load and a
 /// conversion that the text doesn't write stand for their operand.
 pub fn extent_of(tokens: &Tokens<'_>, tree: &Typed) -> Extent {
@@ -201,6 +222,9 @@ pub fn extent_of(tokens: &Tokens<'_>, tree: &Typed) -> Extent {
     };
     match (&tree.node, operand) {
         (Node::Load(_) | Node::Conv(_), Some(operand)) => extent_of(tokens, operand),
-        _ => extent_by(tokens, first, shape_of(tokens, tree)),
+        _ => {
+            let extent = extent_by(tokens, first, shape_of(tokens, tree));
+            reaching(tokens, extent, rightmost(tree))
+        }
     }
 }
