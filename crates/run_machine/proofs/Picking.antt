@@ -1,0 +1,67 @@
+-- Which events of the open full expression may be picked, and which comes next.
+use Rattle.std.specs.Borrow.{Bor}
+use Rattle.std.proofs.Common.{◌≡◌, ◌<◌, ◌^◌, ℕ, Bool, true, false, length, List, [], ◌∷◌, Option, Some, None, slice_get, refl, sym, ap, subst, ◌∙◌}
+use Rattle.c_typed.specs.declared.tree.Place.{Place}
+use Rattle.c_typed.specs.Tree.{tree_of, size}
+use Rattle.c_typed.specs.Order.{has}
+use Rattle.c_typed.specs.Decide.{is_permitted, canonical}
+use Rattle.seq_order.specs.declared.done.Marks.{Marks}
+use Rattle.seq_order.specs.Marked.{taken_in, done_in}
+use Rattle.run_code.specs.declared.steps.Due.{Due}
+use Rattle.run_code.specs.declared.steps.Listed.{Listed}
+use Rattle.run_listing.specs.Along.{part_of, events_of, Next}
+use Rattle.run_machine.specs.declared.machine.Machine.{Machine}
+use Rattle.run_machine.specs.declared.machine.Stage.{Stage}
+use Rattle.run_machine.specs.declared.watch.Begun.{Begun}
+use Rattle.run_machine.specs.Permitted.{begun_in, marks_of, marks_in, passed_in, is_done_by, permits, first_in, listed_in, left_in, HasNumbers}
+use Rattle.run_machine.specs.Picked.{AnswersNext}
+
+-- the full expression has fewer than 2^32 nodes
+pub small : (o : Option Begun) (b : Begun) → o ≡ Some b → HasNumbers o → size (tree_of b.root.now) < 2 ^ 32
+small o b e h = subst HasNumbers e h
+
+same_done : (done all : Place → Bool) → ((p : Place) → done p ≡ all p) → done ≡ all
+same_done done all h = λ i p. h p i
+
+-- where the order is that of the listing
+pub along : (m : Machine) (p : Place) (s : Stage) (o : Option Begun) (b : Begun) (done : Place → Bool) (r : Bool) → o ≡ Some b → s.straight ≡ true
+    → r ≡ is_permitted (tree_of b.root.now) (taken_in b.taken) done p → ((q : Place) → done q ≡ has (passed_in m s o) q) → r ≡ permits m p s o
+along m p s o b done r e straight is same =
+    let passed : done ≡ has (passed_in m s (Some b)) = subst (λ x. done ≡ has (passed_in m s x)) e (same_done done (has (passed_in m s o)) same) in
+    let by : is_done_by s.straight (passed_in m s (Some b)) (marks_in m) ≡ has (passed_in m s (Some b)) =
+    ap (λ y. is_done_by y (passed_in m s (Some b)) (marks_in m)) straight in
+    subst (λ x. r ≡ permits m p s x) (sym e)
+    (is ∙ ap (λ d. is_permitted (tree_of b.root.now) (taken_in b.taken) d p) (passed ∙ sym by))
+
+-- and where it isn't
+pub astray : (m : Machine) (p : Place) (s : Stage) (o : Option Begun) (b : Begun) (marks : List Marks) (r : Bool) → o ≡ Some b → s.straight ≡ false
+    → slice_get m.strayed.items (length m.below.items) ≡ Some marks
+    → r ≡ is_permitted (tree_of b.root.now) (taken_in b.taken) (done_in marks) p → r ≡ permits m p s o
+astray m p s o b marks r e straight there is =
+    let by : is_done_by s.straight (passed_in m s (Some b)) (marks_in m) ≡ done_in marks =
+    ap (λ y. is_done_by y (passed_in m s (Some b)) (marks_in m)) straight ∙ ap (λ x. done_in (marks_of x)) there in
+    subst (λ x. r ≡ permits m p s x) (sym e)
+    (is ∙ ap (λ d. is_permitted (tree_of b.root.now) (taken_in b.taken) d p) (sym by))
+
+-- the next event of the listing
+pub listed_next : (m : Machine) (s : Stage) (o : Option Begun) (b : Begun) (part : List Listed) (n : ℕ) (due : Bor Due) → o ≡ Some b
+    → part ≡ part_of m.code.now.listing.items s.cursor s.end → Next (taken_in b.taken) part (Some (n, due))
+    → listed_in m s o ≡ Some due.now.place
+listed_next m s o b part n due e is next =
+    ap (listed_in m s) e
+    ∙ ap (λ es. first_in (events_of (taken_in b.taken) es)) (sym is)
+    ∙ ap first_in next.1
+
+pub listed_none : (m : Machine) (s : Stage) (o : Option Begun) (b : Begun) (part : List Listed) → o ≡ Some b
+    → part ≡ part_of m.code.now.listing.items s.cursor s.end → Next (taken_in b.taken) part None → listed_in m s o ≡ None
+listed_none m s o b part e is next =
+    ap (listed_in m s) e
+    ∙ ap (λ es. first_in (events_of (taken_in b.taken) es)) (sym is)
+    ∙ ap first_in next
+
+-- the first one left that is permitted
+pub left_next : (m : Machine) (o : Option Begun) (b : Begun) (marks : List Marks) (r : Option Place) → o ≡ Some b
+    → slice_get m.strayed.items (length m.below.items) ≡ Some marks
+    → r ≡ canonical (tree_of b.root.now) (taken_in b.taken) (done_in marks) → left_in m o ≡ r
+left_next m o b marks r e there is =
+    ap (left_in m) e ∙ ap (λ x. canonical (tree_of b.root.now) (taken_in b.taken) (done_in (marks_of x))) there ∙ sym is
