@@ -1,6 +1,8 @@
 -- Which events of the open full expression may be picked, and which comes next.
 use Rattle.std.specs.Borrow.{Bor}
 use Rattle.std.proofs.Common.{◌≡◌, ◌<◌, ◌^◌, ℕ, Bool, true, false, length, List, [], ◌∷◌, Option, Some, None, slice_get, refl, sym, ap, subst, ◌∙◌}
+use Rattle.std.proofs.Common.{Result, Ok, Err}
+use Rattle.ub_base.specs.declared.names.Event.{Event}
 use Rattle.c_typed.specs.declared.tree.Place.{Place}
 use Rattle.c_typed.specs.Tree.{tree_of, size}
 use Rattle.c_typed.specs.Order.{has}
@@ -11,10 +13,14 @@ use Rattle.run_code.specs.declared.steps.Due.{Due}
 use Rattle.run_code.specs.declared.steps.Listed.{Listed}
 use Rattle.run_listing.specs.Along.{part_of, events_of, Next}
 use Rattle.run_machine.specs.declared.machine.Machine.{Machine}
+use Rattle.run_machine.specs.declared.machine.Open.{Open}
 use Rattle.run_machine.specs.declared.machine.Stage.{Stage}
+use Rattle.run_machine.specs.declared.halt.Halt.{Halt}
+use Rattle.run_machine.specs.declared.halt.Halt.TheVariants as halt
+use Rattle.run_machine.specs.declared.pick.Pick.{Pick}
 use Rattle.run_machine.specs.declared.watch.Begun.{Begun}
-use Rattle.run_machine.specs.Permitted.{begun_in, marks_of, marks_in, passed_in, is_done_by, permits, first_in, listed_in, left_in, HasNumbers}
-use Rattle.run_machine.specs.Picked.{AnswersNext}
+use Rattle.run_machine.specs.Permitted.{marks_of, marks_in, passed_in, is_done_by, permits, first_in, listed_in, left_in, HasNumbers}
+use Rattle.run_machine.specs.Picked.{event_at, SameTurn, IsPickOf, RaisesOf, AnswersSingle}
 
 -- the full expression has fewer than 2^32 nodes
 pub small : (o : Option Begun) (b : Begun) → o ≡ Some b → HasNumbers o → size (tree_of b.root.now) < 2 ^ 32
@@ -65,3 +71,24 @@ pub left_next : (m : Machine) (o : Option Begun) (b : Begun) (marks : List Marks
     → r ≡ canonical (tree_of b.root.now) (taken_in b.taken) (done_in marks) → left_in m o ≡ r
 left_next m o b marks r e there is =
     ap (left_in m) e ∙ ap (λ x. canonical (tree_of b.root.now) (taken_in b.taken) (done_in (marks_of x))) there ∙ sym is
+
+-- an element of a list that is read through another name
+pub found : {A : Type 0} (xs ys : List A) (i n : ℕ) (x : A) → ys ≡ xs → i ≡ n → slice_get ys i ≡ Some x → slice_get xs n ≡ Some x
+found xs ys i n x e f h = ap (λ j. slice_get xs j) (sym f) ∙ ap (λ zs. slice_get zs i) (sym e) ∙ h
+
+-- the event of the same place in the same turn
+pub same_event : (f g : Open) (p q : Place) → SameTurn f g → q ≡ p → event_at g q ≡ event_at f p
+same_event f g p q same e = λ i. record { frame = same.0 i; turn = same.1 i; node = ap (λ (x : Place). x.node) e i; kind = ap (λ (x : Place). x.kind) e i }
+
+pub picked : (f : Open) (p : Place) (b : Bool) (e : Event) (pick : Pick) → b ≡ true → e ≡ event_at f p → IsPickOf e pick
+    → AnswersSingle f p b (Ok (Some pick))
+picked f p b e pick t same is = (t, subst (λ x. IsPickOf x pick) same is)
+
+pub raised : (f : Open) (p : Place) (b : Bool) (e : Event) (h : Halt) → b ≡ true → e ≡ event_at f p → RaisesOf e h → AnswersSingle f p b (Err h)
+raised f p b e (halt.Raised other line clause) t same is = (t, is ∙ same)
+raised f p b e (halt.Over cause number) t same is = t
+raised f p b e halt.Unplaced t same is = t
+raised f p b e halt.NoMemory t same is = tt
+
+pub without_memory : (f : Open) (p : Place) (b : Bool) (h : Halt) → h ≡ halt.NoMemory → AnswersSingle f p b (Err h)
+without_memory f p b h e = subst (λ x. AnswersSingle f p b (Err x)) (sym e) tt

@@ -98,7 +98,7 @@ impl<'p, 'c> Machine<'p, 'c> {
     }
 
     fn keep_strayed(&mut self, done: Done) -> Result<(), NoMemory>
-        ensures { self.new.top ≡ self.old.top }
+        ensures { SameTurn self.old.top self.new.top }
     {
         let height = self.below.len();
         for _ in self.strayed.len()..height.saturating_add(1) {
