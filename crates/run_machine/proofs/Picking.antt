@@ -1,6 +1,6 @@
 -- Which events of the open full expression may be picked, and which comes next.
 use Rattle.std.specs.Borrow.{Bor}
-use Rattle.std.proofs.Common.{◌≡◌, ◌<◌, ◌^◌, ℕ, Bool, true, false, length, List, [], ◌∷◌, Option, Some, None, slice_get, refl, sym, ap, subst, ◌∙◌}
+use Rattle.std.proofs.Common.{◌≡◌, ◌<◌, ◌^◌, ℕ, Bool, true, false, vec_len, List, [], ◌∷◌, Option, Some, None, slice_get, refl, sym, ap, subst, ◌∙◌}
 use Rattle.std.proofs.Common.{Result, Ok, Err}
 use Rattle.ub_base.specs.declared.names.Event.{Event}
 use Rattle.c_typed.specs.declared.tree.Place.{Place}
@@ -41,7 +41,7 @@ along m p s o b done r e straight is same =
 
 -- and where it isn't
 pub astray : (m : Machine) (p : Place) (s : Stage) (o : Option Begun) (b : Begun) (marks : List Marks) (r : Bool) → o ≡ Some b → s.straight ≡ false
-    → slice_get m.strayed.items (length m.below.items) ≡ Some marks
+    → slice_get m.strayed.items (vec_len m.below) ≡ Some marks
     → r ≡ is_permitted (tree_of b.root.now) (taken_in b.taken) (done_in marks) p → r ≡ permits m p s o
 astray m p s o b marks r e straight there is =
     let by : is_done_by s.straight (passed_in m s (Some b)) (marks_in m) ≡ done_in marks =
@@ -67,7 +67,7 @@ listed_none m s o b part e is next =
 
 -- the first one left that is permitted
 pub left_next : (m : Machine) (o : Option Begun) (b : Begun) (marks : List Marks) (r : Option Place) → o ≡ Some b
-    → slice_get m.strayed.items (length m.below.items) ≡ Some marks
+    → slice_get m.strayed.items (vec_len m.below) ≡ Some marks
     → r ≡ canonical (tree_of b.root.now) (taken_in b.taken) (done_in marks) → left_in m o ≡ r
 left_next m o b marks r e there is =
     ap (left_in m) e ∙ ap (λ x. canonical (tree_of b.root.now) (taken_in b.taken) (done_in (marks_of x))) there ∙ sym is

@@ -1,6 +1,6 @@
 -- What is done in the full expression of the top frame, which of its events may be picked, and which one comes next in canonical
 -- order (5.1.2.3p3).
-use Rattle.std.specs.Prelude.{◌≡◌, ◌<◌, ◌^◌, ℕ, Bool, true, false, length, List, [], ◌∷◌, Option, Some, None, slice_get}
+use Rattle.std.specs.Prelude.{◌≡◌, ◌<◌, ◌^◌, ℕ, Bool, true, false, vec_len, List, [], ◌∷◌, Option, Some, None, slice_get}
 use Rattle.c_typed.specs.declared.tree.Place.{Place}
 use Rattle.c_typed.specs.Tree.{tree_of, size}
 use Rattle.c_typed.specs.Order.{has}
@@ -14,7 +14,7 @@ use Rattle.run_machine.specs.declared.watch.Begun.{Begun}
 
 -- the full expression of the top frame
 abbrev pub begun_in : Machine → Option Begun
-begun_in m = slice_get m.begun.items (length m.below.items)
+begun_in m = slice_get m.begun.items (vec_len m.below)
 
 -- what is noted as done in it, where its order isn't that of the listing
 abbrev pub marks_of : Option (List Marks) → List Marks
@@ -22,7 +22,7 @@ marks_of None = []
 marks_of (Some marks) = marks
 
 abbrev pub marks_in : Machine → List Marks
-marks_in m = marks_of (slice_get m.strayed.items (length m.below.items))
+marks_in m = marks_of (slice_get m.strayed.items (vec_len m.below))
 
 -- the events that the cursor has passed
 abbrev pub passed_in : Machine → Stage → Option Begun → List Place
