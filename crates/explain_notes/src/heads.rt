@@ -3,8 +3,8 @@
 use c_typed::{Access, Node, Typed};
 use explain_case::{
     Act, Case, Pair, is_behind, is_write, last_store, mismatch_of, pair_of, place_of, put_a_type,
-    put_accessed, put_integer, put_mismatch, put_subject, put_tokens, put_words_and,
-    subject_name, token_at,
+    put_accessed, put_integer, put_mismatch, put_subject, put_tokens, put_words_and, subject_name,
+    token_at,
 };
 use explain_facts::{Touch, Verdict, is_within};
 use explain_page::{Page, put_number, put_type};
