@@ -224,7 +224,7 @@ struct Looked {
     target: Trail,
 }
 
-fn looked(
+fn looked_through(
     alloc: Global,
     asked: &Asked<'_>,
     audited: &Audited<'_, '_>,
@@ -301,7 +301,7 @@ fn put_finding(
     audited: &Audited<'_, '_>,
 ) -> Result<(), NoMemory> {
     let events = events_of(&audited.audit.finding);
-    let looked = looked(alloc, &request.asked, audited, events)?;
+    let looked = looked_through(alloc, &request.asked, audited, events)?;
     put_looked(alloc, out, request, page, audited, &looked, events)
 }
 
