@@ -254,13 +254,13 @@ fn looked_through(
 }
 
 // Adds the explanation of a finding, of which this was looked at.
-fn put_looked(
+fn put_looked<'c>(
     alloc: Global,
     out: &mut Bytes,
     request: &Request<'_>,
-    page: &Page<'_, '_>,
-    audited: &Audited<'_, '_>,
-    looked: &Looked,
+    page: &'c Page<'c, '_>,
+    audited: &Audited<'c, '_>,
+    looked: &'c Looked,
     events: Option<Events>,
 ) -> Result<(), NoMemory> {
     let first = first_act(page, audited.roots, events);
