@@ -2,11 +2,12 @@
 
 use crate::case::{Act, Case};
 use crate::text::put_function;
+use c_typed::Typed;
 use explain_facts::{CallSite, Opened, calls_of, tree_at};
 use explain_page::{Page, empty, put_note, put_number};
 use explain_places::{extent_of, token_of};
 use std::alloc::Global;
-use ub_base::{Bytes, Event, Frame, Kind, NoMemory};
+use ub_base::{Bytes, Event, Frame, Frames, Kind, NoMemory};
 
 // Adds a call of the function that holds the token `inside`.
 fn put_call(
@@ -129,8 +130,13 @@ pub fn put_calls(alloc: Global, out: &mut Bytes, case: &Case<'_, '_>) -> Result<
 }
 
 // The event that started a frame, where this full expression made it.
-fn call_from<'c>(case: &Case<'c, '_>, frame: Frame, opened: &Opened) -> Option<Act<'c>> {
-    let frames = case.found.frames;
+fn call_from<'p>(
+    page: &Page<'_, '_>,
+    frames: &Frames,
+    roots: &[&'p Typed],
+    frame: Frame,
+    opened: &Opened,
+) -> Option<Act<'p>> {
     if frame.0 == 0 || frame.0 > frames.len() {
         return None;
     }
@@ -138,8 +144,8 @@ fn call_from<'c>(case: &Case<'c, '_>, frame: Frame, opened: &Opened) -> Option<A
     if parent != opened.frame || turn != opened.turn {
         return None;
     }
-    let root = tree_at(case.roots, opened.tree, 0)?;
-    let tree = tree_at(case.roots, opened.tree, node)?;
+    let root = tree_at(roots, opened.tree, 0)?;
+    let tree = tree_at(roots, opened.tree, node)?;
     Some(Act {
         event: Event {
             frame: parent,
@@ -149,13 +155,13 @@ fn call_from<'c>(case: &Case<'c, '_>, frame: Frame, opened: &Opened) -> Option<A
         },
         root,
         tree,
-        extent: extent_of(case.page.tokens, tree),
+        extent: extent_of(page.tokens, tree),
         item: None,
     })
 }
 
-fn is_in_library(case: &Case<'_, '_>, act: &Act<'_>) -> bool {
-    is_header(case.page.file_at(case.page.start(act.extent.first)))
+fn is_in_library(page: &Page<'_, '_>, act: &Act<'_>) -> bool {
+    is_header(page.file_at(page.start(act.extent.first)))
 }
 
 /// Whether a file of this name is one of the library's headers: it stands in a folder `headers`.
@@ -173,16 +179,23 @@ pub fn is_header(name: &[u8]) -> bool {
     false
 }
 
-/// The call of the program that led into a header, where a finding stands in one.
-pub fn library_call<'c>(case: &Case<'c, '_>) -> Option<Act<'c>> {
-    let first = case.first?;
-    if !is_in_library(case, &first) {
+/// The call of the program that led into a header, where the first event of a finding stands in one. The full expressions that are
+/// open are looked through from the innermost one on.
+pub fn library_call<'p>(
+    page: &Page<'_, '_>,
+    frames: &Frames,
+    open: &[Opened],
+    roots: &[&'p Typed],
+    first: Option<Act<'p>>,
+) -> Option<Act<'p>> {
+    let first = first?;
+    if !is_in_library(page, &first) {
         return None;
     }
     let mut frame = first.event.frame;
-    for opened in case.moment.open.iter().rev() {
-        if let Some(call) = call_from(case, frame, opened) {
-            if !is_in_library(case, &call) {
+    for opened in open.iter().rev() {
+        if let Some(call) = call_from(page, frames, roots, frame, opened) {
+            if !is_in_library(page, &call) {
                 return Some(call);
             }
             frame = opened.frame;

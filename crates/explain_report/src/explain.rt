@@ -254,13 +254,13 @@ fn looked_through(
 }
 
 // Adds the explanation of a finding, of which this was looked at.
-fn put_looked<'c>(
+fn put_looked(
     alloc: Global,
     out: &mut Bytes,
     request: &Request<'_>,
-    page: &'c Page<'c, '_>,
-    audited: &Audited<'c, '_>,
-    looked: &'c Looked,
+    page: &Page<'_, '_>,
+    audited: &Audited<'_, '_>,
+    looked: &Looked,
     events: Option<Events>,
 ) -> Result<(), NoMemory> {
     let first = first_act(page, audited.roots, events);
@@ -273,6 +273,13 @@ fn put_looked<'c>(
         &second,
         &audited.audit.finding,
     )?;
+    let call = library_call(
+        page,
+        &audited.audit.frames,
+        looked.moment.open.as_slice(),
+        audited.roots,
+        first,
+    );
     let case = Case {
         page,
         program: audited.core.program,
@@ -283,12 +290,8 @@ fn put_looked<'c>(
         target: &looked.target,
         first,
         second,
-        call: None,
+        call,
         both: shown_both(&both),
-    };
-    let case = Case {
-        call: library_call(&case),
-        ..case
     };
     put_found(alloc, out, request, &case)
 }
