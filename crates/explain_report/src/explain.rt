@@ -3,8 +3,7 @@ ghost use Rattle.std.specs.Prelude.{◌≤◌, ◌^◌, length};
 
 use crate::asked::Asked;
 use crate::found::{events_of, picks_of, verdict_of};
-use c_lex::Tokens;
-use c_typed::{Program, Typed};
+use c_typed::Program;
 use core_ir::CoreProgram;
 use elaborate::{elaborate, roots_of};
 use explain_case::{Act, Case, first_act, library_call, second_act, sought_of};
@@ -87,14 +86,6 @@ fn put_refused(
         Form::Words => put_refusal(alloc, out, page, &refusal),
         Form::Json => put_refusal_json(alloc, out, reported(&request.asked), page, &refusal),
     }
-}
-
-// A run with its audit.
-#[derive(Clone, Copy)]
-struct Audited<'f, 'p> {
-    core: &'f CoreProgram<'p>,
-    roots: &'f [&'f Typed],
-    audit: &'f Audit,
 }
 
 fn found_of<'f>(audit: &'f Audit, events: Option<Events>) -> Found<'f> {
@@ -227,23 +218,18 @@ struct Looked {
 fn looked_through(
     alloc: Global,
     asked: &Asked<'_>,
-    audited: &Audited<'_, '_>,
+    core: &CoreProgram<'_>,
+    audit: &Audit,
     events: Option<Events>,
 ) -> Result<Looked, NoMemory> {
-    let finding = &audited.audit.finding;
+    let finding = &audit.finding;
     let course = course_of(asked);
     let picks = picks_of(finding);
-    let moment = moment_before(
-        alloc,
-        audited.core,
-        course,
-        looked_at(finding),
-        last_event(finding),
-    )?;
-    let sought = sought_of(events, &moment, &audited.audit.map);
-    let trail = trail_of(alloc, audited.core, course, picks, sought)?;
+    let moment = moment_before(alloc, core, course, looked_at(finding), last_event(finding))?;
+    let sought = sought_of(events, &moment, &audit.map);
+    let trail = trail_of(alloc, core, course, picks, sought)?;
     let target = match moment.held {
-        Some(object) => trail_of(alloc, audited.core, course, picks, Some(whole(object)))?,
+        Some(object) => trail_of(alloc, core, course, picks, Some(whole(object)))?,
         None => Trail::new(alloc),
     };
     Ok(Looked {
@@ -251,131 +237,6 @@ fn looked_through(
         trail,
         target,
     })
-}
-
-// Adds the explanation of a finding, of which this was looked at.
-fn put_looked(
-    alloc: Global,
-    out: &mut Bytes,
-    request: &Request<'_>,
-    page: &Page<'_, '_>,
-    audited: &Audited<'_, '_>,
-    looked: &Looked,
-    events: Option<Events>,
-) -> Result<(), NoMemory> {
-    let first = first_act(page, audited.roots, events);
-    let second = second_act(page, audited.roots, events);
-    let both = both_of(
-        alloc,
-        &request.asked,
-        audited.core,
-        &first,
-        &second,
-        &audited.audit.finding,
-    )?;
-    let call = library_call(
-        page,
-        &audited.audit.frames,
-        looked.moment.open.as_slice(),
-        audited.roots,
-        first,
-    );
-    let case = Case {
-        page,
-        program: audited.core.program,
-        roots: audited.roots,
-        found: found_of(audited.audit, events),
-        moment: &looked.moment,
-        trail: &looked.trail,
-        target: &looked.target,
-        first,
-        second,
-        call,
-        both: shown_both(&both),
-    };
-    put_found(alloc, out, request, &case)
-}
-
-fn put_finding(
-    alloc: Global,
-    out: &mut Bytes,
-    request: &Request<'_>,
-    page: &Page<'_, '_>,
-    audited: &Audited<'_, '_>,
-) -> Result<(), NoMemory> {
-    let events = events_of(&audited.audit.finding);
-    let looked = looked_through(alloc, &request.asked, audited, events)?;
-    put_looked(alloc, out, request, page, audited, &looked, events)
-}
-
-fn put_audit(
-    alloc: Global,
-    out: &mut Bytes,
-    request: &Request<'_>,
-    page: &Page<'_, '_>,
-    core: &CoreProgram<'_>,
-) -> Result<(), NoMemory>
-    requires { request.now.asked.steps ≤ 100000000 }
-{
-    let asked = &request.asked;
-    let audit = audit_run(
-        alloc,
-        core,
-        asked.input,
-        asked.args,
-        asked.mode,
-        asked.steps,
-    )?;
-    let roots = roots_of(alloc, core.program)?;
-    put_finding(
-        alloc,
-        out,
-        request,
-        page,
-        &Audited {
-            core,
-            roots: roots.as_slice(),
-            audit: &audit,
-        },
-    )
-}
-
-fn put_run(
-    alloc: Global,
-    out: &mut Bytes,
-    request: &Request<'_>,
-    page: &Page<'_, '_>,
-    program: &Program,
-) -> Result<(), NoMemory>
-    requires { request.now.asked.steps ≤ 100000000 }
-{
-    let core = elaborate(alloc, program)?;
-    put_audit(alloc, out, request, page, &core)
-}
-
-fn put_program(
-    alloc: Global,
-    out: &mut Bytes,
-    request: &Request<'_>,
-    tokens: &Tokens<'_>,
-) -> Result<(), NoMemory>
-    requires { request.now.asked.steps ≤ 100000000 }
-{
-    let tags = tags_of(alloc, tokens)?;
-    let page = Page {
-        text: request.asked.text,
-        file: request.asked.file,
-        tokens,
-        tags: tags.as_slice(),
-    };
-    match program_of(alloc, tokens) {
-        Ok(program) => put_run(alloc, out, request, &page, &program),
-        Err(Refused::NoMemory) => Err(NoMemory),
-        Err(refused) => {
-            let refusal = refusal_of(alloc, &page, refused)?;
-            put_refused(alloc, out, request, &page, refusal)
-        }
-    }
 }
 
 // Adds why the text has no tokens, on a page without tokens.
@@ -400,16 +261,70 @@ fn put_unlexed(
     }
 }
 
-// Adds the explanation in this form.
+// Adds the explanation in this form. All that a case holds is made here: its references stand at one lifetime.
 fn put_explanation(alloc: Global, out: &mut Bytes, request: &Request<'_>) -> Result<(), NoMemory>
     requires text { length request.now.asked.text.now ≤ 2 ^ 20 }
     requires steps { request.now.asked.steps ≤ 100000000 }
 {
-    match tokens_of(alloc, request.asked.text) {
-        Ok(tokens) => put_program(alloc, out, request, &tokens),
-        Err(Refused::NoMemory) => Err(NoMemory),
-        Err(refused) => put_unlexed(alloc, out, request, refused),
-    }
+    let asked = &request.asked;
+    let tokens = match tokens_of(alloc, asked.text) {
+        Ok(tokens) => tokens,
+        Err(Refused::NoMemory) => return Err(NoMemory),
+        Err(refused) => return put_unlexed(alloc, out, request, refused),
+    };
+    let tags = tags_of(alloc, &tokens)?;
+    let page = Page {
+        text: asked.text,
+        file: asked.file,
+        tokens: &tokens,
+        tags: tags.as_slice(),
+    };
+    let program = match program_of(alloc, &tokens) {
+        Ok(program) => program,
+        Err(Refused::NoMemory) => return Err(NoMemory),
+        Err(refused) => {
+            let refusal = refusal_of(alloc, &page, refused)?;
+            return put_refused(alloc, out, request, &page, refusal);
+        }
+    };
+    let core = elaborate(alloc, &program)?;
+    let audit = audit_run(
+        alloc,
+        &core,
+        asked.input,
+        asked.args,
+        asked.mode,
+        asked.steps,
+    )?;
+    let roots = roots_of(alloc, &program)?;
+    let events = events_of(&audit.finding);
+    let first = first_act(&page, roots.as_slice(), events);
+    let second = second_act(&page, roots.as_slice(), events);
+    let looked = looked_through(alloc, asked, &core, &audit, events)?;
+    let both = both_of(alloc, asked, &core, &first, &second, &audit.finding)?;
+    let call = library_call(
+        &page,
+        &audit.frames,
+        looked.moment.open.as_slice(),
+        roots.as_slice(),
+        first,
+    );
+    let found = found_of(&audit, events);
+    let both = shown_both(&both);
+    let case = Case {
+        page: &page,
+        program: &program,
+        roots: roots.as_slice(),
+        found,
+        moment: &looked.moment,
+        trail: &looked.trail,
+        target: &looked.target,
+        first,
+        second,
+        call,
+        both,
+    };
+    put_found(alloc, out, request, &case)
 }
 
 /// The explanation in words: lines of text, the last one ended too.
