@@ -1,1 +1,2 @@
+mod Audits
 mod Pages

@@ -8,7 +8,7 @@ use Rattle.audit_sources.specs.Fetching.{HasInput, IsWhole, Stops, wanted}
 use Rattle.audit_sources.specs.declared.fetch.FetchFault.{FetchFault}
 use Rattle.audit_sources.specs.declared.fetch.FetchFault.TheVariants as Fault
 use Rattle.audit_sources.specs.declared.role.Role.TheVariants.{Source}
-use Rattle.audit_top.proofs.Causes.{judged_audit, stopped_audit}
+use Rattle.audit_engine.proofs.Audits.{judged_audit, stopped_audit}
 use Rattle.audit_top.specs.Cause.{AuditCause, Leaves, TextCause, stopped}
 use Rattle.audit_top.specs.Report.{report, status}
 use Rattle.audit_top.specs.declared.answer.Answer.{Answer}
