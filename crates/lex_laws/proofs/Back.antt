@@ -19,9 +19,9 @@ use Rattle.c_lex.specs.declared.token.TokenKind.TheVariants.{Name, Keyword, Numb
 use Rattle.c_lex.specs.declared.token.Word.{Word}
 use Rattle.lex_laws.specs.Fronts.{BeginsComment, BeginsFraction, BeginsNumber, IsBlanks, IsBlockComment, IsLineComment, IsName, IsNumber, IsOpen}
 use Rattle.lex_laws.specs.Fronts.{IsOpenComment, IsPrefixed}
-use Rattle.lex_laws.specs.Lexes.{HasBadNumber, IsOpening, IsPiece, IsToken, Piece, Blanks, LineFeed, Comment, Pragma, Marker, Spelled}
+use Rattle.lex_laws.specs.Lexes.{HasBadNumber, IsOpening, IsPiece, IsToken, Piece, Blanks, LineFeed, Comment, PassedLine, Marker, Spelled}
 use Rattle.lex_laws.proofs.Closings.{comment_found, comment_lost, literal_found, literal_lost}
-use Rattle.lex_laws.proofs.Lines.{marker_read, pragma_read}
+use Rattle.lex_laws.proofs.Lines.{marker_read, passed_read}
 use Rattle.lex_laws.proofs.Marks.{longest_read, mark_size}
 use Rattle.lex_laws.proofs.Numbers.{end_of_goes, integer_back, integer_is}
 use Rattle.lex_laws.proofs.Parts.{front_of, len_is}
@@ -259,9 +259,9 @@ piece_here fresh Blanks part rest b bs same h = blanks_here fresh part rest b bs
 piece_here fresh LineFeed part rest b bs same h = moved fresh b 10 bs rest (same ∙ ap (λ f. f ++ rest) h)
 piece_here fresh Comment part rest b bs same (inl h) = block_comment fresh part rest b bs same h
 piece_here fresh Comment part rest b bs same (inr h) = line_comment fresh part rest b bs same h
-piece_here fresh Pragma part rest b bs same h =
+piece_here fresh PassedLine part rest b bs same h =
     let head : b ≡ 35 = first_same b 35 bs (h.1.0 ++ rest) (same ∙ ap (λ f. f ++ rest) h.1.1.0.spelled) in
-    (λ i. piece_of (h.0 i) (head i) bs) ∙ pragma_read bs part h.1.0 rest (ap (λ c. c ∷ bs) (sym head) ∙ same) h.1.1.0 h.1.1.1
+    (λ i. piece_of (h.0 i) (head i) bs) ∙ passed_read bs part h.1.0 rest (ap (λ c. c ∷ bs) (sym head) ∙ same) h.1.1.0 h.1.1.1
 piece_here fresh (Marker number) part rest b bs same h =
     let head : b ≡ 35 = first_same b 35 bs ((h.1.line ++ h.1.feed) ++ rest) (same ∙ ap (λ f. f ++ rest) h.1.spelled) in
     (λ i. piece_of (h.0 i) (head i) bs) ∙ marker_read bs part rest number (ap (λ c. c ∷ bs) (sym head) ∙ same) h.1

@@ -1,5 +1,5 @@
 -- Lines that begin with `#`.
-use Rattle.std.proofs.Common.{◌≡◌, ◌⊎◌, ℕ, ◌+◌, ◌<◌, Bool, true, false, List, [], ◌∷◌, ◌++◌, length, take, drop, min, codes, Option, Some, None, Result, Ok}
+use Rattle.std.proofs.Common.{◌≡◌, ◌⊎◌, ℕ, ◌+◌, ◌<◌, Bool, true, false, ◌||◌, List, [], ◌∷◌, ◌++◌, length, take, drop, min, codes, Option, Some, None, Result, Ok}
 use Rattle.std.proofs.Common.{Err, refl, ap, sym, subst, ◌∙◌, inl, inr, if◌then◌else◌, append_assoc, length-append, arith}
 use Rattle.std.specs.Char.{is_ascii_digit}
 use Rattle.std.specs.List.{prefix_len}
@@ -8,18 +8,18 @@ use Rattle.std.proofs.lemmas.Bool.Decides.{nat_tests}
 use Rattle.std.proofs.lemmas.List.{append-nil}
 use Rattle.std.proofs.lemmas.Slice.Eq.{bytes_eq-Decides}
 use Rattle.c_lex.specs.Bytes.{is_blank, is_in_line, is_name_byte}
-use Rattle.c_lex.specs.Pieces.{directive_body, directive_number, directive_piece, line_piece, marker_number, skip_blank}
+use Rattle.c_lex.specs.Pieces.{directive_body, directive_number, directive_piece, is_passed_word, line_piece, marker_number, skip_blank}
 use Rattle.c_lex.specs.declared.piece.Piece.{Piece as Lexed}
 use Rattle.c_lex.specs.declared.piece.Piece.TheVariants as p
 use Rattle.c_lex.specs.declared.piece.Wrong.{Wrong}
 use Rattle.c_lex.specs.declared.piece.Wrong.TheVariants.{Stray}
-use Rattle.lex_laws.specs.Fronts.{Each, IsLine, IsLineWord, IsMarker, IsMarkerLine, IsPragma, IsRun, Stops}
+use Rattle.lex_laws.specs.Fronts.{Each, IsLine, IsLineWord, IsMarker, IsMarkerLine, IsPassedLine, IsPassedWord, IsRun, Stops}
 use Rattle.lex_laws.proofs.Markers.{IsNumbered, numbered_back, numbered_is, skipped}
 use Rattle.lex_laws.proofs.Parts.{Run, behind_of, front_of, len_is, run_of}
 
 -- what is read of a line that begins with `#`, behind it
 pub data Directing (tail : List ℕ) : Result Lexed Wrong → Type 0 where
-  pragma : (part line rest : List ℕ) (n : ℕ) → 35 ∷ tail ≡ part ++ rest → IsLine part line rest → IsPragma line → n ≡ length part
+  passed : (part line rest : List ℕ) (n : ℕ) → 35 ∷ tail ≡ part ++ rest → IsLine part line rest → IsPassedLine line → n ≡ length part
       → Directing tail (Ok (p.Passed n))
   marker : (part rest : List ℕ) (number n : ℕ) → 35 ∷ tail ≡ part ++ rest → IsMarker part rest number → n ≡ length part
       → Directing tail (Ok (p.Marker number n))
@@ -39,7 +39,7 @@ line_of tail =
 
 abbrev of_word : List ℕ → ℕ → List ℕ → List ℕ → List ℕ → Result Lexed Wrong
 of_word tail len body word more =
-    if bytes_eq word (codes "pragma") then Ok (p.Passed (1 + len)) else
+    if is_passed_word word then Ok (p.Passed (1 + len)) else
     (if bytes_eq word (codes "line") then directive_number tail (skip_blank more) else directive_number tail body)
 
 -- the directive, by the parts of its line
@@ -141,17 +141,34 @@ directing_number tail l text made = by (marker_number text (prefix_len is_ascii_
         })
         (marked_len tail l ∙ f.len)
 
-directing_word : (tail : List ℕ) (l : Line tail) (a b : Bool) → bytes_eq l.word.part (codes "pragma") ≡ a → bytes_eq l.word.part (codes "line") ≡ b
+-- ---- the words of lines that are passed over
+
+passed_row : (t : Bool) (text spelling : List ℕ) (more : Bool) (P : Type 0) → bytes_eq text spelling ≡ t → (text ≡ spelling → P) → (more ≡ true → P)
+    → (t || more) ≡ true → P
+passed_row true text spelling more P is here below e = here ((bytes_eq-Decides text spelling).0 is)
+passed_row false text spelling more P is here below e = below e
+
+passed_is : (word : List ℕ) → is_passed_word word ≡ true → IsPassedWord word
+passed_is word = passed_row _ word (codes "pragma") _ _ refl inl
+    (passed_row _ word (codes "define") _ _ refl (λ e. inr (inl e)) (λ e. inr (inr ((bytes_eq-Decides word (codes "undef")).0 e))))
+
+passed_back : (word : List ℕ) → IsPassedWord word → is_passed_word word ≡ true
+passed_back word (inl e) = ap is_passed_word e
+passed_back word (inr (inl e)) = ap is_passed_word e
+passed_back word (inr (inr e)) = ap is_passed_word e
+
+directing_word : (tail : List ℕ) (l : Line tail) (a b : Bool) → is_passed_word l.word.part ≡ a → bytes_eq l.word.part (codes "line") ≡ b
     → Directing tail (if a then Ok (p.Passed (1 + length l.line.part)) else
     (if b then directive_number tail (skip_blank l.word.rest) else directive_number tail l.blanks.rest))
 directing_word tail l true b is other =
-    let word : l.word.part ≡ codes "pragma" = (bytes_eq-Decides l.word.part (codes "pragma")).0 is in
-    pragma (35 ∷ l.line.part) l.line.part l.line.rest (1 + length l.line.part) (ap (λ xs. 35 ∷ xs) l.line.spelled)
+    passed (35 ∷ l.line.part) l.line.part l.line.rest (1 + length l.line.part) (ap (λ xs. 35 ∷ xs) l.line.spelled)
     (record { spelled = refl; run = l.line.run })
     (record {
       blanks = l.blanks.part;
+      word = l.word.part;
       more = l.word.rest;
-      spelled = l.blanks.spelled ∙ ap (λ t. l.blanks.part ++ t) (l.word.spelled ∙ ap (λ w. w ++ l.word.rest) word);
+      spelled = l.blanks.spelled ∙ ap (λ t. l.blanks.part ++ t) l.word.spelled;
+      is_word = passed_is l.word.part is;
       each = l.blanks.run.each;
       whole = l.word.run.stops;
     })
@@ -183,7 +200,7 @@ pub directing_of : (tail : List ℕ) → Directing tail (directive_piece tail)
 directing_of tail =
     let l = line_of tail in
     subst (Directing tail) (sym (directive_is tail l))
-    (directing_word tail l (bytes_eq l.word.part (codes "pragma")) (bytes_eq l.word.part (codes "line")) refl refl)
+    (directing_word tail l (is_passed_word l.word.part) (bytes_eq l.word.part (codes "line")) refl refl)
 
 -- ---- from the relation to the function
 
@@ -193,16 +210,30 @@ line_parts part line rest tail h same = let e = same ∙ ap (λ f. f ++ rest) h.
 abbrev given_run : (p : ℕ → Bool) (part rest text : List ℕ) → text ≡ part ++ rest → IsRun p part rest → Run p text
 given_run p part rest text is run = record { part = part; rest = rest; spelled = is; run = run; len = len_is p part rest text is run }
 
-pub pragma_read : (tail part line rest : List ℕ) → 35 ∷ tail ≡ part ++ rest → IsLine part line rest → IsPragma line
+-- blanks stop and a name goes on at a word of these
+word_stops : (word more : List ℕ) → IsPassedWord word → Stops is_blank (word ++ more)
+word_stops word more (inl e) = subst (λ w. Stops is_blank (w ++ more)) (sym e) refl
+word_stops word more (inr (inl e)) = subst (λ w. Stops is_blank (w ++ more)) (sym e) refl
+word_stops word more (inr (inr e)) = subst (λ w. Stops is_blank (w ++ more)) (sym e) refl
+
+word_each : (word : List ℕ) → IsPassedWord word → Each is_name_byte word
+word_each word (inl e) = subst (Each is_name_byte) (sym e) (refl, (refl, (refl, (refl, (refl, (refl, tt))))))
+word_each word (inr (inl e)) = subst (Each is_name_byte) (sym e) (refl, (refl, (refl, (refl, (refl, (refl, tt))))))
+word_each word (inr (inr e)) = subst (Each is_name_byte) (sym e) (refl, (refl, (refl, (refl, (refl, tt)))))
+
+pub passed_read : (tail part line rest : List ℕ) → 35 ∷ tail ≡ part ++ rest → IsLine part line rest → IsPassedLine line
     → directive_piece tail ≡ Ok (p.Passed (length part))
-pragma_read tail part line rest same h g =
+passed_read tail part line rest same h g =
     let l : Line tail = record {
       line = given_run is_in_line line rest tail (line_parts part line rest tail h same) h.run;
-      blanks = given_run is_blank g.blanks (codes "pragma" ++ g.more) line g.spelled (record { each = g.each; stops = refl });
-      word = given_run is_name_byte (codes "pragma") g.more (codes "pragma" ++ g.more) refl
-          (record { each = (refl, (refl, (refl, (refl, (refl, (refl, tt)))))); stops = g.whole });
+      blanks = given_run is_blank g.blanks (g.word ++ g.more) line g.spelled (record { each = g.each; stops = word_stops g.word g.more g.is_word });
+      word = given_run is_name_byte g.word g.more (g.word ++ g.more) refl (record { each = word_each g.word g.is_word; stops = g.whole });
     } in
-    directive_is tail l ∙ ap (λ n. Ok (p.Passed n)) (let e = ap length h.spelled in omega arith)
+    directive_is tail l
+    ∙ ap (λ t. if t then Ok (p.Passed (1 + length line)) else
+    (if bytes_eq g.word (codes "line") then directive_number tail (skip_blank g.more) else directive_number tail (g.word ++ g.more)))
+    (passed_back g.word g.is_word)
+    ∙ ap (λ n. Ok (p.Passed n)) (let e = ap length h.spelled in omega arith)
 
 feed_stops : (feed rest : List ℕ) → ((feed ≡ []) × (rest ≡ [])) ⊎ (feed ≡ 10 ∷ []) → Stops is_in_line (feed ++ rest)
 feed_stops feed rest (inl (none, end)) = subst (λ f. Stops is_in_line (f ++ rest)) (sym none) (subst (Stops is_in_line) (sym end) tt)
@@ -224,7 +255,7 @@ digit_first : (digits more : List ℕ) → 0 < length digits → Each is_ascii_d
 digit_first [] more some each = absurd (omega arith)
 digit_first (d ∷ ds) more some each = (d, (ds, refl, each.0))
 
--- a word that begins with a digit is neither `pragma` nor `line`
+-- a word that begins with a digit is none of these, nor `line`
 no_word : (digits more word rest spelling : List ℕ) (c : ℕ) (cs : List ℕ) → 0 < length digits → Each is_ascii_digit digits → digits ++ more ≡ word ++ rest
     → spelling ≡ c ∷ cs → is_ascii_digit c ≡ false → bytes_eq word spelling ≡ false
 no_word digits more word rest spelling c cs some each same is other = by (bytes_eq word spelling) refl
@@ -292,14 +323,21 @@ by_word tail part line behind number left each stops len m (inl (bare, none)) =
       word = run_of is_name_byte text;
     } in
     let word = run_of is_name_byte text in
-    let pragma : bytes_eq word.part (codes "pragma") ≡ false =
-    no_word m.digits (m.space ++ m.tail) word.part word.rest (codes "pragma") 112 (codes "ragma") m.some m.are_digits.each word.spelled refl refl in
+    let passed : is_passed_word word.part ≡ false =
+    (λ i. differs (codes "pragma") 112 (codes "ragma") refl refl i || (differs (codes "define") 100 (codes "efine") refl refl i
+    || differs (codes "undef") 117 (codes "ndef") refl refl i)) in
     let lined : bytes_eq word.part (codes "line") ≡ false =
     no_word m.digits (m.space ++ m.tail) word.part word.rest (codes "line") 108 (codes "ine") m.some m.are_digits.each word.spelled refl refl in
     directive_is tail l
-    ∙ (λ i. if pragma i then Ok (p.Passed (1 + length line)) else (if lined i then directive_number tail
+    ∙ (λ i. if passed i then Ok (p.Passed (1 + length line)) else (if lined i then directive_number tail
     (skip_blank word.rest) else directive_number tail text))
     ∙ marker_of_number tail part text number l (numbered line number m) len
+  where
+    differs : (spelling : List ℕ) (c : ℕ) (cs : List ℕ) → spelling ≡ c ∷ cs → is_ascii_digit c ≡ false
+        → bytes_eq (run_of is_name_byte (m.digits ++ (m.space ++ m.tail))).part spelling ≡ false
+    differs spelling c cs =
+        let word = run_of is_name_byte (m.digits ++ (m.space ++ m.tail)) in
+        no_word m.digits (m.space ++ m.tail) word.part word.rest spelling c cs m.some m.are_digits.each word.spelled
 by_word tail part line behind number left each stops len m (inr (is, whole)) =
     let text = m.digits ++ (m.space ++ m.tail) in
     let spelled : line ≡ m.blanks ++ (codes "line" ++ (m.gap ++ text)) = m.spelled ∙ ap (λ w. m.blanks ++ (w ++ (m.gap ++ text))) is in

@@ -16,9 +16,9 @@ use Rattle.c_lex.specs.declared.piece.Wrong.{Wrong}
 use Rattle.c_lex.specs.declared.piece.Wrong.TheVariants as w
 use Rattle.c_lex.specs.declared.token.TokenKind.TheVariants.{Number, CharLit, StringLit, Punct}
 use Rattle.lex_laws.specs.Fronts.{BeginsComment, BeginsFraction, IsName, IsNumber}
-use Rattle.lex_laws.specs.Lexes.{HasBadNumber, IsOpening, IsPiece, Piece, Blanks, LineFeed, Comment, Pragma, Marker, Spelled}
+use Rattle.lex_laws.specs.Lexes.{HasBadNumber, IsOpening, IsPiece, Piece, Blanks, LineFeed, Comment, PassedLine, Marker, Spelled}
 use Rattle.lex_laws.proofs.Closings.{Closing, closed, unclosed, closing_of, Commenting, ended, endless, commenting_of}
-use Rattle.lex_laws.proofs.Lines.{Directing, directing_of, pragma, marker, neither}
+use Rattle.lex_laws.proofs.Lines.{Directing, directing_of, passed, marker, neither}
 use Rattle.lex_laws.proofs.Marks.{Marking, marked, marking_of, unmarked}
 use Rattle.lex_laws.proofs.Numbers.{goes_of, integer_back, integer_is}
 use Rattle.lex_laws.proofs.Parts.{Run, behind_of, front_of, run_of}
@@ -29,7 +29,7 @@ abbrev pub piece_for : Piece → ℕ → Lexed
 piece_for Blanks n = p.Blank n
 piece_for LineFeed n = p.LineEnd
 piece_for Comment n = p.Passed n
-piece_for Pragma n = p.Passed n
+piece_for PassedLine n = p.Passed n
 piece_for (Marker number) n = p.Marker number n
 piece_for (Spelled kind) n = p.Spelled kind n
 
@@ -208,8 +208,8 @@ slash_judged fresh (c ∷ cs) = if_judged (Judged fresh (47 ∷ c ∷ cs)) (c ==
     (no_comment_behind c cs no_star no_slash) (no_fraction_at 47 (c ∷ cs) refl)))
 
 directive_judged : (tail : List ℕ) (r : Result Lexed Wrong) → Directing tail r → Judged true (35 ∷ tail) r
-directive_judged tail _ (pragma part line rest n same is is_pragma len) =
-    record { piece = Pragma; part = part; rest = rest; spelled = same; is = (refl, (line, (is, is_pragma))); same = ap p.Passed len }
+directive_judged tail _ (passed part line rest n same is is_passed len) =
+    record { piece = PassedLine; part = part; rest = rest; spelled = same; is = (refl, (line, (is, is_passed))); same = ap p.Passed len }
 directive_judged tail _ (marker part rest number n same is len) =
     record { piece = Marker number; part = part; rest = rest; spelled = same; is = (refl, is); same = ap (p.Marker number) len }
 directive_judged tail _ neither = tt

@@ -17,7 +17,7 @@ use Rattle.c_lex.specs.declared.token.TokenKind.{TokenKind}
 use Rattle.c_lex.specs.declared.token.TokenKind.TheVariants.{Name, Keyword, Number, CharLit, StringLit, Punct}
 use Rattle.lex_laws.specs.Fronts.{Each}
 use Rattle.lex_laws.specs.Lexes.{FailsAt, HasBadNumber, IsFault, IsOpening, IsPiece, IsStray, IsToken, Leads, Lexes, Place, Piece, Blanks, LineFeed}
-use Rattle.lex_laws.specs.Lexes.{Comment, Pragma, Marker, Spelled, behind, fresh_behind, line_behind, start, stays, steps, token_of}
+use Rattle.lex_laws.specs.Lexes.{Comment, PassedLine, Marker, Spelled, behind, fresh_behind, line_behind, start, stays, steps, token_of}
 use Rattle.lex_laws.proofs.Back.{bad_number_here, opening_here, piece_here}
 use Rattle.lex_laws.proofs.Marks.{mark_size}
 use Rattle.lex_laws.proofs.Parts.{behind_of, front_of}
@@ -42,7 +42,7 @@ piece_some fresh Blanks part rest h = h.some
 piece_some fresh LineFeed part rest h = let e = ap length h in omega arith
 piece_some fresh Comment part rest (inl h) = let e = ap length h.spelled in omega arith
 piece_some fresh Comment part rest (inr h) = let e = ap length h.spelled in omega arith
-piece_some fresh Pragma part rest h = let e = ap length h.1.1.0.spelled in omega arith
+piece_some fresh PassedLine part rest h = let e = ap length h.1.1.0.spelled in omega arith
 piece_some fresh (Marker number) part rest h = let e = ap length h.1.spelled in omega arith
 piece_some fresh (Spelled kind) part rest h = token_some kind part rest h
 
@@ -51,7 +51,7 @@ len_same : (fresh : Bool) (piece : Piece) (part rest : List ℕ) → IsPiece fre
 len_same fresh Blanks part rest h = refl
 len_same fresh LineFeed part rest h = sym (ap length h)
 len_same fresh Comment part rest h = refl
-len_same fresh Pragma part rest h = refl
+len_same fresh PassedLine part rest h = refl
 len_same fresh (Marker number) part rest h = refl
 len_same fresh (Spelled kind) part rest h = refl
 
@@ -59,7 +59,7 @@ tokens_same : (piece : Piece) (part : List ℕ) (at line : ℕ) → tokens_of (p
 tokens_same Blanks part at line = refl
 tokens_same LineFeed part at line = refl
 tokens_same Comment part at line = refl
-tokens_same Pragma part at line = refl
+tokens_same PassedLine part at line = refl
 tokens_same (Marker number) part at line = refl
 tokens_same (Spelled kind) part at line = refl
 
@@ -67,7 +67,7 @@ fresh_same : (piece : Piece) (n : ℕ) (fresh : Bool) → fresh_after (piece_for
 fresh_same Blanks n fresh = refl
 fresh_same LineFeed n fresh = refl
 fresh_same Comment n fresh = refl
-fresh_same Pragma n fresh = refl
+fresh_same PassedLine n fresh = refl
 fresh_same (Marker number) n fresh = refl
 fresh_same (Spelled kind) n fresh = refl
 
@@ -84,7 +84,7 @@ line_same : (fresh : Bool) (piece : Piece) (part rest text : List ℕ) (line : �
 line_same fresh Blanks part rest text line is h = refl
 line_same fresh LineFeed part rest text line is h = refl
 line_same fresh Comment part rest text line is h = ap (λ t. line + count_by (λ b. b == 10) t) (front_of part rest text is)
-line_same fresh Pragma part rest text line is h =
+line_same fresh PassedLine part rest text line is h =
     ap (λ t. line + count_by (λ b. b == 10) t) (front_of part rest text is ∙ h.1.1.0.spelled)
     ∙ (let n = no_feeds h.1.0 h.1.1.0.run.each in omega arith)
 line_same fresh (Marker number) part rest text line is h = refl

@@ -162,11 +162,17 @@ pub record IsLine (part line rest : List ℕ) : Type 0 where
   pub spelled : part ≡ 35 ∷ line
   pub run : IsRun is_in_line line rest
 
--- `pragma` as a whole word stands first in the line
-pub record IsPragma (line : List ℕ) : Type 0 where
+-- a pragma (6.10.6), or the definition of a macro that a preprocessor tells behind its work (6.10.3)
+abbrev pub IsPassedWord : List ℕ → Type 0
+IsPassedWord word = (word ≡ codes "pragma") ⊎ ((word ≡ codes "define") ⊎ (word ≡ codes "undef"))
+
+-- such a word stands first in the line, as a whole
+pub record IsPassedLine (line : List ℕ) : Type 0 where
   pub blanks : List ℕ
+  pub word : List ℕ
   pub more : List ℕ
-  pub spelled : line ≡ blanks ++ (codes "pragma" ++ more)
+  pub spelled : line ≡ blanks ++ (word ++ more)
+  pub is_word : IsPassedWord word
   pub each : Each is_blank blanks
   pub whole : Stops is_name_byte more
 

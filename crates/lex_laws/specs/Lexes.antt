@@ -6,7 +6,7 @@ use Rattle.c_lex.specs.declared.token.Token.{Token}
 use Rattle.c_lex.specs.declared.token.TokenKind.{TokenKind}
 use Rattle.c_lex.specs.declared.token.TokenKind.TheVariants.{Name, Keyword, Number, CharLit, StringLit, Punct}
 use Rattle.lex_laws.specs.Fronts.{IsBlanks, IsBlockComment, IsInteger, IsLine, IsLineComment, IsLiteral, IsMarker, IsName, IsNumber, IsOpen, IsOpenComment}
-use Rattle.lex_laws.specs.Fronts.{IsPragma, IsPrefixed, IsPunctuator, IsWord}
+use Rattle.lex_laws.specs.Fronts.{IsPassedLine, IsPrefixed, IsPunctuator, IsWord}
 
 -- a token of this kind
 abbrev pub IsToken : TokenKind → List ℕ → List ℕ → Type 0
@@ -22,7 +22,7 @@ pub data Piece : Type 0 where
   Blanks : Piece
   LineFeed : Piece
   Comment : Piece
-  Pragma : Piece
+  PassedLine : Piece
   Marker : (number : ℕ) → Piece
   Spelled : (kind : TokenKind) → Piece
 
@@ -32,7 +32,7 @@ abbrev pub IsPiece : Bool → Piece → List ℕ → List ℕ → Type 0
 IsPiece fresh Blanks part rest = IsBlanks part rest
 IsPiece fresh LineFeed part rest = part ≡ 10 ∷ []
 IsPiece fresh Comment part rest = IsBlockComment part ⊎ IsLineComment part rest
-IsPiece fresh Pragma part rest = (fresh ≡ true) × ((line : List ℕ) × (IsLine part line rest × IsPragma line))
+IsPiece fresh PassedLine part rest = (fresh ≡ true) × ((line : List ℕ) × (IsLine part line rest × IsPassedLine line))
 IsPiece fresh (Marker number) part rest = (fresh ≡ true) × IsMarker part rest number
 IsPiece fresh (Spelled kind) part rest = IsToken kind part rest
 
@@ -41,7 +41,7 @@ abbrev pub fresh_behind : Piece → Bool → Bool
 fresh_behind Blanks fresh = fresh
 fresh_behind LineFeed fresh = true
 fresh_behind Comment fresh = false
-fresh_behind Pragma fresh = false
+fresh_behind PassedLine fresh = false
 fresh_behind (Marker number) fresh = true
 fresh_behind (Spelled kind) fresh = false
 
@@ -50,7 +50,7 @@ abbrev pub line_behind : Piece → List ℕ → ℕ → ℕ
 line_behind Blanks part line = line
 line_behind LineFeed part line = line + 1
 line_behind Comment part line = line + count_by (λ b. b == 10) part
-line_behind Pragma part line = line
+line_behind PassedLine part line = line
 line_behind (Marker number) part line = number
 line_behind (Spelled kind) part line = line
 
@@ -60,7 +60,7 @@ token_of (Spelled kind) part at line = record { kind = kind; start = at; end = a
 token_of Blanks part at line = []
 token_of LineFeed part at line = []
 token_of Comment part at line = []
-token_of Pragma part at line = []
+token_of PassedLine part at line = []
 token_of (Marker number) part at line = []
 
 -- the place that a lexer has come to, and what is left there

@@ -123,7 +123,7 @@ pub const LITERALS: &[Row] = &[
     ("int main(void){return \"ab", "OpenLiteral(22)"),
 ];
 
-// Comments (6.4.9), line markers and pragmas (6.10.4, 6.10.6).
+// Comments (6.4.9), line markers, pragmas and definitions of macros (6.10.4, 6.10.6, 6.10.3).
 pub const LINES: &[Row] = &[
     (" \t\x0b\x0c\r\n", ""),
     ("a/*\n*/b//c\nd", "Name 0 1 1;Name 6 7 2;Name 11 12 3;"),
@@ -139,7 +139,12 @@ pub const LINES: &[Row] = &[
     ("/**/# 1\n", "Stray(4)"),
     ("#line1\n", "Stray(0)"),
     ("# 1 \"a\n", "Stray(0)"),
-    ("#define A", "Stray(0)"),
+    ("#define A", ""),
+    ("#define zz /*\nzz", "Name 14 16 2;"),
+    ("\t# undef zz\nzz", "Name 12 14 2;"),
+    ("#defined A", "Stray(0)"),
+    ("a #define A", "Stray(2)"),
+    ("#include <a.h>", "Stray(0)"),
     ("#pragma pack(1) /*\nzz", "Name 19 21 2;"),
     ("x\n#3\"f\"4\ny", "Name 0 1 1;Name 9 10 3;"),
     ("\t# 3\n\n\nx", "Name 7 8 5;"),
