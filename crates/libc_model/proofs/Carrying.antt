@@ -41,7 +41,7 @@ use Rattle.prov_memory.specs.declared.cell.Cell.{Cell}
 use Rattle.prov_memory.specs.declared.cell.Via.TheVariants as vias
 use Rattle.mem_spec.specs.Store.{Store, TaggedByte, Life, fresh, is_live, range_from, with_bytes, born, buried}
 use Rattle.mem_spec.specs.Script.{Done, run}
-use Rattle.mem_spec.specs.Acts.{whole, create, kill, retagged, declared_of, stored_from, in_row, offset_in, base_in, size_in}
+use Rattle.mem_spec.specs.Acts.{whole, create, kill, retagged, declared_of, in_row, offset_in, base_in, size_in}
 use Rattle.mem_spec.specs.Streams.{Io}
 use Rattle.prov_memory.specs.Held.{Held, held_of}
 use Rattle.prov_memory.specs.Memory.{Kept, AreKnown, ObjectsKnown, IsBorn, newborn, store_of, life_in}
@@ -54,7 +54,7 @@ use Rattle.libc_model.specs.declared.arguments.Pointer.{Pointer}
 use Rattle.libc_model.specs.Answers.{Does, AreBare}
 use Rattle.libc_model.specs.Parts.{bytes_of}
 use Rattle.libc_model.specs.Writes.{IsPlace, IsKept}
-use Rattle.libc_model.specs.Making.{new_life, rows_made, moved_bytes, moved_store, CanMove, IsNewAt, IsStart}
+use Rattle.libc_model.specs.Making.{new_life, rows_made, moved_store, CanMove, IsNewAt, IsStart}
 use Rattle.libc_model.proofs.Allocating.{based}
 use Rattle.libc_model.proofs.Making.{Fills, is_new, new_at, rows_above, stored_whole, within, no_offset, both_left, done_left}
 use Rattle.libc_model.proofs.Resizing.{row_kept, is_held, live_start, base_start, row_at_base, above_null, within_row, both_right, apart_by}

@@ -85,18 +85,7 @@ use Rattle.libc_model.specs.Parts.{
   IsRange,
   limited,
 }
-use Rattle.libc_model.specs.Writes.{
-  FillsRange,
-  within_limits,
-  writable,
-  target_checked,
-  ranges_to_copy,
-  string_to_copy,
-  write_items,
-  overwritten,
-  moved_items,
-  moved,
-}
+use Rattle.libc_model.specs.Writes.{FillsRange, writable, target_checked, ranges_to_copy, string_to_copy, write_items, overwritten, moved_items, moved}
 use Rattle.libc_model.proofs.Scripts.{then, run_then, run_same, run_twice}
 use Rattle.libc_model.proofs.Parts.{after_life, after_bytes, joined_append, then_gives, then_follows, then_raises, raises_then, err_follows, gives_at_once}
 use Rattle.libc_model.proofs.Reading.{reads_follow}

@@ -37,7 +37,7 @@ use Rattle.std.proofs.Common.{
   Some,
   None,
 }
-use Rattle.std.specs.Prelude.{Result, Ok, Err, OnOk, IfErr, nat_le, nat_lt, ◌^◌, max, replicate, is_some, not}
+use Rattle.std.specs.Prelude.{Result, Ok, Err, OnOk, IfErr, nat_le, nat_lt, ◌^◌, replicate, is_some}
 use Rattle.std.proofs.lemmas.Bool.Decides.{nat_tests}
 use Rattle.std.proofs.lemmas.List.{length-replicate}
 use Rattle.ub_base.specs.declared.clause.Clause.{Clause}
@@ -56,47 +56,28 @@ use Rattle.addr_map.proofs.Tests.{eq_true}
 use Rattle.addr_map.proofs.RowLists.{above-insert}
 use Rattle.addr_map.proofs.RowLists.{free_floor}
 use Rattle.exposure.specs.declared.prov.Prov.TheVariants.{Whole}
-use Rattle.prov_memory.specs.declared.answer.CreateFault.{CreateFault}
-use Rattle.prov_memory.specs.declared.answer.CreateFault.TheVariants as faults
 use Rattle.prov_memory.specs.declared.answer.LibAnswer.{LibAnswer}
 use Rattle.prov_memory.specs.declared.answer.LibAnswer.TheVariants as answers
 use Rattle.prov_memory.specs.declared.cell.Cell.{Cell}
 use Rattle.prov_memory.specs.declared.cell.Via.{Via}
 use Rattle.prov_memory.specs.declared.cell.Via.TheVariants as vias
-use Rattle.prov_memory.specs.declared.value.Value.{Value}
 use Rattle.prov_memory.specs.declared.value.Value.TheVariants.{Ptr}
 use Rattle.mem_spec.specs.Store.{Store, Life, TaggedByte, born, with_bytes, is_live}
-use Rattle.mem_spec.specs.Script.{Ask, Put, Bear, Script, Give, Misplace, touch, ◌>>=◌, ◌>>◌, Act, Done, Raised, Ended, Outside, Unplaced, run}
-use Rattle.mem_spec.specs.Acts.{
-  Accessed,
-  Seen,
-  scalar,
-  whole,
-  bytes,
-  access,
-  in_row,
-  offset_in,
-  is_aligned,
-  suits_store,
-  stored_from,
-  store,
-  create,
-  has_place,
-  base_in,
-}
+use Rattle.mem_spec.specs.Script.{Ask, Put, Bear, Give, Misplace, touch, ◌>>=◌, ◌>>◌, Act, Done, Raised, Outside, Unplaced, run}
+use Rattle.mem_spec.specs.Acts.{Seen, scalar, whole, bytes, access, in_row, offset_in, is_aligned, suits_store, stored_from, store, create, has_place, base_in}
 use Rattle.mem_spec.specs.Streams.{Io}
 use Rattle.prov_memory.specs.Cells.{plain_cell}
 use Rattle.prov_memory.specs.Held.{held_of}
 use Rattle.prov_memory.specs.Memory.{Kept, HasCell, CellsKnown, store_of, life_in, no_place, base_by, rows_with, cannot_create}
 use Rattle.prov_memory.specs.Stores.{Sees, IsShort, tagged_all}
 use Rattle.prov_memory.proofs.AccessLemmas.{done_then, reaches}
-use Rattle.prov_memory.proofs.WriteLemmas.{store_in, tagged_length}
-use Rattle.libc_spec.specs.Library.{LibValue, pointer, plain, is_given, heap_name, heap_kind, new_object, malloc, calloc, created_with, created_within}
+use Rattle.prov_memory.proofs.WriteLemmas.{store_in}
+use Rattle.libc_spec.specs.Library.{LibValue, pointer, plain, is_given, heap_name, heap_kind, new_object, calloc, created_with, created_within}
 use Rattle.libc_model.specs.declared.arguments.Pointer.{Pointer}
 use Rattle.libc_model.specs.Answers.{Does, given_value}
 use Rattle.libc_model.specs.Making.{new_life, rows_made, IsNewAt}
 use Rattle.libc_model.proofs.Scripts.{then, behind, run_then, behind_done}
-use Rattle.libc_model.proofs.Allocating.{does_same, based, limit_kept, limit_of, malloc_done, malloc_failed}
+use Rattle.libc_model.proofs.Allocating.{does_same, based, limit_kept, limit_of}
 
 -- ---- what a creation does
 pub record IsNew (rows : List Row) (x : ObjName) (n b : ℕ) (is : List Item) (s t : Store) : Type 0 where

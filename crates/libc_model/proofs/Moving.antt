@@ -1,34 +1,5 @@
 -- Lemmas on bytes that are moved as they stand.
-use Rattle.std.proofs.Common.{
-  ◌≡◌,
-  ℕ,
-  zero,
-  suc,
-  ◌%◌,
-  ◌≤◌,
-  ◌==◌,
-  Bool,
-  true,
-  false,
-  ◌||◌,
-  cond,
-  List,
-  [],
-  ◌∷◌,
-  ◌++◌,
-  append_assoc,
-  length,
-  refl,
-  ap,
-  ap₂,
-  sym,
-  subst,
-  ◌∙◌,
-  Option,
-  Some,
-  None,
-  arith,
-}
+use Rattle.std.proofs.Common.{◌≡◌, ℕ, zero, suc, ◌==◌, Bool, true, false, ◌||◌, cond, List, [], ◌∷◌, ◌++◌, append_assoc, length, refl, ap, ap₂, sym, subst, ◌∙◌, Option, Some, None}
 use Rattle.std.specs.Prelude.{Ok, Err, not}
 use Rattle.std.proofs.lemmas.Bool.{ne_eqb}
 use Rattle.ub_base.specs.declared.clause.Clause.{Clause}
@@ -48,44 +19,7 @@ use Rattle.prov_memory.specs.declared.answer.MemFault.{MemFault}
 use Rattle.prov_memory.specs.declared.answer.MemFault.TheVariants as faults
 use Rattle.prov_memory.specs.declared.cell.Cell.{Cell}
 use Rattle.mem_spec.specs.Store.{Store, Life, TaggedByte, is_live, range_from, with_bytes}
-use Rattle.mem_spec.specs.Script.{
-  Answer,
-  Touch,
-  Ask,
-  Get,
-  Put,
-  Bear,
-  Bury,
-  Show,
-  Find,
-  Settle,
-  Take,
-  Print,
-  item_of,
-  refuses,
-  refused,
-  answer,
-  left,
-  Script,
-  Give,
-  Raise,
-  Finish,
-  Exceed,
-  Misplace,
-  Do,
-  touch,
-  require,
-  ◌>>=◌,
-  ◌>>◌,
-  Act,
-  Done,
-  Raised,
-  Ended,
-  Outside,
-  Unplaced,
-  touched,
-  run,
-}
+use Rattle.mem_spec.specs.Script.{Answer, Touch, Ask, Get, Put, Bear, Bury, Show, Find, Settle, Take, Print, item_of, refuses, refused, answer, left, Script, Give, Raise, Finish, Exceed, Misplace, Do, require, ◌>>=◌, ◌>>◌, Act, Done, Raised, Ended, Outside, Unplaced, touched, run}
 use Rattle.mem_spec.specs.Acts as acts
 use Rattle.mem_spec.specs.Acts.{
   Accessed,
@@ -113,7 +47,7 @@ use Rattle.prov_memory.specs.Loads.{IfRaise}
 use Rattle.libc_spec.specs.Library.{LibValue, pointer, pointer_in, argument_at, size_of_value, overlap, check_target, memmove, called}
 use Rattle.libc_model.specs.declared.arguments.Range.{Range}
 use Rattle.libc_model.specs.Answers.{Answers, AreWithin, AreTyped, copy_function}
-use Rattle.libc_model.specs.Parts.{after, CanFollow, Gives, Follows, IsRange, byte_at, bytes_of, accessed_if, read_items}
+use Rattle.libc_model.specs.Parts.{after, CanFollow, Gives, Follows, IsRange, byte_at, bytes_of, accessed_if}
 use Rattle.libc_model.specs.Writes.{
   within_limits,
   target_checked,
@@ -129,7 +63,6 @@ use Rattle.libc_model.specs.Writes.{
   write_items,
   ranges_to_copy,
 }
-use Rattle.libc_model.proofs.Scripts.{behind}
 use Rattle.libc_model.proofs.Parts.{after_bytes, after_append, follow_append}
 use Rattle.libc_model.proofs.Living.{no_streams}
 use Rattle.libc_model.proofs.Writing.{place_stays, whole_remainder, not_zero, stored_over}

@@ -45,69 +45,29 @@ use Rattle.addr_map.specs.declared.map.Row.{Row}
 use Rattle.addr_map.specs.Rows.{row_of, row_at}
 use Rattle.addr_map.proofs.Tests.{eq_true}
 use Rattle.ub_base.specs.Names.{same_object}
-use Rattle.ub_base.proofs.NameLemmas.{same_object_is, same_object_refl}
+use Rattle.ub_base.proofs.NameLemmas.{same_object_is}
 use Rattle.exposure.specs.declared.prov.Prov.{Prov}
 use Rattle.exposure.specs.declared.prov.Prov.TheVariants.{Empty, Whole, Either}
-use Rattle.exposure.specs.Cells.{Cells, kept_in, has_cell, is_other}
+use Rattle.exposure.specs.Cells.{kept_in, has_cell, is_other}
 use Rattle.prov_memory.specs.declared.answer.LibAnswer.{LibAnswer}
 use Rattle.prov_memory.specs.declared.answer.LibAnswer.TheVariants as answers
-use Rattle.prov_memory.specs.declared.cell.Cell.{Cell}
 use Rattle.prov_memory.specs.declared.value.Value.{Value}
 use Rattle.prov_memory.specs.declared.value.Value.TheVariants.{Ptr}
-use Rattle.mem_spec.specs.Store.{Store, TaggedByte, Life, is_live, range_from, with_bytes, born, dead, buried, settled}
-use Rattle.mem_spec.specs.Script.{
-  Ask,
-  Get,
-  Put,
-  Bury,
-  Settle,
-  Script,
-  Give,
-  touch,
-  require,
-  ◌>>=◌,
-  ◌>>◌,
-  Act,
-  Done,
-  Raised,
-  Ended,
-  Outside,
-  Unplaced,
-  touched,
-  run,
-}
-use Rattle.mem_spec.specs.Acts.{access, load_block, create, kill, retagged, declared_of, offset_in, has_place, base_in, size_in}
+use Rattle.mem_spec.specs.Store.{Store, TaggedByte, Life, is_live, range_from, born, settled}
+use Rattle.mem_spec.specs.Script.{Ask, Script, Give, touch, require, ◌>>=◌, ◌>>◌, Act, Done, Raised, Ended, Outside, Unplaced, touched, run}
+use Rattle.mem_spec.specs.Acts.{create, has_place, base_in, size_in}
 use Rattle.mem_spec.specs.Streams.{Io}
 use Rattle.prov_memory.specs.Held.{Held, held_of}
-use Rattle.prov_memory.specs.Memory.{Kept, HasCell, CellsKnown, store_of, life_in, tagged_in_object, no_place, base_by, rows_with, cannot_create}
+use Rattle.prov_memory.specs.Memory.{Kept, HasCell, store_of, life_in, no_place, base_by, rows_with, cannot_create}
 use Rattle.prov_memory.specs.Made.{Settling, CanSettle, after_settling, settling_items}
-use Rattle.prov_memory.proofs.AccessLemmas.{done_then}
-use Rattle.prov_memory.proofs.BlockLemmas.{block_in}
 use Rattle.prov_memory.proofs.StoreLemmas.{inserted_other}
-use Rattle.libc_spec.specs.Library.{
-  LibValue,
-  heap_kind,
-  pointer,
-  null,
-  is_given,
-  is_heap_start,
-  heap_name,
-  new_object,
-  start_object,
-  malloc,
-  free,
-  moved,
-  resized,
-  realloc,
-  created_with,
-  created_within,
-}
+use Rattle.libc_spec.specs.Library.{LibValue, heap_kind, pointer, null, is_given, is_heap_start, heap_name, start_object, malloc, free, moved, resized, realloc, created_with, created_within}
 use Rattle.libc_model.specs.declared.arguments.Pointer.{Pointer}
 use Rattle.libc_model.specs.Answers.{Does, given_value}
 use Rattle.libc_model.specs.Making.{rows_made, released, moved_bytes, moved_store, IsStart, start_in, start_if, heap_start_in}
 use Rattle.libc_model.proofs.Scripts.{then, behind, run_then, behind_done}
 use Rattle.libc_model.proofs.Allocating.{does_same, based, limit_kept}
-use Rattle.libc_model.proofs.Making.{true_false, both_left, is_new, access_there, not_raised, unmade}
+use Rattle.libc_model.proofs.Making.{true_false, both_left, is_new, unmade}
 
 -- ---- the object that is meant
 abbrev pub start_act : Option (ObjName × Settling) → Clause → Store → Act ObjName

@@ -1,7 +1,6 @@
 -- New objects of calloc and realloc as a memory makes them (own).
 use Rattle.std.specs.Prelude.{◌≡◌, ◌≢◌, ℕ, ◌<◌, ◌≤◌, true, min, List, Option, Some, None, if◌then◌else◌}
 use Rattle.ub_base.specs.declared.clause.Clause.TheVariants.{Realloc as ReallocOfOther}
-use Rattle.ub_base.specs.declared.names.Event.{Event}
 use Rattle.ub_base.specs.declared.names.ObjName.{ObjName}
 use Rattle.addr_map.specs.declared.map.Row.{Row}
 use Rattle.addr_map.specs.Rows.{row_of, row_at}
@@ -10,7 +9,7 @@ use Rattle.exposure.specs.declared.prov.Prov.{Prov}
 use Rattle.exposure.specs.declared.prov.Prov.TheVariants.{Empty, Whole, Either}
 use Rattle.exposure.specs.Cells.{Cells, kept_in, is_other}
 use Rattle.mem_spec.specs.Store.{Life, Store, TaggedByte, range_from, with_bytes, born, buried}
-use Rattle.mem_spec.specs.Script.{Script, Give, ◌>>=◌, ◌>>◌}
+use Rattle.mem_spec.specs.Script.{Script, Give, ◌>>◌}
 use Rattle.mem_spec.specs.Acts.{size_in}
 use Rattle.prov_memory.specs.Held.{held_of}
 use Rattle.prov_memory.specs.Memory.{Kept, AreKnown, life_in, cannot_create, base_by, rows_with}
