@@ -1,0 +1,5 @@
+pub mod Conflicts
+pub mod Footprints
+pub mod Forgotten
+pub mod ItemOrder
+pub mod LeastPairs
