@@ -1,8 +1,8 @@
 // The events that are taken so that one event comes before another.
-ghost use Rattle.std.specs.Prelude.{◌≡◌, ◌<◌, ◌^◌, ◌++◌, OnOk};
+ghost use Rattle.std.specs.Prelude.{◌≡◌, ◌<◌, ◌^◌, ◌++◌, ◌∷◌, [], OnOk, if◌then◌else◌};
 ghost use Rattle.c_typed.specs.Tree.{tree_of, size as nodes_of};
 ghost use Rattle.seq_order.specs.Marked.{taken_in};
-ghost use Rattle.order_swap.specs.Sets.{needs, stores_needed, is_kept, is_put, put_of, wanted_of, IsPairOf};
+ghost use Rattle.order_swap.specs.Sets.{needs, stores_needed, is_kept, is_put, put_of, kept_of, wanted_of, IsPairOf};
 
 use c_typed::{Place, Typed};
 use seq_order::{Taken, before, due};
@@ -97,6 +97,18 @@ pub fn put_wanted(
         → OnOk result (wanted.new.items ≡ wanted.old.items ++ wanted_of (taken_in taken.now) (tree_of root.now) pair places.now) }
 {
     put_first(root, pair, taken, places, wanted)?;
+    put_kept(root, pair, taken, wanted)
+}
+
+fn put_kept(
+    root: &Typed,
+    pair: Pair,
+    taken: &Taken,
+    wanted: &mut Vec<Place>,
+) -> Result<(), NoMemory>
+    ensures { nodes_of (tree_of root.now) < 2 ^ 32
+        → OnOk result (wanted.new.items ≡ wanted.old.items ++ kept_of (taken_in taken.now) (tree_of root.now) pair) }
+{
     let kept = value_of(pair.first);
     if is_kept(root, pair, taken, kept) {
         wanted.push(kept)?;
@@ -115,9 +127,23 @@ fn put_first(
         → OnOk result (wanted.new.items ≡ wanted.old.items ++ put_of (taken_in taken.now) (tree_of root.now) pair places.now) }
 {
     for place in places {
-        if is_put(root, pair, taken, *place) {
-            wanted.push(*place)?;
-        }
+        put_one(root, pair, taken, *place, wanted)?;
+    }
+    Ok(())
+}
+
+fn put_one(
+    root: &Typed,
+    pair: Pair,
+    taken: &Taken,
+    place: Place,
+    wanted: &mut Vec<Place>,
+) -> Result<(), NoMemory>
+    ensures { nodes_of (tree_of root.now) < 2 ^ 32
+        → OnOk result (wanted.new.items ≡ wanted.old.items ++ (if is_put (taken_in taken.now) (tree_of root.now) pair place then place ∷ [] else [])) }
+{
+    if is_put(root, pair, taken, place) {
+        wanted.push(place)?;
     }
     Ok(())
 }

@@ -90,8 +90,10 @@ one_more rows h f g steps i k step a found is e l at =
   where
     fits : (n i k : ℕ) → k ≡ n - 1 - i → i < n → k ≡ n - (i + 1)
     fits n i k e l = omega (arith, e, l)
+
     next : (n i k : ℕ) → k ≡ n - 1 - i → i < n → n - i ≡ suc k
     next n i k e l = omega (arith, e, l)
+
     split : (ys : Path) (j : ℕ) (d : ℕ × ℕ) → j < length ys → get_or ys j d ∷ drop (suc j) ys ≡ drop j ys
     split [] j d a = absurd (omega arith)
     split (y ∷ ys) zero d a = refl

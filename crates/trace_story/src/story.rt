@@ -91,7 +91,14 @@ pub fn story(
 {
     let first = told_by(alloc, p, input, args, mode, picks, frames, None)?;
     let Some(named) = named_in(alloc, frames, object, &first.frames)? else {
-        return Ok(unnamed(first));
+        return Ok(Story {
+            entries: first.entries,
+            frames: first.frames,
+            named: None,
+            map: first.map,
+            ran: first.ran,
+            calls: first.calls,
+        });
     };
     let row = first.map.row(named);
     let sought = Sought { object: named, row };
@@ -117,16 +124,4 @@ pub fn story(
         ran: second.ran,
         calls: second.calls,
     })
-}
-
-/// The story of an object whose frame hasn't started.
-fn unnamed(told: Told) -> Story {
-    Story {
-        entries: told.entries,
-        frames: told.frames,
-        named: None,
-        map: told.map,
-        ran: told.ran,
-        calls: told.calls,
-    }
 }

@@ -1,5 +1,5 @@
 // The items of a pick that speak of an object, in order.
-ghost use Rattle.std.specs.Prelude.{◌≡◌, ◌≤◌, ◌++◌, ◌∷◌, List, IfOk};
+ghost use Rattle.std.specs.Prelude.{◌≡◌, ◌≤◌, ◌++◌, ◌∷◌, List, IfOk, if◌then◌else◌};
 ghost use Rattle.ub_base.specs.declared.names.Item.{Item};
 ghost use Rattle.trace_story.specs.Told.{end_of, by_range, hull, item_rank, meeting, joined, placed, left, is_told, is_at, told_in};
 
@@ -164,10 +164,13 @@ fn placed(alloc: Global, frames: &Frames, item: Item, told: &[Item]) -> Result<V
     for next in told {
         waiting = pass(frames, &mut out, waiting, *next)?;
     }
-    if let Some(item) = waiting {
-        out.push(item)?;
+    match waiting {
+        Some(item) => {
+            out.push(item)?;
+            Ok(out)
+        }
+        None => Ok(out),
     }
-    Ok(out)
 }
 
 /// The object contains the address, or has it one past.
@@ -197,6 +200,23 @@ fn is_told(sought: &Sought, item: &Item) -> bool
     }
 }
 
+/// The items told so far, with one more where it speaks of the object.
+fn told_with(
+    alloc: Global,
+    frames: &Frames,
+    sought: &Sought,
+    told: Vec<Item>,
+    item: Item,
+) -> Result<Vec<Item>, NoMemory>
+    ensures { IfOk result (λ v. v.items ≡ (if is_told sought.now item then placed frames.now item told.items else told.items)) }
+{
+    if is_told(sought, &item) {
+        placed(alloc, frames, item, told.as_slice())
+    } else {
+        Ok(told)
+    }
+}
+
 /// What a pick with these items does to the object.
 pub fn told_in(
     alloc: Global,
@@ -208,9 +228,7 @@ pub fn told_in(
 {
     let mut told = Vec::new(alloc);
     for item in items {
-        if is_told(sought, item) {
-            told = placed(alloc, frames, *item, told.as_slice())?;
-        }
+        told = told_with(alloc, frames, sought, told, *item)?;
     }
     Ok(told)
 }
