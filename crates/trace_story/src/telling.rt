@@ -5,7 +5,7 @@ ghost use Rattle.trace_story.specs.Named.{IsNamed};
 ghost use Rattle.trace_story.specs.Stories.{mark_of, story_in, sought_in};
 
 use crate::calls::Calls;
-use crate::entry::Entries;
+use crate::entry::{Entries, Story};
 use crate::named::{are_same, named_in};
 use crate::told::Sought;
 use crate::watcher::Teller;
@@ -14,18 +14,6 @@ use core_ir::CoreProgram;
 use core_run::{Ran, run};
 use std::alloc::Global;
 use ub_base::{Frames, NoMemory, ObjName};
-
-/// The story of an object, with what shows it: how the run ended, its frames and its objects, the object as this run numbers its
-/// frame, none where that frame hasn't started, and the calls of the watch that was told.
-#[derive(Drop)]
-pub struct Story {
-    pub entries: Entries,
-    pub frames: Frames,
-    pub named: Option<ObjName>,
-    pub map: AddrMap,
-    pub ran: Ran,
-    pub calls: Calls,
-}
 
 /// What is told of an object in one run.
 #[derive(Drop)]
