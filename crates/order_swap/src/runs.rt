@@ -67,7 +67,7 @@ pub fn swap_run(
         budget,
         &mut swapper,
     )?;
-    let differs = !are_equal(&canonical.end, &swapped.end);
+    let differs = !are_equal(&swapped.end, &canonical.end);
     Ok(Swapped {
         canonical: (canonical.end, canonical.picks),
         swapped: (swapped.end, swapped.picks),
