@@ -36,12 +36,10 @@ use Rattle.std.proofs.Common.{
   arith,
   pos,
 }
-use Rattle.std.specs.Prelude.{nat_lt, nat_le, min}
+use Rattle.std.specs.Prelude.{nat_lt, nat_le}
 use Rattle.std.proofs.lemmas.List.{append-nil, length-append, length-take-le}
-use Rattle.std.proofs.lemmas.Bool.{lt-ltb, le-ltb, cases_lt}
 use Rattle.ub_base.specs.declared.clause.Clause.{Clause}
 use Rattle.ub_base.specs.declared.clause.Clause.TheVariants.{LibraryArgument}
-use Rattle.ub_base.specs.declared.clause.Cause.{Cause}
 use Rattle.ub_base.specs.declared.clause.Cause.TheVariants.{Output as PastOutput}
 use Rattle.ub_base.specs.declared.names.ObjName.{ObjName}
 use Rattle.ub_base.specs.declared.names.Item.{Item}
@@ -93,7 +91,7 @@ use Rattle.mem_spec.specs.Script.{
 use Rattle.mem_spec.specs.Acts.{Accessed}
 use Rattle.mem_spec.specs.Streams.{Io}
 use Rattle.prov_memory.specs.Memory.{Kept, store_of}
-use Rattle.libc_spec.specs.Library.{LibValue, number, pointer, pointer_in, address_in, prov_in, argument_at, joins, joined, write_numbers}
+use Rattle.libc_spec.specs.Library.{LibValue, number, pointer, pointer_in, argument_at, joins, joined, write_numbers}
 use Rattle.libc_spec.specs.Print.{Argument}
 use Rattle.libc_spec.specs.Formatted as formatted
 use Rattle.libc_spec.specs.Formatted.{short, room, ended, array, Noted, noting, touches, touches_any, placed, store_text, stored_by}

@@ -1,5 +1,5 @@
 -- Lemmas on calls of fprintf.
-use Rattle.std.proofs.Common.{◌≡◌, ℕ, ℤ, Bool, true, false, cond, List, refl, sym, subst, pos}
+use Rattle.std.proofs.Common.{◌≡◌, ℤ, Bool, true, false, cond, List, refl, sym, subst, pos}
 use Rattle.std.specs.Ordering.{int_eq}
 use Rattle.ub_base.specs.declared.clause.Clause.TheVariants.{LibraryArgument}
 use Rattle.ub_base.specs.declared.names.Item.{Item}
@@ -11,7 +11,7 @@ use Rattle.mem_spec.specs.Store.{Store}
 use Rattle.mem_spec.specs.Script.{Raise, run}
 use Rattle.libc_spec.specs.Library.{LibValue}
 use Rattle.libc_spec.specs.Print.{Argument, print_to}
-use Rattle.libc_spec.specs.Formatted.{fprintf, printed_to_by}
+use Rattle.libc_spec.specs.Formatted.{printed_to_by}
 use Rattle.libc_model.specs.Answers.{Answers}
 use Rattle.libc_print.specs.Calls.{limited}
 

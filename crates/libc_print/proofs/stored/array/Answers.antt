@@ -1,4 +1,4 @@
-use Rattle.std.proofs.Common.{◌≡◌, ℕ, Option, true, false, subst}
+use Rattle.std.proofs.Common.{Option, true, subst}
 use Rattle.std.proofs.lemmas.Bool.{ne_eqb}
 use Rattle.mem_spec.specs.Acts.{Accessed}
 use Rattle.mem_spec.specs.Script.{Script}

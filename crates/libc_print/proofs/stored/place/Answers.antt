@@ -1,11 +1,9 @@
-use Rattle.std.proofs.Common.{ℕ, Vec, Global, Option, Ok, Err, length, drop, ap, sym, subst, true, false, ◌≡◌, ◌∙◌}
+use Rattle.std.proofs.Common.{ℕ, Vec, Global, Option, Err, length, drop, ap, subst, true, ◌≡◌, ◌∙◌}
 use Rattle.std.proofs.lemmas.Result.{err_from_is_err_and}
 use Rattle.mem_spec.specs.Acts.{Accessed}
 use Rattle.libc_spec.specs.Library.{pointer}
 use Rattle.libc_spec.specs.Formatted.{array, room}
-use Rattle.libc_model.specs.declared.arguments.Range.{Range}
 use Rattle.libc_model.specs.Parts.{Follows, Gives, accessed_if}
-use Rattle.libc_model.specs.Writes.{FillsRange}
 use Rattle.libc_print.specs.Seen.{typed}
 use Rattle.libc_print.specs.Calls.{short_text}
 use Rattle.libc_print.specs.Stored.{placed_seen}

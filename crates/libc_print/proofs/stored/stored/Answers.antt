@@ -1,4 +1,4 @@
-use Rattle.std.proofs.Common.{false, List, [], drop, sym, subst}
+use Rattle.std.proofs.Common.{false, List, drop, subst}
 use Rattle.std.specs.Prelude.{Err}
 use Rattle.std.proofs.lemmas.Result.{err_from_is_err_and}
 use Rattle.ub_base.specs.declared.names.Item.{Item}

@@ -8,6 +8,9 @@ use Rattle.libc_spec.specs.Formatted.{printed_to_by}
 use Rattle.libc_model.specs.Answers.{Answers}
 use Rattle.libc_model.specs.Seen.{values_seen}
 use Rattle.libc_print.specs.Seen.{typed}
+use Rattle.prov_memory.specs.declared.answer.LibAnswer.TheVariants as answers
+use Rattle.libc_print.proofs.Keeping.{written_by}
+use Rattle.libc_model.specs.Answers.{AreWithin, HaveCells, GivesMade}
 use Rattle.libc_print.proofs.stream.format_to.Goals as goal
 
 pub returns-in-Err-clause-exact : goal.returns-in-Err-clause-exact
@@ -18,3 +21,23 @@ returns-in-Err-clause-exact c = λ within cells.
     (to_z-of_z w128 c.int_at.result (search rules) ∙ c.int_at.ensures ∙ ap (λ (vs : List Value). integer_in (argument_at (values_seen vs) 0))
     c.as_slice.ensures)
     ((rw c.as_slice-2.ensures at c.in-Err.ensures.exact) within cells)
+
+pub returns-in-Ok-clause-made : goal.returns-in-Ok-clause-made
+returns-in-Ok-clause-made c =
+    let m = c.args.m.now in
+    let new = c.written.new in
+    subst (λ (xs : List Value). AreWithin c.args.io.now → HaveCells m (values_seen xs) → GivesMade new.m (answers.Value c.in-Ok.value)) c.as_slice-2.ensures
+    (λ within cells. written_by new.m (answers.Value c.in-Ok.value) new.t (store_of new.m new.io) (store_of m c.args.io.now)
+    new.m.rows (to_z-of_z w128 c.int_at.result (search rules)) (argument_at (values_seen c.as_slice-2.result.now) 1)
+    (drop 2 (typed c.as_slice-2.result.now c.args.types.now))
+    (c.in-Ok.ensures.exact within cells))
+
+pub returns-in-Err-clause-made : goal.returns-in-Err-clause-made
+returns-in-Err-clause-made c =
+    let m = c.args.m.now in
+    let new = c.written.new in
+    subst (λ (xs : List Value). AreWithin c.args.io.now → HaveCells m (values_seen xs) → GivesMade new.m c.in-Err.answer) c.as_slice-2.ensures
+    (λ within cells. written_by new.m c.in-Err.answer new.t (store_of new.m new.io) (store_of m c.args.io.now)
+    new.m.rows (to_z-of_z w128 c.int_at.result (search rules)) (argument_at (values_seen c.as_slice-2.result.now) 1)
+    (drop 2 (typed c.as_slice-2.result.now c.args.types.now))
+    (c.in-Err.ensures.exact within cells))
