@@ -504,9 +504,9 @@ pub fn put_report_json(alloc: Global, out: &mut Bytes, of: Reported<'_>) -> Resu
     put_map(alloc, out, map)
 }
 
-fn refused_notes(alloc: Global, refusal: &Refusal) -> Result<Value, NoMemory> {
+fn refused_notes(alloc: Global, page: &Page<'_, '_>, refusal: &Refusal) -> Result<Value, NoMemory> {
     let mut values = Vec::new(alloc);
-    let notes = refusal_notes(alloc, refusal)?;
+    let notes = refusal_notes(alloc, page, refusal)?;
     for note in notes.iter() {
         values.push(note_value(alloc, note.name.as_bytes(), note.text.as_slice())?)?;
     }
@@ -536,7 +536,7 @@ fn put_said_text(
 
 fn put_paragraph(alloc: Global, map: &mut Members, refusal: &Refusal) -> Result<(), NoMemory> {
     match (refusal.rule, refusal.paragraph) {
-        (Rule::LeftOut { .. }, _) | (_, None) => Ok(()),
+        (Rule::LeftOut(_), _) | (_, None) => Ok(()),
         (_, Some(paragraph)) => put_text(alloc, map, "clause", paragraph.as_bytes()),
     }
 }
@@ -550,7 +550,12 @@ pub fn put_refusal_json(
     refusal: &Refusal,
 ) -> Result<(), NoMemory> {
     let mut map = common(alloc, of)?;
-    put(&mut map, alloc, "notes", refused_notes(alloc, refusal)?)?;
+    put(
+        &mut map,
+        alloc,
+        "notes",
+        refused_notes(alloc, page, refusal)?,
+    )?;
     put(
         &mut map,
         alloc,

@@ -49,8 +49,9 @@ enum Marker {
     Passed,
 }
 
+// A blank, a digit, or a letter of the word `line`.
 fn is_before_name(byte: u8) -> bool {
-    byte == b' ' || byte == b'\t' || byte.is_ascii_digit() || byte.is_ascii_lowercase()
+    matches!(byte, b' ' | b'\t' | b'l' | b'i' | b'n' | b'e') || byte.is_ascii_digit()
 }
 
 // One byte more of the line.

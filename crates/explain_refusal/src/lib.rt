@@ -2,9 +2,9 @@
 #![tactic(auto)]
 
 mod lines;
-mod mended;
 mod program;
 mod refused;
+mod syntax;
 mod typing;
 
 pub use program::{Refused, program_of, tokens_of};

@@ -2,12 +2,12 @@
 ghost use Rattle.std.specs.Prelude.{◌≤◌, ◌^◌, length};
 
 use crate::lines::line_of;
-use crate::mended::{Mending, mended};
 use crate::program::Refused;
+use crate::syntax::unspelled;
 use crate::typing::not_typed;
-use c_lex::{Mark as Punct, TokenKind};
 use explain_page::{Mark, Page, Stretch, empty, put_excerpt, put_long_note, put_marks};
-use explain_words::{BIT_FIELD, LeftOut, WIDE, is_extension, kind_of, left_out};
+use explain_places::{definition_before, line_start};
+use parse_reason::{Part, kind_of, part_of_number};
 use std::alloc::Global;
 use ub_base::{Bytes, NoMemory};
 
@@ -30,11 +30,10 @@ pub struct Refusal {
 #[derive(Clone, Copy, Debug, PartialEq, Eq)]
 pub enum Rule {
     Unsaid,
-    /// It is left out of the profile, and the paragraph has it.
-    LeftOut {
-        name: &'static str,
-        paragraph: &'static str,
-    },
+    /// It belongs to this part of C, or to what compilers add, which the profile leaves out.
+    LeftOut(Part),
+    /// A macro isn't expanded. Its definition stands at this offset, on this line.
+    Macro { at: usize, line: u32 },
     /// A constraint.
     Constraint(&'static str),
     /// A paragraph that is no constraint.
@@ -52,36 +51,80 @@ const WITHOUT: &str = "Audit the rest without it, or count in integers.";
 
 const WITHOUT_IT: &str = "Audit the rest without it.";
 
-/// A refusal of what is left out of the profile.
-pub fn of_left_out(found: LeftOut, stretch: Stretch, does: &'static str) -> Refusal {
-    Refusal {
-        verdict: "outside the profile",
-        paragraph: Some(found.name),
-        quotes: true,
-        sentence: found.is,
-        stretch,
-        does,
-        rule: Rule::LeftOut {
-            name: found.name,
-            paragraph: found.paragraph,
-        },
-        hint: Some(if found.name == "floating types" {
-            WITHOUT
-        } else {
-            WITHOUT_IT
-        }),
+const UNSET: &str =
+    "With `-std=c11 -U__GNUC__` before the file, the preprocessor leaves out most of them.";
+
+fn hint_of(part: Part) -> &'static str {
+    match part {
+        Part::FloatingType | Part::FloatingConstant => WITHOUT,
+        Part::Word => UNSET,
+        _ => WITHOUT_IT,
     }
 }
 
-fn put_rule(out: &mut Bytes, rule: Rule) -> Result<(), NoMemory> {
+/// A refusal of what is left out of the profile.
+pub fn of_left_out(part: Part, stretch: Stretch, does: &'static str) -> Refusal {
+    Refusal {
+        verdict: "outside the profile",
+        paragraph: Some(part.name()),
+        quotes: true,
+        sentence: part.sentence(),
+        stretch,
+        does,
+        rule: Rule::LeftOut(part),
+        hint: Some(hint_of(part)),
+    }
+}
+
+/// A refusal of a name that stands for a macro, which isn't expanded.
+pub fn macro_refusal(
+    alloc: Global,
+    page: &Page<'_, '_>,
+    verdict: &'static str,
+    name: u32,
+) -> Result<Refusal, NoMemory> {
+    let stretch = token_stretch(page, name);
+    let rule = match definition_before(page.text, page.spelling(name), stretch.start) {
+        Some(at) => Rule::Macro {
+            at,
+            line: line_of(alloc, page.text, line_start(page.text, at))?,
+        },
+        None => Rule::Unsaid,
+    };
+    Ok(Refusal {
+        verdict,
+        paragraph: Some("6.10.3p9"),
+        quotes: true,
+        sentence: "is a macro, and the text isn't preprocessed",
+        stretch,
+        does: "here",
+        rule,
+        hint: Some(PREPROCESS),
+    })
+}
+
+fn put_left_out(out: &mut Bytes, part: Part) -> Result<(), NoMemory> {
+    if part.is_extension() {
+        out.append(b"C11 hasn't it, and lets compilers add to it (")?;
+    } else {
+        out.append(b"C has it (")?;
+    }
+    out.append(part.paragraph().as_bytes())?;
+    out.append(b"); this tool reads no ")?;
+    out.append(part.name().as_bytes())?;
+    out.append(b" (PROFILE.md, Left out). Nothing was run.")
+}
+
+fn put_rule(out: &mut Bytes, page: &Page<'_, '_>, rule: Rule) -> Result<(), NoMemory> {
     match rule {
         Rule::Unsaid => Ok(()),
-        Rule::LeftOut { name, paragraph } => {
-            out.append(b"C has it (")?;
-            out.append(paragraph.as_bytes())?;
-            out.append(b"); this tool reads no ")?;
-            out.append(name.as_bytes())?;
-            out.append(b" (PROFILE.md, Left out). Nothing was run.")
+        Rule::LeftOut(part) => put_left_out(out, part),
+        Rule::Macro { at, line } => {
+            out.append(b"#define at ")?;
+            page.put_place(out, at, line)?;
+            out.append(
+                b" defines it; its text takes its place before a program is read. Nothing was run.",
+            )
         }
         Rule::Broken(paragraph) => {
             out.append(paragraph.as_bytes())?;
@@ -95,11 +138,15 @@ fn put_rule(out: &mut Bytes, rule: Rule) -> Result<(), NoMemory> {
 }
 
 /// The notes of a refusal.
-pub fn refusal_notes(alloc: Global, refusal: &Refusal) -> Result<Vec<Saying>, NoMemory> {
+pub fn refusal_notes(
+    alloc: Global,
+    page: &Page<'_, '_>,
+    refusal: &Refusal,
+) -> Result<Vec<Saying>, NoMemory> {
     let mut notes = Vec::new(alloc);
     if refusal.rule != Rule::Unsaid {
         let mut text = empty(alloc);
-        put_rule(&mut text, refusal.rule)?;
+        put_rule(&mut text, page, refusal.rule)?;
         notes.push(Saying { name: "rule", text })?;
     }
     if let Some(hint) = refusal.hint {
@@ -160,7 +207,7 @@ pub fn put_refusal(
 ) -> Result<(), NoMemory> {
     put_line(out, page, refusal)?;
     put_carets(out, page, refusal)?;
-    let notes = refusal_notes(alloc, refusal)?;
+    let notes = refusal_notes(alloc, page, refusal)?;
     for note in notes.iter() {
         put_long_note(out, note.name.as_bytes(), note.text.as_slice())?;
     }
@@ -174,8 +221,8 @@ pub fn refusal_of(
     refused: Refused,
 ) -> Result<Option<Refusal>, NoMemory> {
     match refused {
-        Refused::Syntax(token) => Ok(Some(unspelled(alloc, page, token)?)),
-        Refused::NotTyped(token, reason) => Ok(Some(not_typed(page, token, reason))),
+        Refused::Syntax(token, reason) => Ok(Some(unspelled(alloc, page, token, reason)?)),
+        Refused::NotTyped(token, reason) => Ok(Some(not_typed(alloc, page, token, reason)?)),
         _ => Ok(None),
     }
 }
@@ -192,53 +239,6 @@ pub fn token_stretch(page: &Page<'_, '_>, token: u32) -> Stretch {
         operator_end: end,
         line: page.line(at),
     }
-}
-
-// Whether a colon there begins the width of a bit-field.
-fn is_width(page: &Page<'_, '_>, token: u32) -> bool {
-    page.tokens.kind(token) == Some(TokenKind::Punct(Punct::Colon))
-        && page.tokens.kind(token.saturating_add(1)) == Some(TokenKind::Number)
-}
-
-// What is left out at this token, or right before it.
-fn left_out_near(page: &Page<'_, '_>, token: u32) -> Option<(LeftOut, u32)> {
-    if let Some(found) = left_out(page.spelling(token)) {
-        return Some((found, token));
-    }
-    if is_width(page, token) {
-        return Some((BIT_FIELD, token));
-    }
-    for back in 1..4u32 {
-        let before = token.saturating_sub(back);
-        let word = page.spelling(before);
-        if is_extension(word)
-            && let Some(found) = left_out(word)
-        {
-            return Some((found, before));
-        }
-    }
-    None
-}
-
-// A token with which no program goes on.
-fn unspelled(alloc: Global, page: &Page<'_, '_>, token: u32) -> Result<Refusal, NoMemory> {
-    if let Some((found, at)) = left_out_near(page, token) {
-        return Ok(of_left_out(found, token_stretch(page, at), kind_of(page.spelling(at))));
-    }
-    let Mending {
-        paragraph,
-        sentence,
-    } = mended(alloc, page.tokens, token)?;
-    Ok(Refusal {
-        verdict: "syntax",
-        paragraph,
-        quotes: token < page.tokens.len(),
-        sentence,
-        stretch: token_stretch(page, token),
-        does: "here",
-        rule: Rule::Unsaid,
-        hint: None,
-    })
 }
 
 fn is_word_byte(byte: u8) -> bool {
@@ -292,7 +292,10 @@ fn stray(text: &[u8], stretch: Stretch) -> Refusal {
         );
     }
     if quote == b'"' || quote == b'\'' {
-        return of_left_out(WIDE, stretch, "here");
+        return of_left_out(Part::WideLiteral, stretch, "here");
+    }
+    if byte_at(text, stretch.start) == b'\\' {
+        return of_left_out(Part::UniversalName, stretch, "here");
     }
     piece(stretch, "begins no token of C", None)
 }
@@ -300,8 +303,8 @@ fn stray(text: &[u8], stretch: Stretch) -> Refusal {
 // A number that is no integer constant.
 fn bad_number(page: &Page<'_, '_>, stretch: Stretch) -> Refusal {
     let word = page.between(stretch.start, stretch.end);
-    match left_out(word) {
-        Some(found) => of_left_out(found, stretch, kind_of(word)),
+    match part_of_number(word) {
+        Some(part) => of_left_out(part, stretch, kind_of(word)),
         None => piece(stretch, "is no integer constant", None),
     }
 }

@@ -1,34 +1,101 @@
 // Programs that break a constraint, or leave the profile.
 
-use crate::refused::{Refusal, Rule, of_left_out, token_stretch};
+use crate::refused::{Refusal, Rule, macro_refusal, of_left_out, token_stretch};
 use c_lex::{Mark, TokenKind};
 use explain_page::{Page, Stretch};
-use explain_words::{LeftOut, VARIABLE_LENGTH, VARIADIC, kind_of, left_out};
+use explain_places::{definition_before, open_before};
+use parse_reason::{Part, part_of_word};
+use std::alloc::Global;
 use type_operators::Reason;
+use ub_base::NoMemory;
 
 fn is_mark(page: &Page<'_, '_>, at: u32, mark: Mark) -> bool {
     page.tokens.kind(at) == Some(TokenKind::Punct(mark))
 }
 
 // The first token from this one up to the end of its declaration that is left out.
-fn left_out_behind(page: &Page<'_, '_>, token: u32) -> Option<(LeftOut, u32)> {
+fn left_out_behind(page: &Page<'_, '_>, token: u32) -> Option<(Part, u32)> {
     for at in token..page.tokens.len() {
         if is_mark(page, at, Mark::Semicolon) || is_mark(page, at, Mark::OpenBrace) {
             return None;
         }
-        if let Some(found) = left_out(page.spelling(at)) {
-            return Some((found, at));
+        if let Some(part) = part_of_word(page.spelling(at)) {
+            return Some((part, at));
         }
     }
     None
 }
 
-// What is left out, by its reason alone.
-fn left_out_by(reason: Reason) -> Option<LeftOut> {
+// What is left out, by its reason alone, which says it in a sentence.
+fn left_out_by(reason: Reason) -> Option<Part> {
     match reason {
-        Reason::LeftOutVariadic => Some(VARIADIC),
-        Reason::LeftOutVariableLength => Some(VARIABLE_LENGTH),
+        Reason::ArrayOfValue => Some(Part::ArrayOfValue),
+        Reason::FunctionConversion => Some(Part::FunctionConversion),
+        Reason::PartGivenTwice => Some(Part::PartTwice),
+        Reason::LeftOutAddress => Some(Part::StaticAddress),
+        Reason::TypeTooLarge | Reason::TypeTooHigh | Reason::ListTooLong | Reason::Unlawful => {
+            Some(Part::LargeText)
+        }
         _ => None,
+    }
+}
+
+// What is left out, by its reason and the token at which it was met.
+fn left_out_at(page: &Page<'_, '_>, token: u32, reason: Reason) -> Option<Part> {
+    match reason {
+        Reason::LeftOutVariadic => Some(Part::VariadicDefinition),
+        Reason::LeftOutVariableLength if !is_outside(page, token) => Some(Part::VariableLength),
+        Reason::MemberType if is_flexible(page, token) => Some(Part::FlexibleMember),
+        Reason::CharacterConstant => character_left_out(page.spelling(token)),
+        Reason::UndeclaredName => part_of_word(page.spelling(token)),
+        _ => None,
+    }
+}
+
+// Whether the token stands in no braces and no parentheses: outside of each function and of each list of parameters.
+fn is_outside(page: &Page<'_, '_>, token: u32) -> bool {
+    let mut depth = 0u32;
+    for at in 0..token {
+        if is_mark(page, at, Mark::OpenBrace) || is_mark(page, at, Mark::OpenParen) {
+            depth = depth.saturating_add(1);
+        } else if is_mark(page, at, Mark::CloseBrace) || is_mark(page, at, Mark::CloseParen) {
+            depth = depth.saturating_sub(1);
+        }
+    }
+    depth == 0
+}
+
+// Whether an array without a length stands there, as the last of several members.
+fn is_flexible(page: &Page<'_, '_>, token: u32) -> bool {
+    let Some(open) = open_before(page.tokens, token) else {
+        return false;
+    };
+    is_mark(page, token.saturating_add(1), Mark::OpenBracket)
+        && is_mark(page, token.saturating_add(2), Mark::CloseBracket)
+        && is_mark(page, token.saturating_add(3), Mark::Semicolon)
+        && is_mark(page, token.saturating_add(4), Mark::CloseBrace)
+        && has_semicolon(page, open, token)
+}
+
+fn has_semicolon(page: &Page<'_, '_>, from: u32, to: u32) -> bool {
+    for at in from..to {
+        if is_mark(page, at, Mark::Semicolon) {
+            return true;
+        }
+    }
+    false
+}
+
+// What a character constant belongs to: the constant without its quotes has several characters, or a universal character name.
+fn character_left_out(constant: &[u8]) -> Option<Part> {
+    let is_escape = constant.iter().any(|byte| *byte == b'\\');
+    let is_universal = constant.starts_with(b"'\\u") || constant.starts_with(b"'\\U");
+    if is_universal {
+        Some(Part::UniversalName)
+    } else if !is_escape && constant.len() > 3 {
+        Some(Part::SeveralCharacters)
+    } else {
+        None
     }
 }
 
@@ -139,8 +206,8 @@ fn constraint(reason: Reason, quotes: bool, sentence: &'static str, stretch: Str
     }
 }
 
-// The header of the standard library that declares the name.
-fn header_of(name: &[u8]) -> Option<&'static str> {
+/// The header of the standard library that declares the name.
+pub fn header_of(name: &[u8]) -> Option<&'static str> {
     match name {
         b"printf" | b"puts" | b"putchar" | b"getchar" | b"scanf" | b"fprintf" => {
             Some("It is in <stdio.h>.")
@@ -172,10 +239,18 @@ fn undeclared(page: &Page<'_, '_>, token: u32) -> Refusal {
 
 const NO_MAIN: &str = "the text ends without a function main; did the preprocessor stop early?";
 
+const FILE_SCOPE: &str =
+    "the length of an array outside of all functions is no integer constant expression";
+
 fn said(page: &Page<'_, '_>, token: u32, reason: Reason) -> Refusal {
     let stretch = token_stretch(page, token);
     match reason {
         Reason::UndeclaredName => undeclared(page, token),
+        Reason::LeftOutVariableLength => Refusal {
+            paragraph: Some("6.7.6.2p2"),
+            rule: Rule::Constraint("6.7.6.2p2"),
+            ..constraint(reason, false, FILE_SCOPE, stretch)
+        },
         Reason::MainType if token.saturating_add(1) >= page.tokens.len() => {
             constraint(reason, false, NO_MAIN, stretch)
         }
@@ -192,15 +267,46 @@ fn said(page: &Page<'_, '_>, token: u32, reason: Reason) -> Refusal {
     }
 }
 
-/// What is said of a program that isn't typed at this token.
-pub fn not_typed(page: &Page<'_, '_>, token: u32, reason: Reason) -> Refusal {
-    if let Some(found) = left_out_by(reason) {
-        return of_left_out(found, token_stretch(page, token), "here");
+// Whether a name that isn't declared stands for a macro.
+fn is_macro(page: &Page<'_, '_>, token: u32, reason: Reason) -> bool {
+    let name = page.spelling(token);
+    reason == Reason::UndeclaredName
+        && definition_before(page.text, name, page.start(token)).is_some()
+}
+
+// A refusal that a left out part of C explains.
+fn not_typed_by_part(page: &Page<'_, '_>, token: u32, reason: Reason) -> Option<Refusal> {
+    let stretch = token_stretch(page, token);
+    if let Some(part) = left_out_at(page, token, reason) {
+        return Some(of_left_out(part, stretch, "here"));
+    }
+    if let Some(part) = left_out_by(reason) {
+        return Some(Refusal {
+            quotes: false,
+            sentence: reason.sentence(),
+            ..of_left_out(part, stretch, "here")
+        });
     }
     if is_left_out(reason)
-        && let Some((found, at)) = left_out_behind(page, token)
+        && let Some((part, at)) = left_out_behind(page, token)
     {
-        return of_left_out(found, token_stretch(page, at), kind_of(page.spelling(at)));
+        return Some(of_left_out(part, token_stretch(page, at), "here"));
     }
-    said(page, token, reason)
+    None
+}
+
+/// What is said of a program that isn't typed at this token.
+pub fn not_typed(
+    alloc: Global,
+    page: &Page<'_, '_>,
+    token: u32,
+    reason: Reason,
+) -> Result<Refusal, NoMemory> {
+    if is_macro(page, token, reason) {
+        return macro_refusal(alloc, page, "not typed", token);
+    }
+    match not_typed_by_part(page, token, reason) {
+        Some(refusal) => Ok(refusal),
+        None => Ok(said(page, token, reason)),
+    }
 }

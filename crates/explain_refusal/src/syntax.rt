@@ -1,0 +1,125 @@
+// Tokens with which no program goes on.
+
+use crate::refused::{Refusal, Rule, macro_refusal, of_left_out, token_stretch};
+use crate::typing::header_of;
+use explain_page::{Page, Stretch};
+use parse_reason::{Missing, Reason};
+use std::alloc::Global;
+use ub_base::NoMemory;
+
+// A refusal of what stands in this stretch.
+fn syntax(paragraph: Option<&'static str>, sentence: &'static str, stretch: Stretch) -> Refusal {
+    Refusal {
+        verdict: "syntax",
+        paragraph,
+        quotes: true,
+        sentence,
+        stretch,
+        does: "here",
+        rule: Rule::Unsaid,
+        hint: None,
+    }
+}
+
+fn missing_sentence(missing: Missing) -> &'static str {
+    match missing {
+        Missing::Semicolon => "can't stand here; with `;` before it the text goes on",
+        Missing::Comma => "can't stand here; with `,` before it the text goes on",
+        Missing::CloseParen => "can't stand here; with `)` before it the text goes on",
+        Missing::CloseBracket => "can't stand here; with `]` before it the text goes on",
+        Missing::CloseBrace => "can't stand here; with `}` before it the text goes on",
+    }
+}
+
+fn missing_paragraph(missing: Missing) -> Option<&'static str> {
+    match missing {
+        Missing::Semicolon => Some("6.8.3p1"),
+        _ => None,
+    }
+}
+
+// The end, which comes too soon.
+fn ended(sentence: &'static str, stretch: Stretch) -> Refusal {
+    Refusal {
+        quotes: false,
+        ..syntax(None, sentence, stretch)
+    }
+}
+
+// A token before which another one is missing.
+fn missing(page: &Page<'_, '_>, token: u32, missing: Missing) -> Refusal {
+    let stretch = token_stretch(page, token);
+    if token >= page.tokens.len() {
+        return ended(
+            "the text ends too soon; with `;` behind it it goes on",
+            stretch,
+        );
+    }
+    syntax(
+        missing_paragraph(missing),
+        missing_sentence(missing),
+        stretch,
+    )
+}
+
+// A name that isn't known as a type.
+fn no_type(page: &Page<'_, '_>, name: u32) -> Refusal {
+    Refusal {
+        hint: header_of(page.spelling(name)),
+        ..syntax(
+            Some("6.7.2p1"),
+            "is no name of a type: nothing declares it as one",
+            token_stretch(page, name),
+        )
+    }
+}
+
+// A declaration without a type.
+fn untyped(page: &Page<'_, '_>, name: u32) -> Refusal {
+    Refusal {
+        hint: Some("C11 puts no int where a type is left out: write it."),
+        ..syntax(
+            Some("6.7.2p2"),
+            "can't begin a declaration: a type stands before it",
+            token_stretch(page, name),
+        )
+    }
+}
+
+const NO_INITIALIZER: &str = "can't stand here: an initializer list has an initializer at least";
+
+const NO_MEMBER: &str = "can't stand here: a structure or union has a member at least";
+
+const NO_ENUMERATOR: &str = "can't stand here: an enumeration has a constant at least";
+
+/// What is said of a token with which no program goes on.
+pub fn unspelled(
+    alloc: Global,
+    page: &Page<'_, '_>,
+    token: u32,
+    reason: Reason,
+) -> Result<Refusal, NoMemory> {
+    let stretch = token_stretch(page, token);
+    Ok(match reason {
+        Reason::LeftOut(part, at) => of_left_out(part, token_stretch(page, at), "here"),
+        Reason::Unexpanded(name) => return macro_refusal(alloc, page, "syntax", name),
+        Reason::Missing(found) => missing(page, token, found),
+        Reason::NoType(name) => no_type(page, name),
+        Reason::Untyped(name) => untyped(page, name),
+        Reason::EmptyInitializer => syntax(Some("6.7.9p1"), NO_INITIALIZER, stretch),
+        Reason::EmptyMembers => syntax(Some("6.7.2.1p1"), NO_MEMBER, stretch),
+        Reason::EmptyEnumerators => syntax(Some("6.7.2.2p1"), NO_ENUMERATOR, stretch),
+        Reason::ElseAlone => syntax(
+            Some("6.8.4p1"),
+            "can't stand here: no if waits for it",
+            stretch,
+        ),
+        Reason::Unclosed(open) => syntax(
+            None,
+            "is never closed: the text ends before",
+            token_stretch(page, open),
+        ),
+        Reason::Ended => ended("the text ends too soon", stretch),
+        Reason::Unexpected => syntax(None, "can't stand here", stretch),
+    })
+}
