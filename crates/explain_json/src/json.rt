@@ -69,16 +69,11 @@ fn put_count(alloc: Global, map: &mut Members, name: &str, count: u64) -> Result
 }
 
 // A file, a line and a column.
-fn place_value(
-    alloc: Global,
-    page: &Page<'_, '_>,
-    at: usize,
-    line: u32,
-) -> Result<Value, NoMemory> {
+fn place_value(alloc: Global, file: &[u8], line: u32, column: usize) -> Result<Value, NoMemory> {
     let mut items = Vec::new(alloc);
-    items.push(text_value(alloc, page.file_at(at))?)?;
+    items.push(text_value(alloc, file)?)?;
     items.push(Value::from(line))?;
-    items.push(Value::from(page.column(at)))?;
+    items.push(Value::from(column))?;
     Ok(Value::Array(items))
 }
 
@@ -90,8 +85,21 @@ fn put_place(
     place: (usize, u32),
 ) -> Result<(), NoMemory> {
     let (at, line) = place;
-    let value = place_value(alloc, page, at, line)?;
+    let value = place_value(alloc, page.file_at(at), line, page.column(at, line))?;
     put(map, alloc, name, value)?;
+    Ok(())
+}
+
+// Where a stretch ends, one behind its last byte.
+fn put_end(
+    alloc: Global,
+    map: &mut Members,
+    page: &Page<'_, '_>,
+    end: usize,
+    line: u32,
+) -> Result<(), NoMemory> {
+    let value = place_value(alloc, page.file_at(end), line, page.end_column(end, line))?;
+    put(map, alloc, "end", value)?;
     Ok(())
 }
 
@@ -156,7 +164,7 @@ fn stretch_members(
 ) -> Result<Members, NoMemory> {
     let mut map = Map::new(alloc);
     put_place(alloc, &mut map, "at", page, (stretch.start, stretch.line))?;
-    put_place(alloc, &mut map, "end", page, (stretch.end, stretch.line))?;
+    put_end(alloc, &mut map, page, stretch.end, stretch.line)?;
     put_text(alloc, &mut map, "does", does)?;
     Ok(map)
 }
@@ -177,7 +185,7 @@ fn put_operator(
         token_place(page, act.extent.operator),
     )?;
     let line = page.line(act.extent.last);
-    put_place(alloc, map, "end", page, (page.end(act.extent.last), line))
+    put_end(alloc, map, page, page.end(act.extent.last), line)
 }
 
 fn put_event(

@@ -1,7 +1,6 @@
 //! The program of a text with tokens in place of lines, or why there is none, in words.
 #![tactic(auto)]
 
-mod lines;
 mod program;
 mod refused;
 mod syntax;

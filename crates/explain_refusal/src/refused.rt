@@ -1,12 +1,11 @@
 // Texts that aren't run.
 ghost use Rattle.std.specs.Prelude.{◌≤◌, ◌^◌, length};
 
-use crate::lines::line_of;
 use crate::program::Refused;
 use crate::syntax::unspelled;
 use crate::typing::not_typed;
 use explain_page::{Mark, Page, Stretch, empty, put_excerpt, put_long_note, put_marks};
-use explain_places::{definition_before, line_start};
+use explain_places::{definition_before, line_number};
 use parse_reason::{Part, kind_of, part_of_number};
 use std::alloc::Global;
 use ub_base::{Bytes, NoMemory};
@@ -77,21 +76,16 @@ pub fn of_left_out(part: Part, stretch: Stretch, does: &'static str) -> Refusal 
 }
 
 /// A refusal of a name that stands for a macro, which isn't expanded.
-pub fn macro_refusal(
-    alloc: Global,
-    page: &Page<'_, '_>,
-    verdict: &'static str,
-    name: u32,
-) -> Result<Refusal, NoMemory> {
+pub fn macro_refusal(page: &Page<'_, '_>, verdict: &'static str, name: u32) -> Refusal {
     let stretch = token_stretch(page, name);
     let rule = match definition_before(page.text, page.spelling(name), stretch.start) {
         Some(at) => Rule::Macro {
             at,
-            line: line_of(alloc, page.text, line_start(page.text, at))?,
+            line: line_number(page.text, at),
         },
         None => Rule::Unsaid,
     };
-    Ok(Refusal {
+    Refusal {
         verdict,
         paragraph: Some("6.10.3p9"),
         quotes: true,
@@ -100,7 +94,7 @@ pub fn macro_refusal(
         does: "here",
         rule,
         hint: Some(PREPROCESS),
-    })
+    }
 }
 
 fn put_left_out(out: &mut Bytes, part: Part) -> Result<(), NoMemory> {
@@ -215,15 +209,11 @@ pub fn put_refusal(
 }
 
 /// What is said of tokens that aren't a program; none where the text as a whole is too deep.
-pub fn refusal_of(
-    alloc: Global,
-    page: &Page<'_, '_>,
-    refused: Refused,
-) -> Result<Option<Refusal>, NoMemory> {
+pub fn refusal_of(page: &Page<'_, '_>, refused: Refused) -> Option<Refusal> {
     match refused {
-        Refused::Syntax(token, reason) => Ok(Some(unspelled(alloc, page, token, reason)?)),
-        Refused::NotTyped(token, reason) => Ok(Some(not_typed(alloc, page, token, reason)?)),
-        _ => Ok(None),
+        Refused::Syntax(token, reason) => Some(unspelled(page, token, reason)),
+        Refused::NotTyped(token, reason) => Some(not_typed(page, token, reason)),
+        _ => None,
     }
 }
 
@@ -310,14 +300,10 @@ fn bad_number(page: &Page<'_, '_>, stretch: Stretch) -> Refusal {
 }
 
 /// What is said of a text that has no tokens; none where the reason is another one.
-pub fn unlexed(
-    alloc: Global,
-    page: &Page<'_, '_>,
-    refused: Refused,
-) -> Result<Option<Refusal>, NoMemory> {
+pub fn unlexed(page: &Page<'_, '_>, refused: Refused) -> Option<Refusal> {
     let at = match refused {
         Refused::Stray(at) | Refused::OpenLiteral(at) | Refused::BadNumber(at) => at as usize,
-        _ => return Ok(None),
+        _ => return None,
     };
     let end = word_end(page.text, at);
     let stretch = Stretch {
@@ -325,11 +311,11 @@ pub fn unlexed(
         end,
         operator: at,
         operator_end: end,
-        line: line_of(alloc, page.text, at)?,
+        line: line_number(page.text, at),
     };
-    Ok(Some(match refused {
+    Some(match refused {
         Refused::Stray(_) => stray(page.text, stretch),
         Refused::BadNumber(_) => bad_number(page, stretch),
         _ => piece(stretch, "begins what is never closed", None),
-    }))
+    })
 }

@@ -1,11 +1,9 @@
 // Tokens with which no program goes on.
 
 use crate::refused::{Refusal, Rule, macro_refusal, of_left_out, token_stretch};
-use crate::typing::header_of;
 use explain_page::{Page, Stretch};
+use explain_words::header_of;
 use parse_reason::{Missing, Reason};
-use std::alloc::Global;
-use ub_base::NoMemory;
 
 // A refusal of what stands in this stretch.
 fn syntax(paragraph: Option<&'static str>, sentence: &'static str, stretch: Stretch) -> Refusal {
@@ -93,16 +91,11 @@ const NO_MEMBER: &str = "can't stand here: a structure or union has a member at 
 const NO_ENUMERATOR: &str = "can't stand here: an enumeration has a constant at least";
 
 /// What is said of a token with which no program goes on.
-pub fn unspelled(
-    alloc: Global,
-    page: &Page<'_, '_>,
-    token: u32,
-    reason: Reason,
-) -> Result<Refusal, NoMemory> {
+pub fn unspelled(page: &Page<'_, '_>, token: u32, reason: Reason) -> Refusal {
     let stretch = token_stretch(page, token);
-    Ok(match reason {
+    match reason {
         Reason::LeftOut(part, at) => of_left_out(part, token_stretch(page, at), "here"),
-        Reason::Unexpanded(name) => return macro_refusal(alloc, page, "syntax", name),
+        Reason::Unexpanded(name) => macro_refusal(page, "syntax", name),
         Reason::Missing(found) => missing(page, token, found),
         Reason::NoType(name) => no_type(page, name),
         Reason::Untyped(name) => untyped(page, name),
@@ -121,5 +114,5 @@ pub fn unspelled(
         ),
         Reason::Ended => ended("the text ends too soon", stretch),
         Reason::Unexpected => syntax(None, "can't stand here", stretch),
-    })
+    }
 }

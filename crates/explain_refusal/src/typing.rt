@@ -4,10 +4,9 @@ use crate::refused::{Refusal, Rule, macro_refusal, of_left_out, token_stretch};
 use c_lex::{Mark, TokenKind};
 use explain_page::{Page, Stretch};
 use explain_places::{definition_before, open_before};
+use explain_words::header_of;
 use parse_reason::{Part, part_of_word};
-use std::alloc::Global;
 use type_operators::Reason;
-use ub_base::NoMemory;
 
 fn is_mark(page: &Page<'_, '_>, at: u32, mark: Mark) -> bool {
     page.tokens.kind(at) == Some(TokenKind::Punct(mark))
@@ -206,21 +205,6 @@ fn constraint(reason: Reason, quotes: bool, sentence: &'static str, stretch: Str
     }
 }
 
-/// The header of the standard library that declares the name.
-pub fn header_of(name: &[u8]) -> Option<&'static str> {
-    match name {
-        b"printf" | b"puts" | b"putchar" | b"getchar" | b"scanf" | b"fprintf" => {
-            Some("It is in <stdio.h>.")
-        }
-        b"malloc" | b"free" | b"calloc" | b"realloc" | b"exit" | b"abort" | b"qsort" => {
-            Some("It is in <stdlib.h>.")
-        }
-        b"memcpy" | b"memset" | b"strlen" | b"strcpy" | b"strcmp" => Some("It is in <string.h>."),
-        b"NULL" => Some("It is in <stddef.h>."),
-        _ => None,
-    }
-}
-
 fn undeclared(page: &Page<'_, '_>, token: u32) -> Refusal {
     let stretch = token_stretch(page, token);
     if page.tokens.kind(token) != Some(TokenKind::Name) {
@@ -296,17 +280,12 @@ fn not_typed_by_part(page: &Page<'_, '_>, token: u32, reason: Reason) -> Option<
 }
 
 /// What is said of a program that isn't typed at this token.
-pub fn not_typed(
-    alloc: Global,
-    page: &Page<'_, '_>,
-    token: u32,
-    reason: Reason,
-) -> Result<Refusal, NoMemory> {
+pub fn not_typed(page: &Page<'_, '_>, token: u32, reason: Reason) -> Refusal {
     if is_macro(page, token, reason) {
-        return macro_refusal(alloc, page, "not typed", token);
+        return macro_refusal(page, "not typed", token);
     }
     match not_typed_by_part(page, token, reason) {
-        Some(refusal) => Ok(refusal),
-        None => Ok(said(page, token, reason)),
+        Some(refusal) => refusal,
+        None => said(page, token, reason),
     }
 }

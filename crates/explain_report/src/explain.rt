@@ -253,8 +253,9 @@ fn put_unlexed(
                 file: request.asked.file,
                 tokens: &tokens,
                 tags: &[],
+                written: request.asked.written,
             };
-            let refusal = unlexed(alloc, &page, refused)?;
+            let refusal = unlexed(&page, refused);
             put_refused(alloc, out, request, &page, refusal)
         }
         Err(_) => Err(NoMemory),
@@ -278,12 +279,13 @@ fn put_explanation(alloc: Global, out: &mut Bytes, request: &Request<'_>) -> Res
         file: asked.file,
         tokens: &tokens,
         tags: tags.as_slice(),
+        written: asked.written,
     };
     let program = match program_of(alloc, &tokens) {
         Ok(program) => program,
         Err(Refused::NoMemory) => return Err(NoMemory),
         Err(refused) => {
-            let refusal = refusal_of(alloc, &page, refused)?;
+            let refusal = refusal_of(&page, refused);
             return put_refused(alloc, out, request, &page, refusal);
         }
     };
