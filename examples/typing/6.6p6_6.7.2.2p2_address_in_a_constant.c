@@ -1,0 +1,1 @@
+int x;enum{A=(int)(long)&x};int main(void){return 0;}

@@ -1,1 +1,0 @@
-enum{A=(int)(long)&main};int main(void){return 0;}
