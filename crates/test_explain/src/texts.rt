@@ -2,7 +2,7 @@
 ghost use Rattle.std.specs.Prelude.{◌≡◌};
 
 use addr_map::Mode;
-use explain_report::{Asked, explanation, explanation_json};
+use explain_report::{Asked, Written, explanation, explanation_json};
 use std::alloc::Global;
 use std::process::Abort;
 use std::test::Fail;
@@ -45,7 +45,7 @@ const FINDINGS: [(&str, &str); 8] = [
 ];
 
 // Texts that aren't run, and why.
-const REFUSALS: [(&str, &str); 8] = [
+const REFUSALS: [(&str, &str); 16] = [
     (
         "# 1 \"half.c\"\n# 1 \"stdio.h\" 1\nint printf(const char *, ...);\n# 2 \"half.c\" 2\nstatic int half(int n)\n{\n    return n * 0.5;\n}\nint main(void)\n{\n    printf(\"%d\\n\", half(8));\n    return 0;\n}\n",
         "half.c:4:16: outside the profile (floating types): 0.5 is a floating constant\n    4 |     return n * 0.5;\n      |                ^^^  1 a double\n  rule    C has it (6.4.4.2); this tool reads no floating types (PROFILE.md, Left out). Nothing was run.\n  hint    Audit the rest without it, or count in integers.\n",
@@ -78,6 +78,58 @@ const REFUSALS: [(&str, &str); 8] = [
         "# 1 \"u.c\"\nint main(void) { return puts(\"x\"); }\n",
         "u.c:1:25: not typed (6.5.1p2): puts isn't declared\n    1 | int main(void) { return puts(\"x\"); }\n      |                         ^^^^  1 here\n  rule    6.5.1p2, a constraint: every compiler has to say so. Nothing was run.\n  hint    It is in <stdio.h>.\n",
     ),
+    (
+        "# 1 \"c.c\"\nint main(void) { return (int[]){1}[0]; }\n",
+        "c.c:1:32: outside the profile (compound literals): { begins the list of a compound literal\n    1 | int main(void) { return (int[]){1}[0]; }\n      |                                ^  1 here\n  rule    C has it (6.5.2.5); this tool reads no compound literals (PROFILE.md, Left out). Nothing was run.\n  hint    Audit the rest without it.\n",
+    ),
+    (
+        "# 1 \"a.c\"\nint main(void) { asm volatile (\"\"); return 0; }\n",
+        "a.c:1:18: outside the profile (extensions of compilers): asm is an extension of some compilers\n    1 | int main(void) { asm volatile (\"\"); return 0; }\n      |                  ^^^  1 here\n  rule    C11 hasn't it, and lets compilers add to it (4p6); this tool reads no extensions of compilers (PROFILE.md,\n          Left out). Nothing was run.\n  hint    With `-std=c11 -U__GNUC__` before the file, the preprocessor leaves out most of them.\n",
+    ),
+    (
+        "# 1 \"m.c\"\nmain(void) { return 0; }\n",
+        "m.c:1:1: syntax (6.7.2p2): main can't begin a declaration: a type stands before it\n    1 | main(void) { return 0; }\n      | ^^^^  1 here\n  hint    C11 puts no int where a type is left out: write it.\n",
+    ),
+    (
+        "# 1 \"n.c\"\nint main(void) { uint32_t n = 0; return n; }\n",
+        "n.c:1:18: syntax (6.7.2p1): uint32_t is no name of a type: nothing declares it as one\n    1 | int main(void) { uint32_t n = 0; return n; }\n      |                  ^^^^^^^^  1 here\n  hint    It is in <stdint.h>.\n",
+    ),
+    (
+        "# 1 \"o.c\"\nint main(void) { return 0;\n",
+        "o.c:1:16: syntax: { is never closed: the text ends before\n    1 | int main(void) { return 0;\n      |                ^  1 here\n",
+    ),
+    (
+        "# 1 \"d.c\"\n#define BEGIN {\n#define N 3\nint main(void) BEGIN return 0; }\n",
+        "d.c:3:16: syntax (6.10.3p9): BEGIN is a macro, and the text isn't preprocessed\n    3 | int main(void) BEGIN return 0; }\n      |                ^^^^^  1 here\n  rule    #define at d.c:1:9 defines it; its text takes its place before a program is read. Nothing was run.\n  hint    `cc -E -nostdinc -I headers FILE | cub explain -`\n",
+    ),
+    (
+        "# 1 \"e.c\"\n#define N 3\nint main(void) { return N; }\n",
+        "e.c:2:25: not typed (6.10.3p9): N is a macro, and the text isn't preprocessed\n    2 | int main(void) { return N; }\n      |                         ^  1 here\n  rule    #define at e.c:1:9 defines it; its text takes its place before a program is read. Nothing was run.\n  hint    `cc -E -nostdinc -I headers FILE | cub explain -`\n",
+    ),
+    (
+        "# 1 \"f.c\"\nstruct s { int n; char text[]; };\nint main(void) { return 0; }\n",
+        "f.c:1:24: outside the profile (flexible array members): text is a flexible array member\n    1 | struct s { int n; char text[]; };\n      |                        ^^^^  1 here\n  rule    C has it (6.7.2.1p18); this tool reads no flexible array members (PROFILE.md, Left out). Nothing was run.\n  hint    Audit the rest without it.\n",
+    ),
+];
+
+// Texts that were made of files, the files, and what is said of the texts: tabs that one blank stands for, a macro's text in place
+// of the macro, and a file that has other lines.
+const MADE: [(&str, &str, &str); 3] = [
+    (
+        "# 1 \"made.c\"\nint main(void)\n{\n int i = 1;\n i = i++;\n return i;\n}\n",
+        "int main(void)\n{\n\t\tint i = 1;\n\t\ti  = i++; // again\n\t\treturn i;\n}\n",
+        "made.c:4:3: undefined (6.5p2): i is written twice, in no order\n    4 |                 i  = i++; // again\n      |                 ~~~^~~~~  1 writes i: the store of =\n      |                      ~^^  2 writes i: the store of ++\n  object  i: int, 4 bytes, automatic in main, declared at made.c:3:7\n  order   The store of ++ isn't part of its value (6.5.2.4p2), so the store of = doesn't wait for it (6.5.16p3).\n  rule    6.5p2: two unsequenced side effects on one scalar object are undefined.\n  hint    Write i once in the expression: `i++;` or `i = i + 1;`.\n",
+    ),
+    (
+        "# 1 \"made.c\"\n# 1 \"scale.h\" 1\n#define MUL(a,b) ((a) * (b) >> 16)\n# 2 \"made.c\" 2\nint main(void)\n{\n    int a = 196608, b = 262144;\n    int c = ((a) * (b) >> 16);\n    return c;\n}\n",
+        "#include \"scale.h\"\nint main(void)\n{\n    int a = 196608, b = 262144;\n    int c = MUL(a, b);\n    return c;\n}\n",
+        "made.c:5:13: undefined (6.5p5): 196608 * 262144 isn't in int\n    5 |     int c = MUL(a, b);\n      |             ~~~~~~~~~  expands, by scale.h:1:9, to\n      |             ((a) * (b) >> 16)\n      |              ~~~~^~~~~  1 int * int\n  value   a is 196608, b is 262144; the product is 51539607552, and int ends at 2147483647\n  rule    6.5p5: a result outside the range of its type is undefined. Only unsigned types wrap.\n  hint    Widen an operand first: `(long)a * b`.\n",
+    ),
+    (
+        "# 1 \"made.c\"\nint main(void) { return puts(\"x\"); }\n",
+        "",
+        "made.c:1:25: not typed (6.5.1p2): puts isn't declared\n    1 | int main(void) { return puts(\"x\"); }\n      |                         ^^^^  1 here\n  rule    6.5.1p2, a constraint: every compiler has to say so. Nothing was run.\n  hint    It is in <stdio.h>.\n",
+    ),
 ];
 
 const RACE_REPORT: &str =
@@ -103,6 +155,7 @@ fn asked<'a>(text: &'a str, args: &'a [String], report: &'a str, status: u8) -> 
     Asked {
         text: text.as_bytes(),
         file: b"-",
+        written: &[],
         input: b"",
         args,
         mode: Mode::Spaced,
@@ -145,6 +198,36 @@ fn findings_are_explained(rt: HostRuntime) -> Result<(), Fail> {
 fn refusals_are_explained(rt: HostRuntime) -> Result<(), Fail> {
     for (text, expected) in REFUSALS {
         let found = words(&rt, rt.alloc(), text)?;
+        assert_eq!(rt; found.as_slice(), expected.as_bytes(), "{expected}");
+    }
+    Ok(())
+}
+
+// The explanation of a text that was made of the file of this name and text.
+fn words_of_made(
+    rt: &impl Abort,
+    alloc: Global,
+    text: &str,
+    file: &str,
+) -> Result<Bytes, NoMemory> {
+    assert!(rt; text.len() <= 1_048_576);
+    let mut written = Vec::new(alloc);
+    written.push(Written {
+        name: Bytes::from_slice(alloc, b"made.c")?,
+        text: Bytes::from_slice(alloc, file.as_bytes())?,
+    })?;
+    let args = Vec::new(alloc);
+    let request = Asked {
+        written: written.as_slice(),
+        ..asked(text, args.as_slice(), "", 1)
+    };
+    explanation(alloc, &request)
+}
+
+#[test]
+fn lines_are_shown_as_they_were_written(rt: HostRuntime) -> Result<(), Fail> {
+    for (text, file, expected) in MADE {
+        let found = words_of_made(&rt, rt.alloc(), text, file)?;
         assert_eq!(rt; found.as_slice(), expected.as_bytes(), "{expected}");
     }
     Ok(())
