@@ -9,7 +9,7 @@ use explain_facts::{CallSite, Touch, Verdict};
 use explain_notes::{Marked, marks_of, notes_of, put_head, shown_first, told_at};
 use explain_page::{Page, Stretch, empty, put_number, put_type};
 use explain_places::{declaration_of, function_of, token_of};
-use explain_refusal::{Refusal, Rule, put_said, refusal_notes};
+use explain_refusal::{Refusal, Rule, does_of, put_said, refusal_notes};
 use serde_json::{Map, Value, put};
 use std::alloc::Global;
 use ub_base::{Bytes, Frame, Item, NoMemory, ObjName};
@@ -522,8 +522,11 @@ fn refused_notes(alloc: Global, page: &Page<'_, '_>, refusal: &Refusal) -> Resul
 }
 
 fn refusal_marks(alloc: Global, page: &Page<'_, '_>, refusal: &Refusal) -> Result<Value, NoMemory> {
-    let mut mark = stretch_members(alloc, page, &refusal.stretch, refusal.does.as_bytes())?;
-    if let Some(ty) = refusal.does.strip_prefix("a ") {
+    let does = does_of(alloc, page, refusal)?;
+    let mut mark = stretch_members(alloc, page, &refusal.stretch, does.as_slice())?;
+    if refusal.constant.is_some() {
+        put_text(alloc, &mut mark, "type", does.as_slice())?;
+    } else if let Some(ty) = refusal.does.strip_prefix("a ") {
         put_text(alloc, &mut mark, "type", ty.as_bytes())?;
     }
     let mut marks = Vec::new(alloc);

@@ -1,6 +1,7 @@
 // Texts that aren't run.
 ghost use Rattle.std.specs.Prelude.{◌≤◌, ◌^◌, length};
 
+use crate::constant::{Constant, put_constant_hint, put_constant_object, put_constant_type};
 use crate::program::Refused;
 use crate::syntax::unspelled;
 use crate::typing::not_typed;
@@ -23,6 +24,8 @@ pub struct Refusal {
     pub does: &'static str,
     pub rule: Rule,
     pub hint: Option<&'static str>,
+    /// What is const of an operand that is assigned to.
+    pub constant: Option<Constant>,
 }
 
 /// The rule of a refusal.
@@ -72,6 +75,7 @@ pub fn of_left_out(part: Part, stretch: Stretch, does: &'static str) -> Refusal 
         does,
         rule: Rule::LeftOut(part),
         hint: Some(hint_of(part)),
+        constant: None,
     }
 }
 
@@ -94,6 +98,7 @@ pub fn macro_refusal(page: &Page<'_, '_>, verdict: &'static str, name: u32) -> R
         does: "here",
         rule,
         hint: Some(PREPROCESS),
+        constant: None,
     }
 }
 
@@ -131,6 +136,36 @@ fn put_rule(out: &mut Bytes, page: &Page<'_, '_>, rule: Rule) -> Result<(), NoMe
     }
 }
 
+// Adds what only the tokens of a const operand tell.
+fn add_constant(
+    alloc: Global,
+    notes: &mut Vec<Saying>,
+    page: &Page<'_, '_>,
+    constant: Constant,
+) -> Result<(), NoMemory> {
+    let mut object = empty(alloc);
+    put_constant_object(&mut object, page, constant)?;
+    notes.push(Saying {
+        name: "object",
+        text: object,
+    })?;
+    let rule = Bytes::from_slice(alloc, ASSIGNED)?;
+    notes.push(Saying {
+        name: "rule",
+        text: rule,
+    })?;
+    let mut hint = empty(alloc);
+    put_constant_hint(&mut hint, page, constant)?;
+    notes.push(Saying {
+        name: "hint",
+        text: hint,
+    })?;
+    Ok(())
+}
+
+const ASSIGNED: &[u8] =
+    b"6.5.16p2, a constraint: only a modifiable lvalue is assigned to. Every compiler has to say so. Nothing was run.";
+
 /// The notes of a refusal.
 pub fn refusal_notes(
     alloc: Global,
@@ -138,6 +173,10 @@ pub fn refusal_notes(
     refusal: &Refusal,
 ) -> Result<Vec<Saying>, NoMemory> {
     let mut notes = Vec::new(alloc);
+    if let Some(constant) = refusal.constant {
+        add_constant(alloc, &mut notes, page, constant)?;
+        return Ok(notes);
+    }
     if refusal.rule != Rule::Unsaid {
         let mut text = empty(alloc);
         put_rule(&mut text, page, refusal.rule)?;
@@ -183,11 +222,27 @@ fn put_line(out: &mut Bytes, page: &Page<'_, '_>, refusal: &Refusal) -> Result<(
     out.push(b'\n')
 }
 
-fn put_carets(out: &mut Bytes, page: &Page<'_, '_>, refusal: &Refusal) -> Result<(), NoMemory> {
+/// What the mark of a refusal says.
+pub fn does_of(alloc: Global, page: &Page<'_, '_>, refusal: &Refusal) -> Result<Bytes, NoMemory> {
+    let Some(constant) = refusal.constant else {
+        return Bytes::from_slice(alloc, refusal.does.as_bytes());
+    };
+    let mut does = empty(alloc);
+    put_constant_type(&mut does, page, constant)?;
+    Ok(does)
+}
+
+fn put_carets(
+    alloc: Global,
+    out: &mut Bytes,
+    page: &Page<'_, '_>,
+    refusal: &Refusal,
+) -> Result<(), NoMemory> {
+    let does = does_of(alloc, page, refusal)?;
     let mark = Mark {
         stretch: refusal.stretch,
         number: 1,
-        does: refusal.does.as_bytes(),
+        does: does.as_slice(),
     };
     put_marks(out, page, &mark, None)
 }
@@ -200,7 +255,7 @@ pub fn put_refusal(
     refusal: &Refusal,
 ) -> Result<(), NoMemory> {
     put_line(out, page, refusal)?;
-    put_carets(out, page, refusal)?;
+    put_carets(alloc, out, page, refusal)?;
     let notes = refusal_notes(alloc, page, refusal)?;
     for note in notes.iter() {
         put_long_note(out, note.name.as_bytes(), note.text.as_slice())?;
@@ -266,6 +321,7 @@ fn piece(stretch: Stretch, sentence: &'static str, hint: Option<&'static str>) -
         does: "here",
         rule: Rule::Unsaid,
         hint,
+        constant: None,
     }
 }
 

@@ -16,6 +16,7 @@ fn syntax(paragraph: Option<&'static str>, sentence: &'static str, stretch: Stre
         does: "here",
         rule: Rule::Unsaid,
         hint: None,
+        constant: None,
     }
 }
 

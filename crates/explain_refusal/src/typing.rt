@@ -1,5 +1,6 @@
 // Programs that break a constraint, or leave the profile.
 
+use crate::constant::not_modifiable;
 use crate::refused::{Refusal, Rule, macro_refusal, of_left_out, token_stretch};
 use c_lex::{Mark, TokenKind};
 use explain_page::{Page, Stretch};
@@ -124,21 +125,14 @@ fn is_assigning(kind: Option<TokenKind>) -> bool {
     )
 }
 
-// The tokens before the assignment of this statement, from this one on.
-fn assigned(page: &Page<'_, '_>, token: u32) -> Option<Stretch> {
-    let first = token_stretch(page, token);
+// The last token before the assignment of this statement, from this one on.
+fn assigned(page: &Page<'_, '_>, token: u32) -> Option<u32> {
     for at in token..page.tokens.len() {
         if is_mark(page, at, Mark::Semicolon) {
             return None;
         }
         if is_assigning(page.tokens.kind(at)) && at > token {
-            let last = page.end(at.saturating_sub(1));
-            return Some(Stretch {
-                end: last,
-                operator_end: last,
-                operator: last,
-                ..first
-            });
+            return Some(at.saturating_sub(1));
         }
     }
     None
@@ -202,6 +196,7 @@ fn constraint(reason: Reason, quotes: bool, sentence: &'static str, stretch: Str
         does: "here",
         rule: rule_of(reason, paragraph),
         hint: None,
+        constant: None,
     }
 }
 
@@ -239,12 +234,7 @@ fn said(page: &Page<'_, '_>, token: u32, reason: Reason) -> Refusal {
             constraint(reason, false, NO_MAIN, stretch)
         }
         Reason::NotModifiable => match assigned(page, token) {
-            Some(place) => constraint(
-                reason,
-                true,
-                "can't be assigned to: it is no modifiable lvalue",
-                place,
-            ),
+            Some(last) => not_modifiable(page, token, last),
             None => constraint(reason, false, reason.sentence(), stretch),
         },
         _ => constraint(reason, false, reason.sentence(), stretch),

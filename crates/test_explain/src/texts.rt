@@ -52,7 +52,7 @@ const REFUSALS: [(&str, &str); 16] = [
     ),
     (
         "# 1 \"constant.c\"\nstruct point { int x, y; };\nstruct line {\n    struct point from;\n    const struct point to;\n};\nint main(void)\n{\n    struct line l = { { 0, 0 }, { 3, 4 } };\n    struct line *p = &l;\n    p->to.x = 5;\n    return l.to.x;\n}\n",
-        "constant.c:10:5: not typed (6.5.16p2): p->to.x can't be assigned to: it is no modifiable lvalue\n   10 |     p->to.x = 5;\n      |     ~~~~~~~  1 here\n  rule    6.5.16p2, a constraint: every compiler has to say so. Nothing was run.\n",
+        "constant.c:10:5: not typed (6.5.16p2): p->to.x is const and can't be assigned to\n   10 |     p->to.x = 5;\n      |     ~~~~~^~  1 const int\n  object  to: const struct point, member of struct line, declared at constant.c:4:24; so its x is const (6.5.2.3p3)\n  rule    6.5.16p2, a constraint: only a modifiable lvalue is assigned to. Every compiler has to say so. Nothing was\n          run.\n  hint    Take const away at constant.c:4:5, or give to its value where the object begins.\n",
     ),
     (
         "# 1 \"semicolon.c\"\n# 1 \"stdio.h\" 1\nint printf(const char *, ...);\n# 2 \"semicolon.c\" 2\nint main(void) { char *s = \"abc\"; s[0] = 'x'; printf(\"%s\\n\", s) return 0; }\n",
