@@ -7,7 +7,7 @@ use explain_case::{
     put_tree, subject, token_at,
 };
 use explain_facts::parent_of;
-use explain_page::{put_number, put_type};
+use explain_page::{Page, put_excerpt, put_number, put_type};
 use explain_places::declaration_of;
 use explain_words::hint_of;
 use ub_base::{Bytes, Clause, Kind, NoMemory};
@@ -119,6 +119,11 @@ fn is_simple(tree: &Typed) -> bool {
     }
 }
 
+// Adds the text from one token to another one.
+fn put_tokens(out: &mut Bytes, page: &Page<'_, '_>, first: u32, last: u32) -> Result<(), NoMemory> {
+    put_excerpt(out, page.between(page.start(first), page.end(last)))
+}
+
 // Adds a cast to long before the left operand.
 fn put_widened(out: &mut Bytes, case: &Case<'_, '_>, act: &Act<'_>) -> Result<(), NoMemory> {
     let (Node::Bin(_, IntKind::Int), Some(left), Some(right)) = (
@@ -131,12 +136,14 @@ fn put_widened(out: &mut Bytes, case: &Case<'_, '_>, act: &Act<'_>) -> Result<()
     if pair_of(case, act).is_none() || !is_simple(left) || !is_simple(right) {
         return put_words(out, "Widen an operand first, or test the operands before.");
     }
+    let page = case.page;
+    let extent = act.extent;
     put_words(out, "Widen an operand first: `(long)")?;
-    put_tree(out, case.page, left)?;
+    put_tokens(out, page, extent.first, extent.operator.saturating_sub(1))?;
     put_words(out, " ")?;
-    out.append(case.page.spelling(act.extent.operator))?;
+    out.append(page.spelling(extent.operator))?;
     put_words(out, " ")?;
-    put_tree(out, case.page, right)?;
+    put_tokens(out, page, extent.operator.saturating_add(1), extent.last)?;
     put_words(out, "`.")
 }
 

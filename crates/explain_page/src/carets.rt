@@ -122,10 +122,10 @@ fn put_rows(
 // The stretch in the written line, where it stands there.
 fn written_stretch(lined: &Lined<'_>, stretch: &Stretch) -> Option<Stretch> {
     Some(Stretch {
-        start: lined.begin(stretch.start)?,
-        end: lined.end(stretch.end)?,
-        operator: lined.begin(stretch.operator)?,
-        operator_end: lined.end(stretch.operator_end)?,
+        start: lined.begin_of(stretch.start)?,
+        end: lined.end_of(stretch.end)?,
+        operator: lined.begin_of(stretch.operator)?,
+        operator_end: lined.end_of(stretch.operator_end)?,
         line: stretch.line,
     })
 }

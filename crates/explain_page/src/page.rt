@@ -97,7 +97,7 @@ impl<'t, 'a> Page<'t, 'a> {
     pub fn column(&self, at: usize, line: u32) -> usize {
         match self.lined(at, line) {
             Some(lined) => {
-                let start = match lined.begin(at) {
+                let start = match lined.begin_of(at) {
                     Some(start) => start,
                     None => lined.written_alone().start,
                 };
@@ -111,7 +111,7 @@ impl<'t, 'a> Page<'t, 'a> {
     pub fn end_column(&self, end: usize, line: u32) -> usize {
         match self.lined(end, line) {
             Some(lined) => {
-                let end = match lined.end(end) {
+                let end = match lined.end_of(end) {
                     Some(end) => end,
                     None => lined.written_alone().end,
                 };

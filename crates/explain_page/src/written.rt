@@ -179,7 +179,7 @@ impl<'t> Lined<'t> {
     }
 
     /// Where the byte at this offset of the text stands in the written line; none where it isn't alike there.
-    pub fn begin(&self, at: usize) -> Option<usize> {
+    pub fn begin_of(&self, at: usize) -> Option<usize> {
         let at = at.saturating_sub(self.start);
         let number = self.number_at(at);
         let within = at.saturating_sub(piece_of(self.made, number).start);
@@ -191,7 +191,7 @@ impl<'t> Lined<'t> {
     }
 
     /// The same for the end of what ends there.
-    pub fn end(&self, at: usize) -> Option<usize> {
+    pub fn end_of(&self, at: usize) -> Option<usize> {
         let at = at.saturating_sub(self.start);
         let number = self.number_at(at.saturating_sub(1));
         let within = at.saturating_sub(piece_of(self.made, number).start);

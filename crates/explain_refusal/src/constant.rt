@@ -107,7 +107,7 @@ fn is_member(page: &Page<'_, '_>, at: u32) -> bool {
 }
 
 // What the name at this token means: a member behind `.` or `->`, else an object.
-fn declared(page: &Page<'_, '_>, at: u32) -> Option<Declared> {
+fn declaration(page: &Page<'_, '_>, at: u32) -> Option<Declared> {
     if !is_name(page, at) {
         return None;
     }
@@ -138,7 +138,7 @@ fn qualifier_of(page: &Page<'_, '_>, declared: Declared) -> Option<u32> {
 
 /// Which declaration makes the operand const whose last token this is.
 pub fn constant_of(page: &Page<'_, '_>, last: u32) -> Option<Constant> {
-    let assigned = declared(page, last)?;
+    let assigned = declaration(page, last)?;
     let mut holder = assigned;
     let mut at = last;
     for _turn in 0..page.tokens.len() {
@@ -153,7 +153,7 @@ pub fn constant_of(page: &Page<'_, '_>, last: u32) -> Option<Constant> {
             return None;
         }
         at = at.saturating_sub(2);
-        holder = declared(page, at)?;
+        holder = declaration(page, at)?;
     }
     None
 }

@@ -6,7 +6,11 @@ use explain_words::header_of;
 use parse_reason::{Missing, Reason};
 
 // A refusal of what stands in this stretch.
-fn syntax(paragraph: Option<&'static str>, sentence: &'static str, stretch: Stretch) -> Refusal {
+fn refusal_at(
+    paragraph: Option<&'static str>,
+    sentence: &'static str,
+    stretch: Stretch,
+) -> Refusal {
     Refusal {
         verdict: "syntax",
         paragraph,
@@ -41,12 +45,12 @@ fn missing_paragraph(missing: Missing) -> Option<&'static str> {
 fn ended(sentence: &'static str, stretch: Stretch) -> Refusal {
     Refusal {
         quotes: false,
-        ..syntax(None, sentence, stretch)
+        ..refusal_at(None, sentence, stretch)
     }
 }
 
 // A token before which another one is missing.
-fn missing(page: &Page<'_, '_>, token: u32, missing: Missing) -> Refusal {
+fn lacking(page: &Page<'_, '_>, token: u32, missing: Missing) -> Refusal {
     let stretch = token_stretch(page, token);
     if token >= page.tokens.len() {
         return ended(
@@ -54,7 +58,7 @@ fn missing(page: &Page<'_, '_>, token: u32, missing: Missing) -> Refusal {
             stretch,
         );
     }
-    syntax(
+    refusal_at(
         missing_paragraph(missing),
         missing_sentence(missing),
         stretch,
@@ -65,7 +69,7 @@ fn missing(page: &Page<'_, '_>, token: u32, missing: Missing) -> Refusal {
 fn no_type(page: &Page<'_, '_>, name: u32) -> Refusal {
     Refusal {
         hint: header_of(page.spelling(name)),
-        ..syntax(
+        ..refusal_at(
             Some("6.7.2p1"),
             "is no name of a type: nothing declares it as one",
             token_stretch(page, name),
@@ -77,7 +81,7 @@ fn no_type(page: &Page<'_, '_>, name: u32) -> Refusal {
 fn untyped(page: &Page<'_, '_>, name: u32) -> Refusal {
     Refusal {
         hint: Some("C11 puts no int where a type is left out: write it."),
-        ..syntax(
+        ..refusal_at(
             Some("6.7.2p2"),
             "can't begin a declaration: a type stands before it",
             token_stretch(page, name),
@@ -97,23 +101,23 @@ pub fn unspelled(page: &Page<'_, '_>, token: u32, reason: Reason) -> Refusal {
     match reason {
         Reason::LeftOut(part, at) => of_left_out(part, token_stretch(page, at), "here"),
         Reason::Unexpanded(name) => macro_refusal(page, "syntax", name),
-        Reason::Missing(found) => missing(page, token, found),
+        Reason::Missing(found) => lacking(page, token, found),
         Reason::NoType(name) => no_type(page, name),
         Reason::Untyped(name) => untyped(page, name),
-        Reason::EmptyInitializer => syntax(Some("6.7.9p1"), NO_INITIALIZER, stretch),
-        Reason::EmptyMembers => syntax(Some("6.7.2.1p1"), NO_MEMBER, stretch),
-        Reason::EmptyEnumerators => syntax(Some("6.7.2.2p1"), NO_ENUMERATOR, stretch),
-        Reason::ElseAlone => syntax(
+        Reason::EmptyInitializer => refusal_at(Some("6.7.9p1"), NO_INITIALIZER, stretch),
+        Reason::EmptyMembers => refusal_at(Some("6.7.2.1p1"), NO_MEMBER, stretch),
+        Reason::EmptyEnumerators => refusal_at(Some("6.7.2.2p1"), NO_ENUMERATOR, stretch),
+        Reason::ElseAlone => refusal_at(
             Some("6.8.4p1"),
             "can't stand here: no if waits for it",
             stretch,
         ),
-        Reason::Unclosed(open) => syntax(
+        Reason::Unclosed(open) => refusal_at(
             None,
             "is never closed: the text ends before",
             token_stretch(page, open),
         ),
         Reason::Ended => ended("the text ends too soon", stretch),
-        Reason::Unexpected => syntax(None, "can't stand here", stretch),
+        Reason::Unexpected => refusal_at(None, "can't stand here", stretch),
     }
 }

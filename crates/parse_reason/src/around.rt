@@ -21,7 +21,7 @@ pub fn kind_before(tokens: &Tokens<'_>, at: u32, back: u32) -> Option<TokenKind>
 }
 
 /// Whether it is this mark.
-pub fn is(kind: Option<TokenKind>, mark: Mark) -> bool {
+pub fn is_mark(kind: Option<TokenKind>, mark: Mark) -> bool {
     kind == Some(TokenKind::Punct(mark))
 }
 

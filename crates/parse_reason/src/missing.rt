@@ -59,25 +59,25 @@ const MOST: usize = 1_048_576;
 
 // How far a text is read: the first token with which no text goes on; none where it is read whole, or isn't read at all.
 #[derive(Clone, Copy, Debug, PartialEq, Eq)]
-enum Read {
+enum Reading {
     Whole,
     UpTo(u32),
     Not,
 }
 
-fn read(alloc: Global, text: &[u8]) -> Result<Read, NoMemory> {
+fn reading_of(alloc: Global, text: &[u8]) -> Result<Reading, NoMemory> {
     if text.len() > MOST {
-        return Ok(Read::Not);
+        return Ok(Reading::Not);
     }
     let tokens = match lex(alloc, text) {
         Ok(tokens) => tokens,
         Err(LexFault::NoMemory) => return Err(NoMemory),
-        Err(_) => return Ok(Read::Not),
+        Err(_) => return Ok(Reading::Not),
     };
     match parse(alloc, &tokens) {
-        Ok(_) => Ok(Read::Whole),
-        Err(ParseFault::Syntax(token)) => Ok(Read::UpTo(token)),
-        Err(ParseFault::TooDeep(_)) => Ok(Read::Not),
+        Ok(_) => Ok(Reading::Whole),
+        Err(ParseFault::Syntax(token)) => Ok(Reading::UpTo(token)),
+        Err(ParseFault::TooDeep(_)) => Ok(Reading::Not),
         Err(ParseFault::NoMemory) => Err(NoMemory),
     }
 }
@@ -90,10 +90,10 @@ pub fn goes_on(
     missing: Missing,
 ) -> Result<bool, NoMemory> {
     let text = with_token(alloc, tokens, refused, byte_of(missing))?;
-    Ok(match read(alloc, text.as_slice())? {
-        Read::Whole => true,
-        Read::UpTo(token) => token > refused.saturating_add(1),
-        Read::Not => false,
+    Ok(match reading_of(alloc, text.as_slice())? {
+        Reading::Whole => true,
+        Reading::UpTo(token) => token > refused.saturating_add(1),
+        Reading::Not => false,
     })
 }
 

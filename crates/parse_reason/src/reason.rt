@@ -1,6 +1,8 @@
 // Why no program goes on with a token.
 
-use crate::around::{begins_type, is, is_name, is_word, kind_before, spelling, takes_parentheses};
+use crate::around::{
+    begins_type, is_mark, is_name, is_word, kind_before, spelling, takes_parentheses,
+};
 use crate::missing::{Missing, goes_on, missing_before};
 use crate::part::Part;
 use crate::types::type_refused;
@@ -44,7 +46,10 @@ fn word_before(tokens: &Tokens<'_>, at: u32) -> Option<u32> {
     for back in 1..=at {
         let found = at.saturating_sub(back);
         let kind = tokens.kind(found);
-        if is(kind, Mark::Semicolon) || is(kind, Mark::OpenBrace) || is(kind, Mark::CloseBrace) {
+        if is_mark(kind, Mark::Semicolon)
+            || is_mark(kind, Mark::OpenBrace)
+            || is_mark(kind, Mark::CloseBrace)
+        {
             return None;
         }
         if is_name(kind) && is_word_of_compilers(tokens, found) {
@@ -59,7 +64,8 @@ fn is_word_of_compilers(tokens: &Tokens<'_>, at: u32) -> bool {
     let word = spelling(tokens, at);
     let behind = tokens.kind(at.saturating_add(1));
     is_reserved_word(word)
-        || (is_free_word(word) && (is(behind, Mark::OpenParen) || is_word(behind, Word::Volatile)))
+        || (is_free_word(word)
+            && (is_mark(behind, Mark::OpenParen) || is_word(behind, Word::Volatile)))
 }
 
 // Whether the brace at this token holds members.
@@ -70,7 +76,7 @@ fn holds_members(tokens: &Tokens<'_>, brace: u32) -> bool {
         1
     };
     let keyword = kind_before(tokens, brace, back);
-    is(tokens.kind(brace), Mark::OpenBrace)
+    is_mark(tokens.kind(brace), Mark::OpenBrace)
         && (is_word(keyword, Word::Struct) || is_word(keyword, Word::Union))
 }
 
@@ -92,7 +98,7 @@ fn is_among_members(tokens: &Tokens<'_>, at: u32) -> bool {
 
 // A refused colon.
 fn colon(tokens: &Tokens<'_>, at: u32) -> Option<Part> {
-    if is(kind_before(tokens, at, 1), Mark::Question) {
+    if is_mark(kind_before(tokens, at, 1), Mark::Question) {
         Some(Part::ShortConditional)
     } else if is_among_members(tokens, at) {
         Some(Part::BitField)
@@ -105,7 +111,7 @@ fn colon(tokens: &Tokens<'_>, at: u32) -> Option<Part> {
 fn is_behind_type(tokens: &Tokens<'_>, at: u32) -> bool {
     let close = at.saturating_sub(1);
     match open_before(tokens, close) {
-        Some(open) if is(kind_before(tokens, at, 1), Mark::CloseParen) => {
+        Some(open) if is_mark(kind_before(tokens, at, 1), Mark::CloseParen) => {
             let first = tokens.kind(open.saturating_add(1));
             (begins_type(first) || is_name(first))
                 && !takes_parentheses(kind_before(tokens, open, 1))
@@ -116,7 +122,7 @@ fn is_behind_type(tokens: &Tokens<'_>, at: u32) -> bool {
 
 // A refused brace that opens.
 fn open_brace(tokens: &Tokens<'_>, at: u32) -> Option<Part> {
-    if is(kind_before(tokens, at, 1), Mark::OpenParen) {
+    if is_mark(kind_before(tokens, at, 1), Mark::OpenParen) {
         Some(Part::StatementExpression)
     } else if is_behind_type(tokens, at) {
         Some(Part::CompoundLiteral)
@@ -127,7 +133,7 @@ fn open_brace(tokens: &Tokens<'_>, at: u32) -> Option<Part> {
 
 fn is_in_brackets(tokens: &Tokens<'_>, at: u32) -> bool {
     match open_before(tokens, at) {
-        Some(open) => is(tokens.kind(open), Mark::OpenBracket),
+        Some(open) => is_mark(tokens.kind(open), Mark::OpenBracket),
         None => false,
     }
 }
@@ -138,10 +144,10 @@ fn mark_left_out(tokens: &Tokens<'_>, at: u32, mark: Mark) -> Option<Part> {
     match mark {
         Mark::Colon => colon(tokens, at),
         Mark::OpenBrace => open_brace(tokens, at),
-        Mark::CloseBracket if is(before, Mark::Star) => Some(Part::VariableLength),
+        Mark::CloseBracket if is_mark(before, Mark::Star) => Some(Part::VariableLength),
         Mark::AndAnd if is_name(tokens.kind(at.saturating_add(1))) => Some(Part::LabelAddress),
         Mark::Star if is_word(before, Word::Goto) => Some(Part::LabelAddress),
-        Mark::Ellipsis if !is(before, Mark::OpenParen) => Some(Part::Range),
+        Mark::Ellipsis if !is_mark(before, Mark::OpenParen) => Some(Part::Range),
         _ => None,
     }
 }
@@ -161,7 +167,9 @@ fn left_out(tokens: &Tokens<'_>, at: u32) -> Option<Part> {
 // Braces with nothing in them.
 fn empty_braces(tokens: &Tokens<'_>, at: u32) -> Option<Reason> {
     let open = at.saturating_sub(1);
-    if !is(tokens.kind(at), Mark::CloseBrace) || !is(kind_before(tokens, at, 1), Mark::OpenBrace) {
+    if !is_mark(tokens.kind(at), Mark::CloseBrace)
+        || !is_mark(kind_before(tokens, at, 1), Mark::OpenBrace)
+    {
         return None;
     }
     if holds_members(tokens, open) {

@@ -1,6 +1,8 @@
 // Names that stand where a type has to, and declarations without one.
 
-use crate::around::{begins_type, goes_before_type, is, is_name, kind_before, takes_parentheses};
+use crate::around::{
+    begins_type, goes_before_type, is_mark, is_name, kind_before, takes_parentheses,
+};
 use crate::part::Part;
 use crate::reason::Reason;
 use c_lex::{Mark, TokenKind, Tokens, Word};
@@ -9,15 +11,15 @@ use explain_places::{close_of, open_before};
 // Whether a declaration or a statement may begin behind it.
 fn ends_item(kind: Option<TokenKind>) -> bool {
     kind.is_none()
-        || is(kind, Mark::Semicolon)
-        || is(kind, Mark::OpenBrace)
-        || is(kind, Mark::CloseBrace)
+        || is_mark(kind, Mark::Semicolon)
+        || is_mark(kind, Mark::OpenBrace)
+        || is_mark(kind, Mark::CloseBrace)
         || goes_before_type(kind)
 }
 
 // Whether a declarator may begin with it.
 fn begins_declarator(kind: Option<TokenKind>) -> bool {
-    is_name(kind) || is(kind, Mark::Star)
+    is_name(kind) || is_mark(kind, Mark::Star)
 }
 
 // The name right before this one, where a declaration begins with it: it is meant as a type.
@@ -34,14 +36,14 @@ fn type_before(tokens: &Tokens<'_>, at: u32) -> Option<Reason> {
 
 // Whether the name before this token is the first one in the parentheses of a `for`.
 fn is_head_of_loop(tokens: &Tokens<'_>, at: u32) -> bool {
-    is(kind_before(tokens, at, 2), Mark::OpenParen)
+    is_mark(kind_before(tokens, at, 2), Mark::OpenParen)
         && kind_before(tokens, at, 3) == Some(TokenKind::Keyword(Word::For))
 }
 
 // Whether only names and commas stand between these two.
 fn are_names(tokens: &Tokens<'_>, from: u32, to: u32) -> bool {
     for at in from..to {
-        if !is_name(tokens.kind(at)) && !is(tokens.kind(at), Mark::Comma) {
+        if !is_name(tokens.kind(at)) && !is_mark(tokens.kind(at), Mark::Comma) {
             return false;
         }
     }
@@ -71,9 +73,9 @@ fn beginning(tokens: &Tokens<'_>, at: u32) -> Reason {
 // A refused name where a type has to stand: first in a declaration or a parameter.
 fn name_refused(tokens: &Tokens<'_>, at: u32) -> Option<Reason> {
     let before = kind_before(tokens, at, 1);
-    let in_parentheses = is(before, Mark::OpenParen) || is(before, Mark::Comma);
+    let in_parentheses = is_mark(before, Mark::OpenParen) || is_mark(before, Mark::Comma);
     match open_before(tokens, at) {
-        Some(open) if in_parentheses && is(tokens.kind(open), Mark::OpenParen) => {
+        Some(open) if in_parentheses && is_mark(tokens.kind(open), Mark::OpenParen) => {
             Some(parameter(tokens, open, at))
         }
         _ if ends_item(before) => Some(beginning(tokens, at)),
@@ -85,7 +87,7 @@ fn name_refused(tokens: &Tokens<'_>, at: u32) -> Option<Reason> {
 fn before_stars(tokens: &Tokens<'_>, at: u32) -> u32 {
     for back in 1..=at {
         let found = at.saturating_sub(back);
-        if !is(tokens.kind(found), Mark::Star) {
+        if !is_mark(tokens.kind(found), Mark::Star) {
             return found;
         }
     }
@@ -96,7 +98,7 @@ fn before_stars(tokens: &Tokens<'_>, at: u32) -> u32 {
 fn cast_type(tokens: &Tokens<'_>, close: u32) -> Option<Reason> {
     let name = before_stars(tokens, close);
     let is_cast = is_name(tokens.kind(name))
-        && is(kind_before(tokens, name, 1), Mark::OpenParen)
+        && is_mark(kind_before(tokens, name, 1), Mark::OpenParen)
         && !takes_parentheses(kind_before(tokens, name, 2));
     if is_cast {
         Some(Reason::NoType(name))
@@ -115,9 +117,9 @@ fn is_operand(kind: Option<TokenKind>) -> bool {
 // A cast to a name that isn't known as a type.
 fn cast_refused(tokens: &Tokens<'_>, at: u32) -> Option<Reason> {
     let kind = tokens.kind(at);
-    if is(kind, Mark::CloseParen) && is(kind_before(tokens, at, 1), Mark::Star) {
+    if is_mark(kind, Mark::CloseParen) && is_mark(kind_before(tokens, at, 1), Mark::Star) {
         cast_type(tokens, at)
-    } else if is_operand(kind) && is(kind_before(tokens, at, 1), Mark::CloseParen) {
+    } else if is_operand(kind) && is_mark(kind_before(tokens, at, 1), Mark::CloseParen) {
         cast_type(tokens, at.saturating_sub(1))
     } else {
         None

@@ -40,7 +40,7 @@ const FINDINGS: [(&str, &str); 8] = [
     ),
     (
         "# 1 \"fixed.c\"\n# 1 \"stdio.h\" 1\nint printf(const char *, ...);\n# 2 \"fixed.c\" 2\n\nint main(void)\n{\n    int a = ((3) * (1 << 16)), b = ((4) * (1 << 16));\n    int c = ((a) * (b) >> 16);\n    printf(\"%d\\n\", c >> 16);\n    return 0;\n}\n",
-        "fixed.c:6:14: undefined (6.5p5): 196608 * 262144 isn't in int\n    6 |     int c = ((a) * (b) >> 16);\n      |              ~~~~^~~~~  1 int * int\n  value   a is 196608, b is 262144; the product is 51539607552, and int ends at 2147483647\n  rule    6.5p5: a result outside the range of its type is undefined. Only unsigned types wrap.\n  hint    Widen an operand first: `(long)a * b`.\n",
+        "fixed.c:6:14: undefined (6.5p5): 196608 * 262144 isn't in int\n    6 |     int c = ((a) * (b) >> 16);\n      |              ~~~~^~~~~  1 int * int\n  value   a is 196608, b is 262144; the product is 51539607552, and int ends at 2147483647\n  rule    6.5p5: a result outside the range of its type is undefined. Only unsigned types wrap.\n  hint    Widen an operand first: `(long)(a) * (b)`.\n",
     ),
 ];
 
@@ -123,7 +123,7 @@ const MADE: [(&str, &str, &str); 3] = [
     (
         "# 1 \"made.c\"\n# 1 \"scale.h\" 1\n#define MUL(a,b) ((a) * (b) >> 16)\n# 2 \"made.c\" 2\nint main(void)\n{\n    int a = 196608, b = 262144;\n    int c = ((a) * (b) >> 16);\n    return c;\n}\n",
         "#include \"scale.h\"\nint main(void)\n{\n    int a = 196608, b = 262144;\n    int c = MUL(a, b);\n    return c;\n}\n",
-        "made.c:5:13: undefined (6.5p5): 196608 * 262144 isn't in int\n    5 |     int c = MUL(a, b);\n      |             ~~~~~~~~~  expands, by scale.h:1:9, to\n      |             ((a) * (b) >> 16)\n      |              ~~~~^~~~~  1 int * int\n  value   a is 196608, b is 262144; the product is 51539607552, and int ends at 2147483647\n  rule    6.5p5: a result outside the range of its type is undefined. Only unsigned types wrap.\n  hint    Widen an operand first: `(long)a * b`.\n",
+        "made.c:5:13: undefined (6.5p5): 196608 * 262144 isn't in int\n    5 |     int c = MUL(a, b);\n      |             ~~~~~~~~~  expands, by scale.h:1:9, to\n      |             ((a) * (b) >> 16)\n      |              ~~~~^~~~~  1 int * int\n  value   a is 196608, b is 262144; the product is 51539607552, and int ends at 2147483647\n  rule    6.5p5: a result outside the range of its type is undefined. Only unsigned types wrap.\n  hint    Widen an operand first: `(long)(a) * (b)`.\n",
     ),
     (
         "# 1 \"made.c\"\nint main(void) { return puts(\"x\"); }\n",
