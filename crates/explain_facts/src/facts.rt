@@ -92,12 +92,14 @@ pub struct Named {
     pub last: u32,
 }
 
-/// What a run does to the bytes of an object: who touched them, and who stored to them last; where the object was born and
-/// ended, and how the text names it; and what ended the program.
+/// What a run does to the bytes of an object: who touched them, who stored to them last, and which object was read last before
+/// that, where so many bytes of it were; where the object was born and ended, and how the text names it; and what ended the
+/// program.
 #[derive(Drop)]
 pub struct Trail {
     pub touches: Vec<Touch>,
     pub stored: Option<Touch>,
+    pub source: Option<ObjName>,
     pub born: Option<Touch>,
     pub died: Option<Touch>,
     pub named: Option<Named>,
@@ -110,6 +112,7 @@ impl Trail {
         Trail {
             touches: Vec::new(alloc),
             stored: None,
+            source: None,
             born: None,
             died: None,
             named: None,

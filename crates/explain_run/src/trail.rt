@@ -15,6 +15,42 @@ const MOST_TOUCHES: usize = 10_000;
 pub struct Follower {
     sought: Option<Sought>,
     trail: Trail,
+    read: Option<Read>,
+}
+
+// The object that was read last, and how many bytes of it.
+#[derive(Clone, Copy)]
+struct Read {
+    object: ObjName,
+    len: u64,
+}
+
+// What was read last, behind this item.
+fn read_behind(read: Option<Read>, item: &Item) -> Option<Read> {
+    match *item {
+        Item::Read { object, len, .. } => Some(Read { object, len }),
+        _ => read,
+    }
+}
+
+// The object that a store of so many bytes copies.
+fn copied(read: Option<Read>, len: u64) -> Option<ObjName> {
+    match read {
+        Some(read) if read.len == len => Some(read.object),
+        _ => None,
+    }
+}
+
+// What the last store copies, behind this one.
+fn source_behind(source: Option<ObjName>, does: Does, read: Option<Read>) -> Option<ObjName> {
+    match does {
+        Does::Accesses {
+            writes: true,
+            len,
+            ..
+        } => copied(read, len),
+        _ => source,
+    }
 }
 
 // What an item does to the bytes that are sought.
@@ -154,18 +190,26 @@ impl Follower {
         Follower {
             sought,
             trail: Trail::new(alloc),
+            read: None,
         }
     }
 
     /// What was seen.
     pub fn into_trail(self) -> Trail {
-        let Follower { sought: _, trail } = self;
+        let Follower {
+            sought: _,
+            trail,
+            read: _,
+        } = self;
         trail
     }
 
     fn see_items(&mut self, items: &[Item], sought: Sought, touch: Touch) -> Result<(), NoMemory> {
         for item in items {
-            note(&mut self.trail, does_to(item, sought), touch)?;
+            let does = does_to(item, sought);
+            self.trail.source = source_behind(self.trail.source, does, self.read);
+            note(&mut self.trail, does, touch)?;
+            self.read = read_behind(self.read, item);
         }
         Ok(())
     }
