@@ -92,9 +92,16 @@ pub struct Named {
     pub last: u32,
 }
 
+/// A call of malloc, calloc or realloc that gave null for so many bytes, which are above what one allocation gives.
+#[derive(Clone, Copy, Debug, PartialEq, Eq)]
+pub struct Unallocated {
+    pub touch: Touch,
+    pub size: u128,
+}
+
 /// What a run does to the bytes of an object: who touched them, who stored to them last, and which object was read last before
 /// that, where so many bytes of it were; where the object was born and ended, and how the text names it; and what ended the
-/// program.
+/// program, and the first allocation that gave null at a limit.
 #[derive(Drop)]
 pub struct Trail {
     pub touches: Vec<Touch>,
@@ -104,6 +111,7 @@ pub struct Trail {
     pub died: Option<Touch>,
     pub named: Option<Named>,
     pub ending: Option<Touch>,
+    pub unallocated: Option<Unallocated>,
 }
 
 impl Trail {
@@ -117,6 +125,7 @@ impl Trail {
             died: None,
             named: None,
             ending: None,
+            unallocated: None,
         }
     }
 }

@@ -1,5 +1,6 @@
 // What a run does to one object.
 
+use crate::nulls::unallocated;
 use crate::opened::opened_of;
 use c_typed::Slot;
 use explain_facts::{Named, Sought, Touch, Trail};
@@ -222,6 +223,12 @@ impl Follower {
         }
     }
 
+    fn see_null(&mut self, machine: &Machine, event: Event, touch: Touch, asked: Option<u128>) {
+        if self.trail.unallocated.is_none() {
+            self.trail.unallocated = unallocated(machine, event, touch, asked);
+        }
+    }
+
     fn see_touch(&mut self, machine: &Machine, touch: Touch) -> Result<(), NoMemory> {
         let items = machine.items.items();
         if items.contains(&Item::Ending) {
@@ -233,26 +240,33 @@ impl Follower {
         }
     }
 
-    /// Sees a pick that was taken, with its event, or with the block that it entered.
+    /// Sees a pick that was taken, with its event, or with the block that it entered, and with how many bytes it asked for, where it
+    /// is an allocation.
     pub fn see(
         &mut self,
         machine: &Machine,
         event: Option<Event>,
         entered: Option<u32>,
+        asked: Option<u128>,
     ) -> Result<(), NoMemory> {
         if let (Some(sought), Some(block)) = (self.sought, entered) {
             self.see_entered(machine, block, sought);
         }
+        let Some(event) = event else {
+            return Ok(());
+        };
         match touch_by(machine, event) {
-            Some(touch) => self.see_touch(machine, touch),
+            Some(touch) => {
+                self.see_null(machine, event, touch, asked);
+                self.see_touch(machine, touch)
+            }
             None => Ok(()),
         }
     }
 }
 
 // An act of this event, on no bytes yet.
-fn touch_by(machine: &Machine, event: Option<Event>) -> Option<Touch> {
-    let event = event?;
+fn touch_by(machine: &Machine, event: Event) -> Option<Touch> {
     let (opened, caller) = opened_of(machine.shown(), &event)?;
     Some(Touch {
         opened,

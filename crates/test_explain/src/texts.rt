@@ -9,7 +9,7 @@ use std::test::Fail;
 use ub_base::{Bytes, NoMemory};
 
 // Texts with a finding, and their explanations.
-const FINDINGS: [(&str, &str); 8] = [
+const FINDINGS: [(&str, &str); 9] = [
     (
         "# 1 \"race.c\"\n# 1 \"stdio.h\" 1\nint printf(const char *, ...);\n# 2 \"race.c\" 2\nint main(void)\n{\n\tint i = 1;\n\ti = i++;\n\tprintf(\"%d\\n\", i);\n\treturn 0;\n}\n",
         "race.c:5:2: undefined (6.5p2): i is written twice, in no order\n    5 |         i = i++;\n      |         ~~^~~~~  1 writes i: the store of =\n      |             ~^^  2 writes i: the store of ++\n  object  i: int, 4 bytes, automatic in main, declared at race.c:4:6\n  order   The store of ++ isn't part of its value (6.5.2.4p2), so the store of = doesn't wait for it (6.5.16p3).\n  rule    6.5p2: two unsequenced side effects on one scalar object are undefined.\n  hint    Write i once in the expression: `i++;` or `i = i + 1;`.\n",
@@ -41,6 +41,10 @@ const FINDINGS: [(&str, &str); 8] = [
     (
         "# 1 \"fixed.c\"\n# 1 \"stdio.h\" 1\nint printf(const char *, ...);\n# 2 \"fixed.c\" 2\n\nint main(void)\n{\n    int a = ((3) * (1 << 16)), b = ((4) * (1 << 16));\n    int c = ((a) * (b) >> 16);\n    printf(\"%d\\n\", c >> 16);\n    return 0;\n}\n",
         "fixed.c:6:14: undefined (6.5p5): 196608 * 262144 isn't in int\n    6 |     int c = ((a) * (b) >> 16);\n      |              ~~~~^~~~~  1 int * int\n  value   a is 196608, b is 262144; the product is 51539607552, and int ends at 2147483647\n  rule    6.5p5: a result outside the range of its type is undefined. Only unsigned types wrap.\n  hint    Widen an operand first: `(long)(a) * (b)`.\n",
+    ),
+    (
+        "# 1 \"limit.c\"\nvoid *calloc(unsigned long, unsigned long);\nvoid abort(void);\nint main(void)\n{\n    int n = 600000;\n    if (!calloc(n, 4))\n        abort();\n    return 0;\n}\n",
+        "clean: every evaluation order that C11 permits ends with status 134 and these 0 bytes of output\n  limit   calloc gave null at limit.c:6:10: 2400000 bytes are above 1048576\n  ended   by abort at limit.c:7:9 in main\n  for     this input, these arguments, this address map. Other inputs are not looked at.\n",
     ),
 ];
 
