@@ -232,7 +232,7 @@ fn written_line<'t>(files: &'t [Written], name: &[u8], number: u32) -> Option<&'
 impl<'t, 'a> Page<'t, 'a> {
     /// The line of the text in which this offset stands, of this number, with the line that it was made of; none where that
     /// wasn't read, or holds nothing that the line of the text can have been made of.
-    pub fn lined(&self, at: usize, line: u32) -> Option<Lined<'t>> {
+    pub(crate) fn lined(&self, at: usize, line: u32) -> Option<Lined<'t>> {
         let written = written_line(self.written, self.file_at(at), line)?;
         let start = line_start(self.text, at);
         let made = part(self.text, start, line_end(self.text, at));

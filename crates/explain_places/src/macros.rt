@@ -1,4 +1,5 @@
 // Lines that define macros.
+ghost use Rattle.std.specs.Prelude.{◌≤◌, length};
 
 use crate::places::line_end;
 
@@ -7,7 +8,9 @@ fn is_name_byte(byte: u8) -> bool {
 }
 
 // How many bytes of a name stand in front.
-fn name_len(text: &[u8]) -> usize {
+fn name_len(text: &[u8]) -> usize
+    ensures { result ≤ length text.now }
+{
     match text.iter().position(|byte| !is_name_byte(*byte)) {
         Some(len) => len.min(text.len()),
         None => text.len(),
