@@ -154,6 +154,16 @@ impl<'t> Lined<'t> {
         span(self.written, self.front, end)
     }
 
+    // Whether all pieces are alike.
+    fn is_alike(&self) -> bool {
+        self.front == self.made_count && self.front == self.written_count
+    }
+
+    fn written_alone_text(&self) -> &'t [u8] {
+        let alone = self.written_alone();
+        part(self.written, alone.start, alone.end)
+    }
+
     // The piece of the written line that is alike to this one of the text.
     fn alike(&self, number: usize) -> Option<Piece> {
         if number < self.front {
@@ -231,7 +241,7 @@ fn written_line<'t>(files: &'t [Written], name: &[u8], number: u32) -> Option<&'
 
 impl<'t, 'a> Page<'t, 'a> {
     /// The line of the text in which this offset stands, of this number, with the line that it was made of; none where that
-    /// wasn't read, or holds nothing that the line of the text can have been made of.
+    /// wasn't read, or differs otherwise than by a macro, as where the file has changed since.
     pub(crate) fn lined(&self, at: usize, line: u32) -> Option<Lined<'t>> {
         let written = written_line(self.written, self.file_at(at), line)?;
         let start = line_start(self.text, at);
@@ -240,10 +250,31 @@ impl<'t, 'a> Page<'t, 'a> {
             return None;
         }
         let lined = line_up(start, made, written);
-        let alone = lined.written_alone();
-        if alone.start == alone.end && lined.made_count != lined.written_count {
-            return None;
+        if lined.is_alike() || self.may_be_expanded(lined.written_alone_text()) {
+            Some(lined)
+        } else {
+            None
         }
-        Some(lined)
+    }
+
+    // Whether what stands in a written line only begins with the name of a macro: with a name that no token of the text has, since
+    // each is expanded.
+    fn may_be_expanded(&self, alone: &[u8]) -> bool {
+        let piece = piece_from(alone, 0);
+        let name = part(alone, piece.start, piece.end);
+        let is_name = match name.first() {
+            Some(first) => first.is_ascii_alphabetic() || *first == b'_',
+            None => false,
+        };
+        is_name && !self.has_token(name)
+    }
+
+    fn has_token(&self, spelling: &[u8]) -> bool {
+        for at in 0..self.tokens.len() {
+            if self.spelling(at) == spelling {
+                return true;
+            }
+        }
+        false
     }
 }
