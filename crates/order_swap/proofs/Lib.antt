@@ -1,2 +1,0 @@
-mod Fair
-mod Lists

@@ -1,4 +1,0 @@
-pub mod Ends
-pub mod Sets
-pub mod Texts
-pub mod Turns

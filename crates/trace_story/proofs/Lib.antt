@@ -1,5 +1,0 @@
-mod Lines
-mod Naming
-mod Placing
-mod Retold
-mod Ways
