@@ -1,5 +1,6 @@
 -- Which statement stands for blocks, `switch` statements and loops.
-use Rattle.std.proofs.Common.{◌≡◌, ℕ, [], ◌∷◌, ◌++◌, List, map, Option, Some, None, refl, sym, ap, subst, ◌∙◌, tt}
+use Rattle.std.proofs.Common.{◌≡◌, ℕ, [], ◌∷◌, ◌++◌, List, map, Option, Some, None, refl, sym, ap, subst, ◌∙◌, tt, append_assoc}
+use Rattle.std.proofs.lemmas.List.{append-nil}
 use Rattle.c_typed.specs.declared.tree.Typed.{Typed}
 use Rattle.c_typed.specs.declared.statement.Body.{Body}
 use Rattle.c_typed.specs.declared.statement.Body.TheVariants as body
@@ -161,3 +162,18 @@ entry_declare ns b d is = let P : Entry → Type 0 = λ y. IsEntry ns y (stateme
 abbrev pub AreSoFar : Numbers → TypedBlock → List Statement → List Entry → Type 0
 AreSoFar ns b ss rest = (m : Meaning) (e : Typed → Expr) → Stands m e ns
     → (map (stmt_of m) ss ++ map (entry_of e m.decls) rest ≡ (inner_of e m.decls b).statements) × AllEqual (all_bodies m ss)
+
+pub so_far_none : (ns : Numbers) (b : TypedBlock) (items : List Entry) → items ≡ b.entries → AreSoFar ns b [] items
+so_far_none ns b items is = λ m e st. (ap (map (entry_of e m.decls)) is ∙ sym (inner-statements e m.decls b), tt)
+
+pub so_far_more : (a c : Numbers) (b : TypedBlock) (ss : List Statement) (s : Statement) (x : Entry) (rest : List Entry) → Grows a c → IsEntry c x s
+    → AreSoFar a b ss (x ∷ rest) → AreSoFar c b (ss ++ s ∷ []) rest
+so_far_more a c b ss s x rest g k h = λ m e st. let r = h m e (stands_before a c m e g st) in (
+      ap (λ zs. zs ++ map (entry_of e m.decls) rest) (map_more m ss s)
+      ∙ (append_assoc (map (stmt_of m) ss) (stmt_of m s ∷ []) (map (entry_of e m.decls) rest)
+      ∙ (ap (λ z. map (stmt_of m) ss ++ z ∷ map (entry_of e m.decls) rest) (k m e st).0 ∙ r.0)),
+      all_more m ss s r.1 (k m e st).1,
+    )
+
+pub so_far_all : (ns : Numbers) (b : TypedBlock) (ss : List Statement) → AreSoFar ns b ss [] → AreEntries ns b ss
+so_far_all ns b ss h = λ m e st. (sym (append-nil (map (stmt_of m) ss)) ∙ (h m e st).0, (h m e st).1)
