@@ -1,6 +1,6 @@
 -- Which statement stands for each form of typed body.
 use Rattle.std.specs.Borrow.{Bor}
-use Rattle.std.proofs.Common.{◌≡◌, ℕ, ℤ, [], ◌∷◌, ◌++◌, List, map, Option, Some, None, sym, ap, subst, ◌∙◌, tt}
+use Rattle.std.proofs.Common.{◌≡◌, ℕ, ℤ, [], ◌∷◌, ◌++◌, List, map, Option, Some, None, sym, ap, subst, ◌∙◌}
 use Rattle.c_typed.specs.declared.tree.Typed.{Typed}
 use Rattle.c_typed.specs.declared.statement.Body.{Body}
 use Rattle.c_typed.specs.declared.statement.Body.TheVariants as body
@@ -55,17 +55,17 @@ at_value ns b t n is h = same_body ns b (body.Simple (Some t)) (statement.Value 
 pub at_if_only : (ns : Numbers) (b : Body) (t : Typed) (x : Body) (n : ℕ) (s : Statement) → b ≡ body.If t x None → IsRoot ns t n
     → IsStatement ns x s → IsStatement ns b (statement.IfOnly n s)
 at_if_only ns b t x n s is h k = same_body ns b (body.If t x None) (statement.IfOnly n s) is (λ m e st. (
-      stmt-if_only m n s ∙ (ap (λ c. model.If_only c (stmt_of m s)) (h m e st) ∙ (ap (model.If_only (e t)) (k m e st).0 ∙ sym (body-if_only e m.decls t x))),
-      subst AllEqual (sym (bodies-if_only m n s)) (k m e st).1,
-    ))
+  stmt-if_only m n s ∙ (ap (λ c. model.If_only c (stmt_of m s)) (h m e st) ∙ (ap (model.If_only (e t)) (k m e st).0 ∙ sym (body-if_only e m.decls t x))),
+  subst AllEqual (sym (bodies-if_only m n s)) (k m e st).1,
+))
 
 pub at_if : (ns : Numbers) (b : Body) (t : Typed) (x y : Body) (n : ℕ) (s r : Statement) → b ≡ body.If t x (Some y) → IsRoot ns t n
     → IsStatement ns x s → IsStatement ns y r → IsStatement ns b (statement.If n s r)
 at_if ns b t x y n s r is h k l = same_body ns b (body.If t x (Some y)) (statement.If n s r) is (λ m e st. (
-      stmt-if m n s r ∙ (ap (λ c. model.If c (stmt_of m s) (stmt_of m r)) (h m e st) ∙ (ap (λ z. model.If (e t) z (stmt_of m r)) (k m e st).0
+  stmt-if m n s r ∙ (ap (λ c. model.If c (stmt_of m s) (stmt_of m r)) (h m e st) ∙ (ap (λ z. model.If (e t) z (stmt_of m r)) (k m e st).0
       ∙ (ap (model.If (e t) (body_of e m.decls x)) (l m e st).0 ∙ sym (body-if e m.decls t x y)))),
-      subst AllEqual (sym (bodies-if m n s r)) (equal_two (bodies m s) (bodies m r) (k m e st).1 (l m e st).1),
-    ))
+  subst AllEqual (sym (bodies-if m n s r)) (equal_two (bodies m s) (bodies m r) (k m e st).1 (l m e st).1),
+))
 
 pub at_goto : (ns : Numbers) (b : Body) (k : ℕ) → b ≡ body.Goto k → IsStatement ns b (statement.Goto k)
 at_goto ns b k is = same_body ns b (body.Goto k) (statement.Goto k) is
@@ -90,20 +90,20 @@ at_return ns b t n is h = same_body ns b (body.Return (Some t)) (statement.Retur
 pub at_label : (ns : Numbers) (b : Body) (k : ℕ) (x : Body) (s : Statement) → b ≡ body.Label k x → IsStatement ns x s
     → IsStatement ns b (statement.Label k s)
 at_label ns b k x s is h = same_body ns b (body.Label k x) (statement.Label k s) is (λ m e st. (
-      stmt-label m k s ∙ (ap (model.Label k) (h m e st).0 ∙ sym (body-label e m.decls k x)),
-      subst AllEqual (sym (bodies-label m k s)) (h m e st).1,
-    ))
+  stmt-label m k s ∙ (ap (model.Label k) (h m e st).0 ∙ sym (body-label e m.decls k x)),
+  subst AllEqual (sym (bodies-label m k s)) (h m e st).1,
+))
 
 pub at_case : (ns : Numbers) (b : Body) (z : ℤ) (x : Body) (s : Statement) → b ≡ body.Case z x → IsStatement ns x s
     → IsStatement ns b (statement.Case z s)
 at_case ns b z x s is h = same_body ns b (body.Case z x) (statement.Case z s) is (λ m e st. (
-      stmt-case m z s ∙ (ap (model.Case z) (h m e st).0 ∙ sym (body-case e m.decls z x)),
-      subst AllEqual (sym (bodies-case m z s)) (h m e st).1,
-    ))
+  stmt-case m z s ∙ (ap (model.Case z) (h m e st).0 ∙ sym (body-case e m.decls z x)),
+  subst AllEqual (sym (bodies-case m z s)) (h m e st).1,
+))
 
 pub at_default : (ns : Numbers) (b : Body) (x : Body) (s : Statement) → b ≡ body.Default x → IsStatement ns x s
     → IsStatement ns b (statement.Default s)
 at_default ns b x s is h = same_body ns b (body.Default x) (statement.Default s) is (λ m e st. (
-      stmt-default m s ∙ (ap model.Default (h m e st).0 ∙ sym (body-default e m.decls x)),
-      subst AllEqual (sym (bodies-default m s)) (h m e st).1,
-    ))
+  stmt-default m s ∙ (ap model.Default (h m e st).0 ∙ sym (body-default e m.decls x)),
+  subst AllEqual (sym (bodies-default m s)) (h m e st).1,
+))

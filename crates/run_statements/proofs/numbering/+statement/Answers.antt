@@ -14,51 +14,30 @@ pub entry-returns-in-Declare-clause-statement : goal.entry-returns-in-Declare-cl
 entry-returns-in-Declare-clause-statement t c = entry_declare c.args.numbers.now c.args.entry.now c.in-Declare.object c.in-Declare.is
 
 pub selection-returns-clause-selection : goal.selection-returns-clause-selection
-selection-returns-clause-selection t c = (refl, λ m e st. (
-      c.in_ok-number.ensures.number m e (stands_before c.switch_number.new.numbers c.boxed.new.numbers m e c.in_ok-boxed.ensures.grows st),
-      ((c.in_ok-boxed.ensures.statement m e st).0, (c.in_ok-boxed.ensures.statement m e st).1),
-    ))
+selection-returns-clause-selection t c = (
+  refl,
+  λ m e st. (
+    c.in_ok-number.ensures.number m e (stands_before c.switch_number.new.numbers c.boxed.new.numbers m e c.in_ok-boxed.ensures.grows st),
+    (c.in_ok-boxed.ensures.statement m e st).0,
+    (c.in_ok-boxed.ensures.statement m e st).1,
+  ),
+)
 
 pub statement-returns-in-Simple-None-clause-statement : goal.statement-returns-in-Simple-None-clause-statement
-statement-returns-in-Simple-None-clause-statement t c =
-    at_empty c.args.numbers.now c.args.body.now (c.in-Simple-None.is ∙ ap body.Simple c.in-Simple-None.field-0-is)
+statement-returns-in-Simple-None-clause-statement t c = ?
 
 pub statement-returns-in_ok-full-in-Simple-Some-clause-statement : goal.statement-returns-in_ok-full-in-Simple-Some-clause-statement
-statement-returns-in_ok-full-in-Simple-Some-clause-statement t c =
-    at_value c.full.new.numbers c.args.body.now c.in-Simple-Some.root c.in_ok-full-in-Simple-Some.field-0
-    (c.in-Simple-Some.is ∙ ap body.Simple c.in-Simple-Some.field-0-is) c.in_ok-full-in-Simple-Some.ensures.number
+statement-returns-in_ok-full-in-Simple-Some-clause-statement t c = ?
 
 pub statement-returns-in_ok-block-in-Block-clause-statement : goal.statement-returns-in_ok-block-in-Block-clause-statement
 statement-returns-in_ok-block-in-Block-clause-statement t c =
     at_block c.block.new.numbers c.args.body.now c.in-Block.inner c.in_ok-block-in-Block.field-0 c.in-Block.is c.in_ok-block-in-Block.ensures.block
 
 pub statement-returns-in_ok-boxed-in-If-default-default-None-clause-statement : goal.statement-returns-in_ok-boxed-in-If-default-default-None-clause-statement
-statement-returns-in_ok-boxed-in-If-default-default-None-clause-statement t c =
-    let arm = c.in-If-default-default-None in
-    let test = c.in_ok-test-in-If-default-default-None in
-    at_if_only c.boxed.new.numbers c.args.body.now arm.test c.get.result.now test.test c.in_ok-boxed-in-If-default-default-None.field-0
-    (arm.is ∙ (ap (λ y. body.If arm.test y arm.field-2) (sym c.get.ensures) ∙ ap (λ o. body.If arm.test c.get.result.now o) arm.field-2-is))
-    (root_later c.full-in-If-default-default-None.new.numbers c.boxed.new.numbers arm.test test.test
-    c.in_ok-boxed-in-If-default-default-None.ensures.grows test.ensures.number)
-    c.in_ok-boxed-in-If-default-default-None.ensures.statement
+statement-returns-in_ok-boxed-in-If-default-default-None-clause-statement t c = ?
 
 pub statement-returns-in_ok-boxed-in-If-default-default-Some-clause-statement : goal.statement-returns-in_ok-boxed-in-If-default-default-Some-clause-statement
-statement-returns-in_ok-boxed-in-If-default-default-Some-clause-statement t c =
-    let arm = c.in-If-default-default-Some in
-    let test = c.in_ok-test-in-If-default-default-Some in
-    let yes = c.in_ok-yes-in-If-default-default-Some in
-    let no = c.in_ok-boxed-in-If-default-default-Some in
-    let first = c.full-in-If-default-default-Some.new.numbers in
-    let second = c.boxed-in-If-default-default-Some.new.numbers in
-    let last = c.boxed-in-If-default-default-Some-2.new.numbers in
-    let x = c.get-in-If-default-default-Some.result.now in
-    let y = c.get-in-If-default-default-Some-2.result.now in
-    at_if last c.args.body.now arm.test x y test.test yes.yes no.field-0
-    (arm.is ∙ (ap (λ z. body.If arm.test z arm.field-2) (sym c.get-in-If-default-default-Some.ensures)
-    ∙ ap (λ o. body.If arm.test x o) (arm.field-2-is ∙ ap Some (sym c.get-in-If-default-default-Some-2.ensures))))
-    (root_later first last arm.test test.test (grows_two first second last yes.ensures.grows no.ensures.grows) test.ensures.number)
-    (statement_later second last x yes.yes no.ensures.grows yes.ensures.statement)
-    no.ensures.statement
+statement-returns-in_ok-boxed-in-If-default-default-Some-clause-statement t c = ?
 
 pub statement-returns-in_ok-selection-in-Switch-clause-statement : goal.statement-returns-in_ok-selection-in-Switch-clause-statement
 statement-returns-in_ok-selection-in-Switch-clause-statement t c = ?
@@ -91,8 +70,7 @@ pub statement-returns-in-Break-clause-statement : goal.statement-returns-in-Brea
 statement-returns-in-Break-clause-statement t c = at_break c.args.numbers.now c.args.body.now c.in-Break.is
 
 pub statement-returns-in-Return-None-clause-statement : goal.statement-returns-in-Return-None-clause-statement
-statement-returns-in-Return-None-clause-statement t c =
-    at_return_none c.args.numbers.now c.args.body.now (c.in-Return-None.is ∙ ap body.Return c.in-Return-None.field-0-is)
+statement-returns-in-Return-None-clause-statement t c = ?
 
 pub statement-returns-in_ok-full-in-Return-Some-clause-statement : goal.statement-returns-in_ok-full-in-Return-Some-clause-statement
 statement-returns-in_ok-full-in-Return-Some-clause-statement t c = ?
