@@ -1,4 +1,7 @@
 // The control steps (6.8).
+ghost use Rattle.std.specs.Prelude.{IfErr};
+ghost use Rattle.run_machine.specs.Quiet.{IsQuiet};
+ghost use Rattle.run_machine.specs.Picked.{IsStep, TakesStep};
 
 use crate::halt::Halt;
 use crate::machine::{Local, Machine, Stage};
@@ -28,7 +31,9 @@ impl<'p, 'c> Machine<'p, 'c> {
     }
 
     // The control step of the top frame, in whose full expression no event is left.
-    pub fn control(&mut self) -> Result<Pick, Halt> {
+    pub fn control(&mut self) -> Result<Pick, Halt>
+        ensures { TakesStep result }
+    {
         match self.next_step()? {
             Step::Full { expression, how } => match self.top.stage {
                 None => self.begin(expression),
@@ -51,7 +56,9 @@ impl<'p, 'c> Machine<'p, 'c> {
         }
     }
 
-    fn moved(&mut self, to: u32) -> Pick {
+    fn moved(&mut self, to: u32) -> Pick
+        ensures { IsStep result }
+    {
         self.top.at = to;
         Pick::Step(None)
     }
@@ -64,7 +71,9 @@ impl<'p, 'c> Machine<'p, 'c> {
     }
 
     // A block is entered: its objects are created in order, and the first take the arguments.
-    fn enter(&mut self, number: u32, next: u32) -> Result<Pick, Halt> {
+    fn enter(&mut self, number: u32, next: u32) -> Result<Pick, Halt>
+        ensures { TakesStep result }
+    {
         self.top.turn = self.top.turn.saturating_add(1);
         let block = self.block(number)?;
         let reached = total(self.memory.created(), block.created);
@@ -81,7 +90,9 @@ impl<'p, 'c> Machine<'p, 'c> {
     }
 
     // The object of this number in the block.
-    fn create(&mut self, objects: Range, first: u32, number: u32) -> Result<(), Halt> {
+    fn create(&mut self, objects: Range, first: u32, number: u32) -> Result<(), Halt>
+        ensures { IfErr result IsQuiet }
+    {
         let code = self.code;
         let at = objects.first.saturating_add(number);
         let Some(object) = code.objects.get(at as usize) else {
@@ -162,7 +173,9 @@ impl<'p, 'c> Machine<'p, 'c> {
     }
 
     // A full expression begins.
-    fn begin(&mut self, number: u32) -> Result<Pick, Halt> {
+    fn begin(&mut self, number: u32) -> Result<Pick, Halt>
+        ensures { TakesStep result }
+    {
         let code = self.code;
         self.top.turn = self.top.turn.saturating_add(1);
         let Some(expression) = code.expressions.get(number as usize) else {
@@ -171,6 +184,7 @@ impl<'p, 'c> Machine<'p, 'c> {
         self.top.rooms = expression.rooms;
         self.top.stage = Some(Stage {
             expression: number,
+            first: expression.first,
             cursor: expression.first,
             end: expression.end,
             straight: true,
@@ -219,7 +233,9 @@ impl<'p, 'c> Machine<'p, 'c> {
     }
 
     // The value of a full expression is used.
-    fn settle(&mut self, stage: Stage, how: Use) -> Result<Pick, Halt> {
+    fn settle(&mut self, stage: Stage, how: Use) -> Result<Pick, Halt>
+        ensures { TakesStep result }
+    {
         let operand = self.expression(stage)?.value;
         self.top.stage = None;
         match how {
@@ -240,7 +256,9 @@ impl<'p, 'c> Machine<'p, 'c> {
         }
     }
 
-    fn branch(&mut self, test: Operand, yes: u32, no: u32) -> Pick {
+    fn branch(&mut self, test: Operand, yes: u32, no: u32) -> Pick
+        ensures { IsStep result }
+    {
         let to = if self.truth(test) { yes } else { no };
         self.moved(to)
     }

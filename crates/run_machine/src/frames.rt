@@ -1,6 +1,7 @@
 // Frames that start and end, and the bodies of calls.
 ghost use Rattle.std.specs.Prelude.{IfOk};
 ghost use Rattle.run_machine.specs.Depth.{StartsWithin};
+ghost use Rattle.run_machine.specs.Picked.{TakesStep};
 
 use crate::events::Outcome;
 use crate::halt::{Fault, Halt};
@@ -191,7 +192,9 @@ impl<'p, 'c> Machine<'p, 'c> {
 
     // The top frame ends: its body is done in the frame below and leaves its result there. The end of the first frame is
     // that of the run.
-    pub fn end_frame(&mut self) -> Result<Pick, Halt> {
+    pub fn end_frame(&mut self) -> Result<Pick, Halt>
+        ensures { TakesStep result }
+    {
         let value = self.result();
         let node = self.top.node;
         let Some(open) = self.below.pop() else {
