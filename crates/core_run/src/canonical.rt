@@ -59,15 +59,26 @@ pub fn run<W: Watch>(
     };
     let mut frames = Frames::new(alloc);
     let ran = follow(&mut machine, &mut frames, budget, watch)?;
+    Ok(left(machine, ran, frames))
+}
+
+// What a run leaves that ended so: what its machine wrote, and the objects of its memory.
+fn left(machine: Machine, ran: Ran, frames: Frames) -> RunState
+    ensures ran { result.ran ≡ ran }
+    ensures output { result.output ≡ machine.streams.output.standard }
+    ensures errors { result.errors ≡ machine.streams.output.errors }
+    ensures map { result.map ≡ machine.memory.rows }
+    ensures frames { result.frames ≡ frames }
+{
     let (output, map) = machine.into_output_and_map();
     let Outputs { standard, errors } = output;
-    Ok(RunState {
+    RunState {
         ran,
         output: standard,
         errors,
         map,
         frames,
-    })
+    }
 }
 
 // The start would pass the limit on created bytes.

@@ -88,7 +88,10 @@ impl<'p, 'c> Machine<'p, 'c> {
     }
 
     /// What was written to standard output and to standard error, and the map, of a run that has ended.
-    pub fn into_output_and_map(self) -> (Outputs, AddrMap) {
+    pub fn into_output_and_map(self) -> (Outputs, AddrMap)
+        ensures outputs { result.0 ≡ self.streams.output }
+        ensures map { result.1 ≡ self.memory.rows }
+    {
         let Machine {
             memory,
             streams,
