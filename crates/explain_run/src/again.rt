@@ -2,7 +2,7 @@
 
 use crate::moment::moment_of;
 use crate::replay::{event_of, step, taken};
-use crate::trail::{Follower, block_entered};
+use crate::trail::Follower;
 use addr_map::Mode;
 use c_typed::Place;
 use core_ir::CoreProgram;
@@ -82,11 +82,10 @@ fn follow_trail(
     follower: &mut Follower,
 ) -> Result<(), NoMemory> {
     for _ in 0..picks {
-        let entered = block_entered(machine);
         let Some(pick) = step(machine, frames)? else {
             return Ok(());
         };
-        follower.see(machine, event_of(pick), entered)?;
+        follower.see(machine, event_of(pick))?;
     }
     Ok(())
 }
