@@ -1,1 +1,3 @@
 mod Picking
+mod Acting
+mod Doing

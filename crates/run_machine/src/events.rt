@@ -1,12 +1,15 @@
 // The events of a full expression.
-ghost use Rattle.std.specs.Prelude.{◌≡◌};
+ghost use Rattle.std.specs.Prelude.{◌≡◌, Ok};
+ghost use Rattle.ub_base.specs.declared.names.Event.{Event as EventOf};
+ghost use Rattle.run_code.specs.declared.steps.Act.TheVariants as act;
+ghost use Rattle.run_machine.specs.ActScripts.{Does, Stays};
 ghost use Rattle.run_machine.specs.Picked.{event_at, TakesEvent, RaisesIn};
 
 use crate::halt::{Fault, Halt};
 use crate::machine::Machine;
 use crate::pick::Pick;
-use c_typed::{Access, Change, Place};
-use c_types::Ty;
+use c_typed::{Access, Change, Conversion, EqOp, Place, RelOp, UnOp};
+use c_types::{BinOp, IntKind, Ty};
 use prov_memory::{Value, Via};
 use run_acts::{
     Pointer, answer, as_function, binary, changed, convert, distance, equal, fill, load, member,
@@ -24,10 +27,6 @@ pub enum Outcome {
     // A frame has started.
     Started,
     End(u8),
-}
-
-fn number(value: bool) -> Value {
-    Value::Int(i128::from(value))
 }
 
 impl<'p, 'c> Machine<'p, 'c> {
@@ -116,37 +115,23 @@ impl<'p, 'c> Machine<'p, 'c> {
         }
     }
 
-    // The value that an act gives.
-    fn value_act(&mut self, act: Act<'p>, event: Event) -> Result<Value, Fault> {
+    // The value that an act gives; lists and isolated initializers have none.
+    fn value_act(&mut self, act: Act<'p>, event: Event) -> Result<Value, Fault>
+        ensures does { Does self.old self.new event act result }
+        ensures stays { Stays self.old self.new }
+    {
         match act {
-            Act::Load { access, ty, place } => {
-                let place = self.pointer(place);
-                let t = &mut self.items;
-                Ok(load(&mut self.memory, access, ty, event, place, t)?)
-            }
-            Act::Same(operand) => Ok(self.value(operand)?),
-            Act::Binary(op, kind, left, right) => {
-                let (left, right) = (self.integer(left), self.integer(right));
-                Ok(Value::Int(binary(op, kind, left, right)?))
-            }
-            Act::Convert(conversion, operand) => {
-                let operand = self.value(operand)?;
-                let t = &mut self.items;
-                Ok(convert(&mut self.memory, conversion, event, &operand, t)?)
-            }
-            Act::Unary(op, operand) => {
-                let operand = self.value(operand)?;
-                Ok(unary(op, &operand)?)
-            }
+            Act::Load { access, ty, place } => self.load(access, ty, place, event),
+            Act::Same(operand) => self.same(operand),
+            Act::Binary(op, kind, left, right) => self.binary(op, kind, left, right),
+            Act::Convert(conversion, operand) => self.convert(conversion, operand, event),
+            Act::Unary(op, operand) => self.unary(op, operand),
             Act::Logical {
                 either,
                 first,
                 second,
-            } => Ok(number(self.logical(either, first, second))),
-            Act::Selected { test, yes, no } => {
-                let taken = if self.truth(test) { yes } else { no };
-                Ok(self.value(taken)?)
-            }
+            } => Ok(self.logical(either, first, second)),
+            Act::Selected { test, yes, no } => self.selected(test, yes, no),
             Act::Change {
                 change,
                 old,
@@ -155,87 +140,102 @@ impl<'p, 'c> Machine<'p, 'c> {
                 operand,
                 room,
             } => self.change(change, old, ty, event, place, operand, room),
-            Act::Answer { discarded } => Ok(answer(self.take(event.node), discarded)?),
+            Act::Answer { discarded } => self.answer(discarded, event),
             Act::Part {
                 offset,
                 access,
                 whole,
             } => self.part(offset, access, whole, event),
-            _ => self.pointer_act(act),
-        }
-    }
-
-    // The acts on pointers. Lists and isolated initializers have no value.
-    fn pointer_act(&mut self, act: Act<'p>) -> Result<Value, Fault> {
-        match act {
             Act::Move {
                 size,
                 subtract,
                 pointer,
                 index,
-            } => {
-                let pointer = self.pointer(pointer);
-                let index = self.integer(index);
-                let t = &mut self.items;
-                let moved = moved(&mut self.memory, pointer, size, subtract, index, t)?;
-                Ok(moved.value())
-            }
-            Act::Member { offset, pointer } => {
-                let pointer = self.pointer(pointer);
-                let t = &mut self.items;
-                let member = member(&mut self.memory, pointer, offset, t)?;
-                Ok(member.value())
-            }
-            Act::Distance { size, left, right } => {
-                let (left, right) = (self.pointer(left), self.pointer(right));
-                let t = &mut self.items;
-                Ok(distance(&mut self.memory, left, right, size, t)?)
-            }
+            } => self.moved(size, subtract, pointer, index),
+            Act::Member { offset, pointer } => self.member(offset, pointer),
+            Act::Distance { size, left, right } => self.distance(size, left, right),
             Act::Related {
                 op,
                 pointers,
                 left,
                 right,
-            } => {
-                let (left, right) = (self.value(left)?, self.value(right)?);
-                let t = &mut self.items;
-                Ok(related(&mut self.memory, op, pointers, &left, &right, t)?)
-            }
-            Act::Equal(op, left, right) => {
-                let (left, right) = (self.value(left)?, self.value(right)?);
-                Ok(equal(op, &left, &right))
-            }
+            } => self.related(op, pointers, left, right),
+            Act::Equal(op, left, right) => self.equal(op, left, right),
             _ => Ok(Value::Nothing),
         }
     }
 
-    // A member of a structure or union that stands nowhere.
-    fn part(
+    fn load(
         &mut self,
-        offset: u64,
         access: Access,
-        whole: Operand,
+        ty: &'p Ty,
+        place: Operand,
         event: Event,
-    ) -> Result<Value, Fault> {
-        let alloc = self.alloc;
-        let whole = self.value(whole)?;
+    ) -> Result<Value, Fault>
+        ensures does { Does self.old self.new event (act.Load access ty place) result }
+        ensures stays { Stays self.old self.new }
+    {
+        let place = self.pointer(place);
         let t = &mut self.items;
-        Ok(part(alloc, &mut self.memory, access, event, &whole, offset, t)?)
+        Ok(load(&mut self.memory, access, ty, event, place, t)?)
     }
 
-    fn logical(&self, either: bool, first: Operand, second: Operand) -> bool {
-        if either {
+    fn same(&self, operand: Operand) -> Result<Value, Fault>
+        ensures { (who : EventOf) → Does self.now self.now who (act.Same operand) result }
+    {
+        Ok(self.value(operand)?)
+    }
+
+    fn binary(
+        &self,
+        op: BinOp,
+        kind: IntKind,
+        left: Operand,
+        right: Operand,
+    ) -> Result<Value, Fault>
+        ensures { (who : EventOf) → Does self.now self.now who (act.Binary op kind left right) result }
+    {
+        let number = binary(op, kind, self.integer(left), self.integer(right))?;
+        Ok(Value::Int(number))
+    }
+
+    fn convert(
+        &mut self,
+        conversion: Conversion,
+        operand: Operand,
+        event: Event,
+    ) -> Result<Value, Fault>
+        ensures does { Does self.old self.new event (act.Convert conversion operand) result }
+        ensures stays { Stays self.old self.new }
+    {
+        let operand = self.value(operand)?;
+        let t = &mut self.items;
+        Ok(convert(&mut self.memory, conversion, event, &operand, t)?)
+    }
+
+    fn unary(&self, op: UnOp, operand: Operand) -> Result<Value, Fault>
+        ensures { (who : EventOf) → Does self.now self.now who (act.Unary op operand) result }
+    {
+        let operand = self.value(operand)?;
+        Ok(unary(op, &operand)?)
+    }
+
+    fn logical(&self, either: bool, first: Operand, second: Operand) -> Value
+        ensures { (who : EventOf) → Does self.now self.now who (act.Logical either first second) (Ok result) }
+    {
+        let holds = if either {
             self.truth(first) || self.truth(second)
         } else {
             self.truth(first) && self.truth(second)
-        }
+        };
+        Value::Int(i128::from(holds))
     }
 
-    pub fn function_value(&self, operand: Operand) -> u64 {
-        match self.value(operand) {
-            Ok(value) => as_function(&value),
-            Err(_) => 0,
-        }
+    fn selected(&self, test: Operand, yes: Operand, no: Operand) -> Result<Value, Fault>
+        ensures { (who : EventOf) → Does self.now self.now who (act.Selected test yes no) result }
+    {
+        let taken = if self.truth(test) { yes } else { no };
+        Ok(self.value(taken)?)
     }
 
     // An Update's value, and in its room what it will store.
@@ -248,7 +248,10 @@ impl<'p, 'c> Machine<'p, 'c> {
         place: Operand,
         operand: Operand,
         room: u32,
-    ) -> Result<Value, Fault> {
+    ) -> Result<Value, Fault>
+        ensures does { Does self.old self.new event (act.Change change old ty place operand room) result }
+        ensures stays { Stays self.old self.new }
+    {
         let place = self.pointer(place);
         let operand = self.integer(operand);
         let (t, spare) = (&mut self.items, &mut self.spare);
@@ -259,6 +262,97 @@ impl<'p, 'c> Machine<'p, 'c> {
             Ok(before)
         } else {
             Ok(after)
+        }
+    }
+
+    // A call's value: what its body left.
+    fn answer(&mut self, discarded: bool, event: Event) -> Result<Value, Fault>
+        ensures does { Does self.old self.new event (act.Answer discarded) result }
+        ensures stays { Stays self.old self.new }
+    {
+        let left = self.take(event.node);
+        Ok(answer(left, discarded)?)
+    }
+
+    // A member of a structure or union that stands nowhere.
+    fn part(
+        &mut self,
+        offset: u64,
+        access: Access,
+        whole: Operand,
+        event: Event,
+    ) -> Result<Value, Fault>
+        ensures does { Does self.old self.new event (act.Part offset access whole) result }
+        ensures stays { Stays self.old self.new }
+    {
+        let alloc = self.alloc;
+        let whole = self.value(whole)?;
+        let t = &mut self.items;
+        Ok(part(alloc, &mut self.memory, access, event, &whole, offset, t)?)
+    }
+
+    fn moved(
+        &mut self,
+        size: u64,
+        subtract: bool,
+        pointer: Operand,
+        index: Operand,
+    ) -> Result<Value, Fault>
+        ensures does { (who : EventOf) → Does self.old self.new who (act.Move size subtract pointer index) result }
+        ensures stays { Stays self.old self.new }
+    {
+        let pointer = self.pointer(pointer);
+        let index = self.integer(index);
+        let t = &mut self.items;
+        let moved = moved(&mut self.memory, pointer, size, subtract, index, t)?;
+        Ok(moved.value())
+    }
+
+    fn member(&mut self, offset: u64, pointer: Operand) -> Result<Value, Fault>
+        ensures does { (who : EventOf) → Does self.old self.new who (act.Member offset pointer) result }
+        ensures stays { Stays self.old self.new }
+    {
+        let pointer = self.pointer(pointer);
+        let t = &mut self.items;
+        let member = member(&mut self.memory, pointer, offset, t)?;
+        Ok(member.value())
+    }
+
+    fn distance(&mut self, size: u64, left: Operand, right: Operand) -> Result<Value, Fault>
+        ensures does { (who : EventOf) → Does self.old self.new who (act.Distance size left right) result }
+        ensures stays { Stays self.old self.new }
+    {
+        let (left, right) = (self.pointer(left), self.pointer(right));
+        let t = &mut self.items;
+        Ok(distance(&mut self.memory, left, right, size, t)?)
+    }
+
+    fn related(
+        &mut self,
+        op: RelOp,
+        pointers: bool,
+        left: Operand,
+        right: Operand,
+    ) -> Result<Value, Fault>
+        ensures does { (who : EventOf) → Does self.old self.new who (act.Related op pointers left right) result }
+        ensures stays { Stays self.old self.new }
+    {
+        let (left, right) = (self.value(left)?, self.value(right)?);
+        let t = &mut self.items;
+        Ok(related(&mut self.memory, op, pointers, &left, &right, t)?)
+    }
+
+    fn equal(&self, op: EqOp, left: Operand, right: Operand) -> Result<Value, Fault>
+        ensures { (who : EventOf) → Does self.now self.now who (act.Equal op left right) result }
+    {
+        let (left, right) = (self.value(left)?, self.value(right)?);
+        Ok(equal(op, &left, &right))
+    }
+
+    pub fn function_value(&self, operand: Operand) -> u64 {
+        match self.value(operand) {
+            Ok(value) => as_function(&value),
+            Err(_) => 0,
         }
     }
 

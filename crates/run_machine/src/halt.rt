@@ -86,12 +86,22 @@ impl From<NoMemory> for Fault {
 }
 
 impl From<Clause> for Fault {
+    ghost use Rattle.std.specs.Prelude.{◌≡◌};
+    ghost use Rattle.run_machine.specs.declared.halt.Fault.TheVariants.{Raise};
+
+    ghost from_gives = { λ clause e. e ≡ Raise clause };
+
     fn from(clause: Clause) -> Fault {
         Fault::Raise(clause)
     }
 }
 
 impl From<MemFault> for Fault {
+    ghost use Rattle.std.specs.Prelude.{◌≡◌};
+    ghost use Rattle.run_machine.specs.Faults.{fault_of};
+
+    ghost from_gives = { λ fault e. e ≡ fault_of fault };
+
     fn from(fault: MemFault) -> Fault {
         match fault {
             MemFault::Raise(clause) => Fault::Raise(clause),

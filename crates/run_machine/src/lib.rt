@@ -7,6 +7,7 @@ mod frames;
 mod halt;
 mod initial;
 mod machine;
+mod operands;
 mod pick;
 mod picks;
 mod watch;

@@ -5,8 +5,8 @@ use crate::watch::{Begun, View};
 use addr_map::AddrMap;
 use c_typed::Program;
 use prov_memory::{Memory, Outputs, Streams, Touched, Value, Via};
-use run_acts::{Filling, Places, Pointer, as_integer, as_pointer, pointer_to, truth};
-use run_code::{Code, Operand};
+use run_acts::{Filling, Places};
+use run_code::Code;
 use seq_order::Done;
 use std::alloc::Global;
 use ub_base::{Frame, Frames, Items, NoMemory, ObjName};
@@ -88,100 +88,16 @@ impl<'p, 'c> Machine<'p, 'c> {
     }
 
     /// What was written to standard output and to standard error, and the map, of a run that has ended.
-    pub fn into_output_and_map(self) -> (Outputs, AddrMap) {
+    pub fn into_output_and_map(self) -> (Outputs, AddrMap)
+        ensures outputs { result.0 ≡ self.streams.output }
+        ensures map { result.1 ≡ self.memory.rows }
+    {
         let Machine {
             memory,
             streams,
             ..
         } = self;
         (streams.into_output(), memory.into_map())
-    }
-
-    // The value of a node of the open full expression.
-    fn done(&self, node: u32) -> Option<&Value> {
-        self.values.get(self.top.base.saturating_add(node as usize))
-    }
-
-    pub fn local(&self, object: u32, offset: u64) -> Pointer {
-        match self
-            .locals
-            .get(self.top.locals.saturating_add(object as usize))
-        {
-            Some(local) => pointer_to(local.name, local.addr, offset),
-            None => Pointer::null(),
-        }
-    }
-
-    pub fn pointer(&self, operand: Operand) -> Pointer {
-        match operand {
-            Operand::Local { object, offset } => self.local(object, offset),
-            Operand::Done(node) => match self.done(node) {
-                Some(value) => as_pointer(value),
-                None => Pointer::null(),
-            },
-            Operand::Static { object, offset } => self.places.object(object, offset),
-            Operand::Literal { object, offset } => self.places.literal(object, offset),
-            Operand::Address(addr) => Pointer {
-                addr,
-                prov: exposure::Prov::Empty,
-            },
-            Operand::Integer(_) | Operand::Function(_) => Pointer::null(),
-        }
-    }
-
-    pub fn integer(&self, operand: Operand) -> i128 {
-        match operand {
-            Operand::Integer(number) => number,
-            Operand::Done(node) => match self.done(node) {
-                Some(value) => as_integer(value),
-                None => 0,
-            },
-            _ => 0,
-        }
-    }
-
-    pub fn truth(&self, operand: Operand) -> bool {
-        match operand {
-            Operand::Done(node) => match self.done(node) {
-                Some(value) => truth(value),
-                None => true,
-            },
-            _ => operand.truth(),
-        }
-    }
-
-    // A copy of an operand's value.
-    pub fn value(&self, operand: Operand) -> Result<Value, NoMemory> {
-        match operand {
-            Operand::Integer(number) => Ok(Value::Int(number)),
-            Operand::Function(addr) => Ok(Value::Func(addr)),
-            Operand::Done(node) => match self.done(node) {
-                Some(value) => value.copied(self.alloc),
-                None => Ok(Value::Nothing),
-            },
-            _ => Ok(self.pointer(operand).value()),
-        }
-    }
-
-    // Gives a room of the open full expression its value.
-    pub fn keep(&mut self, room: u32, value: Value) {
-        let at = self.top.base.saturating_add(room as usize);
-        self.put(at, value);
-    }
-
-    pub fn put(&mut self, at: usize, value: Value) {
-        if let Some(place) = self.values.get_mut(at) {
-            *place = value;
-        }
-    }
-
-    // Takes the value out of a room.
-    pub fn take(&mut self, room: u32) -> Value {
-        let at = self.top.base.saturating_add(room as usize);
-        match self.values.get_mut(at) {
-            Some(place) => std::mem::replace(place, Value::Nothing),
-            None => Value::Nothing,
-        }
     }
 
     // Makes room for so many values.
