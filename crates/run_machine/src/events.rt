@@ -151,7 +151,7 @@ impl<'p, 'c> Machine<'p, 'c> {
                 subtract,
                 pointer,
                 index,
-            } => self.moved(size, subtract, pointer, index),
+            } => self.move_pointer(size, subtract, pointer, index),
             Act::Member { offset, pointer } => self.member(offset, pointer),
             Act::Distance { size, left, right } => self.distance(size, left, right),
             Act::Related {
@@ -291,7 +291,7 @@ impl<'p, 'c> Machine<'p, 'c> {
         Ok(part(alloc, &mut self.memory, access, event, &whole, offset, t)?)
     }
 
-    fn moved(
+    fn move_pointer(
         &mut self,
         size: u64,
         subtract: bool,
