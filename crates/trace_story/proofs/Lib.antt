@@ -1,5 +1,5 @@
+mod Growth
 mod Lines
-mod Naming
-mod Placing
 mod Retold
+mod Sameness
 mod Ways

@@ -28,7 +28,6 @@ use Rattle.std.proofs.Common.{
 }
 use Rattle.std.specs.Prelude.{slice_get, Contains}
 use Rattle.std.proofs.lemmas.Option.{slice_get_within, get_or_from_slice_get}
-use Rattle.std.proofs.lemmas.List.{drop_all}
 use Rattle.ub_base.specs.Frames.{Row, Path, IsFrameList, path_of}
 use Rattle.ub_base.proofs.Paths.{path_of-row}
 use Rattle.c_names.proofs.Once.{frame_once}
@@ -80,7 +79,7 @@ none_over rows h f step over rest b is absent g c e =
     let w = starts_on_way rows h over g step rest c e in
     let earlier = h.earlier w.at w.row w.found in
     let within = slice_get_within rows w.at w.row w.found in
-    let frames : w.row.0.0 ≡ f = frame_once rows h f w.row.0.0 f (omega (arith, earlier, within)) (omega (arith, earlier, within)) b (w.rest_is ∙ sym is) in
+    let frames : w.row.0.0 ≡ f = frame_once rows h w.row.0.0 w.row.0.0 f (omega arith) (omega (arith, earlier, within)) b (w.rest_is ∙ sym is) in
     let same : w.row ≡ (record { 0 = f }, step.0, step.1) = λ i. (record { 0 = frames i }, (w.step_is i).0, (w.step_is i).1) in
     absent (contains_at rows _ w.at (w.found ∙ ap Some same))
 
@@ -124,15 +123,6 @@ one_more rows h f g steps i k step a found is e l at =
     split [] j d a = absurd (omega arith)
     split (y ∷ ys) zero d a = refl
     split (y ∷ ys) (suc j) d a = split ys j d (omega arith)
-
-pub first_path : (rows : List Row) (f : ℕ) (steps : Path) → f ≡ 0 → path_of rows f ≡ drop (length steps - 0) steps
-first_path rows f steps e = ap (path_of rows) e ∙ sym (drop_all (length steps - 0) steps (omega arith))
-
-pub last_path : (rows : List Row) (f i : ℕ) (steps : Path) → length steps ≤ i → path_of rows f ≡ drop (length steps - i) steps → path_of rows f ≡ steps
-last_path rows f i steps h e = e ∙ ap (λ n. drop n steps) (none (length steps) i h)
-  where
-    none : (n i : ℕ) → n ≤ i → n - i ≡ 0
-    none n i h = omega (arith, h)
 
 -- lists of as many elements, each the same
 pub same_lists : {X : Type 0} (xs ys : List X) → length ys ≡ length xs → ((k : ℕ) → k < length xs → slice_get xs k ≡ slice_get ys k) → xs ≡ ys

@@ -38,6 +38,11 @@ marks_of rows s n (picked event items) = map (mark_at (n + 1) event) (told_in ro
 marks_of rows s n (node_done frame turn node) = []
 marks_of rows s n (operands_done frame turn node) = []
 
+-- the same, where there is an object
+abbrev pub marks_in : List Row → Option Sought → ℕ → Call → List Mark
+marks_in rows None n call = []
+marks_in rows (Some s) n call = marks_of rows s n call
+
 -- what these calls, of which the last one stands first, tell of the object
 abbrev pub story_of : List Row → Sought → Heard → List Mark
 story_of rows s [] = []

@@ -7,6 +7,7 @@ ghost use Rattle.trace_story.specs.Stories.{mark_of, story_in, sought_in};
 use crate::calls::Calls;
 use crate::entry::{Entries, Story};
 use crate::named::{are_same, named_in};
+use crate::same::same_place;
 use crate::told::Sought;
 use crate::watcher::Teller;
 use addr_map::{AddrMap, Mode};
@@ -42,6 +43,10 @@ fn told_by(
 {
     let mut teller = Teller::new(alloc, frames, sought);
     let state = run(alloc, p, input, args, mode, picks, &mut teller)?;
+    // A run changes neither.
+    if !teller.seeks(frames, &sought) {
+        return Err(NoMemory);
+    }
     let (entries, calls) = teller.into_parts();
     Ok(Told {
         entries,
@@ -100,8 +105,9 @@ pub fn story(
         &first.frames,
         Some(sought),
     )?;
+    let place = second.map.row(named);
     // One program has one run.
-    if !are_same(&second.frames, &first.frames) || second.map.row(named) != row {
+    if !are_same(&second.frames, &first.frames) || !same_place(&place, &row) {
         return Err(NoMemory);
     }
     Ok(Story {

@@ -1,12 +1,14 @@
 // The watch that tells the story of an object.
-ghost use Rattle.std.specs.Prelude.{◌≡◌, map, IfOk, OnErr, [], ◌++◌, Some};
+ghost use Rattle.std.specs.Prelude.{◌≡◌, map, IsTrue, [], Some, true};
+ghost use Rattle.trace_story.specs.Same.{same_sought};
 ghost use Rattle.trace_story.specs.Stories.{mark_of, picks_in, story_in};
 
 use crate::calls::Calls;
 use crate::entry::Entries;
-use crate::line::line_at;
-use crate::tell::entries_of;
-use crate::told::{Sought, told_in};
+use crate::named::are_same;
+use crate::same::same_sought;
+use crate::tell::entries_at;
+use crate::told::Sought;
 use core_run::{Go, View, Watch};
 use prov_memory::Touched;
 use std::alloc::Global;
@@ -42,6 +44,14 @@ impl<'f> Teller<'f> {
         }
     }
 
+    /// Whether it has these frames and seeks this object.
+    pub fn seeks(&self, frames: &Frames, sought: &Option<Sought>) -> bool
+        ensures frames { IsTrue result → self.now.frames.now ≡ frames.now }
+        ensures sought { IsTrue result → same_sought self.now.sought sought.now ≡ true }
+    {
+        are_same(self.frames, frames) && same_sought(&self.sought, sought)
+    }
+
     /// The entries, and the calls.
     pub fn into_parts(self) -> (Entries, Calls)
         ensures calls { result.1 ≡ self.entry.calls }
@@ -61,16 +71,17 @@ impl<'f> Watch for Teller<'f> {
         if self.picks == u64::MAX {
             return Err(NoMemory);
         }
-        let pick = self.picks + 1;
-        if let Some(sought) = self.sought {
-            let told = told_in(self.alloc, self.frames, &sought, items.items())?;
-            if told.len() > 0 {
-                let line = line_at(v, event);
-                let more = entries_of(self.alloc, pick, event, line, told.as_slice())?;
-                self.entries.extend(more.as_slice())?;
-            }
-        }
-        self.picks = pick;
+        let more = entries_at(
+            self.alloc,
+            self.frames,
+            self.sought,
+            self.picks,
+            v,
+            event,
+            items.items(),
+        )?;
+        self.entries.extend(more.as_slice())?;
+        self.picks += 1;
         self.calls = self.calls.picked(event, items);
         Ok(Go::On)
     }
