@@ -1,5 +1,2 @@
-mod Growth
 mod Lines
-mod Retold
-mod Sameness
 mod Ways

@@ -1,7 +1,5 @@
-pub mod Ends
 pub mod Named
 pub mod Record
-pub mod Same
 pub mod Stories
 pub mod Texts
 pub mod Told

@@ -1,11 +1,8 @@
--- The story of an object: what the picks of a run do to it, in order (own).
-use Rattle.std.specs.Prelude.{ℕ, ◌+◌, List, [], ◌∷◌, ◌++◌, map, Option, Some, None}
+-- What the picks of a run tell of an object (own).
+use Rattle.std.specs.Prelude.{ℕ, ◌+◌, List, [], ◌∷◌, map, Option, Some, None}
 use Rattle.ub_base.specs.Frames.{Row}
 use Rattle.ub_base.specs.declared.names.Event.{Event}
 use Rattle.ub_base.specs.declared.names.Item.{Item}
-use Rattle.ub_base.specs.declared.names.ObjName.{ObjName}
-use Rattle.addr_map.specs.declared.map.Row.{Row as Place}
-use Rattle.addr_map.specs.Rows.{row_of as place_of}
 use Rattle.core_run.specs.Calls.{Call, picked, node_done, operands_done, Heard}
 use Rattle.trace_story.specs.declared.entry.Entry.{Entry}
 use Rattle.trace_story.specs.declared.told.Sought.{Sought}
@@ -42,18 +39,3 @@ marks_of rows s n (operands_done frame turn node) = []
 abbrev pub marks_in : List Row → Option Sought → ℕ → Call → List Mark
 marks_in rows None n call = []
 marks_in rows (Some s) n call = marks_of rows s n call
-
--- what these calls, of which the last one stands first, tell of the object
-abbrev pub story_of : List Row → Sought → Heard → List Mark
-story_of rows s [] = []
-story_of rows s (h ∷ hs) = story_of rows s hs ++ marks_of rows s (picks_in hs) h.0
-
--- the same, where there is an object
-abbrev pub story_in : List Row → Option Sought → Heard → List Mark
-story_in rows None hs = []
-story_in rows (Some s) hs = story_of rows s hs
-
--- the object, with its place among these rows
-abbrev pub sought_in : List Place → Option ObjName → Option Sought
-sought_in places None = None
-sought_in places (Some x) = Some (record { object = x; row = place_of places x })

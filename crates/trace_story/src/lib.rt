@@ -5,7 +5,6 @@ mod calls;
 mod entry;
 mod line;
 mod named;
-mod same;
 mod tell;
 mod telling;
 mod text;

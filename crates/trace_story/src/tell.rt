@@ -49,9 +49,6 @@ pub fn entries_at(
         return Ok(Vec::new(alloc));
     };
     let told = told_in(alloc, frames, &sought, items)?;
-    if told.len() == 0 {
-        return Ok(Vec::new(alloc));
-    }
-    let line = line_at(v, event);
+    let line = if told.len() > 0 { line_at(v, event) } else { 0 };
     entries_of(alloc, picks + 1, event, line, told.as_slice())
 }

@@ -1,13 +1,13 @@
 // The run that is told.
-ghost use Rattle.std.specs.Prelude.{◌≡◌, ◌≤◌, map, IfOk};
-ghost use Rattle.trace_story.specs.Ends.{IsTold};
+ghost use Rattle.std.specs.Prelude.{◌≡◌, ◌≤◌, IfOk, Some};
+ghost use Rattle.core_run.specs.Calls.{StartedBy};
+ghost use Rattle.core_run.specs.Ends.{picks_of, told_of};
 ghost use Rattle.trace_story.specs.Named.{IsNamed};
-ghost use Rattle.trace_story.specs.Stories.{mark_of, story_in, sought_in};
+ghost use Rattle.trace_story.specs.Stories.{picks_in};
 
 use crate::calls::Calls;
 use crate::entry::{Entries, Story};
 use crate::named::{are_same, named_in};
-use crate::same::same_place;
 use crate::told::Sought;
 use crate::watcher::Teller;
 use addr_map::{AddrMap, Mode};
@@ -38,15 +38,12 @@ fn told_by(
     sought: Option<Sought>,
 ) -> Result<Told, NoMemory>
     requires { picks ≤ 100000000 }
-    ensures told { IfOk result (λ t. map mark_of t.entries ≡ story_in frames.now sought t.calls) }
-    ensures run { IfOk result (λ t. IsTold t.calls t.ran t.frames picks) }
+    ensures counted { IfOk result (λ t. picks_in t.calls ≡ told_of t.ran) }
+    ensures within { IfOk result (λ t. picks_of t.ran ≤ picks) }
+    ensures started { IfOk result (λ t. StartedBy (Some t.calls) t.frames) }
 {
     let mut teller = Teller::new(alloc, frames, sought);
     let state = run(alloc, p, input, args, mode, picks, &mut teller)?;
-    // A run changes neither.
-    if !teller.seeks(frames, &sought) {
-        return Err(NoMemory);
-    }
     let (entries, calls) = teller.into_parts();
     Ok(Told {
         entries,
@@ -76,11 +73,10 @@ pub fn story(
     // The object is that of the same name, none only where its frame isn't among those of the run.
     ensures named { IfOk result (λ s. IsNamed frames.now object.now s.frames s.named) }
 
-    // The entries are what the calls of the watch tell of the object, none missing and none added.
-    ensures told { IfOk result (λ s. map mark_of s.entries ≡ story_in s.frames (sought_in s.map s.named) s.calls) }
-
-    // The calls are those of a watch of a run that ended so.
-    ensures run { IfOk result (λ s. IsTold s.calls s.ran s.frames picks) }
+    // The watch was told each pick but one that raised, at most so many; each frame was started by an event that it was told.
+    ensures counted { IfOk result (λ s. picks_in s.calls ≡ told_of s.ran) }
+    ensures within { IfOk result (λ s. picks_of s.ran ≤ picks) }
+    ensures started { IfOk result (λ s. StartedBy (Some s.calls) s.frames) }
 {
     let first = told_by(alloc, p, input, args, mode, picks, frames, None)?;
     let Some(named) = named_in(alloc, frames, object, &first.frames)? else {
@@ -107,7 +103,7 @@ pub fn story(
     )?;
     let place = second.map.row(named);
     // One program has one run.
-    if !are_same(&second.frames, &first.frames) || !same_place(&place, &row) {
+    if !are_same(&second.frames, &first.frames) || place != row {
         return Err(NoMemory);
     }
     Ok(Story {

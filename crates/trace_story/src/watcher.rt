@@ -1,12 +1,9 @@
 // The watch that tells the story of an object.
-ghost use Rattle.std.specs.Prelude.{◌≡◌, map, IsTrue, [], Some, true};
-ghost use Rattle.trace_story.specs.Same.{same_sought};
-ghost use Rattle.trace_story.specs.Stories.{mark_of, picks_in, story_in};
+ghost use Rattle.std.specs.Prelude.{◌≡◌, [], Some};
+ghost use Rattle.trace_story.specs.Stories.{picks_in};
 
 use crate::calls::Calls;
 use crate::entry::Entries;
-use crate::named::are_same;
-use crate::same::same_sought;
 use crate::tell::entries_at;
 use crate::told::Sought;
 use core_run::{Go, View, Watch};
@@ -24,8 +21,6 @@ pub struct Teller<'f> {
     entries: Entries,
     picks: u64,
     calls: Calls,
-    ghost counted: { picks ≡ picks_in calls },
-    ghost told: { map mark_of entries ≡ story_in frames.now sought calls },
 }
 
 impl<'f> Teller<'f> {
@@ -44,18 +39,9 @@ impl<'f> Teller<'f> {
         }
     }
 
-    /// Whether it has these frames and seeks this object.
-    pub fn seeks(&self, frames: &Frames, sought: &Option<Sought>) -> bool
-        ensures frames { IsTrue result → self.now.frames.now ≡ frames.now }
-        ensures sought { IsTrue result → same_sought self.now.sought sought.now ≡ true }
-    {
-        are_same(self.frames, frames) && same_sought(&self.sought, sought)
-    }
-
     /// The entries, and the calls.
     pub fn into_parts(self) -> (Entries, Calls)
         ensures calls { result.1 ≡ self.entry.calls }
-        ensures told { map mark_of result.0 ≡ story_in self.entry.frames.now self.entry.sought result.1 }
     {
         let Teller { entries, calls, .. } = self;
         (entries, calls)
