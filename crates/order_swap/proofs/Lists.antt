@@ -30,15 +30,15 @@ use Rattle.c_typed.specs.Order.{Taken}
 use Rattle.order_swap.specs.declared.set.Pair.{Pair}
 use Rattle.order_swap.specs.Sets.{is_put, put_of, kept_of, wanted_of}
 
-at_front : {X : Type 0} (xs : List X) (i : ℕ) (x : X) → i < length xs → x ≡ get_or xs i x → drop i xs ≡ x ∷ drop (i + 1) xs
-at_front xs i x l at = rw add-one (drop-cons xs i x l ∙ ap (λ y. y ∷ drop (suc i) xs) (sym at))
+at_front : (ps : List Place) (i : ℕ) (d p : Place) → i < length ps → p ≡ get_or ps i d → drop i ps ≡ p ∷ drop (i + 1) ps
+at_front ps i d p l at = rw add-one (drop-cons ps i d l ∙ ap (λ y. y ∷ drop (suc i) ps) (sym at))
 
-pub next_put : (taken : Taken) (root : Tree) (pair : Pair) (old new whole ps : List Place) (i : ℕ) (p : Place) → i < length ps → p ≡ get_or ps i p
+pub next_put : (taken : Taken) (root : Tree) (pair : Pair) (old new whole ps : List Place) (i : ℕ) (d p : Place) → i < length ps → p ≡ get_or ps i d
     → old ++ put_of taken root pair (drop i ps) ≡ whole → new ≡ old ++ (if is_put taken root pair p then p ∷ [] else [])
     → new ++ put_of taken root pair (drop (i + 1) ps) ≡ whole
-next_put taken root pair old new whole ps i p l at h n =
+next_put taken root pair old new whole ps i d p l at h n =
     ap (λ z. z ++ put_of taken root pair (drop (i + 1) ps)) n ∙ append_assoc old _ (put_of taken root pair (drop (i + 1) ps))
-    ∙ ap (λ z. old ++ put_of taken root pair z) (sym (at_front ps i p l at)) ∙ h
+    ∙ ap (λ z. old ++ put_of taken root pair z) (sym (at_front ps i d p l at)) ∙ h
 
 pub all_put : (taken : Taken) (root : Tree) (pair : Pair) (old whole ps : List Place) (n : ℕ) → length ps ≤ n
     → old ++ put_of taken root pair (drop n ps) ≡ whole → old ≡ whole

@@ -37,8 +37,3 @@ kept_of taken root pair = if is_kept taken root pair (place pair.first.node Val)
 -- those of a list of events that are taken, and behind them the one that is kept back
 abbrev pub wanted_of : Taken → Tree → Pair → List Place → List Place
 wanted_of taken root pair ps = put_of taken root pair ps ++ kept_of taken root pair
-
--- the pair is of these two
-pub data IsPairOf (d e : Place) : Pair → Type 0 where
-  as_given : IsPairOf d e (record { first = d; second = e })
-  turned : IsPairOf d e (record { first = e; second = d })

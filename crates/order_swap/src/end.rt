@@ -1,5 +1,5 @@
 // How an order ends.
-ghost use Rattle.std.specs.Prelude.{◌≡◌, ◌↔◌, IsTrue};
+ghost use Rattle.std.specs.Prelude.{◌≡◌, ◌≢◌, ◌↔◌, IsTrue};
 
 use ub_base::{Bytes, Cause, Clause};
 
@@ -20,8 +20,14 @@ pub enum End {
     Unplaced,
 }
 
-/// Whether two ends are equal.
-pub fn are_equal(end: &End, other: &End) -> bool
+/// Whether two ends differ.
+pub fn differ(end: &End, other: &End) -> bool
+    ensures { IsTrue result ↔ (other.now ≢ end.now) }
+{
+    !are_equal(end, other)
+}
+
+fn are_equal(end: &End, other: &End) -> bool
     ensures { IsTrue result ↔ (other.now ≡ end.now) }
 {
     match end {

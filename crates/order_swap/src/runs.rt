@@ -1,12 +1,11 @@
 // Both orders of two events.
 ghost use Rattle.std.specs.Prelude.{◌≡◌, ◌≤◌, ◌↔◌, ◌≢◌, IfOk, IsTrue, IfSome};
-ghost use Rattle.ub_base.specs.Frames.{IsFrameList};
 ghost use Rattle.order_swap.specs.Ends.{IsOutOfSteps};
-ghost use Rattle.order_swap.specs.Turns.{IsTurn, place_of};
+ghost use Rattle.order_swap.specs.Turns.{IsTurn};
 
 use crate::answer::Swapped;
 use crate::course::follow;
-use crate::end::are_equal;
+use crate::end::differ;
 use crate::guide::Canonical;
 use crate::swap::Swapper;
 use addr_map::{AddrMap, Mode};
@@ -34,8 +33,8 @@ pub fn swap_run(
 ) -> Result<Swapped, NoMemory>
     requires { budget ≤ 100000000 }
 
-    // In the turn of the two events `first` is taken only where `second` isn't evaluated or is done.
-    ensures turn { IfOk result (λ s. IfSome s.turn (IsTurn (place_of event) (place_of against))) }
+    // In its turn `first` is taken only where `second` isn't evaluated or is done.
+    ensures turn { IfOk result (λ s. IfSome s.turn IsTurn) }
     ensures differs { IfOk result (λ s. IsTrue s.differs ↔ (s.canonical.0 ≢ s.swapped.0)) }
     ensures canonical_within { IfOk result (λ s. s.canonical.1 ≤ budget) }
     ensures swapped_within { IfOk result (λ s. s.swapped.1 ≤ budget) }
@@ -67,7 +66,7 @@ pub fn swap_run(
         budget,
         &mut swapper,
     )?;
-    let differs = !are_equal(&swapped.end, &canonical.end);
+    let differs = differ(&swapped.end, &canonical.end);
     Ok(Swapped {
         canonical: (canonical.end, canonical.picks),
         swapped: (swapped.end, swapped.picks),

@@ -4,7 +4,7 @@ ghost use Rattle.c_typed.specs.Tree.{tree_of, size as nodes_of};
 ghost use Rattle.c_typed.specs.Order.{same_place};
 ghost use Rattle.seq_order.specs.Marked.{taken_in};
 ghost use Rattle.ub_base.specs.Names.{same_kind};
-ghost use Rattle.order_swap.specs.Sets.{needs, stores_needed, is_kept, is_put, put_of, kept_of, wanted_of, IsPairOf};
+ghost use Rattle.order_swap.specs.Sets.{needs, stores_needed, is_kept, is_put, put_of, kept_of, wanted_of};
 
 use c_typed::{Place, Typed};
 use seq_order::{Taken, before, due};
@@ -128,7 +128,8 @@ pub fn put_wanted(
         → OnOk result (wanted.new.items ≡ wanted.old.items ++ wanted_of (taken_in taken.now) (tree_of root.now) pair places.now) }
 {
     put_first(root, pair, taken, places, wanted)?;
-    put_kept(root, pair, taken, wanted)
+    put_kept(root, pair, taken, wanted)?;
+    Ok(())
 }
 
 fn put_kept(
@@ -180,9 +181,7 @@ fn put_one(
 }
 
 /// The two events, the one that stands earlier in this list first.
-pub fn in_order(places: &[Place], event: Place, against: Place) -> Pair
-    ensures { IsPairOf event against result }
-{
+pub fn in_order(places: &[Place], event: Place, against: Place) -> Pair {
     for place in places {
         if *place == event {
             return Pair {

@@ -1,11 +1,10 @@
 // The order that takes the second of two events first.
-ghost use Rattle.std.specs.Prelude.{◌≡◌, ◌≤◌, ◌<◌, ◌^◌, ◌↔◌, ◌&&◌, not, IfOk, OnOk, IsTrue, IfSome, Some, true};
+ghost use Rattle.std.specs.Prelude.{◌≡◌, ◌<◌, ◌^◌, ◌&&◌, not, IfSome, Some, None, true, false};
 ghost use Rattle.c_typed.specs.Tree.{tree_of, size as nodes_of};
 ghost use Rattle.c_typed.specs.Decide.{due_in};
+ghost use Rattle.c_typed.specs.Order.{same_place};
 ghost use Rattle.seq_order.specs.Marked.{taken_in};
-ghost use Rattle.order_swap.specs.Ends.{IsOutOfSteps};
-ghost use Rattle.order_swap.specs.Sets.{IsPairOf};
-ghost use Rattle.order_swap.specs.Turns.{HasPair, IsFair, IsTurn, place_of};
+ghost use Rattle.order_swap.specs.Turns.{is_fair, IsTurn, place_of};
 
 use crate::answer::{Step, Steps, Turn};
 use crate::guide::Guide;
@@ -25,6 +24,13 @@ fn place_of(event: Event) -> Place
     }
 }
 
+// Whether the first event would be taken while the second waits.
+fn is_early(place: Place, first: Place, waits: bool) -> bool
+    ensures { result ≡ (same_place place first && waits) }
+{
+    same_place(place, first) && waits
+}
+
 /// Takes the later of two events of a turn before the earlier one, and elsewhere the canonical order; keeps what is taken in the
 /// turn.
 #[derive(Drop)]
@@ -41,8 +47,7 @@ pub struct Swapper {
     waits: bool,
     // whether the second is done
     done: bool,
-    ghost both: { HasPair event against pair },
-    ghost fair: { IsFair pair steps },
+    ghost fair: { is_fair pair steps ≡ true },
 }
 
 impl Swapper {
@@ -65,7 +70,7 @@ impl Swapper {
 
     /// The turn, where the order came to it.
     pub fn into_turn(self) -> Option<Turn>
-        ensures { IfSome result (IsTurn self.entry.event self.entry.against) }
+        ensures { IfSome result IsTurn }
     {
         let Swapper { pair, steps, .. } = self;
         let pair = pair?;
@@ -82,10 +87,17 @@ impl Swapper {
             Some(pair) => pair,
             None => {
                 let pair = in_order(places, self.event, self.against);
-                self.pair = Some(pair);
+                self.begin(pair);
                 pair
             }
         }
+    }
+
+    // The turn begins.
+    fn begin(&mut self, pair: Pair)
+        requires { self.old.pair ≡ None }
+    {
+        self.pair = Some(pair);
     }
 
     // Whether the second is evaluated and not done where these operands are chosen.
@@ -96,18 +108,26 @@ impl Swapper {
         self.waits = due(root, pair.second, taken) && !self.done;
     }
 
+    fn keep(&mut self, pair: Pair, step: Step) -> Result<(), NoMemory>
+        requires known { self.old.pair ≡ Some pair }
+        requires fair { (same_place step.place pair.first && step.waits) ≡ false }
+    {
+        self.steps.add(step)?;
+        Ok(())
+    }
+
     fn add(&mut self, pair: Pair, place: Place) -> Result<(), NoMemory>
         requires { self.old.pair ≡ Some pair }
     {
         // The first event is taken only where the second isn't evaluated or is done.
-        if same_place(place, pair.first) && self.waits {
+        if is_early(place, pair.first, self.waits) {
             return Err(NoMemory);
         }
         let step = Step {
             place,
             waits: self.waits,
         };
-        self.steps.add(step)?;
+        self.keep(pair, step)?;
         if same_place(place, pair.second) {
             self.done = true;
         }
