@@ -80,7 +80,10 @@ fn copied(alloc: Global, frames: &Frames) -> Result<Frames, NoMemory> {
     let mut copy = Frames::new(alloc);
     for number in 0..frames.len() {
         let (parent, turn, node) = frames.row(Frame(number + 1));
-        if parent.0 > copy.len() || copy.find(parent, turn, node).is_some() {
+        if copy.len() == u32::MAX
+            || parent.0 > copy.len()
+            || copy.find(parent, turn, node).is_some()
+        {
             return Err(NoMemory);
         }
         copy.call(parent, turn, node)?;
