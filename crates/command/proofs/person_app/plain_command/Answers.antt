@@ -1,0 +1,12 @@
+use Rattle.command.proofs.Apps.{with_subcommand_same}
+use Rattle.command.proofs.person_app.plain_command.Goals as goal
+
+pub returns-clause-app : goal.returns-clause-app
+returns-clause-app c =
+    with_subcommand_same _ _ _ _ _ c.in_ok-command-4.ensures.app
+    (with_subcommand_same _ _ _ _ _ c.in_ok-command-3.ensures.app
+    (with_subcommand_same _ _ _ _ _ c.in_ok-command-2.ensures.app
+    (with_subcommand_same _ _ _ _ _ c.in_ok-command.ensures.app c.cub_without_commands-command.ensures.app c.in_ok-explain_command.ensures.app)
+    c.in_ok-batch_command.ensures.app)
+    c.in_ok-help_command.ensures.app)
+    c.version_command.ensures.app
