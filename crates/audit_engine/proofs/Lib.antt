@@ -1,2 +1,3 @@
 mod Audits
 mod Pages
+mod Reports

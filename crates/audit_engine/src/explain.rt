@@ -1,20 +1,20 @@
 // The report of an audit, and why.
 ghost use Rattle.std.specs.Prelude.{◌≡◌, ◌≤◌, ◌^◌, true, false, None, length, IfOk, option_copied};
 ghost use Rattle.audit_batch.specs.Moment.{moment};
-ghost use Rattle.audit_top.specs.Cause.{stopped};
-ghost use Rattle.audit_top.specs.Report.{report, status};
 ghost use Rattle.audit_engine.specs.Engine.{Explained, Explains, IsJudgedPage, IsPage, IsPageOf, is_untold};
 
+use crate::judged::stopped_report;
 use addr_map::Mode;
-use audit_sources::{FetchFault, Sources, fetch_sources};
-use audit_top::{Answer, judged, stopped};
+use audit_sources::{Sources, fetch_sources};
+use audit_top::{Answer, judged};
 use command::ExplainRequest;
 use explain_report::{Asked, explanation, explanation_json};
 use person_top::Page;
 use std::alloc::Global;
 use ub_base::{Bytes, Files, NoMemory};
 
-fn mode_of(is_tight: bool) -> Mode {
+/// Where the objects of a run stand.
+pub fn mode_of(is_tight: bool) -> Mode {
     if is_tight { Mode::Tight } else { Mode::Spaced }
 }
 
@@ -140,18 +140,6 @@ fn judged_page<F: Files>(
     page_of(alloc, request, sources, &answer)
 }
 
-// The page where a file isn't fetched: the report alone.
-fn stopped_page(alloc: Global, fault: FetchFault) -> Result<Page, NoMemory>
-    ensures status { IfOk result (λ page. page.status ≡ status (stopped fault)) }
-    ensures page { IfOk result (λ page. page.text ≡ report (stopped fault)) }
-{
-    let answer = stopped(fault);
-    Ok(Page {
-        status: answer.status(),
-        text: answer.report(alloc)?,
-    })
-}
-
 /// The page of a request.
 pub fn explained<F: Files>(
     alloc: Global,
@@ -167,6 +155,6 @@ pub fn explained<F: Files>(
 {
     match fetch_sources(alloc, request.audit.file, request.audit.input, files) {
         Ok(sources) => judged_page(alloc, request, &sources, files),
-        Err(fault) => stopped_page(alloc, fault),
+        Err(fault) => stopped_report(alloc, fault),
     }
 }

@@ -2,6 +2,8 @@
 #![tactic(auto)]
 
 mod engine;
+mod errors;
 mod explain;
+mod judged;
 
 pub use engine::Engine;

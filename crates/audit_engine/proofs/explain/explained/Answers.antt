@@ -13,4 +13,4 @@ pub returns-in-Err-clause-page : goal.returns-in-Err-clause-page
 returns-in-Err-clause-page g c =
     stopped_page (moment (g.F.Files.held c.args.files.now) (g.F.Files.read_faults c.args.files.now) (g.F.Files.write_faults c.args.files.now))
     (moment (g.F.Files.held c.fetch_sources.new.files) (g.F.Files.read_faults c.fetch_sources.new.files) (g.F.Files.write_faults c.fetch_sources.new.files))
-    c.args.request.now c.in-Err.fault c.stopped_page.result c.in-Err.ensures.fault c.stopped_page.ensures.status c.stopped_page.ensures.page
+    c.args.request.now c.in-Err.fault c.stopped_report.result c.in-Err.ensures.fault c.stopped_report.ensures.status c.stopped_report.ensures.text

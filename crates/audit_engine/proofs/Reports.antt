@@ -1,0 +1,64 @@
+-- The reports of answers, which further looks put.
+use Rattle.std.proofs.Common.{◌≡◌, ◌⊎◌, ℕ, List, [], Option, None, Result, Ok, Err, IfOk, option_copied, subst, inl, inr, refl}
+use Rattle.audit_batch.specs.Moment.{Moment}
+use Rattle.audit_sources.specs.Fetching.{HasInput, IsWhole, Stops, wanted}
+use Rattle.audit_sources.specs.declared.fetch.FetchFault.{FetchFault}
+use Rattle.audit_sources.specs.declared.role.Role.TheVariants.{Source}
+use Rattle.audit_engine.proofs.Audits.{judged_audit, stopped_audit}
+use Rattle.audit_engine.specs.Engine.{disk_at}
+use Rattle.audit_engine.specs.Looks.{ErrorsTold, IsReport, IsTextReport, MayWrite}
+use Rattle.audit_top.specs.Cause.{TextCause, stopped}
+use Rattle.audit_top.specs.Report.{report, status}
+use Rattle.audit_top.specs.declared.answer.Answer.{Answer}
+use Rattle.command.specs.declared.request.AuditRequest.{AuditRequest}
+use Rattle.person_top.specs.declared.explain.Page.{Page}
+use Rattle.person_top.specs.declared.explore.Sheet.{Sheet}
+
+-- the report of a judged text
+pub text_report : {E : Type 0} (request : AuditRequest) (before now : ℕ) (source : List ℕ) (answer : Answer) (result : Result Page E)
+    → TextCause request before now source answer → IfOk result (λ page. page.status ≡ status answer) → IfOk result (λ page. page.text ≡ report answer)
+    → IfOk result (λ page. IsTextReport request before now source page.status page.text)
+text_report request before now source answer (Ok page) why code text = record { answer = answer; why = why; code = code; page = text }
+text_report request before now source answer (Err e) why code text = code
+
+-- .. is that of the request whose files are fetched
+fetched_report : (was is : Moment) (request : AuditRequest) (before : ℕ) (source bytes : List ℕ) (said : ℕ) (text : List ℕ)
+    → IsWhole was.held (Source, request.file.now) source → HasInput was.held (option_copied request.input) bytes → before ≡ was.writes
+    → IsTextReport request before is.writes source said text → IsReport was is request said text
+fetched_report was is request before source bytes said text whole input same so = record {
+  answer = so.answer;
+  cause = judged_audit (disk_at was) (disk_at is) request so.answer (record {
+    text = source;
+    bytes = bytes;
+    source = whole;
+    input = input;
+    why = subst (λ n. TextCause request n is.writes source so.answer) same so.why;
+  });
+  code = so.code;
+  page = so.page;
+}
+
+-- the sheet of a request whose files are fetched
+pub fetched_errors : {E : Type 0} (was is : Moment) (request : AuditRequest) (before : ℕ) (source bytes : List ℕ) (result : Result Sheet E)
+    → IsWhole was.held (Source, request.file.now) source → HasInput was.held (option_copied request.input) bytes → before ≡ was.writes
+    → IfOk result (λ sheet. IsTextReport request before is.writes source sheet.status sheet.text)
+    → IfOk result (λ sheet. MayWrite source sheet.errors) → IfOk result (λ sheet. ErrorsTold was is request sheet.status sheet.text sheet.errors)
+fetched_errors was is request before source bytes (Ok sheet) whole input same so may =
+    (fetched_report was is request before source bytes sheet.status sheet.text whole input same so, inr (source, whole, may))
+fetched_errors was is request before source bytes (Err e) whole input same so may = so
+
+-- the sheet of a request whose files aren't fetched
+pub stopped_errors : {E : Type 0} (was is : Moment) (request : AuditRequest) (fault : FetchFault) (result : Result Sheet E)
+    → Stops was.held was.reads is.reads (wanted request.file.now (option_copied request.input)) fault
+    → IfOk result (λ sheet. sheet.status ≡ status (stopped fault)) → IfOk result (λ sheet. sheet.text ≡ report (stopped fault))
+    → IfOk result (λ sheet. sheet.errors ≡ []) → IfOk result (λ sheet. ErrorsTold was is request sheet.status sheet.text sheet.errors)
+stopped_errors was is request fault (Ok sheet) stops code text none = (
+  record {
+    answer = stopped fault;
+    cause = stopped_audit (disk_at was) (disk_at is) request fault (stopped fault) refl stops;
+    code = code;
+    page = text;
+  },
+  inl none,
+)
+stopped_errors was is request fault (Err e) stops code text none = code
