@@ -1,12 +1,25 @@
 -- The reports of answers, which further looks put.
-use Rattle.std.proofs.Common.{◌≡◌, ◌⊎◌, ℕ, List, [], Option, None, Result, Ok, Err, IfOk, option_copied, subst, inl, inr, refl}
+use Rattle.std.proofs.Common.{◌≡◌, ◌⊎◌, ◌++◌, ℕ, List, [], Option, None, Result, Ok, Err, IfOk, option_copied, sym, subst, inl, inr, refl}
 use Rattle.audit_batch.specs.Moment.{Moment}
 use Rattle.audit_sources.specs.Fetching.{HasInput, IsWhole, Stops, wanted}
 use Rattle.audit_sources.specs.declared.fetch.FetchFault.{FetchFault}
 use Rattle.audit_sources.specs.declared.role.Role.TheVariants.{Source}
 use Rattle.audit_engine.proofs.Audits.{judged_audit, stopped_audit}
 use Rattle.audit_engine.specs.Engine.{disk_at}
-use Rattle.audit_engine.specs.Looks.{ErrorsTold, IsReport, IsTextReport, MayWrite}
+use Rattle.audit_engine.specs.Looks.{
+  ErrorsTold,
+  IsFileStatic,
+  IsFileStory,
+  IsFileSwap,
+  IsReport,
+  IsStoppedReport,
+  IsTextReport,
+  IsTextStatic,
+  IsTextStory,
+  IsTextSwap,
+  MayWrite,
+  Quiet,
+}
 use Rattle.audit_top.specs.Cause.{TextCause, stopped}
 use Rattle.audit_top.specs.Report.{report, status}
 use Rattle.audit_top.specs.declared.answer.Answer.{Answer}
@@ -47,18 +60,50 @@ fetched_errors was is request before source bytes (Ok sheet) whole input same so
     (fetched_report was is request before source bytes sheet.status sheet.text whole input same so, inr (source, whole, may))
 fetched_errors was is request before source bytes (Err e) whole input same so may = so
 
+-- the report where a file isn't fetched
+stopped_report : (was is : Moment) (request : AuditRequest) (fault : FetchFault) (said : ℕ) (text : List ℕ)
+    → Stops was.held was.reads is.reads (wanted request.file.now (option_copied request.input)) fault → IsStoppedReport fault said text
+    → IsReport was is request said text
+stopped_report was is request fault said text stops so = record {
+  answer = stopped fault;
+  cause = stopped_audit (disk_at was) (disk_at is) request fault (stopped fault) refl stops;
+  code = so.0;
+  page = so.1;
+}
+
 -- the sheet of a request whose files aren't fetched
 pub stopped_errors : {E : Type 0} (was is : Moment) (request : AuditRequest) (fault : FetchFault) (result : Result Sheet E)
     → Stops was.held was.reads is.reads (wanted request.file.now (option_copied request.input)) fault
     → IfOk result (λ sheet. sheet.status ≡ status (stopped fault)) → IfOk result (λ sheet. sheet.text ≡ report (stopped fault))
     → IfOk result (λ sheet. sheet.errors ≡ []) → IfOk result (λ sheet. ErrorsTold was is request sheet.status sheet.text sheet.errors)
-stopped_errors was is request fault (Ok sheet) stops code text none = (
-  record {
-    answer = stopped fault;
-    cause = stopped_audit (disk_at was) (disk_at is) request fault (stopped fault) refl stops;
-    code = code;
-    page = text;
-  },
-  inl none,
-)
+stopped_errors was is request fault (Ok sheet) stops code text none =
+    (stopped_report was is request fault sheet.status sheet.text stops (code, text), inl none)
 stopped_errors was is request fault (Err e) stops code text none = code
+
+-- what a page may say, its sheet says, with nothing for standard error
+pub quiet_sheet : {E : Type 0} (answers : ℕ → List ℕ → Type 0) (said : ℕ) (text : List ℕ) (result : Result Sheet E)
+    → IfOk result (λ sheet. sheet.status ≡ said) → IfOk result (λ sheet. sheet.text ≡ text) → IfOk result (λ sheet. sheet.errors ≡ [])
+    → answers said text → IfOk result (λ sheet. Quiet answers sheet.status sheet.text sheet.errors)
+quiet_sheet answers said text (Ok sheet) code page none may =
+    (subst (λ s. answers s sheet.text) (sym code) (subst (answers said) (sym page) may), none)
+quiet_sheet answers said text (Err e) code page none may = code
+
+-- both orders, or the report, of a file that is fetched
+pub fetched_swap : (was is : Moment) (request : AuditRequest) (before : ℕ) (source bytes : List ℕ) (said : ℕ) (text : List ℕ)
+    → IsWhole was.held (Source, request.file.now) source → HasInput was.held (option_copied request.input) bytes → before ≡ was.writes
+    → IsTextSwap request before is.writes source said text → IsFileSwap was is request said text
+fetched_swap was is request before source bytes said text whole input same (inl swap) = inl (source, whole, swap)
+fetched_swap was is request before source bytes said text whole input same (inr so) =
+    inr (fetched_report was is request before source bytes said text whole input same so)
+
+pub stopped_swap : (was is : Moment) (request : AuditRequest) (fault : FetchFault) (said : ℕ) (text : List ℕ)
+    → Stops was.held was.reads is.reads (wanted request.file.now (option_copied request.input)) fault → IsStoppedReport fault said text
+    → IsFileSwap was is request said text
+stopped_swap was is request fault said text stops so = inr (stopped_report was is request fault said text stops so)
+
+-- a story of a file that is fetched
+pub fetched_story : (was is : Moment) (request : AuditRequest) (before : ℕ) (source bytes : List ℕ) (said : ℕ) (text : List ℕ)
+    → IsWhole was.held (Source, request.file.now) source → HasInput was.held (option_copied request.input) bytes → before ≡ was.writes
+    → IsTextStory request before is.writes source said text → IsFileStory was is request said text
+fetched_story was is request before source bytes said text whole input same (front, body, of, so, is_text) =
+    inl (source, front, body, whole, of, fetched_report was is request before source bytes said body whole input same so, is_text)

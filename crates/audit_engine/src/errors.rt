@@ -1,18 +1,16 @@
 // What a program writes to its standard error, beside the report of its audit.
-ghost use Rattle.std.specs.Prelude.{◌≡◌, ◌≤◌, ◌^◌, None, [], length, IfOk, option_copied};
+ghost use Rattle.std.specs.Prelude.{◌≡◌, ◌≤◌, ◌^◌, None, length, IfOk, option_copied};
 ghost use Rattle.audit_batch.specs.Moment.{moment};
-ghost use Rattle.audit_top.specs.Cause.{stopped};
-ghost use Rattle.audit_top.specs.Report.{report, status};
 ghost use Rattle.audit_engine.specs.Looks.{ErrorsTold, IsTextReport, MayWrite};
 
-use crate::explain::mode_of;
-use crate::judged::{judged_report, stopped_report};
-use audit_sources::{FetchFault, Sources, fetch_sources};
+use crate::judged::judged_report;
+use crate::looks::{run_audited, stopped_sheet};
+use audit_sources::{Sources, fetch_sources};
 use audit_top::{FrontFault, program_of};
 use c_typed::Program;
 use command::AuditRequest;
 use elaborate::elaborate;
-use footprint_run::{Audit, audit_run};
+use footprint_run::Audit;
 use person_top::{Page, Sheet};
 use std::alloc::Global;
 use ub_base::{Bytes, Files, NoMemory};
@@ -27,8 +25,7 @@ fn errors_of(
     requires { request.now.steps ≤ 100000000 }
 {
     let core = elaborate(alloc, program)?;
-    let mode = mode_of(request.is_tight);
-    let audit = audit_run(alloc, &core, input, &request.args, mode, request.steps)?;
+    let audit = run_audited(alloc, &core, request, input)?;
     let Audit { errors, .. } = audit;
     Ok(errors)
 }
@@ -62,21 +59,6 @@ fn judged_sheet<F: Files>(
 {
     let Page { status, text } = judged_report(alloc, request, sources, files)?;
     let errors = written(alloc, request, sources)?;
-    Ok(Sheet {
-        status,
-        text,
-        errors,
-    })
-}
-
-// The sheet where a file isn't fetched.
-fn stopped_sheet(alloc: Global, fault: FetchFault) -> Result<Sheet, NoMemory>
-    ensures status { IfOk result (λ sheet. sheet.status ≡ status (stopped fault)) }
-    ensures text { IfOk result (λ sheet. sheet.text ≡ report (stopped fault)) }
-    ensures errors { IfOk result (λ sheet. sheet.errors ≡ []) }
-{
-    let Page { status, text } = stopped_report(alloc, fault)?;
-    let errors = Bytes::from_slice(alloc, b"")?;
     Ok(Sheet {
         status,
         text,

@@ -5,5 +5,9 @@ mod engine;
 mod errors;
 mod explain;
 mod judged;
+mod looks;
+mod statics;
+mod story;
+mod swap;
 
 pub use engine::Engine;

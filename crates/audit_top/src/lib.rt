@@ -13,6 +13,7 @@ mod weigh;
 mod words;
 
 pub use answer::{Answer, Refusal};
+pub use certify::picks_of;
 pub use front::{FrontFault, program_of};
 pub use judge::judged;
 pub use top::{audit, audit_main, stopped};

@@ -1,12 +1,12 @@
 -- The commands for a person, as a simple command of `clap`: `explain FILE [--input F] [--steps N] [--tight] [--json] [--text] [ARGS]`,
--- `batch NAME.. [--program F] [--list] [--steps N] [--tight]`, `help [COMMAND]`, `version` and
--- `errors FILE [--input F] [--steps N] [--tight] [ARGS]` (own).
+-- `batch NAME.. [--program F] [--list] [--steps N] [--tight]`, `help [COMMAND]`, `version`, `static FILE`, `errors` and `swap` with
+-- `FILE [--input F] [--steps N] [--tight] [ARGS]`, and `story` with these and NAME behind FILE (own).
 use Rattle.std.specs.Prelude.{ℕ, List, true, codes, Some}
 use Rattle.clap.specs.Lexer.{usize_max}
 use Rattle.clap.specs.Simple.{App, new_app, new_rule, with_rule, with_subcommand}
 use Rattle.clap.specs.Walk.{Rule}
 use Rattle.clap.specs.declared.builder.action.ArgAction.TheVariants.{Set, SetTrue}
-use Rattle.command.specs.App.{args_rule, cub_alone, steps_rule, tight_rule, with_run_rules}
+use Rattle.command.specs.App.{args_rule, cub_alone, file_rule, steps_rule, tight_rule, with_run_rules}
 
 abbrev pub json_rule : Rule
 json_rule = record (new_rule (codes "json")) { long = Some (codes "json"); action = Some SetTrue }
@@ -43,9 +43,21 @@ version_app = new_app (codes "version")
 abbrev pub run_app : List ℕ → App
 run_app name = with_rule (with_run_rules (new_app name)) args_rule
 
+abbrev pub static_app : App
+static_app = with_rule (new_app (codes "static")) file_rule
+
+-- the text of an object
+abbrev pub object_rule : Rule
+object_rule = record (new_rule (codes "NAME")) { required = true }
+
+abbrev pub story_app : App
+story_app = with_rule (with_rule (with_run_rules (new_app (codes "story"))) object_rule) args_rule
+
 -- with the commands that look further at a program or its run
 abbrev pub with_explorations : App → App
-with_explorations app = with_subcommand app (run_app (codes "errors")).top
+with_explorations app =
+    with_subcommand (with_subcommand (with_subcommand (with_subcommand app (run_app (codes "errors")).top) (run_app (codes "swap")).top) static_app.top)
+    story_app.top
 
 abbrev pub plain_app : App
 plain_app =

@@ -3,10 +3,11 @@ ghost use Rattle.std.specs.Prelude.{◌≡◌, false, IfOk};
 ghost use Rattle.clap.specs.Simple.{app_of};
 ghost use Rattle.clap.specs.Walk.{rule_of};
 ghost use Rattle.clap.specs.declared.builder.command.Command.TheViews.{out-Command as fields_of};
-ghost use Rattle.command.specs.PersonApp.{json_rule, text_rule, names_rule, program_rule, list_rule, topic_rule, explain_app, batch_app, help_app, version_app, run_app, with_explorations, plain_app, person_app};
+ghost use Rattle.command.specs.PersonApp.{json_rule, text_rule, names_rule, program_rule, list_rule, topic_rule, object_rule, explain_app, batch_app, help_app, version_app, run_app, static_app, story_app, with_explorations, plain_app, person_app};
 
 use crate::app::{
-    args_arg, cub_without_commands, steps_arg, tight_arg, with_arg, with_command, with_run_args,
+    args_arg, cub_without_commands, file_arg, steps_arg, tight_arg, with_arg, with_command,
+    with_run_args,
 };
 use clap::{Arg, ArgAction, Command};
 use std::alloc::{AllocError, Global};
@@ -61,6 +62,13 @@ fn topic_arg<'a>(alloc: Global) -> Arg<'a>
     Arg::new(alloc, "COMMAND")
 }
 
+fn object_arg<'a>(alloc: Global) -> Arg<'a>
+    ensures rule { rule_of result ≡ object_rule }
+    ensures local { result.global ≡ false }
+{
+    Arg::new(alloc, "NAME").required(true)
+}
+
 fn explain_command<'a>(alloc: Global) -> Result<Command<'a>, AllocError>
     ensures app { IfOk result (λ command. app_of command ≡ explain_app) }
     ensures local { IfOk result (λ command. (fields_of command).has_globals ≡ false) }
@@ -111,6 +119,25 @@ fn run_command<'a>(alloc: Global, name: &'a str) -> Result<Command<'a>, AllocErr
     Ok(command)
 }
 
+fn static_command<'a>(alloc: Global) -> Result<Command<'a>, AllocError>
+    ensures app { IfOk result (λ command. app_of command ≡ static_app) }
+    ensures local { IfOk result (λ command. (fields_of command).has_globals ≡ false) }
+{
+    let command = Command::new(alloc, "static");
+    let command = with_arg(command, file_arg(alloc))?;
+    Ok(command)
+}
+
+fn story_command<'a>(alloc: Global) -> Result<Command<'a>, AllocError>
+    ensures app { IfOk result (λ command. app_of command ≡ story_app) }
+    ensures local { IfOk result (λ command. (fields_of command).has_globals ≡ false) }
+{
+    let command = with_run_args(alloc, Command::new(alloc, "story"))?;
+    let command = with_arg(command, object_arg(alloc))?;
+    let command = with_arg(command, args_arg(alloc))?;
+    Ok(command)
+}
+
 // Adds the commands that look further at a program or its run.
 fn with_explorations<'a>(alloc: Global, command: Command<'a>) -> Result<Command<'a>, AllocError>
     requires no_globals { (fields_of command).has_globals ≡ false }
@@ -118,6 +145,9 @@ fn with_explorations<'a>(alloc: Global, command: Command<'a>) -> Result<Command<
     ensures local { IfOk result (λ new. (fields_of new).has_globals ≡ false) }
 {
     let command = with_command(command, run_command(alloc, "errors")?)?;
+    let command = with_command(command, run_command(alloc, "swap")?)?;
+    let command = with_command(command, static_command(alloc)?)?;
+    let command = with_command(command, story_command(alloc)?)?;
     Ok(command)
 }
 

@@ -1,6 +1,6 @@
 // The top call of the commands for a person.
 ghost use Rattle.std.specs.Prelude.{◌↔◌, IsTrue, map, string_bytes, option_copied};
-ghost use Rattle.command.specs.PersonAsked.{IsPersonName};
+ghost use Rattle.command.specs.PersonAsked.{IsExplorationName, IsPersonName};
 ghost use Rattle.audit_batch.specs.Moment.{moment};
 ghost use Rattle.person_top.specs.Ends.{EndsTold, device};
 ghost use Rattle.person_top.specs.Person.{IsForPerson, PersonEnds, RequestEnds, IsBounded, IsVersion, tells};
@@ -20,11 +20,22 @@ use ub_base::{Files, Sink};
 
 const USAGE: u8 = 10;
 
+// A word names a command that looks further at a program or its run.
+fn is_exploration_name(word: &str) -> bool
+    ensures { IsTrue result ↔ IsExplorationName word.now }
+{
+    word == "errors" || word == "swap" || word == "static" || word == "story"
+}
+
 // A word names a command for a person.
 fn is_name(word: &str) -> bool
     ensures { IsTrue result ↔ IsPersonName word.now }
 {
-    word == "explain" || word == "batch" || word == "help" || word == "version" || word == "errors"
+    word == "explain"
+        || word == "batch"
+        || word == "help"
+        || word == "version"
+        || is_exploration_name(word)
 }
 
 /// Whether words are for these commands: the first one names one of them.

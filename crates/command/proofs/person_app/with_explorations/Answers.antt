@@ -3,4 +3,11 @@ use Rattle.command.proofs.Apps.{with_subcommand_same}
 use Rattle.command.proofs.person_app.with_explorations.Goals as goal
 
 pub returns-clause-app : goal.returns-clause-app
-returns-clause-app c = with_subcommand_same _ _ _ _ _ c.in_ok-command.ensures.app refl c.in_ok-run_command.ensures.app
+returns-clause-app c =
+    with_subcommand_same _ _ _ _ _ c.in_ok-command-4.ensures.app
+    (with_subcommand_same _ _ _ _ _ c.in_ok-command-3.ensures.app
+    (with_subcommand_same _ _ _ _ _ c.in_ok-command-2.ensures.app
+    (with_subcommand_same _ _ _ _ _ c.in_ok-command.ensures.app refl c.in_ok-run_command.ensures.app)
+    c.in_ok-run_command-2.ensures.app)
+    c.in_ok-static_command.ensures.app)
+    c.in_ok-story_command.ensures.app

@@ -1,0 +1,55 @@
+// What further looks share.
+ghost use Rattle.std.specs.Prelude.{◌≡◌, ◌≤◌, [], IfOk};
+ghost use Rattle.audit_top.specs.Cause.{stopped};
+ghost use Rattle.audit_top.specs.Report.{report, status};
+ghost use Rattle.elaborate.specs.Expressions.{program_trees};
+ghost use Rattle.footprint_run.specs.Apart.{StandsApart};
+
+use crate::explain::mode_of;
+use crate::judged::stopped_report;
+use audit_sources::FetchFault;
+use command::AuditRequest;
+use core_ir::CoreProgram;
+use footprint_run::{Audit, audit_run};
+use person_top::{Page, Sheet};
+use std::alloc::Global;
+use ub_base::{Bytes, NoMemory};
+
+/// A page, with nothing for standard error.
+pub fn quiet(alloc: Global, page: Page) -> Result<Sheet, NoMemory>
+    ensures status { IfOk result (λ sheet. sheet.status ≡ page.status) }
+    ensures text { IfOk result (λ sheet. sheet.text ≡ page.text) }
+    ensures errors { IfOk result (λ sheet. sheet.errors ≡ []) }
+{
+    let Page { status, text } = page;
+    let errors = Bytes::from_slice(alloc, b"")?;
+    Ok(Sheet {
+        status,
+        text,
+        errors,
+    })
+}
+
+/// The sheet where a file isn't fetched.
+pub fn stopped_sheet(alloc: Global, fault: FetchFault) -> Result<Sheet, NoMemory>
+    ensures status { IfOk result (λ sheet. sheet.status ≡ status (stopped fault)) }
+    ensures text { IfOk result (λ sheet. sheet.text ≡ report (stopped fault)) }
+    ensures errors { IfOk result (λ sheet. sheet.errors ≡ []) }
+{
+    let page = stopped_report(alloc, fault)?;
+    quiet(alloc, page)
+}
+
+/// The audit of a run.
+pub fn run_audited(
+    alloc: Global,
+    core: &CoreProgram<'_>,
+    request: &AuditRequest<'_>,
+    input: &[u8],
+) -> Result<Audit, NoMemory>
+    requires { request.now.steps ≤ 100000000 }
+    ensures apart { IfOk result (λ a. StandsApart (program_trees core.now.program.now) a.finding) }
+{
+    let mode = mode_of(request.is_tight);
+    audit_run(alloc, core, input, &request.args, mode, request.steps)
+}
