@@ -35,7 +35,16 @@ fn entries_of(
     let audit = run_audited(alloc, &core, request, input)?;
     let picks = picks_of(audit.finding);
     let mode = mode_of(request.is_tight);
-    let told = story(alloc, &core, input, &request.args, mode, picks, frames, object)?;
+    let told = story(
+        alloc,
+        &core,
+        input,
+        &request.args,
+        mode,
+        picks,
+        frames,
+        object,
+    )?;
     entries_text(alloc, &told.frames, &told.entries)
 }
 
