@@ -1,0 +1,4 @@
+pub mod Ends
+pub mod Sets
+pub mod Texts
+pub mod Turns

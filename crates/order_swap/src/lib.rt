@@ -1,0 +1,19 @@
+//! Both orders of two evaluations that no rule orders: the canonical order, and one that takes the second before the first.
+#![tactic(auto)]
+
+mod answer;
+mod end;
+mod follow;
+mod guide;
+mod runs;
+mod set;
+mod swap;
+mod text;
+
+pub use answer::{Step, Steps, Swapped, Turn};
+pub use end::End;
+pub use follow::{Followed, follow};
+pub use guide::{Canonical, Guide};
+pub use runs::swap_run;
+pub use set::post_order;
+pub use text::swapped_text;

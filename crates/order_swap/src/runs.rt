@@ -1,0 +1,90 @@
+// Both orders of two events.
+ghost use Rattle.std.specs.Prelude.{◌≡◌, ◌≤◌, ◌↔◌, ◌≢◌, IfOk, IsTrue, IfSome};
+ghost use Rattle.ub_base.specs.Frames.{IsFrameList};
+ghost use Rattle.order_swap.specs.Ends.{IsOutOfSteps};
+ghost use Rattle.order_swap.specs.Turns.{IsTurn, place_of};
+
+use crate::answer::Swapped;
+use crate::end::are_equal;
+use crate::follow::follow;
+use crate::guide::Canonical;
+use crate::swap::Swapper;
+use addr_map::{AddrMap, Mode};
+use core_ir::CoreProgram;
+use std::alloc::Global;
+use ub_base::{Event, Frame, Frames, NoMemory};
+
+/// Follows the canonical order, and then one that takes the later of two events of one turn before the earlier one, each for at
+/// most `budget` picks; `frames` number the frames of the events. Both orders have one map: the second adds rows to it. The two
+/// events are those of a dependence on the order, as an audit finds it. Needs a lawful program with the terms of its full
+/// expressions. In the second order, in the frame and turn of the events, while `second` is evaluated and isn't done, the next pick
+/// is the first permitted event, in post-order, of these: `second`, what is sequenced before it, and the stores of updates whose
+/// values are among these, without `first`; the value of an update whose store is `first` comes last of these. Every other pick is
+/// the canonical one.
+pub fn swap_run(
+    alloc: Global,
+    p: &CoreProgram,
+    input: &[u8],
+    args: &[String],
+    mode: Mode,
+    budget: u64,
+    frames: &Frames,
+    event: Event,
+    against: Event,
+) -> Result<Swapped, NoMemory>
+    requires { budget ≤ 100000000 }
+
+    // In the turn of the two events `first` is taken only where `second` isn't evaluated or is done.
+    ensures turn { IfOk result (λ s. IfSome s.turn (IsTurn (place_of event) (place_of against))) }
+    ensures differs { IfOk result (λ s. IsTrue s.differs ↔ (s.canonical.0 ≢ s.swapped.0)) }
+    ensures canonical_within { IfOk result (λ s. s.canonical.1 ≤ budget) }
+    ensures swapped_within { IfOk result (λ s. s.swapped.1 ≤ budget) }
+    ensures canonical_out_of_steps { IfOk result (λ s. IsOutOfSteps s.canonical.0 → s.canonical.1 ≡ budget) }
+    ensures swapped_out_of_steps { IfOk result (λ s. IsOutOfSteps s.swapped.0 → s.swapped.1 ≡ budget) }
+{
+    let mut numbers = copied(alloc, frames)?;
+    let map = AddrMap::new(alloc);
+    let canonical = follow(
+        alloc,
+        p,
+        input,
+        args,
+        map,
+        &mut numbers,
+        mode,
+        budget,
+        &mut Canonical {},
+    )?;
+    let mut swapper = Swapper::new(alloc, event, against);
+    let swapped = follow(
+        alloc,
+        p,
+        input,
+        args,
+        canonical.map,
+        &mut numbers,
+        mode,
+        budget,
+        &mut swapper,
+    )?;
+    let differs = !are_equal(&canonical.end, &swapped.end);
+    Ok(Swapped {
+        canonical: (canonical.end, canonical.picks),
+        swapped: (swapped.end, swapped.picks),
+        differs,
+        turn: swapper.into_turn(),
+    })
+}
+
+// The same frames.
+fn copied(alloc: Global, frames: &Frames) -> Result<Frames, NoMemory> {
+    let mut copy = Frames::new(alloc);
+    for number in 0..frames.len() {
+        let (parent, turn, node) = frames.row(Frame(number + 1));
+        if parent.0 > copy.len() || copy.find(parent, turn, node).is_some() {
+            return Err(NoMemory);
+        }
+        copy.call(parent, turn, node)?;
+    }
+    Ok(copy)
+}

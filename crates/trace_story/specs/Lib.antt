@@ -1,0 +1,6 @@
+pub mod Ends
+pub mod Named
+pub mod Record
+pub mod Stories
+pub mod Texts
+pub mod Told

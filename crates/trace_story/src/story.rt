@@ -1,0 +1,132 @@
+// The run that is told.
+ghost use Rattle.std.specs.Prelude.{◌≡◌, ◌≤◌, map, IfOk};
+ghost use Rattle.trace_story.specs.Ends.{IsTold};
+ghost use Rattle.trace_story.specs.Named.{IsNamed};
+ghost use Rattle.trace_story.specs.Stories.{mark_of, story_in, sought_in};
+
+use crate::calls::Calls;
+use crate::entry::Entries;
+use crate::named::{are_same, named_in};
+use crate::told::Sought;
+use crate::watcher::Teller;
+use addr_map::{AddrMap, Mode};
+use core_ir::CoreProgram;
+use core_run::{Ran, run};
+use std::alloc::Global;
+use ub_base::{Frames, NoMemory, ObjName};
+
+/// The story of an object, with what shows it: how the run ended, its frames and its objects, the object as this run numbers its
+/// frame, none where that frame hasn't started, and the calls of the watch that was told.
+#[derive(Drop)]
+pub struct Story {
+    pub entries: Entries,
+    pub frames: Frames,
+    pub named: Option<ObjName>,
+    pub map: AddrMap,
+    pub ran: Ran,
+    pub calls: Calls,
+}
+
+/// What is told of an object in one run.
+#[derive(Drop)]
+struct Told {
+    entries: Entries,
+    calls: Calls,
+    ran: Ran,
+    map: AddrMap,
+    frames: Frames,
+}
+
+/// What a run of at most so many picks tells of an object, where there is one.
+fn told_by(
+    alloc: Global,
+    p: &CoreProgram,
+    input: &[u8],
+    args: &[String],
+    mode: Mode,
+    picks: u64,
+    frames: &Frames,
+    sought: Option<Sought>,
+) -> Result<Told, NoMemory>
+    requires { picks ≤ 100000000 }
+    ensures told { IfOk result (λ t. map mark_of t.entries ≡ story_in frames.now sought t.calls) }
+    ensures run { IfOk result (λ t. IsTold t.calls t.ran t.frames picks) }
+{
+    let mut teller = Teller::new(alloc, frames, sought);
+    let state = run(alloc, p, input, args, mode, picks, &mut teller)?;
+    let (entries, calls) = teller.into_parts();
+    Ok(Told {
+        entries,
+        calls,
+        ran: state.ran,
+        map: state.map,
+        frames: state.frames,
+    })
+}
+
+/// The story of an object, which `frames` name, over the first picks of a program's run in canonical order on this input, with
+/// these arguments behind the program's name, its objects placed in this mode: for each pick the items that name the object, or
+/// look up an address that the object contains or has one past at last; bytes joined to the longest ranges, in the order of items,
+/// each once. Two runs are made, of which the first finds the object's frame and place. Needs what `run` needs.
+pub fn story(
+    alloc: Global,
+    p: &CoreProgram,
+    input: &[u8],
+    args: &[String],
+    mode: Mode,
+    picks: u64,
+    frames: &Frames,
+    object: &ObjName,
+) -> Result<Story, NoMemory>
+    requires { picks ≤ 100000000 }
+
+    // The object is that of the same name, none only where its frame isn't among those of the run.
+    ensures named { IfOk result (λ s. IsNamed frames.now object.now s.frames s.named) }
+
+    // The entries are what the calls of the watch tell of the object, none missing and none added.
+    ensures told { IfOk result (λ s. map mark_of s.entries ≡ story_in s.frames (sought_in s.map s.named) s.calls) }
+
+    // The calls are those of a watch of a run that ended so.
+    ensures run { IfOk result (λ s. IsTold s.calls s.ran s.frames picks) }
+{
+    let first = told_by(alloc, p, input, args, mode, picks, frames, None)?;
+    let Some(named) = named_in(alloc, frames, object, &first.frames)? else {
+        return Ok(unnamed(first));
+    };
+    let row = first.map.row(named);
+    let sought = Sought { object: named, row };
+    let second = told_by(
+        alloc,
+        p,
+        input,
+        args,
+        mode,
+        picks,
+        &first.frames,
+        Some(sought),
+    )?;
+    // One program has one run.
+    if !are_same(&second.frames, &first.frames) || second.map.row(named) != row {
+        return Err(NoMemory);
+    }
+    Ok(Story {
+        entries: second.entries,
+        frames: second.frames,
+        named: Some(named),
+        map: second.map,
+        ran: second.ran,
+        calls: second.calls,
+    })
+}
+
+/// The story of an object whose frame hasn't started.
+fn unnamed(told: Told) -> Story {
+    Story {
+        entries: told.entries,
+        frames: told.frames,
+        named: None,
+        map: told.map,
+        ran: told.ran,
+        calls: told.calls,
+    }
+}
