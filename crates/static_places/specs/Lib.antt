@@ -1,0 +1,4 @@
+pub mod Preorder
+pub mod Extents
+pub mod Fixed
+pub mod Private
