@@ -8,16 +8,15 @@ use Rattle.audit_engine.proofs.Audits.{judged_audit, stopped_audit}
 use Rattle.audit_engine.specs.Engine.{disk_at}
 use Rattle.audit_engine.specs.Looks.{
   ErrorsTold,
-  IsFileStatic,
   IsFileStory,
   IsFileSwap,
   IsReport,
   IsStoppedReport,
   IsTextReport,
-  IsTextStatic,
   IsTextStory,
   IsTextSwap,
   MayWrite,
+  Named,
   Quiet,
 }
 use Rattle.audit_top.specs.Cause.{TextCause, stopped}
@@ -102,8 +101,16 @@ pub stopped_swap : (was is : Moment) (request : AuditRequest) (fault : FetchFaul
 stopped_swap was is request fault said text stops so = inr (stopped_report was is request fault said text stops so)
 
 -- a story of a file that is fetched
-pub fetched_story : (was is : Moment) (request : AuditRequest) (before : ℕ) (source bytes : List ℕ) (said : ℕ) (text : List ℕ)
-    → IsWhole was.held (Source, request.file.now) source → HasInput was.held (option_copied request.input) bytes → before ≡ was.writes
-    → IsTextStory request before is.writes source said text → IsFileStory was is request said text
-fetched_story was is request before source bytes said text whole input same (front, body, of, so, is_text) =
-    inl (source, front, body, whole, of, fetched_report was is request before source bytes said body whole input same so, is_text)
+pub fetched_story : (was is : Moment) (of : Named) (request : AuditRequest) (before : ℕ) (source bytes : List ℕ) (said : ℕ)
+    (text : List ℕ) → IsWhole was.held (Source, request.file.now) source → HasInput was.held (option_copied request.input) bytes → before ≡ was.writes
+    → IsTextStory of request before is.writes source said text → IsFileStory was is of request said text
+fetched_story was is of request before source bytes said text whole input same so =
+    inl (record {
+      source = source;
+      front = so.front;
+      body = so.body;
+      whole = whole;
+      story = so.story;
+      report = fetched_report was is request before source bytes said so.body whole input same so.report;
+      both = so.both;
+    })

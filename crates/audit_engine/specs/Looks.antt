@@ -1,9 +1,11 @@
 -- What further looks at a program or its run put (own).
-use Rattle.std.specs.Prelude.{◌≡◌, ◌≢◌, ◌⊎◌, ◌↔◌, ◌++◌, ℕ, List, [], Bool, true, false, Option, None, IfSome, IsTrue, codes}
+use Rattle.std.specs.Prelude.{◌≡◌, ◌≢◌, ◌⊎◌, ◌↔◌, ◌++◌, ℕ, List, [], Bool, true, false, Option, None, IfSome, IsTrue, codes, map}
 use Rattle.ub_base.specs.Frames.{Row}
 use Rattle.ub_base.specs.Held.{Held}
 use Rattle.ub_base.specs.declared.names.Event.{Event}
-use Rattle.c_names.specs.Texts.{IsNoObjectText}
+use Rattle.ub_base.specs.declared.names.ObjName.{ObjName}
+use Rattle.addr_map.specs.declared.map.Row.{Row as Place}
+use Rattle.c_names.specs.Texts.{IsNoObjectText, object_text}
 use Rattle.audit_batch.specs.Moment.{Moment}
 use Rattle.audit_engine.specs.Engine.{disk_at}
 use Rattle.audit_sources.specs.Fetching.{IsWhole, Stops, wanted}
@@ -19,11 +21,18 @@ use Rattle.command.specs.declared.person_request.Exploration.{Exploration}
 use Rattle.command.specs.declared.person_request.Exploration.TheVariants.{Errors, Swap, Static, Story}
 use Rattle.command.specs.declared.person_request.StoryRequest.{StoryRequest}
 use Rattle.command.specs.declared.request.AuditRequest.{AuditRequest}
+use Rattle.core_run.specs.Calls.{Heard}
+use Rattle.core_run.specs.declared.watch.Ran.{Ran}
 use Rattle.elaborate.specs.Expressions.{program_trees}
 use Rattle.footprint_run.specs.Apart.{AreApart}
 use Rattle.order_swap.specs.Texts.{swapped_text}
 use Rattle.order_swap.specs.Turns.{IsTurn, place_of}
 use Rattle.order_swap.specs.declared.answer.Swapped.{Swapped}
+use Rattle.static_report.specs.Report.{report as static_report, status as static_status}
+use Rattle.static_seq.specs.Verdicts.{ProgramCounts, verdicts}
+use Rattle.trace_story.specs.Ends.{IsTold}
+use Rattle.trace_story.specs.Named.{IsNamed}
+use Rattle.trace_story.specs.Stories.{mark_of, sought_in, story_in}
 use Rattle.trace_story.specs.Texts.{entries_text}
 use Rattle.trace_story.specs.declared.entry.Entry.{Entry}
 
@@ -90,10 +99,15 @@ Quiet answers said text errors = answers said text × (errors ≡ [])
 abbrev pub SwapTold : Moment → Moment → AuditRequest → ℕ → List ℕ → List ℕ → Type 0
 SwapTold was is request = Quiet (IsFileSwap was is request)
 
+-- what is said of the expressions of a program whose trees can be numbered
+pub record IsProgramStatic (program : Program) (said : ℕ) (text : List ℕ) : Type 0 where
+  pub code : ProgramCounts program → said ≡ static_status (verdicts program)
+  pub page : ProgramCounts program → text ≡ static_report (verdicts program)
+
 -- the page of a text: what is said of its program's expressions, or why it is refused
 abbrev pub IsTextStatic : List ℕ → ℕ → List ℕ → Type 0
 IsTextStatic source said text =
-    ((program : Program) × IsRunnable source program)
+    ((program : Program) × IsRunnable source program × IsProgramStatic program said text)
     ⊎ ((refusal : Refusal) × Refuses source refusal × (said ≡ refusal_status refusal) × (text ≡ refusal_report refusal))
 
 -- the report where a file isn't fetched
@@ -109,34 +123,66 @@ IsFileStatic was is file said text =
 abbrev pub StaticTold : Moment → Moment → List ℕ → ℕ → List ℕ → List ℕ → Type 0
 StaticTold was is file = Quiet (IsFileStatic was is file)
 
--- entries are told
-abbrev pub IsEntriesText : List ℕ → Type 0
-IsEntriesText text = (frames : List Row) × (entries : List Entry) × (text ≡ entries_text frames entries)
+-- an object whose frame stands among these
+abbrev pub Named : Type 0
+Named = List Row × ObjName
 
--- what stands before the report of an audit of this text: entries where it has a program, and else nothing
-abbrev pub IsFront : List ℕ → List ℕ → Type 0
-IsFront source front = ((program : Program) × IsRunnable source program × IsEntriesText front) ⊎ (((refusal : Refusal) × Refuses source refusal) × (front ≡ []))
+-- What the calls of a watch of a run tell of the object that has the name of this one.
+pub record IsStoryText (of : Named) (text : List ℕ) : Type 0 where
+  pub frames : List Row
+  pub named : Option ObjName
+  pub map_rows : List Place
+  pub calls : Heard
+  pub ran : Ran
+  pub picks : ℕ
+  pub entries : List Entry
+  pub same : IsNamed of.0 of.1 frames named
+  pub told : map mark_of entries ≡ story_in frames (sought_in map_rows named) calls
+  pub run : IsTold calls ran frames picks
+  pub page : text ≡ entries_text frames entries
 
--- the page of a text: entries, and the report of its audit
-abbrev pub IsTextStory : AuditRequest → ℕ → ℕ → List ℕ → ℕ → List ℕ → Type 0
-IsTextStory request before now source said text =
-    (front : List ℕ) × (body : List ℕ) × IsFront source front × IsTextReport request before now source said body × (text ≡ front ++ body)
+-- what stands before the report of an audit of this text: a story where it has a program, and else nothing
+abbrev pub IsFront : Named → List ℕ → List ℕ → Type 0
+IsFront of source front =
+    ((program : Program) × IsRunnable source program × IsStoryText of front)
+    ⊎ (((refusal : Refusal) × Refuses source refusal) × (front ≡ []))
 
--- the page of a file: entries, and the report of its audit; or that report alone where a file isn't fetched
-abbrev pub IsFileStory : Moment → Moment → AuditRequest → ℕ → List ℕ → Type 0
-IsFileStory was is request said text =
-    ((source : List ℕ) × (front : List ℕ) × (body : List ℕ) × IsWhole was.held (Source, request.file.now) source × IsFront source front
-    × IsReport was is request said body × (text ≡ front ++ body))
+-- the page of a text: a story, and the report of its audit
+pub record IsTextStory (of : Named) (request : AuditRequest) (before now : ℕ) (source : List ℕ) (said : ℕ) (text : List ℕ) : Type 0 where
+  pub front : List ℕ
+  pub body : List ℕ
+  pub story : IsFront of source front
+  pub report : IsTextReport request before now source said body
+  pub both : text ≡ front ++ body
+
+-- the page of a file that is fetched: a story, and the report of its audit
+pub record IsFetchedStory (was is : Moment) (of : Named) (request : AuditRequest) (said : ℕ) (text : List ℕ) : Type 0 where
+  pub source : List ℕ
+  pub front : List ℕ
+  pub body : List ℕ
+  pub whole : IsWhole was.held (Source, request.file.now) source
+  pub story : IsFront of source front
+  pub report : IsReport was is request said body
+  pub both : text ≡ front ++ body
+
+-- the page of a file: that, or the report of its audit alone where a file isn't fetched
+abbrev pub IsFileStory : Moment → Moment → Named → AuditRequest → ℕ → List ℕ → Type 0
+IsFileStory was is of request said text =
+    IsFetchedStory was is of request said text
     ⊎ ((fault : FetchFault) × IsStopped (disk_at was) (disk_at is) request fault × IsStoppedReport fault said text)
 
-abbrev pub NamedTold : Moment → Moment → AuditRequest → ℕ → List ℕ → List ℕ → Type 0
-NamedTold was is request = Quiet (IsFileStory was is request)
+abbrev pub NamedTold : Moment → Moment → Named → AuditRequest → ℕ → List ℕ → List ℕ → Type 0
+NamedTold was is of request = Quiet (IsFileStory was is of request)
 
--- the story of an object of this name; or, before any file is read, that no object has it
+-- the story of an object of this name
+abbrev pub IsNamedStory : Moment → Moment → StoryRequest → ℕ → List ℕ → Type 0
+IsNamedStory was is request said text =
+    (of : Named) × (object_text of.0 of.1 ≡ request.name.now) × IsFileStory was is of request.audit said text
+
+-- .. or, before any file is read, that no object has it
 abbrev pub IsStoryOf : Moment → Moment → StoryRequest → ℕ → List ℕ → Type 0
 IsStoryOf was is request said text =
-    IsFileStory was is request.audit said text
-    ⊎ (IsNoObjectText request.name.now × (is ≡ was) × (said ≡ 10) × (text ≡ codes "usage\n"))
+    IsNamedStory was is request said text ⊎ (IsNoObjectText request.name.now × (is ≡ was) × (said ≡ 10) × (text ≡ codes "usage\n"))
 
 abbrev pub StoryTold : Moment → Moment → StoryRequest → ℕ → List ℕ → List ℕ → Type 0
 StoryTold was is request = Quiet (IsStoryOf was is request)

@@ -1,7 +1,7 @@
 // Which full expressions never race.
 ghost use Rattle.std.specs.Prelude.{◌≡◌, ◌≤◌, ◌^◌, length, IfOk};
 ghost use Rattle.audit_batch.specs.Moment.{moment};
-ghost use Rattle.audit_engine.specs.Looks.{IsTextStatic, StaticTold};
+ghost use Rattle.audit_engine.specs.Looks.{IsProgramStatic, IsTextStatic, StaticTold};
 ghost use Rattle.audit_top.specs.Report.{refusal_report, refusal_status};
 
 use crate::looks::{quiet, stopped_sheet};
@@ -24,7 +24,9 @@ fn refused_page(alloc: Global, refusal: Refusal) -> Result<Page, NoMemory>
 }
 
 // The page of a program.
-fn program_page(alloc: Global, program: &Program) -> Result<Page, NoMemory> {
+fn program_page(alloc: Global, program: &Program) -> Result<Page, NoMemory>
+    ensures { IfOk result (λ page. IsProgramStatic program.now page.status page.text) }
+{
     let (text, status) = static_report(alloc, program)?;
     Ok(Page { status, text })
 }

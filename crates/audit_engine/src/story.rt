@@ -1,7 +1,7 @@
 // The story of an object.
 ghost use Rattle.std.specs.Prelude.{◌≡◌, ◌≤◌, ◌^◌, ◌++◌, None, length, IfOk, option_copied};
 ghost use Rattle.audit_batch.specs.Moment.{moment};
-ghost use Rattle.audit_engine.specs.Looks.{IsEntriesText, IsFront, IsTextStory, NamedTold, StoryTold};
+ghost use Rattle.audit_engine.specs.Looks.{IsFront, IsStoryText, IsTextStory, NamedTold, StoryTold};
 
 use crate::explain::mode_of;
 use crate::judged::judged_report;
@@ -29,7 +29,7 @@ fn entries_of(
     object: &ObjName,
 ) -> Result<Bytes, NoMemory>
     requires { request.now.steps ≤ 100000000 }
-    ensures { IfOk result IsEntriesText }
+    ensures { IfOk result (IsStoryText (frames.now, object.now)) }
 {
     let core = elaborate(alloc, program)?;
     let audit = run_audited(alloc, &core, request, input)?;
@@ -58,7 +58,7 @@ fn story_front(
 ) -> Result<Bytes, NoMemory>
     requires text { length sources.now.text ≤ 2 ^ 20 }
     requires steps { request.now.steps ≤ 100000000 }
-    ensures { IfOk result (IsFront sources.now.text) }
+    ensures { IfOk result (IsFront (frames.now, object.now) sources.now.text) }
 {
     match program_of(alloc, sources.text.as_slice()) {
         Ok(program) => entries_of(
@@ -86,7 +86,7 @@ fn story_page<F: Files>(
     requires text { length sources.now.text ≤ 2 ^ 20 }
     requires steps { request.now.steps ≤ 100000000 }
     requires cert { option_copied request.now.cert ≡ None }
-    ensures page { IfOk result (λ page. IsTextStory request.now (F.write_faults files.old) (F.write_faults files.new) sources.now.text page.status page.text) }
+    ensures page { IfOk result (λ page. IsTextStory (frames.now, object.now) request.now (F.write_faults files.old) (F.write_faults files.new) sources.now.text page.status page.text) }
     ensures held { F.held files.new ≡ F.held files.old }
 {
     let page = judged_report(alloc, request, sources, files)?;
@@ -110,7 +110,7 @@ fn named_sheet<F: Files>(
     requires cert { option_copied request.now.cert ≡ None }
     ensures sheet { IfOk result (λ sheet. NamedTold
         (moment (F.held files.old) (F.read_faults files.old) (F.write_faults files.old)) (moment (F.held files.new) (F.read_faults files.new) (F.write_faults files.new))
-        request.now sheet.status sheet.text sheet.errors) }
+        (frames.now, object.now) request.now sheet.status sheet.text sheet.errors) }
     ensures held { F.held files.new ≡ F.held files.old }
 {
     let sources = match fetch_sources(alloc, request.file, request.input, files) {
