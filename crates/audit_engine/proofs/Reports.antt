@@ -1,5 +1,6 @@
 -- The reports of answers, which further looks put.
-use Rattle.std.proofs.Common.{◌≡◌, ◌⊎◌, ◌++◌, ℕ, List, [], Option, None, Result, Ok, Err, IfOk, option_copied, sym, subst, inl, inr, refl}
+use Rattle.std.proofs.Common.{◌≡◌, ◌⊎◌, ◌++◌, ℕ, List, [], Option, None, Result, Ok, Err, IfOk, codes, option_copied, sym, subst, inl, inr, refl}
+use Rattle.c_names.specs.Texts.{IsNoObjectText, object_text}
 use Rattle.audit_batch.specs.Moment.{Moment}
 use Rattle.audit_sources.specs.Fetching.{HasInput, IsWhole, Stops, wanted}
 use Rattle.audit_sources.specs.declared.fetch.FetchFault.{FetchFault}
@@ -17,11 +18,14 @@ use Rattle.audit_engine.specs.Looks.{
   IsTextSwap,
   MayWrite,
   Named,
+  NamedTold,
   Quiet,
+  StoryTold,
 }
 use Rattle.audit_top.specs.Cause.{TextCause, stopped}
 use Rattle.audit_top.specs.Report.{report, status}
 use Rattle.audit_top.specs.declared.answer.Answer.{Answer}
+use Rattle.command.specs.declared.person_request.StoryRequest.{StoryRequest}
 use Rattle.command.specs.declared.request.AuditRequest.{AuditRequest}
 use Rattle.person_top.specs.declared.explain.Page.{Page}
 use Rattle.person_top.specs.declared.explore.Sheet.{Sheet}
@@ -87,6 +91,20 @@ quiet_sheet answers said text (Ok sheet) code page none may =
     (subst (λ s. answers s sheet.text) (sym code) (subst (answers said) (sym page) may), none)
 quiet_sheet answers said text (Err e) code page none may = code
 
+-- .. and so does the sheet of a file, where the page of its text is that of the file
+pub quiet_of : {E : Type 0} (these those : ℕ → List ℕ → Type 0) (result : Result Sheet E) → ((said : ℕ) (text : List ℕ) → these said text → those said text)
+    → IfOk result (λ sheet. Quiet these sheet.status sheet.text sheet.errors) → IfOk result (λ sheet. Quiet those sheet.status sheet.text sheet.errors)
+quiet_of these those (Ok sheet) so quiet = (so sheet.status sheet.text quiet.0, quiet.1)
+quiet_of these those (Err e) so quiet = quiet
+
+-- a sheet of the report where a file isn't fetched
+pub quiet_stopped : {E : Type 0} (fault : FetchFault) (those : ℕ → List ℕ → Type 0) (result : Result Sheet E)
+    → ((said : ℕ) (text : List ℕ) → IsStoppedReport fault said text → those said text)
+    → IfOk result (λ sheet. sheet.status ≡ status (stopped fault)) → IfOk result (λ sheet. sheet.text ≡ report (stopped fault))
+    → IfOk result (λ sheet. sheet.errors ≡ []) → IfOk result (λ sheet. Quiet those sheet.status sheet.text sheet.errors)
+quiet_stopped fault those (Ok sheet) so code text none = (so sheet.status sheet.text (code, text), none)
+quiet_stopped fault those (Err e) so code text none = code
+
 -- both orders, or the report, of a file that is fetched
 pub fetched_swap : (was is : Moment) (request : AuditRequest) (before : ℕ) (source bytes : List ℕ) (said : ℕ) (text : List ℕ)
     → IsWhole was.held (Source, request.file.now) source → HasInput was.held (option_copied request.input) bytes → before ≡ was.writes
@@ -114,3 +132,22 @@ fetched_story was is of request before source bytes said text whole input same s
       report = fetched_report was is request before source bytes said so.body whole input same so.report;
       both = so.both;
     })
+
+pub stopped_story : (was is : Moment) (of : Named) (request : AuditRequest) (fault : FetchFault) (said : ℕ) (text : List ℕ)
+    → Stops was.held was.reads is.reads (wanted request.file.now (option_copied request.input)) fault → IsStoppedReport fault said text
+    → IsFileStory was is of request said text
+stopped_story was is of request fault said text stops so = inr (fault, stops, so)
+
+-- the story of an object that has the name which is asked for
+pub named_story : {E : Type 0} (was is : Moment) (of : Named) (request : StoryRequest) (result : Result Sheet E)
+    → object_text of.0 of.1 ≡ request.name.now → IfOk result (λ sheet. NamedTold was is of request.audit sheet.status sheet.text sheet.errors)
+    → IfOk result (λ sheet. StoryTold was is request sheet.status sheet.text sheet.errors)
+named_story was is of request (Ok sheet) named told = (inl (of, named, told.0), told.1)
+named_story was is of request (Err e) named told = told
+
+-- words that name no object
+pub unnamed_story : {E : Type 0} (was is : Moment) (request : StoryRequest) (result : Result Sheet E) → IsNoObjectText request.name.now → is ≡ was
+    → IfOk result (λ sheet. sheet.status ≡ 10) → IfOk result (λ sheet. sheet.text ≡ codes "usage\n") → IfOk result (λ sheet. sheet.errors ≡ [])
+    → IfOk result (λ sheet. StoryTold was is request sheet.status sheet.text sheet.errors)
+unnamed_story was is request (Ok sheet) none same code text quiet = (inr (none, same, code, text), quiet)
+unnamed_story was is request (Err e) none same code text quiet = code

@@ -117,7 +117,7 @@ impl Explorer for Engine {
         match look {
             Exploration::Errors(request) => errors_sheet(alloc, request, files),
             Exploration::Swap(request) => swap_sheet(alloc, request, files),
-            Exploration::Static(file) => static_sheet(alloc, file, files),
+            Exploration::Static(file) => static_sheet(alloc, *file, files),
             Exploration::Story(request) => story_sheet(alloc, request, files),
         }
     }

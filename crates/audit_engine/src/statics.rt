@@ -1,7 +1,7 @@
 // Which full expressions never race.
 ghost use Rattle.std.specs.Prelude.{◌≡◌, ◌≤◌, ◌^◌, length, IfOk};
 ghost use Rattle.audit_batch.specs.Moment.{moment};
-ghost use Rattle.audit_engine.specs.Looks.{IsProgramStatic, IsTextStatic, StaticTold};
+ghost use Rattle.audit_engine.specs.Looks.{IsProgramStatic, IsTextStatic, Quiet, StaticTold};
 ghost use Rattle.audit_top.specs.Report.{refusal_report, refusal_status};
 
 use crate::looks::{quiet, stopped_sheet};
@@ -43,6 +43,15 @@ fn static_page(alloc: Global, text: &[u8]) -> Result<Page, NoMemory>
     }
 }
 
+// The sheet of a text.
+fn text_sheet(alloc: Global, text: &[u8]) -> Result<Sheet, NoMemory>
+    requires { length text.now ≤ 2 ^ 20 }
+    ensures { IfOk result (λ sheet. Quiet (IsTextStatic text.now) sheet.status sheet.text sheet.errors) }
+{
+    let page = static_page(alloc, text)?;
+    quiet(alloc, page)
+}
+
 /// Which full expressions of a program aren't known never to race.
 pub fn static_sheet<F: Files>(alloc: Global, file: &str, files: &mut F) -> Result<Sheet, NoMemory>
     ensures sheet { IfOk result (λ sheet. StaticTold
@@ -50,10 +59,8 @@ pub fn static_sheet<F: Files>(alloc: Global, file: &str, files: &mut F) -> Resul
         file.now sheet.status sheet.text sheet.errors) }
     ensures held { F.held files.new ≡ F.held files.old }
 {
-    let sources = match fetch_sources(alloc, file, None, files) {
-        Ok(sources) => sources,
-        Err(fault) => return stopped_sheet(alloc, fault),
-    };
-    let page = static_page(alloc, sources.text.as_slice())?;
-    quiet(alloc, page)
+    match fetch_sources(alloc, file, None, files) {
+        Ok(sources) => text_sheet(alloc, sources.text.as_slice()),
+        Err(fault) => stopped_sheet(alloc, fault),
+    }
 }

@@ -1,7 +1,7 @@
 // The story of an object.
-ghost use Rattle.std.specs.Prelude.{◌≡◌, ◌≤◌, ◌^◌, ◌++◌, None, length, IfOk, option_copied};
+ghost use Rattle.std.specs.Prelude.{◌≡◌, ◌≤◌, ◌^◌, [], None, length, IfOk, codes, option_copied};
 ghost use Rattle.audit_batch.specs.Moment.{moment};
-ghost use Rattle.audit_engine.specs.Looks.{IsFront, IsStoryText, IsTextStory, NamedTold, StoryTold};
+ghost use Rattle.audit_engine.specs.Looks.{IsFront, IsStoryText, IsTextStory, NamedTold, Quiet, StoryTold};
 
 use crate::explain::mode_of;
 use crate::judged::judged_report;
@@ -98,6 +98,26 @@ fn story_page<F: Files>(
     })
 }
 
+// The sheet of a text.
+fn judged_sheet<F: Files>(
+    alloc: Global,
+    request: &AuditRequest<'_>,
+    sources: &Sources,
+    frames: &Frames,
+    object: &ObjName,
+    files: &mut F,
+) -> Result<Sheet, NoMemory>
+    requires text { length sources.now.text ≤ 2 ^ 20 }
+    requires steps { request.now.steps ≤ 100000000 }
+    requires cert { option_copied request.now.cert ≡ None }
+    ensures sheet { IfOk result (λ sheet. Quiet (IsTextStory (frames.now, object.now) request.now (F.write_faults files.old) (F.write_faults files.new) sources.now.text)
+        sheet.status sheet.text sheet.errors) }
+    ensures held { F.held files.new ≡ F.held files.old }
+{
+    let page = story_page(alloc, request, sources, frames, object, files)?;
+    quiet(alloc, page)
+}
+
 // The sheet of a story of an object that is named.
 fn named_sheet<F: Files>(
     alloc: Global,
@@ -113,16 +133,18 @@ fn named_sheet<F: Files>(
         (frames.now, object.now) request.now sheet.status sheet.text sheet.errors) }
     ensures held { F.held files.new ≡ F.held files.old }
 {
-    let sources = match fetch_sources(alloc, request.file, request.input, files) {
-        Ok(sources) => sources,
-        Err(fault) => return stopped_sheet(alloc, fault),
-    };
-    let page = story_page(alloc, request, &sources, frames, object, files)?;
-    quiet(alloc, page)
+    match fetch_sources(alloc, request.file, request.input, files) {
+        Ok(sources) => judged_sheet(alloc, request, &sources, frames, object, files),
+        Err(fault) => stopped_sheet(alloc, fault),
+    }
 }
 
 // The sheet of words that name no object.
-fn usage_sheet(alloc: Global) -> Result<Sheet, NoMemory> {
+fn usage_sheet(alloc: Global) -> Result<Sheet, NoMemory>
+    ensures status { IfOk result (λ sheet. sheet.status ≡ 10) }
+    ensures text { IfOk result (λ sheet. sheet.text ≡ codes "usage\n") }
+    ensures errors { IfOk result (λ sheet. sheet.errors ≡ []) }
+{
     let text = Bytes::from_slice(alloc, b"usage\n")?;
     quiet(
         alloc,

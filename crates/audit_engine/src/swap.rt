@@ -1,7 +1,7 @@
 // Both orders of a quarrel.
 ghost use Rattle.std.specs.Prelude.{◌≡◌, ◌≤◌, ◌^◌, None, length, IfOk, IfSome, option_copied};
 ghost use Rattle.audit_batch.specs.Moment.{moment};
-ghost use Rattle.audit_engine.specs.Looks.{IsProgramSwap, IsTextSwap, IsSwap, SwapTold, swap_status};
+ghost use Rattle.audit_engine.specs.Looks.{IsProgramSwap, IsTextSwap, IsSwap, Quiet, SwapTold, swap_status};
 
 use crate::explain::mode_of;
 use crate::judged::judged_report;
@@ -100,6 +100,24 @@ fn swap_page<F: Files>(
     }
 }
 
+// The sheet of a text.
+fn judged_sheet<F: Files>(
+    alloc: Global,
+    request: &AuditRequest<'_>,
+    sources: &Sources,
+    files: &mut F,
+) -> Result<Sheet, NoMemory>
+    requires text { length sources.now.text ≤ 2 ^ 20 }
+    requires steps { request.now.steps ≤ 100000000 }
+    requires cert { option_copied request.now.cert ≡ None }
+    ensures sheet { IfOk result (λ sheet. Quiet (IsTextSwap request.now (F.write_faults files.old) (F.write_faults files.new) sources.now.text)
+        sheet.status sheet.text sheet.errors) }
+    ensures held { F.held files.new ≡ F.held files.old }
+{
+    let page = swap_page(alloc, request, sources, files)?;
+    quiet(alloc, page)
+}
+
 /// Both orders of the quarrel of a run, and else the report of its audit.
 pub fn swap_sheet<F: Files>(
     alloc: Global,
@@ -113,10 +131,8 @@ pub fn swap_sheet<F: Files>(
         request.now sheet.status sheet.text sheet.errors) }
     ensures held { F.held files.new ≡ F.held files.old }
 {
-    let sources = match fetch_sources(alloc, request.file, request.input, files) {
-        Ok(sources) => sources,
-        Err(fault) => return stopped_sheet(alloc, fault),
-    };
-    let page = swap_page(alloc, request, &sources, files)?;
-    quiet(alloc, page)
+    match fetch_sources(alloc, request.file, request.input, files) {
+        Ok(sources) => judged_sheet(alloc, request, &sources, files),
+        Err(fault) => stopped_sheet(alloc, fault),
+    }
 }
