@@ -1,5 +1,5 @@
 // The order that takes the second of two events first.
-ghost use Rattle.std.specs.Prelude.{◌≡◌, ◌≤◌, ◌<◌, ◌^◌, ◌↔◌, ◌&&◌, not, IfOk, OnOk, IsTrue, IfSome, true};
+ghost use Rattle.std.specs.Prelude.{◌≡◌, ◌≤◌, ◌<◌, ◌^◌, ◌↔◌, ◌&&◌, not, IfOk, OnOk, IsTrue, IfSome, Some, true};
 ghost use Rattle.c_typed.specs.Tree.{tree_of, size as nodes_of};
 ghost use Rattle.c_typed.specs.Decide.{due_in};
 ghost use Rattle.seq_order.specs.Marked.{taken_in};
@@ -96,7 +96,9 @@ impl Swapper {
         self.waits = due(root, pair.second, taken) && !self.done;
     }
 
-    fn add(&mut self, pair: Pair, place: Place) -> Result<(), NoMemory> {
+    fn add(&mut self, pair: Pair, place: Place) -> Result<(), NoMemory>
+        requires { self.old.pair ≡ Some pair }
+    {
         // The first event is taken only where the second isn't evaluated or is done.
         if place == pair.first && self.waits {
             return Err(NoMemory);
