@@ -129,7 +129,7 @@ fetched_story was is of request before source bytes said text whole input same s
       body = so.body;
       whole = whole;
       story = so.story;
-      report = fetched_report was is request before source bytes said so.body whole input same so.report;
+      audit = fetched_report was is request before source bytes said so.body whole input same so.audit;
       both = so.both;
     })
 

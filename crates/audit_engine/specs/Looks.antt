@@ -152,7 +152,7 @@ pub record IsTextStory (of : Named) (request : AuditRequest) (before now : ℕ) 
   pub front : List ℕ
   pub body : List ℕ
   pub story : IsFront of source front
-  pub report : IsTextReport request before now source said body
+  pub audit : IsTextReport request before now source said body
   pub both : text ≡ front ++ body
 
 -- the page of a file that is fetched: a story, and the report of its audit
@@ -162,7 +162,7 @@ pub record IsFetchedStory (was is : Moment) (of : Named) (request : AuditRequest
   pub body : List ℕ
   pub whole : IsWhole was.held (Source, request.file.now) source
   pub story : IsFront of source front
-  pub report : IsReport was is request said body
+  pub audit : IsReport was is request said body
   pub both : text ≡ front ++ body
 
 -- the page of a file: that, or the report of its audit alone where a file isn't fetched
