@@ -1,5 +1,9 @@
 -- The reports of answers, which further looks put.
-use Rattle.std.proofs.Common.{◌≡◌, ◌⊎◌, ◌++◌, ℕ, List, [], Option, None, Result, Ok, Err, IfOk, codes, option_copied, sym, subst, inl, inr, refl}
+use Rattle.std.proofs.Common.{◌≡◌, ◌⊎◌, ◌++◌, ℕ, List, [], false, Option, Some, None, Result, Ok, Err, IfOk, codes, option_copied, sym, subst, inl, inr, refl}
+use Rattle.std.specs.Prelude.{IfSome}
+use Rattle.ub_base.specs.Frames.{Row}
+use Rattle.ub_base.specs.declared.names.Event.{Event}
+use Rattle.c_typed.specs.declared.program.Program.{Program}
 use Rattle.c_names.specs.Texts.{IsNoObjectText, object_text}
 use Rattle.audit_batch.specs.Moment.{Moment}
 use Rattle.audit_sources.specs.Fetching.{HasInput, IsWhole, Stops, wanted}
@@ -7,12 +11,19 @@ use Rattle.audit_sources.specs.declared.fetch.FetchFault.{FetchFault}
 use Rattle.audit_sources.specs.declared.role.Role.TheVariants.{Source}
 use Rattle.audit_engine.proofs.Audits.{judged_audit, stopped_audit}
 use Rattle.audit_engine.specs.Engine.{disk_at}
+use Rattle.elaborate.specs.Expressions.{program_trees}
+use Rattle.footprint_run.specs.Apart.{AreApart}
 use Rattle.audit_engine.specs.Looks.{
+  AreBothOrders,
   ErrorsTold,
   IsFileStory,
   IsFileSwap,
+  IsFront,
+  IsProgramSwap,
   IsReport,
   IsStoppedReport,
+  IsStoryText,
+  IsSwap,
   IsTextReport,
   IsTextStory,
   IsTextSwap,
@@ -22,6 +33,7 @@ use Rattle.audit_engine.specs.Looks.{
   Quiet,
   StoryTold,
 }
+use Rattle.audit_top.specs.Answer.{IsRunnable}
 use Rattle.audit_top.specs.Cause.{TextCause, stopped}
 use Rattle.audit_top.specs.Report.{report, status}
 use Rattle.audit_top.specs.declared.answer.Answer.{Answer}
@@ -104,6 +116,40 @@ pub quiet_stopped : {E : Type 0} (fault : FetchFault) (those : ℕ → List ℕ 
     → IfOk result (λ sheet. sheet.errors ≡ []) → IfOk result (λ sheet. Quiet those sheet.status sheet.text sheet.errors)
 quiet_stopped fault those (Ok sheet) so code text none = (so sheet.status sheet.text (code, text), none)
 quiet_stopped fault those (Err e) so code text none = code
+
+-- both orders of a program
+pub program_swap : {E : Type 0} (program : Program) (frames : List Row) (event against : Event × ℕ) (result : Result (Option Page) E)
+    → AreApart (program_trees program) false event.0 against.0
+    → IfOk result (λ page. IfSome page (λ page. AreBothOrders frames event against page.status page.text))
+    → IfOk result (λ page. IfSome page (λ page. IsProgramSwap program page.status page.text))
+program_swap program frames event against (Ok (Some page)) apart both = record {
+  frames = frames;
+  event = event;
+  against = against;
+  apart = apart;
+  both = both;
+}
+program_swap program frames event against (Ok None) apart both = both
+program_swap program frames event against (Err e) apart both = both
+
+-- .. which is that of a text
+pub text_swap : {E : Type 0} (source : List ℕ) (program : Program) (result : Result (Option Page) E) → IsRunnable source program
+    → IfOk result (λ page. IfSome page (λ page. IsProgramSwap program page.status page.text))
+    → IfOk result (λ page. IfSome page (λ page. IsSwap source page.status page.text))
+text_swap source program (Ok (Some page)) runs swap = (program, runs, swap)
+text_swap source program (Ok None) runs swap = swap
+text_swap source program (Err e) runs swap = swap
+
+-- a text that has a program may write something
+pub may_write : {E : Type 0} (source : List ℕ) (program : Program) (result : Result (List ℕ) E) → IsRunnable source program → IfOk result (MayWrite source)
+may_write source program (Ok errors) runs = inr (program, runs)
+may_write source program (Err e) runs = tt
+
+-- a story of a program stands before the report of its text
+pub program_front : {E : Type 0} (of : Named) (source : List ℕ) (program : Program) (result : Result (List ℕ) E) → IsRunnable source program
+    → IfOk result (IsStoryText of) → IfOk result (IsFront of source)
+program_front of source program (Ok front) runs story = inl (program, runs, story)
+program_front of source program (Err e) runs story = story
 
 -- both orders, or the report, of a file that is fetched
 pub fetched_swap : (was is : Moment) (request : AuditRequest) (before : ℕ) (source bytes : List ℕ) (said : ℕ) (text : List ℕ)

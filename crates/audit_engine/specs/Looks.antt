@@ -67,17 +67,21 @@ abbrev pub swap_status : Bool → ℕ
 swap_status true = 6
 swap_status false = 7
 
--- Both orders of two evaluations of a program of which neither is sequenced before the other, and whether they end alike.
-pub record IsProgramSwap (program : Program) (said : ℕ) (text : List ℕ) : Type 0 where
-  pub frames : List Row
-  pub event : Event × ℕ
-  pub against : Event × ℕ
+-- How both orders of two evaluations end: in the second one the later of the two isn't kept waiting by the other.
+pub record AreBothOrders (frames : List Row) (event against : Event × ℕ) (said : ℕ) (text : List ℕ) : Type 0 where
   pub swapped : Swapped
-  pub apart : AreApart (program_trees program) false event.0 against.0
   pub turn : IfSome swapped.turn (IsTurn (place_of event.0) (place_of against.0))
   pub differs : IsTrue swapped.differs ↔ (swapped.canonical.0 ≢ swapped.swapped.0)
   pub code : said ≡ swap_status swapped.differs
   pub page : text ≡ swapped_text frames event against swapped
+
+-- .. of two evaluations of one full expression of a program of which neither is sequenced before the other
+pub record IsProgramSwap (program : Program) (said : ℕ) (text : List ℕ) : Type 0 where
+  pub frames : List Row
+  pub event : Event × ℕ
+  pub against : Event × ℕ
+  pub apart : AreApart (program_trees program) false event.0 against.0
+  pub both : AreBothOrders frames event against said text
 
 -- .. of the program of a text
 abbrev pub IsSwap : List ℕ → ℕ → List ℕ → Type 0

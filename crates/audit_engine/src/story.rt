@@ -45,7 +45,8 @@ fn entries_of(
         frames,
         object,
     )?;
-    entries_text(alloc, &told.frames, &told.entries)
+    let text = entries_text(alloc, &told.frames, &told.entries)?;
+    Ok(text)
 }
 
 // What stands before the report: nothing where the text has no program.

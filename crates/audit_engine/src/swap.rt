@@ -1,7 +1,9 @@
 // Both orders of a quarrel.
-ghost use Rattle.std.specs.Prelude.{◌≡◌, ◌≤◌, ◌^◌, None, length, IfOk, IfSome, option_copied};
+ghost use Rattle.std.specs.Prelude.{◌≡◌, ◌≤◌, ◌^◌, List, false, None, length, IfOk, IfSome, option_copied};
 ghost use Rattle.audit_batch.specs.Moment.{moment};
-ghost use Rattle.audit_engine.specs.Looks.{IsProgramSwap, IsTextSwap, IsSwap, Quiet, SwapTold, swap_status};
+ghost use Rattle.c_typed.specs.Tree.{Tree};
+ghost use Rattle.footprint_run.specs.Apart.{AreApart, StandsApart};
+ghost use Rattle.audit_engine.specs.Looks.{AreBothOrders, IsProgramSwap, IsTextSwap, IsSwap, Quiet, SwapTold, swap_status};
 
 use crate::explain::mode_of;
 use crate::judged::judged_report;
@@ -10,12 +12,13 @@ use audit_sources::{Sources, fetch_sources};
 use audit_top::{FrontFault, program_of};
 use c_typed::Program;
 use command::AuditRequest;
+use core_ir::CoreProgram;
 use elaborate::elaborate;
 use footprint_run::Finding;
 use order_swap::{swap_run, swapped_text};
 use person_top::{Page, Sheet};
 use std::alloc::Global;
-use ub_base::{Files, NoMemory};
+use ub_base::{Event, Files, Frames, NoMemory};
 
 // The status where both orders end, in other ways or alike.
 fn swap_status(differs: bool) -> u8
@@ -24,7 +27,61 @@ fn swap_status(differs: bool) -> u8
     if differs { 6 } else { 7 }
 }
 
-// What both orders give, where the run of a program has a quarrel.
+// The two evaluations that a finding names of which neither is sequenced before the other, with their lines.
+#[derive(Clone, Copy)]
+struct Quarrel {
+    event: (Event, u32),
+    against: (Event, u32),
+}
+
+// The quarrel of a finding, where it is one.
+fn quarrel_of(finding: &Finding) -> Option<Quarrel>
+    ensures { (trees : List Tree) → StandsApart trees finding.now → IfSome result (λ q. AreApart trees false q.event.0 q.against.0) }
+{
+    match finding {
+        Finding::OrderDependent {
+            event,
+            line,
+            against,
+            against_line,
+            ..
+        } => Some(Quarrel {
+            event: (*event, *line),
+            against: (*against, *against_line),
+        }),
+        _ => None,
+    }
+}
+
+// How both orders of a quarrel end.
+fn both_orders(
+    alloc: Global,
+    core: &CoreProgram<'_>,
+    request: &AuditRequest<'_>,
+    input: &[u8],
+    frames: &Frames,
+    quarrel: &Quarrel,
+) -> Result<Option<Page>, NoMemory>
+    requires { request.now.steps ≤ 100000000 }
+    ensures { IfOk result (λ page. IfSome page (λ page. AreBothOrders frames.now quarrel.now.event quarrel.now.against page.status page.text)) }
+{
+    let swapped = swap_run(
+        alloc,
+        core,
+        input,
+        &request.args,
+        mode_of(request.is_tight),
+        request.steps,
+        frames,
+        quarrel.event.0,
+        quarrel.against.0,
+    )?;
+    let text = swapped_text(alloc, frames, quarrel.event, quarrel.against, &swapped)?;
+    let status = swap_status(swapped.differs);
+    Ok(Some(Page { status, text }))
+}
+
+// The same of the quarrel of the run of a program, where it has one.
 fn quarrel_page(
     alloc: Global,
     program: &Program,
@@ -36,32 +93,10 @@ fn quarrel_page(
 {
     let core = elaborate(alloc, program)?;
     let audit = run_audited(alloc, &core, request, input)?;
-    let Finding::OrderDependent {
-        event,
-        line,
-        against,
-        against_line,
-        ..
-    } = audit.finding
-    else {
-        return Ok(None);
-    };
-    let mode = mode_of(request.is_tight);
-    let swapped = swap_run(
-        alloc,
-        &core,
-        input,
-        &request.args,
-        mode,
-        request.steps,
-        &audit.frames,
-        event,
-        against,
-    )?;
-    let second = (against, against_line);
-    let text = swapped_text(alloc, &audit.frames, (event, line), second, &swapped)?;
-    let status = swap_status(swapped.differs);
-    Ok(Some(Page { status, text }))
+    match quarrel_of(&audit.finding) {
+        Some(quarrel) => both_orders(alloc, &core, request, input, &audit.frames, &quarrel),
+        None => Ok(None),
+    }
 }
 
 // The same of a text, where it has a program.

@@ -1,0 +1,10 @@
+use Rattle.audit_engine.proofs.swap.both_orders.Goals as goal
+
+pub returns : goal.returns
+returns c = record {
+  swapped = c.in_ok-swapped.swapped;
+  turn = c.in_ok-swapped.ensures.turn;
+  differs = c.in_ok-swapped.ensures.differs;
+  code = c.swap_status.ensures;
+  page = c.in_ok-text.ensures;
+}
