@@ -4,8 +4,8 @@ use Rattle.ub_base.specs.declared.clause.Cause.{Cause}
 use Rattle.ub_base.specs.declared.clause.Clause.{Clause}
 use Rattle.order_swap.specs.declared.end.End.{End}
 use Rattle.order_swap.specs.declared.end.End.TheVariants.{Ended, Raised, OutOfSteps, Outside, Unplaced}
-use Rattle.order_swap.specs.declared.follow.Stop.{Stop}
-use Rattle.order_swap.specs.declared.follow.Stop.TheVariants as stop
+use Rattle.order_swap.specs.declared.course.Stop.{Stop}
+use Rattle.order_swap.specs.declared.course.Stop.TheVariants as stop
 
 abbrev pub IsOutOfSteps : End → Type 0
 IsOutOfSteps (Ended status output errors) = ⊥

@@ -30,10 +30,13 @@ abbrev pub put_of : Taken → Tree → Pair → List Place → List Place
 put_of taken root pair [] = []
 put_of taken root pair (p ∷ ps) = (if is_put taken root pair p then p ∷ [] else []) ++ put_of taken root pair ps
 
+-- the one that is kept back
+abbrev pub kept_of : Taken → Tree → Pair → List Place
+kept_of taken root pair = if is_kept taken root pair (place pair.first.node Val) then place pair.first.node Val ∷ [] else []
+
 -- those of a list of events that are taken, and behind them the one that is kept back
 abbrev pub wanted_of : Taken → Tree → Pair → List Place → List Place
-wanted_of taken root pair ps =
-    put_of taken root pair ps ++ (if is_kept taken root pair (place pair.first.node Val) then place pair.first.node Val ∷ [] else [])
+wanted_of taken root pair ps = put_of taken root pair ps ++ kept_of taken root pair
 
 -- the pair is of these two
 pub data IsPairOf (d e : Place) : Pair → Type 0 where

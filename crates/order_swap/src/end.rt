@@ -22,31 +22,97 @@ pub enum End {
 
 /// Whether two ends are equal.
 pub fn are_equal(end: &End, other: &End) -> bool
-    ensures { IsTrue result ↔ (end.now ≡ other.now) }
+    ensures { IsTrue result ↔ (other.now ≡ end.now) }
 {
-    match (end, other) {
-        (
-            End::Ended {
-                status,
-                output,
-                errors,
-            },
-            End::Ended {
-                status: status_of,
-                output: output_of,
-                errors: errors_of,
-            },
-        ) => {
-            *status == *status_of
-                && output.as_slice() == output_of.as_slice()
-                && errors.as_slice() == errors_of.as_slice()
+    match end {
+        End::Ended {
+            status,
+            output,
+            errors,
+        } => is_ended(other, *status, output, errors),
+        End::Raised(clause) => is_raised(other, *clause),
+        End::OutOfSteps => is_out_of_steps(other),
+        End::Outside(cause, number) => is_outside(other, *cause, *number),
+        End::Unplaced => is_unplaced(other),
+    }
+}
+
+fn is_ended(end: &End, status: u8, output: &Bytes, errors: &Bytes) -> bool
+    ensures { IsTrue result ↔ (end.now ≡ End.Ended status output.now errors.now) }
+{
+    match end {
+        End::Ended {
+            status: found,
+            output: put,
+            errors: told,
+        } => {
+            if *found != status {
+                return false;
+            }
+            if !same_bytes(put, output) {
+                return false;
+            }
+            same_bytes(told, errors)
         }
-        (End::Raised(clause), End::Raised(other)) => *clause == *other,
-        (End::OutOfSteps, End::OutOfSteps) => true,
-        (End::Outside(cause, number), End::Outside(other, reached)) => {
-            *cause == *other && *number == *reached
-        }
-        (End::Unplaced, End::Unplaced) => true,
         _ => false,
     }
+}
+
+fn is_raised(end: &End, clause: Clause) -> bool
+    ensures { IsTrue result ↔ (end.now ≡ End.Raised clause) }
+{
+    match end {
+        End::Raised(raised) => same_clause(*raised, clause),
+        _ => false,
+    }
+}
+
+fn is_out_of_steps(end: &End) -> bool
+    ensures { IsTrue result ↔ (end.now ≡ End.OutOfSteps) }
+{
+    match end {
+        End::OutOfSteps => true,
+        _ => false,
+    }
+}
+
+fn is_outside(end: &End, cause: Cause, number: u64) -> bool
+    ensures { IsTrue result ↔ (end.now ≡ End.Outside cause number) }
+{
+    match end {
+        End::Outside(passed, reached) => {
+            if *reached != number {
+                return false;
+            }
+            same_cause(*passed, cause)
+        }
+        _ => false,
+    }
+}
+
+fn is_unplaced(end: &End) -> bool
+    ensures { IsTrue result ↔ (end.now ≡ End.Unplaced) }
+{
+    match end {
+        End::Unplaced => true,
+        _ => false,
+    }
+}
+
+fn same_bytes(bytes: &Bytes, others: &Bytes) -> bool
+    ensures { IsTrue result ↔ (bytes.now ≡ others.now) }
+{
+    bytes.as_slice() == others.as_slice()
+}
+
+fn same_clause(clause: Clause, other: Clause) -> bool
+    ensures { IsTrue result ↔ (clause ≡ other) }
+{
+    clause == other
+}
+
+fn same_cause(cause: Cause, other: Cause) -> bool
+    ensures { IsTrue result ↔ (cause ≡ other) }
+{
+    cause == other
 }

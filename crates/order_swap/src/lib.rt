@@ -2,8 +2,8 @@
 #![tactic(auto)]
 
 mod answer;
+mod course;
 mod end;
-mod follow;
 mod guide;
 mod runs;
 mod set;
@@ -11,8 +11,8 @@ mod swap;
 mod text;
 
 pub use answer::{Step, Steps, Swapped, Turn};
+pub use course::{Followed, follow};
 pub use end::End;
-pub use follow::{Followed, follow};
 pub use guide::{Canonical, Guide};
 pub use runs::swap_run;
 pub use set::post_order;

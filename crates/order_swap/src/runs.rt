@@ -5,8 +5,8 @@ ghost use Rattle.order_swap.specs.Ends.{IsOutOfSteps};
 ghost use Rattle.order_swap.specs.Turns.{IsTurn, place_of};
 
 use crate::answer::Swapped;
+use crate::course::follow;
 use crate::end::are_equal;
-use crate::follow::follow;
 use crate::guide::Canonical;
 use crate::swap::Swapper;
 use addr_map::{AddrMap, Mode};
@@ -67,7 +67,7 @@ pub fn swap_run(
         budget,
         &mut swapper,
     )?;
-    let differs = !are_equal(&canonical.end, &swapped.end);
+    let differs = !are_equal(&swapped.end, &canonical.end);
     Ok(Swapped {
         canonical: (canonical.end, canonical.picks),
         swapped: (swapped.end, swapped.picks),

@@ -1,8 +1,10 @@
 // The events that are taken so that one event comes before another.
-ghost use Rattle.std.specs.Prelude.{◌≡◌, ◌<◌, ◌^◌, ◌++◌, OnOk};
+ghost use Rattle.std.specs.Prelude.{◌≡◌, ◌<◌, ◌^◌, ◌++◌, ◌∷◌, [], OnOk, if◌then◌else◌};
 ghost use Rattle.c_typed.specs.Tree.{tree_of, size as nodes_of};
+ghost use Rattle.c_typed.specs.Order.{same_place};
 ghost use Rattle.seq_order.specs.Marked.{taken_in};
-ghost use Rattle.order_swap.specs.Sets.{needs, stores_needed, is_kept, is_put, put_of, wanted_of, IsPairOf};
+ghost use Rattle.ub_base.specs.Names.{same_kind};
+ghost use Rattle.order_swap.specs.Sets.{needs, stores_needed, is_kept, is_put, put_of, kept_of, wanted_of, IsPairOf};
 
 use c_typed::{Place, Typed};
 use seq_order::{Taken, before, due};
@@ -34,11 +36,40 @@ fn put_node(node: u32, places: &mut Vec<Place>) -> Result<(), NoMemory> {
     Ok(())
 }
 
+fn same_kind(kind: Kind, other: Kind) -> bool
+    ensures { result ≡ same_kind kind other }
+{
+    match kind {
+        Kind::Val => match other {
+            Kind::Val => true,
+            Kind::Eff => false,
+            Kind::Body => false,
+        },
+        Kind::Eff => match other {
+            Kind::Val => false,
+            Kind::Eff => true,
+            Kind::Body => false,
+        },
+        Kind::Body => match other {
+            Kind::Val => false,
+            Kind::Eff => false,
+            Kind::Body => true,
+        },
+    }
+}
+
+/// Whether two events of a full expression are one.
+pub fn same_place(place: Place, other: Place) -> bool
+    ensures { result ≡ same_place place other }
+{
+    place.node == other.node && same_kind(place.kind, other.kind)
+}
+
 /// Whether the event has to be done before `second` can be: it is that event, or it is sequenced before it.
 fn needs(root: &Typed, place: Place, second: Place, taken: &Taken) -> bool
     ensures { nodes_of (tree_of root.now) < 2 ^ 32 → result ≡ needs (taken_in taken.now) (tree_of root.now) place second }
 {
-    due(root, place, taken) && (place == second || before(root, place, second, taken))
+    due(root, place, taken) && (same_place(place, second) || before(root, place, second, taken))
 }
 
 /// The value of the event's node.
@@ -56,7 +87,7 @@ fn stores_needed(root: &Typed, place: Place, second: Place, taken: &Taken) -> bo
     ensures { nodes_of (tree_of root.now) < 2 ^ 32 → result ≡ stores_needed (taken_in taken.now) (tree_of root.now) place second }
 {
     let value = value_of(place);
-    place.kind == Kind::Eff
+    same_kind(place.kind, Kind::Eff)
         && (before(root, value, place, taken) && needs(root, value, second, taken))
 }
 
@@ -72,17 +103,17 @@ pub struct Pair {
 fn is_put(root: &Typed, pair: Pair, taken: &Taken, place: Place) -> bool
     ensures { nodes_of (tree_of root.now) < 2 ^ 32 → result ≡ is_put (taken_in taken.now) (tree_of root.now) pair place }
 {
-    place != pair.first
-        && !is_kept(root, pair, taken, place)
-        && (needs(root, place, pair.second, taken)
-            || stores_needed(root, place, pair.second, taken))
+    !same_place(place, pair.first)
+        && (!is_kept(root, pair, taken, place)
+            && (needs(root, place, pair.second, taken)
+                || stores_needed(root, place, pair.second, taken)))
 }
 
 fn is_kept(root: &Typed, pair: Pair, taken: &Taken, place: Place) -> bool
     ensures { nodes_of (tree_of root.now) < 2 ^ 32 → result ≡ is_kept (taken_in taken.now) (tree_of root.now) pair place }
 {
-    place == value_of(pair.first)
-        && (stores_needed(root, pair.first, pair.second, taken) && place != pair.first)
+    same_place(place, value_of(pair.first))
+        && (stores_needed(root, pair.first, pair.second, taken) && !same_place(place, pair.first))
 }
 
 /// Adds the events that are taken so that `second` comes soon, in this order, and the one that is kept back behind them.
@@ -97,6 +128,18 @@ pub fn put_wanted(
         → OnOk result (wanted.new.items ≡ wanted.old.items ++ wanted_of (taken_in taken.now) (tree_of root.now) pair places.now) }
 {
     put_first(root, pair, taken, places, wanted)?;
+    put_kept(root, pair, taken, wanted)
+}
+
+fn put_kept(
+    root: &Typed,
+    pair: Pair,
+    taken: &Taken,
+    wanted: &mut Vec<Place>,
+) -> Result<(), NoMemory>
+    ensures { nodes_of (tree_of root.now) < 2 ^ 32
+        → OnOk result (wanted.new.items ≡ wanted.old.items ++ kept_of (taken_in taken.now) (tree_of root.now) pair) }
+{
     let kept = value_of(pair.first);
     if is_kept(root, pair, taken, kept) {
         wanted.push(kept)?;
@@ -115,9 +158,23 @@ fn put_first(
         → OnOk result (wanted.new.items ≡ wanted.old.items ++ put_of (taken_in taken.now) (tree_of root.now) pair places.now) }
 {
     for place in places {
-        if is_put(root, pair, taken, *place) {
-            wanted.push(*place)?;
-        }
+        put_one(root, pair, taken, *place, wanted)?;
+    }
+    Ok(())
+}
+
+fn put_one(
+    root: &Typed,
+    pair: Pair,
+    taken: &Taken,
+    place: Place,
+    wanted: &mut Vec<Place>,
+) -> Result<(), NoMemory>
+    ensures { nodes_of (tree_of root.now) < 2 ^ 32
+        → OnOk result (wanted.new.items ≡ wanted.old.items ++ (if is_put (taken_in taken.now) (tree_of root.now) pair place then place ∷ [] else [])) }
+{
+    if is_put(root, pair, taken, place) {
+        wanted.push(place)?;
     }
     Ok(())
 }

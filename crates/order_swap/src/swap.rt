@@ -9,7 +9,7 @@ ghost use Rattle.order_swap.specs.Turns.{HasPair, IsFair, IsTurn, place_of};
 
 use crate::answer::{Step, Steps, Turn};
 use crate::guide::Guide;
-use crate::set::{Pair, in_order, post_order, put_wanted};
+use crate::set::{Pair, in_order, post_order, put_wanted, same_place};
 use c_typed::{Place, Typed};
 use run_machine::Begun;
 use seq_order::{Taken, due};
@@ -100,7 +100,7 @@ impl Swapper {
         requires { self.old.pair ≡ Some pair }
     {
         // The first event is taken only where the second isn't evaluated or is done.
-        if place == pair.first && self.waits {
+        if same_place(place, pair.first) && self.waits {
             return Err(NoMemory);
         }
         let step = Step {
@@ -108,7 +108,7 @@ impl Swapper {
             waits: self.waits,
         };
         self.steps.add(step)?;
-        if place == pair.second {
+        if same_place(place, pair.second) {
             self.done = true;
         }
         Ok(())

@@ -1,2 +1,5 @@
+mod Lines
+mod Naming
 mod Placing
+mod Retold
 mod Ways

@@ -1,5 +1,31 @@
 -- Frames that no path of a list of frames leads to, and lists of frames that are the same.
-use Rattle.std.proofs.Common.{◌≡◌, ◌<◌, ◌≤◌, ◌+◌, ◌-◌, ℕ, zero, suc, List, [], ◌∷◌, ◌++◌, length, get_or, take, drop, Option, Some, None, refl, sym, ap, subst, ◌∙◌, arith}
+use Rattle.std.proofs.Common.{
+  ◌≡◌,
+  ◌<◌,
+  ◌≤◌,
+  ◌+◌,
+  ◌-◌,
+  ℕ,
+  zero,
+  suc,
+  List,
+  [],
+  ◌∷◌,
+  ◌++◌,
+  length,
+  get_or,
+  take,
+  drop,
+  Option,
+  Some,
+  None,
+  refl,
+  sym,
+  ap,
+  subst,
+  ◌∙◌,
+  arith,
+}
 use Rattle.std.specs.Prelude.{slice_get, Contains}
 use Rattle.std.proofs.lemmas.Option.{slice_get_within, get_or_from_slice_get}
 use Rattle.std.proofs.lemmas.List.{drop_all}
@@ -90,8 +116,10 @@ one_more rows h f g steps i k step a found is e l at =
   where
     fits : (n i k : ℕ) → k ≡ n - 1 - i → i < n → k ≡ n - (i + 1)
     fits n i k e l = omega (arith, e, l)
+
     next : (n i k : ℕ) → k ≡ n - 1 - i → i < n → n - i ≡ suc k
     next n i k e l = omega (arith, e, l)
+
     split : (ys : Path) (j : ℕ) (d : ℕ × ℕ) → j < length ys → get_or ys j d ∷ drop (suc j) ys ≡ drop j ys
     split [] j d a = absurd (omega arith)
     split (y ∷ ys) zero d a = refl

@@ -2,9 +2,11 @@
 use Rattle.std.specs.Prelude.{◌+◌, ◌-◌, ◌^◌, ℕ, min, max, nat_lt, nat_le, Bool, false, ◌&&◌, ◌||◌, List, [], ◌∷◌, Option, Some, None, if◌then◌else◌}
 use Rattle.std.specs.declared.cmp.Ordering.{Ordering}
 use Rattle.std.specs.declared.cmp.Ordering.TheVariants.{Less, Equal, Greater}
-use Rattle.std.specs.Ordering.{nat_cmp}
+use Rattle.std.specs.Ordering.{nat_cmp, ordering_then}
 use Rattle.ub_base.specs.Frames.{Row}
 use Rattle.ub_base.specs.Names.{same_object}
+use Rattle.ub_base.specs.declared.clause.Kind.TheVariants.{Val}
+use Rattle.ub_base.specs.declared.names.Event.{Event}
 use Rattle.ub_base.specs.declared.names.ObjName.{ObjName}
 use Rattle.ub_base.specs.declared.names.Item.{Item}
 use Rattle.ub_base.specs.declared.names.Item.TheVariants.{Read, Write, Born, Dies, Alive, Expose, Lookup, Narrow, Input, Output, Ending, Any}
@@ -40,18 +42,34 @@ item_rank Output = 9
 item_rank Ending = 10
 item_rank Any = 11
 
+-- the bytes of an item, the address that it looks up and the event whose look-up it settles, where it has them
+abbrev pub range_of : Item → ℕ × ℕ
+range_of (Read x f n) = (f, n)
+range_of (Write x f n) = (f, n)
+range_of _ = (0, 0)
+
+abbrev pub address_of : Item → ℕ
+address_of (Lookup a) = a
+address_of _ = 0
+
+abbrev pub no_event : Event
+no_event = record { frame = record { 0 = 0 }; turn = 0; node = 0; kind = Val }
+
+abbrev pub event_of : Item → Event
+event_of (Narrow d x) = d
+event_of _ = no_event
+
 -- how an item of the object stands to another: by kind, and two of one kind by their bytes, addresses or events; Equal where they are told as one
 abbrev pub meeting : List Row → Item → Item → Ordering
-meeting rows (Read x f n) (Read y g m) = by_range f n g m
-meeting rows (Write x f n) (Write y g m) = by_range f n g m
-meeting rows (Lookup a) (Lookup b) = nat_cmp a b
-meeting rows (Narrow d x) (Narrow e y) = event_cmp rows d e
-meeting rows i j = nat_cmp (item_rank i) (item_rank j)
+meeting rows i j =
+    ordering_then (nat_cmp (item_rank i) (item_rank j))
+    (ordering_then (by_range (range_of i).0 (range_of i).1 (range_of j).0 (range_of j).1)
+    (ordering_then (nat_cmp (address_of i) (address_of j)) (event_cmp rows (event_of i) (event_of j))))
 
--- the one item that two make: of ranges the least one that has both
+-- the one item that two of a kind make: of ranges the least one that has both
 abbrev pub joined : Item → Item → Item
-joined (Read x f n) (Read y g m) = Read x (hull f n g m).0 (hull f n g m).1
-joined (Write x f n) (Write y g m) = Write x (hull f n g m).0 (hull f n g m).1
+joined (Read x f n) j = Read x (hull f n (range_of j).0 (range_of j).1).0 (hull f n (range_of j).0 (range_of j).1).1
+joined (Write x f n) j = Write x (hull f n (range_of j).0 (range_of j).1).0 (hull f n (range_of j).0 (range_of j).1).1
 joined i j = i
 
 abbrev pub by_meeting : Ordering → (before behind one : List Item) → List Item

@@ -1,9 +1,12 @@
 // What is told of an object.
 ghost use Rattle.std.specs.Prelude.{◌≡◌, ◌++◌, [], OnOk, OnErr};
 
+use crate::calls::Calls;
+use addr_map::AddrMap;
+use core_run::Ran;
 use std::alloc::Global;
 use std::marker::Model;
-use ub_base::{Event, Item, NoMemory};
+use ub_base::{Event, Frames, Item, NoMemory, ObjName};
 
 /// What a pick does to the object: the number of the pick, from 1; its event, with the line of its node, or none and 0 where
 /// it is a control step; and the item.
@@ -54,4 +57,16 @@ impl Entries {
         self.items.extend_from_slice(more)?;
         Ok(())
     }
+}
+
+/// The story of an object, with what shows it: how the run ended, its frames and its objects, the object as this run numbers its
+/// frame, none where that frame hasn't started, and the calls of the watch that was told.
+#[derive(Drop)]
+pub struct Story {
+    pub entries: Entries,
+    pub frames: Frames,
+    pub named: Option<ObjName>,
+    pub map: AddrMap,
+    pub ran: Ran,
+    pub calls: Calls,
 }

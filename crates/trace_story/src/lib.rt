@@ -5,13 +5,13 @@ mod calls;
 mod entry;
 mod line;
 mod named;
-mod story;
 mod tell;
+mod telling;
 mod text;
 mod told;
 mod watcher;
 
 pub use calls::Calls;
-pub use entry::{Entries, Entry};
-pub use story::{Story, story};
+pub use entry::{Entries, Entry, Story};
+pub use telling::story;
 pub use text::entries_text;

@@ -88,8 +88,20 @@ pub fn named_in(
             Some(frame) => Ok(Some(ObjName::Heap { frame, turn, node })),
             None => Ok(None),
         },
-        other => Ok(Some(other)),
+        ObjName::Static(number) => Ok(Some(ObjName::Static(number))),
+        ObjName::Lit(number) => Ok(Some(ObjName::Lit(number))),
+        ObjName::Argv => Ok(Some(ObjName::Argv)),
+        ObjName::Arg(number) => Ok(Some(ObjName::Arg(number))),
     }
+}
+
+/// A frame's row.
+type Row = (Frame, u64, u32);
+
+fn is_row(row: Row, other: Row) -> bool
+    ensures { IsTrue result → row ≡ other }
+{
+    row.0.0 == other.0.0 && (row.1 == other.1 && row.2 == other.2)
 }
 
 /// Whether two lists of frames are one.
@@ -102,7 +114,7 @@ pub fn are_same(frames: &Frames, others: &Frames) -> bool
     }
     for i in 0..count {
         let frame = Frame(i + 1);
-        if frames.row(frame) != others.row(frame) {
+        if !is_row(frames.row(frame), others.row(frame)) {
             return false;
         }
     }

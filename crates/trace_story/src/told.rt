@@ -1,13 +1,13 @@
 // The items of a pick that speak of an object, in order.
-ghost use Rattle.std.specs.Prelude.{◌≡◌, ◌≤◌, ◌++◌, ◌∷◌, List, IfOk};
+ghost use Rattle.std.specs.Prelude.{◌≡◌, ◌≤◌, ◌++◌, ◌∷◌, List, IfOk, if◌then◌else◌};
 ghost use Rattle.ub_base.specs.declared.names.Item.{Item};
-ghost use Rattle.trace_story.specs.Told.{end_of, by_range, hull, item_rank, meeting, joined, placed, left, is_told, is_at, told_in};
+ghost use Rattle.trace_story.specs.Told.{end_of, by_range, hull, item_rank, range_of, address_of, event_of, meeting, joined, placed, left, is_told, is_at, told_in};
 
 use addr_map::Row;
 use c_names::cmp_events;
 use std::alloc::Global;
 use std::cmp::Ordering;
-use ub_base::{Frames, Item, NoMemory, ObjName};
+use ub_base::{Event, Frame, Frames, Item, Kind, NoMemory, ObjName};
 
 /// The object of a story, and its place, where it has one.
 #[derive(Clone, Copy, Debug)]
@@ -68,63 +68,64 @@ fn item_rank(item: &Item) -> u8
     }
 }
 
+/// The bytes of an item; of one that accesses none the range is empty.
+fn range_of(item: &Item) -> Range
+    ensures { result ≡ range_of item.now }
+{
+    match *item {
+        Item::Read { from, len, .. } => (from, len),
+        Item::Write { from, len, .. } => (from, len),
+        _ => (0, 0),
+    }
+}
+
+/// The address that an item looks up, or 0.
+fn address_of(item: &Item) -> u64
+    ensures { result ≡ address_of item.now }
+{
+    match *item {
+        Item::Lookup(address) => address,
+        _ => 0,
+    }
+}
+
+/// What stands for the event of an item that has none.
+const NO_EVENT: Event = Event {
+    frame: Frame(0),
+    turn: 0,
+    node: 0,
+    kind: Kind::Val,
+};
+
+/// The event whose look-up an item settles.
+fn event_of(item: &Item) -> Event
+    ensures { result ≡ event_of item.now }
+{
+    match *item {
+        Item::Narrow { id, .. } => id,
+        _ => NO_EVENT,
+    }
+}
+
 /// How an item of the object stands to another: before it, behind it, or so that the two are told as one.
 fn meeting(frames: &Frames, a: &Item, b: &Item) -> Ordering
     ensures { result ≡ meeting frames.now a.now b.now }
 {
-    match (*a, *b) {
-        (
-            Item::Read { from, len, .. },
-            Item::Read {
-                from: at,
-                len: count,
-                ..
-            },
-        ) => { by_range((from, len), (at, count)) }
-        (
-            Item::Write { from, len, .. },
-            Item::Write {
-                from: at,
-                len: count,
-                ..
-            },
-        ) => { by_range((from, len), (at, count)) }
-        (Item::Lookup(address), Item::Lookup(other)) => address.cmp(&other),
-        (Item::Narrow { id, .. }, Item::Narrow { id: other, .. }) => {
-            cmp_events(frames, &id, &other)
-        }
-        _ => item_rank(a).cmp(&item_rank(b)),
-    }
+    let events = cmp_events(frames, &event_of(a), &event_of(b));
+    let addresses = address_of(a).cmp(&address_of(b)).then(events);
+    let ranges = by_range(range_of(a), range_of(b)).then(addresses);
+    item_rank(a).cmp(&item_rank(b)).then(ranges)
 }
 
-/// The one item that two make.
+/// The one item that two make: of ranges the least one that has both.
 fn joined(a: &Item, b: &Item) -> Item
     ensures { result ≡ joined a.now b.now }
 {
-    match (*a, *b) {
-        (
-            Item::Read { object, from, len },
-            Item::Read {
-                from: at,
-                len: count,
-                ..
-            },
-        ) => {
-            let (from, len) = hull((from, len), (at, count));
-            Item::Read { object, from, len }
-        }
-        (
-            Item::Write { object, from, len },
-            Item::Write {
-                from: at,
-                len: count,
-                ..
-            },
-        ) => {
-            let (from, len) = hull((from, len), (at, count));
-            Item::Write { object, from, len }
-        }
-        _ => *a,
+    let (from, len) = hull(range_of(a), range_of(b));
+    match *a {
+        Item::Read { object, .. } => Item::Read { object, from, len },
+        Item::Write { object, .. } => Item::Write { object, from, len },
+        other => other,
     }
 }
 
@@ -164,10 +165,13 @@ fn placed(alloc: Global, frames: &Frames, item: Item, told: &[Item]) -> Result<V
     for next in told {
         waiting = pass(frames, &mut out, waiting, *next)?;
     }
-    if let Some(item) = waiting {
-        out.push(item)?;
+    match waiting {
+        Some(item) => {
+            out.push(item)?;
+            Ok(out)
+        }
+        None => Ok(out),
     }
-    Ok(out)
 }
 
 /// The object contains the address, or has it one past.
@@ -197,6 +201,23 @@ fn is_told(sought: &Sought, item: &Item) -> bool
     }
 }
 
+/// The items told so far, with one more where it speaks of the object.
+fn told_with(
+    alloc: Global,
+    frames: &Frames,
+    sought: &Sought,
+    told: Vec<Item>,
+    item: Item,
+) -> Result<Vec<Item>, NoMemory>
+    ensures { IfOk result (λ v. v.items ≡ (if is_told sought.now item then placed frames.now item told.items else told.items)) }
+{
+    if is_told(sought, &item) {
+        placed(alloc, frames, item, told.as_slice())
+    } else {
+        Ok(told)
+    }
+}
+
 /// What a pick with these items does to the object.
 pub fn told_in(
     alloc: Global,
@@ -208,9 +229,7 @@ pub fn told_in(
 {
     let mut told = Vec::new(alloc);
     for item in items {
-        if is_told(sought, item) {
-            told = placed(alloc, frames, *item, told.as_slice())?;
-        }
+        told = told_with(alloc, frames, sought, told, *item)?;
     }
     Ok(told)
 }

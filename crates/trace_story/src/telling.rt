@@ -5,7 +5,7 @@ ghost use Rattle.trace_story.specs.Named.{IsNamed};
 ghost use Rattle.trace_story.specs.Stories.{mark_of, story_in, sought_in};
 
 use crate::calls::Calls;
-use crate::entry::Entries;
+use crate::entry::{Entries, Story};
 use crate::named::{are_same, named_in};
 use crate::told::Sought;
 use crate::watcher::Teller;
@@ -14,18 +14,6 @@ use core_ir::CoreProgram;
 use core_run::{Ran, run};
 use std::alloc::Global;
 use ub_base::{Frames, NoMemory, ObjName};
-
-/// The story of an object, with what shows it: how the run ended, its frames and its objects, the object as this run numbers its
-/// frame, none where that frame hasn't started, and the calls of the watch that was told.
-#[derive(Drop)]
-pub struct Story {
-    pub entries: Entries,
-    pub frames: Frames,
-    pub named: Option<ObjName>,
-    pub map: AddrMap,
-    pub ran: Ran,
-    pub calls: Calls,
-}
 
 /// What is told of an object in one run.
 #[derive(Drop)]
@@ -91,7 +79,14 @@ pub fn story(
 {
     let first = told_by(alloc, p, input, args, mode, picks, frames, None)?;
     let Some(named) = named_in(alloc, frames, object, &first.frames)? else {
-        return Ok(unnamed(first));
+        return Ok(Story {
+            entries: first.entries,
+            frames: first.frames,
+            named: None,
+            map: first.map,
+            ran: first.ran,
+            calls: first.calls,
+        });
     };
     let row = first.map.row(named);
     let sought = Sought { object: named, row };
@@ -117,16 +112,4 @@ pub fn story(
         ran: second.ran,
         calls: second.calls,
     })
-}
-
-/// The story of an object whose frame hasn't started.
-fn unnamed(told: Told) -> Story {
-    Story {
-        entries: told.entries,
-        frames: told.frames,
-        named: None,
-        map: told.map,
-        ran: told.ran,
-        calls: told.calls,
-    }
 }
