@@ -1,0 +1,3 @@
+pub mod Preordered
+pub mod Shows
+pub mod Taking

@@ -1,6 +1,6 @@
 -- How many bytes the objects have that the text names, and the literals (6.2.4, 6.4.5p6).
 use Rattle.std.specs.Prelude.{ℕ, ◌==◌, List, [], ◌∷◌, length, slice_get, Option, Some, None, if◌then◌else◌}
-use Rattle.c_types.specs.Types.{type_of, qualified_of}
+use Rattle.c_types.specs.Types.{qualified_of}
 use Rattle.c_types.specs.Layout.{size_of}
 use Rattle.c_types.specs.declared.ty.Qual.{Qual}
 use Rattle.c_types.specs.declared.tags.Tag.{Tag}

@@ -52,6 +52,14 @@ typed_constant t = t.node
 abbrev pub constant_of : Typed → Option ℤ
 constant_of = fold-Typed (Option ℤ) (Option ℤ) node_constant typed_constant
 
+abbrev pub constant_at : Option Typed → Option ℤ
+constant_at None = None
+constant_at (Some t) = constant_of t
+
+-- the constant index of a sum whose operands these are
+abbrev pub index_of : List Typed → Option ℤ
+index_of ts = constant_at (slice_get ts 1)
+
 -- what a tree shows the node above it
 pub record Shown : Type 0 where
   pub constant : Option ℤ

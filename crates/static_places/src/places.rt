@@ -1,7 +1,8 @@
 // Fixed places.
 ghost use Rattle.std.specs.Prelude.{◌≡◌, ◌*◌, slice_get};
+ghost use Rattle.c_typed.specs.declared.tree.Typed.{out-Typed};
 ghost use Rattle.static_places.specs.Preorder.{nodes_of};
-ghost use Rattle.static_places.specs.Fixed.{fixed_place, fixed_at, sought, constant_of, moved, indexed, stepped, size_of_base, magnitude, is_below, opposite, small_magnitude};
+ghost use Rattle.static_places.specs.Fixed.{fixed_place, fixed_at, sought, constant_of, index_of, moved, indexed, stepped, size_of_base, magnitude, is_below, opposite, small_magnitude};
 
 use crate::extents::{literal_size, slot_size};
 use c_typed::{Node, Program, Slot, Typed};
@@ -58,14 +59,24 @@ pub fn place_of(p: &Program, function: u32, tree: &Typed) -> Option<(FixedBase, 
             Some(pointer) => moved(*offset, place_of(p, function, pointer)),
             None => None,
         },
-        Node::PtrAdd { size, subtract } => {
-            let (Some(pointer), Some(index)) = (tree.children.get(0), tree.children.get(1)) else {
-                return None;
-            };
-            let place = place_of(p, function, pointer);
-            indexed(p, function, *size, *subtract, place, constant_of(index))
-        }
+        Node::PtrAdd { size, subtract } => match tree.children.get(0) {
+            Some(pointer) => {
+                let place = place_of(p, function, pointer);
+                indexed(p, function, *size, *subtract, place, index_of(tree))
+            }
+            None => None,
+        },
         _ => None,
+    }
+}
+
+/// The constant index of a sum of a pointer and an index.
+fn index_of(sum: &Typed) -> Option<i128>
+    ensures { result ≡ index_of (out-Typed sum.now).children }
+{
+    match sum.children.get(1) {
+        Some(index) => constant_of(index),
+        None => None,
     }
 }
 

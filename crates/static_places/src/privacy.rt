@@ -1,5 +1,6 @@
 // Objects whose address nothing takes.
 ghost use Rattle.std.specs.Prelude.{◌≡◌, map};
+ghost use Rattle.c_typed.specs.declared.tree.Slot.{Slot as SlotOf};
 ghost use Rattle.static_places.specs.Private.{same_slot, names_target, holds_address, some_holds, takes, takes_node, option_takes, body_takes, start_takes, block_takes, entry_takes, function_takes, static_holds, any_of, is_private, full_takes, defined_takes};
 
 use c_typed::{
@@ -82,8 +83,8 @@ fn statics_hold(slot: Slot, statics: &[Static]) -> bool
 }
 
 /// Whether the first operand of the node is the place of an access.
-fn accesses(slot: Slot, node: &Node) -> bool
-    ensures { result ≡ (takes_node slot node.now).accesses }
+fn accesses(node: &Node) -> bool
+    ensures { (slot : SlotOf) → result ≡ (takes_node slot node.now).accesses }
 {
     matches!(
         node,
@@ -99,12 +100,12 @@ fn takes(slot: Slot, tree: &Typed, place: bool) -> bool
     if node_takes(slot, &tree.node, place) {
         return true;
     }
-    let mut place = accesses(slot, &tree.node);
+    let mut first = accesses(&tree.node);
     for operand in tree.children.as_slice() {
-        if takes(slot, operand, place) {
+        if takes(slot, operand, first) {
             return true;
         }
-        place = false;
+        first = false;
     }
     false
 }

@@ -1,10 +1,13 @@
 -- The choice of operands that leaves out each operand in which neither of two nodes stands, and the branches of `?:`.
 use Rattle.std.specs.Prelude.{
+  ◌≡◌,
   ℕ,
   ◌+◌,
   ◌-◌,
   ◌^◌,
   min,
+  ◌<◌,
+  length,
   nat_lt,
   nat_le,
   Bool,
@@ -22,6 +25,8 @@ use Rattle.std.specs.Prelude.{
   ◌==◌,
   if◌then◌else◌,
 }
+use Rattle.std.specs.Borrow.{Bor}
+use Rattle.static_places.specs.Preorder.{nodes_of, trees_at}
 use Rattle.c_typed.specs.declared.tree.Node.{Node, out-Node}
 use Rattle.c_typed.specs.declared.tree.Node.TheOpen as shape
 use Rattle.c_typed.specs.declared.tree.Node.TheOpen.{Node-F}
@@ -62,10 +67,13 @@ spared_by t n u v _ = None
 abbrev pub spared_at : Typed → ℕ → ℕ → ℕ → Option ℕ
 spared_at t n u v = spared_by t n u v (node_of t)
 
--- of nodes with numbers from n on
-abbrev pub spared_from : List Typed → ℕ → ℕ → ℕ → Taken
-spared_from [] n u v k = None
-spared_from (t ∷ ts) n u v k = if k == n then spared_at t n u v else spared_from ts (next n) u v k
+abbrev pub spared_where : Option Typed → ℕ → ℕ → ℕ → Option ℕ
+spared_where None n u v = None
+spared_where (Some t) n u v = spared_at t n u v
+
+-- of each of these nodes, by its number
+abbrev pub spared_of : List Typed → ℕ → ℕ → Taken
+spared_of ts u v n = spared_where (slice_get ts n) n u v
 
 abbrev pub parts_at : Typed → ℕ → ℕ → ℕ → Node-F Node Typed → Bool
 parts_at t n u v shape.Cond = (is_in_second t n u && is_in_last t 2 n v) || (is_in_second t n v && is_in_last t 2 n u)
@@ -75,3 +83,9 @@ parts_at t n u v _ = false
 abbrev pub in_branches : List Typed → ℕ → ℕ → ℕ → Bool
 in_branches [] n u v = false
 in_branches (t ∷ ts) n u v = parts_at t n u v (node_of t) || in_branches ts (next n) u v
+
+-- these are the nodes of the tree, few enough that a u32 numbers them
+pub record Lists (nodes : List (Bor Typed)) (root : Typed) : Type 0 where
+  pub all : trees_at nodes ≡ nodes_of root
+  pub few : length nodes < 2 ^ 32
+  pub count : size (tree_of root) < 2 ^ 32

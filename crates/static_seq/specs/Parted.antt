@@ -13,7 +13,7 @@ use Rattle.static_places.specs.Private.{same_slot, is_private}
 use Rattle.static_seq.specs.declared.accesses.Accessed.{Accessed}
 use Rattle.static_seq.specs.declared.accesses.MemoryAccess.{MemoryAccess}
 use Rattle.static_seq.specs.Accesses.{accesses_from}
-use Rattle.static_seq.specs.Choices.{spared_from, in_branches}
+use Rattle.static_seq.specs.Choices.{spared_of, in_branches}
 
 -- 1. Both are reads.
 abbrev pub both_read : MemoryAccess → MemoryAccess → Bool
@@ -23,7 +23,7 @@ both_read a b = not a.writes && not b.writes
 -- `&&` and `||` in which neither stands.
 abbrev pub sequenced : Typed → MemoryAccess → MemoryAccess → Bool
 sequenced root a b =
-    let taken = spared_from (nodes_of root) 0 a.at.place.node b.at.place.node
+    let taken = spared_of (nodes_of root) a.at.place.node b.at.place.node
     in is_before taken 0 (tree_of root) a.at.place b.at.place || is_before taken 0 (tree_of root) b.at.place a.at.place
 
 -- 3. They stand in the two branches of one `?:`.

@@ -1,8 +1,8 @@
 // The choice of operands that leaves out what neither of two nodes needs, and the branches of `?:`.
-ghost use Rattle.std.specs.Prelude.{◌≡◌, ◌<◌, ◌^◌, ℕ, IfOk};
+ghost use Rattle.std.specs.Prelude.{◌≡◌, ◌<◌, ◌^◌, ℕ, length, IfOk};
 ghost use Rattle.static_places.specs.Preorder.{trees_at};
 ghost use Rattle.seq_order.specs.Marked.{taken_in};
-ghost use Rattle.static_seq.specs.Choices.{operand_count, is_in_last, is_in_second, spared_at, spared_from, parts_at, node_of, in_branches};
+ghost use Rattle.static_seq.specs.Choices.{operand_count, is_in_last, is_in_second, spared_at, spared_of, parts_at, node_of, in_branches};
 
 use c_typed::{Node, Typed, size};
 use seq_order::Taken;
@@ -12,7 +12,7 @@ use ub_base::NoMemory;
 /// The choice of operands under which the two nodes are evaluated and as little else as can be: no second operand of `&&` and
 /// `||` in which neither stands. The nodes of the tree have numbers from 0 on.
 pub fn spared(alloc: Global, nodes: &[&Typed], u: u32, v: u32) -> Result<Taken, NoMemory>
-    ensures { IfOk result (λ taken. (k : ℕ) → taken_in taken.now k ≡ spared_from (trees_at nodes.now) 0 u v k) }
+    ensures { length nodes.now < 2 ^ 32 → IfOk result (λ taken. (k : ℕ) → taken_in taken k ≡ spared_of (trees_at nodes.now) u v k) }
 {
     let mut taken = Taken::new(alloc);
     let mut number = 0u32;

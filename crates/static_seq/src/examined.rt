@@ -1,8 +1,8 @@
 // The verdicts on all full expressions of a program.
-ghost use Rattle.std.specs.Prelude.{◌≡◌, ◌++◌, ◌<◌, ◌^◌, IfOk, OnOk};
+ghost use Rattle.std.specs.Prelude.{◌≡◌, ◌++◌, IfOk, OnOk};
 ghost use Rattle.std.specs.List.{All};
-ghost use Rattle.c_typed.specs.Tree.{tree_of, size as count_of};
-ghost use Rattle.static_places.specs.Preorder.{trees_at, nodes_of};
+ghost use Rattle.static_places.specs.Preorder.{trees_at};
+ghost use Rattle.static_seq.specs.Choices.{Lists};
 ghost use Rattle.static_seq.specs.Parted.{first_beside, first_pair, unparted};
 ghost use Rattle.static_seq.specs.Verdicts.{Counts, ProgramCounts, FunctionCounts, verdict_of, verdicts_from, verdicts};
 ghost use Rattle.static_seq.specs.Expressions.{function_trees};
@@ -107,7 +107,7 @@ fn first_pair(
     nodes: &[&Typed],
     accesses: &[MemoryAccess],
 ) -> Result<Option<(Accessed, Accessed)>, NoMemory>
-    ensures { trees_at nodes.now ≡ nodes_of root.now → Counts root.now → IfOk result (λ pair. pair ≡ first_pair p.now function root.now accesses.now) }
+    ensures { Lists nodes.now root.now → IfOk result (λ pair. pair ≡ first_pair p.now function root.now accesses.now) }
 {
     for (i, a) in accesses.iter().enumerate() {
         let rest = &accesses[i + 1..];
@@ -128,7 +128,7 @@ fn first_beside(
     a: &MemoryAccess,
     rest: &[MemoryAccess],
 ) -> Result<Option<Accessed>, NoMemory>
-    ensures { trees_at nodes.now ≡ nodes_of root.now → Counts root.now → IfOk result (λ first. first ≡ first_beside p.now function root.now a.now rest.now) }
+    ensures { Lists nodes.now root.now → IfOk result (λ first. first ≡ first_beside p.now function root.now a.now rest.now) }
 {
     for b in rest {
         if !parted(alloc, p, function, root, nodes, a, b)? {

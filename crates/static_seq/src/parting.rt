@@ -1,7 +1,6 @@
 // Which accesses of one full expression never race.
-ghost use Rattle.std.specs.Prelude.{◌≡◌, ◌+◌, ◌<◌, ◌^◌, nat_le, IfOk};
-ghost use Rattle.c_typed.specs.Tree.{tree_of, size as count_of};
-ghost use Rattle.static_places.specs.Preorder.{trees_at, nodes_of};
+ghost use Rattle.std.specs.Prelude.{◌≡◌, ◌+◌, ◌||◌, nat_le, IfOk};
+ghost use Rattle.static_seq.specs.Choices.{Lists};
 ghost use Rattle.static_seq.specs.Parted.{both_read, distant, same_base, sequenced, branched, secluded, parted};
 
 use crate::MemoryAccess;
@@ -23,7 +22,7 @@ pub fn parted(
     a: &MemoryAccess,
     b: &MemoryAccess,
 ) -> Result<bool, NoMemory>
-    ensures { trees_at nodes.now ≡ nodes_of root.now → count_of (tree_of root.now) < 2 ^ 32 → IfOk result (λ answer. answer ≡ parted p.now function root.now a.now b.now) }
+    ensures { Lists nodes.now root.now → IfOk result (λ answer. answer ≡ parted p.now function root.now a.now b.now) }
 {
     if both_read(a, b) || distant(a, b) {
         return Ok(true);
@@ -51,12 +50,20 @@ fn sequenced(
     a: &MemoryAccess,
     b: &MemoryAccess,
 ) -> Result<bool, NoMemory>
-    ensures { trees_at nodes.now ≡ nodes_of root.now → count_of (tree_of root.now) < 2 ^ 32 → IfOk result (λ answer. answer ≡ sequenced root.now a.now b.now) }
+    ensures { Lists nodes.now root.now → IfOk result (λ answer. answer ≡ sequenced root.now a.now b.now) }
 {
     let u = a.at.place;
     let v = b.at.place;
     let taken = spared(alloc, nodes, u.node, v.node)?;
-    Ok(before(root, u, v, &taken) || before(root, v, u, &taken))
+    let first = before(root, u, v, &taken);
+    let second = before(root, v, u, &taken);
+    Ok(either(first, second))
+}
+
+fn either(first: bool, second: bool) -> bool
+    ensures { result ≡ (first || second) }
+{
+    first || second
 }
 
 /// Whether both places are fixed, and the objects differ or the byte ranges don't overlap.

@@ -1,0 +1,182 @@
+-- Steps of the loops over accesses, roots and functions.
+use Rattle.std.proofs.Common.{
+  ◌≡◌,
+  ℕ,
+  zero,
+  suc,
+  ◌+◌,
+  ◌<◌,
+  ◌-◌,
+  ◌^◌,
+  min,
+  Bool,
+  true,
+  false,
+  not,
+  ◌&&◌,
+  ◌||◌,
+  if◌then◌else◌,
+  List,
+  [],
+  ◌∷◌,
+  ◌++◌,
+  map,
+  length,
+  drop,
+  get_or,
+  slice_get,
+  Option,
+  Some,
+  None,
+  Bor,
+  refl,
+  sym,
+  ap,
+  subst,
+  ◌∙◌,
+  append_assoc,
+  append-nil,
+  ◌≤◌,
+  arith,
+}
+use Rattle.std.specs.List.{All}
+use Rattle.std.proofs.lemmas.List.Elements.{All-get_or}
+use Rattle.std.proofs.Math.Path.{fun_ext}
+use Rattle.ub_base.proofs.Tests.{if_true, if_false}
+use Rattle.c_typed.specs.declared.tree.Typed.{Typed}
+use Rattle.c_typed.specs.declared.program.Function.{Function}
+use Rattle.c_typed.specs.declared.program.Program.{Program}
+use Rattle.c_typed.specs.Tree.{tree_of}
+use Rattle.c_typed.specs.Order.{Taken}
+use Rattle.c_typed.specs.Decide.{is_before}
+use Rattle.static_places.specs.Preorder.{nodes_of, tree_at, trees_at}
+use Rattle.static_seq.specs.declared.accesses.Accessed.{Accessed}
+use Rattle.static_seq.specs.declared.accesses.MemoryAccess.{MemoryAccess}
+use Rattle.static_seq.specs.declared.verdicts.Verdict.{Verdict}
+use Rattle.static_seq.specs.Accesses.{some_writes, next}
+use Rattle.static_seq.specs.Choices.{spared_of}
+use Rattle.static_seq.specs.Expressions.{function_trees}
+use Rattle.static_seq.specs.Parted.{both_read, sequenced, parted, first_beside, first_pair, or_pair, Pair}
+use Rattle.static_seq.specs.Verdicts.{Counts, FunctionCounts, verdict_of, verdicts_from, verdicts_of}
+
+pub dropped : {A : Type 0} → (xs : List A) (i : ℕ) (x : A) → i < length xs → x ≡ get_or xs i x → drop i xs ≡ x ∷ drop (i + 1) xs
+dropped {A} xs i x h e =
+    let next : suc i ≡ i + 1 = omega arith in
+    go xs i h e ∙ ap (λ z. x ∷ drop z xs) next
+  where
+    go : (xs : List A) (i : ℕ) → i < length xs → x ≡ get_or xs i x → drop i xs ≡ x ∷ drop (suc i) xs
+    go [] i h e = absurd (omega (arith, h))
+    go (y ∷ ys) zero h e = ap (λ z. z ∷ ys) (sym e)
+    go (y ∷ ys) (suc i) h e = go ys i (omega (arith, h)) e
+
+neither_left : (x y : Bool) → (x || y) ≡ false → x ≡ false
+neither_left false y h = refl
+neither_left true y h = h
+
+neither_right : (x y : Bool) → (x || y) ≡ false → y ≡ false
+neither_right false y h = h
+neither_right true y h = absurd (cc)
+
+unwritten : (x y z : Bool) → x ≡ false → y ≡ false → ((not x && not y) || z) ≡ true
+unwritten false false z h g = refl
+unwritten true y z h g = absurd (cc)
+unwritten false true z h g = absurd (cc)
+
+-- the choices that are noted order what the definition orders
+pub same_sequence : (root : Typed) (a b : MemoryAccess) (choices : Taken) (all : List Typed) → all ≡ nodes_of root
+    → ((k : ℕ) → choices k ≡ spared_of all a.at.place.node b.at.place.node k) →
+    (is_before choices 0 (tree_of root) a.at.place b.at.place || is_before choices 0 (tree_of root) b.at.place a.at.place) ≡ sequenced root a b
+same_sequence root a b choices all e h =
+    ap (λ (taken : Taken). is_before taken 0 (tree_of root) a.at.place b.at.place || is_before taken 0 (tree_of root) b.at.place a.at.place)
+    (fun_ext h ∙ ap (λ z. spared_of z a.at.place.node b.at.place.node) e)
+
+module _ (p : Program) (function : ℕ) (root : Typed) where
+  beside_reads : (a : MemoryAccess) (bs : List MemoryAccess) → a.writes ≡ false → some_writes bs ≡ false → first_beside p function root a bs ≡ None
+  beside_reads a [] h g = refl
+  beside_reads a (b ∷ bs) h g =
+      if_true _ _ _ (unwritten a.writes b.writes _ h (neither_left b.writes (some_writes bs) g))
+      ∙ beside_reads a bs h (neither_right b.writes (some_writes bs) g)
+
+  -- reads alone
+  pub only_reads : (as_list : List MemoryAccess) → some_writes as_list ≡ false → first_pair p function root as_list ≡ None
+  only_reads [] h = refl
+  only_reads (a ∷ rest) h =
+      ap (λ z. or_pair a.at z (first_pair p function root rest))
+      (beside_reads a rest (neither_left a.writes (some_writes rest) h) (neither_right a.writes (some_writes rest) h))
+      ∙ only_reads rest (neither_right a.writes (some_writes rest) h)
+
+  -- an access that is parted from the first, and one that isn't
+  pub beside_parted : (a b : MemoryAccess) (bs : List MemoryAccess) (i : ℕ) (answer : Bool) → i < length bs → b ≡ get_or bs i b →
+      answer ≡ parted p function root a b → answer ≡ true
+      → first_beside p function root a (drop i bs) ≡ first_beside p function root a (drop (i + 1) bs)
+  beside_parted a b bs i answer h e r q =
+      ap (first_beside p function root a) (dropped bs i b h e) ∙ if_true _ _ _ (sym r ∙ q)
+
+  pub beside_unparted : (a b : MemoryAccess) (bs : List MemoryAccess) (i : ℕ) (answer : Bool) → i < length bs → b ≡ get_or bs i b →
+      answer ≡ parted p function root a b → answer ≡ false
+      → first_beside p function root a (drop i bs) ≡ Some b.at
+  beside_unparted a b bs i answer h e r q = ap (first_beside p function root a) (dropped bs i b h e) ∙ if_false _ _ _ (sym r ∙ q)
+
+  pub pair_step : (a : MemoryAccess) (all : List MemoryAccess) (i : ℕ) (o : Option Accessed) → i < length all → a ≡ get_or all i a →
+      o ≡ first_beside p function root a (drop (i + 1) all)
+      → first_pair p function root (drop i all) ≡ or_pair a.at o (first_pair p function root (drop (i + 1) all))
+  pair_step a all i o h e r =
+      ap (first_pair p function root) (dropped all i a h e) ∙ ap (λ z. or_pair a.at z (first_pair p function root (drop (i + 1) all))) (sym r)
+
+pub length-trees : (roots : List (Bor Typed)) → length (trees_at roots) ≡ length roots
+length-trees [] = refl
+length-trees (r ∷ rs) = ap (λ z. suc z) (length-trees rs)
+
+get_or-trees : (roots : List (Bor Typed)) (i : ℕ) (x : Bor Typed) → get_or (trees_at roots) i x.now ≡ (get_or roots i x).now
+get_or-trees [] i x = refl
+get_or-trees (r ∷ rs) zero x = refl
+get_or-trees (r ∷ rs) (suc i) x = get_or-trees rs i x
+
+pub counts_at : (roots : List (Bor Typed)) (i : ℕ) (x : Bor Typed) → i < length roots → x ≡ get_or roots i x → All Counts (trees_at roots) → Counts x.now
+counts_at roots i x h e all =
+    let l = length-trees roots in
+    subst Counts (get_or-trees roots i x ∙ sym (ap tree_at e)) (All-get_or Counts (trees_at roots) i x.now (omega (arith, h, l)) all)
+
+pub function_counts : (fs : List Function) (i : ℕ) (f : Function) → i < length fs → f ≡ get_or fs i f → All FunctionCounts fs → FunctionCounts f
+function_counts fs i f h e all = subst FunctionCounts (sym e) (All-get_or FunctionCounts fs i f h all)
+
+-- one verdict more
+pub said_more : (p : Program) (function x : ℕ) (roots : List (Bor Typed)) (i : ℕ) (r : Bor Typed) (old new whole : List Verdict) (v : Verdict)
+    → i < length roots → r ≡ get_or roots i r → v ≡ verdict_of p function x r.now → new ≡ old ++ v ∷ []
+    → old ++ verdicts_from p function x (trees_at (drop i roots)) ≡ whole
+    → new ++ verdicts_from p function (next x) (trees_at (drop (i + 1) roots)) ≡ whole
+said_more p function x roots i r old new whole v h e q n w =
+    let rest = verdicts_from p function (next x) (trees_at (drop (i + 1) roots)) in
+    ap (λ z. z ++ rest) n
+    ∙ (append_assoc old (v ∷ []) rest
+    ∙ (ap (λ z. old ++ (z ∷ rest)) q ∙ (ap (λ z. old ++ verdicts_from p function x (trees_at z)) (sym (dropped roots i r h e)) ∙ w)))
+
+-- the verdicts of one function more
+pub said_function : (p : Program) (n : ℕ) (fs : List Function) (i : ℕ) (f : Function) (old new whole : List Verdict) → i < length fs → f ≡ get_or fs i f
+    → new ≡ old ++ verdicts_from p n 0 (function_trees f) → old ++ verdicts_of p n (drop i fs) ≡ whole
+    → new ++ verdicts_of p (next n) (drop (i + 1) fs) ≡ whole
+said_function p n fs i f old new whole h e q w =
+    let rest = verdicts_of p (next n) (drop (i + 1) fs) in
+    ap (λ z. z ++ rest) q
+    ∙ (append_assoc old (verdicts_from p n 0 (function_trees f)) rest ∙ (ap (λ z. old ++ verdicts_of p n z) (sym (dropped fs i f h e)) ∙ w))
+
+pub slice_trees : (roots : List (Bor Typed)) (i : ℕ) (x : Bor Typed) → i < length roots → x ≡ get_or roots i x → slice_get (trees_at roots) i ≡ Some x.now
+slice_trees [] i x h e = absurd (omega (arith, h))
+slice_trees (r ∷ rs) zero x h e = ap (λ z. Some (tree_at z)) (sym e)
+slice_trees (r ∷ rs) (suc i) x h e = slice_trees rs i x (omega (arith, h)) e
+
+pub drop_end : {A : Type 0} → (xs : List A) (i : ℕ) → length xs ≤ i → drop i xs ≡ []
+drop_end [] zero h = refl
+drop_end [] (suc i) h = refl
+drop_end (x ∷ xs) zero h = absurd (omega (arith, h))
+drop_end (x ∷ xs) (suc i) h = drop_end xs i (omega (arith, h))
+
+-- nothing is left to say
+pub said_all : (p : Program) (function x : ℕ) (roots : List (Bor Typed)) (i : ℕ) (old whole : List Verdict) → length roots ≤ i →
+    old ++ verdicts_from p function x (trees_at (drop i roots)) ≡ whole → old ≡ whole
+said_all p function x roots i old whole h w =
+    sym (append-nil old) ∙ (ap (λ z. old ++ verdicts_from p function x (trees_at z)) (sym (drop_end roots i h)) ∙ w)
+
+pub said_program : (p : Program) (n : ℕ) (fs : List Function) (i : ℕ) (old whole : List Verdict) → length fs ≤ i → old ++ verdicts_of p n (drop i fs) ≡ whole
+    → old ≡ whole
+said_program p n fs i old whole h w = sym (append-nil old) ∙ (ap (λ z. old ++ verdicts_of p n z) (sym (drop_end fs i h)) ∙ w)

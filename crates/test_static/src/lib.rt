@@ -1,0 +1,5 @@
+//! Reports on expressions that never race. No code.
+#![tactic(auto)]
+
+#[cfg(test)]
+mod reports;
