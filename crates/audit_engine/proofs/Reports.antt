@@ -140,6 +140,13 @@ text_swap source program (Ok (Some page)) runs swap = (program, runs, swap)
 text_swap source program (Ok None) runs swap = swap
 text_swap source program (Err e) runs swap = swap
 
+-- .. and else the report of its audit is put
+pub report_swap : {E : Type 0} (request : AuditRequest) (before now : ℕ) (source : List ℕ) (result : Result Page E)
+    → IfOk result (λ page. IsTextReport request before now source page.status page.text)
+    → IfOk result (λ page. IsTextSwap request before now source page.status page.text)
+report_swap request before now source (Ok page) so = inr so
+report_swap request before now source (Err e) so = so
+
 -- a text that has a program may write something
 pub may_write : {E : Type 0} (source : List ℕ) (program : Program) (result : Result (List ℕ) E) → IsRunnable source program → IfOk result (MayWrite source)
 may_write source program (Ok errors) runs = inr (program, runs)

@@ -9,5 +9,6 @@ mod looks;
 mod statics;
 mod story;
 mod swap;
+mod written;
 
 pub use engine::Engine;
