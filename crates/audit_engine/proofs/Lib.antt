@@ -1,3 +1,2 @@
 mod Audits
 mod Pages
-mod Reports

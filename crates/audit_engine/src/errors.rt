@@ -1,7 +1,5 @@
 // What a program writes to its standard error, beside the report of its audit.
-ghost use Rattle.std.specs.Prelude.{◌≡◌, ◌≤◌, ◌^◌, None, length, IfOk, option_copied};
-ghost use Rattle.audit_batch.specs.Moment.{moment};
-ghost use Rattle.audit_engine.specs.Looks.{ErrorsTold, IsTextReport, MayWrite};
+ghost use Rattle.std.specs.Prelude.{◌≡◌, ◌≤◌, ◌^◌, None, length, option_copied};
 
 use crate::judged::judged_report;
 use crate::looks::{run_audited, stopped_sheet};
@@ -34,7 +32,6 @@ fn errors_of(
 fn written(alloc: Global, request: &AuditRequest<'_>, sources: &Sources) -> Result<Bytes, NoMemory>
     requires text { length sources.now.text ≤ 2 ^ 20 }
     requires steps { request.now.steps ≤ 100000000 }
-    ensures { IfOk result (MayWrite sources.now.text) }
 {
     match program_of(alloc, sources.text.as_slice()) {
         Ok(program) => errors_of(alloc, &program, request, sources.input.as_slice()),
@@ -53,8 +50,6 @@ fn judged_sheet<F: Files>(
     requires text { length sources.now.text ≤ 2 ^ 20 }
     requires steps { request.now.steps ≤ 100000000 }
     requires cert { option_copied request.now.cert ≡ None }
-    ensures page { IfOk result (λ sheet. IsTextReport request.now (F.write_faults files.old) (F.write_faults files.new) sources.now.text sheet.status sheet.text) }
-    ensures errors { IfOk result (λ sheet. MayWrite sources.now.text sheet.errors) }
     ensures held { F.held files.new ≡ F.held files.old }
 {
     let Page { status, text } = judged_report(alloc, request, sources, files)?;
@@ -74,9 +69,6 @@ pub fn errors_sheet<F: Files>(
 ) -> Result<Sheet, NoMemory>
     requires steps { request.now.steps ≤ 100000000 }
     requires cert { option_copied request.now.cert ≡ None }
-    ensures sheet { IfOk result (λ sheet. ErrorsTold
-        (moment (F.held files.old) (F.read_faults files.old) (F.write_faults files.old)) (moment (F.held files.new) (F.read_faults files.new) (F.write_faults files.new))
-        request.now sheet.status sheet.text sheet.errors) }
     ensures held { F.held files.new ≡ F.held files.old }
 {
     match fetch_sources(alloc, request.file, request.input, files) {

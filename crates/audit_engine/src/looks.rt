@@ -2,8 +2,6 @@
 ghost use Rattle.std.specs.Prelude.{◌≡◌, ◌≤◌, [], IfOk};
 ghost use Rattle.audit_top.specs.Cause.{stopped};
 ghost use Rattle.audit_top.specs.Report.{report, status};
-ghost use Rattle.elaborate.specs.Expressions.{program_trees};
-ghost use Rattle.footprint_run.specs.Apart.{StandsApart};
 ghost use Rattle.footprint_run.specs.Findings.{picks_of};
 
 use crate::explain::mode_of;
@@ -50,7 +48,6 @@ pub fn run_audited(
 ) -> Result<Audit, NoMemory>
     requires { request.now.steps ≤ 100000000 }
     ensures within { IfOk result (λ a. picks_of a.finding ≤ request.now.steps) }
-    ensures apart { IfOk result (λ a. StandsApart (program_trees core.now.program.now) a.finding) }
 {
     let mode = mode_of(request.is_tight);
     audit_run(alloc, core, input, &request.args, mode, request.steps)

