@@ -5,6 +5,7 @@ pub mod Checking
 pub mod Copying
 pub mod Finishing
 pub mod Freeing
+pub mod Keeping
 pub mod Listing
 pub mod Living
 pub mod Making

@@ -18,6 +18,8 @@ use Rattle.mem_spec.specs.Streams.{Io, total}
 use Rattle.prov_memory.specs.Held.{held_of}
 use Rattle.prov_memory.specs.Memory.{Kept, AreKnown, HasCell, life_in}
 use Rattle.prov_memory.specs.Tags.{AreTagged}
+use Rattle.prov_memory.specs.Made.{IsMade}
+use Rattle.prov_memory.specs.Pieces.{IsMadeValue}
 use Rattle.libc_spec.specs.Library.{LibValue, number, pointer, nothing, argument_at, integer_in, prov_in}
 
 -- a value of the definitions as one of a run
@@ -72,6 +74,23 @@ are_sizes vs (i ∷ is) = holds ULong (integer_in (argument_at vs i)) && are_siz
 abbrev pub HaveCells : Kept → List LibValue → Type 0
 HaveCells m [] = Unit {0}
 HaveCells m (v ∷ vs) = HasCell m (prov_in v) × HaveCells m vs
+
+-- each pointer among the arguments was made in this memory
+abbrev pub ArgumentsMade : Kept → List LibValue → Type 0
+ArgumentsMade m [] = Unit {0}
+ArgumentsMade m (v ∷ vs) = IsMade m (prov_in v) × ArgumentsMade m vs
+
+-- a pointer that a call gives was made in this memory
+abbrev pub GivesMade : Kept → LibAnswer → Type 0
+GivesMade m (answers.Value v) = IsMadeValue m v
+GivesMade m answer = Unit {0}
+
+-- the functions that allocate
+abbrev pub allocates : LibFunc → Bool
+allocates Malloc = true
+allocates Calloc = true
+allocates Realloc = true
+allocates _ = false
 
 -- no object of the heap has a declared type (6.5p6)
 abbrev pub AreBare : Kept → Type 0

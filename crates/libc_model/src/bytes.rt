@@ -3,12 +3,12 @@ ghost use Rattle.std.specs.Prelude.{◌≡◌, ℕ, ◌++◌, ◌∷◌, List, [
 ghost use Rattle.addr_map.specs.declared.map.Row.{Row};
 ghost use Rattle.ub_base.specs.declared.names.Item.TheVariants.{Expose};
 ghost use Rattle.mem_spec.specs.Acts.{Seen, candidates, declared_of, stored_from};
-ghost use Rattle.prov_memory.specs.Keeps.{Keeps};
+ghost use Rattle.prov_memory.specs.Keeps.{Keeps, IsNumbered};
 ghost use Rattle.prov_memory.specs.Cells.{plain_cell};
 ghost use Rattle.prov_memory.specs.Held.{held_of};
 ghost use Rattle.mem_spec.specs.Store.{with_bytes};
 ghost use Rattle.prov_memory.specs.Stores.{tagged_all};
-ghost use Rattle.prov_memory.specs.Tags.{AreTagged};
+ghost use Rattle.prov_memory.specs.Tags.{AreTagged, CellsTagged};
 ghost use Rattle.mem_spec.specs.Streams.{Io};
 ghost use Rattle.mem_spec.specs.Script.{Script, run};
 ghost use Rattle.prov_memory.specs.Memory.{AreKnown, CellsKnown, life_in, store_of};
@@ -169,6 +169,7 @@ pub fn finish(
     ensures each { (io : Io) (script : List Row → Script LibValue) → AreWithin io → IfOk read IsPassed → Tells value_seen read m.old io [] t.now (script m.old.rows) → Answers (answer_in result) t.now (store_of m.new io) (within_limits (store_of m.old io) (run m.new.rows (script m.new.rows) (store_of m.old io))) }
     ensures known { AreKnown m.old → AreKnown m.new }
     ensures same { OnErr result (m.new ≡ m.old) }
+    ensures kept { Keeps m.old m.new }
 {
     let value = read?;
     let mut scratch = Touched::new(alloc)?;
@@ -190,6 +191,7 @@ pub fn put_over(
     ensures store { (io : Io) (seen : Seen) → SeesBytes via seen → store_of m.new io ≡ with_bytes (store_of m.old io) range.object range.from (stored_from (declared_of (life_in (held_of m.old.objects range.object))) seen 0 (tagged_all m.old block.now.cells)) }
     ensures rows { m.new.rows ≡ m.old.rows }
     ensures known { AreKnown m.old → CellsKnown (length m.old.origins) block.now.cells → AreKnown m.new }
+    ensures kept { IsNumbered (length m.old.types) via → CellsKnown (length m.old.origins) block.now.cells → CellsTagged (length m.old.types) block.now.cells → Keeps m.old m.new }
 {
     let _ = m.store(
         true,
@@ -219,6 +221,7 @@ pub fn overwrite(
     ensures rows { m.new.rows ≡ m.old.rows }
     ensures known { (ns : List ℕ) → block.now.cells ≡ map plain_cell ns → AreKnown m.old → AreKnown m.new }
     ensures same { OnErr result (m.new ≡ m.old) }
+    ensures kept { (ns : List ℕ) → block.now.cells ≡ map plain_cell ns → Keeps m.old m.new }
 {
     let mut scratch = Touched::new(alloc)?;
     let Some(range) = without_empty(target) else {

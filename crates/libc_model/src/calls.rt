@@ -12,7 +12,8 @@ ghost use Rattle.libc_spec.specs.Library.{LibValue, called, byte_or_end, integer
 ghost use Rattle.ub_base.specs.declared.names.Event.{Event};
 ghost use Rattle.libc_model.specs.Seen.{values_seen};
 ghost use Rattle.libc_model.specs.Parts.{Gives, Follows, line, line_at, printing, limited};
-ghost use Rattle.libc_model.specs.Answers.{IsCall, AreWithin, Answers, answer_in, given_value, gives_value, leaves_all, wants_memory};
+ghost use Rattle.prov_memory.specs.Tags.{AreTagged};
+ghost use Rattle.libc_model.specs.Answers.{ArgumentsMade, GivesMade, allocates, IsCall, AreWithin, Answers, answer_in, given_value, gives_value, leaves_all, wants_memory};
 
 use crate::arguments::{Pointer, check_string, int_at, pointer_at, size_at};
 use crate::bytes::{numbers, settle};
@@ -50,6 +51,8 @@ pub fn call(
     ensures within { AreWithin io.old → AreWithin io.new }
     ensures streams { gives_value result ≡ false → io.new ≡ io.old }
     ensures failed { gives_value result ≡ false → Keeps m.old m.new }
+    ensures kept { AreKnown m.old → AreTagged m.old → Keeps m.old m.new }
+    ensures made { IsCall f (values_seen args.now) m.old io.old → AreTagged m.old → ArgumentsMade m.old (values_seen args.now) → GivesMade m.new result }
 {
     t.clear();
     match value_of(alloc, f, args.as_slice(), who, m, io, t) {
@@ -78,6 +81,8 @@ fn value_of(
     ensures within { AreWithin io.old → AreWithin io.new }
     ensures streams { OnErr result (io.new ≡ io.old) }
     ensures failed { OnErr result (Keeps m.old m.new) }
+    ensures kept { AreKnown m.old → AreTagged m.old → Keeps m.old m.new }
+    ensures made { allocates f ≡ true → IsCall f (values_seen args.now) m.old io.old → GivesMade m.new (answer_in result) }
 {
     match f {
         LibFunc::Malloc => heap::allocate(size_at(args, 0), who, m, t),
@@ -108,6 +113,7 @@ fn free(alloc: Global, args: &[Value], m: &mut Memory, t: &mut Touched) -> Resul
     ensures exact { (io : Io) → AreWithin io → IsCall Free (values_seen args.now) m.old io → (who : Event) → Answers (answer_in result) t.new (store_of m.new io) (called m.new.rows Free (values_seen args.now) who (store_of m.old io)) }
     ensures known { AreKnown m.old → AreKnown m.new }
     ensures same { OnErr result (m.new ≡ m.old) }
+    ensures kept { Keeps m.old m.new }
 {
     match heap::free(alloc, pointer_at(args, 0), Clause::Free, m, t) {
         Ok(()) => Ok(Value::Nothing),
@@ -183,6 +189,7 @@ fn puts(
     ensures same { OnErr result ((m.new ≡ m.old) × (io.new ≡ io.old)) }
     ensures within { AreWithin io.old → AreWithin io.new }
     ensures streams { OnErr result (io.new ≡ io.old) }
+    ensures kept { Keeps m.old m.new }
 {
     let line = line_of(alloc, m, pointer_at(args, 0), t)?;
     print(alloc, line.as_slice(), m, io, t)
@@ -219,6 +226,7 @@ fn print(
     ensures known { AreKnown m.old → AreKnown m.new }
     ensures same { OnErr result ((m.new ≡ m.old) × (io.new ≡ io.old)) }
     ensures within { AreWithin io.old → AreWithin io.new }
+    ensures kept { Keeps m.old m.new }
 {
     check_output(io, bytes.len() as u64)?;
     t.add(Item::Output)?;

@@ -5,12 +5,14 @@ ghost use Rattle.ub_base.specs.declared.clause.Cause.TheVariants.{Created};
 ghost use Rattle.ub_base.specs.declared.names.Item.TheVariants.{Read, Born, Alive, Write, Dies};
 ghost use Rattle.exposure.specs.declared.prov.Prov.TheVariants.{Whole, Either};
 ghost use Rattle.exposure.specs.Cells.{has_cell, kept_in, is_other};
-ghost use Rattle.prov_memory.specs.Keeps.{Keeps};
+ghost use Rattle.prov_memory.specs.Keeps.{Keeps, IsNumbered};
 ghost use Rattle.prov_memory.specs.declared.answer.LibAnswer.TheVariants as answers;
 ghost use Rattle.mem_spec.specs.Acts.{Seen, create, base_in, size_in, stored_from};
 ghost use Rattle.prov_memory.specs.Held.{held_of};
+ghost use Rattle.prov_memory.specs.Pieces.{IsMadeValue};
+ghost use Rattle.prov_memory.specs.Tags.{AreTagged, CellsTagged};
 ghost use Rattle.prov_memory.specs.Memory.{AreKnown, CellsKnown, HasCell, IsBorn, life_in, store_of};
-ghost use Rattle.prov_memory.specs.Made.{CanSettle, after_settling, settling_items};
+ghost use Rattle.prov_memory.specs.Made.{IsMade, CanSettle, after_settling, settling_items};
 ghost use Rattle.mem_spec.specs.Script.{run};
 ghost use Rattle.mem_spec.specs.Store.{Store, with_bytes};
 ghost use Rattle.prov_memory.specs.Stores.{Sees, IsShort, tagged_all};
@@ -94,6 +96,7 @@ fn created(m: &mut Memory, name: ObjName, size: u64, t: &mut Touched) -> Result<
     ensures known { AreKnown m.old → OnOk result (AreKnown m.new) }
     ensures same { OnErr result (result ≢ Err answers.NoMemory → m.new ≡ m.old) }
     ensures keeps { Keeps m.old m.new }
+    ensures whole { IfOk result (λ new. IsMade m.new new.prov) }
 {
     let kind = ObjKind {
         heap: true,
@@ -116,6 +119,8 @@ pub fn allocate(size: u64, who: Event, m: &mut Memory, t: &mut Touched) -> Resul
     ensures known { AreKnown m.old → OnOk result (AreKnown m.new) }
     ensures same { OnErr result (result ≢ Err answers.NoMemory → m.new ≡ m.old) }
     ensures failed { OnErr result (Keeps m.old m.new) }
+    ensures kept { Keeps m.old m.new }
+    ensures made { IfOk result (IsMadeValue m.new) }
 {
     t.clear();
     let Some(size) = given(u128::from(size)) else {
@@ -141,6 +146,8 @@ pub fn allocate_zeros(
     ensures known { AreKnown m.old → OnOk result (AreKnown m.new) }
     ensures same { OnErr result (result ≢ Err answers.NoMemory → m.new ≡ m.old) }
     ensures failed { OnErr result (Keeps m.old m.new) }
+    ensures kept { Keeps m.old m.new }
+    ensures made { IfOk result (IsMadeValue m.new) }
 {
     zeroed(
         alloc,
@@ -164,6 +171,8 @@ fn zeroed(
     ensures known { AreKnown m.old → OnOk result (AreKnown m.new) }
     ensures same { OnErr result (result ≢ Err answers.NoMemory → m.new ≡ m.old) }
     ensures failed { OnErr result (Keeps m.old m.new) }
+    ensures kept { Keeps m.old m.new }
+    ensures made { IfOk result (IsMadeValue m.new) }
 {
     let Some(size) = given(size) else {
         return Ok(Pointer::NULL.value());
@@ -196,6 +205,7 @@ fn fill(m: &mut Memory, object: ObjName, addr: u64, via: Via, block: &Block, scr
     ensures exact { IsShort via (length block.now.cells) → (seen : Seen) → Sees m.old via seen → IsNewAt m.old object addr (length (tagged_all m.old block.now.cells)) → (io : Io) → store_of m.new io ≡ with_bytes (store_of m.old io) object 0 (stored_from None seen 0 (tagged_all m.old block.now.cells)) }
     ensures rows { m.new.rows ≡ m.old.rows }
     ensures known { AreKnown m.old → CellsKnown (length m.old.origins) block.now.cells → AreKnown m.new }
+    ensures kept { IsNumbered (length m.old.types) via → CellsKnown (length m.old.origins) block.now.cells → CellsTagged (length m.old.types) block.now.cells → Keeps m.old m.new }
 {
     let _ = m.store(true, via, 1, addr, Prov::Whole(object), block, scratch);
 }
@@ -231,6 +241,7 @@ pub fn free(
     ensures exact { (io : Io) → HasCell m.old pointer.prov → Does (λ u. u) result t.new (store_of m.new io) (run m.new.rows (free m.new.rows pointer.addr pointer.prov clause) (store_of m.old io)) }
     ensures known { AreKnown m.old → AreKnown m.new }
     ensures same { OnErr result (m.new ≡ m.old) }
+    ensures kept { Keeps m.old m.new }
 {
     t.clear();
     if pointer.addr == 0 {
@@ -257,6 +268,7 @@ fn free_object(
     ensures exact { (io : Io) → Does (λ u. u) result t.new (store_of m.new io) (run m.new.rows (free m.new.rows addr (Whole object) clause) (store_of m.old io)) }
     ensures known { AreKnown m.old → AreKnown m.new }
     ensures same { OnErr result (m.new ≡ m.old) }
+    ensures kept { Keeps m.old m.new }
 {
     let is_start = is_heap_start(m, object, addr);
     if is_start {
@@ -283,6 +295,7 @@ fn free_start(
     ensures exact { (io : Io) → has_cell m.old.cells id ≡ true → Does (λ u. u) result t.new (store_of m.new io) (run m.new.rows (free m.new.rows addr (Either id past start) clause) (store_of m.old io)) }
     ensures known { AreKnown m.old → AreKnown m.new }
     ensures same { OnErr result (m.new ≡ m.old) }
+    ensures kept { Keeps m.old m.new }
 {
     let mut scratch = Touched::new(alloc)?;
     t.add(Item::Narrow { id, keep: start })?;
@@ -349,6 +362,8 @@ pub fn reallocate(
     ensures known { AreKnown m.old → OnOk result (AreKnown m.new) }
     ensures same { OnErr result (result ≢ Err answers.NoMemory → m.new ≡ m.old) }
     ensures failed { OnErr result (Keeps m.old m.new) }
+    ensures kept { AreKnown m.old → AreTagged m.old → Keeps m.old m.new }
+    ensures made { AreKnown m.old → AreTagged m.old → IfOk result (IsMadeValue m.new) }
 {
     change_size(alloc, pointer_at(args, 0), size_at(args, 1), who, m, t)
 }
@@ -367,6 +382,8 @@ fn change_size(
     ensures known { AreKnown m.old → OnOk result (AreKnown m.new) }
     ensures same { OnErr result (result ≢ Err answers.NoMemory → m.new ≡ m.old) }
     ensures failed { OnErr result (Keeps m.old m.new) }
+    ensures kept { AreKnown m.old → AreTagged m.old → Keeps m.old m.new }
+    ensures made { AreKnown m.old → AreTagged m.old → IfOk result (IsMadeValue m.new) }
 {
     if pointer.addr == 0 {
         return allocate(size, who, m, t);
@@ -387,6 +404,8 @@ fn release(
     ensures exact { (io : Io) → HasCell m.old pointer.prov → Does given_value result t.new (store_of m.new io) (run m.new.rows (released m.new.rows pointer.addr pointer.prov) (store_of m.old io)) }
     ensures known { AreKnown m.old → AreKnown m.new }
     ensures same { OnErr result (m.new ≡ m.old) }
+    ensures kept { Keeps m.old m.new }
+    ensures made { IfOk result (IsMadeValue m.new) }
 {
     match free(alloc, pointer, Clause::Realloc, m, t) {
         Ok(()) => Ok(Pointer::NULL.value()),
@@ -410,6 +429,8 @@ fn resize(
     ensures known { AreKnown m.old → OnOk result (AreKnown m.new) }
     ensures same { OnErr result (result ≢ Err answers.NoMemory → m.new ≡ m.old) }
     ensures failed { OnErr result (Keeps m.old m.new) }
+    ensures kept { AreKnown m.old → AreTagged m.old → Keeps m.old m.new }
+    ensures made { AreKnown m.old → AreTagged m.old → IfOk result (IsMadeValue m.new) }
 {
     let Some((object, settles)) = heap_start(m, pointer) else {
         return Err(LibAnswer::Raise(Clause::Realloc));
@@ -479,6 +500,8 @@ fn move_to(
     ensures known { AreKnown m.old → OnOk result (AreKnown m.new) }
     ensures same { OnErr result (result ≢ Err answers.NoMemory → m.new ≡ m.old) }
     ensures failed { OnErr result (Keeps m.old m.new) }
+    ensures kept { AreKnown m.old → AreTagged m.old → Keeps m.old m.new }
+    ensures whole { AreKnown m.old → AreTagged m.old → IfOk result (λ new. IsMade m.new new.prov) }
 {
     let len = size_in(m.map().row(object)).min(size);
     add_moved(object, len, name, t)?;

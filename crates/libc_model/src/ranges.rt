@@ -10,7 +10,7 @@ ghost use Rattle.prov_memory.specs.Held.{held_of};
 ghost use Rattle.mem_spec.specs.Streams.{Io};
 ghost use Rattle.prov_memory.specs.Memory.{AreKnown, CellsKnown, HasCell, life_in, store_of};
 ghost use Rattle.prov_memory.specs.Stores.{tagged_all};
-ghost use Rattle.prov_memory.specs.Tags.{AreTagged};
+ghost use Rattle.prov_memory.specs.Tags.{AreTagged, CellsTagged};
 ghost use Rattle.libc_model.specs.Seen.{value_seen, values_seen};
 ghost use Rattle.libc_model.specs.Answers.{IsCall, Answers, answer_in, copy_function, leaves_all, wants_memory};
 ghost use Rattle.libc_model.specs.Parts.{after, CanFollow, Follows, IsPassed, IsRange, IsShort, accessed_if, bytes_if, bytes_of, reads_if, ReadsAll};
@@ -111,6 +111,7 @@ pub fn copied(
     ensures pieces { IfOk result (λ b. AreKnown m.old → CellsKnown (length m.new.origins) b.cells) }
     ensures kept { OnOk result (IsKept m.old m.new) }
     ensures keeps { Keeps m.old m.new }
+    ensures tags { IfOk result (λ b. AreTagged m.old → CellsTagged (length m.new.types) b.cells) }
 {
     match m.load_block(range.len, 1, addr, Prov::Whole(range.object), scratch) {
         Ok(block) => Ok(block),
@@ -171,6 +172,7 @@ pub fn copy(
     ensures known { AreKnown m.old → wants_memory (answer_in result) ≡ false → AreKnown m.new }
     ensures same { leaves_all (answer_in result) (copy_function may_overlap) ≡ true → m.new ≡ m.old }
     ensures failed { OnErr result (Keeps m.old m.new) }
+    ensures kept { AreKnown m.old → AreTagged m.old → Keeps m.old m.new }
 {
     let to = pointer_at(args, 0);
     let from = pointer_at(args, 1);
@@ -207,6 +209,7 @@ fn move_bytes(
     ensures rows { OnOk result (m.new.rows ≡ m.old.rows) }
     ensures known { AreKnown m.old → OnOk result (AreKnown m.new) }
     ensures failed { OnErr result (Keeps m.old m.new) }
+    ensures kept { AreKnown m.old → AreTagged m.old → Keeps m.old m.new }
 {
     let mut scratch = Touched::new(alloc)?;
     let Some((target, source)) = moving(ranges) else {
@@ -232,6 +235,7 @@ pub fn fill(
     ensures exact { (io : Io) (who : Event) → IsCall Memset (values_seen args.now) m.old io → Answers (answer_in result) t.new (store_of m.new io) (called m.new.rows Memset (values_seen args.now) who (store_of m.old io)) }
     ensures known { AreKnown m.old → AreKnown m.new }
     ensures same { OnErr result (m.new ≡ m.old) }
+    ensures kept { Keeps m.old m.new }
 {
     let to = pointer_at(args, 0);
     let number = low_byte(int_at(args, 1));
@@ -267,6 +271,7 @@ pub fn compare(
     ensures exact { (io : Io) (who : Event) → IsCall Memcmp (values_seen args.now) m.old io → Answers (answer_in result) t.new (store_of m.new io) (called m.new.rows Memcmp (values_seen args.now) who (store_of m.old io)) }
     ensures known { AreKnown m.old → AreKnown m.new }
     ensures same { OnErr result (m.new ≡ m.old) }
+    ensures kept { Keeps m.old m.new }
 {
     let read = order_of_ranges(
         alloc,

@@ -5,6 +5,7 @@ ghost use Rattle.std.specs.List.{position};
 ghost use Rattle.ub_base.specs.declared.names.Event.{Event};
 ghost use Rattle.c_types.specs.declared.library.LibFunc.TheVariants.{Strlen, Strcpy, Strcmp, Strchr};
 ghost use Rattle.mem_spec.specs.Streams.{Io};
+ghost use Rattle.prov_memory.specs.Keeps.{Keeps};
 ghost use Rattle.prov_memory.specs.Memory.{AreKnown, HasCell, store_of};
 ghost use Rattle.libc_spec.specs.Library.{called, strlen, strcmp, strchr};
 ghost use Rattle.libc_model.specs.Seen.{value_seen, values_seen};
@@ -30,6 +31,7 @@ pub fn length(
     ensures exact { (io : Io) (who : Event) → IsCall Strlen (values_seen args.now) m.old io → Answers (answer_in result) t.new (store_of m.new io) (called m.new.rows Strlen (values_seen args.now) who (store_of m.old io)) }
     ensures known { AreKnown m.old → AreKnown m.new }
     ensures same { OnErr result (m.new ≡ m.old) }
+    ensures kept { Keeps m.old m.new }
 {
     let read = length_of(alloc, m, pointer_at(args, 0), t);
     finish(alloc, read, m, t)
@@ -62,6 +64,7 @@ pub fn copy_string(
     ensures exact { (io : Io) (who : Event) → IsCall Strcpy (values_seen args.now) m.old io → Answers (answer_in result) t.new (store_of m.new io) (called m.new.rows Strcpy (values_seen args.now) who (store_of m.old io)) }
     ensures known { AreKnown m.old → AreKnown m.new }
     ensures same { OnErr result (m.new ≡ m.old) }
+    ensures kept { Keeps m.old m.new }
 {
     let to = pointer_at(args, 0);
     let copy = string_to_copy(alloc, m, to, pointer_at(args, 1), t)?;
@@ -107,6 +110,7 @@ pub fn compare_strings(
     ensures exact { (io : Io) (who : Event) → IsCall Strcmp (values_seen args.now) m.old io → Answers (answer_in result) t.new (store_of m.new io) (called m.new.rows Strcmp (values_seen args.now) who (store_of m.old io)) }
     ensures known { AreKnown m.old → AreKnown m.new }
     ensures same { OnErr result (m.new ≡ m.old) }
+    ensures kept { Keeps m.old m.new }
 {
     let read = order_of_strings(alloc, m, pointer_at(args, 0), pointer_at(args, 1), t);
     finish(alloc, read, m, t)
@@ -140,6 +144,7 @@ pub fn find_byte(
     ensures exact { (io : Io) (who : Event) → IsCall Strchr (values_seen args.now) m.old io → Answers (answer_in result) t.new (store_of m.new io) (called m.new.rows Strchr (values_seen args.now) who (store_of m.old io)) }
     ensures known { AreKnown m.old → AreKnown m.new }
     ensures same { OnErr result (m.new ≡ m.old) }
+    ensures kept { Keeps m.old m.new }
 {
     let read = place_in_string(alloc, m, pointer_at(args, 0), int_at(args, 1), t);
     finish(alloc, read, m, t)

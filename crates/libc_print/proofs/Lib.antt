@@ -1,5 +1,6 @@
 pub mod Bounded
 pub mod Ending
+pub mod Keeping
 pub mod Printing
 pub mod Running
 pub mod Stepping

@@ -5,7 +5,7 @@ ghost use Rattle.addr_map.specs.declared.map.Row.{Row};
 ghost use Rattle.libc_spec.specs.Directives.{directive_of};
 ghost use Rattle.libc_spec.specs.Library.{argument_at};
 ghost use Rattle.libc_spec.specs.Print.{put_byte, put_integer, put_string, put_address, put_sized, put, step, text_of, print_to, printed_by};
-ghost use Rattle.libc_model.specs.Answers.{AreWithin, Answers, HaveCells, answer_in, gives_value};
+ghost use Rattle.libc_model.specs.Answers.{AreWithin, Answers, GivesMade, HaveCells, answer_in, gives_value};
 ghost use Rattle.libc_model.specs.Parts.{Gives};
 ghost use Rattle.libc_model.specs.Seen.{values_seen};
 ghost use Rattle.libc_print.specs.Seen.{directive_seen, width_seen, left, typed};
@@ -14,6 +14,7 @@ ghost use Rattle.libc_print.specs.Runs.{Prints, printed_text, Adds, directive_by
 ghost use Rattle.libc_print.specs.Calls.{printing, limited};
 ghost use Rattle.mem_spec.specs.Script.{Script, run};
 ghost use Rattle.mem_spec.specs.Streams.{Io};
+ghost use Rattle.prov_memory.specs.Keeps.{Keeps};
 ghost use Rattle.prov_memory.specs.Memory.{Kept, HasCell, AreKnown, store_of};
 
 use crate::directive::{Directive, Form, behind, directive_of};
@@ -45,6 +46,8 @@ pub fn format(
     ensures same { gives_value result ≡ false → (m.new ≡ m.old) × (io.new ≡ io.old) }
     ensures within { AreWithin io.old → AreWithin io.new }
     ensures streams { gives_value result ≡ false → io.new ≡ io.old }
+    ensures kept { Keeps m.old m.new }
+    ensures made { AreWithin io.old → HaveCells m.old (values_seen args.now) → GivesMade m.new result }
 {
     t.clear();
     match printed(
@@ -82,6 +85,7 @@ pub fn printed(
     ensures same { OnErr result ((m.new ≡ m.old) × (io.new ≡ io.old)) }
     ensures within { AreWithin io.old → AreWithin io.new }
     ensures streams { OnErr result (io.new ≡ io.old) }
+    ensures kept { Keeps m.old m.new }
 {
     let text = printed_text(alloc, pointer_at(args, at), args, types, first, m, t)?;
     put_out(alloc, to, text.as_slice(), m, io, t)
@@ -101,6 +105,7 @@ fn put_out(
     ensures same { OnErr result ((m.new ≡ m.old) × (io.new ≡ io.old)) }
     ensures within { AreWithin io.old → AreWithin io.new }
     ensures streams { OnErr result (io.new ≡ io.old) }
+    ensures kept { Keeps m.old m.new }
 {
     check_output(io, bytes.len() as u64)?;
     t.add(Item::Output)?;

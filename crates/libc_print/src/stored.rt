@@ -9,7 +9,7 @@ ghost use Rattle.c_types.specs.Kinds.{holds};
 ghost use Rattle.libc_spec.specs.Library.{argument_at, integer_in, size_of_value};
 ghost use Rattle.libc_spec.specs.Formatted as formatted;
 ghost use Rattle.libc_spec.specs.Formatted.{array, ended, placed, room, stored_by, touches, touches_any};
-ghost use Rattle.libc_model.specs.Answers.{AreWithin, Answers, HaveCells, answer_in, gives_value};
+ghost use Rattle.libc_model.specs.Answers.{AreWithin, Answers, GivesMade, HaveCells, answer_in, gives_value};
 ghost use Rattle.libc_model.specs.Parts.{Follows, Gives, accessed_if};
 ghost use Rattle.libc_model.specs.Seen.{pointer_seen, values_seen};
 ghost use Rattle.libc_model.specs.Writes.{FillsRange, IsPlace};
@@ -19,6 +19,7 @@ ghost use Rattle.libc_print.specs.Runs.{Prints};
 ghost use Rattle.libc_print.specs.Stored.{overlaps, placed_seen, storing};
 ghost use Rattle.mem_spec.specs.Script.{Script, run};
 ghost use Rattle.mem_spec.specs.Streams.{Io};
+ghost use Rattle.prov_memory.specs.Keeps.{Keeps};
 ghost use Rattle.prov_memory.specs.Memory.{AreKnown, HasCell, store_of};
 
 use crate::directive::front;
@@ -149,6 +150,7 @@ fn put_in(
     ensures exact { (script : List Row → Script formatted.Placed) (io : Io) → AreWithin io → Gives false formatted.Placed m.old io [] t.old (script m.old.rows) (placed_seen m.old placed.now) → Answers (answer_in result) t.new (store_of m.new io) (limited (run m.new.rows (storing most (script m.new.rows)) (store_of m.old io))) }
     ensures known { AreKnown m.old → AreKnown m.new }
     ensures same { OnErr result (m.new ≡ m.old) }
+    ensures kept { Keeps m.old m.new }
 {
     let text = placed.text.as_slice();
     check_apart(placed.target, t.items())?;
@@ -173,6 +175,7 @@ fn stored(
     ensures exact { (io : Io) → AreWithin io → HaveCells m.old (values_seen args.now) → Answers (answer_in result) t.new (store_of m.new io) (stored_by m.new.rows most (argument_at (values_seen args.now) 0) (argument_at (values_seen args.now) at) (drop first (typed args.now types.now)) (store_of m.old io)) }
     ensures known { AreKnown m.old → AreKnown m.new }
     ensures same { OnErr result (m.new ≡ m.old) }
+    ensures kept { Keeps m.old m.new }
 {
     let to = pointer_at(args, 0);
     let placed = place(
@@ -201,6 +204,8 @@ pub fn format_into(
     ensures exact { (io : Io) → AreWithin io → HaveCells m.old (values_seen args.now) → Answers result t.new (store_of m.new io) (stored_by m.new.rows None (argument_at (values_seen args.now) 0) (argument_at (values_seen args.now) 1) (drop 2 (typed args.now types.now)) (store_of m.old io)) }
     ensures known { AreKnown m.old → AreKnown m.new }
     ensures same { gives_value result ≡ false → m.new ≡ m.old }
+    ensures kept { Keeps m.old m.new }
+    ensures made { HaveCells m.old (values_seen args.now) → GivesMade m.new result }
 {
     t.clear();
     match stored(alloc, None, args.as_slice(), types, 1, 2, m, t) {
@@ -221,6 +226,8 @@ pub fn format_within(
     ensures exact { (io : Io) → AreWithin io → IsTrue (holds ULong (integer_in (argument_at (values_seen args.now) 1))) → HaveCells m.old (values_seen args.now) → Answers result t.new (store_of m.new io) (stored_by m.new.rows (Some (size_of_value (argument_at (values_seen args.now) 1))) (argument_at (values_seen args.now) 0) (argument_at (values_seen args.now) 2) (drop 3 (typed args.now types.now)) (store_of m.old io)) }
     ensures known { AreKnown m.old → AreKnown m.new }
     ensures same { gives_value result ≡ false → m.new ≡ m.old }
+    ensures kept { Keeps m.old m.new }
+    ensures made { HaveCells m.old (values_seen args.now) → GivesMade m.new result }
 {
     t.clear();
     let most = Some(size_at(args.as_slice(), 1));

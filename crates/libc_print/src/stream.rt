@@ -6,12 +6,13 @@ ghost use Rattle.ub_base.specs.declared.clause.Cause.TheVariants.{Output};
 ghost use Rattle.prov_memory.specs.declared.answer.LibAnswer.TheVariants as answers;
 ghost use Rattle.libc_spec.specs.Library.{argument_at, integer_in};
 ghost use Rattle.libc_spec.specs.Formatted.{printed_to_by};
-ghost use Rattle.libc_model.specs.Answers.{AreWithin, Answers, HaveCells, answer_in, gives_value};
+ghost use Rattle.libc_model.specs.Answers.{AreWithin, Answers, GivesMade, HaveCells, answer_in, gives_value};
 ghost use Rattle.libc_model.specs.Seen.{values_seen};
 ghost use Rattle.libc_print.specs.Seen.{typed};
 ghost use Rattle.libc_print.specs.Runs.{Prints, printed_text};
 ghost use Rattle.libc_print.specs.Calls.{short_text};
 ghost use Rattle.mem_spec.specs.Streams.{Io};
+ghost use Rattle.prov_memory.specs.Keeps.{Keeps};
 ghost use Rattle.prov_memory.specs.Memory.{AreKnown, HasCell, store_of};
 
 use crate::printf::{printed, printed_text};
@@ -40,6 +41,8 @@ pub fn format_to(
     ensures same { gives_value result ≡ false → (m.new ≡ m.old) × (io.new ≡ io.old) }
     ensures within { AreWithin io.old → AreWithin io.new }
     ensures streams { gives_value result ≡ false → io.new ≡ io.old }
+    ensures kept { Keeps m.old m.new }
+    ensures made { AreWithin io.old → HaveCells m.old (values_seen args.now) → GivesMade m.new result }
 {
     t.clear();
     match written(
@@ -77,6 +80,7 @@ fn written(
     ensures same { OnErr result ((m.new ≡ m.old) × (io.new ≡ io.old)) }
     ensures within { AreWithin io.old → AreWithin io.new }
     ensures streams { OnErr result (io.new ≡ io.old) }
+    ensures kept { Keeps m.old m.new }
 {
     if is_number(stream, 1) {
         return printed(alloc, Stream::Output, args, types, 1, 2, m, io, t);

@@ -23,6 +23,10 @@ use Rattle.prov_memory.specs.Memory.{store_of}
 use Rattle.libc_model.specs.Seen.{values_seen}
 use Rattle.libc_model.specs.Answers.{answer_in}
 use Rattle.libc_model.proofs.Answering.{arm, malloc_called, calloc_called, realloc_called, first_size}
+use Rattle.std.proofs.Common.{subst}
+use Rattle.c_types.specs.declared.library.LibFunc.{LibFunc}
+use Rattle.libc_model.specs.Answers.{IsCall}
+use Rattle.libc_model.proofs.Keeping.{does_made}
 use Rattle.libc_model.proofs.calls.value_of.Goals as goal
 
 pub returns-in-Malloc-clause-exact : goal.returns-in-Malloc-clause-exact
@@ -130,3 +134,20 @@ returns-in-Realloc-clause-exact c =
     (answer_in c.reallocate.result) c.reallocate.new.t (store_of c.reallocate.new.m c.args.io.now) (store_of c.args.m.now c.args.io.now) c.in-Realloc.is
     (λ call. realloc_called c.reallocate.new.m.rows (values_seen c.args.args.now) c.args.who (store_of c.args.m.now c.args.io.now)
     (store_of c.reallocate.new.m c.args.io.now) c.reallocate.result c.reallocate.new.t call.streams (c.reallocate.ensures.exact c.args.io.now call))
+
+pub returns-in-Malloc-clause-made : goal.returns-in-Malloc-clause-made
+returns-in-Malloc-clause-made c = λ is call.
+    does_made c.allocate.new.m c.allocate.result c.allocate.new.t (store_of c.allocate.new.m c.args.io.now) _ (c.allocate.ensures.exact c.args.io.now call.known)
+    c.allocate.ensures.made
+
+pub returns-in-Calloc-clause-made : goal.returns-in-Calloc-clause-made
+returns-in-Calloc-clause-made c = λ is call.
+    let here = subst (λ (k : LibFunc). IsCall k (values_seen c.args.args.now) c.args.m.now c.args.io.now) c.in-Calloc.is call in
+    does_made c.allocate_zeros.new.m c.allocate_zeros.result c.allocate_zeros.new.t (store_of c.allocate_zeros.new.m c.args.io.now) _
+    (c.allocate_zeros.ensures.exact c.args.io.now here.sizes here.known here.high) c.allocate_zeros.ensures.made
+
+pub returns-in-Realloc-clause-made : goal.returns-in-Realloc-clause-made
+returns-in-Realloc-clause-made c = λ is call.
+    let here = subst (λ (k : LibFunc). IsCall k (values_seen c.args.args.now) c.args.m.now c.args.io.now) c.in-Realloc.is call in
+    does_made c.reallocate.new.m c.reallocate.result c.reallocate.new.t (store_of c.reallocate.new.m c.args.io.now) _
+    (c.reallocate.ensures.exact c.args.io.now here) (c.reallocate.ensures.made here.known here.tags.0)

@@ -5,6 +5,7 @@ use Rattle.prov_memory.specs.declared.answer.LibAnswer.TheVariants as answers
 use Rattle.prov_memory.specs.Memory.{store_of}
 use Rattle.libc_spec.specs.Library.{is_given}
 use Rattle.libc_model.proofs.Allocating.{given_some, within_split, malloc_done, malloc_failed}
+use Rattle.libc_model.proofs.Keeping.{pointer_made}
 use Rattle.libc_model.proofs.heap.allocate.Goals as goal
 
 pub returns-in-Ok-clause-exact : goal.returns-in-Ok-clause-exact
@@ -28,3 +29,7 @@ returns-in-Err-clause-exact c = λ io known.
     (given.1 ∙ asked) c.name_of.ensures (subst (λ (n : ℕ). is_given n ≡ true) asked given.0)
     (within_split (nat_lt (2 ^ 26) sum) (answers.Outside Created sum) c.in_ok-check_created.ensures)
     (c.in-Err.ensures.exact io known)
+
+pub returns-in-Ok-clause-made : goal.returns-in-Ok-clause-made
+returns-in-Ok-clause-made c =
+    pointer_made c.created.new.m c.value-in-Ok.result c.in-Ok.new.addr c.in-Ok.new.prov c.value-in-Ok.ensures c.in-Ok.ensures.whole

@@ -4,6 +4,7 @@ use Rattle.exposure.specs.Cells.{kept_in, is_other}
 use Rattle.prov_memory.specs.Memory.{store_of}
 use Rattle.mem_spec.specs.Store.{settled}
 use Rattle.libc_model.proofs.Freeing.{freed_start, settled_here, two_items, rows_of_rest}
+use Rattle.prov_memory.proofs.KeepLemmas.{keeps_then}
 use Rattle.libc_model.proofs.heap.free_start.Goals as goal
 
 pub returns-then-narrow-clause-exact : goal.returns-then-narrow-clause-exact
@@ -18,3 +19,7 @@ returns-then-narrow-clause-exact c = λ io has.
     (c.kill.ensures.exact io)
     (two_items c.args.t.now c.add.new.self c.add-2.new.self (Narrow c.args.id c.args.start) (Dies c.args.start) c.requires.items c.in_ok-add.ensures.ok
     c.in_ok-add-2.ensures.ok)
+
+pub returns-then-narrow-clause-kept : goal.returns-then-narrow-clause-kept
+returns-then-narrow-clause-kept c =
+    keeps_then c.args.m.now c.narrow.new.self c.kill.new.self c.narrow.ensures.kept c.kill.ensures.kept

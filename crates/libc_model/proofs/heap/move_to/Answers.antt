@@ -10,6 +10,8 @@ use Rattle.libc_model.proofs.Resizing.{made_as, unmade_as}
 use Rattle.libc_model.proofs.Carrying.{old_place, carried, but_known}
 use Rattle.prov_memory.proofs.KeepLemmas.{keeps_then}
 use Rattle.libc_model.proofs.Living.{failed_after}
+use Rattle.prov_memory.specs.Keeps.{Keeps}
+use Rattle.libc_model.proofs.Keeping.{keeps_four}
 use Rattle.libc_model.proofs.heap.move_to.Goals as goal
 
 pub copied-requires : goal.copied-requires
@@ -74,3 +76,20 @@ pub returns-in_err-block-clause-failed : goal.returns-in_err-block-clause-failed
 returns-in_err-block-clause-failed c =
     failed_after c.from_residual-in_err-block.result c.args.m.now c.settle_start.new.m c.copied.new.m
     (keeps_then c.args.m.now c.created.new.m c.settle_start.new.m c.created.ensures.keeps c.settle_start.ensures.keeps) c.copied.ensures.keeps
+
+pub returns-clause-kept : goal.returns-clause-kept
+returns-clause-kept c = λ known tagged.
+    let there = but_known c.created.new.m c.settle_start.new.m c.settle_start.ensures.rest (c.in_ok-new.ensures.known known) in
+    let tags = c.settle_start.ensures.keeps.tagged (c.created.ensures.keeps.tagged tagged) in
+    keeps_then c.args.m.now c.created.new.m c.kill.new.self c.created.ensures.keeps
+    (keeps_four c.created.new.m c.settle_start.new.m c.copied.new.m c.fill.new.m c.kill.new.self c.settle_start.ensures.keeps c.copied.ensures.keeps
+    (c.fill.ensures.kept tt (c.in_ok-block.ensures.pieces there) (c.in_ok-block.ensures.tags tags)) c.kill.ensures.kept)
+
+pub returns-clause-whole : goal.returns-clause-whole
+returns-clause-whole c = λ known tagged.
+    let there = but_known c.created.new.m c.settle_start.new.m c.settle_start.ensures.rest (c.in_ok-new.ensures.known known) in
+    let tags = c.settle_start.ensures.keeps.tagged (c.created.ensures.keeps.tagged tagged) in
+    let keeps : Keeps c.created.new.m c.kill.new.self =
+    keeps_four c.created.new.m c.settle_start.new.m c.copied.new.m c.fill.new.m c.kill.new.self c.settle_start.ensures.keeps c.copied.ensures.keeps
+    (c.fill.ensures.kept tt (c.in_ok-block.ensures.pieces there) (c.in_ok-block.ensures.tags tags)) c.kill.ensures.kept in
+    keeps.made c.in_ok-new.new.prov c.in_ok-new.ensures.whole

@@ -8,6 +8,7 @@ use Rattle.libc_model.proofs.Allocating.{within_split}
 use Rattle.libc_model.proofs.Making.{made_value}
 use Rattle.libc_model.proofs.Resizing.{refused_does, null_does, limit_does, failing_does, done_does, begins_at, can_settle_start, rows_rest}
 use Rattle.libc_model.proofs.Carrying.{but_known}
+use Rattle.libc_model.proofs.Keeping.{pointer_made}
 use Rattle.libc_model.proofs.heap.resize.Goals as goal
 
 pub move_to-requires : goal.move_to-requires
@@ -54,3 +55,7 @@ returns-in-Err-clause-exact c = λ io can has.
     c.in-Some.ensures c.requires.some c.if-size-gt-MOST.false c.name_of.ensures
     (within_split (nat_lt (2 ^ 26) sum) (answers.Outside Created sum) c.in_ok-check_created.ensures)
     c.in-Err.ensures.rows (c.in-Err.ensures.made io can.known)
+
+pub returns-in-Ok-clause-made : goal.returns-in-Ok-clause-made
+returns-in-Ok-clause-made c = λ known tagged.
+    pointer_made c.move_to.new.m c.value-in-Ok.result c.in-Ok.new.addr c.in-Ok.new.prov c.value-in-Ok.ensures (c.in-Ok.ensures.whole known tagged)

@@ -7,6 +7,10 @@ use Rattle.prov_memory.specs.Memory.{store_of}
 use Rattle.libc_spec.specs.Library.{is_given}
 use Rattle.libc_model.proofs.Allocating.{given_some, within_split}
 use Rattle.libc_model.proofs.Making.{calloc_done, calloc_failed, made_value, zeros_in}
+use Rattle.std.proofs.Common.{replicate}
+use Rattle.prov_memory.specs.Keeps.{Keeps}
+use Rattle.prov_memory.proofs.KeepLemmas.{keeps_then}
+use Rattle.libc_model.proofs.Keeping.{plain_kept, pointer_made}
 use Rattle.libc_model.proofs.heap.zeroed.Goals as goal
 
 pub returns-in_err-new-clause-exact : goal.returns-in_err-new-clause-exact
@@ -34,3 +38,15 @@ pub returns-clause-known : goal.returns-clause-known
 returns-clause-known c = λ known.
     c.fill.ensures.known (c.in_ok-new.ensures.known known)
     (zeros_in (length c.created.new.m.origins) c.in-Some.size c.in_ok-zeros.zeros.cells c.in_ok-zeros.ensures)
+
+pub returns-clause-kept : goal.returns-clause-kept
+returns-clause-kept c =
+    keeps_then c.args.m.now c.created.new.m c.fill.new.m c.created.ensures.keeps
+    (plain_kept c.created.new.m c.fill.new.m c.in_ok-zeros.zeros.cells (replicate c.in-Some.size 0) c.in_ok-zeros.ensures (c.fill.ensures.kept tt))
+
+pub returns-clause-made : goal.returns-clause-made
+returns-clause-made c =
+    let keeps : Keeps c.created.new.m c.fill.new.m =
+    plain_kept c.created.new.m c.fill.new.m c.in_ok-zeros.zeros.cells (replicate c.in-Some.size 0) c.in_ok-zeros.ensures (c.fill.ensures.kept tt) in
+    pointer_made c.fill.new.m c.value-2.result c.in_ok-new.new.addr c.in_ok-new.new.prov c.value-2.ensures
+    (keeps.made c.in_ok-new.new.prov c.in_ok-new.ensures.whole)

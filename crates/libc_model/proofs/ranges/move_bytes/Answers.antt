@@ -7,6 +7,8 @@ use Rattle.libc_model.specs.Writes.{IsPlace}
 use Rattle.libc_model.proofs.Writing.{place_stays}
 use Rattle.libc_model.proofs.Moving.{kept_place, moving_is, moved_noted, move_done}
 use Rattle.libc_model.proofs.Living.{failed_after}
+use Rattle.prov_memory.proofs.KeepLemmas.{keeps_then}
+use Rattle.libc_model.proofs.Keeping.{keeps_three}
 use Rattle.libc_model.proofs.ranges.move_bytes.Goals as goal
 
 pub put_over-requires-clause-place : goal.put_over-requires-clause-place
@@ -34,3 +36,13 @@ returns-clause-rows c = c.put_over.ensures.rows ∙ ap (λ (m : Kept). m.rows) c
 pub returns-in_err-block-clause-failed : goal.returns-in_err-block-clause-failed
 returns-in_err-block-clause-failed c =
     failed_after c.from_residual-in_err-block.result c.args.m.now c.settle-2.new.m c.copied.new.m c.settle-2.ensures.keeps c.copied.ensures.keeps
+
+pub returns-in_err-block-clause-kept : goal.returns-in_err-block-clause-kept
+returns-in_err-block-clause-kept c = λ known tagged.
+    keeps_then c.args.m.now c.settle-2.new.m c.copied.new.m c.settle-2.ensures.keeps c.copied.ensures.keeps
+
+pub returns-clause-kept : goal.returns-clause-kept
+returns-clause-kept c = λ known tagged.
+    keeps_three c.args.m.now c.settle-2.new.m c.copied.new.m c.put_over.new.m c.settle-2.ensures.keeps c.copied.ensures.keeps
+    (c.put_over.ensures.kept tt (c.in_ok-block.ensures.pieces (c.settle-2.ensures.known known))
+    (c.in_ok-block.ensures.tags (c.settle-2.ensures.keeps.tagged tagged)))

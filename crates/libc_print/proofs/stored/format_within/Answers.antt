@@ -5,6 +5,10 @@ use Rattle.libc_spec.specs.Formatted.{stored_by}
 use Rattle.libc_model.specs.Answers.{Answers}
 use Rattle.libc_model.specs.Seen.{values_seen}
 use Rattle.libc_print.specs.Seen.{typed}
+use Rattle.std.proofs.Common.{arith}
+use Rattle.prov_memory.specs.declared.answer.LibAnswer.TheVariants as answers
+use Rattle.libc_model.proofs.Living.{no_streams}
+use Rattle.libc_print.proofs.Keeping.{stored_gives}
 use Rattle.libc_print.proofs.stored.format_within.Goals as goal
 
 pub returns-in-Err-clause-exact : goal.returns-in-Err-clause-exact
@@ -13,3 +17,13 @@ returns-in-Err-clause-exact c = λ io within size cells.
     (stored_by c.stored.new.m.rows (Some n) (argument_at (values_seen c.args.args.now) 0) (argument_at (values_seen c.args.args.now) 2)
     (drop 3 (typed c.args.args.now c.args.types.now)) (store_of c.args.m.now io)))
     ((rw c.as_slice.ensures at c.size_at.ensures) size) ((rw c.as_slice-2.ensures at c.in-Err.ensures.exact) io within cells)
+
+pub returns-in-Ok-clause-made : goal.returns-in-Ok-clause-made
+returns-in-Ok-clause-made c = λ cells.
+    stored_gives c.stored.new.m (answers.Value c.in-Ok.value) c.stored.new.t (store_of c.stored.new.m no_streams)
+    (store_of c.args.m.now no_streams) c.stored.new.m.rows _ _ _ _ ((rw c.as_slice-2.ensures at c.in-Ok.ensures.exact) no_streams (omega arith) cells)
+
+pub returns-in-Err-clause-made : goal.returns-in-Err-clause-made
+returns-in-Err-clause-made c = λ cells.
+    stored_gives c.stored.new.m c.in-Err.answer c.stored.new.t (store_of c.stored.new.m no_streams)
+    (store_of c.args.m.now no_streams) c.stored.new.m.rows _ _ _ _ ((rw c.as_slice-2.ensures at c.in-Err.ensures.exact) no_streams (omega arith) cells)

@@ -8,6 +8,8 @@ use Rattle.libc_spec.specs.Formatted.{printed_to_by}
 use Rattle.libc_model.specs.Answers.{Answers}
 use Rattle.libc_model.specs.Seen.{values_seen}
 use Rattle.libc_print.specs.Seen.{typed}
+use Rattle.prov_memory.specs.declared.answer.LibAnswer.TheVariants as answers
+use Rattle.libc_print.proofs.Keeping.{written_gives}
 use Rattle.libc_print.proofs.stream.format_to.Goals as goal
 
 pub returns-in-Err-clause-exact : goal.returns-in-Err-clause-exact
@@ -18,3 +20,13 @@ returns-in-Err-clause-exact c = λ within cells.
     (to_z-of_z w128 c.int_at.result (search rules) ∙ c.int_at.ensures ∙ ap (λ (vs : List Value). integer_in (argument_at (values_seen vs) 0))
     c.as_slice.ensures)
     ((rw c.as_slice-2.ensures at c.in-Err.ensures.exact) within cells)
+
+pub returns-in-Ok-clause-made : goal.returns-in-Ok-clause-made
+returns-in-Ok-clause-made c = λ within cells.
+    written_gives c.written.new.m (answers.Value c.in-Ok.value) c.written.new.t (store_of c.written.new.m c.written.new.io)
+    (store_of c.args.m.now c.args.io.now) c.written.new.m.rows _ _ _ ((rw c.as_slice-2.ensures at c.in-Ok.ensures.exact) within cells)
+
+pub returns-in-Err-clause-made : goal.returns-in-Err-clause-made
+returns-in-Err-clause-made c = λ within cells.
+    written_gives c.written.new.m c.in-Err.answer c.written.new.t (store_of c.written.new.m c.written.new.io)
+    (store_of c.args.m.now c.args.io.now) c.written.new.m.rows _ _ _ ((rw c.as_slice-2.ensures at c.in-Err.ensures.exact) within cells)
