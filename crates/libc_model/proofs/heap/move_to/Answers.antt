@@ -11,7 +11,7 @@ use Rattle.libc_model.proofs.Carrying.{old_place, carried, but_known}
 use Rattle.prov_memory.proofs.KeepLemmas.{keeps_then}
 use Rattle.libc_model.proofs.Living.{failed_after}
 use Rattle.prov_memory.specs.Keeps.{Keeps}
-use Rattle.libc_model.proofs.Keeping.{keeps_four}
+use Rattle.libc_model.proofs.Keeping.{keeps_three, keeps_four}
 use Rattle.libc_model.proofs.heap.move_to.Goals as goal
 
 pub copied-requires : goal.copied-requires
@@ -93,3 +93,7 @@ returns-clause-whole c = λ known tagged.
     keeps_four c.created.new.m c.settle_start.new.m c.copied.new.m c.fill.new.m c.kill.new.self c.settle_start.ensures.keeps c.copied.ensures.keeps
     (c.fill.ensures.kept tt (c.in_ok-block.ensures.pieces there) (c.in_ok-block.ensures.tags tags)) c.kill.ensures.kept in
     keeps.made c.in_ok-new.new.prov c.in_ok-new.ensures.whole
+
+pub returns-in_err-block-clause-kept : goal.returns-in_err-block-clause-kept
+returns-in_err-block-clause-kept c = λ known tagged.
+    keeps_three c.args.m.now c.created.new.m c.settle_start.new.m c.copied.new.m c.created.ensures.keeps c.settle_start.ensures.keeps c.copied.ensures.keeps
