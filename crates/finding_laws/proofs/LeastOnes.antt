@@ -1,0 +1,144 @@
+-- The definition's search finds the least pair in the order of rows.
+use Rattle.std.proofs.Common.{◌≡◌, ◌⊎◌, inl, inr, ⊎_elim, Bool, true, false, cond, List, [], ◌∷◌, ◌++◌, refl, sym, ap, ◌∙◌, subst, Option, Some, None, Unit}
+use Rattle.std.specs.Ordering.{ordering_reverse, is_lt}
+use Rattle.std.specs.declared.cmp.Ordering.{Ordering}
+use Rattle.std.specs.declared.cmp.Ordering.TheVariants.{Less, Equal, Greater}
+use Rattle.ub_base.specs.declared.names.Item.{Item}
+use Rattle.ub_base.specs.Frames.{Row}
+use Rattle.footprint.specs.declared.foot.Foot.{Foot}
+use Rattle.footprint.specs.Holds.{holds}
+use Rattle.footprint.specs.Least.{pair_cmp, IsLeast}
+use Rattle.footprint.specs.Least as rows_order
+use Rattle.footprint.specs.Found.{ConflictIn}
+use Rattle.footprint.proofs.LeastLemmas.{pair_total, both, alike, not_itself}
+use Rattle.c_model.specs.World.{World}
+use Rattle.c_model.specs.Runs.{Entry}
+use Rattle.c_model.specs.Findings.{clash}
+use Rattle.c_model.specs.Keys.{comes_first, item_key, lesser, least_beside, least_among, all_by_bytes, least_items}
+use Rattle.finding_laws.specs.ItemOrder.{IsKnownItem}
+use Rattle.finding_laws.specs.Footprints.{IsAmong, AreItems}
+use Rattle.finding_laws.specs.LeastPairs.{AreKnown, LeastIsTold}
+use Rattle.finding_laws.proofs.Keys.{pairs_by}
+use Rattle.finding_laws.proofs.OneItem.{IsByte, pair_is}
+use Rattle.finding_laws.proofs.Bytes.{are_bytes}
+
+module _ (world : World) (trace : List Entry) (rows : List Row) where
+  abbrev Known : Option (Item × Item) → Type 0
+  Known None = Unit {0}
+  Known (Some p) = IsKnownItem world trace rows p.0 × IsKnownItem world trace rows p.1
+
+  chosen : (b c : Bool) (p q : Item × Item) → b ≡ c → Some (cond b q p) ≡ cond c (Some q) (Some p)
+  chosen true c p q e = ap (λ d. cond d (Some q) (Some p)) e
+  chosen false c p q e = ap (λ d. cond d (Some q) (Some p)) e
+
+  lesser_is : (p : Item × Item) (best : Option (Item × Item)) → Known (Some p) → Known best →
+      Some (lesser world trace p best) ≡ rows_order.lesser rows (Some p) best
+  lesser_is p None hp hb = refl
+  lesser_is p (Some q) hp hb = chosen _ _ p q (sym (pairs_by world trace rows q p hb.0 hb.1 hp.0 hp.1))
+
+  known_of : (b : Bool) (p q : Item × Item) → Known (Some p) → Known (Some q) → Known (Some (cond b q p))
+  known_of true p q hp hq = hq
+  known_of false p q hp hq = hp
+
+  known_lesser : (p : Item × Item) (best : Option (Item × Item)) → Known (Some p) → Known best → Known (Some (lesser world trace p best))
+  known_lesser p None hp hb = hp
+  known_lesser p (Some q) hp hb = known_of _ p q hp hb
+
+  -- one pair more
+  abbrev Or : (Item → Item → Type 0) → Item → Item → Item → Item → Type 0
+  Or P i j a b = P a b ⊎ ((i ≡ a) × (j ≡ b) × (clash world.rows a b ≡ true))
+
+  one_alone : (i j : Item) → clash world.rows i j ≡ true →
+      IsLeast rows (λ a b. (i ≡ a) × (j ≡ b) × (clash world.rows a b ≡ true)) (Some (i, j))
+  one_alone i j h = (
+    (refl, refl, h),
+    λ a b same lt. not_itself (pair_cmp rows) (pair_total rows) (i, j) (subst (λ (p : Item × Item). pair_cmp rows p (i, j) ≡ Less)
+        (λ t. (sym same.0 t, sym same.1 t)) lt),
+  )
+
+  one_more : (c : Bool) (i j : Item) (best : Option (Item × Item)) (P : Item → Item → Type 0) → clash world.rows i j ≡ c → Known (Some (i, j)) → Known best →
+      IsLeast rows P best → IsLeast rows (Or P i j) (cond c (Some (lesser world trace (i, j) best)) best)
+  one_more true i j best P h known kept least =
+      subst (λ (o : Option (Item × Item)). IsLeast rows (Or P i j) o) (sym (lesser_is (i, j) best known kept))
+      (alike rows _ _ (rows_order.lesser rows (Some (i, j)) best) (λ a b one. ⊎_elim (λ own. inr own) (λ old. inl old) one)
+      (λ a b one. ⊎_elim (λ old. inr old) (λ own. inl own) one)
+      (both rows (λ a b. (i ≡ a) × (j ≡ b) × (clash world.rows a b ≡ true)) P (Some (i, j)) best (one_alone i j h) least))
+  one_more false i j best P h known kept least =
+      alike rows P (Or P i j) best (λ a b old. inl old)
+      (λ a b one. ⊎_elim (λ old. old) (λ own. absurd (let e : clash world.rows i j ≡ true = at own.0 own.1 own.2 in cc)) one) least
+    where
+      at : {a b : Item} → i ≡ a → j ≡ b → clash world.rows a b ≡ true → clash world.rows i j ≡ true
+      at e f g = (λ t. clash world.rows (e t) (f t)) ∙ g
+
+  kept_more : (c : Bool) (i j : Item) (best : Option (Item × Item)) → Known (Some (i, j)) → Known best →
+      Known (cond c (Some (lesser world trace (i, j) best)) best)
+  kept_more true i j best known kept = known_lesser (i, j) best known kept
+  kept_more false i j best known kept = kept
+
+  abbrev Beside : (Item → Item → Type 0) → Item → List Item → Item → Item → Type 0
+  Beside P i js a b = P a b ⊎ ((i ≡ a) × IsAmong js b × (clash world.rows a b ≡ true))
+
+  beside : (i : Item) (js : List Item) (best : Option (Item × Item)) (P : Item → Item → Type 0) → IsKnownItem world trace rows i →
+      ((j : Item) → IsAmong js j → IsKnownItem world trace rows j) → Known best → IsLeast rows P best →
+      IsLeast rows (Beside P i js) (least_beside world trace i js best) × Known (least_beside world trace i js best)
+  beside i [] best P hi hj kept least = (
+    alike rows P (Beside P i []) best (λ a b old. inl old) (λ a b one. ⊎_elim (λ old. old) (λ own. absurd own.1) one) least,
+    kept,
+  )
+  beside i (j ∷ js) best P hi hj kept least =
+      let now : Option (Item × Item) = cond (clash world.rows i j) (Some (lesser world trace (i, j) best)) best in
+      let known : Known (Some (i, j)) = (hi, hj j (inl refl)) in
+      let rest = beside i js now (Or P i j) hi (λ k h. hj k (inr h)) (kept_more (clash world.rows i j) i j best known kept)
+      (one_more (clash world.rows i j) i j best P refl known kept least) in (
+        alike rows (Beside (Or P i j) i js) (Beside P i (j ∷ js)) (least_beside world trace i js now)
+            (λ a b one. ⊎_elim (λ old. ⊎_elim (λ p. inl p) (λ own. inr (own.0, inl own.1, own.2)) old) (λ own. inr (own.0, inr own.1, own.2)) one)
+            (λ a b one. ⊎_elim (λ p. inl (inl p))
+            (λ own. ⊎_elim (λ e. inl (inr (own.0, e, own.2))) (λ t. inr (own.0, t, own.2)) own.1) one) rest.0,
+        rest.1,
+      )
+
+  abbrev Among : (Item → Item → Type 0) → List Item → List Item → Item → Item → Type 0
+  Among P is js a b = P a b ⊎ (IsAmong is a × IsAmong js b × (clash world.rows a b ≡ true))
+
+  among : (is js : List Item) (best : Option (Item × Item)) (P : Item → Item → Type 0) → ((i : Item) → IsAmong is i → IsKnownItem world trace rows i) →
+      ((j : Item) → IsAmong js j → IsKnownItem world trace rows j) → Known best → IsLeast rows P best →
+      IsLeast rows (Among P is js) (least_among world trace is js best)
+  among [] js best P hi hj kept least =
+      alike rows P (Among P [] js) best (λ a b old. inl old) (λ a b one. ⊎_elim (λ old. old) (λ own. absurd own.0) one) least
+  among (i ∷ is) js best P hi hj kept least =
+      let first = beside i js best P (hi i (inl refl)) hj kept least in
+      let now : Option (Item × Item) = least_beside world trace i js best in
+      alike rows (Among (Beside P i js) is js) (Among P (i ∷ is) js) (least_among world trace is js now)
+      (λ a b one. ⊎_elim (λ old. ⊎_elim (λ p. inl p) (λ own. inr (inl own.0, own.1, own.2)) old) (λ own. inr (inr own.0, own.1, own.2)) one)
+      (λ a b one. ⊎_elim (λ p. inl (inl p))
+      (λ own. ⊎_elim (λ e. inl (inr (e, own.1, own.2))) (λ t. inr (t, own.1, own.2)) own.0) one)
+      (among is js now (Beside P i js) (λ k h. hi k (inr h)) hj first.1 first.0)
+
+  -- ---- there is one least pair
+  tied : (o : Ordering) (p q : Item × Item) → pair_cmp rows p q ≡ o → (pair_cmp rows p q ≡ Less → ⊥) → (pair_cmp rows q p ≡ Less → ⊥) →
+      pair_cmp rows p q ≡ Equal
+  tied Less p q e first second = absurd (first e)
+  tied Equal p q e first second = e
+  tied Greater p q e first second = absurd (second ((pair_total rows).antisymm q p ∙ ap ordering_reverse e))
+
+  only_one : (P : Item → Item → Type 0) (o r : Option (Item × Item)) →
+      ((a b : Item) → P a b → IsByte a × IsByte b × IsKnownItem world trace rows a × IsKnownItem world trace rows b) → IsLeast rows P o → IsLeast rows P r →
+      o ≡ r
+  only_one P None None of ho hr = refl
+  only_one P None (Some q) of ho hr = absurd (ho q.0 q.1 hr.0)
+  only_one P (Some p) None of ho hr = absurd (hr p.0 p.1 ho.0)
+  only_one P (Some p) (Some q) of ho hr =
+      let mine = of p.0 p.1 ho.0 in
+      let other = of q.0 q.1 hr.0 in
+      ap Some (pair_is world trace rows p q mine.0 mine.1 other.0 other.1 mine.2 mine.3 other.2 other.3
+      (tied (pair_cmp rows p q) p q refl (hr.1 p.0 p.1 ho.0) (ho.1 q.0 q.1 hr.0)))
+
+pub least_is_told : LeastIsTold
+least_is_told world trace rows is js f g pair ki kj hf hg least =
+    only_one world trace rows (Among world trace rows (λ a b. ⊥) (all_by_bytes is) (all_by_bytes js)) pair (least_items world trace is js)
+    (λ a b one. ⊎_elim (λ none. absurd none)
+    (λ own. (are_bytes is a own.0, are_bytes js b own.1, ki a own.0, kj b own.1)) one)
+    (alike rows (ConflictIn f g world.rows) (Among world trace rows (λ a b. ⊥) (all_by_bytes is) (all_by_bytes js)) pair
+    (λ a b c. inr ((hf a).0 c.0, (hg b).0 c.1, c.2))
+    (λ a b one. ⊎_elim (λ none. absurd none) (λ own. ((hf a).1 own.0, (hg b).1 own.1, own.2)) one) least)
+    (among world trace rows (all_by_bytes is) (all_by_bytes js) None (λ a b. ⊥) ki kj tt (λ a b none. none))

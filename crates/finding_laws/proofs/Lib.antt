@@ -1,0 +1,5 @@
+pub mod Keys
+pub mod OneItem
+pub mod Bytes
+pub mod LeastOnes
+pub mod Strange

@@ -1,0 +1,40 @@
+-- Accesses of an object that only one evaluation has to do with (own).
+use Rattle.std.specs.Prelude.{◌≡◌, Bool, true, false, not, ◌&&◌, List, [], ◌∷◌, if◌then◌else◌}
+use Rattle.std.specs.List.{list_all}
+use Rattle.ub_base.specs.declared.names.ObjName.{ObjName}
+use Rattle.ub_base.specs.declared.names.Item.{Item}
+use Rattle.ub_base.specs.declared.names.Item.TheVariants.{Read, Write, Born, Dies, Alive}
+use Rattle.ub_base.specs.Names.{same_object}
+use Rattle.addr_map.specs.declared.map.Row.{Row}
+use Rattle.addr_map.specs.Conflict.{some_conflict}
+use Rattle.footprint.specs.Holds.{is_forgotten}
+use Rattle.c_model.specs.World.{World}
+use Rattle.c_model.specs.Runs.{Entry}
+use Rattle.c_model.specs.Keys.{least_items}
+
+-- the items without the reads, the writes and the uses of an object
+abbrev pub without : ObjName → List Item → List Item
+without x [] = []
+without x (i ∷ is) = if is_forgotten x i then without x is else i ∷ without x is
+
+-- the item is a read, a write, a use, the birth or the death of the object
+abbrev pub is_part_of : ObjName → Item → Bool
+is_part_of x (Read y a n) = same_object x y
+is_part_of x (Write y a n) = same_object x y
+is_part_of x (Alive y) = same_object x y
+is_part_of x (Born y) = same_object x y
+is_part_of x (Dies y) = same_object x y
+is_part_of x _ = false
+
+-- no item of the list has to do with the object
+abbrev pub IsStrangeTo : ObjName → List Item → Type 0
+IsStrangeTo x is = list_all (λ i. not (is_part_of x i)) is ≡ true
+
+-- Where the other evaluation has nothing to do with an object, its accesses make no conflict more, and no lesser pair of items, whichever of
+-- the two stands first.
+abbrev pub ForgottenTellNothing : Type 0
+ForgottenTellNothing = (world : World) (trace : List Entry) (x : ObjName) (is js : List Item) → IsStrangeTo x js →
+    (some_conflict world.rows (without x is) js ≡ some_conflict world.rows is js) ×
+    (some_conflict world.rows js (without x is) ≡ some_conflict world.rows js is) ×
+    (least_items world trace (without x is) js ≡ least_items world trace is js) ×
+    (least_items world trace js (without x is) ≡ least_items world trace js is)

@@ -1,0 +1,4 @@
+pub mod Footprints
+pub mod Forgotten
+pub mod ItemOrder
+pub mod LeastPairs

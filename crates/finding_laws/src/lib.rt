@@ -1,0 +1,31 @@
+//! Footprints, and c_model's definitions of items, their order and the least conflicting pair: one and the same.
+#![tactic(auto)]
+
+ghost use Rattle.finding_laws.specs.ItemOrder.{ItemsByKeys, PairsByKeys};
+ghost use Rattle.finding_laws.specs.Footprints.{EmptyIsNone, AddIsMore, UnionIsBoth};
+ghost use Rattle.finding_laws.specs.Forgotten.{ForgottenTellNothing};
+ghost use Rattle.finding_laws.specs.LeastPairs.{LeastIsTold};
+
+/// The order of items and of pairs in which a footprint's least pair is sought is that of the definition's keys, where the frames of their
+/// names are known.
+pub fn law_item_order()
+    ensures items { ItemsByKeys }
+    ensures pairs { PairsByKeys }
+{}
+
+/// A footprint to which each item of a list was added has just the items of the list, a byte at a time.
+pub fn law_footprints()
+    ensures empty { EmptyIsNone }
+    ensures more { AddIsMore }
+    ensures both { UnionIsBoth }
+{}
+
+/// The least conflicting pair of two footprints is the definition's least pair of the items that they have.
+pub fn law_least_items()
+    ensures { LeastIsTold }
+{}
+
+/// The accesses of an object with which the other of two evaluations has nothing to do make no conflict more, and no lesser pair of items.
+pub fn law_forgotten_items()
+    ensures { ForgottenTellNothing }
+{}
