@@ -138,6 +138,10 @@ module _ (world : World) (trace : List Entry) (rows : List Row) where
       frame_by f.0 g.0 (t ∷ k ∷ r) (u ∷ l ∷ s) hx hy ∙ three (frame_cmp rows f.0 g.0) (nat_cmp t u) (nat_cmp k l) (keys_cmp r s)
   object_by (Heap f t k) (Heap g u l) r s hx hy =
       frame_by f.0 g.0 (t ∷ k ∷ r) (u ∷ l ∷ s) hx hy ∙ three (frame_cmp rows f.0 g.0) (nat_cmp t u) (nat_cmp k l) (keys_cmp r s)
+  object_by (Static k) (Static l) r s hx hy = refl
+  object_by (Lit k) (Lit l) r s hx hy = refl
+  object_by Argv Argv r s hx hy = refl
+  object_by (Arg k) (Arg l) r s hx hy = refl
   object_by _ _ r s hx hy = refl
 
   object_append : (x : ObjName) (r s : List ℕ) → object_key world trace x r ++ s ≡ object_key world trace x (r ++ s)
@@ -190,6 +194,11 @@ module _ (world : World) (trace : List Entry) (rows : List Row) where
   item_by (Alive x) (Alive y) r s h k = wholes_by x y r s h.object k.object
   item_by (Expose x) (Expose y) r s h k = wholes_by x y r s h.object k.object
   item_by (Narrow d x) (Narrow e y) r s h k = narrows_by d e x y r s h.event k.event h.object k.object
+  item_by (Lookup a) (Lookup b) r s h k = refl
+  item_by Input Input r s h k = refl
+  item_by Output Output r s h k = refl
+  item_by Ending Ending r s h k = refl
+  item_by Any Any r s h k = refl
   item_by _ _ r s h k = refl
 
   item_alone : (i j : Item) → IsKnownItem world trace rows i → IsKnownItem world trace rows j →

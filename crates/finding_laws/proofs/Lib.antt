@@ -1,5 +1,6 @@
 pub mod Keys
 pub mod OneItem
 pub mod Bytes
+pub mod ByBytes
 pub mod LeastOnes
 pub mod Strange

@@ -1,5 +1,5 @@
 -- Accesses of an object conflict with no item that has nothing to do with it.
-use Rattle.std.proofs.Common.{◌≡◌, ℕ, zero, suc, Bool, true, false, not, cond, ◌&&◌, ◌||◌, List, [], ◌∷◌, ◌++◌, refl, sym, ap, ◌∙◌, subst, Option, Some, None, Unit}
+use Rattle.std.proofs.Common.{◌≡◌, ℕ, zero, suc, Bool, true, false, not, cond, ◌&&◌, ◌||◌, List, [], ◌∷◌, ◌++◌, refl, sym, ap, ◌∙◌, subst, Option, Some, None}
 use Rattle.std.specs.List.{list_all}
 use Rattle.ub_base.specs.declared.names.ObjName.{ObjName}
 use Rattle.ub_base.specs.declared.names.Item.{Item}
@@ -65,13 +65,13 @@ module _ (stands : ObjName → ℕ → Bool) where
   alive_apart x (Dies z) h = stranger x z h
   alive_apart x _ h = refl
 
-  own : {P : ObjName → Type 0} (x y : ObjName) → same_object x y ≡ true → P x → P y
-  own {P} x y h p = subst P (same_object_is x y h) p
+  own : (P : ObjName → Type 0) (x y : ObjName) → same_object x y ≡ true → P x → P y
+  own P x y h p = subst P (same_object_is x y h) p
 
   apart : (x : ObjName) (i j : Item) → is_forgotten x i ≡ true → is_part_of x j ≡ false → items_conflict stands i j ≡ false
-  apart x (Read y a n) j f h = own {P = λ (z : ObjName). items_conflict stands (Read z a n) j ≡ false} x y f (read_apart x a n j h)
-  apart x (Write y a n) j f h = own {P = λ (z : ObjName). items_conflict stands (Write z a n) j ≡ false} x y f (write_apart x a n j h)
-  apart x (Alive y) j f h = own {P = λ (z : ObjName). items_conflict stands (Alive z) j ≡ false} x y f (alive_apart x j h)
+  apart x (Read y a n) j f h = own (λ (z : ObjName). items_conflict stands (Read z a n) j ≡ false) x y f (read_apart x a n j h)
+  apart x (Write y a n) j f h = own (λ (z : ObjName). items_conflict stands (Write z a n) j ≡ false) x y f (write_apart x a n j h)
+  apart x (Alive y) j f h = own (λ (z : ObjName). items_conflict stands (Alive z) j ≡ false) x y f (alive_apart x j h)
   apart x _ j f h = absurd (cc)
 
   apart_back : (x : ObjName) (i j : Item) → is_forgotten x i ≡ true → is_part_of x j ≡ false → items_conflict stands j i ≡ false

@@ -1,5 +1,5 @@
 -- The order of items by the rows of a run's frames, and by the keys of the definition.
-use Rattle.std.specs.Prelude.{◌≡◌, ℕ, ◌++◌, List, Unit, tt}
+use Rattle.std.specs.Prelude.{◌≡◌, ℕ, ◌++◌, List}
 use Rattle.std.specs.Ordering.{is_lt}
 use Rattle.ub_base.specs.declared.names.ObjName.{ObjName}
 use Rattle.ub_base.specs.declared.names.ObjName.TheVariants.{Auto, Heap}

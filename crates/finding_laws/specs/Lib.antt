@@ -1,3 +1,4 @@
+pub mod Conflicts
 pub mod Footprints
 pub mod Forgotten
 pub mod ItemOrder

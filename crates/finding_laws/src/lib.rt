@@ -3,6 +3,7 @@
 
 ghost use Rattle.finding_laws.specs.ItemOrder.{ItemsByKeys, PairsByKeys};
 ghost use Rattle.finding_laws.specs.Footprints.{EmptyIsNone, AddIsMore, UnionIsBoth};
+ghost use Rattle.finding_laws.specs.Conflicts.{ConflictsAreTold, RacesAreTold};
 ghost use Rattle.finding_laws.specs.Forgotten.{ForgottenTellNothing};
 ghost use Rattle.finding_laws.specs.LeastPairs.{LeastIsTold};
 
@@ -28,4 +29,10 @@ pub fn law_least_items()
 /// The accesses of an object with which the other of two evaluations has nothing to do make no conflict more, and no lesser pair of items.
 pub fn law_forgotten_items()
     ensures { ForgottenTellNothing }
+{}
+
+/// Two footprints conflict, or race, exactly where the items that they have do so by the definition.
+pub fn law_conflicts_told()
+    ensures any { ConflictsAreTold }
+    ensures races { RacesAreTold }
 {}
