@@ -1,48 +1,15 @@
 -- Two items conflict exactly where a byte of one conflicts with a byte of the other.
-use Rattle.std.proofs.Common.{
-  ◌≡◌,
-  ◌⊎◌,
-  inl,
-  inr,
-  ⊎_elim,
-  ◌≤◌,
-  ◌<◌,
-  ◌+◌,
-  min,
-  max,
-  ℕ,
-  zero,
-  suc,
-  Bool,
-  true,
-  false,
-  cond,
-  ◌&&◌,
-  ◌||◌,
-  List,
-  [],
-  ◌∷◌,
-  ◌++◌,
-  refl,
-  sym,
-  ap,
-  ◌∙◌,
-  subst,
-  arith,
-}
-use Rattle.std.specs.Prelude.{nat_lt}
+use Rattle.std.proofs.Common.{◌≡◌, ◌⊎◌, inl, inr, ⊎_elim, ◌≤◌, ◌<◌, ◌+◌, max, ℕ, zero, suc, Bool, true, false, cond, ◌&&◌, ◌||◌, List, [], ◌∷◌, ◌++◌, refl, sym, ap, ◌∙◌, arith}
 use Rattle.std.proofs.lemmas.Bool.Decides.{nat_tests}
-use Rattle.ub_base.specs.Names.{same_object, same_event}
+use Rattle.ub_base.specs.Names.{same_object}
 use Rattle.ub_base.specs.declared.names.ObjName.{ObjName}
 use Rattle.ub_base.specs.declared.names.Item.{Item}
 use Rattle.ub_base.specs.declared.names.Item.TheVariants.{Read, Write, Born, Dies, Alive, Expose, Lookup, Narrow, Input, Output, Ending, Any}
 use Rattle.addr_map.specs.declared.map.Row.{Row}
 use Rattle.addr_map.specs.Conflict.{overlap, conflicts_one, items_conflict, conflicts_with, some_conflict, stands_at, is_access}
-use Rattle.footprint.specs.declared.foot.Foot.{Foot}
-use Rattle.footprint.specs.Found.{SomeConflict, SomeRace}
 use Rattle.c_model.specs.Findings.{accesses}
 use Rattle.c_model.specs.Keys.{each_byte, by_bytes, all_by_bytes}
-use Rattle.finding_laws.specs.Footprints.{IsAmong, AreItems}
+use Rattle.finding_laws.specs.Footprints.{IsAmong}
 use Rattle.finding_laws.specs.Conflicts.{ConflictsAreTold, RacesAreTold}
 use Rattle.finding_laws.proofs.Bytes.{left_of, right_of, one_of}
 

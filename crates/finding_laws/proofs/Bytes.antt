@@ -32,18 +32,17 @@ use Rattle.std.proofs.Common.{
   arith,
   append_assoc,
 }
-use Rattle.std.specs.Prelude.{◌↔◌, nat_lt, nat_le}
+use Rattle.std.specs.Prelude.{nat_lt, nat_le}
 use Rattle.std.proofs.lemmas.Bool.Decides.{nat_tests}
 use Rattle.ub_base.specs.Names.{same_object, same_event}
 use Rattle.ub_base.proofs.NameLemmas.{same_object_refl, same_object_is, same_event_refl, same_event_is}
 use Rattle.ub_base.specs.declared.names.ObjName.{ObjName}
 use Rattle.ub_base.specs.declared.names.Item.{Item}
 use Rattle.ub_base.specs.declared.names.Item.TheVariants.{Read, Write, Born, Dies, Alive, Expose, Lookup, Narrow, Input, Output, Ending, Any}
-use Rattle.footprint.specs.declared.foot.Foot.{Foot}
 use Rattle.footprint.specs.Holds.{holds, stands_for}
 use Rattle.footprint.specs.Ranges.{range_has}
 use Rattle.c_model.specs.Keys.{each_byte, by_bytes, all_by_bytes}
-use Rattle.finding_laws.specs.Footprints.{IsAmong, AreItems, IsWithin, EmptyIsNone, AddIsMore, UnionIsBoth}
+use Rattle.finding_laws.specs.Footprints.{IsAmong, IsWithin, EmptyIsNone, AddIsMore, UnionIsBoth}
 use Rattle.finding_laws.proofs.OneItem.{IsByte}
 
 pub left_of : (is js : List Item) (i : Item) → IsAmong is i → IsAmong (is ++ js) i

@@ -1,27 +1,5 @@
 -- Keys of names compare as the names do.
-use Rattle.std.proofs.Common.{
-  ◌≡◌,
-  ◌<◌,
-  ℕ,
-  zero,
-  suc,
-  Bool,
-  true,
-  false,
-  cond,
-  ◌&&◌,
-  ◌||◌,
-  List,
-  [],
-  ◌∷◌,
-  ◌++◌,
-  reverse,
-  refl,
-  sym,
-  ap,
-  ◌∙◌,
-  arith,
-}
+use Rattle.std.proofs.Common.{◌≡◌, ℕ, suc, Bool, true, false, cond, ◌&&◌, ◌||◌, List, [], ◌∷◌, ◌++◌, reverse, refl, sym, ap, ◌∙◌, arith}
 use mathlib.Core.List.{reverse-cons, append-nil}
 use Rattle.std.specs.Ordering.{nat_cmp, ordering_then, is_lt}
 use Rattle.std.specs.declared.cmp.Ordering.{Ordering}

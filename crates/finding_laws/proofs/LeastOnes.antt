@@ -1,12 +1,10 @@
 -- The definition's search finds the least pair in the order of rows.
-use Rattle.std.proofs.Common.{◌≡◌, ◌⊎◌, inl, inr, ⊎_elim, Bool, true, false, cond, List, [], ◌∷◌, ◌++◌, refl, sym, ap, ◌∙◌, subst, Option, Some, None}
-use Rattle.std.specs.Ordering.{ordering_reverse, is_lt}
+use Rattle.std.proofs.Common.{◌≡◌, ◌⊎◌, inl, inr, ⊎_elim, Bool, true, false, cond, List, [], ◌∷◌, refl, sym, ap, ◌∙◌, subst, Option, Some, None}
+use Rattle.std.specs.Ordering.{ordering_reverse}
 use Rattle.std.specs.declared.cmp.Ordering.{Ordering}
 use Rattle.std.specs.declared.cmp.Ordering.TheVariants.{Less, Equal, Greater}
 use Rattle.ub_base.specs.declared.names.Item.{Item}
 use Rattle.ub_base.specs.Frames.{Row}
-use Rattle.footprint.specs.declared.foot.Foot.{Foot}
-use Rattle.footprint.specs.Holds.{holds}
 use Rattle.footprint.specs.Least.{pair_cmp, IsLeast}
 use Rattle.footprint.specs.Least as rows_order
 use Rattle.footprint.specs.Found.{ConflictIn}
@@ -14,10 +12,10 @@ use Rattle.footprint.proofs.LeastLemmas.{pair_total, both, alike, not_itself}
 use Rattle.c_model.specs.World.{World}
 use Rattle.c_model.specs.Runs.{Entry}
 use Rattle.c_model.specs.Findings.{clash}
-use Rattle.c_model.specs.Keys.{comes_first, item_key, lesser, least_beside, least_among, all_by_bytes, least_items}
+use Rattle.c_model.specs.Keys.{lesser, least_beside, least_among, all_by_bytes, least_items}
 use Rattle.finding_laws.specs.ItemOrder.{IsKnownItem}
-use Rattle.finding_laws.specs.Footprints.{IsAmong, AreItems}
-use Rattle.finding_laws.specs.LeastPairs.{AreKnown, LeastIsTold}
+use Rattle.finding_laws.specs.Footprints.{IsAmong}
+use Rattle.finding_laws.specs.LeastPairs.{LeastIsTold}
 use Rattle.finding_laws.proofs.Keys.{pairs_by}
 use Rattle.finding_laws.proofs.OneItem.{IsByte, pair_is}
 use Rattle.finding_laws.proofs.Bytes.{are_bytes}

@@ -1,5 +1,5 @@
 -- Known items that tie are one.
-use Rattle.std.proofs.Common.{◌≡◌, ℕ, ◌==◌, Bool, true, false, List, [], ◌∷◌, ◌++◌, reverse, refl, sym, ap, ◌∙◌, arith}
+use Rattle.std.proofs.Common.{◌≡◌, ℕ, List, [], ◌∷◌, reverse, refl, sym, ap, ◌∙◌, arith}
 use mathlib.Core.List.{reverse-reverse}
 use Rattle.std.specs.Ordering.{nat_cmp, ordering_then}
 use Rattle.std.specs.declared.cmp.Ordering.{Ordering}
@@ -17,7 +17,6 @@ use Rattle.c_names.specs.Orders.{step_cmp, steps_cmp, path_cmp, frame_cmp, event
 use Rattle.footprint.specs.Least.{item_cmp, pair_cmp}
 use Rattle.c_model.specs.World.{World}
 use Rattle.c_model.specs.Runs.{Entry}
-use Rattle.c_model.specs.Keys.{path_in}
 use Rattle.finding_laws.specs.ItemOrder.{IsKnown, IsKnownObject, IsKnownItem}
 
 -- an access of one byte, or no access

@@ -1,6 +1,5 @@
 -- Accesses of an object conflict with no item that has nothing to do with it.
 use Rattle.std.proofs.Common.{◌≡◌, ℕ, zero, suc, Bool, true, false, not, cond, ◌&&◌, ◌||◌, List, [], ◌∷◌, ◌++◌, refl, sym, ap, ◌∙◌, subst, Option, Some, None}
-use Rattle.std.specs.List.{list_all}
 use Rattle.ub_base.specs.declared.names.ObjName.{ObjName}
 use Rattle.ub_base.specs.declared.names.Item.{Item}
 use Rattle.ub_base.specs.declared.names.Item.TheVariants.{Read, Write, Born, Dies, Alive, Expose, Lookup, Narrow, Input, Output, Ending, Any}
@@ -12,7 +11,7 @@ use Rattle.footprint.specs.Holds.{is_forgotten}
 use Rattle.c_model.specs.World.{World}
 use Rattle.c_model.specs.Runs.{Entry}
 use Rattle.c_model.specs.Findings.{clash}
-use Rattle.c_model.specs.Keys.{lesser, least_beside, least_among, each_byte, by_bytes, all_by_bytes, least_items}
+use Rattle.c_model.specs.Keys.{lesser, least_beside, least_among, each_byte, by_bytes, all_by_bytes}
 use Rattle.finding_laws.specs.Forgotten.{without, is_part_of, IsStrangeTo, ForgottenTellNothing}
 
 and_left : (p q : Bool) → p && q ≡ true → p ≡ true

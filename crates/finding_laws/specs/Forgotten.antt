@@ -1,11 +1,10 @@
 -- Accesses of an object that only one evaluation has to do with (own).
-use Rattle.std.specs.Prelude.{◌≡◌, Bool, true, false, not, ◌&&◌, List, [], ◌∷◌, if◌then◌else◌}
+use Rattle.std.specs.Prelude.{◌≡◌, Bool, true, false, not, List, [], ◌∷◌, if◌then◌else◌}
 use Rattle.std.specs.List.{list_all}
 use Rattle.ub_base.specs.declared.names.ObjName.{ObjName}
 use Rattle.ub_base.specs.declared.names.Item.{Item}
 use Rattle.ub_base.specs.declared.names.Item.TheVariants.{Read, Write, Born, Dies, Alive}
 use Rattle.ub_base.specs.Names.{same_object}
-use Rattle.addr_map.specs.declared.map.Row.{Row}
 use Rattle.addr_map.specs.Conflict.{some_conflict}
 use Rattle.footprint.specs.Holds.{is_forgotten}
 use Rattle.c_model.specs.World.{World}
