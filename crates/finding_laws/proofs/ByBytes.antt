@@ -1,5 +1,33 @@
 -- Two items conflict exactly where a byte of one conflicts with a byte of the other.
-use Rattle.std.proofs.Common.{◌≡◌, ◌⊎◌, inl, inr, ⊎_elim, ◌≤◌, ◌<◌, ◌+◌, max, ℕ, zero, suc, Bool, true, false, cond, ◌&&◌, ◌||◌, List, [], ◌∷◌, ◌++◌, refl, sym, ap, ◌∙◌, arith}
+use Rattle.std.proofs.Common.{
+  ◌≡◌,
+  ◌⊎◌,
+  inl,
+  inr,
+  ⊎_elim,
+  ◌≤◌,
+  ◌<◌,
+  ◌+◌,
+  max,
+  ℕ,
+  zero,
+  suc,
+  Bool,
+  true,
+  false,
+  cond,
+  ◌&&◌,
+  ◌||◌,
+  List,
+  [],
+  ◌∷◌,
+  ◌++◌,
+  refl,
+  sym,
+  ap,
+  ◌∙◌,
+  arith,
+}
 use Rattle.std.proofs.lemmas.Bool.Decides.{nat_tests}
 use Rattle.ub_base.specs.Names.{same_object}
 use Rattle.ub_base.specs.declared.names.ObjName.{ObjName}
@@ -186,7 +214,8 @@ access_bytes (Read x a n) p h = let k = each_at (λ c. Read x c 1) a n p h in ap
 access_bytes (Write x a n) p h = let k = each_at (λ c. Write x c 1) a n p h in ap is_access (sym k.3)
 access_bytes i p h = let e : i ≡ p = alone i p h in ap is_access (sym e)
 
-kept_by : (b : Bool) (i : Item) (is : List Item) (p : Item) → is_access i ≡ b → is_access p ≡ true → IsAmong (by_bytes i) p ⊎ IsAmong (all_by_bytes (accesses is)) p →
+kept_by : (b : Bool) (i : Item) (is : List Item) (p : Item) → is_access i ≡ b → is_access p ≡ true →
+    IsAmong (by_bytes i) p ⊎ IsAmong (all_by_bytes (accesses is)) p →
     IsAmong (all_by_bytes (cond b (i ∷ accesses is) (accesses is))) p
 kept_by true i is p e a h =
     ⊎_elim (λ one. left_of (by_bytes i) (all_by_bytes (accesses is)) p one) (λ more. right_of (by_bytes i) (all_by_bytes (accesses is)) p more) h

@@ -118,8 +118,12 @@ in_range : (x y : ObjName) (a n b m : ℕ) → a + n < 2 ^ 64 → (m == 1) && ra
     (x ≡ y) × (1 ≡ m) × (a ≤ b) × (b < a + n)
 in_range x y a n b m within h =
     let range = and_right (m == 1) _ h in
-    let bounds = and_right (same_object x y) _ range in
-    (same_object_is x y (and_left (same_object x y) _ range), one m (and_left (m == 1) _ h), below_by a b (and_left _ _ bounds), under b n (and_right _ _ bounds))
+    let bounds = and_right (same_object x y) _ range in (
+      same_object_is x y (and_left (same_object x y) _ range),
+      one m (and_left (m == 1) _ h),
+      below_by a b (and_left _ _ bounds),
+      under b n (and_right _ _ bounds),
+    )
   where
     one : (k : ℕ) → (k == 1) ≡ true → 1 ≡ k
     one k e = grind (arith, nat_tests)
