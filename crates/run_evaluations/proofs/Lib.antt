@@ -1,1 +1,3 @@
+pub mod ClashLemmas
 pub mod KeepLemmas
+pub mod TouchedLemmas

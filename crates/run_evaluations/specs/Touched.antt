@@ -1,8 +1,10 @@
 -- What the events of the log have touched, item by item, each access a byte at a time (own).
 use Rattle.std.specs.Prelude.{ℕ, zero, suc, ◌+◌, ◌-◌, Bool, true, false, not, ◌&&◌, ◌||◌, List, Option, Some, None, Box, slice_get, length}
+use Rattle.std.specs.Global.{Global}
 use Rattle.ub_base.specs.declared.clause.Kind.{Kind}
 use Rattle.ub_base.specs.declared.clause.Kind.TheVariants.{Val, Eff, Body}
 use Rattle.ub_base.specs.declared.names.Item.{Item}
+use Rattle.footprint.specs.declared.foot.Foot.{Foot}
 use Rattle.footprint.specs.Holds.{holds, stands_for}
 use Rattle.run_evaluations.specs.declared.log.Logged.{Logged}
 use Rattle.run_evaluations.specs.declared.log.Segment.{Segment}
@@ -23,7 +25,7 @@ abbrev pub event_has : List Item → Option Logged → Item → Bool
 event_has items None j = false
 event_has items (Some e) j = touched items e.from (e.to - e.from) j || body_has e.foot j
   where
-    body_has : Option Box → Item → Bool
+    body_has : Option (Box Foot Global) → Item → Bool
     body_has None j = false
     body_has (Some b) j = holds b.value j
 

@@ -1,15 +1,15 @@
 // The least conflicting pair of events, sought once where a conflict is known.
-ghost use Rattle.std.specs.Prelude.{◌≡◌, ◌≢◌, ◌-◌, ◌||◌, ◌↔◌, IfOk, IfSome, IfNone, OnOk, IsTrue, None, true, slice_get};
+ghost use Rattle.std.specs.Prelude.{◌≡◌, ◌≢◌, ◌⊎◌, ◌-◌, ◌&&◌, ◌||◌, ◌↔◌, IfOk, IfSome, IfNone, OnOk, IsTrue, None, Some, true, slice_get};
 ghost use Rattle.ub_base.specs.declared.clause.Kind.TheVariants.{Body};
 ghost use Rattle.ub_base.specs.declared.names.Item.{Item};
 ghost use Rattle.addr_map.specs.Conflict.{is_access};
 ghost use Rattle.footprint.specs.Conflicts.{MayConflict};
-ghost use Rattle.run_evaluations.specs.declared.search.Sought.TheVariants.{Races};
+ghost use Rattle.run_evaluations.specs.declared.search.Sought.TheVariants.{Any, Races};
 ghost use Rattle.footprint.specs.Holds.{holds};
 ghost use Rattle.footprint.specs.Least.{IsLeast};
 ghost use Rattle.run_evaluations.specs.Clashes.{Clash, SomeClash, NoClash};
 ghost use Rattle.run_evaluations.specs.FoundItems.{ItemsConflict};
-ghost use Rattle.run_evaluations.specs.Touched.{touched, event_has, is_sought, range_has, start_of};
+ghost use Rattle.run_evaluations.specs.Touched.{some_stands, touched, event_has, is_sought, range_has, start_of};
 
 use crate::found::{Found, first_of};
 use crate::open::{Evaluations, named};
@@ -32,7 +32,7 @@ pub enum Sought {
 }
 
 fn meet(under: Under<'_>, sought: Sought, a: &Foot, b: &Foot) -> bool
-    ensures { IsTrue result ↔ SomeClash sought under.map.now (holds a.now) (holds b.now) }
+    ensures { IsTrue result ↔ SomeClash sought under.entry.map.now (holds a.now) (holds b.now) }
 {
     match sought {
         Sought::Races => races(a, b),
@@ -44,7 +44,7 @@ fn meet(under: Under<'_>, sought: Sought, a: &Foot, b: &Foot) -> bool
 pub fn least_items(under: Under<'_>, sought: Sought, a: &Foot, b: &Foot) -> Option<(Item, Item)>
     ensures may { IfSome result (λ p. MayConflict p.0 p.1) }
     ensures races { sought ≡ Races → IfSome result (λ p. (is_access p.0 ≡ true) × (is_access p.1 ≡ true)) }
-    ensures least { IsLeast under.frames.now (Clash sought under.map.now (holds a.now) (holds b.now)) result }
+    ensures least { IsLeast under.entry.frames.now (Clash sought under.entry.map.now (holds a.now) (holds b.now)) result }
 {
     match sought {
         Sought::Races => access_pair(under.frames, a, b),
@@ -73,10 +73,8 @@ impl Evaluations {
     }
 
     pub(crate) fn add_event(&self, foot: &mut Foot, at: usize) -> Result<(), NoMemory>
-        ensures {
-            OnOk result
-            ((i : Item) → holds foot.new i ≡ (holds foot.old i || event_has self.now.items.items (slice_get self.now.events.items at) i))
-        }
+        ensures { OnOk result
+            ((i : Item) → holds foot.new i ≡ (holds foot.old i || event_has self.now.items.items (slice_get self.now.events.items at) i)) }
     {
         let Some(event) = self.events.get(at) else {
             return Ok(());
@@ -94,11 +92,22 @@ impl Evaluations {
     {
         let mut foot = Foot::new(self.alloc);
         for at in from..to {
-            if self.is_sought(sought, at) {
-                self.add_event(&mut foot, at)?;
-            }
+            self.add_sought(sought, at, &mut foot)?;
         }
         Ok(foot)
+    }
+
+    // Adds the items of the event, if it is sought.
+    fn add_sought(&self, sought: Sought, at: usize, foot: &mut Foot) -> Result<(), NoMemory>
+        ensures { OnOk result
+            ((i : Item) → holds foot.new i ≡ (holds foot.old i || (is_sought sought (slice_get self.now.events.items at) &&
+            event_has self.now.items.items (slice_get self.now.events.items at) i))) }
+    {
+        if self.is_sought(sought, at) {
+            self.add_event(foot, at)
+        } else {
+            Ok(())
+        }
     }
 
     fn is_sought(&self, sought: Sought, at: usize) -> bool
@@ -195,28 +204,46 @@ impl Evaluations {
         range: (usize, usize),
         foot: &Foot,
     ) -> Result<Option<usize>, NoMemory>
-        ensures none {
-            IfOk result
+        ensures none { IfOk result
             (λ r. IfNone r
-            (NoClash sought under.map.now (range_has self.now.events.items self.now.items.items sought range.0 (range.1 - range.0)) (holds foot.now)))
-        }
-        ensures some {
-            IfOk result
+            (NoClash sought under.entry.map.now (range_has self.now.events.items self.now.items.items sought range.0 (range.1 - range.0)) (holds foot.now))) }
+        ensures some { IfOk result
             (λ r. IfSome r
             (λ at. (is_sought sought (slice_get self.now.events.items at) ≡ true) ×
-                SomeClash sought under.map.now (event_has self.now.items.items (slice_get self.now.events.items at)) (holds foot.now)))
-        }
+            SomeClash sought under.entry.map.now (event_has self.now.items.items (slice_get self.now.events.items at)) (holds foot.now))) }
     {
         let mut best = None;
         for at in range.0..range.1 {
-            if self.is_sought(sought, at) && self.comes_before(at, best) {
-                let own = self.event_foot(at)?;
-                if meet(under, sought, &own, foot) {
-                    best = Some(at);
-                }
-            }
+            best = self.lesser_meeting(under, sought, at, best, foot)?;
         }
         Ok(best)
+    }
+
+    // This event, where it is sought, meets the set and comes before the best one so far, which else stays.
+    fn lesser_meeting(
+        &self,
+        under: Under<'_>,
+        sought: Sought,
+        at: usize,
+        best: Option<usize>,
+        foot: &Foot,
+    ) -> Result<Option<usize>, NoMemory>
+        ensures none { IfOk result
+            (λ r. r ≡ None → (best ≡ None) × (is_sought sought (slice_get self.now.events.items at) ≡ true →
+            NoClash sought under.entry.map.now (event_has self.now.items.items (slice_get self.now.events.items at)) (holds foot.now))) }
+        ensures some { IfOk result
+            (λ r. (r ≡ best) ⊎ ((r ≡ Some at) × (is_sought sought (slice_get self.now.events.items at) ≡ true) ×
+            SomeClash sought under.entry.map.now (event_has self.now.items.items (slice_get self.now.events.items at)) (holds foot.now))) }
+    {
+        if !self.is_sought(sought, at) || !self.comes_before(at, best) {
+            return Ok(best);
+        }
+        let own = self.event_foot(at)?;
+        if meet(under, sought, &own, foot) {
+            Ok(Some(at))
+        } else {
+            Ok(best)
+        }
     }
 
     // Whether the event comes before this one, by node and kind, or there is none.
@@ -235,7 +262,8 @@ impl Evaluations {
     fn found(&self, sought: Sought, a: usize, b: usize, items: (Item, Item)) -> Option<Found>
         requires may { MayConflict items.0 items.1 }
         requires races { sought ≡ Races → (is_access items.0 ≡ true) × (is_access items.1 ≡ true) }
-        ensures { ItemsConflict result }
+        ensures conflict { ItemsConflict result }
+        ensures none { IfNone result ((slice_get self.now.events.items a ≡ None) ⊎ (slice_get self.now.events.items b ≡ None)) }
     {
         let place = self.place();
         match (self.events.get(a), self.events.get(b)) {
@@ -256,7 +284,11 @@ impl Evaluations {
         a: usize,
         b: usize,
     ) -> Result<Option<Found>, NoMemory>
-        ensures { IfOk result ItemsConflict }
+        ensures conflict { IfOk result ItemsConflict }
+        ensures none { IfOk result
+            (λ r. IfNone r
+            (NoClash Any under.entry.map.now (event_has self.now.items.items (slice_get self.now.events.items a))
+            (event_has self.now.items.items (slice_get self.now.events.items b)))) }
     {
         let foot_a = self.event_foot(a)?;
         let foot_b = self.event_foot(b)?;
@@ -296,9 +328,17 @@ fn add_range(items: &[Item], from: usize, to: usize, foot: &mut Foot) -> Result<
     ensures { OnOk result ((i : Item) → holds foot.new i ≡ (holds foot.old i || touched items.now from (to - from) i)) }
 {
     for at in from..to {
-        if let Some(item) = items.get(at) {
-            foot.add(*item)?;
-        }
+        add_at(items, at, foot)?;
     }
     Ok(())
+}
+
+// Adds an item of a list, if there is one at this place.
+fn add_at(items: &[Item], at: usize, foot: &mut Foot) -> Result<(), NoMemory>
+    ensures { OnOk result ((i : Item) → holds foot.new i ≡ (holds foot.old i || some_stands (slice_get items.now at) i)) }
+{
+    match items.get(at) {
+        Some(item) => foot.add(*item),
+        None => Ok(()),
+    }
 }
