@@ -28,8 +28,6 @@ mod specifiers;
 #[cfg(test)]
 mod statements;
 #[cfg(test)]
-mod static_reports;
-#[cfg(test)]
 mod tables;
 #[cfg(test)]
 mod tokens;

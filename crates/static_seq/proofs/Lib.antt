@@ -1,4 +1,0 @@
-pub mod Grown
-pub mod Own
-pub mod Sparing
-pub mod Steps

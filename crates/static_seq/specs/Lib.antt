@@ -1,5 +1,0 @@
-pub mod Expressions
-pub mod Accesses
-pub mod Choices
-pub mod Parted
-pub mod Verdicts
