@@ -3,6 +3,5 @@
 
 mod engine;
 mod explain;
-mod written;
 
 pub use engine::Engine;

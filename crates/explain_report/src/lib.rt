@@ -7,5 +7,3 @@ mod found;
 
 pub use asked::Asked;
 pub use explain::{explanation, explanation_json};
-pub use explain_page::Written;
-pub use explain_places::{FileName, next_file};

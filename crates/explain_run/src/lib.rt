@@ -4,7 +4,6 @@
 
 mod again;
 mod moment;
-mod nulls;
 mod opened;
 mod replay;
 mod trail;
