@@ -5,11 +5,12 @@ ghost use Rattle.audit_top.specs.Cause.{stopped};
 ghost use Rattle.audit_top.specs.Report.{report, status};
 ghost use Rattle.audit_engine.specs.Engine.{Explained, Explains, IsJudgedPage, IsPage, IsPageOf, is_untold};
 
+use crate::written::written_of;
 use addr_map::Mode;
 use audit_sources::{FetchFault, Sources, fetch_sources};
 use audit_top::{Answer, judged, stopped};
 use command::ExplainRequest;
-use explain_report::{Asked, explanation, explanation_json};
+use explain_report::{Asked, Written, explanation, explanation_json};
 use person_top::Page;
 use std::alloc::Global;
 use ub_base::{Bytes, Files, NoMemory};
@@ -59,6 +60,7 @@ fn explained_as(alloc: Global, is_json: bool, asked: &Asked<'_>) -> Result<Bytes
 fn asked<'a>(
     request: &'a ExplainRequest<'_>,
     sources: &'a Sources,
+    written: &'a [Written],
     report: &'a [u8],
     status: u8,
 ) -> Asked<'a>
@@ -69,6 +71,7 @@ fn asked<'a>(
     Asked {
         text: sources.text.as_slice(),
         file: request.audit.file.as_bytes(),
+        written,
         input: sources.input.as_slice(),
         args: &request.audit.args,
         mode: mode_of(request.audit.is_tight),
@@ -90,6 +93,7 @@ fn page_text(
     alloc: Global,
     request: &ExplainRequest<'_>,
     sources: &Sources,
+    written: &[Written],
     report: Bytes,
     status: u8,
 ) -> Result<Bytes, NoMemory>
@@ -100,7 +104,7 @@ fn page_text(
     if is_untold(status) {
         return Ok(report);
     }
-    let asked = asked(request, sources, report.as_slice(), status);
+    let asked = asked(request, sources, written, report.as_slice(), status);
     explained_as(alloc, request.is_json, &asked)
 }
 
@@ -109,6 +113,7 @@ fn page_of(
     alloc: Global,
     request: &ExplainRequest<'_>,
     sources: &Sources,
+    written: &[Written],
     answer: &Answer,
 ) -> Result<Page, NoMemory>
     requires text { length sources.now.text ≤ 2 ^ 20 }
@@ -119,7 +124,7 @@ fn page_of(
     let report = answer.report(alloc)?;
     Ok(Page {
         status,
-        text: page_text(alloc, request, sources, report, status)?,
+        text: page_text(alloc, request, sources, written, report, status)?,
     })
 }
 
@@ -128,6 +133,7 @@ fn judged_page<F: Files>(
     alloc: Global,
     request: &ExplainRequest<'_>,
     sources: &Sources,
+    written: &[Written],
     files: &mut F,
 ) -> Result<Page, NoMemory>
     requires text { length sources.now.text ≤ 2 ^ 20 }
@@ -137,7 +143,7 @@ fn judged_page<F: Files>(
     ensures held { F.held files.new ≡ F.held files.old }
 {
     let answer = judged(alloc, &request.audit, sources, files);
-    page_of(alloc, request, sources, &answer)
+    page_of(alloc, request, sources, written, &answer)
 }
 
 // The page where a file isn't fetched: the report alone.
@@ -150,6 +156,23 @@ fn stopped_page(alloc: Global, fault: FetchFault) -> Result<Page, NoMemory>
         status: answer.status(),
         text: answer.report(alloc)?,
     })
+}
+
+// The files that the text was made of; none where lines are asked for as the text has them.
+fn written_for<F: Files>(
+    alloc: Global,
+    request: &ExplainRequest<'_>,
+    sources: &Sources,
+    files: &mut F,
+) -> Result<Vec<Written>, NoMemory>
+    ensures held { F.held files.new ≡ F.held files.old }
+    ensures writes { F.write_faults files.new ≡ F.write_faults files.old }
+{
+    if request.is_text {
+        Ok(Vec::new(alloc))
+    } else {
+        written_of(alloc, sources.text.as_slice(), files)
+    }
 }
 
 /// The page of a request.
@@ -166,7 +189,10 @@ pub fn explained<F: Files>(
     ensures held { F.held files.new ≡ F.held files.old }
 {
     match fetch_sources(alloc, request.audit.file, request.audit.input, files) {
-        Ok(sources) => judged_page(alloc, request, &sources, files),
+        Ok(sources) => {
+            let written = written_for(alloc, request, &sources, files)?;
+            judged_page(alloc, request, &sources, written.as_slice(), files)
+        }
         Err(fault) => stopped_page(alloc, fault),
     }
 }

@@ -3,5 +3,6 @@
 
 mod engine;
 mod explain;
+mod written;
 
 pub use engine::Engine;

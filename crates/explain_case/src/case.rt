@@ -30,6 +30,8 @@ pub struct Case<'c, 'a> {
     pub trail: &'c Trail,
     /// What was done to the object that the pointer there points to.
     pub target: &'c Trail,
+    /// What was done to the object whose value was copied last to the bytes that are touched.
+    pub origin: &'c Trail,
     pub first: Option<Act<'c>>,
     pub second: Option<Act<'c>>,
     /// The call of the program that led into a header of the library, where the finding stands in one.

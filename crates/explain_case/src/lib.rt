@@ -15,8 +15,8 @@ pub use calls::{end_of, library_call, put_calls, sites_of};
 pub use case::{Act, Case, first_act, second_act, sought_of};
 pub use format::{Mismatch, Taken, mismatch_of, printing, put_mismatch, put_taken};
 pub use objects::{
-    NamedObject, elements, naming, place_of, put_accessed, put_by, put_object, put_object_type,
-    put_subject, size_of, storage_of, subject, subject_name,
+    NamedObject, elements, naming, origin_naming, place_of, put_accessed, put_by, put_object,
+    put_object_type, put_subject, size_of, storage_of, subject, subject_name,
 };
 pub use page::{put_tokens, put_words_and};
 pub use text::{put_a_type, put_function, put_integer, put_tree, token_at};

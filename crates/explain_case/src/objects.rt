@@ -127,6 +127,11 @@ pub fn naming<'c>(case: &Case<'c, '_>, object: ObjName, trail: &Trail) -> Option
     }
 }
 
+/// How the text names the object whose value was copied last to the bytes that are touched.
+pub fn origin_naming<'c>(case: &Case<'c, '_>) -> Option<NamedObject<'c>> {
+    naming(case, case.trail.source?, case.origin)
+}
+
 // Adds what an evaluation accesses: its name, or the tokens of the expression.
 pub fn put_accessed(out: &mut Bytes, case: &Case<'_, '_>, act: &Act<'_>) -> Result<(), NoMemory> {
     match &act.tree.node {

@@ -2,13 +2,13 @@
 
 use crate::accesses::last_store;
 use crate::case::{Act, Case};
-use crate::objects::{naming, place_of, put_subject, subject};
-use crate::text::{put_a_type, put_integer, put_tree, token_at};
+use crate::objects::{NamedObject, naming, origin_naming, place_of, put_subject, subject};
+use crate::text::{put_a_type, put_function, put_integer, put_tree, token_at};
 use c_typed::{Node, Typed};
 use c_types::{BinOp, IntKind};
-use explain_facts::{Aim, Shown, operand_number};
+use explain_facts::{Aim, Shown, Touch, operand_number};
 use explain_page::{put_number, put_type};
-use explain_places::token_of;
+use explain_places::{declaration_of, token_of};
 use ub_base::{Bytes, Clause, NoMemory, ObjName};
 
 /// Two operands and their values.
@@ -247,20 +247,65 @@ fn put_read_bytes(out: &mut Bytes, case: &Case<'_, '_>, act: &Act<'_>) -> Result
     put_integer(out, last_byte(byte, extent.size))
 }
 
+// Whether the object that is touched was initialized by its last store.
+fn is_initialized(case: &Case<'_, '_>) -> bool {
+    match last_store(case) {
+        Some(stored) => matches!(
+            &stored.node,
+            Node::Assign {
+                initializing: true,
+                ..
+            }
+        ),
+        None => false,
+    }
+}
+
+// Adds where a store stands.
+fn put_stored(out: &mut Bytes, case: &Case<'_, '_>, touch: Touch) -> Result<(), NoMemory> {
+    if is_initialized(case) {
+        return out.append(b" there");
+    }
+    match token_at(case, touch.opened, touch.node) {
+        Some(token) => {
+            out.append(b" at ")?;
+            case.page.put_token_place(out, token)
+        }
+        None => Ok(()),
+    }
+}
+
+// Adds the object that was copied.
+fn put_origin(
+    out: &mut Bytes,
+    case: &Case<'_, '_>,
+    named: NamedObject<'_>,
+) -> Result<(), NoMemory> {
+    let page = case.page;
+    out.append(b", from ")?;
+    out.append(page.spelling(named.name))?;
+    out.append(b" of ")?;
+    put_function(out, page, named.name)?;
+    if let Some(at) = declaration_of(page.tokens, named.name) {
+        out.append(b" (")?;
+        page.put_token_place(out, at)?;
+        out.push(b')')?;
+    }
+    out.append(b", which had no value there either")
+}
+
 // Adds why what is read has no value.
 fn put_unset(out: &mut Bytes, case: &Case<'_, '_>) -> Result<(), NoMemory> {
-    match case.trail.stored {
-        None => out.append(b"never stored"),
-        Some(touch) => {
-            out.append(b"never stored: ")?;
-            put_subject(out, case)?;
-            out.append(b" was stored whole")?;
-            if let Some(token) = token_at(case, touch.opened, touch.node) {
-                out.append(b" at ")?;
-                case.page.put_token_place(out, token)?;
-            }
-            out.append(b", from what had no value there either")
-        }
+    let Some(touch) = case.trail.stored else {
+        return out.append(b"never stored");
+    };
+    out.append(b"never stored: ")?;
+    put_subject(out, case)?;
+    out.append(b" was stored whole")?;
+    put_stored(out, case, touch)?;
+    match origin_naming(case) {
+        Some(named) => put_origin(out, case, named),
+        None => out.append(b", from what had no value there either"),
     }
 }
 

@@ -92,16 +92,26 @@ pub struct Named {
     pub last: u32,
 }
 
-/// What a run does to the bytes of an object: who touched them, and who stored to them last; where the object was born and
-/// ended, and how the text names it; and what ended the program.
+/// A call of malloc, calloc or realloc that gave null for so many bytes, which are above what one allocation gives.
+#[derive(Clone, Copy, Debug, PartialEq, Eq)]
+pub struct Unallocated {
+    pub touch: Touch,
+    pub size: u128,
+}
+
+/// What a run does to the bytes of an object: who touched them, who stored to them last, and which object was read last before
+/// that, where so many bytes of it were; where the object was born and ended, and how the text names it; and what ended the
+/// program, and the first allocation that gave null at a limit.
 #[derive(Drop)]
 pub struct Trail {
     pub touches: Vec<Touch>,
     pub stored: Option<Touch>,
+    pub source: Option<ObjName>,
     pub born: Option<Touch>,
     pub died: Option<Touch>,
     pub named: Option<Named>,
     pub ending: Option<Touch>,
+    pub unallocated: Option<Unallocated>,
 }
 
 impl Trail {
@@ -110,10 +120,12 @@ impl Trail {
         Trail {
             touches: Vec::new(alloc),
             stored: None,
+            source: None,
             born: None,
             died: None,
             named: None,
             ending: None,
+            unallocated: None,
         }
     }
 }

@@ -8,6 +8,8 @@ mod node;
 mod verdict;
 
 pub use calls::{CallSite, calls_of};
-pub use facts::{Aim, Moment, Named, Opened, Outcome, Shown, Sought, Touch, Trail, is_within};
+pub use facts::{
+    Aim, Moment, Named, Opened, Outcome, Shown, Sought, Touch, Trail, Unallocated, is_within,
+};
 pub use node::{apart, common, node_at, operand_number, parent_of, root_with, tree_at};
 pub use verdict::{Events, Found, Verdict};

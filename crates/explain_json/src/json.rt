@@ -9,7 +9,7 @@ use explain_facts::{CallSite, Touch, Verdict};
 use explain_notes::{Marked, marks_of, notes_of, put_head, shown_first, told_at};
 use explain_page::{Page, Stretch, empty, put_number, put_type};
 use explain_places::{declaration_of, function_of, token_of};
-use explain_refusal::{Refusal, Rule, put_said, refusal_notes};
+use explain_refusal::{Refusal, Rule, does_of, put_said, refusal_notes};
 use serde_json::{Map, Value, put};
 use std::alloc::Global;
 use ub_base::{Bytes, Frame, Item, NoMemory, ObjName};
@@ -69,16 +69,11 @@ fn put_count(alloc: Global, map: &mut Members, name: &str, count: u64) -> Result
 }
 
 // A file, a line and a column.
-fn place_value(
-    alloc: Global,
-    page: &Page<'_, '_>,
-    at: usize,
-    line: u32,
-) -> Result<Value, NoMemory> {
+fn place_value(alloc: Global, file: &[u8], line: u32, column: usize) -> Result<Value, NoMemory> {
     let mut items = Vec::new(alloc);
-    items.push(text_value(alloc, page.file_at(at))?)?;
+    items.push(text_value(alloc, file)?)?;
     items.push(Value::from(line))?;
-    items.push(Value::from(page.column(at)))?;
+    items.push(Value::from(column))?;
     Ok(Value::Array(items))
 }
 
@@ -90,8 +85,21 @@ fn put_place(
     place: (usize, u32),
 ) -> Result<(), NoMemory> {
     let (at, line) = place;
-    let value = place_value(alloc, page, at, line)?;
+    let value = place_value(alloc, page.file_at(at), line, page.column(at, line))?;
     put(map, alloc, name, value)?;
+    Ok(())
+}
+
+// Where a stretch ends, one behind its last byte.
+fn put_end(
+    alloc: Global,
+    map: &mut Members,
+    page: &Page<'_, '_>,
+    end: usize,
+    line: u32,
+) -> Result<(), NoMemory> {
+    let value = place_value(alloc, page.file_at(end), line, page.end_column(end, line))?;
+    put(map, alloc, "end", value)?;
     Ok(())
 }
 
@@ -156,7 +164,7 @@ fn stretch_members(
 ) -> Result<Members, NoMemory> {
     let mut map = Map::new(alloc);
     put_place(alloc, &mut map, "at", page, (stretch.start, stretch.line))?;
-    put_place(alloc, &mut map, "end", page, (stretch.end, stretch.line))?;
+    put_end(alloc, &mut map, page, stretch.end, stretch.line)?;
     put_text(alloc, &mut map, "does", does)?;
     Ok(map)
 }
@@ -177,7 +185,7 @@ fn put_operator(
         token_place(page, act.extent.operator),
     )?;
     let line = page.line(act.extent.last);
-    put_place(alloc, map, "end", page, (page.end(act.extent.last), line))
+    put_end(alloc, map, page, page.end(act.extent.last), line)
 }
 
 fn put_event(
@@ -504,9 +512,9 @@ pub fn put_report_json(alloc: Global, out: &mut Bytes, of: Reported<'_>) -> Resu
     put_map(alloc, out, map)
 }
 
-fn refused_notes(alloc: Global, refusal: &Refusal) -> Result<Value, NoMemory> {
+fn refused_notes(alloc: Global, page: &Page<'_, '_>, refusal: &Refusal) -> Result<Value, NoMemory> {
     let mut values = Vec::new(alloc);
-    let notes = refusal_notes(alloc, refusal)?;
+    let notes = refusal_notes(alloc, page, refusal)?;
     for note in notes.iter() {
         values.push(note_value(alloc, note.name.as_bytes(), note.text.as_slice())?)?;
     }
@@ -514,8 +522,11 @@ fn refused_notes(alloc: Global, refusal: &Refusal) -> Result<Value, NoMemory> {
 }
 
 fn refusal_marks(alloc: Global, page: &Page<'_, '_>, refusal: &Refusal) -> Result<Value, NoMemory> {
-    let mut mark = stretch_members(alloc, page, &refusal.stretch, refusal.does.as_bytes())?;
-    if let Some(ty) = refusal.does.strip_prefix("a ") {
+    let does = does_of(alloc, page, refusal)?;
+    let mut mark = stretch_members(alloc, page, &refusal.stretch, does.as_slice())?;
+    if refusal.constant.is_some() {
+        put_text(alloc, &mut mark, "type", does.as_slice())?;
+    } else if let Some(ty) = refusal.does.strip_prefix("a ") {
         put_text(alloc, &mut mark, "type", ty.as_bytes())?;
     }
     let mut marks = Vec::new(alloc);
@@ -536,7 +547,7 @@ fn put_said_text(
 
 fn put_paragraph(alloc: Global, map: &mut Members, refusal: &Refusal) -> Result<(), NoMemory> {
     match (refusal.rule, refusal.paragraph) {
-        (Rule::LeftOut { .. }, _) | (_, None) => Ok(()),
+        (Rule::LeftOut(_), _) | (_, None) => Ok(()),
         (_, Some(paragraph)) => put_text(alloc, map, "clause", paragraph.as_bytes()),
     }
 }
@@ -550,7 +561,12 @@ pub fn put_refusal_json(
     refusal: &Refusal,
 ) -> Result<(), NoMemory> {
     let mut map = common(alloc, of)?;
-    put(&mut map, alloc, "notes", refused_notes(alloc, refusal)?)?;
+    put(
+        &mut map,
+        alloc,
+        "notes",
+        refused_notes(alloc, page, refusal)?,
+    )?;
     put(
         &mut map,
         alloc,

@@ -3,11 +3,11 @@
 use c_typed::{Node, Typed};
 use c_types::{IntKind, Ty};
 use explain_case::{
-    Act, Case, NamedObject, elements, is_write, mismatch_of, naming, pair_of, place_of, printing,
-    put_tree, subject, token_at,
+    Act, Case, NamedObject, elements, is_write, mismatch_of, naming, origin_naming, pair_of,
+    place_of, printing, put_tree, subject, token_at,
 };
 use explain_facts::parent_of;
-use explain_page::{put_number, put_type};
+use explain_page::{Page, put_excerpt, put_number, put_type};
 use explain_places::declaration_of;
 use explain_words::hint_of;
 use ub_base::{Bytes, Clause, Kind, NoMemory};
@@ -119,6 +119,16 @@ fn is_simple(tree: &Typed) -> bool {
     }
 }
 
+// Adds the text from one token to another one.
+fn put_between(
+    out: &mut Bytes,
+    page: &Page<'_, '_>,
+    first: u32,
+    last: u32,
+) -> Result<(), NoMemory> {
+    put_excerpt(out, page.between(page.start(first), page.end(last)))
+}
+
 // Adds a cast to long before the left operand.
 fn put_widened(out: &mut Bytes, case: &Case<'_, '_>, act: &Act<'_>) -> Result<(), NoMemory> {
     let (Node::Bin(_, IntKind::Int), Some(left), Some(right)) = (
@@ -131,12 +141,14 @@ fn put_widened(out: &mut Bytes, case: &Case<'_, '_>, act: &Act<'_>) -> Result<()
     if pair_of(case, act).is_none() || !is_simple(left) || !is_simple(right) {
         return put_words(out, "Widen an operand first, or test the operands before.");
     }
+    let page = case.page;
+    let extent = act.extent;
     put_words(out, "Widen an operand first: `(long)")?;
-    put_tree(out, case.page, left)?;
+    put_between(out, page, extent.first, extent.operator.saturating_sub(1))?;
     put_words(out, " ")?;
-    out.append(case.page.spelling(act.extent.operator))?;
+    out.append(page.spelling(extent.operator))?;
     put_words(out, " ")?;
-    put_tree(out, case.page, right)?;
+    put_between(out, page, extent.operator.saturating_add(1), extent.last)?;
     put_words(out, "`.")
 }
 
@@ -185,16 +197,18 @@ fn put_copied(out: &mut Bytes, case: &Case<'_, '_>, act: &Act<'_>) -> Result<(),
 
 // Adds how an object is given a value where it is declared.
 fn put_initialized(out: &mut Bytes, case: &Case<'_, '_>) -> Result<(), NoMemory> {
-    if case.trail.stored.is_some() {
-        return put_general(out, Clause::Indeterminate);
-    }
-    match subject(case) {
-        Some(object) => match naming(case, object, case.trail) {
-            Some(named) => put_declaration(out, case, named),
-            None => put_general(out, Clause::Indeterminate),
-        },
+    match unset_object(case) {
+        Some(named) => put_declaration(out, case, named),
         None => put_general(out, Clause::Indeterminate),
     }
+}
+
+// The object that was never given a value: the one that is read, or the one that was copied to it.
+fn unset_object<'c>(case: &Case<'c, '_>) -> Option<NamedObject<'c>> {
+    if case.trail.stored.is_some() {
+        return origin_naming(case);
+    }
+    naming(case, subject(case)?, case.trail)
 }
 
 fn is_whole(ty: &Ty) -> bool {

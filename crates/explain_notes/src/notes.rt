@@ -5,6 +5,7 @@ use crate::hints::put_hint;
 use c_typed::{Node, Typed};
 use explain_case::{
     Act, Case, is_behind, is_write, place_of, put_by, put_calls, put_object, put_values, subject,
+    token_at,
 };
 use explain_facts::{Outcome, Verdict, common};
 use explain_page::{empty, put_long_note, put_number};
@@ -306,7 +307,26 @@ fn put_ending(out: &mut Bytes, case: &Case<'_, '_>) -> Result<(), NoMemory> {
     }
 }
 
+// Adds which allocation gave null at a limit.
+fn put_null(out: &mut Bytes, case: &Case<'_, '_>) -> Result<(), NoMemory> {
+    let Some(null) = case.trail.unallocated else {
+        return Ok(());
+    };
+    let Some(token) = token_at(case, null.touch.opened, null.touch.node) else {
+        return Ok(());
+    };
+    out.append(case.page.spelling(token))?;
+    out.append(b" gave null at ")?;
+    case.page.put_token_place(out, token)?;
+    out.append(b": ")?;
+    put_number(out, u64::try_from(null.size).unwrap_or(u64::MAX))?;
+    out.append(b" bytes are above 1048576")
+}
+
 fn push_clean(alloc: Global, notes: &mut Vec<Note>, case: &Case<'_, '_>) -> Result<(), NoMemory> {
+    let mut limit = empty(alloc);
+    put_null(&mut limit, case)?;
+    push(notes, "limit", limit)?;
     let mut ended = empty(alloc);
     put_ending(&mut ended, case)?;
     push(notes, "ended", ended)?;

@@ -2,6 +2,7 @@
 ghost use Rattle.std.specs.Prelude.{◌≡◌, drop, take};
 
 use crate::shown::put_number;
+use crate::written::Written;
 use c_lex::Tokens;
 use explain_places::{Extent, FileName, column_of, file_of};
 use std::alloc::Global;
@@ -15,6 +16,8 @@ pub struct Page<'t, 'a> {
     pub tokens: &'t Tokens<'a>,
     /// Where the structures and unions are named, in the order of their numbers.
     pub tags: &'t [u32],
+    /// The files that the text was made of, as far as they were read.
+    pub written: &'t [Written],
 }
 
 /// A stretch of the text: from `start` up to but without `end`, its operator, and the line that it begins on, as the line
@@ -89,9 +92,33 @@ impl<'t, 'a> Page<'t, 'a> {
         }
     }
 
-    /// The column of this offset.
-    pub fn column(&self, at: usize) -> usize {
-        column_of(self.text, at)
+    /// The column of this offset, on this line: that in the written line, where it is known; of what a macro expands to, that of
+    /// the macro.
+    pub fn column(&self, at: usize, line: u32) -> usize {
+        match self.lined(at, line) {
+            Some(lined) => {
+                let start = match lined.begin_of(at) {
+                    Some(start) => start,
+                    None => lined.written_alone().start,
+                };
+                start.saturating_add(1)
+            }
+            None => column_of(self.text, at),
+        }
+    }
+
+    /// The column of the end of what stands on this line, one behind its last byte.
+    pub fn end_column(&self, end: usize, line: u32) -> usize {
+        match self.lined(end, line) {
+            Some(lined) => {
+                let end = match lined.end_of(end) {
+                    Some(end) => end,
+                    None => lined.written_alone().end,
+                };
+                end.saturating_add(1)
+            }
+            None => column_of(self.text, end),
+        }
     }
 
     /// Adds `FILE:LINE:COLUMN` of an offset on this line.
@@ -100,7 +127,7 @@ impl<'t, 'a> Page<'t, 'a> {
         out.push(b':')?;
         put_number(out, u64::from(line))?;
         out.push(b':')?;
-        put_number(out, self.column(at) as u64)
+        put_number(out, self.column(at, line) as u64)
     }
 
     /// Adds `FILE:LINE:COLUMN` of a token.

@@ -1,11 +1,13 @@
 // The program of a text whose lines are the numbers of tokens.
 ghost use Rattle.std.specs.Prelude.{◌≤◌, ◌^◌, length};
 
+use c_ast::Unit;
 use c_lex::{LexFault, Tokens, lex};
 use c_parse::{ParseFault, parse};
 use c_resolve::{TypeFault, resolve};
 use c_typed::{Program, height};
 use explain_places::{one_a_line, token_of};
+use parse_reason::{Reason as SyntaxReason, reason_of};
 use std::alloc::Global;
 use type_operators::Reason;
 use ub_base::{Bytes, NoMemory};
@@ -17,8 +19,8 @@ pub enum Refused {
     Stray(u32),
     OpenLiteral(u32),
     BadNumber(u32),
-    /// No program goes on with this token.
-    Syntax(u32),
+    /// No program goes on with this token; the count of tokens stands for the end.
+    Syntax(u32, SyntaxReason),
     /// What begins at this token breaks a constraint, or leaves the profile.
     NotTyped(u32, Reason),
     /// It is nested too deep, or is too long to be explained.
@@ -53,40 +55,34 @@ pub fn tokens_of<'a>(alloc: Global, text: &'a [u8]) -> Result<Tokens<'a>, Refuse
 
 const MOST: usize = 1_048_576;
 
-/// Whether these tokens spell a text, whatever it means; the first token with which none goes on, where they don't.
-pub fn reading_of(alloc: Global, text: &[u8]) -> Result<(), Refused> {
-    if text.len() > MOST {
-        return Err(Refused::TooDeep);
-    }
-    let tokens = tokens_of(alloc, text)?;
-    match parse(alloc, &tokens) {
-        Ok(_) => Ok(()),
-        Err(ParseFault::TooDeep(_)) => Err(Refused::TooDeep),
-        Err(ParseFault::Syntax(token)) => Err(Refused::Syntax(token)),
-        Err(ParseFault::NoMemory) => Err(Refused::NoMemory),
+// Why tokens that a parse has refused at this one spell no program.
+fn unspelled(alloc: Global, tokens: &Tokens<'_>, token: u32) -> Refused {
+    match reason_of(alloc, tokens, token) {
+        Ok(reason) => Refused::Syntax(token, reason),
+        Err(NoMemory) => Refused::NoMemory,
     }
 }
 
-fn typed(alloc: Global, tokens: &Tokens<'_>) -> Result<Program, Refused> {
-    let unit = match parse(alloc, tokens) {
-        Ok(unit) => unit,
-        Err(ParseFault::TooDeep(_)) => return Err(Refused::TooDeep),
-        Err(ParseFault::Syntax(token)) => return Err(Refused::Syntax(token)),
-        Err(ParseFault::NoMemory) => return Err(Refused::NoMemory),
-    };
-    match resolve(alloc, tokens, &unit) {
+fn typed(alloc: Global, tokens: &Tokens<'_>, unit: &Unit) -> Result<Program, Refused> {
+    match resolve(alloc, tokens, unit) {
         Ok(program) => Ok(program),
         Err(TypeFault::NotTyped { line, reason }) => Err(Refused::NotTyped(token_of(line), reason)),
         Err(TypeFault::NoMemory) => Err(Refused::NoMemory),
     }
 }
 
-fn typed_of(alloc: Global, text: &[u8]) -> Result<Program, Refused> {
+// The program of a text with a token a line, whose tokens stand in another text.
+fn typed_of(alloc: Global, text: &[u8], tokens: &Tokens<'_>) -> Result<Program, Refused> {
     if text.len() > MOST {
         return Err(Refused::TooDeep);
     }
-    let tokens = tokens_of(alloc, text)?;
-    typed(alloc, &tokens)
+    let lines = tokens_of(alloc, text)?;
+    match parse(alloc, &lines) {
+        Ok(unit) => typed(alloc, &lines, &unit),
+        Err(ParseFault::TooDeep(_)) => Err(Refused::TooDeep),
+        Err(ParseFault::Syntax(token)) => Err(unspelled(alloc, tokens, token)),
+        Err(ParseFault::NoMemory) => Err(Refused::NoMemory),
+    }
 }
 
 const MAX_HEIGHT: u32 = 1000;
@@ -94,7 +90,7 @@ const MAX_HEIGHT: u32 = 1000;
 /// The program of these tokens. Its lines are the numbers of tokens, and one more.
 pub fn program_of(alloc: Global, tokens: &Tokens<'_>) -> Result<Program, Refused> {
     let text = one_a_line(alloc, tokens)?;
-    let program = typed_of(alloc, text.as_slice())?;
+    let program = typed_of(alloc, text.as_slice(), tokens)?;
     if height(&program) > MAX_HEIGHT {
         return Err(Refused::TooDeep);
     }

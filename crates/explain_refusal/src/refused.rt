@@ -1,13 +1,13 @@
 // Texts that aren't run.
 ghost use Rattle.std.specs.Prelude.{◌≤◌, ◌^◌, length};
 
-use crate::lines::line_of;
-use crate::mended::{Mending, mended};
+use crate::constant::{Constant, put_constant_hint, put_constant_object, put_constant_type};
 use crate::program::Refused;
+use crate::syntax::unspelled;
 use crate::typing::not_typed;
-use c_lex::{Mark as Punct, TokenKind};
 use explain_page::{Mark, Page, Stretch, empty, put_excerpt, put_long_note, put_marks};
-use explain_words::{BIT_FIELD, LeftOut, WIDE, is_extension, kind_of, left_out};
+use explain_places::{definition_before, line_number};
+use parse_reason::{Part, kind_of, part_of_number};
 use std::alloc::Global;
 use ub_base::{Bytes, NoMemory};
 
@@ -24,17 +24,18 @@ pub struct Refusal {
     pub does: &'static str,
     pub rule: Rule,
     pub hint: Option<&'static str>,
+    /// What is const of an operand that is assigned to.
+    pub constant: Option<Constant>,
 }
 
 /// The rule of a refusal.
 #[derive(Clone, Copy, Debug, PartialEq, Eq)]
 pub enum Rule {
     Unsaid,
-    /// It is left out of the profile, and the paragraph has it.
-    LeftOut {
-        name: &'static str,
-        paragraph: &'static str,
-    },
+    /// It belongs to this part of C, or to what compilers add, which the profile leaves out.
+    LeftOut(Part),
+    /// A macro isn't expanded. Its definition stands at this offset, on this line.
+    Macro { at: usize, line: u32 },
     /// A constraint.
     Constraint(&'static str),
     /// A paragraph that is no constraint.
@@ -52,36 +53,77 @@ const WITHOUT: &str = "Audit the rest without it, or count in integers.";
 
 const WITHOUT_IT: &str = "Audit the rest without it.";
 
-/// A refusal of what is left out of the profile.
-pub fn of_left_out(found: LeftOut, stretch: Stretch, does: &'static str) -> Refusal {
-    Refusal {
-        verdict: "outside the profile",
-        paragraph: Some(found.name),
-        quotes: true,
-        sentence: found.is,
-        stretch,
-        does,
-        rule: Rule::LeftOut {
-            name: found.name,
-            paragraph: found.paragraph,
-        },
-        hint: Some(if found.name == "floating types" {
-            WITHOUT
-        } else {
-            WITHOUT_IT
-        }),
+const UNSET: &str =
+    "With `-std=c11 -U__GNUC__` before the file, the preprocessor leaves out most of them.";
+
+fn hint_of(part: Part) -> &'static str {
+    match part {
+        Part::FloatingType | Part::FloatingConstant => WITHOUT,
+        Part::Word => UNSET,
+        _ => WITHOUT_IT,
     }
 }
 
-fn put_rule(out: &mut Bytes, rule: Rule) -> Result<(), NoMemory> {
+/// A refusal of what is left out of the profile.
+pub fn of_left_out(part: Part, stretch: Stretch, does: &'static str) -> Refusal {
+    Refusal {
+        verdict: "outside the profile",
+        paragraph: Some(part.name()),
+        quotes: true,
+        sentence: part.sentence(),
+        stretch,
+        does,
+        rule: Rule::LeftOut(part),
+        hint: Some(hint_of(part)),
+        constant: None,
+    }
+}
+
+/// A refusal of a name that stands for a macro, which isn't expanded.
+pub fn macro_refusal(page: &Page<'_, '_>, verdict: &'static str, name: u32) -> Refusal {
+    let stretch = token_stretch(page, name);
+    let rule = match definition_before(page.text, page.spelling(name), stretch.start) {
+        Some(at) => Rule::Macro {
+            at,
+            line: line_number(page.text, at),
+        },
+        None => Rule::Unsaid,
+    };
+    Refusal {
+        verdict,
+        paragraph: Some("6.10.3p9"),
+        quotes: true,
+        sentence: "is a macro, and the text isn't preprocessed",
+        stretch,
+        does: "here",
+        rule,
+        hint: Some(PREPROCESS),
+        constant: None,
+    }
+}
+
+fn put_left_out(out: &mut Bytes, part: Part) -> Result<(), NoMemory> {
+    if part.is_extension() {
+        out.append(b"C11 hasn't it, and lets compilers add to it (")?;
+    } else {
+        out.append(b"C has it (")?;
+    }
+    out.append(part.paragraph().as_bytes())?;
+    out.append(b"); this tool reads no ")?;
+    out.append(part.name().as_bytes())?;
+    out.append(b" (PROFILE.md, Left out). Nothing was run.")
+}
+
+fn put_rule(out: &mut Bytes, page: &Page<'_, '_>, rule: Rule) -> Result<(), NoMemory> {
     match rule {
         Rule::Unsaid => Ok(()),
-        Rule::LeftOut { name, paragraph } => {
-            out.append(b"C has it (")?;
-            out.append(paragraph.as_bytes())?;
-            out.append(b"); this tool reads no ")?;
-            out.append(name.as_bytes())?;
-            out.append(b" (PROFILE.md, Left out). Nothing was run.")
+        Rule::LeftOut(part) => put_left_out(out, part),
+        Rule::Macro { at, line } => {
+            out.append(b"#define at ")?;
+            page.put_place(out, at, line)?;
+            out.append(
+                b" defines it; its text takes its place before a program is read. Nothing was run.",
+            )
         }
         Rule::Broken(paragraph) => {
             out.append(paragraph.as_bytes())?;
@@ -94,12 +136,50 @@ fn put_rule(out: &mut Bytes, rule: Rule) -> Result<(), NoMemory> {
     }
 }
 
+// Adds what only the tokens of a const operand tell.
+fn add_constant(
+    alloc: Global,
+    notes: &mut Vec<Saying>,
+    page: &Page<'_, '_>,
+    constant: Constant,
+) -> Result<(), NoMemory> {
+    let mut object = empty(alloc);
+    put_constant_object(&mut object, page, constant)?;
+    notes.push(Saying {
+        name: "object",
+        text: object,
+    })?;
+    let rule = Bytes::from_slice(alloc, ASSIGNED)?;
+    notes.push(Saying {
+        name: "rule",
+        text: rule,
+    })?;
+    let mut hint = empty(alloc);
+    put_constant_hint(&mut hint, page, constant)?;
+    notes.push(Saying {
+        name: "hint",
+        text: hint,
+    })?;
+    Ok(())
+}
+
+const ASSIGNED: &[u8] =
+    b"6.5.16p2, a constraint: only a modifiable lvalue is assigned to. Every compiler has to say so. Nothing was run.";
+
 /// The notes of a refusal.
-pub fn refusal_notes(alloc: Global, refusal: &Refusal) -> Result<Vec<Saying>, NoMemory> {
+pub fn refusal_notes(
+    alloc: Global,
+    page: &Page<'_, '_>,
+    refusal: &Refusal,
+) -> Result<Vec<Saying>, NoMemory> {
     let mut notes = Vec::new(alloc);
+    if let Some(constant) = refusal.constant {
+        add_constant(alloc, &mut notes, page, constant)?;
+        return Ok(notes);
+    }
     if refusal.rule != Rule::Unsaid {
         let mut text = empty(alloc);
-        put_rule(&mut text, refusal.rule)?;
+        put_rule(&mut text, page, refusal.rule)?;
         notes.push(Saying { name: "rule", text })?;
     }
     if let Some(hint) = refusal.hint {
@@ -142,11 +222,27 @@ fn put_line(out: &mut Bytes, page: &Page<'_, '_>, refusal: &Refusal) -> Result<(
     out.push(b'\n')
 }
 
-fn put_carets(out: &mut Bytes, page: &Page<'_, '_>, refusal: &Refusal) -> Result<(), NoMemory> {
+/// What the mark of a refusal says.
+pub fn does_of(alloc: Global, page: &Page<'_, '_>, refusal: &Refusal) -> Result<Bytes, NoMemory> {
+    let Some(constant) = refusal.constant else {
+        return Bytes::from_slice(alloc, refusal.does.as_bytes());
+    };
+    let mut does = empty(alloc);
+    put_constant_type(&mut does, page, constant)?;
+    Ok(does)
+}
+
+fn put_carets(
+    alloc: Global,
+    out: &mut Bytes,
+    page: &Page<'_, '_>,
+    refusal: &Refusal,
+) -> Result<(), NoMemory> {
+    let does = does_of(alloc, page, refusal)?;
     let mark = Mark {
         stretch: refusal.stretch,
         number: 1,
-        does: refusal.does.as_bytes(),
+        does: does.as_slice(),
     };
     put_marks(out, page, &mark, None)
 }
@@ -159,8 +255,8 @@ pub fn put_refusal(
     refusal: &Refusal,
 ) -> Result<(), NoMemory> {
     put_line(out, page, refusal)?;
-    put_carets(out, page, refusal)?;
-    let notes = refusal_notes(alloc, refusal)?;
+    put_carets(alloc, out, page, refusal)?;
+    let notes = refusal_notes(alloc, page, refusal)?;
     for note in notes.iter() {
         put_long_note(out, note.name.as_bytes(), note.text.as_slice())?;
     }
@@ -168,15 +264,11 @@ pub fn put_refusal(
 }
 
 /// What is said of tokens that aren't a program; none where the text as a whole is too deep.
-pub fn refusal_of(
-    alloc: Global,
-    page: &Page<'_, '_>,
-    refused: Refused,
-) -> Result<Option<Refusal>, NoMemory> {
+pub fn refusal_of(page: &Page<'_, '_>, refused: Refused) -> Option<Refusal> {
     match refused {
-        Refused::Syntax(token) => Ok(Some(unspelled(alloc, page, token)?)),
-        Refused::NotTyped(token, reason) => Ok(Some(not_typed(page, token, reason))),
-        _ => Ok(None),
+        Refused::Syntax(token, reason) => Some(unspelled(page, token, reason)),
+        Refused::NotTyped(token, reason) => Some(not_typed(page, token, reason)),
+        _ => None,
     }
 }
 
@@ -192,53 +284,6 @@ pub fn token_stretch(page: &Page<'_, '_>, token: u32) -> Stretch {
         operator_end: end,
         line: page.line(at),
     }
-}
-
-// Whether a colon there begins the width of a bit-field.
-fn is_width(page: &Page<'_, '_>, token: u32) -> bool {
-    page.tokens.kind(token) == Some(TokenKind::Punct(Punct::Colon))
-        && page.tokens.kind(token.saturating_add(1)) == Some(TokenKind::Number)
-}
-
-// What is left out at this token, or right before it.
-fn left_out_near(page: &Page<'_, '_>, token: u32) -> Option<(LeftOut, u32)> {
-    if let Some(found) = left_out(page.spelling(token)) {
-        return Some((found, token));
-    }
-    if is_width(page, token) {
-        return Some((BIT_FIELD, token));
-    }
-    for back in 1..4u32 {
-        let before = token.saturating_sub(back);
-        let word = page.spelling(before);
-        if is_extension(word)
-            && let Some(found) = left_out(word)
-        {
-            return Some((found, before));
-        }
-    }
-    None
-}
-
-// A token with which no program goes on.
-fn unspelled(alloc: Global, page: &Page<'_, '_>, token: u32) -> Result<Refusal, NoMemory> {
-    if let Some((found, at)) = left_out_near(page, token) {
-        return Ok(of_left_out(found, token_stretch(page, at), kind_of(page.spelling(at))));
-    }
-    let Mending {
-        paragraph,
-        sentence,
-    } = mended(alloc, page.tokens, token)?;
-    Ok(Refusal {
-        verdict: "syntax",
-        paragraph,
-        quotes: token < page.tokens.len(),
-        sentence,
-        stretch: token_stretch(page, token),
-        does: "here",
-        rule: Rule::Unsaid,
-        hint: None,
-    })
 }
 
 fn is_word_byte(byte: u8) -> bool {
@@ -276,6 +321,7 @@ fn piece(stretch: Stretch, sentence: &'static str, hint: Option<&'static str>) -
         does: "here",
         rule: Rule::Unsaid,
         hint,
+        constant: None,
     }
 }
 
@@ -292,7 +338,10 @@ fn stray(text: &[u8], stretch: Stretch) -> Refusal {
         );
     }
     if quote == b'"' || quote == b'\'' {
-        return of_left_out(WIDE, stretch, "here");
+        return of_left_out(Part::WideLiteral, stretch, "here");
+    }
+    if byte_at(text, stretch.start) == b'\\' {
+        return of_left_out(Part::UniversalName, stretch, "here");
     }
     piece(stretch, "begins no token of C", None)
 }
@@ -300,21 +349,17 @@ fn stray(text: &[u8], stretch: Stretch) -> Refusal {
 // A number that is no integer constant.
 fn bad_number(page: &Page<'_, '_>, stretch: Stretch) -> Refusal {
     let word = page.between(stretch.start, stretch.end);
-    match left_out(word) {
-        Some(found) => of_left_out(found, stretch, kind_of(word)),
+    match part_of_number(word) {
+        Some(part) => of_left_out(part, stretch, kind_of(word)),
         None => piece(stretch, "is no integer constant", None),
     }
 }
 
 /// What is said of a text that has no tokens; none where the reason is another one.
-pub fn unlexed(
-    alloc: Global,
-    page: &Page<'_, '_>,
-    refused: Refused,
-) -> Result<Option<Refusal>, NoMemory> {
+pub fn unlexed(page: &Page<'_, '_>, refused: Refused) -> Option<Refusal> {
     let at = match refused {
         Refused::Stray(at) | Refused::OpenLiteral(at) | Refused::BadNumber(at) => at as usize,
-        _ => return Ok(None),
+        _ => return None,
     };
     let end = word_end(page.text, at);
     let stretch = Stretch {
@@ -322,11 +367,11 @@ pub fn unlexed(
         end,
         operator: at,
         operator_end: end,
-        line: line_of(alloc, page.text, at)?,
+        line: line_number(page.text, at),
     };
-    Ok(Some(match refused {
+    Some(match refused {
         Refused::Stray(_) => stray(page.text, stretch),
         Refused::BadNumber(_) => bad_number(page, stretch),
         _ => piece(stretch, "begins what is never closed", None),
-    }))
+    })
 }

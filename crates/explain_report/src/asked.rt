@@ -1,6 +1,7 @@
 // What is explained.
 
 use addr_map::Mode;
+use explain_page::Written;
 
 /// A text and its run, with the report that an audit of it puts, and the status of that.
 #[derive(Clone, Copy)]
@@ -9,6 +10,8 @@ pub struct Asked<'a> {
     pub text: &'a [u8],
     /// The name of its file, as it was asked for.
     pub file: &'a [u8],
+    /// The files that its line markers name, as far as they were read.
+    pub written: &'a [Written],
     pub input: &'a [u8],
     /// The words behind the program's name.
     pub args: &'a [String],

@@ -15,7 +15,7 @@ use explain_refusal::{Refusal, Refused, program_of, put_refusal, refusal_of, tok
 use explain_run::{Before, Course, moment_before, outcome_of, trail_of};
 use footprint_run::{Audit, Finding, audit_run};
 use std::alloc::Global;
-use ub_base::{Bytes, Event, Item, Kind, NoMemory, ObjName};
+use ub_base::{Bytes, Clause, Event, Item, Kind, NoMemory, ObjName};
 
 // How an explanation is put.
 #[derive(Clone, Copy, Debug, PartialEq, Eq)]
@@ -213,6 +213,38 @@ struct Looked {
     moment: Moment,
     trail: Trail,
     target: Trail,
+    origin: Trail,
+}
+
+// Whether it is a read of what has no value.
+fn is_unset(finding: &Finding) -> bool {
+    matches!(
+        finding,
+        Finding::Undefined {
+            clause: Clause::Indeterminate,
+            ..
+        }
+    )
+}
+
+// What was done to the object that was copied to the bytes of this trail.
+fn origin_of(
+    alloc: Global,
+    asked: &Asked<'_>,
+    core: &CoreProgram<'_>,
+    finding: &Finding,
+    source: Option<ObjName>,
+) -> Result<Trail, NoMemory> {
+    match source {
+        Some(object) if is_unset(finding) => trail_of(
+            alloc,
+            core,
+            course_of(asked),
+            picks_of(finding),
+            Some(whole(object)),
+        ),
+        _ => Ok(Trail::new(alloc)),
+    }
 }
 
 fn looked_through(
@@ -232,10 +264,12 @@ fn looked_through(
         Some(object) => trail_of(alloc, core, course, picks, Some(whole(object)))?,
         None => Trail::new(alloc),
     };
+    let origin = origin_of(alloc, asked, core, finding, trail.source)?;
     Ok(Looked {
         moment,
         trail,
         target,
+        origin,
     })
 }
 
@@ -253,8 +287,9 @@ fn put_unlexed(
                 file: request.asked.file,
                 tokens: &tokens,
                 tags: &[],
+                written: request.asked.written,
             };
-            let refusal = unlexed(alloc, &page, refused)?;
+            let refusal = unlexed(&page, refused);
             put_refused(alloc, out, request, &page, refusal)
         }
         Err(_) => Err(NoMemory),
@@ -278,12 +313,13 @@ fn put_explanation(alloc: Global, out: &mut Bytes, request: &Request<'_>) -> Res
         file: asked.file,
         tokens: &tokens,
         tags: tags.as_slice(),
+        written: asked.written,
     };
     let program = match program_of(alloc, &tokens) {
         Ok(program) => program,
         Err(Refused::NoMemory) => return Err(NoMemory),
         Err(refused) => {
-            let refusal = refusal_of(alloc, &page, refused)?;
+            let refusal = refusal_of(&page, refused);
             return put_refused(alloc, out, request, &page, refusal);
         }
     };
@@ -319,6 +355,7 @@ fn put_explanation(alloc: Global, out: &mut Bytes, request: &Request<'_>) -> Res
         moment: &looked.moment,
         trail: &looked.trail,
         target: &looked.target,
+        origin: &looked.origin,
         first,
         second,
         call,

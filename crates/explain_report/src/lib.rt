@@ -7,3 +7,5 @@ mod found;
 
 pub use asked::Asked;
 pub use explain::{explanation, explanation_json};
+pub use explain_page::Written;
+pub use explain_places::{FileName, next_file};

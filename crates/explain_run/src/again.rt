@@ -1,6 +1,7 @@
 // A run again, up to where it ended, or in another order.
 
 use crate::moment::moment_of;
+use crate::nulls::asked_next;
 use crate::replay::{event_of, step, taken};
 use crate::trail::{Follower, block_entered};
 use addr_map::Mode;
@@ -83,10 +84,11 @@ fn follow_trail(
 ) -> Result<(), NoMemory> {
     for _ in 0..picks {
         let entered = block_entered(machine);
+        let asked = asked_next(machine);
         let Some(pick) = step(machine, frames)? else {
             return Ok(());
         };
-        follower.see(machine, event_of(pick), entered)?;
+        follower.see(machine, event_of(pick), entered, asked)?;
     }
     Ok(())
 }

@@ -4,6 +4,7 @@
 
 mod again;
 mod moment;
+mod nulls;
 mod opened;
 mod replay;
 mod trail;

@@ -1,5 +1,6 @@
 // What a run does to one object.
 
+use crate::nulls::unallocated;
 use crate::opened::opened_of;
 use c_typed::Slot;
 use explain_facts::{Named, Sought, Touch, Trail};
@@ -15,6 +16,42 @@ const MOST_TOUCHES: usize = 10_000;
 pub struct Follower {
     sought: Option<Sought>,
     trail: Trail,
+    read: Option<Read>,
+}
+
+// The object that was read last, and how many bytes of it.
+#[derive(Clone, Copy)]
+struct Read {
+    object: ObjName,
+    len: u64,
+}
+
+// What was read last, behind this item.
+fn read_behind(read: Option<Read>, item: &Item) -> Option<Read> {
+    match *item {
+        Item::Read { object, len, .. } => Some(Read { object, len }),
+        _ => read,
+    }
+}
+
+// The object that a store of so many bytes copies.
+fn copied(read: Option<Read>, len: u64) -> Option<ObjName> {
+    match read {
+        Some(read) if read.len == len => Some(read.object),
+        _ => None,
+    }
+}
+
+// What the last store copies, behind this one.
+fn source_behind(source: Option<ObjName>, does: Does, read: Option<Read>) -> Option<ObjName> {
+    match does {
+        Does::Accesses {
+            writes: true,
+            len,
+            ..
+        } => copied(read, len),
+        _ => source,
+    }
 }
 
 // What an item does to the bytes that are sought.
@@ -154,18 +191,26 @@ impl Follower {
         Follower {
             sought,
             trail: Trail::new(alloc),
+            read: None,
         }
     }
 
     /// What was seen.
     pub fn into_trail(self) -> Trail {
-        let Follower { sought: _, trail } = self;
+        let Follower {
+            sought: _,
+            trail,
+            read: _,
+        } = self;
         trail
     }
 
     fn see_items(&mut self, items: &[Item], sought: Sought, touch: Touch) -> Result<(), NoMemory> {
         for item in items {
-            note(&mut self.trail, does_to(item, sought), touch)?;
+            let does = does_to(item, sought);
+            self.trail.source = source_behind(self.trail.source, does, self.read);
+            note(&mut self.trail, does, touch)?;
+            self.read = read_behind(self.read, item);
         }
         Ok(())
     }
@@ -175,6 +220,12 @@ impl Follower {
             && machine.items.items().contains(&Item::Born(sought.object))
         {
             self.trail.named = named_in(machine, block, decl);
+        }
+    }
+
+    fn see_null(&mut self, machine: &Machine, event: Event, touch: Touch, asked: Option<u128>) {
+        if self.trail.unallocated.is_none() {
+            self.trail.unallocated = unallocated(machine, event, touch, asked);
         }
     }
 
@@ -189,26 +240,33 @@ impl Follower {
         }
     }
 
-    /// Sees a pick that was taken, with its event, or with the block that it entered.
+    /// Sees a pick that was taken, with its event, or with the block that it entered, and with how many bytes it asked for, where it
+    /// is an allocation.
     pub fn see(
         &mut self,
         machine: &Machine,
         event: Option<Event>,
         entered: Option<u32>,
+        asked: Option<u128>,
     ) -> Result<(), NoMemory> {
         if let (Some(sought), Some(block)) = (self.sought, entered) {
             self.see_entered(machine, block, sought);
         }
+        let Some(event) = event else {
+            return Ok(());
+        };
         match touch_by(machine, event) {
-            Some(touch) => self.see_touch(machine, touch),
+            Some(touch) => {
+                self.see_null(machine, event, touch, asked);
+                self.see_touch(machine, touch)
+            }
             None => Ok(()),
         }
     }
 }
 
 // An act of this event, on no bytes yet.
-fn touch_by(machine: &Machine, event: Option<Event>) -> Option<Touch> {
-    let event = event?;
+fn touch_by(machine: &Machine, event: Event) -> Option<Touch> {
     let (opened, caller) = opened_of(machine.shown(), &event)?;
     Some(Touch {
         opened,

@@ -28,6 +28,8 @@ mod specifiers;
 #[cfg(test)]
 mod statements;
 #[cfg(test)]
+mod static_reports;
+#[cfg(test)]
 mod tables;
 #[cfg(test)]
 mod tokens;

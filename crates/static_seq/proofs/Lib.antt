@@ -1,0 +1,4 @@
+pub mod Grown
+pub mod Own
+pub mod Sparing
+pub mod Steps

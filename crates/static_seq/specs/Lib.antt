@@ -1,0 +1,5 @@
+pub mod Expressions
+pub mod Accesses
+pub mod Choices
+pub mod Parted
+pub mod Verdicts

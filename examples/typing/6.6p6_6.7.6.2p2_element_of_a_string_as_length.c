@@ -1,0 +1,1 @@
+int a["x"[0]];int main(void){return 0;}

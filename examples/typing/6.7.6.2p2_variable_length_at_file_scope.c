@@ -1,0 +1,1 @@
+int n=2;int a[n];int main(void){return 0;}
