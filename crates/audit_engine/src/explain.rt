@@ -175,6 +175,25 @@ fn written_for<F: Files>(
     }
 }
 
+// The page of the answer to a text, with lines of the files that it was made of.
+fn text_page<F: Files>(
+    alloc: Global,
+    request: &ExplainRequest<'_>,
+    sources: &Sources,
+    files: &mut F,
+) -> Result<Page, NoMemory>
+    requires text { length sources.now.text ≤ 2 ^ 20 }
+    requires steps { request.now.audit.steps ≤ 100000000 }
+    requires cert { option_copied request.now.audit.cert ≡ None }
+    ensures page { IfOk result (λ page. IsJudgedPage request.now (F.write_faults files.old) (F.write_faults files.new) sources.now.text page.status page.text) }
+    ensures held { F.held files.new ≡ F.held files.old }
+{
+    match written_for(alloc, request, sources, files) {
+        Ok(written) => judged_page(alloc, request, sources, written.as_slice(), files),
+        Err(fault) => Err(fault),
+    }
+}
+
 /// The page of a request.
 pub fn explained<F: Files>(
     alloc: Global,
@@ -189,10 +208,7 @@ pub fn explained<F: Files>(
     ensures held { F.held files.new ≡ F.held files.old }
 {
     match fetch_sources(alloc, request.audit.file, request.audit.input, files) {
-        Ok(sources) => {
-            let written = written_for(alloc, request, &sources, files)?;
-            judged_page(alloc, request, &sources, written.as_slice(), files)
-        }
+        Ok(sources) => text_page(alloc, request, &sources, files),
         Err(fault) => stopped_page(alloc, fault),
     }
 }
