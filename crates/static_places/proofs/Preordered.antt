@@ -1,5 +1,34 @@
 -- The nodes of a tree are its root and those of its operands; a list of them is gone through from a number on.
-use Rattle.std.proofs.Common.{◌≡◌, ℕ, zero, suc, ◌-◌, ◌+◌, ◌<◌, List, [], ◌∷◌, ◌++◌, map, drop, length, get_or, slice_get, Option, None, Result, Ok, Err, Bor, refl, sym, ap, ◌∙◌, append_assoc, arith}
+use Rattle.std.proofs.Common.{
+  ◌≡◌,
+  ℕ,
+  zero,
+  suc,
+  ◌-◌,
+  ◌+◌,
+  ◌<◌,
+  List,
+  [],
+  ◌∷◌,
+  ◌++◌,
+  map,
+  drop,
+  length,
+  get_or,
+  slice_get,
+  Option,
+  None,
+  Result,
+  Ok,
+  Err,
+  Bor,
+  refl,
+  sym,
+  ap,
+  ◌∙◌,
+  append_assoc,
+  arith,
+}
 use Rattle.std.proofs.lemmas.List.{map-append}
 use Rattle.c_typed.specs.declared.tree.Typed.{Typed, out-Typed, roll-Typed, roll-out-Typed, para-roll-Typed, fold_out-Typed}
 use Rattle.c_typed.specs.declared.class.Class.{Class}
@@ -77,8 +106,8 @@ module _ (p : Program) (function : ℕ) where
   dropped (t ∷ ts) (suc i) x h e = dropped ts i x (omega (arith, h)) e
 
   -- a step of the loop over operands
-  pub sought-step : (ts : List Typed) (i n : ℕ) (x : Typed) (r : Result ℕ (Option Spot)) → i < length ts → x ≡ get_or ts i x → r ≡ sought p function n (nodes_of x) →
-      sought p function n (joined (map nodes_of (drop i ts))) ≡ and_then r (joined (map nodes_of (drop (i + 1) ts)))
+  pub sought-step : (ts : List Typed) (i n : ℕ) (x : Typed) (r : Result ℕ (Option Spot)) → i < length ts → x ≡ get_or ts i x →
+      r ≡ sought p function n (nodes_of x) → sought p function n (joined (map nodes_of (drop i ts))) ≡ and_then r (joined (map nodes_of (drop (i + 1) ts)))
   sought-step ts i n x r h e q =
       let next : suc i ≡ i + 1 = omega arith in
       ap (λ z. sought p function n (joined (map nodes_of z))) (dropped ts i x h e ∙ ap (λ z. x ∷ drop z ts) next)

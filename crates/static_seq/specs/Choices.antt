@@ -1,5 +1,28 @@
 -- The choice of operands that leaves out each operand in which neither of two nodes stands, and the branches of `?:`.
-use Rattle.std.specs.Prelude.{◌≡◌, ℕ, ◌+◌, ◌-◌, ◌^◌, min, ◌<◌, length, nat_lt, nat_le, Bool, false, ◌&&◌, ◌||◌, List, [], ◌∷◌, slice_get, Option, Some, None, if◌then◌else◌}
+use Rattle.std.specs.Prelude.{
+  ◌≡◌,
+  ℕ,
+  ◌+◌,
+  ◌-◌,
+  ◌^◌,
+  min,
+  ◌<◌,
+  length,
+  nat_lt,
+  nat_le,
+  Bool,
+  false,
+  ◌&&◌,
+  ◌||◌,
+  List,
+  [],
+  ◌∷◌,
+  slice_get,
+  Option,
+  Some,
+  None,
+  if◌then◌else◌,
+}
 use Rattle.std.specs.Borrow.{Bor}
 use Rattle.static_places.specs.Preorder.{nodes_of, trees_at}
 use Rattle.c_typed.specs.declared.tree.Node.{Node, out-Node}

@@ -15,8 +15,8 @@ loop-run-init g c = (
       (map names_of c.args.runs.now)
       (stand (moment (g.F.Files.held c.args.files.now) (g.F.Files.read_faults c.args.files.now) (g.F.Files.write_faults c.args.files.now))
       (g.O.Sink.told c.args.out.now) c.new-tally.result)
-      (ap (stand (moment (g.F.Files.held c.args.files.now) (g.F.Files.read_faults c.args.files.now) (g.F.Files.write_faults c.args.files.now)) (g.O.Sink.told c.args.out.now))
-      c.new-tally.ensures),
+      (ap (stand (moment (g.F.Files.held c.args.files.now) (g.F.Files.read_faults c.args.files.now) (g.F.Files.write_faults c.args.files.now))
+      (g.O.Sink.told c.args.out.now)) c.new-tally.ensures),
 )
 
 pub loop-run-preserved : goal.loop-run-preserved
