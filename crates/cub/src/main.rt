@@ -36,17 +36,17 @@ fn words<R: rt::Env + AllocGlobal>(rt: &R) -> Result<Vec<String>, NoMemory> {
     Ok(words)
 }
 
-// Does what the words ask for. What is for a person is told of at a terminal.
-fn answered<R: fs::Files + Input + Print + Eprint + Clock + AllocGlobal>(
+// Does what the words ask for. Where the stream of standard error is a terminal, runs are told of there.
+fn answered<R: fs::Files + Input + Print + Eprint + Clock + AllocGlobal, E: IsTerminal>(
     rt: &R,
+    stream: &E,
     words: &[String],
-    is_terminal: bool,
 ) -> u8 {
     let mut files = HostFiles::new(rt);
     let mut out = HostSink::new(rt);
     if is_for_person(words) {
         let engine = Engine {
-            progress: HostProgress::new(rt, is_terminal),
+            progress: HostProgress::new(rt, stream.is_terminal()),
         };
         person_main(rt.alloc(), words, &engine, &mut files, &mut out)
     } else {
@@ -60,8 +60,9 @@ fn tell_commands<R: Eprint>(rt: &R) {
 }
 
 fn main(rt: HostRuntime) -> ExitCode {
+    let stream = rt.stderr();
     let status = match words(&rt) {
-        Ok(words) => answered(&rt, &words, rt.stderr().is_terminal()),
+        Ok(words) => answered(&rt, &stream, &words),
         Err(NoMemory) => match put_all(&mut HostSink::new(&rt), b"no memory\n") {
             Ok(()) => NO_MEMORY,
             Err(Failed) => WRITE_FAULT,

@@ -57,14 +57,14 @@ pub fn audit_run<P: Progress>(
         picks: 0,
         progress,
     };
-    let state = run(alloc, p, input, args, mode, budget, &mut told);
+    let ended = run(alloc, p, input, args, mode, budget, &mut told);
     let ToldWatcher {
         watcher,
         progress,
         ..
     } = told;
     progress.end();
-    let state = state?;
+    let state = ended?;
     let RunState {
         ran,
         output,
