@@ -7,7 +7,7 @@ ghost use Rattle.audit_engine.specs.Engine.{Explained, IsAudited, Says, first_li
 
 use crate::explain::explained;
 use audit_batch::{Auditor, Limits, Verdict};
-use audit_top::{Answer, audit};
+use audit_top::{Answer, Progress, audit};
 use command::{AuditRequest, ExplainRequest};
 use person_top::{Explainer, Page};
 use std::alloc::Global;
@@ -15,7 +15,10 @@ use ub_base::{Bytes, Files, NoMemory};
 
 /// Audits and explains by the top call's own functions.
 #[derive(Clone, Copy)]
-pub struct Engine;
+pub struct Engine<P> {
+    /// Each run is told to a copy of it.
+    pub progress: P,
+}
 
 // Where the first line feed stands.
 fn line_end(text: &[u8]) -> Option<usize>
@@ -48,10 +51,11 @@ fn verdict_of(alloc: Global, answer: &Answer) -> Result<Verdict, NoMemory>
 }
 
 // What is said of the audit of a request.
-fn audited<F: Files>(
+fn audited<F: Files, P: Progress>(
     alloc: Global,
     request: &AuditRequest<'_>,
     files: &mut F,
+    progress: &mut P,
 ) -> Result<Verdict, NoMemory>
     requires steps { request.now.steps ≤ 100000000 }
     requires cert { option_copied request.now.cert ≡ None }
@@ -60,11 +64,11 @@ fn audited<F: Files>(
         verdict.status verdict.line) }
     ensures held { F.held files.new ≡ F.held files.old }
 {
-    let answer = audit(alloc, request, files);
+    let answer = audit(alloc, request, files, progress);
     verdict_of(alloc, &answer)
 }
 
-impl Auditor for Engine {
+impl<P: Progress + Copy> Auditor for Engine<P> {
     ghost says = { λ _ limits was is program input said line. Says limits was is program input said line };
 
     fn audit<'a, F: Files>(
@@ -83,11 +87,12 @@ impl Auditor for Engine {
             cert: None,
             args: Vec::new(alloc),
         };
-        audited(alloc, &request, files)
+        let mut progress = self.progress;
+        audited(alloc, &request, files, &mut progress)
     }
 }
 
-impl Explainer for Engine {
+impl<P: Progress + Copy> Explainer for Engine<P> {
     ghost explains = { λ _ was is request said text. Explained was is request said text };
 
     fn explain<F: Files>(
@@ -96,6 +101,7 @@ impl Explainer for Engine {
         files: &mut F,
         request: &ExplainRequest<'_>,
     ) -> Result<Page, NoMemory> {
-        explained(alloc, request, files)
+        let mut progress = self.progress;
+        explained(alloc, request, files, &mut progress)
     }
 }

@@ -8,7 +8,7 @@ ghost use Rattle.audit_engine.specs.Engine.{Explained, Explains, IsJudgedPage, I
 use crate::written::written_of;
 use addr_map::Mode;
 use audit_sources::{FetchFault, Sources, fetch_sources};
-use audit_top::{Answer, judged, stopped};
+use audit_top::{Answer, Progress, judged, stopped};
 use command::ExplainRequest;
 use explain_report::{Asked, Written, explanation, explanation_json};
 use person_top::Page;
@@ -129,12 +129,13 @@ fn page_of(
 }
 
 // The page of the answer to a text.
-fn judged_page<F: Files>(
+fn judged_page<F: Files, P: Progress>(
     alloc: Global,
     request: &ExplainRequest<'_>,
     sources: &Sources,
     written: &[Written],
     files: &mut F,
+    progress: &mut P,
 ) -> Result<Page, NoMemory>
     requires text { length sources.now.text ≤ 2 ^ 20 }
     requires steps { request.now.audit.steps ≤ 100000000 }
@@ -142,7 +143,7 @@ fn judged_page<F: Files>(
     ensures page { IfOk result (λ page. IsJudgedPage request.now (F.write_faults files.old) (F.write_faults files.new) sources.now.text page.status page.text) }
     ensures held { F.held files.new ≡ F.held files.old }
 {
-    let answer = judged(alloc, &request.audit, sources, files);
+    let answer = judged(alloc, &request.audit, sources, files, progress);
     page_of(alloc, request, sources, written, &answer)
 }
 
@@ -176,11 +177,12 @@ fn written_for<F: Files>(
 }
 
 // The page of the answer to a text, with lines of the files that it was made of.
-fn text_page<F: Files>(
+fn text_page<F: Files, P: Progress>(
     alloc: Global,
     request: &ExplainRequest<'_>,
     sources: &Sources,
     files: &mut F,
+    progress: &mut P,
 ) -> Result<Page, NoMemory>
     requires text { length sources.now.text ≤ 2 ^ 20 }
     requires steps { request.now.audit.steps ≤ 100000000 }
@@ -189,16 +191,17 @@ fn text_page<F: Files>(
     ensures held { F.held files.new ≡ F.held files.old }
 {
     match written_for(alloc, request, sources, files) {
-        Ok(written) => judged_page(alloc, request, sources, written.as_slice(), files),
+        Ok(written) => judged_page(alloc, request, sources, written.as_slice(), files, progress),
         Err(fault) => Err(fault),
     }
 }
 
 /// The page of a request.
-pub fn explained<F: Files>(
+pub fn explained<F: Files, P: Progress>(
     alloc: Global,
     request: &ExplainRequest<'_>,
     files: &mut F,
+    progress: &mut P,
 ) -> Result<Page, NoMemory>
     requires steps { request.now.audit.steps ≤ 100000000 }
     requires cert { option_copied request.now.audit.cert ≡ None }
@@ -208,7 +211,7 @@ pub fn explained<F: Files>(
     ensures held { F.held files.new ≡ F.held files.old }
 {
     match fetch_sources(alloc, request.audit.file, request.audit.input, files) {
-        Ok(sources) => text_page(alloc, request, &sources, files),
+        Ok(sources) => text_page(alloc, request, &sources, files, progress),
         Err(fault) => stopped_page(alloc, fault),
     }
 }

@@ -13,6 +13,7 @@ use audit_generator::generated;
 use audit_sources::{KeepFault, Sources};
 use command::{AuditRequest, SelfRequest};
 use first_form::{FormFault, read_unit};
+use footprint_run::{Progress, Quiet};
 use std::alloc::Global;
 use ub_base::{Files, NoMemory};
 
@@ -87,11 +88,12 @@ fn setting<'a>(request: &'a AuditRequest<'_>, input: &'a [u8]) -> Setting<'a>
 }
 
 // The answer to a text by its run.
-fn by_run<F: Files>(
+fn by_run<F: Files, P: Progress>(
     alloc: Global,
     request: &AuditRequest<'_>,
     sources: &Sources,
     files: &mut F,
+    progress: &mut P,
 ) -> Answer
     requires steps { request.now.steps ≤ 100000000 }
     requires text { length sources.now.text ≤ 2 ^ 20 }
@@ -105,18 +107,19 @@ fn by_run<F: Files>(
         Err(FrontFault::NoMemory) => return Answer::NoMemory,
     };
     let setting = setting(request, sources.input.as_slice());
-    match audited(alloc, &program, &setting) {
+    match audited(alloc, &program, &setting, progress) {
         Ok(found) => kept(alloc, found, request.cert, files),
         Err(NoMemory) => Answer::NoMemory,
     }
 }
 
-/// The answer to a text, with its input.
-pub fn judged<F: Files>(
+/// The answer to a text, with its input. A run of it is told to the progress.
+pub fn judged<F: Files, P: Progress>(
     alloc: Global,
     request: &AuditRequest<'_>,
     sources: &Sources,
     files: &mut F,
+    progress: &mut P,
 ) -> Answer
     requires steps { request.now.steps ≤ 100000000 }
     requires text { length sources.now.text ≤ 2 ^ 20 }
@@ -125,7 +128,7 @@ pub fn judged<F: Files>(
 {
     match by_form(alloc, request, sources.text.as_slice()) {
         Ok(Some(answer)) => answer,
-        Ok(None) => by_run(alloc, request, sources, files),
+        Ok(None) => by_run(alloc, request, sources, files, progress),
         Err(NoMemory) => Answer::NoMemory,
     }
 }
@@ -146,7 +149,7 @@ fn generated_found(alloc: Global, summary: Summary, text: &[u8]) -> Answer
         mode: Mode::Spaced,
         steps: SELF_STEPS,
     };
-    match audited(alloc, &program, &setting) {
+    match audited(alloc, &program, &setting, &mut Quiet) {
         Ok(Found { status, report, .. }) => Answer::Generated {
             summary,
             status,

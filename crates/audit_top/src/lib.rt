@@ -13,5 +13,6 @@ mod weigh;
 mod words;
 
 pub use answer::Answer;
+pub use footprint_run::{Progress, Quiet};
 pub use judge::judged;
 pub use top::{audit, audit_main, stopped};

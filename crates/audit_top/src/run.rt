@@ -7,7 +7,7 @@ use crate::finding::{report_of, status_of};
 use addr_map::Mode;
 use c_typed::Program;
 use elaborate::elaborate;
-use footprint_run::{Audit, audit_run};
+use footprint_run::{Audit, Progress, audit_run};
 use std::alloc::Global;
 use ub_base::{Bytes, NoMemory};
 
@@ -29,7 +29,12 @@ pub struct Found {
 }
 
 // The first finding of the run of a program.
-fn audit_of(alloc: Global, program: &Program, setting: &Setting<'_>) -> Result<Audit, NoMemory>
+fn audit_of<P: Progress>(
+    alloc: Global,
+    program: &Program,
+    setting: &Setting<'_>,
+    progress: &mut P,
+) -> Result<Audit, NoMemory>
     requires { setting.now.steps ≤ 100000000 }
     ensures within { IfOk result (λ a. picks_of a.finding ≤ setting.now.steps) }
     ensures out_of_steps { IfOk result (λ a. IsOutOfSteps a.finding → picks_of a.finding ≡ setting.now.steps) }
@@ -43,15 +48,21 @@ fn audit_of(alloc: Global, program: &Program, setting: &Setting<'_>) -> Result<A
         setting.args,
         setting.mode,
         setting.steps,
+        progress,
     )
 }
 
 /// Audits the run of a program, and says what was found.
-pub fn audited(alloc: Global, program: &Program, setting: &Setting<'_>) -> Result<Found, NoMemory>
+pub fn audited<P: Progress>(
+    alloc: Global,
+    program: &Program,
+    setting: &Setting<'_>,
+    progress: &mut P,
+) -> Result<Found, NoMemory>
     requires { setting.now.steps ≤ 100000000 }
     ensures { IfOk result (λ found. IsFound setting.now.steps found.status found.report) }
 {
-    let audit = audit_of(alloc, program, setting)?;
+    let audit = audit_of(alloc, program, setting, progress)?;
     let report = report_of(alloc, &audit, setting.steps)?;
     Ok(Found {
         status: status_of(&audit.finding),

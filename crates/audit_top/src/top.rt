@@ -12,6 +12,7 @@ use crate::weigh::weighed;
 use crate::words::asked;
 use audit_sources::{FetchFault, fetch_check_sources, fetch_sources};
 use command::{AuditRequest, CheckRequest, Request, WordFault};
+use footprint_run::{Progress, Quiet};
 use std::alloc::Global;
 use ub_base::{Failed, Files, Sink, put_all};
 
@@ -28,14 +29,19 @@ pub fn stopped(fault: FetchFault) -> Answer
     }
 }
 
-/// The answer to an audit.
-pub fn audit<F: Files>(alloc: Global, request: &AuditRequest<'_>, files: &mut F) -> Answer
+/// The answer to an audit. Its run is told to the progress.
+pub fn audit<F: Files, P: Progress>(
+    alloc: Global,
+    request: &AuditRequest<'_>,
+    files: &mut F,
+    progress: &mut P,
+) -> Answer
     requires { request.now.steps ≤ 100000000 }
     ensures why { AuditCause (disk (F.held files.old) (F.read_faults files.old) (F.write_faults files.old)) (disk (F.held files.new) (F.read_faults files.new) (F.write_faults files.new)) request.now result }
     ensures files { Leaves (option_copied request.now.cert) (F.held files.old) (F.held files.new) result }
 {
     match fetch_sources(alloc, request.file, request.input, files) {
-        Ok(sources) => judged(alloc, request, &sources, files),
+        Ok(sources) => judged(alloc, request, &sources, files, progress),
         Err(fault) => stopped(fault),
     }
 }
@@ -57,7 +63,7 @@ fn answer_to<F: Files>(alloc: Global, request: &Request<'_>, files: &mut F) -> A
     ensures { RequestCause (disk (F.held files.old) (F.read_faults files.old) (F.write_faults files.old)) (disk (F.held files.new) (F.read_faults files.new) (F.write_faults files.new)) request.now result }
 {
     match request {
-        Request::Audit(request) => audit(alloc, request, files),
+        Request::Audit(request) => audit(alloc, request, files, &mut Quiet),
         Request::Check(request) => check(alloc, request, files),
         Request::SelfAudit(request) => self_audit(alloc, *request),
     }

@@ -2,14 +2,17 @@
 #![tactic(auto)]
 
 mod host;
+mod progress;
 
 use audit_engine::Engine;
 use audit_top::audit_main;
 use command_help::command_lines;
 use host::{HostFiles, HostSink};
 use person_top::{is_for_person, person_main};
-use std::io::ErrorKind;
+use progress::HostProgress;
+use std::io::{ErrorKind, IsTerminal};
 use std::process::ExitCode;
+use std::rt::Clock;
 use std::{env, fs, rt};
 use ub_base::{Failed, NoMemory, put_all};
 
@@ -33,12 +36,19 @@ fn words<R: rt::Env + AllocGlobal>(rt: &R) -> Result<Vec<String>, NoMemory> {
     Ok(words)
 }
 
-// Does what the words ask for.
-fn answered<R: fs::Files + Input + Print + AllocGlobal>(rt: &R, words: &[String]) -> u8 {
+// Does what the words ask for. Where the stream of standard error is a terminal, runs are told of there.
+fn answered<R: fs::Files + Input + Print + Eprint + Clock + AllocGlobal, E: IsTerminal>(
+    rt: &R,
+    stream: &E,
+    words: &[String],
+) -> u8 {
     let mut files = HostFiles::new(rt);
     let mut out = HostSink::new(rt);
     if is_for_person(words) {
-        person_main(rt.alloc(), words, &Engine, &mut files, &mut out)
+        let engine = Engine {
+            progress: HostProgress::new(rt, stream.is_terminal()),
+        };
+        person_main(rt.alloc(), words, &engine, &mut files, &mut out)
     } else {
         audit_main(rt.alloc(), words, &mut files, &mut out)
     }
@@ -50,8 +60,9 @@ fn tell_commands<R: Eprint>(rt: &R) {
 }
 
 fn main(rt: HostRuntime) -> ExitCode {
+    let stream = rt.stderr();
     let status = match words(&rt) {
-        Ok(words) => answered(&rt, &words),
+        Ok(words) => answered(&rt, &stream, &words),
         Err(NoMemory) => match put_all(&mut HostSink::new(&rt), b"no memory\n") {
             Ok(()) => NO_MEMORY,
             Err(Failed) => WRITE_FAULT,

@@ -13,7 +13,7 @@ use explain_notes::put_case;
 use explain_page::{Page, empty, tags_of};
 use explain_refusal::{Refusal, Refused, program_of, put_refusal, refusal_of, tokens_of, unlexed};
 use explain_run::{Before, Course, moment_before, outcome_of, trail_of};
-use footprint_run::{Audit, Finding, audit_run};
+use footprint_run::{Audit, Finding, Quiet, audit_run};
 use std::alloc::Global;
 use ub_base::{Bytes, Clause, Event, Item, Kind, NoMemory, ObjName};
 
@@ -331,6 +331,7 @@ fn put_explanation(alloc: Global, out: &mut Bytes, request: &Request<'_>) -> Res
         asked.args,
         asked.mode,
         asked.steps,
+        &mut Quiet,
     )?;
     let roots = roots_of(alloc, &program)?;
     let events = events_of(&audit.finding);

@@ -10,6 +10,7 @@ ghost use Rattle.footprint_run.specs.Picks.{picks_in};
 ghost use Rattle.footprint_run.specs.Record.{HasSeen};
 
 use crate::finding::{Audit, Finding, Race};
+use crate::progress::{Progress, ToldWatcher};
 use crate::seen::Seen;
 use crate::watcher::Watcher;
 use addr_map::Mode;
@@ -22,13 +23,14 @@ use ub_base::{Clause, NoMemory};
 /// The first finding of a program's run in canonical order on this input, with these arguments behind the program's name,
 /// its objects placed in this mode, along at most `budget` picks. A raised clause goes before a race at one pick, a race
 /// before a dependence on the order, and then the least pair of events. Needs what `run` needs.
-pub fn audit_run(
+pub fn audit_run<P: Progress>(
     alloc: Global,
     p: &CoreProgram,
     input: &[u8],
     args: &[String],
     mode: Mode,
     budget: u64,
+    progress: &mut P,
 ) -> Result<Audit, NoMemory>
     requires { budget ≤ 100000000 }
     ensures within { IfOk result (λ a. picks_of a.finding ≤ budget) }
@@ -48,8 +50,21 @@ pub fn audit_run(
     ensures started { IfOk result (λ a. StartedBy (Some a.calls) a.frames) }
 {
     let roots = roots_of(alloc, p.program)?;
-    let mut watcher = Watcher::new(alloc, roots.as_slice())?;
-    let state = run(alloc, p, input, args, mode, budget, &mut watcher)?;
+    let watcher = Watcher::new(alloc, roots.as_slice())?;
+    progress.begin(budget);
+    let mut told = ToldWatcher {
+        watcher,
+        picks: 0,
+        progress,
+    };
+    let ended = run(alloc, p, input, args, mode, budget, &mut told);
+    let ToldWatcher {
+        watcher,
+        progress,
+        ..
+    } = told;
+    progress.end();
+    let state = ended?;
     let RunState {
         ran,
         output,

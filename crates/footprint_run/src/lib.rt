@@ -5,6 +5,7 @@ mod audit;
 mod calls;
 mod detector;
 mod finding;
+mod progress;
 mod seen;
 mod watcher;
 
@@ -12,4 +13,5 @@ pub use audit::audit_run;
 pub use calls::Calls;
 pub use detector::Detector;
 pub use finding::{Audit, Finding, Race};
+pub use progress::{Progress, Quiet};
 pub use seen::Seen;

@@ -10,6 +10,8 @@ mod certificates;
 #[cfg(test)]
 mod programs;
 #[cfg(test)]
+mod progress;
+#[cfg(test)]
 mod runs;
 #[cfg(test)]
 mod words;

@@ -1,7 +1,7 @@
 use Rattle.audit_top.proofs.run.audited.Goals as goal
 
 pub returns : goal.returns
-returns c = record {
+returns g c = record {
   finding = c.in_ok-audit.audit.finding;
   frames = c.in_ok-audit.audit.frames;
   output = c.in_ok-audit.audit.output;

@@ -5,7 +5,7 @@ use Rattle.footprint_run.proofs.Stand.{seen_in}
 use Rattle.footprint_run.proofs.audit.audit_run.Goals as goal
 
 pub returns-clause-apart : goal.returns-clause-apart
-returns-clause-apart c =
+returns-clause-apart g c =
     let trees = program_trees c.args.p.now.program.now in
     c.finding_of.ensures.apart trees
     (seen_in _ trees c.into_parts-calls.result.1
