@@ -4,12 +4,15 @@ ghost use Rattle.std.specs.List.{position};
 ghost use Rattle.audit_batch.specs.Moment.{moment};
 ghost use Rattle.audit_top.specs.Report.{report, status};
 ghost use Rattle.audit_engine.specs.Engine.{Explained, IsAudited, Says, first_line};
+ghost use Rattle.audit_engine.specs.Looks.{Explored};
 
+use crate::errors::errors_sheet;
 use crate::explain::explained;
+use crate::statics::static_sheet;
 use audit_batch::{Auditor, Limits, Verdict};
 use audit_top::{Answer, audit};
-use command::{AuditRequest, ExplainRequest};
-use person_top::{Explainer, Page};
+use command::{AuditRequest, ExplainRequest, Exploration};
+use person_top::{Explainer, Explorer, Page, Sheet};
 use std::alloc::Global;
 use ub_base::{Bytes, Files, NoMemory};
 
@@ -97,5 +100,21 @@ impl Explainer for Engine {
         request: &ExplainRequest<'_>,
     ) -> Result<Page, NoMemory> {
         explained(alloc, request, files)
+    }
+}
+
+impl Explorer for Engine {
+    ghost explores = { λ _ was is look said text errors. Explored was is look said text errors };
+
+    fn explore<F: Files>(
+        &self,
+        alloc: Global,
+        files: &mut F,
+        look: &Exploration<'_>,
+    ) -> Result<Sheet, NoMemory> {
+        match look {
+            Exploration::Errors(request) => errors_sheet(alloc, request, files),
+            Exploration::Static(file) => static_sheet(alloc, file, files),
+        }
     }
 }

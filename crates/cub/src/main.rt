@@ -33,12 +33,24 @@ fn words<R: rt::Env + AllocGlobal>(rt: &R) -> Result<Vec<String>, NoMemory> {
     Ok(words)
 }
 
-// Does what the words ask for.
-fn answered<R: fs::Files + Input + Print + AllocGlobal>(rt: &R, words: &[String]) -> u8 {
+// Does what the words ask for, where what a program wrote to its standard error goes to a stream of its own.
+fn answered<R: fs::Files + Input + Print + AllocGlobal, E: Print>(
+    rt: &R,
+    stream: &E,
+    words: &[String],
+) -> u8 {
     let mut files = HostFiles::new(rt);
     let mut out = HostSink::new(rt);
+    let mut errors = HostSink::new(stream);
     if is_for_person(words) {
-        person_main(rt.alloc(), words, &Engine, &mut files, &mut out)
+        person_main(
+            rt.alloc(),
+            words,
+            &Engine,
+            &mut files,
+            &mut out,
+            &mut errors,
+        )
     } else {
         audit_main(rt.alloc(), words, &mut files, &mut out)
     }
@@ -50,8 +62,9 @@ fn tell_commands<R: Eprint>(rt: &R) {
 }
 
 fn main(rt: HostRuntime) -> ExitCode {
+    let stream = rt.stderr();
     let status = match words(&rt) {
-        Ok(words) => answered(&rt, &words),
+        Ok(words) => answered(&rt, &stream, &words),
         Err(NoMemory) => match put_all(&mut HostSink::new(&rt), b"no memory\n") {
             Ok(()) => NO_MEMORY,
             Err(Failed) => WRITE_FAULT,
