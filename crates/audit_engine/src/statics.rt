@@ -16,7 +16,9 @@ use ub_base::{Files, NoMemory};
 
 // The audit of a file, which says why its text is refused.
 fn audit_of<'a>(alloc: Global, file: &'a str) -> AuditRequest<'a>
-    ensures { IsOfFile file.now result }
+    ensures of { IsOfFile file.now result }
+    ensures steps { result.steps ≤ 100000000 }
+    ensures cert { option_copied result.cert ≡ None }
 {
     AuditRequest {
         file,
