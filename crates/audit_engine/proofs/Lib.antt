@@ -1,2 +1,5 @@
 mod Audits
+mod Front
 mod Pages
+mod Reports
+mod Statics

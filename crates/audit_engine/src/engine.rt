@@ -4,12 +4,15 @@ ghost use Rattle.std.specs.List.{position};
 ghost use Rattle.audit_batch.specs.Moment.{moment};
 ghost use Rattle.audit_top.specs.Report.{report, status};
 ghost use Rattle.audit_engine.specs.Engine.{Explained, IsAudited, Says, first_line};
+ghost use Rattle.audit_engine.specs.Looks.{Explored};
 
+use crate::errors::errors_sheet;
 use crate::explain::explained;
+use crate::statics::static_sheet;
 use audit_batch::{Auditor, Limits, Verdict};
 use audit_top::{Answer, Progress, audit};
-use command::{AuditRequest, ExplainRequest};
-use person_top::{Explainer, Page};
+use command::{AuditRequest, ExplainRequest, Exploration};
+use person_top::{Explainer, Explorer, Page, Sheet};
 use std::alloc::Global;
 use ub_base::{Bytes, Files, NoMemory};
 
@@ -103,5 +106,22 @@ impl<P: Progress + Copy> Explainer for Engine<P> {
     ) -> Result<Page, NoMemory> {
         let mut progress = self.progress;
         explained(alloc, request, files, &mut progress)
+    }
+}
+
+impl<P: Progress + Copy> Explorer for Engine<P> {
+    ghost explores = { λ _ was is look said text errors. Explored was is look said text errors };
+
+    fn explore<F: Files>(
+        &self,
+        alloc: Global,
+        files: &mut F,
+        look: &Exploration<'_>,
+    ) -> Result<Sheet, NoMemory> {
+        let mut progress = self.progress;
+        match look {
+            Exploration::Errors(request) => errors_sheet(alloc, request, files, &mut progress),
+            Exploration::Static(file) => static_sheet(alloc, file, files),
+        }
     }
 }

@@ -15,7 +15,8 @@ use person_top::Page;
 use std::alloc::Global;
 use ub_base::{Bytes, Files, NoMemory};
 
-fn mode_of(is_tight: bool) -> Mode {
+/// Where the objects of a run stand.
+pub fn mode_of(is_tight: bool) -> Mode {
     if is_tight { Mode::Tight } else { Mode::Spaced }
 }
 
@@ -147,8 +148,8 @@ fn judged_page<F: Files, P: Progress>(
     page_of(alloc, request, sources, written, &answer)
 }
 
-// The page where a file isn't fetched: the report alone.
-fn stopped_page(alloc: Global, fault: FetchFault) -> Result<Page, NoMemory>
+/// The page where a file isn't fetched: the report alone.
+pub fn stopped_page(alloc: Global, fault: FetchFault) -> Result<Page, NoMemory>
     ensures status { IfOk result (λ page. page.status ≡ status (stopped fault)) }
     ensures page { IfOk result (λ page. page.text ≡ report (stopped fault)) }
 {

@@ -1,8 +1,13 @@
-//! What audits and explains for the commands for a person.
+//! What audits, explains and looks further for the commands for a person.
 #![tactic(auto)]
 
 mod engine;
+mod errors;
 mod explain;
+mod front;
+mod judged;
+mod looks;
+mod statics;
 mod written;
 
 pub use engine::Engine;

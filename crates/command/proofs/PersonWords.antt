@@ -21,19 +21,23 @@ enters names held words (Some p) below none = refl
 enters names held words None below none =
     absurd (missing (or_else_empty _ _ (or_else_empty _ _ (or_else_empty below _ (or_else_empty _ _ none)))))
 
-one_of_four : (w x y z : Bool) (explain batch help version : Shape) (rest : List Text)
+one_of_six : (u v w x y z : Bool) (explain batch help version errors static : Shape) (rest : List Text)
     → explain.name ≡ codes "explain" → batch.name ≡ codes "batch" → help.name ≡ codes "help" → version.name ≡ codes "version"
-    → IfSome (option_map (λ s. rows_at s rest) (cond w (Some explain) (cond x (Some batch) (cond y (Some help) (cond z (Some version) None)))))
+    → errors.name ≡ codes "errors" → static.name ≡ codes "static"
+    → IfSome (option_map (λ shape. rows_at shape rest)
+    (cond u (Some explain) (cond v (Some batch) (cond w (Some help) (cond x (Some version) (cond y (Some errors) (cond z (Some static) None)))))))
     (λ p. IsPersonName p.0)
-one_of_four true x y z explain batch help version rest e b h v = inl e
-one_of_four false true y z explain batch help version rest e b h v = inr (inl b)
-one_of_four false false true z explain batch help version rest e b h v = inr (inr (inl h))
-one_of_four false false false true explain batch help version rest e b h v = inr (inr (inr v))
-one_of_four false false false false explain batch help version rest e b h v = tt
+one_of_six true v w x y z explain batch help version errors static rest a b c d e f = inl a
+one_of_six false true w x y z explain batch help version errors static rest a b c d e f = inr (inl b)
+one_of_six false false true x y z explain batch help version errors static rest a b c d e f = inr (inr (inl c))
+one_of_six false false false true y z explain batch help version errors static rest a b c d e f = inr (inr (inr (inl d)))
+one_of_six false false false false true z explain batch help version errors static rest a b c d e f = inr (inr (inr (inr (inl e))))
+one_of_six false false false false false true explain batch help version errors static rest a b c d e f = inr (inr (inr (inr (inr f))))
+one_of_six false false false false false false explain batch help version errors static rest a b c d e f = tt
 
 entered_name : (stop : Option (Text × List Text)) → IfSome (entered (built person_app) stop) (λ p. IsPersonName p.0)
 entered_name None = tt
-entered_name (Some p) = one_of_four _ _ _ _ _ _ _ _ p.1 refl refl refl refl
+entered_name (Some p) = one_of_six _ _ _ _ _ _ _ _ _ _ _ _ p.1 refl refl refl refl refl refl
 
 -- the words name this subcommand and give it this
 pub record IsPersonNamed (found : Option (Text × List Row)) : Type 0 where
@@ -67,7 +71,7 @@ named_so : {Z : Type 0} (o : Option (Box SubCommand Z)) (found : Option (Text ×
 named_so None found same named = tt
 named_so (Some b) found same named = subst (λ f. IfSome f (λ p. IsPersonName p.0)) (sym same) named
 
--- and its name is one of the four
+-- and its name is one of the six
 pub name_of : (words : List (List ℕ)) (m : ArgMatches) (given : Option (List ℕ)) → HasMatchesOf person_app words m → given ≡ subcommand_name_of m
     → IfSome given IsPersonName
 name_of words m given has same = subst (λ o. IfSome o IsPersonName) (sym same) (named_so _ _ (has refl).1 (entered_name (stop words)))
@@ -83,3 +87,6 @@ takes_as app words same none = subst (λ a. fault_of a words ≡ []) same none
 pub taken_as : (app : App) (words : List (List ℕ)) → app ≡ person_app → IsPersonTaken words → fault_of app words ≡ []
 unfolding IsPersonTaken
 taken_as app words same none = subst (λ a. fault_of a words ≡ []) (sym same) none
+
+pub matches_as : (app : App) (words : List (List ℕ)) (m : ArgMatches) → app ≡ person_app → HasMatchesOf app words m → HasMatchesOf person_app words m
+matches_as app words m same has = subst (λ a. HasMatchesOf a words m) same has

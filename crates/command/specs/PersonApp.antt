@@ -1,11 +1,12 @@
 -- The commands for a person, as a simple command of `clap`: `explain FILE [--input F] [--steps N] [--tight] [--json] [--text] [ARGS]`,
--- `batch NAME.. [--program F] [--list] [--steps N] [--tight]`, `help [COMMAND]` and `version` (own).
+-- `batch NAME.. [--program F] [--list] [--steps N] [--tight]`, `help [COMMAND]`, `version`,
+-- `errors FILE [--input F] [--steps N] [--tight] [ARGS]` and `static FILE` (own).
 use Rattle.std.specs.Prelude.{true, codes, Some}
 use Rattle.clap.specs.Lexer.{usize_max}
 use Rattle.clap.specs.Simple.{App, new_app, new_rule, with_rule, with_subcommand}
 use Rattle.clap.specs.Walk.{Rule}
 use Rattle.clap.specs.declared.builder.action.ArgAction.TheVariants.{Set, SetTrue}
-use Rattle.command.specs.App.{args_rule, cub_alone, steps_rule, tight_rule, with_run_rules}
+use Rattle.command.specs.App.{args_rule, cub_alone, file_rule, steps_rule, tight_rule, with_run_rules}
 
 abbrev pub json_rule : Rule
 json_rule = record (new_rule (codes "json")) { long = Some (codes "json"); action = Some SetTrue }
@@ -38,6 +39,17 @@ help_app = with_rule (new_app (codes "help")) topic_rule
 abbrev pub version_app : App
 version_app = new_app (codes "version")
 
-abbrev pub person_app : App
-person_app =
+-- which run is meant, and nothing else
+abbrev pub errors_app : App
+errors_app = with_rule (with_run_rules (new_app (codes "errors"))) args_rule
+
+abbrev pub static_app : App
+static_app = with_rule (new_app (codes "static")) file_rule
+
+abbrev pub plain_app : App
+plain_app =
     with_subcommand (with_subcommand (with_subcommand (with_subcommand cub_alone explain_app.top) batch_app.top) help_app.top) version_app.top
+
+-- with the commands that look further at a program or its run
+abbrev pub person_app : App
+person_app = with_subcommand (with_subcommand plain_app errors_app.top) static_app.top

@@ -3,10 +3,11 @@ ghost use Rattle.std.specs.Prelude.{◌≡◌, false, IfOk};
 ghost use Rattle.clap.specs.Simple.{app_of};
 ghost use Rattle.clap.specs.Walk.{rule_of};
 ghost use Rattle.clap.specs.declared.builder.command.Command.TheViews.{out-Command as fields_of};
-ghost use Rattle.command.specs.PersonApp.{json_rule, text_rule, names_rule, program_rule, list_rule, topic_rule, explain_app, batch_app, help_app, version_app, person_app};
+ghost use Rattle.command.specs.PersonApp.{json_rule, text_rule, names_rule, program_rule, list_rule, topic_rule, explain_app, batch_app, help_app, version_app, errors_app, static_app, person_app};
 
 use crate::app::{
-    args_arg, cub_without_commands, steps_arg, tight_arg, with_arg, with_command, with_run_args,
+    args_arg, cub_without_commands, file_arg, steps_arg, tight_arg, with_arg, with_command,
+    with_run_args,
 };
 use clap::{Arg, ArgAction, Command};
 use std::alloc::{AllocError, Global};
@@ -101,6 +102,24 @@ fn version_command<'a>(alloc: Global) -> Command<'a>
     Command::new(alloc, "version")
 }
 
+fn errors_command<'a>(alloc: Global) -> Result<Command<'a>, AllocError>
+    ensures app { IfOk result (λ command. app_of command ≡ errors_app) }
+    ensures local { IfOk result (λ command. (fields_of command).has_globals ≡ false) }
+{
+    let command = with_run_args(alloc, Command::new(alloc, "errors"))?;
+    let command = with_arg(command, args_arg(alloc))?;
+    Ok(command)
+}
+
+fn static_command<'a>(alloc: Global) -> Result<Command<'a>, AllocError>
+    ensures app { IfOk result (λ command. app_of command ≡ static_app) }
+    ensures local { IfOk result (λ command. (fields_of command).has_globals ≡ false) }
+{
+    let command = Command::new(alloc, "static");
+    let command = with_arg(command, file_arg(alloc))?;
+    Ok(command)
+}
+
 /// The command for a person, with no program's name in front.
 pub fn person_command<'a>(alloc: Global) -> Result<Command<'a>, AllocError>
     ensures app { IfOk result (λ command. app_of command ≡ person_app) }
@@ -111,5 +130,7 @@ pub fn person_command<'a>(alloc: Global) -> Result<Command<'a>, AllocError>
     let command = with_command(command, batch_command(alloc)?)?;
     let command = with_command(command, help_command(alloc)?)?;
     let command = with_command(command, version_command(alloc))?;
+    let command = with_command(command, errors_command(alloc)?)?;
+    let command = with_command(command, static_command(alloc)?)?;
     Ok(command)
 }

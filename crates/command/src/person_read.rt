@@ -5,10 +5,10 @@ ghost use Rattle.clap.specs.Simple.{HasMatchesOf};
 ghost use Rattle.clap.specs.Takes.{takes};
 ghost use Rattle.clap.specs.Walk.{rows_of};
 ghost use Rattle.command.specs.PersonApp.{person_app};
-ghost use Rattle.command.specs.PersonAsked.{person_named, IsBatch, IsExplain, IsPersonName, IsPersonRequest, IsPersonTaken};
+ghost use Rattle.command.specs.PersonAsked.{person_named, IsBatch, IsExplain, IsExploration, IsExplorationName, IsPersonName, IsPersonRequest, IsPersonTaken, IsUncertified};
 
 use crate::person_app::person_command;
-use crate::person_request::{BatchRequest, ExplainRequest, PersonRequest};
+use crate::person_request::{BatchRequest, ExplainRequest, Exploration, PersonRequest};
 use crate::read::{MAX_STEPS, is_set, number_of, text_given, text_of, texts_of};
 use crate::request::{AuditRequest, WordFault};
 use clap::ArgMatches;
@@ -33,21 +33,29 @@ fn person_matches_of<'a>(alloc: Global, words: &'a [String]) -> Result<ArgMatche
     }
 }
 
+// An audit without a certificate.
+fn uncertified<'a>(alloc: Global, given: &ArgMatches<'a>) -> Result<AuditRequest<'a>, AllocError>
+    ensures { IfOk result (IsUncertified (rows_of (found_of given.now))) }
+{
+    Ok(AuditRequest {
+        file: text_given(given, "FILE"),
+        input: text_of(given, "input"),
+        steps: number_of(given, "steps", 1, MAX_STEPS),
+        is_tight: is_set(given, "tight"),
+        cert: None,
+        args: texts_of(alloc, given, "ARGS")?,
+    })
+}
+
 fn explain_request<'a>(
     alloc: Global,
     given: &ArgMatches<'a>,
 ) -> Result<ExplainRequest<'a>, AllocError>
     ensures { IfOk result (IsExplain (rows_of (found_of given.now))) }
 {
+    let audit = uncertified(alloc, given)?;
     Ok(ExplainRequest {
-        audit: AuditRequest {
-            file: text_given(given, "FILE"),
-            input: text_of(given, "input"),
-            steps: number_of(given, "steps", 1, MAX_STEPS),
-            is_tight: is_set(given, "tight"),
-            cert: None,
-            args: texts_of(alloc, given, "ARGS")?,
-        },
+        audit,
         is_json: is_set(given, "json"),
         is_text: is_set(given, "text"),
     })
@@ -63,6 +71,20 @@ fn batch_request<'a>(alloc: Global, given: &ArgMatches<'a>) -> Result<BatchReque
         steps: number_of(given, "steps", 1, MAX_STEPS),
         is_tight: is_set(given, "tight"),
     })
+}
+
+fn exploration_of<'a>(
+    alloc: Global,
+    name: &str,
+    given: &ArgMatches<'a>,
+) -> Result<Exploration<'a>, AllocError>
+    requires { IsExplorationName name.now }
+    ensures { IfOk result (IsExploration (name.now, rows_of (found_of given.now))) }
+{
+    if name == "errors" {
+        return Ok(Exploration::Errors(uncertified(alloc, given)?));
+    }
+    Ok(Exploration::Static(text_given(given, "FILE")))
 }
 
 fn person_request_of<'a>(
@@ -82,7 +104,10 @@ fn person_request_of<'a>(
     if name == "help" {
         return Ok(PersonRequest::Help(text_of(given, "COMMAND")));
     }
-    Ok(PersonRequest::Version)
+    if name == "version" {
+        return Ok(PersonRequest::Version);
+    }
+    Ok(PersonRequest::Explore(exploration_of(alloc, name, given)?))
 }
 
 /// What the words ask for by a command for a person.

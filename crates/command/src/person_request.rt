@@ -24,6 +24,15 @@ pub struct BatchRequest<'a> {
     pub is_tight: bool,
 }
 
+/// A further look at a program or at its run.
+#[derive(Drop)]
+pub enum Exploration<'a> {
+    /// `errors FILE [--input F] [--steps N] [--tight] [ARGS]`, without a certificate.
+    Errors(AuditRequest<'a>),
+    /// `static FILE`.
+    Static(&'a str),
+}
+
 /// What the words ask for by a command for a person.
 #[derive(Drop)]
 pub enum PersonRequest<'a> {
@@ -32,4 +41,5 @@ pub enum PersonRequest<'a> {
     /// Help on the command of this name, or on all.
     Help(Option<&'a str>),
     Version,
+    Explore(Exploration<'a>),
 }

@@ -5,11 +5,15 @@ use Rattle.std.specs.Prelude.{◌≡◌, ◌⊎◌, ◌++◌, ℕ, List, codes, 
 abbrev pub Begins : List ℕ → List ℕ → Type 0
 Begins words text = take (length words) text ≡ words
 
+-- the name of a command that looks further at a program or its run
+abbrev pub IsLook : List ℕ → Type 0
+IsLook name = (name ≡ codes "errors") ⊎ (name ≡ codes "static")
+
 -- the name of a command
 abbrev pub IsCommand : List ℕ → Type 0
 IsCommand name =
     (name ≡ codes "audit") ⊎ (name ≡ codes "explain") ⊎ (name ≡ codes "batch") ⊎ (name ≡ codes "check") ⊎ (name ≡ codes "self")
-    ⊎ (name ≡ codes "help") ⊎ (name ≡ codes "version")
+    ⊎ (name ≡ codes "help") ⊎ (name ≡ codes "version") ⊎ IsLook name
 
 -- what the program is for, and the commands that a person needs first
 abbrev pub first_lines : List ℕ

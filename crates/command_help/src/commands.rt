@@ -1,6 +1,6 @@
 // What each command takes.
 ghost use Rattle.std.specs.Prelude.{◌≡◌, ◌++◌, IfSome, IfNone, codes};
-ghost use Rattle.command_help.specs.Commands.{Begins, IsCommand};
+ghost use Rattle.command_help.specs.Commands.{Begins, IsCommand, IsLook};
 
 fn about_audit() -> &'static str
     ensures { Begins (codes "cub audit") result.now }
@@ -77,7 +77,7 @@ fn about_help() -> &'static str
     ensures { Begins (codes "cub help") result.now }
 {
     "cub help [COMMAND]
-  COMMAND     audit, explain, batch, check, self, help or version (without it: all, a line each)
+  COMMAND     audit, explain, batch, check, static, errors, self, help or version (without it: all, a line each)
 Example:  cub help audit
 "
 }
@@ -89,6 +89,46 @@ fn about_version() -> &'static str
 Prints the version of cub, and the line of the kit whose checker proved it.
 Example:  cub version
 "
+}
+
+fn about_errors() -> &'static str
+    ensures { Begins (codes "cub errors") result.now }
+{
+    "cub errors FILE [--input F] [--steps N] [--tight] [ARGS]
+  FILE        preprocessed C11, at most 1 MiB; - is standard input
+  --input F   the program's standard input (without it: empty)
+  --steps N   stop after N steps, 1 to 100000000 (without it: 1000000)
+  --tight     objects without gaps between them
+  ARGS        the program's arguments; after -- where one begins with -
+Prints the report of cub audit, and ends with its status. What the program wrote to standard error goes to standard error.
+Example:  cub errors prog.c --input numbers 2>written
+"
+}
+
+fn about_static() -> &'static str
+    ensures { Begins (codes "cub static") result.now }
+{
+    "cub static FILE
+  FILE        preprocessed C11, at most 1 MiB; - is standard input
+Runs nothing. Prints each full expression of which it isn't known that it never races, with two accesses in it, and how
+many of either kind there are. All never race (0), or some aren't known to (8), which doesn't say that they do.
+Example:  cub static prog.c
+"
+}
+
+// What a command takes that looks further at a program or its run.
+fn about_look(command: &str) -> Option<&'static str>
+    ensures begins { IfSome result (λ text. Begins (codes "cub " ++ command.now) text.now) }
+    ensures command { IfSome result (λ _. IsLook command.now) }
+    ensures none { IfNone result (¬ IsLook command.now) }
+{
+    if command == "errors" {
+        Some(about_errors())
+    } else if command == "static" {
+        Some(about_static())
+    } else {
+        None
+    }
 }
 
 /// What a command takes, with an example; none where no command has this name.
@@ -112,6 +152,6 @@ pub fn about(command: &str) -> Option<&'static str>
     } else if command == "version" {
         Some(about_version())
     } else {
-        None
+        about_look(command)
     }
 }

@@ -36,19 +36,28 @@ fn words<R: rt::Env + AllocGlobal>(rt: &R) -> Result<Vec<String>, NoMemory> {
     Ok(words)
 }
 
-// Does what the words ask for. Where the stream of standard error is a terminal, runs are told of there.
-fn answered<R: fs::Files + Input + Print + Eprint + Clock + AllocGlobal, E: IsTerminal>(
+// Does what the words ask for. What a program wrote to its standard error goes to a stream of its own; where that is a terminal, runs are told
+// of there.
+fn answered<R: fs::Files + Input + Print + Eprint + Clock + AllocGlobal, E: Print + IsTerminal>(
     rt: &R,
     stream: &E,
     words: &[String],
 ) -> u8 {
     let mut files = HostFiles::new(rt);
     let mut out = HostSink::new(rt);
+    let mut errors = HostSink::new(stream);
     if is_for_person(words) {
         let engine = Engine {
             progress: HostProgress::new(rt, stream.is_terminal()),
         };
-        person_main(rt.alloc(), words, &engine, &mut files, &mut out)
+        person_main(
+            rt.alloc(),
+            words,
+            &engine,
+            &mut files,
+            &mut out,
+            &mut errors,
+        )
     } else {
         audit_main(rt.alloc(), words, &mut files, &mut out)
     }

@@ -3,6 +3,7 @@
 
 mod batch;
 mod explain;
+mod explore;
 mod help;
 mod list;
 mod put;
@@ -10,4 +11,5 @@ mod top;
 mod words;
 
 pub use explain::{Explainer, Page};
+pub use explore::{Explorer, Sheet};
 pub use top::{is_for_person, person_main};

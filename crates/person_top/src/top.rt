@@ -1,13 +1,14 @@
 // The top call of the commands for a person.
 ghost use Rattle.std.specs.Prelude.{◌↔◌, IsTrue, map, string_bytes, option_copied};
-ghost use Rattle.command.specs.PersonAsked.{IsPersonName};
+ghost use Rattle.command.specs.PersonAsked.{IsExplorationName, IsPersonName};
 ghost use Rattle.audit_batch.specs.Moment.{moment};
-ghost use Rattle.person_top.specs.Ends.{EndsTold};
-ghost use Rattle.person_top.specs.Person.{IsForPerson, PersonEnds, RequestEnds, IsBounded, IsVersion};
+ghost use Rattle.person_top.specs.Ends.{EndsTold, device};
+ghost use Rattle.person_top.specs.Person.{IsForPerson, PersonEnds, RequestEnds, IsBounded, IsVersion, tells};
 ghost use Rattle.person_top.specs.Help.{IsHelp};
 
 use crate::batch::batch;
 use crate::explain::{Explainer, explain};
+use crate::explore::{Explorer, explore};
 use crate::help::help;
 use crate::put::{put_no_memory, put_text};
 use crate::words::asked;
@@ -19,11 +20,22 @@ use ub_base::{Files, Sink};
 
 const USAGE: u8 = 10;
 
+// A word names a command that looks further at a program or its run.
+fn is_exploration_name(word: &str) -> bool
+    ensures { IsTrue result ↔ IsExplorationName word.now }
+{
+    word == "errors" || word == "static"
+}
+
 // A word names a command for a person.
 fn is_name(word: &str) -> bool
     ensures { IsTrue result ↔ IsPersonName word.now }
 {
-    word == "explain" || word == "batch" || word == "help" || word == "version"
+    word == "explain"
+        || word == "batch"
+        || word == "help"
+        || word == "version"
+        || is_exploration_name(word)
 }
 
 /// Whether words are for these commands: the first one names one of them.
@@ -45,40 +57,46 @@ fn put_help<O: Sink>(topic: Option<&str>, out: &mut O) -> u8
 }
 
 // Does what is asked for.
-fn answer_to<A: Auditor + Explainer, F: Files, O: Sink>(
+fn answer_to<A: Auditor + Explainer + Explorer, F: Files, O: Sink, E: Sink>(
     alloc: Global,
     request: &PersonRequest<'_>,
     engine: &A,
     files: &mut F,
     out: &mut O,
+    errors: &mut E,
 ) -> u8
     requires { IsBounded request.now }
-    ensures { RequestEnds (A.says engine.now) (A.explains engine.now)
+    ensures { RequestEnds (tells (A.says engine.now) (A.explains engine.now) (A.explores engine.now))
         (moment (F.held files.old) (F.read_faults files.old) (F.write_faults files.old)) (moment (F.held files.new) (F.read_faults files.new) (F.write_faults files.new))
-        (O.told out.old) (O.told out.new) (O.faults out.old) (O.faults out.new) result request.now }
+        (device (O.told out.old) (O.faults out.old)) (device (O.told out.new) (O.faults out.new))
+        (device (E.told errors.old) (E.faults errors.old)) (device (E.told errors.new) (E.faults errors.new)) result request.now }
 {
     match request {
         PersonRequest::Explain(request) => explain(alloc, request, engine, files, out),
         PersonRequest::Batch(request) => batch(alloc, request, engine, files, out),
         PersonRequest::Help(topic) => put_help(*topic, out),
         PersonRequest::Version => put_text(out, version().as_bytes(), 0),
+        PersonRequest::Explore(look) => explore(alloc, look, engine, files, out, errors),
     }
 }
 
-/// Does what the words ask for by a command for a person, and gives the status.
-pub fn person_main<A: Auditor + Explainer, F: Files, O: Sink>(
+/// Does what the words ask for by a command for a person, and gives the status. What the program wrote to its standard error goes to
+/// `errors`, where that is asked for.
+pub fn person_main<A: Auditor + Explainer + Explorer, F: Files, O: Sink, E: Sink>(
     alloc: Global,
     words: &[String],
     engine: &A,
     files: &mut F,
     out: &mut O,
+    errors: &mut E,
 ) -> u8
-    ensures { PersonEnds (A.says engine.now) (A.explains engine.now) (map string_bytes words.now)
+    ensures { PersonEnds (tells (A.says engine.now) (A.explains engine.now) (A.explores engine.now)) (map string_bytes words.now)
         (moment (F.held files.old) (F.read_faults files.old) (F.write_faults files.old)) (moment (F.held files.new) (F.read_faults files.new) (F.write_faults files.new))
-        (O.told out.old) (O.told out.new) (O.faults out.old) (O.faults out.new) result }
+        (device (O.told out.old) (O.faults out.old)) (device (O.told out.new) (O.faults out.new))
+        (device (E.told errors.old) (E.faults errors.old)) (device (E.told errors.new) (E.faults errors.new)) result }
 {
     match asked(alloc, words) {
-        Ok(request) => answer_to(alloc, &request, engine, files, out),
+        Ok(request) => answer_to(alloc, &request, engine, files, out, errors),
         Err(WordFault::Usage) => put_text(out, b"usage\n", USAGE),
         Err(WordFault::NoMemory) => put_no_memory(out),
     }

@@ -3,7 +3,7 @@ use Rattle.clap.specs.Faults.{fault_of}
 use Rattle.clap.specs.Simple.{app_of}
 use Rattle.clap.specs.Takes.{takes}
 use Rattle.command.proofs.Words.{only_memory}
-use Rattle.command.proofs.PersonWords.{person_is_simple, taken_as, takes_as}
+use Rattle.command.proofs.PersonWords.{matches_as, person_is_simple, taken_as, takes_as}
 use Rattle.command.proofs.person_read.person_matches_of.Goals as goal
 
 pub returns-in-Ok-try_get_matches_from-clause-taken : goal.returns-in-Ok-try_get_matches_from-clause-taken
@@ -22,3 +22,8 @@ pub returns-clause-usage : goal.returns-clause-usage
 returns-clause-usage c = λ is taken.
     c.in_default-kind.not-OutOfMemory (c.kind.ensures ∙ c.in-Err.ensures.passes
     (subst (λ app. takes app (map string_bytes c.args.words.now) ≡ true) (sym c.in-Ok.ensures.app) taken))
+
+pub returns-in-Ok-try_get_matches_from-clause-matches : goal.returns-in-Ok-try_get_matches_from-clause-matches
+returns-in-Ok-try_get_matches_from-clause-matches c =
+    matches_as (app_of c.in-Ok.command) (map string_bytes c.args.words.now) c.in-Ok-try_get_matches_from.matches c.in-Ok.ensures.app
+    c.in-Ok-try_get_matches_from.ensures.matches

@@ -1,0 +1,1 @@
+void f(char *d,char *s){while(*s)*d++=*s++;}int main(void){return 0;}
