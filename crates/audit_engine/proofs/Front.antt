@@ -60,11 +60,16 @@ pub record Unparsed (tokens : TokenText) (parsed : Result SyntaxTree ParseFault)
   pub none : (at : ℕ) → parsed ≡ Err (ParseFault.Syntax at) → (unit : SyntaxTree) → SpellsUnit unit tokens → ⊥
 
 syntax_why : (tokens : TokenText) (at : ℕ) → lexed tokens.source ≡ Ok tokens.list → Unparsed tokens (Err (ParseFault.Syntax at)) → HasNoTree tokens.source
-syntax_why tokens at are says =
-    (tokens,
-    (refl, are, flat_or_beyond (nest_of tokens.list)
-    (λ beyond. neither (syntax_is_not_deep at (nest_of tokens.list)) (syntax_is_not_memory at) (says.deep beyond)) (cases_lt 2000 (nest_of tokens.list))),
-    says.none at refl)
+syntax_why tokens at are says = (
+  tokens,
+  (
+    refl,
+    are,
+    flat_or_beyond (nest_of tokens.list)
+        (λ beyond. neither (syntax_is_not_deep at (nest_of tokens.list)) (syntax_is_not_memory at) (says.deep beyond)) (cases_lt 2000 (nest_of tokens.list)),
+  ),
+  says.none at refl,
+)
 
 parse_why : (tokens : TokenText) (fault : ParseFault) → lexed tokens.source ≡ Ok tokens.list → Unparsed tokens (Err fault)
     → WhyNone tokens.source (parse_fault fault)
