@@ -92,3 +92,7 @@ untyped text tree = (Refusal.NotTyped 1, tree)
 pub too_high : (text : List ℕ) (program : Program) (count : ℕ) → IsTyped text program → count ≡ min (program_height program) (2 ^ 32 - 1) → 1000 < count
     → IsRefused text
 too_high text program count typed is high = (Refusal.TooHigh count, record { program = program; typed = typed; is = is; high = high })
+
+-- a text that is said to be refused
+pub refused_by : (text : List ℕ) (fault : FrontFault) → fault ≡ FrontFault.Refused → WhyNone text fault → IsRefused text
+refused_by text fault is why = subst (WhyNone text) is why

@@ -87,9 +87,9 @@ pub fn program_of(alloc: Global, text: &[u8]) -> Result<Program, FrontFault>
     let tokens = tokens_of(alloc, text)?;
     let unit = unit_of(alloc, &tokens)?;
     let program = typed(alloc, &tokens, &unit)?;
-    if height(&program) > MAX_HEIGHT {
-        Err(FrontFault::Refused)
-    } else {
-        Ok(program)
+    let height = height(&program);
+    if height > MAX_HEIGHT {
+        return Err(FrontFault::Refused);
     }
+    Ok(program)
 }
