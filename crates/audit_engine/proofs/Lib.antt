@@ -3,3 +3,5 @@ mod Front
 mod Pages
 mod Reports
 mod Statics
+mod Stories
+mod Swaps

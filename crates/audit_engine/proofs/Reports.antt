@@ -42,7 +42,7 @@ fetched_report was is request before source bytes said text whole input same so 
 }
 
 -- the report where a file isn't fetched
-stopped_report : (was is : Moment) (request : AuditRequest) (fault : FetchFault) (said : ℕ) (text : List ℕ)
+pub stopped_report : (was is : Moment) (request : AuditRequest) (fault : FetchFault) (said : ℕ) (text : List ℕ)
     → Stops was.held was.reads is.reads (wanted request.file.now (option_copied request.input)) fault → IsStoppedReport fault said text
     → IsReport was is request said text
 stopped_report was is request fault said text stops so = record {

@@ -9,6 +9,8 @@ ghost use Rattle.audit_engine.specs.Looks.{Explored};
 use crate::errors::errors_sheet;
 use crate::explain::explained;
 use crate::statics::static_sheet;
+use crate::story::story_sheet;
+use crate::swap::swap_sheet;
 use audit_batch::{Auditor, Limits, Verdict};
 use audit_top::{Answer, Progress, audit};
 use command::{AuditRequest, ExplainRequest, Exploration};
@@ -122,6 +124,8 @@ impl<P: Progress + Copy> Explorer for Engine<P> {
         match look {
             Exploration::Errors(request) => errors_sheet(alloc, request, files, &mut progress),
             Exploration::Static(file) => static_sheet(alloc, file, files),
+            Exploration::Swap(request) => swap_sheet(alloc, request, files),
+            Exploration::Story(request) => story_sheet(alloc, request, files),
         }
     }
 }

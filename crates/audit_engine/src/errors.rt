@@ -3,16 +3,15 @@ ghost use Rattle.std.specs.Prelude.{◌≡◌, ◌≤◌, ◌^◌, None, length,
 ghost use Rattle.audit_batch.specs.Moment.{moment};
 ghost use Rattle.audit_engine.specs.Looks.{ErrorsTold, IsTextReport, MayWrite};
 
-use crate::explain::mode_of;
 use crate::front::{FrontFault, program_of};
 use crate::judged::judged_report;
-use crate::looks::stopped_sheet;
+use crate::looks::{run_audited, stopped_sheet};
 use audit_sources::{Sources, fetch_sources};
-use audit_top::{Progress, Quiet};
+use audit_top::Progress;
 use c_typed::Program;
 use command::AuditRequest;
 use elaborate::elaborate;
-use footprint_run::{Audit, audit_run};
+use footprint_run::Audit;
 use person_top::{Page, Sheet};
 use std::alloc::Global;
 use ub_base::{Bytes, Files, NoMemory};
@@ -27,16 +26,7 @@ fn errors_of(
     requires { request.now.steps ≤ 100000000 }
 {
     let core = elaborate(alloc, program)?;
-    let mode = mode_of(request.is_tight);
-    let audit = audit_run(
-        alloc,
-        &core,
-        input,
-        &request.args,
-        mode,
-        request.steps,
-        &mut Quiet,
-    )?;
+    let audit = run_audited(alloc, &core, request, input)?;
     let Audit { errors, .. } = audit;
     Ok(errors)
 }

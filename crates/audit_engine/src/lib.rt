@@ -8,6 +8,8 @@ mod front;
 mod judged;
 mod looks;
 mod statics;
+mod story;
+mod swap;
 mod written;
 
 pub use engine::Engine;

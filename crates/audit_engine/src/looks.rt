@@ -1,10 +1,16 @@
 // What further looks share.
-ghost use Rattle.std.specs.Prelude.{◌≡◌, [], IfOk};
+ghost use Rattle.std.specs.Prelude.{◌≡◌, ◌≤◌, [], IfOk};
 ghost use Rattle.audit_top.specs.Cause.{stopped};
 ghost use Rattle.audit_top.specs.Report.{report, status};
+ghost use Rattle.elaborate.specs.Expressions.{program_trees};
+ghost use Rattle.footprint_run.specs.Apart.{StandsApart};
+ghost use Rattle.footprint_run.specs.Findings.{picks_of};
 
-use crate::explain::stopped_page;
+use crate::explain::{mode_of, stopped_page};
 use audit_sources::FetchFault;
+use command::AuditRequest;
+use core_ir::CoreProgram;
+use footprint_run::{Audit, Finding, Quiet, audit_run};
 use person_top::{Page, Sheet};
 use std::alloc::Global;
 use ub_base::{Bytes, NoMemory};
@@ -32,4 +38,40 @@ pub fn stopped_sheet(alloc: Global, fault: FetchFault) -> Result<Sheet, NoMemory
 {
     let page = stopped_page(alloc, fault)?;
     quiet(alloc, page)
+}
+
+/// The audit of the run of a program.
+pub fn run_audited(
+    alloc: Global,
+    core: &CoreProgram<'_>,
+    request: &AuditRequest<'_>,
+    input: &[u8],
+) -> Result<Audit, NoMemory>
+    requires { request.now.steps ≤ 100000000 }
+    ensures within { IfOk result (λ a. picks_of a.finding ≤ request.now.steps) }
+    ensures apart { IfOk result (λ a. StandsApart (program_trees core.now.program.now) a.finding) }
+{
+    let mode = mode_of(request.is_tight);
+    audit_run(
+        alloc,
+        core,
+        input,
+        &request.args,
+        mode,
+        request.steps,
+        &mut Quiet,
+    )
+}
+
+/// How many picks lead to a finding.
+pub fn picks_of(finding: Finding) -> u64
+    ensures { result ≡ picks_of finding }
+{
+    match finding {
+        Finding::Clean { picks, .. } => picks,
+        Finding::Undefined { picks, .. } => picks,
+        Finding::OrderDependent { picks, .. } => picks,
+        Finding::OutOfSteps { picks } => picks,
+        Finding::Outside { picks, .. } => picks,
+    }
 }

@@ -21,23 +21,29 @@ enters names held words (Some p) below none = refl
 enters names held words None below none =
     absurd (missing (or_else_empty _ _ (or_else_empty _ _ (or_else_empty below _ (or_else_empty _ _ none)))))
 
-one_of_six : (u v w x y z : Bool) (explain batch help version errors static : Shape) (rest : List Text)
+one_of_eight : (s t u v w x y z : Bool) (explain batch help version errors static swap story : Shape) (rest : List Text)
     → explain.name ≡ codes "explain" → batch.name ≡ codes "batch" → help.name ≡ codes "help" → version.name ≡ codes "version"
-    → errors.name ≡ codes "errors" → static.name ≡ codes "static"
+    → errors.name ≡ codes "errors" → static.name ≡ codes "static" → swap.name ≡ codes "swap" → story.name ≡ codes "story"
     → IfSome (option_map (λ shape. rows_at shape rest)
-    (cond u (Some explain) (cond v (Some batch) (cond w (Some help) (cond x (Some version) (cond y (Some errors) (cond z (Some static) None)))))))
+    (cond s (Some explain) (cond t (Some batch) (cond u (Some help) (cond v (Some version)
+    (cond w (Some errors) (cond x (Some static) (cond y (Some swap) (cond z (Some story) None)))))))))
     (λ p. IsPersonName p.0)
-one_of_six true v w x y z explain batch help version errors static rest a b c d e f = inl a
-one_of_six false true w x y z explain batch help version errors static rest a b c d e f = inr (inl b)
-one_of_six false false true x y z explain batch help version errors static rest a b c d e f = inr (inr (inl c))
-one_of_six false false false true y z explain batch help version errors static rest a b c d e f = inr (inr (inr (inl d)))
-one_of_six false false false false true z explain batch help version errors static rest a b c d e f = inr (inr (inr (inr (inl e))))
-one_of_six false false false false false true explain batch help version errors static rest a b c d e f = inr (inr (inr (inr (inr f))))
-one_of_six false false false false false false explain batch help version errors static rest a b c d e f = tt
+one_of_eight true t u v w x y z explain batch help version errors static swap story rest a b c d e f g h = inl a
+one_of_eight false true u v w x y z explain batch help version errors static swap story rest a b c d e f g h = inr (inl b)
+one_of_eight false false true v w x y z explain batch help version errors static swap story rest a b c d e f g h = inr (inr (inl c))
+one_of_eight false false false true w x y z explain batch help version errors static swap story rest a b c d e f g h = inr (inr (inr (inl d)))
+one_of_eight false false false false true x y z explain batch help version errors static swap story rest a b c d e f g h = inr (inr (inr (inr (inl e))))
+one_of_eight false false false false false true y z explain batch help version errors static swap story rest a b c d e f g h =
+    inr (inr (inr (inr (inr (inl f)))))
+one_of_eight false false false false false false true z explain batch help version errors static swap story rest a b c d e f g h =
+    inr (inr (inr (inr (inr (inr (inl g))))))
+one_of_eight false false false false false false false true explain batch help version errors static swap story rest a b c d e f g h =
+    inr (inr (inr (inr (inr (inr (inr h))))))
+one_of_eight false false false false false false false false explain batch help version errors static swap story rest a b c d e f g h = tt
 
 entered_name : (stop : Option (Text × List Text)) → IfSome (entered (built person_app) stop) (λ p. IsPersonName p.0)
 entered_name None = tt
-entered_name (Some p) = one_of_six _ _ _ _ _ _ _ _ _ _ _ _ p.1 refl refl refl refl refl refl
+entered_name (Some p) = one_of_eight _ _ _ _ _ _ _ _ _ _ _ _ _ _ _ _ p.1 refl refl refl refl refl refl refl refl
 
 -- the words name this subcommand and give it this
 pub record IsPersonNamed (found : Option (Text × List Row)) : Type 0 where
@@ -71,7 +77,7 @@ named_so : {Z : Type 0} (o : Option (Box SubCommand Z)) (found : Option (Text ×
 named_so None found same named = tt
 named_so (Some b) found same named = subst (λ f. IfSome f (λ p. IsPersonName p.0)) (sym same) named
 
--- and its name is one of the six
+-- and its name is one of the eight
 pub name_of : (words : List (List ℕ)) (m : ArgMatches) (given : Option (List ℕ)) → HasMatchesOf person_app words m → given ≡ subcommand_name_of m
     → IfSome given IsPersonName
 name_of words m given has same = subst (λ o. IfSome o IsPersonName) (sym same) (named_so _ _ (has refl).1 (entered_name (stop words)))

@@ -1,7 +1,8 @@
 -- The commands for a person, as a simple command of `clap`: `explain FILE [--input F] [--steps N] [--tight] [--json] [--text] [ARGS]`,
 -- `batch NAME.. [--program F] [--list] [--steps N] [--tight]`, `help [COMMAND]`, `version`,
--- `errors FILE [--input F] [--steps N] [--tight] [ARGS]` and `static FILE` (own).
-use Rattle.std.specs.Prelude.{true, codes, Some}
+-- `errors FILE [--input F] [--steps N] [--tight] [ARGS]`, `static FILE`, `swap` with the words of `errors`, and `story` with these and NAME behind FILE
+-- (own).
+use Rattle.std.specs.Prelude.{ℕ, List, true, codes, Some}
 use Rattle.clap.specs.Lexer.{usize_max}
 use Rattle.clap.specs.Simple.{App, new_app, new_rule, with_rule, with_subcommand}
 use Rattle.clap.specs.Walk.{Rule}
@@ -39,12 +40,19 @@ help_app = with_rule (new_app (codes "help")) topic_rule
 abbrev pub version_app : App
 version_app = new_app (codes "version")
 
--- which run is meant, and nothing else
-abbrev pub errors_app : App
-errors_app = with_rule (with_run_rules (new_app (codes "errors"))) args_rule
+-- a command of this name that is told which run is meant, and nothing else
+abbrev pub run_app : List ℕ → App
+run_app name = with_rule (with_run_rules (new_app name)) args_rule
 
 abbrev pub static_app : App
 static_app = with_rule (new_app (codes "static")) file_rule
+
+-- the text of an object
+abbrev pub object_rule : Rule
+object_rule = record (new_rule (codes "NAME")) { required = true }
+
+abbrev pub story_app : App
+story_app = with_rule (with_rule (with_run_rules (new_app (codes "story"))) object_rule) args_rule
 
 abbrev pub plain_app : App
 plain_app =
@@ -52,4 +60,6 @@ plain_app =
 
 -- with the commands that look further at a program or its run
 abbrev pub person_app : App
-person_app = with_subcommand (with_subcommand plain_app errors_app.top) static_app.top
+person_app =
+    with_subcommand (with_subcommand (with_subcommand (with_subcommand plain_app (run_app (codes "errors")).top) static_app.top) (run_app (codes "swap")).top)
+    story_app.top

@@ -8,9 +8,10 @@ use Rattle.command.specs.PersonApp.{person_app}
 use Rattle.command.specs.declared.person_request.BatchRequest.{BatchRequest}
 use Rattle.command.specs.declared.person_request.ExplainRequest.{ExplainRequest}
 use Rattle.command.specs.declared.person_request.Exploration.{Exploration}
-use Rattle.command.specs.declared.person_request.Exploration.TheVariants.{Errors, Static}
+use Rattle.command.specs.declared.person_request.Exploration.TheVariants.{Errors, Static, Swap, Story}
 use Rattle.command.specs.declared.person_request.PersonRequest.{PersonRequest}
 use Rattle.command.specs.declared.person_request.PersonRequest.TheVariants.{Explain, Batch, Help, Version, Explore}
+use Rattle.command.specs.declared.person_request.StoryRequest.{StoryRequest}
 use Rattle.command.specs.declared.request.AuditRequest.{AuditRequest}
 
 -- the command takes the words: no fault is found in them
@@ -19,7 +20,7 @@ IsPersonTaken words = fault_of person_app words ≡ []
 
 -- the names of the subcommands that look further at a program or its run
 abbrev pub IsExplorationName : List ℕ → Type 0
-IsExplorationName name = (name ≡ codes "errors") ⊎ (name ≡ codes "static")
+IsExplorationName name = (name ≡ codes "errors") ⊎ ((name ≡ codes "static") ⊎ ((name ≡ codes "swap") ⊎ (name ≡ codes "story")))
 
 -- the names of the subcommands
 abbrev pub IsPersonName : List ℕ → Type 0
@@ -51,10 +52,16 @@ pub record IsBatch (rows : List Row) (request : BatchRequest) : Type 0 where
   pub steps : Spells 1 100000000 (one_of (codes "steps") rows) request.steps
   pub tight : request.is_tight ≡ is_set (first_of (codes "tight") rows)
 
+pub record IsStory (rows : List Row) (request : StoryRequest) : Type 0 where
+  pub audit : IsUncertified rows request.audit
+  pub name : request.name.now ≡ text_given (codes "NAME") rows
+
 -- the further look is that of this subcommand, with what it was given
 abbrev pub IsExploration : List ℕ × List Row → Exploration → Type 0
 IsExploration found (Errors request) = (found.0 ≡ codes "errors") × IsUncertified found.1 request
 IsExploration found (Static file) = (found.0 ≡ codes "static") × (file.now ≡ text_given (codes "FILE") found.1)
+IsExploration found (Swap request) = (found.0 ≡ codes "swap") × IsUncertified found.1 request
+IsExploration found (Story request) = (found.0 ≡ codes "story") × IsStory found.1 request
 
 -- the request is that of this subcommand, with what it was given
 abbrev pub IsPersonRequest : List ℕ × List Row → PersonRequest → Type 0

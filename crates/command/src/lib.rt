@@ -9,6 +9,6 @@ mod read;
 mod request;
 
 pub use person_read::read_person_words;
-pub use person_request::{BatchRequest, ExplainRequest, Exploration, PersonRequest};
+pub use person_request::{BatchRequest, ExplainRequest, Exploration, PersonRequest, StoryRequest};
 pub use read::read_words;
 pub use request::{AuditRequest, CheckRequest, Request, SelfRequest, WordFault};

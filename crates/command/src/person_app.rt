@@ -3,7 +3,7 @@ ghost use Rattle.std.specs.Prelude.{◌≡◌, false, IfOk};
 ghost use Rattle.clap.specs.Simple.{app_of};
 ghost use Rattle.clap.specs.Walk.{rule_of};
 ghost use Rattle.clap.specs.declared.builder.command.Command.TheViews.{out-Command as fields_of};
-ghost use Rattle.command.specs.PersonApp.{json_rule, text_rule, names_rule, program_rule, list_rule, topic_rule, explain_app, batch_app, help_app, version_app, errors_app, static_app, person_app};
+ghost use Rattle.command.specs.PersonApp.{json_rule, text_rule, names_rule, program_rule, list_rule, topic_rule, object_rule, explain_app, batch_app, help_app, version_app, run_app, static_app, story_app, person_app};
 
 use crate::app::{
     args_arg, cub_without_commands, file_arg, steps_arg, tight_arg, with_arg, with_command,
@@ -62,6 +62,13 @@ fn topic_arg<'a>(alloc: Global) -> Arg<'a>
     Arg::new(alloc, "COMMAND")
 }
 
+fn object_arg<'a>(alloc: Global) -> Arg<'a>
+    ensures rule { rule_of result ≡ object_rule }
+    ensures local { result.global ≡ false }
+{
+    Arg::new(alloc, "NAME").required(true)
+}
+
 fn explain_command<'a>(alloc: Global) -> Result<Command<'a>, AllocError>
     ensures app { IfOk result (λ command. app_of command ≡ explain_app) }
     ensures local { IfOk result (λ command. (fields_of command).has_globals ≡ false) }
@@ -102,11 +109,12 @@ fn version_command<'a>(alloc: Global) -> Command<'a>
     Command::new(alloc, "version")
 }
 
-fn errors_command<'a>(alloc: Global) -> Result<Command<'a>, AllocError>
-    ensures app { IfOk result (λ command. app_of command ≡ errors_app) }
+// A command that is told which run is meant, and nothing else.
+fn run_command<'a>(alloc: Global, name: &'a str) -> Result<Command<'a>, AllocError>
+    ensures app { IfOk result (λ command. app_of command ≡ run_app name.now) }
     ensures local { IfOk result (λ command. (fields_of command).has_globals ≡ false) }
 {
-    let command = with_run_args(alloc, Command::new(alloc, "errors"))?;
+    let command = with_run_args(alloc, Command::new(alloc, name))?;
     let command = with_arg(command, args_arg(alloc))?;
     Ok(command)
 }
@@ -120,6 +128,16 @@ fn static_command<'a>(alloc: Global) -> Result<Command<'a>, AllocError>
     Ok(command)
 }
 
+fn story_command<'a>(alloc: Global) -> Result<Command<'a>, AllocError>
+    ensures app { IfOk result (λ command. app_of command ≡ story_app) }
+    ensures local { IfOk result (λ command. (fields_of command).has_globals ≡ false) }
+{
+    let command = with_run_args(alloc, Command::new(alloc, "story"))?;
+    let command = with_arg(command, object_arg(alloc))?;
+    let command = with_arg(command, args_arg(alloc))?;
+    Ok(command)
+}
+
 /// The command for a person, with no program's name in front.
 pub fn person_command<'a>(alloc: Global) -> Result<Command<'a>, AllocError>
     ensures app { IfOk result (λ command. app_of command ≡ person_app) }
@@ -130,7 +148,9 @@ pub fn person_command<'a>(alloc: Global) -> Result<Command<'a>, AllocError>
     let command = with_command(command, batch_command(alloc)?)?;
     let command = with_command(command, help_command(alloc)?)?;
     let command = with_command(command, version_command(alloc))?;
-    let command = with_command(command, errors_command(alloc)?)?;
+    let command = with_command(command, run_command(alloc, "errors")?)?;
     let command = with_command(command, static_command(alloc)?)?;
+    let command = with_command(command, run_command(alloc, "swap")?)?;
+    let command = with_command(command, story_command(alloc)?)?;
     Ok(command)
 }

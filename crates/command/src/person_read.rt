@@ -5,10 +5,12 @@ ghost use Rattle.clap.specs.Simple.{HasMatchesOf};
 ghost use Rattle.clap.specs.Takes.{takes};
 ghost use Rattle.clap.specs.Walk.{rows_of};
 ghost use Rattle.command.specs.PersonApp.{person_app};
-ghost use Rattle.command.specs.PersonAsked.{person_named, IsBatch, IsExplain, IsExploration, IsExplorationName, IsPersonName, IsPersonRequest, IsPersonTaken, IsUncertified};
+ghost use Rattle.command.specs.PersonAsked.{person_named, IsBatch, IsExplain, IsExploration, IsExplorationName, IsPersonName, IsPersonRequest, IsPersonTaken, IsStory, IsUncertified};
 
 use crate::person_app::person_command;
-use crate::person_request::{BatchRequest, ExplainRequest, Exploration, PersonRequest};
+use crate::person_request::{
+    BatchRequest, ExplainRequest, Exploration, PersonRequest, StoryRequest,
+};
 use crate::read::{MAX_STEPS, is_set, number_of, text_given, text_of, texts_of};
 use crate::request::{AuditRequest, WordFault};
 use clap::ArgMatches;
@@ -73,6 +75,16 @@ fn batch_request<'a>(alloc: Global, given: &ArgMatches<'a>) -> Result<BatchReque
     })
 }
 
+fn story_request<'a>(alloc: Global, given: &ArgMatches<'a>) -> Result<StoryRequest<'a>, AllocError>
+    ensures { IfOk result (IsStory (rows_of (found_of given.now))) }
+{
+    let audit = uncertified(alloc, given)?;
+    Ok(StoryRequest {
+        audit,
+        name: text_given(given, "NAME"),
+    })
+}
+
 fn exploration_of<'a>(
     alloc: Global,
     name: &str,
@@ -84,7 +96,13 @@ fn exploration_of<'a>(
     if name == "errors" {
         return Ok(Exploration::Errors(uncertified(alloc, given)?));
     }
-    Ok(Exploration::Static(text_given(given, "FILE")))
+    if name == "static" {
+        return Ok(Exploration::Static(text_given(given, "FILE")));
+    }
+    if name == "swap" {
+        return Ok(Exploration::Swap(uncertified(alloc, given)?));
+    }
+    Ok(Exploration::Story(story_request(alloc, given)?))
 }
 
 fn person_request_of<'a>(

@@ -24,6 +24,15 @@ pub struct BatchRequest<'a> {
     pub is_tight: bool,
 }
 
+/// `story FILE NAME [--input F] [--steps N] [--tight] [ARGS]`.
+#[derive(Drop)]
+pub struct StoryRequest<'a> {
+    /// Without a certificate.
+    pub audit: AuditRequest<'a>,
+    /// What should be an object's text.
+    pub name: &'a str,
+}
+
 /// A further look at a program or at its run.
 #[derive(Drop)]
 pub enum Exploration<'a> {
@@ -31,6 +40,9 @@ pub enum Exploration<'a> {
     Errors(AuditRequest<'a>),
     /// `static FILE`.
     Static(&'a str),
+    /// `swap FILE [--input F] [--steps N] [--tight] [ARGS]`, without a certificate.
+    Swap(AuditRequest<'a>),
+    Story(StoryRequest<'a>),
 }
 
 /// What the words ask for by a command for a person.

@@ -7,7 +7,7 @@ Begins words text = take (length words) text ≡ words
 
 -- the name of a command that looks further at a program or its run
 abbrev pub IsLook : List ℕ → Type 0
-IsLook name = (name ≡ codes "errors") ⊎ (name ≡ codes "static")
+IsLook name = (name ≡ codes "errors") ⊎ (name ≡ codes "static") ⊎ (name ≡ codes "swap") ⊎ (name ≡ codes "story")
 
 -- the name of a command
 abbrev pub IsCommand : List ℕ → Type 0

@@ -77,7 +77,7 @@ fn about_help() -> &'static str
     ensures { Begins (codes "cub help") result.now }
 {
     "cub help [COMMAND]
-  COMMAND     audit, explain, batch, check, static, errors, self, help or version (without it: all, a line each)
+  COMMAND     audit, explain, batch, check, swap, static, story, errors, self, help or version (without it: all, a line each)
 Example:  cub help audit
 "
 }
@@ -116,6 +116,37 @@ Example:  cub static prog.c
 "
 }
 
+fn about_swap() -> &'static str
+    ensures { Begins (codes "cub swap") result.now }
+{
+    "cub swap FILE [--input F] [--steps N] [--tight] [ARGS]
+  FILE        preprocessed C11, at most 1 MiB; - is standard input
+  --input F   the program's standard input (without it: empty)
+  --steps N   stop each run after N steps, 1 to 100000000 (without it: 1000000)
+  --tight     objects without gaps between them
+  ARGS        the program's arguments; after -- where one begins with -
+Where cub audit says order-dependent: goes on past the finding, once in the order of the audit and once with the second of
+the two evaluations first, and prints both ends. differs (6) or same (7). Else the report of cub audit and its status.
+Example:  cub swap prog.c --input numbers
+"
+}
+
+fn about_story() -> &'static str
+    ensures { Begins (codes "cub story") result.now }
+{
+    "cub story FILE NAME [--input F] [--steps N] [--tight] [ARGS]
+  FILE        preprocessed C11, at most 1 MiB; - is standard input
+  NAME        an object as reports name it, in one word: 'auto main 1 0', 'static 2', 'heap main 3 1'
+  --input F   the program's standard input (without it: empty)
+  --steps N   stop after N steps, 1 to 100000000 (without it: 1000000)
+  --tight     objects without gaps between them
+  ARGS        the program's arguments; after -- where one begins with -
+Prints each step of the run up to the finding that touches the object, and how many they are; then the report of cub audit,
+and ends with the status of cub audit.
+Example:  cub story prog.c 'auto main 1 0'
+"
+}
+
 // What a command takes that looks further at a program or its run.
 fn about_look(command: &str) -> Option<&'static str>
     ensures begins { IfSome result (λ text. Begins (codes "cub " ++ command.now) text.now) }
@@ -126,6 +157,10 @@ fn about_look(command: &str) -> Option<&'static str>
         Some(about_errors())
     } else if command == "static" {
         Some(about_static())
+    } else if command == "swap" {
+        Some(about_swap())
+    } else if command == "story" {
+        Some(about_story())
     } else {
         None
     }

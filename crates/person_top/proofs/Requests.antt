@@ -4,7 +4,7 @@ use Rattle.clap.specs.Walk.{Row, one_of}
 use Rattle.command.specs.Asked.{Spells}
 use Rattle.command.specs.PersonAsked.{IsExploration, IsPersonRequest, IsUncertified}
 use Rattle.command.specs.declared.person_request.Exploration.{Exploration}
-use Rattle.command.specs.declared.person_request.Exploration.TheVariants.{Errors, Static}
+use Rattle.command.specs.declared.person_request.Exploration.TheVariants.{Errors, Static, Swap, Story}
 use Rattle.command.specs.declared.person_request.PersonRequest.{PersonRequest}
 use Rattle.command.specs.declared.person_request.PersonRequest.TheVariants.{Explain, Batch, Help, Version, Explore}
 use Rattle.command.specs.declared.request.AuditRequest.{AuditRequest}
@@ -21,6 +21,8 @@ bounded_audit rows request is = (spells_below 1 100000000 (one_of (codes "steps"
 bounded_look : (found : List ℕ × List Row) (look : Exploration) → IsExploration found look → IsBoundedLook look
 bounded_look found (Errors request) is = bounded_audit found.1 request is.1
 bounded_look found (Static file) is = tt
+bounded_look found (Swap request) is = bounded_audit found.1 request is.1
+bounded_look found (Story request) is = bounded_audit found.1 request.audit is.1.audit
 
 bounded : (found : List ℕ × List Row) (request : PersonRequest) → IsPersonRequest found request → IsBounded request
 bounded found (Explain request) is = bounded_audit found.1 request.audit is.1.audit

@@ -6,7 +6,7 @@ use Rattle.audit_batch.specs.declared.audit.Limits.{Limits}
 use Rattle.command.specs.PersonAsked.{IsPersonName, IsPersonRequest, IsPersonTaken, person_named}
 use Rattle.command.specs.declared.person_request.ExplainRequest.{ExplainRequest}
 use Rattle.command.specs.declared.person_request.Exploration.{Exploration}
-use Rattle.command.specs.declared.person_request.Exploration.TheVariants.{Errors, Static}
+use Rattle.command.specs.declared.person_request.Exploration.TheVariants.{Errors, Static, Swap, Story}
 use Rattle.command.specs.declared.person_request.PersonRequest.{PersonRequest}
 use Rattle.command.specs.declared.person_request.PersonRequest.TheVariants.{Explain, Batch, Help, Version, Explore}
 use Rattle.command.specs.declared.request.AuditRequest.{AuditRequest}
@@ -32,6 +32,8 @@ IsBoundedAudit request = (request.steps ≤ 100000000) × (option_copied request
 abbrev pub IsBoundedLook : Exploration → Type 0
 IsBoundedLook (Errors request) = IsBoundedAudit request
 IsBoundedLook (Static file) = ⊤
+IsBoundedLook (Swap request) = IsBoundedAudit request
+IsBoundedLook (Story request) = IsBoundedAudit request.audit
 
 -- the numbers of a request keep their bounds, and only an audit proper keeps a certificate
 abbrev pub IsBounded : PersonRequest → Type 0

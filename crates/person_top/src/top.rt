@@ -24,7 +24,7 @@ const USAGE: u8 = 10;
 fn is_exploration_name(word: &str) -> bool
     ensures { IsTrue result ↔ IsExplorationName word.now }
 {
-    word == "errors" || word == "static"
+    word == "errors" || word == "static" || word == "swap" || word == "story"
 }
 
 // A word names a command for a person.

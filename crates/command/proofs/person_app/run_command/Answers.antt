@@ -1,5 +1,5 @@
 use Rattle.command.proofs.Apps.{with_rule_same, with_run_rules_same}
-use Rattle.command.proofs.person_app.errors_command.Goals as goal
+use Rattle.command.proofs.person_app.run_command.Goals as goal
 
 pub returns-clause-app : goal.returns-clause-app
 returns-clause-app c =

@@ -1,0 +1,17 @@
+use Rattle.std.proofs.Common.{subst}
+use Rattle.audit_engine.proofs.Front.{refused_by}
+use Rattle.audit_engine.proofs.Stories.{program_front, refused_front}
+use Rattle.audit_engine.specs.Front.{IsRefused}
+use Rattle.audit_top.specs.Answer.{IsRunnable}
+use Rattle.audit_engine.proofs.story.story_front.Goals as goal
+
+pub returns-in-Ok : goal.returns-in-Ok
+returns-in-Ok c =
+    program_front (c.args.frames.now, c.args.object.now) c.args.sources.now.text c.in-Ok.program c.entries_of.result
+    (subst (λ text. IsRunnable text c.in-Ok.program) c.as_slice.ensures c.in-Ok.ensures.read) c.entries_of.ensures
+
+pub returns-in-Err-Refused : goal.returns-in-Err-Refused
+returns-in-Err-Refused c =
+    refused_front (c.args.frames.now, c.args.object.now) c.args.sources.now.text c.from_slice.result
+    (subst IsRefused c.as_slice.ensures (refused_by c.as_slice.result.now c.in-Err-Refused.field-0 c.in-Err-Refused.field-0-is c.in-Err-Refused.ensures.refused))
+    c.from_slice.ensures
