@@ -1,0 +1,5 @@
+pub mod Named
+pub mod Record
+pub mod Stories
+pub mod Texts
+pub mod Told
