@@ -69,7 +69,7 @@ pub fn follow<G: Guide>(
     let Ok(mut machine) = prepare(alloc, program, &code, input, args, memory) else {
         return Err(NoMemory);
     };
-    let Led { stop, picks, trail } = led(&mut machine, frames, budget, guide)?;
+    let Reached { stop, picks, trail } = led(&mut machine, frames, budget, guide)?;
     let (outputs, map) = machine.into_output_and_map();
     Ok(Followed {
         end: end_of(stop, outputs),
@@ -117,7 +117,7 @@ fn end_of(stop: Stop, outputs: Outputs) -> End
 
 // How far the guide leads, and the events that are taken.
 #[derive(Drop)]
-struct Led {
+struct Reached {
     stop: Stop,
     picks: u64,
     trail: Trail,
@@ -128,7 +128,7 @@ fn led<G: Guide>(
     frames: &mut Frames,
     budget: u64,
     guide: &mut G,
-) -> Result<Led, NoMemory>
+) -> Result<Reached, NoMemory>
     requires { budget ≤ 100000000 }
     ensures within { IfOk result (λ l. l.picks ≤ budget) }
     ensures budget { IfOk result (λ l. stops_budget l.stop → l.picks ≡ budget) }
@@ -139,10 +139,10 @@ fn led<G: Guide>(
     for picks in 0..budget {
         let pick = next_pick(machine, guide)?;
         if let Some((stop, picks)) = after(machine, frames, picks, guide, &mut trail, pick)? {
-            return Ok(Led { stop, picks, trail });
+            return Ok(Reached { stop, picks, trail });
         }
     }
-    Ok(Led {
+    Ok(Reached {
         stop: Stop::Budget,
         picks: budget,
         trail,
@@ -186,7 +186,7 @@ fn single(machine: &mut Machine, place: Place) -> Result<Result<Pick, Halt>, NoM
     }
 }
 
-// What stops the order at this pick, with how many picks were taken; none where it goes on.
+// What stops the order at this pick, with how many picks there are, it among them; none where it goes on.
 fn after<G: Guide>(
     machine: &mut Machine,
     frames: &mut Frames,
@@ -213,8 +213,8 @@ fn after<G: Guide>(
             tell(guide, trail, Some(event))?;
             Ok(Some((Stop::Raised(clause), picks + 1)))
         }
-        Err(Halt::Over(cause, number)) => Ok(Some((Stop::Outside(cause, number), picks))),
-        Err(Halt::Unplaced) => Ok(Some((Stop::Unplaced, picks))),
+        Err(Halt::Over(cause, number)) => Ok(Some((Stop::Outside(cause, number), picks + 1))),
+        Err(Halt::Unplaced) => Ok(Some((Stop::Unplaced, picks + 1))),
         Err(Halt::NoMemory) => Err(NoMemory),
     }
 }

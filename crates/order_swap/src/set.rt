@@ -37,12 +37,18 @@ fn put_tree(tree: &Typed, number: u32, places: &mut Vec<Place>) -> Result<u32, N
 fn put_node(node: u32, places: &mut Vec<Place>) -> Result<(), NoMemory>
     ensures { OnOk result (places.new.items ≡ places.old.items ++ node_places node) }
 {
-    let kind = Kind::Body;
-    places.push(Place { node, kind })?;
-    let kind = Kind::Val;
-    places.push(Place { node, kind })?;
-    let kind = Kind::Eff;
-    places.push(Place { node, kind })?;
+    places.push(Place {
+        node,
+        kind: Kind::Body,
+    })?;
+    places.push(Place {
+        node,
+        kind: Kind::Val,
+    })?;
+    places.push(Place {
+        node,
+        kind: Kind::Eff,
+    })?;
     Ok(())
 }
 

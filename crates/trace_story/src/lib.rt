@@ -5,6 +5,7 @@ mod calls;
 mod entry;
 mod line;
 mod named;
+mod same;
 mod tell;
 mod telling;
 mod text;

@@ -1,9 +1,11 @@
 // The watch that tells the story of an object.
-ghost use Rattle.std.specs.Prelude.{◌≡◌, [], Some};
-ghost use Rattle.trace_story.specs.Stories.{picks_in};
+ghost use Rattle.std.specs.Prelude.{◌≡◌, map, IsTrue, [], Some};
+ghost use Rattle.trace_story.specs.Stories.{mark_of, picks_in, story_in};
 
 use crate::calls::Calls;
 use crate::entry::Entries;
+use crate::named::are_same;
+use crate::same::same_sought;
 use crate::tell::entries_at;
 use crate::told::Sought;
 use core_run::{Go, View, Watch};
@@ -21,6 +23,8 @@ pub struct Teller<'f> {
     entries: Entries,
     picks: u64,
     calls: Calls,
+    ghost counted: { picks ≡ picks_in calls },
+    ghost told: { map mark_of entries ≡ story_in frames.now sought calls },
 }
 
 impl<'f> Teller<'f> {
@@ -39,9 +43,21 @@ impl<'f> Teller<'f> {
         }
     }
 
+    /// Whether it seeks this object and has these frames.
+    pub fn seeks(&self, sought: &Sought, frames: &Frames) -> bool
+        ensures sought { IsTrue result → self.now.sought ≡ Some sought.now }
+        ensures frames { IsTrue result → self.now.frames.now ≡ frames.now }
+    {
+        match &self.sought {
+            Some(own) => same_sought(own, sought) && are_same(self.frames, frames),
+            None => false,
+        }
+    }
+
     /// The entries, and the calls.
     pub fn into_parts(self) -> (Entries, Calls)
         ensures calls { result.1 ≡ self.entry.calls }
+        ensures told { map mark_of result.0 ≡ story_in self.entry.frames.now self.entry.sought result.1 }
     {
         let Teller { entries, calls, .. } = self;
         (entries, calls)
