@@ -1,0 +1,5 @@
+mod Choices
+mod Copies
+mod Listed
+mod Lists
+mod Places

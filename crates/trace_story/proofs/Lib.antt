@@ -1,0 +1,4 @@
+mod Growth
+mod Lines
+mod Sameness
+mod Ways
