@@ -15,6 +15,7 @@ use Rattle.c_typed.specs.declared.tree.Access.TheVariants as access
 use Rattle.c_typed.specs.declared.tree.Change.{Change}
 use Rattle.c_typed.specs.declared.tree.Change.TheVariants as change
 use Rattle.c_typed.specs.declared.tree.Place.{Place}
+use Rattle.c_typed.specs.declared.tree.Slot.{Slot}
 use Rattle.c_typed.specs.declared.tree.Node.{Node}
 use Rattle.c_typed.specs.declared.tree.Node.TheOpen as shape
 use Rattle.c_typed.specs.declared.tree.Node.TheOpen.{Node-F}
@@ -81,7 +82,8 @@ abbrev Together : List Typed → Type 0
 Together whole = (i : ℕ) (t : Typed) → slice_get whole i ≡ Some t → (j : ℕ) → j < length (nodes_of t) → slice_get whole (i + j) ≡ slice_get (nodes_of t) j
 
 together_among : (n : ℕ) → ((u : Typed) → size (tree_of u) ≤ n → Together (nodes_of u)) → (ts : List Typed) → sizes (trees_of ts) ≤ n
-    → Together (joined (map nodes_of ts))
+    → (i : ℕ) (t : Typed) → slice_get (joined (map nodes_of ts)) i ≡ Some t → (j : ℕ) → j < length (nodes_of t)
+    → slice_get (joined (map nodes_of ts)) (i + j) ≡ slice_get (nodes_of t) j
 together_among n f [] l i t e j h = absurd (let r = there [] i t e in omega (arith, r))
 together_among n f (c ∷ cs) l i t e j h =
     go (nat_lt i (length (nodes_of c))) refl (f c (omega (arith, l))) (together_among n f cs (omega (arith, l)))
@@ -108,7 +110,9 @@ pub together : (t : Typed) → Together (nodes_of t)
 together = by_size (λ t. Together (nodes_of t)) (λ t f.
     subst Together (sym (nodes_at t)) (at_root t (together_among (sizes (trees_of (operands_in t))) f (operands_in t) (omega arith))))
   where
-    at_root : (t : Typed) → Together (joined (map nodes_of (operands_in t))) → Together (t ∷ joined (map nodes_of (operands_in t)))
+    at_root : (t : Typed) → Together (joined (map nodes_of (operands_in t))) → (i : ℕ) (u : Typed)
+        → slice_get (t ∷ joined (map nodes_of (operands_in t))) i ≡ Some u → (j : ℕ) → j < length (nodes_of u)
+        → slice_get (t ∷ joined (map nodes_of (operands_in t))) (i + j) ≡ slice_get (nodes_of u) j
     at_root t f zero u e j h =
         let k : t ≡ u = cc in
         let z : 0 + j ≡ j = omega arith in
@@ -227,7 +231,7 @@ module _ (p : Program) (function : ℕ) where
         (r : Reach) × (reach_by (head_in d ty) (first_site world f (exprs_of (operands_in t))) (list_name world f (head_in d ty)) a.at.place.kind ≡ Some r)
         × Link d n a r
 
-    list_spot : (slot : _) (s : Spot) → ◌≡◌ {A = Option Spot} (Some (base.Slot slot, 0)) (Some s)
+    list_spot : (slot : Slot) (s : Spot) → ◌≡◌ {A = Option Spot} (Some (base.Slot slot, 0)) (Some s)
         → ◌≡◌ {A = Option Site} (Some (name_of world f slot, 0)) (Some (site_in p function world f s))
     list_spot slot s h = (let k : ◌≡◌ {A = Spot} (base.Slot slot, 0) s = cc in ap (λ z. Some (site_in p function world f z)) k)
 

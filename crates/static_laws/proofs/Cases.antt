@@ -533,7 +533,9 @@ module _ (world : World) (f : Scene) (b : Begun) (root : Typed) (is : b.root ≡
   heads : (h g : Head) (ty uy : CType) (line l : ℕ) (es ds : Exprs) → expr h ty line es ≡ expr g uy l ds → (h ≡ g) × (es ≡ ds)
   heads h g ty uy line l es ds e = ((let k : h ≡ g = cc in k), (let k : es ≡ ds = cc in k))
 
-  pub facts : FactsIn spared (completed world f b) x y (at_node 0 b.root)
+  pub facts : (n : ℕ) (h : Head) (ty : CType) (line : ℕ) (a : Expr) (es : Exprs) → at_node 0 b.root n ≡ Some (expr h ty line (more a es))
+      → is_choice (head_class h (model.trees_of (more a es))) ≡ true → is_some (spared n) ≡ true
+      → (is_some (completed world f b n) ≡ true) ⊎ Behind n a (size (tree_of (expr h ty line (more a es))))
   facts n h ty line a es e c s = go (slice_get (nodes_of root) n) refl
     where
       et : at_node 0 (expr_of root) n ≡ Some (expr h ty line (more a es))

@@ -132,11 +132,9 @@ module _ (world : World) (rows : AreRows world.rows) (f : Scene) (b : Begun) (u 
       branches_apart (taken_by world f b) root usual.count usual.branches z w
       (subst (λ t. due_in (taken_by world f b) 0 (tree_of t) z ≡ true) is pair.reached_first.due)
       (subst (λ t. due_in (taken_by world f b) 0 (tree_of t) w ≡ true) is pair.reached_second.due)
-      (subst (λ q. branched_at z.node q) (ap (λ q. q.node) ew) (subst (λ q. branched_at q y.at.place.node) (ap (λ q. q.node) ez) k)))
+      (subst (λ q. in_branches (nodes_of root) 0 z.node q ≡ true) (ap (λ q. q.node) ew)
+      (subst (λ q. in_branches (nodes_of root) 0 q y.at.place.node ≡ true) (ap (λ q. q.node) ez) k)))
       h.two h.holds
-    where
-      branched_at : ℕ → ℕ → Type 0
-      branched_at i j = in_branches (nodes_of root) 0 i j ≡ true
 
   -- there are two accesses
   two_accesses : AccessesAt p function root u v
