@@ -1,0 +1,17 @@
+mod Scripts
+mod Reach
+mod Acts
+mod Sites
+mod Paths
+mod Frames
+mod Picks
+mod Races
+mod Seen
+mod Inside
+mod Ordered
+mod Completed
+mod Numbered
+mod Places
+mod Accessed
+mod Cases
+mod Reduction

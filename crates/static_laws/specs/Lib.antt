@@ -1,0 +1,4 @@
+pub mod Trees
+pub mod Low
+pub mod Apart
+pub mod NeverRaces

@@ -1,0 +1,21 @@
+//! Full expressions whose accesses `static_seq` parts never race, in any order of any run: laws over the definitions of c_model.
+//!
+//! A law function takes nothing and answers nothing: its contract is a law about the definitions.
+#![tactic(auto)]
+
+ghost use Rattle.static_laws.specs.NeverRaces.{ReadsNeverRace, SequencedNeverRace, BranchesNeverRace, ObjectsNeverRace, BytesNeverRace, OnlyAccessesRace, NeverRaces};
+
+/// What parts two accesses of a full expression keeps them from racing, in every order, under every address map (6.5p2).
+pub fn law_parted_accesses()
+    ensures reads { ReadsNeverRace }
+    ensures sequenced { SequencedNeverRace }
+    ensures branches { BranchesNeverRace }
+    ensures objects { ObjectsNeverRace }
+    ensures bytes { BytesNeverRace }
+    ensures only { OnlyAccessesRace }
+{}
+
+/// A full expression all of whose accesses are apart by these cases never races.
+pub fn law_never_races()
+    ensures { NeverRaces }
+{}
