@@ -1,5 +1,4 @@
 mod Audits
-mod Front
 mod Pages
 mod Reports
 mod Statics

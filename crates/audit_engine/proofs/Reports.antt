@@ -6,12 +6,15 @@ use Rattle.audit_sources.specs.declared.fetch.FetchFault.{FetchFault}
 use Rattle.audit_sources.specs.declared.role.Role.TheVariants.{Source}
 use Rattle.audit_engine.proofs.Audits.{judged_audit, stopped_audit}
 use Rattle.audit_engine.specs.Engine.{disk_at}
-use Rattle.audit_engine.specs.Front.{IsRefused}
-use Rattle.audit_engine.specs.Looks.{ErrorsTold, IsReport, IsStoppedReport, IsTextReport, MayWrite, Quiet}
+use Rattle.audit_engine.specs.Looks.{ErrorsTold, IsRefused, IsReport, IsStoppedReport, IsTextReport, MayWrite, Quiet}
 use Rattle.audit_top.specs.Answer.{IsRunnable}
 use Rattle.audit_top.specs.Cause.{TextCause, stopped}
+use Rattle.audit_top.specs.Front.{WhyRefused}
 use Rattle.audit_top.specs.Report.{report, status}
 use Rattle.audit_top.specs.declared.answer.Answer.{Answer}
+use Rattle.audit_top.specs.declared.answer.Refusal.{Refusal}
+use Rattle.audit_top.specs.declared.front.FrontFault.{FrontFault}
+use Rattle.audit_top.specs.declared.front.FrontFault.TheVariants as FrontFault
 use Rattle.c_typed.specs.declared.program.Program.{Program}
 use Rattle.command.specs.declared.request.AuditRequest.{AuditRequest}
 use Rattle.person_top.specs.declared.explain.Page.{Page}
@@ -102,3 +105,7 @@ pub quiet_stopped : {E : Type 0} (fault : FetchFault) (those : ℕ → List ℕ 
     → IfOk result (λ sheet. sheet.errors ≡ []) → IfOk result (λ sheet. Quiet those sheet.status sheet.text sheet.errors)
 quiet_stopped fault those (Ok sheet) so code text none = (so sheet.status sheet.text (code, text), none)
 quiet_stopped fault those (Err e) so code text none = code
+
+-- a text that is said to be refused
+pub refused_by : (text : List ℕ) (fault : FrontFault) (refusal : Refusal) → fault ≡ FrontFault.Refused refusal → WhyRefused text fault → IsRefused text
+refused_by text fault refusal is why = (refusal, subst (WhyRefused text) is why)

@@ -5,7 +5,7 @@ use Rattle.audit_sources.specs.Fetching.{HasInput, IsWhole, Stops, wanted}
 use Rattle.audit_sources.specs.declared.fetch.FetchFault.{FetchFault}
 use Rattle.audit_sources.specs.declared.role.Role.TheVariants.{Source}
 use Rattle.audit_engine.proofs.Reports.{fetched_report}
-use Rattle.audit_engine.specs.Front.{IsRefused}
+use Rattle.audit_engine.specs.Looks.{IsRefused}
 use Rattle.audit_engine.specs.Looks.{IsFileStory, IsFront, IsStoppedReport, IsStoryText, IsTextStory, Named, NamedTold, StoryTold}
 use Rattle.audit_top.specs.Answer.{IsRunnable}
 use Rattle.c_names.specs.Texts.{IsNoObjectText, object_text}

@@ -10,14 +10,14 @@ use Rattle.core_run.specs.Ends.{picks_of, told_of}
 use Rattle.core_run.specs.declared.watch.Ran.{Ran}
 use Rattle.audit_batch.specs.Moment.{Moment}
 use Rattle.audit_engine.specs.Engine.{disk_at}
-use Rattle.audit_engine.specs.Front.{IsRefused}
 use Rattle.audit_sources.specs.Fetching.{IsWhole}
 use Rattle.audit_sources.specs.declared.fetch.FetchFault.{FetchFault}
 use Rattle.audit_sources.specs.declared.role.Role.TheVariants.{Source}
-use Rattle.audit_top.specs.Answer.{IsRunnable}
+use Rattle.audit_top.specs.Answer.{IsRunnable, Refuses}
 use Rattle.audit_top.specs.Cause.{AuditCause, IsStopped, TextCause, stopped}
 use Rattle.audit_top.specs.Report.{report, status}
 use Rattle.audit_top.specs.declared.answer.Answer.{Answer}
+use Rattle.audit_top.specs.declared.answer.Refusal.{Refusal}
 use Rattle.c_typed.specs.declared.program.Program.{Program}
 use Rattle.command.specs.declared.person_request.Exploration.{Exploration}
 use Rattle.command.specs.declared.person_request.Exploration.TheVariants.{Errors, Static, Swap, Story}
@@ -52,6 +52,10 @@ pub record IsReport (was is : Moment) (request : AuditRequest) (said : ℕ) (tex
 -- the report where a file isn't fetched
 abbrev pub IsStoppedReport : FetchFault → ℕ → List ℕ → Type 0
 IsStoppedReport fault said text = (said ≡ status (stopped fault)) × (text ≡ report (stopped fault))
+
+-- the text has no program, for this or that reason
+abbrev pub IsRefused : List ℕ → Type 0
+IsRefused text = (refusal : Refusal) × Refuses text refusal
 
 -- a text that has a program may write something to standard error, and one that is refused writes nothing
 abbrev pub MayWrite : List ℕ → List ℕ → Type 0

@@ -3,11 +3,10 @@ ghost use Rattle.std.specs.Prelude.{◌≡◌, ◌≤◌, ◌^◌, None, length,
 ghost use Rattle.audit_batch.specs.Moment.{moment};
 ghost use Rattle.audit_engine.specs.Looks.{ErrorsTold, IsTextReport, MayWrite};
 
-use crate::front::{FrontFault, program_of};
 use crate::judged::judged_report;
 use crate::looks::{run_audited, stopped_sheet};
 use audit_sources::{Sources, fetch_sources};
-use audit_top::Progress;
+use audit_top::{FrontFault, Progress, program_of};
 use c_typed::Program;
 use command::AuditRequest;
 use elaborate::elaborate;
@@ -39,7 +38,7 @@ fn written(alloc: Global, request: &AuditRequest<'_>, sources: &Sources) -> Resu
 {
     match program_of(alloc, sources.text.as_slice()) {
         Ok(program) => errors_of(alloc, &program, request, sources.input.as_slice()),
-        Err(FrontFault::Refused) => Bytes::from_slice(alloc, b""),
+        Err(FrontFault::Refused(_)) => Bytes::from_slice(alloc, b""),
         Err(FrontFault::NoMemory) => Err(NoMemory),
     }
 }

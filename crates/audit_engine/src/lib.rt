@@ -4,7 +4,6 @@
 mod engine;
 mod errors;
 mod explain;
-mod front;
 mod judged;
 mod looks;
 mod statics;

@@ -3,10 +3,10 @@ ghost use Rattle.std.specs.Prelude.{◌≡◌, ◌≤◌, ◌^◌, None, length,
 ghost use Rattle.audit_batch.specs.Moment.{moment};
 ghost use Rattle.audit_engine.specs.Looks.{IsFileStatic, IsOfFile, IsProgramStatic, IsTextStatic, Quiet, StaticTold};
 
-use crate::front::{FrontFault, program_of};
 use crate::judged::judged_report;
 use crate::looks::{quiet, stopped_sheet};
 use audit_sources::{Sources, fetch_sources};
+use audit_top::{FrontFault, program_of};
 use c_typed::Program;
 use command::AuditRequest;
 use person_top::{Page, Sheet};
@@ -53,7 +53,7 @@ fn static_page<F: Files>(
 {
     match program_of(alloc, sources.text.as_slice()) {
         Ok(program) => program_page(alloc, &program),
-        Err(FrontFault::Refused) => judged_report(
+        Err(FrontFault::Refused(_)) => judged_report(
             alloc,
             request,
             sources,

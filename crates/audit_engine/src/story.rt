@@ -4,10 +4,10 @@ ghost use Rattle.audit_batch.specs.Moment.{moment};
 ghost use Rattle.audit_engine.specs.Looks.{IsFront, IsStoryText, IsTextStory, NamedTold, Quiet, StoryTold};
 
 use crate::explain::mode_of;
-use crate::front::{FrontFault, program_of};
 use crate::judged::judged_report;
 use crate::looks::{picks_of, quiet, run_audited, stopped_sheet};
 use audit_sources::{Sources, fetch_sources};
+use audit_top::{FrontFault, program_of};
 use c_names::read_object;
 use c_typed::Program;
 use command::{AuditRequest, StoryRequest};
@@ -70,7 +70,7 @@ fn story_front(
             frames,
             object,
         ),
-        Err(FrontFault::Refused) => Bytes::from_slice(alloc, b""),
+        Err(FrontFault::Refused(_)) => Bytes::from_slice(alloc, b""),
         Err(FrontFault::NoMemory) => Err(NoMemory),
     }
 }

@@ -6,10 +6,10 @@ ghost use Rattle.footprint_run.specs.Apart.{AreApart, StandsApart};
 ghost use Rattle.audit_engine.specs.Looks.{AreBothOrders, IsProgramSwap, IsTextSwap, IsSwap, Quiet, SwapTold, swap_status};
 
 use crate::explain::mode_of;
-use crate::front::{FrontFault, program_of};
 use crate::judged::judged_report;
 use crate::looks::{quiet, run_audited, stopped_sheet};
 use audit_sources::{Sources, fetch_sources};
+use audit_top::{FrontFault, program_of};
 use c_typed::Program;
 use command::AuditRequest;
 use core_ir::CoreProgram;
@@ -111,7 +111,7 @@ fn text_quarrel(
 {
     match program_of(alloc, sources.text.as_slice()) {
         Ok(program) => quarrel_page(alloc, &program, request, sources.input.as_slice()),
-        Err(FrontFault::Refused) => Ok(None),
+        Err(FrontFault::Refused(_)) => Ok(None),
         Err(FrontFault::NoMemory) => Err(NoMemory),
     }
 }

@@ -12,7 +12,8 @@ mod value;
 mod weigh;
 mod words;
 
-pub use answer::Answer;
+pub use answer::{Answer, Refusal};
 pub use footprint_run::{Progress, Quiet};
+pub use front::{FrontFault, program_of};
 pub use judge::judged;
 pub use top::{audit, audit_main, stopped};

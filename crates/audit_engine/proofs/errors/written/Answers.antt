@@ -1,7 +1,6 @@
 use Rattle.std.proofs.Common.{subst}
-use Rattle.audit_engine.proofs.Front.{refused_by}
-use Rattle.audit_engine.proofs.Reports.{may_write, writes_nothing}
-use Rattle.audit_engine.specs.Front.{IsRefused}
+use Rattle.audit_engine.proofs.Reports.{may_write, refused_by, writes_nothing}
+use Rattle.audit_engine.specs.Looks.{IsRefused}
 use Rattle.audit_top.specs.Answer.{IsRunnable}
 use Rattle.audit_engine.proofs.errors.written.Goals as goal
 
@@ -13,5 +12,5 @@ returns-in-Ok c =
 pub returns-in-Err-Refused : goal.returns-in-Err-Refused
 returns-in-Err-Refused c =
     writes_nothing c.args.sources.now.text c.from_slice.result
-    (subst IsRefused c.as_slice.ensures (refused_by c.as_slice.result.now c.in-Err-Refused.field-0 c.in-Err-Refused.field-0-is c.in-Err-Refused.ensures.refused))
+    (subst IsRefused c.as_slice.ensures (refused_by c.as_slice.result.now c.in-Err-Refused.field-0 c.in-Err-Refused.field-0-0 c.in-Err-Refused.field-0-is c.in-Err-Refused.ensures.refused))
     c.from_slice.ensures
