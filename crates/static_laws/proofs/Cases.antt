@@ -430,7 +430,7 @@ module _ (taken : Taken) (root : Typed) (few : size (plain.tree_of root) < 2 ^ 3
       one_two (sym one ∙ two)
     where
       one_two : ◌≡◌ {A = Option ℕ} (Some 1) (Some 2) → ⊥
-      one_two e = (let k : 1 ≡ 2 = cc in omega (arith, k))
+      one_two e = (let k : ◌≡◌ {A = ℕ} 1 2 = cc in omega (arith, k))
 
   either_parts : (o : Node-F Node Typed) → node_in t ≡ o → has_branches_by o (length (operands_in t)) ≡ true → (u v : Place)
       → due_in taken 0 (tree_of (expr_of root)) u ≡ true → due_in taken 0 (tree_of (expr_of root)) v ≡ true → parts_at t i u.node v.node o ≡ true → ⊥
