@@ -76,9 +76,11 @@ module _ (k : ℕ) (tree : Tree) (old now : List Place) (number : ℕ) (xs : Lis
       let none_left = dropped_all xs i h in
       let room = p.room in
       let s = ap sizes none_left in
-      let n : number ≡ k + size tree = omega (arith, room, s) in
-      (n, e ∙ ap (λ z. z ++ node_places k) (sym (append-nil now) ∙ ap (λ z. now ++ operand_places number z) (sym none_left) ∙ p.rest)
-      ∙ append_assoc old (operand_places (suc k) (operands tree)) (node_places k) ∙ ap (λ z. old ++ z) (own tree))
+      let n : number ≡ k + size tree = omega (arith, room, s) in (
+        n,
+        e ∙ ap (λ z. z ++ node_places k) (sym (append-nil now) ∙ ap (λ z. now ++ operand_places number z) (sym none_left) ∙ p.rest)
+            ∙ append_assoc old (operand_places (suc k) (operands tree)) (node_places k) ∙ ap (λ z. old ++ z) (own tree),
+      )
     where
       own : (t : Tree) → operand_places (suc k) (operands t) ++ node_places k ≡ places k t
       own (node class ts) = refl

@@ -150,10 +150,7 @@ fn led<G: Guide>(
 }
 
 // The event that the guide chooses, where it chooses one, or the canonical pick.
-fn next_pick<G: Guide>(
-    machine: &mut Machine,
-    guide: &mut G,
-) -> Result<Result<Pick, Halt>, NoMemory>
+fn next_pick<G: Guide>(machine: &mut Machine, guide: &mut G) -> Result<Result<Pick, Halt>, NoMemory>
     ensures heard { OnOk result (G.heard guide.new ≡ G.heard guide.old) }
     ensures given { OnOk result (G.given guide.new ≡ G.given guide.old) }
 {

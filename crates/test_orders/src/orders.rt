@@ -76,11 +76,7 @@ struct Last {
 }
 
 // Takes the last of these places that is permitted, and notes it.
-fn take_last(
-    open: &Begun,
-    places: &[Place],
-    done: &mut Done,
-) -> Result<Option<Place>, NoMemory> {
+fn take_last(open: &Begun, places: &[Place], done: &mut Done) -> Result<Option<Place>, NoMemory> {
     for place in places.iter().rev() {
         if is_permitted(open.root, *place, &open.taken, done) {
             done.add(*place)?;

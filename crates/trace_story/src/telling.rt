@@ -55,7 +55,10 @@ pub fn story(
     let mut teller = Teller::new(alloc, &first.frames, Some(sought));
     let second = run(alloc, p, input, args, mode, picks, &mut teller)?;
     let place = second.map.row(named);
-    let again = Sought { object: named, row: place };
+    let again = Sought {
+        object: named,
+        row: place,
+    };
     // One program has one run.
     if !teller.seeks(&again, &second.frames) {
         return Err(NoMemory);
