@@ -1,11 +1,14 @@
 -- One call more.
-use Rattle.std.proofs.Common.{◌≡◌, ◌∙◌, ℕ, refl, sym, ap, List, [], ◌∷◌, ◌++◌, append-nil, map}
+use Rattle.std.proofs.Common.{◌≡◌, ◌∙◌, ℕ, refl, sym, ap, subst, List, [], ◌∷◌, ◌++◌, append-nil, map}
 use Rattle.std.specs.Prelude.{Option, Some, None}
 use Rattle.std.proofs.lemmas.List.{map-append}
 use Rattle.ub_base.specs.Frames.{Row}
 use Rattle.core_run.specs.Calls.{Call, node_done, operands_done, Heard}
 use Rattle.core_run.specs.declared.watch.Go.{Go}
 use Rattle.ub_base.specs.declared.names.Frame.{Frame}
+use Rattle.ub_base.specs.declared.names.ObjName.{ObjName}
+use Rattle.c_names.specs.Names.{object_name}
+use Rattle.trace_story.specs.Named.{IsNamed}
 use Rattle.trace_story.specs.declared.entry.Entry.{Entry}
 use Rattle.trace_story.specs.declared.told.Sought.{Sought}
 use Rattle.trace_story.specs.Stories.{Mark, mark_of, marks_in, picks_in, story_in}
@@ -44,7 +47,7 @@ pub no_object : (rows : List Row) (calls : Heard) → [] ≡ story_in rows None 
 no_object rows [] = refl
 no_object rows (h ∷ hs) = no_object rows hs ∙ sym (append-nil (story_in rows None hs))
 
--- what is told of the object where it stands at last
-pub retold : (given rows : List Row) (own : Option Sought) (sought : Sought) (calls : Heard) (marks : List Mark) → given ≡ rows → own ≡ Some sought
-    → marks ≡ story_in given own calls → marks ≡ story_in rows (Some sought) calls
-retold given rows own sought calls marks e s m = m ∙ (λ i. story_in (e i) (s i) calls)
+-- an object has its name among the same frames
+pub named_again : (given first second : List Row) (x : ObjName) (found : Option ObjName) (named : ObjName) → IsNamed given x first found →
+    found ≡ Some named → first ≡ second → object_name second named ≡ object_name given x
+named_again given first second x found named h is same = sym (ap (λ rows. object_name rows named) same) ∙ subst (IsNamed given x first) is h

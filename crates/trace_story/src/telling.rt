@@ -1,5 +1,5 @@
 // The run that is told.
-ghost use Rattle.std.specs.Prelude.{◌≡◌, ◌≤◌, map, [], IfOk, Some, None};
+ghost use Rattle.std.specs.Prelude.{◌≡◌, ◌≤◌, map, [], IfOk, IsTrue, Some, None};
 ghost use Rattle.core_run.specs.Calls.{StartedBy};
 ghost use Rattle.core_run.specs.Ends.{picks_of, told_of};
 ghost use Rattle.trace_story.specs.Named.{IsNamed};
@@ -7,7 +7,7 @@ ghost use Rattle.trace_story.specs.Stories.{mark_of, picks_in, story_in, sought_
 
 use crate::calls::Calls;
 use crate::entry::{Entries, Story};
-use crate::named::named_in;
+use crate::named::{are_same, named_in};
 use crate::told::Sought;
 use crate::watcher::Teller;
 use addr_map::Mode;
@@ -60,7 +60,7 @@ pub fn story(
         row: place,
     };
     // One program has one run.
-    if !teller.seeks(&again, &second.frames) {
+    if !agree(&teller, &again, &first.frames, &second.frames) {
         return Err(NoMemory);
     }
     let (entries, calls) = teller.into_parts();
@@ -72,6 +72,15 @@ pub fn story(
         ran: second.ran,
         calls,
     })
+}
+
+/// Whether two runs with these frames are one, of which a watch tells that seeks this object.
+fn agree(teller: &Teller, sought: &Sought, first: &Frames, second: &Frames) -> bool
+    ensures frames { IsTrue result → first.now ≡ second.now }
+    ensures sought { IsTrue result → teller.now.sought ≡ Some sought.now }
+    ensures told_frames { IsTrue result → teller.now.frames.now ≡ second.now }
+{
+    are_same(first, second) && teller.seeks(sought, second)
 }
 
 /// The story of an object whose frame the run hasn't started.
