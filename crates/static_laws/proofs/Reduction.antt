@@ -201,7 +201,7 @@ module _ (world : World) (rows : AreRows world.rows) (f : Scene) (b : Begun) (u 
       some_none o e h = true≢false (sym (sym (ap (λ z. is_some z) e) ∙ h))
 
   never : never_races p function root ≡ true → ⊥
-    unfolding two_accesses swapped
+  unfolding two_accesses swapped
   never h = elim (among_all (accesses p function root) two.first two.second two.has_first two.has_second h) [
     | inl e ↦ elim two.at [
       | inl q ↦ not_one two.first two.second e q.0 q.1
