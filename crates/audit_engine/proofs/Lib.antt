@@ -1,6 +1,6 @@
 mod Audits
 mod Pages
 mod Reports
-mod Statics
+mod StaticSheets
 mod Stories
 mod Swaps

@@ -1,6 +1,6 @@
 use Rattle.audit_batch.specs.Moment.{moment}
 use Rattle.audit_engine.proofs.Reports.{quiet_of, quiet_stopped}
-use Rattle.audit_engine.proofs.Statics.{fetched_static, stopped_static}
+use Rattle.audit_engine.proofs.StaticSheets.{fetched_static, stopped_static}
 use Rattle.audit_engine.specs.Looks.{IsFileStatic, IsTextStatic}
 use Rattle.audit_engine.proofs.statics.fetched_sheet.Goals as goal
 

@@ -1,6 +1,6 @@
 use Rattle.std.proofs.Common.{subst}
 use Rattle.audit_engine.proofs.Reports.{refused_by}
-use Rattle.audit_engine.proofs.Statics.{program_static, refused_static}
+use Rattle.audit_engine.proofs.StaticSheets.{program_static, refused_static}
 use Rattle.audit_engine.specs.Looks.{IsRefused}
 use Rattle.audit_top.specs.Answer.{IsRunnable}
 use Rattle.audit_engine.proofs.statics.static_page.Goals as goal

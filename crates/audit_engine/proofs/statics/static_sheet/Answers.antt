@@ -1,5 +1,5 @@
 use Rattle.audit_batch.specs.Moment.{moment}
-use Rattle.audit_engine.proofs.Statics.{static_of_file}
+use Rattle.audit_engine.proofs.StaticSheets.{static_of_file}
 use Rattle.audit_engine.proofs.statics.static_sheet.Goals as goal
 
 pub returns-clause-sheet : goal.returns-clause-sheet
