@@ -1,4 +1,5 @@
 // Reports on texts, by the rows of the definition and by hand.
+use crate::rows::MOST;
 use c_lex::lex;
 use c_parse::parse;
 use c_resolve::resolve;
@@ -119,7 +120,11 @@ const ROWS: [(&str, &str, u8); 19] = [
 
 // The report on the program of a text, with its status.
 fn reported(alloc: Global, text: &str) -> Result<(Bytes, u8), NoMemory> {
-    let Ok(tokens) = lex(alloc, text.as_bytes()) else {
+    let source = text.as_bytes();
+    if source.len() > MOST {
+        return Ok((Bytes::from_slice(alloc, b"too long")?, 0));
+    }
+    let Ok(tokens) = lex(alloc, source) else {
         return Ok((Bytes::from_slice(alloc, b"no tokens")?, 0));
     };
     let Ok(unit) = parse(alloc, &tokens) else {
