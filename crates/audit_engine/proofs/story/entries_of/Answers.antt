@@ -2,7 +2,7 @@ use Rattle.audit_engine.proofs.story.entries_of.Goals as goal
 
 pub returns : goal.returns
 returns c = record {
-  picks = c.picks_of.result;
+  picks = c.picks_of-picks.result;
   frames = c.in_ok-told.told.frames;
   named = c.in_ok-told.told.named;
   places = c.in_ok-told.told.map;

@@ -1,3 +1,4 @@
+use Rattle.std.proofs.Common.{◌∙◌, ◌++◌, ap}
 use Rattle.audit_engine.proofs.story.story_page.Goals as goal
 
 pub returns-clause-page : goal.returns-clause-page
@@ -6,5 +7,5 @@ returns-clause-page g c = record {
   body = c.in_ok-page.page.text;
   story = c.in_ok-text.ensures;
   audit = c.in_ok-page.ensures.page;
-  both = ?;
+  both = c.in_ok-append.ensures.ok ∙ ap (λ z. c.in_ok-text.text ++ z) c.as_slice.ensures;
 }

@@ -8,6 +8,6 @@ returns c = record {
   permitted = c.in_ok-swapped.ensures.permitted;
   second_first = c.in_ok-swapped.ensures.second_first;
   differs = c.in_ok-swapped.ensures.differs;
-  code = c.swap_status.ensures;
+  code = c.swap_status-status.ensures;
   page = c.in_ok-text.ensures;
 }
