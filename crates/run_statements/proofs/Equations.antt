@@ -23,7 +23,7 @@ use Rattle.run_control.specs.declared.statement.Round.{Round}
 use Rattle.run_control.specs.View.{Meaning, stmt_of, block_of, root_if}
 use Rattle.run_control.specs.Targets.{Bodies, bodies, again_pairs, block_pairs, round_pairs, switch_pairs, statement_bodies}
 use Rattle.run_control.specs.Targets.{again_bodies, block_bodies, round_bodies, switch_bodies}
-use Rattle.run_statements.specs.Bodies.{body_of, inner_of, entry_of, loop_of, seen_if, simple, chosen, returned, as_block}
+use Rattle.run_statements.specs.Bodies.{body_of, inner_of, entry_of, loop_of, seen_if, as_block}
 
 -- one layer of the bodies in a statement
 rolled : (m : Meaning) (layer : Statement-F Statement Again Block Round Switch) → bodies m (roll-Statement layer)
@@ -92,22 +92,14 @@ pub block-number : (m : Meaning) (b : Block) → (block_of m b).number ≡ b.num
 block-number m b = search (rules, the_lemmas)
 
 module _ (e : Typed → Expr) (ds : ℕ → List Decl) where
-  pub body-simple : (t : Option Typed) → body_of e ds (body.Simple t) ≡ simple (seen_if e t)
-  body-simple t = search (rules, typed.the_lemmas)
-
   pub body-block : (b : TypedBlock) → body_of e ds (body.Block b) ≡ as_block e ds (inner_of e ds b)
   body-block b = search (rules, typed.the_lemmas)
 
-  body-if_only : (t : Typed) (x : Body) → body_of e ds (body.If t x None) ≡ model.If_only (e t) (body_of e ds x)
+  pub body-if_only : (t : Typed) (x : Body) → body_of e ds (body.If t x None) ≡ model.If_only (e t) (body_of e ds x)
   body-if_only t x = search (rules, typed.the_lemmas)
 
-  body-if : (t : Typed) (x y : Body) → body_of e ds (body.If t x (Some y)) ≡ model.If (e t) (body_of e ds x) (body_of e ds y)
+  pub body-if : (t : Typed) (x y : Body) → body_of e ds (body.If t x (Some y)) ≡ model.If (e t) (body_of e ds x) (body_of e ds y)
   body-if t x y = search (rules, typed.the_lemmas)
-
-  pub body-chosen : (t : Typed) (x : Body) (other : Option Body) → body_of e ds (body.If t x other)
-      ≡ chosen (e t) (body_of e ds x) (seen_if (body_of e ds) other)
-  body-chosen t x None = body-if_only t x
-  body-chosen t x (Some y) = body-if t x y
 
   pub body-switch : (t : Typed) (x : Body) → body_of e ds (body.Switch t x) ≡ model.Switch (e t) (body_of e ds x)
   body-switch t x = search (rules, typed.the_lemmas)
@@ -140,9 +132,6 @@ module _ (e : Typed → Expr) (ds : ℕ → List Decl) where
 
   pub body-break : body_of e ds body.Break ≡ model.Break
   body-break = search (rules, typed.the_lemmas)
-
-  pub body-return : (t : Option Typed) → body_of e ds (body.Return t) ≡ returned (seen_if e t)
-  body-return t = search (rules, typed.the_lemmas)
 
   pub body-label : (k : ℕ) (x : Body) → body_of e ds (body.Label k x) ≡ model.Label k (body_of e ds x)
   body-label k x = search (rules, typed.the_lemmas)

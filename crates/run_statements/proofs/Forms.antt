@@ -13,10 +13,10 @@ use Rattle.run_control.specs.Targets.{Bodies, AllEqual, bodies}
 use Rattle.run_control.proofs.Equations.{stmt-label, stmt-case, stmt-default, stmt-if, stmt-if_only}
 use Rattle.run_control.proofs.Equations.{bodies-label, bodies-case, bodies-default, bodies-if, bodies-if_only}
 use Rattle.run_statements.specs.declared.numbers.Numbers.{Numbers}
-use Rattle.run_statements.specs.Bodies.{Stands, Grows, IsRoot, IsRootIf, IsStatement, IsSimple, IsReturned, IsConditional, body_of, seen_if, chosen}
+use Rattle.run_statements.specs.Bodies.{Stands, Grows, IsRoot, IsRootIf, IsStatement, IsSimple, IsReturned, body_of}
 use Rattle.run_statements.proofs.Equations.{bodies-value, bodies-empty, bodies-goto, bodies-continue, bodies-break, bodies-return, bodies-return_none}
 use Rattle.run_statements.proofs.Equations.{stmt-value, stmt-empty, stmt-goto, stmt-continue, stmt-break, stmt-return, stmt-return_none}
-use Rattle.run_statements.proofs.Equations.{body-simple, body-chosen, body-goto, body-continue, body-break, body-return, body-label, body-case, body-default}
+use Rattle.run_statements.proofs.Equations.{body-if_only, body-if, body-goto, body-continue, body-break, body-label, body-case, body-default}
 
 pub grows_two : (a b c : Numbers) → Grows a b → Grows b c → Grows a c
 grows_two a b c g h = (λ n x at. h.0 n x (g.0 n x at), λ n x at. h.1 n x (g.1 n x at))
@@ -51,9 +51,6 @@ pub is_value : (ns : Numbers) (t : Option Typed) (x : Typed) (n : ℕ) → t ≡
 is_value ns t x n is h = let P : Option Typed → Type 0 = λ y. IsSimple ns y (statement.Value n) in
     subst P (sym is) (λ m e st. (stmt-value m n ∙ ap model.Value (h m e st), none_in m (statement.Value n) (bodies-value m n)))
 
-pub at_simple : (ns : Numbers) (b : Body) (t : Option Typed) (s : Statement) → b ≡ body.Simple t → IsSimple ns t s → IsStatement ns b s
-at_simple ns b t s is h = same_body ns b (body.Simple t) s is (λ m e st. ((h m e st).0 ∙ sym (body-simple e m.decls t), (h m e st).1))
-
 pub is_return_none : (ns : Numbers) (t : Option Typed) → t ≡ None → IsReturned ns t statement.ReturnNone
 is_return_none ns t is = let P : Option Typed → Type 0 = λ y. IsReturned ns y statement.ReturnNone in
     subst P (sym is) (λ m e st. (stmt-return_none m, none_in m statement.ReturnNone (bodies-return_none m)))
@@ -62,37 +59,24 @@ pub is_return : (ns : Numbers) (t : Option Typed) (x : Typed) (n : ℕ) → t �
 is_return ns t x n is h = let P : Option Typed → Type 0 = λ y. IsReturned ns y (statement.Return n) in
     subst P (sym is) (λ m e st. (stmt-return m n ∙ ap model.Return (h m e st), none_in m (statement.Return n) (bodies-return m n)))
 
-pub at_return : (ns : Numbers) (b : Body) (t : Option Typed) (s : Statement) → b ≡ body.Return t → IsReturned ns t s → IsStatement ns b s
-at_return ns b t s is h = same_body ns b (body.Return t) s is (λ m e st. ((h m e st).0 ∙ sym (body-return e m.decls t), (h m e st).1))
-
-pub is_root_none : (ns : Numbers) (t : Option Typed) → t ≡ None → IsRootIf ns t None
-is_root_none ns t is = let P : Option Typed → Type 0 = λ y. IsRootIf ns y None in subst P (sym is) (λ m e st. refl)
-
-pub is_root_some : (ns : Numbers) (t : Option Typed) (x : Typed) (n : ℕ) → t ≡ Some x → IsRoot ns x n → IsRootIf ns t (Some n)
-is_root_some ns t x n is h = let P : Option Typed → Type 0 = λ y. IsRootIf ns y (Some n) in subst P (sym is) (λ m e st. ap Some (h m e st))
-
-pub is_only : (ns : Numbers) (x : Body) (other : Option Body) (n : ℕ) (s : Statement) → other ≡ None → IsStatement ns x s
-    → IsConditional ns n x other (statement.IfOnly n s)
-is_only ns x other n s is h = let P : Option Body → Type 0 = λ y. IsConditional ns n x y (statement.IfOnly n s) in subst P (sym is) (λ m e st. (
-  stmt-if_only m n s ∙ ap (model.If_only (m.root n)) (h m e st).0,
-  subst AllEqual (sym (bodies-if_only m n s)) (h m e st).1,
+pub at_if_only : (a ns : Numbers) (b : Body) (t : Typed) (x : Body) (other : Option Body) (n : ℕ) (s : Statement) → b ≡ body.If t x other → other ≡ None
+    → Grows a ns → IsRoot a t n → IsStatement ns x s → IsStatement ns b (statement.IfOnly n s)
+at_if_only a ns b t x other n s is none g h k = same_body ns b (body.If t x None) (statement.IfOnly n s) (is ∙ ap (body.If t x) none) (λ m e st. (
+  stmt-if_only m n s ∙ (ap (λ c. model.If_only c (stmt_of m s)) (h m e (stands_before a ns m e g st)) ∙ (ap (model.If_only (e t)) (k m e st).0
+      ∙ sym (body-if_only e m.decls t x))),
+  subst AllEqual (sym (bodies-if_only m n s)) (k m e st).1,
 ))
 
-pub is_either : (a ns : Numbers) (x y : Body) (other : Option Body) (n : ℕ) (s r : Statement) → other ≡ Some y → Grows a ns → IsStatement a x s
-    → IsStatement ns y r → IsConditional ns n x other (statement.If n s r)
-is_either a ns x y other n s r is g h k = let P : Option Body → Type 0 = λ z. IsConditional ns n x z (statement.If n s r) in
-    subst P (sym is) (λ m e st. let before = h m e (stands_before a ns m e g st) in (
-      stmt-if m n s r ∙ (ap (λ z. model.If (m.root n) z (stmt_of m r)) before.0 ∙ ap (model.If (m.root n) (body_of e m.decls x)) (k m e st).0),
-      subst AllEqual (sym (bodies-if m n s r)) (equal_two (bodies m s) (bodies m r) before.1 (k m e st).1),
+pub at_if : (a c ns : Numbers) (b : Body) (t : Typed) (x y : Body) (other : Option Body) (n : ℕ) (s r : Statement) → b ≡ body.If t x other
+    → other ≡ Some y → Grows a c → Grows c ns → IsRoot a t n → IsStatement c x s → IsStatement ns y r → IsStatement ns b (statement.If n s r)
+at_if a c ns b t x y other n s r is some f g h k l = same_body ns b (body.If t x (Some y)) (statement.If n s r) (is ∙ ap (body.If t x) some) (λ m e st.
+    let between = stands_before c ns m e g st in
+    let first = k m e between in (
+      stmt-if m n s r ∙ (ap (λ z. model.If z (stmt_of m s) (stmt_of m r)) (h m e (stands_before a c m e f between))
+          ∙ (ap (λ z. model.If (e t) z (stmt_of m r)) first.0
+          ∙ (ap (model.If (e t) (body_of e m.decls x)) (l m e st).0 ∙ sym (body-if e m.decls t x y)))),
+      subst AllEqual (sym (bodies-if m n s r)) (equal_two (bodies m s) (bodies m r) first.1 (l m e st).1),
     ))
-
-pub at_if : (a ns : Numbers) (b : Body) (t : Typed) (x : Body) (other : Option Body) (n : ℕ) (s : Statement) → b ≡ body.If t x other → Grows a ns
-    → IsRoot a t n → IsConditional ns n x other s → IsStatement ns b s
-at_if a ns b t x other n s is g h k = same_body ns b (body.If t x other) s is (λ m e st. (
-  (k m e st).0 ∙ (ap (λ c. chosen c (body_of e m.decls x) (seen_if (body_of e m.decls) other)) (h m e (stands_before a ns m e g st))
-      ∙ sym (body-chosen e m.decls t x other)),
-  (k m e st).1,
-))
 
 pub at_goto : (ns : Numbers) (b : Body) (k : ℕ) → b ≡ body.Goto k → IsStatement ns b (statement.Goto k)
 at_goto ns b k is = same_body ns b (body.Goto k) (statement.Goto k) is
@@ -113,12 +97,12 @@ at_label ns b k x s is h = same_body ns b (body.Label k x) (statement.Label k s)
   subst AllEqual (sym (bodies-label m k s)) (h m e st).1,
 ))
 
-pub at_case : (ns : Numbers) (b : Body) (z : ℤ) (x : Body) (s : Statement) → b ≡ body.Case z x → IsStatement ns x s
-    → IsStatement ns b (statement.Case z s)
-at_case ns b z x s is h = same_body ns b (body.Case z x) (statement.Case z s) is (λ m e st. (
+pub at_case : (ns : Numbers) (b : Body) (z : ℤ) (x : Body) (s r : Statement) → b ≡ body.Case z x → r ≡ statement.Case z s → IsStatement ns x s
+    → IsStatement ns b r
+at_case ns b z x s r is made h = subst (IsStatement ns b) (sym made) (same_body ns b (body.Case z x) (statement.Case z s) is (λ m e st. (
   stmt-case m z s ∙ (ap (model.Case z) (h m e st).0 ∙ sym (body-case e m.decls z x)),
   subst AllEqual (sym (bodies-case m z s)) (h m e st).1,
-))
+)))
 
 pub at_default : (ns : Numbers) (b : Body) (x : Body) (s : Statement) → b ≡ body.Default x → IsStatement ns x s
     → IsStatement ns b (statement.Default s)

@@ -22,7 +22,7 @@ use Rattle.run_control.specs.Targets.{Bodies, AllEqual, bodies, all_bodies, bloc
 use Rattle.run_control.proofs.Equations.{stmt-block, stmt-switch, block-statements, bodies-block, bodies-all, bodies-switch, bodies-do, bodies-for}
 use Rattle.run_control.proofs.Adding.{equal_append}
 use Rattle.run_statements.specs.declared.numbers.Numbers.{Numbers}
-use Rattle.run_statements.specs.Bodies.{Stands, Grows, IsRoot, IsRootIf, IsSwitch, IsStatement, IsEntry, AreEntries, IsBlock, IsSelection, IsRound, IsLoop, IsDeclaring}
+use Rattle.run_statements.specs.Bodies.{Stands, Grows, IsRoot, IsRootIf, IsSwitch, IsStatement, IsEntry, AreEntries, IsBlock, IsSelection, IsRound}
 use Rattle.run_statements.specs.Bodies.{body_of, inner_of, entry_of, seen_if}
 use Rattle.run_statements.proofs.Equations.{stmt-again, stmt-round, stmt-declare, stmt-value, block-number, inner-number, inner-statements}
 use Rattle.run_statements.proofs.Equations.{bodies-declare, bodies-value, body-block, body-switch, body-while, body-do, body-for}
@@ -48,14 +48,6 @@ at_block ns b x s is h = same_body ns b (body.Block x) (statement.Block s) is (�
   within_block m s (h m e st).2,
 ))
 
--- of a block that was made of these statements
-pub made_block : (ns : Numbers) (x : TypedBlock) (s : Block) → s.number ≡ x.number → AreEntries ns x s.statements → IsBlock ns x s
-made_block ns x s n h = λ m e st. (block-number m s ∙ (n ∙ sym (inner-number e m.decls x)), (h m e st).0, (h m e st).1)
-
-pub made_selection : (a ns : Numbers) (test : ℕ) (x : Body) (s : Switch) → s.test ≡ test → Grows a ns → IsSwitch a x s.number → IsStatement ns x s.body
-    → IsSelection ns test x s
-made_selection a ns test x s t g h k = (t, λ m e st. (h m e (stands_before a ns m e g st), (k m e st).0, (k m e st).1))
-
 pub at_switch : (a ns : Numbers) (b : Body) (t : Typed) (x : Body) (n : ℕ) (s : Switch) → b ≡ body.Switch t x → Grows a ns → IsRoot a t n
     → IsSelection ns n x s → IsStatement ns b (statement.Switch s)
 at_switch a ns b t x n s is g h k = same_body ns b (body.Switch t x) (statement.Switch s) is (λ m e st. (
@@ -64,21 +56,6 @@ at_switch a ns b t x n s is g h k = same_body ns b (body.Switch t x) (statement.
       ∙ (ap (model.Switch (e t)) (k.1 m e st).0 ∙ sym (body-switch e m.decls t x)))),
   subst AllEqual (sym (bodies-switch m s)) ((k.1 m e st).0 ∙ sym (k.1 m e st).1, (k.1 m e st).2),
 ))
-
--- a loop that was made of these parts
-pub made_round : (a c ns : Numbers) (test step : Option Typed) (x : Body) (r : Round) → Grows a c → Grows c ns → IsRootIf a test r.test
-    → IsRootIf c step r.step → IsStatement ns x r.body → IsRound ns test step x r
-made_round a c ns test step x r f g h k l = λ m e st. let before = stands_before c ns m e g st in
-    (h m e (stands_before a c m e f before), k m e before, (l m e st).0, (l m e st).1)
-
-pub made_tested : (a ns : Numbers) (t : Typed) (x : Body) (n : ℕ) (r : Round) → r.test ≡ Some n → r.step ≡ None → Grows a ns → IsRoot a t n
-    → IsStatement ns x r.body → IsRound ns (Some t) None x r
-made_tested a ns t x n r test step g h l = λ m e st. (
-  ap (root_if m.root) test ∙ ap Some (h m e (stands_before a ns m e g st)),
-  ap (root_if m.root) step,
-  (l m e st).0,
-  (l m e st).1,
-)
 
 -- a loop behind what it begins with
 sees_round : (ns : Numbers) (start : Option ℕ) (test step : Option Typed) (x : Body) (r : Round) → IsRound ns test step x r → (m : Meaning)
@@ -107,37 +84,24 @@ at_do a ns b x t s is g k h = same_body ns b (body.Do x t) (statement.Do s) is (
   subst AllEqual (sym (bodies-do m s)) before.1,
 ))
 
-pub at_for : (ns : Numbers) (b : Body) (from : ForStart) (test step : Option Typed) (x : Body) (s : Statement) → b ≡ body.For from test step x
-    → IsLoop ns from test step x s → IsStatement ns b s
-at_for ns b from test step x s is h = same_body ns b (body.For from test step x) s is
-    (λ m e st. ((h m e st).0 ∙ sym (body-for e m.decls from test step x), (h m e st).1))
-
-pub is_loop : (ns : Numbers) (from : ForStart) (test step : Option Typed) (x : Body) (r : Round) → from ≡ start.Empty → IsRound ns test step x r
-    → IsLoop ns from test step x (statement.For None r)
-is_loop ns from test step x r is h = let P : ForStart → Type 0 = λ y. IsLoop ns y test step x (statement.For None r) in
-    subst P (sym is) (λ m e st. (
-      sees_round ns None test step x r h m e st ∙ sym (loop-empty e m.decls (seen_if e test) (seen_if e step) (body_of e m.decls x)),
+pub at_for : (ns : Numbers) (b : Body) (from : ForStart) (test step : Option Typed) (x : Body) (r : Round) → b ≡ body.For from test step x
+    → from ≡ start.Empty → IsRound ns test step x r → IsStatement ns b (statement.For None r)
+at_for ns b from test step x r is empty h =
+    same_body ns b (body.For start.Empty test step x) (statement.For None r) (is ∙ ap (λ y. body.For y test step x) empty) (λ m e st. (
+      sees_round ns None test step x r h m e st
+          ∙ sym (body-for e m.decls start.Empty test step x ∙ loop-empty e m.decls (seen_if e test) (seen_if e step) (body_of e m.decls x)),
       within_round m None r (h m e st).3,
     ))
 
-pub is_loop_value : (a ns : Numbers) (from : ForStart) (t : Typed) (test step : Option Typed) (x : Body) (n : ℕ) (r : Round) → from ≡ start.Value t
-    → Grows a ns → IsRoot a t n → IsRound ns test step x r → IsLoop ns from test step x (statement.For (Some n) r)
-is_loop_value a ns from t test step x n r is g k h = let P : ForStart → Type 0 = λ y. IsLoop ns y test step x (statement.For (Some n) r) in
-    subst P (sym is) (λ m e st. (
+pub at_for_value : (a ns : Numbers) (b : Body) (from : ForStart) (t : Typed) (test step : Option Typed) (x : Body) (n : ℕ) (r : Round)
+    → b ≡ body.For from test step x → from ≡ start.Value t → Grows a ns → IsRoot a t n → IsRound ns test step x r
+    → IsStatement ns b (statement.For (Some n) r)
+at_for_value a ns b from t test step x n r is value g k h =
+    same_body ns b (body.For (start.Value t) test step x) (statement.For (Some n) r) (is ∙ ap (λ y. body.For y test step x) value) (λ m e st. (
       sees_round ns (Some n) test step x r h m e st
           ∙ (ap (λ c. model.For (Some c) (seen_if e test) (seen_if e step) (body_of e m.decls x)) (k m e (stands_before a ns m e g st))
-          ∙ sym (loop-value e m.decls t (seen_if e test) (seen_if e step) (body_of e m.decls x))),
+          ∙ sym (body-for e m.decls (start.Value t) test step x ∙ loop-value e m.decls t (seen_if e test) (seen_if e step) (body_of e m.decls x))),
       within_round m (Some n) r (h m e st).3,
-    ))
-
--- a declaration there makes the loop a block
-pub is_loop_declared : (ns : Numbers) (from : ForStart) (d : TypedBlock) (test step : Option Typed) (x : Body) (s : Block) → from ≡ start.Declared d
-    → IsDeclaring ns d test step x s → IsLoop ns from test step x (statement.Block s)
-is_loop_declared ns from d test step x s is h = let P : ForStart → Type 0 = λ y. IsLoop ns y test step x (statement.Block s) in
-    subst P (sym is) (λ m e st. let parts = h m e st in let inner = inner_of e m.decls d in (
-      sees_block m s inner.number (inner.statements ++ model.For None (seen_if e test) (seen_if e step) (body_of e m.decls x) ∷ []) parts.0 parts.1
-          ∙ sym (loop-declared e m.decls d (seen_if e test) (seen_if e step) (body_of e m.decls x)),
-      within_block m s parts.2,
     ))
 
 map_more : (m : Meaning) (ss : List Statement) (s : Statement) → map (stmt_of m) (ss ++ s ∷ []) ≡ map (stmt_of m) ss ++ stmt_of m s ∷ []
@@ -149,22 +113,23 @@ all_more m [] s h k = equal_two (bodies m s) [] k tt
 all_more m (x ∷ ss) s h k = let r = equal_append (bodies m x) (all_bodies m ss) h in
     equal_two (bodies m x) (all_bodies m (ss ++ s ∷ [])) r.0 (all_more m ss s r.1 k)
 
-pub made_declaring : (a ns : Numbers) (d : TypedBlock) (test step : Option Typed) (x : Body) (ss : List Statement) (r : Round) (s : Block)
-    → s.number ≡ d.number → s.statements ≡ ss ++ statement.For None r ∷ [] → Grows a ns → AreEntries a d ss → IsRound ns test step x r
-    → IsDeclaring ns d test step x s
-made_declaring a ns d test step x ss r s n made g k h = λ m e st.
+-- a declaration there makes the loop a block
+pub at_for_declared : (a ns : Numbers) (b : Body) (from : ForStart) (d : TypedBlock) (test step : Option Typed) (x : Body) (ss : List Statement) (r : Round)
+    (s : Block) → b ≡ body.For from test step x → from ≡ start.Declared d → s.number ≡ d.number → s.statements ≡ ss ++ statement.For None r ∷ []
+    → Grows a ns → AreEntries a d ss → IsRound ns test step x r → IsStatement ns b (statement.Block s)
+at_for_declared a ns b from d test step x ss r s is declared n made g k h =
+    same_body ns b (body.For (start.Declared d) test step x) (statement.Block s) (is ∙ ap (λ y. body.For y test step x) declared) (λ m e st.
     let before = k m e (stands_before a ns m e g st) in
-    let inner = inner_of e m.decls d in (
-      block-number m s ∙ (n ∙ sym (inner-number e m.decls d)),
-      ap (map (stmt_of m)) made ∙ (map_more m ss (statement.For None r)
-          ∙ (ap (λ zs. zs ++ stmt_of m (statement.For None r) ∷ []) before.0
-          ∙ ap (λ z. inner.statements ++ z ∷ []) (sees_round ns None test step x r h m e st))),
-      subst (λ zs. AllEqual (all_bodies m zs)) (sym made) (all_more m ss (statement.For None r) before.1 (within_round m None r (h m e st).3)),
-    )
-
-pub entry_statement : (ns : Numbers) (b : Entry) (x : Body) (s : Statement) → b ≡ entry.Statement x → IsStatement ns x s → IsEntry ns b s
-entry_statement ns b x s is h = let P : Entry → Type 0 = λ y. IsEntry ns y s in
-    subst P (sym is) (λ m e st. ((h m e st).0 ∙ sym (entry-statement e m.decls x), (h m e st).1))
+    let inner = inner_of e m.decls d in
+    let loop = model.For None (seen_if e test) (seen_if e step) (body_of e m.decls x) in
+    let seen : map (stmt_of m) s.statements ≡ inner.statements ++ loop ∷ [] = ap (map (stmt_of m)) made ∙ (map_more m ss (statement.For None r)
+    ∙ (ap (λ zs. zs ++ stmt_of m (statement.For None r) ∷ []) before.0
+    ∙ ap (λ z. inner.statements ++ z ∷ []) (sees_round ns None test step x r h m e st))) in (
+      sees_block m s inner.number (inner.statements ++ loop ∷ []) (block-number m s ∙ (n ∙ sym (inner-number e m.decls d))) seen
+          ∙ sym (body-for e m.decls (start.Declared d) test step x ∙ loop-declared e m.decls d (seen_if e test) (seen_if e step) (body_of e m.decls x)),
+      within_block m s (subst (λ zs. AllEqual (all_bodies m zs)) (sym made) (all_more m ss (statement.For None r) before.1
+          (within_round m None r (h m e st).3))),
+    ))
 
 pub entry_initializer : (ns : Numbers) (b : Entry) (t : Typed) (n : ℕ) → b ≡ entry.Initializer t → IsRoot ns t n → IsEntry ns b (statement.Value n)
 entry_initializer ns b t n is h = let P : Entry → Type 0 = λ y. IsEntry ns y (statement.Value n) in

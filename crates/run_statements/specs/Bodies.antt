@@ -140,11 +140,6 @@ abbrev pub IsReturned : Numbers → Option Typed → Statement → Type 0
 IsReturned numbers t s = (m : Meaning) (expr : Typed → Expr) → Stands m expr numbers
     → (stmt_of m s ≡ returned (seen_if expr t)) × AllEqual (bodies m s)
 
--- an `if` with this test
-abbrev pub IsConditional : Numbers → ℕ → Body → Option Body → Statement → Type 0
-IsConditional numbers test b other s = (m : Meaning) (expr : Typed → Expr) → Stands m expr numbers
-    → (stmt_of m s ≡ chosen (m.root test) (body_of expr m.decls b) (seen_if (body_of expr m.decls) other)) × AllEqual (bodies m s)
-
 -- a `switch` with this test
 abbrev pub IsSelection : Numbers → ℕ → Body → Switch → Type 0
 IsSelection numbers test b s = (s.test ≡ test) × ((m : Meaning) (expr : Typed → Expr) → Stands m expr numbers
@@ -155,16 +150,3 @@ abbrev pub IsRound : Numbers → (test step : Option Typed) → Body → Round �
 IsRound numbers test step b r = (m : Meaning) (expr : Typed → Expr) → Stands m expr numbers
     → (root_if m.root r.test ≡ seen_if expr test) × (root_if m.root r.step ≡ seen_if expr step)
     × (stmt_of m r.body ≡ body_of expr m.decls b) × AllEqual (bodies m r.body)
-
--- a `for` that begins so
-abbrev pub IsLoop : Numbers → ForStart → (test step : Option Typed) → Body → Statement → Type 0
-IsLoop numbers start test step b s = (m : Meaning) (expr : Typed → Expr) → Stands m expr numbers
-    → (stmt_of m s ≡ loop_of expr m.decls start (seen_if expr test) (seen_if expr step) (body_of expr m.decls b)) × AllEqual (bodies m s)
-
--- the block of a `for` that begins with these declarations
-abbrev pub IsDeclaring : Numbers → Block → (test step : Option Typed) → Body → Inside → Type 0
-IsDeclaring numbers d test step b s = (m : Meaning) (expr : Typed → Expr) → Stands m expr numbers
-    → ((block_of m s).number ≡ (inner_of expr m.decls d).number)
-    × (map (stmt_of m) s.statements ≡ (inner_of expr m.decls d).statements
-        ++ model.For None (seen_if expr test) (seen_if expr step) (body_of expr m.decls b) ∷ [])
-    × AllEqual (all_bodies m s.statements)

@@ -1,7 +1,7 @@
 // The statements of functions with the numbers of their full expressions.
-ghost use Rattle.std.specs.Prelude.{◌≡◌, IfOk, OnOk, None, Some};
-ghost use Rattle.run_statements.specs.Bodies.{Grows, IsStatement, IsConditional, IsSelection, IsRound, IsLoop, IsDeclaring, IsBlock, AreEntries, IsEntry};
-ghost use Rattle.run_statements.specs.Bodies.{IsSimple, IsReturned};
+ghost use Rattle.std.specs.Prelude.{◌≡◌, [], ◌∷◌, ◌++◌, IfOk, OnOk, None, Some};
+ghost use Rattle.run_control.specs.declared.statement.Statement.TheVariants as statement;
+ghost use Rattle.run_statements.specs.Bodies.{Grows, IsStatement, IsSimple, IsReturned, IsSelection, IsRound, IsBlock, AreEntries, IsEntry};
 
 use crate::Numbers;
 use crate::numbers::{full, optional, switch_number};
@@ -24,14 +24,18 @@ fn statement<'p>(
         Body::Block(inner) => Ok(Statement::Block(block(alloc, inner, numbers)?)),
         Body::If(test, yes, no) => {
             let test = full(test, numbers)?;
-            conditional(alloc, test, yes.get(), no, numbers)
+            let yes = boxed(alloc, yes.get(), numbers)?;
+            match no {
+                None => Ok(Statement::IfOnly(test, yes)),
+                Some(no) => Ok(Statement::If(test, yes, boxed(alloc, no.get(), numbers)?)),
+            }
         }
         Body::Switch(test, inner) => {
             let test = full(test, numbers)?;
             Ok(Statement::Switch(selection(alloc, test, inner.get(), numbers)?))
         }
         Body::While(test, inner) => {
-            Ok(Statement::For(None, tested(alloc, test, inner.get(), numbers)?))
+            Ok(Statement::For(None, tested(alloc, inner.get(), test, numbers)?))
         }
         Body::Do(inner, test) => {
             let body = boxed(alloc, inner.get(), numbers)?;
@@ -43,7 +47,22 @@ fn statement<'p>(
             test,
             step,
             body,
-        } => loop_of(alloc, start, test, step, body.get(), numbers),
+        } => match start {
+            ForStart::Empty => {
+                let round = round(alloc, test, step, body.get(), numbers)?;
+                Ok(Statement::For(None, round))
+            }
+            ForStart::Value(root) => {
+                let first = full(root, numbers)?;
+                let round = round(alloc, test, step, body.get(), numbers)?;
+                Ok(Statement::For(Some(first), round))
+            }
+            ForStart::Declared(block) => {
+                let statements = entries(alloc, block, numbers)?;
+                let round = round(alloc, test, step, body.get(), numbers)?;
+                Ok(Statement::Block(declaring(block.number, statements, round)?))
+            }
+        },
         Body::Goto(label) => Ok(Statement::Goto(*label)),
         Body::Continue => Ok(Statement::Continue),
         Body::Break => Ok(Statement::Break),
@@ -52,10 +71,7 @@ fn statement<'p>(
             *label,
             boxed(alloc, inner.get(), numbers)?,
         )),
-        Body::Case(value, inner) => Ok(Statement::Case(
-            *value,
-            boxed(alloc, inner.get(), numbers)?,
-        )),
+        Body::Case(value, inner) => Ok(case(value, boxed(alloc, inner.get(), numbers)?)),
         Body::Default(inner) => Ok(Statement::Default(boxed(alloc, inner.get(), numbers)?)),
     }
 }
@@ -70,6 +86,13 @@ fn boxed<'p>(
     ensures statement { IfOk result (λ s. IsStatement numbers.new body.now s) }
 {
     Ok(Boxed::new(alloc, statement(alloc, body, numbers)?)?)
+}
+
+fn case(value: &i128, inner: Boxed<Statement>) -> Statement
+    ensures { result ≡ statement.Case value.now inner }
+{
+    let value = *value;
+    Statement::Case(value, inner)
 }
 
 // An expression statement, which may be empty.
@@ -90,25 +113,6 @@ fn returned<'p>(root: &'p Option<Typed>, numbers: &mut Numbers<'p>) -> Result<St
     match root {
         None => Ok(Statement::ReturnNone),
         Some(root) => Ok(Statement::Return(full(root, numbers)?)),
-    }
-}
-
-// An `if` with this test.
-#[cycle(statement)]
-fn conditional<'p>(
-    alloc: Global,
-    test: u32,
-    yes: &'p Body,
-    no: &'p Option<Boxed<Body>>,
-    numbers: &mut Numbers<'p>,
-) -> Result<Statement, NoMemory>
-    ensures grows { OnOk result (Grows numbers.old numbers.new) }
-    ensures conditional { IfOk result (λ s. IsConditional numbers.new test yes.now no.now s) }
-{
-    let yes = boxed(alloc, yes, numbers)?;
-    match no {
-        None => Ok(Statement::IfOnly(test, yes)),
-        Some(no) => Ok(Statement::If(test, yes, boxed(alloc, no.get(), numbers)?)),
     }
 }
 
@@ -135,8 +139,8 @@ fn selection<'p>(
 #[cycle(statement)]
 fn tested<'p>(
     alloc: Global,
-    test: &'p Typed,
     body: &'p Body,
+    test: &'p Typed,
     numbers: &mut Numbers<'p>,
 ) -> Result<Round, NoMemory>
     ensures grows { OnOk result (Grows numbers.old numbers.new) }
@@ -171,53 +175,14 @@ fn round<'p>(
     })
 }
 
-// A `for`.
-#[cycle(statement)]
-fn loop_of<'p>(
-    alloc: Global,
-    start: &'p ForStart,
-    test: &'p Option<Typed>,
-    step: &'p Option<Typed>,
-    body: &'p Body,
-    numbers: &mut Numbers<'p>,
-) -> Result<Statement, NoMemory>
-    ensures grows { OnOk result (Grows numbers.old numbers.new) }
-    ensures loops { IfOk result (λ s. IsLoop numbers.new start.now test.now step.now body.now s) }
-{
-    match start {
-        ForStart::Empty => {
-            Ok(Statement::For(None, round(alloc, test, step, body, numbers)?))
-        }
-        ForStart::Value(root) => {
-            let first = full(root, numbers)?;
-            Ok(Statement::For(Some(first), round(alloc, test, step, body, numbers)?))
-        }
-        ForStart::Declared(inner) => Ok(Statement::Block(declaring(
-            alloc, inner, test, step, body, numbers,
-        )?)),
-    }
-}
-
 // The block of a `for` that declares: the declarations and then the loop (6.8.5p5).
-#[cycle(statement)]
-fn declaring<'p>(
-    alloc: Global,
-    block: &'p TypedBlock,
-    test: &'p Option<Typed>,
-    step: &'p Option<Typed>,
-    body: &'p Body,
-    numbers: &mut Numbers<'p>,
-) -> Result<Block, NoMemory>
-    ensures grows { OnOk result (Grows numbers.old numbers.new) }
-    ensures block { IfOk result (λ b. IsDeclaring numbers.new block.now test.now step.now body.now b) }
+fn declaring(number: u32, statements: Items<Statement>, round: Round) -> Result<Block, NoMemory>
+    ensures number { IfOk result (λ b. b.number ≡ number) }
+    ensures statements { IfOk result (λ b. b.statements ≡ statements ++ statement.For None round ∷ []) }
 {
-    let mut statements = entries(alloc, block, numbers)?;
-    let round = round(alloc, test, step, body, numbers)?;
+    let mut statements = statements;
     statements.push(Statement::For(None, round))?;
-    Ok(Block {
-        number: block.number,
-        statements,
-    })
+    Ok(Block { number, statements })
 }
 
 /// A block of a function with its numbers.
