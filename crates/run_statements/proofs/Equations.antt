@@ -7,7 +7,6 @@ use Rattle.c_typed.specs.declared.statement.Body.TheFolds as typed
 use Rattle.c_typed.specs.declared.statement.Block.{Block as TypedBlock}
 use Rattle.c_typed.specs.declared.statement.ForStart.{ForStart}
 use Rattle.c_typed.specs.declared.statement.ForStart.TheVariants as start
-use Rattle.c_typed.specs.declared.statement.Entry.{Entry}
 use Rattle.c_typed.specs.declared.statement.Entry.TheVariants as entry
 use Rattle.c_model.specs.Program as model
 use Rattle.c_model.specs.Program.{Expr, Decl, Stmt}

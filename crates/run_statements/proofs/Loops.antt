@@ -18,15 +18,15 @@ use Rattle.run_control.specs.declared.statement.Switch.{Switch}
 use Rattle.run_control.specs.declared.statement.Again.{Again}
 use Rattle.run_control.specs.declared.statement.Round.{Round}
 use Rattle.run_control.specs.View.{Meaning, stmt_of, block_of, in_turn, root_if}
-use Rattle.run_control.specs.Targets.{Bodies, AllEqual, bodies, all_bodies, block_pairs}
+use Rattle.run_control.specs.Targets.{AllEqual, bodies, all_bodies}
 use Rattle.run_control.proofs.Equations.{stmt-block, stmt-switch, block-statements, bodies-block, bodies-all, bodies-switch, bodies-do, bodies-for}
 use Rattle.run_control.proofs.Adding.{equal_append}
 use Rattle.run_statements.specs.declared.numbers.Numbers.{Numbers}
-use Rattle.run_statements.specs.Bodies.{Stands, Grows, IsRoot, IsRootIf, IsSwitch, IsStatement, IsEntry, AreEntries, IsBlock, IsSelection, IsRound}
+use Rattle.run_statements.specs.Bodies.{Stands, Grows, IsRoot, IsStatement, IsEntry, AreEntries, IsBlock, IsSelection, IsRound}
 use Rattle.run_statements.specs.Bodies.{body_of, inner_of, entry_of, seen_if}
 use Rattle.run_statements.proofs.Equations.{stmt-again, stmt-round, stmt-declare, stmt-value, block-number, inner-number, inner-statements}
 use Rattle.run_statements.proofs.Equations.{bodies-declare, bodies-value, body-block, body-switch, body-while, body-do, body-for}
-use Rattle.run_statements.proofs.Equations.{loop-empty, loop-value, loop-declared, entry-statement, entry-initializer, entry-declare}
+use Rattle.run_statements.proofs.Equations.{loop-empty, loop-value, loop-declared, entry-initializer, entry-declare}
 use Rattle.run_statements.proofs.Forms.{equal_two, stands_before}
 
 same_body : (ns : Numbers) (b x : Body) (s : Statement) → b ≡ x → IsStatement ns x s → IsStatement ns b s

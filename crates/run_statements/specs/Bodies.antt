@@ -15,7 +15,7 @@ use Rattle.run_control.specs.declared.statement.Statement.{Statement}
 use Rattle.run_control.specs.declared.statement.Block.{Block as Inside}
 use Rattle.run_control.specs.declared.statement.Switch.{Switch}
 use Rattle.run_control.specs.declared.statement.Round.{Round}
-use Rattle.run_control.specs.View.{Meaning, stmt_of, block_of, round_of, in_turn, root_if}
+use Rattle.run_control.specs.View.{Meaning, stmt_of, block_of, in_turn, root_if}
 use Rattle.run_control.specs.Targets.{AllEqual, bodies, all_bodies}
 use Rattle.run_statements.specs.declared.numbers.Numbers.{Numbers}
 
