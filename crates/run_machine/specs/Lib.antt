@@ -1,1 +1,4 @@
 pub mod Depth
+pub mod Permitted
+pub mod Picked
+pub mod Quiet

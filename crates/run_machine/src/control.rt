@@ -1,4 +1,7 @@
 // The control steps (6.8).
+ghost use Rattle.std.specs.Prelude.{IfErr};
+ghost use Rattle.run_machine.specs.Quiet.{IsQuiet};
+ghost use Rattle.run_machine.specs.Picked.{TakesStep};
 
 use crate::halt::Halt;
 use crate::machine::{Local, Machine, Stage};
@@ -16,7 +19,9 @@ pub const MOST_CREATED: u64 = 1 << 26;
 
 impl<'p, 'c> Machine<'p, 'c> {
     // The control step of the top frame, in whose full expression no event is left.
-    pub fn control(&mut self) -> Result<Pick, Halt> {
+    pub fn control(&mut self) -> Result<Pick, Halt>
+        ensures { TakesStep result }
+    {
         match self.top.stage {
             Some(stage) => self.settle(stage),
             None => match self.work.next()? {
@@ -26,7 +31,9 @@ impl<'p, 'c> Machine<'p, 'c> {
         }
     }
 
-    fn step(&mut self, step: Step<'c>) -> Result<Pick, Halt> {
+    fn step(&mut self, step: Step<'c>) -> Result<Pick, Halt>
+        ensures { TakesStep result }
+    {
         match step {
             Step::Begin(number, how) => self.begin(number, how),
             Step::Enter(block) => self.enter(block.number),
@@ -44,7 +51,9 @@ impl<'p, 'c> Machine<'p, 'c> {
     }
 
     // The frame ends with this step where nothing is left to do in it.
-    fn go_on(&mut self) -> Result<Pick, Halt> {
+    fn go_on(&mut self) -> Result<Pick, Halt>
+        ensures { TakesStep result }
+    {
         if self.work.is_over()? {
             self.end_frame()
         } else {
@@ -52,12 +61,16 @@ impl<'p, 'c> Machine<'p, 'c> {
         }
     }
 
-    fn go(&mut self, how: Move) -> Result<Pick, Halt> {
+    fn go(&mut self, how: Move) -> Result<Pick, Halt>
+        ensures { TakesStep result }
+    {
         self.work.go(how)?;
         Ok(Pick::Step(None))
     }
 
-    fn go_to(&mut self, label: u32) -> Result<Pick, Halt> {
+    fn go_to(&mut self, label: u32) -> Result<Pick, Halt>
+        ensures { TakesStep result }
+    {
         let Some(function) = self.top.function else {
             return Err(Halt::NoMemory);
         };
@@ -76,7 +89,9 @@ impl<'p, 'c> Machine<'p, 'c> {
     }
 
     // A block is entered: its objects are created in order, and the first take the arguments.
-    fn enter(&mut self, number: u32) -> Result<Pick, Halt> {
+    fn enter(&mut self, number: u32) -> Result<Pick, Halt>
+        ensures { TakesStep result }
+    {
         self.top.turn = self.top.turn.saturating_add(1);
         let block = self.block(number)?;
         let reached = total(self.memory.created(), block.created);
@@ -93,7 +108,9 @@ impl<'p, 'c> Machine<'p, 'c> {
     }
 
     // The object of this number in the block.
-    fn create(&mut self, objects: Range, first: u32, number: u32) -> Result<(), Halt> {
+    fn create(&mut self, objects: Range, first: u32, number: u32) -> Result<(), Halt>
+        ensures { IfErr result IsQuiet }
+    {
         let code = self.code;
         let at = objects.first.saturating_add(number);
         let Some(object) = code.objects.get(at as usize) else {
@@ -167,7 +184,9 @@ impl<'p, 'c> Machine<'p, 'c> {
     }
 
     // The bytes of an object of the innermost block become unwritten.
-    fn declare(&mut self, object: u32) -> Result<Pick, Halt> {
+    fn declare(&mut self, object: u32) -> Result<Pick, Halt>
+        ensures { TakesStep result }
+    {
         let Some(block) = self.work.block() else {
             return Err(Halt::NoMemory);
         };
@@ -178,7 +197,9 @@ impl<'p, 'c> Machine<'p, 'c> {
     }
 
     // A full expression begins, whose value has this use.
-    fn begin(&mut self, number: u32, how: Use<'c>) -> Result<Pick, Halt> {
+    fn begin(&mut self, number: u32, how: Use<'c>) -> Result<Pick, Halt>
+        ensures { TakesStep result }
+    {
         let code = self.code;
         self.top.how = how;
         self.top.turn = self.top.turn.saturating_add(1);
@@ -188,6 +209,7 @@ impl<'p, 'c> Machine<'p, 'c> {
         self.top.rooms = expression.rooms;
         self.top.stage = Some(Stage {
             expression: number,
+            first: expression.first,
             cursor: expression.first,
             end: expression.end,
             straight: true,
@@ -236,7 +258,9 @@ impl<'p, 'c> Machine<'p, 'c> {
     }
 
     // The value of a full expression is used.
-    fn settle(&mut self, stage: Stage) -> Result<Pick, Halt> {
+    fn settle(&mut self, stage: Stage) -> Result<Pick, Halt>
+        ensures { TakesStep result }
+    {
         let operand = self.expression(stage)?.value;
         self.top.stage = None;
         match self.top.how {

@@ -1,4 +1,6 @@
 // The events of a full expression.
+ghost use Rattle.std.specs.Prelude.{◌≡◌};
+ghost use Rattle.run_machine.specs.Picked.{event_at, TakesEvent, RaisesIn};
 
 use crate::halt::{Fault, Halt};
 use crate::machine::Machine;
@@ -30,7 +32,10 @@ fn number(value: bool) -> Value {
 
 impl<'p, 'c> Machine<'p, 'c> {
     // Takes a permitted event of the top frame's full expression.
-    pub fn event(&mut self, due: &'c Due<'p>) -> Result<Pick, Halt> {
+    pub fn event(&mut self, due: &'c Due<'p>) -> Result<Pick, Halt>
+        ensures event { TakesEvent (event_at self.old.top due.now.place) result }
+        ensures line { RaisesIn due.now.line result }
+    {
         let event = Event {
             frame: self.top.frame,
             turn: self.top.turn,

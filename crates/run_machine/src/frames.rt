@@ -1,6 +1,7 @@
 // Frames that start and end, and the bodies of calls.
 ghost use Rattle.std.specs.Prelude.{◌≡◌, [], IfOk};
 ghost use Rattle.run_machine.specs.Depth.{StartsWithin};
+ghost use Rattle.run_machine.specs.Picked.{TakesStep};
 
 use crate::events::Outcome;
 use crate::halt::{Fault, Halt};
@@ -195,6 +196,7 @@ impl<'p, 'c> Machine<'p, 'c> {
     // The end of the first frame is that of the run.
     pub fn end_frame(&mut self) -> Result<Pick, Halt>
         requires over { self.old.work.now ≡ [] }
+        ensures { TakesStep result }
     {
         if !self.work.finish() {
             return Err(Halt::NoMemory);

@@ -1,5 +1,8 @@
 // Why a pick isn't taken, and why an act isn't done.
 
+ghost use Rattle.std.specs.Prelude.{Err};
+ghost use Rattle.run_machine.specs.Picked.{RaisesOf, RaisesIn};
+
 use prov_memory::{CreateFault, MemFault};
 use ub_base::{Cause, Clause, Event, NoMemory};
 
@@ -20,12 +23,21 @@ pub enum Halt {
 }
 
 impl From<NoMemory> for Halt {
+    ghost use Rattle.std.specs.Prelude.{◌≡◌};
+    ghost use Rattle.run_machine.specs.declared.halt.Halt.TheVariants.{NoMemory};
+
+    ghost from_gives = { λ _ e. e ≡ NoMemory };
+
     fn from(_e: NoMemory) -> Halt {
         Halt::NoMemory
     }
 }
 
 impl From<CreateFault> for Halt {
+    ghost use Rattle.run_machine.specs.Quiet.{IsQuiet};
+
+    ghost from_gives = { λ _ e. IsQuiet e };
+
     fn from(fault: CreateFault) -> Halt {
         match fault {
             CreateFault::Unplaced => Halt::Unplaced,
@@ -45,7 +57,10 @@ pub enum Fault {
 
 impl Fault {
     // The act was that of this event.
-    pub fn of(self, event: Event, line: u32) -> Halt {
+    pub fn of(self, event: Event, line: u32) -> Halt
+        ensures event { RaisesOf event result }
+        ensures line { RaisesIn line (Err result) }
+    {
         match self {
             Fault::Raise(clause) => Halt::Raised {
                 event,

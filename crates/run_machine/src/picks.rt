@@ -1,17 +1,25 @@
 // Which pick is the canonical one, which are permitted, and what an event completes.
+ghost use Rattle.std.specs.Prelude.{◌≡◌, IfOk, OnOk};
+ghost use Rattle.c_typed.specs.declared.tree.Place.{Place as PlaceOf};
+ghost use Rattle.c_typed.specs.Order.{has};
+ghost use Rattle.seq_order.specs.Marked.{done_in};
+ghost use Rattle.run_machine.specs.Permitted.{IsSmall, begun_in, passed_in, permits, is_permitted_in, next_in, listed_in, left_in};
+ghost use Rattle.run_machine.specs.Picked.{AnswersNext, AnswersSingle, IsCanonical, SameTurn, StaysRefused};
 
 use crate::halt::Halt;
 use crate::machine::{Machine, Stage};
 use crate::pick::{Completed, Pick};
 use c_typed::Place;
-use run_code::{Due, Expression, Listed};
+use run_code::{Due, Expression};
+use run_listing::{due_of, next, part, passed};
 use seq_order::{Done, canonical_next, is_permitted};
-use std::alloc::Global;
 use ub_base::NoMemory;
 
 impl<'p, 'c> Machine<'p, 'c> {
-    /// Takes the canonical pick: the control step, or the next event of the top frame's full expression.
-    pub fn canonical(&mut self) -> Result<Pick, Halt> {
+    /// Takes the canonical pick: the next event of the top frame's full expression, or where none is left the control step.
+    pub fn canonical(&mut self) -> Result<Pick, Halt>
+        ensures next { IsSmall self.old → IsCanonical self.old.top (next_in self.old) result }
+    {
         self.items.clear();
         match self.next_due()? {
             Some(due) => self.event(due),
@@ -19,84 +27,89 @@ impl<'p, 'c> Machine<'p, 'c> {
         }
     }
 
-    /// Takes this event of the top frame's full expression. None where it isn't permitted, and then nothing was taken.
-    pub fn single(&mut self, place: Place) -> Result<Option<Pick>, Halt> {
+    /// Takes this event of the top frame's full expression. None exactly where it isn't permitted, and then nothing was taken.
+    pub fn single(&mut self, place: Place) -> Result<Option<Pick>, Halt>
+        ensures exact { IsSmall self.old → AnswersSingle self.old.top place (is_permitted_in self.old place) result }
+        ensures refused { StaysRefused self.old self.new result }
+    {
         self.items.clear();
         let Some(stage) = self.top.stage else {
             return Ok(None);
         };
-        if let Some(due) = self.next_due()? {
-            if stage.straight && due.place == place {
-                return Ok(Some(self.event(due)?));
-            }
-        }
-        if !self.may_stray(place)? {
+        if !self.permits(stage, place)? {
             return Ok(None);
         }
         let due = self.due_of(stage, place)?;
+        self.stray(stage, place)?;
         Ok(Some(self.event(due)?))
     }
 
-    // Whether this event is permitted. Where it is, the order isn't the canonical one any more.
-    fn may_stray(&mut self, place: Place) -> Result<bool, NoMemory> {
-        let Some(stage) = self.top.stage else {
-            return Ok(false);
-        };
+    // Whether this event is permitted where the full expression stands so.
+    fn permits(&self, stage: Stage, place: Place) -> Result<bool, NoMemory>
+        ensures { IsSmall self.now → IfOk result (λ b. b ≡ permits self.now place stage (begun_in self.now)) }
+    {
         let height = self.below.len();
-        let strayed = if stage.straight {
-            self.passed(stage)?
-        } else {
-            self.strayed(height)?
-        };
         let Some(begun) = self.begun.get(height) else {
             return Err(NoMemory);
         };
-        let permitted = is_permitted(begun.root, place, &begun.taken, &strayed);
-        if permitted {
-            self.top.stage = Some(Stage {
-                straight: false,
-                ..stage
-            });
+        if stage.straight {
+            let done = self.passed(stage)?;
+            return Ok(is_permitted(begun.root, place, &begun.taken, &done));
         }
-        self.keep_strayed(height, strayed)?;
-        Ok(permitted)
-    }
-
-    // What is done at this height, taken out.
-    fn strayed(&mut self, height: usize) -> Result<Done, NoMemory> {
-        match self.strayed.get_mut(height) {
-            Some(done) => Ok(std::mem::replace(done, Done::new(self.alloc))),
+        match self.strayed.get(height) {
+            Some(done) => Ok(is_permitted(begun.root, place, &begun.taken, done)),
             None => Err(NoMemory),
         }
     }
 
-    fn keep_strayed(&mut self, height: usize, done: Done) -> Result<(), NoMemory> {
-        for _ in self.strayed.len()..height.saturating_add(1) {
-            self.strayed.push(Done::new(self.alloc))?;
+    // The events that the cursor has passed.
+    fn passed(&self, stage: Stage) -> Result<Done, NoMemory>
+        ensures { IfOk result (λ done. (p : PlaceOf) → done_in done p ≡ has (passed_in self.now stage (begun_in self.now)) p) }
+    {
+        let code = self.code;
+        match self.begun.get(self.below.len()) {
+            Some(begun) => passed(
+                self.alloc,
+                part(&code.listing, stage.first, stage.cursor),
+                &begun.taken,
+            ),
+            None => Err(NoMemory),
         }
-        if let Some(place) = self.strayed.get_mut(height) {
-            *place = done;
+    }
+
+    // Where the event isn't the canonical one, the order isn't that of the listing any more: what it has passed is noted.
+    fn stray(&mut self, stage: Stage, place: Place) -> Result<(), NoMemory>
+        ensures { SameTurn self.old.top self.new.top }
+    {
+        if !stage.straight {
+            return Ok(());
         }
+        if let Some(due) = self.next_due()? {
+            if due.place == place {
+                return Ok(());
+            }
+        }
+        let done = self.passed(stage)?;
+        self.keep_strayed(done)?;
+        self.top.stage = Some(Stage {
+            straight: false,
+            ..stage
+        });
         Ok(())
     }
 
-    // The events that the cursor has passed.
-    fn passed(&self, stage: Stage) -> Result<Done, NoMemory> {
-        let mut done = Done::new(self.alloc);
-        let mut at = self.expression(stage)?.first;
-        for _ in at..stage.cursor {
-            if at < stage.cursor {
-                match self.code.listing.get(at) {
-                    Some(Listed::Event(due)) => {
-                        done.add(due.place)?;
-                        at = at.saturating_add(1);
-                    }
-                    Some(Listed::Operand { .. }) => at = self.behind(at),
-                    None => return Err(NoMemory),
-                }
-            }
+    fn keep_strayed(&mut self, done: Done) -> Result<(), NoMemory>
+        ensures { SameTurn self.old.top self.new.top }
+    {
+        let height = self.below.len();
+        for _ in self.strayed.len()..height.saturating_add(1) {
+            self.strayed.push(Done::new(self.alloc))?;
         }
-        Ok(done)
+        match self.strayed.get_mut(height) {
+            Some(noted) => *noted = done,
+            None => return Err(NoMemory),
+        }
+        Ok(())
     }
 
     pub fn expression(&self, stage: Stage) -> Result<&'c Expression<'p>, NoMemory> {
@@ -108,15 +121,45 @@ impl<'p, 'c> Machine<'p, 'c> {
     }
 
     // The next event of the top frame's full expression in canonical order; None where none is left or none has begun.
-    fn next_due(&mut self) -> Result<Option<&'c Due<'p>>, NoMemory> {
+    fn next_due(&mut self) -> Result<Option<&'c Due<'p>>, NoMemory>
+        ensures next { IsSmall self.old → IfOk result (λ due. AnswersNext (next_in self.old) due) }
+        ensures turn { SameTurn self.old.top self.new.top }
+    {
         let Some(stage) = self.top.stage else {
             return Ok(None);
         };
         if stage.straight {
-            let cursor = self.next_listed(stage);
-            self.top.stage = Some(Stage { cursor, ..stage });
-            return self.listed(cursor, stage.end);
+            self.next_listed(stage)
+        } else {
+            self.next_left(stage)
         }
+    }
+
+    // The cursor goes on to the next event of the listing.
+    fn next_listed(&mut self, stage: Stage) -> Result<Option<&'c Due<'p>>, NoMemory>
+        ensures next { IfOk result (λ due. AnswersNext (listed_in self.old stage (begun_in self.old)) due) }
+        ensures turn { SameTurn self.old.top self.new.top }
+    {
+        let code = self.code;
+        let Some(begun) = self.begun.get(self.below.len()) else {
+            return Err(NoMemory);
+        };
+        match next(part(&code.listing, stage.cursor, stage.end), &begun.taken) {
+            Some((before, due)) => {
+                self.top.stage = Some(Stage {
+                    cursor: stage.cursor.saturating_add(before),
+                    ..stage
+                });
+                Ok(Some(due))
+            }
+            None => Ok(None),
+        }
+    }
+
+    // The first event that is left and permitted, where the order isn't that of the listing.
+    fn next_left(&self, stage: Stage) -> Result<Option<&'c Due<'p>>, NoMemory>
+        ensures { IsSmall self.now → IfOk result (λ due. AnswersNext (left_in self.now (begun_in self.now)) due) }
+    {
         let height = self.below.len();
         let (Some(begun), Some(done)) = (self.begun.get(height), self.strayed.get(height)) else {
             return Err(NoMemory);
@@ -127,71 +170,15 @@ impl<'p, 'c> Machine<'p, 'c> {
         }
     }
 
-    // The event at this place of the listing, None at its end.
-    fn listed(&self, cursor: usize, end: usize) -> Result<Option<&'c Due<'p>>, NoMemory> {
-        if cursor >= end {
-            return Ok(None);
-        }
-        let code = self.code;
-        match code.listing.get(cursor) {
-            Some(Listed::Event(due)) => Ok(Some(due)),
-            _ => Err(NoMemory),
-        }
-    }
-
-    // Where the next event of the listing stands from the cursor on: operands that aren't chosen are passed over.
-    fn next_listed(&self, stage: Stage) -> usize {
-        let mut at = stage.cursor;
-        for _ in stage.cursor..stage.end {
-            match self.code.listing.get(at) {
-                Some(Listed::Operand { .. }) => at = self.behind(at),
-                _ => return at,
-            }
-        }
-        at
-    }
-
-    // Where the listing goes on behind the entry of an operand.
-    fn behind(&self, at: usize) -> usize {
-        let next = at.saturating_add(1);
-        match self.code.listing.get(at) {
-            Some(
-                Listed::Operand {
-                    node,
-                    operand,
-                    count,
-                },
-            ) => {
-                if self.has_chosen(*node, *operand) {
-                    next
-                } else {
-                    next.saturating_add(*count)
-                }
-            }
-            _ => next,
-        }
-    }
-
-    // Whether the node of the top frame's full expression has chosen this operand.
-    fn has_chosen(&self, node: u32, operand: u32) -> bool {
-        match self.begun.get(self.below.len()) {
-            Some(begun) => begun.taken.chosen(node) == Some(operand),
-            None => false,
-        }
-    }
-
     // The entry of an event in the listing. It costs a walk over the listing.
-    fn due_of(&self, stage: Stage, place: Place) -> Result<&'c Due<'p>, NoMemory> {
+    fn due_of(&self, stage: Stage, place: Place) -> Result<&'c Due<'p>, NoMemory>
+        ensures { IfOk result (λ due. due.now.place ≡ place) }
+    {
         let code = self.code;
-        let first = self.expression(stage)?.first;
-        for at in first..stage.end {
-            if let Some(Listed::Event(due)) = code.listing.get(at) {
-                if due.place == place {
-                    return Ok(due);
-                }
-            }
+        match due_of(part(&code.listing, stage.first, stage.end), place) {
+            Some(due) => Ok(due),
+            None => Err(NoMemory),
         }
-        Err(NoMemory)
     }
 
     // What the event completes: its node, and where the next event is the parent's own, all below the parent.
@@ -202,8 +189,12 @@ impl<'p, 'c> Machine<'p, 'c> {
         let Some(parent) = due.parent else {
             return Ok(Completed::Node);
         };
-        match self.listed(self.next_listed(stage), stage.end)? {
-            Some(next) if next.place.node == parent => Ok(Completed::Operands(parent)),
+        let code = self.code;
+        let Some(begun) = self.begun.get(self.below.len()) else {
+            return Err(NoMemory);
+        };
+        match next(part(&code.listing, stage.cursor, stage.end), &begun.taken) {
+            Some((_, next)) if next.place.node == parent => Ok(Completed::Operands(parent)),
             _ => Ok(Completed::Node),
         }
     }
