@@ -1,5 +1,5 @@
 -- Moves of pointers: their distances, and what a script gives that ends with a value.
-use Rattle.std.proofs.Common.{◌≡◌, ℕ, zero, suc, ◌*◌, ◌^◌, ◌%◌, to_z, of_z, ◌<◌, refl, sym, ap, ◌∙◌, arith, ℤ, pos, negsuc, ◌+ℤ◌, ◌*ℤ◌, neg_ℤ, ◌<ℤ◌}
+use Rattle.std.proofs.Common.{◌≡◌, ℕ, zero, suc, ◌*◌, ◌^◌, ◌%◌, to_z, of_z, ◌<◌, ◌≤◌, refl, sym, ap, ◌∙◌, arith, ℤ, pos, negsuc, ◌+ℤ◌, ◌*ℤ◌, neg_ℤ, ◌<ℤ◌}
 use Rattle.std.proofs.Common.{List, [], ◌∷◌}
 use Rattle.std.specs.Ordering.{int_cmp, nat_cmp, MatchOrdering}
 use Rattle.std.specs.Prelude.{unsigned_abs}
@@ -14,6 +14,7 @@ use Rattle.c_model.specs.Nodes.{in_order}
 use Rattle.run_acts.specs.Scripts.{holds_in}
 use Rattle.run_acts.specs.Updates.{IsNear}
 use Rattle.std.proofs.lemmas.Bool.Decides.{nat_tests}
+use Rattle.std.proofs.lemmas.Nat.{mul-le}
 use Rattle.std.proofs.lemmas.Int.{ints, int_wrap_fits, wrapping_mul_is}
 use Rattle.ub_base.specs.declared.names.Item.{Item}
 use Rattle.addr_map.specs.declared.map.Row.{Row}
@@ -85,8 +86,10 @@ pub holds_in_order : (op : RelOp) (a b : ℤ) → holds_in op (int_cmp a b) ≡ 
 holds_in_order op a b = holds_by op (int_cmp a b) a b (int_ranks a b)
 
 -- ---- so many bytes as elements
-near_product : (size n : ℕ) → size * n < 2 ^ 127 → n * size < 2 ^ 127
-near_product size n lt = omega (arith, lt)
+near_product : (size n : ℕ) → size ≤ 2 ^ 40 → n < 2 ^ 64 → n * size < 2 ^ 127
+near_product size n small lt =
+    let top : n * size ≤ 2 ^ 64 * 2 ^ 40 = mul-le n size (2 ^ 64) (2 ^ 40) (omega (arith, lt)) small in
+    omega (arith, top)
 
 opposite_fits : (n : ℕ) → n < 2 ^ 127 → FitsSigned w128 (neg_ℤ (pos n))
 opposite_fits zero lt = record { sfits = omega (arith, lt) }
@@ -97,12 +100,12 @@ opposite_size zero = refl
 opposite_size (suc n) = refl
 
 pub near_fits : (size : ℕ) (i : ℤ) → IsNear size i → FitsSigned w128 (i *ℤ pos size)
-near_fits size (pos n) near = record { sfits = near_product size n near }
-near_fits size (negsuc n) near = opposite_fits (suc n * size) (near_product size (suc n) near)
+near_fits size (pos n) near = record { sfits = near_product size n near.0 near.1 }
+near_fits size (negsuc n) near = opposite_fits (suc n * size) (near_product size (suc n) near.0 near.1)
 
 pub near_size : (size : ℕ) (i : ℤ) → IsNear size i → unsigned_abs (i *ℤ pos size) < 2 ^ 127
-near_size size (pos n) near = near_product size n near
-near_size size (negsuc n) near = rw (opposite_size (suc n * size)) (near_product size (suc n) near)
+near_size size (pos n) near = near_product size n near.0 near.1
+near_size size (negsuc n) near = rw (opposite_size (suc n * size)) (near_product size (suc n) near.0 near.1)
 
 pub far_fits : (z : ℤ) → unsigned_abs z < 2 ^ 127 → FitsSigned w128 (neg_ℤ z)
 far_fits (pos zero) lt = record { sfits = omega (arith, lt) }

@@ -1,14 +1,14 @@
 -- Which moves and updates the definitions speak of.
-use Rattle.std.specs.Prelude.{ℕ, ◌^◌, ◌<◌, ◌*◌, ℤ, unsigned_abs}
+use Rattle.std.specs.Prelude.{ℕ, ◌^◌, ◌<◌, ◌≤◌, ℤ, unsigned_abs}
 use Rattle.c_typed.specs.declared.tree.Change.{Change}
 use Rattle.c_typed.specs.declared.tree.Change.TheVariants as change
 use Rattle.prov_memory.specs.Memory.{Kept, HasCell}
 use Rattle.prov_memory.specs.Sound.{IsSound}
 use Rattle.run_acts.specs.declared.values.Pointer.{Pointer}
 
--- so many elements of this size are fewer than 2^127 bytes
+-- an element has at most 2^40 bytes, as each type, and an index is of an integer type, which has at most 64 bits
 abbrev pub IsNear : (size : ℕ) → (index : ℤ) → Type 0
-IsNear size index = size * unsigned_abs index < 2 ^ 127
+IsNear size index = (size ≤ 2 ^ 40) × (unsigned_abs index < 2 ^ 64)
 
 abbrev pub IsNearChange : Change → ℤ → Type 0
 IsNearChange (change.Integer op kind work) n = Unit {0}

@@ -9,15 +9,15 @@ use Rattle.run_acts.specs.Views.{pointer_at}
 use Rattle.run_acts.proofs.Acts.{required, not_required}
 use Rattle.run_acts.proofs.pointers.member.Goals as goal
 
-pub returns-then-is_nowhere : goal.returns-then-is_nowhere
-returns-then-is_nowhere c = λ made io.
+pub returns-then-is_nowhere-clause-exact : goal.returns-then-is_nowhere-clause-exact
+returns-then-is_nowhere-clause-exact c = λ made io.
     let old = c.args.m.now in
     let on : c.is_nowhere.result ≡ true = search rules in
     not_required old.rows _ InvalidPointer (nodes.shifted old.rows (pointer_at c.args.pointer) (pos c.args.offset)) (store_of old io)
     (sym c.is_nowhere.ensures ∙ on)
 
-pub returns : goal.returns
-returns c = λ made io.
+pub returns-clause-exact : goal.returns-clause-exact
+returns-clause-exact c = λ made io.
     let old = c.args.m.now in
     let same : to_z w128 (of_z w128 c.from.result) ≡ c.from.result = to_z-of_z w128 c.from.result (search rules) in
     let off : c.is_nowhere.result ≡ false = search rules in
