@@ -18,7 +18,7 @@ use Rattle.mem_spec.specs.Store.{Store, TaggedByte, Life, is_live}
 use Rattle.mem_spec.specs.Script.{Touch, Ask, Get, Put, Bear, Bury, Show, Find, Settle, Take, Print, Answer, item_of, refuses, refused, answer, left, Script}
 use Rattle.mem_spec.specs.Script.{Give, Raise, Finish, Exceed, Misplace, Do, Act, touched, run, touch, require, ◌>>=◌, ◌>>◌}
 use Rattle.mem_spec.specs.Acts.{Accessed, in_row, offset_in, settle_by, the_one_in, argument_object, argument_in, argument, check_writable, is_literal}
-use Rattle.mem_spec.specs.Acts.{is_constant, declared_of, copy_between, show_each, show_pieces, origins_in, all_written, has_place, base_in, create, size_in}
+use Rattle.mem_spec.specs.Acts.{is_constant, copy_between, show_each, show_pieces, origins_in, all_written, has_place, base_in, create, size_in}
 use Rattle.libc_spec.specs.Library as lib
 use Rattle.libc_spec.specs.Library.{LibValue, argument_at, address_in, prov_in, integer_in, size_of_value, heap_name, heap_kind, is_given, new_object}
 use Rattle.libc_spec.specs.Library.{is_heap_start, start_object, read_numbers, numbers, check_target, bytes_at, write_numbers, until_zero, behind}

@@ -1,5 +1,5 @@
 -- Calls of the library under the rows of a memory and under more (own).
-use Rattle.std.specs.Prelude.{◌≡◌, true, Bool, false, List, [], ◌∷◌, is_some}
+use Rattle.std.specs.Prelude.{◌≡◌, true, List, [], ◌∷◌, is_some}
 use Rattle.ub_base.specs.declared.names.Event.{Event}
 use Rattle.addr_map.specs.declared.map.Row.{Row}
 use Rattle.addr_map.specs.Rows.{row_of}

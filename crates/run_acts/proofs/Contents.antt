@@ -1,10 +1,10 @@
 -- The bytes of constants.
 use Rattle.std.proofs.Common.{◌≡◌, ℕ, zero, suc, ◌+◌, ◌<◌, List, [], ◌∷◌, ◌++◌, length, map, take, replicate, get_or, slice_get, refl, ap, sym, subst, ◌∙◌, arith}
-use Rattle.std.proofs.Common.{Some}
+use Rattle.std.proofs.Common.{Some, Option}
 use Rattle.std.specs.Prelude.{Result, Ok, Err, IfOk, OnOk, ℤ, pos}
 use Rattle.ub_base.specs.declared.names.ObjName.{ObjName}
 use Rattle.ub_base.specs.declared.names.ObjName.TheVariants.{Static, Lit}
-use Rattle.addr_map.specs.Rows.{row_of}
+use Rattle.addr_map.specs.declared.map.Row.{Row}
 use Rattle.exposure.specs.declared.prov.Prov.TheVariants.{Whole}
 use Rattle.mem_spec.specs.Acts.{base_in}
 use Rattle.mem_spec.specs.Bytes.{number_bytes, pointer_bytes}
@@ -72,12 +72,14 @@ pub placed_bytes : (m : Kept) (v : Held) (p : Pointer) (x : ObjName) (k offset :
     value_bytes m 8 v ≡ content_bytes m.rows (Object_at x offset)
 placed_bytes m v p x k offset addresses e stands at =
     seen_bytes m v p e
-    ∙ ap (λ (q : Pointer). pointer_bytes 8 0 q.prov q.address) (at (base_in (row_of m.rows x)) stands.there)
+    ∙ ap (λ (q : Pointer). pointer_bytes 8 0 q.prov q.address) (at stands.0 stands.1)
+    ∙ ap (λ (base : ℕ). pointer_bytes 8 0 (Whole x) (address_after base offset)) (sym stands.2.at)
+    ∙ ap (λ (r : Option Row). pointer_bytes 8 0 (Whole x) (address_after (base_in r) offset)) (sym stands.2.named)
 
 pub placed_made : (m : Kept) (v : Held) (p : Pointer) (x : ObjName) (k offset : ℕ) (addresses : List ℕ) → value_in m v ≡ pointer_value p →
     StandsAt m x addresses k → ((a : ℕ) → slice_get addresses k ≡ Some a → p ≡ within x a offset) → IsOf m v
 placed_made m v p x k offset addresses e stands at =
-    seen_pointer m m v p e (subst (λ (q : Pointer). IsMade m q.prov) (sym (at (base_in (row_of m.rows x)) stands.there)) stands.made)
+    seen_pointer m m v p e (subst (λ (q : Pointer). IsMade m q.prov) (sym (at stands.0 stands.1)) stands.2.made)
 
 -- ---- one after the other
 one_more : (i : ℕ) → suc i + 1 ≡ suc (i + 1)

@@ -2,9 +2,9 @@
 use Rattle.std.specs.Prelude.{◌≡◌, ℕ, List, [], ◌∷◌, ◌++◌, Some, slice_get}
 use Rattle.ub_base.specs.declared.names.ObjName.{ObjName}
 use Rattle.ub_base.specs.declared.names.ObjName.TheVariants.{Static, Lit}
+use Rattle.addr_map.specs.declared.map.Row.{Row}
 use Rattle.addr_map.specs.Rows.{row_of}
 use Rattle.exposure.specs.declared.prov.Prov.TheVariants.{Whole}
-use Rattle.mem_spec.specs.Acts.{base_in}
 use Rattle.prov_memory.specs.Made.{IsMade, AreNamed}
 use Rattle.prov_memory.specs.Memory.{Kept}
 use Rattle.c_typed.specs.declared.tree.Target.{Target}
@@ -31,10 +31,16 @@ content_of (contents.Address target offset) = address_of target offset
 abbrev pub filled_by : Constant → Filling
 filled_by c = record { offset = c.at; content = content_of c.content }
 
--- the object was created, and the list has its address
-pub record StandsAt (m : Kept) (x : ObjName) (addresses : List ℕ) (k : ℕ) : Type 0 where
-  pub there : slice_get addresses k ≡ Some (base_in (row_of m.rows x))
+-- the object was created at its row, which begins at this address
+pub record Stands (m : Kept) (x : ObjName) (base : ℕ) : Type 0 where
+  pub row : Row
+  pub named : row_of m.rows x ≡ Some row
+  pub at : row.base ≡ base
   pub made : IsMade m (Whole x)
+
+-- the object was created, and the list has its address
+abbrev pub StandsAt : Kept → ObjName → (addresses : List ℕ) → ℕ → Type 0
+StandsAt m x addresses k = (base : ℕ) × (slice_get addresses k ≡ Some base) × Stands m x base
 
 -- .. the object that is named
 abbrev pub IsPlaced : Kept → Places → Target → Type 0

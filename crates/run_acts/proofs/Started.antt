@@ -1,0 +1,131 @@
+-- Objects that stand before a run.
+use Rattle.std.proofs.Common.{◌≡◌, ℕ, zero, suc, ◌+◌, ◌<◌, ◌^◌, List, [], ◌∷◌, ◌++◌, length, get_or, Option, Some, None, refl, ap, sym, subst, ◌∙◌, arith}
+use Rattle.std.specs.Prelude.{Result, Ok, Err, IfOk, OnOk, slice_get, replicate, map}
+use Rattle.std.specs.List.{All}
+use Rattle.std.proofs.lemmas.List.{length-append}
+use Rattle.std.proofs.lemmas.List.Elements.{All-head, All-tail}
+use Rattle.ub_base.specs.declared.names.ObjName.{ObjName}
+use Rattle.ub_base.specs.declared.names.ObjName.TheVariants.{Static, Lit}
+use Rattle.addr_map.specs.Rows.{row_at}
+use Rattle.exposure.specs.declared.prov.Prov.TheVariants.{Whole}
+use Rattle.c_types.specs.declared.shape.Shape.{Shape}
+use Rattle.c_typed.specs.Lawful.{There, IsLawful, ContentIsLawful}
+use Rattle.c_typed.specs.declared.tree.Target.{Target}
+use Rattle.c_typed.specs.declared.tree.Target.TheVariants as targets
+use Rattle.c_typed.specs.declared.program.Constant.{Constant}
+use Rattle.c_typed.specs.declared.program.Content.{Content}
+use Rattle.c_typed.specs.declared.program.Content.TheVariants as contents
+use Rattle.c_typed.specs.declared.program.Program.{Program}
+use Rattle.c_typed.specs.declared.program.Static.{Static as Object}
+use Rattle.mem_spec.specs.declared.kind.ObjKind.{ObjKind}
+use Rattle.prov_memory.specs.Keeps.{Keeps}
+use Rattle.prov_memory.specs.Made.{IsMade}
+use Rattle.prov_memory.specs.Memory.{Kept, IsBorn}
+use Rattle.run_acts.specs.declared.initial.Argument.{Argument}
+use Rattle.run_acts.specs.declared.initial.Places.{Places}
+use Rattle.run_acts.specs.declared.values.Pointer.{Pointer}
+use Rattle.run_acts.specs.Contents.{Stands, StandsAt, IsPlaced, CanHold, CanHoldAll}
+use Rattle.run_acts.specs.Started.{AllStand, AreAll, ArePlaced, LawfulCanHold, AreMadeAll, AddsArgument}
+
+-- ---- what stands stands on
+pub stands_still : (old new : Kept) (x : ObjName) (base : ℕ) → Keeps old new → Stands old x base → Stands new x base
+stands_still old new x base keeps s = record { row = s.row; named = keeps.rows x s.row s.named; at = s.at; made = keeps.made (Whole x) s.made }
+
+pub all_still : (old new : Kept) (name : ℕ → ObjName) (k : ℕ) (as : List ℕ) → Keeps old new → AllStand old name k as → AllStand new name k as
+all_still old new name k [] keeps all = tt
+all_still old new name k (a ∷ as) keeps all = (stands_still old new (name k) a keeps all.0, all_still old new name (suc k) as keeps all.1)
+
+are_still : (old new : Kept) (name : ℕ → ObjName) (as : List ℕ) (n : ℕ) → Keeps old new → AreAll old name as n → AreAll new name as n
+are_still old new name as n keeps are = record { count = are.count; stand = all_still old new name 0 as keeps are.stand }
+
+pub placed_still : (old new : Kept) (p : Program) (places : Places) → Keeps old new → ArePlaced old p places → ArePlaced new p places
+placed_still old new p places keeps placed = record {
+  objects = are_still old new (λ k. Static k) places.objects (length p.statics) keeps placed.objects;
+  literals = are_still old new (λ k. Lit k) places.literals (length p.literals) keeps placed.literals;
+}
+
+-- ---- one after the other
+pub created_stands : {E : Type 0} (r : Result ℕ E) (old new : Kept) (x : ObjName) (size align : ℕ) (kind : ObjKind) (declared : Option Shape) →
+    IfOk r (λ base. IsBorn old new x base size align kind declared) → OnOk r (IsMade new (Whole x)) → IfOk r (λ a. Stands new x a)
+created_stands (Ok a) old new x size align kind declared born made = record { row = row_at x a size align; named = born.row; at = refl; made = made }
+created_stands (Err e) old new x size align kind declared born made = tt
+
+all_more : (m : Kept) (name : ℕ → ObjName) (k n : ℕ) (as : List ℕ) (a : ℕ) → n ≡ k + length as → AllStand m name k as → Stands m (name n) a →
+    AllStand m name k (as ++ a ∷ [])
+all_more m name k n [] a e all one =
+    let here : n ≡ k = omega (arith, e) in
+    (subst (λ (j : ℕ). Stands m (name j) a) here one, tt)
+all_more m name k n (b ∷ as) a e all one = (all.0, all_more m name (suc k) n as a (omega (arith, e)) all.1 one)
+
+pub one_more_stands : (old new : Kept) (name : ℕ → ObjName) (as after : List ℕ) (i n a : ℕ) → Keeps old new → AreAll old name as i → n ≡ length as →
+    Stands new (name n) a → after ≡ as ++ a ∷ [] → AreAll new name after (i + 1)
+one_more_stands old new name as after i n a keeps are e one added = record {
+  count = ap length added ∙ omega (arith, length-append as (a ∷ []), are.count);
+  stand = subst (λ (bs : List ℕ). AllStand new name 0 bs) (sym added)
+      (all_more new name 0 n as a (omega (arith, e)) (all_still old new name 0 as keeps are.stand) one);
+}
+
+pub none_stand : (m : Kept) (name : ℕ → ObjName) (as : List ℕ) → as ≡ [] → AreAll m name as 0
+none_stand m name as e = subst (λ (bs : List ℕ). AreAll m name bs 0) (sym e) (record { count = refl; stand = tt })
+
+-- ---- the one of a number
+all_at : (m : Kept) (name : ℕ → ObjName) (k n : ℕ) (as : List ℕ) (i : ℕ) → n ≡ k + i → i < length as → AllStand m name k as → StandsAt m (name n) as i
+all_at m name k n [] i e lt all = absurd (omega (arith, lt))
+all_at m name k n (a ∷ as) zero e lt all =
+    let here : k ≡ n = omega (arith, e) in
+    (a, refl, subst (λ (j : ℕ). Stands m (name j) a) here all.0)
+all_at m name k n (a ∷ as) (suc i) e lt all = all_at m name (suc k) n as i (omega (arith, e)) (omega (arith, lt)) all.1
+
+there_within : {A : Type 0} (P : A → Type 0) (xs : List A) (k : ℕ) → There (slice_get xs k) P → k < length xs
+there_within P [] k h = absurd h
+there_within P (x ∷ xs) zero h = omega arith
+there_within P (x ∷ xs) (suc k) h =
+    let within = there_within P xs k h in
+    omega arith
+
+can_name : (m : Kept) (p : Program) (places : Places) (target : Target) (offset : ℕ) → ArePlaced m p places →
+    ContentIsLawful p (contents.Address target offset) → IsPlaced m places target
+can_name m p places (targets.Static k) offset placed lawful =
+    let within = there_within _ p.statics k lawful in
+    all_at m (λ j. Static j) 0 k places.objects k (omega arith) (omega (arith, placed.objects.count)) placed.objects.stand
+can_name m p places (targets.Literal k) offset placed lawful =
+    let within = there_within _ p.literals k lawful in
+    all_at m (λ j. Lit j) 0 k places.literals k (omega arith) (omega (arith, placed.literals.count)) placed.literals.stand
+can_name m p places (targets.Function k) offset placed lawful = tt
+
+can_hold : (m : Kept) (p : Program) (places : Places) (content : Content) → ArePlaced m p places → ContentIsLawful p content → CanHold m places content
+can_hold m p places (contents.Zeros n) placed lawful = tt
+can_hold m p places (contents.Bytes bs) placed lawful = tt
+can_hold m p places (contents.Address target offset) placed lawful = can_name m p places target offset placed lawful
+
+pub can_hold_all : LawfulCanHold
+can_hold_all m p places [] placed lawful = tt
+can_hold_all m p places (c ∷ cs) placed lawful =
+    let P = λ (d : Constant). ContentIsLawful p d.content in
+    (can_hold m p places c.content placed (All-head P c cs lawful), can_hold_all m p places cs placed (All-tail P c cs lawful))
+
+-- the constants of an object of a lawful program
+pub lawful_constants : (p : Program) (i : ℕ) (o : Object) → IsLawful p → i < length p.statics → o ≡ get_or p.statics i o →
+    All (λ c. ContentIsLawful p c.content) o.constants
+lawful_constants p i o lawful lt is =
+    subst (λ (x : Object). All (λ c. ContentIsLawful p c.content) x.constants) (sym is) (lawful.statics i o lt).contents
+
+-- ---- arguments
+pub made_still : (old new : Kept) (as : List Argument) → Keeps old new → AreMadeAll old as → AreMadeAll new as
+made_still old new [] keeps made = tt
+made_still old new (a ∷ as) keeps made = (keeps.made a.place.prov made.0, made_still old new as keeps made.1)
+
+made_then : (m : Kept) (as : List Argument) (a : Argument) → AreMadeAll m as → IsMade m a.place.prov → AreMadeAll m (as ++ a ∷ [])
+made_then m [] a made one = (one, tt)
+made_then m (b ∷ as) a made one = (made.0, made_then m as a made.1 one)
+
+pub one_more_made : (old new : Kept) (as after : List Argument) (place : Pointer) → Keeps old new → AddsArgument place as after → IsMade new place.prov →
+    AreMadeAll old as → AreMadeAll new after
+one_more_made old new as after place keeps adds one made =
+    subst (λ (bs : List Argument). AreMadeAll new bs) (sym adds.1)
+    (made_then new as adds.0 (made_still old new as keeps made) (subst (λ (q : Pointer). IsMade new q.prov) (sym adds.2) one))
+
+pub made_at : (m : Kept) (as : List Argument) (i : ℕ) (a : Argument) → i < length as → a ≡ get_or as i a → AreMadeAll m as → IsMade m a.place.prov
+made_at m [] i a lt is made = absurd (omega (arith, lt))
+made_at m (b ∷ as) zero a lt is made = subst (λ (x : Argument). IsMade m x.place.prov) (sym is) made.0
+made_at m (b ∷ as) (suc i) a lt is made = made_at m as i a (omega (arith, lt)) is made.1
