@@ -3,3 +3,5 @@ pub mod Scripts
 pub mod MoreRows
 pub mod MoreActs
 pub mod MoreCalls
+pub mod MoreFormats
+pub mod ApartRows

@@ -7,4 +7,4 @@ pub mod Stores
 pub mod Parts
 pub mod CallLemmas
 pub mod Contents
-pub mod Started
+pub mod Starting

@@ -8,4 +8,4 @@ pub mod Fills
 pub mod Scripts
 pub mod Kept
 pub mod Contents
-pub mod Started
+pub mod Starting

@@ -13,7 +13,7 @@ ghost use Rattle.prov_memory.specs.Sound.{IsSound};
 ghost use Rattle.prov_memory.specs.Tags.{CellsTagged};
 ghost use Rattle.run_acts.specs.Contents.{Stands};
 ghost use Rattle.run_acts.specs.Kept.{IsOf};
-ghost use Rattle.run_acts.specs.Started.{AreAll, ArePlaced, AreMadeAll, AddsArgument};
+ghost use Rattle.run_acts.specs.Starting.{AreAll, ArePlaced, AreMadeAll, AddsArgument};
 ghost use Rattle.run_acts.specs.Views.{pointer_at};
 
 use crate::storage::{fillings, pointer_to, written, zeros};

@@ -1,6 +1,6 @@
 // Laws of values and memories.
 ghost use Rattle.run_acts.specs.Kept.{ValuesStay, FillingsStay};
-ghost use Rattle.run_acts.specs.Started.{LawfulCanHold};
+ghost use Rattle.run_acts.specs.Starting.{LawfulCanHold};
 
 /// What a call of a memory keeps keeps its values: one that is of the memory before is of the memory after, and so are the bytes of fillings
 /// (own).

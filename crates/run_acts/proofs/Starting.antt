@@ -25,18 +25,18 @@ use Rattle.run_acts.specs.declared.initial.Argument.{Argument}
 use Rattle.run_acts.specs.declared.initial.Places.{Places}
 use Rattle.run_acts.specs.declared.values.Pointer.{Pointer}
 use Rattle.run_acts.specs.Contents.{Stands, StandsAt, IsPlaced, CanHold, CanHoldAll}
-use Rattle.run_acts.specs.Started.{AllStand, AreAll, ArePlaced, LawfulCanHold, AreMadeAll, AddsArgument}
+use Rattle.run_acts.specs.Starting.{AllStand, AreAll, ArePlaced, LawfulCanHold, AreMadeAll, AddsArgument}
 
 -- ---- what stands stands on
 pub stands_still : (old new : Kept) (x : ObjName) (base : ℕ) → Keeps old new → Stands old x base → Stands new x base
 stands_still old new x base keeps s = record { row = s.row; named = keeps.rows x s.row s.named; at = s.at; made = keeps.made (Whole x) s.made }
 
-pub all_still : (old new : Kept) (name : ℕ → ObjName) (k : ℕ) (as : List ℕ) → Keeps old new → AllStand old name k as → AllStand new name k as
+pub all_still : (old new : Kept) (name : ℕ → ObjName) (k : ℕ) (xs : List ℕ) → Keeps old new → AllStand old name k xs → AllStand new name k xs
 all_still old new name k [] keeps all = tt
-all_still old new name k (a ∷ as) keeps all = (stands_still old new (name k) a keeps all.0, all_still old new name (suc k) as keeps all.1)
+all_still old new name k (a ∷ xs) keeps all = (stands_still old new (name k) a keeps all.0, all_still old new name (suc k) xs keeps all.1)
 
-are_still : (old new : Kept) (name : ℕ → ObjName) (as : List ℕ) (n : ℕ) → Keeps old new → AreAll old name as n → AreAll new name as n
-are_still old new name as n keeps are = record { count = are.count; stand = all_still old new name 0 as keeps are.stand }
+are_still : (old new : Kept) (name : ℕ → ObjName) (xs : List ℕ) (n : ℕ) → Keeps old new → AreAll old name xs n → AreAll new name xs n
+are_still old new name xs n keeps are = record { count = are.count; stand = all_still old new name 0 xs keeps are.stand }
 
 pub placed_still : (old new : Kept) (p : Program) (places : Places) → Keeps old new → ArePlaced old p places → ArePlaced new p places
 placed_still old new p places keeps placed = record {
@@ -50,31 +50,31 @@ pub created_stands : {E : Type 0} (r : Result ℕ E) (old new : Kept) (x : ObjNa
 created_stands (Ok a) old new x size align kind declared born made = record { row = row_at x a size align; named = born.row; at = refl; made = made }
 created_stands (Err e) old new x size align kind declared born made = tt
 
-all_more : (m : Kept) (name : ℕ → ObjName) (k n : ℕ) (as : List ℕ) (a : ℕ) → n ≡ k + length as → AllStand m name k as → Stands m (name n) a →
-    AllStand m name k (as ++ a ∷ [])
+all_more : (m : Kept) (name : ℕ → ObjName) (k n : ℕ) (xs : List ℕ) (a : ℕ) → n ≡ k + length xs → AllStand m name k xs → Stands m (name n) a →
+    AllStand m name k (xs ++ a ∷ [])
 all_more m name k n [] a e all one =
     let here : n ≡ k = omega (arith, e) in
     (subst (λ (j : ℕ). Stands m (name j) a) here one, tt)
-all_more m name k n (b ∷ as) a e all one = (all.0, all_more m name (suc k) n as a (omega (arith, e)) all.1 one)
+all_more m name k n (b ∷ xs) a e all one = (all.0, all_more m name (suc k) n xs a (omega (arith, e)) all.1 one)
 
-pub one_more_stands : (old new : Kept) (name : ℕ → ObjName) (as after : List ℕ) (i n a : ℕ) → Keeps old new → AreAll old name as i → n ≡ length as →
-    Stands new (name n) a → after ≡ as ++ a ∷ [] → AreAll new name after (i + 1)
-one_more_stands old new name as after i n a keeps are e one added = record {
-  count = ap length added ∙ omega (arith, length-append as (a ∷ []), are.count);
+pub one_more_stands : (old new : Kept) (name : ℕ → ObjName) (xs after : List ℕ) (i n a : ℕ) → Keeps old new → AreAll old name xs i → n ≡ length xs →
+    Stands new (name n) a → after ≡ xs ++ a ∷ [] → AreAll new name after (i + 1)
+one_more_stands old new name xs after i n a keeps are e one added = record {
+  count = ap length added ∙ omega (arith, length-append xs (a ∷ []), are.count);
   stand = subst (λ (bs : List ℕ). AllStand new name 0 bs) (sym added)
-      (all_more new name 0 n as a (omega (arith, e)) (all_still old new name 0 as keeps are.stand) one);
+      (all_more new name 0 n xs a (omega (arith, e)) (all_still old new name 0 xs keeps are.stand) one);
 }
 
-pub none_stand : (m : Kept) (name : ℕ → ObjName) (as : List ℕ) → as ≡ [] → AreAll m name as 0
-none_stand m name as e = subst (λ (bs : List ℕ). AreAll m name bs 0) (sym e) (record { count = refl; stand = tt })
+pub none_stand : (m : Kept) (name : ℕ → ObjName) (xs : List ℕ) → xs ≡ [] → AreAll m name xs 0
+none_stand m name xs e = subst (λ (bs : List ℕ). AreAll m name bs 0) (sym e) (record { count = refl; stand = tt })
 
 -- ---- the one of a number
-all_at : (m : Kept) (name : ℕ → ObjName) (k n : ℕ) (as : List ℕ) (i : ℕ) → n ≡ k + i → i < length as → AllStand m name k as → StandsAt m (name n) as i
+all_at : (m : Kept) (name : ℕ → ObjName) (k n : ℕ) (xs : List ℕ) (i : ℕ) → n ≡ k + i → i < length xs → AllStand m name k xs → StandsAt m (name n) xs i
 all_at m name k n [] i e lt all = absurd (omega (arith, lt))
-all_at m name k n (a ∷ as) zero e lt all =
+all_at m name k n (a ∷ xs) zero e lt all =
     let here : k ≡ n = omega (arith, e) in
     (a, refl, subst (λ (j : ℕ). Stands m (name j) a) here all.0)
-all_at m name k n (a ∷ as) (suc i) e lt all = all_at m name (suc k) n as i (omega (arith, e)) (omega (arith, lt)) all.1
+all_at m name k n (a ∷ xs) (suc i) e lt all = all_at m name (suc k) n xs i (omega (arith, e)) (omega (arith, lt)) all.1
 
 there_within : {A : Type 0} (P : A → Type 0) (xs : List A) (k : ℕ) → There (slice_get xs k) P → k < length xs
 there_within P [] k h = absurd h
@@ -111,21 +111,21 @@ lawful_constants p i o lawful lt is =
     subst (λ (x : Object). All (λ c. ContentIsLawful p c.content) x.constants) (sym is) (lawful.statics i o lt).contents
 
 -- ---- arguments
-pub made_still : (old new : Kept) (as : List Argument) → Keeps old new → AreMadeAll old as → AreMadeAll new as
+pub made_still : (old new : Kept) (xs : List Argument) → Keeps old new → AreMadeAll old xs → AreMadeAll new xs
 made_still old new [] keeps made = tt
-made_still old new (a ∷ as) keeps made = (keeps.made a.place.prov made.0, made_still old new as keeps made.1)
+made_still old new (a ∷ xs) keeps made = (keeps.made a.place.prov made.0, made_still old new xs keeps made.1)
 
-made_then : (m : Kept) (as : List Argument) (a : Argument) → AreMadeAll m as → IsMade m a.place.prov → AreMadeAll m (as ++ a ∷ [])
+made_then : (m : Kept) (xs : List Argument) (a : Argument) → AreMadeAll m xs → IsMade m a.place.prov → AreMadeAll m (xs ++ a ∷ [])
 made_then m [] a made one = (one, tt)
-made_then m (b ∷ as) a made one = (made.0, made_then m as a made.1 one)
+made_then m (b ∷ xs) a made one = (made.0, made_then m xs a made.1 one)
 
-pub one_more_made : (old new : Kept) (as after : List Argument) (place : Pointer) → Keeps old new → AddsArgument place as after → IsMade new place.prov →
-    AreMadeAll old as → AreMadeAll new after
-one_more_made old new as after place keeps adds one made =
+pub one_more_made : (old new : Kept) (xs after : List Argument) (place : Pointer) → Keeps old new → AddsArgument place xs after → IsMade new place.prov →
+    AreMadeAll old xs → AreMadeAll new after
+one_more_made old new xs after place keeps adds one made =
     subst (λ (bs : List Argument). AreMadeAll new bs) (sym adds.1)
-    (made_then new as adds.0 (made_still old new as keeps made) (subst (λ (q : Pointer). IsMade new q.prov) (sym adds.2) one))
+    (made_then new xs adds.0 (made_still old new xs keeps made) (subst (λ (q : Pointer). IsMade new q.prov) (sym adds.2) one))
 
-pub made_at : (m : Kept) (as : List Argument) (i : ℕ) (a : Argument) → i < length as → a ≡ get_or as i a → AreMadeAll m as → IsMade m a.place.prov
+pub made_at : (m : Kept) (xs : List Argument) (i : ℕ) (a : Argument) → i < length xs → a ≡ get_or xs i a → AreMadeAll m xs → IsMade m a.place.prov
 made_at m [] i a lt is made = absurd (omega (arith, lt))
-made_at m (b ∷ as) zero a lt is made = subst (λ (x : Argument). IsMade m x.place.prov) (sym is) made.0
-made_at m (b ∷ as) (suc i) a lt is made = made_at m as i a (omega (arith, lt)) is made.1
+made_at m (b ∷ xs) zero a lt is made = subst (λ (x : Argument). IsMade m x.place.prov) (sym is) made.0
+made_at m (b ∷ xs) (suc i) a lt is made = made_at m xs i a (omega (arith, lt)) is made.1

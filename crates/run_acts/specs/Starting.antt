@@ -16,9 +16,9 @@ use Rattle.run_acts.specs.Contents.{Stands, CanHoldAll}
 -- the objects of these names, from this number on, stand at these addresses
 abbrev pub AllStand : Kept → (ℕ → ObjName) → ℕ → List ℕ → Type 0
 AllStand m name k [] = Unit {0}
-AllStand m name k (a ∷ as) = Stands m (name k) a × AllStand m name (suc k) as
+AllStand m name k (a ∷ xs) = Stands m (name k) a × AllStand m name (suc k) xs
 
--- as many as there are
+-- xs many xs there are
 pub record AreAll (m : Kept) (name : ℕ → ObjName) (addresses : List ℕ) (n : ℕ) : Type 0 where
   pub count : length addresses ≡ n
   pub stand : AllStand m name 0 addresses
@@ -36,7 +36,7 @@ LawfulCanHold = (m : Kept) (p : Program) (places : Places) (cs : List Constant) 
 -- the objects of the arguments of `main` were created
 abbrev pub AreMadeAll : Kept → List Argument → Type 0
 AreMadeAll m [] = Unit {0}
-AreMadeAll m (a ∷ as) = IsMade m a.place.prov × AreMadeAll m as
+AreMadeAll m (a ∷ xs) = IsMade m a.place.prov × AreMadeAll m xs
 
 -- one more, at this place
 abbrev pub AddsArgument : Pointer → (old new : List Argument) → Type 0

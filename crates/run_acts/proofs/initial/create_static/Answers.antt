@@ -1,0 +1,14 @@
+use Rattle.ub_base.specs.declared.names.ObjName.TheVariants.{Static}
+use Rattle.prov_memory.proofs.KeepLemmas.{keeps_none}
+use Rattle.run_acts.proofs.Starting.{created_stands}
+use Rattle.run_acts.proofs.initial.create_static.Goals as goal
+
+pub returns-clause-kept : goal.returns-clause-kept
+returns-clause-kept c = c.create.ensures.kept (λ e. absurd (cc))
+
+pub returns-clause-stands : goal.returns-clause-stands
+returns-clause-stands c =
+    created_stands c.create.result c.args.m.now c.create.new.self (Static c.args.number) _ _ _ _ c.create.ensures.born c.create.ensures.whole
+
+pub returns-in_err-shape-clause-kept : goal.returns-in_err-shape-clause-kept
+returns-in_err-shape-clause-kept c = keeps_none c.args.m.now
