@@ -7,4 +7,3 @@ pub mod Stores
 pub mod Parts
 pub mod CallLemmas
 pub mod Contents
-pub mod Starting

@@ -8,4 +8,3 @@ pub mod Fills
 pub mod Scripts
 pub mod Kept
 pub mod Contents
-pub mod Starting

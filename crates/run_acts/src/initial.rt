@@ -1,19 +1,8 @@
 // The objects that stand before the first pick: those with static storage, string literals, and the arguments of `main`.
-ghost use Rattle.std.specs.Prelude.{◌≡◌, ◌<◌, ◌^◌, ◌++◌, ◌∷◌, [], ℕ, Some, length, slice_get, IfOk, OnOk};
-ghost use Rattle.std.specs.List.{All};
-ghost use Rattle.ub_base.specs.declared.names.ObjName.TheVariants.{Static, Lit};
+ghost use Rattle.std.specs.Prelude.{◌≡◌, ℕ, Some, slice_get};
+ghost use Rattle.ub_base.specs.declared.names.ObjName.TheVariants as names;
 ghost use Rattle.exposure.specs.declared.prov.Prov.TheVariants.{Whole};
-ghost use Rattle.c_typed.specs.Lawful.{IsLawful, ContentIsLawful};
 ghost use Rattle.c_model.specs.Values.{address_after};
-ghost use Rattle.prov_memory.specs.declared.value.Value.TheVariants.{Int, Ptr};
-ghost use Rattle.prov_memory.specs.Keeps.{Keeps};
-ghost use Rattle.prov_memory.specs.Made.{IsMade};
-ghost use Rattle.prov_memory.specs.Memory.{CellsKnown};
-ghost use Rattle.prov_memory.specs.Sound.{IsSound};
-ghost use Rattle.prov_memory.specs.Tags.{CellsTagged};
-ghost use Rattle.run_acts.specs.Contents.{Stands};
-ghost use Rattle.run_acts.specs.Kept.{IsOf};
-ghost use Rattle.run_acts.specs.Starting.{AreAll, ArePlaced, AreMadeAll, AddsArgument};
 ghost use Rattle.run_acts.specs.Views.{pointer_at};
 
 use crate::storage::{fillings, pointer_to, written, zeros};
@@ -43,7 +32,7 @@ impl Places {
 
     /// A pointer into the object with static storage of this number.
     pub fn object(&self, number: u32, offset: u64) -> Pointer
-        ensures { (a : ℕ) → slice_get self.now.objects number ≡ Some a → pointer_at result ≡ record { address = address_after a offset; prov = Whole (Static number) } }
+        ensures { (a : ℕ) → slice_get self.now.objects number ≡ Some a → pointer_at result ≡ record { address = address_after a offset; prov = Whole (names.Static number) } }
     {
         match self.objects.get(number as usize) {
             Some(addr) => pointer_to(ObjName::Static(number), *addr, offset),
@@ -53,7 +42,7 @@ impl Places {
 
     /// A pointer into the string literal of this number.
     pub fn literal(&self, number: u32, offset: u64) -> Pointer
-        ensures { (a : ℕ) → slice_get self.now.literals number ≡ Some a → pointer_at result ≡ record { address = address_after a offset; prov = Whole (Lit number) } }
+        ensures { (a : ℕ) → slice_get self.now.literals number ≡ Some a → pointer_at result ≡ record { address = address_after a offset; prov = Whole (names.Lit number) } }
     {
         match self.literals.get(number as usize) {
             Some(addr) => pointer_to(ObjName::Lit(number), *addr, offset),
@@ -148,11 +137,7 @@ pub fn start(
     p: &Program,
     args: &[String],
     m: &mut Memory,
-) -> Result<Started, CreateFault>
-    ensures kept { IsSound m.old → IsLawful p.now → Keeps m.old m.new }
-    ensures placed { IfOk result (λ s. IsSound m.old → IsLawful p.now → ArePlaced m.new p.now s.places) }
-    ensures made { IfOk result (λ s. IsSound m.old → IsLawful p.now → IsOf m.new s.count × IsOf m.new s.vector) }
-{
+) -> Result<Started, CreateFault> {
     let mut t = Touched::new(alloc)?;
     let mut places = Places::new(alloc);
     create_statics(alloc, p, &mut places, m, &mut t)?;
@@ -170,11 +155,7 @@ pub fn start(
     Ok(standing(places, 0, Pointer::null()))
 }
 
-fn standing(places: Places, count: i128, vector: Pointer) -> Started
-    ensures places { result.places ≡ places }
-    ensures count { result.count ≡ Int count }
-    ensures vector { result.vector ≡ Ptr vector.addr vector.prov }
-{
+fn standing(places: Places, count: i128, vector: Pointer) -> Started {
     Started {
         places,
         count: Value::Int(count),
@@ -188,11 +169,7 @@ fn create_statics(
     places: &mut Places,
     m: &mut Memory,
     t: &mut Touched,
-) -> Result<(), CreateFault>
-    ensures kept { Keeps m.old m.new }
-    ensures rest { places.new.literals ≡ places.old.literals }
-    ensures placed { OnOk result (places.old.objects ≡ [] → length p.now.statics < 2 ^ 32 → AreAll m.new (λ k. Static k) places.new.objects (length p.now.statics)) }
-{
+) -> Result<(), CreateFault> {
     for object in p.statics.as_slice() {
         let addr = create_static(alloc, p, object, count_of(&places.objects), m, t)?;
         add(&mut places.objects, addr)?;
@@ -206,11 +183,7 @@ fn create_literals(
     places: &mut Places,
     m: &mut Memory,
     t: &mut Touched,
-) -> Result<(), CreateFault>
-    ensures kept { Keeps m.old m.new }
-    ensures rest { places.new.objects ≡ places.old.objects }
-    ensures placed { OnOk result (places.old.literals ≡ [] → length p.now.literals < 2 ^ 32 → AreAll m.new (λ k. Lit k) places.new.literals (length p.now.literals)) }
-{
+) -> Result<(), CreateFault> {
     for literal in p.literals.as_slice() {
         let name = ObjName::Lit(count_of(&places.literals));
         let addr = create_text(alloc, name, literal.len() as u64, true, m, t)?;
@@ -226,9 +199,7 @@ fn fill_named(
     places: &Places,
     m: &mut Memory,
     t: &mut Touched,
-) -> Result<(), NoMemory>
-    ensures kept { IsSound m.old → IsLawful p.now → ArePlaced m.old p.now places.now → Keeps m.old m.new }
-{
+) -> Result<(), NoMemory> {
     fill_statics(alloc, p, places, m, t)?;
     fill_literals(alloc, p, places, m, t)
 }
@@ -239,9 +210,7 @@ fn fill_statics(
     places: &Places,
     m: &mut Memory,
     t: &mut Touched,
-) -> Result<(), NoMemory>
-    ensures kept { IsSound m.old → IsLawful p.now → ArePlaced m.old p.now places.now → Keeps m.old m.new }
-{
+) -> Result<(), NoMemory> {
     for (number, object) in p.statics.as_slice().iter().enumerate() {
         fill_static(alloc, p, object, number, places, m, t)?;
     }
@@ -254,9 +223,7 @@ fn fill_literals(
     places: &Places,
     m: &mut Memory,
     t: &mut Touched,
-) -> Result<(), NoMemory>
-    ensures kept { Keeps m.old m.new }
-{
+) -> Result<(), NoMemory> {
     for (number, literal) in p.literals.as_slice().iter().enumerate() {
         let number = u32::try_from(number).unwrap_or(u32::MAX);
         fill_text(alloc, literal.as_slice(), places.literal(number, 0), m, t)?;
@@ -265,16 +232,12 @@ fn fill_literals(
 }
 
 // Adds an address to a list.
-fn add(addresses: &mut Items<u64>, addr: u64) -> Result<(), NoMemory>
-    ensures { OnOk result (addresses.new ≡ addresses.old ++ addr ∷ []) }
-{
+fn add(addresses: &mut Items<u64>, addr: u64) -> Result<(), NoMemory> {
     addresses.push(addr)?;
     Ok(())
 }
 
-fn count_of(items: &Items<u64>) -> u32
-    ensures { length items.now < 2 ^ 32 → result ≡ length items.now }
-{
+fn count_of(items: &Items<u64>) -> u32 {
     u32::try_from(items.len()).unwrap_or(u32::MAX)
 }
 
@@ -285,10 +248,7 @@ fn create_static(
     number: u32,
     m: &mut Memory,
     t: &mut Touched,
-) -> Result<u64, CreateFault>
-    ensures kept { Keeps m.old m.new }
-    ensures stands { IfOk result (λ addr. Stands m.new (Static number) addr) }
-{
+) -> Result<u64, CreateFault> {
     let extent = extent(&p.tags, &object.qual.ty);
     let shape = shape_of(alloc, &p.tags, &object.qual.ty)?;
     let kind = ObjKind {
@@ -315,9 +275,7 @@ fn fill_static(
     places: &Places,
     m: &mut Memory,
     t: &mut Touched,
-) -> Result<(), NoMemory>
-    ensures kept { IsSound m.old → ArePlaced m.old p.now places.now → All (λ c. ContentIsLawful p.now c.content) object.now.constants → Keeps m.old m.new }
-{
+) -> Result<(), NoMemory> {
     let number = u32::try_from(number).unwrap_or(u32::MAX);
     let whole = places.object(number, 0);
     clear(alloc, extent(&p.tags, &object.qual.ty).size, whole, m, t)?;
@@ -337,9 +295,7 @@ fn clear(
     whole: Pointer,
     m: &mut Memory,
     t: &mut Touched,
-) -> Result<(), NoMemory>
-    ensures kept { Keeps m.old m.new }
-{
+) -> Result<(), NoMemory> {
     let page = zeros(alloc, PAGE.min(size))?;
     for number in 0..size / PAGE {
         put(whole, number.saturating_mul(PAGE), &page, m, t);
@@ -353,9 +309,7 @@ fn clear(
 }
 
 // Puts bytes at an offset of a new object. They lie in it, and an initialization raises nothing there.
-fn put(whole: Pointer, at: u64, bytes: &Block, m: &mut Memory, t: &mut Touched)
-    ensures kept { CellsKnown (length m.old.origins) bytes.now.cells → CellsTagged (length m.old.types) bytes.now.cells → Keeps m.old m.new }
-{
+fn put(whole: Pointer, at: u64, bytes: &Block, m: &mut Memory, t: &mut Touched) {
     let _ = m.store(
         true,
         Via::Bytes,
@@ -375,10 +329,7 @@ fn create_text(
     literal: bool,
     m: &mut Memory,
     t: &mut Touched,
-) -> Result<u64, CreateFault>
-    ensures kept { Keeps m.old m.new }
-    ensures stands { IfOk result (λ addr. Stands m.new name addr) }
-{
+) -> Result<u64, CreateFault> {
     let shape = repeated(alloc, count, 1, Ty::Int(IntKind::Char))?;
     let kind = ObjKind {
         heap: false,
@@ -395,9 +346,7 @@ fn fill_text(
     whole: Pointer,
     m: &mut Memory,
     t: &mut Touched,
-) -> Result<(), NoMemory>
-    ensures kept { Keeps m.old m.new }
-{
+) -> Result<(), NoMemory> {
     let content = written(alloc, bytes)?;
     put(whole, 0, &content, m, t);
     Ok(())
@@ -422,10 +371,7 @@ fn create_arguments(
     args: &[String],
     m: &mut Memory,
     t: &mut Touched,
-) -> Result<Items<Argument>, CreateFault>
-    ensures kept { Keeps m.old m.new }
-    ensures made { IfOk result (AreMadeAll m.new) }
-{
+) -> Result<Items<Argument>, CreateFault> {
     let mut all = Items::new(alloc);
     create_argument(alloc, NAME, &mut all, m, t)?;
     for arg in args {
@@ -440,10 +386,7 @@ fn create_argument(
     all: &mut Items<Argument>,
     m: &mut Memory,
     t: &mut Touched,
-) -> Result<(), CreateFault>
-    ensures kept { Keeps m.old m.new }
-    ensures made { OnOk result (AreMadeAll m.old all.old → AreMadeAll m.new all.new) }
-{
+) -> Result<(), CreateFault> {
     let text = text_of(alloc, text)?;
     let name = ObjName::Arg(u32::try_from(all.len()).unwrap_or(u32::MAX));
     let addr = create_text(alloc, name, text.len() as u64, false, m, t)?;
@@ -457,9 +400,7 @@ fn text_of(alloc: Global, text: &[u8]) -> Result<Bytes, NoMemory> {
     Ok(bytes)
 }
 
-fn keep(all: &mut Items<Argument>, text: Bytes, place: Pointer) -> Result<(), NoMemory>
-    ensures { OnOk result (AddsArgument place all.old all.new) }
-{
+fn keep(all: &mut Items<Argument>, text: Bytes, place: Pointer) -> Result<(), NoMemory> {
     all.push(Argument { text, place })?;
     Ok(())
 }
@@ -469,9 +410,7 @@ fn fill_arguments(
     arguments: &[Argument],
     m: &mut Memory,
     t: &mut Touched,
-) -> Result<(), NoMemory>
-    ensures kept { Keeps m.old m.new }
-{
+) -> Result<(), NoMemory> {
     for argument in arguments {
         fill_text(alloc, argument.text.as_slice(), argument.place, m, t)?;
     }
@@ -484,10 +423,7 @@ fn create_vector(
     args: &[String],
     m: &mut Memory,
     t: &mut Touched,
-) -> Result<Pointer, CreateFault>
-    ensures kept { Keeps m.old m.new }
-    ensures made { IfOk result (λ p. IsMade m.new p.prov) }
-{
+) -> Result<Pointer, CreateFault> {
     let count = (args.len() as u64).saturating_add(2);
     let character = any_character(alloc)?;
     let shape = repeated(alloc, count, 8, Ty::Pointer(character))?;
@@ -515,9 +451,7 @@ fn point(
     vector: Pointer,
     m: &mut Memory,
     t: &mut Touched,
-) -> Result<(), NoMemory>
-    ensures kept { IsSound m.old → AreMadeAll m.old arguments.now → Keeps m.old m.new }
-{
+) -> Result<(), NoMemory> {
     let mut at = 0;
     for argument in arguments {
         let bytes = m.bytes_of(alloc, &argument.place.value(), 8)?;
