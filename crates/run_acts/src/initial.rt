@@ -1,7 +1,7 @@
 // The objects that stand before the first pick: those with static storage, string literals, and the arguments of `main`.
 ghost use Rattle.std.specs.Prelude.{◌≡◌, ◌<◌, ◌^◌, ◌++◌, ◌∷◌, [], ℕ, Some, length, slice_get, IfOk, OnOk};
 ghost use Rattle.std.specs.List.{All};
-ghost use Rattle.ub_base.specs.declared.names.ObjName.TheVariants.{Static, Lit};
+ghost use Rattle.ub_base.specs.declared.names.ObjName.TheVariants as names;
 ghost use Rattle.exposure.specs.declared.prov.Prov.TheVariants.{Whole};
 ghost use Rattle.c_typed.specs.Lawful.{IsLawful, ContentIsLawful};
 ghost use Rattle.c_model.specs.Values.{address_after};
@@ -43,7 +43,7 @@ impl Places {
 
     /// A pointer into the object with static storage of this number.
     pub fn object(&self, number: u32, offset: u64) -> Pointer
-        ensures { (a : ℕ) → slice_get self.now.objects number ≡ Some a → pointer_at result ≡ record { address = address_after a offset; prov = Whole (Static number) } }
+        ensures { (a : ℕ) → slice_get self.now.objects number ≡ Some a → pointer_at result ≡ record { address = address_after a offset; prov = Whole (names.Static number) } }
     {
         match self.objects.get(number as usize) {
             Some(addr) => pointer_to(ObjName::Static(number), *addr, offset),
@@ -53,7 +53,7 @@ impl Places {
 
     /// A pointer into the string literal of this number.
     pub fn literal(&self, number: u32, offset: u64) -> Pointer
-        ensures { (a : ℕ) → slice_get self.now.literals number ≡ Some a → pointer_at result ≡ record { address = address_after a offset; prov = Whole (Lit number) } }
+        ensures { (a : ℕ) → slice_get self.now.literals number ≡ Some a → pointer_at result ≡ record { address = address_after a offset; prov = Whole (names.Lit number) } }
     {
         match self.literals.get(number as usize) {
             Some(addr) => pointer_to(ObjName::Lit(number), *addr, offset),
@@ -191,7 +191,7 @@ fn create_statics(
 ) -> Result<(), CreateFault>
     ensures kept { Keeps m.old m.new }
     ensures rest { places.new.literals ≡ places.old.literals }
-    ensures placed { OnOk result (places.old.objects ≡ [] → length p.now.statics < 2 ^ 32 → AreAll m.new (λ k. Static k) places.new.objects (length p.now.statics)) }
+    ensures placed { OnOk result (places.old.objects ≡ [] → length p.now.statics < 2 ^ 32 → AreAll m.new (λ k. names.Static k) places.new.objects (length p.now.statics)) }
 {
     for object in p.statics.as_slice() {
         let addr = create_static(alloc, p, object, count_of(&places.objects), m, t)?;
@@ -209,7 +209,7 @@ fn create_literals(
 ) -> Result<(), CreateFault>
     ensures kept { Keeps m.old m.new }
     ensures rest { places.new.objects ≡ places.old.objects }
-    ensures placed { OnOk result (places.old.literals ≡ [] → length p.now.literals < 2 ^ 32 → AreAll m.new (λ k. Lit k) places.new.literals (length p.now.literals)) }
+    ensures placed { OnOk result (places.old.literals ≡ [] → length p.now.literals < 2 ^ 32 → AreAll m.new (λ k. names.Lit k) places.new.literals (length p.now.literals)) }
 {
     for literal in p.literals.as_slice() {
         let name = ObjName::Lit(count_of(&places.literals));
@@ -287,7 +287,7 @@ fn create_static(
     t: &mut Touched,
 ) -> Result<u64, CreateFault>
     ensures kept { Keeps m.old m.new }
-    ensures stands { IfOk result (λ addr. Stands m.new (Static number) addr) }
+    ensures stands { IfOk result (λ addr. Stands m.new (names.Static number) addr) }
 {
     let extent = extent(&p.tags, &object.qual.ty);
     let shape = shape_of(alloc, &p.tags, &object.qual.ty)?;
