@@ -52,8 +52,8 @@ module _ (rows : List Row) where
   -- a test that says no
   pub not_met : (sought : Sought) (f k g : Item → Bool) (b : Bool) → ((i : Item) → f i ≡ k i) → (IsTrue b ↔ SomeClash sought rows f g) → b ≡ false →
       NoClash sought rows k g
-  not_met sought f k g b same meets no i j c =
-      subst (λ (r : Bool). IsTrue r → ⊥) (sym no) (λ h. absurd (cc))
+  not_met sought f k g b same meets refused i j c =
+      subst (λ (r : Bool). IsTrue r → ⊥) (sym refused) (λ h. absurd (cc))
       (meets.1 (i, j, for_others sought k f g g i j (same i ∙ first_has sought k g i j c) (second_has sought k g i j c) c))
 
   pub none_at_first : (events : List Logged) (items : List Item) (sought : Sought) (from : ℕ) (g : Item → Bool) →

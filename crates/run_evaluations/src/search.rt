@@ -40,6 +40,25 @@ fn meet(under: Under<'_>, sought: Sought, a: &Foot, b: &Foot) -> bool
     }
 }
 
+// This operand, if what it touched conflicts with what stands behind it, or else the one found so far.
+fn nearer(
+    under: Under<'_>,
+    sought: Sought,
+    group: usize,
+    foot: &Foot,
+    rest: &Foot,
+    best: Option<usize>,
+) -> Option<usize>
+    ensures none { result ≡ None → (best ≡ None) × NoClash sought under.entry.map.now (holds foot.now) (holds rest.now) }
+    ensures some { (result ≡ best) ⊎ ((result ≡ Some group) × SomeClash sought under.entry.map.now (holds foot.now) (holds rest.now)) }
+{
+    if meet(under, sought, foot, rest) {
+        Some(group)
+    } else {
+        best
+    }
+}
+
 /// The least pair of items, if two sets conflict.
 pub fn least_items(under: Under<'_>, sought: Sought, a: &Foot, b: &Foot) -> Option<(Item, Item)>
     ensures may { IfSome result (λ p. MayConflict p.0 p.1) }
@@ -213,14 +232,9 @@ impl Evaluations {
         let mut best = None;
         let mut rest = Foot::new(self.alloc);
         for group in (at..self.segments.len()).rev() {
-            let foot = self.foot_of_range(
-                sought,
-                self.segment_start(group),
-                self.segment_end(group),
-            )?;
-            if meet(under, sought, &foot, &rest) {
-                best = Some(group);
-            }
+            let (from, to) = (self.segment_start(group), self.segment_end(group));
+            let foot = self.foot_of_range(sought, from, to)?;
+            best = nearer(under, sought, group, &foot, &rest, best);
             rest.absorb(foot)?;
         }
         Ok(best)
