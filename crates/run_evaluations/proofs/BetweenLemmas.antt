@@ -141,7 +141,7 @@ pub rest_step : (segments : List Segment) (events : List Logged) (items : List I
     (j : Item) → now j ≡ range_has events items sought (start_of segments events q) (length events - start_of segments events q) j
 rest_step segments events items sought at q p old now foot e le sorted is own has j =
     let behind : old j ≡ behind_has sought segments events items q j =
-        has j ∙ ap (λ (x : ℕ). range_has events items sought (start_of segments events x) (length events - start_of segments events x) j) e in
+    has j ∙ ap (λ (x : ℕ). range_has events items sought (start_of segments events x) (length events - start_of segments events x) j) e in
     is j ∙ ap (λ b. b || foot j) behind ∙ ap (λ b. behind_has sought segments events items q j || b) (own j) ∙
     or_swap (behind_has sought segments events items q j) (operand_has sought segments events items q j) ∙
     sym (range_parts events items sought (start_of segments events q) (start_of segments events (suc q)) (length events) j (sorted q le).0
