@@ -3,7 +3,7 @@ use crate::programs::{CLEAN, ORDERS, program_of};
 use addr_map::{AddrMap, Mode};
 use c_typed::{Place, Program};
 use elaborate::elaborate;
-use footprint_run::{Finding, audit_run};
+use footprint_run::{Finding, Quiet, audit_run};
 use order_swap::{End, Guide, follow, post_order, swap_run, swapped_text};
 use run_machine::Begun;
 use seq_order::{Done, is_permitted};
@@ -17,7 +17,15 @@ const STEPS: u64 = 1_000_000;
 fn both_orders(alloc: Global, program: &Program) -> Result<Option<Bytes>, NoMemory> {
     let core = elaborate(alloc, program)?;
     let words = Vec::new(alloc);
-    let audit = audit_run(alloc, &core, b"", words.as_slice(), Mode::Spaced, STEPS)?;
+    let audit = audit_run(
+        alloc,
+        &core,
+        b"",
+        words.as_slice(),
+        Mode::Spaced,
+        STEPS,
+        &mut Quiet,
+    )?;
     let Finding::OrderDependent {
         event,
         line,
