@@ -2,3 +2,4 @@ mod Touches
 pub mod Scripts
 pub mod MoreRows
 pub mod MoreActs
+pub mod MoreCalls

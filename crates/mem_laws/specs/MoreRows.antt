@@ -1,5 +1,5 @@
 -- The rows of a memory, and more rows: an act on what the memory has does the same under both.
-use Rattle.std.specs.Prelude.{◌≡◌, ℕ, Bool, true, List, Option, Some, None, is_some, ℤ}
+use Rattle.std.specs.Prelude.{◌≡◌, ℕ, Bool, true, List, Some, is_some, ℤ}
 use Rattle.ub_base.specs.declared.names.Event.{Event}
 use Rattle.ub_base.specs.declared.names.ObjName.{ObjName}
 use Rattle.addr_map.specs.declared.map.Row.{Row}

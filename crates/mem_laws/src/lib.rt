@@ -2,6 +2,7 @@
 #![tactic(auto)]
 
 ghost use Rattle.mem_laws.specs.Frame.{ActFrame, ActChanges};
+ghost use Rattle.mem_laws.specs.MoreCalls.{CallsSame};
 ghost use Rattle.mem_laws.specs.MoreRows.{SameUnderMore, AccessesSame, ActsSameUnderMore};
 
 /// An act gives the same value and items, or ends the run with the same status and items, and changes the same parts in the
@@ -18,4 +19,10 @@ pub fn law_more_rows<V>()
     ensures scripts { SameUnderMore V }
     ensures accesses { AccessesSame }
     ensures acts { ActsSameUnderMore }
+{}
+
+/// A call of a function of the library that takes no format does the same under more rows, where the candidates of its pointers have rows among
+/// the fewer, and so has the object that it allocates (own).
+pub fn law_more_calls()
+    ensures { CallsSame }
 {}
