@@ -3,3 +3,4 @@ pub mod Scripts
 pub mod MoreRows
 pub mod MoreActs
 pub mod MoreCalls
+pub mod MoreFormats

@@ -28,7 +28,7 @@ use Rattle.mem_laws.specs.MoreCalls.{ArgumentsIn, AllocatesIn, CallsSame}
 use Rattle.mem_laws.proofs.MoreRows.{row_same}
 
 -- ---- a script that finds nothing by its address
-abbrev Finds : Touch → Type 0
+abbrev pub Finds : Touch → Type 0
 Finds (Find a) = ⊥
 Finds t = Unit {0}
 
@@ -76,11 +76,11 @@ needs : {B : Type 0} (b : Bool) (c : Clause) (p : Script B) → Blind p → Blin
 needs true c p h = h
 needs false c p h = tt
 
-either : {B : Type 0} (b : Bool) (p q : Script B) → Blind p → Blind q → Blind (cond b p q)
+pub either : {B : Type 0} (b : Bool) (p q : Script B) → Blind p → Blind q → Blind (cond b p q)
 either true p q h g = h
 either false p q h g = g
 
-shown : (xs : List ObjName) → Blind (show_each xs)
+pub shown : (xs : List ObjName) → Blind (show_each xs)
 shown [] = tt
 shown (x ∷ xs) = (tt, λ r. shown xs)
 
@@ -94,7 +94,7 @@ settled_by true false id past start c = (tt, λ r. tt)
 settled_by false true id past start c = (tt, λ r. tt)
 settled_by false false id past start c = tt
 
-numbers_read : (bs : List TaggedByte) → Blind (read_numbers bs)
+pub numbers_read : (bs : List TaggedByte) → Blind (read_numbers bs)
 numbers_read bs =
     needs (all_written bs) Indeterminate (show_pieces bs >> Give (numbers bs))
     (blind_then (show_pieces bs) (λ u. Give (numbers bs)) (pieces bs) (λ u. tt))
@@ -102,7 +102,7 @@ numbers_read bs =
 writable : (life : Option Life) → Blind (check_writable false life)
 writable life = needs (not (is_literal life)) StoreToLiteral (require (not (is_constant life)) StoreToConst) (required (not (is_constant life)) StoreToConst)
 
-target : (n : ℕ) (o : Option Accessed) → Blind (check_target n o)
+pub target : (n : ℕ) (o : Option Accessed) → Blind (check_target n o)
 target zero None = tt
 target zero (Some at) = tt
 target (suc n) None = tt
@@ -114,7 +114,7 @@ bytes_read zero (Some at) = tt
 bytes_read (suc n) None = tt
 bytes_read (suc n) (Some at) = (tt, λ r. tt)
 
-numbers_written : (ns : List ℕ) (o : Option Accessed) → Blind (write_numbers ns o)
+pub numbers_written : (ns : List ℕ) (o : Option Accessed) → Blind (write_numbers ns o)
 numbers_written [] None = tt
 numbers_written [] (Some at) = tt
 numbers_written (n ∷ ns) None = tt
@@ -160,7 +160,7 @@ module _ (rows : List Row) where
         (needs (in_row (row_of rows x) a len) LibraryArgument (Give (Some (record { object = x; from = offset_in (row_of rows x) a; life = life }))) tt),
   )
 
-  argued : (len a : ℕ) (p : Prov) → Blind (argument rows len a p)
+  pub argued : (len a : ℕ) (p : Prov) → Blind (argument rows len a p)
   argued len a p =
       needs (not (a == 0)) LibraryArgument (argument_object rows len a p >>= argument_in rows len a)
       (blind_then (argument_object rows len a p) (argument_in rows len a) (object_read len a p) (in_object len a))
@@ -171,7 +171,7 @@ module _ (rows : List Row) where
       blind_then (until_zero (size_in (row_of rows at.object) - at.from) at.object at.from) (text_at at)
       (zero_found (size_in (row_of rows at.object) - at.from) at.object at.from) (text_given at)
 
-  text_read : (a : ℕ) (p : Prov) → Blind (text rows a p)
+  pub text_read : (a : ℕ) (p : Prov) → Blind (text rows a p)
   text_read a p = blind_then (argument rows 1 a p) (text_from rows) (argued 1 a p) text_behind
 
   created : (x : ObjName) (n : ℕ) → Blind (create rows x n 16 heap_kind None)
@@ -295,7 +295,7 @@ module _ (rows : List Row) where
   library_blind Abort vs who = tt
 
 -- ---- the values of a script, whatever its touches give
-abbrev Only : {V : Type 0} → (V → Type 0) → Script V → Type 0
+abbrev pub Only : {V : Type 0} → (V → Type 0) → Script V → Type 0
 Only P (Give v) = P v
 Only P (Do t k) = (r : Answer t) → Only P (k r)
 Only P p = Unit {0}
@@ -338,18 +338,18 @@ resized_at r w who a x n = do
   if is_given n then moved_at r w who x n else Give lib.null
 
 module _ (few more : List Row) (ext : Extends few more) where
-  abbrev IsIn : ObjName → Type 0
+  abbrev pub IsIn : ObjName → Type 0
   IsIn x = is_some (row_of few x) ≡ true
 
   abbrev IsInIf : Option ObjName → Type 0
   IsInIf None = Unit {0}
   IsInIf (Some x) = IsIn x
 
-  abbrev IsAccessedIn : Option Accessed → Type 0
+  abbrev pub IsAccessedIn : Option Accessed → Type 0
   IsAccessedIn None = Unit {0}
   IsAccessedIn (Some at) = IsIn at.object
 
-  row : (x : ObjName) → IsIn x → row_of more x ≡ row_of few x
+  pub row : (x : ObjName) → IsIn x → row_of more x ≡ row_of few x
   row x h = row_same few more ext x (row_of few x) refl h
 
   -- ---- an argument
@@ -381,7 +381,7 @@ module _ (few more : List Row) (ext : Extends few more) where
     required_in true p h = h
     required_in false p h = tt
 
-    argument_only : (p : Prov) → AreIn few p → Only IsAccessedIn (argument few len a p)
+    pub argument_only : (p : Prov) → AreIn few p → Only IsAccessedIn (argument few len a p)
     argument_only p h =
         required_in (not (a == 0)) (argument_object few len a p >>= argument_in few len a)
         (only_then IsInIf IsAccessedIn (argument_object few len a p) (argument_in few len a) (object_in p h) accessed_in)
@@ -399,7 +399,7 @@ module _ (few more : List Row) (ext : Extends few more) where
         ap₂ (λ (r w : Option Row). settle_by (in_row r a len) (in_row w a len) id past start LibraryArgument >> Give
         (the_one_in (in_row r a len) (in_row w a len) past start)) (row past h.0) (row start h.1)
 
-    argument_same : (p : Prov) → AreIn few p → argument more len a p ≡ argument few len a p
+    pub argument_same : (p : Prov) → AreIn few p → argument more len a p ≡ argument few len a p
     argument_same p h =
         ap (λ (z : Script (Option Accessed)). require (not (a == 0)) LibraryArgument >> z)
         (ap (λ (z : Script (Option ObjName)). z >>= argument_in more len a) (object_same p h)
@@ -409,7 +409,7 @@ module _ (few more : List Row) (ext : Extends few more) where
   text_from_same None h = refl
   text_from_same (Some at) h = ap (λ (r : Option Row). until_zero (size_in r - at.from) at.object at.from >>= text_at at) (row at.object h)
 
-  text_same : (a : ℕ) (p : Prov) → AreIn few p → text more a p ≡ text few a p
+  pub text_same : (a : ℕ) (p : Prov) → AreIn few p → text more a p ≡ text few a p
   text_same a p h =
       ap (λ (z : Script (Option Accessed)). z >>= text_from more) (argument_same 1 a p h)
       ∙ alike_then IsAccessedIn (argument few 1 a p) (text_from more) (text_from few) (argument_only 1 a p h) text_from_same

@@ -1,8 +1,9 @@
-//! Laws of the acts of memory, over their definitions alone.
+//! Laws of the acts of memory and of the library, over their definitions alone.
 #![tactic(auto)]
 
 ghost use Rattle.mem_laws.specs.Frame.{ActFrame, ActChanges};
 ghost use Rattle.mem_laws.specs.MoreCalls.{CallsSame};
+ghost use Rattle.mem_laws.specs.MoreFormats.{FormatsSameUnderMore};
 ghost use Rattle.mem_laws.specs.MoreRows.{SameUnderMore, AccessesSame, ActsSameUnderMore};
 
 /// An act gives the same value and items, or ends the run with the same status and items, and changes the same parts in the
@@ -21,8 +22,9 @@ pub fn law_more_rows<V>()
     ensures acts { ActsSameUnderMore }
 {}
 
-/// A call of a function of the library that takes no format does the same under more rows, where the candidates of its pointers have rows among
-/// the fewer, and so has the object that it allocates (own).
+/// A call of a function of the library does the same under more rows, where the candidates of its pointers have rows among the fewer, and so has the
+/// object that it allocates: of one that takes no format, and of one with a format (own).
 pub fn law_more_calls()
-    ensures { CallsSame }
+    ensures plain { CallsSame }
+    ensures formatted { FormatsSameUnderMore }
 {}
