@@ -4,3 +4,4 @@ pub mod MoreRows
 pub mod MoreActs
 pub mod MoreCalls
 pub mod MoreFormats
+pub mod ApartRows
