@@ -1,5 +1,5 @@
 -- The acts of a memory under more rows.
-use Rattle.std.proofs.Common.{◌≡◌, ℕ, zero, suc, ◌+◌, ◌==◌, Bool, true, false, not, List, [], ◌∷◌, length, Option, Some, None, if◌then◌else◌, refl}
+use Rattle.std.proofs.Common.{◌≡◌, ℕ, ◌==◌, Bool, true, false, not, List, [], ◌∷◌, length, Option, Some, None, if◌then◌else◌, refl}
 use Rattle.std.proofs.Common.{ap, ap₂, ◌∙◌, ℤ, pos, ◌+ℤ◌}
 use Rattle.ub_base.specs.declared.clause.Clause.{Clause}
 use Rattle.ub_base.specs.declared.clause.Clause.TheVariants.{InvalidPointer, DeadObject, OutOfBounds, EffectiveType, Indeterminate}
@@ -17,8 +17,8 @@ use Rattle.mem_spec.specs.Agreement.{bytes_of_kind}
 use Rattle.mem_spec.specs.Store.{Store, TaggedByte, Life, is_live}
 use Rattle.mem_spec.specs.Script.{Ask, Get, Put, Bear, Bury, Show, Find, Settle, Take, Print, Script, Give, Raise, Finish, Exceed, Misplace, Do, run}
 use Rattle.mem_spec.specs.Script.{touch, require, ◌>>=◌, ◌>>◌}
-use Rattle.mem_spec.specs.Acts.{Accessed, Seen, access, object_of, in_row, offset_in, is_aligned, in_bounds, candidates, load_int, load_func}
-use Rattle.mem_spec.specs.Acts.{load_ptr, load_block, store, shift, settle_by, from_int, show_each, show_pieces, origins_in, some_live, target_lives}
+use Rattle.mem_spec.specs.Acts.{Accessed, Seen, access, object_of, in_row, offset_in, is_aligned, in_bounds, candidates}
+use Rattle.mem_spec.specs.Acts.{shift, settle_by, from_int, show_each, show_pieces, origins_in, some_live, target_lives}
 use Rattle.mem_spec.specs.Acts.{pointer_or_number, pointer_in, declared_of, suits_load, suits_store, check_writable, is_literal, is_constant}
 use Rattle.mem_spec.specs.Acts.{stored_from, retagged, all_written, number_of, is_trap, value_of}
 use Rattle.mem_laws.specs.MoreRows.{Extends, StandIn, BearsIn, AreIn, ActsSame}

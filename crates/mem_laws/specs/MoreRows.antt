@@ -1,9 +1,10 @@
 -- The rows of a memory, and more rows: an act on what the memory has does the same under both.
-use Rattle.std.specs.Prelude.{◌≡◌, ℕ, Bool, true, List, Option, Some, None, is_some, ℤ}
+use Rattle.std.specs.Prelude.{◌≡◌, ℕ, Bool, true, List, [], ◌∷◌, Some, is_some, ℤ}
 use Rattle.ub_base.specs.declared.names.Event.{Event}
 use Rattle.ub_base.specs.declared.names.ObjName.{ObjName}
 use Rattle.addr_map.specs.declared.map.Row.{Row}
 use Rattle.addr_map.specs.Rows.{row_of, covers, past}
+use Rattle.addr_map.specs.Sound.{Apart, AllSized}
 use Rattle.exposure.specs.declared.prov.Prov.{Prov}
 use Rattle.exposure.specs.declared.prov.Prov.TheVariants.{Empty, Whole, Either}
 use Rattle.c_types.specs.declared.kind.IntKind.{IntKind}
@@ -19,6 +20,22 @@ pub record Extends (few more : List Row) : Type 0 where
   pub covered : (a : ℕ) (x : ObjName) → is_some (row_of few x) ≡ true → covers more a ≡ Some x → covers few a ≡ Some x
   pub passing : (a : ℕ) (x : ObjName) → past few a ≡ Some x → past more a ≡ Some x
   pub passed : (a : ℕ) (x : ObjName) → is_some (row_of few x) ≡ true → past more a ≡ Some x → past few a ≡ Some x
+
+-- each row is the one of its name
+abbrev pub EachFound : List Row → List Row → Type 0
+EachFound rows [] = Unit {0}
+EachFound rows (r ∷ rs) = (row_of rows r.name ≡ Some r) × EachFound rows rs
+
+-- rows as an address map has them: one ends before the next begins, none is empty, and each has a name of its own
+pub record AreApart (rows : List Row) : Type 0 where
+  pub apart : Apart rows
+  pub sized : AllSized rows
+  pub named : EachFound rows rows
+
+-- such rows are extended by such rows that have each of them
+abbrev pub ApartExtend : Type 0
+ApartExtend = (few more : List Row) → AreApart few → AreApart more → ((x : ObjName) (r : Row) → row_of few x ≡ Some r → row_of more x ≡ Some r)
+    → Extends few more
 
 -- each object that was created has a row
 abbrev pub StandIn : List Row → Store → Type 0
