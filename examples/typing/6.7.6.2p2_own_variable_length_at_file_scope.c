@@ -1,1 +1,0 @@
-int n=2;int a[n];int main(void){return 0;}
