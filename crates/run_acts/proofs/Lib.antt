@@ -1,7 +1,9 @@
 pub mod Acts
 pub mod Moves
 pub mod Fills
+pub mod Keeping
 pub mod Updates
 pub mod Stores
 pub mod Parts
 pub mod CallLemmas
+pub mod Contents

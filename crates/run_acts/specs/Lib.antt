@@ -6,3 +6,5 @@ pub mod Calls
 pub mod Updates
 pub mod Fills
 pub mod Scripts
+pub mod Kept
+pub mod Contents

@@ -1,5 +1,5 @@
 // Calls and their results (6.5.2.2).
-ghost use Rattle.std.specs.Prelude.{◌≡◌, ℕ, ◌<◌, ◌≤◌, ◌^◌, ◌||◌, List, [], length, is_some, Bool, IfSome, IfNone};
+ghost use Rattle.std.specs.Prelude.{IfOk, ◌≡◌, ℕ, ◌<◌, ◌≤◌, ◌^◌, ◌||◌, List, [], length, is_some, Bool, IfSome, IfNone};
 ghost use Rattle.addr_map.specs.declared.map.Row.{Row};
 ghost use Rattle.c_model.specs.Nodes.{call_value};
 ghost use Rattle.c_model.specs.Program.{Function as Called};
@@ -11,6 +11,7 @@ ghost use Rattle.mem_spec.specs.Script.{run};
 ghost use Rattle.mem_spec.specs.Store.{Store};
 ghost use Rattle.prov_memory.specs.Memory.{Kept, act_of};
 ghost use Rattle.run_acts.specs.Calls.{AreFunctions, AgreesAsCompatible, call_checks, checked_call, type_by};
+ghost use Rattle.run_acts.specs.Kept.{IsOf};
 ghost use Rattle.run_acts.specs.Views.{value_in, value_result};
 
 use crate::storage::function_address;
@@ -61,7 +62,8 @@ fn check_call(function: &Function, ty: &FuncTy) -> Result<(), Clause>
 /// The value of a call from what its body left: 6.9.1p12 where that is missing and the call isn't discarded; a structure
 /// or union stands nowhere any more (6.8.6.4p4).
 pub fn answer(left: Value, discarded: bool) -> Result<Value, Clause>
-    ensures { (m : Kept) (rows : List Row) (s : Store) → run rows (call_value discarded (value_in m left)) s ≡ act_of (value_result m result) [] s }
+    ensures exact { (m : Kept) (rows : List Row) (s : Store) → run rows (call_value discarded (value_in m left)) s ≡ act_of (value_result m result) [] s }
+    ensures made { (m : Kept) → IsOf m left → IfOk result (IsOf m) }
 {
     match left {
         Value::Missing => {

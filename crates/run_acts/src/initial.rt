@@ -1,4 +1,9 @@
 // The objects that stand before the first pick: those with static storage, string literals, and the arguments of `main`.
+ghost use Rattle.std.specs.Prelude.{◌≡◌, ℕ, Some, slice_get};
+ghost use Rattle.ub_base.specs.declared.names.ObjName.TheVariants as names;
+ghost use Rattle.exposure.specs.declared.prov.Prov.TheVariants.{Whole};
+ghost use Rattle.c_model.specs.Values.{address_after};
+ghost use Rattle.run_acts.specs.Views.{pointer_at};
 
 use crate::storage::{fillings, pointer_to, written, zeros};
 use crate::values::Pointer;
@@ -26,21 +31,23 @@ impl Places {
     }
 
     /// A pointer into the object with static storage of this number.
-    pub fn object(&self, number: u32, offset: u64) -> Pointer {
-        let addr = match self.objects.get(number as usize) {
-            Some(addr) => *addr,
-            None => 0,
-        };
-        pointer_to(ObjName::Static(number), addr, offset)
+    pub fn object(&self, number: u32, offset: u64) -> Pointer
+        ensures { (a : ℕ) → slice_get self.now.objects number ≡ Some a → pointer_at result ≡ record { address = address_after a offset; prov = Whole (names.Static number) } }
+    {
+        match self.objects.get(number as usize) {
+            Some(addr) => pointer_to(ObjName::Static(number), *addr, offset),
+            None => pointer_to(ObjName::Static(number), 0, offset),
+        }
     }
 
     /// A pointer into the string literal of this number.
-    pub fn literal(&self, number: u32, offset: u64) -> Pointer {
-        let addr = match self.literals.get(number as usize) {
-            Some(addr) => *addr,
-            None => 0,
-        };
-        pointer_to(ObjName::Lit(number), addr, offset)
+    pub fn literal(&self, number: u32, offset: u64) -> Pointer
+        ensures { (a : ℕ) → slice_get self.now.literals number ≡ Some a → pointer_at result ≡ record { address = address_after a offset; prov = Whole (names.Lit number) } }
+    {
+        match self.literals.get(number as usize) {
+            Some(addr) => pointer_to(ObjName::Lit(number), *addr, offset),
+            None => pointer_to(ObjName::Lit(number), 0, offset),
+        }
     }
 }
 

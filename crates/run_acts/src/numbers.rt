@@ -11,8 +11,12 @@ ghost use Rattle.mem_spec.specs.Script.{run, Done, Raised};
 ghost use Rattle.mem_spec.specs.Store.{Store};
 ghost use Rattle.mem_spec.specs.Streams.{Io};
 ghost use Rattle.prov_memory.specs.Loads.{IfRaise};
+ghost use Rattle.prov_memory.specs.Keeps.{Keeps};
+ghost use Rattle.prov_memory.specs.Made.{IsMade};
+ghost use Rattle.prov_memory.specs.Pieces.{IsMadeValue};
 ghost use Rattle.prov_memory.specs.Memory.{Kept, AreKnown, act_of, store_of};
 ghost use Rattle.run_acts.specs.Scripts.{exposed_act, found_act, aligned_act};
+ghost use Rattle.run_acts.specs.Kept.{IsOf};
 ghost use Rattle.run_acts.specs.Views.{value_in, value_result, pointer_at};
 
 use crate::values::{Pointer, as_function, as_integer, as_pointer, truth};
@@ -33,6 +37,8 @@ pub fn convert(
     ensures exact { IfOk result (λ value. AreKnown m.old → (io : Io) → run m.old.rows (nodes.convert who conversion (value_in m.old operand.now)) (store_of m.old io) ≡ Done (value_in m.new value) t.new (store_of m.new io)) }
     ensures raises { IfErr result (λ fault. IfRaise fault (λ c. (io : Io) → run m.old.rows (nodes.convert who conversion (value_in m.old operand.now)) (store_of m.old io) ≡ Raised c)) }
     ensures same { IfErr result (λ fault. IfRaise fault (λ c. m.new ≡ m.old)) }
+    ensures kept { Keeps m.old m.new }
+    ensures made { IsMadeValue m.old operand.now → IfOk result (IsOf m.new) }
 {
     t.clear();
     match conversion {
@@ -53,7 +59,9 @@ pub fn convert(
 
 // The number of a pointer's address (6.3.2.3p6).
 fn exposed(m: &mut Memory, kind: IntKind, pointer: Pointer, t: &mut Touched) -> Value
-    ensures { (io : Io) → run m.old.rows (exposed_act kind (pointer_at pointer)) (store_of m.old io) ≡ Done (value_in m.new result) t.new (store_of m.new io) }
+    ensures exact { (io : Io) → run m.old.rows (exposed_act kind (pointer_at pointer)) (store_of m.old io) ≡ Done (value_in m.new result) t.new (store_of m.new io) }
+    ensures kept { Keeps m.old m.new }
+    ensures made { IsOf m.new result }
 {
     m.expose(pointer.prov, t);
     Value::Int(c_arith::convert(kind, i128::from(pointer.addr)))
@@ -61,7 +69,9 @@ fn exposed(m: &mut Memory, kind: IntKind, pointer: Pointer, t: &mut Touched) -> 
 
 // The pointer that an address makes (6.3.2.3p5).
 fn found(m: &mut Memory, who: Event, addr: u64, t: &mut Touched) -> Result<Value, NoMemory>
-    ensures { IfOk result (λ value. AreKnown m.old → (io : Io) → run m.old.rows (found_act who addr) (store_of m.old io) ≡ Done (value_in m.new value) t.new (store_of m.new io)) }
+    ensures exact { IfOk result (λ value. AreKnown m.old → (io : Io) → run m.old.rows (found_act who addr) (store_of m.old io) ≡ Done (value_in m.new value) t.new (store_of m.new io)) }
+    ensures kept { Keeps m.old m.new }
+    ensures made { IfOk result (IsOf m.new) }
 {
     let prov = m.from_int(who, addr, t)?;
     Ok(Value::Ptr { addr, prov })
@@ -69,7 +79,8 @@ fn found(m: &mut Memory, who: Event, addr: u64, t: &mut Touched) -> Result<Value
 
 // A pointer that is aligned (6.3.2.3p7).
 fn aligned(align: u64, pointer: Pointer) -> Result<Value, Clause>
-    ensures { (m : Kept) (rows : List Row) (s : Store) → run rows (aligned_act align (pointer_at pointer)) s ≡ act_of (value_result m result) [] s }
+    ensures exact { (m : Kept) (rows : List Row) (s : Store) → run rows (aligned_act align (pointer_at pointer)) s ≡ act_of (value_result m result) [] s }
+    ensures made { (m : Kept) → IsMade m pointer.prov → IfOk result (IsOf m) }
 {
     if is_aligned(align, pointer.addr) {
         Ok(pointer.value())

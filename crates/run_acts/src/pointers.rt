@@ -10,10 +10,12 @@ ghost use Rattle.mem_spec.specs.Script.{run, Done, Raised};
 ghost use Rattle.mem_spec.specs.Streams.{Io};
 ghost use Rattle.prov_memory.specs.Made.{IsMade};
 ghost use Rattle.prov_memory.specs.Loads.{IfRaise};
+ghost use Rattle.prov_memory.specs.Keeps.{Keeps};
 ghost use Rattle.prov_memory.specs.Memory.{HasCell, AreKnown, act_of, store_of};
 ghost use Rattle.prov_memory.specs.Pieces.{IsMadeValue};
 ghost use Rattle.prov_memory.specs.Sound.{IsSound};
 ghost use Rattle.run_acts.specs.Scripts.{holds_in, less_act};
+ghost use Rattle.run_acts.specs.Kept.{IsOf};
 ghost use Rattle.run_acts.specs.Updates.{CanChange, IsNear, IsNearChange};
 ghost use Rattle.run_acts.specs.Views.{value_in, value_result, place_result, pointer_at};
 
@@ -61,6 +63,8 @@ pub fn moved(
 ) -> Result<Pointer, Clause>
     ensures exact { IsNear size index → IsMade m.old pointer.prov → (io : Io) → run m.old.rows (nodes.shifted m.old.rows (pointer_at pointer) (nodes.distance size subtract index)) (store_of m.old io) ≡ act_of (place_result result) t.new (store_of m.new io) }
     ensures same { OnErr result (m.new ≡ m.old) }
+    ensures kept { Keeps m.old m.new }
+    ensures made { IsMade m.old pointer.prov → IfOk result (λ p. IsMade m.new p.prov) }
 {
     shifted(m, pointer, distance_of(size, subtract, index), t)
 }
@@ -69,6 +73,8 @@ pub fn moved(
 fn shifted(m: &mut Memory, pointer: Pointer, by: i128, t: &mut Touched) -> Result<Pointer, Clause>
     ensures exact { IsMade m.old pointer.prov → (io : Io) → run m.old.rows (nodes.shifted m.old.rows (pointer_at pointer) by) (store_of m.old io) ≡ act_of (place_result result) t.new (store_of m.new io) }
     ensures same { OnErr result (m.new ≡ m.old) }
+    ensures kept { Keeps m.old m.new }
+    ensures made { IsMade m.old pointer.prov → IfOk result (λ p. IsMade m.new p.prov) }
 {
     let addr = m.shift(pointer.addr, pointer.prov, by, t)?;
     Ok(Pointer {
@@ -84,7 +90,9 @@ pub fn member(
     offset: u64,
     t: &mut Touched,
 ) -> Result<Pointer, Clause>
-    ensures { IsMade m.old pointer.prov → (io : Io) → run m.old.rows (nodes.member m.old.rows offset (pointer_at pointer)) (store_of m.old io) ≡ act_of (place_result result) t.new (store_of m.new io) }
+    ensures exact { IsMade m.old pointer.prov → (io : Io) → run m.old.rows (nodes.member m.old.rows offset (pointer_at pointer)) (store_of m.old io) ≡ act_of (place_result result) t.new (store_of m.new io) }
+    ensures kept { Keeps m.old m.new }
+    ensures made { IsMade m.old pointer.prov → IfOk result (λ p. IsMade m.new p.prov) }
 {
     if is_nowhere(pointer) {
         return Err(Clause::InvalidPointer);
@@ -107,7 +115,9 @@ pub fn distance(
     size: u64,
     t: &mut Touched,
 ) -> Result<Value, Clause>
-    ensures { IsMade m.old left.prov → IsMade m.old right.prov → (io : Io) → run m.old.rows (nodes.difference size (pointer_at left) (pointer_at right)) (store_of m.old io) ≡ act_of (value_result m.new result) t.new (store_of m.new io) }
+    ensures exact { IsMade m.old left.prov → IsMade m.old right.prov → (io : Io) → run m.old.rows (nodes.difference size (pointer_at left) (pointer_at right)) (store_of m.old io) ≡ act_of (value_result m.new result) t.new (store_of m.new io) }
+    ensures kept { Keeps m.old m.new }
+    ensures made { IfOk result (IsOf m.new) }
 {
     let count = m.diff(left.addr, left.prov, right.addr, right.prov, size, t)?;
     Ok(Value::Int(count))
@@ -124,6 +134,8 @@ pub fn related(
 ) -> Result<Value, Clause>
     ensures exact { IsMadeValue m.old left.now → IsMadeValue m.old right.now → (io : Io) → run m.old.rows (nodes.relational op pointers (value_in m.old left.now) (value_in m.old right.now)) (store_of m.old io) ≡ act_of (value_result m.new result) t.new (store_of m.new io) }
     ensures same { OnErr result (m.new ≡ m.old) }
+    ensures kept { Keeps m.old m.new }
+    ensures made { IfOk result (IsOf m.new) }
 {
     t.clear();
     if pointers {
@@ -147,6 +159,8 @@ fn pointers_related(
 ) -> Result<Value, Clause>
     ensures exact { IsMade m.old left.prov → IsMade m.old right.prov → (io : Io) → run m.old.rows (less_act op (pointer_at left) (pointer_at right)) (store_of m.old io) ≡ act_of (value_result m.new result) t.new (store_of m.new io) }
     ensures same { OnErr result (m.new ≡ m.old) }
+    ensures kept { Keeps m.old m.new }
+    ensures made { IfOk result (IsOf m.new) }
 {
     let order = m.less(left.addr, left.prov, right.addr, right.prov, t)?;
     Ok(flag(agrees(op, order)))
@@ -179,6 +193,8 @@ pub fn changed(
     ensures exact { IfOk result (λ both. CanChange m.old place → IsNearChange change operand → (old : Bool) (io : Io) → run m.old.rows (nodes.update_value m.old.rows who change old (type_of ty.now) (pointer_at place) operand) (store_of m.old io) ≡ Done (given_back old (value_in m.new both.0) (value_in m.new both.1)) t.new (store_of m.new io)) }
     ensures raises { IfErr result (λ fault. IfRaise fault (λ c. CanChange m.old place → IsNearChange change operand → (old : Bool) (io : Io) → run m.old.rows (nodes.update_value m.old.rows who change old (type_of ty.now) (pointer_at place) operand) (store_of m.old io) ≡ Raised c)) }
     ensures after { IfOk result (λ both. CanChange m.old place → IsNearChange change operand → (io : Io) → value_in m.new both.1 ≡ nodes.changed change (value_in m.new both.0) operand) }
+    ensures kept { Keeps m.old m.new }
+    ensures made { IfOk result (λ both. IsSound m.old → IsOf m.new both.0 × IsOf m.new both.1) }
 {
     match change {
         Change::Integer { op, kind, work } => changed_integer(m, op, kind, work, place, operand, t),
@@ -200,6 +216,8 @@ fn changed_integer(
     ensures exact { IfOk result (λ both. HasCell m.old place.prov → (who : Event) (ty : CType) (old : Bool) (io : Io) → run m.old.rows (nodes.update_value m.old.rows who (change.Integer op kind work) old ty (pointer_at place) operand) (store_of m.old io) ≡ Done (given_back old (value_in m.new both.0) (value_in m.new both.1)) t.new (store_of m.new io)) }
     ensures raises { IfErr result (λ fault. IfRaise fault (λ c. HasCell m.old place.prov → (who : Event) (ty : CType) (old : Bool) (io : Io) → run m.old.rows (nodes.update_value m.old.rows who (change.Integer op kind work) old ty (pointer_at place) operand) (store_of m.old io) ≡ Raised c)) }
     ensures after { IfOk result (λ both. value_in m.new both.1 ≡ nodes.changed (change.Integer op kind work) (value_in m.new both.0) operand) }
+    ensures kept { Keeps m.old m.new }
+    ensures made { IfOk result (λ both. IsOf m.new both.0 × IsOf m.new both.1) }
 {
     let old = m.load_int(kind, place.addr, place.prov, t)?;
     let before = c_arith::convert(work, old);
@@ -222,6 +240,8 @@ fn changed_pointer(
     ensures exact { IfOk result (λ both. CanChange m.old place → IsNear size operand → (old : Bool) (io : Io) → run m.old.rows (nodes.update_value m.old.rows who (change.Pointer size subtract) old (type_of ty.now) (pointer_at place) operand) (store_of m.old io) ≡ Done (given_back old (value_in m.new both.0) (value_in m.new both.1)) t.new (store_of m.new io)) }
     ensures raises { IfErr result (λ fault. IfRaise fault (λ c. CanChange m.old place → IsNear size operand → (old : Bool) (io : Io) → run m.old.rows (nodes.update_value m.old.rows who (change.Pointer size subtract) old (type_of ty.now) (pointer_at place) operand) (store_of m.old io) ≡ Raised c)) }
     ensures after { IfOk result (λ both. CanChange m.old place → IsNear size operand → (io : Io) → value_in m.new both.1 ≡ nodes.changed (change.Pointer size subtract) (value_in m.new both.0) operand) }
+    ensures kept { Keeps m.old m.new }
+    ensures made { IfOk result (λ both. IsSound m.old → IsOf m.new both.0 × IsOf m.new both.1) }
 {
     let old = pointer_there(m, ty, who, place, t)?;
     let by = distance_of(size, subtract, operand);
@@ -248,6 +268,7 @@ fn pointer_there(
     ensures raises { IfErr result (λ fault. IfRaise fault (λ c. (io : Io) → run m.old.rows (nodes.load m.old.rows who access.Pointer (type_of ty.now) (pointer_at place)) (store_of m.old io) ≡ Raised c)) }
     ensures made { IfOk result (λ p. IsSound m.old → IsMade m.new p.prov) }
     ensures rows { m.new.rows ≡ m.old.rows }
+    ensures kept { Keeps m.old m.new }
 {
     let value = m.load_ptr(ty, who, 8, place.addr, place.prov, t)?;
     Ok(as_pointer(&value))

@@ -1,10 +1,10 @@
 // Loads, stores, members of values, and constant bytes.
-ghost use Rattle.std.specs.Prelude.{◌≡◌, List, [], ◌++◌, IfOk, IfErr, OnOk};
+ghost use Rattle.std.specs.Prelude.{◌≡◌, length, map, replicate, ◌∷◌, List, [], ◌++◌, IfOk, IfErr, OnOk};
 ghost use Rattle.c_model.specs.Nodes as nodes;
-ghost use Rattle.c_model.specs.Nodes.{overlap_inexactly};
+ghost use Rattle.c_model.specs.Nodes.{content_bytes, overlap_inexactly};
 ghost use Rattle.c_model.specs.Program.{Filling as Filled};
 ghost use Rattle.c_model.specs.Values as model;
-ghost use Rattle.c_model.specs.Values.{Nothing, int_bytes, part_bytes};
+ghost use Rattle.c_model.specs.Values.{Nothing, address_after, int_bytes, part_bytes};
 ghost use Rattle.c_types.specs.Types.{CType, type_of};
 ghost use Rattle.mem_spec.specs.Acts as acts;
 ghost use Rattle.mem_spec.specs.Acts.{Seen};
@@ -14,13 +14,19 @@ ghost use Rattle.mem_spec.specs.Script.{run, Done, Raised};
 ghost use Rattle.mem_spec.specs.Streams.{Io};
 ghost use Rattle.prov_memory.specs.Loads.{IfRaise};
 ghost use Rattle.prov_memory.specs.Made.{AreNamed, IsMade};
-ghost use Rattle.prov_memory.specs.Memory.{HasCell, AreKnown, store_of};
-ghost use Rattle.prov_memory.specs.Pieces.{seen};
+ghost use Rattle.prov_memory.specs.Keeps.{Keeps, IsNumbered};
+ghost use Rattle.prov_memory.specs.Memory.{Kept, HasCell, AreKnown, CellsKnown, store_of};
+ghost use Rattle.prov_memory.specs.Cells.{plain_cell};
+ghost use Rattle.prov_memory.specs.Pieces.{seen, value_bytes};
 ghost use Rattle.prov_memory.specs.Stores.{Sees};
-ghost use Rattle.prov_memory.specs.Tags.{AreTagged};
+ghost use Rattle.prov_memory.specs.Sound.{IsSound};
+ghost use Rattle.prov_memory.specs.Tags.{AreTagged, CellsTagged};
 ghost use Rattle.exposure.specs.declared.prov.Prov.{Prov};
+ghost use Rattle.exposure.specs.declared.prov.Prov.TheVariants.{Whole};
+ghost use Rattle.run_acts.specs.Contents.{address_of, content_of, filled_by, AddsFilling, IsPlaced, CanHold, CanHoldAll};
 ghost use Rattle.run_acts.specs.Fills.{AreFillings, filling_act};
 ghost use Rattle.run_acts.specs.Loads.{integer_act, pointer_act, function_act, whole_act};
+ghost use Rattle.run_acts.specs.Kept.{AreOf, IsOf};
 ghost use Rattle.run_acts.specs.Parts.{integer_part, function_part};
 ghost use Rattle.run_acts.specs.Stores.{CanStore, SeesAs};
 ghost use Rattle.run_acts.specs.Views.{value_in, pointer_at};
@@ -46,6 +52,8 @@ pub fn load(
     ensures exact { IfOk result (λ value. HasCell m.old place.prov → AreKnown m.old → AreTagged m.old → (io : Io) → run m.old.rows (nodes.load m.old.rows who access (type_of ty.now) (pointer_at place)) (store_of m.old io) ≡ Done (value_in m.new value) t.new (store_of m.new io)) }
     ensures raises { IfErr result (λ fault. IfRaise fault (λ c. (io : Io) → run m.old.rows (nodes.load m.old.rows who access (type_of ty.now) (pointer_at place)) (store_of m.old io) ≡ Raised c)) }
     ensures same { IfErr result (λ fault. IfRaise fault (λ c. m.new ≡ m.old)) }
+    ensures kept { Keeps m.old m.new }
+    ensures made { IfOk result (λ value. IsSound m.old → AreTagged m.old → IsOf m.new value) }
 {
     match access {
         Access::Integer(kind) => load_integer(m, kind, place, t),
@@ -64,6 +72,8 @@ fn load_integer(
     ensures exact { IfOk result (λ value. HasCell m.old place.prov → (io : Io) → run m.old.rows (integer_act m.old.rows kind (pointer_at place)) (store_of m.old io) ≡ Done (value_in m.new value) t.new (store_of m.new io)) }
     ensures raises { IfErr result (λ fault. IfRaise fault (λ c. (io : Io) → run m.old.rows (integer_act m.old.rows kind (pointer_at place)) (store_of m.old io) ≡ Raised c)) }
     ensures same { IfErr result (λ fault. IfRaise fault (λ c. m.new ≡ m.old)) }
+    ensures kept { Keeps m.old m.new }
+    ensures made { IfOk result (IsOf m.new) }
 {
     let number = m.load_int(kind, place.addr, place.prov, t)?;
     Ok(Value::Int(number))
@@ -79,6 +89,8 @@ fn load_pointer(
     ensures exact { IfOk result (λ value. HasCell m.old place.prov → AreKnown m.old → (io : Io) → run m.old.rows (pointer_act m.old.rows who (type_of ty.now) (pointer_at place)) (store_of m.old io) ≡ Done (value_in m.new value) t.new (store_of m.new io)) }
     ensures raises { IfErr result (λ fault. IfRaise fault (λ c. (io : Io) → run m.old.rows (pointer_act m.old.rows who (type_of ty.now) (pointer_at place)) (store_of m.old io) ≡ Raised c)) }
     ensures same { IfErr result (λ fault. IfRaise fault (λ c. m.new ≡ m.old)) }
+    ensures kept { Keeps m.old m.new }
+    ensures made { IfOk result (λ value. IsSound m.old → IsOf m.new value) }
 {
     m.load_ptr(ty, who, 8, place.addr, place.prov, t)
 }
@@ -92,6 +104,8 @@ fn load_function(
     ensures exact { IfOk result (λ value. HasCell m.old place.prov → (io : Io) → run m.old.rows (function_act m.old.rows (type_of ty.now) (pointer_at place)) (store_of m.old io) ≡ Done (value_in m.new value) t.new (store_of m.new io)) }
     ensures raises { IfErr result (λ fault. IfRaise fault (λ c. (io : Io) → run m.old.rows (function_act m.old.rows (type_of ty.now) (pointer_at place)) (store_of m.old io) ≡ Raised c)) }
     ensures same { IfErr result (λ fault. IfRaise fault (λ c. m.new ≡ m.old)) }
+    ensures kept { Keeps m.old m.new }
+    ensures made { IfOk result (IsOf m.new) }
 {
     let addr = m.load_func(ty, place.addr, place.prov, t)?;
     Ok(Value::Func(addr))
@@ -107,6 +121,8 @@ fn load_whole(
     ensures exact { IfOk result (λ value. HasCell m.old place.prov → AreTagged m.old → (io : Io) → run m.old.rows (whole_act m.old.rows size align (pointer_at place)) (store_of m.old io) ≡ Done (value_in m.new value) t.new (store_of m.new io)) }
     ensures raises { IfErr result (λ fault. IfRaise fault (λ c. (io : Io) → run m.old.rows (whole_act m.old.rows size align (pointer_at place)) (store_of m.old io) ≡ Raised c)) }
     ensures same { IfErr result (λ fault. IfRaise fault (λ c. m.new ≡ m.old)) }
+    ensures kept { Keeps m.old m.new }
+    ensures made { IfOk result (λ value. IsSound m.old → AreTagged m.old → IsOf m.new value) }
 {
     let block = m.load_block(size, align, place.addr, place.prov, t)?;
     Ok(Value::Block(block))
@@ -125,6 +141,8 @@ pub fn part(
     ensures exact { IfOk result (λ value. AreKnown m.old → (io : Io) → run m.old.rows (nodes.part_of who offset access (value_in m.old whole.now)) (store_of m.old io) ≡ Done (value_in m.new value) t.new (store_of m.new io)) }
     ensures raises { IfErr result (λ fault. IfRaise fault (λ c. (io : Io) → run m.old.rows (nodes.part_of who offset access (value_in m.old whole.now)) (store_of m.old io) ≡ Raised c)) }
     ensures same { IfErr result (λ fault. IfRaise fault (λ c. m.new ≡ m.old)) }
+    ensures kept { Keeps m.old m.new }
+    ensures made { IfOk result (λ value. IsSound m.old → IsOf m.old whole.now → IsOf m.new value) }
 {
     t.clear();
     let Value::Block(block) = whole else {
@@ -151,6 +169,8 @@ fn part_integer(
     ensures exact { IfOk result (λ value. (io : Io) → run m.old.rows (integer_part kind (part_bytes offset (bytes_of_kind kind) (seen m.old block.now.cells))) (store_of m.old io) ≡ Done (value_in m.new value) t.new (store_of m.new io)) }
     ensures raises { IfErr result (λ fault. IfRaise fault (λ c. (io : Io) → run m.old.rows (integer_part kind (part_bytes offset (bytes_of_kind kind) (seen m.old block.now.cells))) (store_of m.old io) ≡ Raised c)) }
     ensures same { IfErr result (λ fault. IfRaise fault (λ c. m.new ≡ m.old)) }
+    ensures kept { Keeps m.old m.new }
+    ensures made { IfOk result (IsOf m.new) }
 {
     let number = m.part_int(kind, block, offset, t)?;
     Ok(Value::Int(number))
@@ -165,6 +185,8 @@ fn part_function(
     ensures exact { IfOk result (λ value. (io : Io) → run m.old.rows (function_part (part_bytes offset 8 (seen m.old block.now.cells))) (store_of m.old io) ≡ Done (value_in m.new value) t.new (store_of m.new io)) }
     ensures raises { IfErr result (λ fault. IfRaise fault (λ c. (io : Io) → run m.old.rows (function_part (part_bytes offset 8 (seen m.old block.now.cells))) (store_of m.old io) ≡ Raised c)) }
     ensures same { IfErr result (λ fault. IfRaise fault (λ c. m.new ≡ m.old)) }
+    ensures kept { Keeps m.old m.new }
+    ensures made { IfOk result (IsOf m.new) }
 {
     let addr = m.part_func(block, offset, t)?;
     Ok(Value::Func(addr))
@@ -183,6 +205,7 @@ pub fn store(
 ) -> Result<(), Clause>
     ensures exact { OnOk result (CanStore m.old place value.now → (ty : CType) → SeesAs m.old via access ty → (io : Io) → run m.old.rows (nodes.put m.old.rows initializing access ty (pointer_at place) (value_in m.old value.now)) (store_of m.old io) ≡ Done Nothing t.new (store_of m.new io)) }
     ensures raises { IfErr result (λ c. CanStore m.old place value.now → (ty : CType) → SeesAs m.old via access ty → (io : Io) → run m.old.rows (nodes.put m.old.rows initializing access ty (pointer_at place) (value_in m.old value.now)) (store_of m.old io) ≡ Raised c) }
+    ensures kept { IsNumbered (length m.old.types) via → IsSound m.old → IsOf m.old value.now → Keeps m.old m.new }
 {
     t.clear();
     match access {
@@ -212,6 +235,7 @@ fn store_number(
 ) -> Result<(), Clause>
     ensures exact { OnOk result (HasCell m.old place.prov → (seen : Seen) → Sees m.old via seen → (io : Io) → run m.old.rows (acts.store m.old.rows initializing seen (bytes_of_kind kind) place.addr place.prov (int_bytes kind number)) (store_of m.old io) ≡ Done tt t.new (store_of m.new io)) }
     ensures raises { IfErr result (λ c. (seen : Seen) → Sees m.old via seen → (io : Io) → run m.old.rows (acts.store m.old.rows initializing seen (bytes_of_kind kind) place.addr place.prov (int_bytes kind number)) (store_of m.old io) ≡ Raised c) }
+    ensures kept { IsNumbered (length m.old.types) via → Keeps m.old m.new }
 {
     m.store_int(
         initializing,
@@ -235,6 +259,7 @@ fn store_pointer(
 ) -> Result<(), Clause>
     ensures exact { AreNamed m.old → IsMade m.old pointer.prov → OnOk result (HasCell m.old place.prov → (seen : Seen) → Sees m.old via seen → (io : Io) → run m.old.rows (acts.store m.old.rows initializing seen 8 place.addr place.prov (pointer_bytes 8 0 pointer.prov pointer.addr)) (store_of m.old io) ≡ Done tt t.new (store_of m.new io)) }
     ensures raises { AreNamed m.old → IsMade m.old pointer.prov → IfErr result (λ c. (seen : Seen) → Sees m.old via seen → (io : Io) → run m.old.rows (acts.store m.old.rows initializing seen 8 place.addr place.prov (pointer_bytes 8 0 pointer.prov pointer.addr)) (store_of m.old io) ≡ Raised c) }
+    ensures kept { IsNumbered (length m.old.types) via → IsSound m.old → IsMade m.old pointer.prov → Keeps m.old m.new }
 {
     m.store_ptr(
         initializing,
@@ -258,6 +283,7 @@ fn store_function(
 ) -> Result<(), Clause>
     ensures exact { OnOk result (HasCell m.old place.prov → (seen : Seen) → Sees m.old via seen → (io : Io) → run m.old.rows (acts.store m.old.rows initializing seen 8 place.addr place.prov (number_bytes 8 addr)) (store_of m.old io) ≡ Done tt t.new (store_of m.new io)) }
     ensures raises { IfErr result (λ c. (seen : Seen) → Sees m.old via seen → (io : Io) → run m.old.rows (acts.store m.old.rows initializing seen 8 place.addr place.prov (number_bytes 8 addr)) (store_of m.old io) ≡ Raised c) }
+    ensures kept { IsNumbered (length m.old.types) via → Keeps m.old m.new }
 {
     m.store_int(
         initializing,
@@ -283,6 +309,7 @@ fn store_value(
     requires { t.old ≡ [] }
     ensures exact { OnOk result (HasCell m.old place.prov → (io : Io) → run m.old.rows (nodes.put_whole m.old.rows initializing size align (pointer_at place) (value_in m.old value.now)) (store_of m.old io) ≡ Done Nothing t.new (store_of m.new io)) }
     ensures raises { IfErr result (λ c. HasCell m.old place.prov → (io : Io) → run m.old.rows (nodes.put_whole m.old.rows initializing size align (pointer_at place) (value_in m.old value.now)) (store_of m.old io) ≡ Raised c) }
+    ensures kept { IsOf m.old value.now → Keeps m.old m.new }
 {
     let Value::Block(block) = value else {
         return Ok(());
@@ -324,27 +351,43 @@ pub struct Filling {
 /// The bytes of constants, addresses as pieces of pointers to the objects that they name.
 pub fn fillings(
     alloc: Global,
-    m: &mut Memory,
+    m: &Memory,
     places: &Places,
     constants: &[Constant],
-) -> Result<Items<Filling>, NoMemory> {
+) -> Result<Items<Filling>, NoMemory>
+    ensures exact { AreNamed m.now → CanHoldAll m.now places.now constants.now → IfOk result (λ fs. AreFillings m.now fs (map filled_by constants.now)) }
+    ensures made { AreNamed m.now → CanHoldAll m.now places.now constants.now → IfOk result (AreOf m.now) }
+{
     let mut all = Items::new(alloc);
     for constant in constants {
-        let bytes = content(alloc, m, places, &constant.content)?;
-        all.push(Filling {
-            at: constant.at,
-            bytes,
-        })?;
+        add_filling(alloc, m, places, constant, &mut all)?;
     }
     Ok(all)
 }
 
-fn content(
+// Adds the bytes of a constant.
+fn add_filling(
     alloc: Global,
-    m: &mut Memory,
+    m: &Memory,
     places: &Places,
-    content: &Content,
-) -> Result<Block, NoMemory> {
+    constant: &Constant,
+    all: &mut Items<Filling>,
+) -> Result<(), NoMemory>
+    ensures { OnOk result (AddsFilling m.now places.now constant.now all.old all.new) }
+{
+    let bytes = content(alloc, m, places, &constant.content)?;
+    all.push(Filling {
+        at: constant.at,
+        bytes,
+    })?;
+    Ok(())
+}
+
+fn content(alloc: Global, m: &Memory, places: &Places, content: &Content) -> Result<Block, NoMemory>
+    ensures bytes { AreNamed m.now → CanHold m.now places.now content.now → IfOk result (λ b. seen m.now b.cells ≡ content_bytes m.now.rows (content_of content.now)) }
+    ensures known { AreNamed m.now → CanHold m.now places.now content.now → IfOk result (λ b. CellsKnown (length m.now.origins) b.cells) }
+    ensures tagged { AreNamed m.now → CanHold m.now places.now content.now → IfOk result (λ b. CellsTagged (length m.now.types) b.cells) }
+{
     match content {
         Content::Zeros(count) => zeros(alloc, *count),
         Content::Bytes(bytes) => written(alloc, bytes.as_slice()),
@@ -355,33 +398,43 @@ fn content(
     }
 }
 
-fn plain(number: u8) -> MemByte {
-    MemByte::Written {
+// Adds a byte that is no piece of a pointer.
+fn push_plain(block: &mut Block, number: u8) -> Result<(), NoMemory>
+    ensures { OnOk result (block.new.cells ≡ block.old.cells ++ plain_cell number ∷ []) }
+{
+    block.push(MemByte::Written {
         number,
         piece: None,
-    }
+    })
 }
 
 /// So many zero bytes.
-pub fn zeros(alloc: Global, count: u64) -> Result<Block, NoMemory> {
+pub fn zeros(alloc: Global, count: u64) -> Result<Block, NoMemory>
+    ensures { IfOk result (λ b. b.cells ≡ map plain_cell (replicate count 0)) }
+{
     let mut block = Block::new(alloc);
-    for _ in 0..count {
-        block.push(plain(0))?;
+    for _turn in 0..count {
+        push_plain(&mut block, 0)?;
     }
     Ok(block)
 }
 
 /// These bytes, which are pieces of no pointer.
-pub fn written(alloc: Global, bytes: &[u8]) -> Result<Block, NoMemory> {
+pub fn written(alloc: Global, bytes: &[u8]) -> Result<Block, NoMemory>
+    ensures { IfOk result (λ b. b.cells ≡ map plain_cell bytes.now) }
+{
     let mut block = Block::new(alloc);
     for byte in bytes {
-        block.push(plain(*byte))?;
+        push_plain(&mut block, *byte)?;
     }
     Ok(block)
 }
 
 // The value of an address constant (6.6p9).
-fn address(places: &Places, target: Target, offset: u64) -> Value {
+fn address(places: &Places, target: Target, offset: u64) -> Value
+    ensures bytes { (m : Kept) → IsPlaced m places.now target → value_bytes m 8 result ≡ content_bytes m.rows (address_of target offset) }
+    ensures made { (m : Kept) → IsPlaced m places.now target → IsOf m result }
+{
     match target {
         Target::Static(object) => places.object(object, offset).value(),
         Target::Literal(literal) => places.literal(literal, offset).value(),
@@ -406,6 +459,7 @@ pub fn fill(
 ) -> Result<(), MemFault>
     ensures exact { OnOk result (IsMade m.old object.prov → (cs : List Filled) → AreFillings m.old fillings.now cs → (io : Io) → run m.old.rows (nodes.fill m.old.rows (pointer_at object) cs) (store_of m.old io) ≡ Done Nothing t.new (store_of m.new io)) }
     ensures raises { IfErr result (λ fault. IfRaise fault (λ c. IsMade m.old object.prov → (cs : List Filled) → AreFillings m.old fillings.now cs → (io : Io) → run m.old.rows (nodes.fill m.old.rows (pointer_at object) cs) (store_of m.old io) ≡ Raised c)) }
+    ensures kept { AreOf m.old fillings.now → Keeps m.old m.new }
 {
     t.clear();
     for filling in fillings {
@@ -427,6 +481,7 @@ fn fill_one(
     ensures raises { IfErr result (λ fault. IfRaise fault (λ c. (io : Io) → run m.old.rows (filling_act m.old filling.now (pointer_at object)) (store_of m.old io) ≡ Raised c)) }
     ensures rest { record m.new { objects = []; cells = [] } ≡ record m.old { objects = []; cells = [] } }
     ensures made { (p : Prov) → IsMade m.old p → IsMade m.new p }
+    ensures kept { CellsKnown (length m.old.origins) filling.now.bytes.cells → CellsTagged (length m.old.types) filling.now.bytes.cells → Keeps m.old m.new }
 {
     let addr = object.addr.saturating_add(filling.at);
     m.store(
@@ -443,7 +498,9 @@ fn fill_one(
 }
 
 /// A pointer to an object that is known by its name and its address.
-pub fn pointer_to(name: ObjName, addr: u64, offset: u64) -> Pointer {
+pub fn pointer_to(name: ObjName, addr: u64, offset: u64) -> Pointer
+    ensures { pointer_at result ≡ record { address = address_after addr offset; prov = Whole name } }
+{
     Pointer {
         addr: addr.saturating_add(offset),
         prov: Prov::Whole(name),

@@ -8,10 +8,11 @@ use Rattle.mem_spec.specs.Script.{Done}
 use Rattle.prov_memory.specs.Memory.{Kept, store_of}
 use Rattle.c_model.specs.Values.{Int}
 use Rattle.run_acts.proofs.Acts.{done_give, under}
+use Rattle.run_acts.proofs.Keeping.{int_of}
 use Rattle.run_acts.proofs.numbers.exposed.Goals as goal
 
-pub returns : goal.returns
-returns c = λ io.
+pub returns-clause-exact : goal.returns-clause-exact
+returns-clause-exact c = λ io.
     let old = c.args.m.now in
     let new = c.expose.new.self in
     let prov = c.args.pointer.prov in
@@ -22,3 +23,6 @@ returns c = λ io.
     done_give old.rows (expose prov) (λ (u : Unit {0}). Int n) (store_of old io) (store_of new io) tt c.expose.new.t
     (under old.rows new.rows (λ (rs : List Row). expose prov) (store_of old io) (Done tt c.expose.new.t (store_of new io)) rows (c.expose.ensures.exact io))
     ∙ ap (λ (z : ℤ). Done (Int z) c.expose.new.t (store_of new io)) (sym (out ∙ c.convert.ensures ∙ ap (conv c.args.kind) (from ∙ c.from.ensures)))
+
+pub returns-clause-made : goal.returns-clause-made
+returns-clause-made c = int_of c.expose.new.self _

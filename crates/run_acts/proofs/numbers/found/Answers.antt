@@ -6,10 +6,11 @@ use Rattle.mem_spec.specs.Script.{Done}
 use Rattle.prov_memory.specs.Memory.{Kept, store_of}
 use Rattle.c_model.specs.Values.{Ptr}
 use Rattle.run_acts.proofs.Acts.{done_give, under}
+use Rattle.run_acts.proofs.Keeping.{pointer_of}
 use Rattle.run_acts.proofs.numbers.found.Goals as goal
 
-pub returns : goal.returns
-returns c = λ known io.
+pub returns-clause-exact : goal.returns-clause-exact
+returns-clause-exact c = λ known io.
     let old = c.args.m.now in
     let new = c.from_int.new.self in
     let prov = c.in_ok-prov.prov in
@@ -17,3 +18,6 @@ returns c = λ known io.
     done_give old.rows (from_int c.args.who c.args.addr) (λ (p : Prov). Ptr c.args.addr p) (store_of old io) (store_of new io) prov c.from_int.new.t
     (under old.rows new.rows (λ (rs : List Row). from_int c.args.who c.args.addr) (store_of old io) (Done prov c.from_int.new.t (store_of new io)) rows
     (c.in_ok-prov.ensures.exact known io))
+
+pub returns-clause-made : goal.returns-clause-made
+returns-clause-made c = pointer_of c.from_int.new.self c.args.addr c.in_ok-prov.prov c.in_ok-prov.ensures.value

@@ -40,3 +40,6 @@ returns-in-Pointer-clause-after c =
     let number : to_z w128 (of_z w128 c.args.operand) ≡ c.args.operand = to_z-of_z w128 c.args.operand (search rules) in
     let did = rw number at c.changed_pointer.ensures.after in
     rw c.in-Pointer.is did
+
+pub returns-in-Integer-clause-made : goal.returns-in-Integer-clause-made
+returns-in-Integer-clause-made c = given_then c.changed_integer.result _ _ (λ both did sound. did) c.changed_integer.ensures.made

@@ -11,6 +11,7 @@ use Rattle.c_model.specs.Nodes.{given_back, operated, or_zero}
 use Rattle.c_model.specs.Values.{Int}
 use Rattle.run_acts.specs.Views.{pointer_at}
 use Rattle.run_acts.proofs.Updates.{integer_given, integer_raised, integer_unread}
+use Rattle.run_acts.proofs.Keeping.{int_of}
 use Rattle.run_acts.proofs.pointers.changed_integer.Goals as goal
 
 pub returns-clause-exact : goal.returns-clause-exact
@@ -65,3 +66,6 @@ returns-in_err-new-clause-raises c =
     rw (e.1, e.2) (λ has who ty old io.
     integer_raised m.rows who ty (pointer_at c.args.place) c.args.op c.args.kind c.args.work old c.args.operand (store_of m io) (store_of new io) z
     c.load_int.new.t c.in_err-new.field-0.0 (c.in_ok-old.ensures.exact has io) is)
+
+pub returns-clause-made : goal.returns-clause-made
+returns-clause-made c = (int_of c.load_int.new.self _, int_of c.load_int.new.self _)

@@ -15,6 +15,8 @@ use Rattle.c_model.specs.Values.{Ptr}
 use Rattle.run_acts.proofs.Moves.{shift_value}
 use Rattle.run_acts.proofs.Stores.{raise_then}
 use Rattle.run_acts.proofs.Updates.{pointer_changed, pointer_out, pointer_unread}
+use Rattle.prov_memory.proofs.KeepLemmas.{keeps_then}
+use Rattle.run_acts.proofs.Keeping.{seen_pointer}
 use Rattle.run_acts.proofs.pointers.changed_pointer.Goals as goal
 
 pub returns-clause-exact : goal.returns-clause-exact
@@ -88,3 +90,24 @@ returns-in_err-addr-clause-raises c =
     (under m.rows two.rows (λ (rs : List Row). shift rs q.addr q.prov d) (store_of one io) (Raised k) rows
     (subst (λ (z : ℤ). run two.rows (shift two.rows q.addr q.prov z) (store_of one io) ≡ Raised k) (wide ∙ far near)
     (c.in_err-addr.ensures.exact (c.in_ok-old.ensures.made can.sound) io))))
+
+pub returns-in_err-addr-clause-kept : goal.returns-in_err-addr-clause-kept
+returns-in_err-addr-clause-kept c =
+    keeps_then c.args.m.now c.pointer_there.new.m c.shift.new.self c.pointer_there.ensures.kept c.shift.ensures.kept
+
+pub returns-in_err-join-clause-kept : goal.returns-in_err-join-clause-kept
+returns-in_err-join-clause-kept c =
+    keeps_then c.args.m.now c.pointer_there.new.m c.shift.new.self c.pointer_there.ensures.kept c.shift.ensures.kept
+
+pub returns-clause-kept : goal.returns-clause-kept
+returns-clause-kept c =
+    keeps_then c.args.m.now c.pointer_there.new.m c.shift.new.self c.pointer_there.ensures.kept c.shift.ensures.kept
+
+pub returns-clause-made : goal.returns-clause-made
+returns-clause-made c = λ sound.
+    let two = c.shift.new.self in
+    let q = c.in_ok-old.old in
+    let made = c.shift.ensures.made q.prov (c.in_ok-old.ensures.made sound) in (
+      seen_pointer two two c.value-before.result (pointer_at q) (c.value-before.ensures two) made,
+      seen_pointer two two c.value-after.result (pointer_at (record { addr = c.in_ok-addr.addr; prov = q.prov })) (c.value-after.ensures two) made,
+    )

@@ -9,10 +9,11 @@ use Rattle.mem_spec.specs.Script.{Done, Raised}
 use Rattle.prov_memory.specs.Memory.{store_of}
 use Rattle.c_model.specs.Values.{Int}
 use Rattle.run_acts.proofs.Acts.{done_give, raised_give, under, rows_rest}
+use Rattle.run_acts.proofs.Keeping.{int_of}
 use Rattle.run_acts.proofs.pointers.distance.Goals as goal
 
-pub returns : goal.returns
-returns c = λ made other io.
+pub returns-clause-exact : goal.returns-clause-exact
+returns-clause-exact c = λ made other io.
     let old = c.args.m.now in
     let new = c.diff.new.self in
     let p = c.args.left in
@@ -25,8 +26,8 @@ returns c = λ made other io.
     (c.in_ok-count.ensures.exact made other io))
     ∙ ap (λ (z : ℤ). Done (Int z) c.diff.new.t (store_of new io)) (sym (same ∙ c.in_ok-count.ensures.value))
 
-pub returns-in_err-count : goal.returns-in_err-count
-returns-in_err-count c =
+pub returns-in_err-count-clause-exact : goal.returns-in_err-count-clause-exact
+returns-in_err-count-clause-exact c =
     let e = err_from_is_err_and c.from_residual.result c.from_residual.ensures.1 in
     let old = c.args.m.now in
     let new = c.diff.new.self in
@@ -38,3 +39,6 @@ returns-in_err-count c =
     raised_give old.rows (act old.rows) (λ (u : Unit {0}). Int n) (store_of old io) c.in_err-count.field-0.0
     (under old.rows new.rows act (store_of old io) (Raised c.in_err-count.field-0.0) (rows_rest old new c.diff.ensures.rest)
     (c.in_err-count.ensures.exact made other io)))
+
+pub returns-clause-made : goal.returns-clause-made
+returns-clause-made c = int_of c.diff.new.self _

@@ -10,6 +10,7 @@ use Rattle.c_model.specs.Nodes.{bool_value, in_order}
 use Rattle.run_acts.specs.Scripts.{holds_in}
 use Rattle.run_acts.proofs.Acts.{done_give, raised_give, under, rows_rest}
 use Rattle.run_acts.proofs.Moves.{unsigned_order, holds_in_order}
+use Rattle.run_acts.proofs.Keeping.{seen_number}
 use Rattle.run_acts.proofs.pointers.pointers_related.Goals as goal
 
 pub returns-clause-exact : goal.returns-clause-exact
@@ -40,3 +41,6 @@ returns-in_err-order-clause-exact c =
     raised_give old.rows (less p.prov q.prov) (λ (u : Unit {0}). v) (store_of old io) c.in_err-order.field-0.0
     (under old.rows new.rows act (store_of old io) (Raised c.in_err-order.field-0.0) (rows_rest old new c.less.ensures.rest)
     (c.in_err-order.ensures.exact made other io)))
+
+pub returns-clause-made : goal.returns-clause-made
+returns-clause-made c = seen_number c.less.new.self c.less.new.self c.flag.result _ (c.flag.ensures c.less.new.self)

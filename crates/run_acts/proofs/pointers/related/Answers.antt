@@ -10,6 +10,8 @@ use Rattle.run_acts.specs.Scripts.{holds_in}
 use Rattle.run_acts.specs.Views.{value_in}
 use Rattle.run_acts.proofs.Moves.{holds_in_order}
 use Rattle.run_acts.proofs.Stores.{made_pointer}
+use Rattle.run_acts.proofs.Keeping.{seen_number}
+use Rattle.prov_memory.proofs.KeepLemmas.{keeps_none}
 use Rattle.run_acts.proofs.pointers.related.Goals as goal
 
 pub returns-then-pointers-clause-exact : goal.returns-then-pointers-clause-exact
@@ -30,3 +32,9 @@ returns-clause-exact c = λ made other io.
     rw (c.if-pointers.false, c.clear.ensures) (ap (λ (x : Value). Done x [] (store_of m io))
     (sym (c.flag.ensures m ∙ ap bool_value (c.agrees.ensures ∙ ap (holds_in c.args.op) (c.cmp-order.ensures ∙ ap₂ int_cmp first second)
     ∙ holds_in_order c.args.op v w))))
+
+pub returns-clause-made : goal.returns-clause-made
+returns-clause-made c = seen_number c.args.m.now c.args.m.now c.flag.result _ (c.flag.ensures c.args.m.now)
+
+pub returns-clause-kept : goal.returns-clause-kept
+returns-clause-kept c = keeps_none c.args.m.now

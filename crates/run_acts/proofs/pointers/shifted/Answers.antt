@@ -36,3 +36,6 @@ returns-in_err-addr-clause-exact c =
     (under old.rows new.rows act (store_of old io) (Raised c.in_err-addr.field-0.0) (rows_rest old new c.shift.ensures.rest)
     (subst (λ (z : ℤ). run new.rows (shift new.rows c.args.pointer.addr prov z) (store_of old io) ≡ Raised c.in_err-addr.field-0.0) same
     (c.in_err-addr.ensures.exact made io))))
+
+pub returns-clause-made : goal.returns-clause-made
+returns-clause-made c = c.shift.ensures.made c.args.pointer.prov

@@ -1,9 +1,11 @@
 use Rattle.std.proofs.Common.{List}
 use Rattle.exposure.specs.declared.prov.Prov.{Prov}
 use Rattle.mem_spec.specs.Streams.{Io}
+use Rattle.prov_memory.specs.Keeps.{Keeps}
 use Rattle.prov_memory.specs.Made.{IsMade}
 use Rattle.c_model.specs.Program.{Filling as Filled}
 use Rattle.run_acts.specs.Fills.{AreFillings}
+use Rattle.run_acts.specs.Kept.{AreOf}
 use Rattle.run_acts.specs.Views.{pointer_at}
 use Rattle.run_acts.proofs.Fills.{Alike, Fills}
 use Rattle.run_acts.proofs.storage.fill.Given as goal
@@ -15,4 +17,5 @@ invariant-loop-filling l = record {
   made : (p : Prov) → IsMade l.initial.m p → IsMade l.m p;
   fills : IsMade l.initial.m l.object.prov → (cs : List Filled) → AreFillings l.initial.m l.fillings cs → (io : Io)
       → Fills l.initial.m l.m (pointer_at l.object) cs l.filling-index l.t io;
+  keeps : AreOf l.initial.m l.fillings → Keeps l.initial.m l.m;
 }

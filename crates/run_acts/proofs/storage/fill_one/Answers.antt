@@ -11,3 +11,12 @@ pub returns-in_err-store-clause-raises : goal.returns-in_err-store-clause-raises
 returns-in_err-store-clause-raises c =
     let e = err_from_is_err_and c.from_residual.result c.from_residual.ensures.1 in
     rw (e.1, e.2) (λ io. rw c.saturating_add-addr.ensures at (c.in_err-store.ensures.raises bytes tt io))
+
+pub returns-in_err-store-clause-kept : goal.returns-in_err-store-clause-kept
+returns-in_err-store-clause-kept c = c.store.ensures.kept tt
+
+pub returns-in_err-join-clause-kept : goal.returns-in_err-join-clause-kept
+returns-in_err-join-clause-kept c = c.store.ensures.kept tt
+
+pub returns-clause-kept : goal.returns-clause-kept
+returns-clause-kept c = c.store.ensures.kept tt

@@ -4,6 +4,7 @@ use Rattle.mem_spec.specs.Acts.{load_func}
 use Rattle.prov_memory.specs.Memory.{store_of}
 use Rattle.c_model.specs.Values.{Fun}
 use Rattle.run_acts.proofs.Acts.{done_give, raised_give}
+use Rattle.run_acts.proofs.Keeping.{function_of}
 use Rattle.run_acts.proofs.storage.load_function.Goals as goal
 
 pub returns-clause-exact : goal.returns-clause-exact
@@ -20,3 +21,6 @@ returns-in_err-addr-clause-raises c =
     let p = c.args.place in
     rw (e.1, e.2) (λ io. raised_give old.rows (load_func old.rows (type_of c.args.ty.now) p.addr p.prov) Fun (store_of old io) c.in_err-addr.field-0.0
     (c.in_err-addr.ensures.raises io))
+
+pub returns-clause-made : goal.returns-clause-made
+returns-clause-made c = function_of c.load_func.new.self _

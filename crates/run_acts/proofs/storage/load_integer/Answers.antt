@@ -7,6 +7,7 @@ use Rattle.mem_spec.specs.Acts.{load_int}
 use Rattle.prov_memory.specs.Memory.{store_of}
 use Rattle.c_model.specs.Values.{Int}
 use Rattle.run_acts.proofs.Acts.{done_give, raised_give}
+use Rattle.run_acts.proofs.Keeping.{int_of}
 use Rattle.run_acts.proofs.storage.load_integer.Goals as goal
 
 pub returns-clause-exact : goal.returns-clause-exact
@@ -25,3 +26,6 @@ returns-in_err-number-clause-raises c =
     let p = c.args.place in
     rw (e.1, e.2) (λ io. raised_give old.rows (load_int old.rows c.args.kind p.addr p.prov) Int (store_of old io) c.in_err-number.field-0.0
     (c.in_err-number.ensures.raises io))
+
+pub returns-clause-made : goal.returns-clause-made
+returns-clause-made c = int_of c.load_int.new.self _

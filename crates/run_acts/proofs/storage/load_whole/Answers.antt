@@ -7,6 +7,7 @@ use Rattle.prov_memory.specs.Memory.{store_of}
 use Rattle.prov_memory.specs.Pieces.{seen}
 use Rattle.c_model.specs.Values.{Whole}
 use Rattle.run_acts.proofs.Acts.{done_give, raise_given}
+use Rattle.run_acts.proofs.Keeping.{block_of}
 use Rattle.run_acts.proofs.storage.load_whole.Goals as goal
 
 pub returns-clause-exact : goal.returns-clause-exact
@@ -26,3 +27,7 @@ returns-in_err-block-clause-raises c =
     let p = c.args.place in
     rw (e.1, e.2) (raise_given c.in_err-block.field-0.0 old.rows (load_block old.rows c.args.size c.args.align p.addr p.prov)
     (λ (bs : List TaggedByte). Whole bs (Some p.addr)) (store_of old) c.in_err-block.ensures.raises)
+
+pub returns-clause-made : goal.returns-clause-made
+returns-clause-made c = λ sound tagged.
+    block_of c.load_block.new.self c.in_ok-block.block (c.in_ok-block.ensures.known sound.known) (c.in_ok-block.ensures.cells tagged)

@@ -10,6 +10,11 @@ use Rattle.mem_spec.specs.Script.{Script, run}
 use Rattle.c_model.specs.Values.{Value, Whole, Nothing, part_bytes, moved_source}
 use Rattle.run_acts.proofs.Parts.{seen_part, moved_same, pointer_read, pointer_unread, integer_same, function_same, part_none}
 use Rattle.run_acts.proofs.Stores.{given_then, faults_then}
+use Rattle.std.proofs.Common.{subst}
+use Rattle.prov_memory.specs.declared.value.Value.{Value as Held}
+use Rattle.run_acts.specs.Kept.{IsOf}
+use Rattle.run_acts.proofs.Keeping.{nothing_of, pointer_loaded, part_kept}
+use Rattle.prov_memory.proofs.KeepLemmas.{keeps_none}
 use Rattle.run_acts.proofs.storage.part.Goals as goal
 
 pub returns-in-Pointer-clause-exact : goal.returns-in-Pointer-clause-exact
@@ -83,3 +88,31 @@ returns-in_default-clause-exact c = λ known io.
     let m = c.args.m.now in
     part_none m m.rows c.args.who c.args.offset c.args.access c.args.whole.now (store_of m io) c.in_default.not-Block
     ∙ ap (λ (is : List Item). Done Nothing is (store_of m io)) (sym c.clear.ensures)
+
+pub returns-in_default-clause-made : goal.returns-in_default-clause-made
+returns-in_default-clause-made c = λ sound is. nothing_of c.args.m.now
+
+pub returns-in-Pointer-clause-made : goal.returns-in-Pointer-clause-made
+returns-in-Pointer-clause-made c =
+    given_then c.part_ptr.result _ _ (λ v did sound is. did sound)
+    (pointer_loaded c.part_ptr.result c.args.m.now c.part_ptr.new.self c.part_ptr.ensures.value)
+
+pub returns-in-Integer-clause-made : goal.returns-in-Integer-clause-made
+returns-in-Integer-clause-made c = given_then c.part_integer.result _ _ (λ v did sound is. did) c.part_integer.ensures.made
+
+pub returns-in-Function-clause-made : goal.returns-in-Function-clause-made
+returns-in-Function-clause-made c = given_then c.part_function.result _ _ (λ v did sound is. did) c.part_function.ensures.made
+
+pub returns-in_ok-part-in-Whole-clause-made : goal.returns-in_ok-part-in-Whole-clause-made
+returns-in_ok-part-in-Whole-clause-made c = λ sound is.
+    part_kept c.args.m.now c.in-Block.block c.in_ok-part-in-Whole.part c.args.offset c.in-Whole.size c.in_ok-part-in-Whole.ensures
+    (subst (λ (v : Held). IsOf c.args.m.now v) c.in-Block.is is)
+
+pub returns-in_default-clause-kept : goal.returns-in_default-clause-kept
+returns-in_default-clause-kept c = keeps_none c.args.m.now
+
+pub returns-in_ok-part-in-Whole-clause-kept : goal.returns-in_ok-part-in-Whole-clause-kept
+returns-in_ok-part-in-Whole-clause-kept c = keeps_none c.args.m.now
+
+pub returns-in_err-part-in-Whole-clause-kept : goal.returns-in_err-part-in-Whole-clause-kept
+returns-in_err-part-in-Whole-clause-kept c = keeps_none c.args.m.now

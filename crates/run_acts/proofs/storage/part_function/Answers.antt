@@ -8,6 +8,7 @@ use Rattle.prov_memory.specs.Pieces.{seen}
 use Rattle.c_model.specs.Values.{Fun, part_bytes}
 use Rattle.run_acts.proofs.Acts.{done_give, raised_give}
 use Rattle.run_acts.proofs.Parts.{seen_part}
+use Rattle.run_acts.proofs.Keeping.{function_of}
 use Rattle.run_acts.proofs.storage.part_function.Goals as goal
 
 pub returns-clause-exact : goal.returns-clause-exact
@@ -26,3 +27,6 @@ returns-in_err-addr-clause-raises c =
     rw (e.1, e.2) (λ io. raised_give old.rows (part_func (part_bytes c.args.offset 8 (seen old cells))) Fun (store_of old io) c.in_err-addr.field-0.0
     (ap (λ (bs : List TaggedByte). run old.rows (part_func bs) (store_of old io)) (sym (seen_part old cells c.args.offset 8))
     ∙ c.in_err-addr.ensures.raises io))
+
+pub returns-clause-made : goal.returns-clause-made
+returns-clause-made c = function_of c.part_func.new.self _

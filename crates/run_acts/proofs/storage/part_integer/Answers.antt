@@ -11,6 +11,7 @@ use Rattle.prov_memory.specs.Pieces.{seen}
 use Rattle.c_model.specs.Values.{Int, part_bytes}
 use Rattle.run_acts.proofs.Acts.{done_give, raised_give}
 use Rattle.run_acts.proofs.Parts.{seen_part}
+use Rattle.run_acts.proofs.Keeping.{int_of}
 use Rattle.run_acts.proofs.storage.part_integer.Goals as goal
 
 pub returns-clause-exact : goal.returns-clause-exact
@@ -37,3 +38,6 @@ returns-in_err-number-clause-raises c =
     rw (e.1, e.2) (λ io. raised_give old.rows (part_int k (part_bytes c.args.offset n (seen old cells))) Int (store_of old io) c.in_err-number.field-0.0
     (ap (λ (bs : List TaggedByte). run old.rows (part_int k bs) (store_of old io)) (sym (seen_part old cells c.args.offset n))
     ∙ c.in_err-number.ensures.raises io))
+
+pub returns-clause-made : goal.returns-clause-made
+returns-clause-made c = int_of c.part_int.new.self _

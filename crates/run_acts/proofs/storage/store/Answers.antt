@@ -88,3 +88,8 @@ returns-in-Whole-clause-exact c =
 pub returns-in-Whole-clause-raises : goal.returns-in-Whole-clause-raises
 returns-in-Whole-clause-raises c =
     rw c.in-Whole.is (err_then c.store_value.result _ _ (λ e raised can ty sees io. raised can.cell io) c.store_value.ensures.raises)
+
+pub returns-in-Pointer-clause-kept : goal.returns-in-Pointer-clause-kept
+returns-in-Pointer-clause-kept c = λ numbered sound is.
+    c.store_pointer.ensures.kept numbered sound
+    (made_pointer c.args.m.now c.args.value.now (pointer_at c.as_pointer.result) (c.as_pointer.ensures c.args.m.now) is.made)

@@ -9,6 +9,10 @@ use Rattle.c_model.specs.Nodes.{overlap_inexactly}
 use Rattle.c_model.specs.Values.{Nothing}
 use Rattle.run_acts.specs.Views.{pointer_at}
 use Rattle.run_acts.proofs.Stores.{apart_done, overlap_raised, unstored_raised, put_none}
+use Rattle.std.proofs.Common.{subst}
+use Rattle.prov_memory.specs.declared.value.Value.{Value as Held}
+use Rattle.run_acts.specs.Kept.{IsOf}
+use Rattle.prov_memory.proofs.KeepLemmas.{keeps_none}
 use Rattle.run_acts.proofs.storage.store_value.Goals as goal
 
 pub returns-in_default-clause-exact : goal.returns-in_default-clause-exact
@@ -50,3 +54,21 @@ returns-clause-exact c =
     apart_done m.rows (store m.rows c.args.initializing whole c.args.align p.addr p.prov (seen m b.cells))
     (overlap_inexactly c.args.size p.addr b.source) (store_of m io) (store_of new io) c.store.new.t
     (sym (c.overlaps.ensures ∙ ap (overlap_inexactly c.args.size p.addr) c.source.ensures) ∙ off) (c.in_ok-store.ensures.exact has tt whole tt io))
+
+pub returns-in_err-store-clause-kept : goal.returns-in_err-store-clause-kept
+returns-in_err-store-clause-kept c = λ is.
+    let here = subst (λ (v : Held). IsOf c.args.m.now v) c.in-Block.is is in
+    c.store.ensures.kept tt here.known here.tagged
+
+pub returns-then-overlaps-clause-kept : goal.returns-then-overlaps-clause-kept
+returns-then-overlaps-clause-kept c = λ is.
+    let here = subst (λ (v : Held). IsOf c.args.m.now v) c.in-Block.is is in
+    c.store.ensures.kept tt here.known here.tagged
+
+pub returns-clause-kept : goal.returns-clause-kept
+returns-clause-kept c = λ is.
+    let here = subst (λ (v : Held). IsOf c.args.m.now v) c.in-Block.is is in
+    c.store.ensures.kept tt here.known here.tagged
+
+pub returns-in_default-clause-kept : goal.returns-in_default-clause-kept
+returns-in_default-clause-kept c = λ is. keeps_none c.args.m.now
