@@ -1,11 +1,11 @@
 -- The terms of a node's operands, and the term of a comma operator built from its last operand on.
-use Rattle.std.proofs.Common.{◌≡◌, ℕ, suc, ◌+◌, ◌<◌, List, [], ◌∷◌, ◌++◌, map, length, get_or, drop, drop-cons, add-one, refl, sym, ap, ◌∙◌, arith}
+use Rattle.std.proofs.Common.{◌≡◌, ℕ, suc, ◌+◌, List, [], ◌∷◌, ◌++◌, map, length, refl, sym, ap, ◌∙◌, arith}
 use Rattle.c_typed.specs.declared.tree.Typed.{Typed, out-Typed, fold_out-Typed}
 use Rattle.c_typed.specs.declared.class.Class.{Class}
-use Rattle.c_typed.specs.Tree.{Tree, node, Trees, tree_of, trees_of, class_of, operands, size, sizes, node_class, typed_tree}
+use Rattle.c_typed.specs.Tree.{Tree, node, Trees, tree_of, trees_of, operands, size, sizes, node_class, typed_tree}
 use Rattle.core_ir.specs.declared.term.Core.{Core}
 use Rattle.core_ir.specs.Term.{Term, term_of, pure, weak, strong}
-use Rattle.elaborate.specs.Terms.{term_for, terms_for, node_term, comma_of, value}
+use Rattle.elaborate.specs.Terms.{comma_of, value}
 
 -- all of each before what follows
 abbrev pub strung : List Term → Term → Term

@@ -1,4 +1,4 @@
-//! The term of each full expression of a program.
+//! The full expressions of a program, and the term of each.
 #![tactic(auto)]
 
 mod expression;
@@ -8,4 +8,4 @@ mod roots;
 
 pub use laws::law_faithful;
 pub use program::elaborate;
-pub use roots::roots_of;
+pub use roots::{expressions_of, roots_of};

@@ -1,4 +1,4 @@
-// The full expressions of a program, in the order of the text.
+// The full expressions of a function and of a program, in the order of the text.
 ghost use Rattle.std.specs.Prelude.{◌≡◌, ◌++◌, map, IfOk, OnOk};
 ghost use Rattle.elaborate.specs.Expressions.{own_trees, full_trees, option_trees, body_trees, block_trees, function_trees, program_trees};
 ghost use Rattle.elaborate.specs.Roots.{trees_at};
@@ -18,8 +18,18 @@ pub fn roots_of<'p>(alloc: Global, p: &'p Program) -> Result<Vec<&'p Typed>, NoM
     Ok(roots)
 }
 
+/// The full expressions of a function, in the order of the text; the own tree of a listed initializer follows the expression
+/// that holds it.
+pub fn expressions_of<'p>(alloc: Global, function: &'p Function) -> Result<Vec<&'p Typed>, NoMemory>
+    ensures { IfOk result (λ roots. map (λ tree. tree.now) roots.items ≡ function_trees function.now) }
+{
+    let mut roots = Vec::new(alloc);
+    defined(function, &mut roots)?;
+    Ok(roots)
+}
+
 fn defined<'p>(function: &'p Function, roots: &mut Vec<&'p Typed>) -> Result<(), NoMemory>
-    ensures { OnOk result (trees_at roots.new.items ≡ trees_at roots.old.items ++ function_trees function.now) }
+    ensures { OnOk result (map (λ tree. tree.now) roots.new.items ≡ map (λ tree. tree.now) roots.old.items ++ function_trees function.now) }
 {
     match &function.body {
         Some(body) => statement(body, roots),
@@ -29,14 +39,14 @@ fn defined<'p>(function: &'p Function, roots: &mut Vec<&'p Typed>) -> Result<(),
 
 // A full expression, and then the trees of the isolated initializers in it.
 fn full<'p>(root: &'p Typed, roots: &mut Vec<&'p Typed>) -> Result<(), NoMemory>
-    ensures { OnOk result (trees_at roots.new.items ≡ trees_at roots.old.items ++ full_trees root.now) }
+    ensures { OnOk result (map (λ tree. tree.now) roots.new.items ≡ map (λ tree. tree.now) roots.old.items ++ full_trees root.now) }
 {
     roots.push(root)?;
     isolated(root, roots)
 }
 
 fn isolated<'p>(root: &'p Typed, roots: &mut Vec<&'p Typed>) -> Result<(), NoMemory>
-    ensures { OnOk result (trees_at roots.new.items ≡ trees_at roots.old.items ++ own_trees root.now) }
+    ensures { OnOk result (map (λ tree. tree.now) roots.new.items ≡ map (λ tree. tree.now) roots.old.items ++ own_trees root.now) }
 {
     if let Node::Isolated(tree) = &root.node {
         let tree = tree.get();
@@ -50,7 +60,7 @@ fn isolated<'p>(root: &'p Typed, roots: &mut Vec<&'p Typed>) -> Result<(), NoMem
 }
 
 fn optional<'p>(root: &'p Option<Typed>, roots: &mut Vec<&'p Typed>) -> Result<(), NoMemory>
-    ensures { OnOk result (trees_at roots.new.items ≡ trees_at roots.old.items ++ option_trees root.now) }
+    ensures { OnOk result (map (λ tree. tree.now) roots.new.items ≡ map (λ tree. tree.now) roots.old.items ++ option_trees root.now) }
 {
     match root {
         Some(root) => full(root, roots),
@@ -60,7 +70,7 @@ fn optional<'p>(root: &'p Option<Typed>, roots: &mut Vec<&'p Typed>) -> Result<(
 
 #[cycle(statement)]
 fn statement<'p>(body: &'p Body, roots: &mut Vec<&'p Typed>) -> Result<(), NoMemory>
-    ensures { OnOk result (trees_at roots.new.items ≡ trees_at roots.old.items ++ body_trees body.now) }
+    ensures { OnOk result (map (λ tree. tree.now) roots.new.items ≡ map (λ tree. tree.now) roots.old.items ++ body_trees body.now) }
 {
     match body {
         Body::Simple(root) | Body::Return(root) => optional(root, roots),
@@ -105,7 +115,7 @@ fn statement<'p>(body: &'p Body, roots: &mut Vec<&'p Typed>) -> Result<(), NoMem
 
 #[cycle(statement)]
 fn block<'p>(block: &'p Block, roots: &mut Vec<&'p Typed>) -> Result<(), NoMemory>
-    ensures { OnOk result (trees_at roots.new.items ≡ trees_at roots.old.items ++ block_trees block.now) }
+    ensures { OnOk result (map (λ tree. tree.now) roots.new.items ≡ map (λ tree. tree.now) roots.old.items ++ block_trees block.now) }
 {
     for entry in block.entries.as_slice() {
         match entry {

@@ -1,4 +1,2 @@
-pub mod Grown
-pub mod Own
 pub mod Sparing
 pub mod Steps

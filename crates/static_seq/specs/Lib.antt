@@ -1,4 +1,3 @@
-pub mod Expressions
 pub mod Accesses
 pub mod Choices
 pub mod Parted

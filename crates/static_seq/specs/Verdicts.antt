@@ -7,7 +7,7 @@ use Rattle.c_typed.specs.declared.program.Program.{Program}
 use Rattle.c_typed.specs.Tree.{tree_of, size}
 use Rattle.static_seq.specs.declared.verdicts.Verdict.{Verdict}
 use Rattle.static_seq.specs.Accesses.{next}
-use Rattle.static_seq.specs.Expressions.{function_trees}
+use Rattle.elaborate.specs.Expressions.{function_trees}
 use Rattle.static_seq.specs.Parted.{unparted}
 
 abbrev pub verdict_of : Program → ℕ → ℕ → Typed → Verdict

@@ -5,13 +5,13 @@ ghost use Rattle.static_places.specs.Preorder.{trees_at};
 ghost use Rattle.static_seq.specs.Choices.{Lists};
 ghost use Rattle.static_seq.specs.Parted.{first_beside, first_pair, unparted};
 ghost use Rattle.static_seq.specs.Verdicts.{Counts, ProgramCounts, FunctionCounts, verdict_of, verdicts_from, verdicts};
-ghost use Rattle.static_seq.specs.Expressions.{function_trees};
+ghost use Rattle.elaborate.specs.Expressions.{function_trees};
 
 use crate::accesses::{accesses_of, some_writes};
-use crate::expressions::expressions_of;
 use crate::parting::parted;
 use crate::{Accessed, MemoryAccess, Verdict, Verdicts};
 use c_typed::{Function, Program, Typed};
+use elaborate::expressions_of;
 use static_places::nodes_of;
 use std::alloc::Global;
 use ub_base::NoMemory;

@@ -4,7 +4,6 @@
 mod accesses;
 mod choices;
 mod examined;
-mod expressions;
 mod parting;
 mod verdicts;
 

@@ -1,9 +1,9 @@
-use Rattle.std.proofs.Common.{◌≡◌, ◌++◌, map, drop}
-use Rattle.elaborate.specs.Expressions.{own_trees, joined}
-use Rattle.elaborate.specs.Roots.{trees_at}
+use Rattle.std.proofs.Common.{◌≡◌, ◌++◌, map, flat_map, drop}
+use Rattle.elaborate.specs.Expressions.{own_trees}
 use Rattle.elaborate.proofs.roots.+isolated.Given as goal
 
 -- the trees so far, and those of the operands that are left
 abbrev pub invariant-loop-operand : goal.invariant-loop-operand
 invariant-loop-operand l =
-    trees_at l.roots.items ++ joined (map own_trees (drop l.operand-index l.operand-items)) ≡ trees_at l.fn.roots.items ++ own_trees l.root
+    map (λ tree. tree.now) l.roots.items ++ flat_map own_trees (drop l.operand-index l.operand-items)
+    ≡ map (λ tree. tree.now) l.fn.roots.items ++ own_trees l.root
