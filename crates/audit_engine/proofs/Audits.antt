@@ -40,8 +40,8 @@ judged_audit old new request ReadFault j = absurd j.why
 judged_audit old new request NoMemory j = tt
 
 -- a file that stops an audit is its cause
-pub stopped_audit : (old new : Disk) (request : AuditRequest) (fault : FetchFault) (answer : Answer) → answer ≡ stopped fault → IsStopped old new request fault
-    → AuditCause old new request answer
+pub stopped_audit : (old new : Disk) (request : AuditRequest) (fault : FetchFault) (answer : Answer) → answer ≡ stopped fault
+    → IsStopped old new request fault → AuditCause old new request answer
 stopped_audit old new request Fault.ReadFault answer is stops = subst (AuditCause old new request) (sym is) stops
 stopped_audit old new request (Fault.TooLong role) answer is stops = subst (AuditCause old new request) (sym is) stops
 stopped_audit old new request Fault.NoMemory answer is stops = subst (AuditCause old new request) (sym is) tt

@@ -22,7 +22,8 @@ use Rattle.person_top.specs.declared.explore.Sheet.{Sheet}
 
 -- the report of a judged text
 pub text_report : {E : Type 0} (request : AuditRequest) (before now : ℕ) (source : List ℕ) (answer : Answer) (result : Result Page E)
-    → TextCause request before now source answer → IfOk result (λ page. page.status ≡ status answer) → IfOk result (λ page. page.text ≡ report answer)
+    → TextCause request before now source answer → IfOk result (λ page. page.status ≡ status answer)
+    → IfOk result (λ page. page.text ≡ report answer)
     → IfOk result (λ page. IsTextReport request before now source page.status page.text)
 text_report request before now source answer (Ok page) why code text = record { answer = answer; why = why; code = code; page = text }
 text_report request before now source answer (Err e) why code text = code
@@ -74,7 +75,8 @@ stopped_errors was is request fault (Ok sheet) stops code text none =
 stopped_errors was is request fault (Err e) stops code text none = code
 
 -- a text that has a program may write something
-pub may_write : {E : Type 0} (source : List ℕ) (program : Program) (result : Result (List ℕ) E) → IsRunnable source program → IfOk result (MayWrite source)
+pub may_write : {E : Type 0} (source : List ℕ) (program : Program) (result : Result (List ℕ) E) → IsRunnable source program
+    → IfOk result (MayWrite source)
 may_write source program (Ok errors) runs = inl (program, runs)
 may_write source program (Err e) runs = tt
 
@@ -93,7 +95,8 @@ quiet_sheet answers said text (Ok sheet) code page none may =
 quiet_sheet answers said text (Err e) code page none may = code
 
 -- .. and so does the sheet of a file, where the page of its text is that of the file
-pub quiet_of : {E : Type 0} (these those : ℕ → List ℕ → Type 0) (result : Result Sheet E) → ((said : ℕ) (text : List ℕ) → these said text → those said text)
+pub quiet_of : {E : Type 0} (these those : ℕ → List ℕ → Type 0) (result : Result Sheet E)
+    → ((said : ℕ) (text : List ℕ) → these said text → those said text)
     → IfOk result (λ sheet. Quiet these sheet.status sheet.text sheet.errors) → IfOk result (λ sheet. Quiet those sheet.status sheet.text sheet.errors)
 quiet_of these those (Ok sheet) so quiet = (so sheet.status sheet.text quiet.0, quiet.1)
 quiet_of these those (Err e) so quiet = quiet
@@ -107,5 +110,6 @@ quiet_stopped fault those (Ok sheet) so code text none = (so sheet.status sheet.
 quiet_stopped fault those (Err e) so code text none = code
 
 -- a text that is said to be refused
-pub refused_by : (text : List ℕ) (fault : FrontFault) (refusal : Refusal) → fault ≡ FrontFault.Refused refusal → WhyRefused text fault → IsRefused text
+pub refused_by : (text : List ℕ) (fault : FrontFault) (refusal : Refusal) → fault ≡ FrontFault.Refused refusal → WhyRefused text fault
+    → IsRefused text
 refused_by text fault refusal is why = (refusal, subst (WhyRefused text) is why)

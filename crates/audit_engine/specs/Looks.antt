@@ -1,5 +1,25 @@
 -- What further looks at a program or its run put (own).
-use Rattle.std.specs.Prelude.{◌≡◌, ◌≢◌, ◌⊎◌, ◌↔◌, ◌++◌, ℕ, ◌≤◌, List, [], Bool, true, false, Option, Some, None, IsTrue, codes, map, option_copied}
+use Rattle.std.specs.Prelude.{
+  ◌≡◌,
+  ◌≢◌,
+  ◌⊎◌,
+  ◌↔◌,
+  ◌++◌,
+  ℕ,
+  ◌≤◌,
+  List,
+  [],
+  Bool,
+  true,
+  false,
+  Option,
+  Some,
+  None,
+  IsTrue,
+  codes,
+  map,
+  option_copied,
+}
 use Rattle.ub_base.specs.Frames.{Row}
 use Rattle.ub_base.specs.declared.names.Event.{Event}
 use Rattle.ub_base.specs.declared.names.ObjName.{ObjName}

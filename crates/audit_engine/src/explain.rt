@@ -73,6 +73,7 @@ fn asked<'a>(
         text: sources.text.as_slice(),
         file: request.audit.file.as_bytes(),
         written,
+        input_name: request.audit.input,
         input: sources.input.as_slice(),
         args: &request.audit.args,
         mode: mode_of(request.audit.is_tight),

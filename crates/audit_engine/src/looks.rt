@@ -10,7 +10,7 @@ use crate::explain::{mode_of, stopped_page};
 use audit_sources::FetchFault;
 use command::AuditRequest;
 use core_ir::CoreProgram;
-use footprint_run::{Audit, Finding, Quiet, audit_run};
+use footprint_run::{Audit, Quiet, audit_run};
 use person_top::{Page, Sheet};
 use std::alloc::Global;
 use ub_base::{Bytes, NoMemory};
@@ -61,17 +61,4 @@ pub fn run_audited(
         request.steps,
         &mut Quiet,
     )
-}
-
-/// How many picks lead to a finding.
-pub fn picks_of(finding: Finding) -> u64
-    ensures { result ≡ picks_of finding }
-{
-    match finding {
-        Finding::Clean { picks, .. } => picks,
-        Finding::Undefined { picks, .. } => picks,
-        Finding::OrderDependent { picks, .. } => picks,
-        Finding::OutOfSteps { picks } => picks,
-        Finding::Outside { picks, .. } => picks,
-    }
 }

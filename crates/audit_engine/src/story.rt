@@ -5,9 +5,9 @@ ghost use Rattle.audit_engine.specs.Looks.{IsFront, IsStoryText, IsTextStory, Na
 
 use crate::explain::mode_of;
 use crate::judged::judged_report;
-use crate::looks::{picks_of, quiet, run_audited, stopped_sheet};
+use crate::looks::{quiet, run_audited, stopped_sheet};
 use audit_sources::{Sources, fetch_sources};
-use audit_top::{FrontFault, program_of};
+use audit_top::{FrontFault, picks_of, program_of};
 use c_names::read_object;
 use c_typed::Program;
 use command::{AuditRequest, StoryRequest};

@@ -12,8 +12,8 @@ use footprint_run::{Audit, Finding};
 use std::alloc::Global;
 use ub_base::{Bytes, Files, NoMemory};
 
-// The picks that lead to a finding.
-fn picks_of(finding: Finding) -> u64
+/// How many picks lead to a finding.
+pub fn picks_of(finding: Finding) -> u64
     ensures { result ≡ picks_of finding }
 {
     match finding {

@@ -13,6 +13,7 @@ mod weigh;
 mod words;
 
 pub use answer::{Answer, Refusal};
+pub use certify::picks_of;
 pub use footprint_run::{Progress, Quiet};
 pub use front::{FrontFault, program_of};
 pub use judge::judged;

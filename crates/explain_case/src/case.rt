@@ -1,6 +1,6 @@
 // What is explained: a finding with the nodes of its events.
 
-use addr_map::AddrMap;
+use addr_map::{AddrMap, Mode};
 use c_typed::{Program, Typed};
 use explain_facts::{Events, Found, Moment, Outcome, Sought, Trail, node_at, root_with};
 use explain_page::Page;
@@ -17,9 +17,22 @@ pub struct Act<'p> {
     pub item: Option<Item>,
 }
 
+/// The words of the audit that is explained, behind the command's name.
+#[derive(Clone, Copy)]
+pub struct Words<'a> {
+    pub file: &'a [u8],
+    /// The name of the input.
+    pub input: Option<&'a str>,
+    pub steps: u64,
+    pub mode: Mode,
+    /// The program's own arguments.
+    pub args: &'a [String],
+}
+
 /// A run with its finding, on a page.
 #[derive(Clone, Copy)]
 pub struct Case<'c, 'a> {
+    pub words: Words<'a>,
     pub page: &'c Page<'c, 'a>,
     pub program: &'c Program,
     pub roots: &'c [&'c Typed],

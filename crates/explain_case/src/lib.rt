@@ -12,7 +12,7 @@ mod values;
 
 pub use accesses::{is_behind, is_write, last_store};
 pub use calls::{end_of, library_call, put_calls, sites_of};
-pub use case::{Act, Case, first_act, second_act, sought_of};
+pub use case::{Act, Case, Words, first_act, second_act, sought_of};
 pub use format::{Mismatch, Taken, mismatch_of, printing, put_mismatch, put_taken};
 pub use objects::{
     NamedObject, elements, naming, origin_naming, place_of, put_accessed, put_by, put_object,

@@ -2,6 +2,7 @@
 #![tactic(auto)]
 
 mod first;
+mod further;
 mod heads;
 mod hints;
 mod marks;

@@ -1,6 +1,7 @@
 // Notes.
 ghost use Rattle.std.specs.Prelude.{◌<◌, length, IfSome};
 
+use crate::further::put_further;
 use crate::hints::put_hint;
 use c_typed::{Node, Typed};
 use explain_case::{
@@ -372,6 +373,9 @@ pub fn notes_of(alloc: Global, case: &Case<'_, '_>) -> Result<Vec<Note>, NoMemor
     let mut errors = empty(alloc);
     put_errors(&mut errors, case.found.errors)?;
     push(&mut notes, "errors", errors)?;
+    let mut further = empty(alloc);
+    put_further(alloc, &mut further, case)?;
+    push(&mut notes, "see", further)?;
     Ok(notes)
 }
 

@@ -12,6 +12,8 @@ pub struct Asked<'a> {
     pub file: &'a [u8],
     /// The files that its line markers name, as far as they were read.
     pub written: &'a [Written],
+    /// The name of the input, as it was asked for.
+    pub input_name: Option<&'a str>,
     pub input: &'a [u8],
     /// The words behind the program's name.
     pub args: &'a [String],

@@ -6,7 +6,7 @@ use crate::found::{events_of, picks_of, verdict_of};
 use c_typed::Program;
 use core_ir::CoreProgram;
 use elaborate::{elaborate, roots_of};
-use explain_case::{Act, Case, first_act, library_call, second_act, sought_of};
+use explain_case::{Act, Case, Words, first_act, library_call, second_act, sought_of};
 use explain_facts::{Events, Found, Moment, Outcome, Sought, Trail, apart};
 use explain_json::{Reported, put_case_json, put_refusal_json, put_report_json};
 use explain_notes::put_case;
@@ -35,6 +35,16 @@ fn reported<'a>(asked: &Asked<'a>) -> Reported<'a> {
     Reported {
         report: asked.report,
         status: asked.status,
+    }
+}
+
+fn words_of<'a>(asked: &Asked<'a>) -> Words<'a> {
+    Words {
+        file: asked.file,
+        input: asked.input_name,
+        steps: asked.steps,
+        mode: asked.mode,
+        args: asked.args,
     }
 }
 
@@ -349,6 +359,7 @@ fn put_explanation(alloc: Global, out: &mut Bytes, request: &Request<'_>) -> Res
     let found = found_of(&audit, events);
     let both = shown_both(&both);
     let case = Case {
+        words: words_of(asked),
         page: &page,
         program: &program,
         roots: roots.as_slice(),

@@ -14,5 +14,7 @@ pub returns-in-Err-Refused-clause-page : goal.returns-in-Err-Refused-clause-page
 returns-in-Err-Refused-clause-page g c =
     refused_static c.args.request.now (g.F.Files.write_faults c.args.files.now) (g.F.Files.write_faults c.judged_report.new.files) c.args.sources.now.text
     c.judged_report.result
-    (subst IsRefused c.as_slice.ensures (refused_by c.as_slice.result.now c.in-Err-Refused.field-0 c.in-Err-Refused.field-0-0 c.in-Err-Refused.field-0-is c.in-Err-Refused.ensures.refused))
+    (subst IsRefused c.as_slice.ensures
+    (refused_by c.as_slice.result.now c.in-Err-Refused.field-0 c.in-Err-Refused.field-0-0 c.in-Err-Refused.field-0-is
+    c.in-Err-Refused.ensures.refused))
     c.judged_report.ensures.page

@@ -13,5 +13,7 @@ returns-in-Ok c =
 pub returns-in-Err-Refused : goal.returns-in-Err-Refused
 returns-in-Err-Refused c =
     refused_front (c.args.frames.now, c.args.object.now) c.args.sources.now.text c.from_slice.result
-    (subst IsRefused c.as_slice.ensures (refused_by c.as_slice.result.now c.in-Err-Refused.field-0 c.in-Err-Refused.field-0-0 c.in-Err-Refused.field-0-is c.in-Err-Refused.ensures.refused))
+    (subst IsRefused c.as_slice.ensures
+    (refused_by c.as_slice.result.now c.in-Err-Refused.field-0 c.in-Err-Refused.field-0-0 c.in-Err-Refused.field-0-is
+    c.in-Err-Refused.ensures.refused))
     c.from_slice.ensures

@@ -13,8 +13,8 @@ returns-in-Ok-clause-sheet g c =
     (moment (g.F.Files.held c.judged_sheet.new.files) (g.F.Files.read_faults c.judged_sheet.new.files) (g.F.Files.write_faults c.judged_sheet.new.files))
     c.args.request.now)
     c.judged_sheet.result
-    (λ said text so. fetched_swap _ _ c.args.request.now (g.F.Files.write_faults c.fetch_sources.new.files) c.in-Ok.sources.text c.in-Ok.sources.input said text
-    c.in-Ok.ensures.source c.in-Ok.ensures.input c.in-Ok.ensures.writes so)
+    (λ said text so. fetched_swap _ _ c.args.request.now (g.F.Files.write_faults c.fetch_sources.new.files) c.in-Ok.sources.text
+    c.in-Ok.sources.input said text c.in-Ok.ensures.source c.in-Ok.ensures.input c.in-Ok.ensures.writes so)
     c.judged_sheet.ensures.sheet
 
 pub returns-in-Err-clause-sheet : goal.returns-in-Err-clause-sheet
