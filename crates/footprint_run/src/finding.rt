@@ -1,8 +1,7 @@
 // What an audit finds.
 
-use crate::calls::Calls;
 use addr_map::AddrMap;
-use core_run::Ran;
+use core_run::{Calls, Ran};
 use ub_base::{Bytes, Cause, Clause, Event, Frames, Item};
 
 /// The first finding along the canonical order, with the number of picks that lead to it.

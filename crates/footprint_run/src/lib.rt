@@ -2,7 +2,6 @@
 #![tactic(auto)]
 
 mod audit;
-mod calls;
 mod detector;
 mod finding;
 mod progress;
@@ -10,7 +9,6 @@ mod seen;
 mod watcher;
 
 pub use audit::audit_run;
-pub use calls::Calls;
 pub use detector::Detector;
 pub use finding::{Audit, Finding, Race};
 pub use progress::{Progress, Quiet};

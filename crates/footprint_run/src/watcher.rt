@@ -6,11 +6,10 @@ ghost use Rattle.footprint_run.specs.Apart.{SeenApart};
 ghost use Rattle.footprint_run.specs.Picks.{picks_in};
 ghost use Rattle.footprint_run.specs.Record.{go_of};
 
-use crate::calls::Calls;
 use crate::detector::Detector;
 use crate::seen::Seen;
 use c_typed::Typed;
-use core_run::{Go, View, Watch};
+use core_run::{Calls, Go, View, Watch};
 use prov_memory::Touched;
 use std::alloc::Global;
 use ub_base::{Event, Frame, NoMemory};

@@ -1,5 +1,4 @@
 pub mod Named
-pub mod Record
 pub mod Same
 pub mod Stories
 pub mod Texts

@@ -1,9 +1,8 @@
 // What is told of an object.
 ghost use Rattle.std.specs.Prelude.{◌≡◌, ◌++◌, [], OnOk, OnErr};
 
-use crate::calls::Calls;
 use addr_map::AddrMap;
-use core_run::Ran;
+use core_run::{Calls, Ran};
 use std::alloc::Global;
 use std::marker::Model;
 use ub_base::{Event, Frames, Item, NoMemory, ObjName};

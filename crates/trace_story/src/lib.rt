@@ -1,7 +1,6 @@
 //! The life of one object: what the picks of a run do to it, told in order.
 #![tactic(auto)]
 
-mod calls;
 mod entry;
 mod line;
 mod named;
@@ -12,7 +11,6 @@ mod text;
 mod told;
 mod watcher;
 
-pub use calls::Calls;
 pub use entry::{Entries, Entry, Story};
 pub use telling::story;
 pub use text::entries_text;

@@ -5,14 +5,13 @@ ghost use Rattle.core_run.specs.Ends.{picks_of, told_of};
 ghost use Rattle.trace_story.specs.Named.{IsNamed};
 ghost use Rattle.trace_story.specs.Stories.{mark_of, picks_in, story_in, sought_in};
 
-use crate::calls::Calls;
 use crate::entry::{Entries, Story};
 use crate::named::{are_same, named_in};
 use crate::told::Sought;
 use crate::watcher::Teller;
 use addr_map::Mode;
 use core_ir::CoreProgram;
-use core_run::{RunState, run};
+use core_run::{Calls, RunState, run};
 use std::alloc::Global;
 use ub_base::{Frames, NoMemory, ObjName};
 

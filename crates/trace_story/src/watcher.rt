@@ -2,13 +2,12 @@
 ghost use Rattle.std.specs.Prelude.{◌≡◌, map, IsTrue, [], Some};
 ghost use Rattle.trace_story.specs.Stories.{mark_of, picks_in, story_in};
 
-use crate::calls::Calls;
 use crate::entry::Entries;
 use crate::named::are_same;
 use crate::same::same_sought;
 use crate::tell::entries_at;
 use crate::told::Sought;
-use core_run::{Go, View, Watch};
+use core_run::{Calls, Go, View, Watch};
 use prov_memory::Touched;
 use std::alloc::Global;
 use ub_base::{Event, Frame, Frames, NoMemory};
@@ -84,12 +83,12 @@ impl<'f> Watch for Teller<'f> {
         )?;
         self.entries.extend(more.as_slice())?;
         self.picks += 1;
-        self.calls = self.calls.picked(event, items);
+        self.calls = self.calls.picked(event, items, Go::On);
         Ok(Go::On)
     }
 
     fn node_done(&mut self, _v: &View, frame: Frame, turn: u64, node: u32) -> Result<Go, NoMemory> {
-        self.calls = self.calls.node_done(frame, turn, node);
+        self.calls = self.calls.node_done(frame, turn, node, Go::On);
         Ok(Go::On)
     }
 
@@ -100,7 +99,7 @@ impl<'f> Watch for Teller<'f> {
         turn: u64,
         node: u32,
     ) -> Result<Go, NoMemory> {
-        self.calls = self.calls.operands_done(frame, turn, node);
+        self.calls = self.calls.operands_done(frame, turn, node, Go::On);
         Ok(Go::On)
     }
 }

@@ -1,15 +1,15 @@
-// The calls of a watch.
+// The record of a watch's calls.
 ghost use Rattle.std.specs.Prelude.{◌≡◌, ◌∷◌, []};
 ghost use Rattle.core_run.specs.Calls.{picked, node_done, operands_done};
 
-use core_run::Go;
+use crate::watch::Go;
 use prov_memory::Touched;
 use std::marker::Model;
 use std::snapshot::Snapshot;
 use ub_base::{Event, Frame};
 
-/// The calls of the watch of a run with what it answered. Contracts see the list of them, the last one first; the program
-/// keeps only the last one.
+/// The calls of the watch of a run with what it answered, for a watch that keeps them. Contracts see the list of them, the last
+/// one first; the program keeps only the last one.
 #[cycle(calls)]
 #[derive(Drop)]
 pub struct Calls {
@@ -32,7 +32,7 @@ impl Model for Calls {
 
     ghost Value = { Heard };
 
-    ghost use Rattle.footprint_run.specs.Record.{heard_in};
+    ghost use Rattle.core_run.specs.Record.{heard_in};
 
     ghost view = { λ c. heard_in c.last };
 
@@ -45,7 +45,7 @@ impl Model for Calls {
 
 impl Calls {
     /// No calls.
-    pub(crate) fn none() -> Calls
+    pub fn none() -> Calls
         ensures { result ≡ [] }
     {
         Calls {
@@ -53,7 +53,8 @@ impl Calls {
         }
     }
 
-    pub(crate) fn picked(&self, event: Option<Event>, items: &Touched, go: Go) -> Calls
+    /// One call more: of `pick`, with its answer.
+    pub fn picked(&self, event: Option<Event>, items: &Touched, go: Go) -> Calls
         ensures { result ≡ (picked event items.now, go) ∷ self.now }
     {
         Calls {
@@ -61,7 +62,8 @@ impl Calls {
         }
     }
 
-    pub(crate) fn node_done(&self, frame: Frame, turn: u64, node: u32, go: Go) -> Calls
+    /// One call more: of `node_done`, with its answer.
+    pub fn node_done(&self, frame: Frame, turn: u64, node: u32, go: Go) -> Calls
         ensures { result ≡ (node_done frame turn node, go) ∷ self.now }
     {
         Calls {
@@ -69,7 +71,8 @@ impl Calls {
         }
     }
 
-    pub(crate) fn operands_done(&self, frame: Frame, turn: u64, node: u32, go: Go) -> Calls
+    /// One call more: of `operands_done`, with its answer.
+    pub fn operands_done(&self, frame: Frame, turn: u64, node: u32, go: Go) -> Calls
         ensures { result ≡ (operands_done frame turn node, go) ∷ self.now }
     {
         Calls {
