@@ -152,14 +152,20 @@ const OPEN_JSON: &str =
     "{\"at\":[\"o.c\",1,28],\"head\":\"\\\"x begins what is never closed\",\"marks\":[{\"at\":[\"o.c\",1,28],\"does\":\"here\",\"end\":[\"o.c\",1,30]}],\"notes\":[],\"report\":\"lex open literal 37\\n\",\"status\":11,\"verdict\":\"lex\",\"version\":1}";
 
 // What is asked of a text.
-fn asked<'a>(text: &'a str, args: &'a [String], report: &'a str, status: u8) -> Asked<'a>
+fn asked<'a>(
+    text: &'a str,
+    written: &'a [Written],
+    args: &'a [String],
+    report: &'a str,
+    status: u8,
+) -> Asked<'a>
     ensures text { result.text.now ≡ text.now }
     ensures steps { result.steps ≡ 10000 }
 {
     Asked {
         text: text.as_bytes(),
         file: b"-",
-        written: &[],
+        written,
         input_name: None,
         input: b"",
         args,
@@ -174,7 +180,7 @@ fn asked<'a>(text: &'a str, args: &'a [String], report: &'a str, status: u8) -> 
 fn words(rt: &impl Abort, alloc: Global, text: &str) -> Result<Bytes, NoMemory> {
     assert!(rt; text.len() <= 1_048_576);
     let args = Vec::new(alloc);
-    explanation(alloc, &asked(text, args.as_slice(), "", 1))
+    explanation(alloc, &asked(text, &[], args.as_slice(), "", 1))
 }
 
 // The explanation of a text as JSON.
@@ -187,7 +193,7 @@ fn object(
 ) -> Result<Bytes, NoMemory> {
     assert!(rt; text.len() <= 1_048_576);
     let args = Vec::new(alloc);
-    explanation_json(alloc, &asked(text, args.as_slice(), report, status))
+    explanation_json(alloc, &asked(text, &[], args.as_slice(), report, status))
 }
 
 #[test]
@@ -222,10 +228,7 @@ fn words_of_made(
         text: Bytes::from_slice(alloc, file.as_bytes())?,
     })?;
     let args = Vec::new(alloc);
-    let request = Asked {
-        written: written.as_slice(),
-        ..asked(text, args.as_slice(), "", 1)
-    };
+    let request = asked(text, written.as_slice(), args.as_slice(), "", 1);
     explanation(alloc, &request)
 }
 
