@@ -1,0 +1,11 @@
+//! Structure and union values have as many bytes as their types, in any order of any run: laws over the definitions of c_model.
+//!
+//! A law function takes nothing and answers nothing: its contract is a law about the definitions.
+#![tactic(auto)]
+
+ghost use Rattle.value_laws.specs.Wholes.{LibraryGivesPlain};
+
+/// In every order of a program that keeps the sizes of its types (6.5.16.1p2, 6.5.2.2, 6.8.6.4p3).
+pub fn law_value_sizes()
+    ensures library { LibraryGivesPlain }
+{}
