@@ -1,2 +1,4 @@
 mod Scripts
 mod Acts
+mod Work
+mod Nodes
