@@ -2,3 +2,5 @@ mod Scripts
 mod Acts
 mod Work
 mod Nodes
+mod Frames
+pub mod Picks

@@ -64,7 +64,7 @@ operands_there h ty line es k n g q =
     let r = (stands_among es (suc k) n g q).0 in
     if_false (k == n) _ _ (grind (arith, nat_tests, r)) ∙ q
 
-itself_there : (e : Expr) (k : ℕ) → at_node k e k ≡ Some e
+pub itself_there : (e : Expr) (k : ℕ) → at_node k e k ≡ Some e
 itself_there (expr h ty line es) k = if_true (k == k) _ _ (eq_eq k k refl)
 
 -- a node of a node's operands is one of the whole

@@ -1,6 +1,5 @@
 use Rattle.value_laws.proofs.Scripts.{library_plain}
-use Rattle.value_laws.proofs.Nodes.{operand_sizes}
-use Rattle.value_laws.proofs.Work.{ready_fits}
+use Rattle.value_laws.proofs.Picks.{settled_fits}
 use Rattle.value_laws.proofs.law_value_sizes.Goals as goal
 
 pub returns : goal.returns
