@@ -2,5 +2,6 @@ mod Scripts
 mod Acts
 mod Work
 mod Nodes
-mod Frames
+pub mod Frames
 pub mod Picks
+pub mod Orders

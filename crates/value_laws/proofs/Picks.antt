@@ -26,10 +26,6 @@ use Rattle.c_model.specs.Steps.{Scene, Local, Begun, Pick, Control, Ev, MayPick,
 use Rattle.c_model.specs.Steps.{own_kind, first_type, target, own_body, body_frame, start_call, started, called_by, move_of, body_of, found_label, control_act}
 use Rattle.c_model.specs.Steps.{control_move, control_next, begin, settled, root_value, is_result, result_of, left_by, bear_all, kill_all, pass_all, auto_name}
 use Rattle.c_model.specs.Steps.{object_kind, object_at, turn_of, does, move, next, ends_with}
-use Rattle.c_model.specs.Runs.{Entry, State, Outcome, Refused, Raises, Over, No_row, Ends, Running, entry_of, back, moved, acted, step, within, limited}
-use Rattle.c_model.specs.Runs.{limit_passed, depth_of, enter_passes, without_row, After, here, refused, last, more, too_late, is_running}
-use Rattle.c_model.specs.Runs.{start, started_run, stand, nothing_stands, main_frame, too_many, created_after, work_of}
-use Rattle.c_model.specs.Claims.{ComesTo, starts, stops, refuses}
 use Rattle.c_model.proofs.Listed.{same_place_eq}
 use Rattle.value_laws.specs.Sizes.{Sizes, HasSize, Keeps, type_of, result_size, ExprFits, StatementFits, Gives, IsPlain, FunctionFits, ProgramFits}
 use Rattle.value_laws.specs.Wholes.{ValuesFit}
@@ -61,7 +57,7 @@ module _ (size : Sizes) (world : World) where
       → BegunFits size world result b → BegunFits size world result (with_given b u w)
   begun_given result b u w k h = record { root = h.root; what = h.what; values = given_fits b u w k h.values }
 
-  frame_given : (result : Option ℕ) (f : Local) (b : Begun) (u : Place) (w : Value) → f.begun ≡ Some b
+  pub frame_given : (result : Option ℕ) (f : Local) (b : Begun) (u : Place) (w : Value) → f.begun ≡ Some b
       → ((e : Expr) → at_node 0 b.root u.node ≡ Some e → HasSize (size (type_of e)) w) → FrameIs result f
       → FrameIs result (record f { begun = Some (with_given b u w) })
   frame_given result f b u w e k h = record {
@@ -81,7 +77,7 @@ module _ (size : Sizes) (world : World) where
       go true = tt
       go false = tt
 
-  result_fits : (result : Option ℕ) (f : Local) → FrameIs result f → HasSize result (result_of world f)
+  pub result_fits : (result : Option ℕ) (f : Local) → FrameIs result f → HasSize result (result_of world f)
   result_fits result f h = go f.function f.result h.gives
     where
       go : (n : Option ℕ) (o : Option Value) → ((v : Value) → o ≡ Some v → HasSize result v)
@@ -113,7 +109,7 @@ module _ (size : Sizes) (world : World) where
         go_on world.rows (HasSize result) (put world.rows true d.access d.ty (object_at world s turn k) v) (λ u. pass_all world s turn (suc k) ds vs)
         (λ u. passes_fit s turn (suc k) ds vs)
 
-    control_gives : (todo : Todo) → GivesResult (control_act world f todo)
+    pub control_gives : (todo : Todo) → GivesResult (control_act world f todo)
     control_gives [] = plain_size result Nothing tt
     control_gives (Enter b ds ∷ rest) = bears_fit f.scene (suc f.scene.turn) 0 ds _ (passes_fit f.scene (suc f.scene.turn) 0 ds f.arguments)
     control_gives (Leave b ds ∷ rest) = kills_fit f.scene (turn_of f.scene.blocks b) 0 ds (Give (result_of world f)) (result_fits result f h)
@@ -198,3 +194,94 @@ module _ (size : Sizes) (world : World) where
                 let same : v ≡ w = cc in
                 subst (HasSize result) same (keeps_size (size (type_of b.root)) result v (of_result what r u) (root_size b (h.begun b e)))
             go false r q = h.gives w q
+
+  -- what an event does to the frames
+  pub data EventMove (b : Begun) (u : Place) : Move Local → Type 0 where
+    stays : EventMove b u Stay
+    starts : (g : Local) (result : Option ℕ) → FrameIs result g → ((e : Expr) → at_node 0 b.root u.node ≡ Some e → Keeps result (size (type_of e)))
+        → EventMove b u (Start g)
+
+  some_value : (v w : Value) → Some v ≡ Some w → v ≡ w
+  some_value v w h = cc
+
+  abbrev pub EventIs : Scene → Begun → Place → Option Expr → Value → Type 0
+  EventIs f b u None v = Unit {0}
+  EventIs f b u (Some (expr h ty line es)) v =
+      HasSize (size ty) v × (is_body u.kind ≡ true → Linked size world h es (values_of world f b.given (suc u.node) es))
+
+  module _ (ok : ProgramFits size world) where
+    -- the value of an event
+    pub event_gives : (result : Option ℕ) (f : Scene) (b : Begun) → BegunFits size world result b → (u : Place) (o : Option Expr) → at_node 0 b.root u.node ≡ o
+        → Gives world.rows (EventIs f b u o) (event_act world f b u o)
+    event_gives result f b h u None q = tt
+    event_gives result f b h u (Some (expr g ty line es)) q = go (is_body u.kind) refl
+      where
+        vs : List Value
+        vs = values_of world f b.given (suc u.node) es
+
+        Q : Value → Type 0
+        Q v = HasSize (size ty) v × (is_body u.kind ≡ true → Linked size world g es vs)
+
+        own : Value
+        own = or_nothing (b.given (place u.node (own_kind u.kind)))
+
+        go : (c : Bool) → is_body u.kind ≡ c → Gives world.rows Q (if c then call_act world (event_of world f u) g es vs
+            else act_of world.rows (event_of world f u) g (target (first_type es)) u.kind (operand_values world f b.given (suc u.node) g es) own)
+        go true e =
+            gives_map world.rows (λ v. IsPlain v × Linked size world g es vs) Q (call_act world (event_of world f u) g es vs)
+            (λ v p. (plain_size (size ty) v p.0, λ k. p.1)) (call_fits size world ok (event_of world f u) g es vs)
+        go false e =
+            gives_map world.rows (HasSize (size ty)) Q _ (λ v p. (p, λ k. absurd (true≢false (sym k ∙ e))))
+            (act_fits size world f b h.root h.values (event_of world f u) u.node g ty (target (first_type es)) line es u.kind own q
+            (own_value size world f b h.values u.node g ty line es q (own_kind u.kind)))
+
+    module _ (result : Option ℕ) (f : Scene) (b : Begun) (h : BegunFits size world result b) (u : Place) where
+      frame_of : (g : Head) (ty : CType) (line : ℕ) (es : Exprs) (c : ℕ × Function) → slice_get world.program.functions c.0 ≡ Some c.1
+          → Keeps (result_size size c.1.ty) (size ty) → at_node 0 b.root u.node ≡ Some (expr g ty line es) → (vs : List Value) (o : Option Stmt) → own_body c.1 ≡ o
+          → EventMove b u (body_frame world f u.node c.0 vs o)
+      frame_of g ty line es c there keeps q vs None e = stays
+      frame_of g ty line es c there keeps q vs (Some s) e = starts _ (result_size size c.1.ty) (record {
+        todo = ((ok.functions c.0 c.1 there).body s (defined c.1 s e), tt);
+        begun = λ d r. absurd (cc);
+        gives = λ v r. absurd (cc);
+        body = λ t r. (ok.functions c.0 c.1 there).body t (sym (body_there world c.0 c.1 there) ∙ r);
+      }) (λ x r. (let same : expr g ty line es ≡ x = cc in subst (λ z. Keeps (result_size size c.1.ty) (size (type_of z))) same keeps))
+        where
+          defined : (fun : Function) (s : Stmt) → own_body fun ≡ Some s → fun.body ≡ Some s
+          defined fun s e = go (is_some fun.library) e
+            where
+              go : (c : Bool) → (if c then None else fun.body) ≡ Some s → fun.body ≡ Some s
+              go true e = absurd (cc)
+              go false e = e
+
+      call_moves : (d : Bool) (ty : CType) (line : ℕ) (es : Exprs) → at_node 0 b.root u.node ≡ Some (expr (Call d) ty line es) → (vs : List Value)
+          → Linked size world (Call d) es vs → (o : Option (ℕ × Function)) → called_by world vs ≡ o → EventMove b u (start_call world f u.node (later_values vs) o)
+      call_moves d ty line es q vs link None e = stays
+      call_moves d ty line es q vs link (Some c) e =
+          frame_of (Call d) ty line es c (function_there world.program.functions _ c e)
+          (keeps_on (result_size size c.1.ty) (result_size size (target (first_type es))) (size ty) (link c e)
+          (node_fits size b.root 0 u.node (expr (Call d) ty line es) h.root q).0)
+          q (later_values vs) (own_body c.1) refl
+
+      head_moves : (g : Head) (ty : CType) (line : ℕ) (es : Exprs) → at_node 0 b.root u.node ≡ Some (expr g ty line es) → (vs : List Value)
+          → Linked size world g es vs → EventMove b u (started world f u.node g vs)
+      head_moves (Call d) ty line es q vs link = call_moves d ty line es q vs link (called_by world vs) refl
+      head_moves (Isolated e) ty line es q vs link = starts _ (size ty) (record {
+        todo = (((node_fits size b.root 0 u.node (expr (Isolated e) ty line es) h.root q).1.0, tt), tt);
+        begun = λ d r. absurd (cc);
+        gives = λ v r. subst (HasSize (size ty)) (some_value Nothing v r) (plain_size (size ty) Nothing tt);
+        body = λ t r. absurd (cc);
+      }) (λ x r. (let same : expr (Isolated e) ty line es ≡ x = cc in subst (λ z. Keeps (size ty) (size (type_of z))) same (keeps_itself (size ty))))
+      head_moves g ty line es q vs link = stays
+
+      pub event_moves : (o : Option Expr) → at_node 0 b.root u.node ≡ o → (v : Value) → EventIs f b u o v → EventMove b u (move_of world f b u o)
+      event_moves None q v k = stays
+      event_moves (Some (expr g ty line es)) q v k = go (is_body u.kind) refl
+        where
+          go : (c : Bool) → is_body u.kind ≡ c → EventMove b u (if c then started world f u.node g (values_of world f b.given (suc u.node) es) else Stay)
+          go true e = head_moves g ty line es q (values_of world f b.given (suc u.node) es) (k.1 e)
+          go false e = stays
+
+      -- so the value fits its node
+      pub event_value : (v : Value) → EventIs f b u (at_node 0 b.root u.node) v → (e : Expr) → at_node 0 b.root u.node ≡ Some e → HasSize (size (type_of e)) v
+      event_value v k (expr g ty line es) q = (subst (λ o. EventIs f b u o v) q k).0
