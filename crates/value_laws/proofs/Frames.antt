@@ -93,7 +93,7 @@ module _ (size : Sizes) (world : World) where
   -- the values of a node's operands
   module _ (f : Scene) (b : Begun) (values : ValuesFit size b) (n : ℕ) (h : Head) (ty : CType) (line : ℕ) (es : Exprs)
       (q : at_node 0 b.root n ≡ Some (expr h ty line es)) where
-    operands : (i : ℕ) → HasSize (size_at size es i) (value_at (values_of world f b.given (suc n) es) i)
+    pub operands : (i : ℕ) → HasSize (size_at size es i) (value_at (values_of world f b.given (suc n) es) i)
     operands = operand_sizes world f size b.given es (suc n) (λ m e v there g. values (place m Val) e v (inside h ty line es n m e there b.root 0 q) g)
 
     last_operand : HasSize (last_size size es) (last_value (values_of world f b.given (suc n) es))

@@ -5,3 +5,4 @@ mod Nodes
 pub mod Frames
 pub mod Picks
 pub mod Orders
+pub mod Stores

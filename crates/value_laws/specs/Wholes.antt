@@ -16,7 +16,7 @@ use Rattle.mem_spec.specs.Script.{Done, run}
 use Rattle.c_model.specs.Program.{Assign, Expr, expr, Exprs}
 use Rattle.c_model.specs.Values.{Value, Pointer, pointer_of, value_at}
 use Rattle.c_model.specs.World.{World}
-use Rattle.c_model.specs.Steps.{Local, Begun, Pick, Ev, MayPick, at_node, does, values_of}
+use Rattle.c_model.specs.Steps.{Local, Begun, Pick, Ev, at_node, does, values_of}
 use Rattle.c_model.specs.Runs.{State, Running}
 use Rattle.c_model.specs.Claims.{ComesTo}
 use Rattle.c_model.specs.Libraries.{library}
@@ -50,13 +50,13 @@ abbrev pub Each : (Item → Type 0) → List Item → Type 0
 Each P [] = Unit {0}
 Each P (i ∷ is) = P i × Each P is
 
--- So an event that stores a whole structure or union writes just the bytes that its type has, at its place.
+-- So an event that stores a whole structure or union writes just the bytes that its type has, at its place, wherever an order picks it.
 abbrev pub WholesAreStored : Type 0
 WholesAreStored =
     (size : Sizes) (world : World) → ProgramFits size world → (input : List ℕ) (vs : List Value) (ps : List Pick) (st : State)
-    → ComesTo world input vs ps (Running st) → (b : Begun) (u : Place) → st.top.begun ≡ Some b → MayPick world st.top (Some b) (Ev u)
+    → ComesTo world input vs ps (Running st) → (b : Begun) (u : Place) → st.top.begun ≡ Some b → u.kind ≡ Eff
     → (first : Bool) (n align : ℕ) (ty : CType) (line : ℕ) (es : Exprs)
-    → u.kind ≡ Eff → at_node 0 b.root u.node ≡ Some (expr (Assign first (access.Whole n align)) ty line es)
+    → at_node 0 b.root u.node ≡ Some (expr (Assign first (access.Whole n align)) ty line es)
     → (v : Value) (is : List Item) (s : Store) → run world.rows (does world st.top (Some b) (Ev u)) st.store ≡ Done v is s
     → Each (WritesAt world.rows (pointer_of (value_at (values_of world st.top.scene b.given (suc u.node) es) 0)).address n) is
 

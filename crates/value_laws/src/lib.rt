@@ -3,9 +3,11 @@
 //! A law function takes nothing and answers nothing: its contract is a law about the definitions.
 #![tactic(auto)]
 
-ghost use Rattle.value_laws.specs.Wholes.{LibraryGivesPlain};
+ghost use Rattle.value_laws.specs.Wholes.{ValuesHaveSizes, WholesAreStored, LibraryGivesPlain};
 
 /// In every order of a program that keeps the sizes of its types (6.5.16.1p2, 6.5.2.2, 6.8.6.4p3).
 pub fn law_value_sizes()
+    ensures values { ValuesHaveSizes }
+    ensures stores { WholesAreStored }
     ensures library { LibraryGivesPlain }
 {}
