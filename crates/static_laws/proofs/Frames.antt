@@ -31,6 +31,7 @@ use Rattle.c_model.proofs.Decided.{has_due}
 use Rattle.c_model.proofs.Closed.{found_before}
 use Rattle.c_model.proofs.Listed.{same_place_eq, same_place_itself}
 use Rattle.c_model.proofs.Halves.{closed_at}
+use Rattle.static_laws.specs.NeverRaces.{KeepsSizes}
 use Rattle.static_laws.proofs.Scripts.{Post, Anything, Each, ActOk, run_ok}
 use Rattle.static_laws.proofs.Reach.{Site, Reach, reach_by, InReach}
 use Rattle.static_laws.proofs.Acts.{AreLow, act_within, quiet_in}
@@ -101,12 +102,18 @@ module _ (world : World) where
   list_name f h = Argv
 
   -- what an event of this kind of a node can touch
-  abbrev pub reach_at : Scene → Kind → Option Expr → Option Reach
-  reach_at f k None = None
-  reach_at f k (Some (expr h ty line es)) = reach_by h (first_site world f es) (list_name f h) k
+  abbrev pub reach_at : Bool → Scene → Kind → Option Expr → Option Reach
+  reach_at sized f k None = None
+  reach_at sized f k (Some (expr h ty line es)) = reach_by sized h (first_site world f es) (list_name f h) k
+
+  -- sizes are known where the program keeps those of its types
+  abbrev pub Knows : Bool → Type 0
+  Knows false = Unit {0}
+  Knows true = KeepsSizes world
 
   abbrev pub Told : Scene → Expr → Place → List Item → Type 0
-  Told f root v is = is_body v.kind ≡ false → Each (InReach world.rows (reach_at f v.kind (at_node 0 root v.node))) is
+  Told f root v is =
+      (sized : Bool) → Knows sized → is_body v.kind ≡ false → Each (InReach world.rows (reach_at sized f v.kind (at_node 0 root v.node))) is
 
   pub record Sound (f : Scene) (b : Begun) : Type 0 where
     pub closed : IsClosed world f b
@@ -365,7 +372,7 @@ module _ (world : World) where
       told_here : (c : Begun) → f.begun ≡ Some c → (e : Entry) (v : Place) → ((x ≡ e) × (u ≡ v)) ⊎ Has trace e v → f.scene.path ≡ e.path
           → f.scene.turn ≡ e.turn → Told f.scene c.root v e.items × IsPicked c (Some u) v
       told_here c r e v (inl q) s t =
-          ((λ nb. absurd (true≢false (sym (subst (λ z. is_body z.kind ≡ true) q.1 body) ∙ nb))), inr (ap Some q.1))
+          ((λ sized knows nb. absurd (true≢false (sym (subst (λ z. is_body z.kind ≡ true) q.1 body) ∙ nb))), inr (ap Some q.1))
       told_here c r e v (inr q) s t = (let a = k.here c r e v q s t in (a.0, waits_too c v a.1))
 
   -- a frame that was started

@@ -1,13 +1,12 @@
 -- The act of an event gives a value of its node's size, where the operands' values have theirs.
-use Rattle.std.proofs.Common.{◌≡◌, ℕ, zero, suc, ◌+◌, ◌-◌, ◌≤◌, min, Bool, true, false, not, ◌&&◌, ◌||◌, if◌then◌else◌, List, [], ◌∷◌, length, take, drop}
+use Rattle.std.proofs.Common.{◌≡◌, ℕ, zero, suc, ◌+◌, ◌≤◌, Bool, true, false, not, ◌&&◌, ◌||◌, if◌then◌else◌, List, [], ◌∷◌, length}
 use Rattle.std.proofs.Common.{Option, Some, None, refl, sym, ap, ◌∙◌, subst, arith}
 use Rattle.std.specs.Prelude.{◌==◌, ℤ, pos, ◌-ℤ◌, ◌/◌, unsigned_abs, Result, Ok, Err}
 use Rattle.ub_base.specs.declared.clause.Kind.{Kind}
-use Rattle.ub_base.specs.declared.clause.Kind.TheVariants.{Val, Eff, Body}
+use Rattle.ub_base.specs.declared.clause.Kind.TheVariants.{Val, Eff}
 use Rattle.ub_base.specs.declared.clause.Clause.{Clause}
 use Rattle.ub_base.specs.declared.clause.Clause.TheVariants.{InvalidPointer, Indeterminate, TrapRepresentation, PointerAlignment, OverlappingAssignment}
 use Rattle.ub_base.specs.declared.names.Event.{Event}
-use Rattle.ub_base.specs.declared.names.ObjName.{ObjName}
 use Rattle.addr_map.specs.declared.map.Row.{Row}
 use Rattle.exposure.specs.declared.prov.Prov.{Prov}
 use Rattle.c_types.specs.declared.kind.IntKind.{IntKind}
@@ -26,22 +25,21 @@ use Rattle.c_typed.specs.declared.tree.UnOp.TheVariants as unary
 use Rattle.c_typed.specs.declared.tree.RelOp.{RelOp}
 use Rattle.c_typed.specs.declared.tree.EqOp.{EqOp}
 use Rattle.c_typed.specs.declared.tree.EqOp.TheVariants as equality
-use Rattle.mem_spec.specs.Store.{TaggedByte, Store, range_from}
+use Rattle.mem_spec.specs.Store.{TaggedByte, range_from}
 use Rattle.mem_spec.specs.Agreement.{bytes_of_kind}
-use Rattle.mem_spec.specs.Script.{Get, Script, Give, Raise, ◌>>=◌, ◌>>◌, require, touch}
-use Rattle.mem_spec.specs.Acts.{Accessed, scalar, whole, bytes, is_aligned, declared_of, access as access_act, store, shift, all_written, show_pieces}
+use Rattle.mem_spec.specs.Script.{Get, Script, Give, ◌>>=◌, ◌>>◌, require, touch}
+use Rattle.mem_spec.specs.Acts.{scalar, whole, bytes, is_aligned, declared_of, access as access_act, store, shift, all_written, show_pieces}
 use Rattle.mem_spec.specs.Acts.{value_of, is_trap, number_of, load_int, load_func, load_ptr, load_block, from_int, pointer_in, retagged, less, diff, expose}
 use Rattle.mem_spec.specs.Bytes.{number_bytes, pointer_bytes}
 use Rattle.c_model.specs.Values.{Value, Int, Ptr, Fun, Whole, Missing, Nothing, Pointer, pointer_value, integer_of, pointer_of, function_in, value_at, address_after}
 use Rattle.c_model.specs.Values.{truth, int_bytes, part_bytes, moved_source, unplaced}
 use Rattle.c_model.specs.Program.{Filling, Head, Load, Conv, Un, Bin, PtrAdd, PtrDiff, Rel, Eq, Member, Part, Assign, Update, And, Or, Cond, Comma, Call}
 use Rattle.c_model.specs.Program.{Listed, Exprs}
-use Rattle.c_model.specs.Nodes.{bool_value, outcome, int_outcome, load, put_whole, put, overlap_inexactly, convert, unary_value, operated, in_order}
+use Rattle.c_model.specs.Nodes.{bool_value, int_outcome, load, put_whole, put, overlap_inexactly, convert, unary_value, operated, in_order}
 use Rattle.c_model.specs.Nodes.{relational, distance, shifted, difference, is_empty, member, part_pointer, read_part, width_of, part_of, amount, equal, changed}
 use Rattle.c_model.specs.Nodes.{check_change, change_access, given_back, update_value, new_value, call_value, last_value, content_bytes, fill, act_of}
-use Rattle.c_model.specs.Steps.{first_type, target}
-use Rattle.value_laws.specs.Sizes.{Sizes, HasBytes, HasSize, Keeps, IsUpTo, size_at, last_size, result_size, LoadFits, PartFits, StoreFits, NodeFits, Gives, IsPlain}
-use Rattle.value_laws.proofs.Scripts.{Anything, anything, bind, go_on, gives_map, need, when}
+use Rattle.value_laws.specs.Sizes.{Sizes, HasBytes, HasSize, Keeps, IsUpTo, size_at, last_size, LoadFits, PartFits, NodeFits, Gives, IsPlain}
+use Rattle.value_laws.proofs.Scripts.{bind, go_on, gives_map, need}
 
 pub keeps_size : (a b : Option ℕ) (v : Value) → Keeps a b → HasSize a v → HasSize b v
 keeps_size a None v k h = tt

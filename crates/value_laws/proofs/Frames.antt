@@ -1,38 +1,29 @@
 -- What each open frame keeps: its full expression and what is left to do fit, and so do the values that were given.
-use Rattle.std.proofs.Common.{◌≡◌, ℕ, zero, suc, ◌+◌, Bool, true, false, ◌&&◌, ◌||◌, ◌==◌, if◌then◌else◌, List, [], ◌∷◌, Option, Some, None, is_some}
-use Rattle.std.proofs.Common.{refl, sym, ap, ◌∙◌, subst, pos, arith}
-use Rattle.std.specs.Prelude.{slice_get, is_none}
+use Rattle.std.proofs.Common.{◌≡◌, ℕ, zero, suc, ◌+◌, Bool, true, false, ◌||◌, ◌==◌, if◌then◌else◌, List, [], ◌∷◌, Option, Some, None, is_some}
+use Rattle.std.proofs.Common.{refl, sym, ap, ◌∙◌, subst, arith}
+use Rattle.std.specs.Prelude.{slice_get}
 use Rattle.ub_base.specs.declared.clause.Kind.{Kind}
-use Rattle.ub_base.specs.declared.clause.Kind.TheVariants.{Val, Eff, Body}
+use Rattle.ub_base.specs.declared.clause.Kind.TheVariants.{Val}
 use Rattle.ub_base.specs.declared.clause.Clause.TheVariants.{InvalidPointer, IncompatibleCall}
 use Rattle.ub_base.specs.declared.names.Event.{Event}
 use Rattle.c_types.specs.declared.library.LibFunc.{LibFunc}
 use Rattle.c_types.specs.Types.{CType, void, int, enumeration, pointer, array, struct, union, function}
 use Rattle.c_typed.specs.declared.tree.Place.{Place}
-use Rattle.c_typed.specs.declared.tree.Slot.{Slot}
-use Rattle.c_typed.specs.Tree.{is_quiet}
-use Rattle.c_typed.specs.Order.{place, same_place, is_body}
-use Rattle.mem_spec.specs.Script.{Script, Give, require, ◌>>=◌, ◌>>◌}
-use Rattle.mem_spec.specs.Acts.{create, kill, unwrite}
-use Rattle.c_model.specs.Program.{Head, Listed, Call, Isolated, Expr, expr, Exprs, tree_of, Decl, Stmt, Function}
+use Rattle.c_typed.specs.Order.{place}
+use Rattle.c_model.specs.Program.{Head, Listed, Call, Expr, expr, Exprs, Stmt, Function}
 use Rattle.c_model.specs.Values.{Value, Int, Missing, Nothing, value_at, later_values, or_nothing, truth, integer_of}
 use Rattle.c_model.specs.World.{World}
-use Rattle.c_model.specs.Nodes.{act_of, put, last_value}
-use Rattle.c_model.specs.Moves.{Move, Stay, Start, End}
-use Rattle.c_model.specs.Control.{Todo, Work, Use, Unused, Begin, Enter, Leave, Unwrite, Nothing_to_do, Go_to, Go_out, Go_on, Go_back, To_do, Rest, Round}
-use Rattle.c_model.specs.Control.{Again, Test, Break_here, Result, To_branch, To_enter, To_select, To_go_round, To_go_again, ready_work, to_label}
-use Rattle.c_model.specs.Steps.{Scene, Local, Begun, with_given, at_node, name_of, pointer_to, event_of, event_act, call_act, call_through, call_by}
-use Rattle.c_model.specs.Steps.{library_act, argument_types, operand_values, values_of, own_kind, first_type, target, function_type, function_of, own_body}
-use Rattle.c_model.specs.Steps.{body_frame, start_call, started, called_by, move_of, body_of, found_label, control_act, control_next, begin, settled, root_value}
-use Rattle.c_model.specs.Steps.{is_result, result_of, left_by, bear_all, kill_all, pass_all, auto_name, object_kind, object_at, turn_of}
-use Rattle.c_model.proofs.Listed.{same_place_eq}
-use Rattle.value_laws.specs.Sizes.{Sizes, HasSize, Keeps, type_of, size_at, last_size, result_size, NodeFits, ExprFits, StatementFits, Gives, IsPlain}
-use Rattle.value_laws.specs.Sizes.{FunctionFits, ProgramFits}
+use Rattle.c_model.specs.Nodes.{act_of, last_value}
+use Rattle.c_model.specs.Steps.{Scene, Local, Begun, at_node, name_of, pointer_to, call_act, call_through, call_by}
+use Rattle.c_model.specs.Steps.{library_act, argument_types, operand_values, values_of, first_type, target, function_type, function_of}
+use Rattle.c_model.specs.Steps.{called_by, body_of}
+use Rattle.value_laws.specs.Sizes.{Sizes, HasSize, Keeps, type_of, size_at, last_size, result_size, ExprFits, StatementFits, Gives, IsPlain}
+use Rattle.value_laws.specs.Sizes.{ProgramFits}
 use Rattle.value_laws.specs.Wholes.{ValuesFit}
-use Rattle.value_laws.proofs.Scripts.{bind, go_on, gives_map, need}
-use Rattle.value_laws.proofs.Acts.{keeps_size, plain_size, act_gives, put_plain}
-use Rattle.value_laws.proofs.Work.{UseFits, WorkFits, TodoFits, FoundFits, ready_fits, out_fits, on_fits, leaves_fit, gone_fits, finds_fit, after_fits}
-use Rattle.value_laws.proofs.Nodes.{itself_there, inside, node_fits, perhaps_size, value_size, operand_sizes, last_fits}
+use Rattle.value_laws.proofs.Scripts.{gives_map, need}
+use Rattle.value_laws.proofs.Acts.{plain_size, act_gives}
+use Rattle.value_laws.proofs.Work.{UseFits, TodoFits}
+use Rattle.value_laws.proofs.Nodes.{inside, node_fits, perhaps_size, operand_sizes, last_fits}
 
 pub keeps_itself : (o : Option ℕ) → Keeps o o
 keeps_itself None = tt

@@ -1,9 +1,8 @@
 -- Every state of an order keeps that the frames fit.
-use Rattle.std.proofs.Common.{◌≡◌, ℕ, zero, suc, ◌+◌, Bool, true, false, ◌&&◌, if◌then◌else◌, true≢false, List, [], ◌∷◌, map, Option, Some, None, is_some}
-use Rattle.std.proofs.Common.{refl, sym, ap, ◌∙◌, subst}
+use Rattle.std.proofs.Common.{◌≡◌, ℕ, ◌&&◌, if◌then◌else◌, List, [], ◌∷◌, map, Option, Some, None}
+use Rattle.std.proofs.Common.{refl, sym, ◌∙◌, subst}
 use Rattle.std.specs.Prelude.{is_none, slice_get}
 use Rattle.ub_base.specs.declared.clause.Cause.{Cause}
-use Rattle.ub_base.specs.declared.names.Item.{Item}
 use Rattle.c_typed.specs.declared.tree.Place.{Place}
 use Rattle.mem_spec.specs.Store.{Store}
 use Rattle.mem_spec.specs.Script.{Act, Done, Raised, Ended, Outside, Unplaced, run}
@@ -12,17 +11,17 @@ use Rattle.c_model.specs.Values.{Value, Nothing}
 use Rattle.c_model.specs.World.{World, Limits}
 use Rattle.c_model.specs.Moves.{Move, Stay, Start, End}
 use Rattle.c_model.specs.Control.{ready_work}
-use Rattle.c_model.specs.Steps.{Local, Begun, Pick, Control, Ev, with_given, at_node, event_act, body_of, control_act, control_move, root_value, result_of, settled}
-use Rattle.c_model.specs.Steps.{does, move, next, ends_with, move_of}
+use Rattle.c_model.specs.Steps.{Local, Begun, Pick, Control, Ev, at_node, event_act, body_of, control_act, control_move}
+use Rattle.c_model.specs.Steps.{does, move, next, ends_with}
 use Rattle.c_model.specs.Runs.{Entry, State, Outcome, Refused, Raises, Over, No_row, Ends, Running, entry_of, back, moved, acted, step, within, limited}
-use Rattle.c_model.specs.Runs.{limit_passed, depth_of, enter_passes, without_row, After, here, refused, last, more, too_late, is_running}
+use Rattle.c_model.specs.Runs.{limit_passed, depth_of, enter_passes, without_row, After, here, refused, last, more, too_late}
 use Rattle.c_model.specs.Runs.{start, started_run, stand, nothing_stands, main_frame, too_many, created_after, work_of}
 use Rattle.c_model.specs.Claims.{ComesTo, starts as from_start, stops as from_stop, refuses as from_refused}
-use Rattle.value_laws.specs.Sizes.{Sizes, HasSize, Keeps, type_of, result_size, StatementFits, Gives, FunctionFits, ProgramFits}
+use Rattle.value_laws.specs.Sizes.{Sizes, HasSize, type_of, result_size, StatementFits, ProgramFits}
 use Rattle.value_laws.proofs.Scripts.{Gave, run_gave}
 use Rattle.value_laws.proofs.Acts.{keeps_size}
 use Rattle.value_laws.proofs.Work.{TodoFits, ready_fits}
-use Rattle.value_laws.proofs.Frames.{body_there, BegunFits, FrameFits, WaitsFor, HeldFit, lowest, waits}
+use Rattle.value_laws.proofs.Frames.{body_there, FrameFits, HeldFit, lowest, waits}
 use Rattle.value_laws.proofs.Picks.{frame_given, result_fits, control_gives, control_fits, settled_fits, EventMove, stays, starts, EventIs, event_gives, event_moves}
 use Rattle.value_laws.proofs.Picks.{event_value}
 
@@ -208,7 +207,7 @@ module _ (size : Sizes) (world : World) where
   started_fits ok (Ended n is s) vs = tt
   started_fits ok Unplaced vs = tt
 
-  start_fits : ProgramFits size world → (input : List ℕ) (vs : List Value) → OutcomeFits (start world input vs)
+  pub start_fits : ProgramFits size world → (input : List ℕ) (vs : List Value) → OutcomeFits (start world input vs)
   start_fits ok input vs = within_fits (too_many world.limits (created_after 0 (map (λ o. o.decl) world.program.standing))) _
       (started_fits ok (run world.rows (stand world world.program.standing) (nothing_stands world input)) vs)
 

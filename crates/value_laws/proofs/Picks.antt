@@ -1,39 +1,32 @@
 -- Each pick keeps that the frames fit, so every order does.
-use Rattle.std.proofs.Common.{◌≡◌, ℕ, zero, suc, ◌+◌, Bool, true, false, ◌&&◌, if◌then◌else◌, true≢false, List, [], ◌∷◌, map, Option, Some, None, is_some}
-use Rattle.std.proofs.Common.{refl, sym, ap, ◌∙◌, subst, pos, arith}
-use Rattle.std.specs.Prelude.{slice_get, is_none, ◌==◌}
-use Rattle.ub_base.specs.declared.clause.Kind.{Kind}
-use Rattle.ub_base.specs.declared.clause.Kind.TheVariants.{Val, Eff, Body}
-use Rattle.ub_base.specs.declared.clause.Cause.{Cause}
-use Rattle.ub_base.specs.declared.names.Event.{Event}
-use Rattle.ub_base.specs.declared.names.Item.{Item}
+use Rattle.std.proofs.Common.{◌≡◌, ℕ, suc, Bool, true, false, if◌then◌else◌, true≢false, List, [], ◌∷◌, Option, Some, None, is_some}
+use Rattle.std.proofs.Common.{refl, sym, ap, ◌∙◌, subst}
+use Rattle.std.specs.Prelude.{slice_get, ◌==◌}
+use Rattle.ub_base.specs.declared.clause.Kind.TheVariants.{Val}
 use Rattle.c_types.specs.Types.{CType}
 use Rattle.c_typed.specs.declared.tree.Place.{Place}
-use Rattle.c_typed.specs.Tree.{is_quiet}
 use Rattle.c_typed.specs.Order.{place, same_place, is_body}
-use Rattle.addr_map.specs.Rows.{row_of}
-use Rattle.mem_spec.specs.Store.{Store}
-use Rattle.mem_spec.specs.Script.{Script, Give, ◌>>=◌, ◌>>◌, Act, Done, Raised, Ended, Outside, Unplaced, run}
+use Rattle.mem_spec.specs.Script.{Script, Give}
 use Rattle.mem_spec.specs.Acts.{create, kill, unwrite}
-use Rattle.c_model.specs.Program.{Head, Call, Isolated, Expr, expr, Exprs, tree_of, Decl, Stmt, Function}
-use Rattle.c_model.specs.Values.{Value, Int, Missing, Nothing, later_values, or_nothing, truth, integer_of}
-use Rattle.c_model.specs.World.{World, Limits}
+use Rattle.c_model.specs.Program.{Head, Call, Isolated, Expr, expr, Exprs, Decl, Stmt, Function}
+use Rattle.c_model.specs.Values.{Value, Missing, Nothing, later_values, or_nothing, truth, integer_of}
+use Rattle.c_model.specs.World.{World}
 use Rattle.c_model.specs.Nodes.{act_of, put}
-use Rattle.c_model.specs.Moves.{Move, Stay, Start, End}
-use Rattle.c_model.specs.Control.{Todo, Work, Use, Unused, Begin, Enter, Leave, Unwrite, Nothing_to_do, Go_to, Go_out, Go_on, Go_back, To_do, Rest, Round}
-use Rattle.c_model.specs.Control.{Again, Test, Break_here, Result, To_branch, To_enter, To_select, To_go_round, To_go_again, ready_work, to_label, find}
-use Rattle.c_model.specs.Steps.{Scene, Local, Begun, Pick, Control, Ev, MayPick, with_given, at_node, event_of, event_act, call_act, operand_values, values_of}
+use Rattle.c_model.specs.Moves.{Move, Stay, Start}
+use Rattle.c_model.specs.Control.{Todo, Use, Unused, Begin, Enter, Leave, Unwrite, Nothing_to_do, Go_to, Go_out, Go_on, Go_back, To_do, Rest, Round}
+use Rattle.c_model.specs.Control.{Again, Test, Break_here, Result, To_branch, To_enter, To_select, To_go_round, To_go_again, to_label}
+use Rattle.c_model.specs.Steps.{Scene, Local, Begun, with_given, at_node, event_of, event_act, call_act, operand_values, values_of}
 use Rattle.c_model.specs.Steps.{own_kind, first_type, target, own_body, body_frame, start_call, started, called_by, move_of, body_of, found_label, control_act}
-use Rattle.c_model.specs.Steps.{control_move, control_next, begin, settled, root_value, is_result, result_of, left_by, bear_all, kill_all, pass_all, auto_name}
-use Rattle.c_model.specs.Steps.{object_kind, object_at, turn_of, does, move, next, ends_with}
+use Rattle.c_model.specs.Steps.{control_next, settled, root_value, is_result, result_of, left_by, bear_all, kill_all, pass_all, auto_name}
+use Rattle.c_model.specs.Steps.{object_kind, object_at, turn_of}
 use Rattle.c_model.proofs.Listed.{same_place_eq}
-use Rattle.value_laws.specs.Sizes.{Sizes, HasSize, Keeps, type_of, result_size, ExprFits, StatementFits, Gives, IsPlain, FunctionFits, ProgramFits}
+use Rattle.value_laws.specs.Sizes.{Sizes, HasSize, Keeps, type_of, result_size, StatementFits, Gives, IsPlain, ProgramFits}
 use Rattle.value_laws.specs.Wholes.{ValuesFit}
-use Rattle.value_laws.proofs.Scripts.{Gave, run_gave, bind, go_on, gives_map, need}
-use Rattle.value_laws.proofs.Acts.{keeps_size, plain_size, put_plain}
-use Rattle.value_laws.proofs.Work.{UseFits, WorkFits, TodoFits, FoundFits, ready_fits, out_fits, on_fits, leaves_fit, gone_fits, finds_fit, after_fits}
+use Rattle.value_laws.proofs.Scripts.{go_on, gives_map}
+use Rattle.value_laws.proofs.Acts.{keeps_size, plain_size}
+use Rattle.value_laws.proofs.Work.{UseFits, TodoFits, FoundFits, out_fits, on_fits, leaves_fit, gone_fits, finds_fit, after_fits}
 use Rattle.value_laws.proofs.Nodes.{itself_there, node_fits, value_size}
-use Rattle.value_laws.proofs.Frames.{keeps_itself, keeps_on, function_there, body_there, BegunFits, FrameFits, WaitsFor, HeldFit, lowest, waits, some_is}
+use Rattle.value_laws.proofs.Frames.{keeps_itself, keeps_on, function_there, body_there, BegunFits, FrameFits, some_is}
 use Rattle.value_laws.proofs.Frames.{own_value, act_fits, Linked, call_fits}
 
 module _ (size : Sizes) (world : World) where

@@ -1,18 +1,14 @@
 -- What scripts give.
-use Rattle.std.proofs.Common.{◌≡◌, ℕ, Bool, true, false, if◌then◌else◌, List, [], ◌∷◌, map, Option, Some, None, refl}
+use Rattle.std.proofs.Common.{◌≡◌, Bool, true, false, if◌then◌else◌, List, map, refl}
 use Rattle.ub_base.specs.declared.clause.Clause.{Clause}
-use Rattle.ub_base.specs.declared.names.Event.{Event}
 use Rattle.ub_base.specs.declared.names.Item.{Item}
 use Rattle.addr_map.specs.declared.map.Row.{Row}
-use Rattle.c_types.specs.declared.library.LibFunc.{LibFunc}
-use Rattle.c_types.specs.Types.{CType}
 use Rattle.mem_spec.specs.Store.{Store}
-use Rattle.mem_spec.specs.Script.{Touch, Ask, Get, Put, Bear, Bury, Show, Find, Settle, Take, Print, item_of, refuses, refused, answer, left, Answer}
+use Rattle.mem_spec.specs.Script.{Touch, Ask, Get, Put, Bear, Bury, Show, Find, Settle, Take, Print, item_of, refuses, refused, answer, left}
 use Rattle.mem_spec.specs.Script.{Script, Give, Raise, Finish, Exceed, Misplace, Do, Act, Done, Raised, Ended, Outside, Unplaced, touched, run}
 use Rattle.mem_spec.specs.Script.{◌>>=◌, ◌>>◌, require}
 use Rattle.libc_spec.specs.Library.{LibValue, number, pointer, nothing}
-use Rattle.c_model.specs.Values.{Value}
-use Rattle.c_model.specs.Libraries.{library, result, script, passed}
+use Rattle.c_model.specs.Libraries.{result, script, passed}
 use Rattle.value_laws.specs.Sizes.{Gives, IsPlain}
 use Rattle.value_laws.specs.Wholes.{LibraryGivesPlain}
 

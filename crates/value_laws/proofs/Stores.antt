@@ -1,14 +1,12 @@
 -- The writes of a store of a whole structure or union.
-use Rattle.std.proofs.Common.{◌≡◌, ℕ, zero, suc, ◌+◌, Bool, true, false, not, if◌then◌else◌, List, [], ◌∷◌, length, Option, Some, None, refl, sym, ap, ◌∙◌, subst}
-use Rattle.std.proofs.Common.{◌⊎◌, inl, inr}
+use Rattle.std.proofs.Common.{◌≡◌, ℕ, suc, Bool, true, false, not, if◌then◌else◌, List, [], ◌∷◌, length, Option, Some, None, refl, sym, ap, ◌∙◌, subst}
+use Rattle.std.proofs.Common.{inl, inr}
 use Rattle.std.specs.Prelude.{◌==◌}
-use Rattle.ub_base.specs.declared.clause.Kind.TheVariants.{Val, Eff}
+use Rattle.ub_base.specs.declared.clause.Kind.TheVariants.{Eff}
 use Rattle.ub_base.specs.declared.clause.Clause.{Clause}
 use Rattle.ub_base.specs.declared.clause.Clause.TheVariants.{InvalidPointer, OutOfBounds, DeadObject, EffectiveType, StoreToLiteral, StoreToConst}
 use Rattle.ub_base.specs.declared.clause.Clause.TheVariants.{OverlappingAssignment}
-use Rattle.ub_base.specs.declared.names.Event.{Event}
 use Rattle.ub_base.specs.declared.names.Item.{Item}
-use Rattle.ub_base.specs.declared.names.Item.TheVariants.{Ending}
 use Rattle.ub_base.specs.declared.names.ObjName.{ObjName}
 use Rattle.addr_map.specs.declared.map.Row.{Row}
 use Rattle.addr_map.specs.Rows.{row_of}
@@ -25,17 +23,17 @@ use Rattle.mem_spec.specs.Script.{Script, Give, Raise, Finish, Exceed, Misplace,
 use Rattle.mem_spec.specs.Script.{◌>>=◌, ◌>>◌, require, touch}
 use Rattle.mem_spec.specs.Acts.{Accessed, Seen, whole, in_row, offset_in, is_aligned, declared_of, is_literal, is_constant, suits_store, stored_from}
 use Rattle.mem_spec.specs.Acts.{object_of, access as access_act, check_writable, store}
-use Rattle.c_model.specs.Program.{Assign, Expr, expr, Exprs}
-use Rattle.c_model.specs.Values.{Value, Int, Ptr, Fun, Whole, Missing, Nothing, Pointer, pointer_of, value_at, or_nothing}
+use Rattle.c_model.specs.Program.{Assign, expr, Exprs}
+use Rattle.c_model.specs.Values.{Value, Int, Ptr, Fun, Whole, Missing, Nothing, pointer_of, value_at, or_nothing}
 use Rattle.c_model.specs.World.{World}
 use Rattle.c_model.specs.Nodes.{put_whole, overlap_inexactly, act_of}
-use Rattle.c_model.specs.Steps.{Scene, Local, Begun, Pick, Ev, at_node, event_of, event_act, call_act, values_of, own_kind, first_type, target}
+use Rattle.c_model.specs.Steps.{Scene, Local, Begun, at_node, event_of, event_act, call_act, values_of, own_kind, first_type, target}
 use Rattle.c_model.specs.Runs.{State, Running}
 use Rattle.c_model.proofs.Ranks.{if_false}
-use Rattle.value_laws.specs.Sizes.{Sizes, HasBytes, HasSize, size_at, ProgramFits}
-use Rattle.value_laws.specs.Wholes.{ValuesFit, IsAmong, IsOpen, ValuesHaveSizes, WritesAt, Each, WholesAreStored}
+use Rattle.value_laws.specs.Sizes.{Sizes, HasBytes, HasSize}
+use Rattle.value_laws.specs.Wholes.{IsAmong, IsOpen, ValuesHaveSizes, WritesAt, Each, WholesAreStored}
 use Rattle.value_laws.proofs.Nodes.{node_fits}
-use Rattle.value_laws.proofs.Frames.{BegunFits, FrameFits, WaitsFor, HeldFit, lowest, waits, operands}
+use Rattle.value_laws.proofs.Frames.{BegunFits, FrameFits, HeldFit, lowest, waits, operands}
 use Rattle.value_laws.proofs.Orders.{StateFits, comes_fits}
 
 -- each touch that a script can make is so, and what it gives

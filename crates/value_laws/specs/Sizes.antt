@@ -13,7 +13,7 @@ use Rattle.c_model.specs.Program.{Stmt, Value, Block, If, If_only, Switch, Do as
 use Rattle.c_model.specs.Values as values
 use Rattle.c_model.specs.Values.{Whole}
 use Rattle.c_model.specs.World.{World}
-use Rattle.c_model.specs.Steps.{target, first_type, body_of}
+use Rattle.c_model.specs.Steps.{target, first_type}
 
 -- how many bytes a value of each type has; none where no size is known
 abbrev pub Sizes : Type 0

@@ -1,5 +1,5 @@
 -- In every order each structure or union value has as many bytes as its type, and is stored to as many.
-use Rattle.std.specs.Prelude.{◌≡◌, ◌⊎◌, ℕ, suc, Bool, List, [], ◌∷◌, Option, Some, None}
+use Rattle.std.specs.Prelude.{◌≡◌, ◌⊎◌, ℕ, suc, Bool, List, [], ◌∷◌, Some}
 use Rattle.ub_base.specs.declared.clause.Kind.TheVariants.{Eff}
 use Rattle.ub_base.specs.declared.names.Event.{Event}
 use Rattle.ub_base.specs.declared.names.Item.{Item}
@@ -14,7 +14,7 @@ use Rattle.mem_spec.specs.Acts.{offset_in}
 use Rattle.mem_spec.specs.Store.{Store}
 use Rattle.mem_spec.specs.Script.{Done, run}
 use Rattle.c_model.specs.Program.{Assign, Expr, expr, Exprs}
-use Rattle.c_model.specs.Values.{Value, Pointer, pointer_of, value_at}
+use Rattle.c_model.specs.Values.{Value, pointer_of, value_at}
 use Rattle.c_model.specs.World.{World}
 use Rattle.c_model.specs.Steps.{Local, Begun, Pick, Ev, at_node, does, values_of}
 use Rattle.c_model.specs.Runs.{State, Running}
