@@ -109,10 +109,9 @@ module _ (size : Sizes) (world : World) where
         act_gives world.rows size es (values_of world f b.given (suc n) es) (operands f b values n h ty line es q) (last_operand f b values n h ty line es q)
         who h ty object k own (node_fits size b.root 0 n (expr h ty line es) fits q).0 o
 
-  -- the function that a call leads to gives what the call takes
+  -- the function that a call leads to agrees with the call
   abbrev pub Linked : Head → Exprs → List Value → Type 0
-  Linked (Call discarded) es vs =
-      (c : ℕ × Function) → called_by world vs ≡ Some c → Keeps (result_size size c.1.ty) (result_size size (target (first_type es)))
+  Linked (Call discarded) es vs = (c : ℕ × Function) → called_by world vs ≡ Some c → world.agree c.1.ty (target (first_type es)) ≡ true
   Linked h es vs = Unit {0}
 
   function_is : (t u : CType) → function_type t ≡ Some u → t ≡ u
@@ -142,13 +141,10 @@ module _ (size : Sizes) (world : World) where
         (λ g. gives_map world.rows IsPlain (IsCalled (Call d) es all) (library_act world who ts vs c.1.library) (λ v p. (p, link g))
         (library_fits who ts vs c.1.library)))
       where
-        link : world.agree c.1.ty ty ≡ true → (d : ℕ × Function) → called_by world all ≡ Some d
-            → Keeps (result_size size d.1.ty) (result_size size (target (first_type es)))
+        link : world.agree c.1.ty ty ≡ true → (d : ℕ × Function) → called_by world all ≡ Some d → world.agree d.1.ty (target (first_type es)) ≡ true
         link g d r =
             let same : c ≡ d = cc in
-            subst (λ z. Keeps (result_size size z.1.ty) (result_size size (target (first_type es)))) same
-            (subst (λ z. Keeps (result_size size c.1.ty) (result_size size z)) (sym e)
-            ((ok.functions c.0 c.1 (function_there world.program.functions _ c q)).agrees ty g))
+            subst (λ z. world.agree z.1.ty (target (first_type es)) ≡ true) same (subst (λ z. world.agree c.1.ty z ≡ true) (sym e) g)
 
     through_fits : (d : Bool) (es : Exprs) (all : List Value) (who : Event) (o : Option CType) → function_type (target (first_type es)) ≡ o → (ts : List CType)
         → Gives world.rows (IsCalled (Call d) es all) (call_through world who o ts all)

@@ -187,10 +187,10 @@ module _ (world : World) (f : Scene) where
     abbrev pub OperandsFit : ℕ → Exprs → Type 0
     OperandsFit k es = (m : ℕ) (e : Expr) (v : Value) → at_node_among k es m ≡ Some e → given (place m Val) ≡ Some v → HasSize (sizes_of (type_of e)) v
 
-    here_fits : (e : Expr) (es : Exprs) (k : ℕ) → OperandsFit k (more e es) → (v : Value) → given (place k Val) ≡ Some v → HasSize (sizes_of (type_of e)) v
+    pub here_fits : (e : Expr) (es : Exprs) (k : ℕ) → OperandsFit k (more e es) → (v : Value) → given (place k Val) ≡ Some v → HasSize (sizes_of (type_of e)) v
     here_fits e es k h v q = h k e v (first_there e es k k e (itself_there e k)) q
 
-    later_fit : (e : Expr) (es : Exprs) (k : ℕ) → OperandsFit k (more e es) → OperandsFit (k + size (tree_of e)) es
+    pub later_fit : (e : Expr) (es : Exprs) (k : ℕ) → OperandsFit k (more e es) → OperandsFit (k + size (tree_of e)) es
     later_fit e es k h = λ m g v q. h m g v (later_there e es k m g q)
 
     pub operand_sizes : (es : Exprs) (k : ℕ) → OperandsFit k es → (i : ℕ) → HasSize (size_at sizes_of es i) (value_at (values_of world f given k es) i)

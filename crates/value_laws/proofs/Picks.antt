@@ -252,8 +252,9 @@ module _ (size : Sizes) (world : World) where
       call_moves d ty line es q vs link None e = stays
       call_moves d ty line es q vs link (Some c) e =
           frame_of (Call d) ty line es c (function_there world.program.functions _ c e)
-          (keeps_on (result_size size c.1.ty) (result_size size (target (first_type es))) (size ty) (link c e)
-          (node_fits size b.root 0 u.node (expr (Call d) ty line es) h.root q).0)
+          (keeps_on (result_size size c.1.ty) (result_size size (target (first_type es))) (size ty)
+          ((ok.functions c.0 c.1 (function_there world.program.functions _ c e)).agrees (target (first_type es)) (link c e))
+          (node_fits size b.root 0 u.node (expr (Call d) ty line es) h.root q).0.0)
           q (later_values vs) (own_body c.1) refl
 
       head_moves : (g : Head) (ty : CType) (line : ℕ) (es : Exprs) → at_node 0 b.root u.node ≡ Some (expr g ty line es) → (vs : List Value)

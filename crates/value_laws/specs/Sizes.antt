@@ -1,9 +1,10 @@
 -- Programs whose structures and unions have as many bytes as their types say, wherever their values go (6.5.16.1p2, 6.5.2.2, 6.8.6.4p3).
-use Rattle.std.specs.Prelude.{◌≡◌, ◌≤◌, ℕ, zero, suc, ◌+◌, true, List, length, Option, Some, None, slice_get}
+use Rattle.std.specs.Prelude.{◌≡◌, ◌≤◌, ℕ, zero, suc, ◌+◌, true, false, List, length, Option, Some, None, slice_get}
 use Rattle.ub_base.specs.declared.names.Event.{Event}
 use Rattle.addr_map.specs.declared.map.Row.{Row}
 use Rattle.c_types.specs.declared.library.LibFunc.{LibFunc}
-use Rattle.c_types.specs.Types.{CType, function}
+use Rattle.c_types.specs.Types.{CType, function, Params}
+use Rattle.c_types.specs.Types as types
 use Rattle.c_typed.specs.declared.tree.Access.{Access}
 use Rattle.c_typed.specs.declared.tree.Access.TheVariants as access
 use Rattle.mem_spec.specs.Store.{Store}
@@ -71,6 +72,22 @@ abbrev pub StoreFits : Access → Option ℕ → Type 0
 StoreFits (access.Whole n align) value = value ≡ Some n
 StoreFits how value = Unit {0}
 
+abbrev pub behind_first : Exprs → Exprs
+behind_first none = none
+behind_first (more e es) = es
+
+-- each argument has the size of its parameter (6.5.2.2p2)
+abbrev pub ArePassed : Sizes → Params → Exprs → Type 0
+ArePassed size types.none none = Unit {0}
+ArePassed size types.none (more e es) = ⊥
+ArePassed size (types.more constant ty params) none = Unit {0}
+ArePassed size (types.more constant ty params) (more e es) = Keeps (size (type_of e)) (size ty) × ArePassed size params es
+
+-- what a call by a function type passes; an ellipsis takes anything
+abbrev pub ArgumentsFit : Sizes → CType → Exprs → Type 0
+ArgumentsFit size (function result params false) es = ArePassed size params es
+ArgumentsFit size ty es = Unit {0}
+
 -- A node of this type, by the types of its operands. A branch of `?:`, the last operand of a comma and what is assigned give the value of
 -- the whole; a cast to `void` adds no node, so a node of type `void` may have operands of any type.
 abbrev pub NodeFits : Sizes → Head → CType → Exprs → Type 0
@@ -79,7 +96,8 @@ NodeFits size (Part offset how) ty es = PartFits offset how (size ty) (size_at s
 NodeFits size (Assign first how) ty es = StoreFits how (size_at size es 1) × Keeps (size_at size es 1) (size ty)
 NodeFits size Cond ty es = Keeps (size_at size es 1) (size ty) × Keeps (size_at size es 2) (size ty)
 NodeFits size Comma ty es = Keeps (last_size size es) (size ty)
-NodeFits size (Call discarded) ty es = Keeps (result_size size (target (first_type es))) (size ty)
+NodeFits size (Call discarded) ty es =
+    Keeps (result_size size (target (first_type es))) (size ty) × ArgumentsFit size (target (first_type es)) (behind_first es)
 NodeFits size h ty es = Unit {0}
 
 abbrev mutual

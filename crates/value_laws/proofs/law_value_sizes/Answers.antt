@@ -1,5 +1,6 @@
 use Rattle.value_laws.proofs.Scripts.{library_plain}
 use Rattle.value_laws.proofs.Stores.{values_have_sizes, wholes_are_stored}
+use Rattle.value_laws.proofs.Arguments.{comes_waits}
 use Rattle.value_laws.proofs.law_value_sizes.Goals as goal
 
 pub returns : goal.returns
