@@ -47,7 +47,7 @@ use Rattle.value_laws.proofs.Picks.{EventIs, event_gives}
 use Rattle.value_laws.proofs.Orders.{StateFits, OutcomeFits, step_fits, start_fits}
 
 module _ (size : Sizes) where
-  none_taken : (params : Params) → AreTaken size params []
+  pub none_taken : (params : Params) → AreTaken size params []
   none_taken types.none = tt
   none_taken (types.more constant ty params) = tt
 

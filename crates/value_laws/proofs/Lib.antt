@@ -7,3 +7,4 @@ pub mod Picks
 pub mod Orders
 pub mod Stores
 pub mod Arguments
+mod ParameterStores

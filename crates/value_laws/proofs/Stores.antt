@@ -37,15 +37,15 @@ use Rattle.value_laws.proofs.Frames.{BegunFits, FrameFits, HeldFit, lowest, wait
 use Rattle.value_laws.proofs.Orders.{StateFits, comes_fits}
 
 -- each touch that a script can make is so, and what it gives
-abbrev Makes : {V : Type 0} → (Item → Type 0) → (V → Type 0) → Script V → Type 0
+abbrev pub Makes : {V : Type 0} → (Item → Type 0) → (V → Type 0) → Script V → Type 0
 Makes P Q (Give v) = Q v
 Makes P Q (Do t k) = P (item_of t) × ((r : Answer t) → Makes P Q (k r))
 Makes P Q x = Unit {0}
 
-abbrev Anything : {V : Type 0} → V → Type 0
+abbrev pub Anything : {V : Type 0} → V → Type 0
 Anything v = Unit {0}
 
-bind : {A B : Type 0} → (P : Item → Type 0) (Q : A → Type 0) (R : B → Type 0) (x : Script A) (k : A → Script B) → Makes P Q x
+pub bind : {A B : Type 0} → (P : Item → Type 0) (Q : A → Type 0) (R : B → Type 0) (x : Script A) (k : A → Script B) → Makes P Q x
     → ((v : A) → Q v → Makes P R (k v)) → Makes P R (x >>= k)
 bind P Q R (Give v) k h g = g v h
 bind P Q R (Raise c) k h g = tt
@@ -54,20 +54,20 @@ bind P Q R (Exceed c n) k h g = tt
 bind P Q R Misplace k h g = tt
 bind P Q R (Do t f) k (h, hf) g = (h, λ r. bind P Q R (f r) k (hf r) g)
 
-need : {V : Type 0} → (P : Item → Type 0) (Q : V → Type 0) (b : Bool) (c : Clause) (t : Script V) → (b ≡ true → Makes P Q t) → Makes P Q (require b c >> t)
+pub need : {V : Type 0} → (P : Item → Type 0) (Q : V → Type 0) (b : Bool) (c : Clause) (t : Script V) → (b ≡ true → Makes P Q t) → Makes P Q (require b c >> t)
 need P Q true c t h = h refl
 need P Q false c t h = tt
 
-needs : (P : Item → Type 0) (b : Bool) (c : Clause) → Makes P Anything (require b c)
+pub needs : (P : Item → Type 0) (b : Bool) (c : Clause) → Makes P Anything (require b c)
 needs P true c = tt
 needs P false c = tt
 
-when : {V : Type 0} → (P : Item → Type 0) (Q : V → Type 0) (b : Bool) (x y : Script V) → Makes P Q x → Makes P Q y → Makes P Q (if b then x else y)
+pub when : {V : Type 0} → (P : Item → Type 0) (Q : V → Type 0) (b : Bool) (x y : Script V) → Makes P Q x → Makes P Q y → Makes P Q (if b then x else y)
 when P Q true x y h k = h
 when P Q false x y h k = k
 
 -- so are the items of what was done
-abbrev Made : {V : Type 0} → (Item → Type 0) → Act V → Type 0
+abbrev pub Made : {V : Type 0} → (Item → Type 0) → Act V → Type 0
 Made P (Done v is s) = Each P is
 Made P a = Unit {0}
 
@@ -91,7 +91,7 @@ module _ {V : Type 0} (rows : List Row) (P : Item → Type 0) (Q : V → Type 0)
   refused_made Take = tt
   refused_made (Print to bs) = tt
 
-  run_made : (x : Script V) (s : Store) → Makes P Q x → Made P (run rows x s)
+  pub run_made : (x : Script V) (s : Store) → Makes P Q x → Made P (run rows x s)
   run_made (Give v) s h = tt
   run_made (Raise c) s h = tt
   run_made (Finish n) s h = tt
@@ -104,7 +104,7 @@ module _ {V : Type 0} (rows : List Row) (P : Item → Type 0) (Q : V → Type 0)
       go true r = refused_made t
       go false r = touched_made (item_of t) _ h r
 
-stored_length : (form : Option Form) (via : Seen) (i : ℕ) (bs : List TaggedByte) → length (stored_from form via i bs) ≡ length bs
+pub stored_length : (form : Option Form) (via : Seen) (i : ℕ) (bs : List TaggedByte) → length (stored_from form via i bs) ≡ length bs
 stored_length None via i [] = refl
 stored_length (Some form) via i [] = refl
 stored_length None via i (b ∷ bs) = ap suc (stored_length None via (suc i) bs)

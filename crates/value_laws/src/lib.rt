@@ -4,10 +4,12 @@
 #![tactic(auto)]
 
 ghost use Rattle.value_laws.specs.Wholes.{ValuesHaveSizes, WholesAreStored, LibraryGivesPlain};
+ghost use Rattle.value_laws.specs.Parameters.{ParametersAreStored};
 
 /// In every order of a program that keeps the sizes of its types (6.5.16.1p2, 6.5.2.2, 6.8.6.4p3).
 pub fn law_value_sizes()
     ensures values { ValuesHaveSizes }
     ensures stores { WholesAreStored }
+    ensures parameters { ParametersAreStored }
     ensures library { LibraryGivesPlain }
 {}
