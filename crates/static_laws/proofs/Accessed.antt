@@ -1,6 +1,6 @@
 -- The accesses of a full expression are those of its nodes, and the events of the model's expression that can touch anything.
-use Rattle.std.proofs.Common.{◌≡◌, ℕ, zero, suc, ◌+◌, ◌-◌, ◌<◌, ◌≤◌, min, Bool, true, false, not, ◌&&◌, ◌||◌, nat_lt, if◌then◌else◌, List, [], ◌∷◌, ◌++◌, map, length, slice_get}
-use Rattle.std.proofs.Common.{Option, Some, None, is_some, refl, sym, ap, ap₂, ◌∙◌, subst, ◌⊎◌, inl, inr, arith, true≢false}
+use Rattle.std.proofs.Common.{◌≡◌, ℕ, zero, suc, ◌+◌, ◌-◌, ◌<◌, ◌≤◌, Bool, true, false, not, ◌&&◌, ◌||◌, nat_lt, if◌then◌else◌, List, [], ◌∷◌, ◌++◌, map, length, slice_get}
+use Rattle.std.proofs.Common.{Option, Some, None, refl, sym, ap, ◌∙◌, subst, ◌⊎◌, inl, inr, arith, true≢false}
 use Rattle.std.proofs.lemmas.Bool.Decides.{nat_tests}
 use Rattle.std.specs.Prelude.{◌^◌, ℤ, unsigned_abs, ◌==◌}
 use Rattle.ub_base.specs.declared.clause.Kind.{Kind}
@@ -22,7 +22,6 @@ use Rattle.c_typed.specs.declared.tree.Node.TheOpen.{Node-F}
 use Rattle.c_typed.specs.declared.tree.Typed.{Typed, out-Typed}
 use Rattle.c_typed.specs.declared.program.Program.{Program}
 use Rattle.c_typed.specs.Tree.{tree_of, trees_of, size, sizes}
-use Rattle.c_typed.specs.Order.{place}
 use Rattle.mem_spec.specs.Agreement.{bytes_of_kind}
 use Rattle.c_model.specs.Program as model
 use Rattle.c_model.specs.Program.{Head, Expr, expr, Exprs}
@@ -42,11 +41,11 @@ use Rattle.static_laws.specs.Apart.{is_whole, stores_whole_by, stores_whole_at, 
 use Rattle.static_laws.specs.Low.{is_low, all_low}
 use Rattle.static_laws.specs.NeverRaces.{IsAmong}
 use Rattle.static_laws.proofs.Reach.{Site, Reach, reach, reach_by, store_limit}
-use Rattle.static_laws.proofs.Sites.{first_site, site_of}
+use Rattle.static_laws.proofs.Sites.{first_site}
 use Rattle.static_laws.proofs.Frames.{list_name, reach_at}
-use Rattle.static_laws.proofs.Seen.{node_in, operands_in, own_type, head_in, expr_at, size_at, by_size}
+use Rattle.static_laws.proofs.Seen.{node_in, operands_in, own_type, head_in, expr_at, by_size}
 use Rattle.static_laws.proofs.Numbered.{seen, get_left, get_right, nodes_length, node_there}
-use Rattle.static_laws.proofs.Places.{site_in, SiteOf, site_is}
+use Rattle.static_laws.proofs.Places.{site_in, site_is}
 
 -- lists
 pub there : (xs : List Typed) (i : ℕ) (t : Typed) → slice_get xs i ≡ Some t → i < length xs

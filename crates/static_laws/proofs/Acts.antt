@@ -1,10 +1,10 @@
 -- The accesses of an event's act lie in its reach.
-use Rattle.std.proofs.Common.{◌≡◌, ℕ, zero, suc, ◌+◌, ◌-◌, ◌*◌, ◌/◌, ◌<◌, ◌≤◌, Bool, true, false, not, ◌&&◌, ◌||◌, if◌then◌else◌, List, [], ◌∷◌, length, Option}
-use Rattle.std.proofs.Common.{Some, None, is_some, refl, sym, ap, ◌∙◌, subst, ◌⊎◌, inl, inr, arith}
+use Rattle.std.proofs.Common.{◌≡◌, ℕ, zero, suc, ◌+◌, ◌-◌, ◌/◌, ◌≤◌, Bool, true, false, not, ◌&&◌, ◌||◌, if◌then◌else◌, List, [], ◌∷◌, length, Option}
+use Rattle.std.proofs.Common.{Some, None, is_some, refl, sym, ap, subst, inl, inr, arith}
 use Rattle.std.proofs.lemmas.Bool.Decides.{nat_tests}
 use Rattle.std.specs.Prelude.{◌==◌, ◌^◌, nat_le, ℤ, pos, ◌+ℤ◌, ◌-ℤ◌, unsigned_abs, Result, Ok, Err}
 use Rattle.ub_base.specs.declared.clause.Kind.{Kind}
-use Rattle.ub_base.specs.declared.clause.Kind.TheVariants.{Val, Eff, Body}
+use Rattle.ub_base.specs.declared.clause.Kind.TheVariants.{Val, Eff}
 use Rattle.ub_base.specs.declared.clause.Clause.{Clause}
 use Rattle.ub_base.specs.declared.clause.Clause.TheVariants.{InvalidPointer, OutOfBounds, DeadObject, EffectiveType, OverlappingAssignment, Indeterminate}
 use Rattle.ub_base.specs.declared.clause.Clause.TheVariants.{TrapRepresentation, PointerAlignment, PointerDifference, PointerComparison, StoreToLiteral}
@@ -34,9 +34,9 @@ use Rattle.c_typed.specs.declared.tree.UnOp.TheVariants as unary
 use Rattle.c_typed.specs.declared.tree.RelOp.{RelOp}
 use Rattle.mem_spec.specs.Store.{TaggedByte, Life, is_live}
 use Rattle.mem_spec.specs.Agreement.{bytes_of_kind}
-use Rattle.mem_spec.specs.Script.{Ask, Get, Put, Show, Find, Settle, Script, Give, Raise, ◌>>=◌, ◌>>◌, require, touch}
+use Rattle.mem_spec.specs.Script.{Ask, Get, Put, Find, Settle, Script, Give, Raise, ◌>>=◌, ◌>>◌, require, touch}
 use Rattle.mem_spec.specs.Acts.{Accessed, Seen, scalar, whole, bytes, in_row, offset_in, is_aligned, declared_of, is_literal, is_constant, suits_load}
-use Rattle.mem_spec.specs.Acts.{suits_store, stored_from, check_writable, object_of, in_bounds, access as access_act, store, shift, base_in, tag_left}
+use Rattle.mem_spec.specs.Acts.{suits_store, stored_from, check_writable, object_of, in_bounds, access as access_act, store, shift, base_in}
 use Rattle.mem_spec.specs.Acts.{settle_by, all_written, show_each, show_pieces, origins_in, value_of, is_trap, number_of, load_int, load_func, load_ptr}
 use Rattle.mem_spec.specs.Acts.{load_block, from_int, some_live, target_lives, candidates, pointer_or_number, pointer_in, retagged, settle_to}
 use Rattle.mem_spec.specs.Acts.{settle_common, in_common, less, diff, is_multiple, expose}
@@ -51,7 +51,7 @@ use Rattle.c_model.specs.Nodes.{relational, distance, shifted, difference, is_em
 use Rattle.c_model.specs.Nodes.{changed, check_change, change_access, given_back, update_value, new_value, call_value, content_bytes, fill, act_of}
 use Rattle.value_laws.specs.Sizes.{HasBytes}
 use Rattle.static_laws.proofs.Scripts.{Post, Anything, NoAccess, bind, go_on, weaken, post_map, need, needs, when}
-use Rattle.static_laws.proofs.Reach.{Site, Reach, reach, Until, AtSite, Touches, InReach, pointer_at, Points, FoundAt, Found, store_limit, reach_by}
+use Rattle.static_laws.proofs.Reach.{Site, Reach, reach, Until, AtSite, Touches, InReach, Points, Found, store_limit, reach_by}
 
 abbrev pub Quiet : {V : Type 0} → Script V → Type 0
 Quiet x = Post NoAccess Anything x

@@ -1,9 +1,8 @@
 -- Case by case, two events of a full expression whose accesses are apart don't race.
 use Rattle.std.proofs.Common.{◌≡◌, ℕ, zero, suc, ◌+◌, ◌-◌, ◌<◌, ◌≤◌, min, max, Bool, true, false, not, ◌&&◌, ◌||◌, nat_lt, if◌then◌else◌, List, [], ◌∷◌, length, slice_get}
-use Rattle.std.proofs.Common.{Option, Some, None, is_some, refl, sym, ap, ap₂, ◌∙◌, subst, ◌⊎◌, inl, inr, arith, true≢false}
+use Rattle.std.proofs.Common.{Option, Some, None, is_some, refl, sym, ap, ◌∙◌, subst, ◌⊎◌, inl, inr, arith, true≢false}
 use Rattle.std.proofs.lemmas.Bool.Decides.{nat_tests}
-use Rattle.std.specs.Prelude.{◌^◌, ◌==◌, nat_le, unsigned_abs}
-use Rattle.ub_base.specs.declared.clause.Kind.TheVariants.{Val}
+use Rattle.std.specs.Prelude.{◌^◌, ◌==◌, nat_le}
 use Rattle.ub_base.specs.declared.names.Frame.{Frame}
 use Rattle.ub_base.specs.declared.names.Item.{Item}
 use Rattle.ub_base.specs.declared.names.Item.TheVariants.{Read, Write, Born, Dies, Alive, Expose, Lookup, Narrow, Input, Output, Ending, Any}
@@ -26,13 +25,13 @@ use Rattle.c_typed.specs.declared.tree.Typed.{Typed, out-Typed}
 use Rattle.c_typed.specs.declared.program.Program.{Program}
 use Rattle.c_typed.specs.Tree as plain
 use Rattle.c_typed.specs.Tree.{size, sizes, trees_of}
-use Rattle.c_typed.specs.Order.{Taken, Before, IsApart, goes, is_choice}
+use Rattle.c_typed.specs.Order.{Taken, IsApart, goes, is_choice}
 use Rattle.c_typed.specs.Decide.{due_in, is_before}
 use Rattle.c_model.specs.Program as model
 use Rattle.c_model.specs.Program.{Head, And, Or, Cond, Expr, expr, Exprs, none, more, tree_of, head_class}
 use Rattle.c_model.specs.World.{World}
 use Rattle.c_model.specs.Steps.{Scene, Begun, taken_by, at_node, name_of, turn_of}
-use Rattle.c_model.specs.ChoiceLaws.{IsNext, IsReached}
+use Rattle.c_model.specs.ChoiceLaws.{IsReached}
 use Rattle.c_model.proofs.Ranks.{and_l, and_r, or_cases, eq_eq, lt_lt, ge_lt}
 use Rattle.c_model.proofs.Decided.{and_b}
 use Rattle.static_places.specs.declared.places.FixedBase.{FixedBase}
@@ -42,23 +41,23 @@ use Rattle.static_places.specs.Fixed.{Spot}
 use Rattle.static_places.specs.Private.{same_slot}
 use Rattle.static_seq.specs.declared.accesses.MemoryAccess.{MemoryAccess}
 use Rattle.static_seq.specs.Accesses.{next}
-use Rattle.static_seq.specs.Choices.{count, count_in, operand_count, is_in_last, is_in_second, node_of, spared_by, spared_at, spared_where, spared_of, parts_at}
+use Rattle.static_seq.specs.Choices.{count, count_in, operand_count, is_in_last, is_in_second, node_of, spared_by, spared_where, spared_of, parts_at}
 use Rattle.static_seq.specs.Choices.{in_branches}
-use Rattle.static_seq.specs.Parted.{both_read, sequenced, branched, same_base, are_distant, distant, accesses}
-use Rattle.static_laws.specs.Trees.{is_pointer, expr_of, exprs_of}
+use Rattle.static_seq.specs.Parted.{both_read, sequenced, same_base, are_distant, distant, accesses}
+use Rattle.static_laws.specs.Trees.{expr_of, exprs_of}
 use Rattle.static_laws.specs.Apart.{other_bases, other_objects, stores_whole, other_bytes, has_branches_by, all_branch}
 use Rattle.static_laws.specs.Low.{all_low}
 use Rattle.static_laws.specs.NeverRaces.{AreRows, IsAmong}
-use Rattle.static_laws.proofs.Reach.{Site, Reach, Until, AtSite, Touches, InReach}
+use Rattle.static_laws.proofs.Reach.{Reach, Until, AtSite, Touches, InReach}
 use Rattle.static_laws.proofs.Frames.{Falls, one_turn, reach_at, Knows}
-use Rattle.static_laws.proofs.Races.{Clash, RaceAt}
+use Rattle.static_laws.proofs.Races.{RaceAt}
 use Rattle.static_laws.proofs.Seen.{node_in, operands_in, own_type, head_in, expr_at, size_at, same_tree}
 use Rattle.static_laws.proofs.Inside.{fits, due_inside, pass, take_it, goes_is}
-use Rattle.static_laws.proofs.Ordered.{Later, FactsIn}
+use Rattle.static_laws.proofs.Ordered.{Later}
 use Rattle.static_laws.proofs.Completed.{completed, filled, or_filled, ordered_now}
 use Rattle.static_laws.proofs.Numbered.{seen, nodes_length, node_there}
 use Rattle.static_laws.proofs.Places.{base_name, site_in}
-use Rattle.static_laws.proofs.Accessed.{there, Linked, linked}
+use Rattle.static_laws.proofs.Accessed.{Linked, linked}
 
 -- where an access lies
 pub data Lies : Item → Bool → ObjName → ℕ → ℕ → Type 0 where
@@ -554,9 +553,9 @@ module _ (world : World) (f : Scene) (b : Begun) (root : Typed) (is : b.root ≡
           fact_by n t (node_in t) (operands_in t) h ty line a es (omega (arith, fit, few)) e same refl hs.0 hs.1
           (subst (λ o. is_some (spared_where o n u v) ≡ true) q s)
 
-pub sequenced_apart : (world : World) (f : Scene) (b : Begun) (root : Typed) → b.root ≡ expr_of root → size (plain.tree_of root) < 2 ^ 32 → (z w : Place)
-    → Pair world f b root z w → (x y : MemoryAccess) → x.at.place ≡ z → y.at.place ≡ w → sequenced root x y ≡ true → ⊥
-sequenced_apart world f b root is few z w pair x y ez ew h = elim (or_cases (is_before taken 0 (plain.tree_of root) x.at.place y.at.place) _ h) [
+pub sequenced_apart : (world : World) (sized : Bool) (f : Scene) (b : Begun) (root : Typed) → b.root ≡ expr_of root → size (plain.tree_of root) < 2 ^ 32 → (z w : Place)
+    → Pair world sized f b root z w → (x y : MemoryAccess) → x.at.place ≡ z → y.at.place ≡ w → sequenced root x y ≡ true → ⊥
+sequenced_apart world sized f b root is few z w pair x y ez ew h = elim (or_cases (is_before taken 0 (plain.tree_of root) x.at.place y.at.place) _ h) [
   | inl k ↦ pair.apart.not_before
       (ordered_now world f b z w pair.reached_first.due pair.reached_second taken (facts world f b root is few u v z w (inl (nz, nw)))
       (subst (λ q. is_before taken 0 q z w ≡ true) tree (subst (λ q. is_before taken 0 (plain.tree_of root) z q ≡ true) ew

@@ -1,10 +1,9 @@
 -- Each pick keeps what its state keeps, and an event's items lie in its reach.
-use Rattle.std.proofs.Common.{◌≡◌, ℕ, suc, ◌+◌, ◌<◌, ◌≤◌, Bool, true, false, not, ◌&&◌, ◌||◌, if◌then◌else◌, true≢false, List, [], ◌∷◌, length}
-use Rattle.std.proofs.Common.{Option, Some, None, is_some, refl, sym, ap, ◌∙◌, subst, ◌⊎◌, inl, inr, arith}
+use Rattle.std.proofs.Common.{◌≡◌, ℕ, suc, Bool, true, false, ◌&&◌, if◌then◌else◌, true≢false, List, [], ◌∷◌}
+use Rattle.std.proofs.Common.{Option, Some, None, is_some, refl, sym, ap, ◌∙◌, subst, arith}
 use Rattle.std.specs.Prelude.{is_none}
 use Rattle.ub_base.specs.declared.clause.Kind.{Kind}
 use Rattle.ub_base.specs.declared.clause.Kind.TheVariants.{Val, Eff, Body}
-use Rattle.ub_base.specs.declared.clause.Clause.{Clause}
 use Rattle.ub_base.specs.declared.clause.Cause.{Cause}
 use Rattle.ub_base.specs.declared.names.Event.{Event}
 use Rattle.ub_base.specs.declared.names.Item.{Item}
@@ -18,20 +17,19 @@ use Rattle.c_typed.specs.declared.tree.Access.TheVariants as access
 use Rattle.c_typed.specs.declared.tree.Slot.{Slot}
 use Rattle.c_typed.specs.Tree.{is_quiet}
 use Rattle.c_typed.specs.Order.{place, is_body, IsPermitted}
-use Rattle.exposure.specs.declared.prov.Prov.TheVariants as prov
 use Rattle.mem_spec.specs.Store.{Store}
-use Rattle.mem_spec.specs.Script.{Script, Act, Done, Raised, Ended, Outside, Unplaced, run}
+use Rattle.mem_spec.specs.Script.{Act, Done, Raised, Ended, Outside, Unplaced, run}
 use Rattle.c_model.specs.Program.{Head, Assign, Listed, Call, Isolated, Filling, Expr, expr, Exprs, tree_of, Stmt, Function}
-use Rattle.c_model.specs.Values.{Value, Nothing, value_at, later_values, pointer_of, or_nothing}
+use Rattle.c_model.specs.Values.{Value, value_at, later_values, or_nothing}
 use Rattle.c_model.specs.World.{World, Limits}
 use Rattle.c_model.specs.Nodes.{act_of}
 use Rattle.c_model.specs.Moves.{Move, Stay, Start, End}
-use Rattle.c_model.specs.Control.{Todo, Begin, Unused, To_do, ready_work}
-use Rattle.c_model.specs.Steps.{Scene, Local, Begun, Pick, Control, Ev, MayPick, with_given, taken_by, at_node, name_of, pointer_to, event_of, event_act}
+use Rattle.c_model.specs.Control.{ready_work}
+use Rattle.c_model.specs.Steps.{Scene, Local, Begun, Pick, Control, Ev, MayPick, taken_by, at_node, name_of, pointer_to, event_of, event_act}
 use Rattle.c_model.specs.Steps.{call_act, operand_values, values_of, own_kind, first_type, target, own_body, body_frame, start_call, started, called_by, move_of}
 use Rattle.c_model.specs.Steps.{does, move, next, control_move, control_next, settled, root_value, ends_with}
 use Rattle.c_model.specs.Runs.{Entry, State, Outcome, Refused, Raises, Over, No_row, Ends, Running, entry_of, back, moved, acted, step, within, limited}
-use Rattle.c_model.specs.Runs.{limit_passed, depth_of, enter_passes, without_row, is_running}
+use Rattle.c_model.specs.Runs.{limit_passed, depth_of, enter_passes, without_row}
 use Rattle.c_model.specs.Findings.{is_under}
 use Rattle.c_model.specs.ChoiceLaws.{IsNext}
 use Rattle.c_model.proofs.Ranks.{if_false}
@@ -41,12 +39,12 @@ use Rattle.value_laws.specs.Sizes.{Sizes, HasSize, size_at, StoreFits, NodeFits,
 use Rattle.value_laws.proofs.Nodes.{node_fits}
 use Rattle.value_laws.proofs.Frames.{operands}
 use Rattle.value_laws.proofs.Orders.{StateFits}
-use Rattle.static_laws.proofs.Scripts.{Post, Anything, Each, ActOk, run_ok}
-use Rattle.static_laws.proofs.Reach.{Site, Reach, reach_by, InReach}
-use Rattle.static_laws.proofs.Acts.{AreLow, Within, StoredFits, StoresFit, act_within, quiet_in}
+use Rattle.static_laws.proofs.Scripts.{Post, Anything, ActOk, run_ok}
+use Rattle.static_laws.proofs.Reach.{Site, reach_by, InReach}
+use Rattle.static_laws.proofs.Acts.{AreLow, StoredFits, StoresFit, act_within, quiet_in}
 use Rattle.static_laws.proofs.Sites.{first_site, site_of, FixedIn, points, gives_site, at}
 use Rattle.static_laws.proofs.Paths.{under_refl}
-use Rattle.static_laws.proofs.Frames.{Falls, Scoped, of_function, of_initializer, scoped_falls, list_name, reach_at, Knows, Told, Sound, SoundIn, Kept, HeldFrame, HeldOk}
+use Rattle.static_laws.proofs.Frames.{Scoped, of_function, of_initializer, scoped_falls, list_name, reach_at, Knows, Told, Kept, HeldOk}
 use Rattle.static_laws.proofs.Frames.{Moved, control_moves, scoped_next, scoped_settled, kept_control, with_value, kept_event, kept_waits, IsNew, kept_new}
 use Rattle.static_laws.proofs.Frames.{kept_back, held_next, sound_at, IsAtSite}
 

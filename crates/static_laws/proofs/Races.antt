@@ -1,41 +1,36 @@
 -- A race of an order, at the pick of its newer event.
-use Rattle.std.proofs.Common.{◌≡◌, ℕ, suc, ◌+◌, ◌<◌, ◌≤◌, Bool, true, false, not, ◌&&◌, ◌||◌, if◌then◌else◌, true≢false, List, [], ◌∷◌, ◌++◌, length}
-use Rattle.std.proofs.Common.{map, Option, Some, None, is_some, refl, sym, ap, ◌∙◌, subst, ◌⊎◌, inl, inr, arith}
+use Rattle.std.proofs.Common.{◌≡◌, ℕ, ◌+◌, ◌<◌, ◌≤◌, Bool, true, false, ◌||◌, if◌then◌else◌, List, [], ◌∷◌, ◌++◌, length}
+use Rattle.std.proofs.Common.{map, Option, Some, None, is_some, refl, sym, ap, subst, ◌⊎◌, inl, inr, arith}
 use Rattle.std.proofs.lemmas.Bool.Decides.{nat_tests}
 use Rattle.std.specs.Prelude.{◌^◌, ◌%◌, ◌==◌, nat_lt, nat_le}
 use Rattle.std.specs.List.{list_all}
 use Rattle.ub_base.specs.declared.clause.Cause.{Cause}
 use Rattle.ub_base.specs.declared.names.Item.{Item}
-use Rattle.ub_base.specs.declared.names.ObjName.{ObjName}
 use Rattle.ub_base.specs.Names.{same_object}
 use Rattle.addr_map.specs.declared.map.Row.{Row}
-use Rattle.addr_map.specs.Rows.{is_lawful, is_power, row_of, first_row}
+use Rattle.addr_map.specs.Rows.{is_lawful, is_power, first_row}
 use Rattle.addr_map.specs.Conflict.{items_conflict, stands_at, is_access, conflicts_with, some_conflict}
 use Rattle.c_typed.specs.declared.tree.Place.{Place}
-use Rattle.c_typed.specs.declared.tree.Typed.{Typed}
-use Rattle.c_typed.specs.declared.program.Program.{Program}
 use Rattle.c_typed.specs.Order.{is_body, IsApart}
 use Rattle.mem_spec.specs.Store.{Store}
 use Rattle.mem_spec.specs.Script.{Act, Done, Raised, Ended, Outside, Unplaced, run}
-use Rattle.c_model.specs.Program.{Standing, tree_of}
+use Rattle.c_model.specs.Program.{tree_of}
 use Rattle.c_model.specs.Values.{Value}
 use Rattle.c_model.specs.World.{World, Limits}
 use Rattle.c_model.specs.Moves.{Move, Stay, Start, End}
-use Rattle.c_model.specs.Steps.{Scene, Local, Begun, Pick, Control, Ev, MayPick, taken_by, at_node, event_act, does, move}
-use Rattle.c_model.specs.Runs.{Entry, State, Outcome, Refused, Raises, Over, No_row, Ends, Running, trace_of, is_running, entry_of, place_of, begun_of, back}
-use Rattle.c_model.specs.Runs.{moved, acted, step, within, limited, limit_passed, depth_of, enter_passes, without_row, After, here, refused, last, more, too_late}
+use Rattle.c_model.specs.Steps.{Scene, Local, Begun, Pick, Control, Ev, MayPick, taken_by, at_node, does, move}
+use Rattle.c_model.specs.Runs.{Entry, State, Outcome, Refused, Raises, Over, No_row, Ends, Running, trace_of, entry_of, begun_of, back}
+use Rattle.c_model.specs.Runs.{moved, acted, step, within, limited, limit_passed, depth_of, enter_passes, After, here, refused, last, more, too_late}
 use Rattle.c_model.specs.Runs.{start, started_run, stand, nothing_stands, main_frame, too_many, created_after}
-use Rattle.c_model.specs.Findings.{accesses, AreApart, Has, Both, newest, older, first, later, Race}
-use Rattle.c_model.specs.Claims.{ComesTo, starts, stops, refuses}
-use Rattle.c_model.specs.ChoiceLaws.{IsNext, IsClosed}
+use Rattle.c_model.specs.Findings.{accesses, AreApart, Has, Both, newest, older, first, later}
+use Rattle.c_model.specs.ChoiceLaws.{IsNext}
 use Rattle.c_model.proofs.Ranks.{or_cases, and_l, and_r}
 use Rattle.value_laws.proofs.Orders.{OutcomeFits, step_fits, start_fits}
-use Rattle.static_laws.specs.Trees.{expr_of}
 use Rattle.static_laws.proofs.Scripts.{Anything, Each, ActOk}
 use Rattle.static_laws.proofs.Reach.{InReach}
 use Rattle.static_laws.proofs.Acts.{AreLow}
 use Rattle.static_laws.proofs.Paths.{path_is, both_cases, IsNewest}
-use Rattle.static_laws.proofs.Frames.{Falls, of_function, scoped_falls, reach_at, Knows, Told, Sound, Kept, HeldOk, sound_at}
+use Rattle.static_laws.proofs.Frames.{Falls, of_function, scoped_falls, reach_at, Knows, Told, Sound, Kept, sound_at}
 use Rattle.static_laws.proofs.Picks.{event_in, next_is, Inv, OutcomeOk, Sized, stores_in, step_ok}
 
 -- two accesses that conflict, of two lists

@@ -1,20 +1,16 @@
 -- From the race at its pick to the traces of orders, and the cases together.
-use Rattle.std.proofs.Common.{◌≡◌, ℕ, ◌+◌, ◌<◌, ◌≤◌, Bool, true, false, not, ◌&&◌, ◌||◌, List, [], ◌∷◌, ◌++◌, length, Option, Some, None, is_some, refl, sym, ap, ◌∙◌, subst}
+use Rattle.std.proofs.Common.{◌≡◌, ℕ, Bool, true, false, ◌||◌, List, [], ◌∷◌, length, Option, None, is_some, refl, sym, ap, ◌∙◌, subst}
 use Rattle.std.proofs.Common.{◌⊎◌, inl, inr, arith, true≢false}
-use Rattle.std.specs.Prelude.{◌^◌}
-use Rattle.addr_map.specs.Conflict.{is_access}
 use Rattle.c_typed.specs.declared.tree.Place.{Place}
 use Rattle.c_typed.specs.declared.tree.Typed.{Typed}
 use Rattle.c_typed.specs.declared.program.Program.{Program}
-use Rattle.c_typed.specs.Tree as plain
-use Rattle.c_typed.specs.Order.{Before}
 use Rattle.c_typed.specs.Decide.{due_in}
 use Rattle.c_model.specs.Program.{tree_of}
 use Rattle.c_model.specs.Values.{Value}
 use Rattle.c_model.specs.World.{World}
-use Rattle.c_model.specs.Steps.{Scene, Begun, Pick, Ev, at_node, taken_by}
-use Rattle.c_model.specs.Runs.{Entry, State, Outcome, Refused, Running, trace_of, is_running, start, After}
-use Rattle.c_model.specs.Findings.{Both, Race}
+use Rattle.c_model.specs.Steps.{Scene, Begun, Pick, at_node, taken_by}
+use Rattle.c_model.specs.Runs.{Entry, State, Outcome, Running, trace_of, is_running, start, After}
+use Rattle.c_model.specs.Findings.{Race}
 use Rattle.c_model.specs.Claims.{ComesTo, starts, stops, refuses}
 use Rattle.c_model.proofs.Ranks.{and_l, and_r, or_cases}
 use Rattle.static_places.specs.Preorder.{nodes_of}
@@ -27,10 +23,8 @@ use Rattle.static_laws.specs.NeverRaces.{AreRows, PickedIn, IsAmong, AccessesAt,
 use Rattle.static_laws.specs.NeverRaces.{BranchesNeverRace, ObjectsNeverRace, BytesNeverRace, WholesNeverRace, OnlyAccessesRace, NeverRaces}
 use Rattle.static_laws.specs.NeverRaces.{SizedRacesOnlyWithout, SizedNeverRaces}
 use Rattle.static_laws.proofs.Acts.{AreLow}
-use Rattle.static_laws.proofs.Reach.{InReach}
 use Rattle.static_laws.proofs.Frames.{reach_at, Knows}
-use Rattle.static_laws.proofs.Races.{low_rows, RaceAt, Races, Picked, races_from, no_pair, StartOk, start_ok, start_known}
-use Rattle.static_laws.proofs.Seen.{same_tree}
+use Rattle.static_laws.proofs.Races.{low_rows, RaceAt, races_from, no_pair, StartOk, start_ok, start_known}
 use Rattle.static_laws.proofs.Accessed.{access_of}
 use Rattle.static_laws.proofs.Cases.{Pair, pair_of, pair_back, some_reach, both_reads, objects_differ, bytes_differ, branches_apart, sequenced_apart}
 
@@ -129,7 +123,7 @@ module _ (sized : Bool) (world : World) (knows : Knows world sized) (rows : AreR
   no_sequenced : AccessesBy sequenced p function root u v → ⊥
   no_sequenced h =
       either (λ x y. sequenced root x y ≡ true)
-      (λ z w pair x y ix iy ez ew k. sequenced_apart world f b root is usual.count z w pair x y ez ew k) h.two h.holds
+      (λ z w pair x y ix iy ez ew k. sequenced_apart world sized f b root is usual.count z w pair x y ez ew k) h.two h.holds
 
   no_branched : AccessesBy branched p function root u v → ⊥
   no_branched h =

@@ -1,48 +1,35 @@
 -- A frame holds arguments until its body's block is entered, of the sizes of its parameters.
-use Rattle.std.proofs.Common.{◌≡◌, ℕ, zero, suc, ◌+◌, ◌-◌, Bool, true, false, not, ◌&&◌, if◌then◌else◌, true≢false, List, [], ◌∷◌, length, map, Option, Some, None}
-use Rattle.std.proofs.Common.{is_some, refl, sym, ap, ◌∙◌, subst, arith}
-use Rattle.std.specs.Prelude.{slice_get, is_none, ◌==◌}
+use Rattle.std.proofs.Common.{◌≡◌, ℕ, suc, ◌+◌, Bool, true, false, ◌&&◌, if◌then◌else◌, List, [], ◌∷◌, map, Option, Some, None}
+use Rattle.std.proofs.Common.{is_some, refl, sym, ap, ◌∙◌, subst}
+use Rattle.std.specs.Prelude.{slice_get, is_none}
 use Rattle.ub_base.specs.declared.clause.Cause.{Cause}
 use Rattle.ub_base.specs.declared.clause.Kind.TheVariants.{Val}
-use Rattle.ub_base.specs.declared.clause.Clause.TheVariants.{InvalidPointer, OutOfBounds, DeadObject, EffectiveType, OverlappingAssignment}
-use Rattle.ub_base.specs.declared.names.Item.{Item}
-use Rattle.ub_base.specs.declared.names.ObjName.{ObjName}
-use Rattle.addr_map.specs.declared.map.Row.{Row}
-use Rattle.addr_map.specs.Rows.{row_of}
-use Rattle.exposure.specs.declared.prov.Prov.TheVariants as prov
 use Rattle.c_types.specs.Types.{CType, void, int, enumeration, pointer, array, struct, union, function, Params}
 use Rattle.c_types.specs.Types as types
-use Rattle.c_typed.specs.declared.tree.Access.{Access}
-use Rattle.c_typed.specs.declared.tree.Access.TheVariants as access
 use Rattle.c_typed.specs.declared.tree.Place.{Place}
 use Rattle.c_typed.specs.Tree.{size as count}
 use Rattle.c_typed.specs.Order.{place, is_body}
-use Rattle.mem_spec.specs.Store.{TaggedByte, Life, Store, is_live}
-use Rattle.mem_spec.specs.Script.{Put, Ask, Bear, Script, Give, Misplace, Act, Done, Raised, Ended, Outside, Unplaced, run, ◌>>=◌, ◌>>◌, require, touch}
-use Rattle.mem_spec.specs.Acts.{Accessed, Seen, whole, scalar, in_row, offset_in, is_aligned, declared_of, suits_store, stored_from, base_in, has_place, create}
-use Rattle.mem_spec.specs.Acts.{access as access_act, check_writable, store}
+use Rattle.mem_spec.specs.Store.{Store}
+use Rattle.mem_spec.specs.Script.{Act, Done, Raised, Ended, Outside, Unplaced, run}
 use Rattle.c_model.specs.Program.{Head, Call, Isolated, Expr, expr, Exprs, none, more, tree_of, Decl, Stmt, Stmts, Block, Function}
-use Rattle.c_model.specs.Values.{Value, Int, Ptr, Fun, Whole, Missing, Nothing, Pointer, later_values}
+use Rattle.c_model.specs.Values.{Value, Nothing, later_values}
 use Rattle.c_model.specs.World.{World, Limits}
-use Rattle.c_model.specs.Nodes.{put, put_whole, overlap_inexactly}
 use Rattle.c_model.specs.Moves.{Move, Stay, Start, End}
-use Rattle.c_model.specs.Control.{Todo, Work, Begin, Enter, Leave, Unwrite, Nothing_to_do, Go_to, Go_out, Go_on, Go_back, To_do, Rest, Round, Again, Test}
+use Rattle.c_model.specs.Control.{Todo, Begin, Enter, Leave, Unwrite, Nothing_to_do, Go_to, Go_out, Go_on, Go_back, To_do, Rest, Round, Again, Test}
 use Rattle.c_model.specs.Control.{Break_here, ready_work}
-use Rattle.c_model.specs.Steps.{Scene, Local, Begun, Pick, Control, Ev, with_given, at_node, event_act, values_of, first_type, target, own_body, body_frame}
-use Rattle.c_model.specs.Steps.{start_call, started, called_by, move_of, body_of, control_act, control_move, control_next, settled, root_value, bear_all}
-use Rattle.c_model.specs.Steps.{pass_all, auto_name, object_kind, object_at, does, move, next, ends_with}
+use Rattle.c_model.specs.Steps.{Scene, Local, Begun, Pick, Control, Ev, at_node, event_act, values_of, first_type, target, own_body, body_frame}
+use Rattle.c_model.specs.Steps.{start_call, started, called_by, move_of, body_of, control_move, control_next}
+use Rattle.c_model.specs.Steps.{does, move, next, ends_with}
 use Rattle.c_model.specs.Runs.{Entry, State, Outcome, Refused, Raises, Over, No_row, Ends, Running, entry_of, back, moved, acted, step, within, limited}
 use Rattle.c_model.specs.Runs.{limit_passed, depth_of, enter_passes, without_row, After, here, refused, last, more as goes_on, too_late}
 use Rattle.c_model.specs.Runs.{start, started_run, stand, nothing_stands, main_frame, too_many, created_after, work_of}
 use Rattle.c_model.specs.Claims.{ComesTo, starts as from_start, stops as from_stop, refuses as from_refused}
-use Rattle.value_laws.specs.Sizes.{Sizes, HasBytes, HasSize, Keeps, StoreFits, type_of, ArePassed, ArgumentsFit, behind_first, ProgramFits}
-use Rattle.value_laws.specs.Wholes.{ValuesFit, Each}
-use Rattle.value_laws.specs.Parameters.{parameters, AreTaken, AreKept, Passes, ObjectsFit, BodyTakes, FunctionTakes, ProgramTakes, LengthFits, WritesObject}
-use Rattle.value_laws.specs.Parameters.{ParametersAreStored}
+use Rattle.value_laws.specs.Sizes.{Sizes, type_of, ArePassed, ArgumentsFit, behind_first, ProgramFits}
+use Rattle.value_laws.specs.Parameters.{parameters, AreTaken, AreKept, Passes, ObjectsFit, BodyTakes, ProgramTakes}
 use Rattle.value_laws.proofs.Scripts.{Gave, run_gave}
 use Rattle.value_laws.proofs.Acts.{keeps_size}
 use Rattle.value_laws.proofs.Nodes.{node_fits, inside, OperandsFit, value_size, here_fits, later_fit}
-use Rattle.value_laws.proofs.Frames.{function_there, body_there, BegunFits, FrameFits, Linked}
+use Rattle.value_laws.proofs.Frames.{function_there, body_there, BegunFits, Linked}
 use Rattle.value_laws.proofs.Picks.{EventIs, event_gives}
 use Rattle.value_laws.proofs.Orders.{StateFits, OutcomeFits, step_fits, start_fits}
 

@@ -17,7 +17,7 @@ use Rattle.c_model.specs.Nodes.{act_of, last_value}
 use Rattle.c_model.specs.Steps.{Scene, Local, Begun, at_node, name_of, pointer_to, call_act, call_through, call_by}
 use Rattle.c_model.specs.Steps.{library_act, argument_types, operand_values, values_of, first_type, target, function_type, function_of}
 use Rattle.c_model.specs.Steps.{called_by, body_of}
-use Rattle.value_laws.specs.Sizes.{Sizes, HasSize, Keeps, type_of, size_at, last_size, result_size, ExprFits, StatementFits, Gives, IsPlain}
+use Rattle.value_laws.specs.Sizes.{Sizes, HasSize, Keeps, type_of, size_at, last_size, ExprFits, StatementFits, Gives, IsPlain}
 use Rattle.value_laws.specs.Sizes.{ProgramFits}
 use Rattle.value_laws.specs.Wholes.{ValuesFit}
 use Rattle.value_laws.proofs.Scripts.{gives_map, need}

@@ -1,5 +1,5 @@
 -- The writes of the control step that enters a block.
-use Rattle.std.proofs.Common.{◌≡◌, ℕ, zero, suc, ◌+◌, ◌-◌, Bool, true, false, not, if◌then◌else◌, List, [], ◌∷◌, length, Option, Some, None, refl, sym, ap, ◌∙◌, subst, arith}
+use Rattle.std.proofs.Common.{◌≡◌, ℕ, suc, ◌+◌, true, not, List, [], ◌∷◌, length, Option, Some, None, refl, sym, ap, ◌∙◌, subst, arith}
 use Rattle.std.specs.Prelude.{◌==◌, slice_get}
 use Rattle.ub_base.specs.declared.clause.Clause.TheVariants.{InvalidPointer, OutOfBounds, DeadObject, EffectiveType, OverlappingAssignment}
 use Rattle.ub_base.specs.declared.names.Item.{Item}
@@ -12,24 +12,23 @@ use Rattle.c_types.specs.Types.{CType, Params, int}
 use Rattle.c_types.specs.Types as types
 use Rattle.c_typed.specs.declared.tree.Access.{Access}
 use Rattle.c_typed.specs.declared.tree.Access.TheVariants as access
-use Rattle.mem_spec.specs.Store.{TaggedByte, Life, Store, is_live}
+use Rattle.mem_spec.specs.Store.{TaggedByte, Life, is_live}
 use Rattle.mem_spec.specs.Agreement.{bytes_of_kind}
 use Rattle.mem_spec.specs.Bytes.{number_bytes, pointer_bytes}
-use Rattle.mem_spec.specs.Script.{Put, Ask, Bear, Script, Give, Misplace, Done, run, ◌>>=◌, ◌>>◌, require, touch}
+use Rattle.mem_spec.specs.Script.{Put, Ask, Bear, Script, Give, Misplace, ◌>>=◌, ◌>>◌, require, touch}
 use Rattle.mem_spec.specs.Acts.{Accessed, Seen, whole, scalar, in_row, offset_in, is_aligned, declared_of, suits_store, stored_from, base_in, has_place, create}
 use Rattle.mem_spec.specs.Acts.{access as access_act, check_writable, store}
-use Rattle.c_model.specs.Program.{Decl, Block}
+use Rattle.c_model.specs.Program.{Decl}
 use Rattle.c_model.specs.Values.{Value, Int, Ptr, Fun, Whole, Missing, Nothing, Pointer, integer_of, pointer_of, function_in, int_bytes}
 use Rattle.c_model.specs.World.{World}
 use Rattle.c_model.specs.Nodes.{put, put_whole, overlap_inexactly}
-use Rattle.c_model.specs.Control.{Todo, Enter, To_do, ready_work}
+use Rattle.c_model.specs.Control.{Todo, Enter, ready_work}
 use Rattle.c_model.specs.Steps.{Scene, Local, Control, control_act, bear_all, pass_all, auto_name, object_kind, object_at, does}
-use Rattle.c_model.specs.Runs.{State, Running}
-use Rattle.value_laws.specs.Sizes.{Sizes, HasBytes, HasSize, StoreFits, ProgramFits}
-use Rattle.value_laws.specs.Wholes.{Each}
-use Rattle.value_laws.specs.Parameters.{AreTaken, ObjectsFit, ProgramTakes, LengthFits, WritesObject, ParametersAreStored}
+use Rattle.c_model.specs.Runs.{Running}
+use Rattle.value_laws.specs.Sizes.{Sizes, HasBytes, HasSize, StoreFits}
+use Rattle.value_laws.specs.Parameters.{AreTaken, ObjectsFit, LengthFits, WritesObject, ParametersAreStored}
 use Rattle.value_laws.proofs.Stores.{Makes, Anything, Made, bind, need, when, run_made, stored_length}
-use Rattle.value_laws.proofs.Arguments.{none_taken, Waits, passed, waiting, idle, StateWaits, comes_waits}
+use Rattle.value_laws.proofs.Arguments.{Waits, passed, waiting, idle, comes_waits}
 
 at_base : (o : Option Row) → offset_in o (base_in o) ≡ 0
 at_base None = refl

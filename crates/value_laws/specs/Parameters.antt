@@ -1,5 +1,5 @@
 -- In every order the objects of parameters take arguments of their sizes (6.5.2.2p4, 6.9.1p10).
-use Rattle.std.specs.Prelude.{◌≡◌, ℕ, suc, Bool, true, false, List, [], ◌∷◌, Option, Some, None, slice_get}
+use Rattle.std.specs.Prelude.{◌≡◌, ℕ, suc, true, false, List, [], ◌∷◌, Some, None, slice_get}
 use Rattle.ub_base.specs.declared.names.Item.{Item}
 use Rattle.ub_base.specs.declared.names.Item.TheVariants.{Write}
 use Rattle.c_types.specs.Types.{CType, function, Params, none, more}
