@@ -8,3 +8,4 @@ pub mod Orders
 pub mod Stores
 pub mod Arguments
 mod ParameterStores
+mod Samples

@@ -1,3 +1,4 @@
 pub mod Sizes
 pub mod Wholes
 pub mod Parameters
+pub mod Samples

@@ -5,6 +5,7 @@
 
 ghost use Rattle.value_laws.specs.Wholes.{ValuesHaveSizes, WholesAreStored, LibraryGivesPlain};
 ghost use Rattle.value_laws.specs.Parameters.{ParametersAreStored};
+ghost use Rattle.value_laws.specs.Samples.{PairsFit};
 
 /// In every order of a program that keeps the sizes of its types (6.5.16.1p2, 6.5.2.2, 6.8.6.4p3).
 pub fn law_value_sizes()
@@ -12,4 +13,9 @@ pub fn law_value_sizes()
     ensures stores { WholesAreStored }
     ensures parameters { ParametersAreStored }
     ensures library { LibraryGivesPlain }
+{}
+
+/// Programs do keep sizes: one that passes, returns and assigns a structure.
+pub fn law_sizes_are_kept()
+    ensures { PairsFit }
 {}
