@@ -2,3 +2,4 @@ pub mod Sizes
 pub mod Wholes
 pub mod Parameters
 pub mod Samples
+pub mod Layouts

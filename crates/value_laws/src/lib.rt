@@ -4,6 +4,7 @@
 #![tactic(auto)]
 
 ghost use Rattle.value_laws.specs.Wholes.{ValuesHaveSizes, WholesAreStored, LibraryGivesPlain};
+ghost use Rattle.value_laws.specs.Layouts.{CompatibleCallsKeep};
 ghost use Rattle.value_laws.specs.Parameters.{ParametersAreStored};
 ghost use Rattle.value_laws.specs.Samples.{PairsFit};
 
@@ -12,10 +13,12 @@ pub fn law_value_sizes()
     ensures values { ValuesHaveSizes }
     ensures stores { WholesAreStored }
     ensures parameters { ParametersAreStored }
-    ensures library { LibraryGivesPlain }
 {}
 
-/// Programs do keep sizes: one that passes, returns and assigns a structure.
+/// Programs do keep sizes: those by layout are shared by compatible function types (6.5.2.2p9), the library gives no structure or union, and
+/// a sample passes, returns and assigns a structure.
 pub fn law_sizes_are_kept()
-    ensures { PairsFit }
+    ensures calls { CompatibleCallsKeep }
+    ensures library { LibraryGivesPlain }
+    ensures sample { PairsFit }
 {}
