@@ -1,13 +1,10 @@
 -- Compatible types have one size.
-use Rattle.std.proofs.Common.{◌≡◌, ℕ, Bool, true, false, List, Option, Some, None, refl, sym, ap, ◌∙◌, subst, true≢false}
-use Rattle.c_types.specs.declared.kind.IntKind.{IntKind}
-use Rattle.c_types.specs.declared.kind.IntKind.TheVariants.{Int}
+use Rattle.std.proofs.Common.{◌≡◌, true, false, List, refl, sym, ap, subst, true≢false}
 use Rattle.c_types.specs.declared.tags.Tag.{Tag}
-use Rattle.c_types.specs.Types.{CType, void, int, enumeration, pointer, array, struct, union, function, Params, none, more, Compatible, Matches, EachMatches}
-use Rattle.c_types.specs.Layout.{bytes, scalar}
-use Rattle.value_laws.specs.Sizes.{Keeps, result_size}
-use Rattle.value_laws.specs.Parameters.{AreKept, Passes}
-use Rattle.value_laws.specs.Layouts.{size_in, laid_out, IsNoArray, AreNoArrays, IsUsual, CallKeeps, CompatibleCallsKeep}
+use Rattle.c_types.specs.Types.{CType, void, int, enumeration, pointer, array, struct, union, function, Params, none, more, Compatible, EachMatches}
+use Rattle.value_laws.specs.Sizes.{Keeps}
+use Rattle.value_laws.specs.Parameters.{AreKept}
+use Rattle.value_laws.specs.Layouts.{laid_out, IsNoArray, AreNoArrays, IsUsual, CallKeeps}
 use Rattle.value_laws.proofs.Frames.{keeps_itself}
 
 module _ (tags : List Tag) where

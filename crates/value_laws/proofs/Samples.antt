@@ -1,11 +1,10 @@
 -- The sample fits.
-use Rattle.std.proofs.Common.{◌≡◌, ℕ, zero, suc, Bool, true, false, ◌&&◌, ◌==◌, true≢false, List, [], ◌∷◌, Option, Some, None, refl, sym, subst, arith}
-use Rattle.std.proofs.lemmas.Bool.Decides.{nat_tests}
+use Rattle.std.proofs.Common.{◌≡◌, ℕ, zero, suc, true, false, true≢false, List, [], Some, None, refl, sym, subst}
 use Rattle.std.specs.Prelude.{slice_get}
 use Rattle.addr_map.specs.declared.map.Row.{Row}
 use Rattle.c_types.specs.Types.{CType, void, int, enumeration, pointer, array, struct, union, function, Params}
 use Rattle.c_types.specs.Types as types
-use Rattle.c_types.specs.Same.{compatible, matches, each_matches, same_qualifier}
+use Rattle.c_types.specs.Same.{compatible, matches, each_matches}
 use Rattle.c_model.specs.Program.{Assign, expr, more, none, Stmt, Function}
 use Rattle.c_model.specs.Examples.{int_function, int_type}
 use Rattle.c_model.proofs.Ranks.{and_l, and_r}

@@ -1,5 +1,5 @@
 -- The sizes of types by their layout, which compatible types share.
-use Rattle.std.specs.Prelude.{◌≡◌, ℕ, Bool, false, List, Option, Some, None}
+use Rattle.std.specs.Prelude.{ℕ, false, List, Option, Some, None}
 use Rattle.c_types.specs.Types.{CType, array, function, Params, none, more, Compatible}
 use Rattle.c_types.specs.Layout.{extent, extents}
 use Rattle.c_types.specs.declared.tags.Extent.{Extent}

@@ -1,5 +1,5 @@
 -- A program that keeps the sizes of its types: it passes, returns and assigns a structure.
-use Rattle.std.specs.Prelude.{ℕ, false, List, [], ◌∷◌, Option, Some, None}
+use Rattle.std.specs.Prelude.{ℕ, false, List, [], ◌∷◌, Some, None}
 use Rattle.addr_map.specs.declared.map.Row.{Row}
 use Rattle.c_types.specs.Types.{CType, struct, pointer, function}
 use Rattle.c_types.specs.Types as types
@@ -7,7 +7,7 @@ use Rattle.c_types.specs.Same.{compatible}
 use Rattle.c_typed.specs.declared.tree.Access.{Access}
 use Rattle.c_typed.specs.declared.tree.Access.TheVariants as access
 use Rattle.c_typed.specs.declared.tree.Slot.TheVariants as slot
-use Rattle.c_model.specs.Program.{Head, Obj, Func, Load, Assign, Call, Expr, expr, Exprs, none, more, Decl, Stmt, Value, Block, Return, Stmts, Function, Program}
+use Rattle.c_model.specs.Program.{Obj, Func, Load, Assign, Call, Expr, expr, none, more, Decl, Value, Block, Return, Function, Program}
 use Rattle.c_model.specs.World.{World}
 use Rattle.c_model.specs.Examples.{number, statements, defined, program_of, world_of}
 use Rattle.value_laws.specs.Sizes.{Sizes, ProgramFits}
