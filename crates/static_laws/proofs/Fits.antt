@@ -1,7 +1,7 @@
 -- Full expressions that are lawful fit the sizes of their types.
-use Rattle.std.proofs.Common.{◌≡◌, ℕ, zero, suc, ◌+◌, ◌<◌, ◌≤◌, Bool, true, false, ◌&&◌, ◌==◌, if◌then◌else◌, List, [], ◌∷◌, ◌++◌, map, length, Option, Some, None, ℤ}
-use Rattle.std.proofs.Common.{refl, sym, ap, ◌∙◌, subst, ◌⊎◌, inl, inr, arith, true≢false}
-use Rattle.std.specs.Prelude.{unsigned_abs, IsTrue}
+use Rattle.std.proofs.Common.{◌≡◌, ℕ, zero, suc, ◌+◌, ◌<◌, ◌≤◌, Bool, true, false, ◌&&◌, ◌==◌, if◌then◌else◌, List, [], ◌∷◌, ◌++◌, map, length, Option, Some, None}
+use Rattle.std.proofs.Common.{refl, sym, ap, ◌∙◌, subst, inl, inr, arith, true≢false}
+use Rattle.std.specs.Prelude.{unsigned_abs}
 use Rattle.std.specs.List.{All}
 use Rattle.std.proofs.lemmas.List.{length-append}
 use Rattle.std.proofs.lemmas.List.Elements.{All-nil, All-cons, All-head, All-tail}
@@ -18,14 +18,14 @@ use Rattle.c_typed.specs.declared.tree.Node.TheOpen as shape
 use Rattle.c_typed.specs.declared.tree.Node.TheOpen.{Node-F}
 use Rattle.c_typed.specs.declared.tree.Typed.{Typed, out-Typed, fold_out-Typed}
 use Rattle.c_typed.specs.declared.program.Program.{Program}
-use Rattle.c_typed.specs.Sites.{Head, Site, Seen, SeenNode, seen_node, seen_tree, seen, sites, all_sites, type_seen, type_at, head_of, inner_sites, Blocks, Expression, returned, Use}
-use Rattle.c_typed.specs.Lawful.{There, AccessIs, FirstOf, Gives, IsSized, LiesIn, IsTagged, ValueIs, LastIs, Passed, CallTypes, TypesAre, SiteIsLawful, ExpressionIsLawful}
+use Rattle.c_typed.specs.Sites.{Site, Seen, SeenNode, seen_node, seen_tree, seen, sites, all_sites, type_seen, type_at, Blocks}
+use Rattle.c_typed.specs.Lawful.{There, AccessIs, FirstOf, Gives, LiesIn, ValueIs, LastIs, Passed, CallTypes, TypesAre, SiteIsLawful}
 use Rattle.c_typed.specs.Lawful.{UseFits}
 use Rattle.c_model.specs.Program as model
 use Rattle.c_model.specs.Program.{Expr, expr, Exprs, none, more}
 use Rattle.c_model.specs.Steps.{target, first_type}
 use Rattle.value_laws.specs.Sizes.{Sizes, Keeps, IsUpTo, type_of, size_at, last_size, result_size, LoadFits, PartFits, StoreFits, NodeFits, ExprFits, ExprsFit}
-use Rattle.value_laws.specs.Sizes.{InnerFits, ArgumentsFit, ArePassed, behind_first}
+use Rattle.value_laws.specs.Sizes.{InnerFits, ArgumentsFit, ArePassed}
 use Rattle.value_laws.specs.Layouts.{size_in, laid_out}
 use Rattle.value_laws.proofs.Frames.{keeps_itself}
 use Rattle.static_laws.specs.Trees.{is_pointer, expr_of, exprs_of}
