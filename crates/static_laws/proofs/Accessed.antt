@@ -1,5 +1,6 @@
 -- The accesses of a full expression are those of its nodes, and the events of the model's expression that can touch anything.
-use Rattle.std.proofs.Common.{◌≡◌, ℕ, zero, suc, ◌+◌, ◌-◌, ◌<◌, ◌≤◌, Bool, true, false, not, ◌&&◌, ◌||◌, nat_lt, if◌then◌else◌, List, [], ◌∷◌, ◌++◌, map, length, slice_get}
+use Rattle.std.proofs.Common.{◌≡◌, ℕ, zero, suc, ◌+◌, ◌-◌, ◌<◌, ◌≤◌, Bool, true, false, not, ◌&&◌, ◌||◌, nat_lt, if◌then◌else◌, List, [], ◌∷◌, ◌++◌, map}
+use Rattle.std.proofs.Common.{length, slice_get}
 use Rattle.std.proofs.Common.{Option, Some, None, refl, sym, ap, ◌∙◌, subst, ◌⊎◌, inl, inr, arith, true≢false}
 use Rattle.std.proofs.lemmas.Bool.Decides.{nat_tests}
 use Rattle.std.specs.Prelude.{◌^◌, ℤ, unsigned_abs, ◌==◌}
@@ -231,7 +232,8 @@ module _ (p : Program) (function : ℕ) where
 
     abbrev Links : Node-F Node Typed → ℕ → Typed → CType → MemoryAccess → Type 0
     Links d n t ty a =
-        (r : Reach) × (reach_by sized (head_in d ty) (first_site world f (exprs_of (operands_in t))) (list_name world f (head_in d ty)) a.at.place.kind ≡ Some r)
+        (r : Reach) × (reach_by sized (head_in d ty) (first_site world f (exprs_of (operands_in t)))
+        (list_name world f (head_in d ty)) a.at.place.kind ≡ Some r)
         × Link d n a r
 
     list_spot : (slot : Slot) (s : Spot) → ◌≡◌ {A = Option Spot} (Some (base.Slot slot, 0)) (Some s)
@@ -315,9 +317,11 @@ module _ (p : Program) (function : ℕ) where
       -- the reach of the event at a node
       reach_there : (i : ℕ) (t : Typed) (k : Kind) → slice_get (nodes_of root) i ≡ Some t
           → reach_at world sized f k (at_node 0 (expr_of root) i)
-          ≡ reach_by sized (head_in (node_in t) (own_type t)) (first_site world f (exprs_of (operands_in t))) (list_name world f (head_in (node_in t) (own_type t))) k
+          ≡ reach_by sized (head_in (node_in t) (own_type t)) (first_site world f (exprs_of (operands_in t)))
+          (list_name world f (head_in (node_in t) (own_type t))) k
       reach_there i t k e =
-          ap (reach_at world sized f k) (node_there root i) ∙ (ap (λ o. reach_at world sized f k (seen o)) e ∙ ap (λ x. reach_at world sized f k (Some x)) (expr_at t))
+          ap (reach_at world sized f k) (node_there root i) ∙
+          (ap (λ o. reach_at world sized f k (seen o)) e ∙ ap (λ x. reach_at world sized f k (Some x)) (expr_at t))
 
       short : 0 + length (nodes_of root) < 2 ^ 32
       short = (let n = nodes_length root in omega (arith, n, few))
@@ -339,7 +343,8 @@ module _ (p : Program) (function : ℕ) where
           let n = l.2.node in
           record {
             reach = l.0;
-            is_reach = ap (λ z. reach_at world sized f a.at.place.kind (at_node 0 (expr_of root) z)) n ∙ (reach_there at.index at.node a.at.place.kind at.there ∙ l.1);
+            is_reach = ap (λ z. reach_at world sized f a.at.place.kind (at_node 0 (expr_of root) z)) n ∙
+                (reach_there at.index at.node a.at.place.kind at.there ∙ l.1);
             writes = l.2.writes;
             site = l.2.site;
             limit = λ w. l.2.limit (subst (λ o. (sized || not (a.writes && stores_whole_at o)) ≡ true) (ap (slice_get (nodes_of root)) n ∙ at.there) w);

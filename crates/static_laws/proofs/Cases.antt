@@ -155,8 +155,10 @@ module _ (world : World) (sized : Bool) (f : Scene) (b : Begun) (root : Typed) (
   pair_of knows u v r = record {
     first = (r.clash sized knows).first;
     second = (r.clash sized knows).second;
-    in_first = subst (λ e. InReach world.rows (reach_at world sized f u.kind (at_node 0 e u.node)) (r.clash sized knows).first) is (r.clash sized knows).in_first;
-    in_second = subst (λ e. InReach world.rows (reach_at world sized f v.kind (at_node 0 e v.node)) (r.clash sized knows).second) is (r.clash sized knows).in_second;
+    in_first = subst (λ e. InReach world.rows (reach_at world sized f u.kind (at_node 0 e u.node)) (r.clash sized knows).first) is
+        (r.clash sized knows).in_first;
+    in_second = subst (λ e. InReach world.rows (reach_at world sized f v.kind (at_node 0 e v.node)) (r.clash sized knows).second) is
+        (r.clash sized knows).in_second;
     is_first = (r.clash sized knows).accesses.0;
     is_second = (r.clash sized knows).accesses.1;
     conflict = (r.clash sized knows).conflict;
@@ -209,7 +211,8 @@ module _ (world : World) (rows : AreRows world.rows) (f : Scene) (n : ℕ) (fall
   same_bases (base.Literal k) (base.Slot (slot.Auto c l)) e h = absurd (cc)
 
   module _ (sized : Bool) (b : Begun) (root : Typed) (few : size (plain.tree_of root) < 2 ^ 32) (lo : all_low p function (nodes_of root) ≡ true)
-      (z w : Place) (pair : Pair world sized f b root z w) (x y : MemoryAccess) (x_in : IsAmong (accesses p function root) x) (y_in : IsAmong (accesses p function root) y)
+      (z w : Place) (pair : Pair world sized f b root z w) (x y : MemoryAccess) (x_in : IsAmong (accesses p function root) x)
+      (y_in : IsAmong (accesses p function root) y)
       (at_z : x.at.place ≡ z) (at_w : y.at.place ≡ w) where
     abbrev linked_x : Linked p function world sized f root few lo x
     linked_x = linked p function world sized f root few lo x x_in
@@ -227,7 +230,8 @@ module _ (world : World) (rows : AreRows world.rows) (f : Scene) (n : ℕ) (fall
     lying_y =
         lying world.rows linked_y.reach pair.second
         (subst (λ o. InReach world.rows o pair.second) linked_y.is_reach
-        (subst (λ q. InReach world.rows (reach_at world sized f q.kind (at_node 0 (expr_of root) q.node)) pair.second) (sym at_w) pair.in_second)) pair.is_second
+        (subst (λ q. InReach world.rows (reach_at world sized f q.kind (at_node 0 (expr_of root) q.node)) pair.second)
+        (sym at_w) pair.in_second)) pair.is_second
 
     met : Meets lying_x.object lying_y.object lying_x.from lying_x.count lying_y.from lying_y.count lying_x.writing lying_y.writing
     met = meets (stands_at world.rows) pair.first pair.second lying_x.writing lying_y.writing lying_x.object lying_y.object lying_x.from lying_x.count
@@ -553,7 +557,8 @@ module _ (world : World) (f : Scene) (b : Begun) (root : Typed) (is : b.root ≡
           fact_by n t (node_in t) (operands_in t) h ty line a es (omega (arith, fit, few)) e same refl hs.0 hs.1
           (subst (λ o. is_some (spared_where o n u v) ≡ true) q s)
 
-pub sequenced_apart : (world : World) (sized : Bool) (f : Scene) (b : Begun) (root : Typed) → b.root ≡ expr_of root → size (plain.tree_of root) < 2 ^ 32 → (z w : Place)
+pub sequenced_apart : (world : World) (sized : Bool) (f : Scene) (b : Begun) (root : Typed) → b.root ≡ expr_of root → size (plain.tree_of root) < 2 ^ 32 →
+    (z w : Place)
     → Pair world sized f b root z w → (x y : MemoryAccess) → x.at.place ≡ z → y.at.place ≡ w → sequenced root x y ≡ true → ⊥
 sequenced_apart world sized f b root is few z w pair x y ez ew h = elim (or_cases (is_before taken 0 (plain.tree_of root) x.at.place y.at.place) _ h) [
   | inl k ↦ pair.apart.not_before

@@ -1,5 +1,6 @@
 -- Full expressions that are lawful fit the sizes of their types.
-use Rattle.std.proofs.Common.{◌≡◌, ℕ, zero, suc, ◌+◌, ◌<◌, ◌≤◌, Bool, true, false, ◌&&◌, ◌==◌, if◌then◌else◌, List, [], ◌∷◌, ◌++◌, map, length, Option, Some, None}
+use Rattle.std.proofs.Common.{◌≡◌, ℕ, zero, suc, ◌+◌, ◌<◌, ◌≤◌, Bool, true, false, ◌&&◌, ◌==◌, if◌then◌else◌, List, [], ◌∷◌, ◌++◌, map, length, Option, Some}
+use Rattle.std.proofs.Common.{None}
 use Rattle.std.proofs.Common.{refl, sym, ap, ◌∙◌, subst, inl, inr, arith, true≢false}
 use Rattle.std.specs.Prelude.{unsigned_abs}
 use Rattle.std.specs.List.{All}
@@ -364,8 +365,13 @@ module _ (p : Program) (blocks : Blocks) where
       subst (ExprFits (laid_out p.tags)) (sym (expr_at t)) (
         head_fits p.tags (node_in t) (own_type t) (operands_in t) p blocks refl (All-head (SiteIsLawful p blocks) (own_site t) (inner ++ rest) k).types,
         (
-          inner_fits p.tags (node_in t) (own_type t) (Few n) (tree_fits n) (omega (arith, l, m, e), all_left (SiteIsLawful p blocks) inner rest (All-tail (SiteIsLawful p blocks) (own_site t) (inner ++ rest) k)),
-          trees_fit n (tree_fits n) (operands_in t) (omega (arith, l, m, e), all_right (SiteIsLawful p blocks) inner rest (All-tail (SiteIsLawful p blocks) (own_site t) (inner ++ rest) k)),
+          inner_fits p.tags (node_in t) (own_type t) (Few n) (tree_fits n)
+              (omega (arith, l, m, e), all_left (SiteIsLawful p blocks) inner rest (All-tail (SiteIsLawful p blocks) (own_site t) (inner ++ rest) k)),
+          trees_fit n (tree_fits n) (operands_in t) (
+            omega (arith, l, m, e),
+            all_right (SiteIsLawful p blocks) inner rest
+                (All-tail (SiteIsLawful p blocks) (own_site t) (inner ++ rest) k),
+          ),
         ),
       )
 

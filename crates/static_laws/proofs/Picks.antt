@@ -61,21 +61,25 @@ module _ (world : World) (lo : AreLow world.rows) where
       → StoresFit world.rows h (operand_values world f b.given (suc n) h es)
 
   -- the act of an event lies in its reach
-  act_in : (sized : Bool) (f : Scene) (b : Begun) → FixedIn world f b.root b.given → (sized ≡ true → StoresIn f b) → (who : Event) (n : ℕ) (h : Head) (ty object : CType) (line : ℕ) (es : Exprs) (k : Kind)
+  act_in : (sized : Bool) (f : Scene) (b : Begun) → FixedIn world f b.root b.given → (sized ≡ true → StoresIn f b) → (who : Event) (n : ℕ) (h : Head)
+      (ty object : CType) (line : ℕ) (es : Exprs) (k : Kind)
       (own : Value) → at_node 0 b.root n ≡ Some (expr h ty line es)
       → Post (InReach world.rows (reach_by sized h (first_site world f es) (list_name world f h) k)) Anything
       (act_of world.rows who h object k (operand_values world f b.given (suc n) h es) own)
   act_in sized f b fixed stores who n (Listed slot cs) ty object line es k own q =
       subst (λ z. Post (InReach world.rows z) Anything (act_of world.rows who (Listed slot cs) object k (pointer_to world (name_of world f slot) ∷ []) own))
       (list_reach sized slot cs (first_site world f es) (name_of world f slot) k)
-      (act_within world.rows lo None sized (name_of world f slot) who (Listed slot cs) object k (pointer_to world (name_of world f slot) ∷ []) own tt refl (λ e. tt))
+      (act_within world.rows lo None sized (name_of world f slot) who (Listed slot cs) object k (pointer_to world (name_of world f slot) ∷ []) own tt refl
+      (λ e. tt))
   act_in sized f b fixed stores who n h ty object line es k own q =
       act_within world.rows lo (first_site world f es) sized (list_name world f h) who h object k (operand_values world f b.given (suc n) h es) own
       (points world lo f b.root b.given fixed n h ty line es q) tt (λ e. stores e n h ty line es q)
 
   -- so do the items of its run
-  pub event_in : (sized : Bool) (f : Scene) (b : Begun) → FixedIn world f b.root b.given → (sized ≡ true → StoresIn f b) → (u : Place) (s : Store) → is_body u.kind ≡ false
-      → ActOk (InReach world.rows (reach_at world sized f u.kind (at_node 0 b.root u.node))) Anything (run world.rows (event_act world f b u (at_node 0 b.root u.node)) s)
+  pub event_in : (sized : Bool) (f : Scene) (b : Begun) → FixedIn world f b.root b.given → (sized ≡ true → StoresIn f b) → (u : Place) (s : Store)
+      → is_body u.kind ≡ false
+      → ActOk (InReach world.rows (reach_at world sized f u.kind (at_node 0 b.root u.node))) Anything
+      (run world.rows (event_act world f b u (at_node 0 b.root u.node)) s)
   event_in sized f b fixed stores u s nb = go (at_node 0 b.root u.node) refl
     where
       go : (o : Option Expr) → at_node 0 b.root u.node ≡ o
@@ -88,7 +92,8 @@ module _ (world : World) (lo : AreLow world.rows) where
           subst (λ z. ActOk (InReach world.rows r) Anything (run world.rows z s))
           (sym (if_false (is_body u.kind) (call_act world (event_of world f u) h es (values_of world f b.given (suc u.node) es)) act nb))
           (run_ok world.rows (InReach world.rows r) Anything (quiet_in world.rows r Ending tt) act s
-          (act_in sized f b fixed stores (event_of world f u) u.node h ty (target (first_type es)) line es u.kind (or_nothing (b.given (place u.node (own_kind u.kind)))) q))
+          (act_in sized f b fixed stores (event_of world f u) u.node h ty (target (first_type es)) line es u.kind
+          (or_nothing (b.given (place u.node (own_kind u.kind)))) q))
 
   -- and the value of a fixed place is a pointer to there
   pub event_gives : (f : Scene) (b : Begun) → FixedIn world f b.root b.given → (u : Place) (s : Store) (e : Expr) (t : Site) → u.kind ≡ Val
@@ -275,7 +280,8 @@ module _ (world : World) (lo : AreLow world.rows) where
       event_acted (Done v is s) h k =
           limited_ok world.limits _
           (subst (λ z. OutcomeOk (moved world st (Ev u) (move world st.top z (Ev u)) v s (entry_of world st.top (Ev u) is ∷ st.trace))) (sym e)
-          (event_moved _ (event_moves st.top b u inv.kept.scoped (at_node 0 b.root u.node)) (entry_of world st.top (Ev u) is) refl refl refl (λ sized knows nb. (h sized knows nb).0) v
+          (event_moved _ (event_moves st.top b u inv.kept.scoped (at_node 0 b.root u.node)) (entry_of world st.top (Ev u) is) refl refl refl
+          (λ sized knows nb. (h sized knows nb).0) v
           (λ x t kind q loud site. (k x t kind q loud site).1) s))
       event_acted (Raised c) h k = tt
       event_acted (Ended n is s) h k = tt
@@ -312,7 +318,8 @@ module _ (world : World) (lo : AreLow world.rows) where
       (operands size world st.top.scene b fits.values n h ty line es q 1))
 
   pub step_ok : (st : State) (p : Pick) → Inv st → Sized st → MayPick world st.top st.top.begun p → OutcomeOk (step world st p)
-  step_ok st Control inv known may = within_ok (enter_passes world.limits st Control) _ (control_acted st inv (run world.rows (does world st.top st.top.begun Control) st.store))
+  step_ok st Control inv known may = within_ok (enter_passes world.limits st Control) _
+      (control_acted st inv (run world.rows (does world st.top st.top.begun Control) st.store))
   step_ok st (Ev u) inv known may = within_ok (enter_passes world.limits st (Ev u)) _ (go st.top.begun refl may)
     where
       go : (o : Option Begun) → st.top.begun ≡ o → MayPick world st.top o (Ev u)

@@ -135,7 +135,8 @@ module _ (world : World) where
       → GrownBy st p (acted world st p a)
   acted_grown st p (Done v is s) h =
       limited_grown st p world.limits (moved world st p (move world st.top st.top.begun p) v s (entry_of world st.top p is ∷ st.trace))
-      (moved_grown st p (move world st.top st.top.begun p) v s (entry_of world st.top p is ∷ st.trace) (entry is (λ b u e q sized knows nb. (h b u e q sized knows nb).0)))
+      (moved_grown st p (move world st.top st.top.begun p) v s (entry_of world st.top p is ∷ st.trace)
+      (entry is (λ b u e q sized knows nb. (h b u e q sized knows nb).0)))
   acted_grown st p (Raised c) h = entry [] (λ b u e q sized knows nb. tt)
   acted_grown st p (Ended n is s) h = entry is (λ b u e q sized knows nb. h b u e q sized knows nb)
   acted_grown st p (Outside c n) h = nothing

@@ -31,7 +31,8 @@ use Rattle.static_laws.proofs.Cases.{Pair, pair_of, pair_back, some_reach, both_
 -- at the pick of the newer event
 abbrev pub AtPick : Bool → (Program → ℕ → Typed → Place → Place → Type 0) → Type 0
 AtPick sized Holds =
-    (world : World) → Knows world sized → AreRows world.rows → (f : Scene) (b : Begun) (u v : Place) → RaceAt world f b u v → (p : Program) (function : ℕ) (root : Typed)
+    (world : World) → Knows world sized → AreRows world.rows → (f : Scene) (b : Begun) (u v : Place) → RaceAt world f b u v → (p : Program) (function : ℕ)
+    (root : Typed)
     → b.root ≡ expr_of root → IsUsual p function root → Holds p function root u v → ⊥
 
 module _ (world : World) (rows : AreRows world.rows) (input : List ℕ) (vs : List Value) where
@@ -48,7 +49,8 @@ module _ (world : World) (rows : AreRows world.rows) (input : List ℕ) (vs : Li
       → Race world (trace_of o) d u e v → Found ps d u v
   from_start st ps o e after d e2 u v r =
       let ok = subst (StartOk world lo) e (start_ok world lo input vs) in
-      elim (races_from world lo st ps o ok.1 (start_known world lo input vs st e) after d e2 u v r.both (record { apart = r.apart; bodiless = r.bodiless; clash = r.clash })) [
+      elim (races_from world lo st ps o ok.1 (start_known world lo input vs st e) after d e2 u v r.both
+      (record { apart = r.apart; bodiless = r.bodiless; clash = r.clash })) [
         | inl two ↦ absurd (let l = no_pair world lo st.trace d e2 u v two in let k = ap length ok.0 in omega (arith, l, k))
         | inr q ↦ record {
           picked = record {
@@ -90,7 +92,8 @@ reduced_sized Holds h world input vs ps o keeps rows comes d e u v race =
     (x.picked, λ p function root is usual holds. h world keeps rows x.state.top.scene x.picked.begun u v x.race p function root is usual holds)
 
 -- the cases, of two accesses in either order
-module _ (sized : Bool) (world : World) (knows : Knows world sized) (rows : AreRows world.rows) (f : Scene) (b : Begun) (u v : Place) (race : RaceAt world f b u v) (p : Program) (function : ℕ) (root : Typed)
+module _ (sized : Bool) (world : World) (knows : Knows world sized) (rows : AreRows world.rows) (f : Scene) (b : Begun) (u v : Place)
+    (race : RaceAt world f b u v) (p : Program) (function : ℕ) (root : Typed)
     (is : b.root ≡ expr_of root) (usual : IsUsual p function root) where
   -- two accesses at the two places, with the race in their order
   either : (P : MemoryAccess → MemoryAccess → Type 0)
@@ -99,7 +102,8 @@ module _ (sized : Bool) (world : World) (knows : Knows world sized) (rows : AreR
       → (two : AccessesAt p function root u v) → P two.first two.second → ⊥
   either P g two h = elim two.at [
     | inl q ↦ g u v (pair_of world sized f b root is knows u v race) two.first two.second two.has_first two.has_second q.0 q.1 h
-    | inr q ↦ g v u (pair_back world sized f b root is u v (pair_of world sized f b root is knows u v race)) two.first two.second two.has_first two.has_second q.0 q.1 h
+    | inr q ↦ g v u (pair_back world sized f b root is u v
+        (pair_of world sized f b root is knows u v race)) two.first two.second two.has_first two.has_second q.0 q.1 h
   ]
 
   no_reads : AccessesBy (λ r x y. both_read x y) p function root u v → ⊥
@@ -188,8 +192,10 @@ module _ (sized : Bool) (world : World) (knows : Knows world sized) (rows : AreR
       → (x ≡ y) ⊎ ((apart sized root x y ≡ true) ⊎ (apart sized root y x ≡ true))
   among_all [] x y mx my h = absurd mx
   among_all (c ∷ cs) x y (inl ex) (inl ey) h = inl (sym ex ∙ ey)
-  among_all (c ∷ cs) x y (inl ex) (inr my) h = inr (inl (subst (λ z. apart sized root z y ≡ true) ex (from_all c cs y my (and_l (apart_from_all sized root c cs) _ h))))
-  among_all (c ∷ cs) x y (inr mx) (inl ey) h = inr (inr (subst (λ z. apart sized root z x ≡ true) ey (from_all c cs x mx (and_l (apart_from_all sized root c cs) _ h))))
+  among_all (c ∷ cs) x y (inl ex) (inr my) h = inr (inl
+      (subst (λ z. apart sized root z y ≡ true) ex (from_all c cs y my (and_l (apart_from_all sized root c cs) _ h))))
+  among_all (c ∷ cs) x y (inr mx) (inl ey) h = inr (inr
+      (subst (λ z. apart sized root z x ≡ true) ey (from_all c cs x mx (and_l (apart_from_all sized root c cs) _ h))))
   among_all (c ∷ cs) x y (inr mx) (inr my) h = among_all cs x y mx my (and_r (apart_from_all sized root c cs) _ h)
 
   not_one : (x y : MemoryAccess) → x ≡ y → x.at.place ≡ u → y.at.place ≡ v → ⊥
@@ -233,7 +239,8 @@ pub wholes_never : WholesNeverRace
 wholes_never = reduced_sized (AccessesBy (other_bytes true)) (no_bytes true)
 
 pub only_accesses : OnlyAccessesRace
-only_accesses = reduced (λ p function root u v. AccessesAt p function root u v → ⊥) (λ world knows rows f b u v race p function root is usual h. h (two_accesses false world knows rows f b u v race p function root is usual))
+only_accesses = reduced (λ p function root u v. AccessesAt p function root u v → ⊥)
+    (λ world knows rows f b u v race p function root is usual h. h (two_accesses false world knows rows f b u v race p function root is usual))
 
 pub never_at_all : NeverRaces
 never_at_all = reduced (λ p function root u v. never_races false p function root ≡ true) (never false)

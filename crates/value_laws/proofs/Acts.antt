@@ -31,7 +31,8 @@ use Rattle.mem_spec.specs.Script.{Get, Script, Give, ◌>>=◌, ◌>>◌, requir
 use Rattle.mem_spec.specs.Acts.{scalar, whole, bytes, is_aligned, declared_of, access as access_act, store, shift, all_written, show_pieces}
 use Rattle.mem_spec.specs.Acts.{value_of, is_trap, number_of, load_int, load_func, load_ptr, load_block, from_int, pointer_in, retagged, less, diff, expose}
 use Rattle.mem_spec.specs.Bytes.{number_bytes, pointer_bytes}
-use Rattle.c_model.specs.Values.{Value, Int, Ptr, Fun, Whole, Missing, Nothing, Pointer, pointer_value, integer_of, pointer_of, function_in, value_at, address_after}
+use Rattle.c_model.specs.Values.{Value, Int, Ptr, Fun, Whole, Missing, Nothing, Pointer, pointer_value, integer_of, pointer_of, function_in, value_at}
+use Rattle.c_model.specs.Values.{address_after}
 use Rattle.c_model.specs.Values.{truth, int_bytes, part_bytes, moved_source, unplaced}
 use Rattle.c_model.specs.Program.{Filling, Head, Load, Conv, Un, Bin, PtrAdd, PtrDiff, Rel, Eq, Member, Part, Assign, Update, And, Or, Cond, Comma, Call}
 use Rattle.c_model.specs.Program.{Listed, Exprs}
@@ -85,8 +86,10 @@ module _ (rows : List Row) where
 
   -- a load gives as many bytes as it reads
   load_gives : (own : Option ℕ) (who : Event) (how : Access) (ty : CType) (p : Pointer) → LoadFits how own → Gives rows (HasSize own) (load rows who how ty p)
-  load_gives own who (access.Integer k) ty p f = go_on rows (HasSize own) (load_int rows k p.address p.prov) (λ z. Give (Int z)) (λ z. plain_size own (Int z) tt)
-  load_gives own who access.Pointer ty p f = go_on rows (HasSize own) (load_ptr rows ty who 8 p.address p.prov) (λ q. Give (Ptr q.0 q.1)) (λ q. plain_size own (Ptr q.0 q.1) tt)
+  load_gives own who (access.Integer k) ty p f = go_on rows (HasSize own) (load_int rows k p.address p.prov) (λ z. Give (Int z))
+      (λ z. plain_size own (Int z) tt)
+  load_gives own who access.Pointer ty p f = go_on rows (HasSize own) (load_ptr rows ty who 8 p.address p.prov) (λ q. Give (Ptr q.0 q.1))
+      (λ q. plain_size own (Ptr q.0 q.1) tt)
   load_gives own who access.Function ty p f = go_on rows (HasSize own) (load_func rows ty p.address p.prov) (λ n. Give (Fun n)) (λ n. plain_size own (Fun n) tt)
   load_gives own who (access.Whole n align) ty p f =
       bind rows (λ bs. length bs ≡ n) (HasSize own) (load_block rows n align p.address p.prov) (λ bs. Give (Whole bs (Some p.address)))
@@ -107,7 +110,8 @@ module _ (rows : List Row) where
   put_plain first (access.Integer k) ty p v =
       go_on rows IsPlain (store rows first (scalar (int k)) (bytes_of_kind k) p.address p.prov (int_bytes k (integer_of v))) (λ u. Give Nothing) (λ u. tt)
   put_plain first access.Pointer ty p v =
-      go_on rows IsPlain (store rows first (scalar ty) 8 p.address p.prov (pointer_bytes 8 0 (pointer_of v).prov (pointer_of v).address)) (λ u. Give Nothing) (λ u. tt)
+      go_on rows IsPlain (store rows first (scalar ty) 8 p.address p.prov (pointer_bytes 8 0 (pointer_of v).prov (pointer_of v).address))
+      (λ u. Give Nothing) (λ u. tt)
   put_plain first access.Function ty p v =
       go_on rows IsPlain (store rows first (scalar ty) 8 p.address p.prov (number_bytes 8 (function_in v))) (λ u. Give Nothing) (λ u. tt)
   put_plain first (access.Whole n align) ty p v = put_whole_plain first n align p v
@@ -267,7 +271,8 @@ module _ (rows : List Row) where
         sized (size ty) _ (shifted_plain (pointer_of (value_at vs 0)) (distance n subtract (integer_of (value_at vs 1))))
     act_gives who (PtrDiff n) ty object Val own f o = sized (size ty) _ (difference_plain n (pointer_of (value_at vs 0)) (pointer_of (value_at vs 1)))
     act_gives who (Rel op pointers) ty object Val own f o = sized (size ty) _ (relational_plain op pointers (value_at vs 0) (value_at vs 1))
-    act_gives who (Eq op) ty object Val own f o = plain_size (size ty) (equal op (value_at vs 0) (value_at vs 1)) (equal_plain op (value_at vs 0) (value_at vs 1))
+    act_gives who (Eq op) ty object Val own f o = plain_size (size ty) (equal op (value_at vs 0) (value_at vs 1))
+        (equal_plain op (value_at vs 0) (value_at vs 1))
     act_gives who (Member offset) ty object Val own f o = sized (size ty) _ (member_plain offset (pointer_of (value_at vs 0)))
     act_gives who (Part offset how) ty object Val own f o = part_gives (size ty) (size_at size es 0) who offset how (value_at vs 0) f (operands 0)
     act_gives who (Assign first how) ty object Val own f o = keeps_size (size_at size es 1) (size ty) (value_at vs 1) f.1 (operands 1)

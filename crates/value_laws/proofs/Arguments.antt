@@ -132,7 +132,8 @@ module _ (size : Sizes) where
     StartWaits m = Unit {0}
 
     module _ (ok : ProgramFits size world) (main_values : List Value) (takes : ProgramTakes size world main_values) where
-      block_waits : (params : Params) (s : Stmt) (g : Local) → BodyTakes size params s → g.todo ≡ To_do s ∷ [] → g.begun ≡ None → AreTaken size params g.arguments
+      block_waits : (params : Params) (s : Stmt) (g : Local) → BodyTakes size params s → g.todo ≡ To_do s ∷ [] → g.begun ≡ None
+          → AreTaken size params g.arguments
           → Waits g
       block_waits params (Block number ds ss) g o t n a = waiting params number ds ss t n a o
       block_waits params s g o t n a = absurd o
@@ -198,7 +199,8 @@ module _ (size : Sizes) where
         operands_fit h ty line es q = λ m e v there g. fits.values (place m Val) e v (inside h ty line es u.node m e there b.root 0 q) g
 
         started_waits : (h : Head) (ty : CType) (line : ℕ) (es : Exprs) → at_node 0 b.root u.node ≡ Some (expr h ty line es)
-            → Linked size world h es (values_of world f b.given (suc u.node) es) → StartWaits (started world f u.node h (values_of world f b.given (suc u.node) es))
+            → Linked size world h es (values_of world f b.given (suc u.node) es) → StartWaits
+            (started world f u.node h (values_of world f b.given (suc u.node) es))
         started_waits (Call d) ty line es q link =
             call_waits f u.node b.given es (suc u.node) (operands_fit (Call d) ty line es q)
             (node_fits size b.root 0 u.node (expr (Call d) ty line es) fits.root q).0.1 d link _ refl
@@ -277,7 +279,8 @@ module _ (size : Sizes) where
             go None e = nothing_acted u e
             go (Some b) e =
                 event_acted b e u _
-                (run_gave world.rows (EventIs size world st.top.scene b u (at_node 0 b.root u.node)) (event_act world st.top.scene b u (at_node 0 b.root u.node)) st.store
+                (run_gave world.rows (EventIs size world st.top.scene b u (at_node 0 b.root u.node))
+                (event_act world st.top.scene b u (at_node 0 b.root u.node)) st.store
                 (event_gives size world ok fits.result st.top.scene b (fits.top.begun b e) u (at_node 0 b.root u.node) refl))
 
       -- an order
@@ -292,7 +295,8 @@ module _ (size : Sizes) where
       main_waits : Waits (main_frame world main_values)
       main_waits = go (body_of world (Some world.program.main)) refl (slice_get world.program.functions world.program.main) refl
         where
-          go : (o : Option Stmt) → body_of world (Some world.program.main) ≡ o → (q : Option Function) → slice_get world.program.functions world.program.main ≡ q
+          go : (o : Option Stmt) → body_of world (Some world.program.main) ≡ o → (q : Option Function)
+              → slice_get world.program.functions world.program.main ≡ q
               → Waits (main_frame world main_values)
           go None e q there = idle (ap (work_of world) e) refl
           go (Some s) e None there = absurd (let r : body_of world (Some world.program.main) ≡ None = rw there in cc)

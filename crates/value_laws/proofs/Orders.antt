@@ -22,7 +22,8 @@ use Rattle.value_laws.proofs.Scripts.{Gave, run_gave}
 use Rattle.value_laws.proofs.Acts.{keeps_size}
 use Rattle.value_laws.proofs.Work.{TodoFits, ready_fits}
 use Rattle.value_laws.proofs.Frames.{body_there, FrameFits, HeldFit, lowest, waits}
-use Rattle.value_laws.proofs.Picks.{frame_given, result_fits, control_gives, control_fits, settled_fits, EventMove, stays, starts, EventIs, event_gives, event_moves}
+use Rattle.value_laws.proofs.Picks.{frame_given, result_fits, control_gives, control_fits, settled_fits, EventMove, stays, starts, EventIs, event_gives}
+use Rattle.value_laws.proofs.Picks.{event_moves}
 use Rattle.value_laws.proofs.Picks.{event_value}
 
 module _ (size : Sizes) (world : World) where
@@ -150,7 +151,8 @@ module _ (size : Sizes) (world : World) where
         go None e = nothing_acted u e
         go (Some b) e =
             event_acted b e u _
-            (run_gave world.rows (EventIs size world st.top.scene b u (at_node 0 b.root u.node)) (event_act world st.top.scene b u (at_node 0 b.root u.node)) st.store
+            (run_gave world.rows (EventIs size world st.top.scene b u (at_node 0 b.root u.node))
+            (event_act world st.top.scene b u (at_node 0 b.root u.node)) st.store
             (event_gives size world ok fits.result st.top.scene b (fits.top.begun b e) u (at_node 0 b.root u.node) refl))
 
   -- an order
@@ -182,7 +184,8 @@ module _ (size : Sizes) (world : World) where
       work_fits result None g = tt
       work_fits result (Some s) g = (g s refl, tt)
 
-      go : (o : Option Function) → slice_get world.program.functions world.program.main ≡ o → (result : Option ℕ) × FrameFits size world result (main_frame world vs)
+      go : (o : Option Function) → slice_get world.program.functions world.program.main ≡ o → (result : Option ℕ) × FrameFits size world result
+          (main_frame world vs)
       go o e =
           let r = fits_of o e in (
             r.0,

@@ -60,7 +60,8 @@ module _ (rows : List Row) (P : Item → Type 0) (x : ObjName) (how : Access) (a
             (λ k. (refl, at_base (row_of rows x))))),
       ))
 
-  store_made : (via : Seen) (align : ℕ) (bs : List TaggedByte) → LengthFits how (length bs) → Makes P Anything (store rows true via align base (prov.Whole x) bs)
+  store_made : (via : Seen) (align : ℕ) (bs : List TaggedByte) → LengthFits how (length bs) → Makes P Anything
+      (store rows true via align base (prov.Whole x) bs)
   store_made via align bs f =
       bind P Found Anything (access_act rows (length bs) align base (prov.Whole x))
       (λ at. require (suits_store via (declared_of at.life) at.from) EffectiveType
@@ -92,7 +93,8 @@ module _ (rows : List Row) (P : Item → Type 0) (x : ObjName) (alive : (y : Obj
   whole_made n align w Missing h = tt
   whole_made n align w Nothing h = tt
 
-  put_made : (how : Access) (ty : CType) (v : Value) (o : Option ℕ) → Written how → StoreFits how o → HasSize o v → Makes P Anything (put rows true how ty there v)
+  put_made : (how : Access) (ty : CType) (v : Value) (o : Option ℕ) → Written how → StoreFits how o → HasSize o v → Makes P Anything
+      (put rows true how ty there v)
   put_made (access.Integer k) ty v o w f h =
       bind P Anything Anything (store rows true (scalar (int k)) (bytes_of_kind k) there.address there.prov (int_bytes k (integer_of v))) _
       (store_made rows P x (access.Integer k) alive w (scalar (int k)) (bytes_of_kind k) (int_bytes k (integer_of v)) tt) (λ u g. tt)
@@ -108,7 +110,8 @@ module _ (size : Sizes) (world : World) (f : Scene) (turn : ℕ) (ds : List Decl
   abbrev P : Item → Type 0
   P = WritesObject world f turn ds
 
-  passes_made : (k : ℕ) (rest : List Decl) (vs : List Value) (params : Params) → ((j : ℕ) (d : Decl) → slice_get rest j ≡ Some d → slice_get ds (k + j) ≡ Some d)
+  passes_made : (k : ℕ) (rest : List Decl) (vs : List Value) (params : Params) →
+      ((j : ℕ) (d : Decl) → slice_get rest j ≡ Some d → slice_get ds (k + j) ≡ Some d)
       → ObjectsFit size params rest → AreTaken size params vs → Makes P Anything (pass_all world f turn k rest vs)
   passes_made k [] vs params at o t = tt
   passes_made k (d ∷ rest) [] params at o t = tt
@@ -116,7 +119,8 @@ module _ (size : Sizes) (world : World) (f : Scene) (turn : ℕ) (ds : List Decl
   passes_made k (d ∷ rest) (v ∷ vs) (types.more constant ty params) at o t =
       bind P Anything Anything (put world.rows true d.access d.ty (object_at world f turn k) v) (λ u. pass_all world f turn (suc k) rest vs)
       (put_made world.rows P (auto_name world f turn k) (λ y. tt) d.access d.ty v (size ty) (λ y from len e z l. (k, d, here, e, z, l)) o.0 t.0)
-      (λ u h. passes_made (suc k) rest vs params (λ j g q. (let e : k + suc j ≡ suc k + j = omega arith in subst (λ z. slice_get ds z ≡ Some g) e (at (suc j) g q))) o.1 t.1)
+      (λ u h. passes_made (suc k) rest vs params (λ j g q.
+      (let e : k + suc j ≡ suc k + j = omega arith in subst (λ z. slice_get ds z ≡ Some g) e (at (suc j) g q))) o.1 t.1)
     where
       here : slice_get ds k ≡ Some d
       here = (let e : k + 0 ≡ k = omega arith in subst (λ z. slice_get ds z ≡ Some d) e (at 0 d refl))
@@ -127,7 +131,8 @@ module _ (size : Sizes) (world : World) (f : Scene) (turn : ℕ) (ds : List Decl
       bind P Anything Anything (create world.rows (auto_name world f turn k) d.size d.align (object_kind d.constant) d.form)
       (λ u. bear_all world f turn (suc k) rest after)
       (when P Anything (has_place (row_of world.rows (auto_name world f turn k)) d.size d.align)
-      (touch (Bear (auto_name world f turn k) d.size (object_kind d.constant) d.form) >> Give (base_in (row_of world.rows (auto_name world f turn k)))) Misplace (tt, λ r. tt) tt)
+      (touch (Bear (auto_name world f turn k) d.size (object_kind d.constant) d.form) >> Give
+      (base_in (row_of world.rows (auto_name world f turn k)))) Misplace (tt, λ r. tt) tt)
       (λ u g. bears_made (suc k) rest after h)
 
   none_fit : (rest : List Decl) → ObjectsFit size types.none rest
@@ -136,7 +141,8 @@ module _ (size : Sizes) (world : World) (f : Scene) (turn : ℕ) (ds : List Decl
 
   entry_made : (params : Params) (vs : List Value) → ObjectsFit size params ds → AreTaken size params vs
       → Makes P Anything (bear_all world f turn 0 ds (pass_all world f turn 0 ds vs))
-  entry_made params vs o t = bears_made 0 ds _ (passes_made 0 ds vs params (λ j d q. (let e : 0 + j ≡ j = omega arith in subst (λ z. slice_get ds z ≡ Some d) (sym e) q)) o t)
+  entry_made params vs o t = bears_made 0 ds _ (passes_made 0 ds vs params
+      (λ j d q. (let e : 0 + j ≡ j = omega arith in subst (λ z. slice_get ds z ≡ Some d) (sym e) q)) o t)
 
 module _ (size : Sizes) (world : World) (f : Local) (number : ℕ) (ds : List Decl) (rest : Todo) (e : ready_work f.todo ≡ Enter number ds ∷ rest) where
   block_is : (n2 : ℕ) (ds2 : List Decl) (rest2 : Todo) → Enter n2 ds2 ∷ rest2 ≡ Enter number ds ∷ rest → ds2 ≡ ds
@@ -160,4 +166,5 @@ pub parameters_are_stored : ParametersAreStored
 parameters_are_stored size world input vs ok takes ps st comes none number ds rest e v is s done =
     let w = comes_waits size world ok vs takes input ps (Running st) comes in
     let P = WritesObject world st.top.scene (suc st.top.scene.turn) ds in
-    subst (λ a. Made P a) done (run_made world.rows P Anything (does world st.top None Control) st.store (control_made size world st.top number ds rest e w.top))
+    subst (λ a. Made P a) done (run_made world.rows P Anything (does world st.top None Control) st.store
+    (control_made size world st.top number ds rest e w.top))

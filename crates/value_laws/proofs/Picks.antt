@@ -230,7 +230,8 @@ module _ (size : Sizes) (world : World) where
 
     module _ (result : Option ℕ) (f : Scene) (b : Begun) (h : BegunFits size world result b) (u : Place) where
       frame_of : (g : Head) (ty : CType) (line : ℕ) (es : Exprs) (c : ℕ × Function) → slice_get world.program.functions c.0 ≡ Some c.1
-          → Keeps (result_size size c.1.ty) (size ty) → at_node 0 b.root u.node ≡ Some (expr g ty line es) → (vs : List Value) (o : Option Stmt) → own_body c.1 ≡ o
+          → Keeps (result_size size c.1.ty) (size ty) → at_node 0 b.root u.node ≡ Some (expr g ty line es) → (vs : List Value) (o : Option Stmt)
+          → own_body c.1 ≡ o
           → EventMove b u (body_frame world f u.node c.0 vs o)
       frame_of g ty line es c there keeps q vs None e = stays
       frame_of g ty line es c there keeps q vs (Some s) e = starts _ (result_size size c.1.ty) (record {
@@ -248,7 +249,8 @@ module _ (size : Sizes) (world : World) where
               go false e = e
 
       call_moves : (d : Bool) (ty : CType) (line : ℕ) (es : Exprs) → at_node 0 b.root u.node ≡ Some (expr (Call d) ty line es) → (vs : List Value)
-          → Linked size world (Call d) es vs → (o : Option (ℕ × Function)) → called_by world vs ≡ o → EventMove b u (start_call world f u.node (later_values vs) o)
+          → Linked size world (Call d) es vs → (o : Option (ℕ × Function)) → called_by world vs ≡ o → EventMove b u
+          (start_call world f u.node (later_values vs) o)
       call_moves d ty line es q vs link None e = stays
       call_moves d ty line es q vs link (Some c) e =
           frame_of (Call d) ty line es c (function_there world.program.functions _ c e)

@@ -10,7 +10,8 @@ use Rattle.c_model.specs.Examples.{int_function, int_type}
 use Rattle.c_model.proofs.Ranks.{and_l, and_r}
 use Rattle.value_laws.specs.Sizes.{Keeps, result_size, ExprFits, StatementFits, FunctionFits, ProgramFits}
 use Rattle.value_laws.specs.Parameters.{parameters, Passes, AreTaken, AreKept, BodyTakes, FunctionTakes, ProgramTakes}
-use Rattle.value_laws.specs.Samples.{pair_type, pair_access, pair_sizes, pair_local, load_pair, call_same, same_type, same_function, main_function, pair_program, pair_world}
+use Rattle.value_laws.specs.Samples.{pair_type, pair_access, pair_sizes, pair_local, load_pair, call_same, same_type, same_function, main_function}
+use Rattle.value_laws.specs.Samples.{pair_program, pair_world}
 use Rattle.value_laws.proofs.Scripts.{library_plain}
 
 -- what is compatible with the structure has its size
@@ -64,7 +65,8 @@ main_takes s q = subst (BodyTakes pair_sizes types.none) (statement_is _ s q) tt
 same_takes : (s : Stmt) → same_function.body ≡ Some s → BodyTakes pair_sizes (types.more false pair_type types.none) s
 same_takes s q = subst (BodyTakes pair_sizes (types.more false pair_type types.none)) (statement_is _ s q) (refl, tt)
 
-params_passed : (ps : Params) → each_matches false (types.more false pair_type types.none) ps ≡ true → AreKept pair_sizes ps (types.more false pair_type types.none)
+params_passed : (ps : Params) → each_matches false (types.more false pair_type types.none) ps ≡ true → AreKept pair_sizes ps
+    (types.more false pair_type types.none)
 params_passed types.none h = tt
 params_passed (types.more constant ty types.none) h = (pair_taken ty (and_l (matches false pair_type ty) _ h), tt)
 params_passed (types.more constant ty (types.more c2 t2 ps)) h = absurd (true≢false (sym (and_r (matches false pair_type ty) _ h)))
@@ -89,7 +91,8 @@ main_passes ty h = absurd (true≢false (sym h))
 
 module _ (rows : List Row) where
   functions_fit : (number : ℕ) (fun : Function) → slice_get pair_program.functions number ≡ Some fun → FunctionFits pair_sizes (pair_world rows) number fun
-  functions_fit zero fun e = subst (FunctionFits pair_sizes (pair_world rows) 0) (some_is main_function fun e) (record { body = main_fits; agrees = main_agrees })
+  functions_fit zero fun e = subst (FunctionFits pair_sizes (pair_world rows) 0) (some_is main_function fun e)
+      (record { body = main_fits; agrees = main_agrees })
   functions_fit (suc zero) fun e =
       subst (FunctionFits pair_sizes (pair_world rows) 1) (some_is same_function fun e) (record { body = same_fits; agrees = same_agrees })
   functions_fit (suc (suc n)) fun e = absurd (cc)

@@ -188,7 +188,8 @@ module _ (size : Sizes) (world : World) where
 
   -- the act of a store of a whole structure or union
   stores_made : (f : Scene) (result : Option ℕ) (b : Begun) → BegunFits size world result b → (u : Place) → u.kind ≡ Eff
-      → (first : Bool) (n align : ℕ) (ty : CType) (line : ℕ) (es : Exprs) (q : at_node 0 b.root u.node ≡ Some (expr (Assign first (access.Whole n align)) ty line es))
+      → (first : Bool) (n align : ℕ) (ty : CType) (line : ℕ) (es : Exprs)
+      (q : at_node 0 b.root u.node ≡ Some (expr (Assign first (access.Whole n align)) ty line es))
       → Makes (WritesAt world.rows (pointer_of (value_at (values_of world f b.given (suc u.node) es) 0)).address n) Anything
       (event_act world f b u (at_node 0 b.root u.node))
   stores_made f result b h u kind first n align ty line es q =

@@ -38,7 +38,13 @@ abbrev pub same_type : CType
 same_type = function pair_type (types.more false pair_type types.none) false
 
 abbrev pub same_function : Function
-same_function = record { ty = same_type; void = false; library = None; body = Some (Block 0 (pair_decl ∷ []) (statements (Return (load_pair (pair_local 0)) ∷ []))) }
+same_function = record {
+  ty = same_type;
+  void = false;
+  library = None;
+  body = Some
+      (Block 0 (pair_decl ∷ []) (statements (Return (load_pair (pair_local 0)) ∷ [])));
+}
 
 abbrev pub call_same : Expr → Expr
 call_same e = expr (Call false) pair_type 1 (more (expr (Func 1) (pointer false same_type) 1 none) (more e none))
