@@ -23,14 +23,18 @@ use Rattle.c_typed.specs.Sites.{Site, Seen, SeenNode, seen_node, seen_tree, seen
 use Rattle.c_typed.specs.Lawful.{There, AccessIs, FirstOf, Gives, LiesIn, ValueIs, LastIs, Passed, CallTypes, TypesAre, SiteIsLawful}
 use Rattle.c_typed.specs.Lawful.{UseFits}
 use Rattle.c_model.specs.Program as model
-use Rattle.c_model.specs.Program.{Expr, expr, Exprs, none, more}
+use Rattle.c_model.specs.Program.{Expr, expr, Exprs, none, more, Function, Stmt, Value, Empty, Declare, Block, If, If_only, Switch, Do, For, Goto}
+use Rattle.c_model.specs.Program.{Continue, Break, Return, Return_none, Label, Case, Default, Stmts, end, and_then}
+use Rattle.c_model.specs.World.{World}
 use Rattle.c_model.specs.Steps.{target, first_type}
-use Rattle.value_laws.specs.Sizes.{Sizes, Keeps, IsUpTo, type_of, size_at, last_size, result_size, LoadFits, PartFits, StoreFits, NodeFits, ExprFits, ExprsFit}
+use Rattle.value_laws.specs.Sizes.{StatementsFit, FunctionFits, StatementFits, Sizes, Keeps, IsUpTo, type_of, size_at, last_size, result_size, LoadFits, PartFits, StoreFits, NodeFits, ExprFits, ExprsFit, PerhapsFits}
 use Rattle.value_laws.specs.Sizes.{InnerFits, ArgumentsFit, ArePassed}
 use Rattle.value_laws.specs.Layouts.{size_in, laid_out}
 use Rattle.value_laws.proofs.Frames.{keeps_itself}
+use Rattle.value_laws.proofs.Layouts.{call_keeps}
 use Rattle.static_laws.specs.Trees.{is_pointer, expr_of, exprs_of}
-use Rattle.static_laws.specs.LawfulSizes.{LawfulExpressionsFit, LawfulResultsFit}
+use Rattle.static_laws.specs.LawfulSizes.{LawfulExpressionsFit, LawfulResultsFit, LawfulProgramsFit, IsOf, IsReturnedOf, PerhapsOf, IsMadeOf, AreMadeOf}
+use Rattle.static_laws.specs.LawfulSizes.{type_by, IsFunctionOf, IsProgramOf}
 use Rattle.static_laws.proofs.Seen.{node_in, operands_in, own_type, head_in, expr_at}
 
 -- what a tree shows
@@ -382,3 +386,60 @@ pub results_fit : LawfulResultsFit
 results_fit p f e h use_is =
     let fits = subst (λ z. UseFits p f z (type_at e.tree)) use_is h.fits in
     same_keeps p.tags (laid_out p.tags (type_of (expr_of e.tree))) (laid_out p.tags f.result) (sym (operand_size p.tags e.tree f.result fits.0))
+
+-- what is made of lawful full expressions
+module _ (p : Program) (f : Signature) where
+  abbrev sizes : Sizes
+  sizes = laid_out p.tags
+
+  of_fits : (e : Expr) → IsOf p f e → ExprFits sizes e
+  of_fits e h = subst (ExprFits sizes) (sym h.is) (expressions_fit p f h.expression h.lawful)
+
+  returned_fits : (e : Expr) → IsReturnedOf p f e → ExprFits sizes e × Keeps (sizes (type_of e)) (sizes f.result)
+  returned_fits e h = (
+    of_fits e h.of,
+    subst (λ z. Keeps (sizes (type_of z)) (sizes f.result)) (sym h.of.is) (results_fit p f h.of.expression h.of.lawful h.returns),
+  )
+
+  perhaps_fits : (o : Option Expr) → PerhapsOf p f o → PerhapsFits sizes o
+  perhaps_fits None h = tt
+  perhaps_fits (Some e) h = of_fits e h
+
+  mutual
+    made_fits : (s : Stmt) → IsMadeOf p f s → StatementFits sizes (sizes f.result) s
+    made_fits (Value e) h = of_fits e h
+    made_fits (Block number decls ss) h = all_made_fit ss h
+    made_fits (If e s t) h = (of_fits e h.0, (made_fits s h.1.0, made_fits t h.1.1))
+    made_fits (If_only e s) h = (of_fits e h.0, made_fits s h.1)
+    made_fits (Switch e s) h = (of_fits e h.0, made_fits s h.1)
+    made_fits (Do s e) h = (made_fits s h.0, of_fits e h.1)
+    made_fits (For start test step s) h =
+        (perhaps_fits start h.0, (perhaps_fits test h.1.0, (perhaps_fits step h.1.1.0, made_fits s h.1.1.1)))
+    made_fits (Return e) h = returned_fits e h
+    made_fits (Label k s) h = made_fits s h
+    made_fits (Case z s) h = made_fits s h
+    made_fits (Default s) h = made_fits s h
+    made_fits Empty h = tt
+    made_fits (Declare d) h = tt
+    made_fits (Goto k) h = tt
+    made_fits Continue h = tt
+    made_fits Break h = tt
+    made_fits Return_none h = tt
+
+    all_made_fit : (ss : Stmts) → AreMadeOf p f ss → StatementsFit sizes (sizes f.result) ss
+    all_made_fit end h = tt
+    all_made_fit (and_then s ss) h = (made_fits s h.0, all_made_fit ss h.1)
+
+function_fits : (p : Program) (world : World) → IsProgramOf p world → (number : ℕ) (fun : Function) → IsFunctionOf p fun
+    → FunctionFits (laid_out p.tags) world number fun
+function_fits p world h number fun g = record {
+  body = λ s e. subst (λ t. StatementFits (laid_out p.tags) (result_size (laid_out p.tags) t) s) (sym g.ty) (made_fits p g.signature s (g.body s e));
+  agrees = λ result params variadic e.
+      let by : Signature = record { result = result; params = params; variadic = variadic } in
+      let same = subst (λ t. world.agree t (type_by by) ≡ true) g.ty e in
+      subst (λ t. Keeps (result_size (laid_out p.tags) t) (laid_out p.tags result)) (sym g.ty)
+      (call_keeps p.tags (type_by g.signature) (type_by by) g.usual (h.agree g.signature by same)).gives;
+}
+
+pub programs_fit : LawfulProgramsFit
+programs_fit p world h = record { functions = λ number fun e. function_fits p world h number fun (h.functions number fun e); library = h.library }

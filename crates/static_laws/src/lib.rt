@@ -4,7 +4,7 @@
 #![tactic(auto)]
 
 ghost use Rattle.static_laws.specs.NeverRaces.{ReadsNeverRace, SequencedNeverRace, BranchesNeverRace, ObjectsNeverRace, BytesNeverRace, WholesNeverRace, OnlyAccessesRace, NeverRaces, SizedNeverRaces};
-ghost use Rattle.static_laws.specs.LawfulSizes.{LawfulExpressionsFit, LawfulResultsFit};
+ghost use Rattle.static_laws.specs.LawfulSizes.{LawfulExpressionsFit, LawfulResultsFit, LawfulProgramsFit};
 
 /// What parts two accesses of a full expression keeps them from racing, in every order, under every address map (6.5p2).
 pub fn law_parted_accesses()
@@ -23,8 +23,9 @@ pub fn law_never_races()
     ensures sized { SizedNeverRaces }
 {}
 
-/// The full expressions of a lawful program keep the sizes that its types have by their layout.
+/// The full expressions of a lawful program keep the sizes that its types have by their layout, and so does a program that is made of them.
 pub fn law_lawful_sizes()
     ensures expressions { LawfulExpressionsFit }
     ensures results { LawfulResultsFit }
+    ensures programs { LawfulProgramsFit }
 {}

@@ -25,11 +25,11 @@ use Rattle.c_model.specs.Runs.{limit_passed, depth_of, enter_passes, without_row
 use Rattle.c_model.specs.Runs.{start, started_run, stand, nothing_stands, main_frame, too_many, created_after, work_of}
 use Rattle.c_model.specs.Claims.{ComesTo, starts as from_start, stops as from_stop, refuses as from_refused}
 use Rattle.value_laws.specs.Sizes.{Sizes, type_of, ArePassed, ArgumentsFit, behind_first, ProgramFits}
-use Rattle.value_laws.specs.Parameters.{parameters, AreTaken, AreKept, Passes, ObjectsFit, BodyTakes, ProgramTakes}
+use Rattle.value_laws.specs.Parameters.{FunctionTakes, parameters, AreTaken, AreKept, Passes, ObjectsFit, BodyTakes, ProgramTakes}
 use Rattle.value_laws.proofs.Scripts.{Gave, run_gave}
 use Rattle.value_laws.proofs.Acts.{keeps_size}
 use Rattle.value_laws.proofs.Nodes.{node_fits, inside, OperandsFit, value_size, here_fits, later_fit}
-use Rattle.value_laws.proofs.Frames.{function_there, body_there, BegunFits, Linked}
+use Rattle.value_laws.proofs.Frames.{IsFunction, function_there, body_there, BegunFits, Linked}
 use Rattle.value_laws.proofs.Picks.{EventIs, event_gives}
 use Rattle.value_laws.proofs.Orders.{StateFits, OutcomeFits, step_fits, start_fits}
 
@@ -166,6 +166,17 @@ module _ (size : Sizes) where
         call_taken ty (struct tag) given es n h p q = absurd q
         call_taken ty (union tag) given es n h p q = absurd q
 
+        passes_by : (fun : Function) (s : Stmt) → FunctionTakes size world fun s → (by : CType) → IsFunction size world by → world.agree fun.ty by ≡ true
+            → Passes size by fun.ty
+        passes_by fun s t (function result params variadic) i h = t.agrees result params variadic h
+        passes_by fun s t void i h = absurd i
+        passes_by fun s t (int kind) i h = absurd i
+        passes_by fun s t (enumeration tag) i h = absurd i
+        passes_by fun s t (pointer c u) i h = absurd i
+        passes_by fun s t (array c u m) i h = absurd i
+        passes_by fun s t (struct tag) i h = absurd i
+        passes_by fun s t (union tag) i h = absurd i
+
         behind_taken : (ty by : CType) (given : Place → Option Value) (es : Exprs) (n : ℕ) → OperandsFit world f size given n es
             → ArgumentsFit size by (behind_first es) → Passes size by ty → AreTaken size (parameters ty) (later_values (values_of world f given n es))
         behind_taken ty by given none n h p q = none_taken (parameters ty)
@@ -190,7 +201,7 @@ module _ (size : Sizes) where
             go (Some s) q =
                 let t = takes.functions c.0 c.1 s there (defined c.1 s q) in
                 frame_waits c (parameters c.1.ty) vs
-                (behind_taken c.1.ty (target (first_type es)) given es n h p (t.agrees (target (first_type es)) (link c e)))
+                (behind_taken c.1.ty (target (first_type es)) given es n h p (passes_by c.1 s t (target (first_type es)) (link c e).0 (link c e).1))
                 (λ r w. (takes.functions c.0 c.1 r there w).objects) (Some s) q
 
       module _ (f : Scene) (b : Begun) (result : Option ℕ) (fits : BegunFits size world result b) (u : Place) where

@@ -17,7 +17,7 @@ use Rattle.c_model.specs.Nodes.{act_of, last_value}
 use Rattle.c_model.specs.Steps.{Scene, Local, Begun, at_node, name_of, pointer_to, call_act, call_through, call_by}
 use Rattle.c_model.specs.Steps.{library_act, argument_types, operand_values, values_of, first_type, target, function_type, function_of}
 use Rattle.c_model.specs.Steps.{called_by, body_of}
-use Rattle.value_laws.specs.Sizes.{Sizes, HasSize, Keeps, type_of, size_at, last_size, ExprFits, StatementFits, Gives, IsPlain}
+use Rattle.value_laws.specs.Sizes.{result_size, FunctionFits, Sizes, HasSize, Keeps, type_of, size_at, last_size, ExprFits, StatementFits, Gives, IsPlain}
 use Rattle.value_laws.specs.Sizes.{ProgramFits}
 use Rattle.value_laws.specs.Wholes.{ValuesFit}
 use Rattle.value_laws.proofs.Scripts.{gives_map, need}
@@ -109,9 +109,15 @@ module _ (size : Sizes) (world : World) where
         act_gives world.rows size es (values_of world f b.given (suc n) es) (operands f b values n h ty line es q) (last_operand f b values n h ty line es q)
         who h ty object k own (node_fits size b.root 0 n (expr h ty line es) fits q).0 o
 
-  -- the function that a call leads to agrees with the call
+  abbrev pub IsFunction : CType → Type 0
+  IsFunction (function result params variadic) = Unit {0}
+  IsFunction ty = ⊥
+
+  -- the function that a call leads to agrees with the function type that the call goes by
   abbrev pub Linked : Head → Exprs → List Value → Type 0
-  Linked (Call discarded) es vs = (c : ℕ × Function) → called_by world vs ≡ Some c → world.agree c.1.ty (target (first_type es)) ≡ true
+  Linked (Call discarded) es vs =
+      (c : ℕ × Function) → called_by world vs ≡ Some c
+      → IsFunction (target (first_type es)) × (world.agree c.1.ty (target (first_type es)) ≡ true)
   Linked h es vs = Unit {0}
 
   function_is : (t u : CType) → function_type t ≡ Some u → t ≡ u
@@ -124,6 +130,27 @@ module _ (size : Sizes) (world : World) where
   function_is (struct tag) u h = absurd (cc)
   function_is (union tag) u h = absurd (cc)
 
+  is_function : (t u : CType) → function_type t ≡ Some u → IsFunction t
+  is_function (function result params variadic) u h = tt
+  is_function void u h = absurd (cc)
+  is_function (int k) u h = absurd (cc)
+  is_function (enumeration tag) u h = absurd (cc)
+  is_function (pointer c t) u h = absurd (cc)
+  is_function (array c t n) u h = absurd (cc)
+  is_function (struct tag) u h = absurd (cc)
+  is_function (union tag) u h = absurd (cc)
+
+  pub agreed : (number : ℕ) (fun : Function) → FunctionFits size world number fun → (t : CType) → IsFunction t → world.agree fun.ty t ≡ true
+      → Keeps (result_size size fun.ty) (result_size size t)
+  agreed number fun f (function result params variadic) i h = f.agrees result params variadic h
+  agreed number fun f void i h = absurd i
+  agreed number fun f (int k) i h = absurd i
+  agreed number fun f (enumeration tag) i h = absurd i
+  agreed number fun f (pointer c t) i h = absurd i
+  agreed number fun f (array c t n) i h = absurd i
+  agreed number fun f (struct tag) i h = absurd i
+  agreed number fun f (union tag) i h = absurd i
+
   module _ (ok : ProgramFits size world) where
     abbrev IsCalled : Head → Exprs → List Value → Value → Type 0
     IsCalled h es vs v = IsPlain v × Linked h es vs
@@ -132,25 +159,26 @@ module _ (size : Sizes) (world : World) where
     library_fits who ts vs None = tt
     library_fits who ts vs (Some g) = ok.library g who ts vs
 
-    by_fits : (d : Bool) (es : Exprs) (all : List Value) (who : Event) (ty : CType) → target (first_type es) ≡ ty → (ts : List CType) (vs : List Value)
-        → (o : Option (ℕ × Function)) → called_by world all ≡ o → Gives world.rows (IsCalled (Call d) es all) (call_by world who ty ts vs o)
-    by_fits d es all who ty e ts vs None q = tt
-    by_fits d es all who ty e ts vs (Some c) q =
+    by_fits : (d : Bool) (es : Exprs) (all : List Value) (who : Event) (ty : CType) → target (first_type es) ≡ ty → IsFunction (target (first_type es)) → (ts : List CType)
+        (vs : List Value) → (o : Option (ℕ × Function)) → called_by world all ≡ o → Gives world.rows (IsCalled (Call d) es all) (call_by world who ty ts vs o)
+    by_fits d es all who ty e i ts vs None q = tt
+    by_fits d es all who ty e i ts vs (Some c) q =
         need world.rows (IsCalled (Call d) es all) (is_some c.1.body || is_some c.1.library) InvalidPointer _
         (λ h. need world.rows (IsCalled (Call d) es all) (world.agree c.1.ty ty) IncompatibleCall (library_act world who ts vs c.1.library)
         (λ g. gives_map world.rows IsPlain (IsCalled (Call d) es all) (library_act world who ts vs c.1.library) (λ v p. (p, link g))
         (library_fits who ts vs c.1.library)))
       where
-        link : world.agree c.1.ty ty ≡ true → (d : ℕ × Function) → called_by world all ≡ Some d → world.agree d.1.ty (target (first_type es)) ≡ true
+        link : world.agree c.1.ty ty ≡ true → (d : ℕ × Function) → called_by world all ≡ Some d
+            → IsFunction (target (first_type es)) × (world.agree d.1.ty (target (first_type es)) ≡ true)
         link g d r =
             let same : c ≡ d = cc in
-            subst (λ z. world.agree z.1.ty (target (first_type es)) ≡ true) same (subst (λ z. world.agree c.1.ty z ≡ true) (sym e) g)
+            (i, subst (λ z. world.agree z.1.ty (target (first_type es)) ≡ true) same (subst (λ z. world.agree c.1.ty z ≡ true) (sym e) g))
 
     through_fits : (d : Bool) (es : Exprs) (all : List Value) (who : Event) (o : Option CType) → function_type (target (first_type es)) ≡ o → (ts : List CType)
         → Gives world.rows (IsCalled (Call d) es all) (call_through world who o ts all)
     through_fits d es all who None e ts = tt
     through_fits d es all who (Some ty) e ts =
-        by_fits d es all who ty (function_is (target (first_type es)) ty e) ts (later_values all) (called_by world all) refl
+        by_fits d es all who ty (function_is (target (first_type es)) ty e) (is_function (target (first_type es)) ty e) ts (later_values all) (called_by world all) refl
 
     pub call_fits : (who : Event) (h : Head) (es : Exprs) (vs : List Value) → Gives world.rows (IsCalled h es vs) (call_act world who h es vs)
     call_fits who (Call d) es vs = through_fits d es vs who (function_type (target (first_type es))) refl (argument_types es)

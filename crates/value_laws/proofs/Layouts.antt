@@ -1,9 +1,9 @@
 -- Compatible types have one size.
-use Rattle.std.proofs.Common.{◌≡◌, true, false, List, refl, sym, ap, subst, true≢false}
+use Rattle.std.proofs.Common.{◌∙◌, ◌≡◌, false, List, refl, sym, ap, subst}
 use Rattle.c_types.specs.declared.tags.Tag.{Tag}
 use Rattle.c_types.specs.Types.{CType, void, int, enumeration, pointer, array, struct, union, function, Params, none, more, Compatible, EachMatches}
 use Rattle.value_laws.specs.Sizes.{Keeps}
-use Rattle.value_laws.specs.Parameters.{AreKept}
+use Rattle.value_laws.specs.Parameters.{Passes, AreKept}
 use Rattle.value_laws.specs.Layouts.{laid_out, IsNoArray, AreNoArrays, IsUsual, CallKeeps}
 use Rattle.value_laws.proofs.Frames.{keeps_itself}
 
@@ -31,19 +31,17 @@ module _ (tags : List Tag) where
   params_kept (more c a ps) none n m = absurd m
 
   pub call_keeps : (fun by : CType) → IsUsual fun → Compatible fun by → CallKeeps (laid_out tags) fun by
-  call_keeps (function r ps false) (function s qs false) u m = record {
+  call_keeps (function r ps v) (function s qs w) u m = record {
     gives = subst (Keeps (laid_out tags r)) (one_size r s u.0 m.0) (keeps_itself (laid_out tags r));
-    takes = params_kept ps qs u.1 m.1;
+    takes = λ e. subst (λ z. Passes (laid_out tags) (function s qs z) (function r ps v)) (sym e ∙ m.2) (params_kept ps qs u.1 m.1);
   }
-  call_keeps (function r ps false) (function s qs true) u m = absurd (true≢false (sym m.2))
-  call_keeps (function r ps true) by u m = absurd u
-  call_keeps (function r ps false) void u m = absurd m
-  call_keeps (function r ps false) (int k) u m = absurd m
-  call_keeps (function r ps false) (enumeration t) u m = absurd m
-  call_keeps (function r ps false) (pointer c t) u m = absurd m
-  call_keeps (function r ps false) (array c t k) u m = absurd m
-  call_keeps (function r ps false) (struct t) u m = absurd m
-  call_keeps (function r ps false) (union t) u m = absurd m
+  call_keeps (function r ps v) void u m = absurd m
+  call_keeps (function r ps v) (int k) u m = absurd m
+  call_keeps (function r ps v) (enumeration t) u m = absurd m
+  call_keeps (function r ps v) (pointer c t) u m = absurd m
+  call_keeps (function r ps v) (array c t k) u m = absurd m
+  call_keeps (function r ps v) (struct t) u m = absurd m
+  call_keeps (function r ps v) (union t) u m = absurd m
   call_keeps void by u m = absurd u
   call_keeps (int k) by u m = absurd u
   call_keeps (enumeration t) by u m = absurd u

@@ -9,4 +9,4 @@ pub mod Stores
 pub mod Arguments
 mod ParameterStores
 mod Samples
-mod Layouts
+pub mod Layouts

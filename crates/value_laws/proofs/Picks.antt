@@ -26,7 +26,7 @@ use Rattle.value_laws.proofs.Scripts.{go_on, gives_map}
 use Rattle.value_laws.proofs.Acts.{keeps_size, plain_size}
 use Rattle.value_laws.proofs.Work.{UseFits, TodoFits, FoundFits, out_fits, on_fits, leaves_fit, gone_fits, finds_fit, after_fits}
 use Rattle.value_laws.proofs.Nodes.{itself_there, node_fits, value_size}
-use Rattle.value_laws.proofs.Frames.{keeps_itself, keeps_on, function_there, body_there, BegunFits, FrameFits, some_is}
+use Rattle.value_laws.proofs.Frames.{keeps_itself, keeps_on, function_there, body_there, BegunFits, FrameFits, agreed, some_is}
 use Rattle.value_laws.proofs.Frames.{own_value, act_fits, Linked, call_fits}
 
 module _ (size : Sizes) (world : World) where
@@ -255,7 +255,7 @@ module _ (size : Sizes) (world : World) where
       call_moves d ty line es q vs link (Some c) e =
           frame_of (Call d) ty line es c (function_there world.program.functions _ c e)
           (keeps_on (result_size size c.1.ty) (result_size size (target (first_type es))) (size ty)
-          ((ok.functions c.0 c.1 (function_there world.program.functions _ c e)).agrees (target (first_type es)) (link c e))
+          (agreed size world c.0 c.1 (ok.functions c.0 c.1 (function_there world.program.functions _ c e)) (target (first_type es)) (link c e).0 (link c e).1)
           (node_fits size b.root 0 u.node (expr (Call d) ty line es) h.root q).0.0)
           q (later_values vs) (own_body c.1) refl
 

@@ -1,5 +1,5 @@
 -- The sample fits.
-use Rattle.std.proofs.Common.{◌≡◌, ℕ, zero, suc, true, false, true≢false, List, [], Some, None, refl, sym, subst}
+use Rattle.std.proofs.Common.{Bool, ◌≡◌, ℕ, zero, suc, true, false, true≢false, List, [], Some, None, refl, sym, subst}
 use Rattle.std.specs.Prelude.{slice_get}
 use Rattle.addr_map.specs.declared.map.Row.{Row}
 use Rattle.c_types.specs.Types.{CType, void, int, enumeration, pointer, array, struct, union, function, Params}
@@ -8,7 +8,7 @@ use Rattle.c_types.specs.Same.{compatible, matches, each_matches}
 use Rattle.c_model.specs.Program.{Assign, expr, more, none, Stmt, Function}
 use Rattle.c_model.specs.Examples.{int_function, int_type}
 use Rattle.c_model.proofs.Ranks.{and_l, and_r}
-use Rattle.value_laws.specs.Sizes.{Keeps, result_size, ExprFits, StatementFits, FunctionFits, ProgramFits}
+use Rattle.value_laws.specs.Sizes.{Keeps, ExprFits, StatementFits, FunctionFits, ProgramFits}
 use Rattle.value_laws.specs.Parameters.{parameters, Passes, AreTaken, AreKept, BodyTakes, FunctionTakes, ProgramTakes}
 use Rattle.value_laws.specs.Samples.{pair_type, pair_access, pair_sizes, pair_local, load_pair, call_same, same_type, same_function, main_function}
 use Rattle.value_laws.specs.Samples.{pair_program, pair_world}
@@ -27,13 +27,13 @@ int_kept : (ty : CType) → matches false int_type ty ≡ true → Keeps None (p
 int_kept (struct tag) h = absurd (true≢false (sym h))
 int_kept ty h = tt
 
-same_agrees : (ty : CType) → compatible same_type ty ≡ true → Keeps (Some 8) (result_size pair_sizes ty)
-same_agrees (function result params variadic) h = pair_kept result (and_l (matches false pair_type result) _ h)
-same_agrees ty h = tt
+same_agrees : (result : CType) (params : Params) (variadic : Bool) → compatible same_type (function result params variadic) ≡ true
+    → Keeps (Some 8) (pair_sizes result)
+same_agrees result params variadic h = pair_kept result (and_l (matches false pair_type result) _ h)
 
-main_agrees : (ty : CType) → compatible int_function ty ≡ true → Keeps None (result_size pair_sizes ty)
-main_agrees (function result params variadic) h = int_kept result (and_l (matches false int_type result) _ h)
-main_agrees ty h = tt
+main_agrees : (result : CType) (params : Params) (variadic : Bool) → compatible int_function (function result params variadic) ≡ true
+    → Keeps None (pair_sizes result)
+main_agrees result params variadic h = int_kept result (and_l (matches false int_type result) _ h)
 
 some_is : (a b : Function) → Some a ≡ Some b → a ≡ b
 some_is a b h = cc
@@ -75,19 +75,19 @@ none_passed : (ps : Params) → each_matches false types.none ps ≡ true → Ar
 none_passed types.none h = tt
 none_passed (types.more constant ty ps) h = absurd (true≢false (sym h))
 
-same_passes : (ty : CType) → compatible same_type ty ≡ true → Passes pair_sizes ty same_type
-same_passes (function result params false) h =
+same_passes : (result : CType) (params : Params) (variadic : Bool) → compatible same_type (function result params variadic) ≡ true
+    → Passes pair_sizes (function result params variadic) same_type
+same_passes result params false h =
     params_passed params (and_l (each_matches false (types.more false pair_type types.none) params) _ (and_r (matches false pair_type result) _ h))
-same_passes (function result params true) h =
+same_passes result params true h =
     absurd (true≢false (sym (and_r (each_matches false (types.more false pair_type types.none) params) _ (and_r (matches false pair_type result) _ h))))
-same_passes ty h = absurd (true≢false (sym h))
 
-main_passes : (ty : CType) → compatible int_function ty ≡ true → Passes pair_sizes ty int_function
-main_passes (function result params false) h =
+main_passes : (result : CType) (params : Params) (variadic : Bool) → compatible int_function (function result params variadic) ≡ true
+    → Passes pair_sizes (function result params variadic) int_function
+main_passes result params false h =
     none_passed params (and_l (each_matches false types.none params) _ (and_r (matches false int_type result) _ h))
-main_passes (function result params true) h =
+main_passes result params true h =
     absurd (true≢false (sym (and_r (each_matches false types.none params) _ (and_r (matches false int_type result) _ h))))
-main_passes ty h = absurd (true≢false (sym h))
 
 module _ (rows : List Row) where
   functions_fit : (number : ℕ) (fun : Function) → slice_get pair_program.functions number ≡ Some fun → FunctionFits pair_sizes (pair_world rows) number fun

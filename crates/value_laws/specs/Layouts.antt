@@ -1,5 +1,5 @@
 -- The sizes of types by their layout, which compatible types share.
-use Rattle.std.specs.Prelude.{ℕ, false, List, Option, Some, None}
+use Rattle.std.specs.Prelude.{◌≡◌, Bool, ℕ, false, List, Option, Some, None}
 use Rattle.c_types.specs.Types.{CType, array, function, Params, none, more, Compatible}
 use Rattle.c_types.specs.Layout.{extent, extents}
 use Rattle.c_types.specs.declared.tags.Extent.{Extent}
@@ -23,15 +23,19 @@ abbrev pub AreNoArrays : Params → Type 0
 AreNoArrays none = Unit {0}
 AreNoArrays (more constant ty params) = IsNoArray ty × AreNoArrays params
 
--- a function type without ellipsis, which gives and takes no arrays (6.7.6.3p1, 6.7.6.3p7)
+-- a function type that gives and takes no arrays (6.7.6.3p1, 6.7.6.3p7)
 abbrev pub IsUsual : CType → Type 0
-IsUsual (function result params false) = IsNoArray result × AreNoArrays params
+IsUsual (function result params variadic) = IsNoArray result × AreNoArrays params
 IsUsual ty = ⊥
+
+abbrev pub has_ellipsis : CType → Bool
+has_ellipsis (function result params variadic) = variadic
+has_ellipsis ty = false
 
 -- So a function is called through a compatible type with arguments and a result of its sizes (6.5.2.2p9, 6.7.6.3p15).
 pub record CallKeeps (size : Sizes) (fun by : CType) : Type 0 where
   pub gives : Keeps (result_size size fun) (result_size size by)
-  pub takes : Passes size by fun
+  pub takes : has_ellipsis fun ≡ false → Passes size by fun
 
 abbrev pub CompatibleCallsKeep : Type 0
 CompatibleCallsKeep = (tags : List Tag) (fun by : CType) → IsUsual fun → Compatible fun by → CallKeeps (laid_out tags) fun by

@@ -1,5 +1,5 @@
 -- In every order the objects of parameters take arguments of their sizes (6.5.2.2p4, 6.9.1p10).
-use Rattle.std.specs.Prelude.{◌≡◌, ℕ, suc, true, false, List, [], ◌∷◌, Some, None, slice_get}
+use Rattle.std.specs.Prelude.{Bool, ◌≡◌, ℕ, suc, true, false, List, [], ◌∷◌, Some, None, slice_get}
 use Rattle.ub_base.specs.declared.names.Item.{Item}
 use Rattle.ub_base.specs.declared.names.Item.TheVariants.{Write}
 use Rattle.c_types.specs.Types.{CType, function, Params, none, more}
@@ -53,7 +53,8 @@ BodyTakes size params s = ⊥
 -- a function that is defined
 pub record FunctionTakes (size : Sizes) (world : World) (fun : Function) (s : Stmt) : Type 0 where
   pub objects : BodyTakes size (parameters fun.ty) s
-  pub agrees : (ty : CType) → world.agree fun.ty ty ≡ true → Passes size ty fun.ty
+  pub agrees : (result : CType) (params : Params) (variadic : Bool) → world.agree fun.ty (function result params variadic) ≡ true
+      → Passes size (function result params variadic) fun.ty
 
 -- each function that is defined, and `main` with these arguments
 pub record ProgramTakes (size : Sizes) (world : World) (vs : List Value) : Type 0 where

@@ -1,5 +1,5 @@
 -- Programs whose structures and unions have as many bytes as their types say, wherever their values go (6.5.16.1p2, 6.5.2.2, 6.8.6.4p3).
-use Rattle.std.specs.Prelude.{◌≡◌, ◌≤◌, ℕ, zero, suc, ◌+◌, true, false, List, length, Option, Some, None, slice_get}
+use Rattle.std.specs.Prelude.{◌≡◌, ◌≤◌, ℕ, zero, suc, ◌+◌, Bool, true, false, List, length, Option, Some, None, slice_get}
 use Rattle.ub_base.specs.declared.names.Event.{Event}
 use Rattle.addr_map.specs.declared.map.Row.{Row}
 use Rattle.c_types.specs.declared.library.LibFunc.{LibFunc}
@@ -152,7 +152,8 @@ IsPlain v = Unit {0}
 -- the function of this number: its full expressions, and that whatever call takes it for one of its type takes its result for as long as it is
 pub record FunctionFits (size : Sizes) (world : World) (number : ℕ) (fun : Function) : Type 0 where
   pub body : (s : Stmt) → fun.body ≡ Some s → StatementFits size (result_size size fun.ty) s
-  pub agrees : (ty : CType) → world.agree fun.ty ty ≡ true → Keeps (result_size size fun.ty) (result_size size ty)
+  pub agrees : (result : CType) (params : Params) (variadic : Bool) → world.agree fun.ty (function result params variadic) ≡ true
+      → Keeps (result_size size fun.ty) (size result)
 
 -- The program keeps these sizes. No function of the library gives a structure or union (7.1.4).
 pub record ProgramFits (size : Sizes) (world : World) : Type 0 where
