@@ -23,7 +23,7 @@ use Rattle.c_typed.specs.Sites.{Site, Seen, SeenNode, seen_node, seen_tree, seen
 use Rattle.c_typed.specs.Lawful.{There, AccessIs, FirstOf, Gives, LiesIn, ValueIs, LastIs, Passed, CallTypes, TypesAre, SiteIsLawful}
 use Rattle.c_typed.specs.Lawful.{UseFits}
 use Rattle.c_model.specs.Program as model
-use Rattle.c_model.specs.Program.{Expr, expr, Exprs, none, more, Function, Stmt, Value, Empty, Declare, Block, If, If_only, Switch, Do, For, Goto}
+use Rattle.c_model.specs.Program.{Expr, expr, Exprs, none, more, Function, Decl, Stmt, Value, Empty, Declare, Block, If, If_only, Switch, Do, For, Goto}
 use Rattle.c_model.specs.Program.{Continue, Break, Return, Return_none, Label, Case, Default, Stmts, end, and_then}
 use Rattle.c_model.specs.World.{World}
 use Rattle.c_model.specs.Steps.{target, first_type}
@@ -34,7 +34,8 @@ use Rattle.value_laws.proofs.Frames.{keeps_itself}
 use Rattle.value_laws.proofs.Layouts.{call_keeps}
 use Rattle.static_laws.specs.Trees.{is_pointer, expr_of, exprs_of}
 use Rattle.static_laws.specs.LawfulSizes.{LawfulExpressionsFit, LawfulResultsFit, LawfulProgramsFit, IsOf, IsReturnedOf, PerhapsOf, IsMadeOf, AreMadeOf}
-use Rattle.static_laws.specs.LawfulSizes.{type_by, IsFunctionOf, IsProgramOf}
+use Rattle.static_laws.specs.LawfulSizes.{type_by, ObjectsAre, BeginsWith, IsFunctionOf, IsProgramOf, LawfulParametersFit}
+use Rattle.value_laws.specs.Parameters.{parameters, ObjectsFit, BodyTakes, Passes, FunctionTakes}
 use Rattle.static_laws.proofs.Seen.{node_in, operands_in, own_type, head_in, expr_at}
 
 -- what a tree shows
@@ -433,12 +434,38 @@ module _ (p : Program) (f : Signature) where
 function_fits : (p : Program) (world : World) → IsProgramOf p world → (number : ℕ) (fun : Function) → IsFunctionOf p fun
     → FunctionFits (laid_out p.tags) world number fun
 function_fits p world h number fun g = record {
-  body = λ s e. subst (λ t. StatementFits (laid_out p.tags) (result_size (laid_out p.tags) t) s) (sym g.ty) (made_fits p g.signature s (g.body s e));
+  body = λ s e. subst (λ t. StatementFits (laid_out p.tags) (result_size (laid_out p.tags) t) s) (sym g.ty) (made_fits p g.signature s (g.body s e).made);
   agrees = λ result params variadic e.
       let by : Signature = record { result = result; params = params; variadic = variadic } in
       let same = subst (λ t. world.agree t (type_by by) ≡ true) g.ty e in
       subst (λ t. Keeps (result_size (laid_out p.tags) t) (laid_out p.tags result)) (sym g.ty)
       (call_keeps p.tags (type_by g.signature) (type_by by) g.usual (h.agree g.signature by same)).gives;
+}
+
+objects_fit : (tags : List Tag) (params : Params) (ds : List Decl) → ObjectsAre tags params ds → ObjectsFit (laid_out tags) params ds
+objects_fit tags params [] h = tt
+objects_fit tags types.none (d ∷ ds) h = tt
+objects_fit tags (types.more constant ty params) (d ∷ ds) h = (store_fits tags d.access ty h.0, objects_fit tags params ds h.1)
+
+body_takes : (tags : List Tag) (params : Params) (s : Stmt) → BeginsWith tags params s → BodyTakes (laid_out tags) params s
+body_takes tags params (Block number decls ss) h = objects_fit tags params decls h
+body_takes tags params s h = absurd h
+
+function_takes : (p : Program) (world : World) → IsProgramOf p world → (fun : Function) (s : Stmt) → IsFunctionOf p fun → fun.body ≡ Some s
+    → FunctionTakes (laid_out p.tags) world fun s
+function_takes p world h fun s g e = record {
+  objects = subst (λ t. BodyTakes (laid_out p.tags) (parameters t) s) (sym g.ty) (body_takes p.tags g.signature.params s (g.body s e).begins);
+  agrees = λ result params variadic a.
+      let by : Signature = record { result = result; params = params; variadic = variadic } in
+      let same = subst (λ t. world.agree t (type_by by) ≡ true) g.ty a in
+      subst (λ t. Passes (laid_out p.tags) (type_by by) t) (sym g.ty)
+      ((call_keeps p.tags (type_by g.signature) (type_by by) g.usual (h.agree g.signature by same)).takes (g.body s e).fixed);
+}
+
+pub parameters_fit : LawfulParametersFit
+parameters_fit p world vs h main = record {
+  functions = λ number fun s e b. function_takes p world h fun s (h.functions number fun e) b;
+  main = main;
 }
 
 pub programs_fit : LawfulProgramsFit

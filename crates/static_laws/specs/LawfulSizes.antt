@@ -1,16 +1,17 @@
 -- The full expressions of a lawful program keep the sizes that its types have by their layout, and so does what is made of them.
-use Rattle.std.specs.Prelude.{◌≡◌, ℕ, true, List, Option, Some, None, slice_get}
+use Rattle.std.specs.Prelude.{◌≡◌, ℕ, true, false, List, [], ◌∷◌, Option, Some, None, slice_get}
 use Rattle.ub_base.specs.declared.names.Event.{Event}
 use Rattle.c_types.specs.declared.library.LibFunc.{LibFunc}
-use Rattle.c_types.specs.Types.{CType, function, Signature, Compatible}
+use Rattle.c_types.specs.declared.tags.Tag.{Tag}
+use Rattle.c_types.specs.Types.{CType, function, Signature, Compatible, Params, none, more}
 use Rattle.c_typed.specs.declared.program.Program.{Program}
 use Rattle.c_typed.specs.Sites.{Expression, returned}
-use Rattle.c_typed.specs.Lawful.{ExpressionIsLawful}
-use Rattle.c_model.specs.Program as model
-use Rattle.c_model.specs.Program.{Expr, Stmt, Value, Block, If, If_only, Switch, Do, For, Return, Label, Case, Default, Stmts, end, and_then, Function}
+use Rattle.c_typed.specs.Lawful.{AccessIs, ExpressionIsLawful}
+use Rattle.c_model.specs.Program.{Expr, Decl, Stmt, Value, Block, If, If_only, Switch, Do, For, Return, Label, Case, Default, Stmts, end, and_then, Function}
 use Rattle.c_model.specs.Values as values
 use Rattle.c_model.specs.World.{World}
 use Rattle.value_laws.specs.Sizes.{Keeps, ExprFits, Gives, IsPlain, ProgramFits, type_of}
+use Rattle.value_laws.specs.Parameters.{parameters, AreTaken, ProgramTakes}
 use Rattle.value_laws.specs.Layouts.{laid_out, IsUsual}
 use Rattle.static_laws.specs.Trees.{expr_of}
 
@@ -61,12 +62,28 @@ abbrev mutual
 abbrev pub type_by : Signature → CType
 type_by f = function f.result f.params f.variadic
 
+-- the first objects of a block are those of the parameters, stored to as their types say (6.9.1p10)
+abbrev pub ObjectsAre : List Tag → Params → List Decl → Type 0
+ObjectsAre tags params [] = Unit {0}
+ObjectsAre tags none (d ∷ ds) = Unit {0}
+ObjectsAre tags (more constant ty params) (d ∷ ds) = AccessIs tags ty d.access × ObjectsAre tags params ds
+
+abbrev pub BeginsWith : List Tag → Params → Stmt → Type 0
+BeginsWith tags params (Block number decls ss) = ObjectsAre tags params decls
+BeginsWith tags params s = ⊥
+
+-- a body of a function of this signature, which has no ellipsis
+pub record IsBodyOf (p : Program) (f : Signature) (s : Stmt) : Type 0 where
+  pub made : IsMadeOf p f s
+  pub begins : BeginsWith p.tags f.params s
+  pub fixed : f.variadic ≡ false
+
 -- a function of the model, of a signature that gives and takes no arrays
 pub record IsFunctionOf (p : Program) (fun : Function) : Type 0 where
   pub signature : Signature
   pub ty : fun.ty ≡ type_by signature
   pub usual : IsUsual (type_by signature)
-  pub body : (s : Stmt) → fun.body ≡ Some s → IsMadeOf p signature s
+  pub body : (s : Stmt) → fun.body ≡ Some s → IsBodyOf p signature s
 
 -- the model's program is made of lawful full expressions of the typed one; calls ask for compatible types
 pub record IsProgramOf (p : Program) (world : World) : Type 0 where
@@ -77,3 +94,10 @@ pub record IsProgramOf (p : Program) (world : World) : Type 0 where
 -- So such a program keeps them.
 abbrev pub LawfulProgramsFit : Type 0
 LawfulProgramsFit = (p : Program) (world : World) → IsProgramOf p world → ProgramFits (laid_out p.tags) world
+
+-- Its parameters do too, where `main` is called with values of theirs.
+abbrev pub LawfulParametersFit : Type 0
+LawfulParametersFit =
+    (p : Program) (world : World) (vs : List values.Value) → IsProgramOf p world
+    → ((fun : Function) → slice_get world.program.functions world.program.main ≡ Some fun → AreTaken (laid_out p.tags) (parameters fun.ty) vs)
+    → ProgramTakes (laid_out p.tags) world vs

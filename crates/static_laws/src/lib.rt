@@ -4,7 +4,7 @@
 #![tactic(auto)]
 
 ghost use Rattle.static_laws.specs.NeverRaces.{ReadsNeverRace, SequencedNeverRace, BranchesNeverRace, ObjectsNeverRace, BytesNeverRace, WholesNeverRace, OnlyAccessesRace, NeverRaces, SizedNeverRaces};
-ghost use Rattle.static_laws.specs.LawfulSizes.{LawfulExpressionsFit, LawfulResultsFit, LawfulProgramsFit};
+ghost use Rattle.static_laws.specs.LawfulSizes.{LawfulExpressionsFit, LawfulResultsFit, LawfulProgramsFit, LawfulParametersFit};
 
 /// What parts two accesses of a full expression keeps them from racing, in every order, under every address map (6.5p2).
 pub fn law_parted_accesses()
@@ -28,4 +28,5 @@ pub fn law_lawful_sizes()
     ensures expressions { LawfulExpressionsFit }
     ensures results { LawfulResultsFit }
     ensures programs { LawfulProgramsFit }
+    ensures parameters { LawfulParametersFit }
 {}
