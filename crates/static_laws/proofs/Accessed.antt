@@ -1,6 +1,7 @@
 -- The accesses of a full expression are those of its nodes, and the events of the model's expression that can touch anything.
-use Rattle.std.proofs.Common.{◌≡◌, ℕ, zero, suc, ◌+◌, ◌-◌, ◌<◌, ◌≤◌, min, Bool, true, false, not, ◌&&◌, ◌||◌, nat_lt, if◌then◌else◌, List, [], ◌∷◌, ◌++◌, map, length, slice_get}
-use Rattle.std.proofs.Common.{Option, Some, None, is_some, refl, sym, ap, ap₂, ◌∙◌, subst, ◌⊎◌, inl, inr, arith, true≢false}
+use Rattle.std.proofs.Common.{◌≡◌, ℕ, zero, suc, ◌+◌, ◌-◌, ◌<◌, ◌≤◌, Bool, true, false, not, ◌&&◌, ◌||◌, nat_lt, if◌then◌else◌, List, [], ◌∷◌, ◌++◌, map}
+use Rattle.std.proofs.Common.{length, slice_get}
+use Rattle.std.proofs.Common.{Option, Some, None, refl, sym, ap, ◌∙◌, subst, ◌⊎◌, inl, inr, arith, true≢false}
 use Rattle.std.proofs.lemmas.Bool.Decides.{nat_tests}
 use Rattle.std.specs.Prelude.{◌^◌, ℤ, unsigned_abs, ◌==◌}
 use Rattle.ub_base.specs.declared.clause.Kind.{Kind}
@@ -22,7 +23,6 @@ use Rattle.c_typed.specs.declared.tree.Node.TheOpen.{Node-F}
 use Rattle.c_typed.specs.declared.tree.Typed.{Typed, out-Typed}
 use Rattle.c_typed.specs.declared.program.Program.{Program}
 use Rattle.c_typed.specs.Tree.{tree_of, trees_of, size, sizes}
-use Rattle.c_typed.specs.Order.{place}
 use Rattle.mem_spec.specs.Agreement.{bytes_of_kind}
 use Rattle.c_model.specs.Program as model
 use Rattle.c_model.specs.Program.{Head, Expr, expr, Exprs}
@@ -42,11 +42,11 @@ use Rattle.static_laws.specs.Apart.{is_whole, stores_whole_by, stores_whole_at, 
 use Rattle.static_laws.specs.Low.{is_low, all_low}
 use Rattle.static_laws.specs.NeverRaces.{IsAmong}
 use Rattle.static_laws.proofs.Reach.{Site, Reach, reach, reach_by, store_limit}
-use Rattle.static_laws.proofs.Sites.{first_site, site_of}
+use Rattle.static_laws.proofs.Sites.{first_site}
 use Rattle.static_laws.proofs.Frames.{list_name, reach_at}
-use Rattle.static_laws.proofs.Seen.{node_in, operands_in, own_type, head_in, expr_at, size_at, by_size}
+use Rattle.static_laws.proofs.Seen.{node_in, operands_in, own_type, head_in, expr_at, by_size}
 use Rattle.static_laws.proofs.Numbered.{seen, get_left, get_right, nodes_length, node_there}
-use Rattle.static_laws.proofs.Places.{site_in, SiteOf, site_is}
+use Rattle.static_laws.proofs.Places.{site_in, site_is}
 
 -- lists
 pub there : (xs : List Typed) (i : ℕ) (t : Typed) → slice_get xs i ≡ Some t → i < length xs
@@ -190,12 +190,12 @@ module _ (p : Program) (function : ℕ) where
         own = subst (λ m. IsAmong (node_accesses p function m r.node) a) (omega (arith, number)) r.own;
       }
 
-  module _ (world : World) (f : Scene) where
+  module _ (world : World) (sized : Bool) (f : Scene) where
     -- an access and what its event can touch
     pub record Link (d : Node-F Node Typed) (n : ℕ) (a : MemoryAccess) (r : Reach) : Type 0 where
       pub writes : a.writes ≡ r.writes
       pub site : (s : Spot) → a.spot ≡ Some s → r.site ≡ Some (site_in p function world f s)
-      pub limit : (a.writes && stores_whole_by d) ≡ false → r.limit ≡ Some a.length
+      pub limit : (sized || not (a.writes && stores_whole_by d)) ≡ true → r.limit ≡ Some a.length
       pub node : a.at.place.node ≡ n
 
     kind_width : (k : IntKind) → bytes_of_kind k ≡ bytes k
@@ -212,13 +212,17 @@ module _ (p : Program) (function : ℕ) where
     change_width (change.Integer op kind work) = kind_width kind
     change_width (change.Pointer size subtract) = refl
 
-    limit_is : (how : Access) → is_whole how ≡ false → store_limit how ≡ Some (length_of how)
+    limit_is : (how : Access) → (sized || not (is_whole how)) ≡ true → store_limit sized how ≡ Some (length_of how)
     limit_is (access.Integer k) h = ap Some (kind_width k)
     limit_is access.Pointer h = refl
     limit_is access.Function h = refl
-    limit_is (access.Whole size align) h = absurd (true≢false h)
+    limit_is (access.Whole size align) h = known sized h
+      where
+        known : (s : Bool) → (s || false) ≡ true → (if s then Some size else None) ≡ Some size
+        known true h = refl
+        known false h = absurd (true≢false (sym h))
 
-    change_limit : (c : Change) → store_limit (change_access c) ≡ Some (changed_length c)
+    change_limit : (c : Change) → store_limit sized (change_access c) ≡ Some (changed_length c)
     change_limit (change.Integer op kind work) = ap Some (kind_width kind)
     change_limit (change.Pointer size subtract) = refl
 
@@ -228,7 +232,8 @@ module _ (p : Program) (function : ℕ) where
 
     abbrev Links : Node-F Node Typed → ℕ → Typed → CType → MemoryAccess → Type 0
     Links d n t ty a =
-        (r : Reach) × (reach_by (head_in d ty) (first_site world f (exprs_of (operands_in t))) (list_name world f (head_in d ty)) a.at.place.kind ≡ Some r)
+        (r : Reach) × (reach_by sized (head_in d ty) (first_site world f (exprs_of (operands_in t)))
+        (list_name world f (head_in d ty)) a.at.place.kind ≡ Some r)
         × Link d n a r
 
     list_spot : (slot : Slot) (s : Spot) → ◌≡◌ {A = Option Spot} (Some (base.Slot slot, 0)) (Some s)
@@ -245,7 +250,7 @@ module _ (p : Program) (function : ℕ) where
     link_by (shape.Load how) n t ty a k (inr e) = absurd e
     link_by (shape.Assign first how) n t ty a k (inl e) =
         subst (Links (shape.Assign first how) n t ty) e (
-          reach true (first_site world f (exprs_of (operands_in t))) (store_limit how),
+          reach true (first_site world f (exprs_of (operands_in t))) (store_limit sized how),
           refl,
           record { writes = refl; site = k; limit = λ h. limit_is how h; node = refl },
         )
@@ -258,7 +263,7 @@ module _ (p : Program) (function : ℕ) where
         )
     link_by (shape.Update c old) n t ty a k (inr (inl e)) =
         subst (Links (shape.Update c old) n t ty) e (
-          reach true (first_site world f (exprs_of (operands_in t))) (store_limit (change_access c)),
+          reach true (first_site world f (exprs_of (operands_in t))) (store_limit sized (change_access c)),
           refl,
           record { writes = refl; site = k; limit = λ h. change_limit c; node = refl },
         )
@@ -272,10 +277,10 @@ module _ (p : Program) (function : ℕ) where
     link_by (shape.List slot cs) n t ty a k (inr e) = absurd e
     link_by _ n t ty a k h = absurd h
 
-    constant_reach : (z : ℤ) (ty : CType) (s : Option Site) (x : ObjName) (k : Kind) → reach_by (head_in (shape.Const z) ty) s x k ≡ None
+    constant_reach : (z : ℤ) (ty : CType) (s : Option Site) (x : ObjName) (k : Kind) → reach_by sized (head_in (shape.Const z) ty) s x k ≡ None
     constant_reach z ty s x k = go (is_pointer ty && (unsigned_abs z == 0))
       where
-        go : (b : Bool) → reach_by (if b then model.Null else model.Number z) s x k ≡ None
+        go : (b : Bool) → reach_by sized (if b then model.Null else model.Number z) s x k ≡ None
         go true = refl
         go false = refl
 
@@ -284,7 +289,7 @@ module _ (p : Program) (function : ℕ) where
     AccessAt d n t k = (a : MemoryAccess) × IsAmong (accesses_by p function n t d) a × (a.at.place.node ≡ n) × (a.at.place.kind ≡ k)
 
     access_by : (d : Node-F Node Typed) (n : ℕ) (t : Typed) (ty : CType) (s : Option Site) (x : ObjName) (k : Kind) (r : Reach)
-        → reach_by (head_in d ty) s x k ≡ Some r → AccessAt d n t k
+        → reach_by sized (head_in d ty) s x k ≡ Some r → AccessAt d n t k
     access_by (shape.Load how) n t ty s x Val r h = (through p function n t Val false (length_of how), inl refl, refl, refl)
     access_by (shape.Assign first how) n t ty s x Eff r h = (through p function n t Eff true (length_of how), inl refl, refl, refl)
     access_by (shape.Update c old) n t ty s x Val r h = (through p function n t Val false (changed_length c), inl refl, refl, refl)
@@ -311,10 +316,12 @@ module _ (p : Program) (function : ℕ) where
 
       -- the reach of the event at a node
       reach_there : (i : ℕ) (t : Typed) (k : Kind) → slice_get (nodes_of root) i ≡ Some t
-          → reach_at world f k (at_node 0 (expr_of root) i)
-          ≡ reach_by (head_in (node_in t) (own_type t)) (first_site world f (exprs_of (operands_in t))) (list_name world f (head_in (node_in t) (own_type t))) k
+          → reach_at world sized f k (at_node 0 (expr_of root) i)
+          ≡ reach_by sized (head_in (node_in t) (own_type t)) (first_site world f (exprs_of (operands_in t)))
+          (list_name world f (head_in (node_in t) (own_type t))) k
       reach_there i t k e =
-          ap (reach_at world f k) (node_there root i) ∙ (ap (λ o. reach_at world f k (seen o)) e ∙ ap (λ x. reach_at world f k (Some x)) (expr_at t))
+          ap (reach_at world sized f k) (node_there root i) ∙
+          (ap (λ o. reach_at world sized f k (seen o)) e ∙ ap (λ x. reach_at world sized f k (Some x)) (expr_at t))
 
       short : 0 + length (nodes_of root) < 2 ^ 32
       short = (let n = nodes_length root in omega (arith, n, few))
@@ -322,10 +329,10 @@ module _ (p : Program) (function : ℕ) where
       -- each access of the list has its event's reach
       pub record Linked (a : MemoryAccess) : Type 0 where
         pub reach : Reach
-        pub is_reach : reach_at world f a.at.place.kind (at_node 0 (expr_of root) a.at.place.node) ≡ Some reach
+        pub is_reach : reach_at world sized f a.at.place.kind (at_node 0 (expr_of root) a.at.place.node) ≡ Some reach
         pub writes : a.writes ≡ reach.writes
         pub site : (s : Spot) → a.spot ≡ Some s → reach.site ≡ Some (site_in p function world f s)
-        pub limit : stores_whole root a ≡ false → reach.limit ≡ Some a.length
+        pub limit : (sized || not (stores_whole root a)) ≡ true → reach.limit ≡ Some a.length
 
       pub linked : (a : MemoryAccess) → IsAmong (accesses p function root) a → Linked a
       linked a h =
@@ -336,19 +343,20 @@ module _ (p : Program) (function : ℕ) where
           let n = l.2.node in
           record {
             reach = l.0;
-            is_reach = ap (λ z. reach_at world f a.at.place.kind (at_node 0 (expr_of root) z)) n ∙ (reach_there at.index at.node a.at.place.kind at.there ∙ l.1);
+            is_reach = ap (λ z. reach_at world sized f a.at.place.kind (at_node 0 (expr_of root) z)) n ∙
+                (reach_there at.index at.node a.at.place.kind at.there ∙ l.1);
             writes = l.2.writes;
             site = l.2.site;
-            limit = λ w. l.2.limit (subst (λ o. (a.writes && stores_whole_at o) ≡ false) (ap (slice_get (nodes_of root)) n ∙ at.there) w);
+            limit = λ w. l.2.limit (subst (λ o. (sized || not (a.writes && stores_whole_at o)) ≡ true) (ap (slice_get (nodes_of root)) n ∙ at.there) w);
           }
 
       -- and each event with a reach an access of the list
-      pub access_of : (u : Place) (r : Reach) → reach_at world f u.kind (at_node 0 (expr_of root) u.node) ≡ Some r
+      pub access_of : (u : Place) (r : Reach) → reach_at world sized f u.kind (at_node 0 (expr_of root) u.node) ≡ Some r
           → (a : MemoryAccess) × IsAmong (accesses p function root) a × (a.at.place ≡ u)
       access_of u r h = go (slice_get (nodes_of root) u.node) refl
         where
           go : (o : Option Typed) → slice_get (nodes_of root) u.node ≡ o → (a : MemoryAccess) × IsAmong (accesses p function root) a × (a.at.place ≡ u)
-          go None e = absurd (let k = ap (reach_at world f u.kind) (node_there root u.node ∙ ap seen e) in cc (k, h))
+          go None e = absurd (let k = ap (reach_at world sized f u.kind) (node_there root u.node ∙ ap seen e) in cc (k, h))
           go (Some t) e =
               let k = sym (reach_there u.node t u.kind e) ∙ h in
               let a = access_by (node_in t) u.node t (own_type t) (first_site world f (exprs_of (operands_in t)))

@@ -1,10 +1,10 @@
 -- The accesses of an event's act lie in its reach.
-use Rattle.std.proofs.Common.{◌≡◌, ℕ, zero, suc, ◌+◌, ◌-◌, ◌*◌, ◌/◌, ◌<◌, ◌≤◌, Bool, true, false, not, ◌&&◌, ◌||◌, if◌then◌else◌, List, [], ◌∷◌, length, Option}
-use Rattle.std.proofs.Common.{Some, None, is_some, refl, sym, ap, ◌∙◌, subst, ◌⊎◌, inl, inr, arith}
+use Rattle.std.proofs.Common.{◌≡◌, ℕ, zero, suc, ◌+◌, ◌-◌, ◌/◌, ◌≤◌, Bool, true, false, not, ◌&&◌, ◌||◌, if◌then◌else◌, List, [], ◌∷◌, length, Option}
+use Rattle.std.proofs.Common.{Some, None, is_some, refl, sym, ap, subst, inl, inr, arith}
 use Rattle.std.proofs.lemmas.Bool.Decides.{nat_tests}
 use Rattle.std.specs.Prelude.{◌==◌, ◌^◌, nat_le, ℤ, pos, ◌+ℤ◌, ◌-ℤ◌, unsigned_abs, Result, Ok, Err}
 use Rattle.ub_base.specs.declared.clause.Kind.{Kind}
-use Rattle.ub_base.specs.declared.clause.Kind.TheVariants.{Val, Eff, Body}
+use Rattle.ub_base.specs.declared.clause.Kind.TheVariants.{Val, Eff}
 use Rattle.ub_base.specs.declared.clause.Clause.{Clause}
 use Rattle.ub_base.specs.declared.clause.Clause.TheVariants.{InvalidPointer, OutOfBounds, DeadObject, EffectiveType, OverlappingAssignment, Indeterminate}
 use Rattle.ub_base.specs.declared.clause.Clause.TheVariants.{TrapRepresentation, PointerAlignment, PointerDifference, PointerComparison, StoreToLiteral}
@@ -34,9 +34,9 @@ use Rattle.c_typed.specs.declared.tree.UnOp.TheVariants as unary
 use Rattle.c_typed.specs.declared.tree.RelOp.{RelOp}
 use Rattle.mem_spec.specs.Store.{TaggedByte, Life, is_live}
 use Rattle.mem_spec.specs.Agreement.{bytes_of_kind}
-use Rattle.mem_spec.specs.Script.{Ask, Get, Put, Show, Find, Settle, Script, Give, Raise, ◌>>=◌, ◌>>◌, require, touch}
+use Rattle.mem_spec.specs.Script.{Ask, Get, Put, Find, Settle, Script, Give, Raise, ◌>>=◌, ◌>>◌, require, touch}
 use Rattle.mem_spec.specs.Acts.{Accessed, Seen, scalar, whole, bytes, in_row, offset_in, is_aligned, declared_of, is_literal, is_constant, suits_load}
-use Rattle.mem_spec.specs.Acts.{suits_store, stored_from, check_writable, object_of, in_bounds, access as access_act, store, shift, base_in, tag_left}
+use Rattle.mem_spec.specs.Acts.{suits_store, stored_from, check_writable, object_of, in_bounds, access as access_act, store, shift, base_in}
 use Rattle.mem_spec.specs.Acts.{settle_by, all_written, show_each, show_pieces, origins_in, value_of, is_trap, number_of, load_int, load_func, load_ptr}
 use Rattle.mem_spec.specs.Acts.{load_block, from_int, some_live, target_lives, candidates, pointer_or_number, pointer_in, retagged, settle_to}
 use Rattle.mem_spec.specs.Acts.{settle_common, in_common, less, diff, is_multiple, expose}
@@ -49,8 +49,9 @@ use Rattle.c_model.specs.Program.{Listed}
 use Rattle.c_model.specs.Nodes.{bool_value, outcome, int_outcome, load, put_whole, put, overlap_inexactly, convert, unary_value, operated, in_order}
 use Rattle.c_model.specs.Nodes.{relational, distance, shifted, difference, is_empty, member, part_pointer, read_part, width_of, part_of, amount, worked}
 use Rattle.c_model.specs.Nodes.{changed, check_change, change_access, given_back, update_value, new_value, call_value, content_bytes, fill, act_of}
+use Rattle.value_laws.specs.Sizes.{HasBytes}
 use Rattle.static_laws.proofs.Scripts.{Post, Anything, NoAccess, bind, go_on, weaken, post_map, need, needs, when}
-use Rattle.static_laws.proofs.Reach.{Site, Reach, reach, Until, AtSite, Touches, InReach, pointer_at, Points, FoundAt, Found, store_limit, reach_by}
+use Rattle.static_laws.proofs.Reach.{Site, Reach, reach, Until, AtSite, Touches, InReach, Points, Found, store_limit, reach_by}
 
 abbrev pub Quiet : {V : Type 0} → Script V → Type 0
 Quiet x = Post NoAccess Anything x
@@ -432,30 +433,49 @@ module _ (rows : List Row) where
   no_more : (n m : ℕ) → m ≡ n → (o : ℕ) → Until (Some n) o (o + m)
   no_more n m e o = omega (arith, e)
 
-  whole_within : (site : Option Site) (first : Bool) (size align : ℕ) (p : Pointer) (v : Value) → Points rows site p
-      → Within (Some (reach true site None)) (put_whole rows first size align p v)
-  whole_within site first size align p (values.Whole ds source) h =
-      go_on (InReach rows (Some (reach true site None))) Anything (store rows first whole align p.address p.prov ds)
-      (λ u. require (not (overlap_inexactly size p.address source)) OverlappingAssignment >> Give Nothing)
-      (store_points site first whole align p ds None h (λ o. tt))
-      (λ u. need (InReach rows (Some (reach true site None))) Anything (not (overlap_inexactly size p.address source)) OverlappingAssignment (Give Nothing) (λ k. tt))
-  whole_within site first size align p _ h = tt
+  -- a value that is stored has as many bytes as its type, where sizes are known
+  abbrev pub StoredFits : Access → Value → Type 0
+  StoredFits (access.Whole size align) v = HasBytes size v
+  StoredFits how v = Unit {0}
 
-  put_within : (site : Option Site) (first : Bool) (how : Access) (ty : CType) (p : Pointer) (v : Value) → Points rows site p
-      → Within (Some (reach true site (store_limit how))) (put rows first how ty p v)
-  put_within site first (access.Integer k) ty p v h =
+  whole_limit : (sized : Bool) (size m : ℕ) → (sized ≡ true → m ≡ size) → (o : ℕ) → Until (if sized then Some size else None) o (o + m)
+  whole_limit false size m f o = tt
+  whole_limit true size m f o = (let e = f refl in omega (arith, e))
+
+  whole_within : (site : Option Site) (sized first : Bool) (size align : ℕ) (p : Pointer) (v : Value) → Points rows site p → (sized ≡ true → HasBytes size v)
+      → Within (Some (reach true site (if sized then Some size else None))) (put_whole rows first size align p v)
+  whole_within site sized first size align p (values.Whole ds source) h f =
+      let o = Some (reach true site (if sized then Some size else None)) in
+      go_on (InReach rows o) Anything (store rows first whole align p.address p.prov ds)
+      (λ u. require (not (overlap_inexactly size p.address source)) OverlappingAssignment >> Give Nothing)
+      (store_points site first whole align p ds (if sized then Some size else None) h (whole_limit sized size (length ds) f))
+      (λ u. need (InReach rows o) Anything (not (overlap_inexactly size p.address source)) OverlappingAssignment (Give Nothing) (λ k. tt))
+  whole_within site sized first size align p _ h f = tt
+
+  put_within : (site : Option Site) (sized first : Bool) (how : Access) (ty : CType) (p : Pointer) (v : Value) → Points rows site p
+      → (sized ≡ true → StoredFits how v) → Within (Some (reach true site (store_limit sized how))) (put rows first how ty p v)
+  put_within site sized first (access.Integer k) ty p v h f =
       go_on (InReach rows (Some (reach true site (Some (bytes_of_kind k))))) Anything (store rows first (scalar (int k)) (bytes_of_kind k) p.address p.prov (int_bytes k (integer_of v))) (λ u. Give Nothing)
       (store_points site first (scalar (int k)) (bytes_of_kind k) p (int_bytes k (integer_of v)) (Some (bytes_of_kind k)) h
       (no_more (bytes_of_kind k) _ (number_length (bytes_of_kind k) (low_bits (integer_of v))))) (λ u. tt)
-  put_within site first access.Pointer ty p v h =
+  put_within site sized first access.Pointer ty p v h f =
       go_on (InReach rows (Some (reach true site (Some 8)))) Anything (store rows first (scalar ty) 8 p.address p.prov (pointer_bytes 8 0 (pointer_of v).prov (pointer_of v).address))
       (λ u. Give Nothing)
       (store_points site first (scalar ty) 8 p (pointer_bytes 8 0 (pointer_of v).prov (pointer_of v).address) (Some 8) h
       (no_more 8 _ (pointer_length 8 0 (pointer_of v).prov (pointer_of v).address))) (λ u. tt)
-  put_within site first access.Function ty p v h =
+  put_within site sized first access.Function ty p v h f =
       go_on (InReach rows (Some (reach true site (Some 8)))) Anything (store rows first (scalar ty) 8 p.address p.prov (number_bytes 8 (function_in v))) (λ u. Give Nothing)
       (store_points site first (scalar ty) 8 p (number_bytes 8 (function_in v)) (Some 8) h (no_more 8 _ (number_length 8 (function_in v)))) (λ u. tt)
-  put_within site first (access.Whole size align) ty p v h = whole_within site first size align p v h
+  put_within site sized first (access.Whole size align) ty p v h f = whole_within site sized first size align p v h f
+
+  -- an update stores no structure or union
+  change_stored : (c : Change) (v : Value) → StoredFits (change_access c) v
+  change_stored (change.Integer op kind work) v = tt
+  change_stored (change.Pointer size subtract) v = tt
+
+  abbrev pub StoresFit : Head → List Value → Type 0
+  StoresFit (Assign first how) vs = StoredFits how (value_at vs 1)
+  StoresFit h vs = Unit {0}
 
   -- each row ends low
   abbrev pub AreLow : Type 0
@@ -501,31 +521,32 @@ module _ (rows : List Row) where
   Names (Listed slot fillings) x vs = (pointer_of (value_at vs 0)).prov ≡ prov.Whole x
   Names h x vs = Unit {0}
 
-  module _ (low : AreLow) (site : Option Site) (x : ObjName) where
+  module _ (low : AreLow) (site : Option Site) (sized : Bool) (x : ObjName) where
     pub act_within : (who : Event) (h : Head) (ty : CType) (k : Kind) (vs : List Value) (own : Value) → Points rows site (pointer_of (value_at vs 0))
-        → Names h x vs → Within (reach_by h site x k) (act_of rows who h ty k vs own)
-    act_within who (Load how) ty Val vs own p n = load_within site (pointer_of (value_at vs 0)) p false who how ty
-    act_within who (Conv c) ty Val vs own p n = unaccessed None _ (convert_quiet who c (value_at vs 0))
-    act_within who (Un op) ty Val vs own p n = unaccessed None _ (unary_quiet op (value_at vs 0))
-    act_within who (Bin op kind) ty Val vs own p n =
+        → Names h x vs → (sized ≡ true → StoresFit h vs) → Within (reach_by sized h site x k) (act_of rows who h ty k vs own)
+    act_within who (Load how) ty Val vs own p n f = load_within site (pointer_of (value_at vs 0)) p false who how ty
+    act_within who (Conv c) ty Val vs own p n f = unaccessed None _ (convert_quiet who c (value_at vs 0))
+    act_within who (Un op) ty Val vs own p n f = unaccessed None _ (unary_quiet op (value_at vs 0))
+    act_within who (Bin op kind) ty Val vs own p n f =
         unaccessed None _ (int_outcome_quiet (operated op kind (integer_of (value_at vs 0)) (integer_of (value_at vs 1))))
-    act_within who (PtrAdd size subtract) ty Val vs own p n =
+    act_within who (PtrAdd size subtract) ty Val vs own p n f =
         unaccessed None _ (shifted_quiet rows (pointer_of (value_at vs 0)) (distance size subtract (integer_of (value_at vs 1))))
-    act_within who (PtrDiff size) ty Val vs own p n =
+    act_within who (PtrDiff size) ty Val vs own p n f =
         unaccessed None _ (difference_quiet size (pointer_of (value_at vs 0)) (pointer_of (value_at vs 1)))
-    act_within who (Rel op pointers) ty Val vs own p n = unaccessed None _ (relational_quiet op pointers (value_at vs 0) (value_at vs 1))
-    act_within who (Eq op) ty Val vs own p n = tt
-    act_within who (Member offset) ty Val vs own p n = unaccessed None _ (member_quiet rows offset (pointer_of (value_at vs 0)))
-    act_within who (Part offset how) ty Val vs own p n = unaccessed None _ (part_quiet who offset how (value_at vs 0))
-    act_within who (Assign first how) ty Val vs own p n = tt
-    act_within who (Assign first how) ty Eff vs own p n = put_within site first how ty (pointer_of (value_at vs 0)) (value_at vs 1) p
-    act_within who (Update c old) ty Val vs own p n = update_within site (pointer_of (value_at vs 0)) p false who c old ty (amount old vs)
-    act_within who (Update c old) ty Eff vs own p n =
-        put_within site false (change_access c) ty (pointer_of (value_at vs 0)) (new_value c old own (amount old vs)) p
-    act_within who And ty Val vs own p n = tt
-    act_within who Or ty Val vs own p n = tt
-    act_within who Cond ty Val vs own p n = tt
-    act_within who Comma ty Val vs own p n = tt
-    act_within who (Call discarded) ty Val vs own p n = unaccessed None _ (call_value_quiet discarded own)
-    act_within who (Listed slot fillings) ty Eff vs own p n = fill_within low x (pointer_of (value_at vs 0)) fillings n
-    act_within who _ ty _ vs own p n = tt
+    act_within who (Rel op pointers) ty Val vs own p n f = unaccessed None _ (relational_quiet op pointers (value_at vs 0) (value_at vs 1))
+    act_within who (Eq op) ty Val vs own p n f = tt
+    act_within who (Member offset) ty Val vs own p n f = unaccessed None _ (member_quiet rows offset (pointer_of (value_at vs 0)))
+    act_within who (Part offset how) ty Val vs own p n f = unaccessed None _ (part_quiet who offset how (value_at vs 0))
+    act_within who (Assign first how) ty Val vs own p n f = tt
+    act_within who (Assign first how) ty Eff vs own p n f = put_within site sized first how ty (pointer_of (value_at vs 0)) (value_at vs 1) p f
+    act_within who (Update c old) ty Val vs own p n f = update_within site (pointer_of (value_at vs 0)) p false who c old ty (amount old vs)
+    act_within who (Update c old) ty Eff vs own p n f =
+        put_within site sized false (change_access c) ty (pointer_of (value_at vs 0)) (new_value c old own (amount old vs)) p
+        (λ e. change_stored c (new_value c old own (amount old vs)))
+    act_within who And ty Val vs own p n f = tt
+    act_within who Or ty Val vs own p n f = tt
+    act_within who Cond ty Val vs own p n f = tt
+    act_within who Comma ty Val vs own p n f = tt
+    act_within who (Call discarded) ty Val vs own p n f = unaccessed None _ (call_value_quiet discarded own)
+    act_within who (Listed slot fillings) ty Eff vs own p n f = fill_within low x (pointer_of (value_at vs 0)) fillings n
+    act_within who _ ty _ vs own p n f = tt

@@ -1,9 +1,8 @@
 -- Case by case, two events of a full expression whose accesses are apart don't race.
 use Rattle.std.proofs.Common.{◌≡◌, ℕ, zero, suc, ◌+◌, ◌-◌, ◌<◌, ◌≤◌, min, max, Bool, true, false, not, ◌&&◌, ◌||◌, nat_lt, if◌then◌else◌, List, [], ◌∷◌, length, slice_get}
-use Rattle.std.proofs.Common.{Option, Some, None, is_some, refl, sym, ap, ap₂, ◌∙◌, subst, ◌⊎◌, inl, inr, arith, true≢false}
+use Rattle.std.proofs.Common.{Option, Some, None, is_some, refl, sym, ap, ◌∙◌, subst, ◌⊎◌, inl, inr, arith, true≢false}
 use Rattle.std.proofs.lemmas.Bool.Decides.{nat_tests}
-use Rattle.std.specs.Prelude.{◌^◌, ◌==◌, nat_le, unsigned_abs}
-use Rattle.ub_base.specs.declared.clause.Kind.TheVariants.{Val}
+use Rattle.std.specs.Prelude.{◌^◌, ◌==◌, nat_le}
 use Rattle.ub_base.specs.declared.names.Frame.{Frame}
 use Rattle.ub_base.specs.declared.names.Item.{Item}
 use Rattle.ub_base.specs.declared.names.Item.TheVariants.{Read, Write, Born, Dies, Alive, Expose, Lookup, Narrow, Input, Output, Ending, Any}
@@ -26,13 +25,13 @@ use Rattle.c_typed.specs.declared.tree.Typed.{Typed, out-Typed}
 use Rattle.c_typed.specs.declared.program.Program.{Program}
 use Rattle.c_typed.specs.Tree as plain
 use Rattle.c_typed.specs.Tree.{size, sizes, trees_of}
-use Rattle.c_typed.specs.Order.{Taken, Before, IsApart, goes, is_choice}
+use Rattle.c_typed.specs.Order.{Taken, IsApart, goes, is_choice}
 use Rattle.c_typed.specs.Decide.{due_in, is_before}
 use Rattle.c_model.specs.Program as model
 use Rattle.c_model.specs.Program.{Head, And, Or, Cond, Expr, expr, Exprs, none, more, tree_of, head_class}
 use Rattle.c_model.specs.World.{World}
 use Rattle.c_model.specs.Steps.{Scene, Begun, taken_by, at_node, name_of, turn_of}
-use Rattle.c_model.specs.ChoiceLaws.{IsNext, IsReached}
+use Rattle.c_model.specs.ChoiceLaws.{IsReached}
 use Rattle.c_model.proofs.Ranks.{and_l, and_r, or_cases, eq_eq, lt_lt, ge_lt}
 use Rattle.c_model.proofs.Decided.{and_b}
 use Rattle.static_places.specs.declared.places.FixedBase.{FixedBase}
@@ -42,23 +41,23 @@ use Rattle.static_places.specs.Fixed.{Spot}
 use Rattle.static_places.specs.Private.{same_slot}
 use Rattle.static_seq.specs.declared.accesses.MemoryAccess.{MemoryAccess}
 use Rattle.static_seq.specs.Accesses.{next}
-use Rattle.static_seq.specs.Choices.{count, count_in, operand_count, is_in_last, is_in_second, node_of, spared_by, spared_at, spared_where, spared_of, parts_at}
+use Rattle.static_seq.specs.Choices.{count, count_in, operand_count, is_in_last, is_in_second, node_of, spared_by, spared_where, spared_of, parts_at}
 use Rattle.static_seq.specs.Choices.{in_branches}
-use Rattle.static_seq.specs.Parted.{both_read, sequenced, branched, same_base, are_distant, distant, accesses}
-use Rattle.static_laws.specs.Trees.{is_pointer, expr_of, exprs_of}
+use Rattle.static_seq.specs.Parted.{both_read, sequenced, same_base, are_distant, distant, accesses}
+use Rattle.static_laws.specs.Trees.{expr_of, exprs_of}
 use Rattle.static_laws.specs.Apart.{other_bases, other_objects, stores_whole, other_bytes, has_branches_by, all_branch}
 use Rattle.static_laws.specs.Low.{all_low}
 use Rattle.static_laws.specs.NeverRaces.{AreRows, IsAmong}
-use Rattle.static_laws.proofs.Reach.{Site, Reach, Until, AtSite, Touches, InReach}
-use Rattle.static_laws.proofs.Frames.{Falls, one_turn, reach_at}
-use Rattle.static_laws.proofs.Races.{Clash, RaceAt}
+use Rattle.static_laws.proofs.Reach.{Reach, Until, AtSite, Touches, InReach}
+use Rattle.static_laws.proofs.Frames.{Falls, one_turn, reach_at, Knows}
+use Rattle.static_laws.proofs.Races.{RaceAt}
 use Rattle.static_laws.proofs.Seen.{node_in, operands_in, own_type, head_in, expr_at, size_at, same_tree}
 use Rattle.static_laws.proofs.Inside.{fits, due_inside, pass, take_it, goes_is}
-use Rattle.static_laws.proofs.Ordered.{Later, FactsIn}
+use Rattle.static_laws.proofs.Ordered.{Later}
 use Rattle.static_laws.proofs.Completed.{completed, filled, or_filled, ordered_now}
 use Rattle.static_laws.proofs.Numbered.{seen, nodes_length, node_there}
 use Rattle.static_laws.proofs.Places.{base_name, site_in}
-use Rattle.static_laws.proofs.Accessed.{there, Linked, linked}
+use Rattle.static_laws.proofs.Accessed.{Linked, linked}
 
 -- where an access lies
 pub data Lies : Item → Bool → ObjName → ℕ → ℕ → Type 0 where
@@ -133,11 +132,11 @@ meets stands _ _ _ _ _ _ _ _ _ _ (writes x a n) (writes y b m) h = elim (or_case
 ]
 
 -- two events of a full expression that race, in either order
-pub record Pair (world : World) (f : Scene) (b : Begun) (root : Typed) (z w : Place) : Type 0 where
+pub record Pair (world : World) (sized : Bool) (f : Scene) (b : Begun) (root : Typed) (z w : Place) : Type 0 where
   pub first : Item
   pub second : Item
-  pub in_first : InReach world.rows (reach_at world f z.kind (at_node 0 (expr_of root) z.node)) first
-  pub in_second : InReach world.rows (reach_at world f w.kind (at_node 0 (expr_of root) w.node)) second
+  pub in_first : InReach world.rows (reach_at world sized f z.kind (at_node 0 (expr_of root) z.node)) first
+  pub in_second : InReach world.rows (reach_at world sized f w.kind (at_node 0 (expr_of root) w.node)) second
   pub is_first : is_access first ≡ true
   pub is_second : is_access second ≡ true
   pub conflict : items_conflict (stands_at world.rows) first second ≡ true
@@ -151,22 +150,24 @@ or_swap true false h = refl
 or_swap false true h = refl
 or_swap false false h = h
 
-module _ (world : World) (f : Scene) (b : Begun) (root : Typed) (is : b.root ≡ expr_of root) where
-  pub pair_of : (u v : Place) → RaceAt world f b u v → Pair world f b root u v
-  pair_of u v r = record {
-    first = r.clash.first;
-    second = r.clash.second;
-    in_first = subst (λ e. InReach world.rows (reach_at world f u.kind (at_node 0 e u.node)) r.clash.first) is r.clash.in_first;
-    in_second = subst (λ e. InReach world.rows (reach_at world f v.kind (at_node 0 e v.node)) r.clash.second) is r.clash.in_second;
-    is_first = r.clash.accesses.0;
-    is_second = r.clash.accesses.1;
-    conflict = r.clash.conflict;
+module _ (world : World) (sized : Bool) (f : Scene) (b : Begun) (root : Typed) (is : b.root ≡ expr_of root) where
+  pub pair_of : Knows world sized → (u v : Place) → RaceAt world f b u v → Pair world sized f b root u v
+  pair_of knows u v r = record {
+    first = (r.clash sized knows).first;
+    second = (r.clash sized knows).second;
+    in_first = subst (λ e. InReach world.rows (reach_at world sized f u.kind (at_node 0 e u.node)) (r.clash sized knows).first) is
+        (r.clash sized knows).in_first;
+    in_second = subst (λ e. InReach world.rows (reach_at world sized f v.kind (at_node 0 e v.node)) (r.clash sized knows).second) is
+        (r.clash sized knows).in_second;
+    is_first = (r.clash sized knows).accesses.0;
+    is_second = (r.clash sized knows).accesses.1;
+    conflict = (r.clash sized knows).conflict;
     reached_first = record { due = r.next.due; earlier = r.next.earlier };
     reached_second = r.sound.closed v r.given;
     apart = r.apart;
   }
 
-  pub pair_back : (u v : Place) → Pair world f b root u v → Pair world f b root v u
+  pub pair_back : (u v : Place) → Pair world sized f b root u v → Pair world sized f b root v u
   pair_back u v p = record {
     first = p.second;
     second = p.first;
@@ -209,26 +210,28 @@ module _ (world : World) (rows : AreRows world.rows) (f : Scene) (n : ℕ) (fall
   same_bases (base.Literal k) (base.Slot (slot.Static l)) e h = absurd (cc)
   same_bases (base.Literal k) (base.Slot (slot.Auto c l)) e h = absurd (cc)
 
-  module _ (b : Begun) (root : Typed) (few : size (plain.tree_of root) < 2 ^ 32) (lo : all_low p function (nodes_of root) ≡ true)
-      (z w : Place) (pair : Pair world f b root z w) (x y : MemoryAccess) (x_in : IsAmong (accesses p function root) x) (y_in : IsAmong (accesses p function root) y)
+  module _ (sized : Bool) (b : Begun) (root : Typed) (few : size (plain.tree_of root) < 2 ^ 32) (lo : all_low p function (nodes_of root) ≡ true)
+      (z w : Place) (pair : Pair world sized f b root z w) (x y : MemoryAccess) (x_in : IsAmong (accesses p function root) x)
+      (y_in : IsAmong (accesses p function root) y)
       (at_z : x.at.place ≡ z) (at_w : y.at.place ≡ w) where
-    abbrev linked_x : Linked p function world f root few lo x
-    linked_x = linked p function world f root few lo x x_in
+    abbrev linked_x : Linked p function world sized f root few lo x
+    linked_x = linked p function world sized f root few lo x x_in
 
-    abbrev linked_y : Linked p function world f root few lo y
-    linked_y = linked p function world f root few lo y y_in
+    abbrev linked_y : Linked p function world sized f root few lo y
+    linked_y = linked p function world sized f root few lo y y_in
 
     lying_x : Lying world.rows linked_x.reach pair.first
     lying_x =
         lying world.rows linked_x.reach pair.first
         (subst (λ o. InReach world.rows o pair.first) linked_x.is_reach
-        (subst (λ q. InReach world.rows (reach_at world f q.kind (at_node 0 (expr_of root) q.node)) pair.first) (sym at_z) pair.in_first)) pair.is_first
+        (subst (λ q. InReach world.rows (reach_at world sized f q.kind (at_node 0 (expr_of root) q.node)) pair.first) (sym at_z) pair.in_first)) pair.is_first
 
     lying_y : Lying world.rows linked_y.reach pair.second
     lying_y =
         lying world.rows linked_y.reach pair.second
         (subst (λ o. InReach world.rows o pair.second) linked_y.is_reach
-        (subst (λ q. InReach world.rows (reach_at world f q.kind (at_node 0 (expr_of root) q.node)) pair.second) (sym at_w) pair.in_second)) pair.is_second
+        (subst (λ q. InReach world.rows (reach_at world sized f q.kind (at_node 0 (expr_of root) q.node)) pair.second)
+        (sym at_w) pair.in_second)) pair.is_second
 
     met : Meets lying_x.object lying_y.object lying_x.from lying_x.count lying_y.from lying_y.count lying_x.writing lying_y.writing
     met = meets (stands_at world.rows) pair.first pair.second lying_x.writing lying_y.writing lying_x.object lying_y.object lying_x.from lying_x.count
@@ -276,23 +279,25 @@ module _ (world : World) (rows : AreRows world.rows) (f : Scene) (n : ℕ) (fall
     until : (limit : Option ℕ) (l o end : ℕ) → limit ≡ Some l → Until limit o end → end ≤ o + l
     until limit l o end e h = subst (λ q. Until q o end) e h
 
-    neither_l : (c d : Bool) → not (c || d) ≡ true → c ≡ false
-    neither_l false d h = refl
-    neither_l true d h = absurd (cc)
+    limits_l : (s c d : Bool) → (s || not (c || d)) ≡ true → (s || not c) ≡ true
+    limits_l true c d h = refl
+    limits_l false false d h = refl
+    limits_l false true d h = absurd (cc)
 
-    neither_r : (c d : Bool) → not (c || d) ≡ true → d ≡ false
-    neither_r false d h = not_false d h
-    neither_r true d h = absurd (cc)
+    limits_r : (s c d : Bool) → (s || not (c || d)) ≡ true → (s || not d) ≡ true
+    limits_r true c d h = refl
+    limits_r false false d h = h
+    limits_r false true d h = absurd (cc)
 
     beyond : (s t a c d e l m : ℕ) → s ≤ a → a + c ≤ s + l → t ≤ d → d + e ≤ t + m → a < d + e → d < a + c
         → (nat_le (s + l) t ≡ true) ⊎ (nat_le (t + m) s ≡ true) → ⊥
     beyond s t a c d e l m ha hb hc hd i j (inl k) = (let q : s + l ≤ t = grind (arith, nat_tests, k) in omega (arith, ha, hb, hc, hd, i, j, q))
     beyond s t a c d e l m ha hb hc hd i j (inr k) = (let q : t + m ≤ s = grind (arith, nat_tests, k) in omega (arith, ha, hb, hc, hd, i, j, q))
 
-    pub bytes_differ : other_bytes root x y ≡ true → ⊥
+    pub bytes_differ : other_bytes sized root x y ≡ true → ⊥
     bytes_differ h = go x.spot y.spot refl refl (and_l (distant x y) _ h)
       where
-        whole : not (stores_whole root x || stores_whole root y) ≡ true
+        whole : (sized || not (stores_whole root x || stores_whole root y)) ≡ true
         whole = and_r (distant x y) _ h
 
         go : (o q : Option Spot) → x.spot ≡ o → y.spot ≡ q → are_distant o x.length q y.length ≡ true → ⊥
@@ -308,8 +313,8 @@ module _ (world : World) (rows : AreRows world.rows) (f : Scene) (n : ℕ) (fall
             apart_bytes s t e g k =
                 let a = at_site linked_x.reach s lying_x.object lying_x.from lying_x.count (linked_x.site s e) lying_x.touches.1 in
                 let c = at_site linked_y.reach t lying_y.object lying_y.from lying_y.count (linked_y.site t g) lying_y.touches.1 in
-                let l = linked_x.limit (neither_l (stores_whole root x) (stores_whole root y) whole) in
-                let m = linked_y.limit (neither_r (stores_whole root x) (stores_whole root y) whole) in
+                let l = linked_x.limit (limits_l sized (stores_whole root x) (stores_whole root y) whole) in
+                let m = linked_y.limit (limits_r sized (stores_whole root x) (stores_whole root y) whole) in
                 beyond s.1 t.1 lying_x.from lying_x.count lying_y.from lying_y.count x.length y.length a.1.0
                 (until linked_x.reach.limit x.length s.1 (lying_x.from + lying_x.count) l a.1.1) c.1.0
                 (until linked_y.reach.limit y.length t.1 (lying_y.from + lying_y.count) m c.1.1) met.first met.second k
@@ -552,9 +557,10 @@ module _ (world : World) (f : Scene) (b : Begun) (root : Typed) (is : b.root ≡
           fact_by n t (node_in t) (operands_in t) h ty line a es (omega (arith, fit, few)) e same refl hs.0 hs.1
           (subst (λ o. is_some (spared_where o n u v) ≡ true) q s)
 
-pub sequenced_apart : (world : World) (f : Scene) (b : Begun) (root : Typed) → b.root ≡ expr_of root → size (plain.tree_of root) < 2 ^ 32 → (z w : Place)
-    → Pair world f b root z w → (x y : MemoryAccess) → x.at.place ≡ z → y.at.place ≡ w → sequenced root x y ≡ true → ⊥
-sequenced_apart world f b root is few z w pair x y ez ew h = elim (or_cases (is_before taken 0 (plain.tree_of root) x.at.place y.at.place) _ h) [
+pub sequenced_apart : (world : World) (sized : Bool) (f : Scene) (b : Begun) (root : Typed) → b.root ≡ expr_of root → size (plain.tree_of root) < 2 ^ 32 →
+    (z w : Place)
+    → Pair world sized f b root z w → (x y : MemoryAccess) → x.at.place ≡ z → y.at.place ≡ w → sequenced root x y ≡ true → ⊥
+sequenced_apart world sized f b root is few z w pair x y ez ew h = elim (or_cases (is_before taken 0 (plain.tree_of root) x.at.place y.at.place) _ h) [
   | inl k ↦ pair.apart.not_before
       (ordered_now world f b z w pair.reached_first.due pair.reached_second taken (facts world f b root is few u v z w (inl (nz, nw)))
       (subst (λ q. is_before taken 0 q z w ≡ true) tree (subst (λ q. is_before taken 0 (plain.tree_of root) z q ≡ true) ew

@@ -1,16 +1,16 @@
 -- An order that holds as soon as each `?:` chooses holds before it does, for an event that was reached.
-use Rattle.std.proofs.Common.{◌≡◌, ℕ, zero, suc, ◌+◌, Bool, true, false, not, ◌&&◌, ◌||◌, if◌then◌else◌, List, [], ◌∷◌, Option, Some, None, is_some, refl, sym, ap, ◌∙◌, subst}
-use Rattle.std.proofs.Common.{◌⊎◌, inl, inr, true≢false}
+use Rattle.std.proofs.Common.{◌≡◌, ℕ, suc, ◌+◌, Bool, true, false, ◌||◌, if◌then◌else◌, List, ◌∷◌, Option, Some, None, is_some, refl, sym, ap, ◌∙◌, subst}
+use Rattle.std.proofs.Common.{true≢false}
 use Rattle.ub_base.specs.declared.clause.Kind.TheVariants.{Val}
 use Rattle.c_types.specs.Types.{CType}
 use Rattle.c_typed.specs.declared.tree.Place.{Place}
 use Rattle.c_typed.specs.Tree.{size, is_quiet}
 use Rattle.c_typed.specs.Order.{Taken, Before, place, is_due}
 use Rattle.c_typed.specs.Decide.{due_in, is_before}
-use Rattle.c_model.specs.Program.{Head, And, Or, Cond, Expr, expr, Exprs, none, more, tree_of}
+use Rattle.c_model.specs.Program.{Cond, Expr, expr, Exprs, none, more, tree_of}
 use Rattle.c_model.specs.Values.{Value, truth, or_nothing}
 use Rattle.c_model.specs.World.{World}
-use Rattle.c_model.specs.Steps.{Scene, Begun, taken_by, choice_in, choice_by, first_known, values_of, at_node, quiet_value}
+use Rattle.c_model.specs.Steps.{Scene, Begun, taken_by, choice_in, choice_by, values_of, at_node, quiet_value}
 use Rattle.c_model.specs.ChoiceLaws.{IsReached}
 use Rattle.c_model.proofs.Decided.{has_due}
 use Rattle.c_model.proofs.Closed.{found_before, before_found, before_due}

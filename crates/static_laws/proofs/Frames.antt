@@ -1,43 +1,33 @@
 -- What each state of an order keeps: of each open frame what its trace tells, and what the values of its fixed places are.
-use Rattle.std.proofs.Common.{◌≡◌, ℕ, suc, ◌+◌, ◌<◌, ◌≤◌, Bool, true, false, ◌&&◌, ◌||◌, ◌==◌, if◌then◌else◌, true≢false, List, [], ◌∷◌, length}
+use Rattle.std.proofs.Common.{◌≡◌, ℕ, suc, ◌<◌, ◌≤◌, Bool, true, false, ◌==◌, if◌then◌else◌, true≢false, List, [], ◌∷◌, length}
 use Rattle.std.proofs.Common.{Option, Some, None, is_some, refl, sym, ap, ◌∙◌, subst, ◌⊎◌, inl, inr, arith}
-use Rattle.std.proofs.lemmas.Bool.Decides.{nat_tests}
 use Rattle.ub_base.specs.declared.clause.Kind.{Kind}
-use Rattle.ub_base.specs.declared.clause.Kind.TheVariants.{Val, Eff, Body}
-use Rattle.ub_base.specs.declared.clause.Clause.{Clause}
+use Rattle.ub_base.specs.declared.clause.Kind.TheVariants.{Val, Body}
 use Rattle.ub_base.specs.declared.names.Item.{Item}
 use Rattle.ub_base.specs.declared.names.ObjName.{ObjName}
 use Rattle.ub_base.specs.declared.names.ObjName.TheVariants.{Argv}
 use Rattle.ub_base.specs.Frames.{Path}
-use Rattle.c_types.specs.Types.{CType}
 use Rattle.c_typed.specs.declared.tree.Place.{Place}
-use Rattle.c_typed.specs.declared.tree.Slot.{Slot}
 use Rattle.c_typed.specs.Tree.{is_quiet}
-use Rattle.c_typed.specs.Order.{Before, place, same_place, is_body, IsPermitted}
-use Rattle.mem_spec.specs.Store.{Store}
-use Rattle.mem_spec.specs.Script.{Act, Done, Raised, Ended, Outside, Unplaced, run}
-use Rattle.c_model.specs.Program.{Head, Listed, Call, Isolated, Expr, expr, Exprs, tree_of, Stmt, Function}
-use Rattle.c_model.specs.Values.{Value, Nothing, value_at, later_values, pointer_of, or_nothing, truth, integer_of}
+use Rattle.c_typed.specs.Order.{place, same_place, is_body}
+use Rattle.c_model.specs.Program.{Head, Listed, Expr, expr, tree_of}
+use Rattle.c_model.specs.Values.{Value, truth, integer_of}
 use Rattle.c_model.specs.World.{World}
-use Rattle.c_model.specs.Moves.{Move, Stay, Start, End}
-use Rattle.c_model.specs.Control.{Todo, Work, Use, Unused, Begin, Enter, Leave, Unwrite, Nothing_to_do, Go_to, Go_out, Go_on, Go_back, To_do, Rest, Round}
-use Rattle.c_model.specs.Control.{Again, Test, Break_here, ready_work, work_after, To_branch, To_enter, To_select, To_go_round, To_go_again, Result}
-use Rattle.c_model.specs.Steps.{Scene, Local, Begun, Pick, Control, Ev, MayPick, with_given, taken_by, at_node, name_of, event_act, operand_values, values_of}
-use Rattle.c_model.specs.Steps.{own_body, body_frame, start_call, started, called_by, move_of, does, move, next, turn_of, own_kind, without_block, control_next, begin, settled, root_value}
-use Rattle.c_model.specs.Runs.{Entry, entry_of}
-use Rattle.c_model.specs.Findings.{is_under, Has, first, later}
-use Rattle.c_model.specs.ChoiceLaws.{IsNext, IsReached, IsClosed}
-use Rattle.c_model.proofs.Decided.{has_due}
-use Rattle.c_model.proofs.Closed.{found_before}
+use Rattle.c_model.specs.Control.{Todo, Unused, Begin, Enter, Leave, Unwrite, Nothing_to_do, Go_to, Go_out, Go_on, Go_back, To_do, Rest, Round}
+use Rattle.c_model.specs.Control.{Again, Test, Break_here, ready_work, work_after}
+use Rattle.c_model.specs.Steps.{Scene, Local, Begun, with_given, at_node, name_of}
+use Rattle.c_model.specs.Steps.{turn_of, without_block, control_next, settled}
+use Rattle.c_model.specs.Runs.{Entry}
+use Rattle.c_model.specs.Findings.{is_under, Has}
+use Rattle.c_model.specs.ChoiceLaws.{IsNext, IsClosed}
 use Rattle.c_model.proofs.Listed.{same_place_eq, same_place_itself}
 use Rattle.c_model.proofs.Halves.{closed_at}
-use Rattle.static_laws.proofs.Scripts.{Post, Anything, Each, ActOk, run_ok}
+use Rattle.static_laws.specs.NeverRaces.{KeepsSizes}
+use Rattle.static_laws.proofs.Scripts.{Each}
 use Rattle.static_laws.proofs.Reach.{Site, Reach, reach_by, InReach}
-use Rattle.static_laws.proofs.Acts.{AreLow, act_within, quiet_in}
-use Rattle.static_laws.proofs.Sites.{first_site, site_of, FixedIn, points, gives_site, at}
-use Rattle.static_laws.proofs.Paths.{path_is, under_refl, under_tail, under_length, under_same, has_cases}
-use Rattle.c_model.proofs.Ranks.{if_false, eq_of, or_cases}
-use Rattle.c_model.proofs.Decided.{or_b}
+use Rattle.static_laws.proofs.Sites.{first_site, site_of, FixedIn, at}
+use Rattle.static_laws.proofs.Paths.{under_refl, under_tail, under_length, under_same, has_cases}
+use Rattle.c_model.proofs.Ranks.{eq_of}
 
 -- open blocks have turns from 1 on, which fall towards the outer ones
 abbrev pub Falls : ℕ → List (ℕ × ℕ) → Type 0
@@ -101,12 +91,18 @@ module _ (world : World) where
   list_name f h = Argv
 
   -- what an event of this kind of a node can touch
-  abbrev pub reach_at : Scene → Kind → Option Expr → Option Reach
-  reach_at f k None = None
-  reach_at f k (Some (expr h ty line es)) = reach_by h (first_site world f es) (list_name f h) k
+  abbrev pub reach_at : Bool → Scene → Kind → Option Expr → Option Reach
+  reach_at sized f k None = None
+  reach_at sized f k (Some (expr h ty line es)) = reach_by sized h (first_site world f es) (list_name f h) k
+
+  -- sizes are known where the program keeps those of its types
+  abbrev pub Knows : Bool → Type 0
+  Knows false = Unit {0}
+  Knows true = KeepsSizes world
 
   abbrev pub Told : Scene → Expr → Place → List Item → Type 0
-  Told f root v is = is_body v.kind ≡ false → Each (InReach world.rows (reach_at f v.kind (at_node 0 root v.node))) is
+  Told f root v is =
+      (sized : Bool) → Knows sized → is_body v.kind ≡ false → Each (InReach world.rows (reach_at sized f v.kind (at_node 0 root v.node))) is
 
   pub record Sound (f : Scene) (b : Begun) : Type 0 where
     pub closed : IsClosed world f b
@@ -365,7 +361,7 @@ module _ (world : World) where
       told_here : (c : Begun) → f.begun ≡ Some c → (e : Entry) (v : Place) → ((x ≡ e) × (u ≡ v)) ⊎ Has trace e v → f.scene.path ≡ e.path
           → f.scene.turn ≡ e.turn → Told f.scene c.root v e.items × IsPicked c (Some u) v
       told_here c r e v (inl q) s t =
-          ((λ nb. absurd (true≢false (sym (subst (λ z. is_body z.kind ≡ true) q.1 body) ∙ nb))), inr (ap Some q.1))
+          ((λ sized knows nb. absurd (true≢false (sym (subst (λ z. is_body z.kind ≡ true) q.1 body) ∙ nb))), inr (ap Some q.1))
       told_here c r e v (inr q) s t = (let a = k.here c r e v q s t in (a.0, waits_too c v a.1))
 
   -- a frame that was started

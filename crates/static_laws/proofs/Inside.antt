@@ -1,6 +1,6 @@
 -- Nodes of an expression by their numbers: where their operands stand, and which events of theirs are due.
-use Rattle.std.proofs.Common.{◌≡◌, ℕ, zero, suc, ◌+◌, ◌<◌, ◌≤◌, Bool, true, false, not, ◌&&◌, ◌||◌, ◌==◌, nat_lt, if◌then◌else◌, List, [], ◌∷◌}
-use Rattle.std.proofs.Common.{Option, Some, None, is_some, refl, sym, ap, ◌∙◌, subst, ◌⊎◌, inl, inr, arith, true≢false}
+use Rattle.std.proofs.Common.{◌≡◌, ℕ, suc, ◌+◌, ◌<◌, ◌≤◌, Bool, true, false, not, ◌&&◌, ◌||◌, ◌==◌, nat_lt, if◌then◌else◌}
+use Rattle.std.proofs.Common.{Option, Some, None, is_some, refl, sym, ap, ◌∙◌, subst, inl, inr, arith, true≢false}
 use Rattle.std.proofs.lemmas.Bool.Decides.{nat_tests}
 use Rattle.ub_base.specs.declared.clause.Kind.TheVariants.{Val}
 use Rattle.c_types.specs.Types.{CType}
@@ -13,7 +13,7 @@ use Rattle.c_typed.specs.Decide.{has_kind, due_in, due_among}
 use Rattle.c_model.specs.Program.{Head, Expr, expr, Exprs, none, more, tree_of, trees_of, head_class}
 use Rattle.c_model.specs.Steps.{at_node, at_node_among}
 use Rattle.c_model.proofs.Ranks.{size_pos, eq_of, eq_eq, if_true, if_false, lt_lt, ge_lt, and_l, and_r, or_cases}
-use Rattle.c_model.proofs.Decided.{lt_of, ge_of, and_b, val_due}
+use Rattle.c_model.proofs.Decided.{and_b, val_due}
 
 -- the node stands in the range of the tree, with its own
 abbrev pub FitsIn : ℕ → ℕ → ℕ → Expr → Type 0

@@ -15,3 +15,4 @@ mod Places
 mod Accessed
 mod Cases
 mod Reduction
+mod Fits

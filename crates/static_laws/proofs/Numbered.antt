@@ -1,6 +1,6 @@
 -- The node of a number of the model's expression is the node at that place of the tree's nodes.
-use Rattle.std.proofs.Common.{◌≡◌, ℕ, zero, suc, ◌+◌, ◌-◌, ◌<◌, ◌≤◌, Bool, true, false, ◌&&◌, ◌==◌, nat_lt, if◌then◌else◌, List, [], ◌∷◌, ◌++◌, map, length, slice_get}
-use Rattle.std.proofs.Common.{Option, Some, None, refl, sym, ap, ap₂, ◌∙◌, subst, ◌⊎◌, inl, inr, arith}
+use Rattle.std.proofs.Common.{◌≡◌, ℕ, zero, suc, ◌+◌, ◌-◌, ◌<◌, ◌≤◌, Bool, true, false, ◌==◌, nat_lt, List, [], ◌∷◌, ◌++◌, map, length, slice_get}
+use Rattle.std.proofs.Common.{Option, Some, None, refl, sym, ap, ◌∙◌, arith}
 use Rattle.std.proofs.lemmas.Bool.Decides.{nat_tests}
 use Rattle.std.proofs.lemmas.List.{length-append}
 use Rattle.c_typed.specs.declared.tree.Typed.{Typed, out-Typed}
@@ -8,7 +8,7 @@ use Rattle.c_typed.specs.Tree.{tree_of, trees_of, size, sizes}
 use Rattle.c_model.specs.Program as model
 use Rattle.c_model.specs.Program.{Expr, expr}
 use Rattle.c_model.specs.Steps.{at_node, at_node_among}
-use Rattle.c_model.proofs.Ranks.{if_true, if_false, lt_lt, ge_lt, size_pos}
+use Rattle.c_model.proofs.Ranks.{if_true, if_false, lt_lt, ge_lt}
 use Rattle.static_places.specs.Preorder.{joined, nodes_of}
 use Rattle.static_places.proofs.Preordered.{nodes_at}
 use Rattle.static_laws.specs.Trees.{expr_of, exprs_of}

@@ -1,6 +1,6 @@
 -- An order under one choice of operands that holds under another, for two events that are due.
-use Rattle.std.proofs.Common.{◌≡◌, ℕ, zero, suc, ◌+◌, ◌<◌, ◌≤◌, Bool, true, false, not, ◌&&◌, ◌||◌, ◌==◌, nat_lt, if◌then◌else◌, List, [], ◌∷◌}
-use Rattle.std.proofs.Common.{Option, Some, None, is_some, refl, sym, ap, ◌∙◌, subst, ◌⊎◌, inl, inr, arith, true≢false}
+use Rattle.std.proofs.Common.{◌≡◌, ℕ, suc, ◌+◌, ◌<◌, ◌≤◌, Bool, true, false, not, ◌&&◌, ◌||◌, ◌==◌, nat_lt, if◌then◌else◌}
+use Rattle.std.proofs.Common.{Option, Some, is_some, refl, sym, subst, ◌⊎◌, inl, inr, arith, true≢false}
 use Rattle.std.proofs.lemmas.Bool.Decides.{nat_tests}
 use Rattle.ub_base.specs.declared.clause.Kind.{Kind}
 use Rattle.ub_base.specs.declared.clause.Kind.TheVariants.{Val, Eff, Body}
@@ -9,13 +9,13 @@ use Rattle.c_typed.specs.declared.tree.Place.{Place}
 use Rattle.c_typed.specs.declared.class.Class.{Class}
 use Rattle.c_typed.specs.declared.class.Class.TheVariants.{Object, Constant, Plain, Store, Update, Choice, Comma, Call, Isolated}
 use Rattle.c_typed.specs.Tree.{Tree, Trees, size, sizes, is_quiet, kinds_of}
-use Rattle.c_typed.specs.Order.{Taken, goes, is_number, is_choice, across, upward, own_rule, is_val, is_body, is_last}
+use Rattle.c_typed.specs.Order.{Taken, goes, is_number, is_choice, across, own_rule, is_val, is_body, is_last}
 use Rattle.c_typed.specs.Decide.{has_kind, due_in, due_among, lifts, crosses, is_before, rises, to_val, between}
 use Rattle.c_model.specs.Program.{Head, Expr, expr, Exprs, none, more, tree_of, trees_of, head_class}
 use Rattle.c_model.specs.Steps.{at_node, at_node_among}
-use Rattle.c_model.proofs.Ranks.{size_pos, eq_of, if_true, if_false, lt_lt, ge_lt, and_l, and_r}
-use Rattle.c_model.proofs.Decided.{lt_of, ge_of, and_b, or_map, and_map}
-use Rattle.static_laws.proofs.Inside.{first_there, later_there, operands_there, itself_there, pass, take_it, goes_number, later_chosen}
+use Rattle.c_model.proofs.Ranks.{size_pos, eq_of, ge_lt, and_l, and_r}
+use Rattle.c_model.proofs.Decided.{and_b, or_map, and_map}
+use Rattle.static_laws.proofs.Inside.{first_there, later_there, operands_there, itself_there, pass, goes_number, later_chosen}
 
 module _ (S T : Taken) (x y : Place) where
   abbrev pub Later : ℕ → Expr → ℕ → Place → Type 0

@@ -1,10 +1,9 @@
 -- Each pick keeps what its state keeps, and an event's items lie in its reach.
-use Rattle.std.proofs.Common.{◌≡◌, ℕ, suc, ◌+◌, ◌<◌, ◌≤◌, Bool, true, false, not, ◌&&◌, ◌||◌, if◌then◌else◌, true≢false, List, [], ◌∷◌, length}
-use Rattle.std.proofs.Common.{Option, Some, None, is_some, refl, sym, ap, ◌∙◌, subst, ◌⊎◌, inl, inr, arith}
+use Rattle.std.proofs.Common.{◌≡◌, ℕ, suc, Bool, true, false, ◌&&◌, if◌then◌else◌, true≢false, List, [], ◌∷◌}
+use Rattle.std.proofs.Common.{Option, Some, None, is_some, refl, sym, ap, ◌∙◌, subst, arith}
 use Rattle.std.specs.Prelude.{is_none}
 use Rattle.ub_base.specs.declared.clause.Kind.{Kind}
 use Rattle.ub_base.specs.declared.clause.Kind.TheVariants.{Val, Eff, Body}
-use Rattle.ub_base.specs.declared.clause.Clause.{Clause}
 use Rattle.ub_base.specs.declared.clause.Cause.{Cause}
 use Rattle.ub_base.specs.declared.names.Event.{Event}
 use Rattle.ub_base.specs.declared.names.Item.{Item}
@@ -13,72 +12,88 @@ use Rattle.ub_base.specs.declared.names.ObjName.{ObjName}
 use Rattle.ub_base.specs.Frames.{Path}
 use Rattle.c_types.specs.Types.{CType}
 use Rattle.c_typed.specs.declared.tree.Place.{Place}
+use Rattle.c_typed.specs.declared.tree.Access.{Access}
+use Rattle.c_typed.specs.declared.tree.Access.TheVariants as access
 use Rattle.c_typed.specs.declared.tree.Slot.{Slot}
 use Rattle.c_typed.specs.Tree.{is_quiet}
 use Rattle.c_typed.specs.Order.{place, is_body, IsPermitted}
-use Rattle.exposure.specs.declared.prov.Prov.TheVariants as prov
 use Rattle.mem_spec.specs.Store.{Store}
-use Rattle.mem_spec.specs.Script.{Script, Act, Done, Raised, Ended, Outside, Unplaced, run}
-use Rattle.c_model.specs.Program.{Head, Listed, Call, Isolated, Filling, Expr, expr, Exprs, tree_of, Stmt, Function}
-use Rattle.c_model.specs.Values.{Value, Nothing, value_at, later_values, pointer_of, or_nothing}
+use Rattle.mem_spec.specs.Script.{Act, Done, Raised, Ended, Outside, Unplaced, run}
+use Rattle.c_model.specs.Program.{Head, Assign, Listed, Call, Isolated, Filling, Expr, expr, Exprs, tree_of, Stmt, Function}
+use Rattle.c_model.specs.Values.{Value, value_at, later_values, or_nothing}
 use Rattle.c_model.specs.World.{World, Limits}
 use Rattle.c_model.specs.Nodes.{act_of}
 use Rattle.c_model.specs.Moves.{Move, Stay, Start, End}
-use Rattle.c_model.specs.Control.{Todo, Begin, Unused, To_do, ready_work}
-use Rattle.c_model.specs.Steps.{Scene, Local, Begun, Pick, Control, Ev, MayPick, with_given, taken_by, at_node, name_of, pointer_to, event_of, event_act}
+use Rattle.c_model.specs.Control.{ready_work}
+use Rattle.c_model.specs.Steps.{Scene, Local, Begun, Pick, Control, Ev, MayPick, taken_by, at_node, name_of, pointer_to, event_of, event_act}
 use Rattle.c_model.specs.Steps.{call_act, operand_values, values_of, own_kind, first_type, target, own_body, body_frame, start_call, started, called_by, move_of}
 use Rattle.c_model.specs.Steps.{does, move, next, control_move, control_next, settled, root_value, ends_with}
 use Rattle.c_model.specs.Runs.{Entry, State, Outcome, Refused, Raises, Over, No_row, Ends, Running, entry_of, back, moved, acted, step, within, limited}
-use Rattle.c_model.specs.Runs.{limit_passed, depth_of, enter_passes, without_row, is_running}
+use Rattle.c_model.specs.Runs.{limit_passed, depth_of, enter_passes, without_row}
 use Rattle.c_model.specs.Findings.{is_under}
 use Rattle.c_model.specs.ChoiceLaws.{IsNext}
 use Rattle.c_model.proofs.Ranks.{if_false}
 use Rattle.c_model.proofs.Decided.{has_due}
 use Rattle.c_model.proofs.Closed.{found_before}
-use Rattle.static_laws.proofs.Scripts.{Post, Anything, Each, ActOk, run_ok}
-use Rattle.static_laws.proofs.Reach.{Site, Reach, reach_by, InReach}
-use Rattle.static_laws.proofs.Acts.{AreLow, Within, act_within, quiet_in}
+use Rattle.value_laws.specs.Sizes.{Sizes, HasSize, size_at, StoreFits, NodeFits, ProgramFits}
+use Rattle.value_laws.proofs.Nodes.{node_fits}
+use Rattle.value_laws.proofs.Frames.{operands}
+use Rattle.value_laws.proofs.Orders.{StateFits}
+use Rattle.static_laws.proofs.Scripts.{Post, Anything, ActOk, run_ok}
+use Rattle.static_laws.proofs.Reach.{Site, reach_by, InReach}
+use Rattle.static_laws.proofs.Acts.{AreLow, StoredFits, StoresFit, act_within, quiet_in}
 use Rattle.static_laws.proofs.Sites.{first_site, site_of, FixedIn, points, gives_site, at}
 use Rattle.static_laws.proofs.Paths.{under_refl}
-use Rattle.static_laws.proofs.Frames.{Falls, Scoped, of_function, of_initializer, scoped_falls, list_name, reach_at, Told, Sound, SoundIn, Kept, HeldFrame, HeldOk}
+use Rattle.static_laws.proofs.Frames.{Scoped, of_function, of_initializer, scoped_falls, list_name, reach_at, Knows, Told, Kept, HeldOk}
 use Rattle.static_laws.proofs.Frames.{Moved, control_moves, scoped_next, scoped_settled, kept_control, with_value, kept_event, kept_waits, IsNew, kept_new}
 use Rattle.static_laws.proofs.Frames.{kept_back, held_next, sound_at, IsAtSite}
 
 module _ (world : World) (lo : AreLow world.rows) where
-  list_reach : (slot : Slot) (cs : List Filling) (s : Option Site) (x : ObjName) (k : Kind) → reach_by (Listed slot cs) None x k ≡ reach_by (Listed slot cs) s x k
-  list_reach slot cs s x Val = refl
-  list_reach slot cs s x Eff = refl
-  list_reach slot cs s x Body = refl
+  list_reach : (sized : Bool) (slot : Slot) (cs : List Filling) (s : Option Site) (x : ObjName) (k : Kind)
+      → reach_by sized (Listed slot cs) None x k ≡ reach_by sized (Listed slot cs) s x k
+  list_reach sized slot cs s x Val = refl
+  list_reach sized slot cs s x Eff = refl
+  list_reach sized slot cs s x Body = refl
+
+  -- the values that are stored have as many bytes as their types
+  abbrev pub StoresIn : Scene → Begun → Type 0
+  StoresIn f b = (n : ℕ) (h : Head) (ty : CType) (line : ℕ) (es : Exprs) → at_node 0 b.root n ≡ Some (expr h ty line es)
+      → StoresFit world.rows h (operand_values world f b.given (suc n) h es)
 
   -- the act of an event lies in its reach
-  act_in : (f : Scene) (b : Begun) → FixedIn world f b.root b.given → (who : Event) (n : ℕ) (h : Head) (ty object : CType) (line : ℕ) (es : Exprs) (k : Kind)
+  act_in : (sized : Bool) (f : Scene) (b : Begun) → FixedIn world f b.root b.given → (sized ≡ true → StoresIn f b) → (who : Event) (n : ℕ) (h : Head)
+      (ty object : CType) (line : ℕ) (es : Exprs) (k : Kind)
       (own : Value) → at_node 0 b.root n ≡ Some (expr h ty line es)
-      → Post (InReach world.rows (reach_by h (first_site world f es) (list_name world f h) k)) Anything
+      → Post (InReach world.rows (reach_by sized h (first_site world f es) (list_name world f h) k)) Anything
       (act_of world.rows who h object k (operand_values world f b.given (suc n) h es) own)
-  act_in f b fixed who n (Listed slot cs) ty object line es k own q =
+  act_in sized f b fixed stores who n (Listed slot cs) ty object line es k own q =
       subst (λ z. Post (InReach world.rows z) Anything (act_of world.rows who (Listed slot cs) object k (pointer_to world (name_of world f slot) ∷ []) own))
-      (list_reach slot cs (first_site world f es) (name_of world f slot) k)
-      (act_within world.rows lo None (name_of world f slot) who (Listed slot cs) object k (pointer_to world (name_of world f slot) ∷ []) own tt refl)
-  act_in f b fixed who n h ty object line es k own q =
-      act_within world.rows lo (first_site world f es) (list_name world f h) who h object k (operand_values world f b.given (suc n) h es) own
-      (points world lo f b.root b.given fixed n h ty line es q) tt
+      (list_reach sized slot cs (first_site world f es) (name_of world f slot) k)
+      (act_within world.rows lo None sized (name_of world f slot) who (Listed slot cs) object k (pointer_to world (name_of world f slot) ∷ []) own tt refl
+      (λ e. tt))
+  act_in sized f b fixed stores who n h ty object line es k own q =
+      act_within world.rows lo (first_site world f es) sized (list_name world f h) who h object k (operand_values world f b.given (suc n) h es) own
+      (points world lo f b.root b.given fixed n h ty line es q) tt (λ e. stores e n h ty line es q)
 
   -- so do the items of its run
-  pub event_in : (f : Scene) (b : Begun) → FixedIn world f b.root b.given → (u : Place) (s : Store) → is_body u.kind ≡ false
-      → ActOk (InReach world.rows (reach_at world f u.kind (at_node 0 b.root u.node))) Anything (run world.rows (event_act world f b u (at_node 0 b.root u.node)) s)
-  event_in f b fixed u s nb = go (at_node 0 b.root u.node) refl
+  pub event_in : (sized : Bool) (f : Scene) (b : Begun) → FixedIn world f b.root b.given → (sized ≡ true → StoresIn f b) → (u : Place) (s : Store)
+      → is_body u.kind ≡ false
+      → ActOk (InReach world.rows (reach_at world sized f u.kind (at_node 0 b.root u.node))) Anything
+      (run world.rows (event_act world f b u (at_node 0 b.root u.node)) s)
+  event_in sized f b fixed stores u s nb = go (at_node 0 b.root u.node) refl
     where
       go : (o : Option Expr) → at_node 0 b.root u.node ≡ o
-          → ActOk (InReach world.rows (reach_at world f u.kind o)) Anything (run world.rows (event_act world f b u o) s)
+          → ActOk (InReach world.rows (reach_at world sized f u.kind o)) Anything (run world.rows (event_act world f b u o) s)
       go None q = (tt, tt)
       go (Some (expr h ty line es)) q =
-          let r = reach_by h (first_site world f es) (list_name world f h) u.kind in
+          let r = reach_by sized h (first_site world f es) (list_name world f h) u.kind in
           let act = act_of world.rows (event_of world f u) h (target (first_type es)) u.kind (operand_values world f b.given (suc u.node) h es)
           (or_nothing (b.given (place u.node (own_kind u.kind)))) in
           subst (λ z. ActOk (InReach world.rows r) Anything (run world.rows z s))
           (sym (if_false (is_body u.kind) (call_act world (event_of world f u) h es (values_of world f b.given (suc u.node) es)) act nb))
           (run_ok world.rows (InReach world.rows r) Anything (quiet_in world.rows r Ending tt) act s
-          (act_in f b fixed (event_of world f u) u.node h ty (target (first_type es)) line es u.kind (or_nothing (b.given (place u.node (own_kind u.kind)))) q))
+          (act_in sized f b fixed stores (event_of world f u) u.node h ty (target (first_type es)) line es u.kind
+          (or_nothing (b.given (place u.node (own_kind u.kind)))) q))
 
   -- and the value of a fixed place is a pointer to there
   pub event_gives : (f : Scene) (b : Begun) → FixedIn world f b.root b.given → (u : Place) (s : Store) (e : Expr) (t : Site) → u.kind ≡ Val
@@ -256,23 +271,56 @@ module _ (world : World) (lo : AreLow world.rows) where
         );
       }
 
-      event_acted : (a : Act Value) → (is_body u.kind ≡ false → ActOk (InReach world.rows (reach_at world st.top.scene u.kind (at_node 0 b.root u.node))) Anything a)
+      event_acted : (a : Act Value)
+          → ((sized : Bool) → Knows world sized → is_body u.kind ≡ false
+          → ActOk (InReach world.rows (reach_at world sized st.top.scene u.kind (at_node 0 b.root u.node))) Anything a)
           → ((x : Expr) (t : Site) → u.kind ≡ Val → at_node 0 b.root u.node ≡ Some x → is_quiet (tree_of x) ≡ false → site_of world st.top.scene x ≡ Some t
           → ActOk (λ i. Unit {0}) (λ w. w ≡ at world t) a)
           → OutcomeOk (acted world st (Ev u) a)
       event_acted (Done v is s) h k =
           limited_ok world.limits _
           (subst (λ z. OutcomeOk (moved world st (Ev u) (move world st.top z (Ev u)) v s (entry_of world st.top (Ev u) is ∷ st.trace))) (sym e)
-          (event_moved _ (event_moves st.top b u inv.kept.scoped (at_node 0 b.root u.node)) (entry_of world st.top (Ev u) is) refl refl refl (λ nb. (h nb).0) v
+          (event_moved _ (event_moves st.top b u inv.kept.scoped (at_node 0 b.root u.node)) (entry_of world st.top (Ev u) is) refl refl refl
+          (λ sized knows nb. (h sized knows nb).0) v
           (λ x t kind q loud site. (k x t kind q loud site).1) s))
       event_acted (Raised c) h k = tt
       event_acted (Ended n is s) h k = tt
       event_acted (Outside c n) h k = tt
       event_acted Unplaced h k = without_ok st (Ev u)
 
-  pub step_ok : (st : State) (p : Pick) → Inv st → MayPick world st.top st.top.begun p → OutcomeOk (step world st p)
-  step_ok st Control inv may = within_ok (enter_passes world.limits st Control) _ (control_acted st inv (run world.rows (does world st.top st.top.begun Control) st.store))
-  step_ok st (Ev u) inv may = within_ok (enter_passes world.limits st (Ev u)) _ (go st.top.begun refl may)
+  -- what is known of a state where the program keeps the sizes of its types
+  abbrev pub Sized : State → Type 0
+  Sized st = (size : Sizes) → ProgramFits size world → StateFits size world st
+
+  list_fits : (f : Scene) (b : Begun) (n : ℕ) (h : Head) (es : Exprs) → StoresFit world.rows h (values_of world f b.given (suc n) es)
+      → StoresFit world.rows h (operand_values world f b.given (suc n) h es)
+  list_fits f b n (Listed slot cs) es k = tt
+  list_fits f b n h es k = k
+
+  store_fits : (how : Access) (v : Value) (o : Option ℕ) → StoreFits how o → HasSize o v → StoredFits world.rows how v
+  store_fits (access.Whole size align) v o e k = subst (λ z. HasSize z v) e k
+  store_fits (access.Integer kind) v o e k = tt
+  store_fits access.Pointer v o e k = tt
+  store_fits access.Function v o e k = tt
+
+  head_fits : (size : Sizes) (h : Head) (ty : CType) (es : Exprs) (vs : List Value) → NodeFits size h ty es → HasSize (size_at size es 1) (value_at vs 1)
+      → StoresFit world.rows h vs
+  head_fits size (Assign first how) ty es vs f k = store_fits how (value_at vs 1) (size_at size es 1) f.0 k
+  head_fits size h ty es vs f k = tt
+
+  pub stores_in : (st : State) → Sized st → (b : Begun) → st.top.begun ≡ Some b → (sized : Bool) → Knows world sized → sized ≡ true → StoresIn st.top.scene b
+  stores_in st known b e false knows k = absurd (true≢false (sym k))
+  stores_in st known b e true knows k = λ n h ty line es q.
+      let size = knows.0 in
+      let fits = (known size knows.1).top.begun b e in
+      list_fits st.top.scene b n h es
+      (head_fits size h ty es (values_of world st.top.scene b.given (suc n) es) (node_fits size b.root 0 n (expr h ty line es) fits.root q).0
+      (operands size world st.top.scene b fits.values n h ty line es q 1))
+
+  pub step_ok : (st : State) (p : Pick) → Inv st → Sized st → MayPick world st.top st.top.begun p → OutcomeOk (step world st p)
+  step_ok st Control inv known may = within_ok (enter_passes world.limits st Control) _
+      (control_acted st inv (run world.rows (does world st.top st.top.begun Control) st.store))
+  step_ok st (Ev u) inv known may = within_ok (enter_passes world.limits st (Ev u)) _ (go st.top.begun refl may)
     where
       go : (o : Option Begun) → st.top.begun ≡ o → MayPick world st.top o (Ev u)
           → OutcomeOk (acted world st (Ev u) (run world.rows (does world st.top o (Ev u)) st.store))
@@ -280,4 +328,4 @@ module _ (world : World) (lo : AreLow world.rows) where
       go (Some b) e may =
           let fixed = (sound_at world st.top.scene st.top.begun b e inv.kept.sound).fixed in
           event_acted st inv b e u (next_is st.top.scene b u may) (run world.rows (event_act world st.top.scene b u (at_node 0 b.root u.node)) st.store)
-          (event_in st.top.scene b fixed u st.store) (event_gives st.top.scene b fixed u st.store)
+          (λ sized knows. event_in sized st.top.scene b fixed (stores_in st known b e sized knows) u st.store) (event_gives st.top.scene b fixed u st.store)

@@ -1,12 +1,12 @@
 -- A fixed place names an object and an offset, which is the site of the model's expression.
-use Rattle.std.proofs.Common.{◌≡◌, ℕ, zero, suc, ◌+◌, ◌-◌, ◌*◌, ◌<◌, ◌≤◌, Bool, true, false, not, ◌&&◌, nat_lt, if◌then◌else◌, List, [], ◌∷◌, ◌++◌, map, slice_get}
-use Rattle.std.proofs.Common.{Option, Some, None, refl, sym, ap, ap₂, ◌∙◌, subst, ◌⊎◌, inl, inr, arith, true≢false}
+use Rattle.std.proofs.Common.{◌≡◌, ℕ, suc, ◌+◌, ◌-◌, ◌*◌, ◌≤◌, Bool, true, false, ◌&&◌, nat_lt, if◌then◌else◌, List, [], ◌∷◌, ◌++◌, map}
+use Rattle.std.proofs.Common.{Option, Some, None, refl, sym, ap, ◌∙◌, subst, arith, true≢false}
 use Rattle.std.proofs.lemmas.Bool.Decides.{nat_tests}
 use Rattle.std.proofs.lemmas.Int.{ints}
 use Rattle.std.specs.Prelude.{◌^◌, ◌==◌, nat_le, ℤ, pos, negsuc, ◌+ℤ◌, neg_ℤ, unsigned_abs}
 use Rattle.ub_base.specs.declared.names.ObjName.{ObjName}
 use Rattle.ub_base.specs.declared.names.ObjName.TheVariants as object
-use Rattle.c_types.specs.Types.{CType, type_of}
+use Rattle.c_types.specs.Types.{CType}
 use Rattle.c_typed.specs.declared.tree.Node.{Node, fold-Node, fold-roll-Node, map-Node, out-Node, roll-out-Node}
 use Rattle.c_typed.specs.declared.tree.Node.TheOpen as shape
 use Rattle.c_typed.specs.declared.tree.Node.TheOpen.{Node-F}
@@ -18,17 +18,17 @@ use Rattle.c_model.specs.Program.{Head, Expr, expr, Exprs}
 use Rattle.c_model.specs.World.{World}
 use Rattle.c_model.specs.Steps.{Scene, name_of}
 use Rattle.c_model.specs.Nodes.{distance}
-use Rattle.c_model.proofs.Ranks.{and_l, and_r, lt_lt, if_true}
+use Rattle.c_model.proofs.Ranks.{and_l, and_r, if_true}
 use Rattle.static_places.specs.declared.places.FixedBase.{FixedBase}
 use Rattle.static_places.specs.declared.places.FixedBase.TheVariants as base
 use Rattle.static_places.specs.Preorder.{joined, nodes_of}
 use Rattle.static_places.specs.Fixed.{Spot, Shown, node_shown, typed_shown, shown, fixed_place, moved, stepped, stepped_in, indexed, magnitude, is_below}
-use Rattle.static_places.specs.Fixed.{opposite, small_magnitude, size_of_base, place_in, constant_in}
+use Rattle.static_places.specs.Fixed.{opposite, small_magnitude, size_of_base}
 use Rattle.static_places.proofs.Preordered.{nodes_at}
-use Rattle.static_laws.specs.Trees.{constant_head, is_pointer, expr_of, exprs_of}
+use Rattle.static_laws.specs.Trees.{is_pointer, expr_of, exprs_of}
 use Rattle.static_laws.specs.Low.{is_low, all_low}
 use Rattle.static_laws.proofs.Reach.{Site}
-use Rattle.static_laws.proofs.Sites.{low, on_by, at_int, along, number_in, second_number, site_of, first_site}
+use Rattle.static_laws.proofs.Sites.{low, on_by, at_int, along, number_in, site_of}
 use Rattle.static_laws.proofs.Seen.{node_in, operands_in, own_type, head_in, expr_at, by_size}
 
 -- numbers with a sign

@@ -1,41 +1,37 @@
 -- A race of an order, at the pick of its newer event.
-use Rattle.std.proofs.Common.{◌≡◌, ℕ, suc, ◌+◌, ◌<◌, ◌≤◌, Bool, true, false, not, ◌&&◌, ◌||◌, if◌then◌else◌, true≢false, List, [], ◌∷◌, ◌++◌, length}
-use Rattle.std.proofs.Common.{map, Option, Some, None, is_some, refl, sym, ap, ◌∙◌, subst, ◌⊎◌, inl, inr, arith}
+use Rattle.std.proofs.Common.{◌≡◌, ℕ, ◌+◌, ◌<◌, ◌≤◌, Bool, true, false, ◌||◌, if◌then◌else◌, List, [], ◌∷◌, ◌++◌, length}
+use Rattle.std.proofs.Common.{map, Option, Some, None, is_some, refl, sym, ap, subst, ◌⊎◌, inl, inr, arith}
 use Rattle.std.proofs.lemmas.Bool.Decides.{nat_tests}
 use Rattle.std.specs.Prelude.{◌^◌, ◌%◌, ◌==◌, nat_lt, nat_le}
 use Rattle.std.specs.List.{list_all}
 use Rattle.ub_base.specs.declared.clause.Cause.{Cause}
 use Rattle.ub_base.specs.declared.names.Item.{Item}
-use Rattle.ub_base.specs.declared.names.ObjName.{ObjName}
 use Rattle.ub_base.specs.Names.{same_object}
 use Rattle.addr_map.specs.declared.map.Row.{Row}
-use Rattle.addr_map.specs.Rows.{is_lawful, is_power, row_of, first_row}
+use Rattle.addr_map.specs.Rows.{is_lawful, is_power, first_row}
 use Rattle.addr_map.specs.Conflict.{items_conflict, stands_at, is_access, conflicts_with, some_conflict}
 use Rattle.c_typed.specs.declared.tree.Place.{Place}
-use Rattle.c_typed.specs.declared.tree.Typed.{Typed}
-use Rattle.c_typed.specs.declared.program.Program.{Program}
 use Rattle.c_typed.specs.Order.{is_body, IsApart}
 use Rattle.mem_spec.specs.Store.{Store}
 use Rattle.mem_spec.specs.Script.{Act, Done, Raised, Ended, Outside, Unplaced, run}
-use Rattle.c_model.specs.Program.{Standing, tree_of}
+use Rattle.c_model.specs.Program.{tree_of}
 use Rattle.c_model.specs.Values.{Value}
 use Rattle.c_model.specs.World.{World, Limits}
 use Rattle.c_model.specs.Moves.{Move, Stay, Start, End}
-use Rattle.c_model.specs.Steps.{Scene, Local, Begun, Pick, Control, Ev, MayPick, taken_by, at_node, event_act, does, move}
-use Rattle.c_model.specs.Runs.{Entry, State, Outcome, Refused, Raises, Over, No_row, Ends, Running, trace_of, is_running, entry_of, place_of, begun_of, back}
-use Rattle.c_model.specs.Runs.{moved, acted, step, within, limited, limit_passed, depth_of, enter_passes, without_row, After, here, refused, last, more, too_late}
+use Rattle.c_model.specs.Steps.{Scene, Local, Begun, Pick, Control, Ev, MayPick, taken_by, at_node, does, move}
+use Rattle.c_model.specs.Runs.{Entry, State, Outcome, Refused, Raises, Over, No_row, Ends, Running, trace_of, entry_of, begun_of, back}
+use Rattle.c_model.specs.Runs.{moved, acted, step, within, limited, limit_passed, depth_of, enter_passes, After, here, refused, last, more, too_late}
 use Rattle.c_model.specs.Runs.{start, started_run, stand, nothing_stands, main_frame, too_many, created_after}
-use Rattle.c_model.specs.Findings.{accesses, AreApart, Has, Both, newest, older, first, later, Race}
-use Rattle.c_model.specs.Claims.{ComesTo, starts, stops, refuses}
-use Rattle.c_model.specs.ChoiceLaws.{IsNext, IsClosed}
+use Rattle.c_model.specs.Findings.{accesses, AreApart, Has, Both, newest, older, first, later}
+use Rattle.c_model.specs.ChoiceLaws.{IsNext}
 use Rattle.c_model.proofs.Ranks.{or_cases, and_l, and_r}
-use Rattle.static_laws.specs.Trees.{expr_of}
+use Rattle.value_laws.proofs.Orders.{OutcomeFits, step_fits, start_fits}
 use Rattle.static_laws.proofs.Scripts.{Anything, Each, ActOk}
 use Rattle.static_laws.proofs.Reach.{InReach}
 use Rattle.static_laws.proofs.Acts.{AreLow}
 use Rattle.static_laws.proofs.Paths.{path_is, both_cases, IsNewest}
-use Rattle.static_laws.proofs.Frames.{Falls, of_function, scoped_falls, reach_at, Told, Sound, Kept, HeldOk, sound_at}
-use Rattle.static_laws.proofs.Picks.{event_in, next_is, Inv, OutcomeOk, step_ok}
+use Rattle.static_laws.proofs.Frames.{Falls, of_function, scoped_falls, reach_at, Knows, Told, Sound, Kept, sound_at}
+use Rattle.static_laws.proofs.Picks.{event_in, next_is, Inv, OutcomeOk, Sized, stores_in, step_ok}
 
 -- two accesses that conflict, of two lists
 pub record Clash (rows : List Row) (P R : Item → Type 0) : Type 0 where
@@ -95,8 +91,8 @@ module _ (world : World) where
     pub sound : Sound world f b
     pub apart : IsApart (tree_of b.root) (taken_by world f b) u v
     pub falls : (n : ℕ) × Falls n f.blocks
-    pub clash : Clash world.rows (InReach world.rows (reach_at world f u.kind (at_node 0 b.root u.node)))
-        (InReach world.rows (reach_at world f v.kind (at_node 0 b.root v.node)))
+    pub clash : (sized : Bool) → Knows world sized → Clash world.rows (InReach world.rows (reach_at world sized f u.kind (at_node 0 b.root u.node)))
+        (InReach world.rows (reach_at world sized f v.kind (at_node 0 b.root v.node)))
 
   -- what a pick adds to the trace
   pub data Grown (st : State) (p : Pick) : List Entry → Type 0 where
@@ -134,14 +130,15 @@ module _ (world : World) where
   ToldBy st p is = (b : Begun) (u : Place) → st.top.begun ≡ Some b → p ≡ Ev u → Told world st.top.scene b.root u is
 
   acted_grown : (st : State) (p : Pick) (a : Act Value)
-      → ((b : Begun) (u : Place) → st.top.begun ≡ Some b → p ≡ Ev u → is_body u.kind ≡ false
-      → ActOk (InReach world.rows (reach_at world st.top.scene u.kind (at_node 0 b.root u.node))) Anything a)
+      → ((b : Begun) (u : Place) → st.top.begun ≡ Some b → p ≡ Ev u → (sized : Bool) → Knows world sized → is_body u.kind ≡ false
+      → ActOk (InReach world.rows (reach_at world sized st.top.scene u.kind (at_node 0 b.root u.node))) Anything a)
       → GrownBy st p (acted world st p a)
   acted_grown st p (Done v is s) h =
       limited_grown st p world.limits (moved world st p (move world st.top st.top.begun p) v s (entry_of world st.top p is ∷ st.trace))
-      (moved_grown st p (move world st.top st.top.begun p) v s (entry_of world st.top p is ∷ st.trace) (entry is (λ b u e q nb. (h b u e q nb).0)))
-  acted_grown st p (Raised c) h = entry [] (λ b u e q nb. tt)
-  acted_grown st p (Ended n is s) h = entry is (λ b u e q nb. h b u e q nb)
+      (moved_grown st p (move world st.top st.top.begun p) v s (entry_of world st.top p is ∷ st.trace)
+      (entry is (λ b u e q sized knows nb. (h b u e q sized knows nb).0)))
+  acted_grown st p (Raised c) h = entry [] (λ b u e q sized knows nb. tt)
+  acted_grown st p (Ended n is s) h = entry is (λ b u e q sized knows nb. h b u e q sized knows nb)
   acted_grown st p (Outside c n) h = nothing
   acted_grown st p Unplaced h = within_grown st p _ No_row nothing
 
@@ -149,20 +146,21 @@ module _ (world : World) where
   ev_is u v h = cc
 
   module _ (lo : AreLow world.rows) where
-    pub step_grown : (st : State) (p : Pick) → Inv world lo st → GrownBy st p (step world st p)
-    step_grown st p inv =
+    pub step_grown : (st : State) (p : Pick) → Inv world lo st → Sized world lo st → GrownBy st p (step world st p)
+    step_grown st p inv known =
         within_grown st p (enter_passes world.limits st p) _
-        (acted_grown st p (run world.rows (does world st.top st.top.begun p) st.store) (λ b u e q nb. by_event b u e q nb))
+        (acted_grown st p (run world.rows (does world st.top st.top.begun p) st.store) by_event)
       where
-        by_event : (b : Begun) (u : Place) → st.top.begun ≡ Some b → p ≡ Ev u → is_body u.kind ≡ false
-            → ActOk (InReach world.rows (reach_at world st.top.scene u.kind (at_node 0 b.root u.node))) Anything
+        by_event : (b : Begun) (u : Place) → st.top.begun ≡ Some b → p ≡ Ev u → (sized : Bool) → Knows world sized → is_body u.kind ≡ false
+            → ActOk (InReach world.rows (reach_at world sized st.top.scene u.kind (at_node 0 b.root u.node))) Anything
             (run world.rows (does world st.top st.top.begun p) st.store)
-        by_event b u e q nb =
-            subst (λ o. ActOk (InReach world.rows (reach_at world st.top.scene u.kind (at_node 0 b.root u.node))) Anything
+        by_event b u e q sized knows nb =
+            subst (λ o. ActOk (InReach world.rows (reach_at world sized st.top.scene u.kind (at_node 0 b.root u.node))) Anything
             (run world.rows (does world st.top o p) st.store)) (sym e)
-            (subst (λ z. ActOk (InReach world.rows (reach_at world st.top.scene u.kind (at_node 0 b.root u.node))) Anything
+            (subst (λ z. ActOk (InReach world.rows (reach_at world sized st.top.scene u.kind (at_node 0 b.root u.node))) Anything
             (run world.rows (does world st.top (Some b) z) st.store)) (sym q)
-            (event_in world lo st.top.scene b (sound_at world st.top.scene st.top.begun b e inv.kept.sound).fixed u st.store nb))
+            (event_in world lo sized st.top.scene b (sound_at world st.top.scene st.top.begun b e inv.kept.sound).fixed
+            (stores_in world lo st known b e sized knows) u st.store nb))
 
     pub no_pair : (trace : List Entry) (d e : Entry) (u v : Place) → Both trace d u e v → 0 < length trace
     no_pair _ d e u v (newest _ _ es _ _ p h s t) = omega arith
@@ -216,9 +214,9 @@ module _ (world : World) where
             sound = sound_at world st.top.scene st.top.begun b q inv.kept.sound;
             apart = ap';
             falls = scoped_falls st.top inv.kept.scoped;
-            clash = some_clash world.rows (InReach world.rows (reach_at world st.top.scene u.kind (at_node 0 b.root u.node)))
-                (InReach world.rows (reach_at world st.top.scene v.kind (at_node 0 b.root v.node))) is e.items
-                (told b u q refl (neither_l (is_body u.kind) _ bare)) (old.0 (neither_r (is_body u.kind) _ bare)) cl;
+            clash = λ sized knows. some_clash world.rows (InReach world.rows (reach_at world sized st.top.scene u.kind (at_node 0 b.root u.node)))
+                (InReach world.rows (reach_at world sized st.top.scene v.kind (at_node 0 b.root v.node))) is e.items
+                (told b u q refl sized knows (neither_l (is_body u.kind) _ bare)) (old.0 sized knows (neither_r (is_body u.kind) _ bare)) cl;
           },
         )
       where
@@ -268,17 +266,21 @@ module _ (world : World) where
     before_it st _ p _ _ may e (more next' s2 q r qs o h k rest) = more st next' p q (r ∷ qs) o may e (more next' s2 q r qs o h k rest)
     before_it st _ p _ _ may e (too_late next' q r qs h k) = more st next' p q (r ∷ qs) Refused may e (too_late next' q r qs h k)
 
-    next_inv : (st next' : State) (p : Pick) → Inv world lo st → MayPick world st.top st.top.begun p → step world st p ≡ Running next' → Inv world lo next'
-    next_inv st next' p inv may e = subst (λ z. OutcomeOk world lo z) e (step_ok world lo st p inv may)
+    next_inv : (st next' : State) (p : Pick) → Inv world lo st → Sized world lo st → MayPick world st.top st.top.begun p → step world st p ≡ Running next'
+        → Inv world lo next'
+    next_inv st next' p inv known may e = subst (λ z. OutcomeOk world lo z) e (step_ok world lo st p inv known may)
 
-    pub races_from : (st : State) (ps : List Pick) (o : Outcome) → Inv world lo st → After world st ps o → (d e : Entry) (u v : Place)
+    next_known : (st next' : State) (p : Pick) → Sized world lo st → step world st p ≡ Running next' → Sized world lo next'
+    next_known st next' p known e = λ size ok. subst (OutcomeFits size world) e (step_fits size world ok st (known size ok) p)
+
+    pub races_from : (st : State) (ps : List Pick) (o : Outcome) → Inv world lo st → Sized world lo st → After world st ps o → (d e : Entry) (u v : Place)
         → Both (trace_of o) d u e v → Races d u e v → Both st.trace d u e v ⊎ Picked st ps d u v
-    races_from _ _ _ inv (here st) d e u v b r = inl b
-    races_from _ _ _ inv (refused st p ps h) d e u v b r = absurd (let l = no_pair [] d e u v b in omega (arith, l))
-    races_from _ _ _ inv (last st p may) d e u v b r = grown_pair st p [] _ inv may (step_grown st p inv) d e u v b r
-    races_from _ _ _ inv (more st next' p q ps o may k rest) d e u v b r =
-        elim (races_from next' (q ∷ ps) o (next_inv st next' p inv may k) rest d e u v b r) [
-          | inl two ↦ grown_pair st p (q ∷ ps) next'.trace inv may (subst (λ z. Grown st p (trace_of z)) k (step_grown st p inv)) d e u v two r
+    races_from _ _ _ inv known (here st) d e u v b r = inl b
+    races_from _ _ _ inv known (refused st p ps h) d e u v b r = absurd (let l = no_pair [] d e u v b in omega (arith, l))
+    races_from _ _ _ inv known (last st p may) d e u v b r = grown_pair st p [] _ inv may (step_grown st p inv known) d e u v b r
+    races_from _ _ _ inv known (more st next' p q ps o may k rest) d e u v b r =
+        elim (races_from next' (q ∷ ps) o (next_inv st next' p inv known may k) (next_known st next' p known k) rest d e u v b r) [
+          | inl two ↦ grown_pair st p (q ∷ ps) next'.trace inv may (subst (λ z. Grown st p (trace_of z)) k (step_grown st p inv known)) d e u v two r
           | inr picked ↦ inr (record {
             before = p ∷ picked.before;
             after = picked.after;
@@ -292,7 +294,7 @@ module _ (world : World) where
             race = picked.race;
           })
         ]
-    races_from _ _ _ inv (too_late st p q ps h k) d e u v b r = absurd (let l = no_pair [] d e u v b in omega (arith, l))
+    races_from _ _ _ inv known (too_late st p q ps h k) d e u v b r = absurd (let l = no_pair [] d e u v b in omega (arith, l))
 
     -- the start
     abbrev pub StartOk : Outcome → Type 0
@@ -329,3 +331,6 @@ module _ (world : World) where
     pub start_ok : (input : List ℕ) (vs : List Value) → StartOk (start world input vs)
     start_ok input vs = start_within (too_many world.limits (created_after 0 (map (λ o. o.decl) world.program.standing))) _
         (started_ok (run world.rows (stand world world.program.standing) (nothing_stands world input)) vs)
+
+    pub start_known : (input : List ℕ) (vs : List Value) (st : State) → start world input vs ≡ Running st → Sized world lo st
+    start_known input vs st e = λ size ok. subst (OutcomeFits size world) e (start_fits size world ok input vs)

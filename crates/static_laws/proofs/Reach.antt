@@ -1,5 +1,5 @@
 -- What the access of an event can touch: reads alone or writes too, at which object and offset, and how far.
-use Rattle.std.proofs.Common.{◌≡◌, ℕ, ◌+◌, ◌-◌, ◌≤◌, Bool, true, false, Option, Some, None, is_some, ◌⊎◌, List}
+use Rattle.std.proofs.Common.{◌≡◌, ℕ, ◌+◌, ◌-◌, ◌≤◌, Bool, true, false, if◌then◌else◌, Option, Some, None, is_some, ◌⊎◌, List}
 use Rattle.std.specs.Prelude.{◌^◌}
 use Rattle.ub_base.specs.declared.names.ObjName.{ObjName}
 use Rattle.ub_base.specs.declared.names.Item.{Item}
@@ -62,18 +62,18 @@ FoundAt (Some s) at = (at.object ≡ s.0) × (at.from ≡ s.1)
 abbrev pub Found : List Row → Option Site → Accessed → Type 0
 Found rows site at = (is_some (row_of rows at.object) ≡ true) × FoundAt site at
 
--- how far a store goes; of a whole structure or union as far as the value
-abbrev pub store_limit : Access → Option ℕ
-store_limit (access.Integer k) = Some (width_of (access.Integer k))
-store_limit access.Pointer = Some 8
-store_limit access.Function = Some 8
-store_limit (access.Whole size align) = None
+-- how far a store goes; of a whole structure or union as far as the value, whose size may be known
+abbrev pub store_limit : Bool → Access → Option ℕ
+store_limit sized (access.Integer k) = Some (width_of (access.Integer k))
+store_limit sized access.Pointer = Some 8
+store_limit sized access.Function = Some 8
+store_limit sized (access.Whole size align) = if sized then Some size else None
 
 -- of an event of a node whose place is at the site, or which is the list of the object
-abbrev pub reach_by : Head → Option Site → ObjName → Kind → Option Reach
-reach_by (Load how) site x Val = Some (reach false site (Some (width_of how)))
-reach_by (Assign first how) site x Eff = Some (reach true site (store_limit how))
-reach_by (Update c old) site x Val = Some (reach false site (Some (width_of (change_access c))))
-reach_by (Update c old) site x Eff = Some (reach true site (store_limit (change_access c)))
-reach_by (Listed slot fillings) site x Eff = Some (reach true (Some (x, 0)) (Some (2 ^ 64 - 1)))
-reach_by h site x k = None
+abbrev pub reach_by : Bool → Head → Option Site → ObjName → Kind → Option Reach
+reach_by sized (Load how) site x Val = Some (reach false site (Some (width_of how)))
+reach_by sized (Assign first how) site x Eff = Some (reach true site (store_limit sized how))
+reach_by sized (Update c old) site x Val = Some (reach false site (Some (width_of (change_access c))))
+reach_by sized (Update c old) site x Eff = Some (reach true site (store_limit sized (change_access c)))
+reach_by sized (Listed slot fillings) site x Eff = Some (reach true (Some (x, 0)) (Some (2 ^ 64 - 1)))
+reach_by sized h site x k = None

@@ -1,21 +1,18 @@
 -- The model's expression of a typed tree has its order, and its nodes are those of the tree in preorder.
-use Rattle.std.proofs.Common.{◌≡◌, ℕ, zero, suc, ◌+◌, ◌-◌, ◌<◌, ◌≤◌, Bool, true, false, ◌&&◌, ◌==◌, nat_lt, if◌then◌else◌, List, [], ◌∷◌, ◌++◌, map, length, slice_get}
-use Rattle.std.proofs.Common.{Option, Some, None, refl, sym, ap, ap₂, ◌∙◌, subst, ◌⊎◌, inl, inr, arith, ℤ}
-use Rattle.std.proofs.lemmas.Bool.Decides.{nat_tests}
-use Rattle.std.specs.Prelude.{pos, negsuc, unsigned_abs}
+use Rattle.std.proofs.Common.{◌≡◌, ℕ, zero, suc, ◌≤◌, Bool, true, false, ◌&&◌, ◌==◌, if◌then◌else◌, List, [], ◌∷◌}
+use Rattle.std.proofs.Common.{refl, sym, ap, ap₂, ◌∙◌, arith, ℤ}
+use Rattle.std.specs.Prelude.{unsigned_abs}
 use Rattle.c_types.specs.Types.{CType, type_of}
 use Rattle.c_typed.specs.declared.class.Class.{Class}
 use Rattle.c_typed.specs.declared.tree.Node.{Node, fold-Node, fold-roll-Node, map-Node, out-Node, roll-out-Node}
 use Rattle.c_typed.specs.declared.tree.Node.TheOpen as shape
 use Rattle.c_typed.specs.declared.tree.Node.TheOpen.{Node-F}
-use Rattle.c_typed.specs.declared.tree.Typed.{Typed, out-Typed, fold_out-Typed, roll-Typed, roll-out-Typed, para-roll-Typed}
-use Rattle.c_typed.specs.declared.program.Program.{Program}
+use Rattle.c_typed.specs.declared.tree.Typed.{Typed, out-Typed, fold_out-Typed}
 use Rattle.c_typed.specs.Tree.{Tree, Trees, tree_of, trees_of, node, size, sizes, node_class, typed_tree, class_of}
 use Rattle.c_model.specs.Program as model
 use Rattle.c_model.specs.Program.{Head, Expr, expr, Exprs, none, more, head_class}
-use Rattle.c_model.specs.Steps.{at_node, at_node_among}
 use Rattle.c_model.proofs.Ranks.{size_pos}
-use Rattle.static_laws.specs.Trees.{constant_head, is_pointer, node_head, typed_expr, expr_of, exprs_from, exprs_of}
+use Rattle.static_laws.specs.Trees.{constant_head, is_pointer, node_head, typed_expr, expr_of, exprs_of}
 
 abbrev pub node_in : Typed → Node-F Node Typed
 node_in t = out-Node (out-Typed t).node

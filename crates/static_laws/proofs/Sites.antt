@@ -1,13 +1,12 @@
 -- What a fixed place gives: a pointer to one object at one offset, wherever in a run of its full expression it is asked.
-use Rattle.std.proofs.Common.{◌≡◌, ℕ, zero, suc, ◌+◌, ◌-◌, ◌<◌, ◌≤◌, min, Bool, true, false, not, ◌&&◌, ◌||◌, nat_lt, if◌then◌else◌, List, [], ◌∷◌, Option, Some, None}
-use Rattle.std.proofs.Common.{is_some, refl, sym, ap, ◌∙◌, subst, ◌⊎◌, inl, inr, arith, true≢false, ap₂}
+use Rattle.std.proofs.Common.{◌≡◌, ℕ, suc, ◌+◌, ◌<◌, ◌≤◌, Bool, true, false, nat_lt, if◌then◌else◌, Option, Some, None}
+use Rattle.std.proofs.Common.{refl, sym, ap, ◌∙◌, subst, ◌⊎◌, inl, inr, arith, true≢false, ap₂}
 use Rattle.std.proofs.lemmas.Bool.Decides.{nat_tests}
 use Rattle.std.proofs.lemmas.Int.{ints}
 use Rattle.std.specs.Prelude.{◌==◌, ◌^◌, ℤ, pos, negsuc, ◌+ℤ◌, unsigned_abs}
 use Rattle.ub_base.specs.declared.clause.Kind.TheVariants.{Val}
 use Rattle.ub_base.specs.declared.clause.Clause.TheVariants.{InvalidPointer, OutOfBounds}
 use Rattle.ub_base.specs.declared.names.Event.{Event}
-use Rattle.ub_base.specs.declared.names.Item.{Item}
 use Rattle.ub_base.specs.declared.names.ObjName.{ObjName}
 use Rattle.ub_base.specs.declared.names.ObjName.TheVariants as object
 use Rattle.addr_map.specs.declared.map.Row.{Row}
@@ -16,18 +15,16 @@ use Rattle.exposure.specs.declared.prov.Prov.TheVariants as prov
 use Rattle.c_types.specs.Types.{CType, function}
 use Rattle.c_typed.specs.declared.class.Class.{Class}
 use Rattle.c_typed.specs.declared.class.Class.TheVariants.{Object}
-use Rattle.c_typed.specs.declared.tree.Conversion.{Conversion}
-use Rattle.c_typed.specs.declared.tree.Conversion.TheVariants as conversion
-use Rattle.c_typed.specs.Tree.{Tree, size, sizes, class_of, is_quiet, is_quiet_class, member_class, first_class}
+use Rattle.c_typed.specs.Tree.{size, sizes, class_of, is_quiet, is_quiet_class, member_class, first_class}
 use Rattle.c_typed.specs.Order.{place}
 use Rattle.c_typed.specs.declared.tree.Place.{Place}
 use Rattle.mem_spec.specs.Script.{Script, Give, require, ◌>>=◌, ◌>>◌}
-use Rattle.mem_spec.specs.Acts.{base_in, in_bounds, shift}
+use Rattle.mem_spec.specs.Acts.{base_in, in_bounds}
 use Rattle.c_model.specs.Program.{Head, Number, Null, Obj, Func, Str, Load, Conv, Un, Bin, PtrAdd, PtrDiff, Rel, Eq, Member, Part, Assign, Update, And, Or}
 use Rattle.c_model.specs.Program.{Cond, Comma, Call, Listed, Isolated, Expr, expr, Exprs, none, more, tree_of, trees_of}
-use Rattle.c_model.specs.Values.{Value, Int, Ptr, Nothing, Pointer, null, pointer_value, pointer_of, integer_of, value_at, or_nothing, address_after}
+use Rattle.c_model.specs.Values.{Value, Ptr, Pointer, null, pointer_value, pointer_of, integer_of, value_at, or_nothing, address_after}
 use Rattle.c_model.specs.World.{World}
-use Rattle.c_model.specs.Nodes.{act_of, member, shifted, distance, is_empty}
+use Rattle.c_model.specs.Nodes.{act_of, member, shifted, distance}
 use Rattle.c_model.specs.Steps.{Scene, at_node, at_node_among, name_of, quiet_value, first_quiet, values_of, operand_values, pointer_to, null_of, target}
 use Rattle.c_model.specs.Steps.{moved_place}
 use Rattle.c_model.proofs.Ranks.{size_pos}

@@ -38,25 +38,25 @@ stores_whole_at (Some t) = stores_whole_by (node_of t)
 abbrev pub stores_whole : Typed → MemoryAccess → Bool
 stores_whole root a = a.writes && stores_whole_at (slice_get (nodes_of root) a.at.place.node)
 
--- or the bytes don't overlap, where neither stores a whole structure or union.
-abbrev pub other_bytes : Typed → MemoryAccess → MemoryAccess → Bool
-other_bytes root a b = distant a b && not (stores_whole root a || stores_whole root b)
+-- or the bytes don't overlap, where values are known to have as many bytes as their types, or neither stores a whole structure or union.
+abbrev pub other_bytes : Bool → Typed → MemoryAccess → MemoryAccess → Bool
+other_bytes sized root a b = distant a b && (sized || not (stores_whole root a || stores_whole root b))
 
 -- by the cases 1 to 4
-abbrev pub apart : Typed → MemoryAccess → MemoryAccess → Bool
-apart root a b = both_read a b || (other_objects a b || (other_bytes root a b || (branched root a b || sequenced root a b)))
+abbrev pub apart : Bool → Typed → MemoryAccess → MemoryAccess → Bool
+apart sized root a b = both_read a b || (other_objects a b || (other_bytes sized root a b || (branched root a b || sequenced root a b)))
 
-abbrev pub apart_from_all : Typed → MemoryAccess → List MemoryAccess → Bool
-apart_from_all root a [] = true
-apart_from_all root a (b ∷ bs) = apart root a b && apart_from_all root a bs
+abbrev pub apart_from_all : Bool → Typed → MemoryAccess → List MemoryAccess → Bool
+apart_from_all sized root a [] = true
+apart_from_all sized root a (b ∷ bs) = apart sized root a b && apart_from_all sized root a bs
 
-abbrev pub all_apart : Typed → List MemoryAccess → Bool
-all_apart root [] = true
-all_apart root (a ∷ rest) = apart_from_all root a rest && all_apart root rest
+abbrev pub all_apart : Bool → Typed → List MemoryAccess → Bool
+all_apart sized root [] = true
+all_apart sized root (a ∷ rest) = apart_from_all sized root a rest && all_apart sized root rest
 
 -- each pair of accesses of the full expression is apart
-abbrev pub never_races : Program → ℕ → Typed → Bool
-never_races p function root = all_apart root (accesses p function root)
+abbrev pub never_races : Bool → Program → ℕ → Typed → Bool
+never_races sized p function root = all_apart sized root (accesses p function root)
 
 abbrev pub has_branches_by : Node-F Node Typed → ℕ → Bool
 has_branches_by shape.Cond count = count == 3

@@ -2,3 +2,4 @@ pub mod Trees
 pub mod Low
 pub mod Apart
 pub mod NeverRaces
+pub mod LawfulSizes

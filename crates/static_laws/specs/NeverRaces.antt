@@ -1,5 +1,5 @@
 -- No order holds a race in a full expression whose accesses are all apart.
-use Rattle.std.specs.Prelude.{◌≡◌, ◌⊎◌, ℕ, ◌^◌, ◌<◌, Bool, true, List, [], ◌∷◌, ◌++◌, Some, None}
+use Rattle.std.specs.Prelude.{◌≡◌, ◌⊎◌, ℕ, ◌^◌, ◌<◌, Bool, true, false, List, [], ◌∷◌, ◌++◌, Some, None}
 use Rattle.std.specs.List.{list_all}
 use Rattle.ub_base.specs.declared.names.Frame.{Frame}
 use Rattle.ub_base.specs.declared.names.ObjName.TheVariants.{Auto}
@@ -18,6 +18,7 @@ use Rattle.c_model.specs.Steps.{Begun, Pick, Ev}
 use Rattle.c_model.specs.Runs.{Entry, State, Outcome, Running, trace_of}
 use Rattle.c_model.specs.Findings.{Race}
 use Rattle.c_model.specs.Claims.{ComesTo}
+use Rattle.value_laws.specs.Sizes.{Sizes, ProgramFits}
 use Rattle.static_laws.specs.Trees.{expr_of}
 use Rattle.static_laws.specs.Low.{all_low}
 use Rattle.static_laws.specs.Apart.{other_objects, other_bytes, never_races, all_branch}
@@ -67,6 +68,18 @@ RacesOnlyWithout Holds =
     → (picked : PickedIn world input vs ps d u)
     × ((p : Program) (function : ℕ) (root : Typed) → picked.begun.root ≡ expr_of root → IsUsual p function root → Holds p function root u v → ⊥)
 
+-- the program keeps the sizes of its types
+abbrev pub KeepsSizes : World → Type 0
+KeepsSizes world = (size : Sizes) × ProgramFits size world
+
+-- the same of the programs that do
+abbrev pub SizedRacesOnlyWithout : (Program → ℕ → Typed → Place → Place → Type 0) → Type 0
+SizedRacesOnlyWithout Holds =
+    (world : World) (input : List ℕ) (vs : List Value) (ps : List Pick) (o : Outcome) → KeepsSizes world → AreRows world.rows
+    → ComesTo world input vs ps o → (d e : Entry) (u v : Place) → Race world (trace_of o) d u e v
+    → (picked : PickedIn world input vs ps d u)
+    × ((p : Program) (function : ℕ) (root : Typed) → picked.begun.root ≡ expr_of root → IsUsual p function root → Holds p function root u v → ⊥)
+
 -- two accesses at the places that pass a test
 pub record AccessesBy (test : Typed → MemoryAccess → MemoryAccess → Bool) (p : Program) (function : ℕ) (root : Typed) (u v : Place) : Type 0 where
   pub two : AccessesAt p function root u v
@@ -90,7 +103,11 @@ ObjectsNeverRace = RacesOnlyWithout (AccessesBy (λ root a b. other_objects a b)
 
 -- or of one object whose bytes don't overlap, where neither stores a whole structure or union.
 abbrev pub BytesNeverRace : Type 0
-BytesNeverRace = RacesOnlyWithout (AccessesBy other_bytes)
+BytesNeverRace = RacesOnlyWithout (AccessesBy (other_bytes false))
+
+-- or, in a program that keeps the sizes of its types, whether or not one of them does.
+abbrev pub WholesNeverRace : Type 0
+WholesNeverRace = SizedRacesOnlyWithout (AccessesBy (other_bytes true))
 
 -- And nothing but two accesses races,
 abbrev pub OnlyAccessesRace : Type 0
@@ -98,4 +115,7 @@ OnlyAccessesRace = RacesOnlyWithout (λ p function root u v. AccessesAt p functi
 
 -- so a full expression whose accesses are all apart by these cases never races.
 abbrev pub NeverRaces : Type 0
-NeverRaces = RacesOnlyWithout (λ p function root u v. never_races p function root ≡ true)
+NeverRaces = RacesOnlyWithout (λ p function root u v. never_races false p function root ≡ true)
+
+abbrev pub SizedNeverRaces : Type 0
+SizedNeverRaces = SizedRacesOnlyWithout (λ p function root u v. never_races true p function root ≡ true)

@@ -3,7 +3,8 @@
 //! A law function takes nothing and answers nothing: its contract is a law about the definitions.
 #![tactic(auto)]
 
-ghost use Rattle.static_laws.specs.NeverRaces.{ReadsNeverRace, SequencedNeverRace, BranchesNeverRace, ObjectsNeverRace, BytesNeverRace, OnlyAccessesRace, NeverRaces};
+ghost use Rattle.static_laws.specs.NeverRaces.{ReadsNeverRace, SequencedNeverRace, BranchesNeverRace, ObjectsNeverRace, BytesNeverRace, WholesNeverRace, OnlyAccessesRace, NeverRaces, SizedNeverRaces};
+ghost use Rattle.static_laws.specs.LawfulSizes.{LawfulExpressionsFit, LawfulResultsFit, LawfulProgramsFit, LawfulParametersFit};
 
 /// What parts two accesses of a full expression keeps them from racing, in every order, under every address map (6.5p2).
 pub fn law_parted_accesses()
@@ -12,10 +13,20 @@ pub fn law_parted_accesses()
     ensures branches { BranchesNeverRace }
     ensures objects { ObjectsNeverRace }
     ensures bytes { BytesNeverRace }
+    ensures wholes { WholesNeverRace }
     ensures only { OnlyAccessesRace }
 {}
 
-/// A full expression all of whose accesses are apart by these cases never races.
+/// A full expression all of whose accesses are apart by these cases never races, in any program, and in one that keeps the sizes of its types.
 pub fn law_never_races()
-    ensures { NeverRaces }
+    ensures any { NeverRaces }
+    ensures sized { SizedNeverRaces }
+{}
+
+/// The full expressions of a lawful program keep the sizes that its types have by their layout, and so does a program that is made of them.
+pub fn law_lawful_sizes()
+    ensures expressions { LawfulExpressionsFit }
+    ensures results { LawfulResultsFit }
+    ensures programs { LawfulProgramsFit }
+    ensures parameters { LawfulParametersFit }
 {}
