@@ -1,12 +1,18 @@
 // Whether evaluations conflict, as operands and nodes are completed.
-ghost use Rattle.std.specs.Prelude.{IfOk};
+ghost use Rattle.std.specs.Prelude.{◌≡◌, ◌≤◌, ◌||◌, ℕ, suc, true, false, IfOk, OnOk, None, Some, slice_get};
+ghost use Rattle.ub_base.specs.declared.names.Item.{Item};
+ghost use Rattle.footprint.specs.Holds.{holds};
+ghost use Rattle.run_evaluations.specs.declared.log.Logged.{Logged};
+ghost use Rattle.run_evaluations.specs.declared.log.Segment.{Segment};
 ghost use Rattle.run_evaluations.specs.FoundItems.{ItemsConflict};
+ghost use Rattle.run_evaluations.specs.Kept.{IsApart, AreApart, items_of, small_of};
+ghost use Rattle.run_evaluations.specs.Touched.{start_of};
 
 use crate::found::Found;
 use crate::log::Logged;
-use crate::open::{Evaluations, LARGE, add_all};
+use crate::open::{Evaluations, add_all};
 use crate::rules::Rule;
-use crate::search::Under;
+use crate::search::{Under, add_range};
 use addr_map::AddrMap;
 use footprint::{Foot, conflicts, items_conflict};
 use ub_base::{Frames, Item, Kind, NoMemory};
@@ -86,57 +92,109 @@ impl Evaluations {
         self.gathered_conflict(map, at)
     }
 
-    fn all_harmless(&self, at: usize) -> bool {
-        match self.segments.get(at..) {
-            Some(segments) => segments.iter().all(|segment| segment.harmless),
+    // Whether each of these segments is harmless.
+    fn all_harmless(&self, at: usize) -> bool
+        ensures { result ≡ true → (g : ℕ) (s : Segment) → at ≤ g → slice_get self.now.segments.items g ≡ Some s → s.harmless ≡ true }
+    {
+        for group in at..self.segments.len() {
+            if !self.is_harmless(group) {
+                return false;
+            }
+        }
+        true
+    }
+
+    fn is_harmless(&self, group: usize) -> bool
+        ensures { result ≡ true → (s : Segment) → slice_get self.now.segments.items group ≡ Some s → s.harmless ≡ true }
+    {
+        match self.segments.get(group) {
+            Some(segment) => segment.harmless,
             None => true,
         }
     }
 
     // Whether no body of a frame stands among the operands' events, and few items.
-    fn are_few(&self, at: usize) -> bool {
-        let Some(segment) = self.segments.get(at) else {
-            return true;
-        };
-        if self.items.len().saturating_sub(segment.items) > FEW {
-            return false;
+    fn are_few(&self, at: usize) -> bool
+        ensures { result ≡ true → (k : ℕ) (e : Logged) → start_of self.now.segments.items self.now.events.items at ≤ k →
+            slice_get self.now.events.items k ≡ Some e → e.foot ≡ None }
+    {
+        self.items.len().saturating_sub(self.items_start(at)) <= FEW
+            && self.have_items_alone(self.segment_start(at))
+    }
+
+    // Whether none of the events from there on started a frame.
+    fn have_items_alone(&self, from: usize) -> bool
+        ensures { result ≡ true → (k : ℕ) (e : Logged) → from ≤ k → slice_get self.now.events.items k ≡ Some e → e.foot ≡ None }
+    {
+        for at in from..self.events.len() {
+            if !self.has_items_alone(at) {
+                return false;
+            }
         }
-        match self.events.get(segment.first..) {
-            Some(events) => events.iter().all(has_items_alone),
+        true
+    }
+
+    fn has_items_alone(&self, at: usize) -> bool
+        ensures { result ≡ true → (e : Logged) → slice_get self.now.events.items at ≡ Some e → e.foot ≡ None }
+    {
+        match self.events.get(at) {
+            Some(event) => event.foot.is_none(),
             None => true,
         }
     }
 
-    fn some_items_conflict(&self, map: &AddrMap, at: usize) -> bool {
+    // Whether an item of one of these segments conflicts with one of a later segment.
+    fn some_items_conflict(&self, map: &AddrMap, at: usize) -> bool
+        ensures { result ≡ false → (g : ℕ) → at ≤ g → AreApart map.now self.now.items.items
+            (items_of self.now.segments.items self.now.items.items g) (items_of self.now.segments.items self.now.items.items (suc g)) }
+    {
         for group in at..self.segments.len() {
-            let (from, to) = (
-                self.items_start(group),
-                self.items_start(group.saturating_add(1)),
-            );
-            for i in from..to {
-                if self.item_meets_some(map, i, to) {
-                    return true;
-                }
+            if self.items_meet(map, self.items_start(group), self.items_start(group + 1)) {
+                return true;
             }
         }
         false
     }
 
-    fn items_start(&self, group: usize) -> usize {
+    fn items_start(&self, group: usize) -> usize
+        ensures { result ≡ items_of self.now.segments.items self.now.items.items group }
+    {
         match self.segments.get(group) {
             Some(segment) => segment.items,
             None => self.items.len(),
         }
     }
 
+    // Whether an item of the range conflicts with one behind it.
+    fn items_meet(&self, map: &AddrMap, from: usize, to: usize) -> bool
+        ensures { result ≡ false → AreApart map.now self.now.items.items from to }
+    {
+        for i in from..to {
+            if self.item_meets_some(map, i, to) {
+                return true;
+            }
+        }
+        false
+    }
+
     // Whether the item conflicts with one from there on.
-    fn item_meets_some(&self, map: &AddrMap, i: usize, from: usize) -> bool {
-        let Some(item) = self.items.get(i) else {
-            return false;
-        };
-        match self.items.get(from..) {
-            Some(others) => others.iter().any(|other| items_conflict(item, other, map)),
-            None => false,
+    fn item_meets_some(&self, map: &AddrMap, i: usize, from: usize) -> bool
+        ensures { result ≡ false → (q : ℕ) → from ≤ q → IsApart map.now (slice_get self.now.items.items i) (slice_get self.now.items.items q) }
+    {
+        for q in from..self.items.len() {
+            if self.items_at_conflict(map, i, q) {
+                return true;
+            }
+        }
+        false
+    }
+
+    fn items_at_conflict(&self, map: &AddrMap, i: usize, q: usize) -> bool
+        ensures { result ≡ false → IsApart map.now (slice_get self.now.items.items i) (slice_get self.now.items.items q) }
+    {
+        match (self.items.get(i), self.items.get(q)) {
+            (Some(item), Some(other)) => items_conflict(item, other, map),
+            _ => false,
         }
     }
 
@@ -155,16 +213,14 @@ impl Evaluations {
         Ok(false)
     }
 
-    // The set of the items and small bodies of a segment's events.
+    // The set of the items and small bodies of a segment's events, large bodies left out.
     fn segment_foot(&mut self, group: usize) -> Result<Foot, NoMemory> {
         if let Some(foot) = self.take_foot(group) {
             return Ok(Box::into_inner(foot));
         }
         let mut foot = Foot::new(self.alloc);
         for at in self.event_range(group).0..self.event_range(group).1 {
-            if self.is_small(at) {
-                self.add_event(&mut foot, at)?;
-            }
+            self.add_small(at, &mut foot)?;
         }
         Ok(foot)
     }
@@ -176,13 +232,17 @@ impl Evaluations {
         )
     }
 
-    fn is_small(&self, at: usize) -> bool {
-        match self.events.get(at) {
-            Some(event) => match &event.foot {
-                Some(foot) => foot.size() <= LARGE,
-                None => true,
-            },
-            None => false,
+    // Adds the event's items, and what its body touched, if that is small.
+    fn add_small(&self, at: usize, foot: &mut Foot) -> Result<(), NoMemory>
+        ensures { OnOk result ((i : Item) → holds foot.new i ≡ (holds foot.old i || small_of self.now.items.items (slice_get self.now.events.items at) i)) }
+    {
+        let Some(event) = self.events.get(at) else {
+            return Ok(());
+        };
+        add_range(&self.items, event.from, event.to, foot)?;
+        match &event.foot {
+            Some(body) if !event.large => foot.merge(body),
+            _ => Ok(()),
         }
     }
 
@@ -388,8 +448,4 @@ fn is_unsequenced(rule: Rule) -> bool {
         Rule::Open | Rule::Closed => true,
         _ => false,
     }
-}
-
-fn has_items_alone(event: &Logged) -> bool {
-    event.foot.is_none()
 }

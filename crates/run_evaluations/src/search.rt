@@ -381,7 +381,12 @@ impl Evaluations {
 }
 
 // Adds the items of a list from one place up to another.
-fn add_range(items: &[Item], from: usize, to: usize, foot: &mut Foot) -> Result<(), NoMemory>
+pub(crate) fn add_range(
+    items: &[Item],
+    from: usize,
+    to: usize,
+    foot: &mut Foot,
+) -> Result<(), NoMemory>
     ensures { OnOk result ((i : Item) → holds foot.new i ≡ (holds foot.old i || touched items.now from (to - from) i)) }
 {
     for at in from..to {
