@@ -1,18 +1,22 @@
 // Whether evaluations conflict, as operands and nodes are completed.
-ghost use Rattle.std.specs.Prelude.{◌≡◌, ◌≤◌, ◌||◌, ℕ, suc, true, false, IfOk, OnOk, None, Some, slice_get};
+ghost use Rattle.std.specs.Prelude.{◌≡◌, ◌≤◌, ◌<◌, ◌||◌, ℕ, suc, true, false, IfOk, IfNone, OnOk, None, Some, slice_get};
 ghost use Rattle.ub_base.specs.declared.names.Item.{Item};
+ghost use Rattle.footprint.specs.declared.foot.Foot.{Foot};
 ghost use Rattle.footprint.specs.Holds.{holds};
 ghost use Rattle.run_evaluations.specs.declared.log.Logged.{Logged};
 ghost use Rattle.run_evaluations.specs.declared.log.Segment.{Segment};
+ghost use Rattle.run_evaluations.specs.declared.search.Sought.TheVariants.{Any};
+ghost use Rattle.run_evaluations.specs.Clashes.{NoClash, NoneBetween};
 ghost use Rattle.run_evaluations.specs.FoundItems.{ItemsConflict};
-ghost use Rattle.run_evaluations.specs.Kept.{IsApart, AreApart, items_of, small_of};
+ghost use Rattle.run_evaluations.specs.Kept.{IsApart, AreApart, NoLarge, IsSameLog, IsTaken, Gathers, GathersKept, Joined, Kept};
+ghost use Rattle.run_evaluations.specs.Kept.{items_of, large_of, foot_of, listed_has, own_body, small_of, is_unsequenced};
 ghost use Rattle.run_evaluations.specs.Touched.{start_of};
 
 use crate::found::Found;
 use crate::log::Logged;
 use crate::open::{Evaluations, add_all};
 use crate::rules::Rule;
-use crate::search::{Under, add_range};
+use crate::search::{Under, add_range, clash};
 use addr_map::AddrMap;
 use footprint::{Foot, conflicts, items_conflict};
 use ub_base::{Frames, Item, Kind, NoMemory};
@@ -53,7 +57,10 @@ impl Evaluations {
         rule: Rule,
         chosen: bool,
     ) -> Result<Option<Found>, NoMemory>
-        ensures { IfOk result ItemsConflict }
+        ensures conflict { IfOk result ItemsConflict }
+        ensures none { is_unsequenced rule ≡ true → Kept self.old.segments.items self.old.events.items self.old.items.items self.old.large.items at →
+            IfOk result (λ r. IfNone r
+            (NoneBetween Any under.entry.map.now self.old.segments.items self.old.events.items self.old.items.items at)) }
     {
         if !is_unsequenced(rule) {
             self.gather(node, rule, chosen);
@@ -68,21 +75,30 @@ impl Evaluations {
         Ok(None)
     }
 
-    fn take_foot(&mut self, at: usize) -> Option<Box<Foot>> {
+    fn take_foot(&mut self, at: usize) -> Option<Box<Foot>>
+        ensures taken { IsTaken self.old self.new at }
+        ensures given { result ≡ foot_of (slice_get self.old.segments.items at) }
+    {
         match self.segments.get_mut(at) {
             Some(segment) => segment.foot.take(),
             None => None,
         }
     }
 
-    fn put_foot(&mut self, at: usize, foot: Option<Box<Foot>>) {
+    fn put_foot(&mut self, at: usize, foot: Option<Box<Foot>>)
+        ensures { IsSameLog self.old self.new }
+    {
         if let Some(segment) = self.segments.get_mut(at) {
             segment.foot = foot;
         }
     }
 
     // Whether two of the operands whose segments begin at this one conflict.
-    fn has_conflict(&mut self, map: &AddrMap, at: usize) -> Result<bool, NoMemory> {
+    fn has_conflict(&mut self, map: &AddrMap, at: usize) -> Result<bool, NoMemory>
+        ensures same { IsSameLog self.old self.new }
+        ensures none { Kept self.old.segments.items self.old.events.items self.old.items.items self.old.large.items at → IfOk result
+            (λ b. b ≡ false → NoneBetween Any map.now self.old.segments.items self.old.events.items self.old.items.items at) }
+    {
         if self.all_harmless(at) {
             return Ok(false);
         }
@@ -199,37 +215,65 @@ impl Evaluations {
     }
 
     // The same for many items, by sets. Where no two conflict, the first segment keeps the set of them all.
-    fn gathered_conflict(&mut self, map: &AddrMap, at: usize) -> Result<bool, NoMemory> {
-        let mut all = self.segment_foot(at)?;
-        for group in at.saturating_add(1)..self.segments.len() {
-            let foot = self.segment_foot(group)?;
-            if conflicts(&all, &foot, map) || self.large_conflict(map, at, group, &all, &foot) {
+    fn gathered_conflict(&mut self, map: &AddrMap, at: usize) -> Result<bool, NoMemory>
+        ensures same { IsSameLog self.old self.new }
+        ensures none { Kept self.old.segments.items self.old.events.items self.old.items.items self.old.large.items at → IfOk result
+            (λ b. b ≡ false → NoneBetween Any map.now self.old.segments.items self.old.events.items self.old.items.items at) }
+    {
+        let mut all = Foot::new(self.alloc);
+        for group in at..self.segments.len() {
+            if self.meets_next(map, at, group, &mut all)? {
                 return Ok(true);
             }
-            all.absorb(foot)?;
         }
         let all = Box::new(self.alloc, all)?;
         self.put_foot(at, Some(all));
         Ok(false)
     }
 
-    // The set of the items and small bodies of a segment's events, large bodies left out.
-    fn segment_foot(&mut self, group: usize) -> Result<Foot, NoMemory> {
-        if let Some(foot) = self.take_foot(group) {
-            return Ok(Box::into_inner(foot));
+    // Whether a further segment conflicts with those before it from `at` on, which have this set. Where it doesn't, the set
+    // has its items too.
+    fn meets_next(
+        &mut self,
+        map: &AddrMap,
+        at: usize,
+        group: usize,
+        all: &mut Foot,
+    ) -> Result<bool, NoMemory>
+        ensures taken { IsTaken self.old self.new group }
+        ensures joined { GathersKept self.old.segments.items self.old.events.items self.old.items.items group → IfOk result
+            (λ b. b ≡ false → (foot : Foot) × Gathers self.old.segments.items self.old.events.items self.old.items.items group foot ×
+            Joined map.now self.new.segments.items self.new.events.items self.new.large.items at group all.old all.new foot) }
+    {
+        let foot = self.segment_foot(group)?;
+        if clash(all, &foot, map) || self.large_conflict(map, at, group, all, &foot) {
+            return Ok(true);
         }
+        all.absorb(foot)?;
+        Ok(false)
+    }
+
+    // The set of the items and small bodies of a segment's events, large bodies left out.
+    fn segment_foot(&mut self, group: usize) -> Result<Foot, NoMemory>
+        ensures taken { IsTaken self.old self.new group }
+        ensures gathers { GathersKept self.old.segments.items self.old.events.items self.old.items.items group →
+            IfOk result (Gathers self.old.segments.items self.old.events.items self.old.items.items group) }
+    {
+        match self.take_foot(group) {
+            Some(foot) => Ok(Box::into_inner(foot)),
+            None => self.small_foot(group),
+        }
+    }
+
+    fn small_foot(&self, group: usize) -> Result<Foot, NoMemory>
+        ensures { IfOk result (Gathers self.now.segments.items self.now.events.items self.now.items.items group) }
+    {
+        let (from, to) = (self.segment_start(group), self.segment_end(group));
         let mut foot = Foot::new(self.alloc);
-        for at in self.event_range(group).0..self.event_range(group).1 {
+        for at in from..to {
             self.add_small(at, &mut foot)?;
         }
         Ok(foot)
-    }
-
-    fn event_range(&self, group: usize) -> (usize, usize) {
-        (
-            self.segment_start(group),
-            self.segment_start(group.saturating_add(1)),
-        )
     }
 
     // Adds the event's items, and what its body touched, if that is small.
@@ -254,49 +298,116 @@ impl Evaluations {
         group: usize,
         all: &Foot,
         foot: &Foot,
-    ) -> bool {
+    ) -> bool
+        ensures first { result ≡ false → NoLarge map.now self.now.events.items self.now.large.items (large_of self.now.segments.items self.now.large.items at)
+            (large_of self.now.segments.items self.now.large.items group) (holds foot.now) }
+        ensures second { result ≡ false → NoLarge map.now self.now.events.items self.now.large.items
+            (large_of self.now.segments.items self.now.large.items group) (large_of self.now.segments.items self.now.large.items (suc group)) (holds all.now) }
+        ensures twice { result ≡ false → (i : ℕ) → large_of self.now.segments.items self.now.large.items at ≤ i →
+            i < large_of self.now.segments.items self.now.large.items group →
+            NoLarge map.now self.now.events.items self.now.large.items (large_of self.now.segments.items self.now.large.items group)
+            (large_of self.now.segments.items self.now.large.items (suc group)) (listed_has self.now.events.items (slice_get self.now.large.items i)) }
+    {
         let (from, to) = (self.large_start(at), self.large_start(group));
-        let end = self.large_start(group.saturating_add(1));
+        let end = self.large_end(group);
         self.some_large_meets(map, from, to, foot)
             || (self.some_large_meets(map, to, end, all)
                 || self.larges_conflict(map, from, to, end))
     }
 
-    fn large_start(&self, group: usize) -> usize {
+    fn large_start(&self, group: usize) -> usize
+        ensures { result ≡ large_of self.now.segments.items self.now.large.items group }
+    {
         match self.segments.get(group) {
             Some(segment) => segment.large,
             None => self.large.len(),
         }
     }
 
-    fn some_large_meets(&self, map: &AddrMap, from: usize, to: usize, foot: &Foot) -> bool {
+    fn large_end(&self, group: usize) -> usize
+        ensures { result ≡ large_of self.now.segments.items self.now.large.items (suc group) }
+    {
+        self.large_start(group.saturating_add(1))
+    }
+
+    // Whether a large body of a range of the list conflicts with the set.
+    fn some_large_meets(&self, map: &AddrMap, from: usize, to: usize, foot: &Foot) -> bool
+        ensures { result ≡ false → NoLarge map.now self.now.events.items self.now.large.items from to (holds foot.now) }
+    {
         for i in from..to {
-            if let Some(body) = self.large_foot(i) {
-                if conflicts(body, foot, map) {
-                    return true;
-                }
+            if self.large_meets(map, i, foot) {
+                return true;
             }
         }
         false
     }
 
-    fn larges_conflict(&self, map: &AddrMap, from: usize, to: usize, end: usize) -> bool {
+    fn large_meets(&self, map: &AddrMap, i: usize, foot: &Foot) -> bool
+        ensures { result ≡ false → NoClash Any map.now (listed_has self.now.events.items (slice_get self.now.large.items i)) (holds foot.now) }
+    {
+        match self.large.get(i) {
+            Some(at) => self.body_meets(map, *at, foot),
+            None => false,
+        }
+    }
+
+    fn body_meets(&self, map: &AddrMap, at: usize, foot: &Foot) -> bool
+        ensures { result ≡ false → NoClash Any map.now (own_body (slice_get self.now.events.items at)) (holds foot.now) }
+    {
+        let Some(event) = self.events.get(at) else {
+            return false;
+        };
+        match &event.foot {
+            Some(body) => clash(body, foot, map),
+            None => false,
+        }
+    }
+
+    // Whether a large body of a range of the list conflicts with one of those behind it up to an end.
+    fn larges_conflict(&self, map: &AddrMap, from: usize, to: usize, end: usize) -> bool
+        ensures { result ≡ false → (i : ℕ) → from ≤ i → i < to →
+            NoLarge map.now self.now.events.items self.now.large.items to end (listed_has self.now.events.items (slice_get self.now.large.items i)) }
+    {
         for i in from..to {
-            if let Some(body) = self.large_foot(i) {
-                if self.some_large_meets(map, to, end, body) {
-                    return true;
-                }
+            if self.large_meets_some(map, i, to, end) {
+                return true;
             }
         }
         false
     }
 
-    // The set of a large body, by its place in the list of those.
-    fn large_foot(&self, i: usize) -> Option<&Foot> {
-        let at = *self.large.get(i)?;
-        match &self.events.get(at)?.foot {
-            Some(foot) => Some(foot),
-            None => None,
+    fn large_meets_some(&self, map: &AddrMap, i: usize, from: usize, to: usize) -> bool
+        ensures { result ≡ false →
+            NoLarge map.now self.now.events.items self.now.large.items from to (listed_has self.now.events.items (slice_get self.now.large.items i)) }
+    {
+        for k in from..to {
+            if self.larges_meet(map, k, i) {
+                return true;
+            }
+        }
+        false
+    }
+
+    fn larges_meet(&self, map: &AddrMap, k: usize, i: usize) -> bool
+        ensures { result ≡ false → NoClash Any map.now (listed_has self.now.events.items (slice_get self.now.large.items k))
+            (listed_has self.now.events.items (slice_get self.now.large.items i)) }
+    {
+        match self.large.get(i) {
+            Some(at) => self.large_meets_body(map, k, *at),
+            None => false,
+        }
+    }
+
+    fn large_meets_body(&self, map: &AddrMap, k: usize, at: usize) -> bool
+        ensures { result ≡ false → NoClash Any map.now (listed_has self.now.events.items (slice_get self.now.large.items k))
+            (own_body (slice_get self.now.events.items at)) }
+    {
+        let Some(event) = self.events.get(at) else {
+            return false;
+        };
+        match &event.foot {
+            Some(body) => self.large_meets(map, k, body),
+            None => false,
         }
     }
 
@@ -443,7 +554,9 @@ impl Evaluations {
     }
 }
 
-fn is_unsequenced(rule: Rule) -> bool {
+fn is_unsequenced(rule: Rule) -> bool
+    ensures { result ≡ is_unsequenced rule }
+{
     match rule {
         Rule::Open | Rule::Closed => true,
         _ => false,

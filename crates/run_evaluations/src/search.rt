@@ -1,5 +1,6 @@
 // The least conflicting pair of events, sought once where a conflict is known.
-ghost use Rattle.std.specs.Prelude.{◌≡◌, ◌≢◌, ◌⊎◌, ◌≤◌, ◌-◌, ◌&&◌, ◌||◌, ◌↔◌, suc, length, IfOk, IfSome, IfNone, OnOk, IsTrue, None, Some, true, slice_get};
+ghost use Rattle.std.specs.Prelude.{◌≡◌, ◌≢◌, ◌⊎◌, ◌-◌, ◌&&◌, ◌||◌, ◌↔◌, suc, IfOk, IfSome, IfNone, OnOk, IsTrue};
+ghost use Rattle.std.specs.Prelude.{None, Some, true, false, slice_get};
 ghost use Rattle.ub_base.specs.declared.clause.Kind.TheVariants.{Body};
 ghost use Rattle.ub_base.specs.declared.names.Item.{Item};
 ghost use Rattle.addr_map.specs.Conflict.{is_access};
@@ -7,7 +8,7 @@ ghost use Rattle.footprint.specs.Conflicts.{MayConflict};
 ghost use Rattle.run_evaluations.specs.declared.search.Sought.TheVariants.{Any, Races};
 ghost use Rattle.footprint.specs.Holds.{holds};
 ghost use Rattle.footprint.specs.Least.{IsLeast};
-ghost use Rattle.run_evaluations.specs.Clashes.{Clash, SomeClash, NoClash, AreSorted, NoneBehind, NoneBetween, operand_has, behind_has};
+ghost use Rattle.run_evaluations.specs.Clashes.{Clash, SomeClash, NoClash, AreSorted, NoneBetween, operand_has, behind_has};
 ghost use Rattle.run_evaluations.specs.FoundItems.{ItemsConflict};
 ghost use Rattle.run_evaluations.specs.Touched.{some_stands, touched, event_has, is_sought, range_has, start_of};
 
@@ -38,6 +39,13 @@ fn meet(under: Under<'_>, sought: Sought, a: &Foot, b: &Foot) -> bool
         Sought::Races => races(a, b),
         Sought::Any => conflicts(a, b, under.map),
     }
+}
+
+/// Whether two sets conflict.
+pub(crate) fn clash(a: &Foot, b: &Foot, map: &AddrMap) -> bool
+    ensures { result ≡ false → NoClash Any map.now (holds a.now) (holds b.now) }
+{
+    conflicts(a, b, map)
 }
 
 // This event or operand, if what it touched conflicts with the rest, or else the best one so far.
