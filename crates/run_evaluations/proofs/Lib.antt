@@ -1,1 +1,6 @@
+pub mod BetweenLemmas
+pub mod ClashLemmas
 pub mod KeepLemmas
+pub mod KeptLemmas
+pub mod StandLemmas
+pub mod TouchedLemmas

@@ -1,2 +1,5 @@
 pub mod Bodies
+pub mod Clashes
 pub mod FoundItems
+pub mod Kept
+pub mod Touched

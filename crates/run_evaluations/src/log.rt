@@ -3,7 +3,8 @@
 use footprint::Foot;
 use ub_base::{Item, Kind};
 
-/// An event: its node and kind, where its items stand among all, and what the body that it started touched.
+/// An event: its node and kind, where its items stand among all, what the body that it started touched, and whether that
+/// is large.
 #[derive(Drop)]
 pub struct Logged {
     pub node: u32,
@@ -11,6 +12,7 @@ pub struct Logged {
     pub from: usize,
     pub to: usize,
     pub foot: Option<Box<Foot>>,
+    pub large: bool,
 }
 
 /// The events so far of a node and of all below it, which stand together: the first of them, and where its items, its

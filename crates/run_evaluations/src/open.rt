@@ -11,7 +11,7 @@ use std::alloc::Global;
 use ub_base::{Event, Frame, Item, Kind, NoMemory};
 
 /// A body of more entries than this isn't copied where footprints are gathered.
-pub(crate) const LARGE: usize = 64;
+const LARGE: usize = 64;
 
 /// The evaluations of the full expressions that are open along a run, from the frame of `main` to the top frame. The run
 /// tells it each pick, the events of each subtree together.
@@ -111,6 +111,7 @@ impl Evaluations {
             from,
             to: self.items.len(),
             foot: None,
+            large: false,
         })?;
         let harmless = items.iter().all(is_harmless);
         if let Some(segment) = self.segment_of(node) {
@@ -292,7 +293,10 @@ impl Evaluations {
         let is_large = foot.size() > LARGE;
         let at = self.events.len().saturating_sub(1);
         match self.events.last_mut() {
-            Some(event) => event.foot = Some(Box::new(self.alloc, foot)?),
+            Some(event) => {
+                event.foot = Some(Box::new(self.alloc, foot)?);
+                event.large = is_large;
+            }
             None => return Ok(()),
         }
         if is_large {

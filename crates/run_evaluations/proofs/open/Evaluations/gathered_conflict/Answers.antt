@@ -1,0 +1,53 @@
+use Rattle.std.proofs.Common.{◌∙◌, refl, arith}
+use Rattle.run_evaluations.proofs.BetweenLemmas.{same_le}
+use Rattle.run_evaluations.proofs.KeptLemmas.{same_after, as_first, kept_of, gathered_more, joined_more, joined_end}
+use Rattle.run_evaluations.proofs.open.Evaluations.gathered_conflict.Goals as goal
+
+pub loop-group-init : goal.loop-group-init
+loop-group-init c = record {
+  same = record { events = refl; items = refl; large = refl; alike = λ g. refl };
+  left = λ g le. refl;
+  gathered = λ kept g less le. absurd (omega (arith, less, le));
+  none = λ kept h less g le more. absurd (omega (arith, less, le, more));
+}
+
+pub loop-group-preserved : goal.loop-group-preserved
+loop-group-preserved c = record {
+  same = same_after c.args.self.now c.loop-group.self c.meets_next.new.self c.loop-group.invariant.same c.meets_next.ensures.taken.same;
+  left = λ g le. c.meets_next.ensures.taken.others g (λ e. absurd (omega (arith, e, le))) ∙ c.loop-group.invariant.left g (omega (arith, le));
+  gathered = λ kept.
+      let r = as_first c.args.map.now c.args.self.now.segments.items c.loop-group.self.segments.items c.meets_next.new.self.segments.items
+      c.args.self.now.events.items c.loop-group.self.events.items c.meets_next.new.self.events.items c.args.self.now.items.items
+      c.loop-group.self.items.items c.args.self.now.large.items c.meets_next.new.self.large.items c.args.at c.loop-group.group c.loop-group.all
+      c.meets_next.new.all c.loop-group.invariant.same.alike (λ g. c.meets_next.ensures.taken.same.alike g ∙ c.loop-group.invariant.same.alike g)
+      c.loop-group.invariant.same.events (c.meets_next.ensures.taken.same.events ∙ c.loop-group.invariant.same.events) c.loop-group.invariant.same.items
+      (c.meets_next.ensures.taken.same.large ∙ c.loop-group.invariant.same.large)
+      (c.in_ok-meets_next.ensures.joined (kept_of c.args.self.now.segments.items c.loop-group.self.segments.items c.args.self.now.events.items
+      c.loop-group.self.events.items c.args.self.now.items.items c.loop-group.self.items.items c.args.self.now.large.items c.args.at
+      c.loop-group.group kept c.loop-group.auto.group c.loop-group.invariant.same.alike c.loop-group.invariant.same.events c.loop-group.invariant.same.items
+      (c.loop-group.invariant.left c.loop-group.group (omega arith))) c.if-branch.false) in
+      gathered_more c.args.self.now.segments.items c.args.self.now.events.items c.args.self.now.items.items c.args.at c.loop-group.group
+      c.loop-group.all c.meets_next.new.all r.0 r.2.grown r.1
+      (c.loop-group.invariant.gathered kept);
+  none = λ kept.
+      let r = as_first c.args.map.now c.args.self.now.segments.items c.loop-group.self.segments.items c.meets_next.new.self.segments.items
+      c.args.self.now.events.items c.loop-group.self.events.items c.meets_next.new.self.events.items c.args.self.now.items.items
+      c.loop-group.self.items.items c.args.self.now.large.items c.meets_next.new.self.large.items c.args.at c.loop-group.group c.loop-group.all
+      c.meets_next.new.all c.loop-group.invariant.same.alike (λ g. c.meets_next.ensures.taken.same.alike g ∙ c.loop-group.invariant.same.alike g)
+      c.loop-group.invariant.same.events (c.meets_next.ensures.taken.same.events ∙ c.loop-group.invariant.same.events) c.loop-group.invariant.same.items
+      (c.meets_next.ensures.taken.same.large ∙ c.loop-group.invariant.same.large)
+      (c.in_ok-meets_next.ensures.joined (kept_of c.args.self.now.segments.items c.loop-group.self.segments.items c.args.self.now.events.items
+      c.loop-group.self.events.items c.args.self.now.items.items c.loop-group.self.items.items c.args.self.now.large.items c.args.at
+      c.loop-group.group kept c.loop-group.auto.group c.loop-group.invariant.same.alike c.loop-group.invariant.same.events c.loop-group.invariant.same.items
+      (c.loop-group.invariant.left c.loop-group.group (omega arith))) c.if-branch.false) in
+      joined_more c.args.map.now c.args.self.now.segments.items c.args.self.now.events.items c.args.self.now.items.items c.args.self.now.large.items
+      c.args.at kept c.loop-group.group c.loop-group.all
+      c.meets_next.new.all r.0 c.loop-group.auto.group r.1 (c.loop-group.invariant.gathered kept) r.2 (c.loop-group.invariant.none kept);
+}
+
+pub returns-clause-none : goal.returns-clause-none
+returns-clause-none c = λ kept refused.
+    let past = same_le _ _ (c.len-group-end.ensures ∙ c.args.self.now.segments.ok.0) in
+    joined_end c.args.map.now c.args.self.now.segments.items c.args.self.now.events.items c.args.self.now.items.items c.args.self.now.large.items
+    c.args.at kept c.loop-group.group
+    (omega (arith, past, c.loop-group-test.false)) (c.loop-group.invariant.none kept)

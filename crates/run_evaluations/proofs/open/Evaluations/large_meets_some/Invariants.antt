@@ -1,0 +1,10 @@
+-- No large body so far conflicts with this one.
+use Rattle.std.specs.Prelude.{◌≤◌, ◌<◌, ℕ, slice_get}
+use Rattle.run_evaluations.specs.declared.search.Sought.TheVariants.{Any}
+use Rattle.run_evaluations.specs.Clashes.{NoClash}
+use Rattle.run_evaluations.specs.Kept.{listed_has}
+use Rattle.run_evaluations.proofs.open.Evaluations.large_meets_some.Given as goal
+
+abbrev pub invariant-loop-k : goal.invariant-loop-k
+invariant-loop-k l = (n : ℕ) → n < l.k → l.fn.from ≤ n → NoClash Any l.map (listed_has l.self.events.items (slice_get l.self.large.items n))
+    (listed_has l.self.events.items (slice_get l.self.large.items l.fn.i))

@@ -1,0 +1,17 @@
+use Rattle.std.proofs.Common.{◌∙◌, ap, suc, below_more, arith}
+use Rattle.run_evaluations.specs.Kept.{items_of}
+use Rattle.run_evaluations.proofs.KeptLemmas.{apart_by, apart_end}
+use Rattle.run_evaluations.proofs.open.Evaluations.some_items_conflict.Goals as goal
+
+pub loop-group-preserved : goal.loop-group-preserved
+loop-group-preserved c = below_more _ _ c.loop-group.invariant
+    (λ le. apart_by c.args.map.now c.args.self.now.items.items c.items_start.result c.items_start-in-loop-group.result
+    (items_of c.args.self.now.segments.items c.args.self.now.items.items c.loop-group.group)
+    (items_of c.args.self.now.segments.items c.args.self.now.items.items (suc c.loop-group.group))
+    c.items_start.ensures
+    (c.items_start-in-loop-group.ensures ∙ ap (items_of c.args.self.now.segments.items c.args.self.now.items.items) (omega arith))
+    (c.items_meet.ensures c.if-items_meet.false))
+
+pub returns : goal.returns
+returns c = λ h. apart_end c.args.map.now c.args.self.now.segments.items c.args.self.now.items.items c.args.at c.loop-group.group
+    (omega (arith, c.loop-group-test.false)) c.loop-group.invariant

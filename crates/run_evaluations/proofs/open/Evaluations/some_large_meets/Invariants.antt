@@ -1,0 +1,10 @@
+-- No large body so far conflicts with the set.
+use Rattle.std.specs.Prelude.{◌≤◌, ◌<◌, ℕ, slice_get}
+use Rattle.footprint.specs.Holds.{holds}
+use Rattle.run_evaluations.specs.declared.search.Sought.TheVariants.{Any}
+use Rattle.run_evaluations.specs.Clashes.{NoClash}
+use Rattle.run_evaluations.specs.Kept.{listed_has}
+use Rattle.run_evaluations.proofs.open.Evaluations.some_large_meets.Given as goal
+
+abbrev pub invariant-loop-i : goal.invariant-loop-i
+invariant-loop-i l = (k : ℕ) → k < l.i → l.fn.from ≤ k → NoClash Any l.map (listed_has l.self.events.items (slice_get l.self.large.items k)) (holds l.foot)
