@@ -1,0 +1,5 @@
+pub mod Seen
+mod Forms
+pub mod Equations
+mod Building
+mod Computing

@@ -1,0 +1,7 @@
+pub mod Trees
+pub mod Objects
+pub mod Statements
+pub mod View
+pub mod Laws
+pub mod Build
+pub mod Samples
