@@ -3,5 +3,6 @@ pub mod Objects
 pub mod Statements
 pub mod View
 pub mod Laws
+pub mod Text
 pub mod Build
 pub mod Samples

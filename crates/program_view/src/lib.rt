@@ -4,12 +4,15 @@
 #![tactic(auto)]
 
 ghost use Rattle.program_view.specs.Laws.{TreesAreKept, FormsHaveScalars};
+ghost use Rattle.program_view.specs.Text.{TextIsKept};
 ghost use Rattle.program_view.specs.Samples.{LoopIsSeen, SwitchIsSeen, JumpIsSeen, StructureIsSeen, StaticsAreSeen, ArgumentsAreSeen};
 
-/// What the view of a program keeps: the order of the events of each full expression (5.1.2.3p3), and the scalars of each type.
+/// What the view of a program keeps: the order of the events of each full expression (5.1.2.3p3), the scalars of each type, and in the order of the text
+/// the blocks of each statement with their objects, its `switch` statements, labels and jumps (6.8).
 pub fn law_view()
     ensures trees { TreesAreKept }
     ensures forms { FormsHaveScalars }
+    ensures text { TextIsKept }
 {}
 
 /// Small typed programs are seen as the model's programs that a reader expects: a loop with `break` and `continue`; a `switch` that falls through
