@@ -2,13 +2,17 @@
 use Rattle.std.specs.Prelude.{ℕ, ◌+◌, Bool, true, false, List, [], ◌∷◌, ◌++◌, length, map, Option, Some, None, pos, slice_get}
 use Rattle.ub_base.specs.declared.names.ObjName.TheVariants as object
 use Rattle.c_types.specs.declared.tags.Tag.{Tag}
+use Rattle.ub_base.specs.Frames.{Path}
+use Rattle.addr_map.specs.declared.map.Row.{Row}
+use Rattle.c_types.specs.Same.{compatible}
 use Rattle.c_types.specs.Types.{CType, void, function, Params, none, more, Signature, signature_of}
 use Rattle.c_typed.specs.declared.program.Function.{Function}
 use Rattle.c_typed.specs.declared.program.Program.{Program}
 use Rattle.c_model.specs.Program as model
 use Rattle.c_model.specs.Program.{Standing}
 use Rattle.c_model.specs.Values.{Value, Int}
-use Rattle.c_model.specs.World.{World}
+use Rattle.c_model.specs.World.{World, Limits}
+use Rattle.c_model.specs.Libraries.{library}
 use Rattle.c_model.specs.Steps.{pointer_to}
 use Rattle.program_view.specs.Objects.{statics_from, literals_from, given_to_main}
 use Rattle.program_view.specs.Statements.{definition}
@@ -47,6 +51,18 @@ standing_of p arguments = statics_from p.tags 0 p.statics ++ (literals_from 0 p.
 -- the model's program of a run with these arguments, each as its bytes
 abbrev pub model_of : Program → List (List ℕ) → model.Program
 model_of p arguments = record { functions = map (function_of p.tags) p.functions; main = p.main; standing = standing_of p arguments }
+
+-- The world of such a run: calls ask whether function types are compatible (6.5.2.2p9), and the library is that of libc_spec. Where the objects
+-- stand, how frames are numbered and what limits there are is left open.
+abbrev pub world_of : Program → List (List ℕ) → List Row → (Path → ℕ) → Limits → World
+world_of p arguments rows number limits = record {
+  program = model_of p arguments;
+  rows = rows;
+  agree = compatible;
+  library = library rows;
+  number = number;
+  limits = limits;
+}
 
 -- what `main` is called with (5.1.2.2.1p2): how many strings there are, and a pointer to the array of pointers to them
 abbrev pub passed_to : Bool → World → List (List ℕ) → List Value

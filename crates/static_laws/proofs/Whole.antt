@@ -35,10 +35,13 @@ use Rattle.program_view.specs.Objects.{decl_of, access_of, extent_or_byte}
 use Rattle.program_view.specs.Statements as view
 use Rattle.program_view.specs.Statements.{Inner, Loop, as_block, stmt_of, inner_of, defined, definition}
 use Rattle.program_view.specs.View.{function_of, has_parameters, has_parameters_in, passed_to, main_values}
-use Rattle.program_view.specs.View.{type_by}
+use Rattle.program_view.specs.View.{type_by, world_of}
+use Rattle.value_laws.specs.Wholes.{LibraryGivesPlain}
 use Rattle.static_laws.specs.LawfulSizes.{IsMadeOf, ObjectsAre, IsBodyOf, IsFunctionOf}
-use Rattle.static_laws.specs.WholePrograms.{IsUsualFunction, IsRunOf, WholeProgramsAreMade, WholeProgramsFit, WholeParametersFit}
+use Rattle.static_laws.specs.WholePrograms.{IsUsualFunction, IsRunOf, WholeProgramsAreMade, WholeProgramsFit, WholeParametersFit, RunsKeepSizes, RunsNeverRace}
 use Rattle.static_laws.proofs.Fits.{programs_fit, parameters_fit}
+use Rattle.static_laws.specs.NeverRaces.{KeepsSizes}
+use Rattle.static_laws.proofs.Reduction.{never_sized}
 use Rattle.static_laws.proofs.Made.{body_made}
 
 -- how an object of a type is stored to is as the type says
@@ -219,3 +222,16 @@ main_taken p arguments world h run fun e =
 pub parameters_taken : WholeParametersFit
 parameters_taken p arguments world h u run =
     parameters_fit p world (main_values p world arguments) (programs_made p arguments world h u run) (main_taken p arguments world h run)
+
+pub runs_keep_sizes : LibraryGivesPlain → RunsKeepSizes
+runs_keep_sizes plain p arguments rows number limits h u =
+    let world : World = world_of p arguments rows number limits in
+    let run : IsRunOf p arguments world = record { program = refl; agree = λ a b. refl; library = plain rows } in
+    (wholes_fit p arguments world h u run, parameters_taken p arguments world h u run)
+
+pub runs_never_race : LibraryGivesPlain → RunsNeverRace
+runs_never_race plain p arguments rows number limits h u are input vs ps o comes d e x y race =
+    let world : World = world_of p arguments rows number limits in
+    let keeps : KeepsSizes world = (laid_out p.tags, (runs_keep_sizes plain p arguments rows number limits h u).0) in
+    let at = never_sized world input vs ps o keeps are comes d e x y race in
+    (at.0, λ function root is usual never. at.1 p function root is usual never)
