@@ -37,14 +37,14 @@ use Rattle.static_places.proofs.Preordered.{nodes_at}
 use Rattle.static_seq.specs.declared.accesses.MemoryAccess.{MemoryAccess}
 use Rattle.static_seq.specs.Accesses.{length_of, changed_length, spot_of, through, listed, accesses_by, node_accesses, accesses_from, next}
 use Rattle.static_seq.specs.Parted.{accesses}
-use Rattle.static_laws.specs.Trees.{is_pointer, expr_of, exprs_of}
+use Rattle.program_view.specs.Trees.{is_pointer, expr_of, exprs_of}
 use Rattle.static_laws.specs.Apart.{is_whole, stores_whole_by, stores_whole_at, stores_whole}
 use Rattle.static_laws.specs.Low.{is_low, all_low}
 use Rattle.static_laws.specs.NeverRaces.{IsAmong}
 use Rattle.static_laws.proofs.Reach.{Site, Reach, reach, reach_by, store_limit}
 use Rattle.static_laws.proofs.Sites.{first_site}
 use Rattle.static_laws.proofs.Frames.{list_name, reach_at}
-use Rattle.static_laws.proofs.Seen.{node_in, operands_in, own_type, head_in, expr_at, by_size}
+use Rattle.program_view.proofs.Seen.{node_in, operands_in, own_type, head_in, expr_at, by_size}
 use Rattle.static_laws.proofs.Numbered.{seen, get_left, get_right, nodes_length, node_there}
 use Rattle.static_laws.proofs.Places.{site_in, site_is}
 

@@ -44,14 +44,14 @@ use Rattle.static_seq.specs.Accesses.{next}
 use Rattle.static_seq.specs.Choices.{count, count_in, operand_count, is_in_last, is_in_second, node_of, spared_by, spared_where, spared_of, parts_at}
 use Rattle.static_seq.specs.Choices.{in_branches}
 use Rattle.static_seq.specs.Parted.{both_read, sequenced, same_base, are_distant, distant, accesses}
-use Rattle.static_laws.specs.Trees.{expr_of, exprs_of}
+use Rattle.program_view.specs.Trees.{expr_of, exprs_of}
 use Rattle.static_laws.specs.Apart.{other_bases, other_objects, stores_whole, other_bytes, has_branches_by, all_branch}
 use Rattle.static_laws.specs.Low.{all_low}
 use Rattle.static_laws.specs.NeverRaces.{AreRows, IsAmong}
 use Rattle.static_laws.proofs.Reach.{Reach, Until, AtSite, Touches, InReach}
 use Rattle.static_laws.proofs.Frames.{Falls, one_turn, reach_at, Knows}
 use Rattle.static_laws.proofs.Races.{RaceAt}
-use Rattle.static_laws.proofs.Seen.{node_in, operands_in, own_type, head_in, expr_at, size_at, same_tree}
+use Rattle.program_view.proofs.Seen.{node_in, operands_in, own_type, head_in, expr_at, size_at, same_tree}
 use Rattle.static_laws.proofs.Inside.{fits, due_inside, pass, take_it, goes_is}
 use Rattle.static_laws.proofs.Ordered.{Later}
 use Rattle.static_laws.proofs.Completed.{completed, filled, or_filled, ordered_now}

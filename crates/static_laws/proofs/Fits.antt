@@ -32,11 +32,12 @@ use Rattle.value_laws.specs.Sizes.{InnerFits, ArgumentsFit, ArePassed}
 use Rattle.value_laws.specs.Layouts.{size_in, laid_out}
 use Rattle.value_laws.proofs.Frames.{keeps_itself}
 use Rattle.value_laws.proofs.Layouts.{call_keeps}
-use Rattle.static_laws.specs.Trees.{is_pointer, expr_of, exprs_of}
+use Rattle.program_view.specs.Trees.{is_pointer, expr_of, exprs_of}
 use Rattle.static_laws.specs.LawfulSizes.{LawfulExpressionsFit, LawfulResultsFit, LawfulProgramsFit, IsOf, IsReturnedOf, PerhapsOf, IsMadeOf, AreMadeOf}
-use Rattle.static_laws.specs.LawfulSizes.{type_by, ObjectsAre, BeginsWith, IsFunctionOf, IsProgramOf, LawfulParametersFit}
+use Rattle.program_view.specs.View.{type_by}
+use Rattle.static_laws.specs.LawfulSizes.{ObjectsAre, BeginsWith, IsFunctionOf, IsProgramOf, LawfulParametersFit}
 use Rattle.value_laws.specs.Parameters.{parameters, ObjectsFit, BodyTakes, Passes, FunctionTakes}
-use Rattle.static_laws.proofs.Seen.{node_in, operands_in, own_type, head_in, expr_at}
+use Rattle.program_view.proofs.Seen.{node_in, operands_in, own_type, head_in, expr_at}
 
 -- what a tree shows
 abbrev node_fold : Node → SeenNode

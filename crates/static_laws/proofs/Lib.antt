@@ -6,7 +6,6 @@ mod Paths
 mod Frames
 mod Picks
 mod Races
-mod Seen
 mod Inside
 mod Ordered
 mod Completed
@@ -16,3 +15,5 @@ mod Accessed
 mod Cases
 mod Reduction
 mod Fits
+mod Made
+mod Whole

@@ -11,8 +11,8 @@ use Rattle.c_model.specs.Steps.{at_node, at_node_among}
 use Rattle.c_model.proofs.Ranks.{if_true, if_false, lt_lt, ge_lt}
 use Rattle.static_places.specs.Preorder.{joined, nodes_of}
 use Rattle.static_places.proofs.Preordered.{nodes_at}
-use Rattle.static_laws.specs.Trees.{expr_of, exprs_of}
-use Rattle.static_laws.proofs.Seen.{node_in, operands_in, own_type, head_in, expr_at, size_at, by_size, same_tree}
+use Rattle.program_view.specs.Trees.{expr_of, exprs_of}
+use Rattle.program_view.proofs.Seen.{node_in, operands_in, own_type, head_in, expr_at, size_at, by_size, same_tree}
 
 abbrev pub seen : Option Typed → Option Expr
 seen None = None

@@ -25,11 +25,11 @@ use Rattle.static_places.specs.Preorder.{joined, nodes_of}
 use Rattle.static_places.specs.Fixed.{Spot, Shown, node_shown, typed_shown, shown, fixed_place, moved, stepped, stepped_in, indexed, magnitude, is_below}
 use Rattle.static_places.specs.Fixed.{opposite, small_magnitude, size_of_base}
 use Rattle.static_places.proofs.Preordered.{nodes_at}
-use Rattle.static_laws.specs.Trees.{is_pointer, expr_of, exprs_of}
+use Rattle.program_view.specs.Trees.{is_pointer, expr_of, exprs_of}
 use Rattle.static_laws.specs.Low.{is_low, all_low}
 use Rattle.static_laws.proofs.Reach.{Site}
 use Rattle.static_laws.proofs.Sites.{low, on_by, at_int, along, number_in, site_of}
-use Rattle.static_laws.proofs.Seen.{node_in, operands_in, own_type, head_in, expr_at, by_size}
+use Rattle.program_view.proofs.Seen.{node_in, operands_in, own_type, head_in, expr_at, by_size}
 
 -- numbers with a sign
 minus : (o q : ℕ) → q ≤ o → pos o +ℤ neg_ℤ (pos q) ≡ pos (o - q)

@@ -17,7 +17,7 @@ use Rattle.static_places.specs.Preorder.{nodes_of}
 use Rattle.static_seq.specs.declared.accesses.MemoryAccess.{MemoryAccess}
 use Rattle.static_seq.specs.Choices.{in_branches}
 use Rattle.static_seq.specs.Parted.{both_read, sequenced, branched, accesses}
-use Rattle.static_laws.specs.Trees.{expr_of}
+use Rattle.program_view.specs.Trees.{expr_of}
 use Rattle.static_laws.specs.Apart.{other_objects, other_bytes, apart, apart_from_all, all_apart, never_races}
 use Rattle.static_laws.specs.NeverRaces.{AreRows, PickedIn, IsAmong, AccessesAt, AccessesBy, IsUsual, RacesOnlyWithout, ReadsNeverRace, SequencedNeverRace}
 use Rattle.static_laws.specs.NeverRaces.{BranchesNeverRace, ObjectsNeverRace, BytesNeverRace, WholesNeverRace, OnlyAccessesRace, NeverRaces}

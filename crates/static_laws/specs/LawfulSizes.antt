@@ -3,7 +3,7 @@ use Rattle.std.specs.Prelude.{◌≡◌, ℕ, true, false, List, [], ◌∷◌, 
 use Rattle.ub_base.specs.declared.names.Event.{Event}
 use Rattle.c_types.specs.declared.library.LibFunc.{LibFunc}
 use Rattle.c_types.specs.declared.tags.Tag.{Tag}
-use Rattle.c_types.specs.Types.{CType, function, Signature, Compatible, Params, none, more}
+use Rattle.c_types.specs.Types.{CType, Signature, Compatible, Params, none, more}
 use Rattle.c_typed.specs.declared.program.Program.{Program}
 use Rattle.c_typed.specs.Sites.{Expression, returned}
 use Rattle.c_typed.specs.Lawful.{AccessIs, ExpressionIsLawful}
@@ -13,7 +13,8 @@ use Rattle.c_model.specs.World.{World}
 use Rattle.value_laws.specs.Sizes.{Keeps, ExprFits, Gives, IsPlain, ProgramFits, type_of}
 use Rattle.value_laws.specs.Parameters.{parameters, AreTaken, ProgramTakes}
 use Rattle.value_laws.specs.Layouts.{laid_out, IsUsual}
-use Rattle.static_laws.specs.Trees.{expr_of}
+use Rattle.program_view.specs.Trees.{expr_of}
+use Rattle.program_view.specs.View.{type_by}
 
 -- each node of one: loads, members, stores, branches, arguments and results
 abbrev pub LawfulExpressionsFit : Type 0
@@ -58,9 +59,6 @@ abbrev mutual
   pub AreMadeOf : Program → Signature → Stmts → Type 0
   AreMadeOf p f end = Unit {0}
   AreMadeOf p f (and_then s ss) = IsMadeOf p f s × AreMadeOf p f ss
-
-abbrev pub type_by : Signature → CType
-type_by f = function f.result f.params f.variadic
 
 -- the first objects of a block are those of the parameters, stored to as their types say (6.9.1p10)
 abbrev pub ObjectsAre : List Tag → Params → List Decl → Type 0

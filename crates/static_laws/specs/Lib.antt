@@ -1,5 +1,5 @@
-pub mod Trees
 pub mod Low
 pub mod Apart
 pub mod NeverRaces
 pub mod LawfulSizes
+pub mod WholePrograms

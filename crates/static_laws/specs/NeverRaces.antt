@@ -19,7 +19,7 @@ use Rattle.c_model.specs.Runs.{Entry, State, Outcome, Running, trace_of}
 use Rattle.c_model.specs.Findings.{Race}
 use Rattle.c_model.specs.Claims.{ComesTo}
 use Rattle.value_laws.specs.Sizes.{Sizes, ProgramFits}
-use Rattle.static_laws.specs.Trees.{expr_of}
+use Rattle.program_view.specs.Trees.{expr_of}
 use Rattle.static_laws.specs.Low.{all_low}
 use Rattle.static_laws.specs.Apart.{other_objects, other_bytes, never_races, all_branch}
 

@@ -5,6 +5,9 @@
 
 ghost use Rattle.static_laws.specs.NeverRaces.{ReadsNeverRace, SequencedNeverRace, BranchesNeverRace, ObjectsNeverRace, BytesNeverRace, WholesNeverRace, OnlyAccessesRace, NeverRaces, SizedNeverRaces};
 ghost use Rattle.static_laws.specs.LawfulSizes.{LawfulExpressionsFit, LawfulResultsFit, LawfulProgramsFit, LawfulParametersFit};
+ghost use Rattle.static_laws.specs.WholePrograms.{WholeProgramsAreMade, WholeProgramsFit, WholeParametersFit, RunsKeepSizes, RunsNeverRace};
+
+use value_laws::law_sizes_are_kept;
 
 /// What parts two accesses of a full expression keeps them from racing, in every order, under every address map (6.5p2).
 pub fn law_parted_accesses()
@@ -30,3 +33,15 @@ pub fn law_lawful_sizes()
     ensures programs { LawfulProgramsFit }
     ensures parameters { LawfulParametersFit }
 {}
+
+/// The program of a run of a lawful typed program, as `model_of` of program_view gives it, is made of its lawful full expressions, so it keeps the
+/// sizes that its types have by their layout, and so do its parameters; and a full expression all of whose accesses are apart never races there.
+pub fn law_whole_programs()
+    ensures made { WholeProgramsAreMade }
+    ensures fit { WholeProgramsFit }
+    ensures parameters { WholeParametersFit }
+    ensures runs { RunsKeepSizes }
+    ensures race { RunsNeverRace }
+{
+    law_sizes_are_kept();
+}

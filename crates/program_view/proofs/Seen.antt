@@ -12,7 +12,7 @@ use Rattle.c_typed.specs.Tree.{Tree, Trees, tree_of, trees_of, node, size, sizes
 use Rattle.c_model.specs.Program as model
 use Rattle.c_model.specs.Program.{Head, Expr, expr, Exprs, none, more, head_class}
 use Rattle.c_model.proofs.Ranks.{size_pos}
-use Rattle.static_laws.specs.Trees.{constant_head, is_pointer, node_head, typed_expr, expr_of, exprs_of}
+use Rattle.program_view.specs.Trees.{constant_head, is_pointer, node_head, typed_expr, expr_of, exprs_of}
 
 abbrev pub node_in : Typed → Node-F Node Typed
 node_in t = out-Node (out-Typed t).node

@@ -1,0 +1,6 @@
+pub mod Seen
+mod Forms
+pub mod Equations
+mod Texts
+mod Building
+mod Computing
