@@ -4,3 +4,4 @@ pub mod KeepLemmas
 pub mod KeptLemmas
 pub mod StandLemmas
 pub mod TouchedLemmas
+pub mod WholeLemmas

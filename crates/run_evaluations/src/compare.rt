@@ -1,5 +1,6 @@
 // Whether evaluations conflict, as operands and nodes are completed.
-ghost use Rattle.std.specs.Prelude.{◌≡◌, ◌≤◌, ◌<◌, ◌||◌, ℕ, suc, true, false, IfOk, IfNone, OnOk, None, Some, slice_get};
+ghost use Rattle.std.specs.Global.{Global};
+ghost use Rattle.std.specs.Prelude.{Box, ◌≡◌, ◌≢◌, ◌≤◌, ◌<◌, ◌||◌, ℕ, suc, vec_len, true, false, IfOk, IfNone, OnOk, None, Some, slice_get};
 ghost use Rattle.ub_base.specs.declared.names.Item.{Item};
 ghost use Rattle.footprint.specs.declared.foot.Foot.{Foot};
 ghost use Rattle.footprint.specs.Holds.{holds};
@@ -9,6 +10,7 @@ ghost use Rattle.run_evaluations.specs.declared.search.Sought.TheVariants.{Any};
 ghost use Rattle.run_evaluations.specs.Clashes.{NoClash, NoneBetween};
 ghost use Rattle.run_evaluations.specs.FoundItems.{ItemsConflict};
 ghost use Rattle.run_evaluations.specs.Kept.{IsApart, AreApart, NoLarge, IsSameLog, IsTaken, Gathers, GathersKept, Joined, Kept};
+ghost use Rattle.run_evaluations.specs.Kept.{IsKept, IsSameRest, AreLike, AllBelow, KeepsFeet, Spreads};
 ghost use Rattle.run_evaluations.specs.Kept.{items_of, large_of, foot_of, listed_has, own_body, small_of, is_unsequenced};
 ghost use Rattle.run_evaluations.specs.Touched.{start_of};
 
@@ -38,7 +40,8 @@ impl Evaluations {
         rule: Rule,
         chosen: bool,
     ) -> Result<Option<Found>, NoMemory>
-        ensures { IfOk result ItemsConflict }
+        ensures conflict { IfOk result ItemsConflict }
+        ensures kept { IsKept self.old → IsKept self.new }
     {
         let at = self.operands(node);
         if at.saturating_add(1) < self.segments.len() {
@@ -57,25 +60,26 @@ impl Evaluations {
         rule: Rule,
         chosen: bool,
     ) -> Result<Option<Found>, NoMemory>
+        requires { at < vec_len self.old.segments }
         ensures conflict { IfOk result ItemsConflict }
+        ensures kept { IsKept self.old → AllBelow self.old.levels.items at → IsKept self.new }
         ensures none { is_unsequenced rule ≡ true → Kept self.old.segments.items self.old.events.items self.old.items.items self.old.large.items at →
             IfOk result (λ r. IfNone r
             (NoneBetween Any under.entry.map.now self.old.segments.items self.old.events.items self.old.items.items at)) }
     {
         if !is_unsequenced(rule) {
-            self.gather(node, rule, chosen);
+            self.join(at, node, rule, chosen, None);
             return Ok(None);
         }
         if self.has_conflict(under.map, at)? {
             return self.found_between(under, at);
         }
         let foot = self.take_foot(at);
-        self.gather(node, rule, chosen);
-        self.put_foot(at, foot);
+        self.join(at, node, rule, chosen, foot);
         Ok(None)
     }
 
-    fn take_foot(&mut self, at: usize) -> Option<Box<Foot>>
+    pub(crate) fn take_foot(&mut self, at: usize) -> Option<Box<Foot>>
         ensures taken { IsTaken self.old self.new at }
         ensures given { result ≡ foot_of (slice_get self.old.segments.items at) }
     {
@@ -86,7 +90,9 @@ impl Evaluations {
     }
 
     fn put_foot(&mut self, at: usize, foot: Option<Box<Foot>>)
-        ensures { IsSameLog self.old self.new }
+        ensures same { IsSameLog self.old self.new }
+        ensures others { (g : ℕ) → g ≢ at → slice_get self.new.segments.items g ≡ slice_get self.old.segments.items g }
+        ensures foot { (f : Box Foot Global) → foot_of (slice_get self.new.segments.items at) ≡ Some f → foot ≡ Some f }
     {
         if let Some(segment) = self.segments.get_mut(at) {
             segment.foot = foot;
@@ -96,20 +102,28 @@ impl Evaluations {
     // Whether two of the operands whose segments begin at this one conflict.
     fn has_conflict(&mut self, map: &AddrMap, at: usize) -> Result<bool, NoMemory>
         ensures same { IsSameLog self.old self.new }
+        ensures feet { Kept self.old.segments.items self.old.events.items self.old.items.items self.old.large.items at →
+            KeepsFeet self.old.segments.items self.new.segments.items self.old.events.items self.old.items.items at }
+        ensures whole { Kept self.old.segments.items self.old.events.items self.old.items.items self.old.large.items at → IfOk result
+            (λ b. b ≡ false → (f : Box Foot Global) → foot_of (slice_get self.new.segments.items at) ≡ Some f →
+            Spreads self.old.segments.items self.old.events.items self.old.items.items at f.value) }
         ensures none { Kept self.old.segments.items self.old.events.items self.old.items.items self.old.large.items at → IfOk result
             (λ b. b ≡ false → NoneBetween Any map.now self.old.segments.items self.old.events.items self.old.items.items at) }
     {
         if self.all_harmless(at) {
+            let _ = self.take_foot(at);
             return Ok(false);
         }
         if self.are_few(at) {
-            return Ok(self.some_items_conflict(map, at));
+            let meets = self.some_items_conflict(map, at);
+            let _ = self.take_foot(at);
+            return Ok(meets);
         }
         self.gathered_conflict(map, at)
     }
 
     // Whether each of these segments is harmless.
-    fn all_harmless(&self, at: usize) -> bool
+    pub(crate) fn all_harmless(&self, at: usize) -> bool
         ensures { result ≡ true → (g : ℕ) (s : Segment) → at ≤ g → slice_get self.now.segments.items g ≡ Some s → s.harmless ≡ true }
     {
         for group in at..self.segments.len() {
@@ -217,6 +231,11 @@ impl Evaluations {
     // The same for many items, by sets. Where no two conflict, the first segment keeps the set of them all.
     fn gathered_conflict(&mut self, map: &AddrMap, at: usize) -> Result<bool, NoMemory>
         ensures same { IsSameLog self.old self.new }
+        ensures feet { Kept self.old.segments.items self.old.events.items self.old.items.items self.old.large.items at →
+            KeepsFeet self.old.segments.items self.new.segments.items self.old.events.items self.old.items.items at }
+        ensures whole { Kept self.old.segments.items self.old.events.items self.old.items.items self.old.large.items at → IfOk result
+            (λ b. b ≡ false → (f : Box Foot Global) → foot_of (slice_get self.new.segments.items at) ≡ Some f →
+            Spreads self.old.segments.items self.old.events.items self.old.items.items at f.value) }
         ensures none { Kept self.old.segments.items self.old.events.items self.old.items.items self.old.large.items at → IfOk result
             (λ b. b ≡ false → NoneBetween Any map.now self.old.segments.items self.old.events.items self.old.items.items at) }
     {
@@ -419,17 +438,13 @@ impl Evaluations {
         map: &AddrMap,
         node: u32,
     ) -> Result<Option<Found>, NoMemory>
-        ensures { IfOk result ItemsConflict }
+        ensures conflict { IfOk result ItemsConflict }
+        ensures kept { OnOk result (IsKept self.old → IsKept self.new) }
     {
-        let loose = match self.segments.last() {
-            Some(segment) => segment.loose,
-            None => self.loose.len(),
-        };
+        let loose = self.loose_start();
         let count = self.events.len();
         let own = self.own_events(node);
-        if self.has_items_from(own) {
-            self.gather_loose(loose)?;
-        }
+        self.gather_loose(own, loose)?;
         let mut found = None;
         for at in own..count {
             if self.meets_loose(map, at, loose)? {
@@ -438,6 +453,14 @@ impl Evaluations {
         }
         self.add_loose(node)?;
         Ok(found)
+    }
+
+    // Where the loose events of the top segment begin.
+    fn loose_start(&self) -> usize {
+        match self.segments.last() {
+            Some(segment) => segment.loose,
+            None => self.loose.len(),
+        }
     }
 
     // The first of the node's own events, which are the last ones.
@@ -467,8 +490,15 @@ impl Evaluations {
         }
     }
 
-    // Where many events are in the list from there on, the top segment keeps the set of their items.
-    fn gather_loose(&mut self, loose: usize) -> Result<(), NoMemory> {
+    // Where many events are in the list from there on, and the node's own events have items, the top segment keeps the set of
+    // their items.
+    fn gather_loose(&mut self, own: usize, loose: usize) -> Result<(), NoMemory>
+        ensures rest { IsSameRest self.old self.new }
+        ensures like { (g : ℕ) → AreLike (slice_get self.old.segments.items g) (slice_get self.new.segments.items g) }
+    {
+        if !self.has_items_from(own) {
+            return Ok(());
+        }
         if self.loose.len().saturating_sub(loose) <= FEW_LOOSE || self.loose_foot().is_some() {
             return Ok(());
         }
@@ -535,7 +565,10 @@ impl Evaluations {
     }
 
     // The node's side effect comes before no value of a parent.
-    fn add_loose(&mut self, node: u32) -> Result<(), NoMemory> {
+    fn add_loose(&mut self, node: u32) -> Result<(), NoMemory>
+        ensures rest { IsSameRest self.old self.new }
+        ensures like { (g : ℕ) → AreLike (slice_get self.old.segments.items g) (slice_get self.new.segments.items g) }
+    {
         let at = self.events.len().saturating_sub(1);
         let Some(event) = self.events.last() else {
             return Ok(());
