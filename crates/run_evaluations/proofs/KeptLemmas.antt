@@ -87,6 +87,17 @@ between rows segments events items sought at none g h le more differ =
     (λ less. none_turned rows sought (operand_has sought segments events items h) (operand_has sought segments events items g) (none h g more less))
     (apart g h differ)
 
+-- where there is but one operand
+pub single_none : (rows : List Row) (segments : List Segment) (events : List Logged) (items : List Item) (at : ℕ) → length segments ≤ suc at →
+    NoneBetween Any rows segments events items at
+single_none rows segments events items at high g h le more differ i j c =
+    ⊎_elim
+    (λ less. let none = operand_past segments events items Any h j (omega (arith, less, le, high)) in
+    absurd (let e : false ≡ true = sym none ∙ c.1 in cc))
+    (λ less. let none = operand_past segments events items Any g i (omega (arith, less, more, high)) in
+    absurd (let e : false ≡ true = sym none ∙ c.0 in cc))
+    (apart g h differ)
+
 -- ---- items apart
 pub apart_by : (rows : List Row) (items : List Item) (a b c d : ℕ) → a ≡ c → b ≡ d → AreApart rows items a b → AreApart rows items c d
 apart_by rows items a b c d e m h p q le less more = h p q (omega (arith, e, le)) (omega (arith, m, less)) (omega (arith, m, more))

@@ -16,6 +16,10 @@ use Rattle.run_evaluations.specs.Touched.{first_event, some_stands, touched, bod
 use Rattle.run_evaluations.specs.Kept.{is_harmless, first_item, items_of, large_of, first_large, IsOf, small_has, marks, Gathers, foot_of, harmless_of}
 use Rattle.run_evaluations.specs.Kept.{Kept, Cut, cut_of, Whole, AreLike, IsJoined, Spreads, AllBelow, AllHarmless, HasAll, span_of, is_large, own_body}
 use Rattle.run_evaluations.specs.Kept.{IsKept, IsSameOpen, IsSameLog, IsSameRest, KeepsFeet, IsTaken, HasMore, IsAdded, IsFirst, IsLogged, base_of, first_segment}
+use Rattle.run_evaluations.specs.Kept.{IsOperand, NoneOfOperands}
+use Rattle.run_evaluations.specs.Clashes.{NoneBetween}
+use Rattle.run_evaluations.specs.declared.search.Sought.TheVariants.{Any}
+use Rattle.addr_map.specs.declared.map.Row.{Row}
 use Rattle.run_evaluations.specs.declared.open.Evaluations.{Evaluations}
 use Rattle.run_evaluations.proofs.BetweenLemmas.{rises_to}
 use Rattle.run_evaluations.proofs.KeptLemmas.{first_by, first_marked, large_by, large_marked, standing, or_split, and_right, both, or_left, or_right}
@@ -1234,3 +1238,9 @@ spreads_all ss events items at n all f b e v past has g le =
     let w = slice_get_within events k d of.2 in
     omega (arith, a, w, of.0))))
     (before_or_past g n))
+
+-- of the operands of a node, if none of those behind a place clash
+pub of_operands : (rows : List Row) (o : Evaluations) (node at : ℕ) →
+    ((g : ℕ) → IsOperand o.segments.items o.levels.items node g → at ≤ g) → NoneBetween Any rows o.segments.items o.events.items o.items.items at →
+    NoneOfOperands rows o node
+of_operands rows o node at least none g h of with_it differ = none g h (least g of) (least h with_it) differ

@@ -15,7 +15,7 @@ use Rattle.run_evaluations.specs.declared.rules.Rule.{Rule}
 use Rattle.run_evaluations.specs.declared.rules.Rule.TheVariants.{Open, Closed}
 use Rattle.run_evaluations.specs.declared.search.Sought.TheVariants.{Any}
 use Rattle.run_evaluations.specs.Touched.{touched, body_has, event_has, start_of}
-use Rattle.run_evaluations.specs.Clashes.{NoClash, AreSorted}
+use Rattle.run_evaluations.specs.Clashes.{NoClash, AreSorted, operand_has}
 
 -- reads, and uses of living objects
 abbrev pub is_harmless : Item → Bool
@@ -271,6 +271,16 @@ first_segment (Some l) = l.segments
 
 abbrev pub base_of : List Level → ℕ
 base_of levels = first_segment (slice_get levels (length levels - 1))
+
+-- a segment of the top frame that is of an operand of the node: it and those behind it are of nodes behind this one
+abbrev pub IsOperand : List Segment → List Level → (node g : ℕ) → Type 0
+IsOperand segments levels node g =
+    (base_of levels ≤ g) × ((k : ℕ) (s : Segment) → g ≤ k → slice_get segments k ≡ Some s → node < s.node)
+
+-- no two operands of the node clash, of the full expression that is open in the top frame
+abbrev pub NoneOfOperands : List Row → Evaluations → ℕ → Type 0
+NoneOfOperands rows o node = (g h : ℕ) → IsOperand o.segments.items o.levels.items node g → IsOperand o.segments.items o.levels.items node h → g ≢ h →
+    NoClash Any rows (operand_has Any o.segments.items o.events.items o.items.items g) (operand_has Any o.segments.items o.events.items o.items.items h)
 
 -- all is as it was, but for the turn of a frame and what it touched
 pub record IsSameOpen (old new : Evaluations) : Type 0 where

@@ -10,7 +10,7 @@ ghost use Rattle.run_evaluations.specs.declared.search.Sought.TheVariants.{Any};
 ghost use Rattle.run_evaluations.specs.Clashes.{NoClash, NoneBetween};
 ghost use Rattle.run_evaluations.specs.FoundItems.{ItemsConflict};
 ghost use Rattle.run_evaluations.specs.Kept.{IsApart, AreApart, NoLarge, IsSameLog, IsTaken, Gathers, GathersKept, Joined, Kept};
-ghost use Rattle.run_evaluations.specs.Kept.{IsKept, IsSameRest, AreLike, AllBelow, KeepsFeet, Spreads};
+ghost use Rattle.run_evaluations.specs.Kept.{IsKept, NoneOfOperands, IsSameRest, AreLike, AllBelow, KeepsFeet, Spreads};
 ghost use Rattle.run_evaluations.specs.Kept.{items_of, large_of, foot_of, listed_has, own_body, small_of, is_unsequenced};
 ghost use Rattle.run_evaluations.specs.Touched.{start_of};
 
@@ -42,6 +42,7 @@ impl Evaluations {
     ) -> Result<Option<Found>, NoMemory>
         ensures conflict { IfOk result ItemsConflict }
         ensures kept { IsKept self.old → IsKept self.new }
+        ensures none { IsKept self.old → is_unsequenced rule ≡ true → IfOk result (λ r. IfNone r (NoneOfOperands map.now self.old node)) }
     {
         let at = self.operands(node);
         if at.saturating_add(1) < self.segments.len() {

@@ -5,7 +5,7 @@ ghost use Rattle.run_evaluations.specs.declared.log.Logged.{Logged};
 ghost use Rattle.run_evaluations.specs.declared.log.Segment.{Segment};
 ghost use Rattle.run_evaluations.specs.Bodies.{HasBody};
 ghost use Rattle.run_evaluations.specs.Kept.{IsKept, IsSameRest, IsSameLog, AreLike, IsJoined, AllBelow, IsAdded, IsFirst, IsLogged};
-ghost use Rattle.run_evaluations.specs.Kept.{IsSameOpen, cut_of, base_of, marks, harmless_of, foot_of, span_of, is_large, own_body};
+ghost use Rattle.run_evaluations.specs.Kept.{IsOperand, IsSameOpen, cut_of, base_of, marks, harmless_of, foot_of, span_of, is_large, own_body};
 ghost use Rattle.ub_base.specs.declared.names.Item.{Item};
 
 use crate::known::Known;
@@ -229,7 +229,8 @@ impl Evaluations {
 
     // The first of the segments of this node's operands, which are the last ones of the top frame.
     pub(crate) fn operands(&self, node: u32) -> usize
-        ensures { IsKept self.now → AllBelow self.now.levels.items result }
+        ensures below { IsKept self.now → AllBelow self.now.levels.items result }
+        ensures least { (g : ℕ) → IsOperand self.now.segments.items self.now.levels.items node g → result ≤ g }
     {
         let base = self.base();
         let at = self.first_above(node, base);
@@ -237,15 +238,28 @@ impl Evaluations {
     }
 
     // The first of the last segments from this one on that are of nodes behind this node.
-    fn first_above(&self, node: u32, base: usize) -> usize {
+    fn first_above(&self, node: u32, base: usize) -> usize
+        ensures { (g : ℕ) → base ≤ g → ((k : ℕ) (s : Segment) → g ≤ k → slice_get self.now.segments.items k ≡ Some s → node < s.node) →
+            result ≤ g }
+    {
         let mut at = self.segments.len();
-        for (i, segment) in self.segments.iter().enumerate().rev() {
-            if i < base || segment.node <= node {
+        for i in (base..self.segments.len()).rev() {
+            if self.is_up_to(i, node) {
                 return at;
             }
             at = i;
         }
         at
+    }
+
+    // Whether the segment is of no node behind this one.
+    fn is_up_to(&self, i: usize, node: u32) -> bool
+        ensures { result ≡ true → ((s : Segment) → slice_get self.now.segments.items i ≡ Some s → node < s.node) → ⊥ }
+    {
+        match self.segments.get(i) {
+            Some(segment) => segment.node <= node,
+            None => false,
+        }
     }
 
     // Makes one segment of those of a node's operands.
