@@ -15,19 +15,15 @@ ghost use Rattle.run_evaluations.specs.Kept.{items_of, large_of, foot_of, listed
 ghost use Rattle.run_evaluations.specs.Touched.{start_of};
 
 use crate::found::Found;
-use crate::log::Logged;
-use crate::open::{Evaluations, add_all};
+use crate::open::Evaluations;
 use crate::rules::Rule;
 use crate::search::{Under, add_range, clash};
 use addr_map::AddrMap;
-use footprint::{Foot, conflicts, items_conflict};
-use ub_base::{Frames, Item, Kind, NoMemory};
+use footprint::{Foot, items_conflict};
+use ub_base::{Frames, NoMemory};
 
 /// Operands of at most so many items together are compared item by item.
 const FEW: usize = 32;
-
-/// At most so many events that come after no value below are compared one by one.
-const FEW_LOOSE: usize = 16;
 
 impl Evaluations {
     /// The operands of this node of the top frame's full expression are complete. Gives the first conflict between two of
@@ -165,7 +161,7 @@ impl Evaluations {
         true
     }
 
-    fn has_items_alone(&self, at: usize) -> bool
+    pub(crate) fn has_items_alone(&self, at: usize) -> bool
         ensures { result ≡ true → (e : Logged) → slice_get self.now.events.items at ≡ Some e → e.foot ≡ None }
     {
         match self.events.get(at) {
@@ -220,7 +216,7 @@ impl Evaluations {
         false
     }
 
-    fn items_at_conflict(&self, map: &AddrMap, i: usize, q: usize) -> bool
+    pub(crate) fn items_at_conflict(&self, map: &AddrMap, i: usize, q: usize) -> bool
         ensures { result ≡ false → IsApart map.now (slice_get self.now.items.items i) (slice_get self.now.items.items q) }
     {
         match (self.items.get(i), self.items.get(q)) {
@@ -429,162 +425,6 @@ impl Evaluations {
             Some(body) => self.large_meets(map, k, body),
             None => false,
         }
-    }
-
-    /// This node of the top frame's full expression is complete. Gives the first conflict between one of its own events
-    /// and one below it that comes before its value in no order.
-    pub fn node_done(
-        &mut self,
-        frames: &Frames,
-        map: &AddrMap,
-        node: u32,
-    ) -> Result<Option<Found>, NoMemory>
-        ensures conflict { IfOk result ItemsConflict }
-        ensures kept { OnOk result (IsKept self.old → IsKept self.new) }
-    {
-        let loose = self.loose_start();
-        let count = self.events.len();
-        let own = self.own_events(node);
-        self.gather_loose(own, loose)?;
-        let mut found = None;
-        for at in own..count {
-            if self.meets_loose(map, at, loose)? {
-                found = self.found_among(Under { frames, map }, at, loose, found)?;
-            }
-        }
-        self.add_loose(node)?;
-        Ok(found)
-    }
-
-    // Where the loose events of the top segment begin.
-    fn loose_start(&self) -> usize {
-        match self.segments.last() {
-            Some(segment) => segment.loose,
-            None => self.loose.len(),
-        }
-    }
-
-    // The first of the node's own events, which are the last ones.
-    fn own_events(&self, node: u32) -> usize {
-        let count = self.events.len();
-        let mut at = count;
-        for i in count.saturating_sub(2)..count {
-            if self.is_of(i, node) && i < at {
-                at = i;
-            }
-        }
-        at
-    }
-
-    fn is_of(&self, at: usize, node: u32) -> bool {
-        match self.events.get(at) {
-            Some(event) => event.node == node,
-            None => false,
-        }
-    }
-
-    // Whether this event or one behind it has items.
-    fn has_items_from(&self, at: usize) -> bool {
-        match self.events.get(at) {
-            Some(event) => event.from < self.items.len(),
-            None => false,
-        }
-    }
-
-    // Where many events are in the list from there on, and the node's own events have items, the top segment keeps the set of
-    // their items.
-    fn gather_loose(&mut self, own: usize, loose: usize) -> Result<(), NoMemory>
-        ensures rest { IsSameRest self.old self.new }
-        ensures like { (g : ℕ) → AreLike (slice_get self.old.segments.items g) (slice_get self.new.segments.items g) }
-    {
-        if !self.has_items_from(own) {
-            return Ok(());
-        }
-        if self.loose.len().saturating_sub(loose) <= FEW_LOOSE || self.loose_foot().is_some() {
-            return Ok(());
-        }
-        let mut foot = Foot::new(self.alloc);
-        for i in loose..self.loose.len() {
-            if let Some(at) = self.loose.get(i) {
-                self.add_event(&mut foot, *at)?;
-            }
-        }
-        let foot = Box::new(self.alloc, foot)?;
-        if let Some(segment) = self.segments.last_mut() {
-            segment.loose_foot = Some(foot);
-        }
-        Ok(())
-    }
-
-    fn loose_foot(&self) -> Option<&Foot> {
-        match &self.segments.last()?.loose_foot {
-            Some(foot) => Some(foot),
-            None => None,
-        }
-    }
-
-    // Whether an item of the event conflicts with one of the events of the list.
-    fn meets_loose(&self, map: &AddrMap, at: usize, loose: usize) -> Result<bool, NoMemory> {
-        let Some(below) = self.loose_foot() else {
-            return Ok(self.meets_few(map, at, loose));
-        };
-        let foot = self.event_foot(at)?;
-        Ok(conflicts(&foot, below, map))
-    }
-
-    fn meets_few(&self, map: &AddrMap, at: usize, loose: usize) -> bool {
-        let Some(event) = self.events.get(at) else {
-            return false;
-        };
-        let Some(below) = self.loose.get(loose..) else {
-            return false;
-        };
-        for i in event.from..event.to {
-            if let Some(item) = self.items.get(i) {
-                for other in below {
-                    if self.item_meets_event(map, item, *other) {
-                        return true;
-                    }
-                }
-            }
-        }
-        false
-    }
-
-    fn item_meets_event(&self, map: &AddrMap, item: &Item, at: usize) -> bool {
-        let Some(event) = self.events.get(at) else {
-            return false;
-        };
-        for i in event.from..event.to {
-            if let Some(other) = self.items.get(i) {
-                if items_conflict(item, other, map) {
-                    return true;
-                }
-            }
-        }
-        false
-    }
-
-    // The node's side effect comes before no value of a parent.
-    fn add_loose(&mut self, node: u32) -> Result<(), NoMemory>
-        ensures rest { IsSameRest self.old self.new }
-        ensures like { (g : ℕ) → AreLike (slice_get self.old.segments.items g) (slice_get self.new.segments.items g) }
-    {
-        let at = self.events.len().saturating_sub(1);
-        let Some(event) = self.events.last() else {
-            return Ok(());
-        };
-        if event.kind != Kind::Eff || event.node != node {
-            return Ok(());
-        }
-        self.loose.push(at)?;
-        if let (Some(segment), Some(items)) = (
-            self.segments.last_mut(),
-            self.items.get(event.from..event.to),
-        ) {
-            return add_all(&mut segment.loose_foot, items);
-        }
-        Ok(())
     }
 }
 
