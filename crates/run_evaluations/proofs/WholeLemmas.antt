@@ -15,7 +15,7 @@ use Rattle.run_evaluations.specs.declared.level.Level.{Level}
 use Rattle.run_evaluations.specs.Touched.{first_event, some_stands, touched, body_has, event_has, start_of}
 use Rattle.run_evaluations.specs.Kept.{is_harmless, first_item, items_of, large_of, first_large, IsOf, small_has, marks, Gathers, foot_of, harmless_of}
 use Rattle.run_evaluations.specs.Kept.{Kept, Cut, cut_of, Whole, AreLike, IsJoined, Spreads, AllBelow, AllHarmless, HasAll, span_of, is_large, own_body}
-use Rattle.run_evaluations.specs.Kept.{IsKept, IsSameOpen, IsSameLog, IsSameRest, KeepsFeet, IsTaken, HasMore, IsAdded, IsFirst, IsLogged, base_of, first_segment}
+use Rattle.run_evaluations.specs.Kept.{IsKept, IsSameOpen, IsSameLog, IsSameRest, KeepsFeet, IsTaken, HasMore, IsAdded, IsFirst, IsLogged, IsTold, base_of, first_segment}
 use Rattle.run_evaluations.specs.Kept.{IsOperand, NoneOfOperands}
 use Rattle.run_evaluations.specs.Clashes.{NoneBetween}
 use Rattle.run_evaluations.specs.declared.search.Sought.TheVariants.{Any}
@@ -1244,3 +1244,22 @@ pub of_operands : (rows : List Row) (o : Evaluations) (node at : ℕ) →
     ((g : ℕ) → IsOperand o.segments.items o.levels.items node g → at ≤ g) → NoneBetween Any rows o.segments.items o.events.items o.items.items at →
     NoneOfOperands rows o node
 of_operands rows o node at least none g h of with_it differ = none g h (least g of) (least h with_it) differ
+
+-- an event that was told
+pub told_by : (a b d : Evaluations) (e : Logged) (added : List Item) → IsSameRest a b → IsLogged b d e added → IsTold a d e added
+told_by a b d e added rest logged = record {
+  events = logged.events ∙ ap (λ (xs : List Logged). xs ++ (e ∷ [])) rest.events;
+  items = logged.items ∙ ap (λ (xs : List Item). xs ++ added) rest.items;
+  from = logged.from ∙ ap length rest.items;
+  to = logged.to ∙ ap (λ (xs : List Item). length xs + length added) rest.items;
+  foot = logged.foot;
+}
+
+pub told_after : (a b d : Evaluations) (e : Logged) (added : List Item) → IsSameRest a b → IsTold b d e added → IsTold a d e added
+told_after a b d e added rest told = record {
+  events = told.events ∙ ap (λ (xs : List Logged). xs ++ (e ∷ [])) rest.events;
+  items = told.items ∙ ap (λ (xs : List Item). xs ++ added) rest.items;
+  from = told.from ∙ ap length rest.items;
+  to = told.to ∙ ap (λ (xs : List Item). length xs + length added) rest.items;
+  foot = told.foot;
+}

@@ -289,3 +289,11 @@ pub record IsSameOpen (old new : Evaluations) : Type 0 where
   pub items : new.items.items ≡ old.items.items
   pub large : new.large.items ≡ old.large.items
   pub cuts : (d : ℕ) → cut_of (slice_get new.levels.items d) ≡ cut_of (slice_get old.levels.items d)
+
+-- an event that was told is the next one of the log, and has started no frame yet
+pub record IsTold (old new : Evaluations) (e : Logged) (added : List Item) : Type 0 where
+  pub events : new.events.items ≡ old.events.items ++ (e ∷ [])
+  pub items : new.items.items ≡ old.items.items ++ added
+  pub from : e.from ≡ length old.items.items
+  pub to : e.to ≡ length old.items.items + length added
+  pub foot : e.foot ≡ None

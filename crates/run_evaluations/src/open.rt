@@ -4,7 +4,7 @@ ghost use Rattle.std.specs.Global.{Global};
 ghost use Rattle.run_evaluations.specs.declared.log.Logged.{Logged};
 ghost use Rattle.run_evaluations.specs.declared.log.Segment.{Segment};
 ghost use Rattle.run_evaluations.specs.Bodies.{HasBody};
-ghost use Rattle.run_evaluations.specs.Kept.{IsKept, IsSameRest, IsSameLog, AreLike, IsJoined, AllBelow, IsAdded, IsFirst, IsLogged};
+ghost use Rattle.run_evaluations.specs.Kept.{IsKept, IsSameRest, IsSameLog, AreLike, IsJoined, AllBelow, IsAdded, IsFirst, IsLogged, IsTold};
 ghost use Rattle.run_evaluations.specs.Kept.{IsOperand, IsSameOpen, cut_of, base_of, marks, harmless_of, foot_of, span_of, is_large, own_body};
 ghost use Rattle.ub_base.specs.declared.names.Item.{Item};
 
@@ -127,7 +127,8 @@ impl Evaluations {
         rule: Rule,
         chosen: bool,
     ) -> Result<(), NoMemory>
-        ensures { OnOk result (IsKept self.old → IsKept self.new) }
+        ensures kept { OnOk result (IsKept self.old → IsKept self.new) }
+        ensures told { OnOk result ((e : Logged) × (e.node ≡ node) × (e.kind ≡ kind) × IsTold self.old self.new e items.now) }
     {
         self.gather(node, rule, chosen);
         if self.is_top_of(node) {
@@ -140,7 +141,8 @@ impl Evaluations {
 
     // An event of the top segment touched these items.
     fn log_at_top(&mut self, node: u32, kind: Kind, items: &[Item]) -> Result<(), NoMemory>
-        ensures { OnOk result (IsKept self.old → (last : ℕ) → length self.old.segments.items ≡ suc last → AllBelow self.old.levels.items last → IsKept self.new) }
+        ensures kept { OnOk result (IsKept self.old → (last : ℕ) → length self.old.segments.items ≡ suc last → AllBelow self.old.levels.items last → IsKept self.new) }
+        ensures told { OnOk result ((e : Logged) × (e.node ≡ node) × (e.kind ≡ kind) × IsTold self.old self.new e items.now) }
     {
         self.add_to_top(items)?;
         self.log(node, kind, items)?;
@@ -149,7 +151,8 @@ impl Evaluations {
 
     // The first event of a segment touched these items.
     fn log_first(&mut self, node: u32, kind: Kind, items: &[Item]) -> Result<(), NoMemory>
-        ensures { OnOk result (IsKept self.old → IsKept self.new) }
+        ensures kept { OnOk result (IsKept self.old → IsKept self.new) }
+        ensures told { OnOk result ((e : Logged) × (e.node ≡ node) × (e.kind ≡ kind) × IsTold self.old self.new e items.now) }
     {
         self.push_segment(node, items)?;
         self.log(node, kind, items)?;
@@ -201,7 +204,7 @@ impl Evaluations {
 
     // Adds an event to the log.
     fn log(&mut self, node: u32, kind: Kind, items: &[Item]) -> Result<(), NoMemory>
-        ensures { OnOk result ((e : Logged) × IsLogged self.old self.new e items.now) }
+        ensures { OnOk result ((e : Logged) × (e.node ≡ node) × (e.kind ≡ kind) × IsLogged self.old self.new e items.now) }
     {
         let from = self.items.len();
         self.items.extend_from_slice(items)?;
