@@ -101,7 +101,8 @@ if_none_by (Some f) Q h = tt
 -- the set that was put
 pub set_right : (events : List Logged) (items : List Item) (loose : List ℕ) (from : ℕ) (foot : Foot) (b f : Box Foot Global) → b.value ≡ foot → b ≡ f →
     HasLoose events items loose from foot → HasLoose events items loose from f.value
-set_right events items loose from foot b f v e has = subst (λ (x : Foot). HasLoose events items loose from x) (sym v ∙ ap (λ (x : Box Foot Global). x.value) e) has
+set_right events items loose from foot b f v e has = subst (λ (x : Foot). HasLoose events items loose from x)
+    (sym v ∙ ap (λ (x : Box Foot Global). x.value) e) has
 
 abbrev pub FromHere : List Row → List Logged → List Item → List ℕ → (own from : ℕ) → Type 0
 FromHere rows events items loose own from = (k : ℕ) → own ≤ k → k < length events → NoLoose rows events items loose from (event_has items (slice_get events k))
@@ -110,10 +111,12 @@ none_below : (rows : List Row) (a : Evaluations) (node own : ℕ) →
     ((k : ℕ) (e : Logged) → length a.events.items - 2 ≤ k → slice_get a.events.items k ≡ Some e → e.node ≡ node → own ≤ k) →
     FromHere rows a.events.items a.items.items a.loose.items own (loose_from a.segments.items a.loose.items) → NoneBelow rows a node
 none_below rows a node own least none k e low at same =
-    subst (λ (o : Option Logged). NoLoose rows a.events.items a.items.items a.loose.items (loose_from a.segments.items a.loose.items) (event_has a.items.items o)) at
+    subst (λ (o : Option Logged). NoLoose rows a.events.items a.items.items a.loose.items (loose_from a.segments.items a.loose.items)
+    (event_has a.items.items o)) at
     (none k (least k e low at same) (slice_get_within a.events.items k e at))
 
-pub all_below : (rows : List Row) (a b : Evaluations) (node own from : ℕ) (r : Option Found) → b.events.items ≡ a.events.items → b.items.items ≡ a.items.items →
+pub all_below : (rows : List Row) (a b : Evaluations) (node own from : ℕ) (r : Option Found) → b.events.items ≡ a.events.items → b.items.items ≡
+    a.items.items →
     b.loose.items ≡ a.loose.items → from ≡ loose_from a.segments.items a.loose.items →
     ((k : ℕ) (e : Logged) → length a.events.items - 2 ≤ k → slice_get a.events.items k ≡ Some e → e.node ≡ node → own ≤ k) →
     IfNone r (FromHere rows b.events.items b.items.items b.loose.items own from) → IfNone r (NoneBelow rows a node)

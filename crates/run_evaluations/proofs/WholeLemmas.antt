@@ -15,7 +15,8 @@ use Rattle.run_evaluations.specs.declared.level.Level.{Level}
 use Rattle.run_evaluations.specs.Touched.{first_event, some_stands, touched, body_has, event_has, start_of}
 use Rattle.run_evaluations.specs.Kept.{is_harmless, first_item, items_of, large_of, first_large, IsOf, small_has, marks, Gathers, foot_of, harmless_of}
 use Rattle.run_evaluations.specs.Kept.{Kept, Cut, cut_of, Whole, AreLike, IsJoined, Spreads, AllBelow, AllHarmless, HasAll, span_of, is_large, own_body}
-use Rattle.run_evaluations.specs.Kept.{IsKept, IsSameOpen, IsSameLog, IsSameRest, KeepsFeet, IsTaken, HasMore, IsAdded, IsFirst, IsLogged, IsTold, base_of, first_segment}
+use Rattle.run_evaluations.specs.Kept.{IsKept, IsSameOpen, IsSameLog, IsSameRest, KeepsFeet, IsTaken, HasMore, IsAdded}
+use Rattle.run_evaluations.specs.Kept.{IsFirst, IsLogged, IsTold, base_of, first_segment}
 use Rattle.run_evaluations.specs.Kept.{IsOperand, NoneOfOperands}
 use Rattle.run_evaluations.specs.Clashes.{NoneBetween}
 use Rattle.run_evaluations.specs.declared.search.Sought.TheVariants.{Any}
@@ -245,7 +246,8 @@ module _ (segments : List Segment) (events : List Logged) (items : List Item) (l
   abbrev pub new_cut : Level → Type 0
   new_cut l = (l.segments ≡ length segments) × (l.events ≡ length events) × (l.items ≡ length items) × (l.large ≡ length large)
 
-  cut_some : (o : Option Level) (l : Level) (c : Cut) → o ≡ Some l → cut_of o ≡ Some c → (c.segments ≡ l.segments) × (c.events ≡ l.events) × (c.items ≡ l.items) ×
+  cut_some : (o : Option Level) (l : Level) (c : Cut) → o ≡ Some l → cut_of o ≡ Some c → (c.segments ≡ l.segments) × (c.events ≡ l.events) ×
+      (c.items ≡ l.items) ×
       (c.large ≡ l.large)
   cut_some o l c e h =
       let f : cut_of (Some l) ≡ Some c = sym (ap cut_of e) ∙ h in
@@ -402,7 +404,8 @@ module _ (segments : List Segment) (events : List Logged) (items : List Item) (l
                 (λ new. let a = join_large g (omega (arith, new.0)) in let c = larges_rise g r.0 (omega (arith, new.0, new.1)) in omega (arith, a, c, l.1))
                 r.2,
             ⊎_elim
-                (λ old. let b = join_large (suc g) (omega (arith, old.1)) in let d = ap (λ n. large_of segments large (suc n)) old.0 in omega (arith, b, d, l.2))
+                (λ old. let b = join_large (suc g) (omega (arith, old.1)) in let d = ap (λ n. large_of segments large (suc n)) old.0 in omega
+                (arith, b, d, l.2))
                 (λ new. let b = past_large (suc g) (omega (arith, new.0)) in let t = larges_top (suc r.0) in omega (arith, b, t, l.2))
                 r.2,
             l.3,
@@ -492,7 +495,8 @@ module _ (segments : List Segment) (events : List Logged) (items : List Item) (l
         ))
         (λ new. let k_is : k ≡ length events = omega (arith, new, w, n) in
         inr (
-          ⊎_elim (λ next. absurd (let b = log_start (suc g) next in let t = starts_top (suc g) in omega (arith, b, t, of.1, new))) (λ end. omega (arith, end, le))
+          ⊎_elim (λ next. absurd (let b = log_start (suc g) next in let t = starts_top (suc g) in omega (arith, b, t, of.1, new)))
+              (λ end. omega (arith, end, le))
               (up_to (suc g) last),
           k_is,
           same_Some d e (sym of.2 ∙ ap (slice_get (events ++ (e ∷ []))) k_is ∙ get_seam events e),
@@ -689,7 +693,8 @@ module _ (segments : List Segment) (events : List Logged) (items : List Item) (l
           (λ less. let a = cut_start g (omega (arith, less)) in let b = cut_start (suc g) (omega (arith, less)) in let s = (whole.kept.sorted g le).0 in
           let r = starts_rise g c.segments (omega (arith, less)) in let e = (whole.cuts m c top).1 in let n = cut_events in
           (omega (arith, a, b, s), omega (arith, a, r, e, n)))
-          (λ past. let a = cut_past g past in let b = cut_past (suc g) (omega (arith, past)) in let n = cut_events in (omega (arith, a, b), omega (arith, a, n)))
+          (λ past. let a = cut_past g past in let b = cut_past (suc g) (omega (arith, past)) in let n = cut_events in
+          (omega (arith, a, b), omega (arith, a, n)))
           (before_or_past g c.segments);
       items_rise = λ g le. ⊎_elim
           (λ less. let a = cut_item g (omega (arith, less)) in let b = cut_item (suc g) (omega (arith, less)) in let s = whole.kept.items_rise g le in
@@ -827,7 +832,8 @@ module _ (segments : List Segment) (events : List Logged) (items : List Item) (l
 
       -- an event of a segment that isn't the last one is as it was, and so is each but the last
       give_of : (g k : ℕ) (d : Logged) → IsOf ts fs g k d →
-          (g ≤ n) × (g < length segments) × (e : Logged) × IsOf segments events g k e × (d.from ≡ e.from) × (d.to ≡ e.to) × (((k < at) × (e ≡ d)) ⊎ ((k ≡ at) × (g ≡ n)))
+          (g ≤ n) × (g < length segments) × (e : Logged) × IsOf segments events g k e × (d.from ≡ e.from) × (d.to ≡ e.to) ×
+          (((k < at) × (e ≡ d)) ⊎ ((k ≡ at) × (g ≡ n)))
       give_of g k d of =
           let a = give_start g in
           let b = give_start (suc g) in
@@ -847,7 +853,8 @@ module _ (segments : List Segment) (events : List Logged) (items : List Item) (l
                 (λ more. inr (
                   omega (arith, more, v, end),
                   ⊎_elim
-                      (λ low. let f = whole.filled n (omega (arith, low, last)) in let t = starts_top (suc n) in let u = starts_rise (suc g) n (omega (arith, low)) in
+                      (λ low. let f = whole.filled n (omega (arith, low, last)) in let t = starts_top (suc n) in let u = starts_rise (suc g) n
+                      (omega (arith, low)) in
                       absurd (omega (arith, f, t, u, r.1.1, more, end, v)))
                       (λ same. omega (arith, same, w, last)) (before_or_past g n),
                 ))
@@ -948,7 +955,13 @@ module _ (segments : List Segment) (events : List Logged) (items : List Item) (l
       let l = at_level (slice_get levels d) c h in
       let w = slice_get_within levels d l.0 l.1 in
       ⊎_elim
-      (λ top. let r = whole.rise d (length levels - 1) c (record { segments = (top.0).segments; events = (top.0).events; items = (top.0).items; large = (top.0).large })
+      (λ top. let r = whole.rise d (length levels - 1) c (record {
+        segments = (top.0).segments;
+        events = (top.0).events;
+        items = (top.0).items;
+        large =
+            (top.0).large;
+      })
       (omega (arith, w)) h (ap cut_of top.2) in
       let e = ap first_segment top.2 in omega (arith, r, e))
       (λ past. absurd (omega (arith, past.0, w)))
@@ -957,7 +970,13 @@ module _ (segments : List Segment) (events : List Logged) (items : List Item) (l
   pub base_within : base_of levels ≤ length segments
   base_within =
       ⊎_elim
-      (λ top. let r = (whole.cuts (length levels - 1) (record { segments = (top.0).segments; events = (top.0).events; items = (top.0).items; large = (top.0).large })
+      (λ top. let r = (whole.cuts (length levels - 1) (record {
+        segments = (top.0).segments;
+        events = (top.0).events;
+        items = (top.0).items;
+        large =
+            (top.0).large;
+      })
       (ap cut_of top.2)).0 in
       let e = ap first_segment top.2 in omega (arith, r, e))
       (λ past. let e = ap first_segment past.1 in omega (arith, e))
@@ -1025,14 +1044,17 @@ like_same o p e = record { begins = ap marks e; harm = ap harmless_of e; foot = 
 -- ---- of the evaluations
 pub kept_open : (a b : Evaluations) → IsSameOpen a b → IsKept a → IsKept b
 kept_open a b same w =
-    whole_moved a.segments.items b.segments.items a.events.items b.events.items a.items.items b.items.items a.large.items b.large.items b.levels.items b.levels.items
+    whole_moved a.segments.items b.segments.items a.events.items b.events.items a.items.items b.items.items a.large.items b.large.items b.levels.items
+    b.levels.items
     same.segments same.events same.items same.large refl
     (whole_levels a.segments.items a.events.items a.items.items a.large.items a.levels.items w b.levels.items (λ d c h. sym (same.cuts d) ∙ h))
 
 -- other sets are kept
-pub kept_feet : (a b : Evaluations) (at : ℕ) → IsSameLog a b → KeepsFeet a.segments.items b.segments.items a.events.items a.items.items at → IsKept a → IsKept b
+pub kept_feet : (a b : Evaluations) (at : ℕ) → IsSameLog a b → KeepsFeet a.segments.items b.segments.items a.events.items a.items.items at → IsKept a →
+    IsKept b
 kept_feet a b at same feet w =
-    whole_moved b.segments.items b.segments.items a.events.items b.events.items a.items.items b.items.items a.large.items b.large.items a.levels.items b.levels.items
+    whole_moved b.segments.items b.segments.items a.events.items b.events.items a.items.items b.items.items a.large.items b.large.items a.levels.items
+    b.levels.items
     refl same.events same.items same.large same.levels
     (whole_by a.segments.items a.events.items a.items.items a.large.items a.levels.items w b.segments.items
     (length_alike b.segments.items a.segments.items same.alike) same.alike (λ g h. sym (same.harm g) ∙ h)
@@ -1043,9 +1065,11 @@ pub kept_made_one : (a b d : Evaluations) (at : ℕ) → IsSameLog a b → ((g :
     ((f : Box Foot Global) → foot_of (slice_get d.segments.items at) ≡ Some f → Spreads a.segments.items a.events.items a.items.items at f.value) →
     IsKept a → IsKept d
 kept_made_one a b d at same others rest joined below within feet w =
-    whole_moved d.segments.items d.segments.items a.events.items d.events.items a.items.items d.items.items a.large.items d.large.items a.levels.items d.levels.items
+    whole_moved d.segments.items d.segments.items a.events.items d.events.items a.items.items d.items.items a.large.items d.large.items a.levels.items
+    d.levels.items
     refl (rest.events ∙ same.events) (rest.items ∙ same.items) (rest.large ∙ same.large) (rest.levels ∙ same.levels)
-    (kept_joined a.segments.items a.events.items a.items.items a.large.items a.levels.items w b.segments.items d.segments.items at below within same.alike same.harm
+    (kept_joined a.segments.items a.events.items a.items.items a.large.items a.levels.items w b.segments.items d.segments.items at below within same.alike
+    same.harm
     others joined feet)
 
 pub kept_at_top : (a b d : Evaluations) (e : Logged) (added : List Item) (last : ℕ) → IsSameRest a b → IsAdded a.segments.items b.segments.items added →
@@ -1054,11 +1078,13 @@ kept_at_top a b d e added last rest more logged n below w =
     let ss = a.segments.items in
     let s = inside ss a.events.items a.items.items a.large.items a.levels.items w last (omega (arith, n)) in
     let m = more.last last s.0 (sym n) s.1 in
-    whole_moved b.segments.items d.segments.items (a.events.items ++ (e ∷ [])) d.events.items (a.items.items ++ added) d.items.items a.large.items d.large.items
+    whole_moved b.segments.items d.segments.items (a.events.items ++ (e ∷ [])) d.events.items (a.items.items ++ added) d.items.items a.large.items
+    d.large.items
     a.levels.items d.levels.items logged.segments
     (logged.events ∙ ap (λ (xs : List Logged). xs ++ (e ∷ [])) rest.events)
     (logged.items ∙ ap (λ (xs : List Item). xs ++ added) rest.items) (logged.large ∙ rest.large) (logged.levels ∙ rest.levels)
-    (whole_logged ss a.events.items a.items.items a.large.items a.levels.items w b.segments.items last e added (more.count ∙ n) (omega (arith, n)) (omega (arith, n))
+    (whole_logged ss a.events.items a.items.items a.large.items a.levels.items w b.segments.items last e added (more.count ∙ n) (omega (arith, n))
+    (omega (arith, n))
     (λ g less. like_same (slice_get ss g) (slice_get b.segments.items g) (more.others g (omega (arith, n, less))))
     (ap marks m.1 ∙ (λ i. Some (m.2.first i, m.2.items i, m.2.large i)) ∙ sym (ap marks s.1) ∙
     mark_at ss a.events.items a.items.items a.large.items a.levels.items w last s.0 s.1)
@@ -1074,7 +1100,8 @@ kept_first a b d s e added rest new logged w =
     let ss = a.segments.items in
     let last = length ss in
     let m = get_seam ss s in
-    whole_moved (ss ++ (s ∷ [])) d.segments.items (a.events.items ++ (e ∷ [])) d.events.items (a.items.items ++ added) d.items.items a.large.items d.large.items
+    whole_moved (ss ++ (s ∷ [])) d.segments.items (a.events.items ++ (e ∷ [])) d.events.items (a.items.items ++ added) d.items.items a.large.items
+    d.large.items
     a.levels.items d.levels.items (logged.segments ∙ new.pushed)
     (logged.events ∙ ap (λ (xs : List Logged). xs ++ (e ∷ [])) rest.events)
     (logged.items ∙ ap (λ (xs : List Item). xs ++ added) rest.items) (logged.large ∙ rest.large) (logged.levels ∙ rest.levels)
@@ -1136,7 +1163,8 @@ module _ (a b d f : Evaluations) (large : Bool) (listed : large ≡ true → bas
       let m = ap length same_events in
       ⊎_elim
       (λ before. g3 ∙ rest.large ∙ yes (sym (large3 (length a.events.items - 1) (omega (arith, m, before))) ∙ h))
-      (λ past. absurd (let e : false ≡ true = sym (ap is_large (slice_get_past f.events.items (length a.events.items - 1) (omega (arith, m, n3, past)))) ∙ h in cc))
+      (λ past. absurd (let e : false ≡ true = sym (ap is_large (slice_get_past f.events.items (length a.events.items - 1) (omega (arith, m, n3, past)))) ∙
+      h in cc))
       (before_or_past (length a.events.items - 1) (length a.events.items))
 
   is_grown : (f.large.items ≡ a.large.items) ⊎ ((f.large.items ≡ a.large.items ++ ((length a.events.items - 1) ∷ [])) ×
@@ -1189,7 +1217,8 @@ kept_several a b t d at same keeps taken rest joined below within feet w =
 -- only what is kept of loose events has changed
 pub kept_like : (a b : Evaluations) → IsSameRest a b → ((g : ℕ) → AreLike (slice_get a.segments.items g) (slice_get b.segments.items g)) → IsKept a → IsKept b
 kept_like a b rest like w =
-    whole_moved b.segments.items b.segments.items a.events.items b.events.items a.items.items b.items.items a.large.items b.large.items a.levels.items b.levels.items
+    whole_moved b.segments.items b.segments.items a.events.items b.events.items a.items.items b.items.items a.large.items b.large.items a.levels.items
+    b.levels.items
     refl rest.events rest.items rest.large rest.levels
     (whole_by a.segments.items a.events.items a.items.items a.large.items a.levels.items w b.segments.items
     (length_alike b.segments.items a.segments.items (λ g. (like g).begins)) (λ g. (like g).begins) (λ g h. sym (like g).harm ∙ h)

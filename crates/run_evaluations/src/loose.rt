@@ -50,8 +50,10 @@ impl Evaluations {
         loose: usize,
     ) -> Result<Option<Found>, NoMemory>
         ensures conflict { IfOk result ItemsConflict }
-        ensures none { LooseKept self.now.segments.items self.now.events.items self.now.items.items self.now.loose.items loose → IfOk result (λ r. IfNone r ((k : ℕ) → own ≤ k → k < length self.now.events.items →
-            NoLoose under.entry.map.now self.now.events.items self.now.items.items self.now.loose.items loose (event_has self.now.items.items (slice_get self.now.events.items k)))) }
+        ensures none { LooseKept self.now.segments.items self.now.events.items self.now.items.items self.now.loose.items loose → IfOk result
+            (λ r. IfNone r ((k : ℕ) → own ≤ k → k < length self.now.events.items →
+            NoLoose under.entry.map.now self.now.events.items self.now.items.items self.now.loose.items loose
+            (event_has self.now.items.items (slice_get self.now.events.items k)))) }
     {
         let mut found = None;
         for at in own..self.events.len() {
@@ -70,8 +72,10 @@ impl Evaluations {
     ) -> Result<Option<Found>, NoMemory>
         requires { ItemsConflict best }
         ensures conflict { IfOk result ItemsConflict }
-        ensures none { LooseKept self.now.segments.items self.now.events.items self.now.items.items self.now.loose.items loose → IfOk result (λ r. r ≡ None → (best ≡ None) ×
-            NoLoose under.entry.map.now self.now.events.items self.now.items.items self.now.loose.items loose (event_has self.now.items.items (slice_get self.now.events.items at))) }
+        ensures none { LooseKept self.now.segments.items self.now.events.items self.now.items.items self.now.loose.items loose → IfOk result
+            (λ r. r ≡ None → (best ≡ None) ×
+            NoLoose under.entry.map.now self.now.events.items self.now.items.items self.now.loose.items loose
+            (event_has self.now.items.items (slice_get self.now.events.items at))) }
     {
         if self.meets_loose(under.map, at, loose)? {
             self.found_among(under, at, loose, best)
@@ -166,7 +170,8 @@ impl Evaluations {
 
     fn add_listed(&self, i: usize, foot: &mut Foot) -> Result<(), NoMemory>
         ensures more { OnOk result ((j : Item) → holds foot.old j ≡ true → holds foot.new j ≡ true) }
-        ensures one { OnOk result ((j : Item) → loose_has self.now.events.items self.now.items.items self.now.loose.items i j ≡ true → holds foot.new j ≡ true) }
+        ensures one { OnOk result ((j : Item) → loose_has self.now.events.items self.now.items.items self.now.loose.items i j ≡ true →
+            holds foot.new j ≡ true) }
     {
         match self.loose.get(i) {
             Some(at) => self.add_event(foot, *at),
@@ -177,7 +182,8 @@ impl Evaluations {
     // Whether an item of the event conflicts with one of the events of the list.
     fn meets_loose(&self, map: &AddrMap, at: usize, loose: usize) -> Result<bool, NoMemory>
         ensures { LooseKept self.now.segments.items self.now.events.items self.now.items.items self.now.loose.items loose → IfOk result (λ b. b ≡ false →
-            NoLoose map.now self.now.events.items self.now.items.items self.now.loose.items loose (event_has self.now.items.items (slice_get self.now.events.items at))) }
+            NoLoose map.now self.now.events.items self.now.items.items self.now.loose.items loose
+            (event_has self.now.items.items (slice_get self.now.events.items at))) }
     {
         let Some(segment) = self.segments.last() else {
             return self.meets_few(map, at, loose);
@@ -198,7 +204,8 @@ impl Evaluations {
 
     fn meets_few(&self, map: &AddrMap, at: usize, loose: usize) -> Result<bool, NoMemory>
         ensures { IfOk result (λ b. b ≡ false →
-            NoLoose map.now self.now.events.items self.now.items.items self.now.loose.items loose (event_has self.now.items.items (slice_get self.now.events.items at))) }
+            NoLoose map.now self.now.events.items self.now.items.items self.now.loose.items loose
+            (event_has self.now.items.items (slice_get self.now.events.items at))) }
     {
         for i in loose..self.loose.len() {
             if self.meets_listed(map, at, i)? {
@@ -210,7 +217,8 @@ impl Evaluations {
 
     fn meets_listed(&self, map: &AddrMap, at: usize, i: usize) -> Result<bool, NoMemory>
         ensures { IfOk result (λ b. b ≡ false →
-            NoClash Any map.now (event_has self.now.items.items (slice_get self.now.events.items at)) (loose_has self.now.events.items self.now.items.items self.now.loose.items i)) }
+            NoClash Any map.now (event_has self.now.items.items (slice_get self.now.events.items at))
+            (loose_has self.now.events.items self.now.items.items self.now.loose.items i)) }
     {
         match self.loose.get(i) {
             Some(other) => self.events_meet(map, at, *other),
@@ -285,7 +293,8 @@ impl Evaluations {
         requires { ItemsConflict best }
         ensures conflict { IfOk result ItemsConflict }
         ensures none { IfOk result (λ r. r ≡ None → (best ≡ None) ×
-            NoLoose under.entry.map.now self.now.events.items self.now.items.items self.now.loose.items loose (event_has self.now.items.items (slice_get self.now.events.items event))) }
+            NoLoose under.entry.map.now self.now.events.items self.now.items.items self.now.loose.items loose
+            (event_has self.now.items.items (slice_get self.now.events.items event))) }
     {
         let mut best = best;
         for i in loose..self.loose.len() {
@@ -304,7 +313,8 @@ impl Evaluations {
         requires { ItemsConflict best }
         ensures conflict { IfOk result ItemsConflict }
         ensures none { IfOk result (λ r. r ≡ None → (best ≡ None) ×
-            NoClash Any under.entry.map.now (event_has self.now.items.items (slice_get self.now.events.items event)) (loose_has self.now.events.items self.now.items.items self.now.loose.items i)) }
+            NoClash Any under.entry.map.now (event_has self.now.items.items (slice_get self.now.events.items event))
+            (loose_has self.now.events.items self.now.items.items self.now.loose.items i)) }
     {
         match self.loose.get(i) {
             Some(other) => self.found_with(under, event, *other, best),

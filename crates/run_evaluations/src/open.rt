@@ -1,5 +1,6 @@
 // The open evaluations of a run.
-ghost use Rattle.std.specs.Prelude.{Box, ◌≡◌, ◌≤◌, ◌<◌, ◌-◌, ◌≢◌, ◌++◌, ◌∷◌, [], take, ℕ, suc, true, false, length, slice_get, Some, None, vec_len, IfSome, OnOk, IfOk};
+ghost use Rattle.std.specs.Prelude.{Box, ◌≡◌, ◌≤◌, ◌<◌, ◌-◌, ◌≢◌, ◌++◌, ◌∷◌, [], take, ℕ, suc, true, false};
+ghost use Rattle.std.specs.Prelude.{length, slice_get, Some, None, vec_len, IfSome, OnOk, IfOk};
 ghost use Rattle.std.specs.Global.{Global};
 ghost use Rattle.run_evaluations.specs.declared.log.Logged.{Logged};
 ghost use Rattle.run_evaluations.specs.declared.log.Segment.{Segment};
@@ -141,7 +142,8 @@ impl Evaluations {
 
     // An event of the top segment touched these items.
     fn log_at_top(&mut self, node: u32, kind: Kind, items: &[Item]) -> Result<(), NoMemory>
-        ensures kept { OnOk result (IsKept self.old → (last : ℕ) → length self.old.segments.items ≡ suc last → AllBelow self.old.levels.items last → IsKept self.new) }
+        ensures kept { OnOk result (IsKept self.old → (last : ℕ) → length self.old.segments.items ≡ suc last →
+            AllBelow self.old.levels.items last → IsKept self.new) }
         ensures told { OnOk result ((e : Logged) × (e.node ≡ node) × (e.kind ≡ kind) × IsTold self.old self.new e items.now) }
     {
         self.add_to_top(items)?;

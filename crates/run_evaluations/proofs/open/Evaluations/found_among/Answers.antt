@@ -11,12 +11,16 @@ use Rattle.run_evaluations.proofs.open.Evaluations.found_among.Goals as goal
 pub loop-i-preserved : goal.loop-i-preserved
 loop-i-preserved c = record {
   conflict = c.in_ok-best.ensures.conflict;
-  none = rise_none (λ i. NoClash Any c.args.under.map.now (event_has c.args.self.now.items.items (slice_get c.args.self.now.events.items c.args.event)) (loose_has c.args.self.now.events.items c.args.self.now.items.items c.args.self.now.loose.items i)) c.args.best c.loop-i.best _ c.args.loose c.loop-i.i
+  none = rise_none (λ i. NoClash Any c.args.under.map.now (event_has c.args.self.now.items.items (slice_get c.args.self.now.events.items c.args.event))
+      (loose_has c.args.self.now.events.items c.args.self.now.items.items c.args.self.now.loose.items i)) c.args.best c.loop-i.best _ c.args.loose c.loop-i.i
       c.in_ok-best.ensures.none c.loop-i.invariant.none;
 }
 
 pub returns-clause-none : goal.returns-clause-none
 returns-clause-none c = λ e.
     let past = same_le _ _ (c.len-i-end.ensures ∙ c.args.self.now.loose.ok.0) in
-    let n = c.loop-i.invariant.none e in
-    (n.0, loose_end c.args.under.map.now c.args.self.now.events.items c.args.self.now.items.items c.args.self.now.loose.items c.args.loose c.loop-i.i (event_has c.args.self.now.items.items (slice_get c.args.self.now.events.items c.args.event)) (omega (arith, past, c.loop-i-test.false)) n.1)
+    let n = c.loop-i.invariant.none e in (
+      n.0,
+      loose_end c.args.under.map.now c.args.self.now.events.items c.args.self.now.items.items c.args.self.now.loose.items c.args.loose c.loop-i.i
+          (event_has c.args.self.now.items.items (slice_get c.args.self.now.events.items c.args.event)) (omega (arith, past, c.loop-i-test.false)) n.1,
+    )

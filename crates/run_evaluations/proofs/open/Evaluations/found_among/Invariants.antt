@@ -10,5 +10,6 @@ use Rattle.run_evaluations.proofs.open.Evaluations.found_among.Given as goal
 abbrev pub invariant-loop-i : goal.invariant-loop-i
 invariant-loop-i l = record {
   conflict : ItemsConflict l.best;
-  none : l.best ≡ None → (l.fn.best ≡ None) × ((i : ℕ) → i < l.i → l.loose ≤ i → NoClash Any l.under.map.now (event_has l.self.items.items (slice_get l.self.events.items l.event)) (loose_has l.self.events.items l.self.items.items l.self.loose.items i));
+  none : l.best ≡ None → (l.fn.best ≡ None) × ((i : ℕ) → i < l.i → l.loose ≤ i → NoClash Any l.under.map.now
+      (event_has l.self.items.items (slice_get l.self.events.items l.event)) (loose_has l.self.events.items l.self.items.items l.self.loose.items i));
 }

@@ -8,7 +8,8 @@ use Rattle.run_evaluations.proofs.open.Evaluations.found_below.Goals as goal
 pub loop-at-preserved : goal.loop-at-preserved
 loop-at-preserved c = record {
   conflict = c.in_ok-found.ensures.conflict;
-  none = λ kept. rise_plain (λ k. NoLoose c.args.under.map.now c.args.self.now.events.items c.args.self.now.items.items c.args.self.now.loose.items c.args.loose (event_has c.args.self.now.items.items (slice_get c.args.self.now.events.items k))) c.loop-at.found _ c.args.own c.loop-at.at
+  none = λ kept. rise_plain (λ k. NoLoose c.args.under.map.now c.args.self.now.events.items c.args.self.now.items.items c.args.self.now.loose.items
+      c.args.loose (event_has c.args.self.now.items.items (slice_get c.args.self.now.events.items k))) c.loop-at.found _ c.args.own c.loop-at.at
       (c.in_ok-found.ensures.none kept) (c.loop-at.invariant.none kept);
 }
 

@@ -13,4 +13,5 @@ returns-clause-kept c = λ w.
     c.take_only-foot.ensures.others c.join.ensures.rest
     c.join.ensures.joined (c.operands-at.ensures.below w) (omega (arith, c.args.self.now.segments.ok.0, c.len.ensures, c.if-at-len.false))
     (λ f h. let r = c.take_only-foot.ensures.given f (sym c.join.ensures.foot ∙ h) in
-    only_spreads c.args.self.now.segments.items c.args.self.now.events.items c.args.self.now.items.items c.args.self.now.large.items c.args.self.now.levels.items w c.operands-at.result f r.0 r.1) w
+    only_spreads c.args.self.now.segments.items c.args.self.now.events.items c.args.self.now.items.items c.args.self.now.large.items
+    c.args.self.now.levels.items w c.operands-at.result f r.0 r.1) w

@@ -26,7 +26,8 @@ returns-then-all_harmless-clause-whole c = λ kept no f h. not_none _ f _ c.take
 pub returns-then-are_few-clause-feet : goal.returns-then-are_few-clause-feet
 returns-then-are_few-clause-feet c = λ kept.
     let t = c.take_foot-then-are_few.ensures.taken in
-    feet_lost c.args.self.now.segments.items c.take_foot-then-are_few.new.self.segments.items c.args.self.now.events.items c.args.self.now.items.items c.args.at
+    feet_lost c.args.self.now.segments.items c.take_foot-then-are_few.new.self.segments.items c.args.self.now.events.items c.args.self.now.items.items
+    c.args.at
     (loses_more c.args.self.now.segments.items c.args.self.now.segments.items c.take_foot-then-are_few.new.self.segments.items c.args.at
     (loses_none c.args.self.now.segments.items) t.gone t.others)
 

@@ -8,5 +8,6 @@ returns-in-Some c = λ h w.
     let b = c.base.ensures in (
       length c.args.self.now.segments.items - 1,
       omega (arith, n, b, c.if-len-base.false),
-      λ d x k. let r = base_below c.args.self.now.segments.items c.args.self.now.events.items c.args.self.now.items.items c.args.self.now.large.items c.args.self.now.levels.items w d x k in omega (arith, r, n, b, c.if-len-base.false),
+      λ d x k. let r = base_below c.args.self.now.segments.items c.args.self.now.events.items c.args.self.now.items.items c.args.self.now.large.items
+          c.args.self.now.levels.items w d x k in omega (arith, r, n, b, c.if-len-base.false),
     )

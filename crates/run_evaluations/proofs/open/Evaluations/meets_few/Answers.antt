@@ -11,4 +11,5 @@ loop-i-preserved c = below_more _ _ c.loop-i.invariant (λ le. c.in_ok-meets_lis
 pub returns : goal.returns
 returns c = λ no.
     let past = same_le _ _ (c.len-i-end.ensures ∙ c.args.self.now.loose.ok.0) in
-    loose_end c.args.map.now c.args.self.now.events.items c.args.self.now.items.items c.args.self.now.loose.items c.args.loose c.loop-i.i (event_has c.args.self.now.items.items (slice_get c.args.self.now.events.items c.args.at)) (omega (arith, past, c.loop-i-test.false)) c.loop-i.invariant
+    loose_end c.args.map.now c.args.self.now.events.items c.args.self.now.items.items c.args.self.now.loose.items c.args.loose c.loop-i.i
+    (event_has c.args.self.now.items.items (slice_get c.args.self.now.events.items c.args.at)) (omega (arith, past, c.loop-i-test.false)) c.loop-i.invariant

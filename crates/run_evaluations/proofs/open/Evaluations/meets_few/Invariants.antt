@@ -7,4 +7,5 @@ use Rattle.run_evaluations.specs.Loose.{loose_has}
 use Rattle.run_evaluations.proofs.open.Evaluations.meets_few.Given as goal
 
 abbrev pub invariant-loop-i : goal.invariant-loop-i
-invariant-loop-i l = (i : ℕ) → i < l.i → l.loose ≤ i → NoClash Any l.map (event_has l.self.items.items (slice_get l.self.events.items l.at)) (loose_has l.self.events.items l.self.items.items l.self.loose.items i)
+invariant-loop-i l = (i : ℕ) → i < l.i → l.loose ≤ i → NoClash Any l.map (event_has l.self.items.items (slice_get l.self.events.items l.at))
+    (loose_has l.self.events.items l.self.items.items l.self.loose.items i)

@@ -15,7 +15,8 @@ returns-then-saturating_add-len-clause-none c = λ w open_rule.
     ok_none (NoneBetween Any c.args.map.now c.args.self.now.segments.items c.args.self.now.events.items c.args.self.now.items.items c.operands-at.result)
     (NoneOfOperands c.args.map.now c.args.self.now c.args.node) c.several_done.result
     (of_operands c.args.map.now c.args.self.now c.args.node c.operands-at.result c.operands-at.ensures.least)
-    (c.several_done.ensures.none open_rule (kept_from c.args.self.now.segments.items c.args.self.now.events.items c.args.self.now.items.items c.args.self.now.large.items c.args.self.now.levels.items w c.operands-at.result))
+    (c.several_done.ensures.none open_rule (kept_from c.args.self.now.segments.items c.args.self.now.events.items c.args.self.now.items.items
+    c.args.self.now.large.items c.args.self.now.levels.items w c.operands-at.result))
 
 pub returns-clause-none : goal.returns-clause-none
 returns-clause-none c = λ w open_rule.

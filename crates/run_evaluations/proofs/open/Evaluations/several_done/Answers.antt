@@ -29,12 +29,14 @@ returns-then-not-is_unsequenced-clause-kept c = λ w below.
 pub returns-in_err-has_conflict-clause-kept : goal.returns-in_err-has_conflict-clause-kept
 returns-in_err-has_conflict-clause-kept c = λ w below.
     kept_feet c.args.self.now c.has_conflict.new.self c.args.at c.has_conflict.ensures.same
-    (c.has_conflict.ensures.feet (kept_from c.args.self.now.segments.items c.args.self.now.events.items c.args.self.now.items.items c.args.self.now.large.items c.args.self.now.levels.items w c.args.at)) w
+    (c.has_conflict.ensures.feet (kept_from c.args.self.now.segments.items c.args.self.now.events.items c.args.self.now.items.items
+    c.args.self.now.large.items c.args.self.now.levels.items w c.args.at)) w
 
 pub returns-then-branch-clause-kept : goal.returns-then-branch-clause-kept
 returns-then-branch-clause-kept c = λ w below.
     kept_feet c.args.self.now c.has_conflict.new.self c.args.at c.has_conflict.ensures.same
-    (c.has_conflict.ensures.feet (kept_from c.args.self.now.segments.items c.args.self.now.events.items c.args.self.now.items.items c.args.self.now.large.items c.args.self.now.levels.items w c.args.at)) w
+    (c.has_conflict.ensures.feet (kept_from c.args.self.now.segments.items c.args.self.now.events.items c.args.self.now.items.items
+    c.args.self.now.large.items c.args.self.now.levels.items w c.args.at)) w
 
 pub join-requires-2 : goal.join-requires-2
 join-requires-2 c =
@@ -44,7 +46,8 @@ join-requires-2 c =
 
 pub returns-clause-kept : goal.returns-clause-kept
 returns-clause-kept c = λ w below.
-    let k = kept_from c.args.self.now.segments.items c.args.self.now.events.items c.args.self.now.items.items c.args.self.now.large.items c.args.self.now.levels.items w c.args.at in
+    let k = kept_from c.args.self.now.segments.items c.args.self.now.events.items c.args.self.now.items.items c.args.self.now.large.items
+    c.args.self.now.levels.items w c.args.at in
     kept_several c.args.self.now c.has_conflict.new.self c.take_foot-foot.new.self c.join-2.new.self c.args.at c.has_conflict.ensures.same
     (c.has_conflict.ensures.feet k) c.take_foot-foot.ensures.taken c.join-2.ensures.rest c.join-2.ensures.joined below
     (omega (arith, c.requires, c.args.self.now.segments.ok.0))
