@@ -168,13 +168,12 @@ impl Follower {
         Ok(())
     }
 
-    // Where a block is entered with the object that is sought, the top frame is to leave that block first.
+    // Sees a control step, which may have entered the block of the object that is sought.
     fn see_entered(&mut self, machine: &Machine, sought: Sought) {
         if let ObjName::Auto { decl, .. } = sought.object
             && machine.items.items().contains(&Item::Born(sought.object))
-            && let Some(block) = machine.work.block()
         {
-            self.trail.named = named_in(machine, block.number, decl);
+            self.trail.named = named_in(machine, machine.entered, decl);
         }
     }
 
@@ -203,10 +202,10 @@ impl Follower {
         event: Option<Event>,
         asked: Option<u128>,
     ) -> Result<(), NoMemory> {
-        if let Some(sought) = self.sought {
-            self.see_entered(machine, sought);
-        }
         let Some(event) = event else {
+            if let Some(sought) = self.sought {
+                self.see_entered(machine, sought);
+            }
             return Ok(());
         };
         match touch_by(machine, event) {

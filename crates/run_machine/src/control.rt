@@ -77,6 +77,7 @@ impl<'p, 'c> Machine<'p, 'c> {
 
     // A block is entered: its objects are created in order, and the first take the arguments.
     fn enter(&mut self, number: u32) -> Result<Pick, Halt> {
+        self.entered = number;
         self.top.turn = self.top.turn.saturating_add(1);
         let block = self.block(number)?;
         let reached = total(self.memory.created(), block.created);

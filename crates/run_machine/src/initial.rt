@@ -189,6 +189,7 @@ fn assembled<'p, 'c>(
         top,
         work,
         jumps,
+        entered: 0,
         depth: 1,
         begun: Vec::new(alloc),
         strayed: Vec::new(alloc),

@@ -71,6 +71,8 @@ pub struct Machine<'p, 'c> {
     // What is left to do in each open frame, and where jumps go.
     pub work: Control<'c>,
     pub jumps: Jumps<'c>,
+    // The number in its function of the block that was entered last.
+    pub entered: u32,
     // How many frames of functions are open.
     pub depth: u64,
     // For each open frame its full expression, and what is done in it where its order isn't the canonical one.
