@@ -257,7 +257,8 @@ impl<'p, 'c> Machine<'p, 'c> {
 
     // The case that the value of a `switch` statement's test names comes next.
     fn select(&mut self, switch: u32, operand: Operand) -> Result<(), NoMemory> {
-        let target = self.jumps.case(switch, self.integer(operand))?;
+        let value = self.integer(operand);
+        let target = self.jumps.case(switch, value)?;
         self.work.select(&self.jumps.links, target)
     }
 }
