@@ -3,7 +3,7 @@
 use crate::moment::put_moment;
 use crate::nulls::asked_next;
 use crate::replay::{event_of, step, taken};
-use crate::trail::{Follower, block_entered};
+use crate::trail::Follower;
 use addr_map::Mode;
 use c_typed::Place;
 use core_ir::CoreProgram;
@@ -128,12 +128,11 @@ fn follow_trail(
     follower: &mut Follower,
 ) -> Result<(), NoMemory> {
     for _ in 0..picks {
-        let entered = block_entered(machine);
         let asked = asked_next(machine);
         let Some(pick) = step(machine, frames)? else {
             return Ok(());
         };
-        follower.see(machine, event_of(pick), entered, asked)?;
+        follower.see(machine, event_of(pick), asked)?;
     }
     Ok(())
 }
