@@ -1,9 +1,8 @@
 -- What frames keep of what they touched.
-use Rattle.std.proofs.Common.{◌≡◌, ◌⊎◌, inl, inr, ⊎_elim, Bool, true, false, ◌&&◌, ◌||◌, not, refl, sym, ap, ◌∙◌}
+use Rattle.std.proofs.Common.{◌≡◌, ◌⊎◌, inl, inr, ⊎_elim, Bool, true, false, ◌&&◌, ◌||◌, not, refl, ap, ◌∙◌}
 use Rattle.ub_base.specs.declared.names.ObjName.{ObjName}
 use Rattle.ub_base.specs.declared.names.Item.{Item}
 use Rattle.ub_base.specs.declared.names.Item.TheVariants.{Dies}
-use Rattle.ub_base.specs.Names.{same_object}
 use Rattle.ub_base.proofs.NameLemmas.{same_object_refl}
 use Rattle.footprint.specs.declared.foot.Foot.{Foot}
 use Rattle.footprint.specs.Holds.{holds, stands_for, is_forgotten}

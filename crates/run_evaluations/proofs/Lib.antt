@@ -1,1 +1,5 @@
+pub mod BetweenLemmas
+pub mod ClashLemmas
 pub mod KeepLemmas
+pub mod StandLemmas
+pub mod TouchedLemmas

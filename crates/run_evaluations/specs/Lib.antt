@@ -1,2 +1,4 @@
 pub mod Bodies
+pub mod Clashes
 pub mod FoundItems
+pub mod Touched

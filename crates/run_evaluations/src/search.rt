@@ -1,10 +1,15 @@
 // The least conflicting pair of events, sought once where a conflict is known.
-ghost use Rattle.std.specs.Prelude.{◌≡◌, ◌≢◌, IfOk, IfSome, true};
+ghost use Rattle.std.specs.Prelude.{◌≡◌, ◌≢◌, ◌⊎◌, ◌≤◌, ◌-◌, ◌&&◌, ◌||◌, ◌↔◌, suc, length, IfOk, IfSome, IfNone, OnOk, IsTrue, None, Some, true, slice_get};
 ghost use Rattle.ub_base.specs.declared.clause.Kind.TheVariants.{Body};
+ghost use Rattle.ub_base.specs.declared.names.Item.{Item};
 ghost use Rattle.addr_map.specs.Conflict.{is_access};
 ghost use Rattle.footprint.specs.Conflicts.{MayConflict};
-ghost use Rattle.run_evaluations.specs.declared.search.Sought.TheVariants.{Races};
+ghost use Rattle.run_evaluations.specs.declared.search.Sought.TheVariants.{Any, Races};
+ghost use Rattle.footprint.specs.Holds.{holds};
+ghost use Rattle.footprint.specs.Least.{IsLeast};
+ghost use Rattle.run_evaluations.specs.Clashes.{Clash, SomeClash, NoClash, AreSorted, NoneBehind, NoneBetween, operand_has, behind_has};
 ghost use Rattle.run_evaluations.specs.FoundItems.{ItemsConflict};
+ghost use Rattle.run_evaluations.specs.Touched.{some_stands, touched, event_has, is_sought, range_has, start_of};
 
 use crate::found::{Found, first_of};
 use crate::open::{Evaluations, named};
@@ -26,10 +31,31 @@ pub enum Sought {
     Any,
 }
 
-fn meet(under: Under<'_>, sought: Sought, a: &Foot, b: &Foot) -> bool {
+fn meet(under: Under<'_>, sought: Sought, a: &Foot, b: &Foot) -> bool
+    ensures { IsTrue result ↔ SomeClash sought under.entry.map.now (holds a.now) (holds b.now) }
+{
     match sought {
         Sought::Races => races(a, b),
         Sought::Any => conflicts(a, b, under.map),
+    }
+}
+
+// This event or operand, if what it touched conflicts with the rest, or else the best one so far.
+fn nearer(
+    under: Under<'_>,
+    sought: Sought,
+    one: usize,
+    foot: &Foot,
+    rest: &Foot,
+    best: Option<usize>,
+) -> Option<usize>
+    ensures none { result ≡ None → (best ≡ None) × NoClash sought under.entry.map.now (holds foot.now) (holds rest.now) }
+    ensures some { (result ≡ best) ⊎ ((result ≡ Some one) × SomeClash sought under.entry.map.now (holds foot.now) (holds rest.now)) }
+{
+    if meet(under, sought, foot, rest) {
+        Some(one)
+    } else {
+        best
     }
 }
 
@@ -37,6 +63,7 @@ fn meet(under: Under<'_>, sought: Sought, a: &Foot, b: &Foot) -> bool {
 pub fn least_items(under: Under<'_>, sought: Sought, a: &Foot, b: &Foot) -> Option<(Item, Item)>
     ensures may { IfSome result (λ p. MayConflict p.0 p.1) }
     ensures races { sought ≡ Races → IfSome result (λ p. (is_access p.0 ≡ true) × (is_access p.1 ≡ true)) }
+    ensures least { IsLeast under.entry.frames.now (Clash sought under.entry.map.now (holds a.now) (holds b.now)) result }
 {
     match sought {
         Sought::Races => access_pair(under.frames, a, b),
@@ -56,21 +83,22 @@ fn is_race(sought: Sought, a: Kind, b: Kind) -> bool
 
 impl Evaluations {
     /// The set of the event's items.
-    pub(crate) fn event_foot(&self, at: usize) -> Result<Foot, NoMemory> {
+    pub(crate) fn event_foot(&self, at: usize) -> Result<Foot, NoMemory>
+        ensures { IfOk result (λ f. (i : Item) → holds f i ≡ event_has self.now.items.items (slice_get self.now.events.items at) i) }
+    {
         let mut foot = Foot::new(self.alloc);
         self.add_event(&mut foot, at)?;
         Ok(foot)
     }
 
-    pub(crate) fn add_event(&self, foot: &mut Foot, at: usize) -> Result<(), NoMemory> {
+    pub(crate) fn add_event(&self, foot: &mut Foot, at: usize) -> Result<(), NoMemory>
+        ensures { OnOk result
+            ((i : Item) → holds foot.new i ≡ (holds foot.old i || event_has self.now.items.items (slice_get self.now.events.items at) i)) }
+    {
         let Some(event) = self.events.get(at) else {
             return Ok(());
         };
-        for i in event.from..event.to {
-            if let Some(item) = self.items.get(i) {
-                foot.add(*item)?;
-            }
-        }
+        add_range(&self.items, event.from, event.to, foot)?;
         if let Some(body) = &event.foot {
             foot.merge(body)?;
         }
@@ -78,17 +106,32 @@ impl Evaluations {
     }
 
     // The set of the items of the events of a range; of no body, where races are sought.
-    fn foot_of_range(&self, sought: Sought, from: usize, to: usize) -> Result<Foot, NoMemory> {
+    fn foot_of_range(&self, sought: Sought, from: usize, to: usize) -> Result<Foot, NoMemory>
+        ensures { IfOk result (λ f. (i : Item) → holds f i ≡ range_has self.now.events.items self.now.items.items sought from (to - from) i) }
+    {
         let mut foot = Foot::new(self.alloc);
         for at in from..to {
-            if self.is_sought(sought, at) {
-                self.add_event(&mut foot, at)?;
-            }
+            self.add_sought(sought, at, &mut foot)?;
         }
         Ok(foot)
     }
 
-    fn is_sought(&self, sought: Sought, at: usize) -> bool {
+    // Adds the items of the event, if it is sought.
+    fn add_sought(&self, sought: Sought, at: usize, foot: &mut Foot) -> Result<(), NoMemory>
+        ensures { OnOk result
+            ((i : Item) → holds foot.new i ≡ (holds foot.old i || (is_sought sought (slice_get self.now.events.items at) &&
+            event_has self.now.items.items (slice_get self.now.events.items at) i))) }
+    {
+        if self.is_sought(sought, at) {
+            self.add_event(foot, at)
+        } else {
+            Ok(())
+        }
+    }
+
+    fn is_sought(&self, sought: Sought, at: usize) -> bool
+        ensures { result ≡ is_sought sought (slice_get self.now.events.items at) }
+    {
         match self.events.get(at) {
             Some(event) => sought == Sought::Any || event.kind != Kind::Body,
             None => false,
@@ -101,13 +144,14 @@ impl Evaluations {
         under: Under<'_>,
         at: usize,
     ) -> Result<Option<Found>, NoMemory>
-        ensures { IfOk result ItemsConflict }
+        ensures conflict { IfOk result ItemsConflict }
+        ensures none { AreSorted self.now.segments.items self.now.events.items at → IfOk result
+            (λ r. IfNone r (NoneBetween Any under.entry.map.now self.now.segments.items self.now.events.items self.now.items.items at)) }
     {
-        let race = self.least_between(under, Sought::Races, at)?;
-        if race.is_some() {
-            return Ok(race);
+        match self.least_between(under, Sought::Races, at)? {
+            Some(race) => Ok(Some(race)),
+            None => self.least_between(under, Sought::Any, at),
         }
-        self.least_between(under, Sought::Any, at)
     }
 
     // The least pair of events of two operands that conflict: the first event stands in the first operand that
@@ -118,28 +162,58 @@ impl Evaluations {
         sought: Sought,
         at: usize,
     ) -> Result<Option<Found>, NoMemory>
-        ensures { IfOk result ItemsConflict }
+        ensures conflict { IfOk result ItemsConflict }
+        ensures none { AreSorted self.now.segments.items self.now.events.items at → IfOk result
+            (λ r. IfNone r (NoneBetween sought under.entry.map.now self.now.segments.items self.now.events.items self.now.items.items at)) }
     {
-        let Some(group) = self.first_group(under, sought, at)? else {
+        match self.first_group(under, sought, at)? {
+            Some(group) => self.least_from(under, sought, group),
+            None => Ok(None),
+        }
+    }
+
+    // The least pair of an event of this segment and one behind it that conflict.
+    fn least_from(
+        &self,
+        under: Under<'_>,
+        sought: Sought,
+        group: usize,
+    ) -> Result<Option<Found>, NoMemory>
+        ensures conflict { IfOk result ItemsConflict }
+        ensures none { IfOk result (λ r. IfNone r
+            (NoClash sought under.entry.map.now (operand_has sought self.now.segments.items self.now.events.items self.now.items.items group)
+            (behind_has sought self.now.segments.items self.now.events.items self.now.items.items group))) }
+    {
+        let behind = (self.segment_end(group), self.events.len());
+        let rest = self.foot_of_range(sought, behind.0, behind.1)?;
+        match self.least_meeting(under, sought, (self.segment_start(group), behind.0), &rest)? {
+            Some(event) => self.least_against(under, sought, event, behind),
+            None => Ok(None),
+        }
+    }
+
+    // The pair of this event and the least one of the range that it conflicts with.
+    fn least_against(
+        &self,
+        under: Under<'_>,
+        sought: Sought,
+        event: usize,
+        range: (usize, usize),
+    ) -> Result<Option<Found>, NoMemory>
+        ensures conflict { IfOk result ItemsConflict }
+        ensures none { is_sought sought (slice_get self.now.events.items event) ≡ true → IfOk result (λ r. IfNone r
+            (NoClash sought under.entry.map.now (event_has self.now.items.items (slice_get self.now.events.items event))
+            (range_has self.now.events.items self.now.items.items sought range.0 (range.1 - range.0)))) }
+    {
+        let foot = self.event_foot(event)?;
+        let Some(other) = self.least_meeting(under, sought, range, &foot)? else {
             return Ok(None);
         };
-        let from = self.segment_start(group);
-        let behind = self.segment_start(group.saturating_add(1));
-        let rest = self.foot_of_range(sought, behind, self.events.len())?;
-        let mut last = None;
-        for _ in from..behind {
-            let Some(event) = self.next_event(from, behind, last) else {
-                return Ok(None);
-            };
-            if self.is_sought(sought, event) {
-                let foot = self.event_foot(event)?;
-                if meet(under, sought, &foot, &rest) {
-                    return self.least_against(under, sought, event, &foot, behind);
-                }
-            }
-            last = Some(event);
+        let other_foot = self.event_foot(other)?;
+        match least_items(under, sought, &foot, &other_foot) {
+            Some(items) => Ok(self.found(sought, event, other, items)),
+            None => Ok(None),
         }
-        Ok(None)
     }
 
     // The first of these segments that conflicts with those behind it.
@@ -148,84 +222,105 @@ impl Evaluations {
         under: Under<'_>,
         sought: Sought,
         at: usize,
-    ) -> Result<Option<usize>, NoMemory> {
+    ) -> Result<Option<usize>, NoMemory>
+        ensures none { AreSorted self.now.segments.items self.now.events.items at → IfOk result
+            (λ r. IfNone r (NoneBetween sought under.entry.map.now self.now.segments.items self.now.events.items self.now.items.items at)) }
+        ensures some { AreSorted self.now.segments.items self.now.events.items at → IfOk result (λ r. IfSome r
+            (λ g. SomeClash sought under.entry.map.now (operand_has sought self.now.segments.items self.now.events.items self.now.items.items g)
+            (behind_has sought self.now.segments.items self.now.events.items self.now.items.items g))) }
+    {
         let mut best = None;
         let mut rest = Foot::new(self.alloc);
         for group in (at..self.segments.len()).rev() {
-            let from = self.segment_start(group);
-            let to = self.segment_start(group.saturating_add(1));
+            let (from, to) = (self.segment_start(group), self.segment_end(group));
             let foot = self.foot_of_range(sought, from, to)?;
-            if meet(under, sought, &foot, &rest) {
-                best = Some(group);
-            }
+            best = nearer(under, sought, group, &foot, &rest, best);
             rest.absorb(foot)?;
         }
         Ok(best)
     }
 
     // Where the events of a segment begin; behind the last one, where the events end.
-    pub(crate) fn segment_start(&self, group: usize) -> usize {
+    pub(crate) fn segment_start(&self, group: usize) -> usize
+        ensures { result ≡ start_of self.now.segments.items self.now.events.items group }
+    {
         match self.segments.get(group) {
             Some(segment) => segment.first,
             None => self.events.len(),
         }
     }
 
-    // The least event of the range, by node and kind, that is greater than this one.
-    fn next_event(&self, from: usize, to: usize, last: Option<usize>) -> Option<usize> {
-        let mut best = None;
-        for at in from..to {
-            if self.is_less(last, Some(at)) && (best.is_none() || self.is_less(Some(at), best)) {
-                best = Some(at);
-            }
-        }
-        best
+    // Where the events behind a segment begin.
+    pub(crate) fn segment_end(&self, group: usize) -> usize
+        ensures { result ≡ start_of self.now.segments.items self.now.events.items (suc group) }
+    {
+        self.segment_start(group.saturating_add(1))
     }
 
-    fn is_less(&self, a: Option<usize>, b: Option<usize>) -> bool {
-        let Some(a) = a else {
+    // The least event of a range, by node and kind, of which an item meets one of the set.
+    fn least_meeting(
+        &self,
+        under: Under<'_>,
+        sought: Sought,
+        range: (usize, usize),
+        foot: &Foot,
+    ) -> Result<Option<usize>, NoMemory>
+        ensures none { IfOk result
+            (λ r. IfNone r
+            (NoClash sought under.entry.map.now (range_has self.now.events.items self.now.items.items sought range.0 (range.1 - range.0)) (holds foot.now))) }
+        ensures some { IfOk result
+            (λ r. IfSome r
+            (λ at. (is_sought sought (slice_get self.now.events.items at) ≡ true) ×
+            SomeClash sought under.entry.map.now (event_has self.now.items.items (slice_get self.now.events.items at)) (holds foot.now))) }
+    {
+        let mut best = None;
+        for at in range.0..range.1 {
+            best = self.lesser_meeting(under, sought, at, best, foot)?;
+        }
+        Ok(best)
+    }
+
+    // This event, where it is sought, meets the set and comes before the best one so far, which else stays.
+    fn lesser_meeting(
+        &self,
+        under: Under<'_>,
+        sought: Sought,
+        at: usize,
+        best: Option<usize>,
+        foot: &Foot,
+    ) -> Result<Option<usize>, NoMemory>
+        ensures none { IfOk result
+            (λ r. r ≡ None → (best ≡ None) × (is_sought sought (slice_get self.now.events.items at) ≡ true →
+            NoClash sought under.entry.map.now (event_has self.now.items.items (slice_get self.now.events.items at)) (holds foot.now))) }
+        ensures some { IfOk result
+            (λ r. (r ≡ best) ⊎ ((r ≡ Some at) × (is_sought sought (slice_get self.now.events.items at) ≡ true) ×
+            SomeClash sought under.entry.map.now (event_has self.now.items.items (slice_get self.now.events.items at)) (holds foot.now))) }
+    {
+        if !self.is_sought(sought, at) || !self.comes_before(at, best) {
+            return Ok(best);
+        }
+        let own = self.event_foot(at)?;
+        Ok(nearer(under, sought, at, &own, foot, best))
+    }
+
+    // Whether the event comes before this one, by node and kind, or there is none.
+    fn comes_before(&self, at: usize, best: Option<usize>) -> bool
+        ensures { best ≡ None → result ≡ true }
+    {
+        let Some(best) = best else {
             return true;
         };
-        let Some(b) = b else {
-            return false;
-        };
-        match (self.events.get(a), self.events.get(b)) {
+        match (self.events.get(at), self.events.get(best)) {
             (Some(a), Some(b)) => a.node < b.node || (a.node == b.node && a.kind < b.kind),
             _ => false,
         }
     }
 
-    // The pair of this event and the least one from there on that it conflicts with.
-    fn least_against(
-        &self,
-        under: Under<'_>,
-        sought: Sought,
-        event: usize,
-        foot: &Foot,
-        behind: usize,
-    ) -> Result<Option<Found>, NoMemory>
-        ensures { IfOk result ItemsConflict }
-    {
-        let mut last = None;
-        for _ in behind..self.events.len() {
-            let Some(other) = self.next_event(behind, self.events.len(), last) else {
-                return Ok(None);
-            };
-            if self.is_sought(sought, other) {
-                let other_foot = self.event_foot(other)?;
-                if let Some(items) = least_items(under, sought, foot, &other_foot) {
-                    return Ok(self.found(sought, event, other, items));
-                }
-            }
-            last = Some(other);
-        }
-        Ok(None)
-    }
-
     fn found(&self, sought: Sought, a: usize, b: usize, items: (Item, Item)) -> Option<Found>
         requires may { MayConflict items.0 items.1 }
         requires races { sought ≡ Races → (is_access items.0 ≡ true) × (is_access items.1 ≡ true) }
-        ensures { ItemsConflict result }
+        ensures conflict { ItemsConflict result }
+        ensures none { IfNone result ((slice_get self.now.events.items a ≡ None) ⊎ (slice_get self.now.events.items b ≡ None)) }
     {
         let place = self.place();
         match (self.events.get(a), self.events.get(b)) {
@@ -246,7 +341,11 @@ impl Evaluations {
         a: usize,
         b: usize,
     ) -> Result<Option<Found>, NoMemory>
-        ensures { IfOk result ItemsConflict }
+        ensures conflict { IfOk result ItemsConflict }
+        ensures none { IfOk result
+            (λ r. IfNone r
+            (NoClash Any under.entry.map.now (event_has self.now.items.items (slice_get self.now.events.items a))
+            (event_has self.now.items.items (slice_get self.now.events.items b)))) }
     {
         let foot_a = self.event_foot(a)?;
         let foot_b = self.event_foot(b)?;
@@ -278,5 +377,25 @@ impl Evaluations {
             }
         }
         Ok(best)
+    }
+}
+
+// Adds the items of a list from one place up to another.
+fn add_range(items: &[Item], from: usize, to: usize, foot: &mut Foot) -> Result<(), NoMemory>
+    ensures { OnOk result ((i : Item) → holds foot.new i ≡ (holds foot.old i || touched items.now from (to - from) i)) }
+{
+    for at in from..to {
+        add_at(items, at, foot)?;
+    }
+    Ok(())
+}
+
+// Adds an item of a list, if there is one at this place.
+fn add_at(items: &[Item], at: usize, foot: &mut Foot) -> Result<(), NoMemory>
+    ensures { OnOk result ((i : Item) → holds foot.new i ≡ (holds foot.old i || some_stands (slice_get items.now at) i)) }
+{
+    match items.get(at) {
+        Some(item) => foot.add(*item),
+        None => Ok(()),
     }
 }

@@ -1,0 +1,12 @@
+-- The set has what the events so far have.
+use Rattle.std.specs.Prelude.{◌≡◌, ◌≤◌, ◌-◌, max}
+use Rattle.ub_base.specs.declared.names.Item.{Item}
+use Rattle.footprint.specs.Holds.{holds}
+use Rattle.run_evaluations.specs.Touched.{range_has}
+use Rattle.run_evaluations.proofs.open.Evaluations.foot_of_range.Given as goal
+
+abbrev pub invariant-loop-at : goal.invariant-loop-at
+invariant-loop-at l = record {
+  bound : l.at ≤ max l.from l.to;
+  has : (j : Item) → holds l.foot j ≡ range_has l.self.events.items l.self.items.items l.sought l.from (l.at - l.from) j;
+}

@@ -1,0 +1,31 @@
+use Rattle.std.proofs.Common.{◌≡◌, true, subst, arith}
+use Rattle.std.specs.Prelude.{ℕ, IfNone, slice_get}
+use Rattle.footprint.specs.Holds.{holds}
+use Rattle.run_evaluations.specs.Clashes.{SomeClash, NoClash}
+use Rattle.run_evaluations.specs.Touched.{event_has, is_sought, range_has}
+use Rattle.run_evaluations.proofs.TouchedLemmas.{count_is}
+use Rattle.run_evaluations.proofs.ClashLemmas.{none_at_first, turn_none, turn_some}
+use Rattle.run_evaluations.proofs.open.Evaluations.least_meeting.Goals as goal
+
+pub loop-at-init : goal.loop-at-init
+loop-at-init c = record {
+  bound = omega arith;
+  none = none_at_first c.args.under.map.now c.args.self.now.events.items c.args.self.now.items.items c.args.sought c.args.range.0 (holds c.args.foot.now);
+  some = tt;
+}
+
+pub loop-at-preserved : goal.loop-at-preserved
+loop-at-preserved c = record {
+  bound = omega arith;
+  none = turn_none c.args.under.map.now c.args.self.now.events.items c.args.self.now.items.items c.args.sought c.args.range.0 c.loop-at.at
+      (holds c.args.foot.now) c.loop-at.best _ c.loop-at.auto.at c.in_ok-best.ensures.none c.loop-at.invariant.none;
+  some = turn_some (λ (k : ℕ). is_sought c.args.sought (slice_get c.args.self.now.events.items k) ≡ true)
+      (λ (k : ℕ). SomeClash c.args.sought c.args.under.map.now (event_has c.args.self.now.items.items (slice_get c.args.self.now.events.items k))
+      (holds c.args.foot.now)) c.loop-at.at c.loop-at.best _ c.in_ok-best.ensures.some c.loop-at.invariant.some;
+}
+
+pub returns-clause-none : goal.returns-clause-none
+returns-clause-none c = subst
+    (λ (n : ℕ). IfNone c.loop-at.best (NoClash c.args.sought c.args.under.map.now
+    (range_has c.args.self.now.events.items c.args.self.now.items.items c.args.sought c.args.range.0 n) (holds c.args.foot.now)))
+    (count_is c.args.range.0 c.args.range.1 c.loop-at.at c.loop-at.auto.at c.loop-at-test.false c.loop-at.invariant.bound) c.loop-at.invariant.none

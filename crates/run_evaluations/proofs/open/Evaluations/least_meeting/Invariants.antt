@@ -1,0 +1,15 @@
+-- No event so far meets the set, or the best one does.
+use Rattle.std.specs.Prelude.{◌≡◌, ◌≤◌, ◌-◌, max, true, IfNone, IfSome, slice_get}
+use Rattle.footprint.specs.Holds.{holds}
+use Rattle.run_evaluations.specs.Clashes.{SomeClash, NoClash}
+use Rattle.run_evaluations.specs.Touched.{event_has, is_sought, range_has}
+use Rattle.run_evaluations.proofs.open.Evaluations.least_meeting.Given as goal
+
+abbrev pub invariant-loop-at : goal.invariant-loop-at
+invariant-loop-at l = record {
+  bound : l.at ≤ max l.fn.range.0 l.fn.range.1;
+  none : IfNone l.best
+      (NoClash l.sought l.under.map.now (range_has l.self.events.items l.self.items.items l.sought l.fn.range.0 (l.at - l.fn.range.0)) (holds l.foot));
+  some : IfSome l.best (λ k. (is_sought l.sought (slice_get l.self.events.items k) ≡ true) ×
+      SomeClash l.sought l.under.map.now (event_has l.self.items.items (slice_get l.self.events.items k)) (holds l.foot));
+}
