@@ -8,7 +8,7 @@ use type_expressions::declarator::{Declared, copy, name_of};
 use type_expressions::expression::{declared, specified};
 use type_expressions::words::{Storage, Words};
 use type_initializers::{automatic, initialize};
-use type_operators::Reason;
+use type_reasons::Reason;
 use type_scope::{Linkage, Meaning, Source, State, TypeFault, copied_function};
 use ub_base::{Items, NoMemory};
 

@@ -13,7 +13,7 @@ use type_expressions::declarator::{Declared, assertion, is_name};
 use type_expressions::expression::{constant, declared, specified};
 use type_expressions::words::{Storage, Words};
 use type_initializers::initialize;
-use type_operators::Reason;
+use type_reasons::Reason;
 use type_program::{final_order, finished, is_main_type};
 use type_scope::{Definition, Linkage, Source, State, Task, TypeFault, copied_function};
 use ub_base::Items;

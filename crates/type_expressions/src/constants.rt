@@ -2,7 +2,9 @@
 
 use c_typed::{Node, Typed};
 use c_types::Ty;
-use type_operators::{Folded, Form, NoObjects, Operand, Reason, object_of, worth};
+use type_constants::{Folded, worth};
+use type_operands::{Form, Operand, object_of};
+use type_reasons::{NoObjects, Reason};
 
 // Whether the node is one of those that a constant expression doesn't have (6.6p3).
 fn is_evaluated(node: &Node) -> bool {

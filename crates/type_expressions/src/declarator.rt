@@ -8,7 +8,8 @@ use c_typed::Slot;
 use c_types::{FuncTy, Qual, Shared, Ty, copied_qual};
 use std::alloc::Global;
 use type_limits::is_within;
-use type_operators::{Form, Operand, Reason, qualified};
+use type_operands::{Form, Operand, qualified};
+use type_reasons::Reason;
 use type_scope::{Meaning, Source, State, TypeFault, placed};
 use ub_base::Items;
 

@@ -9,7 +9,9 @@ use c_ast::{
     Specs, TypeName, UnaryOp,
 };
 use c_types::Qual;
-use type_operators::{Operand, Reason, integer_constant};
+use type_constants::integer_constant;
+use type_operands::Operand;
+use type_reasons::Reason;
 use type_scope::{Meaning, Source, State, TypeFault};
 use type_values::enumerator;
 use ub_base::Items;

@@ -6,7 +6,8 @@ use c_lit::{LitFault, char_value, int_value, string_bytes};
 use c_typed::Node;
 use c_types::{IntKind, Qual, Shared, Ty};
 use std::alloc::Global;
-use type_operators::{Operand, Reason, integer, leaf, place, value};
+use type_operands::{Operand, integer, leaf, place, value};
+use type_reasons::Reason;
 use type_scope::{Source, State, TypeFault};
 use ub_base::Bytes;
 

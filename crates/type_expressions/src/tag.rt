@@ -5,7 +5,7 @@ use c_ast::{Base, Specs};
 use c_types::{Member, Qual, TagKind, Tags, Ty};
 use std::alloc::Global;
 use std::collections::BTreeSet;
-use type_operators::{Constants, Reason};
+use type_reasons::{Constants, Reason};
 use type_scope::{Source, State, TagMeaning, TypeFault};
 use ub_base::{Bytes, Items, NoMemory};
 

@@ -2,7 +2,7 @@
 
 use c_lex::Word;
 use c_types::{IntKind, Ty};
-use type_operators::Reason;
+use type_reasons::Reason;
 
 /// The storage class that a declaration names (6.7.1).
 #[derive(Clone, Copy, Debug, PartialEq, Eq)]

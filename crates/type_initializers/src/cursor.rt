@@ -2,7 +2,7 @@
 
 use c_types::{Ty, copied};
 use std::alloc::Global;
-use type_operators::Reason;
+use type_reasons::Reason;
 use type_scope::{Source, State, TypeFault};
 use ub_base::NoMemory;
 

@@ -10,7 +10,9 @@ use c_ast::{Expr, ExprNode, Init, InitEntry};
 use c_typed::{Constant, Content, Slot, Typed};
 use c_types::{Qual, Ty, copied};
 use type_expressions::expression::expression;
-use type_operators::{Reason, is_scalar, stored};
+use type_assignments::stored;
+use type_conversions::is_scalar;
+use type_reasons::Reason;
 use type_scope::{Source, State, TypeFault, placed_for};
 use ub_base::{Bytes, Items};
 

@@ -6,7 +6,9 @@ use crate::zeros::{Zeros, add_zeros, push_runs};
 use c_typed::{Constant, Node, Slot, Typed};
 use c_types::{Qual, Shared, Ty, copied, copied_qual};
 use std::alloc::Global;
-use type_operators::{Operand, Reason, leaf, stored, with_child};
+use type_assignments::stored;
+use type_operands::{Operand, leaf, with_child};
+use type_reasons::Reason;
 use type_scope::{State, TypeFault, placed, placed_for};
 use ub_base::{Boxed, Items, NoMemory};
 

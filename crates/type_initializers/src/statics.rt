@@ -5,7 +5,10 @@ use c_typed::{Content, Target};
 use c_types::{IntKind, Ty};
 use std::alloc::Global;
 use type_expressions::constants::valueless;
-use type_operators::{Folded, Operand, Reason, as_if_assigned, worth};
+use type_constants::{Folded, worth};
+use type_conversions::as_if_assigned;
+use type_operands::Operand;
+use type_reasons::Reason;
 use type_scope::{Mark, State, TypeFault, placed_for};
 use ub_base::{Bytes, NoMemory};
 

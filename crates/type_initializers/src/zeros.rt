@@ -3,7 +3,7 @@
 use crate::cursor::Choice;
 use c_typed::{Constant, Content};
 use c_types::{Member, Ty};
-use type_operators::Reason;
+use type_reasons::Reason;
 use type_scope::{State, TypeFault};
 use ub_base::{Items, NoMemory};
 

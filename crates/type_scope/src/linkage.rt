@@ -8,7 +8,7 @@ use c_types::{
     FuncTy, LibFunc, Qual, Shared, Ty, compatible, composite, copied, copied_qual, same_type,
 };
 use std::alloc::Global;
-use type_operators::Reason;
+use type_reasons::Reason;
 use ub_base::{Items, NoMemory};
 
 /// How a declaration gives linkage: `static` at file scope; nothing at file scope; `extern`.
