@@ -7,15 +7,15 @@ ghost use Rattle.type_assignments.specs.Assignments.{place_of, work_of, step_of}
 ghost use Rattle.type_assignments.specs.Assignments as spec;
 ghost use Rattle.type_operands.specs.Layouts.{layouts};
 
+use c_typed::{Change, Node, Typed};
+use c_types::{BinOp, IntKind, Qual, Tags, Ty, copied};
+use std::alloc::Global;
 use type_conversions::{as_if_assigned, promoted, to_kind, usual_kind};
 use type_operands::{
     Form, Operand, access_of, integer, kind_of, object_of, step_of, value, value_of, with_child,
     with_children,
 };
 use type_reasons::{Constants, Reason, Refused};
-use c_typed::{Change, Node, Typed};
-use c_types::{BinOp, IntKind, Qual, Tags, Ty, copied};
-use std::alloc::Global;
 
 // Whether an object of this type may be assigned (6.3.2.1p1).
 fn is_modifiable<C: Constants>(constants: &C, object: &Qual) -> bool

@@ -7,12 +7,14 @@ ghost use Rattle.type_calls.specs.Calls as calls;
 ghost use Rattle.type_calls.specs.Choices as spec;
 ghost use Rattle.type_operands.specs.Layouts.{layouts};
 
-use type_conversions::{as_if_assigned, balanced, converted, matched, may_meet, promoted_argument, truth};
-use type_operands::{Form, Operand, discarded, is_void_place, object_of, tree_of, value, value_of};
-use type_reasons::{Reason, Refused};
 use c_typed::{Node, Typed};
 use c_types::{FuncTy, Qual, Shared, Tags, Ty, compatible, composite, copied};
 use std::alloc::Global;
+use type_conversions::{
+    as_if_assigned, balanced, converted, matched, may_meet, promoted_argument, truth,
+};
+use type_operands::{Form, Operand, discarded, is_void_place, object_of, tree_of, value, value_of};
+use type_reasons::{Reason, Refused};
 use ub_base::Items;
 
 // Whether a call may give a value of this type: `void`, or a complete object type that is no array (6.5.2.2p1).

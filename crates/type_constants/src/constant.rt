@@ -4,12 +4,12 @@ ghost use Rattle.c_types.specs.Types.{type_of};
 ghost use Rattle.type_operands.specs.Terms.{term_of, terms_of, seen_node, Gives};
 ghost use Rattle.type_constants.specs.Constants as spec;
 
-use type_reasons::{NoObjects, Objects, Refused};
-use type_operands::{Form, kind_of, leaf};
 use c_arith::{apply, complement, convert, is_operand, negate};
 use c_typed::{Conversion, EqOp, Node, RelOp, Slot, Target, Typed, UnOp};
 use c_types::{BinOp, Extent, IntKind, Ty, copied};
 use std::alloc::Global;
+use type_operands::{Form, kind_of, leaf};
+use type_reasons::{NoObjects, Objects, Refused};
 use ub_base::Clause;
 
 /// What a constant expression is worth.

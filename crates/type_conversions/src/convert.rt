@@ -10,12 +10,12 @@ ghost use Rattle.type_operands.specs.Conversions as spec;
 ghost use Rattle.type_conversions.specs.Casts as casts;
 ghost use Rattle.type_operands.specs.Layouts.{layouts};
 
-use type_constants::{is_null, null_pointer};
-use type_operands::{Form, Operand, discarded, kind_of, object_of, value, value_of, with_child};
-use type_reasons::{Reason, Refused};
 use c_typed::{Conversion, Node, Typed};
 use c_types::{IntKind, Qual, Tags, Ty, compatible, copied, promote, same_type, usual};
 use std::alloc::Global;
+use type_constants::{is_null, null_pointer};
+use type_operands::{Form, Operand, discarded, kind_of, object_of, value, value_of, with_child};
+use type_reasons::{Reason, Refused};
 
 /// Whether the type is an integer or a pointer type (6.2.5p21).
 pub fn is_scalar(ty: &Ty) -> bool

@@ -114,8 +114,22 @@ pub fn unary(state: &State, op: UnaryOp, a: Operand, line: u32) -> Result<Operan
             UnaryOp::Minus => type_operators::negated(alloc, tags, a, line),
             UnaryOp::Tilde => type_operators::complemented(alloc, tags, a, line),
             UnaryOp::Not => type_operators::inverted(alloc, tags, a, line),
-            UnaryOp::Increment => type_assignments::stepped(alloc, tags, state, BinOp::Add, a, line),
-            UnaryOp::Decrement => type_assignments::stepped(alloc, tags, state, BinOp::Sub, a, line),
+            UnaryOp::Increment => type_assignments::stepped(
+                alloc,
+                tags,
+                state,
+                BinOp::Add,
+                a,
+                line,
+            ),
+            UnaryOp::Decrement => type_assignments::stepped(
+                alloc,
+                tags,
+                state,
+                BinOp::Sub,
+                a,
+                line,
+            ),
         },
     )
 }

@@ -8,10 +8,10 @@ ghost use Rattle.type_operands.specs.Conversions.{target_seen, target_of, is_voi
 ghost use Rattle.type_operands.specs.Conversions as conversions;
 ghost use Rattle.type_operands.specs.Layouts.{layouts};
 
-use type_reasons::{Reason, Refused};
 use c_typed::{Access, Node, Typed};
 use c_types::{FuncTy, IntKind, Qual, Shared, Tags, Ty, copied};
 use std::alloc::Global;
+use type_reasons::{Reason, Refused};
 use ub_base::Items;
 
 /// What an operand is before its use decides on a conversion.

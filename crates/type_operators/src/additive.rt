@@ -7,12 +7,12 @@ ghost use Rattle.type_operators.specs.Operators as spec;
 ghost use Rattle.type_operands.specs.Layouts.{layouts};
 
 use crate::binary::arithmetic;
-use type_conversions::is_pointer;
-use type_operands::{Operand, kind_of, object_of, place, step_of, value, value_of, with_children};
-use type_reasons::{Reason, Refused};
 use c_typed::{Node, Typed};
 use c_types::{BinOp, IntKind, Qual, Tags, Ty, compatible, copied};
 use std::alloc::Global;
+use type_conversions::is_pointer;
+use type_operands::{Operand, kind_of, object_of, place, step_of, value, value_of, with_children};
+use type_reasons::{Reason, Refused};
 
 // A pointer moved by an index, which keeps its type (6.5.6p8).
 #[tactic(auto, unfolding(crate::specs::Operators::moved))]

@@ -6,12 +6,12 @@ ghost use Rattle.type_conversions.specs.Pairs.{pair_of};
 ghost use Rattle.type_operators.specs.Operators as spec;
 ghost use Rattle.type_operands.specs.Layouts.{layouts};
 
-use type_conversions::{balanced, is_pointer, matched, may_meet, promoted, truth};
-use type_operands::{Form, Operand, object_of, value, value_of, with_children};
-use type_reasons::{Reason, Refused};
 use c_typed::{EqOp, Node, RelOp, Typed};
 use c_types::{BinOp, IntKind, Qual, Tags, Ty, compatible};
 use std::alloc::Global;
+use type_conversions::{balanced, is_pointer, matched, may_meet, promoted, truth};
+use type_operands::{Form, Operand, object_of, value, value_of, with_children};
+use type_reasons::{Reason, Refused};
 
 // An operator on two integers in their common type.
 #[tactic(auto, unfolding(crate::specs::Operators::arithmetic))]

@@ -6,12 +6,14 @@ ghost use Rattle.type_operators.specs.Members.{found_of, part_of};
 ghost use Rattle.type_operators.specs.Members as spec;
 ghost use Rattle.type_operands.specs.Layouts.{layouts};
 
-use type_operands::{Form, Operand, access_of, object_of, place, qualified, value, value_of, with_child};
-use type_reasons::{Reason, Refused};
 use c_typed::{Access, Node, Typed};
 use c_types::{Qual, Shared, Tags, Ty, copied};
 use layout::find;
 use std::alloc::Global;
+use type_operands::{
+    Form, Operand, access_of, object_of, place, qualified, value, value_of, with_child,
+};
+use type_reasons::{Reason, Refused};
 
 fn tag_of(ty: &Ty) -> Option<u32>
     ensures { result ≡ spec.tag_of (type_of ty.now) }

@@ -5,12 +5,12 @@ ghost use Rattle.type_operands.specs.Terms.{term_of, expression_of, unary, as_va
 ghost use Rattle.type_operators.specs.Operators as spec;
 ghost use Rattle.type_operands.specs.Layouts.{layouts};
 
-use type_conversions::{promoted, truth};
-use type_operands::{Form, Operand, object_of, value, value_of, with_child};
-use type_reasons::{Reason, Refused};
 use c_typed::{Node, Typed, UnOp};
 use c_types::{IntKind, Tags, Ty};
 use std::alloc::Global;
+use type_conversions::{promoted, truth};
+use type_operands::{Form, Operand, object_of, value, value_of, with_child};
+use type_reasons::{Reason, Refused};
 
 /// `+E`: the promoted value (6.5.3.3p2).
 #[tactic(auto, unfolding(crate::specs::Operators::plus))]

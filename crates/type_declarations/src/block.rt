@@ -4,12 +4,16 @@ use c_ast::{Base, Declaration, Declarator, Init, Part, Specs};
 use c_typed::{Entry, Slot};
 use c_types::{FuncTy, Qual, Ty, copied_qual};
 use std::alloc::Global;
-use type_expressions::declarator::{Declared, copy, name_of};
+use type_declarators::declarator::{Declared, copy, name_of};
+use type_declarators::words::{Storage, Words};
 use type_expressions::expression::{declared, specified};
-use type_expressions::words::{Storage, Words};
 use type_initializers::{automatic, initialize};
+use type_linkage::{
+    Linkage, complete_object, copied_function, declare_function, declare_local_static,
+    declare_object,
+};
 use type_reasons::Reason;
-use type_scope::{Linkage, Meaning, Source, State, TypeFault, copied_function};
+use type_scope::{Meaning, Source, State, TypeFault};
 use ub_base::{Items, NoMemory};
 
 /// A token near a declaration: the first name that it declares, or a tag or typedef name in its specifiers.
@@ -185,7 +189,7 @@ fn local_static(
     init: &Option<Init>,
 ) -> Result<(), TypeFault> {
     let copy = copied_qual(state.alloc, &qual)?;
-    let number = state.declare_local_static(source, name, copy)?;
+    let number = declare_local_static(state, source, name, copy)?;
     let qual = match init {
         None => qual,
         Some(init) => initialize(source, state, number, qual, init, name)?,
@@ -193,7 +197,7 @@ fn local_static(
     if state.tags.extent(&qual.ty).is_none() {
         return Err(source.fault(name, Reason::IncompleteObject));
     }
-    state.complete_object(source.symbol(name), number, &qual)?;
+    complete_object(state, source.symbol(name), number, &qual)?;
     Ok(())
 }
 
@@ -211,7 +215,7 @@ fn local_function(
     if !may_say(source, words, name) {
         return Err(source.fault(name, Reason::MainSpecifier));
     }
-    let _number = state.declare_function(source, name, ty, Linkage::Extern)?;
+    let _number = declare_function(state, source, name, ty, Linkage::Extern)?;
     Ok(())
 }
 
@@ -240,7 +244,7 @@ fn local_part(
     match words.storage {
         Storage::Extern => {
             no_initializer(source, part, name, Reason::ExternInitializer)?;
-            let _number = state.declare_object(source, name, qual, Linkage::Extern)?;
+            let _number = declare_object(state, source, name, qual, Linkage::Extern)?;
             Ok(None)
         }
         Storage::Static => {

@@ -1,6 +1,6 @@
 // The tree of an initializer list (6.7.9), and the constants of a static one.
 
-use crate::initial::{Given, Listed, Listing, Whole};
+use crate::listed::{Given, Listed, Listing, Whole};
 use crate::statics::{not_constant, part_reason};
 use crate::zeros::{Zeros, add_zeros, push_runs};
 use c_typed::{Constant, Node, Slot, Typed};
