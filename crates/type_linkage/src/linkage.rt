@@ -96,7 +96,7 @@ enum Visible {
     WithoutLinkage,
 }
 
-fn visible(state: &State, symbol: u32) -> Visible {
+fn seen_as(state: &State, symbol: u32) -> Visible {
     match state.ordinary.find(symbol) {
         None => Visible::Nothing,
         Some(binding) => match &binding.meaning {
@@ -124,7 +124,7 @@ fn is_internal(state: &State, symbol: u32, linkage: Linkage, known: Option<bool>
     let internal = match linkage {
         Linkage::Internal => true,
         Linkage::Plain => false,
-        Linkage::Extern => match visible(state, symbol) {
+        Linkage::Extern => match seen_as(state, symbol) {
             Visible::WithLinkage => known.unwrap_or(false),
             Visible::Nothing | Visible::WithoutLinkage => false,
         },
@@ -205,7 +205,7 @@ fn bind(state: &mut State, symbol: u32, meaning: Meaning) -> Result<(), NoMemory
 
 // Whether the declaration of this scope, if there is one, may be redeclared as an object or function with linkage.
 fn may_redeclare(state: &State, symbol: u32) -> bool {
-    !state.is_taken(symbol) || visible(state, symbol) == Visible::WithLinkage
+    !state.is_taken(symbol) || seen_as(state, symbol) == Visible::WithLinkage
 }
 
 fn new_object(state: &mut State, symbol: u32, qual: Qual, internal: bool) -> Result<u32, NoMemory> {

@@ -2,10 +2,10 @@
 //! operators ask of the declarations around an expression.
 #![tactic(auto)]
 
-mod declared;
+mod declarations;
 mod reason;
 mod refused;
 
-pub use declared::{Constants, NoObjects, Objects};
+pub use declarations::{Constants, NoObjects, Objects};
 pub use reason::Reason;
 pub use refused::Refused;
