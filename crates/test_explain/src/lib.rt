@@ -1,5 +1,11 @@
-//! Whole explanations: of findings, of texts that aren't run, and as JSON. No code.
+//! Whole explanations, stories of objects and both orders of quarrels, from their texts on. No code.
 #![tactic(auto)]
 
+#[cfg(test)]
+mod orders;
+#[cfg(test)]
+mod programs;
+#[cfg(test)]
+mod stories;
 #[cfg(test)]
 mod texts;
