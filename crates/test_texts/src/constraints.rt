@@ -5,10 +5,9 @@ use c_resolve::{TypeFault, resolve};
 use c_typed::Program;
 use std::alloc::Global;
 
-/// How a text ends.
-#[derive(Drop)]
-pub enum Answer {
-    Typed(Program),
+/// Why a text has no program.
+#[derive(Clone, Copy)]
+pub enum Other {
     NotTyped(u32, &'static str),
     NoUnit,
     NoMemory,
@@ -17,22 +16,25 @@ pub enum Answer {
 // The most bytes of a text.
 const MOST: usize = 1_048_576;
 
-/// What is said of a text.
-pub fn answer_to(alloc: Global, text: &str) -> Answer {
+/// The program of a text, or what is said of it.
+pub fn answer_to(alloc: Global, text: &str) -> Result<Program, Other> {
     let source = text.as_bytes();
     if source.len() > MOST {
-        return Answer::NoUnit;
+        return Err(Other::NoUnit);
     }
     let Ok(tokens) = lex(alloc, source) else {
-        return Answer::NoUnit;
+        return Err(Other::NoUnit);
     };
     let Ok(unit) = parse(alloc, &tokens) else {
-        return Answer::NoUnit;
+        return Err(Other::NoUnit);
     };
-    match resolve(alloc, &tokens, &unit) {
-        Ok(program) => Answer::Typed(program),
-        Err(TypeFault::NotTyped { line, reason }) => Answer::NotTyped(line, reason.paragraph()),
-        Err(TypeFault::NoMemory) => Answer::NoMemory,
+    resolve(alloc, &tokens, &unit).map_err(other_of)
+}
+
+fn other_of(fault: TypeFault) -> Other {
+    match fault {
+        TypeFault::NotTyped { line, reason } => Other::NotTyped(line, reason.paragraph()),
+        TypeFault::NoMemory => Other::NoMemory,
     }
 }
 

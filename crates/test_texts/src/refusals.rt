@@ -104,8 +104,8 @@ pub fn refused(alloc: Global, text: &str) -> Result<String, AllocError> {
     let Ok(tokens) = lex(alloc, source) else {
         return String::from_str(alloc, "no tokens");
     };
-    match parse(alloc, &tokens) {
-        Err(ParseFault::Syntax(at)) => format!(in alloc; "{at}"),
+    match parse(alloc, &tokens).err() {
+        Some(ParseFault::Syntax(at)) => format!(in alloc; "{at}"),
         _ => String::from_str(alloc, "not refused"),
     }
 }

@@ -23,6 +23,12 @@ fn kind_text(kind: IntKind) -> &'static str {
     }
 }
 
+// Adds a text, where there was memory for it.
+fn add(out: &mut String, text: Result<String, AllocError>) -> Result<(), AllocError> {
+    let text = text?;
+    out.push_str(text.as_str())
+}
+
 #[cycle(type_text)]
 fn add_qual(alloc: Global, out: &mut String, qual: &Qual) -> Result<(), AllocError> {
     if qual.constant {
@@ -37,9 +43,9 @@ fn add_type(alloc: Global, out: &mut String, ty: &Ty) -> Result<(), AllocError> 
     match ty {
         Ty::Void => out.push_str("void"),
         Ty::Int(kind) => out.push_str(kind_text(*kind)),
-        Ty::Enum(number) => out.push_str(&format!(in alloc; "enum{number}")?),
-        Ty::Struct(number) => out.push_str(&format!(in alloc; "struct{number}")?),
-        Ty::Union(number) => out.push_str(&format!(in alloc; "union{number}")?),
+        Ty::Enum(number) => add(out, format!(in alloc; "enum{number}")),
+        Ty::Struct(number) => add(out, format!(in alloc; "struct{number}")),
+        Ty::Union(number) => add(out, format!(in alloc; "union{number}")),
         Ty::Pointer(target) => {
             add_qual(alloc, out, target.get())?;
             out.push_str("*")
@@ -47,7 +53,7 @@ fn add_type(alloc: Global, out: &mut String, ty: &Ty) -> Result<(), AllocError> 
         Ty::Array(element, count) => {
             add_qual(alloc, out, element.get())?;
             match count {
-                Some(count) => out.push_str(&format!(in alloc; "[{count}]")?),
+                Some(count) => add(out, format!(in alloc; "[{count}]")),
                 None => out.push_str("[]"),
             }
         }
@@ -140,72 +146,99 @@ fn change_text(alloc: Global, change: Change) -> Result<String, AllocError> {
 fn add_constants(alloc: Global, out: &mut String, all: &[Constant]) -> Result<(), AllocError> {
     for constant in all {
         let at = constant.at;
-        out.push_str(&format!(in alloc; " {at}=")?)?;
+        add(out, format!(in alloc; " {at}="))?;
         match &constant.content {
-            Content::Zeros(count) => out.push_str(&format!(in alloc; "0*{count}")?)?,
+            Content::Zeros(count) => add(out, format!(in alloc; "0*{count}"))?,
             Content::Bytes(bytes) => {
                 for byte in bytes.as_slice() {
                     let byte = *byte;
-                    out.push_str(&format!(in alloc; "{byte:02x}")?)?;
+                    add(out, format!(in alloc; "{byte:02x}"))?;
                 }
             }
             Content::Address { target, offset } => {
-                out.push_str(&target_text(alloc, *target)?)?;
-                out.push_str(&format!(in alloc; "+{offset}")?)?;
+                add(out, target_text(alloc, *target))?;
+                add(out, format!(in alloc; "+{offset}"))?;
             }
         }
     }
     Ok(())
 }
 
-fn add_node(alloc: Global, out: &mut String, node: &Node) -> Result<(), AllocError> {
+// A word of a node that has no parts.
+fn word_of(node: &Node) -> &'static str {
     match node {
-        Node::Const(number) => out.push_str(&format!(in alloc; "{number}")?),
-        Node::Obj(slot) => out.push_str(&slot_text(alloc, *slot)?),
-        Node::Func(number) => out.push_str(&format!(in alloc; "func{number}")?),
-        Node::Str(number) => out.push_str(&format!(in alloc; "lit{number}")?),
-        Node::Load(access) => out.push_str(&format!(in alloc; "load {}", access_text(*access))?),
-        Node::Conv(conversion) => out.push_str(&conversion_text(alloc, *conversion)?),
-        Node::Un(op) => out.push_str(unary_text(*op)),
-        Node::Bin(op, kind) => {
-            out.push_str(&format!(in alloc; "{} {}", op_text(*op), kind_text(*kind))?)
-        }
-        Node::PtrAdd { size, subtract } => {
-            let sign = if *subtract { "-" } else { "+" };
-            out.push_str(&format!(in alloc; "{sign}elements {size}")?)
-        }
-        Node::PtrDiff { size } => out.push_str(&format!(in alloc; "difference {size}")?),
-        Node::Rel { op, pointers } => {
-            out.push_str(relation_text(*op))?;
-            out.push_str(if *pointers { " pointers" } else { "" })
-        }
-        Node::Eq(EqOp::Equal) => out.push_str("=="),
-        Node::Eq(EqOp::NotEqual) => out.push_str("!="),
-        Node::Member { offset } => out.push_str(&format!(in alloc; "member {offset}")?),
+        Node::Un(op) => unary_text(*op),
+        Node::Eq(EqOp::Equal) => "==",
+        Node::Eq(EqOp::NotEqual) => "!=",
+        Node::And => "&&",
+        Node::Or => "||",
+        Node::Cond => "?",
+        Node::Comma => ",",
+        Node::Call { discarded: true } => "drop call",
+        Node::Call { discarded: false } => "call",
+        _ => "alone",
+    }
+}
+
+fn update_text(alloc: Global, change: Change, old: bool) -> Result<String, AllocError> {
+    let word = if old { "old" } else { "update" };
+    let change = change_text(alloc, change)?;
+    format!(in alloc; "{word} {}", change.as_str())
+}
+
+fn list_text(alloc: Global, object: Slot) -> Result<String, AllocError> {
+    let object = slot_text(alloc, object)?;
+    format!(in alloc; "list {}", object.as_str())
+}
+
+// A node that reads, stores or has a place.
+fn place_text(alloc: Global, node: &Node) -> Result<String, AllocError> {
+    match node {
+        Node::Obj(slot) => slot_text(alloc, *slot),
+        Node::Load(access) => format!(in alloc; "load {}", access_text(*access)),
+        Node::Member { offset } => format!(in alloc; "member {offset}"),
         Node::Part { offset, access } => {
-            out.push_str(&format!(in alloc; "part {offset} {}", access_text(*access))?)
+            format!(in alloc; "part {offset} {}", access_text(*access))
         }
         Node::Assign {
             initializing,
             access,
         } => {
             let word = if *initializing { "init" } else { "assign" };
-            out.push_str(&format!(in alloc; "{word} {}", access_text(*access))?)
+            format!(in alloc; "{word} {}", access_text(*access))
         }
-        Node::Update { change, old } => {
-            out.push_str(if *old { "old " } else { "update " })?;
-            out.push_str(&change_text(alloc, *change)?)
+        Node::Update { change, old } => update_text(alloc, *change, *old),
+        Node::List { object, bytes: _ } => list_text(alloc, *object),
+        _ => String::from_str(alloc, word_of(node)),
+    }
+}
+
+// A node, but for the constants of a list.
+fn node_text(alloc: Global, node: &Node) -> Result<String, AllocError> {
+    match node {
+        Node::Const(number) => format!(in alloc; "{number}"),
+        Node::Func(number) => format!(in alloc; "func{number}"),
+        Node::Str(number) => format!(in alloc; "lit{number}"),
+        Node::Conv(conversion) => conversion_text(alloc, *conversion),
+        Node::Bin(op, kind) => format!(in alloc; "{} {}", op_text(*op), kind_text(*kind)),
+        Node::PtrAdd { size, subtract } => {
+            let sign = if *subtract { "-" } else { "+" };
+            format!(in alloc; "{sign}elements {size}")
         }
-        Node::And => out.push_str("&&"),
-        Node::Or => out.push_str("||"),
-        Node::Cond => out.push_str("?"),
-        Node::Comma => out.push_str(","),
-        Node::Call { discarded } => out.push_str(if *discarded { "drop call" } else { "call" }),
-        Node::List { object, bytes } => {
-            out.push_str(&format!(in alloc; "list {}", slot_text(alloc, *object)?)?)?;
-            add_constants(alloc, out, bytes.as_slice())
+        Node::PtrDiff { size } => format!(in alloc; "difference {size}"),
+        Node::Rel { op, pointers } => {
+            let of = if *pointers { " pointers" } else { "" };
+            format!(in alloc; "{}{of}", relation_text(*op))
         }
-        Node::Isolated(_) => out.push_str("alone"),
+        _ => place_text(alloc, node),
+    }
+}
+
+fn add_node(alloc: Global, out: &mut String, node: &Node) -> Result<(), AllocError> {
+    add(out, node_text(alloc, node))?;
+    match node {
+        Node::List { object: _, bytes } => add_constants(alloc, out, bytes.as_slice()),
+        _ => Ok(()),
     }
 }
 

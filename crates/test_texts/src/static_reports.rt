@@ -1,8 +1,5 @@
 // Reports on texts, by the rows of the definition and by hand.
-use crate::rows::MOST;
-use c_lex::lex;
-use c_parse::parse;
-use c_resolve::resolve;
+use crate::constraints::answer_to;
 use static_report::static_report;
 use std::alloc::Global;
 use std::process::Abort;
@@ -120,20 +117,10 @@ const ROWS: [(&str, &str, u8); 19] = [
 
 // The report on the program of a text, with its status.
 fn reported(alloc: Global, text: &str) -> Result<(Bytes, u8), NoMemory> {
-    let source = text.as_bytes();
-    if source.len() > MOST {
-        return Ok((Bytes::from_slice(alloc, b"too long")?, 0));
+    match answer_to(alloc, text) {
+        Ok(program) => static_report(alloc, &program),
+        Err(_) => Ok((Bytes::from_slice(alloc, b"not typed")?, 0)),
     }
-    let Ok(tokens) = lex(alloc, source) else {
-        return Ok((Bytes::from_slice(alloc, b"no tokens")?, 0));
-    };
-    let Ok(unit) = parse(alloc, &tokens) else {
-        return Ok((Bytes::from_slice(alloc, b"no unit")?, 0));
-    };
-    let Ok(program) = resolve(alloc, &tokens, &unit) else {
-        return Ok((Bytes::from_slice(alloc, b"not typed")?, 0));
-    };
-    static_report(alloc, &program)
 }
 
 #[test]

@@ -1,5 +1,5 @@
 // Tables of texts, one a line.
-use crate::constraints::{Answer, answer_to, wanted};
+use crate::constraints::{Other, answer_to, wanted};
 use crate::{
     declarations, expressions, initializers, jumps, pointers, scopes, specifiers, statements, types,
 };
@@ -25,17 +25,28 @@ fn answered(alloc: Global, row: &str) -> Result<String, NoMemory> {
         return Ok(String::from_str(alloc, "no line")?);
     };
     let source = text_of(alloc, text)?;
-    match answer_to(alloc, source.as_str()) {
-        Answer::Typed(_) => Ok(format!(in alloc; "{paragraph} 0 {text}")?),
-        Answer::NotTyped(line, told) if told == wanted(paragraph) => {
-            Ok(format!(in alloc; "{paragraph} {line} {text}")?)
+    let other = answer_to(alloc, source.as_str()).err();
+    row_of(alloc, paragraph, text, other)
+}
+
+fn row_of(
+    alloc: Global,
+    paragraph: &str,
+    text: &str,
+    other: Option<Other>,
+) -> Result<String, NoMemory> {
+    let row = match other {
+        None => format!(in alloc; "{paragraph} 0 {text}"),
+        Some(Other::NotTyped(line, told)) if told == wanted(paragraph) => {
+            format!(in alloc; "{paragraph} {line} {text}")
         }
-        Answer::NotTyped(line, told) => Ok(format!(in alloc;
+        Some(Other::NotTyped(line, told)) => format!(in alloc;
             "{told} for {paragraph} {line} {text}"
-        )?),
-        Answer::NoUnit => Ok(String::from_str(alloc, "no unit")?),
-        Answer::NoMemory => Err(NoMemory),
-    }
+        ),
+        Some(Other::NoUnit) => String::from_str(alloc, "no unit"),
+        Some(Other::NoMemory) => return Err(NoMemory),
+    };
+    Ok(row?)
 }
 
 // The first row that should read otherwise, as it should; an empty text where there is none. A row is a paragraph, with another one

@@ -1,7 +1,6 @@
 // The trees of whole texts, written from the rules of the profile and 6.3, 6.5 and 6.7.9.
-use crate::constraints::{Answer, answer_to};
+use crate::constraints::answer_to;
 use crate::show::{statics_of, trees_of_main};
-use c_typed::Program;
 use std::alloc::{AllocError, Global};
 
 // A text, and the full expressions of the outermost block of its `main`.
@@ -228,25 +227,17 @@ const STATICS: &[(&str, &str)] = &[
     ),
 ];
 
-// The program of a text that is typed.
-fn program_of(alloc: Global, text: &str) -> Option<Program> {
-    match answer_to(alloc, text) {
-        Answer::Typed(program) => Some(program),
-        _ => None,
-    }
-}
-
 fn shown_trees(alloc: Global, text: &str) -> Result<String, AllocError> {
-    match program_of(alloc, text) {
-        Some(program) => trees_of_main(alloc, &program),
-        None => format!(in alloc; "not typed"),
+    match answer_to(alloc, text) {
+        Ok(program) => trees_of_main(alloc, &program),
+        Err(_) => format!(in alloc; "not typed"),
     }
 }
 
 fn shown_statics(alloc: Global, text: &str) -> Result<String, AllocError> {
-    match program_of(alloc, text) {
-        Some(program) => statics_of(alloc, &program),
-        None => format!(in alloc; "not typed"),
+    match answer_to(alloc, text) {
+        Ok(program) => statics_of(alloc, &program),
+        Err(_) => format!(in alloc; "not typed"),
     }
 }
 
