@@ -2,9 +2,10 @@
 use crate::programs::{CLEAN, ORDERS, program_of};
 use addr_map::{AddrMap, Mode};
 use c_typed::{Place, Program};
+use core_ir::CoreProgram;
 use elaborate::elaborate;
-use footprint_run::{Finding, Quiet, audit_run};
-use order_swap::{End, Guide, follow, post_order, swap_run, swapped_text};
+use footprint_run::{Audit, Finding, Quiet, audit_run};
+use order_swap::{End, Followed, Guide, follow, post_order, swap_run, swapped_text};
 use run_machine::Begun;
 use seq_order::{Done, is_permitted};
 use std::alloc::Global;
@@ -13,19 +14,12 @@ use ub_base::{Bytes, Event, Frame, Frames, NoMemory};
 
 const STEPS: u64 = 1_000_000;
 
-// The text of both orders of a program's first dependence, or none where it has none.
-fn both_orders(alloc: Global, program: &Program) -> Result<Option<Bytes>, NoMemory> {
-    let core = elaborate(alloc, program)?;
-    let words = Vec::new(alloc);
-    let audit = audit_run(
-        alloc,
-        &core,
-        b"",
-        words.as_slice(),
-        Mode::Spaced,
-        STEPS,
-        &mut Quiet,
-    )?;
+// The text of both orders of the dependence that an audit found, or none where it found none.
+fn swapped_of(
+    alloc: Global,
+    core: &CoreProgram<'_>,
+    audit: &Audit,
+) -> Result<Option<Bytes>, NoMemory> {
     let Finding::OrderDependent {
         event,
         line,
@@ -38,23 +32,31 @@ fn both_orders(alloc: Global, program: &Program) -> Result<Option<Bytes>, NoMemo
     };
     let swapped = swap_run(
         alloc,
-        &core,
+        core,
         b"",
-        words.as_slice(),
+        &[],
         Mode::Spaced,
         STEPS,
         &audit.frames,
         event,
         against,
     )?;
-    let text = swapped_text(
-        alloc,
-        &audit.frames,
-        (event, line),
-        (against, against_line),
-        &swapped,
-    )?;
-    Ok(Some(text))
+    let sides = ((event, line), (against, against_line));
+    match swapped_text(alloc, &audit.frames, sides.0, sides.1, &swapped) {
+        Ok(text) => Ok(Some(text)),
+        Err(NoMemory) => Err(NoMemory),
+    }
+}
+
+fn audited(alloc: Global, core: &CoreProgram<'_>) -> Result<Option<Bytes>, NoMemory> {
+    let audit = audit_run(alloc, core, b"", &[], Mode::Spaced, STEPS, &mut Quiet)?;
+    swapped_of(alloc, core, &audit)
+}
+
+// The text of both orders of a program's first dependence, or none where it has none.
+fn both_orders(alloc: Global, program: &Program) -> Result<Option<Bytes>, NoMemory> {
+    let core = elaborate(alloc, program)?;
+    audited(alloc, &core)
 }
 
 #[test]
@@ -117,29 +119,32 @@ impl Guide for Last {
     }
 }
 
+fn status_of(followed: Result<Followed, NoMemory>) -> Result<Option<u8>, NoMemory> {
+    match followed?.end {
+        End::Ended { status, .. } => Ok(Some(status)),
+        _ => Ok(None),
+    }
+}
+
 // The status with which the order ends that takes the last permitted event.
 fn last_status(alloc: Global, program: &Program) -> Result<Option<u8>, NoMemory> {
     let core = elaborate(alloc, program)?;
-    let words = Vec::new(alloc);
     let mut frames = Frames::new(alloc);
-    let followed = follow(
+    let mut last = Last {
+        alloc,
+        turns: Vec::new(alloc),
+    };
+    status_of(follow(
         alloc,
         &core,
         b"",
-        words.as_slice(),
+        &[],
         AddrMap::new(alloc),
         &mut frames,
         Mode::Spaced,
         STEPS,
-        &mut Last {
-            alloc,
-            turns: Vec::new(alloc),
-        },
-    )?;
-    match followed.end {
-        End::Ended { status, .. } => Ok(Some(status)),
-        _ => Ok(None),
-    }
+        &mut last,
+    ))
 }
 
 #[test]

@@ -1,7 +1,4 @@
 // Programs from their texts, and the rows of the tests.
-use c_lex::lex;
-use c_parse::parse;
-use c_resolve::resolve;
 use c_typed::Program;
 use std::alloc::Global;
 
@@ -11,16 +8,7 @@ pub fn program_of(alloc: Global, text: &str) -> Option<Program> {
     if text.len() > 1048576 {
         return None;
     }
-    let Ok(tokens) = lex(alloc, text) else {
-        return None;
-    };
-    let Ok(unit) = parse(alloc, &tokens) else {
-        return None;
-    };
-    match resolve(alloc, &tokens, &unit) {
-        Ok(program) => Some(program),
-        Err(_) => None,
-    }
+    audit_top::program_of(alloc, text).ok()
 }
 
 // A text, an object and its story, worked out by hand from the rules of picks and items.

@@ -6,29 +6,44 @@ use c_typed::Program;
 use elaborate::elaborate;
 use std::alloc::Global;
 use std::test::Fail;
-use trace_story::{entries_text, story};
-use ub_base::{Bytes, Frames, NoMemory};
+use trace_story::{Story, entries_text, story};
+use ub_base::{Bytes, Frames, NoMemory, ObjName};
 
-// The text of an object's story, or none where no object has the name.
-fn story_text(alloc: Global, program: &Program, name: &str) -> Result<Option<Bytes>, NoMemory> {
-    let mut frames = Frames::new(alloc);
-    let Some(object) = read_object(alloc, &mut frames, name.as_bytes())? else {
-        return Ok(None);
-    };
+fn text_of(alloc: Global, story: Result<Story, NoMemory>) -> Result<Option<Bytes>, NoMemory> {
+    let story = story?;
+    match entries_text(alloc, &story.frames, &story.entries) {
+        Ok(text) => Ok(Some(text)),
+        Err(NoMemory) => Err(NoMemory),
+    }
+}
+
+fn told_of(
+    alloc: Global,
+    program: &Program,
+    frames: &Frames,
+    object: &ObjName,
+) -> Result<Option<Bytes>, NoMemory> {
     let core = elaborate(alloc, program)?;
-    let words = Vec::new(alloc);
     let told = story(
         alloc,
         &core,
         b"",
-        words.as_slice(),
+        &[],
         Mode::Spaced,
         1_000_000,
-        &frames,
-        &object,
-    )?;
-    let text = entries_text(alloc, &told.frames, &told.entries)?;
-    Ok(Some(text))
+        frames,
+        object,
+    );
+    text_of(alloc, told)
+}
+
+// The text of an object's story, or none where no object has the name.
+fn story_text(alloc: Global, program: &Program, name: &str) -> Result<Option<Bytes>, NoMemory> {
+    let mut frames = Frames::new(alloc);
+    match read_object(alloc, &mut frames, name.as_bytes())? {
+        Some(object) => told_of(alloc, program, &frames, &object),
+        None => Ok(None),
+    }
 }
 
 #[test]
