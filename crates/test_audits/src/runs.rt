@@ -1,9 +1,6 @@
 // Texts run from their bytes to the end of the run, and the picks that are told on the way.
 use crate::programs::PICKS;
 use addr_map::Mode;
-use c_lex::lex;
-use c_parse::parse;
-use c_resolve::resolve;
 use c_typed::Program;
 use core_run::{Go, Ran, View, Watch, run};
 use elaborate::elaborate;
@@ -62,16 +59,7 @@ fn program_of(alloc: Global, text: &str) -> Option<Program> {
     if text.len() > 1048576 {
         return None;
     }
-    let Ok(tokens) = lex(alloc, text) else {
-        return None;
-    };
-    let Ok(unit) = parse(alloc, &tokens) else {
-        return None;
-    };
-    match resolve(alloc, &tokens, &unit) {
-        Ok(program) => Some(program),
-        Err(_) => None,
-    }
+    audit_top::program_of(alloc, text).ok()
 }
 
 // The picks that the run of a program told, where the run came to its end.
