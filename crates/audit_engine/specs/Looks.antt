@@ -25,7 +25,7 @@ use Rattle.ub_base.specs.declared.names.Event.{Event}
 use Rattle.ub_base.specs.declared.names.ObjName.{ObjName}
 use Rattle.addr_map.specs.declared.map.Row.{Row as Place}
 use Rattle.c_names.specs.Texts.{IsNoObjectText, object_text}
-use Rattle.core_run.specs.Calls.{Heard, StartedBy}
+use Rattle.core_run.specs.Calls.{Heard, StartedBy, picks_in}
 use Rattle.core_run.specs.Ends.{picks_of, told_of}
 use Rattle.core_run.specs.declared.watch.Ran.{Ran}
 use Rattle.audit_batch.specs.Moment.{Moment}
@@ -51,7 +51,7 @@ use Rattle.order_swap.specs.declared.answer.Swapped.{Swapped}
 use Rattle.static_report.specs.Report.{report as static_report, status as static_status}
 use Rattle.static_seq.specs.Verdicts.{ProgramCounts, verdicts}
 use Rattle.trace_story.specs.Named.{IsNamed}
-use Rattle.trace_story.specs.Stories.{mark_of, picks_in, sought_in, story_in}
+use Rattle.trace_story.specs.Stories.{mark_of, sought_in, story_in}
 use Rattle.trace_story.specs.Texts.{entries_text}
 use Rattle.trace_story.specs.declared.entry.Entry.{Entry}
 

@@ -2,7 +2,6 @@
 //! profile.
 #![tactic(auto)]
 
-mod block;
 mod external;
 mod statement;
 

@@ -7,9 +7,10 @@ use crate::pair::{Pair, Sought};
 use crate::run::{Course, Run};
 use c_typed::Typed;
 use certificate::Claim;
+use prov_memory::Streams;
 use run_machine::{Halt, Machine, Pick};
 use std::alloc::Global;
-use ub_base::{Cause, Clause, NoMemory};
+use ub_base::{Bytes, Cause, Clause, NoMemory};
 
 // What of the picks the claim needs.
 #[derive(Drop)]
@@ -69,9 +70,9 @@ impl<'p> Witness<'p> {
     }
 }
 
-// Whether the claim holds of an order that led so far.
+// Whether the claim holds of an order that led so far. What the run wrote is taken from the machine.
 pub fn claim_holds(
-    machine: Machine,
+    machine: &mut Machine,
     witness: &Witness,
     course: Course,
     claim: &Claim,
@@ -79,20 +80,15 @@ pub fn claim_holds(
     ensures { IfOk result (λ holds. holds ≡ true → NamesRace claim.now) }
 {
     match claim {
-        Claim::Clean { status, output } => {
-            let Machine { streams, .. } = machine;
-            let written = streams.into_output();
-            Ok(
-                course == Course::Ended(*status)
-                    && (witness.finds_nothing()
-                        && written.standard.as_slice() == output.as_slice()),
-            )
-        }
+        Claim::Clean { status, output } => Ok(
+            course == Course::Ended(*status)
+                && (witness.finds_nothing() && has_written(machine, output.as_slice())),
+        ),
         Claim::Undefined { clause, pair } => Ok(match pair {
             None => course == Course::Raised(*clause),
-            Some(_) => *clause == Clause::Unsequenced && witness.holds(&machine),
+            Some(_) => *clause == Clause::Unsequenced && witness.holds(machine),
         }),
-        Claim::OrderDependent { .. } => Ok(witness.holds(&machine)),
+        Claim::OrderDependent { .. } => Ok(witness.holds(machine)),
         Claim::OutOfSteps => Ok(course == Course::Going && witness.finds_nothing()),
         Claim::Outside { cause, number } => {
             if course == Course::Going && witness.finds_nothing() {
@@ -104,9 +100,15 @@ pub fn claim_holds(
     }
 }
 
+// Whether the run wrote these bytes to standard output.
+fn has_written(machine: &mut Machine, output: &[u8]) -> bool {
+    let none = Streams::new(machine.alloc, Bytes::from_vec(Vec::new(machine.alloc)));
+    let written = std::mem::replace(&mut machine.streams, none).into_output();
+    written.standard.as_slice() == output
+}
+
 // Whether the next canonical pick would pass this limit with this number.
-fn passes_next(machine: Machine, cause: Cause, number: u64) -> Result<bool, NoMemory> {
-    let mut machine = machine;
+fn passes_next(machine: &mut Machine, cause: Cause, number: u64) -> Result<bool, NoMemory> {
     match machine.canonical() {
         Err(Halt::Over(passed, reached)) => Ok(passed == cause && reached == number),
         Err(Halt::NoMemory) => Err(NoMemory),

@@ -8,12 +8,13 @@ use crate::answer::{Answer, Part};
 use crate::claim::{Witness, claim_holds};
 use crate::run::{Course, Run};
 use addr_map::{AddrMap, Row};
-use c_typed::{Place, Program, Typed};
+use c_typed::{Place, Program};
 use certificate::{Cert, Claim, Segment};
+use core_ir::Core;
 use elaborate::{elaborate, roots_of};
 use prov_memory::Memory;
 use run_acts::start_bytes;
-use run_machine::{Halt, MOST_CREATED, Machine, code_of, prepare};
+use run_machine::{Code, Halt, MOST_CREATED, Machine, code_of, prepare};
 use std::alloc::Global;
 use ub_base::{Bytes, Cause, NoMemory, ObjName};
 
@@ -46,13 +47,62 @@ pub fn check(
     if reached > MOST_CREATED {
         return Ok(unstarted(c, reached));
     }
-    let lowered = elaborate(alloc, p)?;
-    let code = code_of(alloc, p, lowered.terms.items.as_slice())?;
-    let roots = roots_of(alloc, p)?;
-    let memory = Memory::with_map(alloc, map, None);
+    lowered(alloc, p, input, args, map, c)
+}
+
+// The answer to a certificate of this form, whose rows are those of a map.
+fn lowered(
+    alloc: Global,
+    p: &Program,
+    input: &[u8],
+    args: &[String],
+    map: AddrMap,
+    c: &Cert,
+) -> Result<Answer, NoMemory>
+    ensures map { IfOk result (λ a. a ≢ No Map) }
+    ensures race { IfOk result (λ a. a ≡ Yes → NamesRace c.now.claim) }
+{
+    let core = elaborate(alloc, p)?;
+    laid_out(alloc, p, core.terms.items.as_slice(), input, args, map, c)
+}
+
+// The same of a program with these terms.
+fn laid_out(
+    alloc: Global,
+    p: &Program,
+    terms: &[Core],
+    input: &[u8],
+    args: &[String],
+    map: AddrMap,
+    c: &Cert,
+) -> Result<Answer, NoMemory>
+    ensures map { IfOk result (λ a. a ≢ No Map) }
+    ensures race { IfOk result (λ a. a ≡ Yes → NamesRace c.now.claim) }
+{
+    let code = code_of(alloc, p, terms)?;
+    prepared(alloc, p, &code, input, args, map, c)
+}
+
+// The same of a program with this code.
+fn prepared(
+    alloc: Global,
+    p: &Program,
+    code: &Code,
+    input: &[u8],
+    args: &[String],
+    map: AddrMap,
+    c: &Cert,
+) -> Result<Answer, NoMemory>
+    ensures map { IfOk result (λ a. a ≢ No Map) }
+    ensures race { IfOk result (λ a. a ≡ Yes → NamesRace c.now.claim) }
+{
     let input = Bytes::from_slice(alloc, input)?;
-    let prepared = prepare(alloc, p, &code, input, args, memory);
-    answer_of(alloc, roots.as_slice(), prepared, c)
+    let memory = Memory::with_map(alloc, map, None);
+    match prepare(alloc, p, code, input, args, memory) {
+        Ok(machine) => begun(alloc, p, machine, c),
+        Err(Halt::NoMemory) => Err(NoMemory),
+        Err(_) => Ok(Answer::No(Part::Order)),
+    }
 }
 
 // The map of these rows, None where one of them breaks a rule.
@@ -166,37 +216,37 @@ fn unstarted(c: &Cert, reached: u64) -> Answer
     }
 }
 
-fn answer_of(
-    alloc: Global,
-    roots: &[&Typed],
-    prepared: Result<Machine, Halt>,
-    c: &Cert,
-) -> Result<Answer, NoMemory>
+// The same of a run that is at its start.
+fn begun(alloc: Global, p: &Program, machine: Machine, c: &Cert) -> Result<Answer, NoMemory>
     ensures map { IfOk result (λ a. a ≢ No Map) }
     ensures race { IfOk result (λ a. a ≡ Yes → NamesRace c.now.claim) }
 {
-    match prepared {
-        Ok(machine) => follow(alloc, roots, machine, c),
-        Err(Halt::NoMemory) => Err(NoMemory),
-        Err(_) => Ok(Answer::No(Part::Order)),
-    }
-}
-
-fn follow(alloc: Global, roots: &[&Typed], machine: Machine, c: &Cert) -> Result<Answer, NoMemory>
-    ensures map { IfOk result (λ a. a ≢ No Map) }
-    ensures race { IfOk result (λ a. a ≡ Yes → NamesRace c.now.claim) }
-{
-    let mut witness = Witness::of(alloc, roots, &c.claim)?;
     let mut run = Run {
         machine,
         frames: &c.frames,
         last: c.frames.len(),
     };
-    let course = led(&mut run, &mut witness, c.order.as_slice())?;
+    watched(alloc, p, &mut run, c)
+}
+
+fn watched(alloc: Global, p: &Program, run: &mut Run, c: &Cert) -> Result<Answer, NoMemory>
+    ensures map { IfOk result (λ a. a ≢ No Map) }
+    ensures race { IfOk result (λ a. a ≡ Yes → NamesRace c.now.claim) }
+{
+    let roots = roots_of(alloc, p)?;
+    let mut witness = Witness::of(alloc, roots.as_slice(), &c.claim)?;
+    follow(run, &mut witness, c)
+}
+
+fn follow(run: &mut Run, witness: &mut Witness, c: &Cert) -> Result<Answer, NoMemory>
+    ensures map { IfOk result (λ a. a ≢ No Map) }
+    ensures race { IfOk result (λ a. a ≡ Yes → NamesRace c.now.claim) }
+{
+    let course = led(run, witness, c.order.as_slice())?;
     if course == Course::Broken {
         return Ok(Answer::No(Part::Order));
     }
-    if claim_holds(run.machine, &witness, course, &c.claim)? {
+    if claim_holds(&mut run.machine, witness, course, &c.claim)? {
         Ok(Answer::Yes)
     } else {
         Ok(Answer::No(Part::Claim))

@@ -1,5 +1,5 @@
 -- The calls of a watch, what it answered, and which of them may follow.
-use Rattle.std.specs.Prelude.{◌≡◌, ℕ, List, [], ◌∷◌, ◌++◌, Option, Some, None, ◌⊎◌}
+use Rattle.std.specs.Prelude.{◌≡◌, ℕ, ◌+◌, List, [], ◌∷◌, ◌++◌, Option, Some, None, ◌⊎◌}
 use Rattle.ub_base.specs.declared.names.Event.{Event}
 use Rattle.ub_base.specs.declared.names.Frame.{Frame}
 use Rattle.ub_base.specs.declared.names.Item.{Item}
@@ -21,6 +21,16 @@ pub data Call : Type 0 where
 -- calls with their answers, the last one first
 abbrev pub Heard : Type 0
 Heard = List (Call × Go)
+
+-- how many picks were told
+abbrev pub and_call : Call → ℕ → ℕ
+and_call (picked event items) n = n + 1
+and_call (node_done frame turn node) n = n
+and_call (operands_done frame turn node) n = n
+
+abbrev pub picks_in : Heard → ℕ
+picks_in [] = 0
+picks_in (h ∷ hs) = and_call h.0 (picks_in hs)
 
 -- one call more, where they are kept
 abbrev pub noted : Call → Go → Option Heard → Option Heard

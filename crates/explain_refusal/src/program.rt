@@ -9,7 +9,7 @@ use c_typed::{Program, height};
 use explain_places::{one_a_line, token_of};
 use parse_reason::{Reason as SyntaxReason, reason_of};
 use std::alloc::Global;
-use type_operators::Reason;
+use type_reasons::Reason;
 use ub_base::{Bytes, NoMemory};
 
 /// Why a text isn't run.

@@ -7,7 +7,7 @@ use explain_page::{Page, Stretch};
 use explain_places::{definition_before, open_before};
 use explain_words::header_of;
 use parse_reason::{Part, part_of_word};
-use type_operators::Reason;
+use type_reasons::Reason;
 
 fn is_mark(page: &Page<'_, '_>, at: u32, mark: Mark) -> bool {
     page.tokens.kind(at) == Some(TokenKind::Punct(mark))

@@ -1,14 +1,14 @@
 // A run again, up to where it ended, or in another order.
 
-use crate::moment::moment_of;
+use crate::moment::put_moment;
 use crate::nulls::asked_next;
 use crate::replay::{event_of, step, taken};
-use crate::trail::{Follower, block_entered};
+use crate::trail::Follower;
 use addr_map::Mode;
 use c_typed::Place;
 use core_ir::CoreProgram;
 use explain_facts::{Moment, Outcome, Sought, Trail};
-use prov_memory::{Memory, Outputs};
+use prov_memory::{Memory, Outputs, Streams};
 use run_machine::{Code, Machine, Pick, code_of, prepare};
 use std::alloc::Global;
 use ub_base::{Bytes, Event, Frames, Kind, NoMemory};
@@ -36,6 +36,33 @@ fn started<'p, 'c>(
     }
 }
 
+// What is done with a run from its first pick on.
+trait Task {
+    fn follow(&mut self, machine: &mut Machine, frames: &mut Frames) -> Result<(), NoMemory>;
+}
+
+// Does a task with the run of a machine that has started.
+fn do_task<T: Task>(
+    alloc: Global,
+    started: Result<Machine, NoMemory>,
+    task: &mut T,
+) -> Result<(), NoMemory> {
+    let mut machine = started?;
+    let mut frames = Frames::new(alloc);
+    task.follow(&mut machine, &mut frames)
+}
+
+// Makes the run again, and does a task with it.
+fn make<T: Task>(
+    alloc: Global,
+    core: &CoreProgram<'_>,
+    course: Course<'_>,
+    task: &mut T,
+) -> Result<(), NoMemory> {
+    let code = code_of(alloc, core.program, core.terms.items.as_slice())?;
+    do_task(alloc, started(alloc, core, &code, course), task)
+}
+
 fn follow(machine: &mut Machine, frames: &mut Frames, picks: u64) -> Result<(), NoMemory> {
     for _ in 0..picks {
         if step(machine, frames)?.is_none() {
@@ -57,6 +84,24 @@ fn follow_to_open(machine: &mut Machine, frames: &mut Frames) -> Result<(), NoMe
     Ok(())
 }
 
+// Sees what stands before the pick of this number.
+#[derive(Drop)]
+struct MomentTask {
+    pick: u64,
+    event: Option<Event>,
+    moment: Moment,
+}
+
+impl Task for MomentTask {
+    fn follow(&mut self, machine: &mut Machine, frames: &mut Frames) -> Result<(), NoMemory> {
+        follow(machine, frames, self.pick.saturating_sub(1))?;
+        if self.event.is_none() {
+            follow_to_open(machine, frames)?;
+        }
+        put_moment(&mut self.moment, machine, self.event)
+    }
+}
+
 /// What stands before the pick of this number, from 1, that this event is; without an event, what stands where a full
 /// expression is open there, or a few picks behind.
 pub fn moment_before(
@@ -66,14 +111,14 @@ pub fn moment_before(
     pick: u64,
     event: Option<Event>,
 ) -> Result<Moment, NoMemory> {
-    let code = code_of(alloc, core.program, core.terms.items.as_slice())?;
-    let mut machine = started(alloc, core, &code, course)?;
-    let mut frames = Frames::new(alloc);
-    follow(&mut machine, &mut frames, pick.saturating_sub(1))?;
-    if event.is_none() {
-        follow_to_open(&mut machine, &mut frames)?;
-    }
-    moment_of(alloc, &machine, event)
+    let mut task = MomentTask {
+        pick,
+        event,
+        moment: Moment::new(alloc),
+    };
+    make(alloc, core, course, &mut task)?;
+    let MomentTask { moment, .. } = task;
+    Ok(moment)
 }
 
 fn follow_trail(
@@ -83,14 +128,26 @@ fn follow_trail(
     follower: &mut Follower,
 ) -> Result<(), NoMemory> {
     for _ in 0..picks {
-        let entered = block_entered(machine);
         let asked = asked_next(machine);
         let Some(pick) = step(machine, frames)? else {
             return Ok(());
         };
-        follower.see(machine, event_of(pick), entered, asked)?;
+        follower.see(machine, event_of(pick), asked)?;
     }
     Ok(())
+}
+
+// Sees what so many picks do.
+#[derive(Drop)]
+struct TrailTask {
+    picks: u64,
+    follower: Follower,
+}
+
+impl Task for TrailTask {
+    fn follow(&mut self, machine: &mut Machine, frames: &mut Frames) -> Result<(), NoMemory> {
+        follow_trail(machine, frames, self.picks, &mut self.follower)
+    }
 }
 
 /// What so many picks of the run do to the bytes that are sought, and what ends it.
@@ -101,11 +158,12 @@ pub fn trail_of(
     picks: u64,
     sought: Option<Sought>,
 ) -> Result<Trail, NoMemory> {
-    let mut follower = Follower::new(alloc, sought);
-    let code = code_of(alloc, core.program, core.terms.items.as_slice())?;
-    let mut machine = started(alloc, core, &code, course)?;
-    let mut frames = Frames::new(alloc);
-    follow_trail(&mut machine, &mut frames, picks, &mut follower)?;
+    let mut task = TrailTask {
+        picks,
+        follower: Follower::new(alloc, sought),
+    };
+    make(alloc, core, course, &mut task)?;
+    let TrailTask { follower, .. } = task;
     Ok(follower.into_trail())
 }
 
@@ -170,6 +228,33 @@ fn status_of(
     Ok(None)
 }
 
+// What the run wrote to standard output, taken from the machine.
+fn output_of(machine: &mut Machine) -> Bytes {
+    let none = Streams::new(machine.alloc, Bytes::from_vec(Vec::new(machine.alloc)));
+    let Outputs { standard, .. } = std::mem::replace(&mut machine.streams, none).into_output();
+    standard
+}
+
+// Sees how a run of so many picks ends in another order.
+#[derive(Drop)]
+struct OutcomeTask {
+    picks: u64,
+    before: Before,
+    outcome: Option<Outcome>,
+}
+
+impl Task for OutcomeTask {
+    fn follow(&mut self, machine: &mut Machine, frames: &mut Frames) -> Result<(), NoMemory> {
+        if let Some(status) = status_of(machine, frames, self.picks, &self.before)? {
+            self.outcome = Some(Outcome {
+                status,
+                output: output_of(machine),
+            });
+        }
+        Ok(())
+    }
+}
+
 /// How the run ends where these events are taken before the others of their full expression; none where it doesn't end within
 /// so many picks, or is undefined.
 pub fn outcome_of(
@@ -179,18 +264,12 @@ pub fn outcome_of(
     picks: u64,
     before: &Before,
 ) -> Result<Option<Outcome>, NoMemory> {
-    let code = code_of(alloc, core.program, core.terms.items.as_slice())?;
-    let mut machine = started(alloc, core, &code, course)?;
-    let mut frames = Frames::new(alloc);
-    match status_of(&mut machine, &mut frames, picks, before)? {
-        Some(status) => {
-            let (outputs, _) = machine.into_output_and_map();
-            let Outputs { standard, .. } = outputs;
-            Ok(Some(Outcome {
-                status,
-                output: standard,
-            }))
-        }
-        None => Ok(None),
-    }
+    let mut task = OutcomeTask {
+        picks,
+        before: *before,
+        outcome: None,
+    };
+    make(alloc, core, course, &mut task)?;
+    let OutcomeTask { outcome, .. } = task;
+    Ok(outcome)
 }

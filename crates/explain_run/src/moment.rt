@@ -6,7 +6,6 @@ use exposure::Prov;
 use prov_memory::{MemByte, Value};
 use run_code::{Act, Listed, Operand};
 use run_machine::Machine;
-use std::alloc::Global;
 use ub_base::{Event, NoMemory, ObjName};
 
 fn object_in(prov: Prov) -> Option<ObjName> {
@@ -50,19 +49,18 @@ fn put_place(moment: &mut Moment, machine: &Machine, event: Event) {
     }
 }
 
-/// What stands now, with the place that this event accesses.
-pub fn moment_of(
-    alloc: Global,
+/// Adds what stands now, with the place that this event accesses.
+pub fn put_moment(
+    moment: &mut Moment,
     machine: &Machine,
     event: Option<Event>,
-) -> Result<Moment, NoMemory> {
-    let mut moment = Moment::new(alloc);
-    put_open(&mut moment, machine)?;
-    put_values(&mut moment, machine)?;
+) -> Result<(), NoMemory> {
+    put_open(moment, machine)?;
+    put_values(moment, machine)?;
     if let Some(event) = event {
-        put_place(&mut moment, machine, event);
+        put_place(moment, machine, event);
     }
-    Ok(moment)
+    Ok(())
 }
 
 fn aim_of(machine: &Machine, operand: Operand) -> Aim {

@@ -4,7 +4,7 @@ use crate::nulls::unallocated;
 use crate::opened::opened_of;
 use c_typed::Slot;
 use explain_facts::{Named, Sought, Touch, Trail};
-use run_code::{Code, Step};
+use run_code::Range;
 use run_machine::Machine;
 use std::alloc::Global;
 use ub_base::{Event, Item, NoMemory, ObjName};
@@ -87,68 +87,21 @@ fn does_to(item: &Item, sought: Sought) -> Does {
     }
 }
 
-// The block that the next pick enters.
-pub fn block_entered(machine: &Machine) -> Option<u32> {
-    if machine.top.stage.is_some() {
-        return None;
-    }
-    let mut at = machine.top.at;
-    for _ in 0..machine.code.steps.len() {
-        match machine.code.steps.get(at as usize) {
-            Some(Step::Go(to)) => at = *to,
-            Some(Step::Enter { block, .. }) => return Some(*block),
-            _ => return None,
-        }
-    }
-    None
-}
-
-fn count(len: usize) -> u32 {
-    u32::try_from(len).unwrap_or(u32::MAX)
-}
-
-// The step at which the functions behind this one begin.
-fn steps_end(code: &Code<'_>, function: u32) -> u32 {
-    for number in function.saturating_add(1)..count(code.functions.len()) {
-        if let Some(Some(laid)) = code.functions.get(number as usize) {
-            return laid.entry;
-        }
-    }
-    count(code.steps.len())
-}
-
-// The first and the last of the full expressions between two steps.
-fn expressions_of(code: &Code<'_>, from: u32, to: u32) -> Option<(u32, u32)> {
-    let mut found = None;
-    for at in from..to {
-        if let Some(Step::Full { expression, .. }) = code.steps.get(at as usize) {
-            found = match found {
-                None => Some((*expression, *expression)),
-                Some((first, last)) => Some((first.min(*expression), last.max(*expression))),
-            };
-        }
-    }
-    found
-}
-
-// How the text names the objects of a block that a frame enters.
+// How the text names an object of a block of the top frame's function.
 fn named_in(machine: &Machine, block: u32, decl: u32) -> Option<Named> {
     let code = machine.code;
     let function = machine.top.function?;
     let Some(Some(laid)) = code.functions.get(function as usize) else {
         return None;
     };
-    let Some(Step::Enter { block: body, .. }) = code.steps.get(laid.entry as usize) else {
+    let Range { first, count } = laid.expressions;
+    if count == 0 {
         return None;
-    };
-    let (first, last) = expressions_of(code, laid.entry, steps_end(code, function))?;
+    }
     Some(Named {
-        slot: Slot::Auto {
-            block: block.saturating_sub(*body),
-            decl,
-        },
+        slot: Slot::Auto { block, decl },
         first,
-        last,
+        last: first.saturating_add(count - 1),
     })
 }
 
@@ -215,11 +168,12 @@ impl Follower {
         Ok(())
     }
 
-    fn see_entered(&mut self, machine: &Machine, block: u32, sought: Sought) {
+    // Sees a control step, which may have entered the block of the object that is sought.
+    fn see_entered(&mut self, machine: &Machine, sought: Sought) {
         if let ObjName::Auto { decl, .. } = sought.object
             && machine.items.items().contains(&Item::Born(sought.object))
         {
-            self.trail.named = named_in(machine, block, decl);
+            self.trail.named = named_in(machine, machine.entered, decl);
         }
     }
 
@@ -240,19 +194,18 @@ impl Follower {
         }
     }
 
-    /// Sees a pick that was taken, with its event, or with the block that it entered, and with how many bytes it asked for, where it
-    /// is an allocation.
+    /// Sees a pick that was taken, with its event, if it is no control step, and with how many bytes it asked for, where it is an
+    /// allocation.
     pub fn see(
         &mut self,
         machine: &Machine,
         event: Option<Event>,
-        entered: Option<u32>,
         asked: Option<u128>,
     ) -> Result<(), NoMemory> {
-        if let (Some(sought), Some(block)) = (self.sought, entered) {
-            self.see_entered(machine, block, sought);
-        }
         let Some(event) = event else {
+            if let Some(sought) = self.sought {
+                self.see_entered(machine, sought);
+            }
             return Ok(());
         };
         match touch_by(machine, event) {

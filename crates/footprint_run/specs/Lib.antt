@@ -1,4 +1,3 @@
 pub mod Apart
 pub mod Findings
-pub mod Picks
 pub mod Record

@@ -1,12 +1,11 @@
 // The audit of a run.
 ghost use Rattle.std.specs.Prelude.{◌≡◌, ◌≤◌, length, IfOk, List, Some};
-ghost use Rattle.core_run.specs.Calls.{AnswersEnd, StartedBy};
+ghost use Rattle.core_run.specs.Calls.{AnswersEnd, StartedBy, picks_in};
 ghost use Rattle.core_run.specs.Ends as ends;
 ghost use Rattle.c_typed.specs.Tree.{Tree};
 ghost use Rattle.elaborate.specs.Expressions.{program_trees};
 ghost use Rattle.footprint_run.specs.Apart.{AreApart, SeenApart, StandsApart};
 ghost use Rattle.footprint_run.specs.Findings.{picks_of, IsOutOfSteps, ItemsConflict, IsConflict, Tells};
-ghost use Rattle.footprint_run.specs.Picks.{picks_in};
 ghost use Rattle.footprint_run.specs.Record.{HasSeen};
 
 use crate::finding::{Audit, Finding, Race};

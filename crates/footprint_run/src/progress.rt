@@ -1,7 +1,7 @@
 // How far a run is.
 ghost use Rattle.std.specs.Prelude.{Some};
+ghost use Rattle.core_run.specs.Calls.{picks_in};
 ghost use Rattle.elaborate.specs.Roots.{trees_at};
-ghost use Rattle.footprint_run.specs.Picks.{picks_in};
 
 use crate::watcher::Watcher;
 use core_run::{Go, View, Watch};

@@ -1,9 +1,8 @@
 // The watch of an audit.
 ghost use Rattle.std.specs.Prelude.{◌≡◌, [], IfOk, Some, IsSome};
-ghost use Rattle.core_run.specs.Calls.{HasStopped};
+ghost use Rattle.core_run.specs.Calls.{HasStopped, picks_in};
 ghost use Rattle.elaborate.specs.Roots.{trees_at};
 ghost use Rattle.footprint_run.specs.Apart.{SeenApart};
-ghost use Rattle.footprint_run.specs.Picks.{picks_in};
 ghost use Rattle.footprint_run.specs.Record.{go_of};
 
 use crate::detector::Detector;

@@ -1,5 +1,5 @@
 -- The bytes that hold a value, as a memory keeps them (own: little-endian).
-use Rattle.std.specs.Prelude.{ℕ, zero, suc, ◌/◌, ◌%◌, min, List, [], ◌∷◌, length, map}
+use Rattle.std.specs.Prelude.{ℕ, zero, suc, ◌/◌, ◌%◌, min, List, [], ◌∷◌, length, map, Option, None}
 use Rattle.c_types.specs.Types.{type_of}
 use Rattle.prov_memory.specs.declared.cell.Cell.{Cell}
 use Rattle.prov_memory.specs.declared.cell.Origin.{Origin}
@@ -33,6 +33,11 @@ value_bytes m size (values.Func a) = number_bytes 8 a
 value_bytes m size (values.Block b) = seen m b.cells
 value_bytes m size values.Missing = []
 value_bytes m size values.Nothing = []
+
+-- the address that the bytes of a structure or union were loaded from
+abbrev pub source_of : Value → Option ℕ
+source_of (values.Block b) = b.source
+source_of v = None
 
 -- the provenance of a pointer was made in this memory
 abbrev pub IsMadeValue : Kept → Value → Type 0

@@ -7,3 +7,9 @@ pub mod Stores
 pub mod Parts
 pub mod CallLemmas
 pub mod Contents
+pub mod Starting
+pub mod Clears
+pub mod Starts
+pub mod Stands
+pub mod Filled
+pub mod Arguments

@@ -2,11 +2,12 @@
 use Rattle.std.specs.Prelude.{◌≡◌, ℕ, Bool, true, false, Result, Ok, Err, ◌||◌, List, [], ◌∷◌, Option, Some, None, is_some}
 use Rattle.ub_base.specs.declared.clause.Clause.{Clause}
 use Rattle.ub_base.specs.declared.clause.Clause.TheVariants.{InvalidPointer, IncompatibleCall}
-use Rattle.c_types.specs.Types.{CType, Signature, function, signature_of}
+use Rattle.c_types.specs.Types.{CType, Signature, function, signature_of, void}
 use Rattle.c_types.specs.Same.{compatible_functions}
 use Rattle.c_typed.specs.declared.program.Function.{Function as Typed}
 use Rattle.mem_spec.specs.Script.{Script, Give, Raise, require, ◌>>◌}
 use Rattle.c_model.specs.Program.{Function}
+use Rattle.c_model.specs.Values.{Value, Missing, Nothing}
 
 abbrev pub type_by : Signature → CType
 type_by s = function s.result s.params s.variadic
@@ -37,3 +38,8 @@ abbrev pub call_checks : (callable agree : Bool) → Result (Unit {0}) Clause
 call_checks false agree = Err InvalidPointer
 call_checks true false = Err IncompatibleCall
 call_checks true true = Ok tt
+
+-- what a function leaves that gives no result, by its result type (6.9.1p12)
+abbrev pub left_of : CType → Value
+left_of void = Nothing
+left_of ty = Missing

@@ -8,3 +8,5 @@ pub mod Fills
 pub mod Scripts
 pub mod Kept
 pub mod Contents
+pub mod Starting
+pub mod Standing

@@ -1,23 +1,27 @@
 // Calls and their results (6.5.2.2).
-ghost use Rattle.std.specs.Prelude.{IfOk, ◌≡◌, ℕ, ◌<◌, ◌≤◌, ◌^◌, ◌||◌, List, [], length, is_some, Bool, IfSome, IfNone};
+ghost use Rattle.std.specs.Prelude.{IfOk, ◌≡◌, ◌≢◌, ℕ, ◌<◌, ◌≤◌, ◌^◌, ◌||◌, List, [], length, slice_get, is_some, Bool, Some, IfSome, IfNone, pos};
+ghost use Rattle.std.specs.Option.{option_copied};
 ghost use Rattle.addr_map.specs.declared.map.Row.{Row};
 ghost use Rattle.c_model.specs.Nodes.{call_value};
 ghost use Rattle.c_model.specs.Program.{Function as Called};
+ghost use Rattle.c_model.specs.Runs.{status_of};
 ghost use Rattle.c_model.specs.Steps.{function_of};
 ghost use Rattle.c_model.specs.Values as model;
+ghost use Rattle.c_model.specs.Values.{Int};
 ghost use Rattle.c_types.specs.Same.{compatible_functions};
+ghost use Rattle.c_typed.specs.declared.program.Function.{Function as Typed};
 ghost use Rattle.c_types.specs.Types.{CType, signature_of};
 ghost use Rattle.mem_spec.specs.Script.{run};
 ghost use Rattle.mem_spec.specs.Store.{Store};
 ghost use Rattle.prov_memory.specs.Memory.{Kept, act_of};
-ghost use Rattle.run_acts.specs.Calls.{AreFunctions, AgreesAsCompatible, call_checks, checked_call, type_by};
+ghost use Rattle.run_acts.specs.Calls.{AreFunctions, AgreesAsCompatible, call_checks, checked_call, left_of, type_by};
 ghost use Rattle.run_acts.specs.Kept.{IsOf};
 ghost use Rattle.run_acts.specs.Views.{value_in, value_result};
 
 use crate::storage::function_address;
 use crate::values::as_integer;
 use c_typed::{Function, Program};
-use c_types::{FuncTy, IntKind, Ty, compatible_functions};
+use c_types::{FuncTy, Ty, compatible_functions};
 use prov_memory::Value;
 use ub_base::Clause;
 
@@ -83,20 +87,38 @@ pub fn answer(left: Value, discarded: bool) -> Result<Value, Clause>
 
 /// What a call of a function leaves that gives no result (6.9.1p12): 0 for `main` (5.1.2.2.3), and nothing where it has
 /// the result type `void`.
-pub fn left(p: &Program, function: u32) -> Value {
+pub fn left(p: &Program, function: u32) -> Value
+    ensures main { function ≡ p.now.main → (m : Kept) → value_in m result ≡ Int (pos 0) }
+    ensures other { (f : Typed) → function ≢ p.now.main → slice_get p.now.functions function ≡ Some f → (m : Kept) → value_in m result ≡ left_of (signature_of f.ty).result }
+{
     if function == p.main {
         return Value::Int(0);
     }
-    match p.functions.as_slice().get(function as usize) {
-        Some(function) => match function.ty.result {
-            Ty::Void => Value::Nothing,
-            _ => Value::Missing,
-        },
+    match function_at(p, function) {
+        Some(function) => left_by(&function.ty),
         None => Value::Missing,
     }
 }
 
+fn function_at(p: &Program, function: u32) -> Option<&Function>
+    ensures { option_copied result ≡ slice_get p.now.functions function }
+{
+    p.functions.as_slice().get(function as usize)
+}
+
+// The same by the type of the function.
+fn left_by(ty: &FuncTy) -> Value
+    ensures { (m : Kept) → value_in m result ≡ left_of (signature_of ty.now).result }
+{
+    match ty.result {
+        Ty::Void => Value::Nothing,
+        _ => Value::Missing,
+    }
+}
+
 /// The exit status for the result of `main`: its value modulo 256 (own).
-pub fn exit_status(left: &Value) -> u8 {
-    u8::try_from(c_arith::convert(IntKind::UChar, as_integer(left))).unwrap_or(0)
+pub fn exit_status(left: &Value) -> u8
+    ensures { (m : Kept) → result ≡ status_of (value_in m left.now) }
+{
+    as_integer(left).rem_euclid(256) as u8
 }

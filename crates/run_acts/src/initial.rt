@@ -1,14 +1,34 @@
 // The objects that stand before the first pick: those with static storage, string literals, and the arguments of `main`.
-ghost use Rattle.std.specs.Prelude.{◌≡◌, ℕ, Some, slice_get};
+ghost use Rattle.std.specs.Prelude.{◌≡◌, List, ◌+◌, ◌-◌, ◌*◌, ◌%◌, min, ◌<◌, ◌^◌, ◌++◌, ◌∷◌, [], ℕ, Some, false, length, map, option_map, slice_get, string_bytes, IfOk, OnOk};
+ghost use Rattle.std.specs.List.{All};
+ghost use Rattle.ub_base.specs.declared.names.ObjName.{ObjName};
 ghost use Rattle.ub_base.specs.declared.names.ObjName.TheVariants as names;
 ghost use Rattle.exposure.specs.declared.prov.Prov.TheVariants.{Whole};
-ghost use Rattle.c_model.specs.Values.{address_after};
-ghost use Rattle.run_acts.specs.Views.{pointer_at};
+ghost use Rattle.c_typed.specs.Lawful.{IsLawful, ContentIsLawful};
+ghost use Rattle.c_types.specs.Shapes.{form_of, leaf, repeat};
+ghost use Rattle.c_types.specs.Types.{int, params_of, pointer, qualified_of, signature_of, type_of};
+ghost use Rattle.c_types.specs.declared.kind.IntKind.TheVariants.{Char};
+ghost use Rattle.mem_spec.specs.Bytes.{number_bytes};
+ghost use Rattle.c_model.specs.Nodes.{plain_byte};
+ghost use Rattle.c_model.specs.Values.{address_after, pointer_value};
+ghost use Rattle.prov_memory.specs.declared.value.Value.TheVariants.{Int};
+ghost use Rattle.prov_memory.specs.Keeps.{Keeps};
+ghost use Rattle.prov_memory.specs.Made.{IsMade};
+ghost use Rattle.prov_memory.specs.Memory.{Kept, AreKnown, CellsKnown};
+ghost use Rattle.prov_memory.specs.Pieces.{seen};
+ghost use Rattle.prov_memory.specs.Sound.{IsSound};
+ghost use Rattle.prov_memory.specs.Tags.{CellsTagged};
+ghost use Rattle.run_acts.specs.Contents.{Stands};
+ghost use Rattle.run_acts.specs.Kept.{IsOf};
+ghost use Rattle.run_acts.specs.Standing.{AreArguments, ArgumentAdded, AllCreated, AllFilled, extent_of, HasForm, literals, program_name, StartCreated, StaticCreated, StaticsCreated};
+ghost use Rattle.run_acts.specs.Standing as standing;
+ghost use Rattle.run_acts.specs.Starting.{AreAll, ArePlaced, AreMadeAll, AddsArgument, Creates, Puts};
+ghost use Rattle.run_acts.specs.Views.{pointer_at, value_in};
 
 use crate::storage::{fillings, pointer_to, written, zeros};
 use crate::values::Pointer;
 use c_typed::{Program, Static};
-use c_types::{Extent, IntKind, Qual, Shape, Shared, Tags, Ty};
+use c_types::{Extent, FuncTy, IntKind, Qual, Shape, Shared, Tags, Ty};
 use layout::shape;
 use prov_memory::{Block, CreateFault, Memory, ObjKind, Touched, Value, Via};
 use std::alloc::Global;
@@ -23,7 +43,10 @@ pub struct Places {
 }
 
 impl Places {
-    pub fn new(alloc: Global) -> Places {
+    pub fn new(alloc: Global) -> Places
+        ensures objects { result.objects ≡ [] }
+        ensures literals { result.literals ≡ [] }
+    {
         Places {
             objects: Items::new(alloc),
             literals: Items::new(alloc),
@@ -52,7 +75,9 @@ impl Places {
 }
 
 /// The size and alignment of a complete type, one byte elsewhere.
-pub fn extent(tags: &Tags, ty: &Ty) -> Extent {
+pub fn extent(tags: &Tags, ty: &Ty) -> Extent
+    ensures { result ≡ extent_of tags.now (type_of ty.now) }
+{
     match tags.extent(ty) {
         Some(extent) => extent,
         None => Extent { size: 1, align: 1 },
@@ -60,7 +85,9 @@ pub fn extent(tags: &Tags, ty: &Ty) -> Extent {
 }
 
 /// The scalars of a complete type by their places.
-pub fn shape_of(alloc: Global, tags: &Tags, ty: &Ty) -> Result<Option<Rc<Shape>>, NoMemory> {
+pub fn shape_of(alloc: Global, tags: &Tags, ty: &Ty) -> Result<Option<Rc<Shape>>, NoMemory>
+    ensures { IfOk result (λ o. HasForm tags.now (type_of ty.now) (option_map (λ s. form_of s.value) o)) }
+{
     if tags.extent(ty).is_none() {
         return Ok(None);
     }
@@ -69,7 +96,9 @@ pub fn shape_of(alloc: Global, tags: &Tags, ty: &Ty) -> Result<Option<Rc<Shape>>
 }
 
 /// Whether an object of this type is defined const: an array where its elements are (6.7.3p9).
-pub fn is_constant(qual: &Qual) -> bool {
+pub fn is_constant(qual: &Qual) -> bool
+    ensures { result ≡ standing.is_constant (qualified_of qual.now) }
+{
     if qual.constant {
         return true;
     }
@@ -118,14 +147,30 @@ pub fn start_bytes(p: &Program, args: &[String]) -> u64 {
     total(sum, counted(vector_size(args)))
 }
 
-fn vector_size(args: &[String]) -> u64 {
+fn vector_size(args: &[String]) -> u64
+    ensures { length args.now < 2 ^ 32 → result ≡ 8 * (length args.now + 2) }
+{
     (args.len() as u64).saturating_add(2).saturating_mul(8)
 }
 
+fn has_parameters(ty: &FuncTy) -> bool
+    ensures { result ≡ standing.has_parameters (signature_of ty.now).params }
+{
+    are_there(ty.params.as_slice())
+}
+
+fn are_there(params: &[Qual]) -> bool
+    ensures { result ≡ standing.has_parameters (params_of (map qualified_of params.now)) }
+{
+    !params.is_empty()
+}
+
 // Whether `main` has parameters.
-fn takes_arguments(p: &Program) -> bool {
+fn takes_arguments(p: &Program) -> bool
+    ensures { result ≡ standing.takes_arguments (slice_get p.now.functions p.now.main) }
+{
     match p.functions.as_slice().get(p.main as usize) {
-        Some(function) => !function.ty.params.is_empty(),
+        Some(function) => has_parameters(&function.ty),
         None => false,
     }
 }
@@ -137,7 +182,12 @@ pub fn start(
     p: &Program,
     args: &[String],
     m: &mut Memory,
-) -> Result<Started, CreateFault> {
+) -> Result<Started, CreateFault>
+    ensures kept { IsSound m.old → IsLawful p.now → Keeps m.old m.new }
+    ensures placed { IfOk result (λ s. IsSound m.old → IsLawful p.now → ArePlaced m.new p.now s.places) }
+    ensures created { OnOk result (IsSound m.old → IsLawful p.now → length args.now + 1 < 2 ^ 32 → StartCreated m.old m.new p.now (program_name ∷ map string_bytes args.now)) }
+    ensures made { IfOk result (λ s. IsSound m.old → IsLawful p.now → IsOf m.new s.count × IsOf m.new s.vector) }
+{
     let mut t = Touched::new(alloc)?;
     let mut places = Places::new(alloc);
     create_statics(alloc, p, &mut places, m, &mut t)?;
@@ -155,7 +205,11 @@ pub fn start(
     Ok(standing(places, 0, Pointer::null()))
 }
 
-fn standing(places: Places, count: i128, vector: Pointer) -> Started {
+fn standing(places: Places, count: i128, vector: Pointer) -> Started
+    ensures places { result.places ≡ places }
+    ensures count { result.count ≡ Int count }
+    ensures vector { (m : Kept) → value_in m result.vector ≡ pointer_value (pointer_at vector) }
+{
     Started {
         places,
         count: Value::Int(count),
@@ -169,7 +223,12 @@ fn create_statics(
     places: &mut Places,
     m: &mut Memory,
     t: &mut Touched,
-) -> Result<(), CreateFault> {
+) -> Result<(), CreateFault>
+    ensures kept { Keeps m.old m.new }
+    ensures rest { places.new.literals ≡ places.old.literals }
+    ensures exact { OnOk result (IsSound m.old → places.old.objects ≡ [] → length p.now.statics < 2 ^ 32 → StaticsCreated m.old m.new p.now.tags p.now.statics) }
+    ensures placed { OnOk result (places.old.objects ≡ [] → length p.now.statics < 2 ^ 32 → AreAll m.new (λ k. names.Static k) places.new.objects (length p.now.statics)) }
+{
     for object in p.statics.as_slice() {
         let addr = create_static(alloc, p, object, count_of(&places.objects), m, t)?;
         add(&mut places.objects, addr)?;
@@ -183,7 +242,12 @@ fn create_literals(
     places: &mut Places,
     m: &mut Memory,
     t: &mut Touched,
-) -> Result<(), CreateFault> {
+) -> Result<(), CreateFault>
+    ensures kept { Keeps m.old m.new }
+    ensures rest { places.new.objects ≡ places.old.objects }
+    ensures exact { OnOk result (IsSound m.old → places.old.literals ≡ [] → length p.now.literals < 2 ^ 32 → AllCreated m.old m.new (literals 0 p.now.literals)) }
+    ensures placed { OnOk result (places.old.literals ≡ [] → length p.now.literals < 2 ^ 32 → AreAll m.new (λ k. names.Lit k) places.new.literals (length p.now.literals)) }
+{
     for literal in p.literals.as_slice() {
         let name = ObjName::Lit(count_of(&places.literals));
         let addr = create_text(alloc, name, literal.len() as u64, true, m, t)?;
@@ -199,7 +263,9 @@ fn fill_named(
     places: &Places,
     m: &mut Memory,
     t: &mut Touched,
-) -> Result<(), NoMemory> {
+) -> Result<(), CreateFault>
+    ensures kept { IsSound m.old → IsLawful p.now → ArePlaced m.old p.now places.now → Keeps m.old m.new }
+{
     fill_statics(alloc, p, places, m, t)?;
     fill_literals(alloc, p, places, m, t)
 }
@@ -210,7 +276,9 @@ fn fill_statics(
     places: &Places,
     m: &mut Memory,
     t: &mut Touched,
-) -> Result<(), NoMemory> {
+) -> Result<(), CreateFault>
+    ensures kept { IsSound m.old → IsLawful p.now → ArePlaced m.old p.now places.now → Keeps m.old m.new }
+{
     for (number, object) in p.statics.as_slice().iter().enumerate() {
         fill_static(alloc, p, object, number, places, m, t)?;
     }
@@ -223,22 +291,47 @@ fn fill_literals(
     places: &Places,
     m: &mut Memory,
     t: &mut Touched,
-) -> Result<(), NoMemory> {
+) -> Result<(), CreateFault>
+    ensures exact { OnOk result (AreAll m.old (λ k. names.Lit k) places.now.literals (length p.now.literals) → length p.now.literals < 2 ^ 32 → AllFilled m.old m.new (literals 0 p.now.literals)) }
+    ensures kept { Keeps m.old m.new }
+{
     for (number, literal) in p.literals.as_slice().iter().enumerate() {
-        let number = u32::try_from(number).unwrap_or(u32::MAX);
+        let number = short(number);
         fill_text(alloc, literal.as_slice(), places.literal(number, 0), m, t)?;
     }
     Ok(())
 }
 
 // Adds an address to a list.
-fn add(addresses: &mut Items<u64>, addr: u64) -> Result<(), NoMemory> {
+fn add(addresses: &mut Items<u64>, addr: u64) -> Result<(), NoMemory>
+    ensures { OnOk result (addresses.new ≡ addresses.old ++ addr ∷ []) }
+{
     addresses.push(addr)?;
     Ok(())
 }
 
-fn count_of(items: &Items<u64>) -> u32 {
-    u32::try_from(items.len()).unwrap_or(u32::MAX)
+fn count_of(items: &Items<u64>) -> u32
+    ensures { length items.now < 2 ^ 32 → result ≡ length items.now }
+{
+    short(items.len())
+}
+
+fn short(count: usize) -> u32
+    ensures { count < 2 ^ 32 → result ≡ count }
+{
+    u32::try_from(count).unwrap_or(u32::MAX)
+}
+
+fn extent_of_object(tags: &Tags, qual: &Qual) -> Extent
+    ensures { result ≡ extent_of tags.now (qualified_of qual.now).ty }
+{
+    extent(tags, &qual.ty)
+}
+
+fn shape_of_object(alloc: Global, tags: &Tags, qual: &Qual) -> Result<Option<Rc<Shape>>, NoMemory>
+    ensures { IfOk result (λ o. HasForm tags.now (qualified_of qual.now).ty (option_map (λ s. form_of s.value) o)) }
+{
+    shape_of(alloc, tags, &qual.ty)
 }
 
 fn create_static(
@@ -248,9 +341,13 @@ fn create_static(
     number: u32,
     m: &mut Memory,
     t: &mut Touched,
-) -> Result<u64, CreateFault> {
-    let extent = extent(&p.tags, &object.qual.ty);
-    let shape = shape_of(alloc, &p.tags, &object.qual.ty)?;
+) -> Result<u64, CreateFault>
+    ensures kept { Keeps m.old m.new }
+    ensures exact { OnOk result (AreKnown m.old → StaticCreated m.old m.new p.now.tags number object.now) }
+    ensures stands { IfOk result (λ addr. Stands m.new (names.Static number) addr) }
+{
+    let extent = extent_of_object(&p.tags, &object.qual);
+    let shape = shape_of_object(alloc, &p.tags, &object.qual)?;
     let kind = ObjKind {
         heap: false,
         literal: false,
@@ -275,50 +372,73 @@ fn fill_static(
     places: &Places,
     m: &mut Memory,
     t: &mut Touched,
-) -> Result<(), NoMemory> {
+) -> Result<(), CreateFault>
+    ensures kept { IsSound m.old → ArePlaced m.old p.now places.now → All (λ c. ContentIsLawful p.now c.content) object.now.constants → Keeps m.old m.new }
+{
     let number = u32::try_from(number).unwrap_or(u32::MAX);
     let whole = places.object(number, 0);
     clear(alloc, extent(&p.tags, &object.qual.ty).size, whole, m, t)?;
     let fillings = fillings(alloc, m, places, object.constants.as_slice())?;
     for filling in fillings.as_slice() {
-        put(whole, filling.at, &filling.bytes, m, t);
+        put(whole, filling.at, &filling.bytes, m, t)?;
     }
     Ok(())
 }
 
 const PAGE: u64 = 4096;
 
-// Makes the bytes of a new object zero, a page at a time.
+// The bytes of a page of an object of this size.
+fn page_of(size: u64) -> u64
+    ensures { result ≡ min 4096 (size - size % 4096) }
+{
+    PAGE.min(size.saturating_sub(size % PAGE))
+}
+
+// The offset of this page.
+fn page_at(size: u64, number: u64) -> u64
+    ensures { result ≡ min (min (number * 4096) (2 ^ 64 - 1) + size % 4096) (2 ^ 64 - 1) }
+{
+    number.saturating_mul(PAGE).saturating_add(size % PAGE)
+}
+
+// Makes the bytes of a new object zero: what is no whole page, and then a page at a time.
 fn clear(
     alloc: Global,
     size: u64,
     whole: Pointer,
     m: &mut Memory,
     t: &mut Touched,
-) -> Result<(), NoMemory> {
-    let page = zeros(alloc, PAGE.min(size))?;
+) -> Result<(), CreateFault>
+    ensures exact { OnOk result ((x : ObjName) → whole.prov ≡ Whole x → whole.addr + size < 2 ^ 64 → Puts m.old m.new x whole.addr (number_bytes size 0)) }
+    ensures rest { record m.new { objects = []; cells = [] } ≡ record m.old { objects = []; cells = [] } }
+    ensures kept { Keeps m.old m.new }
+{
+    let first = zeros(alloc, size % PAGE)?;
+    put(whole, 0, &first, m, t)?;
+    let page = zeros(alloc, page_of(size))?;
     for number in 0..size / PAGE {
-        put(whole, number.saturating_mul(PAGE), &page, m, t);
-    }
-    let rest = size % PAGE;
-    if rest != 0 {
-        let last = zeros(alloc, rest)?;
-        put(whole, size.saturating_sub(rest), &last, m, t);
+        put(whole, page_at(size, number), &page, m, t)?;
     }
     Ok(())
 }
 
-// Puts bytes at an offset of a new object. They lie in it, and an initialization raises nothing there.
-fn put(whole: Pointer, at: u64, bytes: &Block, m: &mut Memory, t: &mut Touched) {
-    let _ = m.store(
-        true,
-        Via::Bytes,
-        1,
-        whole.addr.saturating_add(at),
-        whole.prov,
-        bytes,
-        t,
-    );
+// Puts bytes at an offset of a new object, as its initialization. One that raised a clause would leave no start of a run.
+fn put(
+    whole: Pointer,
+    at: u64,
+    bytes: &Block,
+    m: &mut Memory,
+    t: &mut Touched,
+) -> Result<(), CreateFault>
+    ensures exact { OnOk result ((x : ObjName) → whole.prov ≡ Whole x → Puts m.old m.new x (address_after whole.addr at) (seen m.old bytes.now.cells)) }
+    ensures rest { record m.new { objects = []; cells = [] } ≡ record m.old { objects = []; cells = [] } }
+    ensures kept { CellsKnown (length m.old.origins) bytes.now.cells → CellsTagged (length m.old.types) bytes.now.cells → Keeps m.old m.new }
+{
+    let addr = whole.addr.saturating_add(at);
+    match m.store(true, Via::Bytes, 1, addr, whole.prov, bytes, t) {
+        Ok(()) => Ok(()),
+        Err(_clause) => Err(CreateFault::Unplaced),
+    }
 }
 
 // A string object of so many bytes.
@@ -329,8 +449,12 @@ fn create_text(
     literal: bool,
     m: &mut Memory,
     t: &mut Touched,
-) -> Result<u64, CreateFault> {
-    let shape = repeated(alloc, count, 1, Ty::Int(IntKind::Char))?;
+) -> Result<u64, CreateFault>
+    ensures kept { Keeps m.old m.new }
+    ensures exact { OnOk result (AreKnown m.old → Creates m.old m.new name count 1 (record { heap = false; literal = literal; constant = false }) (Some (repeat count 1 (leaf (int Char))))) }
+    ensures stands { IfOk result (λ addr. Stands m.new name addr) }
+{
+    let shape = repeated(alloc, count, 1, character())?;
     let kind = ObjKind {
         heap: false,
         literal,
@@ -346,14 +470,25 @@ fn fill_text(
     whole: Pointer,
     m: &mut Memory,
     t: &mut Touched,
-) -> Result<(), NoMemory> {
+) -> Result<(), CreateFault>
+    ensures exact { OnOk result ((x : ObjName) → whole.prov ≡ Whole x → Puts m.old m.new x (address_after whole.addr 0) (map plain_byte bytes.now)) }
+    ensures rest { record m.new { objects = []; cells = [] } ≡ record m.old { objects = []; cells = [] } }
+    ensures kept { Keeps m.old m.new }
+{
     let content = written(alloc, bytes)?;
-    put(whole, 0, &content, m, t);
-    Ok(())
+    put(whole, 0, &content, m, t)
 }
 
-fn repeated(alloc: Global, count: u64, step: u64, leaf: Ty) -> Result<Rc<Shape>, NoMemory> {
-    let part = Boxed::new(alloc, Shape::Leaf(leaf))?;
+fn character() -> Ty
+    ensures { type_of result ≡ int Char }
+{
+    Ty::Int(IntKind::Char)
+}
+
+fn repeated(alloc: Global, count: u64, step: u64, element: Ty) -> Result<Rc<Shape>, NoMemory>
+    ensures { IfOk result (λ s. form_of s.value ≡ repeat count step (leaf (type_of element))) }
+{
+    let part = Boxed::new(alloc, Shape::Leaf(element))?;
     let shape = Shape::Repeat { count, step, part };
     Ok(Rc::new(alloc, shape)?)
 }
@@ -371,7 +506,12 @@ fn create_arguments(
     args: &[String],
     m: &mut Memory,
     t: &mut Touched,
-) -> Result<Items<Argument>, CreateFault> {
+) -> Result<Items<Argument>, CreateFault>
+    ensures kept { Keeps m.old m.new }
+    ensures exact { OnOk result (IsSound m.old → length args.now + 1 < 2 ^ 32 → AllCreated m.old m.new (standing.arguments 0 (program_name ∷ map string_bytes args.now))) }
+    ensures there { IfOk result (λ all. length args.now + 1 < 2 ^ 32 → AreArguments m.new 0 (program_name ∷ map string_bytes args.now) all) }
+    ensures made { IfOk result (AreMadeAll m.new) }
+{
     let mut all = Items::new(alloc);
     create_argument(alloc, NAME, &mut all, m, t)?;
     for arg in args {
@@ -386,21 +526,32 @@ fn create_argument(
     all: &mut Items<Argument>,
     m: &mut Memory,
     t: &mut Touched,
-) -> Result<(), CreateFault> {
+) -> Result<(), CreateFault>
+    ensures kept { Keeps m.old m.new }
+    ensures exact { OnOk result (AreKnown m.old → length all.old < 2 ^ 32 → Creates m.old m.new (names.Arg (length all.old)) (length text.now + 1) 1 (record { heap = false; literal = false; constant = false }) (Some (repeat (length text.now + 1) 1 (leaf (int Char))))) }
+    ensures there { OnOk result (length all.old < 2 ^ 32 → ArgumentAdded m.new text.now all.old all.new) }
+    ensures count { OnOk result (length all.new ≡ length all.old + 1) }
+    ensures made { OnOk result (AreMadeAll m.old all.old → AreMadeAll m.new all.new) }
+{
     let text = text_of(alloc, text)?;
-    let name = ObjName::Arg(u32::try_from(all.len()).unwrap_or(u32::MAX));
+    let name = ObjName::Arg(short(all.len()));
     let addr = create_text(alloc, name, text.len() as u64, false, m, t)?;
     keep(all, text, pointer_to(name, addr, 0))?;
     Ok(())
 }
 
-fn text_of(alloc: Global, text: &[u8]) -> Result<Bytes, NoMemory> {
+fn text_of(alloc: Global, text: &[u8]) -> Result<Bytes, NoMemory>
+    ensures { IfOk result (λ b. b ≡ text.now ++ 0 ∷ []) }
+{
     let mut bytes = Bytes::from_slice(alloc, text)?;
     bytes.append(b"\0")?;
     Ok(bytes)
 }
 
-fn keep(all: &mut Items<Argument>, text: Bytes, place: Pointer) -> Result<(), NoMemory> {
+fn keep(all: &mut Items<Argument>, text: Bytes, place: Pointer) -> Result<(), NoMemory>
+    ensures adds { OnOk result (AddsArgument place all.old all.new) }
+    ensures new { OnOk result (all.new ≡ all.old ++ record { text = text; place = place } ∷ []) }
+{
     all.push(Argument { text, place })?;
     Ok(())
 }
@@ -410,7 +561,10 @@ fn fill_arguments(
     arguments: &[Argument],
     m: &mut Memory,
     t: &mut Touched,
-) -> Result<(), NoMemory> {
+) -> Result<(), CreateFault>
+    ensures exact { OnOk result ((words : List (List ℕ)) → AreArguments m.old 0 words arguments.now → AllFilled m.old m.new (standing.arguments 0 words)) }
+    ensures kept { Keeps m.old m.new }
+{
     for argument in arguments {
         fill_text(alloc, argument.text.as_slice(), argument.place, m, t)?;
     }
@@ -423,10 +577,14 @@ fn create_vector(
     args: &[String],
     m: &mut Memory,
     t: &mut Touched,
-) -> Result<Pointer, CreateFault> {
+) -> Result<Pointer, CreateFault>
+    ensures kept { Keeps m.old m.new }
+    ensures exact { OnOk result (AreKnown m.old → length args.now < 2 ^ 32 → Creates m.old m.new names.Argv (8 * (length args.now + 2)) 8 (record { heap = false; literal = false; constant = false }) (Some (repeat (length args.now + 2) 8 (leaf (pointer false (int Char)))))) }
+    ensures made { IfOk result (λ p. IsMade m.new p.prov) }
+{
     let count = (args.len() as u64).saturating_add(2);
-    let character = any_character(alloc)?;
-    let shape = repeated(alloc, count, 8, Ty::Pointer(character))?;
+    let element = character_pointer(alloc)?;
+    let shape = repeated(alloc, count, 8, element)?;
     let kind = ObjKind {
         heap: false,
         literal: false,
@@ -436,12 +594,14 @@ fn create_vector(
     Ok(pointer_to(ObjName::Argv, base, 0))
 }
 
-fn any_character(alloc: Global) -> Result<Shared<Qual>, NoMemory> {
-    let qual = Qual {
-        ty: Ty::Int(IntKind::Char),
+fn character_pointer(alloc: Global) -> Result<Ty, NoMemory>
+    ensures { IfOk result (λ ty. type_of ty ≡ pointer false (int Char)) }
+{
+    let target = Qual {
+        ty: character(),
         constant: false,
     };
-    Ok(Shared::new(alloc, qual)?)
+    Ok(Ty::Pointer(Shared::new(alloc, target)?))
 }
 
 // The pointers of the array, the last one null.
@@ -451,14 +611,15 @@ fn point(
     vector: Pointer,
     m: &mut Memory,
     t: &mut Touched,
-) -> Result<(), NoMemory> {
+) -> Result<(), CreateFault>
+    ensures kept { IsSound m.old → AreMadeAll m.old arguments.now → Keeps m.old m.new }
+{
     let mut at = 0;
     for argument in arguments {
         let bytes = m.bytes_of(alloc, &argument.place.value(), 8)?;
-        put(vector, at, &bytes, m, t);
+        put(vector, at, &bytes, m, t)?;
         at = at.saturating_add(8);
     }
     let null = m.bytes_of(alloc, &Pointer::null().value(), 8)?;
-    put(vector, at, &null, m, t);
-    Ok(())
+    put(vector, at, &null, m, t)
 }

@@ -91,6 +91,7 @@ pub fn member(
     t: &mut Touched,
 ) -> Result<Pointer, Clause>
     ensures exact { IsMade m.old pointer.prov → (io : Io) → run m.old.rows (nodes.member m.old.rows offset (pointer_at pointer)) (store_of m.old io) ≡ act_of (place_result result) t.new (store_of m.new io) }
+    ensures same { OnErr result (m.new ≡ m.old) }
     ensures kept { Keeps m.old m.new }
     ensures made { IsMade m.old pointer.prov → IfOk result (λ p. IsMade m.new p.prov) }
 {
@@ -116,6 +117,7 @@ pub fn distance(
     t: &mut Touched,
 ) -> Result<Value, Clause>
     ensures exact { IsMade m.old left.prov → IsMade m.old right.prov → (io : Io) → run m.old.rows (nodes.difference size (pointer_at left) (pointer_at right)) (store_of m.old io) ≡ act_of (value_result m.new result) t.new (store_of m.new io) }
+    ensures same { OnErr result (m.new ≡ m.old) }
     ensures kept { Keeps m.old m.new }
     ensures made { IfOk result (IsOf m.new) }
 {

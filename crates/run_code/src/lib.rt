@@ -1,4 +1,4 @@
-//! A program laid out once, from its typed trees and its terms: flat control steps, and the listings of its full expressions.
+//! A program laid out once, from its typed trees and its terms: its statements as control follows them, and the listings of its full expressions.
 #![tactic(auto)]
 
 mod choices;
@@ -17,5 +17,5 @@ pub use laws::law_listing;
 pub use statements::code_of;
 pub use steps::{
     Act, BlockCode, CallCode, Choice, Code, Due, Expression, FunctionCode, Listed, ObjectCode,
-    Operand, Range, Step, StoreCode, SwitchCode, Tables, Use, Way,
+    Operand, Range, StoreCode, Tables, Way,
 };

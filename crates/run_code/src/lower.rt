@@ -14,7 +14,7 @@ use crate::choices::{chosen_at_once, is_choice};
 use crate::draft::{Draft, count_of};
 use crate::nodes::{Counts, NodeInfo, collect, operand_number, operands};
 use crate::steps::{
-    Act, CallCode, Choice, Due, Expression, Listed, Operand, Range, Step, StoreCode, Use, Way,
+    Act, CallCode, Choice, Due, Expression, Listed, Operand, Range, StoreCode, Way,
 };
 use c_typed::{Access, Change, Node, Place, Typed};
 use c_types::{FuncTy, Qual, Ty, copied};
@@ -51,33 +51,19 @@ fn object_ty(tree: &Typed) -> &Ty
 }
 
 impl<'p, 't> Draft<'p, 't> {
-    // A full expression, and then the trees of the isolated initializers in it.
-    #[cycle(full)]
-    pub fn full(&mut self, root: &'p Typed, how: Use) -> Result<(), NoMemory> {
-        let initializers = count_of(&self.code.initializers);
-        let expression = self.expression(root, initializers)?;
-        self.step(Step::Full { expression, how })?;
-        self.isolated(root, initializers)?;
-        Ok(())
-    }
-
-    // The full expression of this root, whose isolated initializers are numbered from here on. Gives its number.
-    fn expression(&mut self, root: &'p Typed, initializers: u32) -> Result<u32, NoMemory> {
+    // The full expression of this root, which comes next.
+    pub fn expression(&mut self, root: &'p Typed) -> Result<(), NoMemory> {
         let mut nodes = Vec::new(self.alloc);
         let mut counts = Counts {
-            initializers,
+            initializers: count_of(&self.expressions.all).saturating_add(1),
             olds: 0,
         };
         collect(&self.function.objects, root, None, &mut nodes, &mut counts)?;
-        let isolated = counts.initializers.saturating_sub(initializers);
-        add_initializers(isolated, &mut self.code.initializers)?;
         let chosen = self.chosen(root, 0, &nodes)?;
         let entries = self.listing(&nodes)?;
-        let number = count_of(&self.expressions.all);
         let rooms = count_of(&nodes).saturating_add(counts.olds);
         let all = &mut self.expressions;
-        all.add_expression(root, rooms, chosen, &nodes, &entries)?;
-        Ok(number)
+        all.add_expression(root, rooms, chosen, &nodes, &entries)
     }
 
     // The listing of the full expression that comes next, whose nodes these are: that of the next term.
@@ -110,24 +96,6 @@ impl<'p, 't> Draft<'p, 't> {
         chosen_at_once(root, number, nodes, &mut self.code.chosen)?;
         let count = count_of(&self.code.chosen).saturating_sub(first);
         Ok(Range { first, count })
-    }
-
-    // The own trees of the isolated initializers in preorder, numbered from `at` on. Gives the next number.
-    #[cycle(full)]
-    fn isolated(&mut self, root: &'p Typed, at: u32) -> Result<u32, NoMemory> {
-        let mut next = at;
-        if let Node::Isolated(tree) = &root.node {
-            let entry = count_of(&self.code.steps);
-            if let Some(place) = self.code.initializers.get_mut(at as usize) {
-                *place = entry;
-            }
-            next = next.saturating_add(1);
-            self.full(tree.get(), Use::Isolated)?;
-        }
-        for child in root.children.as_slice() {
-            next = self.isolated(child, next)?;
-        }
-        Ok(next)
     }
 
     // The events of a term, from left to right.
@@ -195,14 +163,6 @@ impl<'p, 't> Draft<'p, 't> {
         };
         Ok(())
     }
-}
-
-// Room for so many isolated initializers, whose steps come later.
-fn add_initializers(count: u32, all: &mut Vec<u32>) -> Result<(), NoMemory> {
-    for _ in 0..count {
-        all.push(u32::MAX)?;
-    }
-    Ok(())
 }
 
 // Whether the event is the last one of its node where the effect follows the value.

@@ -21,7 +21,7 @@ pub struct NodeInfo<'p> {
     pub operand: Operand,
     // The first number after all below it.
     pub next: u32,
-    // Which of the isolated initializers of the program it is, if it is one.
+    // The number of the full expression of its own tree, if it is an isolated initializer.
     pub initializer: u32,
     // The room behind those of the nodes for what an Update will store, if that isn't its value.
     pub room: u32,
@@ -142,14 +142,27 @@ impl Operand {
     }
 }
 
-// How many isolated initializers, and updates that give their old value, there are so far.
+// The number of the full expression of the isolated initializer that comes next, and how many updates that give their old value
+// there are so far.
 #[derive(Clone, Copy, Debug)]
 pub struct Counts {
     pub initializers: u32,
     pub olds: u32,
 }
 
-// Adds the nodes of a tree in preorder, and counts the isolated initializers and the rooms for old values.
+// How many isolated initializers there are in a tree, and in their own trees.
+fn own_trees(root: &Typed) -> u32 {
+    let mut count: u32 = match &root.node {
+        Node::Isolated(own) => own_trees(own.get()).saturating_add(1),
+        _ => 0,
+    };
+    for child in root.children.as_slice() {
+        count = count.saturating_add(own_trees(child));
+    }
+    count
+}
+
+// Adds the nodes of a tree in preorder, and counts the rooms for old values.
 pub fn collect<'p>(
     objects: &Objects,
     root: &'p Typed,
@@ -182,7 +195,10 @@ fn info<'p>(
 {
     let (initializer, room) = (counts.initializers, counts.olds);
     match &tree.node {
-        Node::Isolated(_) => counts.initializers = counts.initializers.saturating_add(1),
+        Node::Isolated(own) => {
+            let next = counts.initializers.saturating_add(1);
+            counts.initializers = next.saturating_add(own_trees(own.get()));
+        }
         Node::Update { old: true, .. } => counts.olds = counts.olds.saturating_add(1),
         _ => {}
     }

@@ -1,6 +1,6 @@
-// The blocks of a function with their objects, and its labels.
+// The blocks of a function with their objects.
 
-use crate::draft::{Draft, Exit, count_of};
+use crate::draft::{Draft, count_of};
 use crate::steps::{BlockCode, ObjectCode, Range, StoreCode};
 use c_typed::{Access, Block, Body, Entry, ForStart};
 use c_types::{IntKind, Qual, Tags, Ty};
@@ -47,12 +47,7 @@ impl<'p, 't> Draft<'p, 't> {
     }
 
     // A block of the function; `arguments` of its objects take arguments.
-    fn add_block(
-        &mut self,
-        block: &'p Block,
-        parent: Option<u32>,
-        arguments: u32,
-    ) -> Result<(), NoMemory> {
+    fn add_block(&mut self, block: &'p Block, arguments: u32) -> Result<(), NoMemory> {
         let first = count_of(&self.code.objects);
         let mut created = 0;
         for qual in block.objects.as_slice() {
@@ -62,7 +57,6 @@ impl<'p, 't> Draft<'p, 't> {
         let number = self.function.count;
         self.function.count = number.saturating_add(count);
         self.function.objects.first.push(number)?;
-        self.function.parents.push(parent)?;
         self.code.blocks.push(BlockCode {
             objects: Range { first, count },
             first: number,
@@ -72,65 +66,45 @@ impl<'p, 't> Draft<'p, 't> {
         Ok(())
     }
 
-    fn add_label(&mut self, number: u32, block: Option<u32>) -> Result<(), NoMemory> {
-        for _ in count_of(&self.function.labels)..number.saturating_add(1) {
-            let label = self.label()?;
-            self.function.labels.push(Exit { label, block: None })?;
-        }
-        if let Some(exit) = self.function.labels.get_mut(number as usize) {
-            exit.block = block;
-        }
-        Ok(())
-    }
-
-    // The blocks and labels in a statement.
+    // The blocks in a statement.
     #[cycle(survey)]
-    pub fn survey(&mut self, body: &'p Body, block: Option<u32>) -> Result<(), NoMemory> {
+    pub fn survey(&mut self, body: &'p Body) -> Result<(), NoMemory> {
         match body {
-            Body::Block(inner) => self.survey_block(inner, block, 0),
+            Body::Block(inner) => self.survey_block(inner, 0),
             Body::If(_, yes, no) => {
-                self.survey(yes.get(), block)?;
+                self.survey(yes.get())?;
                 match no {
-                    Some(no) => self.survey(no.get(), block),
+                    Some(no) => self.survey(no.get()),
                     None => Ok(()),
                 }
             }
             Body::Switch(_, inner)
             | Body::While(_, inner)
             | Body::Do(inner, _)
+            | Body::Label(_, inner)
             | Body::Case(_, inner)
-            | Body::Default(inner) => self.survey(inner.get(), block),
-            Body::Label(number, inner) => {
-                self.add_label(*number, block)?;
-                self.survey(inner.get(), block)
-            }
+            | Body::Default(inner) => self.survey(inner.get()),
             Body::For {
                 start,
                 test: _,
                 step: _,
                 body,
-            } => match start {
-                ForStart::Declared(inner) => {
-                    self.survey_block(inner, block, 0)?;
-                    self.survey(body.get(), Some(inner.number))
+            } => {
+                if let ForStart::Declared(inner) = start {
+                    self.survey_block(inner, 0)?;
                 }
-                _ => self.survey(body.get(), block),
-            },
+                self.survey(body.get())
+            }
             _ => Ok(()),
         }
     }
 
     #[cycle(survey)]
-    pub fn survey_block(
-        &mut self,
-        block: &'p Block,
-        parent: Option<u32>,
-        arguments: u32,
-    ) -> Result<(), NoMemory> {
-        self.add_block(block, parent, arguments)?;
+    pub fn survey_block(&mut self, block: &'p Block, arguments: u32) -> Result<(), NoMemory> {
+        self.add_block(block, arguments)?;
         for entry in block.entries.as_slice() {
             if let Entry::Statement(inner) = entry {
-                self.survey(inner, Some(block.number))?;
+                self.survey(inner)?;
             }
         }
         Ok(())

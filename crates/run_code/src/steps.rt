@@ -1,8 +1,8 @@
-// A program laid out: its control steps in one flat list, each but Go one pick, and the canonical listings of its full
-// expressions.
+// A program laid out: its statements, and the canonical listings of its full expressions.
 
 use c_typed::{Access, Change, Constant, Conversion, EqOp, Place, RelOp, Typed, UnOp};
 use c_types::{BinOp, FuncTy, IntKind, Qual, Shape, Ty};
+use run_control::Statement;
 use std::rc::Rc;
 use ub_base::Items;
 
@@ -99,7 +99,7 @@ pub enum Act<'p> {
     Answer {
         discarded: bool,
     },
-    /// The body of the isolated initializer of this number.
+    /// The body of an isolated initializer, by the number of its full expression.
     Initialize(u32),
     Nothing,
     /// The constant bytes of this number are stored in the object.
@@ -148,33 +148,6 @@ pub struct Choice {
     pub test: Operand,
     pub yes: Way,
     pub no: Way,
-}
-
-/// What the value of a full expression is for.
-#[derive(Clone, Copy, Debug)]
-pub enum Use {
-    Go(u32),
-    /// The first where the value is not 0.
-    Branch(u32, u32),
-    /// The result; then the blocks are left.
-    Return(u32),
-    Switch(u32),
-    /// The frame of an isolated initializer ends.
-    Isolated,
-}
-
-#[derive(Clone, Copy, Debug)]
-pub enum Step {
-    Enter { block: u32, next: u32 },
-    Declare { object: u32, next: u32 },
-    /// A full expression, from its begin to its settle.
-    Full { expression: u32, how: Use },
-    Jump(u32),
-    Leave { block: u32, next: u32 },
-    /// No pick.
-    Go(u32),
-    /// The body block is left, and the frame ends.
-    End { block: u32 },
 }
 
 /// A full expression.
@@ -237,22 +210,17 @@ pub struct BlockCode {
     pub created: u64,
 }
 
-/// A function: where it begins, and how many automatic objects it has.
-#[derive(Clone, Copy, Debug)]
-pub struct FunctionCode {
-    pub entry: u32,
-    pub objects: u32,
-}
-
+/// A function: its body, the first of its blocks, how many automatic objects it has, and its full expressions.
 #[derive(Drop)]
-pub struct SwitchCode {
-    pub cases: Vec<(i128, u32)>,
-    pub otherwise: u32,
+pub struct FunctionCode {
+    pub body: Statement,
+    pub blocks: u32,
+    pub objects: u32,
+    pub expressions: Range,
 }
 
 #[derive(Drop)]
 pub struct Code<'p> {
-    pub steps: Vec<Step>,
     pub expressions: Vec<Expression<'p>>,
     pub listing: Vec<Listed<'p>>,
     pub chosen: Vec<(u32, u32)>,
@@ -261,9 +229,7 @@ pub struct Code<'p> {
     pub stores: Vec<StoreCode<'p>>,
     /// The constant bytes of initializer lists.
     pub constants: Vec<&'p [Constant]>,
-    pub initializers: Vec<u32>,
     pub blocks: Vec<BlockCode>,
     pub objects: Vec<ObjectCode>,
     pub functions: Vec<Option<FunctionCode>>,
-    pub switches: Vec<SwitchCode>,
 }

@@ -1,8 +1,7 @@
 -- Operands between which the tests find no conflict.
 use Rattle.std.proofs.Common.{◌≡◌, ◌⊎◌, inl, inr, ⊎_elim, ℕ, zero, suc, ◌≤◌, ◌<◌, ◌+◌, ◌-◌, Bool, true, false, not, ◌&&◌, ◌||◌, List, length, refl}
 use Rattle.std.proofs.Common.{sym, ap, ◌∙◌, arith, Option, Some, None, below_more, subst}
-use Rattle.std.specs.Prelude.{Box, slice_get}
-use Rattle.std.specs.Global.{Global}
+use Rattle.std.specs.Prelude.{slice_get}
 use Rattle.std.proofs.lemmas.Option.{slice_get_cases, slice_get_past, slice_get_within}
 use Rattle.ub_base.specs.declared.names.ObjName.{ObjName}
 use Rattle.ub_base.specs.declared.names.Item.{Item}
@@ -19,31 +18,31 @@ use Rattle.run_evaluations.specs.declared.search.Sought.TheVariants.{Any}
 use Rattle.run_evaluations.specs.Touched.{first_event, some_stands, touched, body_has, event_has, is_sought, range_has, start_of}
 use Rattle.run_evaluations.specs.Clashes.{AreSorted, NoClash, NoneBetween, operand_has}
 use Rattle.run_evaluations.specs.Kept.{is_harmless, first_item, items_of, large_of, IsOf, small_has, own_body, small_of, marks, listed_has, Gathers}
-use Rattle.run_evaluations.specs.Kept.{Kept, NoLarge, AreApart, Joined, first_large, foot_of, GathersKept, IsSameLog}
+use Rattle.run_evaluations.specs.Kept.{Kept, NoLarge, AreApart, Joined, first_large, foot_of, harmless_of, GathersKept, IsSameLog}
 use Rattle.run_evaluations.proofs.ClashLemmas.{none_like}
 use Rattle.run_evaluations.proofs.StandLemmas.{stand_conflict}
 use Rattle.run_evaluations.proofs.BetweenLemmas.{operand_past, none_turned, rises_to, apart}
 
-or_split : (p q : Bool) → p || q ≡ true → (p ≡ true) ⊎ (q ≡ true)
+pub or_split : (p q : Bool) → p || q ≡ true → (p ≡ true) ⊎ (q ≡ true)
 or_split true q h = inl refl
 or_split false q h = inr h
 
-and_right : (p q : Bool) → p && q ≡ true → q ≡ true
+pub and_right : (p q : Bool) → p && q ≡ true → q ≡ true
 and_right true q h = h
 and_right false q h = absurd (cc)
 
-both : (p q : Bool) → p ≡ true → q ≡ true → p && q ≡ true
+pub both : (p q : Bool) → p ≡ true → q ≡ true → p && q ≡ true
 both p q h k = (λ i. h i && k i)
 
-or_left : (p q : Bool) → p ≡ true → p || q ≡ true
+pub or_left : (p q : Bool) → p ≡ true → p || q ≡ true
 or_left p q h = ap (λ r. r || q) h
 
-or_right : (p q : Bool) → q ≡ true → p || q ≡ true
+pub or_right : (p q : Bool) → q ≡ true → p || q ≡ true
 or_right true q h = refl
 or_right false q h = h
 
 -- ---- the event or the item that has it
-standing : (o : Option Item) (j : Item) → some_stands o j ≡ true → (x : Item) × (o ≡ Some x) × (stands_for x j ≡ true)
+pub standing : (o : Option Item) (j : Item) → some_stands o j ≡ true → (x : Item) × (o ≡ Some x) × (stands_for x j ≡ true)
 standing None j h = absurd (cc)
 standing (Some x) j h = (x, refl, h)
 
@@ -88,14 +87,25 @@ between rows segments events items sought at none g h le more differ =
     (λ less. none_turned rows sought (operand_has sought segments events items h) (operand_has sought segments events items g) (none h g more less))
     (apart g h differ)
 
+-- where there is but one operand
+pub single_none : (rows : List Row) (segments : List Segment) (events : List Logged) (items : List Item) (at : ℕ) → length segments ≤ suc at →
+    NoneBetween Any rows segments events items at
+single_none rows segments events items at high g h le more differ i j c =
+    ⊎_elim
+    (λ less. let none = operand_past segments events items Any h j (omega (arith, less, le, high)) in
+    absurd (let e : false ≡ true = sym none ∙ c.1 in cc))
+    (λ less. let none = operand_past segments events items Any g i (omega (arith, less, more, high)) in
+    absurd (let e : false ≡ true = sym none ∙ c.0 in cc))
+    (apart g h differ)
+
 -- ---- items apart
 pub apart_by : (rows : List Row) (items : List Item) (a b c d : ℕ) → a ≡ c → b ≡ d → AreApart rows items a b → AreApart rows items c d
 apart_by rows items a b c d e m h p q le less more = h p q (omega (arith, e, le)) (omega (arith, m, less)) (omega (arith, m, more))
 
-items_past : (segments : List Segment) (items : List Item) (g : ℕ) → length segments ≤ g → items_of segments items g ≡ length items
+pub items_past : (segments : List Segment) (items : List Item) (g : ℕ) → length segments ≤ g → items_of segments items g ≡ length items
 items_past segments items g past = ap (first_item items) (slice_get_past segments g past)
 
-before_or_past : (g n : ℕ) → (g < n) ⊎ (n ≤ g)
+pub before_or_past : (g n : ℕ) → (g < n) ⊎ (n ≤ g)
 before_or_past g n = grind arith
 
 pub apart_end : (rows : List Row) (segments : List Segment) (items : List Item) (at n : ℕ) → length segments ≤ n →
@@ -129,11 +139,11 @@ pub gathers_all : (segments : List Segment) (events : List Logged) (items : List
 gathers_all segments events items g from to n f first last past has k e of j h =
     has k (omega (arith, last, past, of.1)) (omega (arith, first, of.0)) j (ap (λ o. small_of items o j) of.2 ∙ h)
 
-abbrev first_by : List Logged → Option (ℕ × ℕ × ℕ) → ℕ
+abbrev pub first_by : List Logged → Option (ℕ × ℕ × ℕ) → ℕ
 first_by events None = length events
 first_by events (Some m) = m.0
 
-first_marked : (events : List Logged) (o : Option Segment) → first_event events o ≡ first_by events (marks o)
+pub first_marked : (events : List Logged) (o : Option Segment) → first_event events o ≡ first_by events (marks o)
 first_marked events None = refl
 first_marked events (Some s) = refl
 
@@ -149,11 +159,11 @@ gathers_alike ss ts events items g f alike has k e of =
     let b = starts_alike ss ts events alike (suc g) in
     has k e (omega (arith, a, of.0), omega (arith, b, of.1), of.2)
 
-abbrev large_by : List ℕ → Option (ℕ × ℕ × ℕ) → ℕ
+abbrev pub large_by : List ℕ → Option (ℕ × ℕ × ℕ) → ℕ
 large_by large None = length large
 large_by large (Some m) = m.2
 
-large_marked : (large : List ℕ) (o : Option Segment) → first_large large o ≡ large_by large (marks o)
+pub large_marked : (large : List ℕ) (o : Option Segment) → first_large large o ≡ large_by large (marks o)
 large_marked large None = refl
 large_marked large (Some s) = refl
 
@@ -206,11 +216,13 @@ same_after a b d first second = record {
   events = second.events ∙ first.events;
   items = second.items ∙ first.items;
   large = second.large ∙ first.large;
+  levels = second.levels ∙ first.levels;
   alike = λ g. second.alike g ∙ first.alike g;
+  harm = λ g. second.harm g ∙ first.harm g;
 }
 
 pub same_self : (a : Evaluations) → IsSameLog a a
-same_self a = record { events = refl; items = refl; large = refl; alike = λ g. refl }
+same_self a = record { events = refl; items = refl; large = refl; levels = refl; alike = λ g. refl; harm = λ g. refl }
 
 operand_alike : (ss ts : List Segment) (es fs : List Logged) (is js : List Item) (g : ℕ) → ((h : ℕ) → marks (slice_get ts h) ≡ marks (slice_get ss h)) →
     fs ≡ es → js ≡ is → (j : Item) → operand_has Any ts fs js g j ≡ operand_has Any ss es is g j
@@ -236,15 +248,10 @@ sorted_alike ss ts es fs at alike e sorted =
     let in_bounds = (sorted g le).1 in
     (omega (arith, a, b, up), omega (arith, a, in_bounds)))
 
-footed : (o : Option Segment) (f : Box Foot Global) → foot_of o ≡ Some f → (s : Segment) × (o ≡ Some s) × (s.foot ≡ Some f)
-footed None f h = absurd (cc)
-footed (Some s) f h = (s, refl, h)
-
 pub kept_of : (ss ts : List Segment) (es fs : List Logged) (is js : List Item) (large : List ℕ) (at g : ℕ) → Kept ss es is large at → at ≤ g →
     ((h : ℕ) → marks (slice_get ts h) ≡ marks (slice_get ss h)) → fs ≡ es → js ≡ is → slice_get ts g ≡ slice_get ss g → GathersKept ts fs js g
 kept_of ss ts es fs is js large at g kept le alike e m left f h =
-    let s = footed (slice_get ss g) f (ap foot_of (sym left) ∙ h) in
-    gathers_by ss ts es fs is js g f.value (λ k. sym (alike k)) (sym e) (sym m) (kept.gathered g s.0 f le s.1 s.2)
+    gathers_by ss ts es fs is js g f.value (λ k. sym (alike k)) (sym e) (sym m) (kept.gathered g le f (ap foot_of (sym left) ∙ h))
 
 pub as_first : (rows : List Row) (ss ts us : List Segment) (es fs gs : List Logged) (is js : List Item) (ls ms : List ℕ) (at n : ℕ) (old now : Foot) →
     ((h : ℕ) → marks (slice_get ts h) ≡ marks (slice_get ss h)) → ((h : ℕ) → marks (slice_get us h) ≡ marks (slice_get ss h)) →
@@ -262,17 +269,6 @@ module _ (rows : List Row) (segments : List Segment) (events : List Logged) (ite
       (λ past. absurd (let none = operand_past segments events items Any g j past.0 in cc))
       (slice_get_cases segments g).1
 
-  harmless_item : (g : ℕ) (j : Item) → at ≤ g → ((s : Segment) → slice_get segments g ≡ Some s → s.harmless ≡ true) →
-      operand_has Any segments events items g j ≡ true → is_harmless j ≡ true
-  harmless_item g j le all h =
-      let s = standing_at g j h in
-      kept.harmless g s.0 le s.1 (all s.0 s.1) j h
-
-  pub harmless_none : ((g : ℕ) (s : Segment) → at ≤ g → slice_get segments g ≡ Some s → s.harmless ≡ true) →
-      NoneBetween Any rows segments events items at
-  harmless_none all g h le more differ i j c =
-      no_harm (stands_at rows) i j (harmless_item g i le (λ s e. all g s le e) c.0) (harmless_item h j more (λ s e. all h s more e) c.1) c.2
-
   -- the event of an operand that touched it
   of_operand : (g : ℕ) (j : Item) → at ≤ g → operand_has Any segments events items g j ≡ true →
       (k : ℕ) × (e : Logged) × IsOf segments events g k e × (event_has items (Some e) j ≡ true)
@@ -280,6 +276,18 @@ module _ (rows : List Row) (segments : List Segment) (events : List Logged) (ite
       let up = (kept.sorted g le).0 in
       let r = had_by events items Any (start_of segments events g) (start_of segments events (suc g) - start_of segments events g) j h in
       (r.0, r.1, (r.2, omega (arith, up, r.3), r.4), r.5)
+
+  harmless_item : (g : ℕ) (j : Item) → at ≤ g → ((s : Segment) → slice_get segments g ≡ Some s → s.harmless ≡ true) →
+      operand_has Any segments events items g j ≡ true → is_harmless j ≡ true
+  harmless_item g j le all h =
+      let s = standing_at g j h in
+      let r = of_operand g j le h in
+      kept.harmless g r.0 r.1 le (ap harmless_of s.1 ∙ all s.0 s.1) r.2 j r.3
+
+  pub harmless_none : ((g : ℕ) (s : Segment) → at ≤ g → slice_get segments g ≡ Some s → s.harmless ≡ true) →
+      NoneBetween Any rows segments events items at
+  harmless_none all g h le more differ i j c =
+      no_harm (stands_at rows) i j (harmless_item g i le (λ s e. all g s le e) c.0) (harmless_item h j more (λ s e. all h s more e) c.1) c.2
 
   -- ---- few items
   no_body : (e : Logged) (j : Item) → e.foot ≡ None → event_has items (Some e) j ≡ true → touched items e.from (e.to - e.from) j ≡ true

@@ -1,5 +1,6 @@
 // Whether evaluations conflict, as operands and nodes are completed.
-ghost use Rattle.std.specs.Prelude.{◌≡◌, ◌≤◌, ◌<◌, ◌||◌, ℕ, suc, true, false, IfOk, IfNone, OnOk, None, Some, slice_get};
+ghost use Rattle.std.specs.Global.{Global};
+ghost use Rattle.std.specs.Prelude.{Box, ◌≡◌, ◌≢◌, ◌≤◌, ◌<◌, ◌||◌, ℕ, suc, vec_len, true, false, IfOk, IfNone, OnOk, None, Some, slice_get};
 ghost use Rattle.ub_base.specs.declared.names.Item.{Item};
 ghost use Rattle.footprint.specs.declared.foot.Foot.{Foot};
 ghost use Rattle.footprint.specs.Holds.{holds};
@@ -9,23 +10,20 @@ ghost use Rattle.run_evaluations.specs.declared.search.Sought.TheVariants.{Any};
 ghost use Rattle.run_evaluations.specs.Clashes.{NoClash, NoneBetween};
 ghost use Rattle.run_evaluations.specs.FoundItems.{ItemsConflict};
 ghost use Rattle.run_evaluations.specs.Kept.{IsApart, AreApart, NoLarge, IsSameLog, IsTaken, Gathers, GathersKept, Joined, Kept};
+ghost use Rattle.run_evaluations.specs.Kept.{IsKept, NoneOfOperands, IsSameRest, AreLike, AllBelow, KeepsFeet, Spreads};
 ghost use Rattle.run_evaluations.specs.Kept.{items_of, large_of, foot_of, listed_has, own_body, small_of, is_unsequenced};
 ghost use Rattle.run_evaluations.specs.Touched.{start_of};
 
 use crate::found::Found;
-use crate::log::Logged;
-use crate::open::{Evaluations, add_all};
+use crate::open::Evaluations;
 use crate::rules::Rule;
 use crate::search::{Under, add_range, clash};
 use addr_map::AddrMap;
-use footprint::{Foot, conflicts, items_conflict};
-use ub_base::{Frames, Item, Kind, NoMemory};
+use footprint::{Foot, items_conflict};
+use ub_base::{Frames, NoMemory};
 
 /// Operands of at most so many items together are compared item by item.
 const FEW: usize = 32;
-
-/// At most so many events that come after no value below are compared one by one.
-const FEW_LOOSE: usize = 16;
 
 impl Evaluations {
     /// The operands of this node of the top frame's full expression are complete. Gives the first conflict between two of
@@ -38,7 +36,9 @@ impl Evaluations {
         rule: Rule,
         chosen: bool,
     ) -> Result<Option<Found>, NoMemory>
-        ensures { IfOk result ItemsConflict }
+        ensures conflict { IfOk result ItemsConflict }
+        ensures kept { IsKept self.old → IsKept self.new }
+        ensures none { IsKept self.old → is_unsequenced rule ≡ true → IfOk result (λ r. IfNone r (NoneOfOperands map.now self.old node)) }
     {
         let at = self.operands(node);
         if at.saturating_add(1) < self.segments.len() {
@@ -57,25 +57,26 @@ impl Evaluations {
         rule: Rule,
         chosen: bool,
     ) -> Result<Option<Found>, NoMemory>
+        requires { at < vec_len self.old.segments }
         ensures conflict { IfOk result ItemsConflict }
+        ensures kept { IsKept self.old → AllBelow self.old.levels.items at → IsKept self.new }
         ensures none { is_unsequenced rule ≡ true → Kept self.old.segments.items self.old.events.items self.old.items.items self.old.large.items at →
             IfOk result (λ r. IfNone r
             (NoneBetween Any under.entry.map.now self.old.segments.items self.old.events.items self.old.items.items at)) }
     {
         if !is_unsequenced(rule) {
-            self.gather(node, rule, chosen);
+            self.join(at, node, rule, chosen, None);
             return Ok(None);
         }
         if self.has_conflict(under.map, at)? {
             return self.found_between(under, at);
         }
         let foot = self.take_foot(at);
-        self.gather(node, rule, chosen);
-        self.put_foot(at, foot);
+        self.join(at, node, rule, chosen, foot);
         Ok(None)
     }
 
-    fn take_foot(&mut self, at: usize) -> Option<Box<Foot>>
+    pub(crate) fn take_foot(&mut self, at: usize) -> Option<Box<Foot>>
         ensures taken { IsTaken self.old self.new at }
         ensures given { result ≡ foot_of (slice_get self.old.segments.items at) }
     {
@@ -86,7 +87,9 @@ impl Evaluations {
     }
 
     fn put_foot(&mut self, at: usize, foot: Option<Box<Foot>>)
-        ensures { IsSameLog self.old self.new }
+        ensures same { IsSameLog self.old self.new }
+        ensures others { (g : ℕ) → g ≢ at → slice_get self.new.segments.items g ≡ slice_get self.old.segments.items g }
+        ensures foot { (f : Box Foot Global) → foot_of (slice_get self.new.segments.items at) ≡ Some f → foot ≡ Some f }
     {
         if let Some(segment) = self.segments.get_mut(at) {
             segment.foot = foot;
@@ -96,20 +99,28 @@ impl Evaluations {
     // Whether two of the operands whose segments begin at this one conflict.
     fn has_conflict(&mut self, map: &AddrMap, at: usize) -> Result<bool, NoMemory>
         ensures same { IsSameLog self.old self.new }
+        ensures feet { Kept self.old.segments.items self.old.events.items self.old.items.items self.old.large.items at →
+            KeepsFeet self.old.segments.items self.new.segments.items self.old.events.items self.old.items.items at }
+        ensures whole { Kept self.old.segments.items self.old.events.items self.old.items.items self.old.large.items at → IfOk result
+            (λ b. b ≡ false → (f : Box Foot Global) → foot_of (slice_get self.new.segments.items at) ≡ Some f →
+            Spreads self.old.segments.items self.old.events.items self.old.items.items at f.value) }
         ensures none { Kept self.old.segments.items self.old.events.items self.old.items.items self.old.large.items at → IfOk result
             (λ b. b ≡ false → NoneBetween Any map.now self.old.segments.items self.old.events.items self.old.items.items at) }
     {
         if self.all_harmless(at) {
+            let _ = self.take_foot(at);
             return Ok(false);
         }
         if self.are_few(at) {
-            return Ok(self.some_items_conflict(map, at));
+            let meets = self.some_items_conflict(map, at);
+            let _ = self.take_foot(at);
+            return Ok(meets);
         }
         self.gathered_conflict(map, at)
     }
 
     // Whether each of these segments is harmless.
-    fn all_harmless(&self, at: usize) -> bool
+    pub(crate) fn all_harmless(&self, at: usize) -> bool
         ensures { result ≡ true → (g : ℕ) (s : Segment) → at ≤ g → slice_get self.now.segments.items g ≡ Some s → s.harmless ≡ true }
     {
         for group in at..self.segments.len() {
@@ -150,7 +161,7 @@ impl Evaluations {
         true
     }
 
-    fn has_items_alone(&self, at: usize) -> bool
+    pub(crate) fn has_items_alone(&self, at: usize) -> bool
         ensures { result ≡ true → (e : Logged) → slice_get self.now.events.items at ≡ Some e → e.foot ≡ None }
     {
         match self.events.get(at) {
@@ -205,7 +216,7 @@ impl Evaluations {
         false
     }
 
-    fn items_at_conflict(&self, map: &AddrMap, i: usize, q: usize) -> bool
+    pub(crate) fn items_at_conflict(&self, map: &AddrMap, i: usize, q: usize) -> bool
         ensures { result ≡ false → IsApart map.now (slice_get self.now.items.items i) (slice_get self.now.items.items q) }
     {
         match (self.items.get(i), self.items.get(q)) {
@@ -217,6 +228,11 @@ impl Evaluations {
     // The same for many items, by sets. Where no two conflict, the first segment keeps the set of them all.
     fn gathered_conflict(&mut self, map: &AddrMap, at: usize) -> Result<bool, NoMemory>
         ensures same { IsSameLog self.old self.new }
+        ensures feet { Kept self.old.segments.items self.old.events.items self.old.items.items self.old.large.items at →
+            KeepsFeet self.old.segments.items self.new.segments.items self.old.events.items self.old.items.items at }
+        ensures whole { Kept self.old.segments.items self.old.events.items self.old.items.items self.old.large.items at → IfOk result
+            (λ b. b ≡ false → (f : Box Foot Global) → foot_of (slice_get self.new.segments.items at) ≡ Some f →
+            Spreads self.old.segments.items self.old.events.items self.old.items.items at f.value) }
         ensures none { Kept self.old.segments.items self.old.events.items self.old.items.items self.old.large.items at → IfOk result
             (λ b. b ≡ false → NoneBetween Any map.now self.old.segments.items self.old.events.items self.old.items.items at) }
     {
@@ -409,148 +425,6 @@ impl Evaluations {
             Some(body) => self.large_meets(map, k, body),
             None => false,
         }
-    }
-
-    /// This node of the top frame's full expression is complete. Gives the first conflict between one of its own events
-    /// and one below it that comes before its value in no order.
-    pub fn node_done(
-        &mut self,
-        frames: &Frames,
-        map: &AddrMap,
-        node: u32,
-    ) -> Result<Option<Found>, NoMemory>
-        ensures { IfOk result ItemsConflict }
-    {
-        let loose = match self.segments.last() {
-            Some(segment) => segment.loose,
-            None => self.loose.len(),
-        };
-        let count = self.events.len();
-        let own = self.own_events(node);
-        if self.has_items_from(own) {
-            self.gather_loose(loose)?;
-        }
-        let mut found = None;
-        for at in own..count {
-            if self.meets_loose(map, at, loose)? {
-                found = self.found_among(Under { frames, map }, at, loose, found)?;
-            }
-        }
-        self.add_loose(node)?;
-        Ok(found)
-    }
-
-    // The first of the node's own events, which are the last ones.
-    fn own_events(&self, node: u32) -> usize {
-        let count = self.events.len();
-        let mut at = count;
-        for i in count.saturating_sub(2)..count {
-            if self.is_of(i, node) && i < at {
-                at = i;
-            }
-        }
-        at
-    }
-
-    fn is_of(&self, at: usize, node: u32) -> bool {
-        match self.events.get(at) {
-            Some(event) => event.node == node,
-            None => false,
-        }
-    }
-
-    // Whether this event or one behind it has items.
-    fn has_items_from(&self, at: usize) -> bool {
-        match self.events.get(at) {
-            Some(event) => event.from < self.items.len(),
-            None => false,
-        }
-    }
-
-    // Where many events are in the list from there on, the top segment keeps the set of their items.
-    fn gather_loose(&mut self, loose: usize) -> Result<(), NoMemory> {
-        if self.loose.len().saturating_sub(loose) <= FEW_LOOSE || self.loose_foot().is_some() {
-            return Ok(());
-        }
-        let mut foot = Foot::new(self.alloc);
-        for i in loose..self.loose.len() {
-            if let Some(at) = self.loose.get(i) {
-                self.add_event(&mut foot, *at)?;
-            }
-        }
-        let foot = Box::new(self.alloc, foot)?;
-        if let Some(segment) = self.segments.last_mut() {
-            segment.loose_foot = Some(foot);
-        }
-        Ok(())
-    }
-
-    fn loose_foot(&self) -> Option<&Foot> {
-        match &self.segments.last()?.loose_foot {
-            Some(foot) => Some(foot),
-            None => None,
-        }
-    }
-
-    // Whether an item of the event conflicts with one of the events of the list.
-    fn meets_loose(&self, map: &AddrMap, at: usize, loose: usize) -> Result<bool, NoMemory> {
-        let Some(below) = self.loose_foot() else {
-            return Ok(self.meets_few(map, at, loose));
-        };
-        let foot = self.event_foot(at)?;
-        Ok(conflicts(&foot, below, map))
-    }
-
-    fn meets_few(&self, map: &AddrMap, at: usize, loose: usize) -> bool {
-        let Some(event) = self.events.get(at) else {
-            return false;
-        };
-        let Some(below) = self.loose.get(loose..) else {
-            return false;
-        };
-        for i in event.from..event.to {
-            if let Some(item) = self.items.get(i) {
-                for other in below {
-                    if self.item_meets_event(map, item, *other) {
-                        return true;
-                    }
-                }
-            }
-        }
-        false
-    }
-
-    fn item_meets_event(&self, map: &AddrMap, item: &Item, at: usize) -> bool {
-        let Some(event) = self.events.get(at) else {
-            return false;
-        };
-        for i in event.from..event.to {
-            if let Some(other) = self.items.get(i) {
-                if items_conflict(item, other, map) {
-                    return true;
-                }
-            }
-        }
-        false
-    }
-
-    // The node's side effect comes before no value of a parent.
-    fn add_loose(&mut self, node: u32) -> Result<(), NoMemory> {
-        let at = self.events.len().saturating_sub(1);
-        let Some(event) = self.events.last() else {
-            return Ok(());
-        };
-        if event.kind != Kind::Eff || event.node != node {
-            return Ok(());
-        }
-        self.loose.push(at)?;
-        if let (Some(segment), Some(items)) = (
-            self.segments.last_mut(),
-            self.items.get(event.from..event.to),
-        ) {
-            return add_all(&mut segment.loose_foot, items);
-        }
-        Ok(())
     }
 }
 

@@ -1,7 +1,8 @@
 // An end of the run beside evaluations that it isn't sequenced with.
-ghost use Rattle.std.specs.Prelude.{IfOk, IfSome};
+ghost use Rattle.std.specs.Prelude.{IfOk, IfSome, OnOk};
 ghost use Rattle.footprint.specs.Conflicts.{MayConflict};
 ghost use Rattle.run_evaluations.specs.FoundItems.{AreOfOne, ItemsConflict};
+ghost use Rattle.run_evaluations.specs.Kept.{IsKept};
 
 use crate::found::{Found, first_of};
 use crate::open::{Evaluations, named};
@@ -33,7 +34,8 @@ impl Evaluations {
         root: &Typed,
         rules: &Rules,
     ) -> Result<Option<Found>, NoMemory>
-        ensures { IfOk result ItemsConflict }
+        ensures conflict { IfOk result ItemsConflict }
+        ensures kept { OnOk result (IsKept self.old → IsKept self.new) }
     {
         let Some(last) = self.events.last() else {
             return Ok(None);
@@ -96,7 +98,8 @@ impl Evaluations {
         way: &Way,
         rules: &Rules,
     ) -> Result<Option<Found>, NoMemory>
-        ensures { IfOk result ItemsConflict }
+        ensures conflict { IfOk result ItemsConflict }
+        ensures kept { IsKept self.old → IsKept self.new }
     {
         let mut best = None;
         for node in way.above.iter().rev() {

@@ -1,6 +1,7 @@
 // The frames that are open.
-ghost use Rattle.std.specs.Prelude.{OnOk};
+ghost use Rattle.std.specs.Prelude.{◌≡◌, OnOk, Some};
 ghost use Rattle.run_evaluations.specs.Bodies.{Keeps};
+ghost use Rattle.run_evaluations.specs.Kept.{cut_of};
 
 use crate::known::Known;
 use footprint::Foot;
@@ -23,7 +24,8 @@ pub struct Level {
 impl Level {
     /// The frame touched these items. Of an object that was born and has died in it, the accesses are forgotten.
     pub fn touch(&mut self, known: &mut Known, items: &[Item]) -> Result<(), NoMemory>
-        ensures { OnOk result (Keeps self.old.foot self.new.foot) }
+        ensures keeps { OnOk result (Keeps self.old.foot self.new.foot) }
+        ensures cut { cut_of (Some self.new) ≡ cut_of (Some self.old) }
     {
         for item in items {
             self.touch_one(known, *item)?;
@@ -32,7 +34,8 @@ impl Level {
     }
 
     fn touch_one(&mut self, known: &mut Known, item: Item) -> Result<(), NoMemory>
-        ensures { OnOk result (Keeps self.old.foot self.new.foot) }
+        ensures keeps { OnOk result (Keeps self.old.foot self.new.foot) }
+        ensures cut { cut_of (Some self.new) ≡ cut_of (Some self.old) }
     {
         if let Item::Dies(object) = item {
             return self.bury(object);
@@ -44,7 +47,8 @@ impl Level {
     }
 
     fn bury(&mut self, object: ObjName) -> Result<(), NoMemory>
-        ensures { OnOk result (Keeps self.old.foot self.new.foot) }
+        ensures keeps { OnOk result (Keeps self.old.foot self.new.foot) }
+        ensures cut { cut_of (Some self.new) ≡ cut_of (Some self.old) }
     {
         self.foot.add(Item::Dies(object))?;
         if self.foot.has_born(object) {

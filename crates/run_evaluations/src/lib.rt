@@ -7,6 +7,7 @@ mod found;
 mod known;
 mod level;
 mod log;
+mod loose;
 mod open;
 mod rules;
 mod search;

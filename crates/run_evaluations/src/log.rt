@@ -1,7 +1,11 @@
 // The events of open full expressions.
+ghost use Rattle.std.specs.Prelude.{◌≡◌, ℕ, true, OnOk, IfSome, slice_get, Some};
+ghost use Rattle.run_evaluations.specs.Kept.{is_harmless, AllHarmless, HasAll, HasMore, IsMore};
+ghost use Rattle.ub_base.specs.declared.names.Item.{Item};
+ghost use Rattle.footprint.specs.Holds.{holds, stands_for};
 
 use footprint::Foot;
-use ub_base::{Item, Kind};
+use ub_base::{Item, Kind, NoMemory};
 
 /// An event: its node and kind, where its items stand among all, what the body that it started touched, and whether that
 /// is large.
@@ -32,8 +36,72 @@ pub struct Segment {
     pub loose_foot: Option<Box<Foot>>,
 }
 
+impl Segment {
+    /// An event of the segment touched these items.
+    pub fn add(&mut self, items: &[Item]) -> Result<(), NoMemory>
+        ensures { OnOk result (IsMore self.old self.new items.now) }
+    {
+        self.harmless = self.harmless && are_harmless(items);
+        add_to(&mut self.foot, items)
+    }
+}
+
+// Adds the items to the set, if one is kept.
+fn add_to(foot: &mut Option<Box<Foot>>, items: &[Item]) -> Result<(), NoMemory>
+    ensures { OnOk result (HasMore foot.old foot.new items.now) }
+{
+    if let Some(foot) = foot {
+        add_each(foot, items)?;
+    }
+    Ok(())
+}
+
+fn add_each(foot: &mut Foot, items: &[Item]) -> Result<(), NoMemory>
+    ensures more { OnOk result ((j : Item) → holds foot.old j ≡ true → holds foot.new j ≡ true) }
+    ensures all { OnOk result (HasAll items.now foot.new) }
+{
+    for p in 0..items.len() {
+        add_one(foot, items, p)?;
+    }
+    Ok(())
+}
+
+fn add_one(foot: &mut Foot, items: &[Item], p: usize) -> Result<(), NoMemory>
+    ensures more { OnOk result ((j : Item) → holds foot.old j ≡ true → holds foot.new j ≡ true) }
+    ensures one { OnOk result
+        ((x j : Item) → slice_get items.now p ≡ Some x → stands_for x j ≡ true → holds foot.new j ≡ true) }
+{
+    match items.get(p) {
+        Some(item) => foot.add(*item),
+        None => Ok(()),
+    }
+}
+
+/// Whether each of the items is.
+pub fn are_harmless(items: &[Item]) -> bool
+    ensures { result ≡ true → AllHarmless items.now }
+{
+    for p in 0..items.len() {
+        if !is_harmless_at(items, p) {
+            return false;
+        }
+    }
+    true
+}
+
+fn is_harmless_at(items: &[Item], p: usize) -> bool
+    ensures { result ≡ true → (x : Item) → slice_get items.now p ≡ Some x → is_harmless x ≡ true }
+{
+    match items.get(p) {
+        Some(item) => is_harmless(item),
+        None => true,
+    }
+}
+
 /// Whether the item conflicts with no read and with no other use of a living object.
-pub fn is_harmless(item: &Item) -> bool {
+pub fn is_harmless(item: &Item) -> bool
+    ensures { result ≡ is_harmless item.now }
+{
     match *item {
         Item::Read { .. } | Item::Alive(_) => true,
         _ => false,

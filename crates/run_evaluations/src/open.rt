@@ -1,10 +1,17 @@
 // The open evaluations of a run.
-ghost use Rattle.std.specs.Prelude.{◌≡◌, ◌<◌, vec_len, OnOk};
+ghost use Rattle.std.specs.Prelude.{Box, ◌≡◌, ◌≤◌, ◌<◌, ◌-◌, ◌≢◌, ◌++◌, ◌∷◌, [], take, ℕ, suc, true, false};
+ghost use Rattle.std.specs.Prelude.{length, slice_get, Some, None, vec_len, IfSome, OnOk, IfOk};
+ghost use Rattle.std.specs.Global.{Global};
+ghost use Rattle.run_evaluations.specs.declared.log.Logged.{Logged};
+ghost use Rattle.run_evaluations.specs.declared.log.Segment.{Segment};
 ghost use Rattle.run_evaluations.specs.Bodies.{HasBody};
+ghost use Rattle.run_evaluations.specs.Kept.{IsKept, IsSameRest, IsSameLog, AreLike, IsJoined, AllBelow, IsAdded, IsFirst, IsLogged, IsTold};
+ghost use Rattle.run_evaluations.specs.Kept.{IsOperand, IsSameOpen, cut_of, base_of, marks, harmless_of, foot_of, span_of, is_large, own_body};
+ghost use Rattle.ub_base.specs.declared.names.Item.{Item};
 
 use crate::known::Known;
 use crate::level::Level;
-use crate::log::{Logged, Segment, is_harmless};
+use crate::log::{Logged, Segment, are_harmless};
 use crate::rules::Rule;
 use footprint::Foot;
 use std::alloc::Global;
@@ -29,7 +36,9 @@ pub struct Evaluations {
 
 impl Evaluations {
     /// The frame of `main` alone, with no full expression.
-    pub fn new(alloc: Global) -> Result<Self, NoMemory> {
+    pub fn new(alloc: Global) -> Result<Self, NoMemory>
+        ensures { IfOk result IsKept }
+    {
         let mut open = Evaluations {
             alloc,
             levels: Vec::new(alloc),
@@ -58,7 +67,9 @@ impl Evaluations {
     }
 
     /// The event that was told last began this frame.
-    pub fn enter(&mut self, frame: Frame) -> Result<(), NoMemory> {
+    pub fn enter(&mut self, frame: Frame) -> Result<(), NoMemory>
+        ensures { OnOk result (IsKept self.old → IsKept self.new) }
+    {
         let level = Level {
             frame,
             turn: 0,
@@ -74,17 +85,33 @@ impl Evaluations {
     }
 
     /// A full expression of the top frame begins in this turn.
-    pub fn begin(&mut self, turn: u64) {
+    pub fn begin(&mut self, turn: u64)
+        ensures { IsKept self.old → IsKept self.new }
+    {
+        self.set_turn(turn);
+    }
+
+    fn set_turn(&mut self, turn: u64)
+        ensures { IsSameOpen self.old self.new }
+    {
         if let Some(level) = self.levels.last_mut() {
             level.turn = turn;
         }
     }
 
     /// A control step of the top frame touched these items.
-    pub fn step(&mut self, items: &[Item]) -> Result<(), NoMemory> {
+    pub fn step(&mut self, items: &[Item]) -> Result<(), NoMemory>
+        ensures { IsKept self.old → IsKept self.new }
+    {
         if self.levels.len() < 2 {
             return Ok(());
         }
+        self.touch_top(items)
+    }
+
+    fn touch_top(&mut self, items: &[Item]) -> Result<(), NoMemory>
+        ensures { IsSameOpen self.old self.new }
+    {
         match self.levels.last_mut() {
             Some(level) => level.touch(&mut self.known, items),
             None => Ok(()),
@@ -100,68 +127,129 @@ impl Evaluations {
         items: &[Item],
         rule: Rule,
         chosen: bool,
-    ) -> Result<(), NoMemory> {
+    ) -> Result<(), NoMemory>
+        ensures kept { OnOk result (IsKept self.old → IsKept self.new) }
+        ensures told { OnOk result ((e : Logged) × (e.node ≡ node) × (e.kind ≡ kind) × IsTold self.old self.new e items.now) }
+    {
         self.gather(node, rule, chosen);
-        let first = self.events.len();
+        if self.is_top_of(node) {
+            self.log_at_top(node, kind, items)?;
+            return Ok(());
+        }
+        self.log_first(node, kind, items)?;
+        Ok(())
+    }
+
+    // An event of the top segment touched these items.
+    fn log_at_top(&mut self, node: u32, kind: Kind, items: &[Item]) -> Result<(), NoMemory>
+        ensures kept { OnOk result (IsKept self.old → (last : ℕ) → length self.old.segments.items ≡ suc last →
+            AllBelow self.old.levels.items last → IsKept self.new) }
+        ensures told { OnOk result ((e : Logged) × (e.node ≡ node) × (e.kind ≡ kind) × IsTold self.old self.new e items.now) }
+    {
+        self.add_to_top(items)?;
+        self.log(node, kind, items)?;
+        Ok(())
+    }
+
+    // The first event of a segment touched these items.
+    fn log_first(&mut self, node: u32, kind: Kind, items: &[Item]) -> Result<(), NoMemory>
+        ensures kept { OnOk result (IsKept self.old → IsKept self.new) }
+        ensures told { OnOk result ((e : Logged) × (e.node ≡ node) × (e.kind ≡ kind) × IsTold self.old self.new e items.now) }
+    {
+        self.push_segment(node, items)?;
+        self.log(node, kind, items)?;
+        Ok(())
+    }
+
+    // Whether the top segment of the top frame is that of this node.
+    fn is_top_of(&self, node: u32) -> bool
+        ensures { result ≡ true → IsKept self.now → (last : ℕ) × (length self.now.segments.items ≡ suc last) × AllBelow self.now.levels.items last }
+    {
+        if self.segments.len() <= self.base() {
+            return false;
+        }
+        match self.segments.last() {
+            Some(segment) => segment.node == node,
+            None => false,
+        }
+    }
+
+    // The top segment has these items too.
+    fn add_to_top(&mut self, items: &[Item]) -> Result<(), NoMemory>
+        ensures rest { IsSameRest self.old self.new }
+        ensures added { OnOk result (IsAdded self.old.segments.items self.new.segments.items items.now) }
+    {
+        match self.segments.last_mut() {
+            Some(segment) => segment.add(items),
+            None => Ok(()),
+        }
+    }
+
+    // A segment of this node begins with an event that touched these items.
+    fn push_segment(&mut self, node: u32, items: &[Item]) -> Result<(), NoMemory>
+        ensures rest { IsSameRest self.old self.new }
+        ensures pushed { OnOk result ((s : Segment) × IsFirst self.old self.new s items.now) }
+    {
+        let segment = Segment {
+            node,
+            first: self.events.len(),
+            items: self.items.len(),
+            loose: self.loose.len(),
+            large: self.large.len(),
+            harmless: are_harmless(items),
+            foot: None,
+            loose_foot: None,
+        };
+        self.segments.push(segment)?;
+        Ok(())
+    }
+
+    // Adds an event to the log.
+    fn log(&mut self, node: u32, kind: Kind, items: &[Item]) -> Result<(), NoMemory>
+        ensures { OnOk result ((e : Logged) × (e.node ≡ node) × (e.kind ≡ kind) × IsLogged self.old self.new e items.now) }
+    {
         let from = self.items.len();
         self.items.extend_from_slice(items)?;
-        self.events.push(Logged {
+        let event = Logged {
             node,
             kind,
             from,
             to: self.items.len(),
             foot: None,
             large: false,
-        })?;
-        let harmless = items.iter().all(is_harmless);
-        if let Some(segment) = self.segment_of(node) {
-            segment.harmless = segment.harmless && harmless;
-            return add_all(&mut segment.foot, items);
-        }
-        self.segments.push(Segment {
-            node,
-            first,
-            items: from,
-            loose: self.loose.len(),
-            large: self.large.len(),
-            harmless,
-            foot: None,
-            loose_foot: None,
-        })?;
+        };
+        self.events.push(event)?;
         Ok(())
     }
 
-    // The top segment, if it is that of this node.
-    fn segment_of(&mut self, node: u32) -> Option<&mut Segment> {
-        if self.segments.len() <= self.base() {
-            return None;
-        }
-        match self.segments.last_mut() {
-            Some(segment) => {
-                if segment.node == node {
-                    Some(segment)
-                } else {
-                    None
-                }
-            }
-            None => None,
-        }
-    }
-
     // Where the segments of the top frame begin.
-    pub(crate) fn base(&self) -> usize {
+    pub(crate) fn base(&self) -> usize
+        ensures { result ≡ base_of self.now.levels.items }
+    {
         match self.levels.last() {
             Some(level) => level.segments,
             None => 0,
         }
     }
 
-    // The first of the segments of this node's operands, which are the last ones.
-    pub(crate) fn operands(&self, node: u32) -> usize {
+    // The first of the segments of this node's operands, which are the last ones of the top frame.
+    pub(crate) fn operands(&self, node: u32) -> usize
+        ensures below { IsKept self.now → AllBelow self.now.levels.items result }
+        ensures least { (g : ℕ) → IsOperand self.now.segments.items self.now.levels.items node g → result ≤ g }
+    {
         let base = self.base();
+        let at = self.first_above(node, base);
+        if at < base { base } else { at }
+    }
+
+    // The first of the last segments from this one on that are of nodes behind this node.
+    fn first_above(&self, node: u32, base: usize) -> usize
+        ensures { (g : ℕ) → base ≤ g → ((k : ℕ) (s : Segment) → g ≤ k → slice_get self.now.segments.items k ≡ Some s → node < s.node) →
+            result ≤ g }
+    {
         let mut at = self.segments.len();
-        for (i, segment) in self.segments.iter().enumerate().rev() {
-            if i < base || segment.node <= node {
+        for i in (base..self.segments.len()).rev() {
+            if self.is_up_to(i, node) {
                 return at;
             }
             at = i;
@@ -169,37 +257,98 @@ impl Evaluations {
         at
     }
 
+    // Whether the segment is of no node behind this one.
+    fn is_up_to(&self, i: usize, node: u32) -> bool
+        ensures { result ≡ true → ((s : Segment) → slice_get self.now.segments.items i ≡ Some s → node < s.node) → ⊥ }
+    {
+        match self.segments.get(i) {
+            Some(segment) => segment.node <= node,
+            None => false,
+        }
+    }
+
     // Makes one segment of those of a node's operands.
-    pub(crate) fn gather(&mut self, node: u32, rule: Rule, chosen: bool) {
+    pub(crate) fn gather(&mut self, node: u32, rule: Rule, chosen: bool)
+        ensures rest { IsSameRest self.old self.new }
+        ensures kept { IsKept self.old → IsKept self.new }
+    {
         let at = self.operands(node);
         if at >= self.segments.len() {
             return;
         }
-        self.keep_loose(at, node, rule, chosen);
-        let mut harmless = true;
-        for segment in &self.segments[at..] {
-            harmless = harmless && segment.harmless;
+        let foot = self.take_only(at);
+        self.join(at, node, rule, chosen, foot);
+    }
+
+    // The set of the segment, if it is the last one, and then no longer kept.
+    fn take_only(&mut self, at: usize) -> Option<Box<Foot>>
+        ensures same { IsSameLog self.old self.new }
+        ensures others { (g : ℕ) → g ≢ at → slice_get self.new.segments.items g ≡ slice_get self.old.segments.items g }
+        ensures given { (f : Box Foot Global) → result ≡ Some f →
+            (length self.old.segments.items ≤ suc at) × (foot_of (slice_get self.old.segments.items at) ≡ Some f) }
+    {
+        if at.saturating_add(1) < self.segments.len() {
+            return None;
         }
-        let behind = at + 1;
-        let several = behind < self.segments.len();
+        self.take_foot(at)
+    }
+
+    // Makes one segment of those from this one on, with this set.
+    pub(crate) fn join(
+        &mut self,
+        at: usize,
+        node: u32,
+        rule: Rule,
+        chosen: bool,
+        foot: Option<Box<Foot>>,
+    )
+        requires { at < vec_len self.old.segments }
+        ensures rest { IsSameRest self.old self.new }
+        ensures joined { IsJoined self.old.segments.items self.new.segments.items at }
+        ensures foot { foot_of (slice_get self.new.segments.items at) ≡ foot }
+    {
+        let harmless = self.all_harmless(at);
+        self.keep_loose(at, node, rule, chosen);
         let loose_foot = if rule == Rule::Open {
             self.only_loose_foot(at)
         } else {
             None
         };
-        self.segments.truncate(behind);
+        self.put_joined(at, node, harmless, foot, loose_foot);
+    }
+
+    // Leaves this segment as the last one, with what is said of it.
+    fn put_joined(
+        &mut self,
+        at: usize,
+        node: u32,
+        harmless: bool,
+        foot: Option<Box<Foot>>,
+        loose_foot: Option<Box<Foot>>,
+    )
+        requires { at < vec_len self.old.segments }
+        ensures rest { IsSameRest self.old self.new }
+        ensures count { length self.new.segments.items ≡ suc at }
+        ensures others { (g : ℕ) → g < at → slice_get self.new.segments.items g ≡ slice_get self.old.segments.items g }
+        ensures begins { marks (slice_get self.new.segments.items at) ≡ marks (slice_get self.old.segments.items at) }
+        ensures harm { harmless_of (slice_get self.new.segments.items at) ≡ harmless }
+        ensures foot { foot_of (slice_get self.new.segments.items at) ≡ foot }
+    {
+        self.segments.truncate(at + 1);
         if let Some(segment) = self.segments.get_mut(at) {
             segment.node = node;
             segment.harmless = harmless;
             segment.loose_foot = loose_foot;
-            if several {
-                segment.foot = None;
-            }
+            segment.foot = foot;
         }
     }
 
     // The set of the loose events of the segments from there on, where the first or the last of them has them all.
-    fn only_loose_foot(&mut self, at: usize) -> Option<Box<Foot>> {
+    fn only_loose_foot(&mut self, at: usize) -> Option<Box<Foot>>
+        ensures rest { IsSameRest self.old self.new }
+        ensures count { length self.new.segments.items ≡ length self.old.segments.items }
+        ensures like { (g : ℕ) → AreLike (slice_get self.old.segments.items g) (slice_get self.new.segments.items g) }
+    {
         let first = self.segments.get(at)?.loose;
         if self.segments.last()?.loose == first {
             return self.segments.last_mut()?.loose_foot.take();
@@ -213,7 +362,8 @@ impl Evaluations {
     // Leaves those loose events of the operands that no rule of the node sequences before its value.
     fn keep_loose(&mut self, at: usize, node: u32, rule: Rule, chosen: bool)
         requires { at < vec_len self.old.segments }
-        ensures { self.new.segments ≡ self.old.segments }
+        ensures segments { self.new.segments ≡ self.old.segments }
+        ensures rest { IsSameRest self.old self.new }
     {
         let first = self.segments[at].loose;
         let last = self.segments.len() - 1;
@@ -240,71 +390,210 @@ impl Evaluations {
     }
 
     /// The top frame's full expression is settled: the frame keeps what it touched, `main` nothing.
-    pub fn settle(&mut self) -> Result<(), NoMemory> {
-        if self.levels.len() > 1 {
-            self.keep_touched()?;
+    pub fn settle(&mut self) -> Result<(), NoMemory>
+        ensures { OnOk result (IsKept self.old → IsKept self.new) }
+    {
+        self.keep_touched()?;
+        self.cut_off();
+        Ok(())
+    }
+
+    // The lists end where the top frame's full expression began.
+    fn cut_off(&mut self)
+        ensures { IsKept self.old → IsKept self.new }
+    {
+        if let Some(cut) = self.top_cut() {
+            self.cut_at(cut);
         }
-        if let Some(level) = self.levels.last() {
-            self.events.truncate(level.events);
-            self.items.truncate(level.items);
-            self.segments.truncate(level.segments);
-            self.loose.truncate(level.loose);
-            self.large.truncate(level.large);
+    }
+
+    // Where the top frame's full expression begins among the segments, events, items, large bodies and loose events.
+    fn top_cut(&self) -> Option<(usize, usize, usize, usize, usize)>
+        ensures { IfSome result (λ p. cut_of (slice_get self.now.levels.items (length self.now.levels.items - 1)) ≡
+            Some (record { segments = p.0; events = p.1; items = p.2; large = p.3 })) }
+    {
+        match self.levels.last() {
+            Some(level) => Some((
+                level.segments,
+                level.events,
+                level.items,
+                level.large,
+                level.loose,
+            )),
+            None => None,
+        }
+    }
+
+    fn cut_at(&mut self, cut: (usize, usize, usize, usize, usize))
+        ensures segments { self.new.segments.items ≡ take cut.0 self.old.segments.items }
+        ensures events { self.new.events.items ≡ take cut.1 self.old.events.items }
+        ensures items { self.new.items.items ≡ take cut.2 self.old.items.items }
+        ensures large { self.new.large.items ≡ take cut.3 self.old.large.items }
+        ensures levels { self.new.levels.items ≡ self.old.levels.items }
+    {
+        self.segments.truncate(cut.0);
+        self.events.truncate(cut.1);
+        self.items.truncate(cut.2);
+        self.large.truncate(cut.3);
+        self.loose.truncate(cut.4);
+    }
+
+    // The top frame keeps what its full expression touched, unless it is that of `main`.
+    fn keep_touched(&mut self) -> Result<(), NoMemory>
+        ensures { IsKept self.old → IsKept self.new }
+    {
+        if self.levels.len() < 2 {
+            return Ok(());
+        }
+        self.keep_items()?;
+        let from = match self.levels.last() {
+            Some(level) => level.events,
+            None => return Ok(()),
+        };
+        for at in from..self.events.len() {
+            self.keep_body(at)?;
         }
         Ok(())
     }
 
-    // The top frame keeps what its full expression touched.
-    fn keep_touched(&mut self) -> Result<(), NoMemory> {
+    fn keep_items(&mut self) -> Result<(), NoMemory>
+        ensures { IsSameOpen self.old self.new }
+    {
         let Some(level) = self.levels.last_mut() else {
             return Ok(());
         };
-        if let Some(items) = self.items.get(level.items..) {
-            level.touch(&mut self.known, items)?;
+        match self.items.get(level.items..) {
+            Some(items) => level.touch(&mut self.known, items),
+            None => Ok(()),
         }
-        for _ in level.events..self.events.len() {
-            if let Some(event) = self.events.pop() {
-                let Logged { foot, .. } = event;
-                if let Some(foot) = foot {
-                    level.foot.absorb(Box::into_inner(foot))?;
-                }
-            }
+    }
+
+    // The top frame keeps what the body touched that the event started, and the event no longer has it.
+    fn keep_body(&mut self, at: usize) -> Result<(), NoMemory>
+        ensures { IsKept self.old → IsKept self.new }
+    {
+        let body = self.take_body(at);
+        self.absorb(body)
+    }
+
+    fn take_body(&mut self, at: usize) -> Option<Box<Foot>>
+        ensures segments { self.new.segments.items ≡ self.old.segments.items }
+        ensures items { self.new.items.items ≡ self.old.items.items }
+        ensures larges { self.new.large.items ≡ self.old.large.items }
+        ensures levels { self.new.levels.items ≡ self.old.levels.items }
+        ensures count { length self.new.events.items ≡ length self.old.events.items }
+        ensures spans { (k : ℕ) → span_of (slice_get self.new.events.items k) ≡ span_of (slice_get self.old.events.items k) }
+        ensures large { (k : ℕ) → is_large (slice_get self.new.events.items k) ≡ is_large (slice_get self.old.events.items k) }
+        ensures bodies { (k : ℕ) (j : Item) → own_body (slice_get self.new.events.items k) j ≡ true →
+            own_body (slice_get self.old.events.items k) j ≡ true }
+    {
+        match self.events.get_mut(at) {
+            Some(event) => event.foot.take(),
+            None => None,
         }
-        Ok(())
+    }
+
+    fn absorb(&mut self, body: Option<Box<Foot>>) -> Result<(), NoMemory>
+        ensures { IsSameOpen self.old self.new }
+    {
+        let Some(body) = body else {
+            return Ok(());
+        };
+        match self.levels.last_mut() {
+            Some(level) => level.foot.absorb(Box::into_inner(body)),
+            None => Ok(()),
+        }
     }
 
     /// The top frame has ended: what it touched is what the body touched that started it.
-    pub fn leave(&mut self) -> Result<(), NoMemory> {
+    pub fn leave(&mut self) -> Result<(), NoMemory>
+        ensures { OnOk result (IsKept self.old → IsKept self.new) }
+    {
         if self.levels.len() < 2 {
             return Ok(());
         }
         self.settle()?;
-        let Some(level) = self.levels.pop() else {
+        let Some(level) = self.pop_level() else {
             return Ok(());
         };
         let Level { foot, .. } = level;
-        self.give(foot)
+        self.give(foot)?;
+        Ok(())
+    }
+
+    fn pop_level(&mut self) -> Option<Level>
+        ensures { IsKept self.old → IsKept self.new }
+    {
+        self.levels.pop()
     }
 
     // The body that the last event started touched this.
     fn give(&mut self, foot: Foot) -> Result<(), NoMemory>
-        ensures { OnOk result (HasBody self.new.events.items foot) }
+        ensures body { OnOk result (HasBody self.new.events.items foot) }
+        ensures kept { OnOk result (IsKept self.old → IsKept self.new) }
     {
-        let is_large = foot.size() > LARGE;
-        let at = self.events.len().saturating_sub(1);
-        match self.events.last_mut() {
-            Some(event) => {
-                event.foot = Some(Box::new(self.alloc, foot)?);
-                event.large = is_large;
-            }
-            None => return Ok(()),
+        let large = self.is_listed(&foot);
+        self.list_last(large)?;
+        self.open_top();
+        self.put_body(foot, large)?;
+        Ok(())
+    }
+
+    // Whether a body is large, and has a segment of its frame to be listed with.
+    fn is_listed(&self, foot: &Foot) -> bool
+        ensures { result ≡ true → base_of self.now.levels.items < length self.now.segments.items }
+    {
+        foot.size() > LARGE && self.segments.len() > self.base()
+    }
+
+    // Lists the last event among those with large bodies, if it is one.
+    fn list_last(&mut self, large: bool) -> Result<(), NoMemory>
+        ensures segments { self.new.segments.items ≡ self.old.segments.items }
+        ensures events { self.new.events.items ≡ self.old.events.items }
+        ensures items { self.new.items.items ≡ self.old.items.items }
+        ensures levels { self.new.levels.items ≡ self.old.levels.items }
+        ensures no { large ≡ false → self.new.large.items ≡ self.old.large.items }
+        ensures yes { OnOk result (large ≡ true →
+            self.new.large.items ≡ self.old.large.items ++ ((length self.old.events.items - 1) ∷ [])) }
+    {
+        if !large {
+            return Ok(());
         }
-        if is_large {
-            self.large.push(at)?;
-        }
+        self.large.push(self.events.len().saturating_sub(1))?;
+        Ok(())
+    }
+
+    // The top segment isn't harmless, and no set of it is kept.
+    fn open_top(&mut self)
+        ensures rest { IsSameRest self.old self.new }
+        ensures count { length self.new.segments.items ≡ length self.old.segments.items }
+        ensures alike { (g : ℕ) → marks (slice_get self.new.segments.items g) ≡ marks (slice_get self.old.segments.items g) }
+        ensures others { (g : ℕ) → g < length self.old.segments.items - 1 → slice_get self.new.segments.items g ≡ slice_get self.old.segments.items g }
+        ensures harm { harmless_of (slice_get self.new.segments.items (length self.old.segments.items - 1)) ≡ false }
+        ensures foot { foot_of (slice_get self.new.segments.items (length self.old.segments.items - 1)) ≡ None }
+    {
         if let Some(segment) = self.segments.last_mut() {
             segment.harmless = false;
             segment.foot = None;
+        }
+    }
+
+    // The body that the last event started touched this, and is so large or not.
+    fn put_body(&mut self, foot: Foot, large: bool) -> Result<(), NoMemory>
+        ensures body { OnOk result (HasBody self.new.events.items foot) }
+        ensures segments { self.new.segments.items ≡ self.old.segments.items }
+        ensures items { self.new.items.items ≡ self.old.items.items }
+        ensures larges { self.new.large.items ≡ self.old.large.items }
+        ensures levels { self.new.levels.items ≡ self.old.levels.items }
+        ensures count { length self.new.events.items ≡ length self.old.events.items }
+        ensures spans { (k : ℕ) → span_of (slice_get self.new.events.items k) ≡ span_of (slice_get self.old.events.items k) }
+        ensures others { (k : ℕ) → suc k < length self.old.events.items → slice_get self.new.events.items k ≡ slice_get self.old.events.items k }
+        ensures large { OnOk result ((k : ℕ) → suc k ≡ length self.old.events.items → is_large (slice_get self.new.events.items k) ≡ large) }
+    {
+        let body = Box::new(self.alloc, foot)?;
+        if let Some(event) = self.events.last_mut() {
+            event.foot = Some(body);
+            event.large = large;
         }
         Ok(())
     }

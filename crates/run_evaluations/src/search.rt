@@ -12,7 +12,7 @@ ghost use Rattle.run_evaluations.specs.Clashes.{Clash, SomeClash, NoClash, AreSo
 ghost use Rattle.run_evaluations.specs.FoundItems.{ItemsConflict};
 ghost use Rattle.run_evaluations.specs.Touched.{some_stands, touched, event_has, is_sought, range_has, start_of};
 
-use crate::found::{Found, first_of};
+use crate::found::Found;
 use crate::open::{Evaluations, named};
 use addr_map::AddrMap;
 use footprint::{Foot, access_pair, conflict, conflicts, races};
@@ -364,27 +364,6 @@ impl Evaluations {
             Some(items) => Ok(self.found(Sought::Any, a, b, items)),
             None => Ok(None),
         }
-    }
-
-    /// The first conflict of this event with those of the list, which stand below it.
-    pub(crate) fn found_among(
-        &self,
-        under: Under<'_>,
-        event: usize,
-        loose: usize,
-        best: Option<Found>,
-    ) -> Result<Option<Found>, NoMemory>
-        requires { ItemsConflict best }
-        ensures { IfOk result ItemsConflict }
-    {
-        let mut best = best;
-        for i in loose..self.loose.len() {
-            if let Some(other) = self.loose.get(i) {
-                let found = self.found_of_two(under, event, *other)?;
-                best = first_of(under.frames, best, found);
-            }
-        }
-        Ok(best)
     }
 }
 

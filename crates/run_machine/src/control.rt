@@ -4,9 +4,10 @@ use crate::halt::Halt;
 use crate::machine::{Local, Machine, Stage};
 use crate::pick::Pick;
 use crate::watch::Begun;
-use prov_memory::{ObjKind, Value};
+use prov_memory::ObjKind;
 use run_acts::total;
-use run_code::{BlockCode, Operand, Range, Step, Use};
+use run_code::{BlockCode, Operand, Range};
+use run_control::{Move, Step, Use};
 use seq_order::Taken;
 use ub_base::{Cause, NoMemory, ObjName};
 
@@ -14,57 +15,69 @@ use ub_base::{Cause, NoMemory, ObjName};
 pub const MOST_CREATED: u64 = 1 << 26;
 
 impl<'p, 'c> Machine<'p, 'c> {
-    // The step that comes next: those that are no pick are passed.
-    fn next_step(&mut self) -> Result<Step, NoMemory> {
-        let code = self.code;
-        for _ in 0..code.steps.len() {
-            match code.steps.get(self.top.at as usize) {
-                Some(Step::Go(to)) => self.top.at = *to,
-                Some(step) => return Ok(*step),
-                None => return Err(NoMemory),
-            }
-        }
-        Err(NoMemory)
-    }
-
     // The control step of the top frame, in whose full expression no event is left.
     pub fn control(&mut self) -> Result<Pick, Halt> {
-        match self.next_step()? {
-            Step::Full { expression, how } => match self.top.stage {
-                None => self.begin(expression),
-                Some(stage) => self.settle(stage, how),
+        match self.top.stage {
+            Some(stage) => self.settle(stage),
+            None => match self.work.next()? {
+                Some(step) => self.step(step),
+                None => Err(Halt::NoMemory),
             },
-            Step::Enter { block, next } => self.enter(block, next),
-            Step::Leave { block, next } => {
-                self.leave(block)?;
-                Ok(self.moved(next))
-            }
-            Step::Declare { object, next } => {
-                self.declare(object)?;
-                Ok(self.moved(next))
-            }
-            Step::End { block } => {
-                self.leave(block)?;
-                self.end_frame()
-            }
-            Step::Jump(to) | Step::Go(to) => Ok(self.moved(to)),
         }
     }
 
-    fn moved(&mut self, to: u32) -> Pick {
-        self.top.at = to;
-        Pick::Step(None)
+    fn step(&mut self, step: Step<'c>) -> Result<Pick, Halt> {
+        match step {
+            Step::Begin(number, how) => self.begin(number, how),
+            Step::Enter(block) => self.enter(block.number),
+            Step::Leave(block) => {
+                self.leave(block.number)?;
+                self.go_on()
+            }
+            Step::Unwrite(object) => self.declare(object),
+            Step::Nothing => Ok(Pick::Step(None)),
+            Step::GoTo(label) => self.go_to(label),
+            Step::GoOut => self.go(Move::Out),
+            Step::GoOn => self.go(Move::On),
+            Step::GoBack => self.go(Move::Back),
+        }
     }
 
+    // The frame ends with this step where nothing is left to do in it.
+    fn go_on(&mut self) -> Result<Pick, Halt> {
+        if self.work.is_over()? {
+            self.end_frame()
+        } else {
+            Ok(Pick::Step(None))
+        }
+    }
+
+    fn go(&mut self, how: Move) -> Result<Pick, Halt> {
+        self.work.go(how)?;
+        Ok(Pick::Step(None))
+    }
+
+    fn go_to(&mut self, label: u32) -> Result<Pick, Halt> {
+        let Some(function) = self.top.function else {
+            return Err(Halt::NoMemory);
+        };
+        let target = self.jumps.label(function, label)?;
+        self.work.go_to(&self.jumps.links, target)?;
+        Ok(Pick::Step(None))
+    }
+
+    // The block of this number in the function.
     fn block(&self, number: u32) -> Result<BlockCode, NoMemory> {
-        match self.code.blocks.get(number as usize) {
+        let at = self.top.blocks.saturating_add(number);
+        match self.code.blocks.get(at as usize) {
             Some(block) => Ok(*block),
             None => Err(NoMemory),
         }
     }
 
     // A block is entered: its objects are created in order, and the first take the arguments.
-    fn enter(&mut self, number: u32, next: u32) -> Result<Pick, Halt> {
+    fn enter(&mut self, number: u32) -> Result<Pick, Halt> {
+        self.entered = number;
         self.top.turn = self.top.turn.saturating_add(1);
         let block = self.block(number)?;
         let reached = total(self.memory.created(), block.created);
@@ -77,7 +90,7 @@ impl<'p, 'c> Machine<'p, 'c> {
         for object in 0..block.arguments {
             self.store_argument(block.objects, block.first, object)?;
         }
-        Ok(self.moved(next))
+        Ok(Pick::Step(None))
     }
 
     // The object of this number in the block.
@@ -154,16 +167,21 @@ impl<'p, 'c> Machine<'p, 'c> {
         }
     }
 
-    // An object's bytes become unwritten.
-    fn declare(&mut self, object: u32) -> Result<(), NoMemory> {
-        let name = self.local_name(object)?;
+    // The bytes of an object of the innermost block become unwritten.
+    fn declare(&mut self, object: u32) -> Result<Pick, Halt> {
+        let Some(block) = self.work.block() else {
+            return Err(Halt::NoMemory);
+        };
+        let first = self.block(block.number)?.first;
+        let name = self.local_name(first.saturating_add(object))?;
         self.memory.unwrite(name, &mut self.items);
-        Ok(())
+        Ok(Pick::Step(None))
     }
 
-    // A full expression begins.
-    fn begin(&mut self, number: u32) -> Result<Pick, Halt> {
+    // A full expression begins, whose value has this use.
+    fn begin(&mut self, number: u32, how: Use<'c>) -> Result<Pick, Halt> {
         let code = self.code;
+        self.top.how = how;
         self.top.turn = self.top.turn.saturating_add(1);
         let Some(expression) = code.expressions.get(number as usize) else {
             return Err(Halt::NoMemory);
@@ -219,42 +237,28 @@ impl<'p, 'c> Machine<'p, 'c> {
     }
 
     // The value of a full expression is used.
-    fn settle(&mut self, stage: Stage, how: Use) -> Result<Pick, Halt> {
+    fn settle(&mut self, stage: Stage) -> Result<Pick, Halt> {
         let operand = self.expression(stage)?.value;
         self.top.stage = None;
-        match how {
-            Use::Go(to) => Ok(self.moved(to)),
-            Use::Branch(yes, no) => Ok(self.branch(operand, yes, no)),
-            Use::Return(to) => {
-                self.left = Some(self.value(operand)?);
-                Ok(self.moved(to))
-            }
-            Use::Switch(number) => {
-                let to = self.case(number, self.integer(operand))?;
-                Ok(self.moved(to))
-            }
-            Use::Isolated => {
-                self.left = Some(Value::Nothing);
-                self.end_frame()
-            }
+        match self.top.how {
+            Use::Select(switch) => self.select(switch.number, operand)?,
+            how => self.use_value(how, operand)?,
         }
+        self.go_on()
     }
 
-    fn branch(&mut self, test: Operand, yes: u32, no: u32) -> Pick {
-        let to = if self.truth(test) { yes } else { no };
-        self.moved(to)
+    fn use_value(&mut self, how: Use<'c>, operand: Operand) -> Result<(), NoMemory> {
+        if let Use::Result = how {
+            self.left = Some(self.value(operand)?);
+        }
+        let truth = self.truth(operand);
+        self.work.settle(how, truth)
     }
 
-    // Where the case label of this value leads (6.8.4.2p5).
-    fn case(&self, number: u32, value: i128) -> Result<u32, NoMemory> {
-        let Some(switch) = self.code.switches.get(number as usize) else {
-            return Err(NoMemory);
-        };
-        for case in &switch.cases {
-            if case.0 == value {
-                return Ok(case.1);
-            }
-        }
-        Ok(switch.otherwise)
+    // The case that the value of a `switch` statement's test names comes next.
+    fn select(&mut self, switch: u32, operand: Operand) -> Result<(), NoMemory> {
+        let value = self.integer(operand);
+        let target = self.jumps.case(switch, value)?;
+        self.work.select(&self.jumps.links, target)
     }
 }

@@ -1,5 +1,5 @@
 // Frames that start and end, and the bodies of calls.
-ghost use Rattle.std.specs.Prelude.{IfOk};
+ghost use Rattle.std.specs.Prelude.{◌≡◌, [], IfOk};
 ghost use Rattle.run_machine.specs.Depth.{StartsWithin};
 
 use crate::events::Outcome;
@@ -11,6 +11,7 @@ use c_types::LibFunc;
 use prov_memory::{LibAnswer, Value, Values};
 use run_acts::{callee, exit_status, left};
 use run_code::{CallCode, FunctionCode, Operand};
+use run_control::Use;
 use ub_base::{Cause, Clause, Event, Items, Kind, NoMemory};
 
 // How many frames of functions may be open at once (own).
@@ -140,20 +141,19 @@ impl<'p, 'c> Machine<'p, 'c> {
         Ok(Outcome::Started)
     }
 
-    fn function_code(&self, function: u32) -> Result<FunctionCode, NoMemory> {
-        match self.code.functions.get(function as usize) {
-            Some(Some(code)) => Ok(*code),
+    fn function_code(&self, function: u32) -> Result<&'c FunctionCode, NoMemory> {
+        let code = self.code;
+        match code.functions.get(function as usize) {
+            Some(Some(function)) => Ok(function),
             _ => Err(NoMemory),
         }
     }
 
-    // The frame of an isolated initializer, which sees the objects of the frame below.
+    // The frame of an isolated initializer, by its full expression, which sees the objects of the frame below.
     pub fn initialize(&mut self, number: u32, event: Event) -> Result<Outcome, Fault> {
-        let Some(entry) = self.code.initializers.get(number as usize) else {
-            return Err(Fault::NoMemory);
-        };
+        self.work.start_initializer(number)?;
         let locals = (self.top.locals, self.top.above);
-        self.open_frame(None, *entry, locals, event)?;
+        self.open_frame(None, self.top.blocks, locals, event)?;
         Ok(Outcome::Started)
     }
 
@@ -162,14 +162,15 @@ impl<'p, 'c> Machine<'p, 'c> {
         let locals = self.top.above;
         let above = locals.saturating_add(code.objects as usize);
         self.grow_locals(above)?;
-        self.open_frame(Some(function), code.entry, (locals, above), event)
+        self.work.start(&code.body)?;
+        self.open_frame(Some(function), code.blocks, (locals, above), event)
     }
 
-    // A frame becomes the top one.
+    // A frame becomes the top one, whose work was started.
     fn open_frame(
         &mut self,
         function: Option<u32>,
-        entry: u32,
+        blocks: u32,
         locals: (usize, usize),
         event: Event,
     ) -> Result<(), NoMemory> {
@@ -177,21 +178,27 @@ impl<'p, 'c> Machine<'p, 'c> {
         self.top = Open {
             frame: event.frame,
             turn: 0,
-            at: entry,
             stage: None,
+            how: Use::Unused,
             base: self.top.base.saturating_add(self.top.rooms as usize),
             rooms: 0,
             locals: locals.0,
             above: locals.1,
             function,
+            blocks,
             node: event.node,
         };
         Ok(())
     }
 
-    // The top frame ends: its body is done in the frame below and leaves its result there. The end of the first frame is
-    // that of the run.
-    pub fn end_frame(&mut self) -> Result<Pick, Halt> {
+    // The top frame, in which nothing is left to do, ends: its body is done in the frame below and leaves its result there.
+    // The end of the first frame is that of the run.
+    pub fn end_frame(&mut self) -> Result<Pick, Halt>
+        requires over { self.old.work.now ≡ [] }
+    {
+        if !self.work.finish() {
+            return Err(Halt::NoMemory);
+        }
         let value = self.result();
         let node = self.top.node;
         let Some(open) = self.below.pop() else {

@@ -5,7 +5,9 @@ use crate::machine::{Machine, Open};
 use c_typed::{Access, Program};
 use prov_memory::{Memory, Streams, Touched, TypeId, Value, Via};
 use run_acts::{Filling, Places, Started, fillings, start};
-use run_code::Code;
+use run_code::{Code, FunctionCode};
+use run_control::{Control, Use};
+use run_statements::Jumps;
 use std::alloc::Global;
 use ub_base::{Bytes, Frame, Items, NoMemory};
 
@@ -36,23 +38,56 @@ fn fillings_of(
     Ok(all)
 }
 
-// The frame of `main` before its first step.
-fn first_frame(program: &Program, code: &Code) -> Result<Open, NoMemory> {
-    let Some(Some(main)) = code.functions.get(program.main as usize) else {
-        return Err(NoMemory);
-    };
-    Ok(Open {
+fn main_of<'c>(program: &Program, code: &'c Code<'_>) -> Result<&'c FunctionCode, NoMemory> {
+    match code.functions.get(program.main as usize) {
+        Some(Some(main)) => Ok(main),
+        _ => Err(NoMemory),
+    }
+}
+
+// Where the jumps of the program go.
+fn jumps_of<'c>(alloc: Global, code: &'c Code<'_>) -> Result<Jumps<'c>, NoMemory> {
+    let mut jumps = Jumps::new(alloc);
+    for function in &code.functions {
+        match function {
+            Some(function) => jumps.add(alloc, Some(&function.body))?,
+            None => jumps.add(alloc, None)?,
+        }
+    }
+    Ok(jumps)
+}
+
+// The frame of `main` before its first step, what is to be done in it, and where jumps go.
+#[derive(Drop)]
+struct First<'c> {
+    top: Open<'c>,
+    work: Control<'c>,
+    jumps: Jumps<'c>,
+}
+
+fn first_frame<'c>(
+    alloc: Global,
+    program: &Program,
+    code: &'c Code<'_>,
+) -> Result<First<'c>, NoMemory> {
+    let main = main_of(program, code)?;
+    let jumps = jumps_of(alloc, code)?;
+    let mut work = Control::new(alloc);
+    work.start(&main.body)?;
+    let top = Open {
         frame: Frame(0),
         turn: 0,
-        at: main.entry,
         stage: None,
+        how: Use::Unused,
         base: 0,
         rooms: 0,
         locals: 0,
         above: main.objects as usize,
         function: Some(program.main),
+        blocks: main.blocks,
         node: 0,
-    })
+    };
+    Ok(First { top, work, jumps })
 }
 
 // Where the objects stand that stand before the first pick, and the arguments of `main`.
@@ -114,11 +149,12 @@ pub fn prepare<'p, 'c>(
     let fillings = fillings_of(alloc, code, &mut first.memory, &first.places)?;
     let items = no_items(alloc)?;
     let streams = Streams::new(alloc, input);
-    let top = first_frame(program, code)?;
+    let frame = first_frame(alloc, program, code)?;
+    let above = frame.top.above;
     let mut machine = assembled(
-        alloc, program, code, streams, first, vias, fillings, items, top,
+        alloc, program, code, streams, first, vias, fillings, items, frame,
     );
-    machine.grow_locals(top.above)?;
+    machine.grow_locals(above)?;
     Ok(machine)
 }
 
@@ -131,7 +167,7 @@ fn assembled<'p, 'c>(
     vias: Vec<Via>,
     fillings: Vec<Items<Filling>>,
     items: TouchedItems,
-    top: Open,
+    frame: First<'c>,
 ) -> Machine<'p, 'c> {
     let Placed {
         memory,
@@ -139,6 +175,7 @@ fn assembled<'p, 'c>(
         values,
     } = first;
     let TouchedItems { pick, act } = items;
+    let First { top, work, jumps } = frame;
     Machine {
         alloc,
         program,
@@ -150,6 +187,9 @@ fn assembled<'p, 'c>(
         streams,
         below: Vec::new(alloc),
         top,
+        work,
+        jumps,
+        entered: 0,
         depth: 1,
         begun: Vec::new(alloc),
         strayed: Vec::new(alloc),

@@ -7,6 +7,8 @@ use c_typed::Program;
 use prov_memory::{Memory, Outputs, Streams, Touched, Value, Via};
 use run_acts::{Filling, Places, Pointer, as_integer, as_pointer, pointer_to, truth};
 use run_code::{Code, Operand};
+use run_control::{Control, Use};
+use run_statements::Jumps;
 use seq_order::Done;
 use std::alloc::Global;
 use ub_base::{Frame, Frames, Items, NoMemory, ObjName};
@@ -24,13 +26,13 @@ pub struct Stage {
 
 // An open frame.
 #[derive(Clone, Copy)]
-pub struct Open {
+pub struct Open<'c> {
     // Its number, from the end of the pick on that starts it.
     pub frame: Frame,
     pub turn: u64,
-    // The next control step.
-    pub at: u32,
     pub stage: Option<Stage>,
+    // What the value of its full expression is for.
+    pub how: Use<'c>,
     // Where the values of its full expression begin, and how many there are.
     pub base: usize,
     pub rooms: u32,
@@ -39,6 +41,8 @@ pub struct Open {
     pub above: usize,
     // The function, where the frame is no isolated initializer's.
     pub function: Option<u32>,
+    // The first block of that function.
+    pub blocks: u32,
     // The node of the frame below that started it.
     pub node: u32,
 }
@@ -62,8 +66,13 @@ pub struct Machine<'p, 'c> {
     pub places: Places,
     pub memory: Memory,
     pub streams: Streams,
-    pub below: Vec<Open>,
-    pub top: Open,
+    pub below: Vec<Open<'c>>,
+    pub top: Open<'c>,
+    // What is left to do in each open frame, and where jumps go.
+    pub work: Control<'c>,
+    pub jumps: Jumps<'c>,
+    // The number in its function of the block that was entered last.
+    pub entered: u32,
     // How many frames of functions are open.
     pub depth: u64,
     // For each open frame its full expression, and what is done in it where its order isn't the canonical one.

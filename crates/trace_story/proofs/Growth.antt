@@ -3,7 +3,7 @@ use Rattle.std.proofs.Common.{◌≡◌, ◌∙◌, ℕ, refl, sym, ap, subst, L
 use Rattle.std.specs.Prelude.{Option, Some, None}
 use Rattle.std.proofs.lemmas.List.{map-append}
 use Rattle.ub_base.specs.Frames.{Row}
-use Rattle.core_run.specs.Calls.{Call, node_done, operands_done, Heard}
+use Rattle.core_run.specs.Calls.{Call, node_done, operands_done, Heard, picks_in}
 use Rattle.core_run.specs.declared.watch.Go.{Go}
 use Rattle.ub_base.specs.declared.names.Frame.{Frame}
 use Rattle.ub_base.specs.declared.names.ObjName.{ObjName}
@@ -11,7 +11,7 @@ use Rattle.c_names.specs.Names.{object_name}
 use Rattle.trace_story.specs.Named.{IsNamed}
 use Rattle.trace_story.specs.declared.entry.Entry.{Entry}
 use Rattle.trace_story.specs.declared.told.Sought.{Sought}
-use Rattle.trace_story.specs.Stories.{Mark, mark_of, marks_in, picks_in, story_in}
+use Rattle.trace_story.specs.Stories.{Mark, mark_of, marks_in, story_in}
 
 -- a call that tells something
 pub one_call : (rows : List Row) (sought : Option Sought) (calls grown : Heard) (call : Call) (go : Go) (n : ℕ) (old more new : List Entry)

@@ -6,7 +6,7 @@ use Rattle.ub_base.specs.declared.names.Item.{Item}
 use Rattle.ub_base.specs.declared.names.ObjName.{ObjName}
 use Rattle.addr_map.specs.declared.map.Row.{Row as Place}
 use Rattle.addr_map.specs.Rows.{row_of as place_of}
-use Rattle.core_run.specs.Calls.{Call, picked, node_done, operands_done, Heard}
+use Rattle.core_run.specs.Calls.{Call, picked, node_done, operands_done, Heard, picks_in}
 use Rattle.trace_story.specs.declared.entry.Entry.{Entry}
 use Rattle.trace_story.specs.declared.told.Sought.{Sought}
 use Rattle.trace_story.specs.Told.{told_in}
@@ -21,16 +21,6 @@ mark_of e = (e.pick, e.event, e.item)
 
 abbrev pub mark_at : ℕ → Option Event → Item → Mark
 mark_at n event item = (n, event, item)
-
--- how many picks were told
-abbrev pub and_call : Call → ℕ → ℕ
-and_call (picked event items) n = n + 1
-and_call (node_done frame turn node) n = n
-and_call (operands_done frame turn node) n = n
-
-abbrev pub picks_in : Heard → ℕ
-picks_in [] = 0
-picks_in (h ∷ hs) = and_call h.0 (picks_in hs)
 
 -- what a call tells of the object, behind so many picks
 abbrev pub marks_of : List Row → Sought → ℕ → Call → List Mark

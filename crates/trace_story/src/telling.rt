@@ -1,9 +1,9 @@
 // The run that is told.
 ghost use Rattle.std.specs.Prelude.{◌≡◌, ◌≤◌, map, [], IfOk, IsTrue, Some, None};
-ghost use Rattle.core_run.specs.Calls.{StartedBy};
+ghost use Rattle.core_run.specs.Calls.{StartedBy, picks_in};
 ghost use Rattle.core_run.specs.Ends.{picks_of, told_of};
 ghost use Rattle.trace_story.specs.Named.{IsNamed};
-ghost use Rattle.trace_story.specs.Stories.{mark_of, picks_in, story_in, sought_in};
+ghost use Rattle.trace_story.specs.Stories.{mark_of, story_in, sought_in};
 
 use crate::entry::{Entries, Story};
 use crate::named::{are_same, named_in};

@@ -1,6 +1,7 @@
 // The watch that tells the story of an object.
 ghost use Rattle.std.specs.Prelude.{◌≡◌, map, IsTrue, [], Some};
-ghost use Rattle.trace_story.specs.Stories.{mark_of, picks_in, story_in};
+ghost use Rattle.core_run.specs.Calls.{picks_in};
+ghost use Rattle.trace_story.specs.Stories.{mark_of, story_in};
 
 use crate::entry::Entries;
 use crate::named::are_same;

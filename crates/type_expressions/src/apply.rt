@@ -4,8 +4,9 @@ use c_ast::{AssignOp, BinaryOp, PostOp, UnaryOp};
 use c_typed::{EqOp, Node, RelOp, Slot};
 use c_types::{BinOp, IntKind, Qual, Shared, Ty, copied, copied_qual};
 use std::alloc::Global;
-use type_operators as express;
-use type_operators::{Form, Operand, Reason, integer, is_void, leaf, object_of, place, value};
+use type_calls::is_void;
+use type_operands::{Form, Operand, integer, leaf, object_of, place, value};
+use type_reasons::Reason;
 use type_scope::{Meaning, Source, State, TypeFault, placed, placed_for, placed_unless};
 use ub_base::NoMemory;
 
@@ -107,14 +108,28 @@ pub fn unary(state: &State, op: UnaryOp, a: Operand, line: u32) -> Result<Operan
         line,
         unary_reason(op),
         match op {
-            UnaryOp::Address => express::addressed(a),
-            UnaryOp::Deref => express::dereferenced(alloc, tags, a, line),
-            UnaryOp::Plus => express::plus(alloc, tags, a),
-            UnaryOp::Minus => express::negated(alloc, tags, a, line),
-            UnaryOp::Tilde => express::complemented(alloc, tags, a, line),
-            UnaryOp::Not => express::inverted(alloc, tags, a, line),
-            UnaryOp::Increment => express::stepped(alloc, tags, state, BinOp::Add, a, line),
-            UnaryOp::Decrement => express::stepped(alloc, tags, state, BinOp::Sub, a, line),
+            UnaryOp::Address => type_operators::addressed(a),
+            UnaryOp::Deref => type_operators::dereferenced(alloc, tags, a, line),
+            UnaryOp::Plus => type_operators::plus(alloc, tags, a),
+            UnaryOp::Minus => type_operators::negated(alloc, tags, a, line),
+            UnaryOp::Tilde => type_operators::complemented(alloc, tags, a, line),
+            UnaryOp::Not => type_operators::inverted(alloc, tags, a, line),
+            UnaryOp::Increment => type_assignments::stepped(
+                alloc,
+                tags,
+                state,
+                BinOp::Add,
+                a,
+                line,
+            ),
+            UnaryOp::Decrement => type_assignments::stepped(
+                alloc,
+                tags,
+                state,
+                BinOp::Sub,
+                a,
+                line,
+            ),
         },
     )
 }
@@ -129,7 +144,7 @@ pub fn postfix(state: &State, op: PostOp, a: Operand, line: u32) -> Result<Opera
     placed_for(
         line,
         Reason::PostfixStep,
-        express::incremented(state.alloc, &state.tags, state, op, a, line),
+        type_assignments::incremented(state.alloc, &state.tags, state, op, a, line),
     )
 }
 
@@ -201,13 +216,13 @@ pub fn binary(
         line,
         binary_reason(op),
         match binary_of(op) {
-            BinaryForm::Common(op) => express::multiplied(alloc, tags, op, a, b, line),
-            BinaryForm::Add => express::added(alloc, tags, a, b, line),
-            BinaryForm::Sub => express::subtracted(alloc, tags, a, b, line),
-            BinaryForm::Shift(op) => express::shifted(alloc, tags, op, a, b, line),
-            BinaryForm::Compare(op) => express::compared(alloc, tags, op, a, b, line),
-            BinaryForm::Equate(op) => express::equated(alloc, tags, op, a, b, line),
-            BinaryForm::Join(either) => express::joined(alloc, tags, either, a, b, line),
+            BinaryForm::Common(op) => type_operators::multiplied(alloc, tags, op, a, b, line),
+            BinaryForm::Add => type_operators::added(alloc, tags, a, b, line),
+            BinaryForm::Sub => type_operators::subtracted(alloc, tags, a, b, line),
+            BinaryForm::Shift(op) => type_operators::shifted(alloc, tags, op, a, b, line),
+            BinaryForm::Compare(op) => type_operators::compared(alloc, tags, op, a, b, line),
+            BinaryForm::Equate(op) => type_operators::equated(alloc, tags, op, a, b, line),
+            BinaryForm::Join(either) => type_operators::joined(alloc, tags, either, a, b, line),
         },
     )
 }
@@ -260,8 +275,8 @@ pub fn assignment(
         Reason::NotModifiable,
         assignment_reason(op),
         match operator_of(op) {
-            None => express::assigned(alloc, tags, state, a, b, line),
-            Some(op) => express::compound(alloc, tags, state, op, a, b, line),
+            None => type_assignments::assigned(alloc, tags, state, a, b, line),
+            Some(op) => type_assignments::compound(alloc, tags, state, op, a, b, line),
         },
     )
 }
@@ -284,7 +299,7 @@ pub fn conditional(
         line,
         Reason::ConditionalTest,
         reason,
-        express::chosen(state.alloc, &state.tags, a, b, c, line),
+        type_calls::chosen(state.alloc, &state.tags, a, b, c, line),
     )
 }
 
@@ -293,7 +308,7 @@ pub fn conditional(
 pub fn sequence(state: &State, operands: Vec<Operand>, line: u32) -> Result<Operand, TypeFault> {
     placed(
         line,
-        express::sequenced(state.alloc, &state.tags, operands, line),
+        type_calls::sequenced(state.alloc, &state.tags, operands, line),
     )
 }
 
@@ -314,7 +329,7 @@ pub fn call(
         line,
         Reason::CalledType,
         reason,
-        express::called(state.alloc, &state.tags, designator, arguments, line),
+        type_calls::called(state.alloc, &state.tags, designator, arguments, line),
     )
 }
 
@@ -324,7 +339,7 @@ pub fn subscript(state: &State, a: Operand, b: Operand, line: u32) -> Result<Ope
     placed_for(
         line,
         Reason::Subscript,
-        express::indexed(state.alloc, &state.tags, a, b, line),
+        type_operators::indexed(state.alloc, &state.tags, a, b, line),
     )
 }
 
@@ -342,10 +357,10 @@ pub fn member(
     let tags = &state.tags;
     let name = source.spelling(name);
     if arrow {
-        let made = express::member_of_pointer(alloc, tags, a, name, line);
+        let made = type_operators::member_of_pointer(alloc, tags, a, name, line);
         placed_for(line, Reason::MemberOfPointer, made)
     } else {
-        let made = express::member_of_value(alloc, tags, a, name, line);
+        let made = type_operators::member_of_value(alloc, tags, a, name, line);
         placed_for(line, Reason::MemberOfValue, made)
     }
 }
@@ -410,6 +425,6 @@ fn cast_reason(to: &Ty) -> Reason {
 /// A cast (6.5.4).
 #[inline(never)]
 pub fn cast(state: &State, a: Operand, to: &Ty, line: u32) -> Result<Operand, TypeFault> {
-    let made = express::cast(state.alloc, &state.tags, a, to, line);
+    let made = type_conversions::cast(state.alloc, &state.tags, a, to, line);
     placed_for(line, cast_reason(to), made)
 }

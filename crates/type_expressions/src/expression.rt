@@ -1,15 +1,18 @@
 // Expressions, and the declarations inside them: type names, specifiers and declarators (6.5, 6.7.2 to 6.7.7).
 
-use crate::declarator::{Declared, Derivation};
-use crate::tag::MemberList;
-use crate::words::{Storage, Words, read_words};
-use crate::{apply, constants, declarator, literal, tag};
+use crate::apply;
 use c_ast::{
     AssignOp, Base, BinaryOp, Declarator, Enumerator, Expr, ExprNode, MemberEntry, Param, PostOp,
     Specs, TypeName, UnaryOp,
 };
 use c_types::Qual;
-use type_operators::{Operand, Reason, integer_constant};
+use type_constants::integer_constant;
+use type_declarators::declarator::{Declared, Derivation};
+use type_declarators::tag::MemberList;
+use type_declarators::words::{Storage, Words, read_words};
+use type_declarators::{constants, declarator, literal, tag};
+use type_operands::Operand;
+use type_reasons::Reason;
 use type_scope::{Meaning, Source, State, TypeFault};
 use type_values::enumerator;
 use ub_base::Items;

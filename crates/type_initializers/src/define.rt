@@ -1,16 +1,17 @@
 // Objects with their initializers (6.7.9).
 
-use crate::cursor::Spot;
-use crate::initial::{
-    Given, Listed, Listing, braced, is_text_array, lone_expression, lone_text, scalar_reason, text,
-};
-use crate::listing::{list_constants, list_node, object_place};
-use crate::statics::{keep_literal, part_reason, static_content};
+use crate::initial::{braced, is_text_array, lone_expression, lone_text, scalar_reason, text};
 use c_ast::{Expr, ExprNode, Init, InitEntry};
 use c_typed::{Constant, Content, Slot, Typed};
 use c_types::{Qual, Ty, copied};
+use type_assignments::stored;
+use type_conversions::is_scalar;
 use type_expressions::expression::expression;
-use type_operators::{Reason, is_scalar, stored};
+use type_listing::{
+    Given, Listed, Listing, Spot, keep_literal, list_constants, list_node, object_place,
+    part_reason, static_content,
+};
+use type_reasons::Reason;
 use type_scope::{Source, State, TypeFault, placed_for};
 use ub_base::{Bytes, Items};
 

@@ -1,12 +1,7 @@
-//! Initialization (6.7.9): what each part of an object is given, by designators and in the order of its parts, and the bytes of
-//! static objects.
+//! Initialization (6.7.9): what each part of an object is given, by designators and in the order of its parts.
 #![tactic(auto)]
 
-mod cursor;
 mod define;
 mod initial;
-mod listing;
-mod statics;
-mod zeros;
 
 pub use define::{automatic, initialize};

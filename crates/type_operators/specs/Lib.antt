@@ -1,9 +1,2 @@
-pub mod Assignments
-pub mod Calls
-pub mod Choices
-pub mod Constants
-pub mod Conversions
-pub mod Layouts
 pub mod Members
 pub mod Operators
-pub mod Terms

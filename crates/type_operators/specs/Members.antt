@@ -1,22 +1,17 @@
 -- Members of structures and unions (6.5.2.3).
 use Rattle.std.specs.Prelude.{ℕ, Bool, false, ◌||◌, List, Option, Some, None}
-use Rattle.c_types.specs.Types.{CType, pointer, array, struct, union, Qualified, type_of, qualified_of}
+use Rattle.c_types.specs.Types.{CType, pointer, struct, union, Qualified, type_of, qualified_of}
 use Rattle.c_typed.specs.declared.tree.Access.{Access}
 use Rattle.c_typed.specs.declared.tree.Node.TheOpen as shape
 use Rattle.layout.specs.Names.{named}
-use Rattle.type_operators.specs.Layouts.{Layouts}
+use Rattle.type_operands.specs.Layouts.{Layouts}
 use Rattle.type_operators.specs.declared.member.Found.{Found}
 use Rattle.type_operators.specs.declared.member.Part.{Part}
-use Rattle.type_operators.specs.declared.operand.Form.{Form}
-use Rattle.type_operators.specs.declared.operand.Form.TheVariants as form
-use Rattle.type_operators.specs.Terms.{Term, type_at, unary, Expression, as_value, as_place, ◌>>=◌}
-use Rattle.type_operators.specs.Conversions.{target_of, access_of, value}
-
--- the type with this qualifier; of an array its elements have it (6.7.3p9)
-abbrev pub qualified : Bool → CType → Qualified
-qualified constant (array of_element element count) =
-    let q = qualified (of_element || constant) element in record { constant = false; ty = array q.constant q.ty count }
-qualified constant ty = record { constant = constant; ty = ty }
+use Rattle.type_operands.specs.declared.operand.Form.{Form}
+use Rattle.type_operands.specs.declared.operand.Form.TheVariants as form
+use Rattle.type_operands.specs.Terms.{Term, type_at, unary, Expression, as_value, as_place, ◌>>=◌}
+use Rattle.type_operands.specs.Conversions.{target_of, access_of, value}
+use Rattle.type_operands.specs.Qualifiers.{qualified}
 
 abbrev pub tag_of : CType → Option ℕ
 tag_of (struct tag) = Some tag

@@ -1,29 +1,26 @@
 -- The operators of 6.5.3 to 6.5.14: the node that each makes of its operands, or that a constraint forbids it.
-use Rattle.std.specs.Prelude.{ℕ, Bool, true, false, not, ◌&&◌, ◌||◌, if◌then◌else◌, List, Option, Some, None}
+use Rattle.std.specs.Prelude.{ℕ, Bool, true, false, not, ◌&&◌, ◌||◌, if◌then◌else◌, Option, Some, None}
 use Rattle.c_types.specs.declared.kind.IntKind.{IntKind}
 use Rattle.c_types.specs.declared.kind.IntKind.TheVariants.{Int, Long}
 use Rattle.c_types.specs.declared.kind.BinOp.{BinOp}
 use Rattle.c_types.specs.declared.kind.BinOp.TheVariants.{Add, Sub}
 use Rattle.c_types.specs.Layout.{extent}
-use Rattle.c_types.specs.Types.{CType, void, int, pointer, Qualified, kind_of}
+use Rattle.c_types.specs.Types.{int, Qualified, kind_of}
 use Rattle.c_typed.specs.declared.tree.RelOp.{RelOp}
 use Rattle.c_typed.specs.declared.tree.EqOp.{EqOp}
 use Rattle.c_typed.specs.declared.tree.UnOp.{UnOp}
 use Rattle.c_typed.specs.declared.tree.UnOp.TheVariants as unary_op
 use Rattle.c_typed.specs.declared.tree.Node.TheOpen as shape
 use Rattle.c_typed.specs.declared.tree.Node.TheOpen.{Node-F}
-use Rattle.c_typed.specs.declared.tree.Typed.{Typed}
-use Rattle.type_operators.specs.Layouts.{Layouts}
-use Rattle.type_operators.specs.declared.operand.Form.{Form}
-use Rattle.type_operators.specs.declared.operand.Form.TheVariants as form
+use Rattle.type_operands.specs.Layouts.{Layouts}
+use Rattle.type_operands.specs.declared.operand.Form.{Form}
+use Rattle.type_operands.specs.declared.operand.Form.TheVariants as form
 use Rattle.c_types.specs.Same.{compatible}
-use Rattle.type_operators.specs.Terms.{Term, term_of, type_at, line_at, unary, binary, Expression, as_value, as_place, ◌>>=◌, unless_refused}
-use Rattle.type_operators.specs.Conversions.{target_of, is_void, is_function, is_pointer, is_scalar, may_meet, value, promoted, Balanced}
-use Rattle.type_operators.specs.Conversions.{balanced, converted_on, discarded}
-use Rattle.type_operators.specs.Constants.{is_null, null_as, null_pointer}
-
-abbrev pub balanced_of : Typed × Typed × IntKind → Balanced
-balanced_of p = record { left = term_of p.0; right = term_of p.1; kind = p.2 }
+use Rattle.type_operands.specs.Terms.{Term, type_at, unary, binary, Expression, as_value, as_place, ◌>>=◌, unless_refused}
+use Rattle.type_operands.specs.Conversions.{target_of, is_function, is_pointer, may_meet, value, promoted, Balanced}
+use Rattle.type_operands.specs.Conversions.{balanced, step}
+use Rattle.type_conversions.specs.Casts.{truth}
+use Rattle.type_conversions.specs.Pairs.{matched}
 
 -- 1. Integers.
 
@@ -71,22 +68,11 @@ negated = of_promoted unary_op.Minus
 abbrev pub complemented : Layouts → Expression → ℕ → Option Expression
 complemented = of_promoted unary_op.Complement
 
--- a value that is tested against zero, of scalar type (6.5.13p2, 6.8.4.1p1, 6.8.5p2)
-unfoldable pub truth : Layouts → Expression → Option Term
-truth tags a = value tags a >>= λ x. unless_refused (is_scalar (type_at x)) x
-
 -- `!`, of any scalar (6.5.3.3p5)
 unfoldable pub inverted : Layouts → Expression → ℕ → Option Expression
 inverted tags a line = truth tags a >>= λ x. Some (as_value (unary (shape.Un unary_op.Not) (int Int) line x))
 
 -- 2. Pointers.
-
--- the bytes of the elements that a pointer steps over, of a complete type (6.5.6p2)
-unfoldable pub step : Layouts → CType → Option ℕ
-step tags ty = do
-  target ← target_of ty
-  e ← extent tags.extents target.ty
-  Some e.size
 
 -- a pointer moved by an integer keeps its type (6.5.6p8)
 unfoldable pub moved : Layouts → Bool → Term → Term → ℕ → Option Term
@@ -160,9 +146,6 @@ abbrev pub alike : Bool → Term → Term → Option (Term × Term)
 alike true x y = Some (x, y)
 alike false x y = balanced x y >>= λ p. Some (p.left, p.right)
 
-abbrev pub pair_of : Typed × Typed → Term × Term
-pair_of p = (term_of p.0, term_of p.1)
-
 -- `< > <= >=`: two integers, or two pointers to compatible object types; the result is an `int` (6.5.8p2, 6.5.8p6)
 unfoldable pub compared : Layouts → RelOp → Expression → Expression → ℕ → Option Expression
 compared tags op a b line = do
@@ -203,15 +186,7 @@ dereferenced tags a line = do
   target ← target_of (type_at x)
   Some (record { tree = x; form = pointed_form target; line = line })
 
--- 4. `==` and `!=`, and casts.
-
--- a null pointer constant beside a pointer gets its type (6.3.2.3p3, 6.5.9p5)
-abbrev pub beside : Form → Term → CType → Term
-beside form t other = if is_pointer other && null_as form t then null_pointer other (line_at t) else t
-
--- two values, by the forms of their operands: the second one beside the first, and the first one beside that
-abbrev pub matched : Form → Term → Form → Term → Term × Term
-matched f x g y = let z = beside g y (type_at x) in (beside f x (type_at z), z)
+-- 4. `==` and `!=`.
 
 -- pointers to compatible types, or one to `void` and one to an object type (6.5.9p2)
 abbrev pub met : Option Qualified → Option Qualified → Term × Term → Option (Term × Term)
@@ -234,32 +209,3 @@ equated tags op a b line = do
   y ← value tags b
   p ← equal_operands a.form x b.form y
   Some (as_value (binary (shape.Eq op) (int Int) line p.0 p.1))
-
--- an integer constant expression of value 0, cast to `void *`, is a null pointer constant again (6.3.2.3p3)
-abbrev pub is_void_pointer : CType → Bool
-is_void_pointer (pointer false void) = true
-is_void_pointer _ = false
-
-abbrev pub null_form : Form → CType → Form
-null_form form.Value to = if is_void_pointer to then form.NullPointer else form.Value
-null_form _ to = form.Value
-
-abbrev pub null_cast : Expression → CType → ℕ → Expression
-null_cast e to line = record { tree = null_pointer to line; form = null_form e.form to; line = line }
-
-unfoldable pub scalar_cast : Layouts → CType → Expression → ℕ → Option Expression
-scalar_cast tags to e line = do
-  x ← value tags e
-  from ← unless_refused (is_scalar (type_at x) && is_scalar to) x
-  t ← converted_on tags line to from
-  Some (as_value t)
-
-unfoldable pub void_cast : Layouts → Expression → ℕ → Option Expression
-void_cast tags e line = discarded tags e >>= λ t. Some (record { tree = t; form = form.Void; line = line })
-
--- a cast: to `void`, of which no value is left, or from one scalar type to another (6.5.4p2, 6.5.4p3, 6.3.2.2)
-abbrev pub cast : Layouts → CType → Expression → ℕ → Option Expression
-cast tags to e line =
-    if is_void to then void_cast tags e line
-    else if is_pointer to && is_null e then Some (null_cast e to line)
-    else scalar_cast tags to e line

@@ -1,28 +1,18 @@
 // Additive operators and subscripts (6.5.6, 6.5.2.1).
 ghost use Rattle.std.specs.Prelude.{◌≡◌};
-ghost use Rattle.c_types.specs.Types.{type_of, qualified_of};
+ghost use Rattle.c_types.specs.Types.{qualified_of};
 ghost use Rattle.c_types.specs.Same as tests;
-ghost use Rattle.type_operators.specs.Terms.{term_of, expression_of, Gives};
+ghost use Rattle.type_operands.specs.Terms.{term_of, expression_of, Gives};
 ghost use Rattle.type_operators.specs.Operators as spec;
-ghost use Rattle.type_operators.specs.Layouts.{layouts};
+ghost use Rattle.type_operands.specs.Layouts.{layouts};
 
 use crate::binary::arithmetic;
-use crate::convert::is_pointer;
-use crate::operand::{Form, Operand, kind_of, object_of, place, value, value_of, with_children};
-use crate::{Reason, Refused};
 use c_typed::{Node, Typed};
 use c_types::{BinOp, IntKind, Qual, Tags, Ty, compatible, copied};
 use std::alloc::Global;
-
-// The bytes of the elements that a pointer steps over: of a complete object type (6.5.6p2).
-#[tactic(auto, unfolding(crate::specs::Operators::step))]
-pub fn step_of(tags: &Tags, ty: &Ty) -> Option<u64>
-    ensures { result ≡ spec.step (layouts tags.now) (type_of ty.now) }
-{
-    let target = object_of(ty)?;
-    let e = tags.extent(&target.ty)?;
-    Some(e.size)
-}
+use type_conversions::is_pointer;
+use type_operands::{Operand, kind_of, object_of, place, step_of, value, value_of, with_children};
+use type_reasons::{Reason, Refused};
 
 // A pointer moved by an index, which keeps its type (6.5.6p8).
 #[tactic(auto, unfolding(crate::specs::Operators::moved))]

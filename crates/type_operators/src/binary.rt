@@ -1,30 +1,17 @@
 // Multiplicative, shift, relational, equality, bitwise and logical operators (6.5.5, 6.5.7 to 6.5.14).
 ghost use Rattle.std.specs.Prelude.{◌≡◌, Some};
-ghost use Rattle.c_types.specs.Types.{type_of, qualified_of};
-ghost use Rattle.type_operators.specs.Terms.{term_of, expression_of, Gives};
-ghost use Rattle.type_operators.specs.Conversions as conversions;
-ghost use Rattle.type_operators.specs.Operators.{balanced_of, pair_of};
+ghost use Rattle.c_types.specs.Types.{qualified_of};
+ghost use Rattle.type_operands.specs.Terms.{term_of, expression_of, Gives};
+ghost use Rattle.type_conversions.specs.Pairs.{pair_of};
 ghost use Rattle.type_operators.specs.Operators as spec;
-ghost use Rattle.type_operators.specs.Layouts.{layouts};
+ghost use Rattle.type_operands.specs.Layouts.{layouts};
 
-use crate::constant::{is_null, null_pointer};
-use crate::convert::{is_pointer, may_meet, promoted, to_kind, truth, usual_kind};
-use crate::operand::{Form, Operand, object_of, value, value_of, with_children};
-use crate::{Reason, Refused};
 use c_typed::{EqOp, Node, RelOp, Typed};
 use c_types::{BinOp, IntKind, Qual, Tags, Ty, compatible};
 use std::alloc::Global;
-
-// Both values in the type of the usual arithmetic conversions.
-#[tactic(auto, unfolding(crate::specs::Conversions::balanced))]
-pub fn balanced(alloc: Global, a: Typed, b: Typed) -> Result<(Typed, Typed, IntKind), Refused>
-    ensures { Gives balanced_of result (conversions.balanced (term_of a) (term_of b)) }
-{
-    match usual_kind(&a.ty, &b.ty) {
-        None => Err(Refused::Constraint(Reason::Product)),
-        Some(kind) => Ok((to_kind(alloc, a, kind)?, to_kind(alloc, b, kind)?, kind)),
-    }
-}
+use type_conversions::{balanced, is_pointer, matched, may_meet, promoted, truth};
+use type_operands::{Form, Operand, object_of, value, value_of, with_children};
+use type_reasons::{Reason, Refused};
 
 // An operator on two integers in their common type.
 #[tactic(auto, unfolding(crate::specs::Operators::arithmetic))]
@@ -111,32 +98,6 @@ pub fn compared(
     };
     let tree = with_children(alloc, node, Ty::Int(IntKind::Int), line, a, b)?;
     Ok(value(tree))
-}
-
-// The value of this form beside one of another type: a null pointer constant gets a pointer's type (6.3.2.3p3).
-fn beside(alloc: Global, form: Form, tree: Typed, other: &Ty) -> Result<Typed, Refused>
-    ensures { Gives term_of result (Some (spec.beside form (term_of tree) (type_of other.now))) }
-{
-    if is_pointer(other) && is_null(form, &tree) {
-        null_pointer(alloc, other, tree.line)
-    } else {
-        Ok(tree)
-    }
-}
-
-// Two values, by the forms of their operands, where a null pointer constant has the other's pointer type.
-pub fn matched(
-    alloc: Global,
-    f: Form,
-    a: Typed,
-    g: Form,
-    b: Typed,
-) -> Result<(Typed, Typed), Refused>
-    ensures { Gives pair_of result (Some (spec.matched f (term_of a) g (term_of b))) }
-{
-    let b = beside(alloc, g, b, &a.ty)?;
-    let a = beside(alloc, f, a, &b.ty)?;
-    Ok((a, b))
 }
 
 // Two pointers that may be compared for equality (6.5.9p2).

@@ -1,17 +1,19 @@
 // Members of structures and unions (6.5.2.3).
 ghost use Rattle.std.specs.Prelude.{◌≡◌, Some};
 ghost use Rattle.c_types.specs.Types.{type_of, qualified_of};
-ghost use Rattle.type_operators.specs.Terms.{term_of, expression_of, Gives};
+ghost use Rattle.type_operands.specs.Terms.{term_of, expression_of, Gives};
 ghost use Rattle.type_operators.specs.Members.{found_of, part_of};
 ghost use Rattle.type_operators.specs.Members as spec;
-ghost use Rattle.type_operators.specs.Layouts.{layouts};
+ghost use Rattle.type_operands.specs.Layouts.{layouts};
 
-use crate::operand::{Form, Operand, access_of, object_of, place, value, value_of, with_child};
-use crate::{Reason, Refused};
 use c_typed::{Access, Node, Typed};
 use c_types::{Qual, Shared, Tags, Ty, copied};
 use layout::find;
 use std::alloc::Global;
+use type_operands::{
+    Form, Operand, access_of, object_of, place, qualified, value, value_of, with_child,
+};
+use type_reasons::{Reason, Refused};
 
 fn tag_of(ty: &Ty) -> Option<u32>
     ensures { result ≡ spec.tag_of (type_of ty.now) }
@@ -27,26 +29,6 @@ fn tag_of(ty: &Ty) -> Option<u32>
 struct Found {
     offset: u64,
     qual: Qual,
-}
-
-/// The type, const where `constant` is true; of an array its element is (6.7.3p9).
-pub fn qualified(alloc: Global, ty: &Ty, constant: bool) -> Result<Qual, Refused>
-    ensures { Gives qualified_of result (Some (spec.qualified constant (type_of ty.now))) }
-{
-    match ty {
-        Ty::Array(element, count) => {
-            let element = element.get();
-            let qual = qualified(alloc, &element.ty, element.constant || constant)?;
-            Ok(Qual {
-                ty: Ty::Array(Shared::new(alloc, qual)?, *count),
-                constant: false,
-            })
-        }
-        ty => Ok(Qual {
-            ty: copied(alloc, ty)?,
-            constant,
-        }),
-    }
 }
 
 #[tactic(auto, unfolding(crate::specs::Members::member_of))]

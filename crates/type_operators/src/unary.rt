@@ -1,17 +1,16 @@
 // Unary operators (6.5.3).
-ghost use Rattle.std.specs.Prelude.{◌≡◌};
 ghost use Rattle.c_types.specs.Types.{int};
 ghost use Rattle.c_typed.specs.declared.tree.Node.TheOpen as shape;
-ghost use Rattle.type_operators.specs.Terms.{term_of, expression_of, unary, as_value, Gives};
+ghost use Rattle.type_operands.specs.Terms.{term_of, expression_of, unary, as_value, Gives};
 ghost use Rattle.type_operators.specs.Operators as spec;
-ghost use Rattle.type_operators.specs.Layouts.{layouts};
+ghost use Rattle.type_operands.specs.Layouts.{layouts};
 
-use crate::convert::{promoted, truth};
-use crate::operand::{Form, Operand, object_of, value, value_of, with_child};
-use crate::{Reason, Refused};
 use c_typed::{Node, Typed, UnOp};
 use c_types::{IntKind, Tags, Ty};
 use std::alloc::Global;
+use type_conversions::{promoted, truth};
+use type_operands::{Form, Operand, object_of, value, value_of, with_child};
+use type_reasons::{Reason, Refused};
 
 /// `+E`: the promoted value (6.5.3.3p2).
 #[tactic(auto, unfolding(crate::specs::Operators::plus))]

@@ -9,7 +9,7 @@ use crate::statics::{Checked, program_statics};
 use c_typed::{Function, Program};
 use lawful_program::is_lawful;
 use std::alloc::Global;
-use type_operators::Reason;
+use type_reasons::Reason;
 use type_scope::{Definition, FunctionRow, Literal, Source, State, TypeFault};
 use ub_base::{Bytes, Items, NoMemory};
 

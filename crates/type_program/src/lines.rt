@@ -1,6 +1,6 @@
 // Lines of faults.
 
-use type_operators::Reason;
+use type_reasons::Reason;
 use type_scope::TypeFault;
 
 /// A rule that is broken, and the line on which it is.

@@ -7,7 +7,7 @@ use crate::lines::{Broken, earlier, undefined};
 use c_typed::{Constant, Content, Static, Target};
 use c_types::{Extent, Qual, Tags, Ty};
 use std::alloc::Global;
-use type_operators::Reason;
+use type_reasons::Reason;
 use type_scope::{CountedUse, ObjectRow};
 use ub_base::{Items, NoMemory};
 

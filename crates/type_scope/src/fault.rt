@@ -1,7 +1,7 @@
 // Why a unit has no typed program.
 
 use std::alloc::{AllocError, AllocFailed};
-use type_operators::{Reason, Refused};
+use type_reasons::{Reason, Refused};
 use ub_base::NoMemory;
 
 /// Why there is no program: a constraint or a rule of the profile is broken on this line, or memory ran out.

@@ -1,10 +1,9 @@
-//! What is declared where: the names of a text, their scopes and name spaces, linkage, and the functions and static objects
+//! What is declared where: the names of a text, their scopes and name spaces, and the functions and static objects
 //! of the program so far (ISO/IEC 9899:2011, 6.2.1 to 6.2.3).
 #![tactic(auto)]
 
+mod declare;
 mod fault;
-mod library;
-mod linkage;
 mod literals;
 mod rows;
 mod source;
@@ -12,8 +11,6 @@ mod state;
 mod task;
 
 pub use fault::{TypeFault, placed, placed_for, placed_unless};
-pub use library::{library_function, library_type};
-pub use linkage::{Linkage, copied_function};
 pub use literals::Literal;
 pub use rows::{CountedUse, Definition, FunctionRow, Meaning, ObjectRow, TagMeaning, TagRow};
 pub use source::Source;

@@ -4,7 +4,7 @@ use crate::TypeFault;
 use c_lex::{TokenKind, Tokens};
 use c_spelling::spelled_by;
 use std::alloc::Global;
-use type_operators::Reason;
+use type_reasons::Reason;
 use ub_base::NoMemory;
 
 /// The tokens, and the symbol of each: the number of the first token that is spelled so.

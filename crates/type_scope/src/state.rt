@@ -9,7 +9,7 @@ use crate::{Binding, Source, Space, Task};
 use c_typed::Target;
 use c_types::{Extent, Qual, TagKind, Tags, Ty};
 use std::alloc::Global;
-use type_operators::{Constants, Objects};
+use type_reasons::{Constants, Objects};
 use ub_base::{Bytes, NoMemory};
 
 /// The declarations of a unit so far.

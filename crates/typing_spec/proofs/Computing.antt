@@ -15,11 +15,13 @@ use Rattle.parse_spec.specs.Specifiers as parse_specifiers
 use Rattle.parse_spec.specs.Statements as parse_statements
 use Rattle.parse_spec.specs.Steps as parse_steps
 use Rattle.parse_spec.specs.Units as parse_units
-use Rattle.type_operators.specs.Assignments as operate_assignments
-use Rattle.type_operators.specs.Calls as operate_calls
-use Rattle.type_operators.specs.Choices as operate_choices
-use Rattle.type_operators.specs.Constants as operate_constants
-use Rattle.type_operators.specs.Conversions as operate_conversions
+use Rattle.type_assignments.specs.Assignments as operate_assignments
+use Rattle.type_conversions.specs.Assigned as operate_assigned
+use Rattle.type_conversions.specs.Casts as operate_casts
+use Rattle.type_calls.specs.Calls as operate_calls
+use Rattle.type_calls.specs.Choices as operate_choices
+use Rattle.type_constants.specs.Constants as operate_constants
+use Rattle.type_operands.specs.Conversions as operate_conversions
 use Rattle.type_operators.specs.Members as operate_members
 use Rattle.type_operators.specs.Operators as operate_operators
 use Rattle.typing_spec.specs.Env as typing_env
@@ -59,8 +61,8 @@ unfolding hidden roll enumerator.roll-Enumerator tree_base.hidden-the_row-Declar
     parse_statements.one_stmt parse_statements.statement parse_statements.body parse_steps.left parse_steps.same_mark parse_steps.same_word
     parse_steps.sees parse_steps.sees_word parse_steps.after parse_steps.after_word parse_steps.expect parse_steps.expect_word parse_steps.identifier
     parse_steps.maybe_identifier parse_steps.strings_from parse_steps.strings parse_steps.words_from parse_units.declared_as parse_units.declared
-    parse_units.unit_entry parse_units.entries_from parse_units.whole_unit parse_units.tree_of operate_assignments.as_if_assigned
-    operate_assignments.default_promoted operate_assignments.modifiable operate_assignments.working_kind operate_assignments.right_operand
+    parse_units.unit_entry parse_units.entries_from parse_units.whole_unit parse_units.tree_of operate_assigned.as_if_assigned
+    operate_assigned.default_promoted operate_assignments.modifiable operate_assignments.working_kind operate_assignments.right_operand
     operate_assignments.integer_compound operate_assignments.pointer_change operate_assignments.pointer_compound operate_assignments.compound
     operate_assignments.change_by_one operate_assignments.stepped operate_assignments.incremented operate_assignments.stored
     operate_assignments.assigned operate_calls.called operate_choices.chosen_pointer operate_choices.chosen_integer operate_choices.chosen_values
@@ -68,10 +70,10 @@ unfolding hidden roll enumerator.roll-Enumerator tree_base.hidden-the_row-Declar
     operate_conversions.promoted operate_conversions.usual_kind operate_conversions.balanced operate_conversions.conversion_to
     operate_conversions.discarded operate_conversions.converted_on operate_members.member_of operate_members.member_place operate_members.part_behind
     operate_members.member_part operate_members.member_of_pointer operate_operators.arithmetic operate_operators.multiplied operate_operators.shifted
-    operate_operators.plus operate_operators.of_promoted operate_operators.truth operate_operators.inverted operate_operators.step
+    operate_operators.plus operate_operators.of_promoted operate_casts.truth operate_operators.inverted operate_conversions.step
     operate_operators.moved operate_operators.added operate_operators.difference operate_operators.subtracted operate_operators.indexed
-    operate_operators.compared operate_operators.joined operate_operators.dereferenced operate_operators.equated operate_operators.scalar_cast
-    operate_operators.void_cast typing_env.symbol_of typing_env.line_of typing_env.spelling typing_expressions.literal_at
+    operate_operators.compared operate_operators.joined operate_operators.dereferenced operate_operators.equated operate_casts.scalar_cast
+    operate_casts.void_cast typing_env.symbol_of typing_env.line_of typing_env.spelling typing_expressions.literal_at
     typing_expressions.made typing_expressions.named_as typing_expressions.named typing_expressions.number typing_expressions.character
     typing_expressions.strings typing_expressions.made_modifying typing_expressions.measured typing_expressions.measured_operand
     typing_expressions.asserted typing_expressions.specified_as typing_expressions.by_keywords typing_expressions.by_typedef typing_expressions.lone

@@ -1,6 +1,7 @@
 -- Expressions, and the declarations that nest in them: type names, specifiers, member lists, enumerator lists and declarators (6.5, 6.6,
 -- 6.7.2 to 6.7.7). The text is read in its order: each function goes through what a tree holds as the tokens stand, and gives the
--- operands to the operators, whose nodes and constraints are those of crate type_operators.
+-- operands to the operators, whose nodes and constraints are those of the crates type_conversions,
+-- type_operators, type_assignments and type_calls.
 use Rattle.std.specs.Prelude.{ℕ, zero, suc, ◌+◌, ◌==◌, Bool, true, false, not, ◌&&◌, if◌then◌else◌, ℤ, pos, unsigned_abs, List, [], ◌∷◌}
 use Rattle.std.specs.Prelude.{◌++◌, length, Option, Some, None, Result, Ok, Err, is_some}
 use Rattle.c_lex.specs.TokenText.{kind_at}
@@ -40,7 +41,7 @@ use Rattle.c_ast.specs.declared.expression.AssignOp.TheVariants as a
 use Rattle.c_grammar.specs.Grammar.{name_of, is_own_name}
 use Rattle.c_types.specs.declared.kind.IntKind.TheVariants.{Int, ULong}
 use Rattle.c_types.specs.declared.kind.BinOp.TheVariants as op
-use Rattle.type_operators.specs.Layouts.{Layouts}
+use Rattle.type_operands.specs.Layouts.{Layouts}
 use Rattle.c_types.specs.declared.tags.Extent.{Extent}
 use Rattle.c_types.specs.Types.{CType, Params, none as no_parameter, more as parameter_then, int, pointer, Qualified}
 use Rattle.type_values.specs.Enumerators.{enumerator}
@@ -51,15 +52,16 @@ use Rattle.c_typed.specs.declared.tree.RelOp.TheVariants as relation
 use Rattle.c_typed.specs.declared.tree.EqOp.TheVariants as equality
 use Rattle.c_typed.specs.declared.tree.Node.TheOpen as shape
 use Rattle.c_typed.specs.Lawful.{literal_type}
-use Rattle.type_operators.specs.declared.operand.Form.{Form}
-use Rattle.type_operators.specs.declared.operand.Form.TheVariants as form
-use Rattle.type_operators.specs.Terms.{type_at, leaf, constant as constant_term, Expression, as_value, as_place}
-use Rattle.type_operators.specs.Conversions.{target_of}
-use Rattle.type_operators.specs.Constants.{integer_constant}
+use Rattle.type_operands.specs.declared.operand.Form.{Form}
+use Rattle.type_operands.specs.declared.operand.Form.TheVariants as form
+use Rattle.type_operands.specs.Terms.{type_at, leaf, constant as constant_term, Expression, as_value, as_place}
+use Rattle.type_operands.specs.Conversions.{target_of}
+use Rattle.type_constants.specs.Constants.{integer_constant}
 use Rattle.type_operators.specs.Operators as operators
-use Rattle.type_operators.specs.Assignments as assignments
-use Rattle.type_operators.specs.Calls.{called}
-use Rattle.type_operators.specs.Choices.{chosen, sequenced}
+use Rattle.type_conversions.specs.Casts as casts
+use Rattle.type_assignments.specs.Assignments as assignments
+use Rattle.type_calls.specs.Calls.{called}
+use Rattle.type_calls.specs.Choices.{chosen, sequenced}
 use Rattle.type_operators.specs.Members.{member_of_value, member_of_pointer}
 use Rattle.typing_spec.specs.Seen.{SeenMember}
 use Rattle.typing_spec.specs.Tags.{layouts_of, constants, extent_in}
@@ -356,7 +358,7 @@ unfoldable mutual
   expression at (Cast' l to m x) = do
     q ← type_name to
     y ← operand x
-    made at (λ tags. operators.cast tags q.ty y)
+    made at (λ tags. casts.cast tags q.ty y)
   -- the operand isn't evaluated (6.5.3.4p2)
   expression at (SizeofExpr' l x) = do
     y ← unevaluated (operand x)

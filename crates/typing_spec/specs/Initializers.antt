@@ -25,14 +25,15 @@ use Rattle.c_typed.specs.declared.tree.Node.TheOpen as shape
 use Rattle.c_typed.specs.declared.program.Content.{Content}
 use Rattle.c_typed.specs.declared.program.Content.TheVariants as content
 use Rattle.c_typed.specs.declared.program.Constant.{Constant}
-use Rattle.type_operators.specs.declared.constant.Folded.{Folded}
-use Rattle.type_operators.specs.declared.constant.Folded.TheVariants.{Number, Address}
-use Rattle.type_operators.specs.declared.operand.Form.{Form}
-use Rattle.type_operators.specs.declared.operand.Form.TheVariants as form
-use Rattle.type_operators.specs.Terms.{Term, Terms, term, none, more, type_at, line_at, leaf, unary, Expression}
-use Rattle.type_operators.specs.Conversions.{target_of, is_scalar}
-use Rattle.type_operators.specs.Constants.{worth}
-use Rattle.type_operators.specs.Assignments.{as_if_assigned, stored}
+use Rattle.type_constants.specs.declared.constant.Folded.{Folded}
+use Rattle.type_constants.specs.declared.constant.Folded.TheVariants.{Number, Address}
+use Rattle.type_operands.specs.declared.operand.Form.{Form}
+use Rattle.type_operands.specs.declared.operand.Form.TheVariants as form
+use Rattle.type_operands.specs.Terms.{Term, Terms, term, none, more, type_at, line_at, leaf, unary, Expression}
+use Rattle.type_operands.specs.Conversions.{target_of, is_scalar}
+use Rattle.type_constants.specs.Constants.{worth}
+use Rattle.type_conversions.specs.Assigned.{as_if_assigned}
+use Rattle.type_assignments.specs.Assignments.{stored}
 use Rattle.typing_spec.specs.Seen.{SeenMember, SeenTag, ordered}
 use Rattle.typing_spec.specs.Tags.{Part, part, layouts_of, extent_in, size_of, is_complete, way_to, members_in}
 use Rattle.typing_spec.specs.Env.{Env, Typing, if_found, ◌>>=◌, ◌>>◌, pure, refuse, known, found, holds, Object, line_of, spelling}

@@ -10,7 +10,7 @@ use Rattle.c_typed.specs.declared.tree.Access.TheVariants as access
 use Rattle.c_typed.specs.declared.program.Content.TheVariants as content
 use Rattle.c_typed.specs.declared.program.Constant.{Constant}
 use Rattle.c_typed.specs.Sites.{Head}
-use Rattle.type_operators.specs.Terms.{Term, term, none, terms_from}
+use Rattle.type_operands.specs.Terms.{Term, term, none, terms_from}
 use Rattle.typing_spec.specs.Seen.{SeenStatic, SeenFunction, SeenMember, SeenTag, Statement, Entries}
 use Rattle.typing_spec.specs.Seen.{compound, section, initializes, returns, statement, declares}
 use Rattle.typing_spec.specs.Env.{Object, Routine, if_found}

@@ -19,7 +19,7 @@ use Rattle.c_typed.specs.declared.program.Function.{Function}
 use Rattle.c_typed.specs.declared.program.Program.{Program}
 use Rattle.c_typed.specs.Sites.{Head}
 use Rattle.c_typed.specs.Lawful.{length_of}
-use Rattle.type_operators.specs.Terms.{Term, Terms, term, none, more, term_of}
+use Rattle.type_operands.specs.Terms.{Term, Terms, term, none, more, term_of}
 
 -- 1. Bytes, in order (own).
 

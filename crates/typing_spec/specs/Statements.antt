@@ -17,10 +17,10 @@ use Rattle.c_types.specs.declared.kind.IntKind.{IntKind}
 use Rattle.c_types.specs.Types.{CType, function, Qualified, Signature}
 use Rattle.c_typed.specs.declared.tree.Slot.{Slot}
 use Rattle.c_typed.specs.declared.tree.Slot.TheVariants as slot
-use Rattle.type_operators.specs.Terms.{Term}
-use Rattle.type_operators.specs.Conversions.{value, promoted, discarded, Integer}
-use Rattle.type_operators.specs.Operators.{truth}
-use Rattle.type_operators.specs.Assignments.{as_if_assigned}
+use Rattle.type_operands.specs.Terms.{Term}
+use Rattle.type_operands.specs.Conversions.{value, promoted, discarded, Integer}
+use Rattle.type_conversions.specs.Casts.{truth}
+use Rattle.type_conversions.specs.Assigned.{as_if_assigned}
 use Rattle.typing_spec.specs.Seen.{Statement, Otherwise, Start, Section, Entries, expressed, compound, chooses, switches, while_loop}
 use Rattle.typing_spec.specs.Seen.{do_loop, for_loop, goes_to, continues, breaks, returns, labelled, case_of, by_default, nothing}
 use Rattle.typing_spec.specs.Seen.{else_does, no_start, start_value, start_block, section, end, statement, initializes, declares}

@@ -11,7 +11,7 @@ use Rattle.c_typed.specs.declared.tree.Conversion.TheVariants as conversion
 use Rattle.c_typed.specs.declared.tree.UnOp.TheVariants as un
 use Rattle.c_typed.specs.declared.tree.RelOp.TheVariants as relation
 use Rattle.c_typed.specs.declared.tree.EqOp.TheVariants as equality
-use Rattle.type_operators.specs.Terms.{term, none, more}
+use Rattle.type_operands.specs.Terms.{term, none, more}
 use Rattle.typing_spec.specs.Seen.{expressed, compound, chooses, switches, while_loop, do_loop, for_loop, goes_to, continues, breaks, returns}
 use Rattle.typing_spec.specs.Seen.{labelled, case_of, by_default, nothing, else_does, no_start, start_value, start_block, section, end}
 use Rattle.typing_spec.specs.Seen.{statement, initializes, declares}

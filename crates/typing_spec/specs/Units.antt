@@ -17,7 +17,7 @@ use Rattle.c_typed.specs.declared.program.Constant.{Constant}
 use Rattle.c_typed.specs.declared.program.Program.{Program}
 use Rattle.c_typed.specs.Sites.{Head}
 use Rattle.c_typed.specs.Lawful.{IsLawful}
-use Rattle.type_operators.specs.Terms.{Term, Terms, term, none, more}
+use Rattle.type_operands.specs.Terms.{Term, Terms, term, none, more}
 use Rattle.typing_spec.specs.Seen.{Statement, Otherwise, Start, Section, Entries, expressed, compound, chooses, switches, while_loop}
 use Rattle.typing_spec.specs.Seen.{do_loop, for_loop, goes_to, continues, breaks, returns, labelled, case_of, by_default, nothing}
 use Rattle.typing_spec.specs.Seen.{else_does, no_start, start_value, start_block, section, end, statement, initializes, declares}

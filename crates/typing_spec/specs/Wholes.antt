@@ -11,7 +11,7 @@ use Rattle.c_typed.specs.declared.tree.Change.TheVariants as change
 use Rattle.c_typed.specs.declared.tree.Conversion.TheVariants as conversion
 use Rattle.c_typed.specs.declared.tree.EqOp.TheVariants as equality
 use Rattle.c_typed.specs.declared.program.Content.TheVariants as content
-use Rattle.type_operators.specs.Terms.{Term, term, none, more}
+use Rattle.type_operands.specs.Terms.{Term, term, none, more}
 use Rattle.typing_spec.specs.Env.{if_found}
 use Rattle.typing_spec.specs.Seen.{compound, section, end, statement, expressed, initializes}
 use Rattle.typing_spec.specs.Words.{plain}

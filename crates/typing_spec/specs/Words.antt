@@ -10,7 +10,7 @@ use Rattle.c_types.specs.Types.{CType, Params, void, int, enumeration, pointer, 
 use Rattle.c_types.specs.declared.kind.IntKind.TheVariants.{Bool as Boolean, Char, SChar, UChar, Short, UShort, Int, UInt, Long, ULong, LLong, ULLong}
 use Rattle.c_types.specs.declared.tags.TagKind.{TagKind}
 use Rattle.c_types.specs.declared.tags.TagKind.TheVariants.{Struct, Union}
-use Rattle.type_operators.specs.Members.{qualified}
+use Rattle.type_operands.specs.Qualifiers.{qualified}
 use Rattle.c_typed.specs.declared.tree.Slot.TheVariants as slot
 use Rattle.c_ast.specs.declared.declaration.Base.{Base}
 use Rattle.c_ast.specs.declared.declaration.Base.TheBlock.{Tagged', Base-Tagged-2-Some', Enumerated', Base-Enumerated-1-Some'}

@@ -46,6 +46,7 @@ impl Memory {
         ensures unplaced { result ≡ Err Unplaced → cannot_create self.old name size align ≡ true }
         ensures same { result ≡ Err Unplaced → self.new ≡ self.old }
         ensures failed { OnErr result (MayHaveRow self.old self.new name size align) }
+        ensures mode { self.new.mode ≡ self.old.mode }
         ensures kept { (kind.heap ≡ true → option_map (λ shape. form_of shape.value) declared ≡ None) → Keeps self.old self.new }
     {
         self.bear(name, size, align, kind, declared, t)

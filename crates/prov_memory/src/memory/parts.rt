@@ -1,5 +1,5 @@
 // Values from bytes and bytes of values.
-ghost use Rattle.std.specs.Prelude.{◌≡◌, ℕ, ◌+◌, ◌<◌, ◌≤◌, ◌++◌, [], false, List, Ok, Err, length, map, IfOk, IfErr, IfSome, OnOk, OnErr};
+ghost use Rattle.std.specs.Prelude.{◌≡◌, ℕ, ◌+◌, ◌<◌, ◌≤◌, ◌++◌, [], false, List, None, Ok, Err, length, map, IfOk, IfErr, IfSome, OnOk, OnErr};
 ghost use Rattle.ub_base.specs.declared.names.Item.TheVariants.{Expose};
 ghost use Rattle.c_types.specs.Types.{CType};
 ghost use Rattle.mem_spec.specs.Agreement.{bytes_of_kind};
@@ -17,7 +17,7 @@ ghost use Rattle.prov_memory.specs.Tags.{CellsTagged};
 ghost use Rattle.prov_memory.specs.Keeps.{Keeps};
 ghost use Rattle.prov_memory.specs.Sound.{IsSound};
 ghost use Rattle.mem_spec.specs.Bytes.{number_bytes, pointer_bytes};
-ghost use Rattle.prov_memory.specs.Pieces.{IsKnownValue, IsMadeValue, IsTaggedValue, seen, value_bytes, piece_cells, plain_cells};
+ghost use Rattle.prov_memory.specs.Pieces.{IsKnownValue, IsMadeValue, IsTaggedValue, seen, source_of, value_bytes, piece_cells, plain_cells};
 
 use super::load::{is_bool, number_at, number_checked};
 use super::*;
@@ -166,6 +166,7 @@ impl Memory {
         ensures bytes { AreNamed self.now → IsMadeValue self.now v.now → IfOk result (λ b. seen self.now b.cells ≡ value_bytes self.now size v.now) }
         ensures known { AreNamed self.now → IsMadeValue self.now v.now → IsKnownValue self.now v.now → IfOk result (λ b. CellsKnown (length self.now.origins) b.cells) }
         ensures tagged { IsTaggedValue self.now v.now → IfOk result (λ b. CellsTagged (length self.now.types) b.cells) }
+        ensures source { IfOk result (λ b. b.source ≡ source_of v.now) }
     {
         match v {
             Value::Int(number) => plain_bytes(alloc, low_bits(*number), size.min(8)),
@@ -181,6 +182,7 @@ impl Memory {
         ensures bytes { AreNamed self.now → IsMade self.now prov → IfOk result (λ b. seen self.now b.cells ≡ pointer_bytes 8 0 prov addr) }
         ensures known { AreNamed self.now → IsMade self.now prov → IfOk result (λ b. CellsKnown (length self.now.origins) b.cells) }
         ensures tagged { (n : ℕ) → IfOk result (λ b. CellsTagged n b.cells) }
+        ensures source { IfOk result (λ b. b.source ≡ None) }
     {
         let cells = piece_cells(alloc, addr, self.origin_of(prov))?;
         Ok(Block::of_cells(cells, None))
@@ -212,6 +214,7 @@ fn plain_bytes(alloc: Global, number: u64, count: u64) -> Result<Block, NoMemory
     ensures bytes { IfOk result (λ b. (ps : List Prov) (ts : List CType) → map (tagged_in ps ts) b.cells ≡ number_bytes count number) }
     ensures known { (n : ℕ) → IfOk result (λ b. CellsKnown n b.cells) }
     ensures tagged { (n : ℕ) → IfOk result (λ b. CellsTagged n b.cells) }
+    ensures source { IfOk result (λ b. b.source ≡ None) }
 {
     let cells = plain_cells(alloc, number, count)?;
     Ok(Block::of_cells(cells, None))

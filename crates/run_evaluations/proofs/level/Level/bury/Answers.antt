@@ -2,8 +2,8 @@ use Rattle.ub_base.specs.declared.names.Item.TheVariants.{Dies}
 use Rattle.run_evaluations.proofs.KeepLemmas.{after, added, died, forgotten}
 use Rattle.run_evaluations.proofs.level.Level.bury.Goals as goal
 
-pub returns-then-has_born : goal.returns-then-has_born
-returns-then-has_born c =
+pub returns-then-has_born-clause-keeps : goal.returns-then-has_born-clause-keeps
+returns-then-has_born-clause-keeps c =
     after c.args.self.now.foot c.add.new.self c.forget.new.self
     (added c.args.self.now.foot c.add.new.self (Dies c.args.object) c.in_ok-add.ensures.added)
     (forgotten c.add.new.self c.forget.new.self c.args.object c.forget.ensures

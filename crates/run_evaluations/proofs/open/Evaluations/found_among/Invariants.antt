@@ -1,6 +1,15 @@
--- The items of the first conflict so far conflict.
+-- The items of the first conflict so far conflict; where there is none, no event so far clashes.
+use Rattle.std.specs.Prelude.{◌≡◌, ◌≤◌, ◌<◌, ℕ, None, slice_get}
+use Rattle.run_evaluations.specs.declared.search.Sought.TheVariants.{Any}
+use Rattle.run_evaluations.specs.Touched.{event_has}
+use Rattle.run_evaluations.specs.Clashes.{NoClash}
 use Rattle.run_evaluations.specs.FoundItems.{ItemsConflict}
+use Rattle.run_evaluations.specs.Loose.{loose_has}
 use Rattle.run_evaluations.proofs.open.Evaluations.found_among.Given as goal
 
 abbrev pub invariant-loop-i : goal.invariant-loop-i
-invariant-loop-i l = ItemsConflict l.best
+invariant-loop-i l = record {
+  conflict : ItemsConflict l.best;
+  none : l.best ≡ None → (l.fn.best ≡ None) × ((i : ℕ) → i < l.i → l.loose ≤ i → NoClash Any l.under.map.now
+      (event_has l.self.items.items (slice_get l.self.events.items l.event)) (loose_has l.self.events.items l.self.items.items l.self.loose.items i));
+}

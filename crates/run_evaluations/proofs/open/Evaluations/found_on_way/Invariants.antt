@@ -1,6 +1,10 @@
--- The items of the first conflict so far conflict.
+-- The items of the first conflict so far conflict, and what is kept is right.
 use Rattle.run_evaluations.specs.FoundItems.{ItemsConflict}
+use Rattle.run_evaluations.specs.Kept.{IsKept}
 use Rattle.run_evaluations.proofs.open.Evaluations.found_on_way.Given as goal
 
 abbrev pub invariant-loop-node : goal.invariant-loop-node
-invariant-loop-node l = ItemsConflict l.best
+invariant-loop-node l = record {
+  conflict : ItemsConflict l.best;
+  kept : IsKept l.fn.self → IsKept l.self;
+}

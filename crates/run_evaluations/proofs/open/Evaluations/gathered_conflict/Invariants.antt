@@ -3,11 +3,13 @@ use Rattle.std.specs.Prelude.{◌≡◌, ◌≤◌, ◌<◌, ℕ, slice_get}
 use Rattle.run_evaluations.specs.declared.search.Sought.TheVariants.{Any}
 use Rattle.run_evaluations.specs.Clashes.{NoClash, operand_has}
 use Rattle.run_evaluations.specs.Kept.{Kept, Gathers, IsSameLog}
+use Rattle.run_evaluations.proofs.WholeLemmas.{LosesFeet}
 use Rattle.run_evaluations.proofs.open.Evaluations.gathered_conflict.Given as goal
 
 abbrev pub invariant-loop-group : goal.invariant-loop-group
 invariant-loop-group l = record {
   same : IsSameLog l.fn.self l.self;
+  lost : LosesFeet l.fn.self.segments.items l.self.segments.items;
   left : (g : ℕ) → l.group ≤ g → slice_get l.self.segments.items g ≡ slice_get l.fn.self.segments.items g;
   gathered : Kept l.fn.self.segments.items l.fn.self.events.items l.fn.self.items.items l.fn.self.large.items l.fn.at → (g : ℕ) → g < l.group → l.fn.at ≤ g →
       Gathers l.fn.self.segments.items l.fn.self.events.items l.fn.self.items.items g l.all;

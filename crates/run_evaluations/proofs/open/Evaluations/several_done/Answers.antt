@@ -2,6 +2,9 @@ use Rattle.run_evaluations.specs.declared.search.Sought.TheVariants.{Any}
 use Rattle.run_evaluations.specs.Clashes.{NoneBetween}
 use Rattle.run_evaluations.proofs.ClashLemmas.{ok_none}
 use Rattle.run_evaluations.proofs.KeptLemmas.{between_alike, sorted_alike}
+use Rattle.std.proofs.Common.{refl, sym, ◌∙◌, arith}
+use Rattle.run_evaluations.proofs.KeptLemmas.{same_self}
+use Rattle.run_evaluations.proofs.WholeLemmas.{kept_made_one, kept_feet, kept_several, kept_from, not_none, length_alike}
 use Rattle.run_evaluations.proofs.open.Evaluations.several_done.Goals as goal
 
 pub returns-then-branch-clause-none : goal.returns-then-branch-clause-none
@@ -16,3 +19,36 @@ returns-then-branch-clause-none c = λ open_rule kept.
     none)
     (c.found_between.ensures.none (sorted_alike c.args.self.now.segments.items c.has_conflict.new.self.segments.items c.args.self.now.events.items
     c.has_conflict.new.self.events.items c.args.at same.alike same.events kept.sorted))
+
+pub returns-then-not-is_unsequenced-clause-kept : goal.returns-then-not-is_unsequenced-clause-kept
+returns-then-not-is_unsequenced-clause-kept c = λ w below.
+    let j = c.join.ensures in
+    kept_made_one c.args.self.now c.args.self.now c.join.new.self c.args.at (same_self c.args.self.now) (λ g n. refl) j.rest j.joined below
+    (omega (arith, c.requires, c.args.self.now.segments.ok.0)) (λ f h. not_none _ f _ j.foot h) w
+
+pub returns-in_err-has_conflict-clause-kept : goal.returns-in_err-has_conflict-clause-kept
+returns-in_err-has_conflict-clause-kept c = λ w below.
+    kept_feet c.args.self.now c.has_conflict.new.self c.args.at c.has_conflict.ensures.same
+    (c.has_conflict.ensures.feet (kept_from c.args.self.now.segments.items c.args.self.now.events.items c.args.self.now.items.items
+    c.args.self.now.large.items c.args.self.now.levels.items w c.args.at)) w
+
+pub returns-then-branch-clause-kept : goal.returns-then-branch-clause-kept
+returns-then-branch-clause-kept c = λ w below.
+    kept_feet c.args.self.now c.has_conflict.new.self c.args.at c.has_conflict.ensures.same
+    (c.has_conflict.ensures.feet (kept_from c.args.self.now.segments.items c.args.self.now.events.items c.args.self.now.items.items
+    c.args.self.now.large.items c.args.self.now.levels.items w c.args.at)) w
+
+pub join-requires-2 : goal.join-requires-2
+join-requires-2 c =
+    let n = length_alike c.has_conflict.new.self.segments.items c.args.self.now.segments.items c.has_conflict.ensures.same.alike in
+    let m = length_alike c.take_foot-foot.new.self.segments.items c.has_conflict.new.self.segments.items c.take_foot-foot.ensures.taken.same.alike in
+    omega (arith, n, m, c.take_foot-foot.new.self.segments.ok.0, c.args.self.now.segments.ok.0, c.requires)
+
+pub returns-clause-kept : goal.returns-clause-kept
+returns-clause-kept c = λ w below.
+    let k = kept_from c.args.self.now.segments.items c.args.self.now.events.items c.args.self.now.items.items c.args.self.now.large.items
+    c.args.self.now.levels.items w c.args.at in
+    kept_several c.args.self.now c.has_conflict.new.self c.take_foot-foot.new.self c.join-2.new.self c.args.at c.has_conflict.ensures.same
+    (c.has_conflict.ensures.feet k) c.take_foot-foot.ensures.taken c.join-2.ensures.rest c.join-2.ensures.joined below
+    (omega (arith, c.requires, c.args.self.now.segments.ok.0))
+    (λ f h. c.in_ok-has_conflict.ensures.whole k c.if-branch.false f (sym c.take_foot-foot.ensures.given ∙ sym c.join-2.ensures.foot ∙ h)) w

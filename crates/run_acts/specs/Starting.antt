@@ -1,0 +1,63 @@
+-- Where the objects stand before a run (5.1.2p1, 6.4.5p6).
+use Rattle.std.specs.Prelude.{◌≡◌, ℕ, suc, true, List, [], ◌∷◌, ◌++◌, length, Option}
+use Rattle.ub_base.specs.declared.names.ObjName.{ObjName}
+use Rattle.ub_base.specs.declared.names.ObjName.TheVariants.{Static, Lit}
+use Rattle.c_typed.specs.Lawful.{ContentIsLawful}
+use Rattle.c_typed.specs.declared.program.Constant.{Constant}
+use Rattle.c_typed.specs.declared.program.Program.{Program}
+use Rattle.std.specs.List.{All}
+use Rattle.ub_base.specs.declared.names.Item.{Item}
+use Rattle.addr_map.specs.declared.map.Row.{Row}
+use Rattle.exposure.specs.declared.prov.Prov.TheVariants.{Whole}
+use Rattle.c_types.specs.Shapes.{Form}
+use Rattle.mem_spec.specs.declared.kind.ObjKind.{ObjKind}
+use Rattle.mem_spec.specs.Acts.{store, bytes, create}
+use Rattle.mem_spec.specs.Script.{Done, run}
+use Rattle.mem_spec.specs.Store.{TaggedByte}
+use Rattle.mem_spec.specs.Streams.{Io}
+use Rattle.prov_memory.specs.Keeps.{RowsStay}
+use Rattle.prov_memory.specs.Made.{IsMade}
+use Rattle.prov_memory.specs.Memory.{Kept, store_of}
+use Rattle.run_acts.specs.declared.initial.Argument.{Argument}
+use Rattle.run_acts.specs.declared.initial.Places.{Places}
+use Rattle.run_acts.specs.declared.values.Pointer.{Pointer}
+use Rattle.run_acts.specs.Contents.{Stands, CanHoldAll}
+
+-- the objects of these names, from this number on, stand at these addresses
+abbrev pub AllStand : Kept → (ℕ → ObjName) → ℕ → List ℕ → Type 0
+AllStand m name k [] = Unit {0}
+AllStand m name k (a ∷ xs) = Stands m (name k) a × AllStand m name (suc k) xs
+
+-- xs many xs there are
+pub record AreAll (m : Kept) (name : ℕ → ObjName) (addresses : List ℕ) (n : ℕ) : Type 0 where
+  pub count : length addresses ≡ n
+  pub stand : AllStand m name 0 addresses
+
+-- each object with static storage and each string literal stands where the lists say
+pub record ArePlaced (m : Kept) (p : Program) (places : Places) : Type 0 where
+  pub objects : AreAll m (λ k. Static k) places.objects (length p.statics)
+  pub literals : AreAll m (λ k. Lit k) places.literals (length p.literals)
+
+-- the constants of a lawful program can be held where its objects are placed
+abbrev pub LawfulCanHold : Type 0
+LawfulCanHold = (m : Kept) (p : Program) (places : Places) (cs : List Constant) → ArePlaced m p places → All (λ c. ContentIsLawful p c.content) cs
+    → CanHoldAll m places cs
+
+-- the objects of the arguments of `main` were created
+abbrev pub AreMadeAll : Kept → List Argument → Type 0
+AreMadeAll m [] = Unit {0}
+AreMadeAll m (a ∷ xs) = IsMade m a.place.prov × AreMadeAll m xs
+
+-- one more, at this place
+abbrev pub AddsArgument : Pointer → (old new : List Argument) → Type 0
+AddsArgument place old new = (a : Argument) × (new ≡ old ++ a ∷ []) × (a.place ≡ place)
+
+-- under all rows that stay, the creation of this object leads from the one memory to the other
+abbrev pub Creates : Kept → Kept → ObjName → (size align : ℕ) → ObjKind → Option Form → Type 0
+Creates old new x size align kind form = (rows : List Row) → RowsStay new.rows rows → (io : Io) →
+    (base : ℕ) × (is : List Item) × (run rows (create rows x size align kind form) (store_of old io) ≡ Done base is (store_of new io))
+
+-- .. the initialization by these bytes at an address of an object
+abbrev pub Puts : Kept → Kept → ObjName → (address : ℕ) → List TaggedByte → Type 0
+Puts old new x a bs = (rows : List Row) → RowsStay old.rows rows → (io : Io) →
+    (is : List Item) × (run rows (store rows true bytes 1 a (Whole x) bs) (store_of old io) ≡ Done tt is (store_of new io))

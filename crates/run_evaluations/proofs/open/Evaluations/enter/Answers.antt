@@ -1,0 +1,11 @@
+use Rattle.std.proofs.Common.{refl, ◌∙◌}
+use Rattle.run_evaluations.proofs.WholeLemmas.{whole_enter, whole_moved}
+use Rattle.run_evaluations.proofs.open.Evaluations.enter.Goals as goal
+
+pub returns : goal.returns
+returns c = λ w.
+    let a = c.args.self.now in
+    whole_moved a.segments.items a.segments.items a.events.items a.events.items a.items.items a.items.items a.large.items a.large.items
+    _ c.push.new.self.items refl refl refl refl c.in_ok-push.ensures.items
+    (whole_enter a.segments.items a.events.items a.items.items a.large.items a.levels.items w _
+    (c.len-3.ensures ∙ a.segments.ok.0, c.len.ensures ∙ a.events.ok.0, c.len-2.ensures ∙ a.items.ok.0, c.len-5.ensures ∙ a.large.ok.0))

@@ -1,0 +1,18 @@
+use Rattle.run_evaluations.proofs.WholeLemmas.{told_after}
+use Rattle.run_evaluations.proofs.open.Evaluations.event.Goals as goal
+
+pub returns-then-is_top_of-clause-kept : goal.returns-then-is_top_of-clause-kept
+returns-then-is_top_of-clause-kept c = λ w.
+    let g = c.gather.ensures.kept w in
+    let b = c.is_top_of.ensures c.if-is_top_of.true g in
+    c.in_ok-log_at_top.ensures.kept g b.0 b.1 b.2
+
+pub returns-then-is_top_of-clause-told : goal.returns-then-is_top_of-clause-told
+returns-then-is_top_of-clause-told c =
+    let t = c.in_ok-log_at_top.ensures.told in
+    (t.0, t.1, t.2, told_after c.args.self.now c.gather.new.self c.log_at_top.new.self t.0 c.args.items.now c.gather.ensures.rest t.3)
+
+pub returns-clause-told : goal.returns-clause-told
+returns-clause-told c =
+    let t = c.in_ok-log_first.ensures.told in
+    (t.0, t.1, t.2, told_after c.args.self.now c.gather.new.self c.log_first.new.self t.0 c.args.items.now c.gather.ensures.rest t.3)

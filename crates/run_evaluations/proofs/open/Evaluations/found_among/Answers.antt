@@ -1,0 +1,26 @@
+use Rattle.std.proofs.Common.{arith, ◌∙◌}
+use Rattle.std.specs.Prelude.{slice_get}
+use Rattle.run_evaluations.specs.declared.search.Sought.TheVariants.{Any}
+use Rattle.run_evaluations.specs.Touched.{event_has}
+use Rattle.run_evaluations.specs.Clashes.{NoClash}
+use Rattle.run_evaluations.specs.Loose.{loose_has}
+use Rattle.run_evaluations.proofs.BetweenLemmas.{same_le}
+use Rattle.run_evaluations.proofs.LooseLemmas.{rise_none, loose_end}
+use Rattle.run_evaluations.proofs.open.Evaluations.found_among.Goals as goal
+
+pub loop-i-preserved : goal.loop-i-preserved
+loop-i-preserved c = record {
+  conflict = c.in_ok-best.ensures.conflict;
+  none = rise_none (λ i. NoClash Any c.args.under.map.now (event_has c.args.self.now.items.items (slice_get c.args.self.now.events.items c.args.event))
+      (loose_has c.args.self.now.events.items c.args.self.now.items.items c.args.self.now.loose.items i)) c.args.best c.loop-i.best _ c.args.loose c.loop-i.i
+      c.in_ok-best.ensures.none c.loop-i.invariant.none;
+}
+
+pub returns-clause-none : goal.returns-clause-none
+returns-clause-none c = λ e.
+    let past = same_le _ _ (c.len-i-end.ensures ∙ c.args.self.now.loose.ok.0) in
+    let n = c.loop-i.invariant.none e in (
+      n.0,
+      loose_end c.args.under.map.now c.args.self.now.events.items c.args.self.now.items.items c.args.self.now.loose.items c.args.loose c.loop-i.i
+          (event_has c.args.self.now.items.items (slice_get c.args.self.now.events.items c.args.event)) (omega (arith, past, c.loop-i-test.false)) n.1,
+    )

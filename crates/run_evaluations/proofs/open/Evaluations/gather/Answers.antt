@@ -1,0 +1,17 @@
+use Rattle.std.proofs.Common.{◌∙◌, sym, arith}
+use Rattle.run_evaluations.proofs.WholeLemmas.{kept_made_one, only_spreads, length_alike}
+use Rattle.run_evaluations.proofs.open.Evaluations.gather.Goals as goal
+
+pub join-requires : goal.join-requires
+join-requires c =
+    let n = length_alike c.take_only-foot.new.self.segments.items c.args.self.now.segments.items c.take_only-foot.ensures.same.alike in
+    omega (arith, n, c.take_only-foot.new.self.segments.ok.0, c.args.self.now.segments.ok.0, c.len.ensures, c.if-at-len.false)
+
+pub returns-clause-kept : goal.returns-clause-kept
+returns-clause-kept c = λ w.
+    kept_made_one c.args.self.now c.take_only-foot.new.self c.join.new.self c.operands-at.result c.take_only-foot.ensures.same
+    c.take_only-foot.ensures.others c.join.ensures.rest
+    c.join.ensures.joined (c.operands-at.ensures.below w) (omega (arith, c.args.self.now.segments.ok.0, c.len.ensures, c.if-at-len.false))
+    (λ f h. let r = c.take_only-foot.ensures.given f (sym c.join.ensures.foot ∙ h) in
+    only_spreads c.args.self.now.segments.items c.args.self.now.events.items c.args.self.now.items.items c.args.self.now.large.items
+    c.args.self.now.levels.items w c.operands-at.result f r.0 r.1) w

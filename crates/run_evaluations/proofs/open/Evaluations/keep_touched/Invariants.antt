@@ -1,0 +1,6 @@
+-- What is kept is right so far.
+use Rattle.run_evaluations.specs.Kept.{IsKept}
+use Rattle.run_evaluations.proofs.open.Evaluations.keep_touched.Given as goal
+
+abbrev pub invariant-loop-at : goal.invariant-loop-at
+invariant-loop-at l = IsKept l.fn.self → IsKept l.self

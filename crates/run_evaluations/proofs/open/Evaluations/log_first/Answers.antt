@@ -1,0 +1,13 @@
+use Rattle.run_evaluations.proofs.WholeLemmas.{kept_first, told_by}
+use Rattle.run_evaluations.proofs.open.Evaluations.log_first.Goals as goal
+
+pub returns-clause-kept : goal.returns-clause-kept
+returns-clause-kept c = λ w.
+    let s = c.in_ok-push_segment.ensures.pushed in
+    let l = c.in_ok-log.ensures in
+    kept_first c.args.self.now c.push_segment.new.self c.log.new.self s.0 l.0 c.args.items.now c.push_segment.ensures.rest s.1 l.3 w
+
+pub returns-clause-told : goal.returns-clause-told
+returns-clause-told c =
+    let l = c.in_ok-log.ensures in
+    (l.0, l.1, l.2, told_by c.args.self.now c.push_segment.new.self c.log.new.self l.0 c.args.items.now c.push_segment.ensures.rest l.3)

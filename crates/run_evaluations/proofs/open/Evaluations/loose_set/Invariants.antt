@@ -1,0 +1,10 @@
+-- The set has what the events so far touched.
+use Rattle.std.specs.Prelude.{◌≡◌, ◌≤◌, ◌<◌, ℕ, true}
+use Rattle.ub_base.specs.declared.names.Item.{Item}
+use Rattle.footprint.specs.Holds.{holds}
+use Rattle.run_evaluations.specs.Loose.{loose_has}
+use Rattle.run_evaluations.proofs.open.Evaluations.loose_set.Given as goal
+
+abbrev pub invariant-loop-i : goal.invariant-loop-i
+invariant-loop-i l = (i : ℕ) → i < l.i → l.loose ≤ i → (j : Item) →
+    loose_has l.self.events.items l.self.items.items l.self.loose.items i j ≡ true → holds l.foot j ≡ true

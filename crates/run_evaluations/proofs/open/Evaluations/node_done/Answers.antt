@@ -1,0 +1,18 @@
+use Rattle.run_evaluations.proofs.WholeLemmas.{kept_like}
+use Rattle.std.proofs.Common.{subst, sym, ℕ}
+use Rattle.run_evaluations.specs.Loose.{LooseKept}
+use Rattle.run_evaluations.proofs.LooseLemmas.{all_below}
+use Rattle.run_evaluations.proofs.open.Evaluations.node_done.Goals as goal
+
+pub returns-clause-kept : goal.returns-clause-kept
+returns-clause-kept c = λ w.
+    kept_like c.gather_loose.new.self c.add_loose.new.self c.add_loose.ensures.rest c.add_loose.ensures.like
+    (kept_like c.args.self.now c.gather_loose.new.self c.gather_loose.ensures.rest c.gather_loose.ensures.like w)
+
+pub returns-clause-none : goal.returns-clause-none
+returns-clause-none c = λ right.
+    all_below c.args.map.now c.args.self.now c.gather_loose.new.self c.args.node c.own_events-own.result c.loose_start-loose.result c.in_ok-found.found
+    c.gather_loose.ensures.rest.events c.gather_loose.ensures.rest.items c.gather_loose.ensures.loose c.loose_start-loose.ensures c.own_events-own.ensures
+    (c.in_ok-found.ensures.none (c.gather_loose.ensures.right
+    (subst (λ (n : ℕ). LooseKept c.args.self.now.segments.items c.args.self.now.events.items c.args.self.now.items.items c.args.self.now.loose.items n)
+    (sym c.loose_start-loose.ensures) right)))

@@ -1,0 +1,25 @@
+use Rattle.std.proofs.Common.{◌∙◌, arith}
+use Rattle.run_evaluations.specs.declared.search.Sought.TheVariants.{Any}
+use Rattle.run_evaluations.specs.Clashes.{NoneBetween}
+use Rattle.run_evaluations.specs.Kept.{NoneOfOperands}
+use Rattle.run_evaluations.proofs.ClashLemmas.{ok_none}
+use Rattle.run_evaluations.proofs.KeptLemmas.{single_none}
+use Rattle.run_evaluations.proofs.WholeLemmas.{kept_from, of_operands}
+use Rattle.run_evaluations.proofs.open.Evaluations.operands_done.Goals as goal
+
+pub returns-then-saturating_add-len-clause-kept : goal.returns-then-saturating_add-len-clause-kept
+returns-then-saturating_add-len-clause-kept c = λ w. c.several_done.ensures.kept w (c.operands-at.ensures.below w)
+
+pub returns-then-saturating_add-len-clause-none : goal.returns-then-saturating_add-len-clause-none
+returns-then-saturating_add-len-clause-none c = λ w open_rule.
+    ok_none (NoneBetween Any c.args.map.now c.args.self.now.segments.items c.args.self.now.events.items c.args.self.now.items.items c.operands-at.result)
+    (NoneOfOperands c.args.map.now c.args.self.now c.args.node) c.several_done.result
+    (of_operands c.args.map.now c.args.self.now c.args.node c.operands-at.result c.operands-at.ensures.least)
+    (c.several_done.ensures.none open_rule (kept_from c.args.self.now.segments.items c.args.self.now.events.items c.args.self.now.items.items
+    c.args.self.now.large.items c.args.self.now.levels.items w c.operands-at.result))
+
+pub returns-clause-none : goal.returns-clause-none
+returns-clause-none c = λ w open_rule.
+    of_operands c.args.map.now c.args.self.now c.args.node c.operands-at.result c.operands-at.ensures.least
+    (single_none c.args.map.now c.args.self.now.segments.items c.args.self.now.events.items c.args.self.now.items.items c.operands-at.result
+    (let n = c.len.ensures ∙ c.args.self.now.segments.ok.0 in omega (arith, n, c.saturating_add.ensures, c.if-saturating_add-len.false)))

@@ -1,0 +1,363 @@
+// A node's own events beside the side effects below it that come before its value in no order.
+ghost use Rattle.std.specs.Prelude.{Box, ◌≡◌, ◌≤◌, ◌<◌, ◌-◌, ℕ, true, false, length, slice_get, Some, None, IfOk, IfNone, IfSome, OnOk};
+ghost use Rattle.ub_base.specs.declared.names.Item.{Item};
+ghost use Rattle.std.specs.Global.{Global};
+ghost use Rattle.footprint.specs.Holds.{holds};
+ghost use Rattle.run_evaluations.specs.declared.log.Logged.{Logged};
+ghost use Rattle.run_evaluations.specs.declared.search.Sought.TheVariants.{Any};
+ghost use Rattle.run_evaluations.specs.Touched.{event_has};
+ghost use Rattle.run_evaluations.specs.Clashes.{NoClash};
+ghost use Rattle.run_evaluations.specs.FoundItems.{ItemsConflict};
+ghost use Rattle.run_evaluations.specs.Kept.{IsKept, IsSameRest, AreLike, IsApart, span_of};
+ghost use Rattle.run_evaluations.specs.Loose.{NoLoose, HasLoose, LooseKept, IsLooseKept, NoneBelow, loose_has, loose_from};
+
+use crate::found::{Found, first_of};
+use crate::open::{Evaluations, add_all};
+use crate::search::{Under, clash};
+use addr_map::AddrMap;
+use footprint::Foot;
+use ub_base::{Frames, Kind, NoMemory};
+
+/// At most so many events that come after no value below are compared one by one.
+const FEW_LOOSE: usize = 16;
+
+impl Evaluations {
+    /// This node of the top frame's full expression is complete. Gives the first conflict between one of its own events
+    /// and one below it that comes before its value in no order.
+    pub fn node_done(
+        &mut self,
+        frames: &Frames,
+        map: &AddrMap,
+        node: u32,
+    ) -> Result<Option<Found>, NoMemory>
+        ensures conflict { IfOk result ItemsConflict }
+        ensures kept { OnOk result (IsKept self.old → IsKept self.new) }
+        ensures none { IsLooseKept self.old → IfOk result (λ r. IfNone r (NoneBelow map.now self.old node)) }
+    {
+        let loose = self.loose_start();
+        let own = self.own_events(node);
+        self.gather_loose(own, loose)?;
+        let found = self.found_below(Under { frames, map }, own, loose)?;
+        self.add_loose(node)?;
+        Ok(found)
+    }
+
+    // The first conflict between an event from this one on and one of the list from a place on.
+    fn found_below(
+        &self,
+        under: Under<'_>,
+        own: usize,
+        loose: usize,
+    ) -> Result<Option<Found>, NoMemory>
+        ensures conflict { IfOk result ItemsConflict }
+        ensures none { LooseKept self.now.segments.items self.now.events.items self.now.items.items self.now.loose.items loose → IfOk result
+            (λ r. IfNone r ((k : ℕ) → own ≤ k → k < length self.now.events.items →
+            NoLoose under.entry.map.now self.now.events.items self.now.items.items self.now.loose.items loose
+            (event_has self.now.items.items (slice_get self.now.events.items k)))) }
+    {
+        let mut found = None;
+        for at in own..self.events.len() {
+            found = self.found_at(under, at, loose, found)?;
+        }
+        Ok(found)
+    }
+
+    // The first conflict so far, with those of this event.
+    fn found_at(
+        &self,
+        under: Under<'_>,
+        at: usize,
+        loose: usize,
+        best: Option<Found>,
+    ) -> Result<Option<Found>, NoMemory>
+        requires { ItemsConflict best }
+        ensures conflict { IfOk result ItemsConflict }
+        ensures none { LooseKept self.now.segments.items self.now.events.items self.now.items.items self.now.loose.items loose → IfOk result
+            (λ r. r ≡ None → (best ≡ None) ×
+            NoLoose under.entry.map.now self.now.events.items self.now.items.items self.now.loose.items loose
+            (event_has self.now.items.items (slice_get self.now.events.items at))) }
+    {
+        if self.meets_loose(under.map, at, loose)? {
+            self.found_among(under, at, loose, best)
+        } else {
+            Ok(best)
+        }
+    }
+
+    // Where the loose events of the top segment begin.
+    fn loose_start(&self) -> usize
+        ensures { result ≡ loose_from self.now.segments.items self.now.loose.items }
+    {
+        match self.segments.last() {
+            Some(segment) => segment.loose,
+            None => self.loose.len(),
+        }
+    }
+
+    // The first of the node's own events, which are of the last two.
+    fn own_events(&self, node: u32) -> usize
+        ensures { (k : ℕ) (e : Logged) → length self.now.events.items - 2 ≤ k → slice_get self.now.events.items k ≡ Some e → e.node ≡ node → result ≤ k }
+    {
+        let count = self.events.len();
+        let first = count.saturating_sub(2);
+        if self.is_of(first, node) {
+            return first;
+        }
+        let second = count.saturating_sub(1);
+        if self.is_of(second, node) {
+            return second;
+        }
+        count
+    }
+
+    fn is_of(&self, at: usize, node: u32) -> bool
+        ensures { result ≡ false → (e : Logged) → slice_get self.now.events.items at ≡ Some e → e.node ≡ node → ⊥ }
+    {
+        match self.events.get(at) {
+            Some(event) => event.node == node,
+            None => false,
+        }
+    }
+
+    // Whether this event or one behind it has items.
+    fn has_items_from(&self, at: usize) -> bool {
+        match self.events.get(at) {
+            Some(event) => event.from < self.items.len(),
+            None => false,
+        }
+    }
+
+    // Where many events are in the list from there on, and the node's own events have items, the top segment keeps the set of
+    // their items.
+    fn gather_loose(&mut self, own: usize, loose: usize) -> Result<(), NoMemory>
+        ensures rest { IsSameRest self.old self.new }
+        ensures loose { self.new.loose.items ≡ self.old.loose.items }
+        ensures like { (g : ℕ) → AreLike (slice_get self.old.segments.items g) (slice_get self.new.segments.items g) }
+        ensures right { LooseKept self.old.segments.items self.old.events.items self.old.items.items self.old.loose.items loose →
+            LooseKept self.new.segments.items self.new.events.items self.new.items.items self.new.loose.items loose }
+    {
+        if !self.has_items_from(own)
+            || self.loose.len().saturating_sub(loose) <= FEW_LOOSE
+            || self.has_loose_foot()
+        {
+            return Ok(());
+        }
+        let foot = self.loose_set(loose)?;
+        let foot = Box::new(self.alloc, foot)?;
+        if let Some(segment) = self.segments.last_mut() {
+            segment.loose_foot = Some(foot);
+        }
+        Ok(())
+    }
+
+    fn has_loose_foot(&self) -> bool {
+        match self.segments.last() {
+            Some(segment) => segment.loose_foot.is_some(),
+            None => false,
+        }
+    }
+
+    // The set of what the events touched that are in the list from there on.
+    fn loose_set(&self, loose: usize) -> Result<Foot, NoMemory>
+        ensures { IfOk result (HasLoose self.now.events.items self.now.items.items self.now.loose.items loose) }
+    {
+        let mut foot = Foot::new(self.alloc);
+        for i in loose..self.loose.len() {
+            self.add_listed(i, &mut foot)?;
+        }
+        Ok(foot)
+    }
+
+    fn add_listed(&self, i: usize, foot: &mut Foot) -> Result<(), NoMemory>
+        ensures more { OnOk result ((j : Item) → holds foot.old j ≡ true → holds foot.new j ≡ true) }
+        ensures one { OnOk result ((j : Item) → loose_has self.now.events.items self.now.items.items self.now.loose.items i j ≡ true →
+            holds foot.new j ≡ true) }
+    {
+        match self.loose.get(i) {
+            Some(at) => self.add_event(foot, *at),
+            None => Ok(()),
+        }
+    }
+
+    // Whether an item of the event conflicts with one of the events of the list.
+    fn meets_loose(&self, map: &AddrMap, at: usize, loose: usize) -> Result<bool, NoMemory>
+        ensures { LooseKept self.now.segments.items self.now.events.items self.now.items.items self.now.loose.items loose → IfOk result (λ b. b ≡ false →
+            NoLoose map.now self.now.events.items self.now.items.items self.now.loose.items loose
+            (event_has self.now.items.items (slice_get self.now.events.items at))) }
+    {
+        let Some(segment) = self.segments.last() else {
+            return self.meets_few(map, at, loose);
+        };
+        match &segment.loose_foot {
+            Some(below) => self.meets_set(map, at, below),
+            None => self.meets_few(map, at, loose),
+        }
+    }
+
+    fn meets_set(&self, map: &AddrMap, at: usize, below: &Foot) -> Result<bool, NoMemory>
+        ensures { IfOk result (λ b. b ≡ false →
+            NoClash Any map.now (event_has self.now.items.items (slice_get self.now.events.items at)) (holds below.now)) }
+    {
+        let foot = self.event_foot(at)?;
+        Ok(clash(&foot, below, map))
+    }
+
+    fn meets_few(&self, map: &AddrMap, at: usize, loose: usize) -> Result<bool, NoMemory>
+        ensures { IfOk result (λ b. b ≡ false →
+            NoLoose map.now self.now.events.items self.now.items.items self.now.loose.items loose
+            (event_has self.now.items.items (slice_get self.now.events.items at))) }
+    {
+        for i in loose..self.loose.len() {
+            if self.meets_listed(map, at, i)? {
+                return Ok(true);
+            }
+        }
+        Ok(false)
+    }
+
+    fn meets_listed(&self, map: &AddrMap, at: usize, i: usize) -> Result<bool, NoMemory>
+        ensures { IfOk result (λ b. b ≡ false →
+            NoClash Any map.now (event_has self.now.items.items (slice_get self.now.events.items at))
+            (loose_has self.now.events.items self.now.items.items self.now.loose.items i)) }
+    {
+        match self.loose.get(i) {
+            Some(other) => self.events_meet(map, at, *other),
+            None => Ok(false),
+        }
+    }
+
+    // Whether what two events touched conflicts: item by item, where none of them started a frame.
+    fn events_meet(&self, map: &AddrMap, a: usize, b: usize) -> Result<bool, NoMemory>
+        ensures { IfOk result (λ r. r ≡ false → NoClash Any map.now (event_has self.now.items.items (slice_get self.now.events.items a))
+            (event_has self.now.items.items (slice_get self.now.events.items b))) }
+    {
+        if self.are_alone(a, b) {
+            let first = self.span(a);
+            let second = self.span(b);
+            return Ok(self.spans_meet(map, first, second));
+        }
+        let foot = self.event_foot(b)?;
+        self.meets_set(map, a, &foot)
+    }
+
+    // Whether none of the two events started a frame.
+    fn are_alone(&self, a: usize, b: usize) -> bool
+        ensures first { result ≡ true → (e : Logged) → slice_get self.now.events.items a ≡ Some e → e.foot ≡ None }
+        ensures second { result ≡ true → (e : Logged) → slice_get self.now.events.items b ≡ Some e → e.foot ≡ None }
+    {
+        self.has_items_alone(a) && self.has_items_alone(b)
+    }
+
+    // Where the items of an event stand.
+    fn span(&self, at: usize) -> (usize, usize)
+        ensures { IfSome (span_of (slice_get self.now.events.items at)) (λ s. result ≡ s) }
+    {
+        match self.events.get(at) {
+            Some(event) => (event.from, event.to),
+            None => (0, 0),
+        }
+    }
+
+    // Whether an item of one range conflicts with one of another.
+    fn spans_meet(&self, map: &AddrMap, a: (usize, usize), b: (usize, usize)) -> bool
+        ensures { result ≡ false → (p : ℕ) → a.0 ≤ p → p < a.1 → (q : ℕ) → b.0 ≤ q → q < b.1 →
+            IsApart map.now (slice_get self.now.items.items p) (slice_get self.now.items.items q) }
+    {
+        for p in a.0..a.1 {
+            if self.meets_span(map, p, b) {
+                return true;
+            }
+        }
+        false
+    }
+
+    fn meets_span(&self, map: &AddrMap, p: usize, b: (usize, usize)) -> bool
+        ensures { result ≡ false → (q : ℕ) → b.0 ≤ q → q < b.1 → IsApart map.now (slice_get self.now.items.items p) (slice_get self.now.items.items q) }
+    {
+        for q in b.0..b.1 {
+            if self.items_at_conflict(map, p, q) {
+                return true;
+            }
+        }
+        false
+    }
+
+    // The first conflict so far, with those of this event and those of the list, which stand below it.
+    fn found_among(
+        &self,
+        under: Under<'_>,
+        event: usize,
+        loose: usize,
+        best: Option<Found>,
+    ) -> Result<Option<Found>, NoMemory>
+        requires { ItemsConflict best }
+        ensures conflict { IfOk result ItemsConflict }
+        ensures none { IfOk result (λ r. r ≡ None → (best ≡ None) ×
+            NoLoose under.entry.map.now self.now.events.items self.now.items.items self.now.loose.items loose
+            (event_has self.now.items.items (slice_get self.now.events.items event))) }
+    {
+        let mut best = best;
+        for i in loose..self.loose.len() {
+            best = self.found_listed(under, event, i, best)?;
+        }
+        Ok(best)
+    }
+
+    fn found_listed(
+        &self,
+        under: Under<'_>,
+        event: usize,
+        i: usize,
+        best: Option<Found>,
+    ) -> Result<Option<Found>, NoMemory>
+        requires { ItemsConflict best }
+        ensures conflict { IfOk result ItemsConflict }
+        ensures none { IfOk result (λ r. r ≡ None → (best ≡ None) ×
+            NoClash Any under.entry.map.now (event_has self.now.items.items (slice_get self.now.events.items event))
+            (loose_has self.now.events.items self.now.items.items self.now.loose.items i)) }
+    {
+        match self.loose.get(i) {
+            Some(other) => self.found_with(under, event, *other, best),
+            None => Ok(best),
+        }
+    }
+
+    fn found_with(
+        &self,
+        under: Under<'_>,
+        event: usize,
+        other: usize,
+        best: Option<Found>,
+    ) -> Result<Option<Found>, NoMemory>
+        requires { ItemsConflict best }
+        ensures conflict { IfOk result ItemsConflict }
+        ensures none { IfOk result (λ r. r ≡ None → (best ≡ None) ×
+            NoClash Any under.entry.map.now (event_has self.now.items.items (slice_get self.now.events.items event))
+            (event_has self.now.items.items (slice_get self.now.events.items other))) }
+    {
+        let found = self.found_of_two(under, event, other)?;
+        Ok(first_of(under.frames, best, found))
+    }
+
+    // The node's side effect comes before no value of a parent.
+    fn add_loose(&mut self, node: u32) -> Result<(), NoMemory>
+        ensures rest { IsSameRest self.old self.new }
+        ensures like { (g : ℕ) → AreLike (slice_get self.old.segments.items g) (slice_get self.new.segments.items g) }
+    {
+        let at = self.events.len().saturating_sub(1);
+        let Some(event) = self.events.last() else {
+            return Ok(());
+        };
+        if event.kind != Kind::Eff || event.node != node {
+            return Ok(());
+        }
+        self.loose.push(at)?;
+        if let (Some(segment), Some(items)) = (
+            self.segments.last_mut(),
+            self.items.get(event.from..event.to),
+        ) {
+            return add_all(&mut segment.loose_foot, items);
+        }
+        Ok(())
+    }
+}

@@ -1,0 +1,73 @@
+// Where jumps go: the labels of functions, and the cases of `switch` statements.
+
+use crate::switches_of;
+use run_control::{Found, Link, Place, Statement, Switch, Target, find, targets_of};
+use std::alloc::Global;
+use ub_base::NoMemory;
+
+/// The work round targets; the labels of each function, and the cases of each `switch`, by their numbers.
+#[derive(Drop)]
+pub struct Jumps<'p> {
+    pub links: Vec<Link<'p>>,
+    labels: Vec<Vec<Found<'p>>>,
+    cases: Vec<Vec<Found<'p>>>,
+}
+
+impl<'p> Jumps<'p> {
+    /// No function was added.
+    pub fn new(alloc: Global) -> Jumps<'p> {
+        Jumps {
+            links: Vec::new(alloc),
+            labels: Vec::new(alloc),
+            cases: Vec::new(alloc),
+        }
+    }
+
+    /// Adds the next function, with its body where it is defined. The `switch` statements are to be numbered in the order of the
+    /// text.
+    pub fn add(&mut self, alloc: Global, body: Option<&'p Statement>) -> Result<(), NoMemory> {
+        let Some(body) = body else {
+            self.labels.push(Vec::new(alloc))?;
+            return Ok(());
+        };
+        let mut switches = Vec::new(alloc);
+        switches_of(body, &mut switches)?;
+        self.add_cases(alloc, &switches)?;
+        self.labels
+            .push(targets_of(alloc, &mut self.links, body, true)?)?;
+        Ok(())
+    }
+
+    fn add_cases(&mut self, alloc: Global, switches: &[&'p Switch]) -> Result<(), NoMemory> {
+        for switch in switches {
+            if switch.number as usize != self.cases.len() {
+                return Err(NoMemory);
+            }
+            let cases = targets_of(alloc, &mut self.links, switch.body.get(), false)?;
+            self.cases.push(cases)?;
+        }
+        Ok(())
+    }
+
+    /// Where a label of the function stands. None that isn't there is asked for.
+    pub fn label(&self, function: u32, label: u32) -> Result<Place<'p>, NoMemory> {
+        let Some(labels) = self.labels.get(function as usize) else {
+            return Err(NoMemory);
+        };
+        match find(labels, Target::Label(label)) {
+            Some(place) => Ok(place),
+            None => Err(NoMemory),
+        }
+    }
+
+    /// Where the `switch` of this number goes by the value of its test, if there is a case for it (6.8.4.2p5).
+    pub fn case(&self, switch: u32, value: i128) -> Result<Option<Place<'p>>, NoMemory> {
+        let Some(cases) = self.cases.get(switch as usize) else {
+            return Err(NoMemory);
+        };
+        match find(cases, Target::Case(value)) {
+            Some(place) => Ok(Some(place)),
+            None => Ok(find(cases, Target::Default)),
+        }
+    }
+}

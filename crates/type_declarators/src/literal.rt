@@ -1,0 +1,90 @@
+// Constants and string literals (6.4.4, 6.4.5).
+ghost use Rattle.std.specs.Prelude.{IfOk};
+ghost use Rattle.c_typed.specs.Lawful.{HasBytes};
+
+use c_lit::{LitFault, char_value, int_value, string_bytes};
+use c_typed::Node;
+use c_types::{IntKind, Qual, Shared, Ty};
+use std::alloc::Global;
+use type_operands::{Operand, integer, leaf, place, value};
+use type_reasons::Reason;
+use type_scope::{Source, State, TypeFault};
+use ub_base::Bytes;
+
+// The fault of a constant or literal that has no value: for this reason, where it isn't too wide.
+fn literal_fault(source: &Source<'_>, at: u32, fault: LitFault, reason: Reason) -> TypeFault {
+    match fault {
+        LitFault::NoMemory => TypeFault::NoMemory,
+        LitFault::TooWide => source.fault(at, Reason::ConstantTooWide),
+        LitFault::BadEscape | LitFault::BadSuffix => source.fault(at, reason),
+    }
+}
+
+/// An integer constant (6.4.4.1).
+pub fn number(alloc: Global, source: &Source<'_>, at: u32) -> Result<Operand, TypeFault> {
+    match int_value(source.spelling(at)) {
+        Ok(lit) => {
+            let number = i128::from(lit.value);
+            Ok(value(integer(alloc, number, lit.kind, source.line(at))))
+        }
+        Err(fault) => Err(literal_fault(source, at, fault, Reason::ConstantTooWide)),
+    }
+}
+
+/// A character constant, of type `int` (6.4.4.4).
+pub fn character(alloc: Global, source: &Source<'_>, at: u32) -> Result<Operand, TypeFault> {
+    match char_value(source.spelling(at)) {
+        Ok(number) => {
+            let number = i128::from(number);
+            Ok(value(integer(alloc, number, IntKind::Int, source.line(at))))
+        }
+        Err(fault) => Err(literal_fault(source, at, fault, Reason::CharacterConstant)),
+    }
+}
+
+/// The bytes of adjacent string literals with the closing zero (6.4.5p6).
+pub fn literal_bytes(
+    alloc: Global,
+    source: &Source<'_>,
+    first: u32,
+    count: u32,
+) -> Result<Bytes, TypeFault>
+    ensures { IfOk result HasBytes }
+{
+    let mut bytes = Bytes::from_slice(alloc, &[])?;
+    for k in 0..count {
+        let at = first.saturating_add(k);
+        if let Err(fault) = string_bytes(&mut bytes, source.spelling(at)) {
+            return Err(literal_fault(source, at, fault, Reason::StringLiteral));
+        }
+    }
+    bytes.append(&[0])?;
+    Ok(bytes)
+}
+
+fn array_of_char(alloc: Global, count: u64) -> Result<Ty, TypeFault> {
+    let element = Qual {
+        ty: Ty::Int(IntKind::Char),
+        constant: false,
+    };
+    Ok(Ty::Array(Shared::new(alloc, element)?, Some(count)))
+}
+
+/// String literals as an expression: an array of `char` with static storage (6.4.5p6).
+pub fn strings(
+    source: &Source<'_>,
+    state: &mut State,
+    first: u32,
+    count: u32,
+) -> Result<Operand, TypeFault> {
+    let alloc = state.alloc;
+    let bytes = literal_bytes(alloc, source, first, count)?;
+    let array = Qual {
+        ty: array_of_char(alloc, bytes.len() as u64)?,
+        constant: false,
+    };
+    let number = state.add_literal(bytes)?;
+    let ty = Ty::Pointer(Shared::new(alloc, array)?);
+    let tree = leaf(alloc, Node::Str(number), ty, source.line(first));
+    Ok(place(tree, false))
+}

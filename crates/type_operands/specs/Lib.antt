@@ -1,0 +1,4 @@
+pub mod Conversions
+pub mod Layouts
+pub mod Qualifiers
+pub mod Terms
