@@ -13,3 +13,4 @@ pub mod Starts
 pub mod Stands
 pub mod Filled
 pub mod Arguments
+pub mod Statics

@@ -164,7 +164,7 @@ static_created (Ok a) old new tags k s e constant form sized const formed create
 )
 static_created (Err c) old new tags k s e constant form sized const formed creates = tt
 
-take_next : {A : Type 0} (xs : List A) (i : ℕ) (x : A) → i < length xs → x ≡ get_or xs i x → take (suc i) xs ≡ take i xs ++ x ∷ []
+pub take_next : {A : Type 0} (xs : List A) (i : ℕ) (x : A) → i < length xs → x ≡ get_or xs i x → take (suc i) xs ≡ take i xs ++ x ∷ []
 take_next [] i x lt is = absurd (omega (arith, lt))
 take_next (y ∷ ys) zero x lt is = ap (λ z. z ∷ []) (sym is)
 take_next (y ∷ ys) (suc i) x lt is = ap (λ zs. y ∷ zs) (take_next ys i x (omega (arith, lt)) is)
@@ -200,7 +200,7 @@ statics_more old now new tags xs i n s keeps all e lt is one =
       created_behind old now new all.0 one.0 keeps all.2 one.2,
     )
 
-take_every : {A : Type 0} (xs : List A) (n : ℕ) → n ≡ length xs → take n xs ≡ xs
+pub take_every : {A : Type 0} (xs : List A) (n : ℕ) → n ≡ length xs → take n xs ≡ xs
 take_every [] n e = let none : n ≡ 0 = omega (arith, e) in rw none refl
 take_every (x ∷ xs) zero e = absurd (omega (arith, e))
 take_every (x ∷ xs) (suc n) e = ap (λ ys. x ∷ ys) (take_every xs n (omega (arith, e)))

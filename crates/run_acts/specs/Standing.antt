@@ -186,6 +186,15 @@ StaticsCreated old new tags ss = (os : List Standing) × AreStatics tags 0 ss os
 abbrev pub AllFilled : Kept → Kept → List Standing → Type 0
 AllFilled old new os = (rows : List Row) → RowsStay new.rows rows → (io : Io) → FillsAll rows os (store_of old io) (store_of new io)
 
+-- an object with static storage is filled as the definitions fill it
+abbrev pub StaticFilled : Kept → Kept → List Tag → ℕ → Static → Type 0
+StaticFilled old new tags k s = (o : Standing) → IsStatic tags k s o → (rows : List Row) → RowsStay new.rows rows → (io : Io) →
+    FillsOne rows o (store_of old io) (store_of new io)
+
+-- .. all of them, one after the other
+abbrev pub StaticsFilled : Kept → Kept → List Tag → List Static → Type 0
+StaticsFilled old new tags ss = (os : List Standing) → AreStatics tags 0 ss os → AllFilled old new os
+
 -- the objects that stand before a run are created in the order of the definitions, up to some memory, of which the rest keeps what a call keeps
 abbrev pub StartCreated : Kept → Kept → Program → List (List ℕ) → Type 0
 StartCreated old new p args = (os : List Standing) × Stand p args os × (middle : Kept) × AllCreated old middle os × Keeps middle new

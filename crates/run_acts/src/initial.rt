@@ -1,5 +1,5 @@
 // The objects that stand before the first pick: those with static storage, string literals, and the arguments of `main`.
-ghost use Rattle.std.specs.Prelude.{◌≡◌, List, ◌+◌, ◌-◌, ◌*◌, ◌%◌, min, ◌<◌, ◌^◌, ◌++◌, ◌∷◌, [], ℕ, Some, false, length, map, option_map, slice_get, string_bytes, IfOk, OnOk};
+ghost use Rattle.std.specs.Prelude.{◌≡◌, List, ◌+◌, ◌-◌, ◌*◌, ◌%◌, min, ◌<◌, ◌^◌, ◌++◌, ◌∷◌, [], ℕ, Some, false, length, nat_lt, map, option_map, slice_get, string_bytes, IfOk, OnOk};
 ghost use Rattle.std.specs.List.{All};
 ghost use Rattle.ub_base.specs.declared.names.ObjName.{ObjName};
 ghost use Rattle.ub_base.specs.declared.names.ObjName.TheVariants as names;
@@ -20,7 +20,7 @@ ghost use Rattle.prov_memory.specs.Sound.{IsSound};
 ghost use Rattle.prov_memory.specs.Tags.{CellsTagged};
 ghost use Rattle.run_acts.specs.Contents.{Stands};
 ghost use Rattle.run_acts.specs.Kept.{IsOf};
-ghost use Rattle.run_acts.specs.Standing.{AreArguments, ArgumentAdded, AllCreated, AllFilled, extent_of, HasForm, literals, program_name, StartCreated, StaticCreated, StaticsCreated};
+ghost use Rattle.run_acts.specs.Standing.{AreArguments, ArgumentAdded, AllCreated, AllFilled, StaticFilled, StaticsFilled, extent_of, HasForm, literals, program_name, StartCreated, StaticCreated, StaticsCreated};
 ghost use Rattle.run_acts.specs.Standing as standing;
 ghost use Rattle.run_acts.specs.Starting.{AreAll, ArePlaced, AreMadeAll, AddsArgument, Creates, Puts};
 ghost use Rattle.run_acts.specs.Views.{pointer_at, value_in};
@@ -278,6 +278,7 @@ fn fill_statics(
     t: &mut Touched,
 ) -> Result<(), CreateFault>
     ensures kept { IsSound m.old → IsLawful p.now → ArePlaced m.old p.now places.now → Keeps m.old m.new }
+    ensures exact { OnOk result (IsSound m.old → IsLawful p.now → ArePlaced m.old p.now places.now → StaticsFilled m.old m.new p.now.tags p.now.statics) }
 {
     for (number, object) in p.statics.as_slice().iter().enumerate() {
         fill_static(alloc, p, object, number, places, m, t)?;
@@ -374,10 +375,12 @@ fn fill_static(
     t: &mut Touched,
 ) -> Result<(), CreateFault>
     ensures kept { IsSound m.old → ArePlaced m.old p.now places.now → All (λ c. ContentIsLawful p.now c.content) object.now.constants → Keeps m.old m.new }
+    ensures exact { OnOk result (IsSound m.old → ArePlaced m.old p.now places.now → All (λ c. ContentIsLawful p.now c.content) object.now.constants → number < length p.now.statics → length p.now.statics < 2 ^ 32 → StaticFilled m.old m.new p.now.tags number object.now) }
 {
-    let number = u32::try_from(number).unwrap_or(u32::MAX);
+    let number = short(number);
     let whole = places.object(number, 0);
-    clear(alloc, extent(&p.tags, &object.qual.ty).size, whole, m, t)?;
+    let extent = extent_of_object(&p.tags, &object.qual);
+    clear(alloc, extent.size, whole, m, t)?;
     let fillings = fillings(alloc, m, places, object.constants.as_slice())?;
     for filling in fillings.as_slice() {
         put(whole, filling.at, &filling.bytes, m, t)?;
@@ -401,6 +404,13 @@ fn page_at(size: u64, number: u64) -> u64
     number.saturating_mul(PAGE).saturating_add(size % PAGE)
 }
 
+// Whether so many bytes from this address on end behind the last address.
+fn ends_beyond(addr: u64, size: u64) -> bool
+    ensures { result ≡ nat_lt (2 ^ 64 - 1) (addr + size) }
+{
+    size > u64::MAX - addr
+}
+
 // Makes the bytes of a new object zero: what is no whole page, and then a page at a time.
 fn clear(
     alloc: Global,
@@ -409,10 +419,13 @@ fn clear(
     m: &mut Memory,
     t: &mut Touched,
 ) -> Result<(), CreateFault>
-    ensures exact { OnOk result ((x : ObjName) → whole.prov ≡ Whole x → whole.addr + size < 2 ^ 64 → Puts m.old m.new x whole.addr (number_bytes size 0)) }
+    ensures exact { OnOk result ((x : ObjName) → whole.prov ≡ Whole x → Puts m.old m.new x whole.addr (number_bytes size 0)) }
     ensures rest { record m.new { objects = []; cells = [] } ≡ record m.old { objects = []; cells = [] } }
     ensures kept { Keeps m.old m.new }
 {
+    if ends_beyond(whole.addr, size) {
+        return Err(CreateFault::Unplaced);
+    }
     let first = zeros(alloc, size % PAGE)?;
     put(whole, 0, &first, m, t)?;
     let page = zeros(alloc, page_of(size))?;
