@@ -14,3 +14,4 @@ pub mod Stands
 pub mod Filled
 pub mod Arguments
 pub mod Statics
+pub mod Vectors

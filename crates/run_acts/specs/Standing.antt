@@ -30,6 +30,7 @@ use Rattle.c_typed.specs.declared.program.Program.{Program}
 use Rattle.c_typed.specs.declared.program.Static.{Static}
 use Rattle.c_model.specs.Program.{Standing, Filling, Zeros, Bytes, Object_at, No_object}
 use Rattle.run_acts.specs.declared.initial.Argument.{Argument}
+use Rattle.run_acts.specs.declared.values.Pointer.{Pointer as Place}
 use Rattle.run_acts.specs.Views.{pointer_at}
 use Rattle.run_acts.specs.Contents.{Stands, filled_by}
 use Rattle.run_acts.specs.Starting.{Creates}
@@ -210,6 +211,10 @@ abbrev pub AreArguments : Kept → ℕ → List (List ℕ) → List Argument →
 AreArguments m k [] [] = Unit {0}
 AreArguments m k (b ∷ bs) (a ∷ xs) = IsArgument m k b a × AreArguments m (suc k) bs xs
 AreArguments m k _ _ = ⊥
+
+-- the object stands where the pointer points
+abbrev pub StandsThere : Kept → ObjName → Place → Type 0
+StandsThere m x p = (base : ℕ) × (pointer_at p ≡ record { address = address_after base 0; prov = Whole x }) × Stands m x base
 
 -- one more, of this text
 abbrev pub ArgumentAdded : Kept → List ℕ → (old new : List Argument) → Type 0

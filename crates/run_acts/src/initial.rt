@@ -20,7 +20,7 @@ ghost use Rattle.prov_memory.specs.Sound.{IsSound};
 ghost use Rattle.prov_memory.specs.Tags.{CellsTagged};
 ghost use Rattle.run_acts.specs.Contents.{Stands};
 ghost use Rattle.run_acts.specs.Kept.{IsOf};
-ghost use Rattle.run_acts.specs.Standing.{AreArguments, ArgumentAdded, AllCreated, AllFilled, StaticFilled, StaticsFilled, extent_of, HasForm, literals, program_name, StartCreated, StaticCreated, StaticsCreated};
+ghost use Rattle.run_acts.specs.Standing.{AreArguments, ArgumentAdded, AllCreated, AllFilled, StaticFilled, StaticsFilled, extent_of, HasForm, literals, program_name, StartCreated, StaticCreated, StaticsCreated, StandsThere};
 ghost use Rattle.run_acts.specs.Standing as standing;
 ghost use Rattle.run_acts.specs.Starting.{AreAll, ArePlaced, AreMadeAll, AddsArgument, Creates, Puts};
 ghost use Rattle.run_acts.specs.Views.{pointer_at, value_in};
@@ -594,6 +594,7 @@ fn create_vector(
     ensures kept { Keeps m.old m.new }
     ensures exact { OnOk result (AreKnown m.old → length args.now < 2 ^ 32 → Creates m.old m.new names.Argv (8 * (length args.now + 2)) 8 (record { heap = false; literal = false; constant = false }) (Some (repeat (length args.now + 2) 8 (leaf (pointer false (int Char)))))) }
     ensures made { IfOk result (λ p. IsMade m.new p.prov) }
+    ensures stands { IfOk result (λ p. StandsThere m.new names.Argv p) }
 {
     let count = (args.len() as u64).saturating_add(2);
     let element = character_pointer(alloc)?;
@@ -626,6 +627,7 @@ fn point(
     t: &mut Touched,
 ) -> Result<(), CreateFault>
     ensures kept { IsSound m.old → AreMadeAll m.old arguments.now → Keeps m.old m.new }
+    ensures exact { OnOk result (IsSound m.old → AreMadeAll m.old arguments.now → StandsThere m.old names.Argv vector → (words : List (List ℕ)) → AreArguments m.old 0 words arguments.now → length words < 2 ^ 32 → AllFilled m.old m.new (standing.vector words ∷ [])) }
 {
     let mut at = 0;
     for argument in arguments {
