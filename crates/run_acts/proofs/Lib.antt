@@ -15,3 +15,4 @@ pub mod Filled
 pub mod Arguments
 pub mod Statics
 pub mod Vectors
+pub mod Begins

@@ -11,7 +11,7 @@ use Rattle.mem_spec.specs.Acts.{create, base_in}
 use Rattle.mem_spec.specs.Script.{Done, run}
 use Rattle.mem_spec.specs.Store.{Store}
 use Rattle.mem_spec.specs.Streams.{Io}
-use Rattle.prov_memory.specs.Keeps.{Keeps, RowsStay}
+use Rattle.prov_memory.specs.Keeps.{RowsStay}
 use Rattle.prov_memory.specs.Memory.{Kept, store_of}
 use Rattle.c_model.specs.Nodes.{fill}
 use Rattle.c_model.specs.Runs.{stand}
@@ -196,9 +196,14 @@ StaticFilled old new tags k s = (o : Standing) → IsStatic tags k s o → (rows
 abbrev pub StaticsFilled : Kept → Kept → List Tag → List Static → Type 0
 StaticsFilled old new tags ss = (os : List Standing) → AreStatics tags 0 ss os → AllFilled old new os
 
--- the objects that stand before a run are created in the order of the definitions, up to some memory, of which the rest keeps what a call keeps
-abbrev pub StartCreated : Kept → Kept → Program → List (List ℕ) → Type 0
-StartCreated old new p args = (os : List Standing) × Stand p args os × (middle : Kept) × AllCreated old middle os × Keeps middle new
+-- .. and then the string literals
+abbrev pub NamedFilled : Kept → Kept → Program → Type 0
+NamedFilled old new p = (os : List Standing) → AreStatics p.tags 0 p.statics os → AllFilled old new (os ++ literals 0 p.literals)
+
+-- under all rows that stay, the objects that stand before a run are created and then filled as the definitions do it
+abbrev pub StartStands : Kept → Kept → Program → List (List ℕ) → Type 0
+StartStands old new p args = (os : List Standing) × Stand p args os × ((rows : List Row) → RowsStay new.rows rows → (io : Io) →
+    (middle : Store) × CreatesAll rows os (store_of old io) middle × FillsAll rows os middle (store_of new io))
 
 -- the object of an argument was created, and has this text
 pub record IsArgument (m : Kept) (k : ℕ) (b : List ℕ) (a : Argument) : Type 0 where

@@ -20,7 +20,7 @@ ghost use Rattle.prov_memory.specs.Sound.{IsSound};
 ghost use Rattle.prov_memory.specs.Tags.{CellsTagged};
 ghost use Rattle.run_acts.specs.Contents.{Stands};
 ghost use Rattle.run_acts.specs.Kept.{IsOf};
-ghost use Rattle.run_acts.specs.Standing.{AreArguments, ArgumentAdded, AllCreated, AllFilled, StaticFilled, StaticsFilled, extent_of, HasForm, literals, program_name, StartCreated, StaticCreated, StaticsCreated, StandsThere};
+ghost use Rattle.run_acts.specs.Standing.{AreArguments, ArgumentAdded, AllCreated, AllFilled, StaticFilled, StaticsFilled, extent_of, HasForm, literals, NamedFilled, program_name, StartStands, StaticCreated, StaticsCreated, StandsThere};
 ghost use Rattle.run_acts.specs.Standing as standing;
 ghost use Rattle.run_acts.specs.Starting.{AreAll, ArePlaced, AreMadeAll, AddsArgument, Creates, Puts};
 ghost use Rattle.run_acts.specs.Views.{pointer_at, value_in};
@@ -185,7 +185,7 @@ pub fn start(
 ) -> Result<Started, CreateFault>
     ensures kept { IsSound m.old → IsLawful p.now → Keeps m.old m.new }
     ensures placed { IfOk result (λ s. IsSound m.old → IsLawful p.now → ArePlaced m.new p.now s.places) }
-    ensures created { OnOk result (IsSound m.old → IsLawful p.now → length args.now + 1 < 2 ^ 32 → StartCreated m.old m.new p.now (program_name ∷ map string_bytes args.now)) }
+    ensures stands { OnOk result (IsSound m.old → IsLawful p.now → length args.now + 1 < 2 ^ 32 → StartStands m.old m.new p.now (program_name ∷ map string_bytes args.now)) }
     ensures made { IfOk result (λ s. IsSound m.old → IsLawful p.now → IsOf m.new s.count × IsOf m.new s.vector) }
 {
     let mut t = Touched::new(alloc)?;
@@ -265,6 +265,7 @@ fn fill_named(
     t: &mut Touched,
 ) -> Result<(), CreateFault>
     ensures kept { IsSound m.old → IsLawful p.now → ArePlaced m.old p.now places.now → Keeps m.old m.new }
+    ensures exact { OnOk result (IsSound m.old → IsLawful p.now → ArePlaced m.old p.now places.now → NamedFilled m.old m.new p.now) }
 {
     fill_statics(alloc, p, places, m, t)?;
     fill_literals(alloc, p, places, m, t)
