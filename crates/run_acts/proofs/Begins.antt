@@ -1,7 +1,6 @@
 -- The start of a run: its objects are created and then filled as the definitions do it.
-use Rattle.std.proofs.Common.{◌≡◌, ℕ, suc, ◌+◌, ◌<◌, ◌^◌, Bool, true, false, sym, ap, subst, List, [], ◌∷◌, ◌++◌, length, refl}
+use Rattle.std.proofs.Common.{◌≡◌, ℕ, suc, ◌<◌, ◌^◌, Bool, true, false, sym, ap, subst, List, [], ◌∷◌, ◌++◌, length}
 use Rattle.std.specs.Prelude.{slice_get}
-use Rattle.ub_base.specs.declared.names.ObjName.{ObjName}
 use Rattle.ub_base.specs.declared.names.ObjName.TheVariants.{Lit, Argv}
 use Rattle.addr_map.specs.declared.map.Row.{Row}
 use Rattle.c_typed.specs.Lawful.{IsLawful}
@@ -15,23 +14,7 @@ use Rattle.c_model.specs.Program.{Standing}
 use Rattle.run_acts.specs.declared.initial.Argument.{Argument}
 use Rattle.run_acts.specs.declared.initial.Places.{Places}
 use Rattle.run_acts.specs.declared.values.Pointer.{Pointer}
-use Rattle.run_acts.specs.Standing.{
-  arguments,
-  literals,
-  vector,
-  given,
-  takes_arguments,
-  AllCreated,
-  AllFilled,
-  AreArguments,
-  AreStatics,
-  FillsAll,
-  NamedFilled,
-  StandsThere,
-  StartStands,
-  StaticsCreated,
-  StaticsFilled,
-}
+use Rattle.run_acts.specs.Standing.{arguments, literals, vector, given, takes_arguments, AllCreated, AllFilled, AreArguments, FillsAll, NamedFilled, StandsThere, StartStands, StaticsCreated, StaticsFilled}
 use Rattle.run_acts.specs.Starting.{AreAll, ArePlaced, AreMadeAll}
 use Rattle.run_acts.proofs.Arguments.{argument_still}
 use Rattle.run_acts.proofs.Filled.{none_filled}

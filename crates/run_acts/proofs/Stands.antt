@@ -31,13 +31,11 @@ use Rattle.ub_base.specs.declared.names.ObjName.TheVariants as names
 use Rattle.run_acts.specs.Contents.{filled_by}
 use Rattle.run_acts.specs.Standing.{extent_of, is_constant, HasForm, IsStatic, AreStatics, StaticCreated, StaticsCreated}
 use Rattle.std.proofs.lemmas.List.{length-append}
-use Rattle.std.specs.Prelude.{◌*◌, ◌==◌, not, slice_get}
+use Rattle.std.specs.Prelude.{◌*◌, ◌==◌, not}
 use Rattle.c_types.specs.declared.ty.Qual.{Qual}
 use Rattle.c_types.specs.Types.{params_of}
 use Rattle.run_acts.specs.Standing.{has_parameters}
 use Rattle.c_types.specs.Types.{pointer}
-use Rattle.c_typed.specs.declared.program.Program.{Program}
-use Rattle.prov_memory.proofs.KeepLemmas.{keeps_none, keeps_then}
 use Rattle.run_acts.specs.Standing.{vector}
 use Rattle.run_acts.specs.Standing.{arguments, program_name}
 use Rattle.std.specs.Prelude.{string_bytes}

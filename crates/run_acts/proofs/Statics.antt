@@ -21,7 +21,7 @@ use Rattle.c_typed.specs.declared.program.Static.{Static as Object}
 use Rattle.mem_spec.specs.Acts.{store, bytes, base_in}
 use Rattle.mem_spec.specs.Bytes.{number_bytes, pointer_bytes}
 use Rattle.mem_spec.specs.Script.{Script, Done, run, ◌>>◌}
-use Rattle.mem_spec.specs.Store.{Store, TaggedByte}
+use Rattle.mem_spec.specs.Store.{TaggedByte}
 use Rattle.mem_spec.specs.Streams.{Io}
 use Rattle.prov_memory.specs.Keeps.{Keeps, RowsStay}
 use Rattle.prov_memory.specs.Made.{AreNamed}
@@ -35,9 +35,9 @@ use Rattle.c_model.specs.Values.{Value, Nothing, Pointer as Place, address_after
 use Rattle.run_acts.specs.declared.initial.Places.{Places}
 use Rattle.run_acts.specs.declared.storage.Filling.{Filling}
 use Rattle.run_acts.specs.declared.values.Pointer.{Pointer}
-use Rattle.run_acts.specs.Contents.{Stands, StandsAt, IsPlaced, CanHold, CanHoldAll, address_of, content_of, filled_by}
+use Rattle.run_acts.specs.Contents.{Stands, IsPlaced, CanHold, CanHoldAll, address_of, content_of, filled_by}
 use Rattle.run_acts.specs.Fills.{AreFillings}
-use Rattle.run_acts.specs.Standing.{extent_of, IsStatic, AreStatics, place_of, FillsOne, AllFilled, StaticFilled, StaticsFilled}
+use Rattle.run_acts.specs.Standing.{extent_of, IsStatic, AreStatics, place_of, AllFilled, StaticFilled, StaticsFilled}
 use Rattle.run_acts.specs.Starting.{Puts, ArePlaced}
 use Rattle.run_acts.specs.Views.{pointer_at}
 use Rattle.run_acts.proofs.Fills.{Alike, before_twice, before_done, filling_at, none_left, first_of}

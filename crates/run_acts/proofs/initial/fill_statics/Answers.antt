@@ -1,4 +1,4 @@
-use Rattle.std.proofs.Common.{ℕ, List, ◌<◌, subst, length, arith}
+use Rattle.std.proofs.Common.{List, ◌<◌, subst, length, arith}
 use Rattle.c_typed.specs.declared.program.Static.{Static as Object}
 use Rattle.prov_memory.proofs.KeepLemmas.{keeps_none, keeps_then}
 use Rattle.run_acts.proofs.Starting.{placed_still, lawful_at}
