@@ -14,7 +14,22 @@ use Rattle.c_model.specs.Program.{Standing}
 use Rattle.run_acts.specs.declared.initial.Argument.{Argument}
 use Rattle.run_acts.specs.declared.initial.Places.{Places}
 use Rattle.run_acts.specs.declared.values.Pointer.{Pointer}
-use Rattle.run_acts.specs.Standing.{arguments, literals, vector, given, takes_arguments, AllCreated, AllFilled, AreArguments, FillsAll, NamedFilled, StandsThere, StartStands, StaticsCreated, StaticsFilled}
+use Rattle.run_acts.specs.Standing.{
+  arguments,
+  literals,
+  vector,
+  given,
+  takes_arguments,
+  AllCreated,
+  AllFilled,
+  AreArguments,
+  FillsAll,
+  NamedFilled,
+  StandsThere,
+  StartStands,
+  StaticsCreated,
+  StaticsFilled,
+}
 use Rattle.run_acts.specs.Starting.{AreAll, ArePlaced, AreMadeAll}
 use Rattle.run_acts.proofs.Arguments.{argument_still}
 use Rattle.run_acts.proofs.Filled.{none_filled}

@@ -23,8 +23,8 @@ loop-filling-preserved c =
           c.filling-item.is) in
           keeps_then c.clear.new.m c.loop-filling.m c.put.new.m (inv.keeps are) (c.put.ensures.kept here.0 here.1);
       reached = λ x is cs are still.
-          filled_next c.clear.new.m c.loop-filling.m c.put.new.m x c.object-whole.result.addr c.as_slice-filling-items.result.now cs c.loop-filling.filling-index
-          c.filling-item.result are still c.loop-filling-test.true c.filling-item.is inv.alike (c.in_ok-put.ensures.exact x is)
+          filled_next c.clear.new.m c.loop-filling.m c.put.new.m x c.object-whole.result.addr c.as_slice-filling-items.result.now cs
+          c.loop-filling.filling-index c.filling-item.result are still c.loop-filling-test.true c.filling-item.is inv.alike (c.in_ok-put.ensures.exact x is)
           (inv.reached x is cs are still);
     }
 
