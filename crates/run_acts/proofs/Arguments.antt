@@ -27,7 +27,7 @@ argument_added m old new b bs p k a is at stands count added = (
   subst (λ (n : ℕ). IsArgument m n b (record { text = bs; place = p })) count (record { text = is; base = a; at = at; stands = stands }),
 )
 
-argument_still : (old new : Kept) (k : ℕ) (b : List ℕ) (a : Argument) → Keeps old new → IsArgument old k b a → IsArgument new k b a
+pub argument_still : (old new : Kept) (k : ℕ) (b : List ℕ) (a : Argument) → Keeps old new → IsArgument old k b a → IsArgument new k b a
 argument_still old new k b a keeps is = record {
   text = is.text;
   base = is.base;

@@ -51,7 +51,7 @@ pub cells_tagged : (k : ℕ) (cs : List Cell) (ns : List ℕ) → cs ≡ map pla
 cells_tagged k cs ns e = subst (λ (ds : List Cell). CellsTagged k ds) (sym e) (plain_tagged k ns)
 
 -- ---- addresses
-seen_bytes : (m : Kept) (v : Held) (p : Pointer) → value_in m v ≡ pointer_value p → value_bytes m 8 v ≡ pointer_bytes 8 0 p.prov p.address
+pub seen_bytes : (m : Kept) (v : Held) (p : Pointer) → value_in m v ≡ pointer_value p → value_bytes m 8 v ≡ pointer_bytes 8 0 p.prov p.address
 seen_bytes m (values.Ptr a q) p e =
     let there : a ≡ p.address = cc in
     let own : q ≡ p.prov = cc in

@@ -38,7 +38,7 @@ pub none_filled : (m : Kept) → AllFilled m m []
 none_filled m = λ rows stay io. refl
 
 -- ---- a text
-twice : (a : ℕ) → address_after (address_after a 0) 0 ≡ address_after a 0
+pub twice : (a : ℕ) → address_after (address_after a 0) 0 ≡ address_after a 0
 twice a = omega arith
 
 pub text_filled : (old now new : Kept) (x : ObjName) (is_literal : Bool) (bs : List ℕ) (a : ℕ) → Keeps old now → Keeps now new → Stands old x a →

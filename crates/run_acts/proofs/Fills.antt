@@ -30,7 +30,7 @@ pub before_twice : {V : Type 0} (is js : List Item) (a : Act V) → before is (b
 before_twice [] js a = refl
 before_twice (i ∷ is) js a = ap (touched i) (before_twice is js a)
 
-before_done : {V : Type 0} (is : List Item) (v : V) (s : Store) → before is (Done v [] s) ≡ Done v is s
+pub before_done : {V : Type 0} (is : List Item) (v : V) (s : Store) → before is (Done v [] s) ≡ Done v is s
 before_done [] v s = refl
 before_done (i ∷ is) v s = ap (touched i) (before_done is v s)
 
@@ -80,7 +80,7 @@ same_act old now f c p alike is =
 pub record Fills (old now : Kept) (p : Pointer) (cs : List Filled) (i : ℕ) (t : List Item) (io : Io) : Type 0 where
   pub so_far : run old.rows (fill old.rows p cs) (store_of old io) ≡ before t (run old.rows (fill old.rows p (drop i cs)) (store_of now io))
 
-first_of : (rows : List Row) (p : Pointer) (cs : List Filled) (c : Filled) (rest : List Filled) (s : Store) → cs ≡ c ∷ rest →
+pub first_of : (rows : List Row) (p : Pointer) (cs : List Filled) (c : Filled) (rest : List Filled) (s : Store) → cs ≡ c ∷ rest →
     run rows (fill rows p cs) s
     ≡ after rows (λ (u : Unit {0}). fill rows p rest)
     (run rows (store rows true bytes 1 (address_after p.address c.offset) p.prov (content_bytes rows c.content)) s)

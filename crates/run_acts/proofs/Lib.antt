@@ -13,3 +13,6 @@ pub mod Starts
 pub mod Stands
 pub mod Filled
 pub mod Arguments
+pub mod Statics
+pub mod Vectors
+pub mod Begins

@@ -31,14 +31,12 @@ use Rattle.ub_base.specs.declared.names.ObjName.TheVariants as names
 use Rattle.run_acts.specs.Contents.{filled_by}
 use Rattle.run_acts.specs.Standing.{extent_of, is_constant, HasForm, IsStatic, AreStatics, StaticCreated, StaticsCreated}
 use Rattle.std.proofs.lemmas.List.{length-append}
-use Rattle.std.specs.Prelude.{◌*◌, ◌==◌, not, slice_get}
+use Rattle.std.specs.Prelude.{◌*◌, ◌==◌, not}
 use Rattle.c_types.specs.declared.ty.Qual.{Qual}
 use Rattle.c_types.specs.Types.{params_of}
 use Rattle.run_acts.specs.Standing.{has_parameters}
 use Rattle.c_types.specs.Types.{pointer}
-use Rattle.c_typed.specs.declared.program.Program.{Program}
-use Rattle.prov_memory.proofs.KeepLemmas.{keeps_none, keeps_then}
-use Rattle.run_acts.specs.Standing.{StartCreated, vector, given, takes_arguments}
+use Rattle.run_acts.specs.Standing.{vector}
 use Rattle.run_acts.specs.Standing.{arguments, program_name}
 use Rattle.std.specs.Prelude.{string_bytes}
 use Rattle.std.proofs.Common.{String}
@@ -164,7 +162,7 @@ static_created (Ok a) old new tags k s e constant form sized const formed create
 )
 static_created (Err c) old new tags k s e constant form sized const formed creates = tt
 
-take_next : {A : Type 0} (xs : List A) (i : ℕ) (x : A) → i < length xs → x ≡ get_or xs i x → take (suc i) xs ≡ take i xs ++ x ∷ []
+pub take_next : {A : Type 0} (xs : List A) (i : ℕ) (x : A) → i < length xs → x ≡ get_or xs i x → take (suc i) xs ≡ take i xs ++ x ∷ []
 take_next [] i x lt is = absurd (omega (arith, lt))
 take_next (y ∷ ys) zero x lt is = ap (λ z. z ∷ []) (sym is)
 take_next (y ∷ ys) (suc i) x lt is = ap (λ zs. y ∷ zs) (take_next ys i x (omega (arith, lt)) is)
@@ -200,7 +198,7 @@ statics_more old now new tags xs i n s keeps all e lt is one =
       created_behind old now new all.0 one.0 keeps all.2 one.2,
     )
 
-take_every : {A : Type 0} (xs : List A) (n : ℕ) → n ≡ length xs → take n xs ≡ xs
+pub take_every : {A : Type 0} (xs : List A) (n : ℕ) → n ≡ length xs → take n xs ≡ xs
 take_every [] n e = let none : n ≡ 0 = omega (arith, e) in rw none refl
 take_every (x ∷ xs) zero e = absurd (omega (arith, e))
 take_every (x ∷ xs) (suc n) e = ap (λ ys. x ∷ ys) (take_every xs n (omega (arith, e)))
@@ -271,7 +269,7 @@ creates_then : (rows : List Row) (os ps : List Standing) (s t u : Store) → Cre
 creates_then rows [] ps s t u e more = subst (λ (v : Store). CreatesAll rows ps v u) e more
 creates_then rows (o ∷ os) ps s t u c more = (c.0, c.1, creates_then rows os ps c.0 t u c.2 more)
 
-created_then : (old now new : Kept) (os ps : List Standing) → Keeps now new → AllCreated old now os → AllCreated now new ps → AllCreated old new (os ++ ps)
+pub created_then : (old now new : Kept) (os ps : List Standing) → Keeps now new → AllCreated old now os → AllCreated now new ps → AllCreated old new (os ++ ps)
 created_then old now new os ps keeps first then = λ rows stay io.
     creates_then rows os ps (store_of old io) (store_of now io) (store_of new io) (first rows (λ x r e. stay x r (keeps.rows x r e)) io) (then rows stay io)
 
@@ -283,39 +281,6 @@ vector_created old new args n len keeps one =
     created_behind old old new [] (vector args) keeps (none_created old)
     (subst (λ (k : ℕ). Creates old new names.Argv (8 * k) 8 (record { heap = false; literal = false; constant = false })
     (Some (repeat k 8 (leaf (pointer false (int Char)))))) count one)
-
-pub with_arguments : (m0 m1 m2 m3 m4 end : Kept) (p : Program) (args : List (List ℕ)) → Keeps m1 m2 → Keeps m2 m3 → Keeps m3 m4 → Keeps m4 end →
-    takes_arguments (slice_get p.functions p.main) ≡ true → StaticsCreated m0 m1 p.tags p.statics → AllCreated m1 m2 (literals 0 p.literals) →
-    AllCreated m2 m3 (arguments 0 args) → AllCreated m3 m4 (vector args ∷ []) → StartCreated m0 end p args
-with_arguments m0 m1 m2 m3 m4 end p args k2 k3 k4 k5 takes statics texts strings pointers = (
-  statics.0 ++ literals 0 p.literals ++ (arguments 0 args ++ vector args ∷ []),
-  record {
-    statics = statics.0;
-    each = statics.1;
-    all = ap (λ (b : Bool). statics.0 ++ literals 0 p.literals ++ given b args) (sym takes);
-  },
-  m4,
-  created_then m0 m2 m4 (statics.0 ++ literals 0 p.literals) (arguments 0 args ++ vector args ∷ []) (keeps_then m2 m3 m4 k3 k4)
-      (created_then m0 m1 m2 statics.0 (literals 0 p.literals) k2 statics.2 texts)
-      (created_then m2 m3 m4 (arguments 0 args) (vector args ∷ []) k4 strings pointers),
-  k5,
-)
-
-pub without_arguments : (m0 m1 m2 end : Kept) (p : Program) (args : List (List ℕ)) → Keeps m1 m2 → Keeps m2 end →
-    takes_arguments (slice_get p.functions p.main) ≡ false → StaticsCreated m0 m1 p.tags p.statics → AllCreated m1 m2 (literals 0 p.literals) →
-    StartCreated m0 end p args
-without_arguments m0 m1 m2 end p args k2 k3 takes statics texts = (
-  statics.0 ++ literals 0 p.literals ++ [],
-  record {
-    statics = statics.0;
-    each = statics.1;
-    all = ap (λ (b : Bool). statics.0 ++ literals 0 p.literals ++ given b args) (sym takes);
-  },
-  m2,
-  created_then m0 m2 m2 (statics.0 ++ literals 0 p.literals) [] (keeps_none m2)
-      (created_then m0 m1 m2 statics.0 (literals 0 p.literals) k2 statics.2 texts) (none_created m2),
-  k3,
-)
 
 pub parameters_there : (qs : List Qual) → not (length qs == 0) ≡ has_parameters (params_of (map qualified_of qs))
 parameters_there [] = refl

@@ -1,7 +1,8 @@
 -- The memories that creations and initializations lead to, under all rows that stay.
 use Rattle.std.proofs.Common.{◌≡◌, ℕ, ◌+◌, ◌*◌, ◌-◌, ◌/◌, ◌%◌, ◌<◌, ◌^◌, min, Bool, true}
 use Rattle.std.proofs.Common.{false, cond, refl, sym, ap, ◌∙◌, subst, arith, List, length, map, Option, Some}
-use Rattle.std.specs.Prelude.{Result, Ok, Err, IfOk, OnOk, replicate}
+use Rattle.std.specs.Prelude.{Result, Ok, Err, IfOk, OnOk, replicate, nat_lt}
+use Rattle.std.proofs.lemmas.Bool.Decides.{nat_tests}
 use Rattle.ub_base.specs.declared.names.Item.{Item}
 use Rattle.ub_base.specs.declared.names.ObjName.{ObjName}
 use Rattle.addr_map.specs.declared.map.Row.{Row}
@@ -95,6 +96,9 @@ page_place a size number r few lt is = omega (arith, few, lt, is, div-add-mod' s
 
 pub first_place : (a size : ℕ) → a + size < 2 ^ 64 → address_after a 0 ≡ a
 first_place a size few = omega (arith, few)
+
+pub not_beyond : (n : ℕ) → nat_lt (2 ^ 64 - 1) n ≡ false → n < 2 ^ 64
+not_beyond n e = grind (arith, nat_tests, e)
 
 pub first_zeros : (size : ℕ) → size % 4096 ≡ size % 4096 + 0 * 4096
 first_zeros size = omega arith

@@ -10,3 +10,4 @@ pub mod Kept
 pub mod Contents
 pub mod Starting
 pub mod Standing
+pub mod Choices

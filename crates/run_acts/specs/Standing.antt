@@ -11,7 +11,7 @@ use Rattle.mem_spec.specs.Acts.{create, base_in}
 use Rattle.mem_spec.specs.Script.{Done, run}
 use Rattle.mem_spec.specs.Store.{Store}
 use Rattle.mem_spec.specs.Streams.{Io}
-use Rattle.prov_memory.specs.Keeps.{Keeps, RowsStay}
+use Rattle.prov_memory.specs.Keeps.{RowsStay}
 use Rattle.prov_memory.specs.Memory.{Kept, store_of}
 use Rattle.c_model.specs.Nodes.{fill}
 use Rattle.c_model.specs.Runs.{stand}
@@ -30,6 +30,7 @@ use Rattle.c_typed.specs.declared.program.Program.{Program}
 use Rattle.c_typed.specs.declared.program.Static.{Static}
 use Rattle.c_model.specs.Program.{Standing, Filling, Zeros, Bytes, Object_at, No_object}
 use Rattle.run_acts.specs.declared.initial.Argument.{Argument}
+use Rattle.run_acts.specs.declared.values.Pointer.{Pointer as Place}
 use Rattle.run_acts.specs.Views.{pointer_at}
 use Rattle.run_acts.specs.Contents.{Stands, filled_by}
 use Rattle.run_acts.specs.Starting.{Creates}
@@ -186,9 +187,23 @@ StaticsCreated old new tags ss = (os : List Standing) × AreStatics tags 0 ss os
 abbrev pub AllFilled : Kept → Kept → List Standing → Type 0
 AllFilled old new os = (rows : List Row) → RowsStay new.rows rows → (io : Io) → FillsAll rows os (store_of old io) (store_of new io)
 
--- the objects that stand before a run are created in the order of the definitions, up to some memory, of which the rest keeps what a call keeps
-abbrev pub StartCreated : Kept → Kept → Program → List (List ℕ) → Type 0
-StartCreated old new p args = (os : List Standing) × Stand p args os × (middle : Kept) × AllCreated old middle os × Keeps middle new
+-- an object with static storage is filled as the definitions fill it
+abbrev pub StaticFilled : Kept → Kept → List Tag → ℕ → Static → Type 0
+StaticFilled old new tags k s = (o : Standing) → IsStatic tags k s o → (rows : List Row) → RowsStay new.rows rows → (io : Io) →
+    FillsOne rows o (store_of old io) (store_of new io)
+
+-- .. all of them, one after the other
+abbrev pub StaticsFilled : Kept → Kept → List Tag → List Static → Type 0
+StaticsFilled old new tags ss = (os : List Standing) → AreStatics tags 0 ss os → AllFilled old new os
+
+-- .. and then the string literals
+abbrev pub NamedFilled : Kept → Kept → Program → Type 0
+NamedFilled old new p = (os : List Standing) → AreStatics p.tags 0 p.statics os → AllFilled old new (os ++ literals 0 p.literals)
+
+-- under all rows that stay, the objects that stand before a run are created and then filled as the definitions do it
+abbrev pub StartStands : Kept → Kept → Program → List (List ℕ) → Type 0
+StartStands old new p args = (os : List Standing) × Stand p args os × ((rows : List Row) → RowsStay new.rows rows → (io : Io) →
+    (middle : Store) × CreatesAll rows os (store_of old io) middle × FillsAll rows os middle (store_of new io))
 
 -- the object of an argument was created, and has this text
 pub record IsArgument (m : Kept) (k : ℕ) (b : List ℕ) (a : Argument) : Type 0 where
@@ -201,6 +216,10 @@ abbrev pub AreArguments : Kept → ℕ → List (List ℕ) → List Argument →
 AreArguments m k [] [] = Unit {0}
 AreArguments m k (b ∷ bs) (a ∷ xs) = IsArgument m k b a × AreArguments m (suc k) bs xs
 AreArguments m k _ _ = ⊥
+
+-- the object stands where the pointer points
+abbrev pub StandsThere : Kept → ObjName → Place → Type 0
+StandsThere m x p = (base : ℕ) × (pointer_at p ≡ record { address = address_after base 0; prov = Whole x }) × Stands m x base
 
 -- one more, of this text
 abbrev pub ArgumentAdded : Kept → List ℕ → (old new : List Argument) → Type 0

@@ -1,5 +1,5 @@
 // The objects that stand before the first pick: those with static storage, string literals, and the arguments of `main`.
-ghost use Rattle.std.specs.Prelude.{◌≡◌, List, ◌+◌, ◌-◌, ◌*◌, ◌%◌, min, ◌<◌, ◌^◌, ◌++◌, ◌∷◌, [], ℕ, Some, false, length, map, option_map, slice_get, string_bytes, IfOk, OnOk};
+ghost use Rattle.std.specs.Prelude.{◌≡◌, List, ◌+◌, ◌-◌, ◌*◌, ◌%◌, min, ◌<◌, ◌^◌, ◌++◌, ◌∷◌, [], ℕ, Some, false, length, nat_lt, map, option_map, slice_get, string_bytes, IfOk, OnOk};
 ghost use Rattle.std.specs.List.{All};
 ghost use Rattle.ub_base.specs.declared.names.ObjName.{ObjName};
 ghost use Rattle.ub_base.specs.declared.names.ObjName.TheVariants as names;
@@ -20,7 +20,7 @@ ghost use Rattle.prov_memory.specs.Sound.{IsSound};
 ghost use Rattle.prov_memory.specs.Tags.{CellsTagged};
 ghost use Rattle.run_acts.specs.Contents.{Stands};
 ghost use Rattle.run_acts.specs.Kept.{IsOf};
-ghost use Rattle.run_acts.specs.Standing.{AreArguments, ArgumentAdded, AllCreated, AllFilled, extent_of, HasForm, literals, program_name, StartCreated, StaticCreated, StaticsCreated};
+ghost use Rattle.run_acts.specs.Standing.{AreArguments, ArgumentAdded, AllCreated, AllFilled, StaticFilled, StaticsFilled, extent_of, HasForm, literals, NamedFilled, program_name, StartStands, StaticCreated, StaticsCreated, StandsThere};
 ghost use Rattle.run_acts.specs.Standing as standing;
 ghost use Rattle.run_acts.specs.Starting.{AreAll, ArePlaced, AreMadeAll, AddsArgument, Creates, Puts};
 ghost use Rattle.run_acts.specs.Views.{pointer_at, value_in};
@@ -185,7 +185,7 @@ pub fn start(
 ) -> Result<Started, CreateFault>
     ensures kept { IsSound m.old → IsLawful p.now → Keeps m.old m.new }
     ensures placed { IfOk result (λ s. IsSound m.old → IsLawful p.now → ArePlaced m.new p.now s.places) }
-    ensures created { OnOk result (IsSound m.old → IsLawful p.now → length args.now + 1 < 2 ^ 32 → StartCreated m.old m.new p.now (program_name ∷ map string_bytes args.now)) }
+    ensures stands { OnOk result (IsSound m.old → IsLawful p.now → length args.now + 1 < 2 ^ 32 → StartStands m.old m.new p.now (program_name ∷ map string_bytes args.now)) }
     ensures made { IfOk result (λ s. IsSound m.old → IsLawful p.now → IsOf m.new s.count × IsOf m.new s.vector) }
 {
     let mut t = Touched::new(alloc)?;
@@ -265,6 +265,7 @@ fn fill_named(
     t: &mut Touched,
 ) -> Result<(), CreateFault>
     ensures kept { IsSound m.old → IsLawful p.now → ArePlaced m.old p.now places.now → Keeps m.old m.new }
+    ensures exact { OnOk result (IsSound m.old → IsLawful p.now → ArePlaced m.old p.now places.now → NamedFilled m.old m.new p.now) }
 {
     fill_statics(alloc, p, places, m, t)?;
     fill_literals(alloc, p, places, m, t)
@@ -278,6 +279,7 @@ fn fill_statics(
     t: &mut Touched,
 ) -> Result<(), CreateFault>
     ensures kept { IsSound m.old → IsLawful p.now → ArePlaced m.old p.now places.now → Keeps m.old m.new }
+    ensures exact { OnOk result (IsSound m.old → IsLawful p.now → ArePlaced m.old p.now places.now → StaticsFilled m.old m.new p.now.tags p.now.statics) }
 {
     for (number, object) in p.statics.as_slice().iter().enumerate() {
         fill_static(alloc, p, object, number, places, m, t)?;
@@ -374,10 +376,12 @@ fn fill_static(
     t: &mut Touched,
 ) -> Result<(), CreateFault>
     ensures kept { IsSound m.old → ArePlaced m.old p.now places.now → All (λ c. ContentIsLawful p.now c.content) object.now.constants → Keeps m.old m.new }
+    ensures exact { OnOk result (IsSound m.old → ArePlaced m.old p.now places.now → All (λ c. ContentIsLawful p.now c.content) object.now.constants → number < length p.now.statics → length p.now.statics < 2 ^ 32 → StaticFilled m.old m.new p.now.tags number object.now) }
 {
-    let number = u32::try_from(number).unwrap_or(u32::MAX);
+    let number = short(number);
     let whole = places.object(number, 0);
-    clear(alloc, extent(&p.tags, &object.qual.ty).size, whole, m, t)?;
+    let extent = extent_of_object(&p.tags, &object.qual);
+    clear(alloc, extent.size, whole, m, t)?;
     let fillings = fillings(alloc, m, places, object.constants.as_slice())?;
     for filling in fillings.as_slice() {
         put(whole, filling.at, &filling.bytes, m, t)?;
@@ -401,6 +405,13 @@ fn page_at(size: u64, number: u64) -> u64
     number.saturating_mul(PAGE).saturating_add(size % PAGE)
 }
 
+// Whether so many bytes from this address on end behind the last address.
+fn ends_beyond(addr: u64, size: u64) -> bool
+    ensures { result ≡ nat_lt (2 ^ 64 - 1) (addr + size) }
+{
+    size > u64::MAX - addr
+}
+
 // Makes the bytes of a new object zero: what is no whole page, and then a page at a time.
 fn clear(
     alloc: Global,
@@ -409,10 +420,13 @@ fn clear(
     m: &mut Memory,
     t: &mut Touched,
 ) -> Result<(), CreateFault>
-    ensures exact { OnOk result ((x : ObjName) → whole.prov ≡ Whole x → whole.addr + size < 2 ^ 64 → Puts m.old m.new x whole.addr (number_bytes size 0)) }
+    ensures exact { OnOk result ((x : ObjName) → whole.prov ≡ Whole x → Puts m.old m.new x whole.addr (number_bytes size 0)) }
     ensures rest { record m.new { objects = []; cells = [] } ≡ record m.old { objects = []; cells = [] } }
     ensures kept { Keeps m.old m.new }
 {
+    if ends_beyond(whole.addr, size) {
+        return Err(CreateFault::Unplaced);
+    }
     let first = zeros(alloc, size % PAGE)?;
     put(whole, 0, &first, m, t)?;
     let page = zeros(alloc, page_of(size))?;
@@ -581,6 +595,7 @@ fn create_vector(
     ensures kept { Keeps m.old m.new }
     ensures exact { OnOk result (AreKnown m.old → length args.now < 2 ^ 32 → Creates m.old m.new names.Argv (8 * (length args.now + 2)) 8 (record { heap = false; literal = false; constant = false }) (Some (repeat (length args.now + 2) 8 (leaf (pointer false (int Char)))))) }
     ensures made { IfOk result (λ p. IsMade m.new p.prov) }
+    ensures stands { IfOk result (λ p. StandsThere m.new names.Argv p) }
 {
     let count = (args.len() as u64).saturating_add(2);
     let element = character_pointer(alloc)?;
@@ -613,6 +628,7 @@ fn point(
     t: &mut Touched,
 ) -> Result<(), CreateFault>
     ensures kept { IsSound m.old → AreMadeAll m.old arguments.now → Keeps m.old m.new }
+    ensures exact { OnOk result (IsSound m.old → AreMadeAll m.old arguments.now → StandsThere m.old names.Argv vector → (words : List (List ℕ)) → AreArguments m.old 0 words arguments.now → length words < 2 ^ 32 → AllFilled m.old m.new (standing.vector words ∷ [])) }
 {
     let mut at = 0;
     for argument in arguments {

@@ -1,4 +1,4 @@
-use Rattle.std.proofs.Common.{◌∙◌, ◌+◌, ◌*◌, ◌%◌, length, replicate, arith}
+use Rattle.std.proofs.Common.{◌∙◌, sym, ◌+◌, ◌*◌, ◌%◌, length, replicate, arith}
 use Rattle.prov_memory.proofs.KeepLemmas.{keeps_then}
 use Rattle.c_model.specs.Values.{address_after}
 use Rattle.run_acts.proofs.Contents.{cells_known, cells_tagged}
@@ -10,6 +10,7 @@ use Rattle.run_acts.proofs.Starts.{
   page_place,
   first_place,
   first_zeros,
+  not_beyond,
   all_pages,
   one_page_more,
 }
@@ -44,7 +45,8 @@ loop-number-preserved c =
     }
 
 pub returns-clause-exact : goal.returns-clause-exact
-returns-clause-exact c = λ x is few.
+returns-clause-exact c = λ x is.
+    let few = not_beyond (c.args.whole.addr + c.args.size) (sym c.ends_beyond.ensures ∙ c.if-ends_beyond.false) in
     all_zeros c.args.m.now c.loop-number.m x c.args.whole.addr (c.args.size % 4096 + c.loop-number.number * 4096) c.args.size
     (all_pages c.args.size c.loop-number.number (omega arith)) (c.loop-number.invariant.cleared x is few)
 

@@ -1,4 +1,5 @@
-use Rattle.std.proofs.Common.{◌≡◌, ℕ, ◌+◌, false, ap, sym, subst, ◌∙◌, length, Some, arith}
+use Rattle.std.proofs.Common.{◌≡◌, ℕ, ◌+◌, false, refl, ap, sym, subst, ◌∙◌, length, Some, arith}
+use Rattle.addr_map.specs.Rows.{row_at}
 use Rattle.c_types.specs.Shapes.{Form, leaf, repeat}
 use Rattle.c_types.specs.Types.{CType, int, pointer}
 use Rattle.c_types.specs.declared.kind.IntKind.TheVariants.{Char}
@@ -35,3 +36,15 @@ returns-clause-exact c = λ known few.
     creates_ok c.args.m.now c.create.new.self Argv _ _ _ _ _ _ _ _ c.create.new.t c.in_ok-base.ensures.born c.in_ok-base.ensures.exact
     (ap (λ (f : Form). Some f) (c.in_ok-shape.ensures ∙ ap (λ (t : CType). repeat c.saturating_add-count.result 8 (leaf t)) c.in_ok-element.ensures
     ∙ ap (λ (n : ℕ). repeat n 8 (leaf element)) count)) (c.vector_size.ensures few) known
+
+pub returns-clause-stands : goal.returns-clause-stands
+returns-clause-stands c = (
+  c.in_ok-base.base,
+  c.pointer_to.ensures,
+  record {
+    row = row_at Argv c.in_ok-base.base _ _;
+    named = c.in_ok-base.ensures.born.row;
+    at = refl;
+    made = c.in_ok-base.ensures.whole;
+  },
+)

@@ -1,11 +1,19 @@
 -- Those put so far.
+use Rattle.std.proofs.Common.{◌≡◌, List, drop}
+use Rattle.ub_base.specs.declared.names.ObjName.{ObjName}
+use Rattle.exposure.specs.declared.prov.Prov.TheVariants.{Whole}
 use Rattle.prov_memory.specs.Keeps.{Keeps}
+use Rattle.c_model.specs.Program.{Filling as Filled}
+use Rattle.run_acts.specs.Fills.{AreFillings}
 use Rattle.run_acts.specs.Kept.{AreOf}
 use Rattle.run_acts.proofs.Fills.{Alike}
+use Rattle.run_acts.proofs.Statics.{AreStill, Reached, at_object}
 use Rattle.run_acts.proofs.initial.fill_static.Given as goal
 
 abbrev pub invariant-loop-filling : goal.invariant-loop-filling
 invariant-loop-filling l = record {
   alike : Alike l.m l.initial.m;
   keeps : AreOf l.initial.m l.filling-items → Keeps l.initial.m l.m;
+  reached : (x : ObjName) → l.whole.prov ≡ Whole x → (cs : List Filled) → AreFillings l.initial.m l.filling-items cs → AreStill l.initial.m cs
+      → Reached l.initial.m l.m (at_object x l.whole.addr) cs (drop l.filling-index cs);
 }

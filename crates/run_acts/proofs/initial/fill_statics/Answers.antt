@@ -1,21 +1,51 @@
-use Rattle.prov_memory.proofs.KeepLemmas.{keeps_then}
+use Rattle.std.proofs.Common.{List, ◌<◌, subst, length, arith}
+use Rattle.c_typed.specs.declared.program.Static.{Static as Object}
+use Rattle.prov_memory.proofs.KeepLemmas.{keeps_none, keeps_then}
 use Rattle.run_acts.proofs.Starting.{placed_still, lawful_at}
+use Rattle.run_acts.proofs.Statics.{none_static_filled, statics_filled, all_statics_filled}
 use Rattle.run_acts.proofs.initial.fill_statics.Goals as goal
 
+pub loop-number-init : goal.loop-number-init
+loop-number-init c = record {
+  keeps = λ sound lawful placed. keeps_none c.args.m.now;
+  filled = λ sound lawful placed os are. none_static_filled c.args.m.now os;
+}
+
 pub loop-number-preserved : goal.loop-number-preserved
-loop-number-preserved c = λ sound lawful placed.
-    let so_far = c.loop-number.invariant sound lawful placed in
+loop-number-preserved c =
+    let inv = c.loop-number.invariant in
+    record {
+      keeps = λ sound lawful placed.
+          let so_far = inv.keeps sound lawful placed in
+          keeps_then c.args.m.now c.loop-number.m c.fill_static.new.m so_far
+          (c.fill_static.ensures.kept (so_far.sound sound) (placed_still c.args.m.now c.loop-number.m c.args.p.now c.args.places.now so_far placed)
+          (lawful_at c.args.p.now c.as_slice-object-items.result.now c.loop-number.number c.object-item.result c.as_slice-object-items.ensures lawful
+          c.loop-number-test.true c.object-item.is));
+      filled = λ sound lawful placed os are.
+          let so_far = inv.keeps sound lawful placed in
+          let now = so_far.sound sound in
+          let there = placed_still c.args.m.now c.loop-number.m c.args.p.now c.args.places.now so_far placed in
+          let constants = lawful_at c.args.p.now c.as_slice-object-items.result.now c.loop-number.number c.object-item.result
+          c.as_slice-object-items.ensures lawful c.loop-number-test.true c.object-item.is in
+          statics_filled c.args.m.now c.loop-number.m c.fill_static.new.m c.args.p.now.tags c.as_slice-object-items.result.now c.loop-number.number
+          c.object-item.result os (c.fill_static.ensures.kept now there constants) are c.loop-number-test.true c.object-item.is
+          (c.in_ok-fill_static.ensures.exact now there constants
+          (subst (λ (xs : List Object). c.loop-number.number < length xs) c.as_slice-object-items.ensures c.loop-number-test.true)
+          lawful.numbered.statics) (inv.filled sound lawful placed os are);
+    }
+
+pub returns-in_err-fill_static-clause-kept : goal.returns-in_err-fill_static-clause-kept
+returns-in_err-fill_static-clause-kept c = λ sound lawful placed.
+    let so_far = c.loop-number.invariant.keeps sound lawful placed in
     keeps_then c.args.m.now c.loop-number.m c.fill_static.new.m so_far
     (c.fill_static.ensures.kept (so_far.sound sound) (placed_still c.args.m.now c.loop-number.m c.args.p.now c.args.places.now so_far placed)
     (lawful_at c.args.p.now c.as_slice-object-items.result.now c.loop-number.number c.object-item.result c.as_slice-object-items.ensures lawful
     c.loop-number-test.true c.object-item.is))
 
-pub returns-in_err-fill_static : goal.returns-in_err-fill_static
-returns-in_err-fill_static c = record {
-  kept = λ sound lawful placed.
-      let so_far = c.loop-number.invariant sound lawful placed in
-      keeps_then c.args.m.now c.loop-number.m c.fill_static.new.m so_far
-      (c.fill_static.ensures.kept (so_far.sound sound) (placed_still c.args.m.now c.loop-number.m c.args.p.now c.args.places.now so_far placed)
-      (lawful_at c.args.p.now c.as_slice-object-items.result.now c.loop-number.number c.object-item.result c.as_slice-object-items.ensures lawful
-      c.loop-number-test.true c.object-item.is));
-}
+pub returns-clause-kept : goal.returns-clause-kept
+returns-clause-kept c = c.loop-number.invariant.keeps
+
+pub returns-clause-exact : goal.returns-clause-exact
+returns-clause-exact c = λ sound lawful placed.
+    all_statics_filled c.args.m.now c.loop-number.m c.args.p.now.tags c.as_slice-object-items.result.now c.args.p.now.statics c.loop-number.number
+    (omega arith) c.as_slice-object-items.ensures (c.loop-number.invariant.filled sound lawful placed)

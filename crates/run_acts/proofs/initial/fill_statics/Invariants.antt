@@ -1,9 +1,16 @@
 -- Those filled so far.
+use Rattle.std.proofs.Common.{List, take}
 use Rattle.c_typed.specs.Lawful.{IsLawful}
+use Rattle.c_model.specs.Program.{Standing}
 use Rattle.prov_memory.specs.Keeps.{Keeps}
 use Rattle.prov_memory.specs.Sound.{IsSound}
+use Rattle.run_acts.specs.Standing.{AllFilled, AreStatics}
 use Rattle.run_acts.specs.Starting.{ArePlaced}
 use Rattle.run_acts.proofs.initial.fill_statics.Given as goal
 
 abbrev pub invariant-loop-number : goal.invariant-loop-number
-invariant-loop-number l = IsSound l.initial.m → IsLawful l.p → ArePlaced l.initial.m l.p l.places → Keeps l.initial.m l.m
+invariant-loop-number l = record {
+  keeps : IsSound l.initial.m → IsLawful l.p → ArePlaced l.initial.m l.p l.places → Keeps l.initial.m l.m;
+  filled : IsSound l.initial.m → IsLawful l.p → ArePlaced l.initial.m l.p l.places → (os : List Standing) → AreStatics l.p.tags 0 l.object-items os
+      → AllFilled l.initial.m l.m (take l.number os);
+}

@@ -1,8 +1,20 @@
 -- The pointers put so far.
+use Rattle.std.proofs.Common.{◌≡◌, ◌*◌, ◌-◌, ◌<◌, ◌^◌, ℕ, List, length, min}
+use Rattle.ub_base.specs.declared.names.ObjName.{ObjName}
+use Rattle.exposure.specs.declared.prov.Prov.TheVariants.{Whole}
 use Rattle.prov_memory.specs.Keeps.{Keeps}
 use Rattle.prov_memory.specs.Sound.{IsSound}
+use Rattle.run_acts.specs.Standing.{AreArguments}
 use Rattle.run_acts.specs.Starting.{AreMadeAll}
+use Rattle.run_acts.proofs.Fills.{Alike}
+use Rattle.run_acts.proofs.Vectors.{PointedSo}
 use Rattle.run_acts.proofs.initial.point.Given as goal
 
 abbrev pub invariant-loop-argument : goal.invariant-loop-argument
-invariant-loop-argument l = IsSound l.initial.m → AreMadeAll l.initial.m l.arguments → Keeps l.initial.m l.m
+invariant-loop-argument l = record {
+  keeps : IsSound l.initial.m → AreMadeAll l.initial.m l.arguments → Keeps l.initial.m l.m;
+  alike : Alike l.m l.initial.m;
+  offset : l.at ≡ min (8 * l.argument-index) (2 ^ 64 - 1);
+  pointed : IsSound l.initial.m → AreMadeAll l.initial.m l.arguments → (x : ObjName) → l.vector.prov ≡ Whole x → (words : List (List ℕ))
+      → AreArguments l.initial.m 0 words l.arguments → length words < 2 ^ 32 → PointedSo l.initial.m l.m x l.vector.addr words l.argument-index;
+}

@@ -1,7 +1,8 @@
 use Rattle.std.proofs.Common.{subst, sym, List}
 use Rattle.std.proofs.Common.{◌∙◌, ◌∷◌, map, length, string_bytes, arith}
 use Rattle.run_acts.specs.Standing.{program_name}
-use Rattle.run_acts.proofs.Stands.{with_arguments, without_arguments, vector_created, mapped_length}
+use Rattle.run_acts.proofs.Begins.{with_arguments, without_arguments, strings_filled, vector_filled}
+use Rattle.run_acts.proofs.Stands.{vector_created, mapped_length}
 use Rattle.prov_memory.proofs.KeepLemmas.{keeps_then}
 use Rattle.run_acts.specs.declared.initial.Places.{Places}
 use Rattle.run_acts.specs.declared.initial.Argument.{Argument}
@@ -172,8 +173,8 @@ returns-clause-made c = λ sound lawful. (
   null_of c.fill_named-2.new.m c.standing-2.result.vector c.null.result (c.standing-2.ensures.vector c.fill_named-2.new.m) c.null.ensures,
 )
 
-pub returns-then-takes_arguments-clause-created : goal.returns-then-takes_arguments-clause-created
-returns-then-takes_arguments-clause-created c = λ sound lawful few.
+pub returns-then-takes_arguments-clause-stands : goal.returns-then-takes_arguments-clause-stands
+returns-then-takes_arguments-clause-stands c = λ sound lawful few.
     let named = keeps_then c.args.m.now c.create_statics.new.m c.create_literals.new.m c.create_statics.ensures.kept c.create_literals.ensures.kept in
     let placed = named_placed c.create_statics.new.m c.create_literals.new.m c.args.p.now c.new-places.result c.create_statics.new.places
     c.create_literals.new.places c.new-places.ensures.objects c.new-places.ensures.literals lawful c.create_literals.ensures.kept
@@ -191,22 +192,32 @@ returns-then-takes_arguments-clause-created c = λ sound lawful few.
     let last = c.point.ensures.kept (texts.sound sound) (subst (λ (xs : List Argument). AreMadeAll c.fill_arguments.new.m xs)
     (sym c.as_slice-then-takes_arguments.ensures)
     (made_still c.create_arguments.new.m c.fill_arguments.new.m c.in_ok-arguments.arguments since c.in_ok-arguments.ensures.made)) in
-    let end = keeps_then c.create_vector.new.m c.fill_arguments.new.m c.point.new.m rest last in
     let one = c.create_statics.ensures.kept.sound sound in
     let two = c.create_literals.ensures.kept.sound one in
     let three = c.create_arguments.ensures.kept.sound two in
     let words = program_name ∷ map string_bytes c.args.args.now in
-    with_arguments c.args.m.now c.create_statics.new.m c.create_literals.new.m c.create_arguments.new.m c.create_vector.new.m c.point.new.m
-    c.args.p.now words c.create_literals.ensures.kept c.create_arguments.ensures.kept c.create_vector.ensures.kept end
+    let there = c.in_ok-arguments.ensures.there few in
+    with_arguments c.args.m.now c.create_statics.new.m c.create_literals.new.m c.create_arguments.new.m c.create_vector.new.m c.fill_named.new.m
+    c.fill_arguments.new.m c.point.new.m c.args.p.now words c.create_literals.ensures.kept c.create_arguments.ensures.kept c.create_vector.ensures.kept
+    behind c.fill_arguments.ensures.kept last
     (sym c.takes_arguments.ensures ∙ c.if-takes_arguments.true)
     (c.in_ok-create_statics.ensures.exact sound c.new-places.ensures.objects lawful.numbered.statics)
     (c.in_ok-create_literals.ensures.exact one (c.create_statics.ensures.rest ∙ c.new-places.ensures.literals) lawful.numbered.literals)
     (c.in_ok-arguments.ensures.exact two few)
     (vector_created c.create_arguments.new.m c.create_vector.new.m words (length c.args.args.now)
     (omega (arith, mapped_length string_bytes c.args.args.now)) c.create_vector.ensures.kept (c.in_ok-vector.ensures.exact three.known (omega (arith, few))))
+    (c.in_ok-fill_named.ensures.exact (all.sound sound) lawful
+    (placed_still c.create_literals.new.m c.create_vector.new.m c.args.p.now c.create_literals.new.places more placed))
+    (strings_filled c.create_arguments.new.m c.fill_named.new.m c.fill_arguments.new.m words c.in_ok-arguments.arguments c.as_slice.result.now
+    (keeps_then c.create_arguments.new.m c.create_vector.new.m c.fill_named.new.m c.create_vector.ensures.kept behind) c.as_slice.ensures there
+    c.in_ok-fill_arguments.ensures.exact)
+    (vector_filled c.create_arguments.new.m c.create_vector.new.m c.fill_arguments.new.m c.point.new.m words c.in_ok-arguments.arguments
+    c.as_slice-then-takes_arguments.result.now c.in_ok-vector.vector c.create_vector.ensures.kept rest (texts.sound sound)
+    c.as_slice-then-takes_arguments.ensures there c.in_ok-arguments.ensures.made c.in_ok-vector.ensures.stands
+    (omega (arith, few, mapped_length string_bytes c.args.args.now)) c.in_ok-point.ensures.exact)
 
-pub returns-clause-created : goal.returns-clause-created
-returns-clause-created c = λ sound lawful few.
+pub returns-clause-stands : goal.returns-clause-stands
+returns-clause-stands c = λ sound lawful few.
     let named = keeps_then c.args.m.now c.create_statics.new.m c.create_literals.new.m c.create_statics.ensures.kept c.create_literals.ensures.kept in
     let placed = named_placed c.create_statics.new.m c.create_literals.new.m c.args.p.now c.new-places.result c.create_statics.new.places
     c.create_literals.new.places c.new-places.ensures.objects c.new-places.ensures.literals lawful c.create_literals.ensures.kept
@@ -218,3 +229,4 @@ returns-clause-created c = λ sound lawful few.
     (sym c.takes_arguments.ensures ∙ c.if-takes_arguments.false)
     (c.in_ok-create_statics.ensures.exact sound c.new-places.ensures.objects lawful.numbered.statics)
     (c.in_ok-create_literals.ensures.exact one (c.create_statics.ensures.rest ∙ c.new-places.ensures.literals) lawful.numbered.literals)
+    (c.in_ok-fill_named-2.ensures.exact (named.sound sound) lawful placed)
