@@ -1,6 +1,6 @@
 -- What is kept of loose events stays right, as the run goes on.
-use Rattle.std.proofs.Common.{◌≡◌, ◌≢◌, ◌⊎◌, inl, inr, ⊎_elim, ℕ, zero, suc, ◌≤◌, ◌<◌, ◌+◌, ◌-◌, Bool, true, false, List, [], ◌∷◌, ◌++◌}
-use Rattle.std.proofs.Common.{length, take, drop, refl, sym, ap, ◌∙◌, arith, Option, Some, None, subst, length-append, length-take, ◌&&◌, ◌||◌}
+use Rattle.std.proofs.Common.{◌≡◌, ◌⊎◌, inl, inr, ⊎_elim, ℕ, zero, suc, ◌≤◌, ◌<◌, ◌+◌, ◌-◌, Bool, true, false, List, [], ◌∷◌, ◌++◌}
+use Rattle.std.proofs.Common.{length, take, drop, refl, sym, ap, ◌∙◌, arith, Option, Some, None, subst, length-append, length-take, ◌||◌}
 use Rattle.std.specs.Prelude.{Box, slice_get, IfSome}
 use Rattle.std.specs.Global.{Global}
 use Rattle.std.proofs.lemmas.List.{length_push}
@@ -14,15 +14,14 @@ use Rattle.run_evaluations.specs.declared.level.Level.{Level}
 use Rattle.run_evaluations.specs.declared.open.Evaluations.{Evaluations}
 use Rattle.run_evaluations.specs.Touched.{first_event, touched, body_has, event_has, start_of}
 use Rattle.run_evaluations.specs.Clashes.{AreSorted}
-use Rattle.run_evaluations.specs.Kept.{Cut, cut_of, Whole, IsKept, IsOf, AllBelow, IsJoined, IsAdded, IsFirst, IsLogged, IsSameLog, IsSameRest, IsSameOpen}
+use Rattle.run_evaluations.specs.Kept.{Cut, cut_of, Whole, IsKept, AllBelow, IsAdded, IsFirst, IsLogged, IsSameLog, IsSameRest, IsSameOpen}
 use Rattle.run_evaluations.specs.Kept.{AreLike, marks, loose_mark, span_of, own_body}
-use Rattle.run_evaluations.specs.Loose.{LooseWhole, IsLooseKept, HasRange, HasLoose, HasEvent, Thins, IsListed, KeepsLoose, LooseKept, event_of, loose_has}
+use Rattle.run_evaluations.specs.Loose.{LooseWhole, IsLooseKept, HasRange, HasEvent, Thins, IsListed, KeepsLoose, LooseKept, event_of, loose_has}
 use Rattle.run_evaluations.specs.Loose.{first_loose, loose_of, loose_from, loose_start_of, loose_foot_of}
 use Rattle.run_evaluations.proofs.BetweenLemmas.{rises_to}
 use Rattle.run_evaluations.proofs.KeptLemmas.{before_or_past, or_split, or_left, or_right}
-use Rattle.run_evaluations.proofs.LooseLemmas.{loose_past}
-use Rattle.run_evaluations.proofs.WholeLemmas.{get_left, get_seam, get_take, take_part, event_sub, not_none, start_same, length_alike, inside, starts_past}
-use Rattle.run_evaluations.proofs.WholeLemmas.{starts_top, starts_rise, items_top, base_below, cut_start, at_level, cut_some, mark_at}
+use Rattle.run_evaluations.proofs.WholeLemmas.{get_left, get_seam, get_take, take_part, event_sub, not_none, start_same, inside, starts_past}
+use Rattle.run_evaluations.proofs.WholeLemmas.{starts_top, items_top, cut_start, at_level}
 
 -- ---- the event that is listed
 listed_in : (fs : List Logged) (js : List Item) (o : Option ℕ) (j : Item) → event_has js (event_of fs o) j ≡ true →

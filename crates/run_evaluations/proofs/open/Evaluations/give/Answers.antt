@@ -1,10 +1,5 @@
 use Rattle.run_evaluations.proofs.WholeLemmas.{kept_given}
 use Rattle.run_evaluations.proofs.LooseWholeLemmas.{right_given}
-use Rattle.std.proofs.Common.{◌∙◌, ap, List, length}
-use Rattle.std.specs.Prelude.{slice_get}
-use Rattle.run_evaluations.specs.declared.log.Segment.{Segment}
-use Rattle.run_evaluations.specs.Kept.{marks}
-use Rattle.run_evaluations.specs.Loose.{loose_start_of}
 use Rattle.run_evaluations.proofs.open.Evaluations.give.Goals as goal
 
 pub returns-clause-kept : goal.returns-clause-kept

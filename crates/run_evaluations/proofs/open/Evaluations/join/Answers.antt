@@ -1,6 +1,4 @@
-use Rattle.std.proofs.Common.{Box, ap, Some, None, ◌∙◌, arith}
-use Rattle.std.specs.Global.{Global}
-use Rattle.run_evaluations.specs.declared.log.Segment.{Segment}
+use Rattle.std.proofs.Common.{ap, arith}
 use Rattle.run_evaluations.proofs.LooseWholeLemmas.{right_join, some_at}
 use Rattle.run_evaluations.proofs.open.Evaluations.join.Goals as goal
 

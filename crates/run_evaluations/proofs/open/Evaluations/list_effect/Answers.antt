@@ -1,4 +1,4 @@
-use Rattle.std.proofs.Common.{◌∙◌, ◌-◌, arith, length}
+use Rattle.std.proofs.Common.{◌∙◌, arith}
 use Rattle.run_evaluations.proofs.LooseWholeLemmas.{listed_after}
 use Rattle.run_evaluations.proofs.open.Evaluations.list_effect.Goals as goal
 

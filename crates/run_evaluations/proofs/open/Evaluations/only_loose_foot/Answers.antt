@@ -1,4 +1,4 @@
-use Rattle.std.proofs.Common.{arith, length, ◌<◌, ◌-◌, ◌∙◌, sym, suc}
+use Rattle.std.proofs.Common.{arith, ◌∙◌, sym}
 use Rattle.run_evaluations.proofs.LooseWholeLemmas.{if_some_by, last_set, first_set}
 use Rattle.run_evaluations.proofs.open.Evaluations.only_loose_foot.Goals as goal
 

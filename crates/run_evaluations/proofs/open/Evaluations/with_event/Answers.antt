@@ -1,4 +1,4 @@
-use Rattle.std.proofs.Common.{ap, ◌∙◌, ◌||◌, Bool}
+use Rattle.std.proofs.Common.{ap, ◌∙◌, ◌||◌}
 use Rattle.footprint.specs.declared.foot.Foot.{Foot}
 use Rattle.footprint.specs.Holds.{holds}
 use Rattle.std.specs.Prelude.{slice_get}
