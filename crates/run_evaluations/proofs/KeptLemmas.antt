@@ -219,10 +219,21 @@ same_after a b d first second = record {
   levels = second.levels ∙ first.levels;
   alike = λ g. second.alike g ∙ first.alike g;
   harm = λ g. second.harm g ∙ first.harm g;
+  loose = second.loose ∙ first.loose;
+  lows = λ g. second.lows g ∙ first.lows g;
 }
 
 pub same_self : (a : Evaluations) → IsSameLog a a
-same_self a = record { events = refl; items = refl; large = refl; levels = refl; alike = λ g. refl; harm = λ g. refl }
+same_self a = record {
+  events = refl;
+  items = refl;
+  large = refl;
+  levels = refl;
+  alike = λ g. refl;
+  harm = λ g. refl;
+  loose = refl;
+  lows = λ g. refl;
+}
 
 operand_alike : (ss ts : List Segment) (es fs : List Logged) (is js : List Item) (g : ℕ) → ((h : ℕ) → marks (slice_get ts h) ≡ marks (slice_get ss h)) →
     fs ≡ es → js ≡ is → (j : Item) → operand_has Any ts fs js g j ≡ operand_has Any ss es is g j

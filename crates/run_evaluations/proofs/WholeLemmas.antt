@@ -72,7 +72,7 @@ item_same items o p e = item_marked items o ∙ ap (item_by items) e ∙ sym (it
 pub large_same : (large : List ℕ) (o p : Option Segment) → marks o ≡ marks p → first_large large o ≡ first_large large p
 large_same large o p e = large_marked large o ∙ ap (large_by large) e ∙ sym (large_marked large p)
 
-starts_past : (segments : List Segment) (events : List Logged) (g : ℕ) → length segments ≤ g → start_of segments events g ≡ length events
+pub starts_past : (segments : List Segment) (events : List Logged) (g : ℕ) → length segments ≤ g → start_of segments events g ≡ length events
 starts_past segments events g past = ap (first_event events) (slice_get_past segments g past)
 
 larges_past : (segments : List Segment) (large : List ℕ) (g : ℕ) → length segments ≤ g → large_of segments large g ≡ length large
@@ -137,10 +137,10 @@ and_left false q h = h
 module _ (segments : List Segment) (events : List Logged) (items : List Item) (large : List ℕ) (levels : List Level)
     (whole : Whole segments events items large levels) where
   -- ---- where segments begin
-  starts_top : (g : ℕ) → start_of segments events g ≤ length events
+  pub starts_top : (g : ℕ) → start_of segments events g ≤ length events
   starts_top g = (whole.kept.sorted g (omega arith)).1
 
-  starts_rise : (g h : ℕ) → g ≤ h → start_of segments events g ≤ start_of segments events h
+  pub starts_rise : (g h : ℕ) → g ≤ h → start_of segments events g ≤ start_of segments events h
   starts_rise g h le = rises_to (start_of segments events) 0 g h (λ k more. (whole.kept.sorted k more).0) (omega arith) le
 
   items_rise : (g h : ℕ) → g ≤ h → items_of segments items g ≤ items_of segments items h
@@ -149,7 +149,7 @@ module _ (segments : List Segment) (events : List Logged) (items : List Item) (l
   larges_rise : (g h : ℕ) → g ≤ h → large_of segments large g ≤ large_of segments large h
   larges_rise g h le = rises_to (large_of segments large) 0 g h whole.kept.large_rise (omega arith) le
 
-  items_top : (g : ℕ) → items_of segments items g ≤ length items
+  pub items_top : (g : ℕ) → items_of segments items g ≤ length items
   items_top g =
       let e = items_past segments items (g + length segments) (omega arith) in
       let r = items_rise g (g + length segments) (omega arith) in
@@ -246,7 +246,7 @@ module _ (segments : List Segment) (events : List Logged) (items : List Item) (l
   abbrev pub new_cut : Level → Type 0
   new_cut l = (l.segments ≡ length segments) × (l.events ≡ length events) × (l.items ≡ length items) × (l.large ≡ length large)
 
-  cut_some : (o : Option Level) (l : Level) (c : Cut) → o ≡ Some l → cut_of o ≡ Some c → (c.segments ≡ l.segments) × (c.events ≡ l.events) ×
+  pub cut_some : (o : Option Level) (l : Level) (c : Cut) → o ≡ Some l → cut_of o ≡ Some c → (c.segments ≡ l.segments) × (c.events ≡ l.events) ×
       (c.items ≡ l.items) ×
       (c.large ≡ l.large)
   cut_some o l c e h =
@@ -436,11 +436,11 @@ module _ (segments : List Segment) (events : List Logged) (items : List Item) (l
     }
 
   -- ---- an event that is logged
-  inside : (g : ℕ) → g < length segments → (s : Segment) × (slice_get segments g ≡ Some s)
+  pub inside : (g : ℕ) → g < length segments → (s : Segment) × (slice_get segments g ≡ Some s)
   inside g less =
       ⊎_elim (λ one. (one.0, one.2)) (λ past. absurd (let e = past.0 in omega (arith, e, less))) (slice_get_cases segments g).1
 
-  mark_at : (g : ℕ) (s : Segment) → slice_get segments g ≡ Some s →
+  pub mark_at : (g : ℕ) (s : Segment) → slice_get segments g ≡ Some s →
       marks (slice_get segments g) ≡ Some (start_of segments events g, items_of segments items g, large_of segments large g)
   mark_at g s e = ap marks e ∙ (λ i. Some (first_event events (sym e i), first_item items (sym e i), first_large large (sym e i)))
 
@@ -634,7 +634,7 @@ module _ (segments : List Segment) (events : List Logged) (items : List Item) (l
         let s = inside g (omega (arith, less, i)) in
         ap marks (get_take c.segments segments g less) ∙ mark_at g s.0 s.1
 
-    cut_start : (g : ℕ) → g ≤ c.segments → start_of (take c.segments segments) (take c.events events) g ≡ start_of segments events g
+    pub cut_start : (g : ℕ) → g ≤ c.segments → start_of (take c.segments segments) (take c.events events) g ≡ start_of segments events g
     cut_start g le =
         ⊎_elim
         (λ less. first_marked (take c.events events) (slice_get (take c.segments segments) g) ∙ ap (first_by (take c.events events)) (left_mark g less))
@@ -939,7 +939,7 @@ module _ (segments : List Segment) (events : List Logged) (items : List Item) (l
       }
 
   -- ---- frames that end, and the top frame
-  at_level : (o : Option Level) (c : Cut) → cut_of o ≡ Some c → (l : Level) × (o ≡ Some l)
+  pub at_level : (o : Option Level) (c : Cut) → cut_of o ≡ Some c → (l : Level) × (o ≡ Some l)
   at_level None c h = absurd (cc)
   at_level (Some l) c h = (l, refl)
 
@@ -959,8 +959,8 @@ module _ (segments : List Segment) (events : List Logged) (items : List Item) (l
         segments = (top.0).segments;
         events = (top.0).events;
         items = (top.0).items;
-        large =
-            (top.0).large;
+        large = (top.0).large;
+        loose = (top.0).loose;
       })
       (omega (arith, w)) h (ap cut_of top.2) in
       let e = ap first_segment top.2 in omega (arith, r, e))
@@ -974,8 +974,8 @@ module _ (segments : List Segment) (events : List Logged) (items : List Item) (l
         segments = (top.0).segments;
         events = (top.0).events;
         items = (top.0).items;
-        large =
-            (top.0).large;
+        large = (top.0).large;
+        loose = (top.0).loose;
       })
       (ap cut_of top.2)).0 in
       let e = ap first_segment top.2 in omega (arith, r, e))

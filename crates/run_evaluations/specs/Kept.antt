@@ -101,7 +101,13 @@ abbrev pub marks : Option Segment → Option (ℕ × ℕ × ℕ)
 marks None = None
 marks (Some s) = Some (s.first, s.items, s.large)
 
--- the log, the list of large bodies, the open frames, and where segments begin and which are harmless are as they were
+-- where the loose events of a segment begin, and the set that is kept of them
+abbrev pub loose_mark : Option Segment → Option (ℕ × Option (Box Foot Global))
+loose_mark None = None
+loose_mark (Some s) = Some (s.loose, s.loose_foot)
+
+-- the log, the lists of large bodies and of loose events, the open frames, and where segments begin, which are harmless, and what is kept of their loose
+-- events are as they were
 pub record IsSameLog (old new : Evaluations) : Type 0 where
   pub events : new.events.items ≡ old.events.items
   pub items : new.items.items ≡ old.items.items
@@ -109,6 +115,8 @@ pub record IsSameLog (old new : Evaluations) : Type 0 where
   pub levels : new.levels.items ≡ old.levels.items
   pub alike : (g : ℕ) → marks (slice_get new.segments.items g) ≡ marks (slice_get old.segments.items g)
   pub harm : (g : ℕ) → harmless_of (slice_get new.segments.items g) ≡ harmless_of (slice_get old.segments.items g)
+  pub loose : new.loose.items ≡ old.loose.items
+  pub lows : (g : ℕ) → loose_mark (slice_get new.segments.items g) ≡ loose_mark (slice_get old.segments.items g)
 
 -- all is as it was, but for the set of one segment, which is gone
 pub record IsTaken (old new : Evaluations) (at : ℕ) : Type 0 where
@@ -151,10 +159,11 @@ pub record Cut : Type 0 where
   pub events : ℕ
   pub items : ℕ
   pub large : ℕ
+  pub loose : ℕ
 
 abbrev pub cut_of : Option Level → Option Cut
 cut_of None = None
-cut_of (Some l) = Some (record { segments = l.segments; events = l.events; items = l.items; large = l.large })
+cut_of (Some l) = Some (record { segments = l.segments; events = l.events; items = l.items; large = l.large; loose = l.loose })
 
 -- the parts of the lists begin where the segment does, or else where the lists end
 abbrev pub IsCut : List Segment → List Logged → List Item → List ℕ → Cut → Type 0
@@ -227,6 +236,8 @@ pub record IsMore (old new : Segment) (added : List Item) : Type 0 where
   pub large : new.large ≡ old.large
   pub harm : new.harmless ≡ true → (old.harmless ≡ true) × AllHarmless added
   pub foot : HasMore old.foot new.foot added
+  pub low : new.loose ≡ old.loose
+  pub below : new.loose_foot ≡ old.loose_foot
 
 -- the last segment has these items too
 pub record IsAdded (old new : List Segment) (added : List Item) : Type 0 where
@@ -242,6 +253,8 @@ pub record IsFirst (old new : Evaluations) (s : Segment) (added : List Item) : T
   pub large : s.large ≡ length old.large.items
   pub harm : s.harmless ≡ true → AllHarmless added
   pub foot : s.foot ≡ None
+  pub low : s.loose ≡ length old.loose.items
+  pub below : s.loose_foot ≡ None
 
 -- an event was added to the log
 pub record IsLogged (old new : Evaluations) (e : Logged) (added : List Item) : Type 0 where
@@ -250,6 +263,7 @@ pub record IsLogged (old new : Evaluations) (e : Logged) (added : List Item) : T
   pub large : new.large.items ≡ old.large.items
   pub levels : new.levels.items ≡ old.levels.items
   pub segments : new.segments.items ≡ old.segments.items
+  pub loose : new.loose.items ≡ old.loose.items
   pub from : e.from ≡ length old.items.items
   pub to : e.to ≡ length old.items.items + length added
   pub foot : e.foot ≡ None
@@ -289,6 +303,7 @@ pub record IsSameOpen (old new : Evaluations) : Type 0 where
   pub events : new.events.items ≡ old.events.items
   pub items : new.items.items ≡ old.items.items
   pub large : new.large.items ≡ old.large.items
+  pub loose : new.loose.items ≡ old.loose.items
   pub cuts : (d : ℕ) → cut_of (slice_get new.levels.items d) ≡ cut_of (slice_get old.levels.items d)
 
 -- an event that was told is the next one of the log, and has started no frame yet

@@ -12,6 +12,7 @@ ghost use Rattle.run_evaluations.specs.FoundItems.{ItemsConflict};
 ghost use Rattle.run_evaluations.specs.Kept.{IsApart, AreApart, NoLarge, IsSameLog, IsTaken, Gathers, GathersKept, Joined, Kept};
 ghost use Rattle.run_evaluations.specs.Kept.{IsKept, NoneOfOperands, IsSameRest, AreLike, AllBelow, KeepsFeet, Spreads};
 ghost use Rattle.run_evaluations.specs.Kept.{items_of, large_of, foot_of, listed_has, own_body, small_of, is_unsequenced};
+ghost use Rattle.run_evaluations.specs.Loose.{IsLooseKept};
 ghost use Rattle.run_evaluations.specs.Touched.{start_of};
 
 use crate::found::Found;
@@ -38,6 +39,7 @@ impl Evaluations {
     ) -> Result<Option<Found>, NoMemory>
         ensures conflict { IfOk result ItemsConflict }
         ensures kept { IsKept self.old → IsKept self.new }
+        ensures loose { IsKept self.old → IsLooseKept self.old → IsLooseKept self.new }
         ensures none { IsKept self.old → is_unsequenced rule ≡ true → IfOk result (λ r. IfNone r (NoneOfOperands map.now self.old node)) }
     {
         let at = self.operands(node);
@@ -60,6 +62,7 @@ impl Evaluations {
         requires { at < vec_len self.old.segments }
         ensures conflict { IfOk result ItemsConflict }
         ensures kept { IsKept self.old → AllBelow self.old.levels.items at → IsKept self.new }
+        ensures loose { IsKept self.old → AllBelow self.old.levels.items at → IsLooseKept self.old → IsLooseKept self.new }
         ensures none { is_unsequenced rule ≡ true → Kept self.old.segments.items self.old.events.items self.old.items.items self.old.large.items at →
             IfOk result (λ r. IfNone r
             (NoneBetween Any under.entry.map.now self.old.segments.items self.old.events.items self.old.items.items at)) }

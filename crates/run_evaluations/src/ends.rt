@@ -3,6 +3,7 @@ ghost use Rattle.std.specs.Prelude.{IfOk, IfSome, OnOk};
 ghost use Rattle.footprint.specs.Conflicts.{MayConflict};
 ghost use Rattle.run_evaluations.specs.FoundItems.{AreOfOne, ItemsConflict};
 ghost use Rattle.run_evaluations.specs.Kept.{IsKept};
+ghost use Rattle.run_evaluations.specs.Loose.{IsLooseKept};
 
 use crate::found::{Found, first_of};
 use crate::open::{Evaluations, named};
@@ -36,6 +37,7 @@ impl Evaluations {
     ) -> Result<Option<Found>, NoMemory>
         ensures conflict { IfOk result ItemsConflict }
         ensures kept { OnOk result (IsKept self.old → IsKept self.new) }
+        ensures loose { OnOk result (IsKept self.old → IsLooseKept self.old → IsLooseKept self.new) }
     {
         let Some(last) = self.events.last() else {
             return Ok(None);
@@ -100,6 +102,7 @@ impl Evaluations {
     ) -> Result<Option<Found>, NoMemory>
         ensures conflict { IfOk result ItemsConflict }
         ensures kept { IsKept self.old → IsKept self.new }
+        ensures loose { IsKept self.old → IsLooseKept self.old → IsLooseKept self.new }
     {
         let mut best = None;
         for node in way.above.iter().rev() {

@@ -1,5 +1,5 @@
 // A node's own events beside the side effects below it that come before its value in no order.
-ghost use Rattle.std.specs.Prelude.{Box, ◌≡◌, ◌≤◌, ◌<◌, ◌-◌, ℕ, true, false, length, slice_get, Some, None, IfOk, IfNone, IfSome, OnOk};
+ghost use Rattle.std.specs.Prelude.{Box, ◌≡◌, ◌≤◌, ◌<◌, ◌-◌, ℕ, true, false, length, slice_get, suc, Some, None, IfOk, IfNone, IfSome, OnOk};
 ghost use Rattle.ub_base.specs.declared.names.Item.{Item};
 ghost use Rattle.std.specs.Global.{Global};
 ghost use Rattle.footprint.specs.Holds.{holds};
@@ -8,11 +8,12 @@ ghost use Rattle.run_evaluations.specs.declared.search.Sought.TheVariants.{Any};
 ghost use Rattle.run_evaluations.specs.Touched.{event_has};
 ghost use Rattle.run_evaluations.specs.Clashes.{NoClash};
 ghost use Rattle.run_evaluations.specs.FoundItems.{ItemsConflict};
-ghost use Rattle.run_evaluations.specs.Kept.{IsKept, IsSameRest, AreLike, IsApart, span_of};
+ghost use Rattle.run_evaluations.specs.Kept.{IsKept, IsSameRest, AreLike, AllBelow, IsApart, span_of};
 ghost use Rattle.run_evaluations.specs.Loose.{NoLoose, HasLoose, LooseKept, IsLooseKept, NoneBelow, loose_has, loose_from};
+ghost use Rattle.run_evaluations.specs.Loose.{IsListed, HasEvent, KeepsLoose, loose_start_of, loose_foot_of};
 
 use crate::found::{Found, first_of};
-use crate::open::{Evaluations, add_all};
+use crate::open::Evaluations;
 use crate::search::{Under, clash};
 use addr_map::AddrMap;
 use footprint::Foot;
@@ -32,6 +33,7 @@ impl Evaluations {
     ) -> Result<Option<Found>, NoMemory>
         ensures conflict { IfOk result ItemsConflict }
         ensures kept { OnOk result (IsKept self.old → IsKept self.new) }
+        ensures loose { OnOk result (IsKept self.old → IsLooseKept self.old → IsLooseKept self.new) }
         ensures none { IsLooseKept self.old → IfOk result (λ r. IfNone r (NoneBelow map.now self.old node)) }
     {
         let loose = self.loose_start();
@@ -133,6 +135,8 @@ impl Evaluations {
         ensures rest { IsSameRest self.old self.new }
         ensures loose { self.new.loose.items ≡ self.old.loose.items }
         ensures like { (g : ℕ) → AreLike (slice_get self.old.segments.items g) (slice_get self.new.segments.items g) }
+        ensures lows { (g : ℕ) → loose_start_of (slice_get self.new.segments.items g) ≡ loose_start_of (slice_get self.old.segments.items g) }
+        ensures feet { KeepsLoose self.old self.new loose }
         ensures right { LooseKept self.old.segments.items self.old.events.items self.old.items.items self.old.loose.items loose →
             LooseKept self.new.segments.items self.new.events.items self.new.items.items self.new.loose.items loose }
     {
@@ -343,21 +347,83 @@ impl Evaluations {
     fn add_loose(&mut self, node: u32) -> Result<(), NoMemory>
         ensures rest { IsSameRest self.old self.new }
         ensures like { (g : ℕ) → AreLike (slice_get self.old.segments.items g) (slice_get self.new.segments.items g) }
+        ensures loose { OnOk result (IsKept self.old → IsLooseKept self.old → IsLooseKept self.new) }
+    {
+        if !self.ends_with_effect(node) {
+            return Ok(());
+        }
+        self.list_effect()?;
+        Ok(())
+    }
+
+    // Whether the last event of the top frame's full expression is the node's side effect.
+    fn ends_with_effect(&self, node: u32) -> bool
+        ensures { result ≡ true → IsKept self.now → (last : ℕ) × (length self.now.segments.items ≡ suc last) × AllBelow self.now.levels.items last }
+    {
+        if self.segments.len() <= self.base() {
+            return false;
+        }
+        self.is_effect_last(node)
+    }
+
+    fn is_effect_last(&self, node: u32) -> bool {
+        match self.events.last() {
+            Some(event) => event.kind == Kind::Eff && event.node == node,
+            None => false,
+        }
+    }
+
+    // Lists the last event, and adds it to the set of the top segment's loose events, where one is kept.
+    fn list_effect(&mut self) -> Result<(), NoMemory>
+        ensures rest { IsSameRest self.old self.new }
+        ensures like { (g : ℕ) → AreLike (slice_get self.old.segments.items g) (slice_get self.new.segments.items g) }
+        ensures listed { OnOk result (IsListed self.old self.new) }
     {
         let at = self.events.len().saturating_sub(1);
-        let Some(event) = self.events.last() else {
-            return Ok(());
-        };
-        if event.kind != Kind::Eff || event.node != node {
-            return Ok(());
-        }
         self.loose.push(at)?;
-        if let (Some(segment), Some(items)) = (
-            self.segments.last_mut(),
-            self.items.get(event.from..event.to),
-        ) {
-            return add_all(&mut segment.loose_foot, items);
-        }
+        let foot = self.take_loose_foot();
+        let foot = self.with_event(foot, at)?;
+        self.put_loose_foot(foot);
         Ok(())
+    }
+
+    pub(crate) fn take_loose_foot(&mut self) -> Option<Box<Foot>>
+        ensures rest { IsSameRest self.old self.new }
+        ensures like { (g : ℕ) → AreLike (slice_get self.old.segments.items g) (slice_get self.new.segments.items g) }
+        ensures loose { self.new.loose.items ≡ self.old.loose.items }
+        ensures count { length self.new.segments.items ≡ length self.old.segments.items }
+        ensures lows { (g : ℕ) → loose_start_of (slice_get self.new.segments.items g) ≡ loose_start_of (slice_get self.old.segments.items g) }
+        ensures others { (g : ℕ) → suc g < length self.old.segments.items → slice_get self.new.segments.items g ≡ slice_get self.old.segments.items g }
+        ensures given { result ≡ loose_foot_of (slice_get self.old.segments.items (length self.old.segments.items - 1)) }
+    {
+        match self.segments.last_mut() {
+            Some(segment) => segment.loose_foot.take(),
+            None => None,
+        }
+    }
+
+    // The set with what the event touched, if there is one.
+    fn with_event(&self, foot: Option<Box<Foot>>, at: usize) -> Result<Option<Box<Foot>>, NoMemory>
+        ensures { IfOk result (λ r. HasEvent foot r (event_has self.now.items.items (slice_get self.now.events.items at))) }
+    {
+        let Some(mut foot) = foot else {
+            return Ok(None);
+        };
+        self.add_event(&mut foot, at)?;
+        Ok(Some(foot))
+    }
+
+    fn put_loose_foot(&mut self, foot: Option<Box<Foot>>)
+        ensures rest { IsSameRest self.old self.new }
+        ensures like { (g : ℕ) → AreLike (slice_get self.old.segments.items g) (slice_get self.new.segments.items g) }
+        ensures loose { self.new.loose.items ≡ self.old.loose.items }
+        ensures count { length self.new.segments.items ≡ length self.old.segments.items }
+        ensures lows { (g : ℕ) → loose_start_of (slice_get self.new.segments.items g) ≡ loose_start_of (slice_get self.old.segments.items g) }
+        ensures others { (g : ℕ) → suc g < length self.old.segments.items → slice_get self.new.segments.items g ≡ slice_get self.old.segments.items g }
+        ensures below { (f : Box Foot Global) → loose_foot_of (slice_get self.new.segments.items (length self.old.segments.items - 1)) ≡ Some f → foot ≡ Some f }
+    {
+        if let Some(segment) = self.segments.last_mut() {
+            segment.loose_foot = foot;
+        }
     }
 }

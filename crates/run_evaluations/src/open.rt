@@ -4,7 +4,10 @@ ghost use Rattle.std.specs.Prelude.{length, slice_get, Some, None, vec_len, IfSo
 ghost use Rattle.std.specs.Global.{Global};
 ghost use Rattle.run_evaluations.specs.declared.log.Logged.{Logged};
 ghost use Rattle.run_evaluations.specs.declared.log.Segment.{Segment};
+ghost use Rattle.run_evaluations.specs.declared.rules.Rule.TheVariants.{Open};
 ghost use Rattle.run_evaluations.specs.Bodies.{HasBody};
+ghost use Rattle.run_evaluations.specs.Clashes.{AreSorted};
+ghost use Rattle.run_evaluations.specs.Loose.{IsLooseKept, HasRange, Thins, loose_of, loose_start_of, loose_foot_of};
 ghost use Rattle.run_evaluations.specs.Kept.{IsKept, IsSameRest, IsSameLog, AreLike, IsJoined, AllBelow, IsAdded, IsFirst, IsLogged, IsTold};
 ghost use Rattle.run_evaluations.specs.Kept.{IsOperand, IsSameOpen, cut_of, base_of, marks, harmless_of, foot_of, span_of, is_large, own_body};
 ghost use Rattle.ub_base.specs.declared.names.Item.{Item};
@@ -37,7 +40,8 @@ pub struct Evaluations {
 impl Evaluations {
     /// The frame of `main` alone, with no full expression.
     pub fn new(alloc: Global) -> Result<Self, NoMemory>
-        ensures { IfOk result IsKept }
+        ensures kept { IfOk result IsKept }
+        ensures loose { IfOk result IsLooseKept }
     {
         let mut open = Evaluations {
             alloc,
@@ -68,7 +72,8 @@ impl Evaluations {
 
     /// The event that was told last began this frame.
     pub fn enter(&mut self, frame: Frame) -> Result<(), NoMemory>
-        ensures { OnOk result (IsKept self.old → IsKept self.new) }
+        ensures kept { OnOk result (IsKept self.old → IsKept self.new) }
+        ensures loose { OnOk result (IsLooseKept self.old → IsLooseKept self.new) }
     {
         let level = Level {
             frame,
@@ -86,7 +91,8 @@ impl Evaluations {
 
     /// A full expression of the top frame begins in this turn.
     pub fn begin(&mut self, turn: u64)
-        ensures { IsKept self.old → IsKept self.new }
+        ensures kept { IsKept self.old → IsKept self.new }
+        ensures loose { IsLooseKept self.old → IsLooseKept self.new }
     {
         self.set_turn(turn);
     }
@@ -101,7 +107,8 @@ impl Evaluations {
 
     /// A control step of the top frame touched these items.
     pub fn step(&mut self, items: &[Item]) -> Result<(), NoMemory>
-        ensures { IsKept self.old → IsKept self.new }
+        ensures kept { IsKept self.old → IsKept self.new }
+        ensures loose { IsLooseKept self.old → IsLooseKept self.new }
     {
         if self.levels.len() < 2 {
             return Ok(());
@@ -129,6 +136,7 @@ impl Evaluations {
         chosen: bool,
     ) -> Result<(), NoMemory>
         ensures kept { OnOk result (IsKept self.old → IsKept self.new) }
+        ensures loose { OnOk result (IsKept self.old → IsLooseKept self.old → IsLooseKept self.new) }
         ensures told { OnOk result ((e : Logged) × (e.node ≡ node) × (e.kind ≡ kind) × IsTold self.old self.new e items.now) }
     {
         self.gather(node, rule, chosen);
@@ -144,6 +152,8 @@ impl Evaluations {
     fn log_at_top(&mut self, node: u32, kind: Kind, items: &[Item]) -> Result<(), NoMemory>
         ensures kept { OnOk result (IsKept self.old → (last : ℕ) → length self.old.segments.items ≡ suc last →
             AllBelow self.old.levels.items last → IsKept self.new) }
+        ensures loose { OnOk result (IsKept self.old → IsLooseKept self.old → (last : ℕ) → length self.old.segments.items ≡ suc last →
+            AllBelow self.old.levels.items last → IsLooseKept self.new) }
         ensures told { OnOk result ((e : Logged) × (e.node ≡ node) × (e.kind ≡ kind) × IsTold self.old self.new e items.now) }
     {
         self.add_to_top(items)?;
@@ -154,6 +164,7 @@ impl Evaluations {
     // The first event of a segment touched these items.
     fn log_first(&mut self, node: u32, kind: Kind, items: &[Item]) -> Result<(), NoMemory>
         ensures kept { OnOk result (IsKept self.old → IsKept self.new) }
+        ensures loose { OnOk result (IsKept self.old → IsLooseKept self.old → IsLooseKept self.new) }
         ensures told { OnOk result ((e : Logged) × (e.node ≡ node) × (e.kind ≡ kind) × IsTold self.old self.new e items.now) }
     {
         self.push_segment(node, items)?;
@@ -177,6 +188,7 @@ impl Evaluations {
     // The top segment has these items too.
     fn add_to_top(&mut self, items: &[Item]) -> Result<(), NoMemory>
         ensures rest { IsSameRest self.old self.new }
+        ensures loose { self.new.loose.items ≡ self.old.loose.items }
         ensures added { OnOk result (IsAdded self.old.segments.items self.new.segments.items items.now) }
     {
         match self.segments.last_mut() {
@@ -188,6 +200,7 @@ impl Evaluations {
     // A segment of this node begins with an event that touched these items.
     fn push_segment(&mut self, node: u32, items: &[Item]) -> Result<(), NoMemory>
         ensures rest { IsSameRest self.old self.new }
+        ensures loose { self.new.loose.items ≡ self.old.loose.items }
         ensures pushed { OnOk result ((s : Segment) × IsFirst self.old self.new s items.now) }
     {
         let segment = Segment {
@@ -271,6 +284,7 @@ impl Evaluations {
     pub(crate) fn gather(&mut self, node: u32, rule: Rule, chosen: bool)
         ensures rest { IsSameRest self.old self.new }
         ensures kept { IsKept self.old → IsKept self.new }
+        ensures loose { IsKept self.old → IsLooseKept self.old → IsLooseKept self.new }
     {
         let at = self.operands(node);
         if at >= self.segments.len() {
@@ -306,14 +320,12 @@ impl Evaluations {
         ensures rest { IsSameRest self.old self.new }
         ensures joined { IsJoined self.old.segments.items self.new.segments.items at }
         ensures foot { foot_of (slice_get self.new.segments.items at) ≡ foot }
+        ensures loose { AreSorted self.old.segments.items self.old.events.items 0 → AllBelow self.old.levels.items at → IsLooseKept self.old →
+            IsLooseKept self.new }
     {
         let harmless = self.all_harmless(at);
         self.keep_loose(at, node, rule, chosen);
-        let loose_foot = if rule == Rule::Open {
-            self.only_loose_foot(at)
-        } else {
-            None
-        };
+        let loose_foot = self.left_loose_foot(at, rule);
         self.put_joined(at, node, harmless, foot, loose_foot);
     }
 
@@ -333,6 +345,9 @@ impl Evaluations {
         ensures begins { marks (slice_get self.new.segments.items at) ≡ marks (slice_get self.old.segments.items at) }
         ensures harm { harmless_of (slice_get self.new.segments.items at) ≡ harmless }
         ensures foot { foot_of (slice_get self.new.segments.items at) ≡ foot }
+        ensures loose { self.new.loose.items ≡ self.old.loose.items }
+        ensures low { loose_start_of (slice_get self.new.segments.items at) ≡ loose_start_of (slice_get self.old.segments.items at) }
+        ensures below { loose_foot_of (slice_get self.new.segments.items at) ≡ loose_foot }
     {
         self.segments.truncate(at + 1);
         if let Some(segment) = self.segments.get_mut(at) {
@@ -343,20 +358,90 @@ impl Evaluations {
         }
     }
 
-    // The set of the loose events of the segments from there on, where the first or the last of them has them all.
-    fn only_loose_foot(&mut self, at: usize) -> Option<Box<Foot>>
+    // The set of the loose events of the segments from there on, where one is kept that has them all, and the rule leaves them all.
+    fn left_loose_foot(&mut self, at: usize, rule: Rule) -> Option<Box<Foot>>
+        requires { at < vec_len self.old.segments }
         ensures rest { IsSameRest self.old self.new }
+        ensures loose { self.new.loose.items ≡ self.old.loose.items }
         ensures count { length self.new.segments.items ≡ length self.old.segments.items }
         ensures like { (g : ℕ) → AreLike (slice_get self.old.segments.items g) (slice_get self.new.segments.items g) }
+        ensures lows { (g : ℕ) → loose_start_of (slice_get self.new.segments.items g) ≡ loose_start_of (slice_get self.old.segments.items g) }
+        ensures others { (g : ℕ) → g < at → slice_get self.new.segments.items g ≡ slice_get self.old.segments.items g }
+        ensures has { IfSome result (λ f. (rule ≡ Open) × (IsLooseKept self.old → HasRange self.old.events.items self.old.items.items
+            self.old.loose.items (loose_of self.old.segments.items self.old.loose.items at) (length self.old.loose.items) f.value)) }
     {
-        let first = self.segments.get(at)?.loose;
-        if self.segments.last()?.loose == first {
-            return self.segments.last_mut()?.loose_foot.take();
+        if rule == Rule::Open {
+            self.only_loose_foot(at)
+        } else {
+            None
         }
-        if self.segments.get(at.saturating_add(1))?.loose == self.loose.len() {
-            return self.segments.get_mut(at)?.loose_foot.take();
+    }
+
+    // The set of the loose events of the segments from there on, where the first or the last of them has them all.
+    fn only_loose_foot(&mut self, at: usize) -> Option<Box<Foot>>
+        requires { at < vec_len self.old.segments }
+        ensures rest { IsSameRest self.old self.new }
+        ensures loose { self.new.loose.items ≡ self.old.loose.items }
+        ensures count { length self.new.segments.items ≡ length self.old.segments.items }
+        ensures like { (g : ℕ) → AreLike (slice_get self.old.segments.items g) (slice_get self.new.segments.items g) }
+        ensures lows { (g : ℕ) → loose_start_of (slice_get self.new.segments.items g) ≡ loose_start_of (slice_get self.old.segments.items g) }
+        ensures others { (g : ℕ) → g < at → slice_get self.new.segments.items g ≡ slice_get self.old.segments.items g }
+        ensures has { IfSome result (λ f. IsLooseKept self.old → HasRange self.old.events.items self.old.items.items
+            self.old.loose.items (loose_of self.old.segments.items self.old.loose.items at) (length self.old.loose.items) f.value) }
+    {
+        if self.has_last_all(at) {
+            return self.take_loose_foot();
+        }
+        if self.has_first_all(at) {
+            return self.take_loose_foot_at(at);
         }
         None
+    }
+
+    // Whether the last segment has all the loose events of the segments from there on.
+    fn has_last_all(&self, at: usize) -> bool
+        ensures { result ≡ true → loose_of self.now.segments.items self.now.loose.items (length self.now.segments.items - 1) ≡
+            loose_of self.now.segments.items self.now.loose.items at }
+    {
+        self.loose_begin(self.segments.len().saturating_sub(1)) == self.loose_begin(at)
+    }
+
+    // Whether this segment has all the loose events of the segments from there on.
+    fn has_first_all(&self, at: usize) -> bool
+        ensures { result ≡ true → loose_of self.now.segments.items self.now.loose.items (suc at) ≡ length self.now.loose.items }
+    {
+        self.loose_end(at) == self.loose.len()
+    }
+
+    // Where the loose events of a segment begin in the list; behind the last one, where the list ends.
+    fn loose_begin(&self, group: usize) -> usize
+        ensures { result ≡ loose_of self.now.segments.items self.now.loose.items group }
+    {
+        match self.segments.get(group) {
+            Some(segment) => segment.loose,
+            None => self.loose.len(),
+        }
+    }
+
+    fn loose_end(&self, group: usize) -> usize
+        ensures { result ≡ loose_of self.now.segments.items self.now.loose.items (suc group) }
+    {
+        self.loose_begin(group.saturating_add(1))
+    }
+
+    fn take_loose_foot_at(&mut self, at: usize) -> Option<Box<Foot>>
+        ensures rest { IsSameRest self.old self.new }
+        ensures like { (g : ℕ) → AreLike (slice_get self.old.segments.items g) (slice_get self.new.segments.items g) }
+        ensures loose { self.new.loose.items ≡ self.old.loose.items }
+        ensures count { length self.new.segments.items ≡ length self.old.segments.items }
+        ensures lows { (g : ℕ) → loose_start_of (slice_get self.new.segments.items g) ≡ loose_start_of (slice_get self.old.segments.items g) }
+        ensures others { (g : ℕ) → g ≢ at → slice_get self.new.segments.items g ≡ slice_get self.old.segments.items g }
+        ensures given { result ≡ loose_foot_of (slice_get self.old.segments.items at) }
+    {
+        match self.segments.get_mut(at) {
+            Some(segment) => segment.loose_foot.take(),
+            None => None,
+        }
     }
 
     // Leaves those loose events of the operands that no rule of the node sequences before its value.
@@ -364,6 +449,8 @@ impl Evaluations {
         requires { at < vec_len self.old.segments }
         ensures segments { self.new.segments ≡ self.old.segments }
         ensures rest { IsSameRest self.old self.new }
+        ensures thins { Thins (loose_of self.old.segments.items self.old.loose.items at) self.old.loose.items self.new.loose.items }
+        ensures open { rule ≡ Open → self.new.loose.items ≡ self.old.loose.items }
     {
         let first = self.segments[at].loose;
         let last = self.segments.len() - 1;
@@ -391,7 +478,8 @@ impl Evaluations {
 
     /// The top frame's full expression is settled: the frame keeps what it touched, `main` nothing.
     pub fn settle(&mut self) -> Result<(), NoMemory>
-        ensures { OnOk result (IsKept self.old → IsKept self.new) }
+        ensures kept { OnOk result (IsKept self.old → IsKept self.new) }
+        ensures loose { OnOk result (IsKept self.old → IsLooseKept self.old → IsLooseKept self.new) }
     {
         self.keep_touched()?;
         self.cut_off();
@@ -400,7 +488,8 @@ impl Evaluations {
 
     // The lists end where the top frame's full expression began.
     fn cut_off(&mut self)
-        ensures { IsKept self.old → IsKept self.new }
+        ensures kept { IsKept self.old → IsKept self.new }
+        ensures loose { IsKept self.old → IsLooseKept self.old → IsLooseKept self.new }
     {
         if let Some(cut) = self.top_cut() {
             self.cut_at(cut);
@@ -410,7 +499,7 @@ impl Evaluations {
     // Where the top frame's full expression begins among the segments, events, items, large bodies and loose events.
     fn top_cut(&self) -> Option<(usize, usize, usize, usize, usize)>
         ensures { IfSome result (λ p. cut_of (slice_get self.now.levels.items (length self.now.levels.items - 1)) ≡
-            Some (record { segments = p.0; events = p.1; items = p.2; large = p.3 })) }
+            Some (record { segments = p.0; events = p.1; items = p.2; large = p.3; loose = p.4 })) }
     {
         match self.levels.last() {
             Some(level) => Some((
@@ -429,6 +518,7 @@ impl Evaluations {
         ensures events { self.new.events.items ≡ take cut.1 self.old.events.items }
         ensures items { self.new.items.items ≡ take cut.2 self.old.items.items }
         ensures large { self.new.large.items ≡ take cut.3 self.old.large.items }
+        ensures loose { self.new.loose.items ≡ take cut.4 self.old.loose.items }
         ensures levels { self.new.levels.items ≡ self.old.levels.items }
     {
         self.segments.truncate(cut.0);
@@ -440,7 +530,8 @@ impl Evaluations {
 
     // The top frame keeps what its full expression touched, unless it is that of `main`.
     fn keep_touched(&mut self) -> Result<(), NoMemory>
-        ensures { IsKept self.old → IsKept self.new }
+        ensures kept { IsKept self.old → IsKept self.new }
+        ensures loose { IsLooseKept self.old → IsLooseKept self.new }
     {
         if self.levels.len() < 2 {
             return Ok(());
@@ -470,7 +561,8 @@ impl Evaluations {
 
     // The top frame keeps what the body touched that the event started, and the event no longer has it.
     fn keep_body(&mut self, at: usize) -> Result<(), NoMemory>
-        ensures { IsKept self.old → IsKept self.new }
+        ensures kept { IsKept self.old → IsKept self.new }
+        ensures loose { IsLooseKept self.old → IsLooseKept self.new }
     {
         let body = self.take_body(at);
         self.absorb(body)
@@ -478,6 +570,7 @@ impl Evaluations {
 
     fn take_body(&mut self, at: usize) -> Option<Box<Foot>>
         ensures segments { self.new.segments.items ≡ self.old.segments.items }
+        ensures loose { self.new.loose.items ≡ self.old.loose.items }
         ensures items { self.new.items.items ≡ self.old.items.items }
         ensures larges { self.new.large.items ≡ self.old.large.items }
         ensures levels { self.new.levels.items ≡ self.old.levels.items }
@@ -507,7 +600,8 @@ impl Evaluations {
 
     /// The top frame has ended: what it touched is what the body touched that started it.
     pub fn leave(&mut self) -> Result<(), NoMemory>
-        ensures { OnOk result (IsKept self.old → IsKept self.new) }
+        ensures kept { OnOk result (IsKept self.old → IsKept self.new) }
+        ensures loose { OnOk result (IsKept self.old → IsLooseKept self.old → IsLooseKept self.new) }
     {
         if self.levels.len() < 2 {
             return Ok(());
@@ -522,7 +616,8 @@ impl Evaluations {
     }
 
     fn pop_level(&mut self) -> Option<Level>
-        ensures { IsKept self.old → IsKept self.new }
+        ensures kept { IsKept self.old → IsKept self.new }
+        ensures loose { IsLooseKept self.old → IsLooseKept self.new }
     {
         self.levels.pop()
     }
@@ -531,6 +626,7 @@ impl Evaluations {
     fn give(&mut self, foot: Foot) -> Result<(), NoMemory>
         ensures body { OnOk result (HasBody self.new.events.items foot) }
         ensures kept { OnOk result (IsKept self.old → IsKept self.new) }
+        ensures loose { OnOk result (IsKept self.old → IsLooseKept self.old → IsLooseKept self.new) }
     {
         let large = self.is_listed(&foot);
         self.list_last(large)?;
@@ -552,6 +648,7 @@ impl Evaluations {
         ensures events { self.new.events.items ≡ self.old.events.items }
         ensures items { self.new.items.items ≡ self.old.items.items }
         ensures levels { self.new.levels.items ≡ self.old.levels.items }
+        ensures loose { self.new.loose.items ≡ self.old.loose.items }
         ensures no { large ≡ false → self.new.large.items ≡ self.old.large.items }
         ensures yes { OnOk result (large ≡ true →
             self.new.large.items ≡ self.old.large.items ++ ((length self.old.events.items - 1) ∷ [])) }
@@ -563,7 +660,7 @@ impl Evaluations {
         Ok(())
     }
 
-    // The top segment isn't harmless, and no set of it is kept.
+    // The top segment isn't harmless, and no set of it is kept, nor of its loose events.
     fn open_top(&mut self)
         ensures rest { IsSameRest self.old self.new }
         ensures count { length self.new.segments.items ≡ length self.old.segments.items }
@@ -571,10 +668,14 @@ impl Evaluations {
         ensures others { (g : ℕ) → g < length self.old.segments.items - 1 → slice_get self.new.segments.items g ≡ slice_get self.old.segments.items g }
         ensures harm { harmless_of (slice_get self.new.segments.items (length self.old.segments.items - 1)) ≡ false }
         ensures foot { foot_of (slice_get self.new.segments.items (length self.old.segments.items - 1)) ≡ None }
+        ensures loose { self.new.loose.items ≡ self.old.loose.items }
+        ensures lows { (g : ℕ) → loose_start_of (slice_get self.new.segments.items g) ≡ loose_start_of (slice_get self.old.segments.items g) }
+        ensures below { loose_foot_of (slice_get self.new.segments.items (length self.old.segments.items - 1)) ≡ None }
     {
         if let Some(segment) = self.segments.last_mut() {
             segment.harmless = false;
             segment.foot = None;
+            segment.loose_foot = None;
         }
     }
 
@@ -582,6 +683,7 @@ impl Evaluations {
     fn put_body(&mut self, foot: Foot, large: bool) -> Result<(), NoMemory>
         ensures body { OnOk result (HasBody self.new.events.items foot) }
         ensures segments { self.new.segments.items ≡ self.old.segments.items }
+        ensures loose { self.new.loose.items ≡ self.old.loose.items }
         ensures items { self.new.items.items ≡ self.old.items.items }
         ensures larges { self.new.large.items ≡ self.old.large.items }
         ensures levels { self.new.levels.items ≡ self.old.levels.items }
@@ -619,21 +721,20 @@ pub(crate) fn named(place: (Frame, u64), node: u32, kind: Kind) -> Event
     }
 }
 
-// Adds the items to the set, if it is kept.
-pub(crate) fn add_all(foot: &mut Option<Box<Foot>>, items: &[Item]) -> Result<(), NoMemory> {
-    if let Some(foot) = foot {
-        for item in items {
-            foot.add(*item)?;
-        }
+// Takes the entries from one place up to another away.
+fn close_gap(list: &mut Vec<usize>, from: usize, to: usize)
+    ensures { Thins from list.old.items list.new.items }
+{
+    for _ in from..to {
+        take_out(list, from);
     }
-    Ok(())
 }
 
-// Takes the entries from one place up to another away.
-fn close_gap(list: &mut Vec<usize>, from: usize, to: usize) {
-    for _ in from..to {
-        if from < list.len() {
-            list.remove(from);
-        }
+// Takes the entry at this place away, if there is one.
+fn take_out(list: &mut Vec<usize>, at: usize)
+    ensures { Thins at list.old.items list.new.items }
+{
+    if at < list.len() {
+        list.remove(at);
     }
 }

@@ -1,7 +1,13 @@
 use Rattle.run_evaluations.proofs.WholeLemmas.{kept_cut}
+use Rattle.run_evaluations.proofs.LooseWholeLemmas.{right_cut_off}
 use Rattle.run_evaluations.proofs.open.Evaluations.cut_off.Goals as goal
 
-pub returns-in-Some : goal.returns-in-Some
-returns-in-Some c = λ w.
+pub returns-in-Some-clause-kept : goal.returns-in-Some-clause-kept
+returns-in-Some-clause-kept c = λ w.
     let t = c.cut_at.ensures in
     kept_cut c.args.self.now c.cut_at.new.self _ c.in-Some.ensures t.segments t.events t.items t.large t.levels w
+
+pub returns-in-Some-clause-loose : goal.returns-in-Some-clause-loose
+returns-in-Some-clause-loose c = λ w r.
+    let t = c.cut_at.ensures in
+    right_cut_off c.args.self.now c.cut_at.new.self _ c.in-Some.ensures t.segments t.events t.items t.loose t.levels w r

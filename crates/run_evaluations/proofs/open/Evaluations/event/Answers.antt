@@ -16,3 +16,12 @@ pub returns-clause-told : goal.returns-clause-told
 returns-clause-told c =
     let t = c.in_ok-log_first.ensures.told in
     (t.0, t.1, t.2, told_after c.args.self.now c.gather.new.self c.log_first.new.self t.0 c.args.items.now c.gather.ensures.rest t.3)
+
+pub returns-then-is_top_of-clause-loose : goal.returns-then-is_top_of-clause-loose
+returns-then-is_top_of-clause-loose c = λ w r.
+    let g = c.gather.ensures.kept w in
+    let b = c.is_top_of.ensures c.if-is_top_of.true g in
+    c.in_ok-log_at_top.ensures.loose g (c.gather.ensures.loose w r) b.0 b.1 b.2
+
+pub returns-clause-loose : goal.returns-clause-loose
+returns-clause-loose c = λ w r. c.in_ok-log_first.ensures.loose (c.gather.ensures.kept w) (c.gather.ensures.loose w r)

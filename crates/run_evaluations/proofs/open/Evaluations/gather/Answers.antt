@@ -1,5 +1,10 @@
 use Rattle.std.proofs.Common.{◌∙◌, sym, arith}
 use Rattle.run_evaluations.proofs.WholeLemmas.{kept_made_one, only_spreads, length_alike}
+use Rattle.run_evaluations.proofs.LooseWholeLemmas.{right_same}
+use Rattle.run_evaluations.proofs.KeptLemmas.{sorted_alike}
+use Rattle.std.proofs.Common.{subst, List}
+use Rattle.run_evaluations.specs.Kept.{AllBelow}
+use Rattle.run_evaluations.specs.declared.level.Level.{Level}
 use Rattle.run_evaluations.proofs.open.Evaluations.gather.Goals as goal
 
 pub join-requires : goal.join-requires
@@ -15,3 +20,13 @@ returns-clause-kept c = λ w.
     (λ f h. let r = c.take_only-foot.ensures.given f (sym c.join.ensures.foot ∙ h) in
     only_spreads c.args.self.now.segments.items c.args.self.now.events.items c.args.self.now.items.items c.args.self.now.large.items
     c.args.self.now.levels.items w c.operands-at.result f r.0 r.1) w
+
+pub returns-clause-loose : goal.returns-clause-loose
+returns-clause-loose c = λ w r.
+    let a = c.args.self.now in
+    let t = c.take_only-foot.new.self in
+    let same = c.take_only-foot.ensures.same in
+    c.join.ensures.loose
+    (sorted_alike a.segments.items t.segments.items a.events.items t.events.items 0 same.alike same.events w.kept.sorted)
+    (subst (λ (ls : List Level). AllBelow ls c.operands-at.result) (sym same.levels) (c.operands-at.ensures.below w))
+    (right_same a t same r)

@@ -1,4 +1,5 @@
 use Rattle.run_evaluations.proofs.WholeLemmas.{kept_at_top, told_by}
+use Rattle.run_evaluations.proofs.LooseWholeLemmas.{right_at_top}
 use Rattle.run_evaluations.proofs.open.Evaluations.log_at_top.Goals as goal
 
 pub returns-clause-kept : goal.returns-clause-kept
@@ -11,3 +12,9 @@ pub returns-clause-told : goal.returns-clause-told
 returns-clause-told c =
     let l = c.in_ok-log.ensures in
     (l.0, l.1, l.2, told_by c.args.self.now c.add_to_top.new.self c.log.new.self l.0 c.args.items.now c.add_to_top.ensures.rest l.3)
+
+pub returns-clause-loose : goal.returns-clause-loose
+returns-clause-loose c = λ w r last n below.
+    let l = c.in_ok-log.ensures in
+    right_at_top c.args.self.now c.add_to_top.new.self c.log.new.self l.0 c.args.items.now last c.add_to_top.ensures.rest c.add_to_top.ensures.loose
+    c.in_ok-add_to_top.ensures.added l.3 n below w r

@@ -1,4 +1,5 @@
 use Rattle.run_evaluations.proofs.WholeLemmas.{kept_first, told_by}
+use Rattle.run_evaluations.proofs.LooseWholeLemmas.{right_first}
 use Rattle.run_evaluations.proofs.open.Evaluations.log_first.Goals as goal
 
 pub returns-clause-kept : goal.returns-clause-kept
@@ -11,3 +12,10 @@ pub returns-clause-told : goal.returns-clause-told
 returns-clause-told c =
     let l = c.in_ok-log.ensures in
     (l.0, l.1, l.2, told_by c.args.self.now c.push_segment.new.self c.log.new.self l.0 c.args.items.now c.push_segment.ensures.rest l.3)
+
+pub returns-clause-loose : goal.returns-clause-loose
+returns-clause-loose c = λ w r.
+    let s = c.in_ok-push_segment.ensures.pushed in
+    let l = c.in_ok-log.ensures in
+    right_first c.args.self.now c.push_segment.new.self c.log.new.self s.0 l.0 c.args.items.now c.push_segment.ensures.rest c.push_segment.ensures.loose
+    s.1 l.3 w r

@@ -2,6 +2,7 @@ use Rattle.run_evaluations.proofs.WholeLemmas.{kept_like}
 use Rattle.std.proofs.Common.{subst, sym, ℕ}
 use Rattle.run_evaluations.specs.Loose.{LooseKept}
 use Rattle.run_evaluations.proofs.LooseLemmas.{all_below}
+use Rattle.run_evaluations.proofs.LooseWholeLemmas.{right_set, top_right}
 use Rattle.run_evaluations.proofs.open.Evaluations.node_done.Goals as goal
 
 pub returns-clause-kept : goal.returns-clause-kept
@@ -15,4 +16,12 @@ returns-clause-none c = λ right.
     c.gather_loose.ensures.rest.events c.gather_loose.ensures.rest.items c.gather_loose.ensures.loose c.loose_start-loose.ensures c.own_events-own.ensures
     (c.in_ok-found.ensures.none (c.gather_loose.ensures.right
     (subst (λ (n : ℕ). LooseKept c.args.self.now.segments.items c.args.self.now.events.items c.args.self.now.items.items c.args.self.now.loose.items n)
-    (sym c.loose_start-loose.ensures) right)))
+    (sym c.loose_start-loose.ensures) (top_right c.args.self.now.segments.items c.args.self.now.events.items c.args.self.now.items.items
+    c.args.self.now.loose.items c.args.self.now.levels.items right))))
+
+pub returns-clause-loose : goal.returns-clause-loose
+returns-clause-loose c = λ w r.
+    let g = c.gather_loose.ensures in
+    c.in_ok-add_loose.ensures.loose
+    (kept_like c.args.self.now c.gather_loose.new.self g.rest g.like w)
+    (right_set c.args.self.now c.gather_loose.new.self c.loose_start-loose.result g.rest g.loose g.like g.lows g.feet c.loose_start-loose.ensures r)

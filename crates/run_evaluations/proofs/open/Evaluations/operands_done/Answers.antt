@@ -23,3 +23,6 @@ returns-clause-none c = λ w open_rule.
     of_operands c.args.map.now c.args.self.now c.args.node c.operands-at.result c.operands-at.ensures.least
     (single_none c.args.map.now c.args.self.now.segments.items c.args.self.now.events.items c.args.self.now.items.items c.operands-at.result
     (let n = c.len.ensures ∙ c.args.self.now.segments.ok.0 in omega (arith, n, c.saturating_add.ensures, c.if-saturating_add-len.false)))
+
+pub returns-then-saturating_add-len-clause-loose : goal.returns-then-saturating_add-len-clause-loose
+returns-then-saturating_add-len-clause-loose c = λ w r. c.several_done.ensures.loose w (c.operands-at.ensures.below w) r

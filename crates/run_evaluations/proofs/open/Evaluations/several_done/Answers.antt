@@ -1,10 +1,14 @@
 use Rattle.run_evaluations.specs.declared.search.Sought.TheVariants.{Any}
 use Rattle.run_evaluations.specs.Clashes.{NoneBetween}
+use Rattle.run_evaluations.specs.Kept.{AllBelow}
+use Rattle.run_evaluations.specs.declared.level.Level.{Level}
 use Rattle.run_evaluations.proofs.ClashLemmas.{ok_none}
 use Rattle.run_evaluations.proofs.KeptLemmas.{between_alike, sorted_alike}
-use Rattle.std.proofs.Common.{refl, sym, ◌∙◌, arith}
+use Rattle.std.proofs.Common.{refl, sym, ◌∙◌, arith, subst, List}
 use Rattle.run_evaluations.proofs.KeptLemmas.{same_self}
 use Rattle.run_evaluations.proofs.WholeLemmas.{kept_made_one, kept_feet, kept_several, kept_from, not_none, length_alike}
+use Rattle.run_evaluations.proofs.LooseWholeLemmas.{right_same}
+use Rattle.run_evaluations.proofs.KeptLemmas.{same_after}
 use Rattle.run_evaluations.proofs.open.Evaluations.several_done.Goals as goal
 
 pub returns-then-branch-clause-none : goal.returns-then-branch-clause-none
@@ -52,3 +56,25 @@ returns-clause-kept c = λ w below.
     (c.has_conflict.ensures.feet k) c.take_foot-foot.ensures.taken c.join-2.ensures.rest c.join-2.ensures.joined below
     (omega (arith, c.requires, c.args.self.now.segments.ok.0))
     (λ f h. c.in_ok-has_conflict.ensures.whole k c.if-branch.false f (sym c.take_foot-foot.ensures.given ∙ sym c.join-2.ensures.foot ∙ h)) w
+
+pub returns-then-not-is_unsequenced-clause-loose : goal.returns-then-not-is_unsequenced-clause-loose
+returns-then-not-is_unsequenced-clause-loose c = λ w below r. c.join.ensures.loose w.kept.sorted below r
+
+pub returns-in_err-has_conflict-clause-loose : goal.returns-in_err-has_conflict-clause-loose
+returns-in_err-has_conflict-clause-loose c = λ w below r. right_same c.args.self.now c.has_conflict.new.self c.has_conflict.ensures.same r
+
+pub returns-then-branch-clause-loose : goal.returns-then-branch-clause-loose
+returns-then-branch-clause-loose c = λ w below r. right_same c.args.self.now c.has_conflict.new.self c.has_conflict.ensures.same r
+
+pub returns-clause-loose : goal.returns-clause-loose
+returns-clause-loose c = λ w below r.
+    let a = c.args.self.now in
+    let t = c.take_foot-foot.new.self in
+    let same = same_after a c.has_conflict.new.self t c.has_conflict.ensures.same c.take_foot-foot.ensures.taken.same in
+    c.join-2.ensures.loose
+    (sorted_alike a.segments.items t.segments.items a.events.items t.events.items 0 same.alike same.events w.kept.sorted)
+    (subst (λ (ls : List Level). AllBelow ls c.args.at) (sym same.levels) below)
+    (right_same a t same r)
+
+pub returns-clause-none : goal.returns-clause-none
+returns-clause-none c = λ open_rule kept. c.in_ok-has_conflict.ensures.none kept c.if-branch.false

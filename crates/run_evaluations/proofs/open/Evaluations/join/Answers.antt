@@ -1,0 +1,14 @@
+use Rattle.std.proofs.Common.{ap, arith}
+use Rattle.run_evaluations.proofs.LooseWholeLemmas.{right_join, some_at}
+use Rattle.run_evaluations.proofs.open.Evaluations.join.Goals as goal
+
+pub returns-clause-loose : goal.returns-clause-loose
+returns-clause-loose c = λ sorted below r.
+    let k = c.keep_loose.ensures in
+    let l = c.left_loose_foot-loose_foot.ensures in
+    let p = c.put_joined.ensures in
+    right_join c.args.self.now c.keep_loose.new.self c.left_loose_foot-loose_foot.new.self c.put_joined.new.self c.args.at
+    c.left_loose_foot-loose_foot.result (omega (arith, c.requires, c.args.self.now.segments.ok.0)) (ap (λ v. v.items) k.segments) k.rest k.thins
+    l.rest l.loose l.like l.lows l.others p.rest p.loose p.count p.others p.begins p.low p.below
+    (λ f h. let s = some_at _ c.left_loose_foot-loose_foot.result f h l.has in (k.open s.0, s.1))
+    sorted below r
