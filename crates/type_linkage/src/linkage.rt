@@ -3,7 +3,8 @@
 use crate::library::{library_function, library_type};
 use c_typed::{Slot, Target};
 use c_types::{
-    FuncTy, LibFunc, Qual, Shared, Ty, compatible, composite, copied, copied_qual, same_type,
+    FuncTy, LibFunc, Qual, Shared, Ty, compatible, compatible_functions, composite, copied,
+    copied_qual, same_type,
 };
 use std::alloc::Global;
 use type_reasons::Reason;
@@ -54,10 +55,15 @@ fn function_type(alloc: Global, ty: FuncTy) -> Result<Ty, NoMemory> {
     Ok(Ty::Function(Shared::new(alloc, ty)?))
 }
 
+// A copy of the function type, as a type.
+fn function_copy(alloc: Global, ty: &FuncTy) -> Result<Ty, NoMemory> {
+    function_type(alloc, copied_function(alloc, ty)?)
+}
+
 // The type as that of an identifier.
 fn function_qual(alloc: Global, ty: &FuncTy) -> Result<Qual, NoMemory> {
     Ok(Qual {
-        ty: function_type(alloc, copied_function(alloc, ty)?)?,
+        ty: function_copy(alloc, ty)?,
         constant: false,
     })
 }
@@ -75,17 +81,28 @@ pub fn copied_function(alloc: Global, ty: &FuncTy) -> Result<FuncTy, NoMemory> {
     })
 }
 
-// The composite of two compatible function types; none where they aren't compatible.
-fn joined_functions(alloc: Global, old: &FuncTy, new: &FuncTy) -> Result<Option<FuncTy>, NoMemory> {
-    let old = function_type(alloc, copied_function(alloc, old)?)?;
-    let new = function_type(alloc, copied_function(alloc, new)?)?;
-    if !compatible(&old, &new) {
-        return Ok(None);
-    }
-    match composite(alloc, &old, &new)? {
+// The function type, where the type is one.
+fn own_function(alloc: Global, ty: &Ty) -> Result<Option<FuncTy>, NoMemory> {
+    match ty {
         Ty::Function(ty) => Ok(Some(copied_function(alloc, ty.get())?)),
         _ => Ok(None),
     }
+}
+
+// The composite of a function type with one that is compatible.
+fn with_function(alloc: Global, old: &Ty, new: &FuncTy) -> Result<Ty, NoMemory> {
+    let new = function_copy(alloc, new)?;
+    composite(alloc, old, &new)
+}
+
+// The composite of two compatible function types; none where they aren't compatible.
+fn joined_functions(alloc: Global, old: &FuncTy, new: &FuncTy) -> Result<Option<FuncTy>, NoMemory> {
+    if !compatible_functions(old, new) {
+        return Ok(None);
+    }
+    let old = function_copy(alloc, old)?;
+    let joined = with_function(alloc, &old, new)?;
+    own_function(alloc, &joined)
 }
 
 // What an earlier declaration that is visible says of the linkage.
@@ -208,26 +225,32 @@ fn may_redeclare(state: &State, symbol: u32) -> bool {
     !state.is_taken(symbol) || seen_as(state, symbol) == Visible::WithLinkage
 }
 
-fn new_object(state: &mut State, symbol: u32, qual: Qual, internal: bool) -> Result<u32, NoMemory> {
+fn note_object_type(state: &mut State, number: u32, qual: &Qual) -> Result<(), NoMemory> {
     let alloc = state.alloc;
-    let first = copied_qual(alloc, &qual)?;
-    let mut row = ObjectRow::new(alloc, qual, true, internal);
-    row.types.push(first)?;
+    match state.objects.get_mut(number as usize) {
+        Some(row) => note_type(alloc, &mut row.types, qual),
+        None => Ok(()),
+    }
+}
+
+fn new_object(
+    state: &mut State,
+    symbol: u32,
+    qual: &Qual,
+    internal: bool,
+) -> Result<u32, NoMemory> {
+    let alloc = state.alloc;
+    let row = ObjectRow::new(alloc, copied_qual(alloc, qual)?, true, internal);
     let number = state.add_object(row)?;
+    note_object_type(state, number, qual)?;
     link(state, symbol, Target::Static(number));
     Ok(number)
 }
 
-// A further declaration of the object, by which its identifier has the type `seen` in this scope; false where the
-// declared type isn't compatible with that of each other declaration (6.2.7p2).
-fn redeclare_object(
-    state: &mut State,
-    number: u32,
-    qual: &Qual,
-    seen: &Qual,
-) -> Result<bool, NoMemory> {
+// A further declaration of the object; false where the declared type isn't compatible with that of each other declaration
+// (6.2.7p2).
+fn redeclare_object(state: &mut State, number: u32, qual: &Qual) -> Result<bool, NoMemory> {
     let alloc = state.alloc;
-    let outermost = state.depth == 0;
     let Some(row) = state.objects.get_mut(number as usize) else {
         return Ok(false);
     };
@@ -235,22 +258,40 @@ fn redeclare_object(
         return Ok(false);
     }
     note_type(alloc, &mut row.types, qual)?;
-    if outermost {
-        row.qual = copied_qual(alloc, seen)?;
-    }
     Ok(true)
 }
 
-/// Declares an object with linkage; the answer is its number.
-pub fn declare_object(
+fn set_object_type(state: &mut State, number: u32, qual: Qual) {
+    if let Some(row) = state.objects.get_mut(number as usize) {
+        row.qual = qual;
+    }
+}
+
+// Gives the identifier the object, with the type that it has from here on in this scope; at file scope that is the object's
+// so far.
+fn bind_object(state: &mut State, symbol: u32, number: u32, qual: &Qual) -> Result<(), NoMemory> {
+    let alloc = state.alloc;
+    let seen = visible_object_type(state, alloc, symbol, qual)?;
+    if state.depth == 0 {
+        set_object_type(state, number, copied_qual(alloc, &seen)?);
+    }
+    let meaning = Meaning::Object {
+        slot: Slot::Static(number),
+        qual: seen,
+        register: false,
+    };
+    bind(state, symbol, meaning)
+}
+
+// The number of an object with linkage that is declared.
+fn object_number(
     state: &mut State,
     source: &Source<'_>,
     at: u32,
-    qual: Qual,
+    qual: &Qual,
     linkage: Linkage,
 ) -> Result<u32, TypeFault> {
     let symbol = source.symbol(at);
-    let alloc = state.alloc;
     let Ok(known) = known_object(state, symbol) else {
         return Err(source.fault(at, clash(state, symbol)));
     };
@@ -261,23 +302,28 @@ pub fn declare_object(
     if !may_redeclare(state, symbol) {
         return Err(source.fault(at, Reason::DeclaredTwice));
     }
-    let seen = visible_object_type(state, alloc, symbol, &qual)?;
     let number = match known {
         None => new_object(state, symbol, qual, internal)?,
         Some((number, _)) => {
-            if !redeclare_object(state, number, &qual, &seen)? {
+            if !redeclare_object(state, number, qual)? {
                 return Err(source.fault(at, clash(state, symbol)));
             }
             number
         }
     };
-    let meaning = Meaning::Object {
-        slot: Slot::Static(number),
-        qual: seen,
-        register: false,
-    };
-    bind(state, symbol, meaning)?;
+    bind_object(state, symbol, number, qual)?;
     Ok(number)
+}
+
+/// Declares an object with linkage; the answer is its number.
+pub fn declare_object(
+    state: &mut State,
+    source: &Source<'_>,
+    at: u32,
+    qual: Qual,
+    linkage: Linkage,
+) -> Result<u32, TypeFault> {
+    object_number(state, source, at, &qual, linkage)
 }
 
 /// Gives an object with linkage the type that its initializer completes.
@@ -366,49 +412,59 @@ fn library_of(
     let Some(library) = library_function(name) else {
         return Ok(None);
     };
+    let known = library_type(state.alloc, library)?;
+    if compatible_functions(&known, ty) {
+        Ok(Some(library))
+    } else {
+        Err(TypeRefused::Incompatible)
+    }
+}
+
+fn note_function_type(state: &mut State, number: u32, ty: &FuncTy) -> Result<(), NoMemory> {
     let alloc = state.alloc;
-    match joined_functions(alloc, &library_type(alloc, library)?, ty)? {
-        Some(_) => Ok(Some(library)),
-        None => Err(TypeRefused::Incompatible),
+    let qual = function_qual(alloc, ty)?;
+    match state.functions.get_mut(number as usize) {
+        Some(row) => note_type(alloc, &mut row.types, &qual),
+        None => Ok(()),
+    }
+}
+
+fn first_definition(library: Option<LibFunc>) -> Definition {
+    match library {
+        Some(library) => Definition::Library(library),
+        None => Definition::Nowhere,
+    }
+}
+
+// A function of this type, before its declarations' types are noted.
+fn first_row(alloc: Global, ty: FuncTy, internal: bool, library: Option<LibFunc>) -> FunctionRow {
+    FunctionRow {
+        ty,
+        types: Items::new(alloc),
+        internal,
+        definition: first_definition(library),
+        used: None,
     }
 }
 
 fn new_function(
     state: &mut State,
     symbol: u32,
-    ty: FuncTy,
+    ty: &FuncTy,
     internal: bool,
     library: Option<LibFunc>,
 ) -> Result<u32, NoMemory> {
+    let alloc = state.alloc;
     let number = u32::try_from(state.functions.len()).unwrap_or(u32::MAX);
-    let definition = match library {
-        Some(library) => Definition::Library(library),
-        None => Definition::Nowhere,
-    };
-    let mut types = Items::new(state.alloc);
-    types.push(function_qual(state.alloc, &ty)?)?;
-    state.functions.push(FunctionRow {
-        ty,
-        types,
-        internal,
-        definition,
-        used: None,
-    })?;
+    let row = first_row(alloc, copied_function(alloc, ty)?, internal, library);
+    state.functions.push(row)?;
+    note_function_type(state, number, ty)?;
     link(state, symbol, Target::Function(number));
     Ok(number)
 }
 
-// A further declaration of the function; false where its type isn't compatible with that of each other one (6.2.7p2).
-fn redeclare_function(state: &mut State, number: u32, ty: &FuncTy) -> Result<bool, NoMemory> {
-    let alloc = state.alloc;
-    let qual = function_qual(alloc, ty)?;
-    let Some(row) = state.functions.get_mut(number as usize) else {
-        return Ok(false);
-    };
-    if !suits_all(&qual, row.types.as_slice()) {
-        return Ok(false);
-    }
-    note_type(alloc, &mut row.types, &qual)?;
+// Gives the function the composite of its type and a compatible one; false where it isn't compatible.
+fn join_function(alloc: Global, row: &mut FunctionRow, ty: &FuncTy) -> Result<bool, NoMemory> {
     match joined_functions(alloc, &row.ty, ty)? {
         None => Ok(false),
         Some(joined) => {
@@ -418,16 +474,44 @@ fn redeclare_function(state: &mut State, number: u32, ty: &FuncTy) -> Result<boo
     }
 }
 
-/// Declares a function; the answer is its number.
-pub fn declare_function(
+// A further declaration of the function; false where its type isn't compatible with that of each other one (6.2.7p2).
+fn redeclare_function(state: &mut State, number: u32, ty: &FuncTy) -> Result<bool, NoMemory> {
+    let alloc = state.alloc;
+    if !suits_function(state, number, ty)? {
+        return Ok(false);
+    }
+    note_function_type(state, number, ty)?;
+    match state.functions.get_mut(number as usize) {
+        Some(row) => join_function(alloc, row, ty),
+        None => Ok(false),
+    }
+}
+
+// Whether the type is compatible with that of each declaration of the function so far.
+fn suits_function(state: &State, number: u32, ty: &FuncTy) -> Result<bool, NoMemory> {
+    let qual = function_qual(state.alloc, ty)?;
+    match state.functions.get(number as usize) {
+        Some(row) => Ok(suits_all(&qual, row.types.as_slice())),
+        None => Ok(false),
+    }
+}
+
+// Gives the identifier the function, with the type that it has from here on in this scope (6.2.7p4).
+fn bind_function(state: &mut State, symbol: u32, number: u32, ty: &FuncTy) -> Result<(), NoMemory> {
+    let alloc = state.alloc;
+    let ty = function_type(alloc, visible_function_type(state, alloc, symbol, ty)?)?;
+    bind(state, symbol, Meaning::Function { number, ty })
+}
+
+// The number of a function that is declared.
+fn function_number(
     state: &mut State,
     source: &Source<'_>,
     at: u32,
-    ty: FuncTy,
+    ty: &FuncTy,
     linkage: Linkage,
 ) -> Result<u32, TypeFault> {
     let symbol = source.symbol(at);
-    let alloc = state.alloc;
     let Ok(known) = known_function(state, symbol) else {
         return Err(source.fault(at, clash(state, symbol)));
     };
@@ -438,24 +522,33 @@ pub fn declare_function(
     if !may_redeclare(state, symbol) {
         return Err(source.fault(at, Reason::DeclaredTwice));
     }
-    let library = match library_of(state, source.spelling(at), internal, &ty) {
+    let library = match library_of(state, source.spelling(at), internal, ty) {
         Ok(library) => library,
         Err(TypeRefused::Incompatible) => return Err(source.fault(at, Reason::LibraryName)),
         Err(TypeRefused::NoMemory) => return Err(TypeFault::NoMemory),
     };
-    let seen = visible_function_type(state, alloc, symbol, &ty)?;
     let number = match known {
         None => new_function(state, symbol, ty, internal, library)?,
         Some((number, _)) => {
-            if !redeclare_function(state, number, &ty)? {
+            if !redeclare_function(state, number, ty)? {
                 return Err(source.fault(at, clash(state, symbol)));
             }
             number
         }
     };
-    let ty = function_type(alloc, seen)?;
-    bind(state, symbol, Meaning::Function { number, ty })?;
+    bind_function(state, symbol, number, ty)?;
     Ok(number)
+}
+
+/// Declares a function; the answer is its number.
+pub fn declare_function(
+    state: &mut State,
+    source: &Source<'_>,
+    at: u32,
+    ty: FuncTy,
+    linkage: Linkage,
+) -> Result<u32, TypeFault> {
+    function_number(state, source, at, &ty, linkage)
 }
 
 // Why a declaration isn't that of a library function.
