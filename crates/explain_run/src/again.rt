@@ -63,9 +63,17 @@ fn make<T: Task>(
     do_task(alloc, started(alloc, core, &code, course), task)
 }
 
+// Takes the canonical pick. Whether the run goes on behind it.
+fn goes_on(machine: &mut Machine, frames: &mut Frames) -> Result<bool, NoMemory> {
+    Ok(match step(machine, frames)? {
+        Some(pick) => pick.status().is_none(),
+        None => false,
+    })
+}
+
 fn follow(machine: &mut Machine, frames: &mut Frames, picks: u64) -> Result<(), NoMemory> {
     for _ in 0..picks {
-        if step(machine, frames)?.is_none() {
+        if !goes_on(machine, frames)? {
             return Ok(());
         }
     }
@@ -77,7 +85,7 @@ const NEAR: u64 = 16;
 // Goes on to where a full expression is open, where one is within a few picks.
 fn follow_to_open(machine: &mut Machine, frames: &mut Frames) -> Result<(), NoMemory> {
     for _ in 0..NEAR {
-        if machine.top.stage.is_some() || step(machine, frames)?.is_none() {
+        if machine.top.stage.is_some() || !goes_on(machine, frames)? {
             return Ok(());
         }
     }
