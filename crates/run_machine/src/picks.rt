@@ -37,9 +37,10 @@ impl<'p, 'c> Machine<'p, 'c> {
         ensures unchanged { IfOk result (λ pick. IfNone pick (self.new ≡ record self.old { items = [] })) }
     {
         self.items.clear();
-        match self.permitted(place)? {
-            Some(due) => Ok(Some(self.event(due)?)),
-            None => Ok(None),
+        match self.permitted(place) {
+            Ok(Some(due)) => Ok(Some(self.event(due)?)),
+            Ok(None) => Ok(None),
+            Err(NoMemory) => Err(Halt::NoMemory),
         }
     }
 
@@ -123,7 +124,11 @@ impl<'p, 'c> Machine<'p, 'c> {
         let code = self.code;
         let first = self.expression(stage)?.first;
         let begun = self.opened()?;
-        passed(self.alloc, part(&code.listing, first, stage.cursor), &begun.taken)
+        passed(
+            self.alloc,
+            part(&code.listing, first, stage.cursor),
+            &begun.taken,
+        )
     }
 
     pub fn expression(&self, stage: Stage) -> Result<&'c Expression<'p>, NoMemory>
@@ -210,7 +215,12 @@ impl<'p, 'c> Machine<'p, 'c> {
 }
 
 // What is done in the full expression at this height.
-fn keep_done(alloc: Global, strayed: &mut Vec<Done>, height: usize, done: Done) -> Result<(), NoMemory>
+fn keep_done(
+    alloc: Global,
+    strayed: &mut Vec<Done>,
+    height: usize,
+    done: Done,
+) -> Result<(), NoMemory>
     ensures { OnOk result (slice_get strayed.new.items height ≡ Some done) }
 {
     for _ in strayed.len()..height.saturating_add(1) {
