@@ -1,28 +1,50 @@
 -- A walk along entries: what is left of them lists what all of them do.
-use Rattle.std.proofs.Common.{arith, ◌≡◌, ◌+◌, ℕ, suc, Bool, true, false, ◌||◌, List, [], ◌∷◌, length}
+use Rattle.std.proofs.Common.{arith, ◌≡◌, ◌+◌, min, ℕ, zero, suc, Bool, true, false, ◌||◌, if◌then◌else◌, List, [], ◌∷◌, length}
 use Rattle.std.proofs.Common.{drop, Some, slice_get, refl, sym, ap, subst, ◌∙◌}
-use Rattle.std.proofs.lemmas.List.{take_rest}
+use Rattle.std.proofs.lemmas.List.{take_rest, drop_min, drop-map, drop-drop}
 use Rattle.c_typed.specs.declared.tree.Place.{Place}
-use Rattle.c_typed.specs.Order.{Taken, same_place, has}
+use Rattle.c_typed.specs.Order.{Taken, same_place, has, is_number}
 use Rattle.c_model.proofs.Listed.{same_place_eq, same_place_itself}
 use Rattle.run_code.specs.declared.steps.Due.{Due}
 use Rattle.run_code.specs.declared.steps.Listed.{Listed}
 use Rattle.run_code.specs.declared.steps.Listed.TheVariants as listed
-use Rattle.run_code.specs.Listings.{entries_of, passed}
+use Rattle.run_code.specs.Listings.{Entry, entry_of, entries_of, passed}
 use Rattle.run_listing.specs.Along.{part_of, events_of}
 use Rattle.run_listing.proofs.Lists.{opened}
 
--- from an entry on, so many of which are passed over, it lists what all do
-abbrev pub Left : Taken → List Listed → (at skip : ℕ) → Type 0
-Left taken entries at skip = passed taken skip (entries_of (drop at entries)) ≡ events_of taken entries
+-- from an entry on it lists what all do
+abbrev pub Left : Taken → List Listed → (at : ℕ) → Type 0
+Left taken entries at = events_of taken (drop at entries) ≡ events_of taken entries
 
-pub event_at : (taken : Taken) (entries : List Listed) (at skip : ℕ) (due : Due) → skip ≡ 0
-    → slice_get entries at ≡ Some (listed.Event due) → Left taken entries at skip
+pub event_at : (taken : Taken) (entries : List Listed) (at : ℕ) (due : Due) → slice_get entries at ≡ Some (listed.Event due) → Left taken entries at
     → events_of taken entries ≡ due.place ∷ events_of taken (drop (suc at) entries)
-event_at taken entries at skip due none h left =
-    sym left
-    ∙ ap (λ n. passed taken n (entries_of (drop at entries))) none
-    ∙ ap (λ es. passed taken 0 (entries_of es)) (opened entries at (listed.Event due) h)
+event_at taken entries at due h left = sym left ∙ ap (events_of taken) (opened entries at (listed.Event due) h)
+
+-- entries that are passed over
+passed_over : (taken : Taken) (n : ℕ) (es : List Entry) → passed taken n es ≡ passed taken 0 (drop n es)
+passed_over taken zero es = refl
+passed_over taken (suc n) [] = refl
+passed_over taken (suc n) (e ∷ es) = passed_over taken n es
+
+-- behind the entry of an operand, and so many more
+behind : (taken : Taken) (entries : List Listed) (at node index count skip : ℕ) → slice_get entries at ≡ Some (listed.Operand node index count)
+    → skip ≡ (if is_number (taken node) index then 0 else count) → events_of taken (drop at entries) ≡ events_of taken (drop (suc at + skip) entries)
+behind taken entries at node index count skip h e =
+    ap (events_of taken) (opened entries at (listed.Operand node index count) h)
+    ∙ ap (λ n. passed taken n (entries_of (drop (suc at) entries))) (sym e)
+    ∙ passed_over taken skip (entries_of (drop (suc at) entries))
+    ∙ ap (passed taken 0) (drop-map entry_of skip (drop (suc at) entries) ∙ ap entries_of (drop-drop skip (suc at) entries))
+
+pub operand_at : (taken : Taken) (entries : List Listed) (at node index count skip next : ℕ)
+    → slice_get entries at ≡ Some (listed.Operand node index count) → skip ≡ (if is_number (taken node) index then 0 else count)
+    → next ≡ min (at + 1 + skip) (length entries) → Left taken entries at → Left taken entries next
+operand_at taken entries at node index count skip next h e n left =
+    ap (events_of taken) (ap (λ m. drop m entries) n ∙ drop_min (at + 1 + skip) entries ∙ ap (λ m. drop m entries) (more at skip))
+    ∙ sym (behind taken entries at node index count skip h e)
+    ∙ left
+  where
+    more : (at skip : ℕ) → at + 1 + skip ≡ suc at + skip
+    more at skip = omega (arith)
 
 both : (x y : Bool) → (x ≡ true → y ≡ true) → (y ≡ true → x ≡ true) → x ≡ y
 both true true f g = refl

@@ -1,5 +1,5 @@
 // What a listing has from one place on.
-ghost use Rattle.std.specs.Prelude.{◌≡◌, ◌+◌, ◌<◌, length, IfOk, IfSome, if◌then◌else◌};
+ghost use Rattle.std.specs.Prelude.{◌≡◌, ◌+◌, ◌<◌, min, length, IfOk, IfSome, if◌then◌else◌};
 ghost use Rattle.c_typed.specs.declared.tree.Place.{Place as PlaceOf};
 ghost use Rattle.c_typed.specs.Order.{has, is_number};
 ghost use Rattle.seq_order.specs.Marked.{taken_in, done_in};
@@ -35,29 +35,30 @@ fn skipped(taken: &Taken, node: u32, operand: u32, count: usize) -> usize
 }
 
 /// The first event of these entries by the operands that are chosen, and how many entries stand before it. It costs a look at
-/// each of them.
+/// each operand before it: what isn't chosen is passed over at once.
 pub fn next<'c, 'p>(entries: &'c [Listed<'p>], taken: &Taken) -> Option<(usize, &'c Due<'p>)>
     ensures { Next (taken_in taken.now) entries.now result }
 {
-    let mut skip: usize = 0;
-    for at in 0..entries.len() {
-        let Some(entry) = entries.get(at) else {
-            return None;
-        };
-        if skip > 0 {
-            skip -= 1;
-        } else {
-            match entry {
-                Listed::Event(due) => return Some((at, due)),
-                Listed::Operand {
-                    node,
-                    operand,
-                    count,
-                } => skip = skipped(taken, *node, *operand, *count),
-            }
+    let mut at: usize = 0;
+    while let Some(entry) = entries.get(at) {
+        match entry {
+            Listed::Event(due) => return Some((at, due)),
+            Listed::Operand {
+                node,
+                operand,
+                count,
+            } => at = behind_operand(entries, at, skipped(taken, *node, *operand, *count)),
         }
     }
     None
+}
+
+// Where the entries go on behind that of an operand and so many more.
+fn behind_operand(entries: &[Listed], at: usize, skip: usize) -> usize
+    requires within { at < length entries.now }
+    ensures { result ≡ min (at + 1 + skip) (length entries.now) }
+{
+    (at + 1).saturating_add(skip).min(entries.len())
 }
 
 /// All events of these entries by the operands that are chosen.
