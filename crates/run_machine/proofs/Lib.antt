@@ -1,0 +1,4 @@
+mod Each
+mod Vias
+mod Beginning
+mod Steering

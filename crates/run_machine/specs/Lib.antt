@@ -1,1 +1,5 @@
 pub mod Depth
+pub mod Meaning
+pub mod Stands
+pub mod Begins
+pub mod Moving
