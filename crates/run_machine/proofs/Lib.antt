@@ -1,1 +1,5 @@
 mod Picked
+mod Each
+mod Vias
+mod Beginning
+mod Steering

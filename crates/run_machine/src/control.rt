@@ -1,4 +1,11 @@
 // The control steps (6.8).
+ghost use Rattle.std.specs.Prelude.{◌≡◌, ◌∷◌, ℤ, Bool, Option, None, OnOk};
+ghost use Rattle.run_control.specs.Moves.{moved};
+ghost use Rattle.c_model.specs.Control.{Break_here, moved_in};
+ghost use Rattle.run_control.specs.declared.links.Place.{Place};
+ghost use Rattle.run_control.specs.Links.{work_at};
+ghost use Rattle.run_control.specs.View.{Meaning, after, todo_of};
+ghost use Rattle.run_machine.specs.Moving.{GoesOn, IsGone, StepLeaves, TakesStep};
 
 use crate::halt::Halt;
 use crate::machine::{Local, Machine, Stage};
@@ -16,7 +23,9 @@ pub const MOST_CREATED: u64 = 1 << 26;
 
 impl<'p, 'c> Machine<'p, 'c> {
     // The control step of the top frame, in whose full expression no event is left.
-    pub fn control(&mut self) -> Result<Pick, Halt> {
+    pub fn control(&mut self) -> Result<Pick, Halt>
+        ensures step { OnOk result (self.old.top.stage ≡ None → (m : Meaning) → TakesStep m self.old.jumps.links.items self.old.work self.new.work) }
+    {
         match self.top.stage {
             Some(stage) => self.settle(stage),
             None => match self.work.next()? {
@@ -26,7 +35,9 @@ impl<'p, 'c> Machine<'p, 'c> {
         }
     }
 
-    fn step(&mut self, step: Step<'c>) -> Result<Pick, Halt> {
+    fn step(&mut self, step: Step<'c>) -> Result<Pick, Halt>
+        ensures { OnOk result ((m : Meaning) → StepLeaves m self.old.jumps.links.items step.entry self.old.work self.new.work) }
+    {
         match step {
             Step::Begin(number, how) => self.begin(number, how),
             Step::Enter(block) => self.enter(block.number),
@@ -44,7 +55,9 @@ impl<'p, 'c> Machine<'p, 'c> {
     }
 
     // The frame ends with this step where nothing is left to do in it.
-    fn go_on(&mut self) -> Result<Pick, Halt> {
+    fn go_on(&mut self) -> Result<Pick, Halt>
+        ensures { OnOk result ((m : Meaning) → GoesOn m self.old.work self.new.work) }
+    {
         if self.work.is_over()? {
             self.end_frame()
         } else {
@@ -52,12 +65,17 @@ impl<'p, 'c> Machine<'p, 'c> {
         }
     }
 
-    fn go(&mut self, how: Move) -> Result<Pick, Halt> {
+    fn go(&mut self, how: Move) -> Result<Pick, Halt>
+        ensures below { OnOk result (self.new.work.below ≡ self.old.work.below) }
+        ensures now { OnOk result ((m : Meaning) → todo_of m self.new.work.now ≡ moved how (todo_of m self.old.work.now)) }
+    {
         self.work.go(how)?;
         Ok(Pick::Step(None))
     }
 
-    fn go_to(&mut self, label: u32) -> Result<Pick, Halt> {
+    fn go_to(&mut self, label: u32) -> Result<Pick, Halt>
+        ensures { OnOk result ((m : Meaning) → IsGone m self.old.jumps.links.items self.old.work self.new.work) }
+    {
         let Some(function) = self.top.function else {
             return Err(Halt::NoMemory);
         };
@@ -76,7 +94,9 @@ impl<'p, 'c> Machine<'p, 'c> {
     }
 
     // A block is entered: its objects are created in order, and the first take the arguments.
-    fn enter(&mut self, number: u32) -> Result<Pick, Halt> {
+    fn enter(&mut self, number: u32) -> Result<Pick, Halt>
+        ensures { self.new.work ≡ self.old.work }
+    {
         self.entered = number;
         self.top.turn = self.top.turn.saturating_add(1);
         let block = self.block(number)?;
@@ -94,7 +114,9 @@ impl<'p, 'c> Machine<'p, 'c> {
     }
 
     // The object of this number in the block.
-    fn create(&mut self, objects: Range, first: u32, number: u32) -> Result<(), Halt> {
+    fn create(&mut self, objects: Range, first: u32, number: u32) -> Result<(), Halt>
+        ensures { self.new.work ≡ self.old.work }
+    {
         let code = self.code;
         let at = objects.first.saturating_add(number);
         let Some(object) = code.objects.get(at as usize) else {
@@ -123,7 +145,9 @@ impl<'p, 'c> Machine<'p, 'c> {
         Ok(())
     }
 
-    fn place_local(&mut self, object: u32, local: Local) -> Result<(), NoMemory> {
+    fn place_local(&mut self, object: u32, local: Local) -> Result<(), NoMemory>
+        ensures { self.new ≡ record self.old { locals = self.new.locals } }
+    {
         let at = self.top.locals.saturating_add(object as usize);
         match self.locals.get_mut(at) {
             Some(place) => {
@@ -136,7 +160,9 @@ impl<'p, 'c> Machine<'p, 'c> {
 
     // A parameter takes its argument. The store is an initialization of a new object by a value of its type, which raises
     // nothing.
-    fn store_argument(&mut self, objects: Range, first: u32, number: u32) -> Result<(), NoMemory> {
+    fn store_argument(&mut self, objects: Range, first: u32, number: u32) -> Result<(), NoMemory>
+        ensures { self.new.work ≡ self.old.work }
+    {
         let code = self.code;
         let at = objects.first.saturating_add(number);
         let Some(object) = code.objects.get(at as usize) else {
@@ -149,7 +175,9 @@ impl<'p, 'c> Machine<'p, 'c> {
     }
 
     // A block is left: the lives of its objects end.
-    fn leave(&mut self, number: u32) -> Result<(), NoMemory> {
+    fn leave(&mut self, number: u32) -> Result<(), NoMemory>
+        ensures { self.new.work ≡ self.old.work }
+    {
         let block = self.block(number)?;
         for object in 0..block.objects.count {
             let name = self.local_name(block.first.saturating_add(object))?;
@@ -168,7 +196,9 @@ impl<'p, 'c> Machine<'p, 'c> {
     }
 
     // The bytes of an object of the innermost block become unwritten.
-    fn declare(&mut self, object: u32) -> Result<Pick, Halt> {
+    fn declare(&mut self, object: u32) -> Result<Pick, Halt>
+        ensures { self.new.work ≡ self.old.work }
+    {
         let Some(block) = self.work.block() else {
             return Err(Halt::NoMemory);
         };
@@ -179,7 +209,9 @@ impl<'p, 'c> Machine<'p, 'c> {
     }
 
     // A full expression begins, whose value has this use.
-    fn begin(&mut self, number: u32, how: Use<'c>) -> Result<Pick, Halt> {
+    fn begin(&mut self, number: u32, how: Use<'c>) -> Result<Pick, Halt>
+        ensures { self.new.work ≡ self.old.work }
+    {
         let code = self.code;
         self.top.how = how;
         self.top.turn = self.top.turn.saturating_add(1);
@@ -201,11 +233,14 @@ impl<'p, 'c> Machine<'p, 'c> {
     }
 
     // It takes the place of the one that was settled before it at this height.
-    fn show_begun(&mut self, number: u32, root: &'p c_typed::Typed) -> Result<(), NoMemory> {
+    fn show_begun(&mut self, number: u32, root: &'p c_typed::Typed) -> Result<(), NoMemory>
+        ensures { self.new.work ≡ self.old.work }
+    {
         let frame = self.top.frame;
         let turn = self.top.turn;
         let alloc = self.alloc;
-        if let Some(begun) = self.newest() {
+        let height = self.below.len();
+        if let Some(begun) = self.begun.get_mut(height) {
             begun.frame = frame;
             begun.turn = turn;
             begun.tree = number;
@@ -224,11 +259,14 @@ impl<'p, 'c> Machine<'p, 'c> {
     }
 
     // The choices whose tests are quiet.
-    pub fn choose_at_once(&mut self, chosen: Range) -> Result<(), NoMemory> {
+    pub fn choose_at_once(&mut self, chosen: Range) -> Result<(), NoMemory>
+        ensures { self.new.work ≡ self.old.work }
+    {
         let code = self.code;
+        let height = self.below.len();
         for number in 0..chosen.count {
             let at = chosen.first.saturating_add(number);
-            match (code.chosen.get(at as usize), self.newest()) {
+            match (code.chosen.get(at as usize), self.begun.get_mut(height)) {
                 (Some((node, operand)), Some(begun)) => begun.taken.set(*node, *operand)?,
                 _ => return Err(NoMemory),
             }
@@ -247,7 +285,11 @@ impl<'p, 'c> Machine<'p, 'c> {
         self.go_on()
     }
 
-    fn use_value(&mut self, how: Use<'c>, operand: Operand) -> Result<(), NoMemory> {
+    fn use_value(&mut self, how: Use<'c>, operand: Operand) -> Result<(), NoMemory>
+        ensures below { OnOk result (self.new.work.below ≡ self.old.work.below) }
+        ensures now { OnOk result ((truth : Bool) × ((m : Meaning) (z : ℤ) → todo_of m self.new.work.now ≡ after m truth z how.entry (todo_of m
+            self.old.work.now))) }
+    {
         if let Use::Result = how {
             self.left = Some(self.value(operand)?);
         }
@@ -256,7 +298,11 @@ impl<'p, 'c> Machine<'p, 'c> {
     }
 
     // The case that the value of a `switch` statement's test names comes next.
-    fn select(&mut self, switch: u32, operand: Operand) -> Result<(), NoMemory> {
+    fn select(&mut self, switch: u32, operand: Operand) -> Result<(), NoMemory>
+        ensures below { OnOk result (self.new.work.below ≡ self.old.work.below) }
+        ensures now { OnOk result ((target : Option Place) × ((m : Meaning) → todo_of m self.new.work.now ≡ moved_in (work_at m
+            self.old.jumps.links.items target) (Break_here ∷ todo_of m self.old.work.now))) }
+    {
         let value = self.integer(operand);
         let target = self.jumps.case(switch, value)?;
         self.work.select(&self.jumps.links, target)

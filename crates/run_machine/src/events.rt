@@ -1,4 +1,5 @@
 // The events of a full expression.
+ghost use Rattle.std.specs.Prelude.{◌≡◌};
 
 use crate::halt::{Fault, Halt};
 use crate::machine::Machine;
@@ -63,7 +64,9 @@ impl<'p, 'c> Machine<'p, 'c> {
     }
 
     // An event of the top frame's full expression is done. On the canonical way the cursor says so.
-    pub fn note(&mut self, place: Place) -> Result<(), NoMemory> {
+    pub fn note(&mut self, place: Place) -> Result<(), NoMemory>
+        ensures { self.new.work ≡ self.old.work }
+    {
         let Some(stage) = self.top.stage else {
             return Err(NoMemory);
         };
@@ -317,7 +320,9 @@ impl<'p, 'c> Machine<'p, 'c> {
         number: u32,
         place: Pointer,
         value: &Value,
-    ) -> Result<Result<(), Clause>, NoMemory> {
+    ) -> Result<Result<(), Clause>, NoMemory>
+        ensures { self.new.work ≡ self.old.work }
+    {
         let (target, via) = self.target(number)?;
         let (access, initializing) = (target.access, target.initializing);
         let t = &mut self.spare;

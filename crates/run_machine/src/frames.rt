@@ -1,5 +1,6 @@
 // Frames that start and end, and the bodies of calls.
-ghost use Rattle.std.specs.Prelude.{◌≡◌, [], IfOk};
+ghost use Rattle.std.specs.Prelude.{◌≡◌, [], true, IfOk, OnOk};
+ghost use Rattle.run_control.specs.Stacked.{Closes};
 ghost use Rattle.run_machine.specs.Depth.{StartsWithin};
 
 use crate::events::Outcome;
@@ -195,6 +196,7 @@ impl<'p, 'c> Machine<'p, 'c> {
     // The end of the first frame is that of the run.
     pub fn end_frame(&mut self) -> Result<Pick, Halt>
         requires over { self.old.work.now ≡ [] }
+        ensures work { OnOk result (Closes self.old.work.below true self.new.work) }
     {
         if !self.work.finish() {
             return Err(Halt::NoMemory);
@@ -214,7 +216,9 @@ impl<'p, 'c> Machine<'p, 'c> {
     }
 
     // What the top frame leaves.
-    fn result(&mut self) -> Value {
+    fn result(&mut self) -> Value
+        ensures { self.new.work ≡ self.old.work }
+    {
         let otherwise = match self.top.function {
             Some(function) => {
                 self.depth = self.depth.saturating_sub(1);

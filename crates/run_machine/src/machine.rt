@@ -172,19 +172,25 @@ impl<'p, 'c> Machine<'p, 'c> {
     }
 
     // Gives a room of the open full expression its value.
-    pub fn keep(&mut self, room: u32, value: Value) {
+    pub fn keep(&mut self, room: u32, value: Value)
+        ensures { self.new ≡ record self.old { values = self.new.values } }
+    {
         let at = self.top.base.saturating_add(room as usize);
         self.put(at, value);
     }
 
-    pub fn put(&mut self, at: usize, value: Value) {
+    pub fn put(&mut self, at: usize, value: Value)
+        ensures { self.new ≡ record self.old { values = self.new.values } }
+    {
         if let Some(place) = self.values.get_mut(at) {
             *place = value;
         }
     }
 
     // Takes the value out of a room.
-    pub fn take(&mut self, room: u32) -> Value {
+    pub fn take(&mut self, room: u32) -> Value
+        ensures { self.new ≡ record self.old { values = self.new.values } }
+    {
         let at = self.top.base.saturating_add(room as usize);
         match self.values.get_mut(at) {
             Some(place) => std::mem::replace(place, Value::Nothing),
@@ -193,14 +199,18 @@ impl<'p, 'c> Machine<'p, 'c> {
     }
 
     // Makes room for so many values.
-    pub fn grow(&mut self, size: usize) -> Result<(), NoMemory> {
+    pub fn grow(&mut self, size: usize) -> Result<(), NoMemory>
+        ensures { self.new ≡ record self.old { values = self.new.values } }
+    {
         for _ in self.values.len()..size {
             self.values.push(Value::Nothing)?;
         }
         Ok(())
     }
 
-    pub fn grow_locals(&mut self, size: usize) -> Result<(), NoMemory> {
+    pub fn grow_locals(&mut self, size: usize) -> Result<(), NoMemory>
+        ensures { self.new ≡ record self.old { locals = self.new.locals } }
+    {
         for _ in self.locals.len()..size {
             self.locals.push(Local {
                 addr: 0,
