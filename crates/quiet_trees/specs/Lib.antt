@@ -1,0 +1,4 @@
+pub mod Acts
+pub mod Quiet
+pub mod Summaries
+pub mod Items

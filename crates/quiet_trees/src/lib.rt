@@ -1,0 +1,9 @@
+//! Full expressions in which no two evaluations can conflict that no rule sequences.
+#![tactic(auto)]
+
+mod laws;
+mod quiet;
+mod summary;
+
+pub use laws::law_quiet_items;
+pub use quiet::is_quiet;
