@@ -5,6 +5,8 @@ mod items;
 mod laws;
 mod quiet;
 mod summary;
+#[cfg(test)]
+mod tests;
 
 pub use items::some_noted;
 pub use laws::law_quiet_items;

@@ -1,0 +1,3 @@
+mod Suiting
+mod ActsSuit
+pub mod Events
