@@ -2,3 +2,4 @@ pub mod Acts
 pub mod Quiet
 pub mod Summaries
 pub mod Items
+pub mod Examples

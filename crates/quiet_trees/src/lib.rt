@@ -5,9 +5,7 @@ mod items;
 mod laws;
 mod quiet;
 mod summary;
-#[cfg(test)]
-mod tests;
 
 pub use items::some_noted;
-pub use laws::law_quiet_items;
+pub use laws::{law_quiet_examples, law_quiet_items};
 pub use quiet::is_quiet;
