@@ -1,6 +1,7 @@
 // What is known of a full expression once it has begun.
 ghost use Rattle.std.specs.Prelude.{◌≡◌, true, false, IfOk};
 ghost use Rattle.c_typed.specs.Tree.{tree_of};
+ghost use Rattle.quiet_trees.specs.Loads.{loads_of};
 ghost use Rattle.quiet_trees.specs.Quiet.{IsQuiet};
 
 use c_typed::Typed;
@@ -29,7 +30,7 @@ impl Examined {
 
     /// Of this tree.
     pub fn of(alloc: Global, root: &Typed) -> Result<Self, NoMemory>
-        ensures { IfOk result (λ e. e.quiet ≡ true → IsQuiet (tree_of root.now)) }
+        ensures { IfOk result (λ e. e.quiet ≡ true → IsQuiet (tree_of root.now) (loads_of root.now)) }
     {
         Ok(Examined {
             rules: Rules::of(alloc, root)?,

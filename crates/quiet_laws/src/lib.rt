@@ -1,6 +1,7 @@
 //! What the events of quiet expressions touch, by the definitions of runs.
 #![tactic(auto)]
 
+ghost use Rattle.quiet_laws.specs.Programs.{LoadsAreKept, QuietIsKept};
 ghost use Rattle.quiet_laws.specs.QuietEvents.{EventsSuit, QuietEvents};
 
 use quiet_trees::law_quiet_items;
@@ -13,3 +14,9 @@ pub fn law_quiet_events()
 {
     law_quiet_items();
 }
+
+/// A full expression of a typed program is quiet as the model sees it, where its tree is, as `is_quiet` of quiet_trees tells.
+pub fn law_quiet_programs()
+    ensures loads { LoadsAreKept }
+    ensures quiet { QuietIsKept }
+{}

@@ -9,6 +9,7 @@ use Rattle.c_typed.specs.declared.class.Class.TheVariants.{Object, Constant, Pla
 use Rattle.c_typed.specs.Tree.{Tree, Trees, none, more, kinds_of, is_quiet_class}
 use Rattle.c_typed.specs.Order.{goes, across, is_number, is_val, own_rule}
 use Rattle.c_typed.specs.Decide.{has_kind, lifts}
+use Rattle.quiet_trees.specs.Loads.{LoadsList, first, rest}
 use Rattle.quiet_trees.specs.Acts.{Act, Nothing, Reads, Writes, All, act_by, may_clash}
 use Rattle.quiet_trees.specs.declared.summary.Summary.{Summary}
 use Rattle.quiet_trees.specs.Summaries.{meet, is_open, own_clash, loose_by, joined, topped, summary_of, summaries_of}
@@ -65,41 +66,44 @@ cover_right Writes class s t h =
     and_both _ _ (or_right s.some t.some (and_left t.some _ h)) (two_right s.touches s.writes t.touches t.writes (and_right t.some _ h))
 cover_right All class s t h = two_right s.some s.body t.some t.body h
 
-pub top_covers : (a : Act) (class : Class) (s : Summary) → covers a s ≡ true → covers a (topped class s) ≡ true
-top_covers Nothing class s h = or_here _ _ h
-top_covers Reads class s h = two_left s.some s.touches _ _ h
-top_covers Writes class s h = and_both _ _ (or_here s.some _ (and_left s.some _ h)) (two_left s.touches s.writes _ _ (and_right s.some _ h))
-top_covers All class s h = two_left s.some s.body _ _ h
+pub top_covers : (a : Act) (class : Class) (l : Bool) (s : Summary) → covers a s ≡ true → covers a (topped class l s) ≡ true
+top_covers Nothing class l s h = or_here _ _ h
+top_covers Reads class l s h = two_left s.some s.touches _ _ h
+top_covers Writes class l s h = and_both _ _ (or_here s.some _ (and_left s.some _ h)) (two_left s.touches s.writes _ _ (and_right s.some _ h))
+top_covers All class l s h = two_left s.some s.body _ _ h
 
-pub own_covers : (class : Class) (kind : Kind) (s : Summary) → has_kind (kinds_of class) kind ≡ true → covers (act_by class kind) (topped class s) ≡ true
-own_covers Plain Val s h = and_both _ _ (or_right s.some true refl) (or_right s.touches true refl)
-own_covers Store Val s h = or_right s.some true refl
-own_covers Store Eff s h = and_both _ _ (or_right s.some true refl) (and_both _ _ (or_right s.touches true refl) (or_right s.writes true refl))
-own_covers Update Val s h = and_both _ _ (or_right s.some true refl) (or_right s.touches true refl)
-own_covers Update Eff s h = and_both _ _ (or_right s.some true refl) (and_both _ _ (or_right s.touches true refl) (or_right s.writes true refl))
-own_covers Choice Val s h = or_right s.some true refl
-own_covers Comma Val s h = or_right s.some true refl
-own_covers Call Val s h = or_right s.some true refl
-own_covers Call Body s h = and_both _ _ (or_right s.some true refl) (or_right s.body true refl)
-own_covers Isolated Val s h = or_right s.some true refl
-own_covers Isolated Body s h = and_both _ _ (or_right s.some true refl) (or_right s.body true refl)
-own_covers _ _ s h = absurd (cc)
+pub own_covers : (class : Class) (l : Bool) (kind : Kind) (s : Summary) → has_kind (kinds_of class) kind ≡ true →
+    covers (act_by class l kind) (topped class l s) ≡ true
+own_covers Plain true Val s h = and_both _ _ (or_right s.some true refl) (or_right s.touches true refl)
+own_covers Plain false Val s h = or_right s.some true refl
+own_covers Store l Val s h = or_right s.some true refl
+own_covers Store l Eff s h = and_both _ _ (or_right s.some true refl) (and_both _ _ (or_right s.touches true refl) (or_right s.writes true refl))
+own_covers Update l Val s h = and_both _ _ (or_right s.some true refl) (or_right s.touches true refl)
+own_covers Update l Eff s h = and_both _ _ (or_right s.some true refl) (and_both _ _ (or_right s.touches true refl) (or_right s.writes true refl))
+own_covers Choice l Val s h = or_right s.some true refl
+own_covers Comma l Val s h = or_right s.some true refl
+own_covers Call l Val s h = or_right s.some true refl
+own_covers Call l Body s h = and_both _ _ (or_right s.some true refl) (or_right s.body true refl)
+own_covers Isolated l Val s h = or_right s.some true refl
+own_covers Isolated l Body s h = and_both _ _ (or_right s.some true refl) (or_right s.body true refl)
+own_covers _ l _ s h = absurd (cc)
 
-pub keeps_cover : (ts : Trees) (a : Act) (class : Class) (s : Summary) → covers a s ≡ true → covers a (summaries_of class s ts) ≡ true
-keeps_cover none a class s h = h
-keeps_cover (more t ts) a class s h = keeps_cover ts a class (joined class s (summary_of t)) (cover_left a class s (summary_of t) h)
+pub keeps_cover : (ts : Trees) (fs : LoadsList) (a : Act) (class : Class) (s : Summary) → covers a s ≡ true → covers a (summaries_of class s ts fs) ≡ true
+keeps_cover none fs a class s h = h
+keeps_cover (more t ts) fs a class s h =
+    keeps_cover ts (rest fs) a class (joined class s (summary_of t (first fs))) (cover_left a class s (summary_of t (first fs)) h)
 
-pub keeps_loose : (ts : Trees) (class : Class) (s : Summary) → s.loose ≡ true → (summaries_of class s ts).loose ≡ true
-keeps_loose none class s h = h
-keeps_loose (more t ts) class s h = keeps_loose ts class (joined class s (summary_of t)) (or_here s.loose _ h)
+pub keeps_loose : (ts : Trees) (fs : LoadsList) (class : Class) (s : Summary) → s.loose ≡ true → (summaries_of class s ts fs).loose ≡ true
+keeps_loose none fs class s h = h
+keeps_loose (more t ts) fs class s h = keeps_loose ts (rest fs) class (joined class s (summary_of t (first fs))) (or_here s.loose _ h)
 
-pub clear_before : (ts : Trees) (class : Class) (s : Summary) → (summaries_of class s ts).clash ≡ false → s.clash ≡ false
-clear_before none class s h = h
-clear_before (more t ts) class s h = neither_left s.clash _ (clear_before ts class (joined class s (summary_of t)) h)
+pub clear_before : (ts : Trees) (fs : LoadsList) (class : Class) (s : Summary) → (summaries_of class s ts fs).clash ≡ false → s.clash ≡ false
+clear_before none fs class s h = h
+clear_before (more t ts) fs class s h = neither_left s.clash _ (clear_before ts (rest fs) class (joined class s (summary_of t (first fs))) h)
 
-pub clear_first : (t : Tree) (ts : Trees) (class : Class) (s : Summary) → (summaries_of class s (more t ts)).clash ≡ false →
-    ((summary_of t).clash || (is_open class && meet s (summary_of t))) ≡ false
-clear_first t ts class s h = neither_right s.clash _ (clear_before ts class (joined class s (summary_of t)) h)
+pub clear_first : (t : Tree) (ts : Trees) (fs : LoadsList) (class : Class) (s : Summary) → (summaries_of class s (more t ts) fs).clash ≡ false →
+    ((summary_of t (first fs)).clash || (is_open class && meet s (summary_of t (first fs)))) ≡ false
+clear_first t ts fs class s h = neither_right s.clash _ (clear_before ts (rest fs) class (joined class s (summary_of t (first fs))) h)
 
 -- an event of the one and one of the other may conflict only where the two summaries meet
 pub meets : (a b : Act) (s t : Summary) → covers a s ≡ true → covers b t ≡ true → meet s t ≡ false → may_clash a b ≡ false
@@ -162,10 +166,10 @@ quiet_kind Object kind q h = absurd (cc)
 quiet_kind Constant kind q h = absurd (cc)
 quiet_kind _ kind q h = absurd (cc)
 
-pub quiet_below : (class : Class) (s : Summary) → is_quiet_class class ≡ true → own_clash class s ≡ false → s.some ≡ true → ⊥
-quiet_below Object s q c h = clear s.some h c
-quiet_below Constant s q c h = clear s.some h c
-quiet_below _ s q c h = absurd (cc)
+pub quiet_below : (class : Class) (l : Bool) (s : Summary) → is_quiet_class class ≡ true → own_clash class l s ≡ false → s.some ≡ true → ⊥
+quiet_below Object l s q c h = clear s.some h c
+quiet_below Constant l s q c h = clear s.some h c
+quiet_below _ l s q c h = absurd (cc)
 
 body_first : (class : Class) → own_rule class Body Val ≡ true
 body_first Update = refl
@@ -176,13 +180,14 @@ no_effect Store h g = absurd (cc)
 no_effect Update h g = absurd (cc)
 no_effect _ h g = absurd (cc)
 
-pub own_loose : (class : Class) (kind : Kind) (s : Summary) → has_kind (kinds_of class) kind ≡ true → (is_val kind || own_rule class kind Val) ≡ false →
-    (is_all (act_by class kind) ≡ false) × ((topped class s).loose ≡ true)
-own_loose Store Eff s h g = (refl, refl)
-own_loose Update Eff s h g = (refl, refl)
-own_loose _ Val s h g = absurd (cc)
-own_loose _ Eff s h g = absurd (cc)
-own_loose class Body s h g = absurd (clear _ (body_first class) g)
+pub own_loose : (class : Class) (l : Bool) (kind : Kind) (s : Summary) → has_kind (kinds_of class) kind ≡ true →
+    (is_val kind || own_rule class kind Val) ≡ false →
+    (is_all (act_by class l kind) ≡ false) × ((topped class l s).loose ≡ true)
+own_loose Store l Eff s h g = (refl, refl)
+own_loose Update l Eff s h g = (refl, refl)
+own_loose _ l Val s h g = absurd (cc)
+own_loose _ l Eff s h g = absurd (cc)
+own_loose class l Body s h g = absurd (clear _ (body_first class) g)
 
 pub top_loose : (class : Class) (s : Summary) → is_call class ≡ false → s.loose ≡ true → loose_by class s.loose ≡ true
 top_loose Call s c h = absurd (cc)
@@ -201,40 +206,42 @@ not_all Nothing h = refl
 not_all Reads h = refl
 not_all Writes h = refl
 
-pub own_free : (class : Class) (kind : Kind) (a : Act) (s : Summary) → has_kind (kinds_of class) kind ≡ true → (kind ≡ Body → ⊥) →
-    own_clash class s ≡ false → is_all a ≡ false → s.loose ≡ true → may_clash a (act_by class kind) ≡ false
-own_free Plain Val a s h n c f l = absurd (clear s.loose l c)
-own_free Store Val a s h n c f l = not_all a f
-own_free Store Eff a s h n c f l = absurd (clear s.loose l c)
-own_free Update Val a s h n c f l = absurd (clear s.loose l c)
-own_free Update Eff a s h n c f l = absurd (clear s.loose l c)
-own_free Choice Val a s h n c f l = not_all a f
-own_free Comma Val a s h n c f l = not_all a f
-own_free Call Val a s h n c f l = not_all a f
-own_free Call Body a s h n c f l = absurd (n refl)
-own_free Isolated Val a s h n c f l = not_all a f
-own_free Isolated Body a s h n c f l = absurd (n refl)
-own_free _ _ a s h n c f l = absurd (cc)
+pub own_free : (class : Class) (l : Bool) (kind : Kind) (a : Act) (s : Summary) → has_kind (kinds_of class) kind ≡ true → (kind ≡ Body → ⊥) →
+    own_clash class l s ≡ false → is_all a ≡ false → s.loose ≡ true → may_clash a (act_by class l kind) ≡ false
+own_free Plain true Val a s h n c f d = absurd (clear s.loose d c)
+own_free Plain false Val a s h n c f d = not_all a f
+own_free Store l Val a s h n c f d = not_all a f
+own_free Store l Eff a s h n c f d = absurd (clear s.loose d c)
+own_free Update l Val a s h n c f d = absurd (clear s.loose d c)
+own_free Update l Eff a s h n c f d = absurd (clear s.loose d c)
+own_free Choice l Val a s h n c f d = not_all a f
+own_free Comma l Val a s h n c f d = not_all a f
+own_free Call l Val a s h n c f d = not_all a f
+own_free Call l Body a s h n c f d = absurd (n refl)
+own_free Isolated l Val a s h n c f d = not_all a f
+own_free Isolated l Body a s h n c f d = absurd (n refl)
+own_free _ l _ a s h n c f d = absurd (cc)
 
-pub body_case : (class : Class) (s : Summary) → has_kind (kinds_of class) Body ≡ true → own_clash class s ≡ false → (is_call class ≡ true) ⊎ (s.some ≡ false)
-body_case Call s h c = inl refl
-body_case Isolated s h c = inr c
-body_case _ s h c = absurd (cc)
+pub body_case : (class : Class) (l : Bool) (s : Summary) → has_kind (kinds_of class) Body ≡ true → own_clash class l s ≡ false →
+    (is_call class ≡ true) ⊎ (s.some ≡ false)
+body_case Call l s h c = inl refl
+body_case Isolated l s h c = inr c
+body_case _ l s h c = absurd (cc)
 
 -- two events of one node
-pub own_pair : (class : Class) (k l : Kind) → has_kind (kinds_of class) k ≡ true → has_kind (kinds_of class) l ≡ true → same_kind k l ≡ false →
-    own_rule class k l ≡ false → own_rule class l k ≡ false → may_clash (act_by class k) (act_by class l) ≡ false
-own_pair Store Val Eff h g n b c = refl
-own_pair Store Eff Val h g n b c = refl
-own_pair _ Val Val h g n b c = absurd (cc)
-own_pair _ Val Eff h g n b c = absurd (cc)
-own_pair class Val Body h g n b c = absurd (clear _ (body_first class) c)
-own_pair _ Eff Val h g n b c = absurd (cc)
-own_pair _ Eff Eff h g n b c = absurd (cc)
-own_pair class Eff Body h g n b c = absurd (no_effect class h g)
-own_pair class Body Val h g n b c = absurd (clear _ (body_first class) b)
-own_pair class Body Eff h g n b c = absurd (no_effect class g h)
-own_pair _ Body Body h g n b c = absurd (cc)
+pub own_pair : (class : Class) (f : Bool) (k l : Kind) → has_kind (kinds_of class) k ≡ true → has_kind (kinds_of class) l ≡ true → same_kind k l ≡ false →
+    own_rule class k l ≡ false → own_rule class l k ≡ false → may_clash (act_by class f k) (act_by class f l) ≡ false
+own_pair Store f Val Eff h g n b c = refl
+own_pair Store f Eff Val h g n b c = refl
+own_pair _ f Val Val h g n b c = absurd (cc)
+own_pair _ f Val Eff h g n b c = absurd (cc)
+own_pair class f Val Body h g n b c = absurd (clear _ (body_first class) c)
+own_pair _ f Eff Val h g n b c = absurd (cc)
+own_pair _ f Eff Eff h g n b c = absurd (cc)
+own_pair class f Eff Body h g n b c = absurd (no_effect class h g)
+own_pair class f Body Val h g n b c = absurd (clear _ (body_first class) b)
+own_pair class f Body Eff h g n b c = absurd (no_effect class g h)
+own_pair _ f Body Body h g n b c = absurd (cc)
 
 same_number : (choice : Option ℕ) (i j : ℕ) → is_number choice i ≡ true → is_number choice j ≡ true → i ≡ j
 same_number None i j h g = absurd (cc)

@@ -8,20 +8,24 @@ use Rattle.c_typed.specs.declared.class.Class.{Class}
 use Rattle.c_typed.specs.Tree.{Tree, node, Trees, more, size, is_quiet, kinds_of}
 use Rattle.c_typed.specs.Order.{Taken, goes, across, is_body, is_val, is_last, own_rule}
 use Rattle.c_typed.specs.Decide.{has_kind, due_in, due_among, lifts, crosses, is_before, rises, to_val, between}
+use Rattle.quiet_trees.specs.Loads.{Loads, LoadsList, is_load, below, first, rest}
 use Rattle.quiet_trees.specs.Acts.{act_by, act_in, act_among}
 
-pub act_own : (class : Class) (ts : Trees) (k : ℕ) (u : Place) → (u.node == k) ≡ true → act_in k (node class ts) u ≡ act_by class u.kind
-act_own class ts k u e = if_true _ _ _ e
+pub act_own : (class : Class) (ts : Trees) (f : Loads) (k : ℕ) (u : Place) → (u.node == k) ≡ true →
+    act_in k (node class ts) f u ≡ act_by class (is_load f) u.kind
+act_own class ts f k u e = if_true _ _ _ e
 
-pub act_below : (class : Class) (ts : Trees) (k : ℕ) (u : Place) → (u.node == k) ≡ false → act_in k (node class ts) u ≡ act_among (suc k) ts u
-act_below class ts k u e = if_false _ _ _ e
+pub act_below : (class : Class) (ts : Trees) (f : Loads) (k : ℕ) (u : Place) → (u.node == k) ≡ false →
+    act_in k (node class ts) f u ≡ act_among (suc k) ts (below f) u
+act_below class ts f k u e = if_false _ _ _ e
 
-pub act_first : (t : Tree) (ts : Trees) (m : ℕ) (u : Place) → nat_lt u.node (m + size t) ≡ true → act_among m (more t ts) u ≡ act_in m t u
-act_first t ts m u e = if_true _ _ _ e
+pub act_first : (t : Tree) (ts : Trees) (fs : LoadsList) (m : ℕ) (u : Place) → nat_lt u.node (m + size t) ≡ true →
+    act_among m (more t ts) fs u ≡ act_in m t (first fs) u
+act_first t ts fs m u e = if_true _ _ _ e
 
-pub act_later : (t : Tree) (ts : Trees) (m : ℕ) (u : Place) → nat_lt u.node (m + size t) ≡ false →
-    act_among m (more t ts) u ≡ act_among (m + size t) ts u
-act_later t ts m u e = if_false _ _ _ e
+pub act_later : (t : Tree) (ts : Trees) (fs : LoadsList) (m : ℕ) (u : Place) → nat_lt u.node (m + size t) ≡ false →
+    act_among m (more t ts) fs u ≡ act_among (m + size t) ts (rest fs) u
+act_later t ts fs m u e = if_false _ _ _ e
 
 module _ (taken : Taken) where
   pub due_own : (class : Class) (ts : Trees) (k : ℕ) (u : Place) → (u.node == k) ≡ true →

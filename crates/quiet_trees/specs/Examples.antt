@@ -3,55 +3,63 @@ use Rattle.std.specs.Prelude.{◌≡◌, Bool, true, false, not, ◌&&◌, List,
 use Rattle.c_typed.specs.declared.class.Class.{Class}
 use Rattle.c_typed.specs.declared.class.Class.TheVariants.{Object, Constant, Plain, Store, Update, Choice, Comma, Call, Isolated}
 use Rattle.c_typed.specs.Tree.{Tree, node, none, more}
+use Rattle.quiet_trees.specs.Loads.{Loads, loads, nil, cons}
 use Rattle.quiet_trees.specs.Summaries.{summary_of}
 
--- no event of the tree may clash with another, as its summary says
-abbrev pub is_quiet_tree : Tree → Bool
-is_quiet_tree t = not (summary_of t).clash
+-- a tree, and which of its nodes are loads
+abbrev pub Example : Type 0
+Example = Tree × Loads
 
-abbrev leaf : Class → Tree
-leaf class = node class none
+-- no two events of the tree may clash, as its summary says
+abbrev pub is_quiet_tree : Example → Bool
+is_quiet_tree t = not (summary_of t.0 t.1).clash
 
-abbrev over : Class → Tree → Tree
-over class s = node class (more s none)
+abbrev leaf : Class → Example
+leaf class = (node class none, loads false nil)
 
-abbrev both : Class → Tree → Tree → Tree
-both class s t = node class (more s (more t none))
+abbrev over : Class → Example → Example
+over class s = (node class (more s.0 none), loads false (cons s.1 nil))
 
-abbrev three : Class → Tree → Tree → Tree → Tree
-three class s t u = node class (more s (more t (more u none)))
+abbrev load : Example → Example
+load s = (node Plain (more s.0 none), loads true (cons s.1 nil))
 
--- an object, a constant or the name of a function, the value of an object, an element of an object, and an increment
-abbrev object : Tree
+abbrev both : Class → Example → Example → Example
+both class s t = (node class (more s.0 (more t.0 none)), loads false (cons s.1 (cons t.1 nil)))
+
+abbrev three : Class → Example → Example → Example → Example
+three class s t u = (node class (more s.0 (more t.0 (more u.0 none))), loads false (cons s.1 (cons t.1 (cons u.1 nil))))
+
+-- an object, a constant or the name of a function, the value of an object, the address of an element, and an increment
+abbrev object : Example
 object = leaf Object
 
-abbrev constant : Tree
+abbrev constant : Example
 constant = leaf Constant
 
-abbrev value : Tree
-value = over Plain object
+abbrev value : Example
+value = load object
 
-abbrev element : Tree
+abbrev element : Example
 element = both Plain object value
 
-abbrev increment : Tree
+abbrev increment : Example
 increment = over Update object
 
-abbrev call : Tree
+abbrev call : Example
 call = over Call constant
 
-abbrev pub quiet_trees : List Tree
+abbrev pub quiet_trees : List Example
 quiet_trees =
     -- i = i + 1
     both Store object (both Plain value constant)
     -- i < n
     ∷ both Plain value value
     -- s += a[i]
-    ∷ both Update object (over Plain element)
+    ∷ both Update object (load element)
     -- x = f(y)
     ∷ both Store object (both Call constant value)
     -- p[i] = q[j]
-    ∷ both Store (both Plain value value) (over Plain (both Plain value value))
+    ∷ both Store (both Plain value value) (load (both Plain value value))
     -- i++
     ∷ increment
     -- i = 0, j = 1
@@ -68,11 +76,15 @@ quiet_trees =
     ∷ both Call constant increment
     -- x = f(g())
     ∷ both Store object (both Call constant call)
+    -- i-- > 0
+    ∷ both Plain increment constant
+    -- (x = f()) != 0
+    ∷ both Plain (both Store object call) constant
     -- { f() }, the list of an initializer
     ∷ over Store (leaf Isolated)
     ∷ []
 
-abbrev pub loud_trees : List Tree
+abbrev pub loud_trees : List Example
 loud_trees =
     -- x = i++
     both Store object increment
@@ -83,7 +95,7 @@ loud_trees =
     -- i + i++
     ∷ both Plain value increment
     -- a[i++]
-    ∷ over Plain (both Plain object increment)
+    ∷ load (both Plain object increment)
     -- f() + g()
     ∷ both Plain call call
     -- f() + x
@@ -100,7 +112,7 @@ loud_trees =
     ∷ both Store (leaf Isolated) (leaf Isolated)
     ∷ []
 
-abbrev all_are : Bool → List Tree → Bool
+abbrev all_are : Bool → List Example → Bool
 all_are true [] = true
 all_are false [] = true
 all_are true (t ∷ ts) = is_quiet_tree t && all_are true ts

@@ -1,3 +1,4 @@
+pub mod Loads
 pub mod Acts
 pub mod Quiet
 pub mod Summaries

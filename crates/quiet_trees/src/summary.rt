@@ -1,9 +1,10 @@
 // What of a tree's evaluations tells whether two of them may conflict.
 ghost use Rattle.std.specs.Prelude.{◌≡◌};
 ghost use Rattle.c_typed.specs.Tree.{tree_of};
+ghost use Rattle.quiet_trees.specs.Loads.{loads_of, is_load};
 ghost use Rattle.quiet_trees.specs.Summaries.{nothing, meet, is_open, reads_by, writes_by, body_by, loose_by, own_clash, joined, topped, summary_of};
 
-use c_typed::{Class, Typed, class_of};
+use c_typed::{Class, Node, Typed, class_of};
 
 /// What is said of the evaluations of a part of a tree: whether there are some, whether some may access memory, whether some write,
 /// whether some are bodies, whether some writes come before the part's value in no order, and whether two may conflict.
@@ -19,14 +20,29 @@ pub struct Summary {
 
 /// The summary of a tree.
 pub fn summarize(root: &Typed) -> Summary
-    ensures { result ≡ summary_of (tree_of root.now) }
+    ensures { result ≡ summary_of (tree_of root.now) (loads_of root.now) }
 {
     let class = class_of(root);
+    let load = is_load(root);
     let mut below = nothing();
     for t in root.children.as_slice() {
         below = joined(class, below, summarize(t));
     }
-    topped(class, below)
+    topped(class, load, below)
+}
+
+fn is_load(root: &Typed) -> bool
+    ensures { result ≡ is_load (loads_of root.now) }
+{
+    match &root.node {
+        Node::Load(_) => true,
+        Node::Obj(_) | Node::Const(_) | Node::Func(_) | Node::Str(_) | Node::Conv(_) => false,
+        Node::Member { .. } | Node::Assign { .. } | Node::List { .. } | Node::Update { .. } =>
+            false,
+        Node::And | Node::Or | Node::Cond | Node::Comma | Node::Call { .. } => false,
+        Node::Isolated(_) | Node::Un(_) | Node::Bin(..) | Node::PtrAdd { .. } => false,
+        Node::PtrDiff { .. } | Node::Rel { .. } | Node::Eq(_) | Node::Part { .. } => false,
+    }
 }
 
 fn nothing() -> Summary
@@ -64,16 +80,16 @@ fn meet(a: Summary, b: Summary) -> bool
 }
 
 // A node over its operands.
-fn topped(class: Class, a: Summary) -> Summary
-    ensures { result ≡ topped class a }
+fn topped(class: Class, load: bool, a: Summary) -> Summary
+    ensures { result ≡ topped class load a }
 {
     Summary {
         some: a.some || !class.is_quiet(),
-        touches: a.touches || reads_by(class) || writes_by(class),
+        touches: a.touches || reads_by(class, load) || writes_by(class),
         writes: a.writes || writes_by(class),
         body: a.body || body_by(class),
         loose: loose_by(class, a.loose),
-        clash: a.clash || own_clash(class, a),
+        clash: a.clash || own_clash(class, load, a),
     }
 }
 
@@ -87,11 +103,12 @@ fn is_open(class: Class) -> bool
     }
 }
 
-fn reads_by(class: Class) -> bool
-    ensures { result ≡ reads_by class }
+fn reads_by(class: Class, load: bool) -> bool
+    ensures { result ≡ reads_by class load }
 {
     match class {
-        Class::Plain | Class::Update => true,
+        Class::Plain => load,
+        Class::Update => true,
         _ => false,
     }
 }
@@ -126,12 +143,13 @@ fn loose_by(class: Class, below: bool) -> bool
 }
 
 // Whether an evaluation of the node itself may conflict with one of its operands.
-fn own_clash(class: Class, a: Summary) -> bool
-    ensures { result ≡ own_clash class a }
+fn own_clash(class: Class, load: bool, a: Summary) -> bool
+    ensures { result ≡ own_clash class load a }
 {
     match class {
         Class::Object | Class::Constant | Class::Isolated => a.some,
-        Class::Plain | Class::Store | Class::Update => a.loose,
+        Class::Plain => load && a.loose,
+        Class::Store | Class::Update => a.loose,
         Class::Choice | Class::Comma | Class::Call => false,
     }
 }
