@@ -6,23 +6,31 @@ ghost use Rattle.seq_order.specs.Marked.{taken_in};
 ghost use Rattle.run_evaluations.specs.FoundItems.{ItemsConflict};
 ghost use Rattle.footprint_run.specs.Apart.{AreApart, IsApart, SeenApart, place_of};
 
+use crate::examined::Examined;
 use crate::seen::Seen;
 use c_typed::{Place, Typed};
 use core_run::View;
-use run_evaluations::{Evaluations, Found, Rule, Rules, first_of, last_operand_of, line_of};
+use quiet_trees::some_noted;
+use run_evaluations::{Evaluations, Found, Rule, first_of, last_operand_of, line_of};
 use seq_order::{Relation, Taken, due, relation};
 use std::alloc::Global;
 use ub_base::{Event, Item, Kind, NoMemory};
 
-/// Keeps the open evaluations of a run, and finds its first conflict.
+/// Keeps the open evaluations of a run, and finds its first conflict. A full expression in which no two evaluations may conflict of
+/// which neither is sequenced before the other is quiet, and isn't recorded, nor are the frames that it starts: only its events with
+/// items that are noted are. Where it stands in a body that another expression records, what it touches is kept for that body.
 #[derive(Drop)]
 pub struct Detector {
     alloc: Global,
     open: Evaluations,
-    // the rules of each tree that has begun once, by its number
-    trees: Vec<Rules>,
+    // what is known of each tree that has begun once, by its number
+    trees: Vec<Examined>,
     // how many full expressions were open at the last pick
     begun: usize,
+    // how many are open up to the outermost one that is recorded; 0 where none is, and then each that is open is quiet
+    recorded: usize,
+    // whether the last pick was an event that is recorded
+    logged: bool,
 }
 
 impl Detector {
@@ -32,6 +40,8 @@ impl Detector {
             open: Evaluations::new(alloc)?,
             trees: Vec::new(alloc),
             begun: 0,
+            recorded: 0,
+            logged: false,
         })
     }
 
@@ -45,10 +55,14 @@ impl Detector {
     ) -> Result<Option<Seen>, NoMemory>
         ensures { IfOk result (SeenApart (trees_at roots.now)) }
     {
+        self.logged = false;
         let Some(event) = event else {
             self.step(v, items)?;
             return Ok(None);
         };
+        if !self.records(v, event, items)? {
+            return Ok(None);
+        }
         self.event(v, event, items)?;
         if event.kind == Kind::Body && items.contains(&Item::Ending) {
             return self.end(roots, v);
@@ -65,6 +79,9 @@ impl Detector {
     ) -> Result<Option<Seen>, NoMemory>
         ensures { IfOk result (SeenApart (trees_at roots.now)) }
     {
+        if self.recorded == 0 {
+            return Ok(None);
+        }
         let (rule, chosen) = self.rule(v, node);
         let found = self
             .open
@@ -81,6 +98,9 @@ impl Detector {
     ) -> Result<Option<Seen>, NoMemory>
         ensures { IfOk result (SeenApart (trees_at roots.now)) }
     {
+        if !self.logged {
+            return Ok(None);
+        }
         let found = self.open.node_done(v.frames, v.map, node)?;
         if found.is_none() {
             return Ok(None);
@@ -105,28 +125,104 @@ impl Detector {
         let count = v.begun.len();
         if count < self.begun {
             self.begun = count;
-            return self.open.settle();
+            return self.settle(count);
         }
         if count > self.begun {
             self.begun = count;
             return self.begin(v);
         }
+        if self.recorded == 0 {
+            return Ok(());
+        }
         self.open.step(items)
+    }
+
+    // So many full expressions are left open.
+    fn settle(&mut self, count: usize) -> Result<(), NoMemory> {
+        if self.recorded == 0 {
+            return Ok(());
+        }
+        if count < self.recorded {
+            return self.close();
+        }
+        self.open.settle()
+    }
+
+    // Nothing is recorded from now on.
+    fn close(&mut self) -> Result<(), NoMemory> {
+        self.recorded = 0;
+        for _ in 1..self.open.depth() {
+            self.open.leave()?;
+        }
+        self.open.settle()
     }
 
     fn begin(&mut self, v: &View) -> Result<(), NoMemory> {
         let Some(begun) = v.begun.last() else {
             return Ok(());
         };
-        self.open.begin(begun.turn);
-        let tree = begun.tree as usize;
-        for _ in self.trees.len()..=tree {
-            self.trees.push(Rules::new(self.alloc))?;
+        self.examine(begun.tree as usize, begun.root)?;
+        if self.recorded > 0 {
+            self.open.begin(begun.turn);
+            return Ok(());
         }
-        if tree < self.trees.len() && self.trees[tree].is_empty() {
-            self.trees[tree] = Rules::of(self.alloc, begun.root)?;
+        if self.is_quiet(v) {
+            return Ok(());
+        }
+        self.record(v)
+    }
+
+    // A tree that begins the first time is examined.
+    fn examine(&mut self, tree: usize, root: &Typed) -> Result<(), NoMemory> {
+        for _ in self.trees.len()..=tree {
+            self.trees.push(Examined::none(self.alloc))?;
+        }
+        if tree < self.trees.len() && self.trees[tree].is_none() {
+            self.trees[tree] = Examined::of(self.alloc, root)?;
         }
         Ok(())
+    }
+
+    // The top full expression is recorded from now on, and none below it.
+    fn record(&mut self, v: &View) -> Result<(), NoMemory> {
+        let Some(begun) = v.begun.last() else {
+            return Ok(());
+        };
+        if !self.open.is_top(begun.frame) {
+            self.open.enter(begun.frame)?;
+        }
+        self.open.begin(begun.turn);
+        self.recorded = v.begun.len();
+        Ok(())
+    }
+
+    // Whether the top full expression is quiet.
+    fn is_quiet(&self, v: &View) -> bool {
+        let Some(begun) = v.begun.last() else {
+            return false;
+        };
+        match self.trees.get(begun.tree as usize) {
+            Some(examined) => examined.quiet,
+            None => false,
+        }
+    }
+
+    // Whether an event of the top full expression is recorded. One that is quiet is recorded from an event on with items that are noted,
+    // up to a body: each event before a body is sequenced before it and so before all that follow it.
+    fn records(&mut self, v: &View, event: Event, items: &[Item]) -> Result<bool, NoMemory> {
+        let body = event.kind == Kind::Body;
+        if self.recorded == 0 {
+            if body || !some_noted(items) {
+                return Ok(false);
+            }
+            self.record(v)?;
+            return Ok(true);
+        }
+        if body && self.recorded == v.begun.len() && self.is_quiet(v) {
+            self.close()?;
+            return Ok(false);
+        }
+        Ok(true)
     }
 
     // The rule of a node of the top full expression, and whether the node has chosen a further operand.
@@ -135,7 +231,7 @@ impl Detector {
             return (Rule::Open, false);
         };
         let rule = match self.trees.get(begun.tree as usize) {
-            Some(rules) => rules.get(node),
+            Some(examined) => examined.rules.get(node),
             None => Rule::Open,
         };
         let chosen = rule == Rule::Choice && begun.taken.chosen(node).is_some();
@@ -149,6 +245,10 @@ impl Detector {
             }
             self.open.leave()?;
         }
+        if self.is_kept_for_body(v, event, items) {
+            return self.open.step(items);
+        }
+        self.logged = true;
         let (rule, chosen) = self.rule(v, event.node);
         self.open
             .event(event.node, event.kind, items, rule, chosen)?;
@@ -158,17 +258,29 @@ impl Detector {
         Ok(())
     }
 
+    // Whether of the event only what it touched is kept, for a body that is recorded: it stands in a quiet expression inside that body.
+    fn is_kept_for_body(&self, v: &View, event: Event, items: &[Item]) -> bool {
+        event.kind != Kind::Body
+            && self.recorded < v.begun.len()
+            && self.is_quiet(v)
+            && !some_noted(items)
+    }
+
     // An end of the run: the first conflict of all that have both sides by now.
     fn end(&mut self, roots: &[&Typed], v: &View) -> Result<Option<Seen>, NoMemory>
         ensures { IfOk result (SeenApart (trees_at roots.now)) }
     {
         let mut best = None;
         for (i, begun) in v.begun.iter().enumerate().rev() {
-            if let Some(rules) = self.trees.get(begun.tree as usize) {
-                let found = self.open.ended(v.frames, v.map, begun.root, rules)?;
-                best = first_of(v.frames, best, found);
+            if i >= self.recorded.saturating_sub(1) {
+                if let Some(examined) = self.trees.get(begun.tree as usize) {
+                    let found = self
+                        .open
+                        .ended(v.frames, v.map, begun.root, &examined.rules)?;
+                    best = first_of(v.frames, best, found);
+                }
             }
-            if i > 0 {
+            if i >= self.recorded {
                 self.open.leave()?;
             }
         }

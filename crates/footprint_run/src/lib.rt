@@ -3,6 +3,7 @@
 
 mod audit;
 mod detector;
+mod examined;
 mod finding;
 mod progress;
 mod seen;

@@ -1,0 +1,4 @@
+mod Suiting
+mod ActsSuit
+pub mod Events
+pub mod Kept

@@ -1,0 +1,2 @@
+pub mod QuietEvents
+pub mod Programs

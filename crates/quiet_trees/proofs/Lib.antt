@@ -1,0 +1,3 @@
+mod Steps
+mod Flags
+pub mod Apart
