@@ -19,7 +19,7 @@ use Rattle.evaluation_log.specs.Loose.{HasRange, HasEvent, Thins, event_of, firs
 use Rattle.evaluation_log.proofs.KeptLemmas.{before_or_past, or_split, or_left, or_right}
 use Rattle.evaluation_log.proofs.WholeLemmas.{get_left, get_seam, not_none, start_same, inside, starts_past, starts_top, at_level}
 use Rattle.evaluation_log.proofs.LooseWholeLemmas.{listed_by, listed_to, start_by, foot_there, below_or_at, looses_past, right_levels, right_by, right_joined}
-use Rattle.evaluation_log.proofs.LooseWholeLemmas.{right_moved}
+use Rattle.evaluation_log.proofs.LooseWholeLemmas.{right_moved, right_logged, right_listed, right_cut}
 
 start_marked : (o p : Option Segment) → loose_mark p ≡ loose_mark o → loose_start_of p ≡ loose_start_of o
 start_marked None None e = refl

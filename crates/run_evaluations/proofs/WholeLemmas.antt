@@ -19,7 +19,7 @@ use Rattle.addr_map.specs.declared.map.Row.{Row}
 use Rattle.run_evaluations.specs.declared.open.Evaluations.{Evaluations}
 use Rattle.evaluation_log.proofs.KeptLemmas.{before_or_past, items_past, gathers_by}
 use Rattle.evaluation_log.proofs.WholeLemmas.{get_left, get_seam, starts_past, larges_past, not_none, there_is, whole_by, whole_levels, cut_some, inside}
-use Rattle.evaluation_log.proofs.WholeLemmas.{mark_at, at_level, base_below, kept_joined, whole_moved, length_alike}
+use Rattle.evaluation_log.proofs.WholeLemmas.{mark_at, at_level, base_below, kept_joined, whole_logged, whole_cut, whole_given, whole_moved, length_alike}
 
 like_same : (o p : Option Segment) → p ≡ o → AreLike o p
 like_same o p e = record { begins = ap marks e; harm = ap harmless_of e; foot = ap foot_of e }
