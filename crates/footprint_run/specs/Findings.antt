@@ -4,7 +4,7 @@ use Rattle.ub_base.specs.declared.clause.Clause.{Clause}
 use Rattle.ub_base.specs.declared.clause.Clause.TheVariants.{Unsequenced}
 use Rattle.ub_base.specs.declared.names.Event.{Event}
 use Rattle.footprint.specs.Conflicts.{MayConflict}
-use Rattle.run_evaluations.specs.FoundItems.{IsUnsequencedPair}
+use Rattle.evaluation_log.specs.FoundItems.{IsUnsequencedPair}
 use Rattle.footprint_run.specs.declared.finding.Finding.{Finding}
 use Rattle.footprint_run.specs.declared.finding.Finding.TheVariants.{Clean, Undefined, OrderDependent, OutOfSteps, Outside}
 use Rattle.footprint_run.specs.declared.finding.Race.{Race}

@@ -3,15 +3,16 @@ ghost use Rattle.std.specs.Prelude.{◌≡◌, IfOk, IsTrue};
 ghost use Rattle.c_typed.specs.Tree.{tree_of};
 ghost use Rattle.elaborate.specs.Roots.{trees_at};
 ghost use Rattle.seq_order.specs.Marked.{taken_in};
-ghost use Rattle.run_evaluations.specs.FoundItems.{ItemsConflict};
+ghost use Rattle.evaluation_log.specs.FoundItems.{ItemsConflict};
 ghost use Rattle.footprint_run.specs.Apart.{AreApart, IsApart, SeenApart, place_of};
 
 use crate::examined::Examined;
 use crate::seen::Seen;
 use c_typed::{Place, Typed};
 use core_run::View;
+use evaluation_log::{Found, Rule, first_of, last_operand_of, line_of};
 use quiet_trees::some_noted;
-use run_evaluations::{Evaluations, Found, Rule, first_of, last_operand_of, line_of};
+use run_evaluations::Evaluations;
 use seq_order::{Relation, Taken, due, relation};
 use std::alloc::Global;
 use ub_base::{Event, Item, Kind, NoMemory};

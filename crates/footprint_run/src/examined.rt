@@ -6,7 +6,7 @@ ghost use Rattle.quiet_trees.specs.Quiet.{IsQuiet};
 
 use c_typed::Typed;
 use quiet_trees::is_quiet;
-use run_evaluations::Rules;
+use evaluation_log::Rules;
 use std::alloc::Global;
 use ub_base::NoMemory;
 

@@ -1,7 +1,7 @@
 // What a watch stops a run at.
-ghost use Rattle.run_evaluations.specs.FoundItems.{IsConflict};
+ghost use Rattle.evaluation_log.specs.FoundItems.{IsConflict};
 
-use run_evaluations::Found;
+use evaluation_log::Found;
 
 /// Two evaluations that conflict, and their lines.
 #[derive(Clone, Copy, Debug)]

@@ -4,22 +4,20 @@ ghost use Rattle.std.specs.Prelude.{Box, ◌≡◌, ◌≢◌, ◌≤◌, ◌<�
 ghost use Rattle.ub_base.specs.declared.names.Item.{Item};
 ghost use Rattle.footprint.specs.declared.foot.Foot.{Foot};
 ghost use Rattle.footprint.specs.Holds.{holds};
-ghost use Rattle.run_evaluations.specs.declared.log.Logged.{Logged};
-ghost use Rattle.run_evaluations.specs.declared.log.Segment.{Segment};
-ghost use Rattle.run_evaluations.specs.declared.search.Sought.TheVariants.{Any};
-ghost use Rattle.run_evaluations.specs.Clashes.{NoClash, NoneBetween};
-ghost use Rattle.run_evaluations.specs.FoundItems.{ItemsConflict};
-ghost use Rattle.run_evaluations.specs.Kept.{IsApart, AreApart, NoLarge, IsSameLog, IsTaken, Gathers, GathersKept, Joined, Kept};
-ghost use Rattle.run_evaluations.specs.Kept.{IsKept, NoneOfOperands, IsSameRest, AreLike, AllBelow, KeepsFeet, Spreads};
-ghost use Rattle.run_evaluations.specs.Kept.{items_of, large_of, foot_of, listed_has, own_body, small_of, is_unsequenced};
+ghost use Rattle.evaluation_log.specs.declared.log.Logged.{Logged};
+ghost use Rattle.evaluation_log.specs.declared.log.Segment.{Segment};
+ghost use Rattle.evaluation_log.specs.declared.sought.Sought.TheVariants.{Any};
+ghost use Rattle.evaluation_log.specs.Clashes.{NoClash, NoneBetween};
+ghost use Rattle.evaluation_log.specs.FoundItems.{ItemsConflict};
+ghost use Rattle.evaluation_log.specs.Kept.{IsApart, AreApart, NoLarge, Gathers, GathersKept, Joined, Kept, AllBelow, KeepsFeet, Spreads, items_of, large_of};
+ghost use Rattle.evaluation_log.specs.Kept.{foot_of, listed_has, own_body, small_of, is_unsequenced};
+ghost use Rattle.run_evaluations.specs.Kept.{IsSameLog, IsTaken, IsKept, NoneOfOperands};
 ghost use Rattle.run_evaluations.specs.Loose.{IsLooseKept};
-ghost use Rattle.run_evaluations.specs.Touched.{start_of};
+ghost use Rattle.evaluation_log.specs.Touched.{start_of};
 
-use crate::found::Found;
 use crate::open::Evaluations;
-use crate::rules::Rule;
-use crate::search::{Under, add_range, clash};
 use addr_map::AddrMap;
+use evaluation_log::{Found, Rule, Under, add_range, clash, is_unsequenced};
 use footprint::{Foot, items_conflict};
 use ub_base::{Frames, NoMemory};
 
@@ -428,14 +426,5 @@ impl Evaluations {
             Some(body) => self.large_meets(map, k, body),
             None => false,
         }
-    }
-}
-
-fn is_unsequenced(rule: Rule) -> bool
-    ensures { result ≡ is_unsequenced rule }
-{
-    match rule {
-        Rule::Open | Rule::Closed => true,
-        _ => false,
     }
 }

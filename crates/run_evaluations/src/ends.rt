@@ -1,28 +1,16 @@
 // An end of the run beside evaluations that it isn't sequenced with.
-ghost use Rattle.std.specs.Prelude.{IfOk, IfSome, OnOk};
-ghost use Rattle.footprint.specs.Conflicts.{MayConflict};
-ghost use Rattle.run_evaluations.specs.FoundItems.{AreOfOne, ItemsConflict};
+ghost use Rattle.std.specs.Prelude.{IfOk, OnOk};
+ghost use Rattle.evaluation_log.specs.FoundItems.{ItemsConflict};
 ghost use Rattle.run_evaluations.specs.Kept.{IsKept};
 ghost use Rattle.run_evaluations.specs.Loose.{IsLooseKept};
 
-use crate::found::{Found, first_of};
 use crate::open::{Evaluations, named};
-use crate::rules::{Rule, Rules};
-use crate::search::{Sought, Under, least_items};
-use crate::trees::step_to;
 use addr_map::AddrMap;
 use c_typed::Typed;
-use std::alloc::Global;
-use ub_base::{Event, Frames, Item, Kind, NoMemory};
-
-/// The way from the root of a full expression to a node: the nodes above it, from the root on, and the nodes whose value
-/// the node isn't sequenced with: the first before it, and the first behind it.
-#[derive(Drop)]
-struct Way {
-    above: Vec<u32>,
-    before: Option<u32>,
-    behind: Option<u32>,
-}
+use evaluation_log::{
+    Found, Rules, Sought, Under, Way, dependence, first_of, is_unsequenced, least_items, way_to,
+};
+use ub_base::{Frames, Item, Kind, NoMemory};
 
 impl Evaluations {
     /// The last event of the top frame's full expression, whose tree this is, ended the run or started the frame that
@@ -116,54 +104,4 @@ impl Evaluations {
         }
         Ok(best)
     }
-}
-
-fn is_unsequenced(rule: Rule) -> bool {
-    match rule {
-        Rule::Open | Rule::Closed => true,
-        _ => false,
-    }
-}
-
-// A dependence on the order of these two evaluations, where items of theirs conflict.
-fn dependence(event: Event, against: Event, items: Option<(Item, Item)>) -> Option<Found>
-    requires one { AreOfOne event against }
-    requires may { IfSome items (λ p. MayConflict p.0 p.1) }
-    ensures { ItemsConflict result }
-{
-    let items = items?;
-    Some(Found {
-        race: false,
-        event,
-        against,
-        items,
-    })
-}
-
-// The way from the root to the node of this number.
-fn way_to(alloc: Global, root: &Typed, rules: &Rules, target: u32) -> Result<Way, NoMemory> {
-    let mut way = Way {
-        above: Vec::new(alloc),
-        before: None,
-        behind: None,
-    };
-    let mut tree = root;
-    let mut number = 0;
-    for _ in 0..target {
-        if number >= target {
-            return Ok(way);
-        }
-        way.above.push(number)?;
-        let step = step_to(tree, number, target);
-        if is_unsequenced(rules.get(number)) {
-            way.before = way.before.or(step.before);
-            way.behind = step.behind.or(way.behind);
-        }
-        match step.next {
-            Some(next) => tree = next,
-            None => return Ok(way),
-        }
-        number = step.number;
-    }
-    Ok(way)
 }

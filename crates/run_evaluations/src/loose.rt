@@ -3,19 +3,19 @@ ghost use Rattle.std.specs.Prelude.{Box, ◌≡◌, ◌≤◌, ◌<◌, ◌-◌,
 ghost use Rattle.ub_base.specs.declared.names.Item.{Item};
 ghost use Rattle.std.specs.Global.{Global};
 ghost use Rattle.footprint.specs.Holds.{holds};
-ghost use Rattle.run_evaluations.specs.declared.log.Logged.{Logged};
-ghost use Rattle.run_evaluations.specs.declared.search.Sought.TheVariants.{Any};
-ghost use Rattle.run_evaluations.specs.Touched.{event_has};
-ghost use Rattle.run_evaluations.specs.Clashes.{NoClash};
-ghost use Rattle.run_evaluations.specs.FoundItems.{ItemsConflict};
-ghost use Rattle.run_evaluations.specs.Kept.{IsKept, IsSameRest, AreLike, AllBelow, IsApart, span_of};
-ghost use Rattle.run_evaluations.specs.Loose.{NoLoose, HasLoose, LooseKept, IsLooseKept, NoneBelow, loose_has, loose_from};
-ghost use Rattle.run_evaluations.specs.Loose.{IsListed, HasEvent, KeepsLoose, loose_start_of, loose_foot_of};
+ghost use Rattle.evaluation_log.specs.declared.log.Logged.{Logged};
+ghost use Rattle.evaluation_log.specs.declared.sought.Sought.TheVariants.{Any};
+ghost use Rattle.evaluation_log.specs.Touched.{event_has};
+ghost use Rattle.evaluation_log.specs.Clashes.{NoClash};
+ghost use Rattle.evaluation_log.specs.FoundItems.{ItemsConflict};
+ghost use Rattle.run_evaluations.specs.Kept.{IsKept, IsSameRest};
+ghost use Rattle.evaluation_log.specs.Kept.{AreLike, AllBelow, IsApart, span_of};
+ghost use Rattle.evaluation_log.specs.Loose.{NoLoose, HasLoose, LooseKept, loose_has, loose_from, HasEvent, loose_start_of, loose_foot_of};
+ghost use Rattle.run_evaluations.specs.Loose.{IsLooseKept, NoneBelow, IsListed, KeepsLoose};
 
-use crate::found::{Found, first_of};
 use crate::open::Evaluations;
-use crate::search::{Under, clash};
 use addr_map::AddrMap;
+use evaluation_log::{Found, Under, clash, first_of};
 use footprint::Foot;
 use ub_base::{Frames, Kind, NoMemory};
 

@@ -1,21 +1,20 @@
 // The open evaluations of a run.
-ghost use Rattle.std.specs.Prelude.{Box, ◌≡◌, ◌≤◌, ◌<◌, ◌-◌, ◌≢◌, ◌++◌, ◌∷◌, [], take, ℕ, suc, true, false};
-ghost use Rattle.std.specs.Prelude.{length, slice_get, Some, None, vec_len, IfSome, OnOk, IfOk};
+ghost use Rattle.std.specs.Prelude.{Box, ◌≡◌, ◌≤◌, ◌<◌, ◌-◌, ◌≢◌, ◌++◌, ◌∷◌, [], take, ℕ, suc, true, false, length, slice_get, Some, None, vec_len, IfSome};
+ghost use Rattle.std.specs.Prelude.{OnOk, IfOk};
 ghost use Rattle.std.specs.Global.{Global};
-ghost use Rattle.run_evaluations.specs.declared.log.Logged.{Logged};
-ghost use Rattle.run_evaluations.specs.declared.log.Segment.{Segment};
-ghost use Rattle.run_evaluations.specs.declared.rules.Rule.TheVariants.{Open};
-ghost use Rattle.run_evaluations.specs.Bodies.{HasBody};
-ghost use Rattle.run_evaluations.specs.Clashes.{AreSorted};
-ghost use Rattle.run_evaluations.specs.Loose.{IsLooseKept, HasRange, Thins, loose_of, loose_start_of, loose_foot_of};
-ghost use Rattle.run_evaluations.specs.Kept.{IsKept, IsSameRest, IsSameLog, AreLike, IsJoined, AllBelow, IsAdded, IsFirst, IsLogged, IsTold};
-ghost use Rattle.run_evaluations.specs.Kept.{IsOperand, IsSameOpen, cut_of, base_of, marks, harmless_of, foot_of, span_of, is_large, own_body};
+ghost use Rattle.evaluation_log.specs.declared.log.Logged.{Logged};
+ghost use Rattle.evaluation_log.specs.declared.log.Segment.{Segment};
+ghost use Rattle.evaluation_log.specs.declared.rules.Rule.TheVariants.{Open};
+ghost use Rattle.evaluation_log.specs.Bodies.{HasBody};
+ghost use Rattle.evaluation_log.specs.Clashes.{AreSorted};
+ghost use Rattle.run_evaluations.specs.Loose.{IsLooseKept};
+ghost use Rattle.evaluation_log.specs.Loose.{HasRange, Thins, loose_of, loose_start_of, loose_foot_of};
+ghost use Rattle.run_evaluations.specs.Kept.{IsKept, IsSameRest, IsSameLog, IsFirst, IsLogged, IsTold, IsSameOpen};
+ghost use Rattle.evaluation_log.specs.Kept.{AreLike, IsJoined, AllBelow, IsAdded, IsOperand, cut_of, base_of, marks, harmless_of, foot_of, span_of, is_large};
+ghost use Rattle.evaluation_log.specs.Kept.{own_body};
 ghost use Rattle.ub_base.specs.declared.names.Item.{Item};
 
-use crate::known::Known;
-use crate::level::Level;
-use crate::log::{Logged, Segment, are_harmless};
-use crate::rules::Rule;
+use evaluation_log::{Known, Level, Logged, Rule, Segment, are_harmless};
 use footprint::Foot;
 use std::alloc::Global;
 use ub_base::{Event, Frame, Item, Kind, NoMemory};

@@ -1,93 +1,18 @@
 // The least conflicting pair of events, sought once where a conflict is known.
-ghost use Rattle.std.specs.Prelude.{◌≡◌, ◌≢◌, ◌⊎◌, ◌-◌, ◌&&◌, ◌||◌, ◌↔◌, suc, IfOk, IfSome, IfNone, OnOk, IsTrue};
-ghost use Rattle.std.specs.Prelude.{None, Some, true, false, slice_get};
-ghost use Rattle.ub_base.specs.declared.clause.Kind.TheVariants.{Body};
+ghost use Rattle.std.specs.Prelude.{◌≡◌, ◌⊎◌, ◌-◌, ◌&&◌, ◌||◌, suc, IfOk, IfSome, IfNone, OnOk, None, Some, true, false, slice_get};
 ghost use Rattle.ub_base.specs.declared.names.Item.{Item};
 ghost use Rattle.addr_map.specs.Conflict.{is_access};
 ghost use Rattle.footprint.specs.Conflicts.{MayConflict};
-ghost use Rattle.run_evaluations.specs.declared.search.Sought.TheVariants.{Any, Races};
+ghost use Rattle.evaluation_log.specs.declared.sought.Sought.TheVariants.{Any, Races};
 ghost use Rattle.footprint.specs.Holds.{holds};
-ghost use Rattle.footprint.specs.Least.{IsLeast};
-ghost use Rattle.run_evaluations.specs.Clashes.{Clash, SomeClash, NoClash, AreSorted, NoneBetween, operand_has, behind_has};
-ghost use Rattle.run_evaluations.specs.FoundItems.{ItemsConflict};
-ghost use Rattle.run_evaluations.specs.Touched.{some_stands, touched, event_has, is_sought, range_has, start_of};
+ghost use Rattle.evaluation_log.specs.Clashes.{SomeClash, NoClash, AreSorted, NoneBetween, operand_has, behind_has};
+ghost use Rattle.evaluation_log.specs.FoundItems.{ItemsConflict};
+ghost use Rattle.evaluation_log.specs.Touched.{event_has, is_sought, range_has, start_of};
 
-use crate::found::Found;
 use crate::open::{Evaluations, named};
-use addr_map::AddrMap;
-use footprint::{Foot, access_pair, conflict, conflicts, races};
+use evaluation_log::{Found, Sought, Under, add_range, is_race, least_items, nearer};
+use footprint::Foot;
 use ub_base::{Frames, Item, Kind, NoMemory};
-
-/// What conflicts are sought under: the order of frames, and where objects stand.
-#[derive(Clone, Copy)]
-pub struct Under<'u> {
-    pub frames: &'u Frames,
-    pub map: &'u AddrMap,
-}
-
-/// Which conflicts are sought: races, which no body has a part in, or any.
-#[derive(Clone, Copy, Debug, PartialEq, Eq)]
-pub enum Sought {
-    Races,
-    Any,
-}
-
-fn meet(under: Under<'_>, sought: Sought, a: &Foot, b: &Foot) -> bool
-    ensures { IsTrue result ↔ SomeClash sought under.entry.map.now (holds a.now) (holds b.now) }
-{
-    match sought {
-        Sought::Races => races(a, b),
-        Sought::Any => conflicts(a, b, under.map),
-    }
-}
-
-/// Whether two sets conflict.
-pub(crate) fn clash(a: &Foot, b: &Foot, map: &AddrMap) -> bool
-    ensures { result ≡ false → NoClash Any map.now (holds a.now) (holds b.now) }
-{
-    conflicts(a, b, map)
-}
-
-// This event or operand, if what it touched conflicts with the rest, or else the best one so far.
-fn nearer(
-    under: Under<'_>,
-    sought: Sought,
-    one: usize,
-    foot: &Foot,
-    rest: &Foot,
-    best: Option<usize>,
-) -> Option<usize>
-    ensures none { result ≡ None → (best ≡ None) × NoClash sought under.entry.map.now (holds foot.now) (holds rest.now) }
-    ensures some { (result ≡ best) ⊎ ((result ≡ Some one) × SomeClash sought under.entry.map.now (holds foot.now) (holds rest.now)) }
-{
-    if meet(under, sought, foot, rest) {
-        Some(one)
-    } else {
-        best
-    }
-}
-
-/// The least pair of items, if two sets conflict.
-pub fn least_items(under: Under<'_>, sought: Sought, a: &Foot, b: &Foot) -> Option<(Item, Item)>
-    ensures may { IfSome result (λ p. MayConflict p.0 p.1) }
-    ensures races { sought ≡ Races → IfSome result (λ p. (is_access p.0 ≡ true) × (is_access p.1 ≡ true)) }
-    ensures least { IsLeast under.entry.frames.now (Clash sought under.entry.map.now (holds a.now) (holds b.now)) result }
-{
-    match sought {
-        Sought::Races => access_pair(under.frames, a, b),
-        Sought::Any => conflict(under.frames, a, b, under.map),
-    }
-}
-
-// Whether conflicting accesses are a race: a body is sequenced before or after what it isn't sequenced with.
-fn is_race(sought: Sought, a: Kind, b: Kind) -> bool
-    ensures { result ≡ true → (sought ≡ Races) × (a ≢ Body) × (b ≢ Body) }
-{
-    match sought {
-        Sought::Races => a != Kind::Body && b != Kind::Body,
-        Sought::Any => false,
-    }
-}
 
 impl Evaluations {
     /// The set of the event's items.
@@ -364,30 +289,5 @@ impl Evaluations {
             Some(items) => Ok(self.found(Sought::Any, a, b, items)),
             None => Ok(None),
         }
-    }
-}
-
-// Adds the items of a list from one place up to another.
-pub(crate) fn add_range(
-    items: &[Item],
-    from: usize,
-    to: usize,
-    foot: &mut Foot,
-) -> Result<(), NoMemory>
-    ensures { OnOk result ((i : Item) → holds foot.new i ≡ (holds foot.old i || touched items.now from (to - from) i)) }
-{
-    for at in from..to {
-        add_at(items, at, foot)?;
-    }
-    Ok(())
-}
-
-// Adds an item of a list, if there is one at this place.
-fn add_at(items: &[Item], at: usize, foot: &mut Foot) -> Result<(), NoMemory>
-    ensures { OnOk result ((i : Item) → holds foot.new i ≡ (holds foot.old i || some_stands (slice_get items.now at) i)) }
-{
-    match items.get(at) {
-        Some(item) => foot.add(*item),
-        None => Ok(()),
     }
 }

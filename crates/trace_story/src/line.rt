@@ -2,7 +2,7 @@
 ghost use Rattle.std.specs.Prelude.{◌≡◌, None};
 
 use core_run::View;
-use run_evaluations::line_of;
+use evaluation_log::line_of;
 use ub_base::Event;
 
 /// The line of the node of an event, whose full expression is open; 0 for a control step.

@@ -1,5 +1,5 @@
 -- What stands before the place is as it was, and what stands behind it did so before.
-use Rattle.run_evaluations.specs.Loose.{Thins}
+use Rattle.evaluation_log.specs.Loose.{Thins}
 use Rattle.run_evaluations.proofs.open.close_gap.Given as goal
 
 abbrev pub invariant-loop : goal.invariant-loop

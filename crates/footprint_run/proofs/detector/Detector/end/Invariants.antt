@@ -1,5 +1,5 @@
 -- The items of the first conflict so far conflict.
-use Rattle.run_evaluations.specs.FoundItems.{ItemsConflict}
+use Rattle.evaluation_log.specs.FoundItems.{ItemsConflict}
 use Rattle.footprint_run.proofs.detector.Detector.end.Given as goal
 
 abbrev pub invariant-loop-i : goal.invariant-loop-i

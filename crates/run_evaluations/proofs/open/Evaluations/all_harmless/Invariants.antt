@@ -1,6 +1,6 @@
 -- Each segment so far is harmless.
 use Rattle.std.specs.Prelude.{◌≡◌, ◌≤◌, ◌<◌, ℕ, true, Some, slice_get}
-use Rattle.run_evaluations.specs.declared.log.Segment.{Segment}
+use Rattle.evaluation_log.specs.declared.log.Segment.{Segment}
 use Rattle.run_evaluations.proofs.open.Evaluations.all_harmless.Given as goal
 
 abbrev pub invariant-loop-group : goal.invariant-loop-group

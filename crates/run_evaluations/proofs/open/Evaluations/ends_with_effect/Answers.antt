@@ -1,5 +1,5 @@
 use Rattle.std.proofs.Common.{arith, ◌-◌, length, ◌∙◌}
-use Rattle.run_evaluations.proofs.WholeLemmas.{base_below}
+use Rattle.evaluation_log.proofs.WholeLemmas.{base_below}
 use Rattle.run_evaluations.proofs.open.Evaluations.ends_with_effect.Goals as goal
 
 pub returns : goal.returns

@@ -1,6 +1,6 @@
 use Rattle.std.proofs.Common.{refl, ◌∙◌}
-use Rattle.run_evaluations.proofs.WholeLemmas.{whole_enter, whole_moved}
-use Rattle.run_evaluations.proofs.LooseWholeLemmas.{right_moved, right_enter}
+use Rattle.evaluation_log.proofs.WholeLemmas.{whole_enter, whole_moved}
+use Rattle.evaluation_log.proofs.LooseWholeLemmas.{right_moved, right_enter}
 use Rattle.run_evaluations.proofs.open.Evaluations.enter.Goals as goal
 
 pub returns-clause-kept : goal.returns-clause-kept

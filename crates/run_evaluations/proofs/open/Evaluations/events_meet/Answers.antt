@@ -1,5 +1,5 @@
 use Rattle.std.specs.Prelude.{slice_get}
-use Rattle.run_evaluations.proofs.LooseLemmas.{spans_none}
+use Rattle.evaluation_log.proofs.LooseLemmas.{spans_none}
 use Rattle.run_evaluations.proofs.open.Evaluations.events_meet.Goals as goal
 
 pub returns-then-are_alone : goal.returns-then-are_alone

@@ -1,5 +1,5 @@
 use Rattle.std.proofs.Common.{⊎_elim, ◌-◌, arith}
-use Rattle.run_evaluations.proofs.KeptLemmas.{before_or_past}
+use Rattle.evaluation_log.proofs.KeptLemmas.{before_or_past}
 use Rattle.run_evaluations.proofs.open.Evaluations.first_above.Goals as goal
 
 pub returns-then-is_up_to : goal.returns-then-is_up_to

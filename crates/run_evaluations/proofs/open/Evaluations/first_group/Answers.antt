@@ -1,6 +1,6 @@
 use Rattle.std.proofs.Common.{◌≡◌, ◌≤◌, ◌-◌, ◌∙◌, suc, length, sym, arith}
 use Rattle.footprint.specs.Holds.{holds}
-use Rattle.run_evaluations.proofs.BetweenLemmas.{same_le, rest_past, behind_past, operand_by, rest_step, none_step, some_step, none_end}
+use Rattle.evaluation_log.proofs.BetweenLemmas.{same_le, rest_past, behind_past, operand_by, rest_step, none_step, some_step, none_end}
 use Rattle.run_evaluations.proofs.open.Evaluations.first_group.Goals as goal
 
 pub loop-group-init : goal.loop-group-init

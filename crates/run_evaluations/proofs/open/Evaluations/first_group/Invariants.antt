@@ -2,8 +2,8 @@
 use Rattle.std.specs.Prelude.{◌≡◌, ◌-◌, length, IfNone, IfSome}
 use Rattle.ub_base.specs.declared.names.Item.{Item}
 use Rattle.footprint.specs.Holds.{holds}
-use Rattle.run_evaluations.specs.Touched.{range_has, start_of}
-use Rattle.run_evaluations.specs.Clashes.{SomeClash, AreSorted, NoneBehind, operand_has, behind_has}
+use Rattle.evaluation_log.specs.Touched.{range_has, start_of}
+use Rattle.evaluation_log.specs.Clashes.{SomeClash, AreSorted, NoneBehind, operand_has, behind_has}
 use Rattle.run_evaluations.proofs.open.Evaluations.first_group.Given as goal
 
 abbrev pub invariant-loop-group : goal.invariant-loop-group

@@ -1,7 +1,7 @@
 use Rattle.std.proofs.Common.{◌∙◌, ap, arith}
 use Rattle.std.specs.Prelude.{ℕ}
-use Rattle.run_evaluations.specs.Touched.{range_has}
-use Rattle.run_evaluations.proofs.TouchedLemmas.{gathered_none, gathered_step, count_is}
+use Rattle.evaluation_log.specs.Touched.{range_has}
+use Rattle.evaluation_log.proofs.TouchedLemmas.{gathered_none, gathered_step, count_is}
 use Rattle.run_evaluations.proofs.open.Evaluations.foot_of_range.Goals as goal
 
 pub loop-at-init : goal.loop-at-init

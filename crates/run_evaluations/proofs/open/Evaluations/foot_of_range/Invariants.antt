@@ -2,7 +2,7 @@
 use Rattle.std.specs.Prelude.{◌≡◌, ◌≤◌, ◌-◌, max}
 use Rattle.ub_base.specs.declared.names.Item.{Item}
 use Rattle.footprint.specs.Holds.{holds}
-use Rattle.run_evaluations.specs.Touched.{range_has}
+use Rattle.evaluation_log.specs.Touched.{range_has}
 use Rattle.run_evaluations.proofs.open.Evaluations.foot_of_range.Given as goal
 
 abbrev pub invariant-loop-at : goal.invariant-loop-at

@@ -1,11 +1,11 @@
 use Rattle.std.proofs.Common.{arith, ◌∙◌}
 use Rattle.std.specs.Prelude.{slice_get}
-use Rattle.run_evaluations.specs.declared.search.Sought.TheVariants.{Any}
-use Rattle.run_evaluations.specs.Touched.{event_has}
-use Rattle.run_evaluations.specs.Clashes.{NoClash}
-use Rattle.run_evaluations.specs.Loose.{loose_has}
-use Rattle.run_evaluations.proofs.BetweenLemmas.{same_le}
-use Rattle.run_evaluations.proofs.LooseLemmas.{rise_none, loose_end}
+use Rattle.evaluation_log.specs.declared.sought.Sought.TheVariants.{Any}
+use Rattle.evaluation_log.specs.Touched.{event_has}
+use Rattle.evaluation_log.specs.Clashes.{NoClash}
+use Rattle.evaluation_log.specs.Loose.{loose_has}
+use Rattle.evaluation_log.proofs.BetweenLemmas.{same_le}
+use Rattle.evaluation_log.proofs.LooseLemmas.{rise_none, loose_end}
 use Rattle.run_evaluations.proofs.open.Evaluations.found_among.Goals as goal
 
 pub loop-i-preserved : goal.loop-i-preserved

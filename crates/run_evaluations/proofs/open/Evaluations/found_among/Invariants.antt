@@ -1,10 +1,10 @@
 -- The items of the first conflict so far conflict; where there is none, no event so far clashes.
 use Rattle.std.specs.Prelude.{◌≡◌, ◌≤◌, ◌<◌, ℕ, None, slice_get}
-use Rattle.run_evaluations.specs.declared.search.Sought.TheVariants.{Any}
-use Rattle.run_evaluations.specs.Touched.{event_has}
-use Rattle.run_evaluations.specs.Clashes.{NoClash}
-use Rattle.run_evaluations.specs.FoundItems.{ItemsConflict}
-use Rattle.run_evaluations.specs.Loose.{loose_has}
+use Rattle.evaluation_log.specs.declared.sought.Sought.TheVariants.{Any}
+use Rattle.evaluation_log.specs.Touched.{event_has}
+use Rattle.evaluation_log.specs.Clashes.{NoClash}
+use Rattle.evaluation_log.specs.FoundItems.{ItemsConflict}
+use Rattle.evaluation_log.specs.Loose.{loose_has}
 use Rattle.run_evaluations.proofs.open.Evaluations.found_among.Given as goal
 
 abbrev pub invariant-loop-i : goal.invariant-loop-i

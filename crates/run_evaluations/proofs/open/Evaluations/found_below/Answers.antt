@@ -1,8 +1,8 @@
 use Rattle.std.proofs.Common.{arith, ◌∙◌}
 use Rattle.std.specs.Prelude.{slice_get}
-use Rattle.run_evaluations.specs.Touched.{event_has}
-use Rattle.run_evaluations.specs.Loose.{NoLoose}
-use Rattle.run_evaluations.proofs.LooseLemmas.{rise_plain, if_none_by}
+use Rattle.evaluation_log.specs.Touched.{event_has}
+use Rattle.evaluation_log.specs.Loose.{NoLoose}
+use Rattle.evaluation_log.proofs.LooseLemmas.{rise_plain, if_none_by}
 use Rattle.run_evaluations.proofs.open.Evaluations.found_below.Goals as goal
 
 pub loop-at-preserved : goal.loop-at-preserved

@@ -1,8 +1,8 @@
 -- No event so far clashes with one of the list.
 use Rattle.std.specs.Prelude.{◌≡◌, ◌≤◌, ◌<◌, ℕ, None, slice_get}
-use Rattle.run_evaluations.specs.Touched.{event_has}
-use Rattle.run_evaluations.specs.FoundItems.{ItemsConflict}
-use Rattle.run_evaluations.specs.Loose.{NoLoose, LooseKept}
+use Rattle.evaluation_log.specs.Touched.{event_has}
+use Rattle.evaluation_log.specs.FoundItems.{ItemsConflict}
+use Rattle.evaluation_log.specs.Loose.{NoLoose, LooseKept}
 use Rattle.run_evaluations.proofs.open.Evaluations.found_below.Given as goal
 
 abbrev pub invariant-loop-at : goal.invariant-loop-at

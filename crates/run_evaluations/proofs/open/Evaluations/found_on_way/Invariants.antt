@@ -1,5 +1,5 @@
 -- The items of the first conflict so far conflict, and what is kept is right.
-use Rattle.run_evaluations.specs.FoundItems.{ItemsConflict}
+use Rattle.evaluation_log.specs.FoundItems.{ItemsConflict}
 use Rattle.run_evaluations.specs.Kept.{IsKept}
 use Rattle.run_evaluations.specs.Loose.{IsLooseKept}
 use Rattle.run_evaluations.proofs.open.Evaluations.found_on_way.Given as goal

@@ -1,5 +1,5 @@
 use Rattle.std.proofs.Common.{◌∙◌, sym}
-use Rattle.run_evaluations.proofs.LooseLemmas.{first_none, none_at}
+use Rattle.evaluation_log.proofs.LooseLemmas.{first_none, none_at}
 use Rattle.run_evaluations.proofs.open.Evaluations.found_with.Goals as goal
 
 pub returns-clause-none : goal.returns-clause-none

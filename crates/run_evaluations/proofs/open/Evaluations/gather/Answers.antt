@@ -1,10 +1,10 @@
-use Rattle.std.proofs.Common.{◌∙◌, sym, arith}
-use Rattle.run_evaluations.proofs.WholeLemmas.{kept_made_one, only_spreads, length_alike}
+use Rattle.std.proofs.Common.{◌∙◌, sym, arith, subst, List}
+use Rattle.run_evaluations.proofs.WholeLemmas.{kept_made_one}
+use Rattle.evaluation_log.proofs.WholeLemmas.{only_spreads, length_alike}
 use Rattle.run_evaluations.proofs.LooseWholeLemmas.{right_same}
-use Rattle.run_evaluations.proofs.KeptLemmas.{sorted_alike}
-use Rattle.std.proofs.Common.{subst, List}
-use Rattle.run_evaluations.specs.Kept.{AllBelow}
-use Rattle.run_evaluations.specs.declared.level.Level.{Level}
+use Rattle.evaluation_log.proofs.KeptLemmas.{sorted_alike}
+use Rattle.evaluation_log.specs.Kept.{AllBelow}
+use Rattle.evaluation_log.specs.declared.level.Level.{Level}
 use Rattle.run_evaluations.proofs.open.Evaluations.gather.Goals as goal
 
 pub join-requires : goal.join-requires

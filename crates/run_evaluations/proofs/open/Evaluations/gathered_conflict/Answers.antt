@@ -1,7 +1,8 @@
 use Rattle.std.proofs.Common.{◌∙◌, refl, arith}
-use Rattle.run_evaluations.proofs.BetweenLemmas.{same_le}
-use Rattle.run_evaluations.proofs.KeptLemmas.{same_self, same_after, as_first, kept_of, gathered_more, joined_more, joined_end}
-use Rattle.run_evaluations.proofs.WholeLemmas.{loses_none, loses_more, feet_lost, feet_set, spreads_all}
+use Rattle.evaluation_log.proofs.BetweenLemmas.{same_le}
+use Rattle.run_evaluations.proofs.KeptLemmas.{same_self, same_after}
+use Rattle.evaluation_log.proofs.KeptLemmas.{as_first, kept_of, gathered_more, joined_more, joined_end}
+use Rattle.evaluation_log.proofs.WholeLemmas.{loses_none, loses_more, feet_lost, feet_set, spreads_all}
 use Rattle.run_evaluations.proofs.open.Evaluations.gathered_conflict.Goals as goal
 
 pub loop-group-init : goal.loop-group-init

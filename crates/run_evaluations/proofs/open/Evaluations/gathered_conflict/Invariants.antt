@@ -1,9 +1,10 @@
 -- All is as it was but for the sets of segments so far, which the set has, and of which no two clash.
 use Rattle.std.specs.Prelude.{◌≡◌, ◌≤◌, ◌<◌, ℕ, slice_get}
-use Rattle.run_evaluations.specs.declared.search.Sought.TheVariants.{Any}
-use Rattle.run_evaluations.specs.Clashes.{NoClash, operand_has}
-use Rattle.run_evaluations.specs.Kept.{Kept, Gathers, IsSameLog}
-use Rattle.run_evaluations.proofs.WholeLemmas.{LosesFeet}
+use Rattle.evaluation_log.specs.declared.sought.Sought.TheVariants.{Any}
+use Rattle.evaluation_log.specs.Clashes.{NoClash, operand_has}
+use Rattle.evaluation_log.specs.Kept.{Kept, Gathers}
+use Rattle.run_evaluations.specs.Kept.{IsSameLog}
+use Rattle.evaluation_log.proofs.WholeLemmas.{LosesFeet}
 use Rattle.run_evaluations.proofs.open.Evaluations.gathered_conflict.Given as goal
 
 abbrev pub invariant-loop-group : goal.invariant-loop-group

@@ -1,5 +1,5 @@
-use Rattle.run_evaluations.proofs.KeptLemmas.{harmless_none, few_none}
-use Rattle.run_evaluations.proofs.WholeLemmas.{loses_none, loses_more, feet_lost, not_none}
+use Rattle.evaluation_log.proofs.KeptLemmas.{harmless_none, few_none}
+use Rattle.evaluation_log.proofs.WholeLemmas.{loses_none, loses_more, feet_lost, not_none}
 use Rattle.run_evaluations.proofs.open.Evaluations.has_conflict.Goals as goal
 
 pub returns-then-all_harmless-clause-none : goal.returns-then-all_harmless-clause-none

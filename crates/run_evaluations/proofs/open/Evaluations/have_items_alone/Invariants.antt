@@ -1,6 +1,6 @@
 -- No event so far started a frame.
 use Rattle.std.specs.Prelude.{◌≡◌, ◌≤◌, ◌<◌, ℕ, None, Some, slice_get}
-use Rattle.run_evaluations.specs.declared.log.Logged.{Logged}
+use Rattle.evaluation_log.specs.declared.log.Logged.{Logged}
 use Rattle.run_evaluations.proofs.open.Evaluations.have_items_alone.Given as goal
 
 abbrev pub invariant-loop-at : goal.invariant-loop-at

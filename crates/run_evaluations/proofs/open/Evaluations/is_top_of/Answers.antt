@@ -1,5 +1,5 @@
 use Rattle.std.proofs.Common.{arith, ◌-◌, length, ◌∙◌}
-use Rattle.run_evaluations.proofs.WholeLemmas.{base_below}
+use Rattle.evaluation_log.proofs.WholeLemmas.{base_below}
 use Rattle.run_evaluations.proofs.open.Evaluations.is_top_of.Goals as goal
 
 pub returns-in-Some : goal.returns-in-Some

@@ -1,6 +1,6 @@
 -- The item conflicts with none so far.
 use Rattle.std.specs.Prelude.{◌≤◌, ◌<◌, ℕ, slice_get}
-use Rattle.run_evaluations.specs.Kept.{IsApart}
+use Rattle.evaluation_log.specs.Kept.{IsApart}
 use Rattle.run_evaluations.proofs.open.Evaluations.item_meets_some.Given as goal
 
 abbrev pub invariant-loop-q : goal.invariant-loop-q

@@ -1,6 +1,6 @@
 -- No item so far conflicts with one behind the range.
 use Rattle.std.specs.Prelude.{◌≤◌, ◌<◌, ℕ, slice_get}
-use Rattle.run_evaluations.specs.Kept.{IsApart}
+use Rattle.evaluation_log.specs.Kept.{IsApart}
 use Rattle.run_evaluations.proofs.open.Evaluations.items_meet.Given as goal
 
 abbrev pub invariant-loop-i : goal.invariant-loop-i

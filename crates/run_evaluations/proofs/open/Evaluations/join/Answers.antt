@@ -1,5 +1,6 @@
 use Rattle.std.proofs.Common.{ap, arith}
-use Rattle.run_evaluations.proofs.LooseWholeLemmas.{right_join, some_at}
+use Rattle.run_evaluations.proofs.LooseWholeLemmas.{right_join}
+use Rattle.evaluation_log.proofs.LooseWholeLemmas.{some_at}
 use Rattle.run_evaluations.proofs.open.Evaluations.join.Goals as goal
 
 pub returns-clause-loose : goal.returns-clause-loose

@@ -1,5 +1,6 @@
 use Rattle.std.proofs.Common.{refl}
-use Rattle.run_evaluations.proofs.WholeLemmas.{kept_open, whole_moved, whole_taken}
+use Rattle.run_evaluations.proofs.WholeLemmas.{kept_open}
+use Rattle.evaluation_log.proofs.WholeLemmas.{whole_moved, whole_taken}
 use Rattle.run_evaluations.proofs.LooseWholeLemmas.{right_open, right_taken}
 use Rattle.run_evaluations.proofs.open.Evaluations.keep_body.Goals as goal
 

@@ -1,7 +1,7 @@
 use Rattle.footprint.specs.Holds.{holds}
 use Rattle.std.proofs.Common.{suc}
-use Rattle.run_evaluations.specs.Kept.{large_of}
-use Rattle.run_evaluations.proofs.KeptLemmas.{no_large_by}
+use Rattle.evaluation_log.specs.Kept.{large_of}
+use Rattle.evaluation_log.proofs.KeptLemmas.{no_large_by}
 use Rattle.run_evaluations.proofs.open.Evaluations.large_conflict.Goals as goal
 
 pub returns-else-some_large_meets-2-clause-first : goal.returns-else-some_large_meets-2-clause-first

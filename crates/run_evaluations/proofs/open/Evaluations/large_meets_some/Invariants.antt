@@ -1,8 +1,8 @@
 -- No large body so far conflicts with this one.
 use Rattle.std.specs.Prelude.{◌≤◌, ◌<◌, ℕ, slice_get}
-use Rattle.run_evaluations.specs.declared.search.Sought.TheVariants.{Any}
-use Rattle.run_evaluations.specs.Clashes.{NoClash}
-use Rattle.run_evaluations.specs.Kept.{listed_has}
+use Rattle.evaluation_log.specs.declared.sought.Sought.TheVariants.{Any}
+use Rattle.evaluation_log.specs.Clashes.{NoClash}
+use Rattle.evaluation_log.specs.Kept.{listed_has}
 use Rattle.run_evaluations.proofs.open.Evaluations.large_meets_some.Given as goal
 
 abbrev pub invariant-loop-k : goal.invariant-loop-k

@@ -1,6 +1,6 @@
 -- No large body so far conflicts with one behind the range.
 use Rattle.std.specs.Prelude.{◌≤◌, ◌<◌, ℕ, slice_get}
-use Rattle.run_evaluations.specs.Kept.{NoLarge, listed_has}
+use Rattle.evaluation_log.specs.Kept.{NoLarge, listed_has}
 use Rattle.run_evaluations.proofs.open.Evaluations.larges_conflict.Given as goal
 
 abbrev pub invariant-loop-i : goal.invariant-loop-i

@@ -1,10 +1,10 @@
 use Rattle.std.proofs.Common.{◌≡◌, ◌-◌, ℕ, true, refl, sym}
 use Rattle.std.specs.Prelude.{slice_get}
 use Rattle.footprint.specs.Holds.{holds}
-use Rattle.run_evaluations.specs.Clashes.{SomeClash}
-use Rattle.run_evaluations.specs.Touched.{event_has, is_sought, range_has}
-use Rattle.run_evaluations.proofs.BetweenLemmas.{none_turned, never}
-use Rattle.run_evaluations.proofs.ClashLemmas.{at_none, at_some, none_like}
+use Rattle.evaluation_log.specs.Clashes.{SomeClash}
+use Rattle.evaluation_log.specs.Touched.{event_has, is_sought, range_has}
+use Rattle.evaluation_log.proofs.BetweenLemmas.{none_turned, never}
+use Rattle.evaluation_log.proofs.ClashLemmas.{at_none, at_some, none_like}
 use Rattle.run_evaluations.proofs.open.Evaluations.least_against.Goals as goal
 
 pub returns-in_default-clause-none : goal.returns-in_default-clause-none

@@ -1,6 +1,6 @@
 use Rattle.std.proofs.Common.{ℕ}
-use Rattle.run_evaluations.specs.Clashes.{SomeClash, NoClash, NoneBetween, operand_has, behind_has}
-use Rattle.run_evaluations.proofs.ClashLemmas.{at_none, at_some, ok_none, not_none}
+use Rattle.evaluation_log.specs.Clashes.{SomeClash, NoClash, NoneBetween, operand_has, behind_has}
+use Rattle.evaluation_log.proofs.ClashLemmas.{at_none, at_some, ok_none, not_none}
 use Rattle.run_evaluations.proofs.open.Evaluations.least_between.Goals as goal
 
 pub returns-in-Some-clause-none : goal.returns-in-Some-clause-none

@@ -1,10 +1,10 @@
 use Rattle.std.proofs.Common.{◌≡◌, ◌-◌, ◌∙◌, ℕ, true, refl}
 use Rattle.std.specs.Prelude.{slice_get}
 use Rattle.footprint.specs.Holds.{holds}
-use Rattle.run_evaluations.specs.Clashes.{SomeClash, NoClash, operand_has, behind_has}
-use Rattle.run_evaluations.specs.Touched.{event_has, is_sought, range_has}
-use Rattle.run_evaluations.proofs.BetweenLemmas.{operand_by, behind_by, never}
-use Rattle.run_evaluations.proofs.ClashLemmas.{at_none, at_some, none_like, ok_none}
+use Rattle.evaluation_log.specs.Clashes.{SomeClash, NoClash, operand_has, behind_has}
+use Rattle.evaluation_log.specs.Touched.{event_has, is_sought, range_has}
+use Rattle.evaluation_log.proofs.BetweenLemmas.{operand_by, behind_by, never}
+use Rattle.evaluation_log.proofs.ClashLemmas.{at_none, at_some, none_like, ok_none}
 use Rattle.run_evaluations.proofs.open.Evaluations.least_from.Goals as goal
 
 pub returns-in-Some-clause-none : goal.returns-in-Some-clause-none

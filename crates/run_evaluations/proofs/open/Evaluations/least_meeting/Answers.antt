@@ -1,10 +1,10 @@
 use Rattle.std.proofs.Common.{◌≡◌, true, subst, arith}
 use Rattle.std.specs.Prelude.{ℕ, IfNone, slice_get}
 use Rattle.footprint.specs.Holds.{holds}
-use Rattle.run_evaluations.specs.Clashes.{SomeClash, NoClash}
-use Rattle.run_evaluations.specs.Touched.{event_has, is_sought, range_has}
-use Rattle.run_evaluations.proofs.TouchedLemmas.{count_is}
-use Rattle.run_evaluations.proofs.ClashLemmas.{none_at_first, turn_none, turn_some}
+use Rattle.evaluation_log.specs.Clashes.{SomeClash, NoClash}
+use Rattle.evaluation_log.specs.Touched.{event_has, is_sought, range_has}
+use Rattle.evaluation_log.proofs.TouchedLemmas.{count_is}
+use Rattle.evaluation_log.proofs.ClashLemmas.{none_at_first, turn_none, turn_some}
 use Rattle.run_evaluations.proofs.open.Evaluations.least_meeting.Goals as goal
 
 pub loop-at-init : goal.loop-at-init

@@ -1,8 +1,8 @@
 -- No event so far meets the set, or the best one does.
 use Rattle.std.specs.Prelude.{◌≡◌, ◌≤◌, ◌-◌, max, true, IfNone, IfSome, slice_get}
 use Rattle.footprint.specs.Holds.{holds}
-use Rattle.run_evaluations.specs.Clashes.{SomeClash, NoClash}
-use Rattle.run_evaluations.specs.Touched.{event_has, is_sought, range_has}
+use Rattle.evaluation_log.specs.Clashes.{SomeClash, NoClash}
+use Rattle.evaluation_log.specs.Touched.{event_has, is_sought, range_has}
 use Rattle.run_evaluations.proofs.open.Evaluations.least_meeting.Given as goal
 
 abbrev pub invariant-loop-at : goal.invariant-loop-at

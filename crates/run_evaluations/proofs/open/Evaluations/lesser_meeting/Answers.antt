@@ -1,8 +1,8 @@
 use Rattle.std.proofs.Common.{◌∙◌, ⊎_elim, inl, inr, refl, sym}
 use Rattle.std.specs.Prelude.{slice_get}
 use Rattle.footprint.specs.Holds.{holds}
-use Rattle.run_evaluations.specs.Touched.{event_has}
-use Rattle.run_evaluations.proofs.ClashLemmas.{none_like, some_like}
+use Rattle.evaluation_log.specs.Touched.{event_has}
+use Rattle.evaluation_log.proofs.ClashLemmas.{none_like, some_like}
 use Rattle.run_evaluations.proofs.open.Evaluations.lesser_meeting.Goals as goal
 
 pub returns-clause-none : goal.returns-clause-none

@@ -1,6 +1,6 @@
 use Rattle.std.proofs.Common.{arith, below_more, ◌∙◌}
-use Rattle.run_evaluations.proofs.BetweenLemmas.{same_le}
-use Rattle.run_evaluations.proofs.LooseLemmas.{set_end}
+use Rattle.evaluation_log.proofs.BetweenLemmas.{same_le}
+use Rattle.evaluation_log.proofs.LooseLemmas.{set_end}
 use Rattle.run_evaluations.proofs.open.Evaluations.loose_set.Goals as goal
 
 pub loop-i-preserved : goal.loop-i-preserved

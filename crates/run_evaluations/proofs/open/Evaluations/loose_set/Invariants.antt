@@ -2,7 +2,7 @@
 use Rattle.std.specs.Prelude.{◌≡◌, ◌≤◌, ◌<◌, ℕ, true}
 use Rattle.ub_base.specs.declared.names.Item.{Item}
 use Rattle.footprint.specs.Holds.{holds}
-use Rattle.run_evaluations.specs.Loose.{loose_has}
+use Rattle.evaluation_log.specs.Loose.{loose_has}
 use Rattle.run_evaluations.proofs.open.Evaluations.loose_set.Given as goal
 
 abbrev pub invariant-loop-i : goal.invariant-loop-i

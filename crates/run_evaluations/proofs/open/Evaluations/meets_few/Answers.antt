@@ -1,8 +1,8 @@
 use Rattle.std.proofs.Common.{arith, below_more, ◌∙◌}
 use Rattle.std.specs.Prelude.{slice_get}
-use Rattle.run_evaluations.specs.Touched.{event_has}
-use Rattle.run_evaluations.proofs.BetweenLemmas.{same_le}
-use Rattle.run_evaluations.proofs.LooseLemmas.{loose_end}
+use Rattle.evaluation_log.specs.Touched.{event_has}
+use Rattle.evaluation_log.proofs.BetweenLemmas.{same_le}
+use Rattle.evaluation_log.proofs.LooseLemmas.{loose_end}
 use Rattle.run_evaluations.proofs.open.Evaluations.meets_few.Goals as goal
 
 pub loop-i-preserved : goal.loop-i-preserved

@@ -1,9 +1,9 @@
 -- No event of the list so far clashes.
 use Rattle.std.specs.Prelude.{◌≤◌, ◌<◌, ℕ, slice_get}
-use Rattle.run_evaluations.specs.declared.search.Sought.TheVariants.{Any}
-use Rattle.run_evaluations.specs.Touched.{event_has}
-use Rattle.run_evaluations.specs.Clashes.{NoClash}
-use Rattle.run_evaluations.specs.Loose.{loose_has}
+use Rattle.evaluation_log.specs.declared.sought.Sought.TheVariants.{Any}
+use Rattle.evaluation_log.specs.Touched.{event_has}
+use Rattle.evaluation_log.specs.Clashes.{NoClash}
+use Rattle.evaluation_log.specs.Loose.{loose_has}
 use Rattle.run_evaluations.proofs.open.Evaluations.meets_few.Given as goal
 
 abbrev pub invariant-loop-i : goal.invariant-loop-i

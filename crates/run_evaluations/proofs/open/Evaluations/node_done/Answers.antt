@@ -1,8 +1,9 @@
 use Rattle.run_evaluations.proofs.WholeLemmas.{kept_like}
 use Rattle.std.proofs.Common.{subst, sym, ℕ}
-use Rattle.run_evaluations.specs.Loose.{LooseKept}
+use Rattle.evaluation_log.specs.Loose.{LooseKept}
 use Rattle.run_evaluations.proofs.LooseLemmas.{all_below}
-use Rattle.run_evaluations.proofs.LooseWholeLemmas.{right_set, top_right}
+use Rattle.run_evaluations.proofs.LooseWholeLemmas.{right_set}
+use Rattle.evaluation_log.proofs.LooseWholeLemmas.{top_right}
 use Rattle.run_evaluations.proofs.open.Evaluations.node_done.Goals as goal
 
 pub returns-clause-kept : goal.returns-clause-kept

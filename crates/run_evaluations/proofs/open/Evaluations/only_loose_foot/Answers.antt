@@ -1,5 +1,5 @@
 use Rattle.std.proofs.Common.{arith, ◌∙◌, sym}
-use Rattle.run_evaluations.proofs.LooseWholeLemmas.{if_some_by, last_set, first_set}
+use Rattle.evaluation_log.proofs.LooseWholeLemmas.{if_some_by, last_set, first_set}
 use Rattle.run_evaluations.proofs.open.Evaluations.only_loose_foot.Goals as goal
 
 pub returns-then-has_last_all-clause-has : goal.returns-then-has_last_all-clause-has

@@ -1,5 +1,5 @@
 use Rattle.std.proofs.Common.{arith}
-use Rattle.run_evaluations.proofs.WholeLemmas.{base_below}
+use Rattle.evaluation_log.proofs.WholeLemmas.{base_below}
 use Rattle.run_evaluations.proofs.open.Evaluations.operands.Goals as goal
 
 pub returns-then-at-base-clause-below : goal.returns-then-at-base-clause-below

@@ -1,10 +1,11 @@
 use Rattle.std.proofs.Common.{◌∙◌, arith}
-use Rattle.run_evaluations.specs.declared.search.Sought.TheVariants.{Any}
-use Rattle.run_evaluations.specs.Clashes.{NoneBetween}
+use Rattle.evaluation_log.specs.declared.sought.Sought.TheVariants.{Any}
+use Rattle.evaluation_log.specs.Clashes.{NoneBetween}
 use Rattle.run_evaluations.specs.Kept.{NoneOfOperands}
-use Rattle.run_evaluations.proofs.ClashLemmas.{ok_none}
-use Rattle.run_evaluations.proofs.KeptLemmas.{single_none}
-use Rattle.run_evaluations.proofs.WholeLemmas.{kept_from, of_operands}
+use Rattle.evaluation_log.proofs.ClashLemmas.{ok_none}
+use Rattle.evaluation_log.proofs.KeptLemmas.{single_none}
+use Rattle.evaluation_log.proofs.WholeLemmas.{kept_from}
+use Rattle.run_evaluations.proofs.WholeLemmas.{of_operands}
 use Rattle.run_evaluations.proofs.open.Evaluations.operands_done.Goals as goal
 
 pub returns-then-saturating_add-len-clause-kept : goal.returns-then-saturating_add-len-clause-kept

@@ -1,6 +1,6 @@
 use Rattle.std.proofs.Common.{refl}
-use Rattle.run_evaluations.proofs.WholeLemmas.{whole_popped, whole_moved}
-use Rattle.run_evaluations.proofs.LooseWholeLemmas.{right_moved, right_popped}
+use Rattle.evaluation_log.proofs.WholeLemmas.{whole_popped, whole_moved}
+use Rattle.evaluation_log.proofs.LooseWholeLemmas.{right_moved, right_popped}
 use Rattle.run_evaluations.proofs.open.Evaluations.pop_level.Goals as goal
 
 pub returns-clause-kept : goal.returns-clause-kept

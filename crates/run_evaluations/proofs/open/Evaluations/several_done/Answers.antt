@@ -1,14 +1,14 @@
-use Rattle.run_evaluations.specs.declared.search.Sought.TheVariants.{Any}
-use Rattle.run_evaluations.specs.Clashes.{NoneBetween}
-use Rattle.run_evaluations.specs.Kept.{AllBelow}
-use Rattle.run_evaluations.specs.declared.level.Level.{Level}
-use Rattle.run_evaluations.proofs.ClashLemmas.{ok_none}
-use Rattle.run_evaluations.proofs.KeptLemmas.{between_alike, sorted_alike}
+use Rattle.evaluation_log.specs.declared.sought.Sought.TheVariants.{Any}
+use Rattle.evaluation_log.specs.Clashes.{NoneBetween}
+use Rattle.evaluation_log.specs.Kept.{AllBelow}
+use Rattle.evaluation_log.specs.declared.level.Level.{Level}
+use Rattle.evaluation_log.proofs.ClashLemmas.{ok_none}
+use Rattle.evaluation_log.proofs.KeptLemmas.{between_alike, sorted_alike}
 use Rattle.std.proofs.Common.{refl, sym, ◌∙◌, arith, subst, List}
-use Rattle.run_evaluations.proofs.KeptLemmas.{same_self}
-use Rattle.run_evaluations.proofs.WholeLemmas.{kept_made_one, kept_feet, kept_several, kept_from, not_none, length_alike}
+use Rattle.run_evaluations.proofs.KeptLemmas.{same_self, same_after}
+use Rattle.run_evaluations.proofs.WholeLemmas.{kept_made_one, kept_feet, kept_several}
+use Rattle.evaluation_log.proofs.WholeLemmas.{kept_from, not_none, length_alike}
 use Rattle.run_evaluations.proofs.LooseWholeLemmas.{right_same}
-use Rattle.run_evaluations.proofs.KeptLemmas.{same_after}
 use Rattle.run_evaluations.proofs.open.Evaluations.several_done.Goals as goal
 
 pub returns-then-branch-clause-none : goal.returns-then-branch-clause-none

@@ -1,5 +1,5 @@
 use Rattle.std.proofs.Common.{arith}
-use Rattle.run_evaluations.proofs.KeptLemmas.{small_step, gathers_all}
+use Rattle.evaluation_log.proofs.KeptLemmas.{small_step, gathers_all}
 use Rattle.run_evaluations.proofs.open.Evaluations.small_foot.Goals as goal
 
 pub loop-at-init : goal.loop-at-init

@@ -2,7 +2,7 @@
 use Rattle.std.specs.Prelude.{◌≡◌, ◌≤◌, ◌<◌, ℕ, true, slice_get}
 use Rattle.ub_base.specs.declared.names.Item.{Item}
 use Rattle.footprint.specs.Holds.{holds}
-use Rattle.run_evaluations.specs.Kept.{small_of}
+use Rattle.evaluation_log.specs.Kept.{small_of}
 use Rattle.run_evaluations.proofs.open.Evaluations.small_foot.Given as goal
 
 abbrev pub invariant-loop-at : goal.invariant-loop-at

@@ -1,6 +1,6 @@
 use Rattle.std.proofs.Common.{◌∙◌, ap, suc, below_more, arith}
-use Rattle.run_evaluations.specs.Kept.{items_of}
-use Rattle.run_evaluations.proofs.KeptLemmas.{apart_by, apart_end}
+use Rattle.evaluation_log.specs.Kept.{items_of}
+use Rattle.evaluation_log.proofs.KeptLemmas.{apart_by, apart_end}
 use Rattle.run_evaluations.proofs.open.Evaluations.some_items_conflict.Goals as goal
 
 pub loop-group-preserved : goal.loop-group-preserved

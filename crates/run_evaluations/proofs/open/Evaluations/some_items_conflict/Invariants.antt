@@ -1,6 +1,6 @@
 -- No item of a segment so far conflicts with one of a later segment.
 use Rattle.std.specs.Prelude.{◌≤◌, ◌<◌, ℕ, suc}
-use Rattle.run_evaluations.specs.Kept.{AreApart, items_of}
+use Rattle.evaluation_log.specs.Kept.{AreApart, items_of}
 use Rattle.run_evaluations.proofs.open.Evaluations.some_items_conflict.Given as goal
 
 abbrev pub invariant-loop-group : goal.invariant-loop-group

@@ -1,9 +1,9 @@
 -- No large body so far conflicts with the set.
 use Rattle.std.specs.Prelude.{◌≤◌, ◌<◌, ℕ, slice_get}
 use Rattle.footprint.specs.Holds.{holds}
-use Rattle.run_evaluations.specs.declared.search.Sought.TheVariants.{Any}
-use Rattle.run_evaluations.specs.Clashes.{NoClash}
-use Rattle.run_evaluations.specs.Kept.{listed_has}
+use Rattle.evaluation_log.specs.declared.sought.Sought.TheVariants.{Any}
+use Rattle.evaluation_log.specs.Clashes.{NoClash}
+use Rattle.evaluation_log.specs.Kept.{listed_has}
 use Rattle.run_evaluations.proofs.open.Evaluations.some_large_meets.Given as goal
 
 abbrev pub invariant-loop-i : goal.invariant-loop-i

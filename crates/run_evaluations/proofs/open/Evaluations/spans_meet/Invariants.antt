@@ -1,6 +1,6 @@
 -- No item so far conflicts.
 use Rattle.std.specs.Prelude.{◌≤◌, ◌<◌, ℕ, slice_get}
-use Rattle.run_evaluations.specs.Kept.{IsApart}
+use Rattle.evaluation_log.specs.Kept.{IsApart}
 use Rattle.run_evaluations.proofs.open.Evaluations.spans_meet.Given as goal
 
 abbrev pub invariant-loop-p : goal.invariant-loop-p

@@ -2,8 +2,8 @@ use Rattle.std.proofs.Common.{ap, ◌∙◌, ◌||◌}
 use Rattle.footprint.specs.declared.foot.Foot.{Foot}
 use Rattle.footprint.specs.Holds.{holds}
 use Rattle.std.specs.Prelude.{slice_get}
-use Rattle.run_evaluations.specs.Touched.{event_has}
-use Rattle.run_evaluations.proofs.LooseWholeLemmas.{event_in}
+use Rattle.evaluation_log.specs.Touched.{event_has}
+use Rattle.evaluation_log.proofs.LooseWholeLemmas.{event_in}
 use Rattle.run_evaluations.proofs.open.Evaluations.with_event.Goals as goal
 
 pub returns : goal.returns

@@ -1,0 +1,10 @@
+use Rattle.ub_base.specs.declared.names.Item.TheVariants.{Dies}
+use Rattle.evaluation_log.proofs.KeepLemmas.{after, added, died, forgotten}
+use Rattle.evaluation_log.proofs.level.Level.bury.Goals as goal
+
+pub returns-then-has_born-clause-keeps : goal.returns-then-has_born-clause-keeps
+returns-then-has_born-clause-keeps c =
+    after c.args.self.now.foot c.add.new.self c.forget.new.self
+    (added c.args.self.now.foot c.add.new.self (Dies c.args.object) c.in_ok-add.ensures.added)
+    (forgotten c.add.new.self c.forget.new.self c.args.object c.forget.ensures
+    (died c.args.self.now.foot c.add.new.self c.args.object c.in_ok-add.ensures.added))

@@ -1,0 +1,9 @@
+use Rattle.std.proofs.Common.{below_more, arith}
+use Rattle.std.proofs.lemmas.Option.{slice_get_within}
+use Rattle.evaluation_log.proofs.log.are_harmless.Goals as goal
+
+pub loop-p-preserved : goal.loop-p-preserved
+loop-p-preserved c = below_more _ _ c.loop-p.invariant (λ x e. c.is_harmless_at.ensures c.if-not-is_harmless_at.false x e)
+
+pub returns : goal.returns
+returns c = λ h p x e. c.loop-p.invariant p (let w = slice_get_within c.args.items.now p x e in omega (arith, w)) x e

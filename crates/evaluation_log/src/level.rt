@@ -1,0 +1,59 @@
+// The frames that are open.
+ghost use Rattle.std.specs.Prelude.{◌≡◌, OnOk, Some};
+ghost use Rattle.evaluation_log.specs.Bodies.{Keeps};
+ghost use Rattle.evaluation_log.specs.Kept.{cut_of};
+
+use crate::known::Known;
+use footprint::Foot;
+use ub_base::{Frame, Item, NoMemory, ObjName};
+
+/// An open frame with what it and the frames that it started touched, and its open full expression: its turn, and where
+/// its events, items, segments and lists begin.
+#[derive(Drop)]
+pub struct Level {
+    pub frame: Frame,
+    pub turn: u64,
+    pub foot: Foot,
+    pub events: usize,
+    pub items: usize,
+    pub segments: usize,
+    pub loose: usize,
+    pub large: usize,
+}
+
+impl Level {
+    /// The frame touched these items. Of an object that was born and has died in it, the accesses are forgotten.
+    pub fn touch(&mut self, known: &mut Known, items: &[Item]) -> Result<(), NoMemory>
+        ensures keeps { OnOk result (Keeps self.old.foot self.new.foot) }
+        ensures cut { cut_of (Some self.new) ≡ cut_of (Some self.old) }
+    {
+        for item in items {
+            self.touch_one(known, *item)?;
+        }
+        Ok(())
+    }
+
+    fn touch_one(&mut self, known: &mut Known, item: Item) -> Result<(), NoMemory>
+        ensures keeps { OnOk result (Keeps self.old.foot self.new.foot) }
+        ensures cut { cut_of (Some self.new) ≡ cut_of (Some self.old) }
+    {
+        if let Item::Dies(object) = item {
+            return self.bury(object);
+        }
+        if known.note(self.frame, item) {
+            self.foot.add(item)?;
+        }
+        Ok(())
+    }
+
+    fn bury(&mut self, object: ObjName) -> Result<(), NoMemory>
+        ensures keeps { OnOk result (Keeps self.old.foot self.new.foot) }
+        ensures cut { cut_of (Some self.new) ≡ cut_of (Some self.old) }
+    {
+        self.foot.add(Item::Dies(object))?;
+        if self.foot.has_born(object) {
+            self.foot.forget(object);
+        }
+        Ok(())
+    }
+}
