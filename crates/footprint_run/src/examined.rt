@@ -5,8 +5,8 @@ ghost use Rattle.quiet_trees.specs.Loads.{loads_of};
 ghost use Rattle.quiet_trees.specs.Quiet.{IsQuiet};
 
 use c_typed::Typed;
-use quiet_trees::is_quiet;
 use evaluation_log::Rules;
+use quiet_trees::is_quiet;
 use std::alloc::Global;
 use ub_base::NoMemory;
 
