@@ -83,6 +83,19 @@ impl Detector {
         if self.recorded == 0 {
             return Ok(None);
         }
+        self.recorded_operands(roots, v, node)
+    }
+
+    // The same in a full expression that is recorded. It isn't inlined either.
+    #[inline(never)]
+    fn recorded_operands(
+        &mut self,
+        roots: &[&Typed],
+        v: &View,
+        node: u32,
+    ) -> Result<Option<Seen>, NoMemory>
+        ensures { IfOk result (SeenApart (trees_at roots.now)) }
+    {
         let (rule, chosen) = self.rule(v, node);
         let found = self
             .open
@@ -102,6 +115,19 @@ impl Detector {
         if !self.logged {
             return Ok(None);
         }
+        self.logged_done(roots, v, node)
+    }
+
+    // The same where the last pick was recorded. It isn't inlined, so that a pick that wasn't costs next to nothing.
+    #[inline(never)]
+    fn logged_done(
+        &mut self,
+        roots: &[&Typed],
+        v: &View,
+        node: u32,
+    ) -> Result<Option<Seen>, NoMemory>
+        ensures { IfOk result (SeenApart (trees_at roots.now)) }
+    {
         let found = self.open.node_done(v.frames, v.map, node)?;
         if found.is_none() {
             return Ok(None);
