@@ -14,7 +14,7 @@ use ub_base::{Bytes, Frame, Items, NoMemory};
 // The vias of the stores.
 fn vias_of(alloc: Global, code: &Code, memory: &mut Memory) -> Result<Vec<Via>, NoMemory> {
     let mut vias = Vec::new(alloc);
-    for store in &code.stores {
+    for store in &code.tables.stores {
         let via = match store.access {
             Access::Integer(kind) => Via::Scalar(TypeId::of_kind(kind)),
             Access::Pointer | Access::Function => Via::Scalar(memory.type_id(store.ty)?),
@@ -32,7 +32,7 @@ fn fillings_of(
     places: &Places,
 ) -> Result<Vec<Items<Filling>>, NoMemory> {
     let mut all = Vec::new(alloc);
-    for constants in &code.constants {
+    for constants in &code.tables.constants {
         all.push(fillings(alloc, memory, places, *constants)?)?;
     }
     Ok(all)

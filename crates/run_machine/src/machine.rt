@@ -17,11 +17,14 @@ use ub_base::{Frame, Frames, Items, NoMemory, ObjName};
 #[derive(Clone, Copy, Debug)]
 pub struct Stage {
     pub expression: u32,
-    // Where the next entry of its listing stands, and where the listing ends.
+    // Where its listing begins, where the next entry of it stands, and where it ends.
+    pub first: usize,
     pub cursor: usize,
     pub end: usize,
     // Each event so far was the canonical one, so that those done are those that the cursor has passed.
     pub straight: bool,
+    // Where its value comes from.
+    pub value: Operand,
 }
 
 // An open frame.

@@ -1,10 +1,12 @@
 // Which pick is the canonical one, which are permitted, and what an event completes.
+ghost use Rattle.std.specs.Prelude.{IfOk, IfSome};
+ghost use Rattle.run_code.specs.Named.{IsDueOf};
 
 use crate::halt::Halt;
 use crate::machine::{Machine, Stage};
 use crate::pick::{Completed, Pick};
 use c_typed::Place;
-use run_code::{Due, Expression, Listed};
+use run_code::{Due, Listed};
 use seq_order::{Done, canonical_next, is_permitted};
 use std::alloc::Global;
 use ub_base::NoMemory;
@@ -83,39 +85,29 @@ impl<'p, 'c> Machine<'p, 'c> {
     // The events that the cursor has passed.
     fn passed(&self, stage: Stage) -> Result<Done, NoMemory> {
         let mut done = Done::new(self.alloc);
-        let mut at = self.expression(stage)?.first;
-        for _ in at..stage.cursor {
+        let mut at = stage.first;
+        for _ in stage.first..stage.cursor {
             if at < stage.cursor {
-                match self.code.listing.get(at) {
-                    Some(Listed::Event(due)) => {
-                        done.add(due.place)?;
-                        at = at.saturating_add(1);
-                    }
-                    Some(Listed::Operand { .. }) => at = self.behind(at),
-                    None => return Err(NoMemory),
+                if let Some(due) = self.code.event(at) {
+                    done.add(due.place)?;
                 }
+                at = self.behind(at);
             }
         }
         Ok(done)
     }
 
-    pub fn expression(&self, stage: Stage) -> Result<&'c Expression<'p>, NoMemory> {
-        let code = self.code;
-        match code.expressions.get(stage.expression as usize) {
-            Some(expression) => Ok(expression),
-            None => Err(NoMemory),
-        }
-    }
-
     // The next event of the top frame's full expression in canonical order; None where none is left or none has begun.
-    fn next_due(&mut self) -> Result<Option<&'c Due<'p>>, NoMemory> {
+    fn next_due(&mut self) -> Result<Option<&'c Due<'p>>, NoMemory>
+        ensures named { IfOk result (λ due. IfSome due (λ due. IsDueOf self.new.code.now.tables due.now)) }
+    {
         let Some(stage) = self.top.stage else {
             return Ok(None);
         };
         if stage.straight {
-            let cursor = self.next_listed(stage);
+            let (cursor, due) = self.next_listed(stage);
             self.top.stage = Some(Stage { cursor, ..stage });
-            return self.listed(cursor, stage.end);
+            return Ok(due);
         }
         let height = self.below.len();
         let (Some(begun), Some(done)) = (self.begun.get(height), self.strayed.get(height)) else {
@@ -127,28 +119,23 @@ impl<'p, 'c> Machine<'p, 'c> {
         }
     }
 
-    // The event at this place of the listing, None at its end.
-    fn listed(&self, cursor: usize, end: usize) -> Result<Option<&'c Due<'p>>, NoMemory> {
-        if cursor >= end {
-            return Ok(None);
-        }
+    // Where the next event of the listing stands from the cursor on, and the event: operands that aren't chosen are passed over.
+    // None at the end of the listing.
+    fn next_listed(&self, stage: Stage) -> (usize, Option<&'c Due<'p>>)
+        ensures named { IfSome result.1 (λ due. IsDueOf self.now.code.now.tables due.now) }
+    {
         let code = self.code;
-        match code.listing.get(cursor) {
-            Some(Listed::Event(due)) => Ok(Some(due)),
-            _ => Err(NoMemory),
-        }
-    }
-
-    // Where the next event of the listing stands from the cursor on: operands that aren't chosen are passed over.
-    fn next_listed(&self, stage: Stage) -> usize {
         let mut at = stage.cursor;
         for _ in stage.cursor..stage.end {
-            match self.code.listing.get(at) {
-                Some(Listed::Operand { .. }) => at = self.behind(at),
-                _ => return at,
+            if at >= stage.end {
+                return (at, None);
             }
+            if let Some(due) = code.event(at) {
+                return (at, Some(due));
+            }
+            at = self.behind(at);
         }
-        at
+        (at, None)
     }
 
     // Where the listing goes on behind the entry of an operand.
@@ -181,11 +168,12 @@ impl<'p, 'c> Machine<'p, 'c> {
     }
 
     // The entry of an event in the listing. It costs a walk over the listing.
-    fn due_of(&self, stage: Stage, place: Place) -> Result<&'c Due<'p>, NoMemory> {
+    fn due_of(&self, stage: Stage, place: Place) -> Result<&'c Due<'p>, NoMemory>
+        ensures named { IfOk result (λ due. IsDueOf self.now.code.now.tables due.now) }
+    {
         let code = self.code;
-        let first = self.expression(stage)?.first;
-        for at in first..stage.end {
-            if let Some(Listed::Event(due)) = code.listing.get(at) {
+        for at in stage.first..stage.end {
+            if let Some(due) = code.event(at) {
                 if due.place == place {
                     return Ok(due);
                 }
@@ -195,16 +183,16 @@ impl<'p, 'c> Machine<'p, 'c> {
     }
 
     // What the event completes: its node, and where the next event is the parent's own, all below the parent.
-    pub fn completed(&self, due: &Due<'p>) -> Result<Completed, NoMemory> {
+    pub fn completed(&self, due: &Due<'p>) -> Completed {
         let (Some(stage), true) = (self.top.stage, due.completes) else {
-            return Ok(Completed::Nothing);
+            return Completed::Nothing;
         };
         let Some(parent) = due.parent else {
-            return Ok(Completed::Node);
+            return Completed::Node;
         };
-        match self.listed(self.next_listed(stage), stage.end)? {
-            Some(next) if next.place.node == parent => Ok(Completed::Operands(parent)),
-            _ => Ok(Completed::Node),
+        match self.next_listed(stage).1 {
+            Some(next) if next.place.node == parent => Completed::Operands(parent),
+            _ => Completed::Node,
         }
     }
 }
