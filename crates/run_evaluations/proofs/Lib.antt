@@ -1,5 +1,6 @@
 pub mod BetweenLemmas
 pub mod ClashLemmas
+pub mod EndLemmas
 pub mod KeepLemmas
 pub mod KeptLemmas
 pub mod LooseLemmas

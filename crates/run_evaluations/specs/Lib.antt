@@ -1,5 +1,6 @@
 pub mod Bodies
 pub mod Clashes
+pub mod Ends
 pub mod FoundItems
 pub mod Kept
 pub mod Loose

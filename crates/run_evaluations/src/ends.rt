@@ -1,6 +1,10 @@
 // An end of the run beside evaluations that it isn't sequenced with.
-ghost use Rattle.std.specs.Prelude.{IfOk, IfSome, OnOk};
+ghost use Rattle.std.specs.Prelude.{◌≡◌, ℕ, true, None, Some, IfNone, IfOk, IfSome, OnOk, slice_get};
+ghost use Rattle.ub_base.specs.declared.names.Item.{Item};
+ghost use Rattle.footprint.specs.Holds.{holds};
 ghost use Rattle.footprint.specs.Conflicts.{MayConflict};
+ghost use Rattle.run_evaluations.specs.Touched.{event_has};
+ghost use Rattle.run_evaluations.specs.Ends.{is_value, is_value_kind, events_from, IsDone, HasValue, NoneBeside};
 ghost use Rattle.run_evaluations.specs.FoundItems.{AreOfOne, ItemsConflict};
 ghost use Rattle.run_evaluations.specs.Kept.{IsKept};
 ghost use Rattle.run_evaluations.specs.Loose.{IsLooseKept};
@@ -11,6 +15,7 @@ use crate::rules::{Rule, Rules};
 use crate::search::{Sought, Under, least_items};
 use crate::trees::step_to;
 use addr_map::AddrMap;
+use footprint::Foot;
 use c_typed::Typed;
 use std::alloc::Global;
 use ub_base::{Event, Frames, Item, Kind, NoMemory};
@@ -54,18 +59,15 @@ impl Evaluations {
 
     // The conflict of the last event with the value of this node, done or pending.
     fn found_beside(&self, under: Under<'_>, node: u32) -> Result<Option<Found>, NoMemory>
-        ensures { IfOk result ItemsConflict }
+        ensures conflict { IfOk result ItemsConflict }
+        ensures none { IfOk result (λ r. IfNone r (NoneBeside under.entry.map.now self.now node)) }
     {
         let last = self.events.len().saturating_sub(1);
         let (from, end) = match self.events.get(last) {
             Some(event) => (event.node, event.kind),
             None => return Ok(None),
         };
-        let mut foot = match self.done(node) {
-            Some(at) => self.event_foot(at)?,
-            None => footprint::Foot::new(self.alloc),
-        };
-        foot.add(Item::Any)?;
+        let foot = self.value_foot(node)?;
         let ending = self.event_foot(last)?;
         let place = self.place();
         let value = named(place, node, Kind::Val);
@@ -77,20 +79,55 @@ impl Evaluations {
         })
     }
 
+    // What the value of this node touched, if it is done, and what stands for every event.
+    fn value_foot(&self, node: u32) -> Result<Foot, NoMemory>
+        ensures { IfOk result (HasValue self.now node) }
+    {
+        let mut foot = self.done_foot(node)?;
+        foot.add(Item::Any)?;
+        Ok(foot)
+    }
+
+    fn done_foot(&self, node: u32) -> Result<Foot, NoMemory>
+        ensures { IfOk result (λ f. (k : ℕ) → IsDone self.now node k → (j : Item) →
+            event_has self.now.items.items (slice_get self.now.events.items k) j ≡ true → holds f j ≡ true) }
+    {
+        match self.done(node) {
+            Some(at) => self.event_foot(at),
+            None => Ok(Foot::new(self.alloc)),
+        }
+    }
+
     // The value of this node, if it is done.
-    fn done(&self, node: u32) -> Option<usize> {
-        let from = match self.levels.last() {
-            Some(level) => level.events,
-            None => return None,
-        };
+    fn done(&self, node: u32) -> Option<usize>
+        ensures { (k : ℕ) → IsDone self.now node k → result ≡ Some k }
+    {
+        let from = self.events_from();
         for at in from..self.events.len() {
-            if let Some(event) = self.events.get(at) {
-                if event.node == node && event.kind == Kind::Val {
-                    return Some(at);
-                }
+            if self.is_value(at, node) {
+                return Some(at);
             }
         }
         None
+    }
+
+    // Where the events of the top frame's full expression begin.
+    fn events_from(&self) -> usize
+        ensures { result ≡ events_from self.now }
+    {
+        match self.levels.last() {
+            Some(level) => level.events,
+            None => 0,
+        }
+    }
+
+    fn is_value(&self, at: usize, node: u32) -> bool
+        ensures { result ≡ is_value node (slice_get self.now.events.items at) }
+    {
+        match self.events.get(at) {
+            Some(event) => is_value_kind(event.kind) && event.node == node,
+            None => false,
+        }
     }
 
     // The first conflict between operands of a node on the way that isn't complete.
@@ -118,6 +155,15 @@ impl Evaluations {
     }
 }
 
+fn is_value_kind(kind: Kind) -> bool
+    ensures { result ≡ is_value_kind kind }
+{
+    match kind {
+        Kind::Val => true,
+        _ => false,
+    }
+}
+
 fn is_unsequenced(rule: Rule) -> bool {
     match rule {
         Rule::Open | Rule::Closed => true,
@@ -129,7 +175,8 @@ fn is_unsequenced(rule: Rule) -> bool {
 fn dependence(event: Event, against: Event, items: Option<(Item, Item)>) -> Option<Found>
     requires one { AreOfOne event against }
     requires may { IfSome items (λ p. MayConflict p.0 p.1) }
-    ensures { ItemsConflict result }
+    ensures conflict { ItemsConflict result }
+    ensures none { result ≡ None → items ≡ None }
 {
     let items = items?;
     Some(Found {
