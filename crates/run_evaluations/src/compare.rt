@@ -14,6 +14,7 @@ ghost use Rattle.run_evaluations.specs.Kept.{IsKept, NoneOfOperands, IsSameRest,
 ghost use Rattle.run_evaluations.specs.Kept.{items_of, large_of, foot_of, listed_has, own_body, small_of, is_unsequenced};
 ghost use Rattle.run_evaluations.specs.Loose.{IsLooseKept};
 ghost use Rattle.run_evaluations.specs.Touched.{start_of};
+ghost use Rattle.run_evaluations.specs.Ways.{node_of};
 
 use crate::found::Found;
 use crate::open::Evaluations;
@@ -67,7 +68,7 @@ impl Evaluations {
             IfOk result (λ r. IfNone r
             (NoneBetween Any under.entry.map.now self.old.segments.items self.old.events.items self.old.items.items at)) }
     {
-        if !is_unsequenced(rule) {
+        if !rule.is_unsequenced() {
             self.join(at, node, rule, chosen, None);
             return Ok(None);
         }
@@ -81,6 +82,7 @@ impl Evaluations {
 
     pub(crate) fn take_foot(&mut self, at: usize) -> Option<Box<Foot>>
         ensures taken { IsTaken self.old self.new at }
+        ensures nodes { (g : ℕ) → node_of (slice_get self.new.segments.items g) ≡ node_of (slice_get self.old.segments.items g) }
         ensures given { result ≡ foot_of (slice_get self.old.segments.items at) }
     {
         match self.segments.get_mut(at) {
@@ -428,14 +430,5 @@ impl Evaluations {
             Some(body) => self.large_meets(map, k, body),
             None => false,
         }
-    }
-}
-
-fn is_unsequenced(rule: Rule) -> bool
-    ensures { result ≡ is_unsequenced rule }
-{
-    match rule {
-        Rule::Open | Rule::Closed => true,
-        _ => false,
     }
 }

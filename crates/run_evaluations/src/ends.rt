@@ -1,19 +1,23 @@
 // An end of the run beside evaluations that it isn't sequenced with.
-ghost use Rattle.std.specs.Prelude.{◌≡◌, ℕ, true, None, Some, IfNone, IfOk, IfSome, OnOk, slice_get};
+ghost use Rattle.std.specs.Prelude.{◌≡◌, ◌<◌, ◌+◌, ◌^◌, ◌++◌, ◌∷◌, [], ℕ, true, None, Some, IfOk, IfNone, IfSome, OnOk, slice_get};
+ghost use Rattle.std.specs.Prelude.{◌-◌, length};
+ghost use Rattle.c_typed.specs.Tree.{tree_of, size};
+ghost use Rattle.run_evaluations.specs.declared.log.Logged.{Logged};
 ghost use Rattle.ub_base.specs.declared.names.Item.{Item};
 ghost use Rattle.footprint.specs.Holds.{holds};
 ghost use Rattle.footprint.specs.Conflicts.{MayConflict};
 ghost use Rattle.run_evaluations.specs.Touched.{event_has};
 ghost use Rattle.run_evaluations.specs.Ends.{is_value, is_value_kind, events_from, IsDone, HasValue, NoneBeside};
 ghost use Rattle.run_evaluations.specs.FoundItems.{AreOfOne, ItemsConflict};
-ghost use Rattle.run_evaluations.specs.Kept.{IsKept};
+ghost use Rattle.run_evaluations.specs.Kept.{IsKept, IsSameRest, NoneOfOperands, is_unsequenced};
 ghost use Rattle.run_evaluations.specs.Loose.{IsLooseKept};
+ghost use Rattle.run_evaluations.specs.Ways.{IsGathered, IsRising, NoneOnWay, NoneAtEnd, above_in};
 
 use crate::found::{Found, first_of};
 use crate::open::{Evaluations, named};
 use crate::rules::{Rule, Rules};
 use crate::search::{Sought, Under, least_items};
-use crate::trees::step_to;
+use crate::trees::{locate, step_to};
 use addr_map::AddrMap;
 use footprint::Foot;
 use c_typed::Typed;
@@ -27,6 +31,21 @@ struct Way {
     above: Vec<u32>,
     before: Option<u32>,
     behind: Option<u32>,
+}
+
+impl Way {
+    // The way goes on below this node.
+    fn pass(&mut self, tree: &Typed, number: u32, target: u32, rules: &Rules) -> Result<(), NoMemory>
+        ensures { OnOk result (self.new.above.items ≡ self.old.above.items ++ (number ∷ [])) }
+    {
+        self.above.push(number)?;
+        if rules.get(number).is_unsequenced() {
+            let step = step_to(tree, number, target);
+            self.before = self.before.or(step.before);
+            self.behind = step.behind.or(self.behind);
+        }
+        Ok(())
+    }
 }
 
 impl Evaluations {
@@ -43,18 +62,42 @@ impl Evaluations {
         ensures conflict { IfOk result ItemsConflict }
         ensures kept { OnOk result (IsKept self.old → IsKept self.new) }
         ensures loose { OnOk result (IsKept self.old → IsLooseKept self.old → IsLooseKept self.new) }
+        ensures none { IsKept self.old → size (tree_of root.now) < 2 ^ 32 → IfOk result
+            (λ r. IfNone r (NoneAtEnd map.now rules.now (tree_of root.now) self.old)) }
     {
-        let Some(last) = self.events.last() else {
+        let Some(target) = self.last_node() else {
             return Ok(None);
         };
-        let way = way_to(self.alloc, root, rules, last.node)?;
+        let way = way_to(self.alloc, root, rules, target)?;
         let under = Under { frames, map };
-        let beside = match way.before.or(way.behind) {
-            Some(node) => self.found_beside(under, node)?,
-            None => None,
-        };
+        let beside = self.found_beside_some(under, way.before.or(way.behind))?;
         let open = self.found_on_way(under, &way, rules)?;
         Ok(first_of(frames, beside, open))
+    }
+
+    // The node of the last event.
+    fn last_node(&self) -> Option<u32>
+        ensures { (last : Logged) → slice_get self.now.events.items (length self.now.events.items - 1) ≡ Some last → result ≡ Some last.node }
+    {
+        match self.events.last() {
+            Some(event) => Some(event.node),
+            None => None,
+        }
+    }
+
+    // The conflict of the last event with the value of this node, where there is one.
+    fn found_beside_some(
+        &self,
+        under: Under<'_>,
+        node: Option<u32>,
+    ) -> Result<Option<Found>, NoMemory>
+        ensures conflict { IfOk result ItemsConflict }
+        ensures none { IfOk result (λ r. IfNone r (IfSome node (NoneBeside under.entry.map.now self.now))) }
+    {
+        match node {
+            Some(node) => self.found_beside(under, node),
+            None => Ok(None),
+        }
     }
 
     // The conflict of the last event with the value of this node, done or pending.
@@ -140,18 +183,57 @@ impl Evaluations {
         ensures conflict { IfOk result ItemsConflict }
         ensures kept { IsKept self.old → IsKept self.new }
         ensures loose { IsKept self.old → IsLooseKept self.old → IsLooseKept self.new }
+        ensures none { IsKept self.old → IsRising way.now.above.items → IfOk result
+            (λ r. IfNone r (NoneOnWay under.entry.map.now rules.now way.now.above.items self.old)) }
     {
         let mut best = None;
-        for node in way.above.iter().rev() {
-            let rule = rules.get(*node);
-            let at = self.operands(*node);
-            if at.saturating_add(1) < self.segments.len() && is_unsequenced(rule) {
-                let found = self.found_between(under, at)?;
-                best = first_of(under.frames, best, found);
-            }
-            self.gather(*node, rule, true);
+        for i in (0..way.above.len()).rev() {
+            let node = way.above[i];
+            best = self.found_at_node(under, node, rules.get(node), best)?;
         }
         Ok(best)
+    }
+
+    // The first conflict so far, with those between the operands of this node, which are made one.
+    fn found_at_node(
+        &mut self,
+        under: Under<'_>,
+        node: u32,
+        rule: Rule,
+        best: Option<Found>,
+    ) -> Result<Option<Found>, NoMemory>
+        requires { ItemsConflict best }
+        ensures conflict { IfOk result ItemsConflict }
+        ensures kept { IsKept self.old → IsKept self.new }
+        ensures loose { IsKept self.old → IsLooseKept self.old → IsLooseKept self.new }
+        ensures none { IsKept self.old → IfOk result (λ r. r ≡ None → (best ≡ None) ×
+            (is_unsequenced rule ≡ true → NoneOfOperands under.entry.map.now self.old node)) }
+        ensures rest { IsSameRest self.old self.new }
+        ensures made { OnOk result ((at : ℕ) × IsGathered self.old self.new node at) }
+    {
+        let found = self.found_of_operands(under, node, rule)?;
+        self.gather(node, rule, true);
+        Ok(first_of(under.frames, best, found))
+    }
+
+    // The first conflict between the operands of this node, if they are unsequenced.
+    fn found_of_operands(
+        &self,
+        under: Under<'_>,
+        node: u32,
+        rule: Rule,
+    ) -> Result<Option<Found>, NoMemory>
+        ensures conflict { IfOk result ItemsConflict }
+        ensures none { IsKept self.now → is_unsequenced rule ≡ true → IfOk result (λ r. IfNone r (NoneOfOperands under.entry.map.now self.now node)) }
+    {
+        let at = self.operands(node);
+        if at.saturating_add(1) >= self.segments.len() {
+            return Ok(None);
+        }
+        if !rule.is_unsequenced() {
+            return Ok(None);
+        }
+        self.found_between(under, at)
     }
 }
 
@@ -160,13 +242,6 @@ fn is_value_kind(kind: Kind) -> bool
 {
     match kind {
         Kind::Val => true,
-        _ => false,
-    }
-}
-
-fn is_unsequenced(rule: Rule) -> bool {
-    match rule {
-        Rule::Open | Rule::Closed => true,
         _ => false,
     }
 }
@@ -188,29 +263,35 @@ fn dependence(event: Event, against: Event, items: Option<(Item, Item)>) -> Opti
 }
 
 // The way from the root to the node of this number.
-fn way_to(alloc: Global, root: &Typed, rules: &Rules, target: u32) -> Result<Way, NoMemory> {
+fn way_to(alloc: Global, root: &Typed, rules: &Rules, target: u32) -> Result<Way, NoMemory>
+    ensures { size (tree_of root.now) < 2 ^ 32 → IfOk result (λ way. way.above.items ≡ above_in 0 (tree_of root.now) target) }
+{
     let mut way = Way {
         above: Vec::new(alloc),
         before: None,
         behind: None,
     };
-    let mut tree = root;
-    let mut number = 0;
-    for _ in 0..target {
-        if number >= target {
-            return Ok(way);
-        }
-        way.above.push(number)?;
-        let step = step_to(tree, number, target);
-        if is_unsequenced(rules.get(number)) {
-            way.before = way.before.or(step.before);
-            way.behind = step.behind.or(way.behind);
-        }
-        match step.next {
-            Some(next) => tree = next,
-            None => return Ok(way),
-        }
-        number = step.number;
-    }
+    add_way(root, 0, target, rules, &mut way)?;
     Ok(way)
+}
+
+// Adds the way from the root of a tree, which has this number, to a node below it.
+fn add_way(
+    tree: &Typed,
+    number: u32,
+    target: u32,
+    rules: &Rules,
+    way: &mut Way,
+) -> Result<(), NoMemory>
+    ensures { number + size (tree_of tree.now) < 2 ^ 32 → OnOk result (way.new.above.items ≡ way.old.above.items ++ above_in number (tree_of tree.now) target) }
+{
+    if number >= target {
+        return Ok(());
+    }
+    way.pass(tree, number, target, rules)?;
+    let Some(spot) = locate(tree, number, target) else {
+        return Ok(());
+    };
+    add_way(&tree.children.as_slice()[spot.index], spot.number, target, rules, way)?;
+    Ok(())
 }

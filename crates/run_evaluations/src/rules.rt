@@ -1,4 +1,7 @@
 // How the nodes of a full expression sequence their operands.
+ghost use Rattle.std.specs.Prelude.{◌≡◌};
+ghost use Rattle.run_evaluations.specs.Ways.{rule_in};
+ghost use Rattle.run_evaluations.specs.Kept.{is_unsequenced};
 
 use c_typed::{Node, Typed};
 use std::alloc::Global;
@@ -46,10 +49,24 @@ impl Rules {
     }
 
     /// The rule of a node; Open where there is no such node.
-    pub fn get(&self, node: u32) -> Rule {
+    pub fn get(&self, node: u32) -> Rule
+        ensures { result ≡ rule_in self.now node }
+    {
         match self.list.get(node as usize) {
             Some(rule) => *rule,
             None => Rule::Open,
+        }
+    }
+}
+
+impl Rule {
+    /// Whether the operands are unsequenced.
+    pub(crate) fn is_unsequenced(self) -> bool
+        ensures { result ≡ is_unsequenced self }
+    {
+        match self {
+            Rule::Open | Rule::Closed => true,
+            _ => false,
         }
     }
 }
