@@ -1,18 +1,15 @@
 -- An end of the run beside the value of a node.
-use Rattle.std.proofs.Common.{◌≡◌, ⊎_elim, ℕ, ◌≤◌, ◌<◌, ◌-◌, Bool, true, false, ◌||◌, List, length, refl, sym, ap, ◌∙◌, arith, Option, Some, None, subst}
-use Rattle.std.specs.Prelude.{slice_get, IfNone}
+use Rattle.std.proofs.Common.{◌≡◌, ⊎_elim, ℕ, ◌≤◌, ◌<◌, true, false, List, length, sym, ap, ◌∙◌, arith, Option, Some, None, subst}
+use Rattle.std.specs.Prelude.{slice_get}
 use Rattle.std.proofs.lemmas.Option.{slice_get_past}
 use Rattle.ub_base.specs.declared.names.Item.{Item}
-use Rattle.ub_base.specs.declared.names.Item.TheVariants.{Any as AnyEvent}
 use Rattle.ub_base.specs.Frames.{Row as FrameRow}
 use Rattle.addr_map.specs.declared.map.Row.{Row}
 use Rattle.footprint.specs.declared.foot.Foot.{Foot}
-use Rattle.footprint.specs.Holds.{holds, stands_for}
+use Rattle.footprint.specs.Holds.{holds}
 use Rattle.footprint.specs.Least.{IsLeast}
-use Rattle.run_evaluations.specs.declared.found.Found.{Found}
 use Rattle.run_evaluations.specs.declared.open.Evaluations.{Evaluations}
 use Rattle.run_evaluations.specs.declared.search.Sought.TheVariants.{Any}
-use Rattle.run_evaluations.specs.Touched.{event_has}
 use Rattle.run_evaluations.specs.Clashes.{Clash, NoClash}
 use Rattle.run_evaluations.specs.Ends.{is_value, events_from, IsDone, HasValue, last_has, NoneBeside}
 use Rattle.run_evaluations.proofs.BetweenLemmas.{none_turned}

@@ -1,16 +1,14 @@
 -- The way from the root to a node, and what its operands touched.
-use Rattle.std.proofs.Common.{◌≡◌, ◌≢◌, ◌⊎◌, inl, inr, ⊎_elim, ℕ, zero, suc, ◌≤◌, ◌<◌, ◌+◌, ◌-◌, ◌^◌, min, nat_lt, Bool, true, false, List, [], ◌∷◌, ◌++◌}
+use Rattle.std.proofs.Common.{◌≡◌, ⊎_elim, ℕ, zero, suc, ◌≤◌, ◌<◌, ◌+◌, ◌-◌, ◌^◌, min, nat_lt, Bool, true, false, List, [], ◌∷◌, ◌++◌}
 use Rattle.std.proofs.Common.{length, get_or, refl, sym, ap, ◌∙◌, arith, Option, Some, None, subst, if◌then◌else◌}
 use Rattle.std.specs.Prelude.{slice_get}
-use Rattle.std.proofs.lemmas.Bool.Decides.{nat_tests}
-use Rattle.std.proofs.lemmas.Option.{slice_get_cases, slice_get_past, slice_get_within, same_Some}
+use Rattle.std.proofs.lemmas.Option.{slice_get_within, same_Some}
 use Rattle.ub_base.specs.declared.names.Item.{Item}
 use Rattle.ub_base.proofs.Tests.{less_test, not_less_test, if_true, if_false, some_is}
 use Rattle.addr_map.specs.declared.map.Row.{Row}
 use Rattle.c_typed.specs.declared.tree.Typed.{Typed, out-Typed, fold_out-Typed}
 use Rattle.c_typed.specs.declared.class.Class.{Class}
 use Rattle.c_typed.specs.Tree.{Tree, Trees, node, none, more, size, sizes, tree_of, trees_of, operands, node_class, typed_tree}
-use Rattle.run_evaluations.specs.declared.log.Logged.{Logged}
 use Rattle.run_evaluations.specs.declared.log.Segment.{Segment}
 use Rattle.run_evaluations.specs.declared.level.Level.{Level}
 use Rattle.run_evaluations.specs.declared.open.Evaluations.{Evaluations}
@@ -346,48 +344,54 @@ module _ (old cur : Evaluations) (above : List ℕ) (p c n : ℕ) (shape : Shape
       (λ same. subst (λ (x : ℕ). marks (slice_get new.segments.items x) ≡ marks (slice_get cur.segments.items x)) (omega (arith, same, low))
       (made.begins one))
       (before_or_past g at) in
-      let n_is = made.count one in
-      (at, record {
-        rest = rest_after rest;
-        low = λ less. subst (λ (ls : List Level). base_of ls ≤ at) shape.rest.levels made.low;
-        high = omega (arith, n_is);
-        within = let w = shape.within in omega (arith, le, w);
-        all = λ few. absurd (omega (arith, few, n_is));
-        starts = λ g low. start_same old.events.items (slice_get new.segments.items g) (slice_get cur.segments.items g) (marked g low) ∙
-            shape.starts g (omega (arith, low, le));
-        nodes = λ g under. (made.others one g under).1 ∙ shape.nodes g (omega (arith, under, le));
-        own = λ s h. (p, omega arith, here ∙ ap Some (same_Some n s.node (sym (made.own one) ∙ ap node_of h)));
-        behind = λ g low inside. (
-          p,
-          n,
-          omega arith,
-          here,
-          (subst (λ (ls : List Level). base_of ls ≤ g) shape.rest.levels (let b = made.low in omega (arith, b, low)),
-          λ k s more there. ⊎_elim
-              (λ under. let t = node_at (slice_get old.segments.items k) (slice_get cur.segments.items k) s (shape.nodes k under) there in
-              let b = made.behind k t.0 (omega (arith, more, low)) t.1 in omega (arith, b, t.2))
-              (λ past.
-              let w = slice_get_within old.segments.items k s there in
-              let o = shape.behind k past w in
-              let b = o.4.1 k s (omega arith) there in
-              let r = rising p o.0 n o.1 (omega (arith, o.2)) here o.3 in
-              omega (arith, b, r))
-              (before_or_past k c)),
-        );
-      }))
+      let n_is = made.count one in (
+        at,
+        record {
+          rest = rest_after rest;
+          low = λ less. subst (λ (ls : List Level). base_of ls ≤ at) shape.rest.levels made.low;
+          high = omega (arith, n_is);
+          within = let w = shape.within in omega (arith, le, w);
+          all = λ few. absurd (omega (arith, few, n_is));
+          starts = λ g low. start_same old.events.items (slice_get new.segments.items g) (slice_get cur.segments.items g) (marked g low) ∙
+              shape.starts g (omega (arith, low, le));
+          nodes = λ g under. (made.others one g under).1 ∙ shape.nodes g (omega (arith, under, le));
+          own = λ s h. (p, omega arith, here ∙ ap Some (same_Some n s.node (sym (made.own one) ∙ ap node_of h)));
+          behind = λ g low inside. (
+            p,
+            n,
+            omega arith,
+            here,
+            (
+              subst (λ (ls : List Level). base_of ls ≤ g) shape.rest.levels (let b = made.low in omega (arith, b, low)),
+              λ k s more there. ⊎_elim
+                  (λ under. let t = node_at (slice_get old.segments.items k) (slice_get cur.segments.items k) s (shape.nodes k under) there in
+                  let b = made.behind k t.0 (omega (arith, more, low)) t.1 in omega (arith, b, t.2))
+                  (λ past.
+                  let w = slice_get_within old.segments.items k s there in
+                  let o = shape.behind k past w in
+                  let b = o.4.1 k s (omega arith) there in
+                  let r = rising p o.0 n o.1 (omega (arith, o.2)) here o.3 in
+                  omega (arith, b, r))
+                  (before_or_past k c),
+            ),
+          );
+        },
+      ))
       (λ few.
-      let e = made.same few in
-      (c, record {
-        rest = rest_after rest;
-        low = λ less. shape.low (let m = ap length e in omega (arith, m, less));
-        high = let h = shape.high in let m = ap length e in omega (arith, m, h);
-        within = shape.within;
-        all = λ few. shape.all (let m = ap length e in omega (arith, m, few));
-        starts = λ g low. ap (λ (xs : List Segment). start_of xs old.events.items g) e ∙ shape.starts g low;
-        nodes = λ g under. ap (λ (xs : List Segment). node_of (slice_get xs g)) e ∙ shape.nodes g under;
-        own = λ s h. let o = shape.own s (ap (λ (xs : List Segment). slice_get xs c) (sym e) ∙ h) in (o.0, omega (arith, o.1), o.2);
-        behind = λ g low inside. let o = shape.behind g low inside in (o.0, o.1, omega (arith, o.2), o.3, o.4);
-      }))
+      let e = made.same few in (
+        c,
+        record {
+          rest = rest_after rest;
+          low = λ less. shape.low (let m = ap length e in omega (arith, m, less));
+          high = let h = shape.high in let m = ap length e in omega (arith, m, h);
+          within = shape.within;
+          all = λ few. shape.all (let m = ap length e in omega (arith, m, few));
+          starts = λ g low. ap (λ (xs : List Segment). start_of xs old.events.items g) e ∙ shape.starts g low;
+          nodes = λ g under. ap (λ (xs : List Segment). node_of (slice_get xs g)) e ∙ shape.nodes g under;
+          own = λ s h. let o = shape.own s (ap (λ (xs : List Segment). slice_get xs c) (sym e) ∙ h) in (o.0, omega (arith, o.1), o.2);
+          behind = λ g low inside. let o = shape.behind g low inside in (o.0, o.1, omega (arith, o.2), o.3, o.4);
+        },
+      ))
       (before_or_past at (length cur.segments.items))
     where
       rest_after : IsSameRest cur new → IsSameRest old new

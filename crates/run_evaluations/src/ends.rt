@@ -19,8 +19,8 @@ use crate::rules::{Rule, Rules};
 use crate::search::{Sought, Under, least_items};
 use crate::trees::{locate, step_to};
 use addr_map::AddrMap;
-use footprint::Foot;
 use c_typed::Typed;
+use footprint::Foot;
 use std::alloc::Global;
 use ub_base::{Event, Frames, Item, Kind, NoMemory};
 
@@ -35,7 +35,13 @@ struct Way {
 
 impl Way {
     // The way goes on below this node.
-    fn pass(&mut self, tree: &Typed, number: u32, target: u32, rules: &Rules) -> Result<(), NoMemory>
+    fn pass(
+        &mut self,
+        tree: &Typed,
+        number: u32,
+        target: u32,
+        rules: &Rules,
+    ) -> Result<(), NoMemory>
         ensures { OnOk result (self.new.above.items ≡ self.old.above.items ++ (number ∷ [])) }
     {
         self.above.push(number)?;
@@ -283,7 +289,8 @@ fn add_way(
     rules: &Rules,
     way: &mut Way,
 ) -> Result<(), NoMemory>
-    ensures { number + size (tree_of tree.now) < 2 ^ 32 → OnOk result (way.new.above.items ≡ way.old.above.items ++ above_in number (tree_of tree.now) target) }
+    ensures { number + size (tree_of tree.now) < 2 ^ 32 → OnOk result
+        (way.new.above.items ≡ way.old.above.items ++ above_in number (tree_of tree.now) target) }
 {
     if number >= target {
         return Ok(());
@@ -292,6 +299,12 @@ fn add_way(
     let Some(spot) = locate(tree, number, target) else {
         return Ok(());
     };
-    add_way(&tree.children.as_slice()[spot.index], spot.number, target, rules, way)?;
+    add_way(
+        &tree.children.as_slice()[spot.index],
+        spot.number,
+        target,
+        rules,
+        way,
+    )?;
     Ok(())
 }

@@ -6,7 +6,8 @@ use Rattle.run_evaluations.proofs.ends.+add_way.Goals as goal
 
 pub returns-then-number-target : goal.returns-then-number-target
 returns-then-number-target t c = λ h.
-    sym (ap (λ (xs : List ℕ). c.args.way.now.above.items ++ xs) (way_here c.args.number (tree_of c.args.tree.now) c.args.target (omega (arith, c.if-number-target.true)))
+    sym (ap (λ (xs : List ℕ). c.args.way.now.above.items ++ xs)
+    (way_here c.args.number (tree_of c.args.tree.now) c.args.target (omega (arith, c.if-number-target.true)))
     ∙ with_none c.args.way.now.above.items)
 
 pub returns-in_default : goal.returns-in_default
@@ -19,7 +20,8 @@ returns t c = λ h.
     let a = c.in-Some.spot in
     let s = sym c.in-Some.ensures.value in
     let x = tree_of c.index-as_slice-spot.result in
-    let e = child_of c.args.tree.now c.index-as_slice-spot.result c.as_slice.result.now a.index c.in-Some.ensures.within c.as_slice.ensures c.index-as_slice-spot.is in
+    let e = child_of c.args.tree.now c.index-as_slice-spot.result c.as_slice.result.now a.index
+    c.in-Some.ensures.within c.as_slice.ensures c.index-as_slice-spot.is in
     let room = below_room c.args.number (tree_of c.args.tree.now) x c.args.target a h s e in
     let old = c.args.way.now.above.items in
     let below = above_in a.number x c.args.target in

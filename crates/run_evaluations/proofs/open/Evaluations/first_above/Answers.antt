@@ -8,9 +8,9 @@ pub loop-i-init : goal.loop-i-init
 loop-i-init c = record {
   at = omega arith;
   behind = λ k s le at. absurd (
-    let w = slice_get_within c.args.self.now.segments.items k s at in
-    let n = c.len-at.ensures ∙ c.args.self.now.segments.ok.0 in
-    omega (arith, w, n, le));
+      let w = slice_get_within c.args.self.now.segments.items k s at in
+      let n = c.len-at.ensures ∙ c.args.self.now.segments.ok.0 in
+      omega (arith, w, n, le));
 }
 
 pub loop-i-preserved : goal.loop-i-preserved

@@ -1,4 +1,4 @@
-use Rattle.std.proofs.Common.{length, ◌∙◌, arith}
+use Rattle.std.proofs.Common.{◌∙◌, arith}
 use Rattle.run_evaluations.specs.declared.search.Sought.TheVariants.{Any}
 use Rattle.run_evaluations.specs.Clashes.{NoneBetween}
 use Rattle.run_evaluations.specs.Kept.{NoneOfOperands}

@@ -1,4 +1,4 @@
-use Rattle.std.proofs.Common.{length, ◌≡◌, ◌∙◌, ◌-◌, suc, sym, ap, arith}
+use Rattle.std.proofs.Common.{length, ◌≡◌, ◌∙◌, ◌-◌, suc, ap, arith}
 use Rattle.run_evaluations.specs.Kept.{is_unsequenced}
 use Rattle.run_evaluations.proofs.LooseLemmas.{if_none_by}
 use Rattle.run_evaluations.proofs.WayLemmas.{shape_self, shape_next, shape_before, none_before, none_so_far, none_here, all_so_far, indexed}

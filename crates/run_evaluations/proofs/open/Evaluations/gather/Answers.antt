@@ -43,6 +43,8 @@ returns-clause-made c =
     let o = c.operands-at.ensures in
     let t = c.take_only-foot.ensures in
     let j = c.join.ensures in
-    let n = c.len.ensures ∙ c.args.self.now.segments.ok.0 in
-    (c.operands-at.result, gathered_one c.args.self.now c.take_only-foot.new.self c.join.new.self c.args.node c.operands-at.result
-    (omega (arith, n, c.if-at-len.false)) o.low o.behind o.least t.same.alike t.nodes j.joined.count j.joined.begins j.own j.others)
+    let n = c.len.ensures ∙ c.args.self.now.segments.ok.0 in (
+      c.operands-at.result,
+      gathered_one c.args.self.now c.take_only-foot.new.self c.join.new.self c.args.node c.operands-at.result
+          (omega (arith, n, c.if-at-len.false)) o.low o.behind o.least t.same.alike t.nodes j.joined.count j.joined.begins j.own j.others,
+    )
