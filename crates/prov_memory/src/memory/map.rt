@@ -45,6 +45,7 @@ impl Memory {
         ensures able { OnOk result (cannot_create self.old name size align ≡ false) }
         ensures unplaced { result ≡ Err Unplaced → cannot_create self.old name size align ≡ true }
         ensures same { result ≡ Err Unplaced → self.new ≡ self.old }
+        ensures end { IfOk result (λ base. base + size ≤ 2 ^ 47) }
         ensures failed { OnErr result (MayHaveRow self.old self.new name size align) }
         ensures mode { self.new.mode ≡ self.old.mode }
         ensures kept { (kind.heap ≡ true → option_map (λ shape. form_of shape.value) declared ≡ None) → Keeps self.old self.new }
@@ -69,6 +70,7 @@ impl Memory {
         ensures able { OnOk result (cannot_create self.old name size align ≡ false) }
         ensures unplaced { result ≡ Err Unplaced → cannot_create self.old name size align ≡ true }
         ensures same { result ≡ Err Unplaced → self.new ≡ self.old }
+        ensures end { IfOk result (λ base. base + size ≤ 2 ^ 47) }
         ensures failed { OnErr result (MayHaveRow self.old self.new name size align) }
         ensures mode { self.new.mode ≡ self.old.mode }
         ensures kept { OnErr result (Keeps self.old self.new) }
