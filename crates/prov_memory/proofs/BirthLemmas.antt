@@ -28,7 +28,7 @@ use Rattle.prov_memory.specs.Tags.{CellsTagged, ObjectsTagged}
 use Rattle.prov_memory.specs.Keeps.{lasting, RowsStay, Keeps, MayHaveRow}
 use Rattle.prov_memory.proofs.ProvLemmas.{extends_none}
 use Rattle.prov_memory.proofs.StoreLemmas.{inserted_other}
-use Rattle.prov_memory.proofs.SoundLemmas.{created_made, created_sound}
+use Rattle.prov_memory.proofs.SoundLemmas.{some_row, created_made, created_sound}
 use Rattle.prov_memory.proofs.KeepLemmas.{goes_on_same}
 
 -- ---- rows
@@ -113,7 +113,12 @@ keeps_rows m rows stay high = record {
   cells = λ e h. h;
   settled = λ e x h. h;
   made = made_rows m rows;
-  sound = λ s. record { known = s.known; named = s.named; made = λ n. made_rows m rows (prov_numbered m.origins n) (s.made n) };
+  sound = λ s. record {
+        known = s.known;
+        named = s.named;
+        made = λ n. made_rows m rows (prov_numbered m.origins n) (s.made n);
+        rowed = λ x h. some_row (row_of m.rows x) (row_of rows x) (stay x) (s.rowed x h);
+      };
   tagged = λ t. t;
   bare = λ b. b;
 }
@@ -166,8 +171,9 @@ keeps_born old new x base size align kind declared b named rows high mode bare =
     let one = newborn x base size kind declared b.objects.0 in
     let r = row_at x base size align in
     let ok : Result ℕ ℕ = Ok base in
+    let stays : RowsStay old.rows new.rows = subst (λ (rs : List Row). RowsStay old.rows rs) (sym rows) (with_stay (row_of old.rows x) r old.rows refl) in
     record {
-      rows = subst (λ (rs : List Row). RowsStay old.rows rs) (sym rows) (with_stay (row_of old.rows x) r old.rows refl);
+      rows = stays;
       high = λ above. subst (λ (rs : List Row). Above 16777216 rs) (sym rows) (with_high (row_of old.rows x) r old.rows high above);
       mode = mode;
       objects = (map lasting (one ∷ []), ap (map lasting) b.objects.1 ∙ map-append lasting old.objects (one ∷ []));
@@ -176,7 +182,7 @@ keeps_born old new x base size align kind declared b named rows high mode bare =
       cells = λ e h. ap (λ (cs : Cells). has_cell cs e) b.cells ∙ h;
       settled = λ e y h. ap (λ (cs : Cells). kept_in cs e) b.cells ∙ h;
       made = created_made ok old new x size align kind declared b;
-      sound = created_sound ok old new x size align kind declared b named;
+      sound = created_sound ok old new x size align kind declared b named stays;
       tagged = λ t. subst (λ (hs : List Held). ObjectsTagged (length new.types) hs) (sym b.objects.1)
           (tagged_end (length new.types) old.objects one tt (subst (λ (n : ℕ). ObjectsTagged n old.objects) (sym (ap length b.types)) t));
       bare = λ u y. subst (λ (hs : List Held). Bare (held_of hs y)) (sym b.objects.1) (bare_end old.objects one y bare (u y));
@@ -192,6 +198,12 @@ keeps_created (Ok base) old new x size align kind g declared born named is rows 
     (placed_high old (row_of old.rows x) old.mode size align base is (or_right (is_some (held_of old.objects x)) _ able)) mode
     (λ heap. form_none g declared (bare heap))
 keeps_created (Err e) old new x size align kind g declared born named is rows able mode kept bare = kept
+
+pub rows_kept : {E : Type 0} (r : Result ℕ E) (old new : Kept) (x : ObjName) (size align : ℕ) →
+    IfOk r (λ base. new.rows ≡ rows_with (row_of old.rows x) (row_at x base size align) old.rows) → OnOk r (RowsStay old.rows new.rows)
+rows_kept (Ok base) old new x size align rows =
+    subst (λ (rs : List Row). RowsStay old.rows rs) (sym rows) (with_stay (row_of old.rows x) (row_at x base size align) old.rows refl)
+rows_kept (Err e) old new x size align rows = tt
 
 pub made_either : {E : Type 0} (r : Result ℕ E) (old new : Kept) (p : Prov) → (IsMade old p → OnOk r (IsMade new p)) → OnErr r (Keeps old new) →
     IsMade old p → IsMade new p

@@ -184,6 +184,7 @@ keeps_objects m hs same known tagged =
     let new : Kept = record m { objects = hs } in
     let alters : Alters m new hs = record {
       objects = refl;
+      rows = refl;
       origins = refl;
       cells = λ e h. h;
       held = λ x. held_stays m.objects hs x same;
