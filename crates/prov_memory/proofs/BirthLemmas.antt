@@ -114,11 +114,11 @@ keeps_rows m rows stay high = record {
   settled = λ e x h. h;
   made = made_rows m rows;
   sound = λ s. record {
-        known = s.known;
-        named = s.named;
-        made = λ n. made_rows m rows (prov_numbered m.origins n) (s.made n);
-        rowed = λ x h. some_row (row_of m.rows x) (row_of rows x) (stay x) (s.rowed x h);
-      };
+    known = s.known;
+    named = s.named;
+    made = λ n. made_rows m rows (prov_numbered m.origins n) (s.made n);
+    rowed = λ x h. some_row (row_of m.rows x) (row_of rows x) (stay x) (s.rowed x h);
+  };
   tagged = λ t. t;
   bare = λ b. b;
 }

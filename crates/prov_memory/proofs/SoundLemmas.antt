@@ -51,11 +51,10 @@ made_by : (old new : Kept) → Extends old.origins new.origins → StayCells old
     ((x : ObjName) → is_some (held_of old.objects x) ≡ true → is_some (held_of new.objects x) ≡ true) → StayMade old new
 made_by old new more cells held Empty made = tt
 made_by old new more cells held (Whole x) made = held x made
-made_by old new more cells held (Either id past start) made =
-    (
-      cells id made.0,
-      (has_number_more old.origins new.origins (Either id past start) refl more made.1.0, (held past made.1.1.0, held start made.1.1.1)),
-    )
+made_by old new more cells held (Either id past start) made = (
+  cells id made.0,
+  (has_number_more old.origins new.origins (Either id past start) refl more made.1.0, (held past made.1.1.0, held start made.1.1.1)),
+)
 
 extends_same : (ps qs : List Prov) → qs ≡ ps → Extends ps qs
 extends_same ps qs e = subst (λ (l : List Prov). Extends ps l) (sym e) (extends_none ps)
