@@ -346,14 +346,14 @@ held_last : (hs : List Held) (h : Held) → is_some (held_of (hs ++ h ∷ []) h.
 held_last [] h = rw (same_object_refl h.name) refl
 held_last (g ∷ hs) h = some_either (same_object g.name h.name) g (held_of (hs ++ h ∷ []) h.name) (held_last hs h)
 
-born_made : (old new : Kept) (x : ObjName) (base size align : ℕ) (kind : ObjKind) (declared : Option Shape) → IsBorn old new x base size align kind declared →
+pub born_made : (old new : Kept) (x : ObjName) (base size align : ℕ) (kind : ObjKind) (declared : Option Shape) → IsBorn old new x base size align kind declared →
     StayMade old new
 born_made old new x base size align kind declared b =
     let one = newborn x base size kind declared b.objects.0 in
     made_by old new (Whole x ∷ [], b.origins) (λ e h. ap (λ (cells : Cells). has_cell cells e) b.cells ∙ h)
     (λ y h. ap (λ (hs : List Held). is_some (held_of hs y)) b.objects.1 ∙ held_end old.objects one y h)
 
-born_whole : (old new : Kept) (x : ObjName) (base size align : ℕ) (kind : ObjKind) (declared : Option Shape) →
+pub born_whole : (old new : Kept) (x : ObjName) (base size align : ℕ) (kind : ObjKind) (declared : Option Shape) →
     IsBorn old new x base size align kind declared → IsMade new (Whole x)
 born_whole old new x base size align kind declared b =
     let one = newborn x base size kind declared b.objects.0 in
