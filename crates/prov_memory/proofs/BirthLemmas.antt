@@ -125,7 +125,7 @@ keeps_rows m rows stay high = record {
   };
   tagged = λ t. t;
   bare = λ b. b;
-  close = λ c within. absurd (omega (arith, within));
+  close = λ c. record { packed = λ within. absurd (omega (arith, within)); only = λ within. absurd (omega (arith, within)) };
 }
 
 pub keeps_full : (m : Kept) → Keeps m (record m { created = 2 ^ 62 })

@@ -17,7 +17,7 @@ use Rattle.c_types.specs.declared.shape.Shape.{Shape}
 use Rattle.mem_spec.specs.declared.kind.ObjKind.{ObjKind}
 use Rattle.prov_memory.specs.Held.{Held, held_of}
 use Rattle.prov_memory.specs.Memory.{Kept, IsBorn, empty, cannot_create, no_place, has_room, base_by, rows_with}
-use Rattle.prov_memory.specs.Room.{BeginsPacked, StaysPacked, HasRoomWithin, IsClose, CanPlace}
+use Rattle.prov_memory.specs.Room.{IsPacked, AreRowsCreated, BeginsPacked, StaysPacked, HasRoomWithin, IsClose, CanPlace}
 use Rattle.prov_memory.proofs.StoreLemmas.{inserted_other}
 use Rattle.prov_memory.proofs.SoundLemmas.{born_made, born_whole}
 
@@ -100,13 +100,12 @@ has_room_within m size align packed within small some power =
 
 -- ---- a memory whose objects stand close
 pub empty_close : (mode : Option Mode) → IsClose (empty [] mode)
-empty_close mode within = (begins_packed mode, λ x e. absurd (false_true e))
+empty_close mode = record { packed = λ within. begins_packed mode; only = λ within x e. absurd (false_true e) }
 
 pub place_found : (m : Kept) (x : ObjName) (size align : ℕ) → IsClose m → CanPlace m x size align → cannot_create m x size align ≡ true → ⊥
 place_found m x size align close can e =
-    let is = close can.within in
-    not_placed (held_of m.objects x) (row_of m.rows x) m.mode m size align can.absent (is.1 x) can.mode
-    (has_room_within m size align is.0 can.within can.small can.some can.power) e
+    not_placed (held_of m.objects x) (row_of m.rows x) m.mode m size align can.absent (close.only can.within x) can.mode
+    (has_room_within m size align (close.packed can.within) can.within can.small can.some can.power) e
 
 older : (a b n : ℕ) → b ≡ min (a + n) (2 ^ 62) → b ≤ 2 ^ 40 → a ≤ b
 older a b n is within = omega (arith, is, within)
@@ -124,26 +123,34 @@ not_true : (b : Bool) → not b ≡ false → b ≡ true
 not_true true e = refl
 not_true false e = absurd (cc)
 
-pub born_close : (old new : Kept) (x : ObjName) (base size align : ℕ) (kind : ObjKind) (declared : Option Shape) (o : Option Row) (mode : Option Mode) →
+born_is_close : (old new : Kept) (x : ObjName) (base size align : ℕ) (kind : ObjKind) (declared : Option Shape) (o : Option Row) (mode : Option Mode) →
     IsBorn old new x base size align kind declared → base ≡ base_by o mode old.rows align → no_place old o mode size align ≡ false →
-    new.rows ≡ rows_with o (row_at x base size align) old.rows → IsClose old → IsClose new
-born_close old new x base size align kind declared (Some r) mode b is able rows close within =
+    new.rows ≡ rows_with o (row_at x base size align) old.rows → IsClose old → new.created ≤ 2 ^ 40 → IsPacked new × AreRowsCreated new
+born_is_close old new x base size align kind declared (Some r) mode b is able rows close within =
     let le : old.created ≤ new.created = older old.created new.created (max size 16) b.created within in
-    let was = close (omega (arith, le, within)) in (
-      packed_same (free_of old.rows) (free_of new.rows) old.created new.created was.0 (ap free_of rows) le,
-      λ y h. born_made old new x base size align kind declared b (Whole y) (was.1 y (sym (ap (λ (rs : List Row). is_some (row_of rs y)) rows) ∙ h)),
+    let was : old.created ≤ 2 ^ 40 = omega (arith, le, within) in (
+      packed_same (free_of old.rows) (free_of new.rows) old.created new.created (close.packed was) (ap free_of rows) le,
+      λ y h. born_made old new x base size align kind declared b (Whole y) (close.only was y (sym (ap (λ (rs : List Row). is_some (row_of rs y)) rows) ∙ h)),
     )
-born_close old new x base size align kind declared None None b is able rows close within = absurd (cc)
-born_close old new x base size align kind declared None (Some mode) b is able rows close within =
+born_is_close old new x base size align kind declared None None b is able rows close within = absurd (cc)
+born_is_close old new x base size align kind declared None (Some mode) b is able rows close within =
     let le : old.created ≤ new.created = older old.created new.created (max size 16) b.created within in
-    let was = close (omega (arith, le, within)) in
+    let was : old.created ≤ 2 ^ 40 = omega (arith, le, within) in
     let room : has_room old.rows size align ≡ true = not_true (has_room old.rows size align) able in
     let at : new.rows ≡ insert_row (row_at x (base_of mode old.rows align) size align) old.rows =
     rows ∙ ap (λ (n : ℕ). insert_row (row_at x n size align) old.rows) is in (
-      stays_packed old new x mode size align was.0 room at b.created,
+      stays_packed old new x mode size align (close.packed was) room at b.created,
       λ y h. row_split (same_object x y) old.rows (row_at x base size align) y (is_some (held_of new.objects y) ≡ true) refl
           (λ e. subst (λ (z : ObjName). is_some (held_of new.objects z) ≡ true) (same_object_is x y e)
           (born_whole old new x base size align kind declared b))
-          (λ e. born_made old new x base size align kind declared b (Whole y) (was.1 y e))
+          (λ e. born_made old new x base size align kind declared b (Whole y) (close.only was y e))
           (sym (ap (λ (rs : List Row). is_some (row_of rs y)) rows) ∙ h),
     )
+
+pub born_close : (old new : Kept) (x : ObjName) (base size align : ℕ) (kind : ObjKind) (declared : Option Shape) (o : Option Row) (mode : Option Mode) →
+    IsBorn old new x base size align kind declared → base ≡ base_by o mode old.rows align → no_place old o mode size align ≡ false →
+    new.rows ≡ rows_with o (row_at x base size align) old.rows → IsClose old → IsClose new
+born_close old new x base size align kind declared o mode b is able rows close = record {
+  packed = λ within. (born_is_close old new x base size align kind declared o mode b is able rows close within).0;
+  only = λ within. (born_is_close old new x base size align kind declared o mode b is able rows close within).1;
+}

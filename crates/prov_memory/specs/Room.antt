@@ -15,8 +15,9 @@ abbrev pub AreRowsCreated : Kept → Type 0
 AreRowsCreated m = (x : ObjName) → is_some (row_of m.rows x) ≡ true → is_some (held_of m.objects x) ≡ true
 
 -- as long as the sum of what was created is within 2^40, the memory is packed, and each row is that of an object
-abbrev pub IsClose : Kept → Type 0
-IsClose m = m.created ≤ 2 ^ 40 → IsPacked m × AreRowsCreated m
+pub record IsClose (m : Kept) : Type 0 where
+  pub packed : m.created ≤ 2 ^ 40 → IsPacked m
+  pub only : m.created ≤ 2 ^ 40 → AreRowsCreated m
 
 -- a new object, within the limits, of a memory whose mode places it
 pub record CanPlace (m : Kept) (x : ObjName) (size align : ℕ) : Type 0 where
