@@ -3,3 +3,4 @@ pub mod Resolved
 pub mod Numbered
 pub mod EventActs
 pub mod LaidOut
+pub mod Roots

@@ -5,7 +5,7 @@ ghost use Rattle.run_code.specs.LaidOut.{IsLaidOut, tables_of};
 
 use crate::expressions::Expressions;
 use crate::nodes::Objects;
-use crate::steps::{Code, Tables};
+use crate::steps::{Code, FunctionCode, Tables};
 use c_typed::Program;
 use core_ir::Core;
 use std::alloc::Global;
@@ -24,7 +24,7 @@ pub struct Draft<'p, 't> {
     pub program: &'p Program,
     pub terms: &'t [Core],
     pub expressions: Expressions<'p>,
-    // All but the expressions.
+    // All but the expressions and the functions.
     pub code: Code<'p>,
     pub function: FunctionDraft,
 }
@@ -34,9 +34,11 @@ pub fn count_of<T>(items: &Vec<T>) -> u32 {
     u32::try_from(items.len()).unwrap_or(u32::MAX)
 }
 
-// The finished code.
-pub fn finished<'p>(draft: Draft<'p, '_>) -> Code<'p>
-    ensures { ∥ All (IsLaidOut (tables_of result) result.listing.items) result.expressions.items ∥₁ }
+// The finished code, with these functions.
+pub fn finished<'p>(draft: Draft<'p, '_>, functions: Vec<Option<FunctionCode>>) -> Code<'p>
+    ensures laid_out { ∥ All (IsLaidOut (tables_of result) result.listing.items) result.expressions.items ∥₁ }
+    ensures expressions { result.expressions.items ≡ draft.entry.expressions.all.items }
+    ensures functions { result.functions.items ≡ functions.items }
 {
     let Draft {
         alloc: _,
@@ -46,11 +48,15 @@ pub fn finished<'p>(draft: Draft<'p, '_>) -> Code<'p>
         code,
         function: _,
     } = draft;
+    let mut code = code;
+    code.functions = functions;
     with_expressions(code, expressions)
 }
 
 fn with_expressions<'p>(code: Code<'p>, expressions: Expressions<'p>) -> Code<'p>
-    ensures { ∥ All (IsLaidOut (tables_of result) result.listing.items) result.expressions.items ∥₁ }
+    ensures laid_out { ∥ All (IsLaidOut (tables_of result) result.listing.items) result.expressions.items ∥₁ }
+    ensures expressions { result.expressions.items ≡ expressions.entry.all.items }
+    ensures functions { result.functions.items ≡ code.entry.functions.items }
 {
     let Expressions {
         tables,

@@ -19,11 +19,14 @@ pub struct Expressions<'p> {
 }
 
 impl<'p> Expressions<'p> {
-    ghost use Rattle.std.specs.Prelude.{◌≡◌, ℕ, List, Some, slice_get, IfOk, OnOk};
+    ghost use Rattle.std.specs.Prelude.{◌≡◌, ℕ, List, [], ◌∷◌, ◌++◌, Some, slice_get, IfOk, OnOk};
+    ghost use Rattle.run_code.specs.Roots.{roots_in};
     ghost use Rattle.run_code.specs.Numbered.{AreNodes};
     ghost use Rattle.run_code.specs.EventActs.{AreGrown, AreEntries};
 
-    pub fn new(alloc: Global) -> Self {
+    pub fn new(alloc: Global) -> Self
+        ensures { result.all.items ≡ [] }
+    {
         Expressions {
             tables: Tables {
                 calls: Vec::new(alloc),
@@ -39,6 +42,7 @@ impl<'p> Expressions<'p> {
     pub fn add_store(&mut self, store: StoreCode<'p>) -> Result<u32, NoMemory>
         ensures at { IfOk result (λ n. slice_get self.new.tables.stores.items n ≡ Some store.entry) }
         ensures grown { OnOk result (AreGrown self.old.tables self.new.tables) }
+        ensures kept { OnOk result (self.new.all.items ≡ self.old.all.items) }
     {
         let number = next_number(&self.tables.stores)?;
         self.tables.stores.push(store)?;
@@ -48,6 +52,7 @@ impl<'p> Expressions<'p> {
     pub fn add_call(&mut self, call: CallCode<'p>) -> Result<u32, NoMemory>
         ensures at { IfOk result (λ n. slice_get self.new.tables.calls.items n ≡ Some call.entry) }
         ensures grown { OnOk result (AreGrown self.old.tables self.new.tables) }
+        ensures kept { OnOk result (self.new.all.items ≡ self.old.all.items) }
     {
         let number = next_number(&self.tables.calls)?;
         self.tables.calls.push(call)?;
@@ -57,6 +62,7 @@ impl<'p> Expressions<'p> {
     pub fn add_constants(&mut self, constants: &'p [Constant]) -> Result<u32, NoMemory>
         ensures at { IfOk result (λ n. slice_get self.new.tables.constants.items n ≡ Some constants.entry) }
         ensures grown { OnOk result (AreGrown self.old.tables self.new.tables) }
+        ensures kept { OnOk result (self.new.all.items ≡ self.old.all.items) }
     {
         let number = next_number(&self.tables.constants)?;
         self.tables.constants.push(constants)?;
@@ -73,6 +79,7 @@ impl<'p> Expressions<'p> {
         entries: &[Listed<'p>],
     ) -> Result<(), NoMemory>
         requires { (firsts : List ℕ) × AreNodes firsts root.now nodes.now × AreEntries firsts self.old.tables nodes.now entries.now }
+        ensures { OnOk result (roots_in self.new.all.items ≡ roots_in self.old.all.items ++ root.now ∷ []) }
     {
         let first = self.entries.len();
         self.entries.extend_from_slice(entries)?;

@@ -1,4 +1,5 @@
 // The blocks of a function with their objects.
+ghost use Rattle.std.specs.Prelude.{◌≡◌, OnOk};
 
 use crate::draft::{Draft, count_of};
 use crate::steps::{BlockCode, ObjectCode, Range, StoreCode};
@@ -27,7 +28,9 @@ fn access_of(tags: &Tags, ty: &Ty) -> Access {
 }
 
 impl<'p, 't> Draft<'p, 't> {
-    fn object(&mut self, qual: &'p Qual) -> Result<u64, NoMemory> {
+    fn object(&mut self, qual: &'p Qual) -> Result<u64, NoMemory>
+        ensures { OnOk result (self.new.expressions.all.items ≡ self.old.expressions.all.items) }
+    {
         let tags = &self.program.tags;
         let extent = extent(tags, &qual.ty);
         let shape = shape_of(self.alloc, tags, &qual.ty)?;
@@ -47,7 +50,9 @@ impl<'p, 't> Draft<'p, 't> {
     }
 
     // A block of the function; `arguments` of its objects take arguments.
-    fn add_block(&mut self, block: &'p Block, arguments: u32) -> Result<(), NoMemory> {
+    fn add_block(&mut self, block: &'p Block, arguments: u32) -> Result<(), NoMemory>
+        ensures { OnOk result (self.new.expressions.all.items ≡ self.old.expressions.all.items) }
+    {
         let first = count_of(&self.code.objects);
         let mut created = 0;
         for qual in block.objects.as_slice() {
@@ -68,7 +73,9 @@ impl<'p, 't> Draft<'p, 't> {
 
     // The blocks in a statement.
     #[cycle(survey)]
-    pub fn survey(&mut self, body: &'p Body) -> Result<(), NoMemory> {
+    pub fn survey(&mut self, body: &'p Body) -> Result<(), NoMemory>
+        ensures { OnOk result (self.new.expressions.all.items ≡ self.old.expressions.all.items) }
+    {
         match body {
             Body::Block(inner) => self.survey_block(inner, 0),
             Body::If(_, yes, no) => {
@@ -100,7 +107,9 @@ impl<'p, 't> Draft<'p, 't> {
     }
 
     #[cycle(survey)]
-    pub fn survey_block(&mut self, block: &'p Block, arguments: u32) -> Result<(), NoMemory> {
+    pub fn survey_block(&mut self, block: &'p Block, arguments: u32) -> Result<(), NoMemory>
+        ensures { OnOk result (self.new.expressions.all.items ≡ self.old.expressions.all.items) }
+    {
         self.add_block(block, arguments)?;
         for entry in block.entries.as_slice() {
             if let Entry::Statement(inner) = entry {

@@ -1,4 +1,4 @@
 use Rattle.run_code.proofs.draft.with_expressions.Goals as goal
 
-pub returns : goal.returns
-returns c = c.args.expressions.laid_out
+pub returns-clause-laid_out : goal.returns-clause-laid_out
+returns-clause-laid_out c = c.args.expressions.laid_out
