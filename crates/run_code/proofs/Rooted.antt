@@ -1,21 +1,23 @@
 -- The full expressions that are laid out, in turn.
-use Rattle.std.proofs.Common.{◌≡◌, List, [], ◌∷◌, ◌++◌, map, flat_map, Option, Some, None, refl, sym, ap, subst, ◌∙◌, append_assoc, append-nil}
+use Rattle.std.proofs.Common.{rules, ◌≡◌, ◌≤◌, ℕ, length, drop, List, [], ◌∷◌, ◌++◌, map, flat_map, Option, Some, None, refl, sym, ap, subst, ◌∙◌, append_assoc, append-nil}
+use Rattle.std.proofs.lemmas.List.{drop_all}
 use Rattle.c_typed.specs.declared.tree.Typed.{Typed}
 use Rattle.c_typed.specs.declared.statement.Body.{Body, out-Body, out-roll-Body, roll-Body, roll-out-Body}
 use Rattle.c_typed.specs.declared.statement.Body.TheOpen as form
 use Rattle.c_typed.specs.declared.statement.Body.TheOpen.{Body-F}
 use Rattle.c_typed.specs.declared.statement.Body.TheVariants as body
+use Rattle.c_typed.specs.declared.statement.Body.TheFolds as typed
 use Rattle.c_typed.specs.declared.statement.Block.{Block}
 use Rattle.c_typed.specs.declared.statement.Entry.{Entry}
 use Rattle.c_typed.specs.declared.statement.ForStart.{ForStart}
 use Rattle.c_typed.specs.declared.program.Function.{Function}
-use Rattle.elaborate.specs.Expressions.{block_trees}
+use Rattle.elaborate.specs.Expressions.{block_trees, body_trees, defined_trees, function_trees}
 use Rattle.run_statements.specs.declared.numbers.Numbers.{Numbers}
 use Rattle.run_statements.specs.Bodies.{Grows, IsStatement}
 use Rattle.run_statements.proofs.Forms.{statement_later}
 use Rattle.run_code.specs.declared.steps.Expression.{Expression}
 use Rattle.run_code.specs.declared.steps.FunctionCode.{FunctionCode}
-use Rattle.run_code.specs.Roots.{roots_in, as_block, block_in, trees_in, code_trees, IsCodeOf, AreCodeOf}
+use Rattle.run_code.specs.Roots.{roots_in, as_block, block_in, trees_in, code_trees, IsCodeOf, AreCodeOf, IsInBlock, AreInBlocks}
 
 -- a function that is defined by this block
 out_block : (x : Block) → as_block (out-Body (body.Block x)) ≡ Some x
@@ -25,12 +27,17 @@ pub block_of : (f : Function) (b : Body) (x : Block) → f.body ≡ Some b → b
 block_of f b x e is = ap block_in e ∙ (ap (λ z. as_block (out-Body z)) is ∙ out_block x)
 
 -- where a list of things with trees was gone through up to one
-pub next_trees : {A : Type 0} → (f : A → List Typed) (old new all : List Typed) (x : A) (rest items : List A) (ts : List Typed) → items ≡ x ∷ rest
+next_trees : {A : Type 0} → (f : A → List Typed) (old new all : List Typed) (x : A) (rest items : List A) (ts : List Typed) → items ≡ x ∷ rest
     → old ++ flat_map f items ≡ all → f x ≡ ts → new ≡ old ++ ts → new ++ flat_map f rest ≡ all
 next_trees f old new all x rest items ts is h e k = ap (λ z. z ++ flat_map f rest) k
     ∙ (append_assoc old ts (flat_map f rest)
     ∙ (ap (λ z. old ++ (z ++ flat_map f rest)) (sym e)
     ∙ (ap (λ z. old ++ flat_map f z) (sym is) ∙ h)))
+
+-- where none is left
+pub no_trees : {A : Type 0} → (f : A → List Typed) (old all : List Typed) (items : List A) (i : ℕ) → length items ≤ i
+    → old ++ flat_map f (drop i items) ≡ all → old ≡ all
+no_trees f old all items i end h = sym (append-nil old) ∙ (sym (ap (λ z. old ++ flat_map f z) (drop_all i items end)) ∙ h)
 
 other_form : (z : Body-F Body Entry ForStart Block) → ((x : Block) → z ≡ form.Block x → ⊥) → as_block z ≡ None
 other_form (form.Block x) f = absurd (f x refl)
@@ -84,3 +91,21 @@ laid_none a b old new f oc rest left before after cs more all is was gained code
   subst (λ z. AreCodeOf z after more) (sym n) (subst (λ fs. AreCodeOf a fs more) (sym was) (subst (AreCodeOf a (before ++ f ∷ [])) (sym gained)
       (code_more a before cs f oc h.2 (subst (λ o. IsCodeOf a o oc) (sym by) (subst (IsCodeOf a None) (sym code) tt))))),
 )
+
+body_of_block : (x : Block) → body_trees (body.Block x) ≡ block_trees x
+body_of_block x = search (rules, typed.the_lemmas)
+
+form_of : (z : Body-F Body Entry ForStart Block) (x : Block) → as_block z ≡ Some x → z ≡ form.Block x
+form_of (form.Block y) x e = let same : y ≡ x = cc in ap form.Block same
+form_of _ x e = absurd (cc)
+
+-- the full expressions of a function that is defined by a block, or is not defined
+trees_same : (o : Option Body) → IsInBlock o → defined_trees o ≡ trees_in (block_in o)
+trees_same None h = refl
+trees_same (Some b) h =
+    ap body_trees (sym (roll-out-Body b) ∙ (ap roll-Body (form_of (out-Body b) h.0 h.1) ∙ body.rolls-Block h.0))
+    ∙ (body_of_block h.0 ∙ sym (ap trees_in h.1))
+
+pub all_same : (fs : List Function) → AreInBlocks fs → flat_map function_trees fs ≡ flat_map code_trees fs
+all_same [] h = refl
+all_same (f ∷ fs) h = ap (λ z. z ++ flat_map function_trees fs) (trees_same f.body h.0) ∙ ap (λ z. code_trees f ++ z) (all_same fs h.1)

@@ -53,3 +53,12 @@ AreCodeOf numbers (f ∷ fs) [] = ⊥
 -- numbers stand for the full expressions that are laid out, and the statements are those of the functions
 abbrev pub IsNumberedBy : Numbers → List Function → Code → Type 0
 IsNumberedBy numbers fs code = (map (λ root. root.now) numbers.roots.items ≡ roots_in code.expressions.items) × AreCodeOf numbers fs code.functions.items
+
+-- what is defined is defined by a block
+abbrev pub IsInBlock : Option Body → Type 0
+IsInBlock None = Unit {0}
+IsInBlock (Some b) = (x : Block) × (as_block (out-Body b) ≡ Some x)
+
+abbrev pub AreInBlocks : List Function → Type 0
+AreInBlocks [] = Unit {0}
+AreInBlocks (f ∷ fs) = IsInBlock f.body × AreInBlocks fs

@@ -1,11 +1,12 @@
 // The code of a program.
 ghost use Rattle.std.specs.Prelude.{◌≡◌, ◌≤◌, ◌++◌, length, drop, map, flat_map, IfOk, OnOk};
 ghost use Rattle.std.specs.List.{All};
-ghost use Rattle.elaborate.specs.Expressions.{block_trees};
+ghost use Rattle.elaborate.specs.Expressions.{block_trees, program_trees};
+ghost use Rattle.c_typed.specs.Tree.{tree_of};
 ghost use Rattle.c_typed.specs.declared.statement.Body.TheVariants as body_form;
 ghost use Rattle.run_statements.specs.Bodies.{Grows, IsStatement};
 ghost use Rattle.run_statements.specs.declared.numbers.Numbers.{Numbers as NumbersOf};
-ghost use Rattle.run_code.specs.Roots.{roots_in, code_trees, IsNumberedBy};
+ghost use Rattle.run_code.specs.Roots.{roots_in, code_trees, IsNumberedBy, AreInBlocks};
 ghost use Rattle.run_code.specs.LaidOut.{IsLaidOut, tables_of};
 
 use crate::draft::{Draft, FunctionDraft, count_of, finished};
@@ -98,6 +99,8 @@ pub fn code_of<'p>(
     ensures laid_out { IfOk result (λ code. ∥ All (IsLaidOut (tables_of code) code.listing.items) code.expressions.items ∥₁) }
     // The full expressions are those of the functions in turn, in the order of the text.
     ensures order { IfOk result (λ code. roots_in code.expressions.items ≡ flat_map code_trees program.now.functions) }
+    // So they are those of the terms, where what is defined is defined by a block.
+    ensures trees { AreInBlocks program.now.functions → IfOk result (λ code. map tree_of (roots_in code.expressions.items) ≡ program_trees program.now) }
     // The statements are those of the functions, in which numbers stand for these full expressions.
     ensures bodies { IfOk result (λ code. (numbers : NumbersOf) × IsNumberedBy numbers program.now.functions code) }
 {

@@ -1,9 +1,10 @@
 use Rattle.std.proofs.Common.{arith, ◌+◌, [], ◌∷◌, ◌++◌, map, flat_map, take, drop, sym, ap, subst, ◌∙◌}
 use Rattle.std.proofs.lemmas.List.{drop_more, take_more, take_all}
 use Rattle.c_typed.specs.declared.statement.Body.TheVariants as body
+use Rattle.c_typed.specs.Tree.{tree_of}
 use Rattle.run_statements.specs.Bodies.{Grows, IsStatement}
 use Rattle.run_code.specs.Roots.{roots_in, code_trees, block_in, AreCodeOf}
-use Rattle.run_code.proofs.Rooted.{block_of, no_block, laid_block, laid_none}
+use Rattle.run_code.proofs.Rooted.{block_of, no_block, laid_block, laid_none, no_trees, all_same}
 use Rattle.run_code.proofs.statements.code_of.Goals as goal
 use Rattle.run_code.proofs.statements.code_of.Goals.{in-Some+in-Block+in_ok-function-in-Block, in-Some+in_default, in-None}
 
@@ -64,3 +65,12 @@ returns-clause-bodies c =
             (take_all i items (omega (arith, end)) ∙ c.as_slice-function-items.ensures) c.loop-function.invariant.2),
       ),
     )
+
+pub returns-clause-trees : goal.returns-clause-trees
+returns-clause-trees c =
+    let items = c.as_slice-function-items.result.now in
+    let end = c.loop-function-test.false in
+    let order = ap roots_in c.finished.ensures.expressions
+    ∙ no_trees code_trees (roots_in c.loop-function.draft.expressions.all.items) (flat_map code_trees c.args.program.now.functions) items
+    c.loop-function.function-index (omega (arith, end)) c.loop-function.invariant.0 in
+    λ h. ap (map tree_of) (order ∙ sym (all_same c.args.program.now.functions h))
