@@ -6,4 +6,5 @@ pub mod LooseLemmas
 pub mod LooseWholeLemmas
 pub mod StandLemmas
 pub mod TouchedLemmas
+pub mod WayLemmas
 pub mod WholeLemmas

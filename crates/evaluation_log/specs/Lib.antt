@@ -4,3 +4,4 @@ pub mod FoundItems
 pub mod Kept
 pub mod Loose
 pub mod Touched
+pub mod Ways

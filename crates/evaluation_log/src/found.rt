@@ -1,5 +1,5 @@
 // A conflict of two evaluations.
-ghost use Rattle.std.specs.Prelude.{◌≡◌, IfSome};
+ghost use Rattle.std.specs.Prelude.{◌≡◌, IfSome, None};
 ghost use Rattle.footprint.specs.Conflicts.{MayConflict};
 ghost use Rattle.evaluation_log.specs.FoundItems.{AreOfOne, ItemsConflict, counts_before, first_found};
 
@@ -52,7 +52,8 @@ fn is_before(frames: &Frames, a: &Found, b: &Found) -> bool
 pub fn dependence(event: Event, against: Event, items: Option<(Item, Item)>) -> Option<Found>
     requires one { AreOfOne event against }
     requires may { IfSome items (λ p. MayConflict p.0 p.1) }
-    ensures { ItemsConflict result }
+    ensures conflict { ItemsConflict result }
+    ensures none { result ≡ None → items ≡ None }
 {
     let items = items?;
     Some(Found {

@@ -14,7 +14,7 @@ pub use found::{Found, dependence, first_of};
 pub use known::Known;
 pub use level::Level;
 pub use log::{Logged, Segment, add_range, are_harmless};
-pub use rules::{Rule, Rules, is_unsequenced};
+pub use rules::{Rule, Rules};
 pub use sought::{Sought, Under, clash, is_race, least_items, nearer};
 pub use trees::{last_operand_of, line_of};
 pub use way::{Way, way_to};

@@ -1,5 +1,6 @@
 // How the nodes of a full expression sequence their operands.
 ghost use Rattle.std.specs.Prelude.{◌≡◌};
+ghost use Rattle.evaluation_log.specs.Ways.{rule_in};
 ghost use Rattle.evaluation_log.specs.Kept.{is_unsequenced};
 
 use c_typed::{Node, Typed};
@@ -48,10 +49,24 @@ impl Rules {
     }
 
     /// The rule of a node; Open where there is no such node.
-    pub fn get(&self, node: u32) -> Rule {
+    pub fn get(&self, node: u32) -> Rule
+        ensures { result ≡ rule_in self.now node }
+    {
         match self.list.get(node as usize) {
             Some(rule) => *rule,
             None => Rule::Open,
+        }
+    }
+}
+
+impl Rule {
+    /// Whether no operand of a node of this rule is sequenced before another (6.5p3).
+    pub fn is_unsequenced(self) -> bool
+        ensures { result ≡ is_unsequenced self }
+    {
+        match self {
+            Rule::Open | Rule::Closed => true,
+            _ => false,
         }
     }
 }
@@ -83,15 +98,5 @@ fn rule_of(node: &Node) -> Rule {
         Node::Comma => Rule::Comma(0),
         Node::Call { .. } | Node::List { .. } | Node::Isolated(_) => Rule::Closed,
         _ => Rule::Open,
-    }
-}
-
-/// Whether no operand of a node of this rule is sequenced before another (6.5p3).
-pub fn is_unsequenced(rule: Rule) -> bool
-    ensures { result ≡ is_unsequenced rule }
-{
-    match rule {
-        Rule::Open | Rule::Closed => true,
-        _ => false,
     }
 }

@@ -1,6 +1,9 @@
 // Trees of full expressions by the numbers of their nodes.
+ghost use Rattle.std.specs.Prelude.{◌≡◌, ◌+◌, ◌-◌, ◌^◌, ◌<◌, min, IfSome};
+ghost use Rattle.c_typed.specs.Tree.{tree_of, operands};
+ghost use Rattle.evaluation_log.specs.Ways.{spot_among, arity};
 
-use c_typed::{Typed, class_of};
+use c_typed::{Typed, class_of, size};
 
 /// The line of the node of this number.
 pub fn line_of(root: &Typed, node: u32) -> u32 {
@@ -75,11 +78,25 @@ pub fn step_to(tree: &Typed, number: u32, target: u32) -> Step<'_> {
     step
 }
 
-// How many nodes the tree has.
-fn size(tree: &Typed) -> u32 {
-    let mut sum = 1u32;
-    for child in tree.children.as_slice() {
-        sum = sum.saturating_add(size(child));
+/// An operand: its index among those of its node, and the number of its root.
+#[derive(Clone, Copy, Debug, PartialEq, Eq)]
+pub struct Spot {
+    pub index: usize,
+    pub number: u32,
+}
+
+/// The operand that holds the node of this number, of a tree whose root has the number `k`.
+pub fn locate(tree: &Typed, k: u32, node: u32) -> Option<Spot>
+    ensures value { result ≡ spot_among 0 (min (k + 1) (2 ^ 32 - 1)) (operands (tree_of tree.now)) node }
+    ensures within { IfSome result (λ s. s.index < arity tree.now) }
+{
+    let mut number = k.saturating_add(1);
+    for (index, operand) in tree.children.as_slice().iter().enumerate() {
+        let next = number.saturating_add(size(operand));
+        if node < next {
+            return Some(Spot { index, number });
+        }
+        number = next;
     }
-    sum
+    None
 }

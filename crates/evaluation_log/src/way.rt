@@ -1,7 +1,10 @@
 // The way to a node of a full expression.
+ghost use Rattle.std.specs.Prelude.{◌≡◌, ◌<◌, ◌+◌, ◌^◌, ◌++◌, ◌∷◌, [], IfOk, OnOk};
+ghost use Rattle.c_typed.specs.Tree.{tree_of, size};
+ghost use Rattle.evaluation_log.specs.Ways.{above_in};
 
-use crate::rules::{Rules, is_unsequenced};
-use crate::trees::step_to;
+use crate::rules::Rules;
+use crate::trees::{locate, step_to};
 use c_typed::Typed;
 use std::alloc::Global;
 use ub_base::NoMemory;
@@ -15,30 +18,64 @@ pub struct Way {
     pub behind: Option<u32>,
 }
 
+impl Way {
+    // The way goes on below this node.
+    fn pass(
+        &mut self,
+        tree: &Typed,
+        number: u32,
+        target: u32,
+        rules: &Rules,
+    ) -> Result<(), NoMemory>
+        ensures { OnOk result (self.new.above.items ≡ self.old.above.items ++ (number ∷ [])) }
+    {
+        self.above.push(number)?;
+        if rules.get(number).is_unsequenced() {
+            let step = step_to(tree, number, target);
+            self.before = self.before.or(step.before);
+            self.behind = step.behind.or(self.behind);
+        }
+        Ok(())
+    }
+}
+
 /// The way from the root to the node of this number.
-pub fn way_to(alloc: Global, root: &Typed, rules: &Rules, target: u32) -> Result<Way, NoMemory> {
+pub fn way_to(alloc: Global, root: &Typed, rules: &Rules, target: u32) -> Result<Way, NoMemory>
+    ensures { size (tree_of root.now) < 2 ^ 32 → IfOk result (λ way. way.above.items ≡ above_in 0 (tree_of root.now) target) }
+{
     let mut way = Way {
         above: Vec::new(alloc),
         before: None,
         behind: None,
     };
-    let mut tree = root;
-    let mut number = 0;
-    for _ in 0..target {
-        if number >= target {
-            return Ok(way);
-        }
-        way.above.push(number)?;
-        let step = step_to(tree, number, target);
-        if is_unsequenced(rules.get(number)) {
-            way.before = way.before.or(step.before);
-            way.behind = step.behind.or(way.behind);
-        }
-        match step.next {
-            Some(next) => tree = next,
-            None => return Ok(way),
-        }
-        number = step.number;
-    }
+    add_way(root, 0, target, rules, &mut way)?;
     Ok(way)
+}
+
+// Adds the way from the root of a tree, which has this number, to a node below it.
+fn add_way(
+    tree: &Typed,
+    number: u32,
+    target: u32,
+    rules: &Rules,
+    way: &mut Way,
+) -> Result<(), NoMemory>
+    ensures { number + size (tree_of tree.now) < 2 ^ 32 → OnOk result
+        (way.new.above.items ≡ way.old.above.items ++ above_in number (tree_of tree.now) target) }
+{
+    if number >= target {
+        return Ok(());
+    }
+    way.pass(tree, number, target, rules)?;
+    let Some(spot) = locate(tree, number, target) else {
+        return Ok(());
+    };
+    add_way(
+        &tree.children.as_slice()[spot.index],
+        spot.number,
+        target,
+        rules,
+        way,
+    )?;
+    Ok(())
 }

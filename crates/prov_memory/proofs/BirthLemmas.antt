@@ -1,5 +1,5 @@
 -- What a new object keeps of a memory.
-use Rattle.std.proofs.Common.{◌≡◌, ℕ, zero, suc, ◌+◌, ◌-◌, ◌*◌, ◌/◌, ◌%◌, ◌≤◌, ◌<◌, Bool, true, false, not, ◌&&◌, ◌||◌, cond, refl, sym, ap, ◌∙◌, subst, arith}
+use Rattle.std.proofs.Common.{◌≡◌, ℕ, zero, suc, ◌+◌, ◌-◌, ◌*◌, ◌/◌, ◌%◌, ◌≤◌, ◌<◌, ◌^◌, Bool, true, false, not, ◌&&◌, ◌||◌, cond, refl, sym, ap, ◌∙◌, subst, arith}
 use Rattle.std.proofs.Common.{List, [], ◌∷◌, ◌++◌, length, map, Option, Some, None}
 use Rattle.std.specs.Prelude.{is_some, option_map, IfSome, IfOk, OnOk, OnErr, Result, Ok, Err, ◌==◌}
 use Rattle.std.proofs.Math.Nat.{mod-eq-sub-div-mul, div-mul-le_self, mod-lt}
@@ -25,11 +25,13 @@ use Rattle.prov_memory.specs.Memory.{Kept, IsBorn, newborn, life_in, cannot_crea
 use Rattle.prov_memory.specs.Made.{AreNamed, IsMade}
 use Rattle.prov_memory.specs.Sound.{IsSound}
 use Rattle.prov_memory.specs.Tags.{CellsTagged, ObjectsTagged}
+use Rattle.prov_memory.specs.Room.{IsClose}
 use Rattle.prov_memory.specs.Keeps.{lasting, RowsStay, Keeps, MayHaveRow}
 use Rattle.prov_memory.proofs.ProvLemmas.{extends_none}
 use Rattle.prov_memory.proofs.StoreLemmas.{inserted_other}
-use Rattle.prov_memory.proofs.SoundLemmas.{created_made, created_sound}
+use Rattle.prov_memory.proofs.SoundLemmas.{some_row, created_made, created_sound}
 use Rattle.prov_memory.proofs.KeepLemmas.{goes_on_same}
+use Rattle.prov_memory.proofs.RoomLemmas.{born_close}
 
 -- ---- rows
 not_both : (o : Option Row) (s : Row) → o ≡ None → o ≡ Some s → ⊥
@@ -97,12 +99,14 @@ with_high (Some q) r rows high above = above
 with_high None r rows high above = above-insert 16777216 r rows (high refl) above
 
 -- ---- a row alone
-made_rows : (m : Kept) (rows : List Row) (p : Prov) → IsMade m p → IsMade (record m { rows = rows }) p
+made_rows : (m : Kept) (rows : List Row) (p : Prov) → IsMade m p → IsMade (record m { rows = rows; created = 2 ^ 62 }) p
 made_rows m rows Empty made = tt
 made_rows m rows (Whole x) made = made
 made_rows m rows (Either id past start) made = made
 
-keeps_rows : (m : Kept) (rows : List Row) → RowsStay m.rows rows → (Above 16777216 m.rows → Above 16777216 rows) → Keeps m (record m { rows = rows })
+-- which counts as full
+keeps_rows : (m : Kept) (rows : List Row) → RowsStay m.rows rows → (Above 16777216 m.rows → Above 16777216 rows) →
+    Keeps m (record m { rows = rows; created = 2 ^ 62 })
 keeps_rows m rows stay high = record {
   rows = stay;
   high = high;
@@ -113,22 +117,32 @@ keeps_rows m rows stay high = record {
   cells = λ e h. h;
   settled = λ e x h. h;
   made = made_rows m rows;
-  sound = λ s. record { known = s.known; named = s.named; made = λ n. made_rows m rows (prov_numbered m.origins n) (s.made n) };
+  sound = λ s. record {
+    known = s.known;
+    named = s.named;
+    made = λ n. made_rows m rows (prov_numbered m.origins n) (s.made n);
+    rowed = λ x h. some_row (row_of m.rows x) (row_of rows x) (stay x) (s.rowed x h);
+  };
   tagged = λ t. t;
   bare = λ b. b;
+  close = λ c. record { packed = λ within. absurd (omega (arith, within)); only = λ within. absurd (omega (arith, within)) };
 }
 
-pub keeps_placed : (m : Kept) (r : Row) → row_of m.rows r.name ≡ None → 16777216 ≤ r.base → Keeps m (record m { rows = insert_row r m.rows })
+pub keeps_full : (m : Kept) → Keeps m (record m { created = 2 ^ 62 })
+keeps_full m = keeps_rows m m.rows (λ x r e. e) (λ h. h)
+
+pub keeps_placed : (m : Kept) (r : Row) → row_of m.rows r.name ≡ None → 16777216 ≤ r.base →
+    Keeps m (record m { rows = insert_row r m.rows; created = 2 ^ 62 })
 keeps_placed m r none high = keeps_rows m (insert_row r m.rows) (rows_stay m.rows r none) (above-insert 16777216 r m.rows high)
 
 -- what is left where the row was placed
 pub row_left : (old new : Kept) (x : ObjName) (base size align : ℕ) → record new { rows = [] } ≡ record old { rows = [] } →
     base ≡ base_by (row_of old.rows x) old.mode old.rows align → new.rows ≡ rows_with (row_of old.rows x) (row_at x base size align) old.rows →
-    MayHaveRow old new x size align
+    MayHaveRow old (record new { created = 2 ^ 62 }) x size align
 row_left old new x base size align rest is rows = (
   true,
-  ap (λ (m : Kept). record m { rows = new.rows }) rest
-      ∙ ap (λ (rs : List Row). record old { rows = rs }) (rows ∙ ap (λ (b : ℕ). rows_with (row_of old.rows x) (row_at x b size align) old.rows) is),
+  ap (λ (m : Kept). record m { rows = new.rows; created = 2 ^ 62 }) rest
+      ∙ ap (λ (rs : List Row). record old { rows = rs; created = 2 ^ 62 }) (rows ∙ ap (λ (b : ℕ). rows_with (row_of old.rows x) (row_at x b size align) old.rows) is),
 )
 
 pub unchanged_row : (old new : Kept) (x : ObjName) (size align : ℕ) → new ≡ old → MayHaveRow old new x size align
@@ -161,13 +175,14 @@ form_none g (Some x) e = e
 keeps_born : (old new : Kept) (x : ObjName) (base size align : ℕ) (kind : ObjKind) (declared : Option Shape) →
     IsBorn old new x base size align kind declared → (AreNamed old → AreNamed new) →
     new.rows ≡ rows_with (row_of old.rows x) (row_at x base size align) old.rows → (row_of old.rows x ≡ None → 16777216 ≤ base) →
-    new.mode ≡ old.mode → (kind.heap ≡ true → option_map form_of declared ≡ None) → Keeps old new
-keeps_born old new x base size align kind declared b named rows high mode bare =
+    new.mode ≡ old.mode → (kind.heap ≡ true → option_map form_of declared ≡ None) → (IsClose old → IsClose new) → Keeps old new
+keeps_born old new x base size align kind declared b named rows high mode bare close =
     let one = newborn x base size kind declared b.objects.0 in
     let r = row_at x base size align in
     let ok : Result ℕ ℕ = Ok base in
+    let stays : RowsStay old.rows new.rows = subst (λ (rs : List Row). RowsStay old.rows rs) (sym rows) (with_stay (row_of old.rows x) r old.rows refl) in
     record {
-      rows = subst (λ (rs : List Row). RowsStay old.rows rs) (sym rows) (with_stay (row_of old.rows x) r old.rows refl);
+      rows = stays;
       high = λ above. subst (λ (rs : List Row). Above 16777216 rs) (sym rows) (with_high (row_of old.rows x) r old.rows high above);
       mode = mode;
       objects = (map lasting (one ∷ []), ap (map lasting) b.objects.1 ∙ map-append lasting old.objects (one ∷ []));
@@ -176,10 +191,11 @@ keeps_born old new x base size align kind declared b named rows high mode bare =
       cells = λ e h. ap (λ (cs : Cells). has_cell cs e) b.cells ∙ h;
       settled = λ e y h. ap (λ (cs : Cells). kept_in cs e) b.cells ∙ h;
       made = created_made ok old new x size align kind declared b;
-      sound = created_sound ok old new x size align kind declared b named;
+      sound = created_sound ok old new x size align kind declared b named stays;
       tagged = λ t. subst (λ (hs : List Held). ObjectsTagged (length new.types) hs) (sym b.objects.1)
           (tagged_end (length new.types) old.objects one tt (subst (λ (n : ℕ). ObjectsTagged n old.objects) (sym (ap length b.types)) t));
       bare = λ u y. subst (λ (hs : List Held). Bare (held_of hs y)) (sym b.objects.1) (bare_end old.objects one y bare (u y));
+      close = close;
     }
 
 pub keeps_created : {X E : Type 0} (r : Result ℕ E) (old new : Kept) (x : ObjName) (size align : ℕ) (kind : ObjKind) (g : X → Shape) (declared : Option X) →
@@ -191,7 +207,15 @@ keeps_created (Ok base) old new x size align kind g declared born named is rows 
     keeps_born old new x base size align kind (option_map g declared) born named rows
     (placed_high old (row_of old.rows x) old.mode size align base is (or_right (is_some (held_of old.objects x)) _ able)) mode
     (λ heap. form_none g declared (bare heap))
+    (born_close old new x base size align kind (option_map g declared) (row_of old.rows x) old.mode born is
+    (or_right (is_some (held_of old.objects x)) _ able) rows)
 keeps_created (Err e) old new x size align kind g declared born named is rows able mode kept bare = kept
+
+pub rows_kept : {E : Type 0} (r : Result ℕ E) (old new : Kept) (x : ObjName) (size align : ℕ) →
+    IfOk r (λ base. new.rows ≡ rows_with (row_of old.rows x) (row_at x base size align) old.rows) → OnOk r (RowsStay old.rows new.rows)
+rows_kept (Ok base) old new x size align rows =
+    subst (λ (rs : List Row). RowsStay old.rows rs) (sym rows) (with_stay (row_of old.rows x) (row_at x base size align) old.rows refl)
+rows_kept (Err e) old new x size align rows = tt
 
 pub made_either : {E : Type 0} (r : Result ℕ E) (old new : Kept) (p : Prov) → (IsMade old p → OnOk r (IsMade new p)) → OnErr r (Keeps old new) →
     IsMade old p → IsMade new p

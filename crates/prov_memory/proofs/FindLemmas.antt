@@ -164,10 +164,11 @@ or_first true c h = refl
 or_first false c h = absurd (cc)
 
 pub made_ambiguity : {T E : Type 0} (r : Result T E) (old : Kept) (ps : List Prov) (cells : Cells) (id : Event) (past start : ObjName) →
-    HasNumber ps (Either id past start) → OnOk r (MakesCell old.cells cells id) →
+    HasNumber ps (Either id past start) → OnOk r (MakesCell old.cells cells id) → AreCreated old (Either id past start) →
     OnOk r (IsMade (record old { origins = ps; cells = cells }) (Either id past start))
-made_ambiguity (Ok v) old ps cells id past start has made = (made.cells id ∙ or_first (same_event id id) (has_cell old.cells id) (same_event_refl id), has)
-made_ambiguity (Err w) old ps cells id past start has made = tt
+made_ambiguity (Ok v) old ps cells id past start has made created =
+    (made.cells id ∙ or_first (same_event id id) (has_cell old.cells id) (same_event_refl id), (has, created))
+made_ambiguity (Err w) old ps cells id past start has made created = tt
 
 -- ---- the store is the same
 byte_more : (s : State) (ps more : List Prov) (c : Cell) → c.origin.number ≤ length ps → byte_in_state (ps ++ more) s c ≡ byte_in_state ps s c

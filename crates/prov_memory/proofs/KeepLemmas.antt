@@ -1,5 +1,5 @@
 -- What every call of a memory keeps, step by step.
-use Rattle.std.proofs.Common.{◌≡◌, ℕ, zero, suc, ◌+◌, ◌-◌, Bool, true, false, not, ◌&&◌, cond, refl, sym, ap, ◌∙◌, subst, arith}
+use Rattle.std.proofs.Common.{◌≡◌, ℕ, zero, suc, ◌+◌, ◌-◌, ◌≤◌, ◌^◌, Bool, true, false, not, ◌&&◌, cond, refl, sym, ap, ◌∙◌, subst, arith}
 use Rattle.std.proofs.Common.{append_assoc, List, [], ◌∷◌, ◌++◌, length, map, slice_get, Option, Some, None}
 use Rattle.std.specs.Prelude.{is_some, option_map, IfSome, ◌%◌, nat_le, nat_lt}
 use Rattle.std.specs.Bool.{OnTrue, OnFalse}
@@ -21,6 +21,7 @@ use Rattle.prov_memory.specs.Memory.{Kept, CellsKnown, ObjectsKnown, life_in, un
 use Rattle.prov_memory.specs.Made.{EachNamed, HasMore}
 use Rattle.prov_memory.specs.Sound.{IsSound}
 use Rattle.prov_memory.specs.Tags.{AddsTypes, IsTagged, CellsTagged, ObjectsTagged, AreTagged}
+use Rattle.prov_memory.specs.Room.{IsPacked, AreRowsCreated}
 use Rattle.prov_memory.specs.Keeps.{lasting, GoesOn, SettledStays, AreBare, Keeps, IsNumbered}
 use Rattle.prov_memory.proofs.ProvLemmas.{extends_none}
 use Rattle.prov_memory.proofs.SettleLemmas.{stays_made}
@@ -54,6 +55,7 @@ keeps_none m = record {
   sound = λ s. s;
   tagged = λ t. t;
   bare = λ b. b;
+  close = λ c. c;
 }
 
 pub keeps_same : (old new : Kept) → new ≡ old → Keeps old new
@@ -73,6 +75,7 @@ keeps_then a b c p q = record {
   sound = λ s. q.sound (p.sound s);
   tagged = λ t. q.tagged (p.tagged t);
   bare = λ u. q.bare (p.bare u);
+  close = λ u. q.close (p.close u);
 }
 
 -- after a step that changes nothing
@@ -121,6 +124,7 @@ keeps_cells m cells same stays = record {
   sound = settled_sound m (record m { cells = cells }) refl same;
   tagged = λ t. t;
   bare = λ b. b;
+  close = λ c. record { packed = c.packed; only = c.only };
 }
 
 pub keeps_narrowed : (b : Bool) (m : Kept) (cells : Cells) (id : Event) (keep : ObjName) → b ≡ not (is_other (kept_in m.cells id) keep) →
@@ -184,6 +188,7 @@ keeps_objects m hs same known tagged =
     let new : Kept = record m { objects = hs } in
     let alters : Alters m new hs = record {
       objects = refl;
+      rows = refl;
       origins = refl;
       cells = λ e h. h;
       held = λ x. held_stays m.objects hs x same;
@@ -202,6 +207,7 @@ keeps_objects m hs same known tagged =
       sound = λ s. alters_sound m new hs alters (known s.known) s;
       tagged = tagged;
       bare = λ b x. bare_stays m.objects hs x same (b x);
+      close = λ c. record { packed = c.packed; only = λ within x h. held_stays m.objects hs x same ∙ c.only within x h };
     }
 
 lasting_split : (b : Bool) (f : Held → Held) (h : Held) → lasting (f h) ≡ lasting h → lasting (cond b (f h) h) ≡ lasting h
@@ -299,6 +305,10 @@ keeps_more old new more sound = record {
   sound = sound;
   tagged = subst (λ (m : Kept). AreTagged old → AreTagged m) (sym more.rest) (λ t. t);
   bare = subst (λ (m : Kept). AreBare old → AreBare m) (sym more.rest) (λ b. b);
+  close = λ c. record {
+    packed = subst (λ (m : Kept). m.created ≤ 2 ^ 40 → IsPacked m) (sym more.rest) c.packed;
+    only = subst (λ (m : Kept). m.created ≤ 2 ^ 40 → AreRowsCreated m) (sym more.rest) c.only;
+  };
 }
 
 keeps_typed : (m : Kept) (more : List Ty) → Keeps m (record m { types = m.types ++ more })
@@ -315,6 +325,7 @@ keeps_typed m more = record {
   sound = typed_sound m (record m { types = m.types ++ more }) refl;
   tagged = all_tagged_adds m (record m { types = m.types ++ more }) (more, refl);
   bare = λ b. b;
+  close = λ c. record { packed = c.packed; only = c.only };
 }
 
 pub keeps_types : (old new : Kept) → AddsTypes old new → Keeps old new

@@ -124,8 +124,16 @@ pub stays_made : (old new : Kept) → record new { cells = [] } ≡ record old {
     (p : Prov) → IsMade old p → IsMade new p
 stays_made old new rest cells Empty made = tt
 stays_made old new rest cells (Whole x) made = ap (λ (m : Kept). is_some (held_of m.objects x)) rest ∙ made
-stays_made old new rest cells (Either id past start) made =
-    (cells id ∙ made.0, subst (λ (ps : List Prov). HasNumber ps (Either id past start)) (sym (ap (λ (m : Kept). m.origins) rest)) made.1)
+stays_made old new rest cells (Either id past start) made = (
+  cells id ∙ made.0,
+  (
+    subst (λ (ps : List Prov). HasNumber ps (Either id past start)) (sym (ap (λ (m : Kept). m.origins) rest)) made.1.0,
+    (
+      ap (λ (m : Kept). is_some (held_of m.objects past)) rest ∙ made.1.1.0,
+      ap (λ (m : Kept). is_some (held_of m.objects start)) rest ∙ made.1.1.1,
+    ),
+  ),
+)
 
 pub narrowed_cells : (b : Bool) (old new : Kept) (id : Event) (keep : ObjName) → OnTrue b (Settles old.cells new.cells id keep) → OnFalse b (new ≡ old) →
     (e : Event) → has_cell new.cells e ≡ has_cell old.cells e

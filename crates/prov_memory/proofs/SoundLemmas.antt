@@ -7,9 +7,10 @@ use Rattle.std.proofs.lemmas.List.{length-append}
 use Rattle.ub_base.specs.declared.names.Event.{Event}
 use Rattle.ub_base.specs.declared.names.ObjName.{ObjName}
 use Rattle.ub_base.specs.Names.{same_object}
-use Rattle.ub_base.proofs.NameLemmas.{same_object_refl}
+use Rattle.ub_base.proofs.NameLemmas.{same_object_is, same_object_refl}
 use Rattle.addr_map.specs.declared.map.Mode.{Mode}
 use Rattle.addr_map.specs.declared.map.Row.{Row}
+use Rattle.addr_map.specs.Rows.{row_of}
 use Rattle.exposure.specs.declared.prov.Prov.{Prov}
 use Rattle.exposure.specs.declared.prov.Prov.TheVariants.{Empty, Whole, Either}
 use Rattle.exposure.specs.Cells.{Cells, has_cell, Settles}
@@ -25,10 +26,11 @@ use Rattle.prov_memory.specs.Tags.{CellsTagged}
 use Rattle.mem_spec.specs.Acts.{same_prov, origin_in, pointer_if, pointer_in, are_pieces}
 use Rattle.prov_memory.specs.Cells.{prov_numbered, byte_in_state, cell_at}
 use Rattle.prov_memory.specs.Held.{Held, held_of, changed, uncovered, holding}
-use Rattle.prov_memory.specs.Memory.{Kept, empty, AreKnown, CellsKnown, ObjectsKnown, uncovered_each, newborn, IsBorn}
+use Rattle.prov_memory.specs.Memory.{Kept, empty, life_in, AreKnown, CellsKnown, ObjectsKnown, uncovered_each, newborn, IsBorn}
 use Rattle.prov_memory.specs.Made.{IsMade, AreNamed, EachNamed, HasMore, Extends}
 use Rattle.prov_memory.specs.Access.{IsReached, bytes_in}
-use Rattle.prov_memory.specs.Sound.{AllMade, AreMade, IsSound}
+use Rattle.prov_memory.specs.Sound.{AllMade, AreMade, AreRowed, IsSound, ObjectsHaveRows, CandidatesHaveRows}
+use Rattle.prov_memory.specs.Keeps.{RowsStay}
 use Rattle.mem_spec.specs.Store.{TaggedByte}
 use Rattle.prov_memory.proofs.ProvLemmas.{has_number_more, extends_none}
 use Rattle.prov_memory.proofs.PieceLemmas.{named_changed, named_uncovered, named_longer}
@@ -49,8 +51,10 @@ made_by : (old new : Kept) → Extends old.origins new.origins → StayCells old
     ((x : ObjName) → is_some (held_of old.objects x) ≡ true → is_some (held_of new.objects x) ≡ true) → StayMade old new
 made_by old new more cells held Empty made = tt
 made_by old new more cells held (Whole x) made = held x made
-made_by old new more cells held (Either id past start) made =
-    (cells id made.0, has_number_more old.origins new.origins (Either id past start) refl more made.1)
+made_by old new more cells held (Either id past start) made = (
+  cells id made.0,
+  (has_number_more old.origins new.origins (Either id past start) refl more made.1.0, (held past made.1.1.0, held start made.1.1.1)),
+)
 
 extends_same : (ps qs : List Prov) → qs ≡ ps → Extends ps qs
 extends_same ps qs e = subst (λ (l : List Prov). Extends ps l) (sym e) (extends_none ps)
@@ -59,6 +63,7 @@ extends_same ps qs e = subst (λ (l : List Prov). Extends ps l) (sym e) (extends
 -- the memory has other objects of the same names and numbers, and perhaps other cells
 pub record Alters (old new : Kept) (hs : List Held) : Type 0 where
   pub objects : new.objects ≡ hs
+  pub rows : new.rows ≡ old.rows
   pub origins : new.origins ≡ old.origins
   pub cells : StayCells old new
   pub held : (x : ObjName) → is_some (held_of hs x) ≡ is_some (held_of old.objects x)
@@ -73,6 +78,8 @@ alters_sound old new hs a known s = record {
   known = known;
   named = subst (λ (l : List Held). EachNamed new.origins l) (sym a.objects) (subst (λ (ps : List Prov). EachNamed ps hs) (sym a.origins) (a.named s.named));
   made = λ n. subst (λ (ps : List Prov). IsMade new (prov_numbered ps n)) (sym a.origins) (alters_made old new hs a (prov_numbered old.origins n) (s.made n));
+  rowed = λ x h. ap (λ (rs : List Row). is_some (row_of rs x)) a.rows
+      ∙ s.rowed x (sym (a.held x) ∙ sym (ap (λ (l : List Held). is_some (held_of l x)) a.objects) ∙ h);
 }
 
 pub alters_known : (old new : Kept) (hs : List Held) → Alters old new hs → ObjectsKnown (length old.origins) hs → AreKnown new
@@ -102,6 +109,7 @@ both_alter : (old mid new : Kept) (hs : List Held) → mid ≡ record old { obje
     (EachNamed old.origins old.objects → EachNamed old.origins hs) → Alters old new hs
 both_alter old mid new hs is rest cells held named = record {
   objects = ap (λ (m : Kept). m.objects) rest ∙ ap (λ (m : Kept). m.objects) is;
+  rows = ap (λ (m : Kept). m.rows) rest ∙ ap (λ (m : Kept). m.rows) is;
   origins = ap (λ (m : Kept). m.origins) rest ∙ ap (λ (m : Kept). m.origins) is;
   cells = λ e h. cells e ∙ ap (λ (m : Kept). has_cell m.cells e) is ∙ h;
   held = held;
@@ -150,6 +158,7 @@ settled_sound old new rest cells s = record {
   named = subst (λ (m : Kept). AreNamed m) (sym rest) s.named;
   made = λ n. stays_made old new rest cells (prov_numbered new.origins n)
       (subst (λ (ps : List Prov). IsMade old (prov_numbered ps n)) (sym (ap (λ (m : Kept). m.origins) rest)) (s.made n));
+  rowed = subst (λ (m : Kept). AreRowed m) (sym rest) s.rowed;
 }
 
 -- ---- what is looked up
@@ -170,6 +179,7 @@ more_sound old new more each s =
       named = subst (λ (hs : List Held). EachNamed new.origins hs) (sym objects)
           (subst (λ (ps : List Prov). EachNamed ps old.objects) (sym more.origins.1) (named_longer old.origins more.origins.0 old.objects s.named));
       made = each s.made;
+      rowed = subst (λ (m : Kept). AreRowed m) (sym more.rest) s.rowed;
     }
 
 nth_each : (ps : List Prov) (p : Prov) (P : Prov → Type 0) → P p → P Empty → ((n : ℕ) → P (slice_index_or ps n Empty)) →
@@ -259,6 +269,7 @@ typed_sound old new rest s = record {
   named = subst (λ (m : Kept). AreNamed m) (sym rest) s.named;
   made = λ n. typed_made old new rest (prov_numbered new.origins n)
       (subst (λ (ps : List Prov). IsMade old (prov_numbered ps n)) (sym (ap (λ (m : Kept). m.origins) rest)) (s.made n));
+  rowed = subst (λ (m : Kept). AreRowed m) (sym rest) s.rowed;
 }
 
 pub block_made : (old acc mid new : Kept) → acc ≡ old → record mid { types = [] } ≡ record acc { types = [] } →
@@ -298,6 +309,7 @@ changed_alters : (m : Kept) (f : Held → Held) (x : ObjName) → ((h : Held) �
     Alters m (record m { objects = changed f x m.objects }) (changed f x m.objects)
 changed_alters m f x names numbers = record {
   objects = refl;
+  rows = refl;
   origins = refl;
   cells = λ e h. h;
   held = λ y. held_changed f x m.objects y names;
@@ -334,27 +346,56 @@ held_last : (hs : List Held) (h : Held) → is_some (held_of (hs ++ h ∷ []) h.
 held_last [] h = rw (same_object_refl h.name) refl
 held_last (g ∷ hs) h = some_either (same_object g.name h.name) g (held_of (hs ++ h ∷ []) h.name) (held_last hs h)
 
-born_made : (old new : Kept) (x : ObjName) (base size align : ℕ) (kind : ObjKind) (declared : Option Shape) → IsBorn old new x base size align kind declared →
+pub born_made : (old new : Kept) (x : ObjName) (base size align : ℕ) (kind : ObjKind) (declared : Option Shape) → IsBorn old new x base size align kind declared →
     StayMade old new
 born_made old new x base size align kind declared b =
     let one = newborn x base size kind declared b.objects.0 in
     made_by old new (Whole x ∷ [], b.origins) (λ e h. ap (λ (cells : Cells). has_cell cells e) b.cells ∙ h)
     (λ y h. ap (λ (hs : List Held). is_some (held_of hs y)) b.objects.1 ∙ held_end old.objects one y h)
 
-born_whole : (old new : Kept) (x : ObjName) (base size align : ℕ) (kind : ObjKind) (declared : Option Shape) →
+pub born_whole : (old new : Kept) (x : ObjName) (base size align : ℕ) (kind : ObjKind) (declared : Option Shape) →
     IsBorn old new x base size align kind declared → IsMade new (Whole x)
 born_whole old new x base size align kind declared b =
     let one = newborn x base size kind declared b.objects.0 in
     ap (λ (hs : List Held). is_some (held_of hs x)) b.objects.1 ∙ held_last old.objects one
 
+some_held : (b : Bool) (h : Held) → is_some (cond b (Some h) None) ≡ true → b ≡ true
+some_held true h e = refl
+some_held false h e = absurd (cc)
+
+held_first : (b : Bool) (g : Held) (o p : Option Held) (P : Type 0) → (is_some (cond b (Some g) o) ≡ true → P) → ((is_some o ≡ true → P) → is_some p ≡ true → P) →
+    is_some (cond b (Some g) p) ≡ true → P
+held_first true g o p P old next e = old refl
+held_first false g o p P old next e = next old e
+
+-- an object is one of these, or the last
+held_either : (hs : List Held) (h : Held) (y : ObjName) (P : Type 0) → (is_some (held_of hs y) ≡ true → P) → (same_object h.name y ≡ true → P) →
+    is_some (held_of (hs ++ h ∷ []) y) ≡ true → P
+held_either [] h y P old here e = here (some_held (same_object h.name y) h e)
+held_either (g ∷ hs) h y P old here e =
+    held_first (same_object g.name y) g (held_of hs y) (held_of (hs ++ h ∷ []) y) P old (λ o f. held_either hs h y P o here f) e
+
+pub some_row : (o p : Option Row) → ((r : Row) → o ≡ Some r → p ≡ Some r) → is_some o ≡ true → is_some p ≡ true
+some_row None p stays e = absurd (cc)
+some_row (Some r) p stays e = ap is_some (stays r refl)
+
+born_rowed : (old new : Kept) (x : ObjName) (base size align : ℕ) (kind : ObjKind) (declared : Option Shape) →
+    IsBorn old new x base size align kind declared → RowsStay old.rows new.rows → AreRowed old → AreRowed new
+born_rowed old new x base size align kind declared b stays rowed y h =
+    held_either old.objects (newborn x base size kind declared b.objects.0) y (is_some (row_of new.rows y) ≡ true)
+    (λ e. some_row (row_of old.rows y) (row_of new.rows y) (stays y) (rowed y e))
+    (λ e. subst (λ (z : ObjName). is_some (row_of new.rows z) ≡ true) (same_object_is x y e) (ap is_some b.row))
+    (sym (ap (λ (hs : List Held). is_some (held_of hs y)) b.objects.1) ∙ h)
+
 born_sound : (old new : Kept) (x : ObjName) (base size align : ℕ) (kind : ObjKind) (declared : Option Shape) →
-    IsBorn old new x base size align kind declared → AreNamed new → IsSound old → IsSound new
-born_sound old new x base size align kind declared b named s = record {
+    IsBorn old new x base size align kind declared → AreNamed new → RowsStay old.rows new.rows → IsSound old → IsSound new
+born_sound old new x base size align kind declared b named stays s = record {
   known = born_known old new x base size align kind declared b s.known;
   named = named;
   made = subst (λ (ps : List Prov). AllMade new ps) (sym b.origins)
       (each_last new old.origins (Whole x) (born_whole old new x base size align kind declared b)
       (λ n. born_made old new x base size align kind declared b (prov_numbered old.origins n) (s.made n)));
+  rowed = born_rowed old new x base size align kind declared b stays s.rowed;
 }
 
 pub created_made : {E : Type 0} (r : Result ℕ E) (old new : Kept) (x : ObjName) (size align : ℕ) (kind : ObjKind) (declared : Option Shape) →
@@ -368,9 +409,10 @@ created_whole (Ok base) old new x size align kind declared b = born_whole old ne
 created_whole (Err e) old new x size align kind declared b = tt
 
 pub created_sound : {E : Type 0} (r : Result ℕ E) (old new : Kept) (x : ObjName) (size align : ℕ) (kind : ObjKind) (declared : Option Shape) →
-    IfOk r (λ base. IsBorn old new x base size align kind declared) → (AreNamed old → OnOk r (AreNamed new)) → IsSound old → OnOk r (IsSound new)
-created_sound (Ok base) old new x size align kind declared b named s = born_sound old new x base size align kind declared b (named s.named) s
-created_sound (Err e) old new x size align kind declared b named s = tt
+    IfOk r (λ base. IsBorn old new x base size align kind declared) → (AreNamed old → OnOk r (AreNamed new)) → OnOk r (RowsStay old.rows new.rows) →
+    IsSound old → OnOk r (IsSound new)
+created_sound (Ok base) old new x size align kind declared b named stays s = born_sound old new x base size align kind declared b (named s.named) stays s
+created_sound (Err e) old new x size align kind declared b named stays s = tt
 
 -- ---- what settles
 pub cells_narrowed : (b : Bool) (old new : Cells) (id : Event) (keep : ObjName) → OnTrue b (Settles old new id keep) → OnFalse b (new ≡ old) →
@@ -384,4 +426,20 @@ no_prov rows mode zero = tt
 no_prov rows mode (suc n) = tt
 
 pub empty_sound : (rows : List Row) (mode : Option Mode) → IsSound (empty rows mode)
-empty_sound rows mode = record { known = tt; named = tt; made = no_prov rows mode }
+empty_sound rows mode = record { known = tt; named = tt; made = no_prov rows mode; rowed = λ x e. absurd (not_there e) }
+  where
+    not_there : false ≡ true → ⊥
+    not_there e = cc
+
+-- ---- what has a row
+some_life : (o : Option Held) → is_some (life_in o) ≡ true → is_some o ≡ true
+some_life None e = e
+some_life (Some h) e = refl
+
+pub objects_have_rows : ObjectsHaveRows
+objects_have_rows m io x s e = s.rowed x (some_life (held_of m.objects x) e)
+
+pub candidates_have_rows : CandidatesHaveRows
+candidates_have_rows m Empty s made = tt
+candidates_have_rows m (Whole x) s made = s.rowed x made
+candidates_have_rows m (Either id past start) s made = (s.rowed past made.1.1.0, s.rowed start made.1.1.1)

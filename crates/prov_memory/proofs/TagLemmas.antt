@@ -6,7 +6,8 @@ use Rattle.std.proofs.lemmas.Bool.Decides.{nat_tests}
 use Rattle.std.proofs.lemmas.List.{map-append}
 use Rattle.exposure.specs.declared.prov.Prov.{Prov}
 use Rattle.c_types.specs.declared.ty.Ty.{Ty}
-use Rattle.c_types.specs.Types.{CType, type_of}
+use Rattle.c_types.specs.declared.kind.IntKind.{IntKind}
+use Rattle.c_types.specs.Types.{CType, type_of, kind_of, int}
 use Rattle.c_types.specs.Shapes.{Form, form_of, forms_of, Put, put_of}
 use Rattle.c_types.specs.declared.shape.Placed.{Placed}
 use Rattle.prov_memory.specs.declared.cell.Cell.{Cell}
@@ -268,6 +269,22 @@ past_end (t ∷ ts) (suc k) ty e = omega (arith, past_end ts k ty e)
 
 pub unlisted_all : (ts : List Ty) (ty : CType) (n : ℕ) → length ts ≤ n → Unlisted ts ty n → (k : ℕ) → slice_get (map type_of ts) k ≡ Some ty → ⊥
 unlisted_all ts ty n le all k e = all k (omega (arith, le, past_end ts k ty e)) e
+
+-- a type that is read as no integer type has no number but one of a place in the list
+same_in : (a b : CType) → Some a ≡ Some b → a ≡ b
+same_in a b e = cc
+
+no_kind : (k : IntKind) → kind_of (int k) ≡ None → ⊥
+no_kind k e = cc
+
+unnumbered_by : (b : Bool) (o : Option IntKind) (other : Option CType) (ty : CType) → kind_of ty ≡ None → (other ≡ Some ty → ⊥) →
+    cond b None (integer_or o other) ≡ Some ty → ⊥
+unnumbered_by true o other ty plain missing e = cc
+unnumbered_by false (Some k) other ty plain missing e = no_kind k (subst (λ (t : CType). kind_of t ≡ None) (sym (same_in (int k) ty e)) plain)
+unnumbered_by false None other ty plain missing e = missing e
+
+pub unnumbered : (ts : List CType) (ty : CType) (n : ℕ) → kind_of ty ≡ None → ((k : ℕ) → slice_get ts k ≡ Some ty → ⊥) → type_numbered ts n ≡ Some ty → ⊥
+unnumbered ts ty n plain missing e = unnumbered_by (n == 0) (kind_numbered n) (slice_get ts (n - 13)) ty plain (missing (n - 13)) e
 
 -- ---- what spans a byte
 -- so many parts of a list were looked at

@@ -1,5 +1,5 @@
 -- What every call of a memory keeps (own).
-use Rattle.std.specs.Prelude.{◌≡◌, ℕ, ◌≤◌, ◌+◌, Bool, true, false, List, [], ◌++◌, map, Some, None, IfSome, if◌then◌else◌}
+use Rattle.std.specs.Prelude.{◌≡◌, ℕ, ◌≤◌, ◌+◌, ◌^◌, Bool, true, false, List, [], ◌++◌, map, Some, None, IfSome, if◌then◌else◌}
 use Rattle.ub_base.specs.declared.names.Event.{Event}
 use Rattle.ub_base.specs.declared.names.ObjName.{ObjName}
 use Rattle.addr_map.specs.declared.map.Row.{Row}
@@ -14,6 +14,7 @@ use Rattle.prov_memory.specs.Memory.{Kept, life_in, base_by, rows_with}
 use Rattle.prov_memory.specs.Made.{Extends, IsMade}
 use Rattle.prov_memory.specs.Sound.{IsSound}
 use Rattle.prov_memory.specs.Tags.{AreTagged}
+use Rattle.prov_memory.specs.Room.{IsClose}
 
 -- what an object has all its life: its name, place, kind, declared type and number
 abbrev pub lasting : Held → Held
@@ -36,7 +37,8 @@ abbrev pub AreBare : Kept → Type 0
 AreBare m = (x : ObjName) → IfSome (life_in (held_of m.objects x)) (λ l. l.kind.heap ≡ true → l.declared ≡ None)
 
 -- rows, objects, provenances, types and ambiguities stay as they are, with more behind them; and what holds of a memory holds on:
--- its rows stand from 16,777,216 on, it is sound, it has the types of its tags, and nothing is declared of the heap
+-- its rows stand from 16,777,216 on, it is sound, it has the types of its tags, nothing is declared of the heap,
+-- and its objects stand close
 pub record Keeps (old new : Kept) : Type 0 where
   pub rows : RowsStay old.rows new.rows
   pub high : Above 16777216 old.rows → Above 16777216 new.rows
@@ -50,18 +52,20 @@ pub record Keeps (old new : Kept) : Type 0 where
   pub sound : IsSound old → IsSound new
   pub tagged : AreTagged old → AreTagged new
   pub bare : AreBare old → AreBare new
+  pub close : IsClose old → IsClose new
 
 -- the type of a scalar access has its number in a memory with so many types
 abbrev pub IsNumbered : ℕ → Via → Type 0
 IsNumbered n (vias.Scalar ty) = ty.number ≤ n + 12
 IsNumbered n _ = Unit {0}
 
--- the memory with the row of an object that can be created, where it has none
+-- the memory with the row of an object that can be created, where it has none; it counts as full
 abbrev pub with_row : Kept → ObjName → (size align : ℕ) → Kept
 with_row m x size align = record m {
   rows = rows_with (row_of m.rows x) (row_at x (base_by (row_of m.rows x) m.mode m.rows align) size align) m.rows;
+  created = 2 ^ 62;
 }
 
--- the memory is as before, or only the row of an object that can be created was added
+-- the memory is as before, or the row of an object that can be created was added and it counts as full
 abbrev pub MayHaveRow : Kept → Kept → ObjName → (size align : ℕ) → Type 0
 MayHaveRow old new x size align = (is_placed : Bool) × (new ≡ (if is_placed then with_row old x size align else old))

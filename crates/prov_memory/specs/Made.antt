@@ -62,17 +62,17 @@ pub record AreNumbered (numbers : BTreeMap Prov ℕ) (ps : List Prov) : Type 0 w
   pub only : (p : Prov) (n : ℕ) → get prov_cmp numbers p ≡ Some n → is_ambiguous p ≡ true
   pub found : (p : Prov) → is_ambiguous p ≡ true → HasNumber ps p → is_some (get prov_cmp numbers p) ≡ true
 
--- the provenance was made in this memory: its object was created, or the ambiguity has its cell and its number
-abbrev pub IsMade : Kept → Prov → Type 0
-IsMade m Empty = Unit {0}
-IsMade m (Whole x) = is_some (held_of m.objects x) ≡ true
-IsMade m (Either id past start) = (has_cell m.cells id ≡ true) × HasNumber m.origins (Either id past start)
-
 -- the objects of the provenance were created
 abbrev pub AreCreated : Kept → Prov → Type 0
 AreCreated m Empty = Unit {0}
 AreCreated m (Whole x) = is_some (held_of m.objects x) ≡ true
 AreCreated m (Either id past start) = (is_some (held_of m.objects past) ≡ true) × (is_some (held_of m.objects start) ≡ true)
+
+-- the provenance was made in this memory: its object was created, or the ambiguity has its cell and its number, and its candidates were created
+abbrev pub IsMade : Kept → Prov → Type 0
+IsMade m Empty = Unit {0}
+IsMade m (Whole x) = is_some (held_of m.objects x) ≡ true
+IsMade m (Either id past start) = (has_cell m.cells id ≡ true) × (HasNumber m.origins (Either id past start) × AreCreated m (Either id past start))
 
 abbrev pub EachNamed : List Prov → List Held → Type 0
 EachNamed ps [] = Unit {0}

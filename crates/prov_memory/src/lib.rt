@@ -18,7 +18,7 @@ mod value;
 pub use answer::{CreateFault, LibAnswer, MemFault};
 pub use block::Block;
 pub use cell::{MemByte, Origin, TypeId, Via};
-pub use laws::law_room;
+pub use laws::{law_room, law_rows};
 pub use mem_spec::ObjKind;
 pub use memory::Memory;
 pub use object::ObjState;

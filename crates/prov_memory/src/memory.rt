@@ -11,6 +11,7 @@ ghost use Rattle.prov_memory.specs.Memory.{Kept, empty, store_of, state_in, byte
 ghost use Rattle.prov_memory.specs.Made.{AreNamed, IsMade};
 ghost use Rattle.prov_memory.specs.Keeps.{Keeps};
 ghost use Rattle.prov_memory.specs.Sound.{IsSound};
+ghost use Rattle.prov_memory.specs.Room.{IsClose};
 ghost use Rattle.prov_memory.specs.Tags.{AreTagged};
 
 mod access;
@@ -79,6 +80,7 @@ impl Memory {
         ensures empty { result ≡ empty [] (Some mode) }
         ensures sound { IsSound result }
         ensures tagged { AreTagged result }
+        ensures close { IsClose result }
     {
         Memory::with(alloc, AddrMap::new(alloc), Some(mode))
     }
@@ -146,7 +148,8 @@ impl Memory {
         map
     }
 
-    /// The sum of the sizes of all objects that were created, each counted as at least 16, and at most 2^62.
+    /// The sum of the sizes of all objects that were created, each counted as at least 16, and at most 2^62; that much where memory
+    /// was wanted for an object that has its row.
     pub fn created(&self) -> u64
         ensures { result ≡ self.now.created }
     {

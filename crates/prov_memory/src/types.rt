@@ -1,7 +1,7 @@
 // The scalar types that tags name.
 ghost use Rattle.std.specs.Prelude.{◌≡◌, ℕ, ◌+◌, ◌-◌, ◌≤◌, ◌++◌, List, [], ◌∷◌, Some, None, map, true, false, slice_get, IfOk, IfSome, if◌then◌else◌, nat_le};
 ghost use Rattle.std.specs.Option.{option_copied};
-ghost use Rattle.c_types.specs.Types.{CType, type_of, int};
+ghost use Rattle.c_types.specs.Types.{CType, type_of, kind_of, int};
 ghost use Rattle.c_types.specs.Shapes.{form_of, put_of, forms_of};
 ghost use Rattle.mem_spec.specs.Agreement.{Tag, read_as_int, scalar_size, spanning, spanning_parts};
 ghost use Rattle.prov_memory.specs.Cells.{type_numbered};
@@ -18,6 +18,7 @@ pub(crate) const FIRST: u32 = 13;
 pub(crate) fn kind_id(ty: &Ty) -> Option<TypeId>
     ensures some { IfSome result (λ id. (ts : List CType) → (type_numbered ts id.number ≡ Some (read_as_int (type_of ty.now))) × (id.number ≤ 12)) }
     ensures none { result ≡ None → read_as_int (type_of ty.now) ≡ type_of ty.now }
+    ensures plain { result ≡ None → kind_of (type_of ty.now) ≡ None }
 {
     match ty {
         Ty::Int(kind) => Some(TypeId::of_kind(*kind)),

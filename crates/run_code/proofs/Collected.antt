@@ -1,6 +1,5 @@
 -- What is noted of nodes as a tree is gone through.
 use Rattle.std.proofs.Common.{
-  rules,
   arith,
   ◌≡◌,
   ◌<◌,
@@ -17,7 +16,6 @@ use Rattle.std.proofs.Common.{
   ◌∷◌,
   ◌++◌,
   length,
-  map,
   drop,
   Option,
   Some,
@@ -32,14 +30,14 @@ use Rattle.std.proofs.Common.{
 }
 use Rattle.std.proofs.Math.ListN.{get_or, set}
 use Rattle.std.proofs.Math.Seq.{get_or-append_seam}
-use Rattle.std.proofs.lemmas.List.{drop_more, length-set}
-use Rattle.std.proofs.lemmas.Option.{slice_get_within, slice_get-get_or, slice_get_past}
+use Rattle.std.proofs.lemmas.List.{length-set}
+use Rattle.std.proofs.lemmas.Option.{slice_get_within, slice_get-get_or}
 use Rattle.c_typed.specs.declared.tree.Typed.{Typed, out-Typed, fold_out-Typed}
 use Rattle.c_typed.specs.declared.class.Class.{Class}
 use Rattle.c_typed.specs.Tree.{Tree, Trees, tree_of, trees_of, node_class, typed_tree, size, sizes}
 use Rattle.run_code.specs.declared.nodes.NodeInfo.{NodeInfo}
 use Rattle.run_code.specs.Resolved.{resolved}
-use Rattle.run_code.specs.Numbered.{IsAt, AreBelow, IsNode, AreNoted, AreKept, AreAdded, AreNodes}
+use Rattle.run_code.specs.Numbered.{IsAt, AreBelow, IsNode, AreKept, AreAdded, AreNodes}
 
 pub slice_get-front : {A : Type 0} (xs ys : List A) (n : ℕ) (x : A) → slice_get xs n ≡ Some x → slice_get (xs ++ ys) n ≡ Some x
 slice_get-front [] ys zero x h = absurd (cc)

@@ -1,14 +1,13 @@
 -- Entries of what is laid out, part by part.
 use Rattle.std.proofs.Common.{◌≡◌, ℕ, zero, suc, refl, sym, ◌∙◌, ap, List, [], ◌∷◌, ◌++◌, append_assoc, map, drop, length, ◌<◌, ◌+◌, ◌⊎◌, inl, inr}
-use Rattle.std.specs.Prelude.{Bool, true, false, nat_lt, if◌then◌else◌, Result, Ok, Err, OnOk}
-use Rattle.std.proofs.lemmas.List.{append-nil, drop_more, map-append, length-map, length-append, set_at}
+use Rattle.std.specs.Prelude.{Result, Ok, Err, OnOk}
+use Rattle.std.proofs.lemmas.List.{drop_more, map-append, length-map, length-append, set_at}
 use Rattle.std.proofs.Math.ListN.{get_or, set}
 use Rattle.core_ir.specs.declared.term.Core.{Core}
 use Rattle.core_ir.specs.declared.term.Core.TheFolds.{the_lemmas}
 use Rattle.core_ir.specs.declared.term.Core as cores
 use Rattle.core_ir.specs.Term.{term_of, terms_from}
 use Rattle.run_code.specs.declared.steps.Listed.{Listed}
-use Rattle.run_code.specs.declared.steps.Listed.TheVariants as listed
 use Rattle.run_code.specs.Listings.{Entry, operand, entry_of, entries_of, continuation, flat, all_flat}
 
 -- what follows from a clause of what may fail

@@ -1,10 +1,8 @@
 -- What is laid out stays as more is laid out behind it.
 use Rattle.std.proofs.Common.{
-  rules,
   arith,
   ◌≡◌,
   ◌<◌,
-  ◌≤◌,
   ◌+◌,
   ◌-◌,
   ◌^◌,
@@ -24,11 +22,8 @@ use Rattle.std.proofs.Common.{
   ◌∷◌,
   ◌++◌,
   length,
-  Option,
   Some,
-  None,
   slice_get,
-  refl,
   sym,
   ap,
   subst,
@@ -37,6 +32,7 @@ use Rattle.std.proofs.Common.{
 }
 use Rattle.std.proofs.Math.Logic.{∥∥₁_map}
 use Rattle.std.specs.List.{All}
+use Rattle.std.specs.Option.{ForSome}
 use Rattle.std.proofs.Math.ListN.{get_or, set}
 use Rattle.std.proofs.lemmas.List.{append-nil}
 use Rattle.std.proofs.lemmas.List.Elements.{All-nil, All-weaker, All-push, All-get_or, All-set}
@@ -56,7 +52,7 @@ use Rattle.run_code.specs.declared.steps.Act.{Act}
 use Rattle.run_code.specs.declared.steps.Expression.{Expression}
 use Rattle.run_code.specs.declared.steps.Listed.{Listed}
 use Rattle.run_code.specs.declared.steps.Listed.TheVariants as listed
-use Rattle.run_code.specs.declared.steps.Tables.{Tables}
+use Rattle.run_code.specs.declared.tables.Tables.{Tables}
 use Rattle.run_code.specs.Resolved.{resolved, operands_from}
 use Rattle.run_code.specs.Numbered.{AreNodes, AreNoted, AreBelow}
 use Rattle.run_code.specs.EventActs.{
@@ -78,14 +74,28 @@ use Rattle.run_code.specs.EventActs.{
   AreFirst,
   AreGrown,
 }
-use Rattle.run_code.specs.LaidOut.{LaidOutBy, IsLaidOut}
+use Rattle.run_code.specs.LaidOut.{IsLaidOut}
 use Rattle.run_code.proofs.Collected.{slice_get-front}
 
 pub nothing_grown : (tables : Tables) → AreGrown tables tables
-nothing_grown tables = record { calls = λ n x h. h; stores = λ n x h. h; constants = λ n x h. h }
+nothing_grown tables = record {
+  calls = λ n x h. h;
+  stores = λ n x h. h;
+  constants = λ n x h. h;
+  chosen = omega arith;
+  choices = omega arith;
+  objects = omega arith;
+}
 
-pub same_grown : (old new : Tables) → new ≡ old → AreGrown old new
-same_grown old new e = subst (AreGrown old) (sym e) (nothing_grown old)
+pub grown_both : (first second third : Tables) → AreGrown first second → AreGrown second third → AreGrown first third
+grown_both first second third g h = record {
+  calls = λ n x k. h.calls n x (g.calls n x k);
+  stores = λ n x k. h.stores n x (g.stores n x k);
+  constants = λ n x k. h.constants n x (g.constants n x k);
+  chosen = omega (arith, g.chosen, h.chosen);
+  choices = omega (arith, g.choices, h.choices);
+  objects = omega (arith, g.objects, h.objects);
+}
 
 stores_grown : (old new : Tables) (how : Access) (first : _) (object : CType) (place value : Operand) (a : Act) → AreGrown old new →
     Stores old how first object place value a → Stores new how first object place value a
@@ -109,7 +119,7 @@ body_grown old new initializer (shape.Call discarded) s a g e = calls_grown old 
 body_grown old new initializer (shape.Isolated tree) s a g e = e
 body_grown old new initializer _ s a g e = e
 
-act_grown : (firsts : List ℕ) (old new : Tables) (initializer : ℕ) (h : Head) (s : Sight) (kind : Kind) (a : Act) → AreGrown old new →
+pub act_grown : (firsts : List ℕ) (old new : Tables) (initializer : ℕ) (h : Head) (s : Sight) (kind : Kind) (a : Act) → AreGrown old new →
     IsAct firsts old initializer h s kind a → IsAct firsts new initializer h s kind a
 act_grown firsts old new initializer h s Val a g e = e
 act_grown firsts old new initializer h s Eff a g e = effect_grown firsts old new h s a g e
@@ -134,6 +144,7 @@ entry_grown firsts old new nodes g (listed.Event d) e = (
     parent = e.2.parent;
     completes = e.2.completes;
     does = act_grown firsts old new _ _ _ d.place.kind d.act g e.2.does;
+    choice = λ n h. omega (arith, e.2.choice n h, g.choices);
   },
 )
 entry_grown firsts old new nodes g (listed.Operand node index count) e = tt
@@ -231,8 +242,8 @@ pub noted_due : (firsts : List ℕ) (tables : Tables) (nodes : List NodeInfo) (n
     os ≡ operands_from firsts (suc number) (out-Typed x.tree.now).children)
     → room ≡ room_of (head_at (out-Typed x.tree.now).node) (min (length nodes) (2 ^ 32 - 1)) number x.room
     → IsAct firsts tables x.initializer (head_at (out-Typed x.tree.now).node) (seen x.tree.now os x.operand room) d.place.kind d.act
-    → IsDue firsts tables (length nodes) d x
-noted_due firsts tables nodes number room x d os noted at p line parent completes walked rooms does =
+    → ForSome d.choice (λ n. n < length tables.choices.items) → IsDue firsts tables (length nodes) d x
+noted_due firsts tables nodes number room x d os noted at p line parent completes walked rooms does choice =
     let own = noted number x at in
     let h = head_at (out-Typed x.tree.now).node in
     let sight : seen x.tree.now os x.operand room ≡ sight_of firsts (length nodes) d.place.node x =
@@ -245,6 +256,7 @@ noted_due firsts tables nodes number room x d os noted at p line parent complete
       parent = parent;
       completes = completes;
       does = subst (λ s. IsAct firsts tables x.initializer h s d.place.kind d.act) sight does;
+      choice = choice;
     }
 
 pub front_of : {A : Type 0} (xs ys zs : List A) → ys ≡ xs ++ zs → AreFirst xs ys

@@ -14,7 +14,7 @@ use Rattle.run_code.specs.declared.steps.Operand.{Operand}
 use Rattle.run_code.specs.declared.steps.Operand.TheVariants.{Done}
 use Rattle.run_code.specs.declared.steps.Act.{Act}
 use Rattle.run_code.specs.declared.steps.Act.TheVariants as act
-use Rattle.run_code.specs.declared.steps.Tables.{Tables}
+use Rattle.run_code.specs.declared.tables.Tables.{Tables}
 use Rattle.run_code.specs.Resolved.{value_at}
 use Rattle.run_code.specs.EventActs.{head_at, pointed, first_type, seen, amount, change_access, IsValue, Stores, IsEffect}
 

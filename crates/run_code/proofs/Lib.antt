@@ -6,3 +6,4 @@ mod Walked
 mod ResolvedLemmas
 mod Picked
 mod Heads
+mod NamedLemmas

@@ -7,7 +7,7 @@ use Rattle.ub_base.specs.declared.clause.Kind.TheVariants.{Body}
 use Rattle.c_typed.specs.declared.tree.Place.{Place}
 use Rattle.c_typed.specs.Order.{Taken, place, is_number}
 use Rattle.core_ir.specs.Term.{Term, Terms, none, more, pure, act, unseq, weak, strong, choose, atomic, indet, invoke, continued, listing, listings}
-use Rattle.run_code.specs.Listings.{Entry, event, operand, one, continuation, flat, all_flat, passed, within}
+use Rattle.run_code.specs.Listings.{Entry, event, continuation, flat, all_flat, passed, within}
 
 skipped : (taken : Taken) (xs es : List Entry) → passed taken (length xs) (xs ++ es) ≡ passed taken 0 es
 skipped taken [] es = refl

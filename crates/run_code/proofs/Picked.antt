@@ -1,5 +1,5 @@
 -- The value of one operand of several.
-use Rattle.std.proofs.Common.{arith, ◌≡◌, ◌-◌, ℕ, zero, suc, pos, List, [], ◌∷◌, length, Option, Some, None, slice_get, refl, ap, ◌∙◌}
+use Rattle.std.proofs.Common.{arith, ◌≡◌, ◌-◌, ℕ, zero, suc, pos, List, [], ◌∷◌, length, Some, None, slice_get, refl, ap, ◌∙◌}
 use Rattle.run_code.specs.declared.steps.Operand.{Operand}
 use Rattle.run_code.specs.declared.steps.Operand.TheVariants.{Integer}
 use Rattle.run_code.specs.Resolved.{value_at}

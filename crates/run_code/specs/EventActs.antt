@@ -1,12 +1,12 @@
 -- What the events of a node do, by the node and where the values of its operands come from (6.5), and what is noted of them.
-use Rattle.std.specs.Prelude.{◌≡◌, ℕ, suc, ◌+◌, ◌^◌, ◌-◌, ◌<◌, ◌≤◌, min, pos, Bool, true, false, List, [], ◌∷◌, map, length, Option, Some, None, slice_get}
+use Rattle.std.specs.Prelude.{◌≡◌, ℕ, suc, ◌+◌, ◌^◌, ◌-◌, ◌<◌, ◌≤◌, min, pos, Bool, true, false, List, [], ◌∷◌, length, Some, slice_get}
 use Rattle.std.specs.List.{All}
+use Rattle.std.specs.Option.{ForSome}
 use Rattle.std.specs.Borrow.{Bor}
 use Rattle.ub_base.specs.declared.clause.Kind.{Kind}
 use Rattle.ub_base.specs.declared.clause.Kind.TheVariants.{Val, Eff, Body}
 use Rattle.c_types.specs.declared.ty.Ty.{Ty}
-use Rattle.c_types.specs.declared.ty.FuncTy.{FuncTy}
-use Rattle.c_types.specs.Types.{CType, pointer, type_of, qualified_of}
+use Rattle.c_types.specs.Types.{CType, pointer, type_of}
 use Rattle.c_typed.specs.declared.program.Constant.{Constant}
 use Rattle.c_typed.specs.declared.tree.Access.{Access}
 use Rattle.c_typed.specs.declared.tree.Access.TheVariants as access
@@ -26,7 +26,7 @@ use Rattle.run_code.specs.declared.steps.StoreCode.{StoreCode}
 use Rattle.run_code.specs.declared.steps.Due.{Due}
 use Rattle.run_code.specs.declared.steps.Listed.{Listed}
 use Rattle.run_code.specs.declared.steps.Listed.TheVariants as listed
-use Rattle.run_code.specs.declared.steps.Tables.{Tables}
+use Rattle.run_code.specs.declared.tables.Tables.{Tables}
 use Rattle.run_code.specs.Resolved.{resolved, object_of, operands_from, value_at}
 use Rattle.run_code.specs.Numbered.{AreNoted}
 
@@ -166,12 +166,13 @@ IsAct firsts tables initializer h s Val a = IsValue h s a
 IsAct firsts tables initializer h s Eff a = IsEffect firsts tables h s a
 IsAct firsts tables initializer h s Body a = IsBody tables initializer h s a
 
--- what is noted of an event of this node
+-- what is noted of an event of this node; the choice that is made at it is one of the table
 pub record IsDue (firsts : List ℕ) (tables : Tables) (count : ℕ) (d : Due) (x : NodeInfo) : Type 0 where
   pub line : d.line ≡ (out-Typed x.tree.now).line
   pub parent : d.parent ≡ x.parent
   pub completes : d.completes ≡ ends_with (head_at (out-Typed x.tree.now).node) d.place.kind
   pub does : IsAct firsts tables x.initializer (head_at (out-Typed x.tree.now).node) (sight_of firsts count d.place.node x) d.place.kind d.act
+  pub choice : ForSome d.choice (λ n. n < length tables.choices.items)
 
 abbrev pub IsEntry : List ℕ → Tables → List NodeInfo → Listed → Type 0
 IsEntry firsts tables nodes (listed.Event d) = (x : NodeInfo) × (slice_get nodes d.place.node ≡ Some x) × IsDue firsts tables (length nodes) d x
@@ -185,7 +186,11 @@ AreEntries firsts tables nodes entries = AreNoted firsts nodes → All (IsEntry 
 abbrev pub AreFirst : {A : Type 0} → List A → List A → Type 0
 AreFirst {A} xs ys = (n : ℕ) (x : A) → slice_get xs n ≡ Some x → slice_get ys n ≡ Some x
 
+-- what stands in the tables stays there as more is added
 pub record AreGrown (old new : Tables) : Type 0 where
   pub calls : AreFirst old.calls.items new.calls.items
   pub stores : AreFirst old.stores.items new.stores.items
   pub constants : AreFirst old.constants.items new.constants.items
+  pub chosen : length old.chosen.items ≤ length new.chosen.items
+  pub choices : length old.choices.items ≤ length new.choices.items
+  pub objects : length old.objects.items ≤ length new.objects.items

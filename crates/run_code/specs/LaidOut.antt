@@ -1,10 +1,9 @@
 -- A full expression as it is laid out.
 use Rattle.std.specs.Prelude.{◌≡◌, ◌≤◌, ◌<◌, ℕ, length, List, Some, slice_get}
 use Rattle.run_code.specs.declared.nodes.NodeInfo.{NodeInfo}
-use Rattle.run_code.specs.declared.steps.Code.{Code}
 use Rattle.run_code.specs.declared.steps.Expression.{Expression}
 use Rattle.run_code.specs.declared.steps.Listed.{Listed}
-use Rattle.run_code.specs.declared.steps.Tables.{Tables}
+use Rattle.run_code.specs.declared.tables.Tables.{Tables}
 use Rattle.run_code.specs.Resolved.{resolved}
 use Rattle.run_code.specs.Numbered.{AreNodes}
 use Rattle.run_code.specs.EventActs.{IsEntry}
@@ -20,6 +19,3 @@ pub record LaidOutBy (firsts : List ℕ) (nodes : List NodeInfo) (tables : Table
 -- for some numbering of the objects of its function, and what is noted of its nodes
 abbrev pub IsLaidOut : Tables → List Listed → Expression → Type 0
 IsLaidOut tables entries e = (firsts : List ℕ) × (nodes : List NodeInfo) × LaidOutBy firsts nodes tables entries e
-
-abbrev pub tables_of : Code → Tables
-tables_of code = record { calls = code.calls; stores = code.stores; constants = code.constants }

@@ -1,5 +1,5 @@
 -- The nodes of a full expression by their numbers, in preorder: the operands of a node follow it, each with all below it.
-use Rattle.std.specs.Prelude.{◌≡◌, ℕ, suc, ◌+◌, ◌<◌, ◌≤◌, length, List, [], ◌∷◌, Option, Some, None, slice_get}
+use Rattle.std.specs.Prelude.{◌≡◌, ℕ, suc, ◌+◌, ◌≤◌, length, List, [], ◌∷◌, Option, Some, None, slice_get}
 use Rattle.c_typed.specs.declared.tree.Typed.{Typed, out-Typed}
 use Rattle.c_typed.specs.Tree.{tree_of, size}
 use Rattle.run_code.specs.declared.nodes.NodeInfo.{NodeInfo}

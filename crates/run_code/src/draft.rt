@@ -1,11 +1,9 @@
 // Code in the making.
-ghost use Rattle.std.specs.Prelude.{◌≡◌};
-ghost use Rattle.std.specs.List.{All};
-ghost use Rattle.run_code.specs.LaidOut.{IsLaidOut, tables_of};
 
 use crate::expressions::Expressions;
 use crate::nodes::Objects;
-use crate::steps::{Code, Tables};
+use crate::steps::FunctionCode;
+use crate::whole::Code;
 use c_typed::Program;
 use core_ir::Core;
 use std::alloc::Global;
@@ -24,8 +22,7 @@ pub struct Draft<'p, 't> {
     pub program: &'p Program,
     pub terms: &'t [Core],
     pub expressions: Expressions<'p>,
-    // All but the expressions.
-    pub code: Code<'p>,
+    pub functions: Vec<Option<FunctionCode>>,
     pub function: FunctionDraft,
 }
 
@@ -35,38 +32,31 @@ pub fn count_of<T>(items: &Vec<T>) -> u32 {
 }
 
 // The finished code.
-pub fn finished<'p>(draft: Draft<'p, '_>) -> Code<'p>
-    ensures { ∥ All (IsLaidOut (tables_of result) result.listing.items) result.expressions.items ∥₁ }
-{
+pub fn finished<'p>(draft: Draft<'p, '_>) -> Code<'p> {
     let Draft {
         alloc: _,
         program: _,
         terms: _,
         expressions,
-        code,
+        functions,
         function: _,
     } = draft;
-    with_expressions(code, expressions)
+    code_of_expressions(expressions, functions)
 }
 
-fn with_expressions<'p>(code: Code<'p>, expressions: Expressions<'p>) -> Code<'p>
-    ensures { ∥ All (IsLaidOut (tables_of result) result.listing.items) result.expressions.items ∥₁ }
-{
+fn code_of_expressions<'p>(
+    expressions: Expressions<'p>,
+    functions: Vec<Option<FunctionCode>>,
+) -> Code<'p> {
     let Expressions {
         tables,
         entries,
         all,
     } = expressions;
-    let Tables {
-        calls,
-        stores,
-        constants,
-    } = tables;
-    let mut code = code;
-    code.expressions = all;
-    code.listing = entries;
-    code.calls = calls;
-    code.stores = stores;
-    code.constants = constants;
-    code
+    Code {
+        expressions: all,
+        listing: entries,
+        tables,
+        functions,
+    }
 }

@@ -1,35 +1,35 @@
 // The listings of full expressions, of which each event is that of its node.
 ghost use Rattle.std.specs.List.{All};
 ghost use Rattle.run_code.specs.LaidOut.{IsLaidOut};
+ghost use Rattle.run_code.specs.Named.{IsListedOf, IsExpressionOf};
 
 use crate::nodes::NodeInfo;
-use crate::numbers::next_number;
-use crate::steps::{CallCode, Expression, Listed, Range, StoreCode, Tables};
+use crate::steps::{BlockCode, CallCode, Choice, Expression, Listed, ObjectCode, Range, StoreCode};
+use crate::tables::Tables;
 use c_typed::{Constant, Typed};
 use std::alloc::Global;
 use ub_base::NoMemory;
 
-/// The listings of full expressions one behind the other, and what their acts name by numbers.
+/// The listings of full expressions one behind the other, and what they name by numbers.
 #[derive(Drop)]
 pub struct Expressions<'p> {
     pub tables: Tables<'p>,
     pub entries: Vec<Listed<'p>>,
     pub all: Vec<Expression<'p>>,
     pub ghost laid_out: { ∥ All (IsLaidOut tables entries.items) all.items ∥₁ },
+    pub ghost named: { All (IsListedOf tables) entries.items },
+    pub ghost within: { All (IsExpressionOf tables entries.items) all.items },
 }
 
 impl<'p> Expressions<'p> {
-    ghost use Rattle.std.specs.Prelude.{◌≡◌, ℕ, List, Some, slice_get, IfOk, OnOk};
+    ghost use Rattle.std.specs.Prelude.{◌≡◌, ◌<◌, ℕ, List, Some, length, slice_get, IfOk, OnOk};
     ghost use Rattle.run_code.specs.Numbered.{AreNodes};
+    ghost use Rattle.run_code.specs.InRange.{IsRange, IsChoice, IsObject, IsBlock};
     ghost use Rattle.run_code.specs.EventActs.{AreGrown, AreEntries};
 
     pub fn new(alloc: Global) -> Self {
         Expressions {
-            tables: Tables {
-                calls: Vec::new(alloc),
-                stores: Vec::new(alloc),
-                constants: Vec::new(alloc),
-            },
+            tables: Tables::new(alloc),
             entries: Vec::new(alloc),
             all: Vec::new(alloc),
         }
@@ -38,29 +38,52 @@ impl<'p> Expressions<'p> {
     // Gives its number.
     pub fn add_store(&mut self, store: StoreCode<'p>) -> Result<u32, NoMemory>
         ensures at { IfOk result (λ n. slice_get self.new.tables.stores.items n ≡ Some store.entry) }
-        ensures grown { OnOk result (AreGrown self.old.tables self.new.tables) }
+        ensures grown { AreGrown self.old.tables self.new.tables }
     {
-        let number = next_number(&self.tables.stores)?;
-        self.tables.stores.push(store)?;
-        Ok(number)
+        self.tables.add_store(store)
     }
 
     pub fn add_call(&mut self, call: CallCode<'p>) -> Result<u32, NoMemory>
         ensures at { IfOk result (λ n. slice_get self.new.tables.calls.items n ≡ Some call.entry) }
-        ensures grown { OnOk result (AreGrown self.old.tables self.new.tables) }
+        ensures grown { AreGrown self.old.tables self.new.tables }
     {
-        let number = next_number(&self.tables.calls)?;
-        self.tables.calls.push(call)?;
-        Ok(number)
+        self.tables.add_call(call)
     }
 
     pub fn add_constants(&mut self, constants: &'p [Constant]) -> Result<u32, NoMemory>
         ensures at { IfOk result (λ n. slice_get self.new.tables.constants.items n ≡ Some constants.entry) }
-        ensures grown { OnOk result (AreGrown self.old.tables self.new.tables) }
+        ensures grown { AreGrown self.old.tables self.new.tables }
     {
-        let number = next_number(&self.tables.constants)?;
-        self.tables.constants.push(constants)?;
-        Ok(number)
+        self.tables.add_constants(constants)
+    }
+
+    pub fn add_chosen(&mut self, chosen: &[(u32, u32)]) -> Result<Range, NoMemory>
+        ensures within { IfOk result (IsRange (length self.new.tables.chosen.items)) }
+        ensures grown { AreGrown self.old.tables self.new.tables }
+    {
+        self.tables.add_chosen(chosen)
+    }
+
+    pub fn add_choice(&mut self, choice: Choice) -> Result<u32, NoMemory>
+        requires { IsChoice (length self.old.tables.chosen.items) choice }
+        ensures within { IfOk result (λ n. n < length self.new.tables.choices.items) }
+        ensures grown { AreGrown self.old.tables self.new.tables }
+    {
+        self.tables.add_choice(choice)
+    }
+
+    pub fn add_object(&mut self, object: ObjectCode) -> Result<(), NoMemory>
+        requires { IsObject (length self.old.tables.stores.items) object }
+        ensures grown { AreGrown self.old.tables self.new.tables }
+    {
+        self.tables.add_object(object)
+    }
+
+    pub fn add_block(&mut self, block: BlockCode) -> Result<(), NoMemory>
+        requires { IsBlock (length self.old.tables.objects.items) block }
+        ensures grown { AreGrown self.old.tables self.new.tables }
+    {
+        self.tables.add_block(block)
     }
 
     // The full expression of this root, with its nodes and the entries of its listing.
@@ -72,7 +95,8 @@ impl<'p> Expressions<'p> {
         nodes: &[NodeInfo<'p>],
         entries: &[Listed<'p>],
     ) -> Result<(), NoMemory>
-        requires { (firsts : List ℕ) × AreNodes firsts root.now nodes.now × AreEntries firsts self.old.tables nodes.now entries.now }
+        requires laid_out { (firsts : List ℕ) × AreNodes firsts root.now nodes.now × AreEntries firsts self.old.tables nodes.now entries.now }
+        requires within { IsRange (length self.old.tables.chosen.items) chosen }
     {
         let first = self.entries.len();
         self.entries.extend_from_slice(entries)?;

@@ -1,5 +1,6 @@
 // The listing of one full expression, from its term.
-ghost use Rattle.std.specs.Prelude.{◌≡◌, ◌++◌, ◌-◌, ◌^◌, ℕ, min, length, OnOk, IfOk, Some, slice_get};
+ghost use Rattle.std.specs.Prelude.{◌≡◌, ◌<◌, ◌++◌, ◌-◌, ◌^◌, ℕ, min, length, OnOk, IfOk, Some, slice_get};
+ghost use Rattle.std.specs.Option.{ForSome};
 ghost use Rattle.c_types.specs.Types.{type_of};
 ghost use Rattle.c_typed.specs.declared.tree.Typed.{out-Typed};
 ghost use Rattle.c_typed.specs.Order.{place};
@@ -8,6 +9,7 @@ ghost use Rattle.run_code.specs.Listings.{entries_of, one, continuation, flat};
 ghost use Rattle.run_code.specs.declared.steps.Operand.{Operand as OperandOf};
 ghost use Rattle.run_code.specs.Resolved.{value_at};
 ghost use Rattle.run_code.specs.Numbered.{AreNoted};
+ghost use Rattle.run_code.specs.InRange.{IsRange, IsChoice};
 ghost use Rattle.run_code.specs.EventActs.{head_at, pointed, first_type, seen, last_of, rest_of, room_of, change_access, IsValue, Stores, IsEffect, Calls, IsBody, IsAct, ends_with, IsDue, AreEntries, AreGrown};
 
 use crate::choices::{chosen_at_once, is_choice};
@@ -59,8 +61,8 @@ impl<'p, 't> Draft<'p, 't> {
             olds: 0,
         };
         collect(&self.function.objects, root, None, &mut nodes, &mut counts)?;
-        let chosen = self.chosen(root, 0, &nodes)?;
         let entries = self.listing(&nodes)?;
+        let chosen = self.chosen(root, 0, &nodes)?;
         let rooms = count_of(&nodes).saturating_add(counts.olds);
         let all = &mut self.expressions;
         all.add_expression(root, rooms, chosen, &nodes, &entries)
@@ -90,12 +92,12 @@ impl<'p, 't> Draft<'p, 't> {
         nodes: &[NodeInfo<'p>],
     ) -> Result<Range, NoMemory>
         ensures objects { self.new.function.objects.first.items ≡ self.old.function.objects.first.items }
-        ensures tables { self.new.expressions.tables ≡ self.old.expressions.tables }
+        ensures grown { OnOk result (AreGrown self.old.expressions.tables self.new.expressions.tables) }
+        ensures within { IfOk result (IsRange (length self.new.expressions.tables.chosen.items)) }
     {
-        let first = count_of(&self.code.chosen);
-        chosen_at_once(root, number, nodes, &mut self.code.chosen)?;
-        let count = count_of(&self.code.chosen).saturating_sub(first);
-        Ok(Range { first, count })
+        let mut chosen = Vec::new(self.alloc);
+        chosen_at_once(root, number, nodes, &mut chosen)?;
+        self.expressions.add_chosen(&chosen)
     }
 
     // The events of a term, from left to right.
@@ -285,7 +287,8 @@ impl<'p, 't> Draft<'p, 't> {
         nodes: &[NodeInfo<'p>],
     ) -> Result<Option<u32>, NoMemory>
         ensures objects { self.new.function.objects.first.items ≡ self.old.function.objects.first.items }
-        ensures tables { self.new.expressions.tables ≡ self.old.expressions.tables }
+        ensures grown { OnOk result (AreGrown self.old.expressions.tables self.new.expressions.tables) }
+        ensures within { IfOk result (λ o. ForSome o (λ n. n < length self.new.expressions.tables.choices.items)) }
     {
         match kind {
             Kind::Val => self.choice(info, number, nodes),
@@ -301,7 +304,8 @@ impl<'p, 't> Draft<'p, 't> {
         nodes: &[NodeInfo<'p>],
     ) -> Result<Option<u32>, NoMemory>
         ensures objects { self.new.function.objects.first.items ≡ self.old.function.objects.first.items }
-        ensures tables { self.new.expressions.tables ≡ self.old.expressions.tables }
+        ensures grown { OnOk result (AreGrown self.old.expressions.tables self.new.expressions.tables) }
+        ensures within { IfOk result (λ o. ForSome o (λ n. n < length self.new.expressions.tables.choices.items)) }
     {
         let Some(parent) = info.parent else {
             return Ok(None);
@@ -312,16 +316,30 @@ impl<'p, 't> Draft<'p, 't> {
         if !is_choice(&above.tree.node) || parent.saturating_add(1) != number {
             return Ok(None);
         }
-        let yes = self.way(above, parent, true, nodes)?;
-        let no = self.way(above, parent, false, nodes)?;
-        let choice = count_of(&self.code.choices);
-        self.code.choices.push(Choice {
-            node: parent,
-            test: info.operand,
+        let choice = self.ways(above, parent, info.operand, nodes)?;
+        Ok(Some(self.expressions.add_choice(choice)?))
+    }
+
+    // How the choice of this node goes by its test.
+    fn ways(
+        &mut self,
+        above: &NodeInfo<'p>,
+        node: u32,
+        test: Operand,
+        nodes: &[NodeInfo<'p>],
+    ) -> Result<Choice, NoMemory>
+        ensures objects { self.new.function.objects.first.items ≡ self.old.function.objects.first.items }
+        ensures grown { OnOk result (AreGrown self.old.expressions.tables self.new.expressions.tables) }
+        ensures within { IfOk result (IsChoice (length self.new.expressions.tables.chosen.items)) }
+    {
+        let yes = self.way(above, node, true, nodes)?;
+        let no = self.way(above, node, false, nodes)?;
+        Ok(Choice {
+            node,
+            test,
             yes,
             no,
-        })?;
-        Ok(Some(choice))
+        })
     }
 
     fn way(
@@ -332,7 +350,8 @@ impl<'p, 't> Draft<'p, 't> {
         nodes: &[NodeInfo<'p>],
     ) -> Result<Way, NoMemory>
         ensures objects { self.new.function.objects.first.items ≡ self.old.function.objects.first.items }
-        ensures tables { self.new.expressions.tables ≡ self.old.expressions.tables }
+        ensures grown { OnOk result (AreGrown self.old.expressions.tables self.new.expressions.tables) }
+        ensures within { IfOk result (λ w. IsRange (length self.new.expressions.tables.chosen.items) w.chosen) }
     {
         let operand = chosen(&above.tree.node, truth);
         let Some(index) = operand else {
@@ -340,10 +359,11 @@ impl<'p, 't> Draft<'p, 't> {
             return Ok(Way { operand, chosen });
         };
         let at = operand_number(nodes, number, index);
-        let chosen = match nodes.get(at as usize) {
-            Some(info) => self.chosen(info.tree, at, nodes)?,
-            None => Range { first: 0, count: 0 },
+        let Some(info) = nodes.get(at as usize) else {
+            let chosen = Range { first: 0, count: 0 };
+            return Ok(Way { operand, chosen });
         };
+        let chosen = self.chosen(info.tree, at, nodes)?;
         Ok(Way { operand, chosen })
     }
 

@@ -1,6 +1,8 @@
 // Numbers of nodes, and of what stands in a table.
-ghost use Rattle.std.specs.Prelude.{◌≡◌, ◌-◌, ◌^◌, min, length, IfOk};
+ghost use Rattle.std.specs.Prelude.{◌≡◌, ◌-◌, ◌^◌, ◌≤◌, min, length, IfOk};
+ghost use Rattle.run_code.specs.InRange.{IsRange};
 
+use crate::steps::Range;
 use ub_base::NoMemory;
 
 // A count as a number.
@@ -18,4 +20,16 @@ pub fn next_number<T>(items: &Vec<T>) -> Result<u32, NoMemory>
     ensures { IfOk result (λ n. n ≡ length items.now.items) }
 {
     number_of(items.len())
+}
+
+// What stands in a table from this entry on.
+pub fn range_from<T>(items: &Vec<T>, first: u32) -> Result<Range, NoMemory>
+    requires { first ≤ length items.now.items }
+    ensures { IfOk result (IsRange (length items.now.items)) }
+{
+    let end = next_number(items)?;
+    Ok(Range {
+        first,
+        count: end - first,
+    })
 }

@@ -1,6 +1,10 @@
 // The blocks of a function with their objects.
+ghost use Rattle.std.specs.Prelude.{length, IfOk, OnOk};
+ghost use Rattle.run_code.specs.InRange.{IsRange};
+ghost use Rattle.run_code.specs.EventActs.{AreGrown};
 
-use crate::draft::{Draft, count_of};
+use crate::draft::Draft;
+use crate::numbers::{next_number, range_from};
 use crate::steps::{BlockCode, ObjectCode, Range, StoreCode};
 use c_typed::{Access, Block, Body, Entry, ForStart};
 use c_types::{IntKind, Qual, Tags, Ty};
@@ -27,7 +31,10 @@ fn access_of(tags: &Tags, ty: &Ty) -> Access {
 }
 
 impl<'p, 't> Draft<'p, 't> {
-    fn object(&mut self, qual: &'p Qual) -> Result<u64, NoMemory> {
+    // Gives how many bytes it counts.
+    fn object(&mut self, qual: &'p Qual) -> Result<u64, NoMemory>
+        ensures grown { OnOk result (AreGrown self.old.expressions.tables self.new.expressions.tables) }
+    {
         let tags = &self.program.tags;
         let extent = extent(tags, &qual.ty);
         let shape = shape_of(self.alloc, tags, &qual.ty)?;
@@ -36,7 +43,7 @@ impl<'p, 't> Draft<'p, 't> {
             initializing: true,
             ty: &qual.ty,
         })?;
-        self.code.objects.push(ObjectCode {
+        self.expressions.add_object(ObjectCode {
             size: extent.size,
             align: extent.align,
             constant: is_constant(qual),
@@ -46,24 +53,31 @@ impl<'p, 't> Draft<'p, 't> {
         Ok(counted(extent.size))
     }
 
-    // A block of the function; `arguments` of its objects take arguments.
-    fn add_block(&mut self, block: &'p Block, arguments: u32) -> Result<(), NoMemory> {
-        let first = count_of(&self.code.objects);
+    // The objects of a block, and the bytes that they count.
+    fn objects_of(&mut self, block: &'p Block) -> Result<(Range, u64), NoMemory>
+        ensures within { IfOk result (λ r. IsRange (length self.new.expressions.tables.objects.items) r.0) }
+    {
+        let first = next_number(&self.expressions.tables.objects)?;
         let mut created = 0;
         for qual in block.objects.as_slice() {
             created = total(created, self.object(qual)?);
         }
-        let count = count_of(&self.code.objects).saturating_sub(first);
+        let objects = range_from(&self.expressions.tables.objects, first)?;
+        Ok((objects, created))
+    }
+
+    // A block of the function; `arguments` of its objects take arguments.
+    fn add_block(&mut self, block: &'p Block, arguments: u32) -> Result<(), NoMemory> {
+        let (objects, created) = self.objects_of(block)?;
         let number = self.function.count;
-        self.function.count = number.saturating_add(count);
+        self.function.count = number.saturating_add(objects.count);
         self.function.objects.first.push(number)?;
-        self.code.blocks.push(BlockCode {
-            objects: Range { first, count },
+        self.expressions.add_block(BlockCode {
+            objects,
             first: number,
             arguments,
             created,
-        })?;
-        Ok(())
+        })
     }
 
     // The blocks in a statement.

@@ -1,12 +1,13 @@
 // The code of a program.
 ghost use Rattle.std.specs.Prelude.{IfOk};
 ghost use Rattle.std.specs.List.{All};
-ghost use Rattle.run_code.specs.LaidOut.{IsLaidOut, tables_of};
+ghost use Rattle.run_code.specs.LaidOut.{IsLaidOut};
 
 use crate::draft::{Draft, FunctionDraft, count_of, finished};
 use crate::expressions::Expressions;
 use crate::nodes::Objects;
-use crate::steps::{Code, FunctionCode, Range};
+use crate::steps::{FunctionCode, Range};
+use crate::whole::Code;
 use c_typed::{Block, Body, Function, Program, Typed};
 use core_ir::Core;
 use run_control::Statement;
@@ -32,7 +33,7 @@ impl<'p, 't> Draft<'p, 't> {
         numbers: &mut Numbers<'p>,
     ) -> Result<FunctionCode, NoMemory> {
         self.function = start_function(self.alloc);
-        let blocks = count_of(&self.code.blocks);
+        let blocks = count_of(&self.expressions.tables.blocks);
         self.survey_block(body, count_of_items(function.ty.params.len()))?;
         let first = numbers.roots.len();
         let body = Statement::Block(block(self.alloc, body, numbers)?);
@@ -59,21 +60,6 @@ fn start_function(alloc: Global) -> FunctionDraft {
     }
 }
 
-fn empty_code<'p>(alloc: Global) -> Code<'p> {
-    Code {
-        expressions: Vec::new(alloc),
-        listing: Vec::new(alloc),
-        chosen: Vec::new(alloc),
-        choices: Vec::new(alloc),
-        calls: Vec::new(alloc),
-        stores: Vec::new(alloc),
-        constants: Vec::new(alloc),
-        blocks: Vec::new(alloc),
-        objects: Vec::new(alloc),
-        functions: Vec::new(alloc),
-    }
-}
-
 /// The code of a program, with these terms of its full expressions in turn.
 pub fn code_of<'p>(
     alloc: Global,
@@ -81,14 +67,14 @@ pub fn code_of<'p>(
     terms: &[Core],
 ) -> Result<Code<'p>, NoMemory>
     // Each event that is listed of a full expression is one of its nodes, and has the act of that node.
-    ensures laid_out { IfOk result (λ code. ∥ All (IsLaidOut (tables_of code) code.listing.items) code.expressions.items ∥₁) }
+    ensures laid_out { IfOk result (λ code. ∥ All (IsLaidOut code.tables code.listing.items) code.expressions.items ∥₁) }
 {
     let mut draft = Draft {
         alloc,
         program,
         terms,
         expressions: Expressions::new(alloc),
-        code: empty_code(alloc),
+        functions: Vec::new(alloc),
         function: start_function(alloc),
     };
     let mut numbers = Numbers::new(alloc);
@@ -97,7 +83,7 @@ pub fn code_of<'p>(
             Some(Body::Block(block)) => Some(draft.function(function, block, &mut numbers)?),
             _ => None,
         };
-        draft.code.functions.push(code)?;
+        draft.functions.push(code)?;
     }
     Ok(finished(draft))
 }

@@ -1,4 +1,4 @@
-// A program laid out: its statements, and the canonical listings of its full expressions.
+// What a program is laid out in: blocks, functions, and the canonical listings of full expressions.
 
 use c_typed::{Access, Change, Constant, Conversion, EqOp, Place, RelOp, Typed, UnOp};
 use c_types::{BinOp, FuncTy, IntKind, Qual, Shape, Ty};
@@ -182,14 +182,6 @@ pub struct StoreCode<'p> {
     pub ty: &'p Ty,
 }
 
-/// What acts name by numbers: calls, stores, and the constant bytes of initializer lists.
-#[derive(Drop)]
-pub struct Tables<'p> {
-    pub calls: Vec<CallCode<'p>>,
-    pub stores: Vec<StoreCode<'p>>,
-    pub constants: Vec<&'p [Constant]>,
-}
-
 /// An object of a block.
 #[derive(Drop)]
 pub struct ObjectCode {
@@ -217,19 +209,4 @@ pub struct FunctionCode {
     pub blocks: u32,
     pub objects: u32,
     pub expressions: Range,
-}
-
-#[derive(Drop)]
-pub struct Code<'p> {
-    pub expressions: Vec<Expression<'p>>,
-    pub listing: Vec<Listed<'p>>,
-    pub chosen: Vec<(u32, u32)>,
-    pub choices: Vec<Choice>,
-    pub calls: Vec<CallCode<'p>>,
-    pub stores: Vec<StoreCode<'p>>,
-    /// The constant bytes of initializer lists.
-    pub constants: Vec<&'p [Constant]>,
-    pub blocks: Vec<BlockCode>,
-    pub objects: Vec<ObjectCode>,
-    pub functions: Vec<Option<FunctionCode>>,
 }

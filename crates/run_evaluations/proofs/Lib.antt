@@ -1,4 +1,6 @@
+pub mod EndLemmas
 pub mod KeptLemmas
 pub mod LooseLemmas
 pub mod LooseWholeLemmas
+pub mod WayLemmas
 pub mod WholeLemmas

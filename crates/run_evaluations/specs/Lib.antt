@@ -1,2 +1,4 @@
+pub mod Ends
 pub mod Kept
 pub mod Loose
+pub mod Ways

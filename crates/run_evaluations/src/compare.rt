@@ -14,10 +14,11 @@ ghost use Rattle.evaluation_log.specs.Kept.{foot_of, listed_has, own_body, small
 ghost use Rattle.run_evaluations.specs.Kept.{IsSameLog, IsTaken, IsKept, NoneOfOperands};
 ghost use Rattle.run_evaluations.specs.Loose.{IsLooseKept};
 ghost use Rattle.evaluation_log.specs.Touched.{start_of};
+ghost use Rattle.evaluation_log.specs.Ways.{node_of};
 
 use crate::open::Evaluations;
 use addr_map::AddrMap;
-use evaluation_log::{Found, Rule, Under, add_range, clash, is_unsequenced};
+use evaluation_log::{Found, Rule, Under, add_range, clash};
 use footprint::{Foot, items_conflict};
 use ub_base::{Frames, NoMemory};
 
@@ -65,7 +66,7 @@ impl Evaluations {
             IfOk result (λ r. IfNone r
             (NoneBetween Any under.entry.map.now self.old.segments.items self.old.events.items self.old.items.items at)) }
     {
-        if !is_unsequenced(rule) {
+        if !rule.is_unsequenced() {
             self.join(at, node, rule, chosen, None);
             return Ok(None);
         }
@@ -79,6 +80,7 @@ impl Evaluations {
 
     pub(crate) fn take_foot(&mut self, at: usize) -> Option<Box<Foot>>
         ensures taken { IsTaken self.old self.new at }
+        ensures nodes { (g : ℕ) → node_of (slice_get self.new.segments.items g) ≡ node_of (slice_get self.old.segments.items g) }
         ensures given { result ≡ foot_of (slice_get self.old.segments.items at) }
     {
         match self.segments.get_mut(at) {

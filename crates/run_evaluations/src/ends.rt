@@ -1,15 +1,25 @@
 // An end of the run beside evaluations that it isn't sequenced with.
-ghost use Rattle.std.specs.Prelude.{IfOk, OnOk};
+ghost use Rattle.std.specs.Prelude.{◌≡◌, ◌<◌, ◌^◌, ◌-◌, ℕ, true, None, Some, IfOk, IfNone, IfSome, OnOk, slice_get, length};
+ghost use Rattle.ub_base.specs.declared.names.Item.{Item};
+ghost use Rattle.c_typed.specs.Tree.{tree_of, size};
+ghost use Rattle.footprint.specs.Holds.{holds};
+ghost use Rattle.evaluation_log.specs.declared.log.Logged.{Logged};
+ghost use Rattle.evaluation_log.specs.Touched.{event_has};
 ghost use Rattle.evaluation_log.specs.FoundItems.{ItemsConflict};
-ghost use Rattle.run_evaluations.specs.Kept.{IsKept};
+ghost use Rattle.evaluation_log.specs.Kept.{is_unsequenced};
+ghost use Rattle.evaluation_log.specs.Ways.{IsRising};
+ghost use Rattle.run_evaluations.specs.Ends.{is_value, is_value_kind, events_from, IsDone, HasValue, NoneBeside};
+ghost use Rattle.run_evaluations.specs.Kept.{IsKept, IsSameRest, NoneOfOperands};
 ghost use Rattle.run_evaluations.specs.Loose.{IsLooseKept};
+ghost use Rattle.run_evaluations.specs.Ways.{IsGathered, NoneOnWay, NoneAtEnd};
 
 use crate::open::{Evaluations, named};
 use addr_map::AddrMap;
 use c_typed::Typed;
 use evaluation_log::{
-    Found, Rules, Sought, Under, Way, dependence, first_of, is_unsequenced, least_items, way_to,
+    Found, Rule, Rules, Sought, Under, Way, dependence, first_of, least_items, way_to,
 };
+use footprint::Foot;
 use ub_base::{Frames, Item, Kind, NoMemory};
 
 impl Evaluations {
@@ -26,34 +36,55 @@ impl Evaluations {
         ensures conflict { IfOk result ItemsConflict }
         ensures kept { OnOk result (IsKept self.old → IsKept self.new) }
         ensures loose { OnOk result (IsKept self.old → IsLooseKept self.old → IsLooseKept self.new) }
+        ensures none { IsKept self.old → size (tree_of root.now) < 2 ^ 32 → IfOk result
+            (λ r. IfNone r (NoneAtEnd map.now rules.now (tree_of root.now) self.old)) }
     {
-        let Some(last) = self.events.last() else {
+        let Some(target) = self.last_node() else {
             return Ok(None);
         };
-        let way = way_to(self.alloc, root, rules, last.node)?;
+        let way = way_to(self.alloc, root, rules, target)?;
         let under = Under { frames, map };
-        let beside = match way.before.or(way.behind) {
-            Some(node) => self.found_beside(under, node)?,
-            None => None,
-        };
+        let beside = self.found_beside_some(under, way.before.or(way.behind))?;
         let open = self.found_on_way(under, &way, rules)?;
         Ok(first_of(frames, beside, open))
     }
 
+    // The node of the last event.
+    fn last_node(&self) -> Option<u32>
+        ensures { (last : Logged) → slice_get self.now.events.items (length self.now.events.items - 1) ≡ Some last → result ≡ Some last.node }
+    {
+        match self.events.last() {
+            Some(event) => Some(event.node),
+            None => None,
+        }
+    }
+
+    // The conflict of the last event with the value of this node, where there is one.
+    fn found_beside_some(
+        &self,
+        under: Under<'_>,
+        node: Option<u32>,
+    ) -> Result<Option<Found>, NoMemory>
+        ensures conflict { IfOk result ItemsConflict }
+        ensures none { IfOk result (λ r. IfNone r (IfSome node (NoneBeside under.entry.map.now self.now))) }
+    {
+        match node {
+            Some(node) => self.found_beside(under, node),
+            None => Ok(None),
+        }
+    }
+
     // The conflict of the last event with the value of this node, done or pending.
     fn found_beside(&self, under: Under<'_>, node: u32) -> Result<Option<Found>, NoMemory>
-        ensures { IfOk result ItemsConflict }
+        ensures conflict { IfOk result ItemsConflict }
+        ensures none { IfOk result (λ r. IfNone r (NoneBeside under.entry.map.now self.now node)) }
     {
         let last = self.events.len().saturating_sub(1);
         let (from, end) = match self.events.get(last) {
             Some(event) => (event.node, event.kind),
             None => return Ok(None),
         };
-        let mut foot = match self.done(node) {
-            Some(at) => self.event_foot(at)?,
-            None => footprint::Foot::new(self.alloc),
-        };
-        foot.add(Item::Any)?;
+        let foot = self.value_foot(node)?;
         let ending = self.event_foot(last)?;
         let place = self.place();
         let value = named(place, node, Kind::Val);
@@ -65,20 +96,55 @@ impl Evaluations {
         })
     }
 
+    // What the value of this node touched, if it is done, and what stands for every event.
+    fn value_foot(&self, node: u32) -> Result<Foot, NoMemory>
+        ensures { IfOk result (HasValue self.now node) }
+    {
+        let mut foot = self.done_foot(node)?;
+        foot.add(Item::Any)?;
+        Ok(foot)
+    }
+
+    fn done_foot(&self, node: u32) -> Result<Foot, NoMemory>
+        ensures { IfOk result (λ f. (k : ℕ) → IsDone self.now node k → (j : Item) →
+            event_has self.now.items.items (slice_get self.now.events.items k) j ≡ true → holds f j ≡ true) }
+    {
+        match self.done(node) {
+            Some(at) => self.event_foot(at),
+            None => Ok(Foot::new(self.alloc)),
+        }
+    }
+
     // The value of this node, if it is done.
-    fn done(&self, node: u32) -> Option<usize> {
-        let from = match self.levels.last() {
-            Some(level) => level.events,
-            None => return None,
-        };
+    fn done(&self, node: u32) -> Option<usize>
+        ensures { (k : ℕ) → IsDone self.now node k → result ≡ Some k }
+    {
+        let from = self.events_from();
         for at in from..self.events.len() {
-            if let Some(event) = self.events.get(at) {
-                if event.node == node && event.kind == Kind::Val {
-                    return Some(at);
-                }
+            if self.is_value(at, node) {
+                return Some(at);
             }
         }
         None
+    }
+
+    // Where the events of the top frame's full expression begin.
+    fn events_from(&self) -> usize
+        ensures { result ≡ events_from self.now }
+    {
+        match self.levels.last() {
+            Some(level) => level.events,
+            None => 0,
+        }
+    }
+
+    fn is_value(&self, at: usize, node: u32) -> bool
+        ensures { result ≡ is_value node (slice_get self.now.events.items at) }
+    {
+        match self.events.get(at) {
+            Some(event) => is_value_kind(event.kind) && event.node == node,
+            None => false,
+        }
     }
 
     // The first conflict between operands of a node on the way that isn't complete.
@@ -91,17 +157,65 @@ impl Evaluations {
         ensures conflict { IfOk result ItemsConflict }
         ensures kept { IsKept self.old → IsKept self.new }
         ensures loose { IsKept self.old → IsLooseKept self.old → IsLooseKept self.new }
+        ensures none { IsKept self.old → IsRising way.now.above.items → IfOk result
+            (λ r. IfNone r (NoneOnWay under.entry.map.now rules.now way.now.above.items self.old)) }
     {
         let mut best = None;
-        for node in way.above.iter().rev() {
-            let rule = rules.get(*node);
-            let at = self.operands(*node);
-            if at.saturating_add(1) < self.segments.len() && is_unsequenced(rule) {
-                let found = self.found_between(under, at)?;
-                best = first_of(under.frames, best, found);
-            }
-            self.gather(*node, rule, true);
+        for i in (0..way.above.len()).rev() {
+            let node = way.above[i];
+            best = self.found_at_node(under, node, rules.get(node), best)?;
         }
         Ok(best)
+    }
+
+    // The first conflict so far, with those between the operands of this node, which are made one.
+    fn found_at_node(
+        &mut self,
+        under: Under<'_>,
+        node: u32,
+        rule: Rule,
+        best: Option<Found>,
+    ) -> Result<Option<Found>, NoMemory>
+        requires { ItemsConflict best }
+        ensures conflict { IfOk result ItemsConflict }
+        ensures kept { IsKept self.old → IsKept self.new }
+        ensures loose { IsKept self.old → IsLooseKept self.old → IsLooseKept self.new }
+        ensures none { IsKept self.old → IfOk result (λ r. r ≡ None → (best ≡ None) ×
+            (is_unsequenced rule ≡ true → NoneOfOperands under.entry.map.now self.old node)) }
+        ensures rest { IsSameRest self.old self.new }
+        ensures made { OnOk result ((at : ℕ) × IsGathered self.old self.new node at) }
+    {
+        let found = self.found_of_operands(under, node, rule)?;
+        self.gather(node, rule, true);
+        Ok(first_of(under.frames, best, found))
+    }
+
+    // The first conflict between the operands of this node, if they are unsequenced.
+    fn found_of_operands(
+        &self,
+        under: Under<'_>,
+        node: u32,
+        rule: Rule,
+    ) -> Result<Option<Found>, NoMemory>
+        ensures conflict { IfOk result ItemsConflict }
+        ensures none { IsKept self.now → is_unsequenced rule ≡ true → IfOk result (λ r. IfNone r (NoneOfOperands under.entry.map.now self.now node)) }
+    {
+        let at = self.operands(node);
+        if at.saturating_add(1) >= self.segments.len() {
+            return Ok(None);
+        }
+        if !rule.is_unsequenced() {
+            return Ok(None);
+        }
+        self.found_between(under, at)
+    }
+}
+
+fn is_value_kind(kind: Kind) -> bool
+    ensures { result ≡ is_value_kind kind }
+{
+    match kind {
+        Kind::Val => true,
+        _ => false,
     }
 }

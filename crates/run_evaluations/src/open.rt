@@ -12,6 +12,8 @@ ghost use Rattle.evaluation_log.specs.Loose.{HasRange, Thins, loose_of, loose_st
 ghost use Rattle.run_evaluations.specs.Kept.{IsKept, IsSameRest, IsSameLog, IsFirst, IsLogged, IsTold, IsSameOpen};
 ghost use Rattle.evaluation_log.specs.Kept.{AreLike, IsJoined, AllBelow, IsAdded, IsOperand, cut_of, base_of, marks, harmless_of, foot_of, span_of, is_large};
 ghost use Rattle.evaluation_log.specs.Kept.{own_body};
+ghost use Rattle.evaluation_log.specs.Ways.{node_of};
+ghost use Rattle.run_evaluations.specs.Ways.{IsGathered};
 ghost use Rattle.ub_base.specs.declared.names.Item.{Item};
 
 use evaluation_log::{Known, Level, Logged, Rule, Segment, are_harmless};
@@ -248,6 +250,8 @@ impl Evaluations {
     pub(crate) fn operands(&self, node: u32) -> usize
         ensures below { IsKept self.now → AllBelow self.now.levels.items result }
         ensures least { (g : ℕ) → IsOperand self.now.segments.items self.now.levels.items node g → result ≤ g }
+        ensures low { base_of self.now.levels.items ≤ result }
+        ensures behind { (k : ℕ) (s : Segment) → result ≤ k → slice_get self.now.segments.items k ≡ Some s → node < s.node }
     {
         let base = self.base();
         let at = self.first_above(node, base);
@@ -256,8 +260,9 @@ impl Evaluations {
 
     // The first of the last segments from this one on that are of nodes behind this node.
     fn first_above(&self, node: u32, base: usize) -> usize
-        ensures { (g : ℕ) → base ≤ g → ((k : ℕ) (s : Segment) → g ≤ k → slice_get self.now.segments.items k ≡ Some s → node < s.node) →
+        ensures least { (g : ℕ) → base ≤ g → ((k : ℕ) (s : Segment) → g ≤ k → slice_get self.now.segments.items k ≡ Some s → node < s.node) →
             result ≤ g }
+        ensures behind { (k : ℕ) (s : Segment) → result ≤ k → slice_get self.now.segments.items k ≡ Some s → node < s.node }
     {
         let mut at = self.segments.len();
         for i in (base..self.segments.len()).rev() {
@@ -271,7 +276,8 @@ impl Evaluations {
 
     // Whether the segment is of no node behind this one.
     fn is_up_to(&self, i: usize, node: u32) -> bool
-        ensures { result ≡ true → ((s : Segment) → slice_get self.now.segments.items i ≡ Some s → node < s.node) → ⊥ }
+        ensures yes { result ≡ true → ((s : Segment) → slice_get self.now.segments.items i ≡ Some s → node < s.node) → ⊥ }
+        ensures no { result ≡ false → (s : Segment) → slice_get self.now.segments.items i ≡ Some s → node < s.node }
     {
         match self.segments.get(i) {
             Some(segment) => segment.node <= node,
@@ -284,6 +290,7 @@ impl Evaluations {
         ensures rest { IsSameRest self.old self.new }
         ensures kept { IsKept self.old → IsKept self.new }
         ensures loose { IsKept self.old → IsLooseKept self.old → IsLooseKept self.new }
+        ensures made { (at : ℕ) × IsGathered self.old self.new node at }
     {
         let at = self.operands(node);
         if at >= self.segments.len() {
@@ -297,6 +304,7 @@ impl Evaluations {
     fn take_only(&mut self, at: usize) -> Option<Box<Foot>>
         ensures same { IsSameLog self.old self.new }
         ensures others { (g : ℕ) → g ≢ at → slice_get self.new.segments.items g ≡ slice_get self.old.segments.items g }
+        ensures nodes { (g : ℕ) → node_of (slice_get self.new.segments.items g) ≡ node_of (slice_get self.old.segments.items g) }
         ensures given { (f : Box Foot Global) → result ≡ Some f →
             (length self.old.segments.items ≤ suc at) × (foot_of (slice_get self.old.segments.items at) ≡ Some f) }
     {
@@ -319,6 +327,8 @@ impl Evaluations {
         ensures rest { IsSameRest self.old self.new }
         ensures joined { IsJoined self.old.segments.items self.new.segments.items at }
         ensures foot { foot_of (slice_get self.new.segments.items at) ≡ foot }
+        ensures own { node_of (slice_get self.new.segments.items at) ≡ Some node }
+        ensures others { (g : ℕ) → g < at → slice_get self.new.segments.items g ≡ slice_get self.old.segments.items g }
         ensures loose { AreSorted self.old.segments.items self.old.events.items 0 → AllBelow self.old.levels.items at → IsLooseKept self.old →
             IsLooseKept self.new }
     {
@@ -347,6 +357,7 @@ impl Evaluations {
         ensures loose { self.new.loose.items ≡ self.old.loose.items }
         ensures low { loose_start_of (slice_get self.new.segments.items at) ≡ loose_start_of (slice_get self.old.segments.items at) }
         ensures below { loose_foot_of (slice_get self.new.segments.items at) ≡ loose_foot }
+        ensures own { node_of (slice_get self.new.segments.items at) ≡ Some node }
     {
         self.segments.truncate(at + 1);
         if let Some(segment) = self.segments.get_mut(at) {

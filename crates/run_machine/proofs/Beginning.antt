@@ -36,7 +36,7 @@ use Rattle.run_control.specs.declared.statement.Statement.{Statement}
 use Rattle.run_control.specs.declared.work.Work.TheVariants as work
 use Rattle.run_control.specs.Stacked.{Stacked}
 use Rattle.run_control.specs.View.{Meaning, stmt_of, todo_of}
-use Rattle.run_code.specs.declared.steps.Code.{Code}
+use Rattle.run_code.specs.declared.whole.Code.{Code}
 use Rattle.run_code.specs.declared.steps.FunctionCode.{FunctionCode}
 use Rattle.run_machine.specs.declared.machine.Machine.{Machine}
 use Rattle.run_machine.specs.declared.machine.Open.{Open}
@@ -77,8 +77,8 @@ pub record Parts (old first : Kept) (p : Program) (args : List (List ℕ)) (inpu
   pub before : Keeps old first
   pub since : Keeps first m.memory
   pub store : (io : Io) → store_of m.memory io ≡ store_of first io
-  pub vias : AreEach (IsNamedVia m.memory) m.code.now.stores.items m.vias.items
-  pub fillings : AreEach (AreBytesWhere m.memory m.places) m.code.now.constants.items m.fillings.items
+  pub vias : AreEach (IsNamedVia m.memory) m.code.now.tables.stores.items m.vias.items
+  pub fillings : AreEach (AreBytesWhere m.memory m.places) m.code.now.tables.constants.items m.fillings.items
   pub streams : m.streams ≡ record { input = input; position = 0; output = silent }
   pub below : m.below.items ≡ []
   pub top : IsFirst p m.top
@@ -92,8 +92,8 @@ pub assembled_parts : (old first : Kept) (p : Program) (args : List (List ℕ)) 
     m.code.now ≡ code → m.vias.items ≡ vias → m.fillings.items ≡ fillings → m.top ≡ top → m.work ≡ does →
     m.streams ≡ record { input = input; position = 0; output = silent } → m.below.items ≡ [] → m.depth ≡ 1 → m.left ≡ None →
     StartStands old first p (program_name ∷ args) → ArePlaced first p places → Keeps old first → Keeps first memory →
-    ((io : Io) → store_of memory io ≡ store_of first io) → AreEach (IsNamedVia memory) code.stores.items vias →
-    AreEach (AreBytesWhere memory places) code.constants.items fillings → IsFirst p top →
+    ((io : Io) → store_of memory io ≡ store_of first io) → AreEach (IsNamedVia memory) code.tables.stores.items vias →
+    AreEach (AreBytesWhere memory places) code.tables.constants.items fillings → IsFirst p top →
     StartsMain code p does → Parts old first p args input m
 assembled_parts old first p args input m places memory code vias fillings top does is_p is_places is_memory is_code is_vias is_fillings is_top is_work
     is_streams is_below is_depth is_left started placed before since stored are_vias are_fillings is_first starts = record {
@@ -103,13 +103,13 @@ assembled_parts old first p args input m places memory code vias fillings top do
       before = before;
       since = subst (λ (k : Kept). Keeps first k) (sym is_memory) since;
       store = λ io. ap (λ (k : Kept). store_of k io) is_memory ∙ stored io;
-      vias = subst (λ (vs : List Via). AreEach (IsNamedVia m.memory) m.code.now.stores.items vs) (sym is_vias)
-          (subst (λ (k : Code). AreEach (IsNamedVia m.memory) k.stores.items vias) (sym is_code)
-          (subst (λ (k : Kept). AreEach (IsNamedVia k) code.stores.items vias) (sym is_memory) are_vias));
-      fillings = subst (λ (fs : List (List Filling)). AreEach (AreBytesWhere m.memory m.places) m.code.now.constants.items fs) (sym is_fillings)
-          (subst (λ (k : Code). AreEach (AreBytesWhere m.memory m.places) k.constants.items fillings) (sym is_code)
-          (subst (λ (k : Kept). AreEach (AreBytesWhere k m.places) code.constants.items fillings) (sym is_memory)
-          (subst (λ (q : Places). AreEach (AreBytesWhere memory q) code.constants.items fillings) (sym is_places) are_fillings)));
+      vias = subst (λ (vs : List Via). AreEach (IsNamedVia m.memory) m.code.now.tables.stores.items vs) (sym is_vias)
+          (subst (λ (k : Code). AreEach (IsNamedVia m.memory) k.tables.stores.items vias) (sym is_code)
+          (subst (λ (k : Kept). AreEach (IsNamedVia k) code.tables.stores.items vias) (sym is_memory) are_vias));
+      fillings = subst (λ (fs : List (List Filling)). AreEach (AreBytesWhere m.memory m.places) m.code.now.tables.constants.items fs) (sym is_fillings)
+          (subst (λ (k : Code). AreEach (AreBytesWhere m.memory m.places) k.tables.constants.items fillings) (sym is_code)
+          (subst (λ (k : Kept). AreEach (AreBytesWhere k m.places) code.tables.constants.items fillings) (sym is_memory)
+          (subst (λ (q : Places). AreEach (AreBytesWhere memory q) code.tables.constants.items fillings) (sym is_places) are_fillings)));
       streams = is_streams;
       below = is_below;
       top = subst (λ (o : Open). IsFirst p o) (sym is_top) is_first;
@@ -182,18 +182,18 @@ first_stands world meaning p m vs c b main zero first held is body = record {
 
 -- ---- all together
 tables_stand : (first : Kept) (p : Program) (m : Machine) → ArePlaced first p m.places → Keeps first m.memory → m.program.now ≡ p →
-    AreEach (IsNamedVia m.memory) m.code.now.stores.items m.vias.items →
-    AreEach (AreBytesWhere m.memory m.places) m.code.now.constants.items m.fillings.items →
-    All (λ s. AccessSuits s.access (type_of s.ty.now)) m.code.now.stores.items →
-    All (λ cs. All (λ c. ContentIsLawful p c.content) cs.now) m.code.now.constants.items → StandsTables m
+    AreEach (IsNamedVia m.memory) m.code.now.tables.stores.items m.vias.items →
+    AreEach (AreBytesWhere m.memory m.places) m.code.now.tables.constants.items m.fillings.items →
+    All (λ s. AccessSuits s.access (type_of s.ty.now)) m.code.now.tables.stores.items →
+    All (λ cs. All (λ c. ContentIsLawful p c.content) cs.now) m.code.now.tables.constants.items → StandsTables m
 tables_stand first p m placed since is vias fillings suits lawful =
     let there = placed_still first m.memory p m.places since placed in
     record {
       places = subst (λ (q : Program). ArePlaced m.memory q m.places) (sym is) there;
-      vias = each_where (λ s. AccessSuits s.access (type_of s.ty.now)) (IsNamedVia m.memory) (IsVia m.memory) m.code.now.stores.items m.vias.items
+      vias = each_where (λ s. AccessSuits s.access (type_of s.ty.now)) (IsNamedVia m.memory) (IsVia m.memory) m.code.now.tables.stores.items m.vias.items
           (λ s via suit named. named_seen m.memory s.access (type_of s.ty.now) via suit named) suits vias;
       fillings = each_where (λ cs. All (λ c. ContentIsLawful p c.content) cs.now) (AreBytesWhere m.memory m.places) (AreBytes m.memory)
-          m.code.now.constants.items m.fillings.items (λ cs fs law can. can (can_hold_all m.memory p m.places cs.now there law)) lawful fillings;
+          m.code.now.tables.constants.items m.fillings.items (λ cs fs law can. can (can_hold_all m.memory p m.places cs.now there law)) lawful fillings;
     }
 
 frames_stand : (world : World) (meaning : Option ℕ → Meaning) (m : Machine) (st : State) (b : Bor Statement) → m.left ≡ None → m.below.items ≡ [] →

@@ -1,4 +1,5 @@
 mod Picked
+mod Parts
 mod Each
 mod Vias
 mod Beginning

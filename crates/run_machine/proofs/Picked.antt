@@ -7,25 +7,23 @@ use Rattle.c_typed.specs.Decide.{first_place, is_permitted}
 use Rattle.c_model.proofs.Listed.{next_listed}
 use Rattle.seq_order.specs.declared.done.Marks.{Marks}
 use Rattle.seq_order.specs.Marked.{taken_in, done_in}
-use Rattle.run_code.specs.declared.steps.Expression.{Expression}
 use Rattle.run_code.specs.declared.steps.Listed.{Listed}
-use Rattle.run_listing.specs.Along.{part_of, events_of}
+use Rattle.run_listing.specs.Along.{events_of}
 use Rattle.run_machine.specs.declared.machine.Machine.{Machine}
 use Rattle.run_machine.specs.declared.machine.Stage.{Stage}
 use Rattle.run_machine.specs.declared.watch.Begun.{Begun}
-use Rattle.run_machine.specs.Picks.{top_of, part_to, passed_part, ahead_part, kept_in, kept_of, by_way, permits_in, permits, IsAlong}
+use Rattle.run_machine.specs.Picks.{top_of, passed_part, ahead_part, kept_in, kept_of, by_way, permits_in, permits, IsAlong}
 
 pub kept_as : (m : Machine) (done : List Marks) → slice_get m.strayed.items (length m.below.items) ≡ Some done → done_in done ≡ kept_of m
 kept_as m done h = sym (ap kept_in h)
 
 -- what was passed of the part that was walked
-pub passed_as : {E : Type 0} (m : Machine) (s : Stage) (b : Begun) (e : Expression) (es : List Listed) (r : Result (List Marks) E)
-    → slice_get m.code.now.expressions.items s.expression ≡ Some e → top_of m ≡ Some b → es ≡ part_of m.code.now.listing.items e.first s.cursor
+pub passed_as : {E : Type 0} (m : Machine) (s : Stage) (b : Begun) (es : List Listed) (r : Result (List Marks) E)
+    → top_of m ≡ Some b → es ≡ passed_part m s
     → IfOk r (λ done. (p : Place) → done_in done p ≡ has (events_of (taken_in b.taken) es) p)
     → IfOk r (λ done. (x : Begun) × (top_of m ≡ Some x) × ((p : Place) → done_in done p ≡ has (events_of (taken_in x.taken) (passed_part m s)) p))
-passed_as m s b e es (Ok done) ex top part h =
-    (b, top, λ p. h p ∙ ap (λ xs. has (events_of (taken_in b.taken) xs) p) (part ∙ sym (ap (part_to m.code.now.listing.items s.cursor) ex)))
-passed_as m s b e es (Err error) ex top part h = h
+passed_as m s b es (Ok done) top part h = (b, top, λ p. h p ∙ ap (λ xs. has (events_of (taken_in b.taken) xs) p) part)
+passed_as m s b es (Err error) top part h = h
 
 abbrev or_else : Option Place → Place → Place
 or_else None d = d

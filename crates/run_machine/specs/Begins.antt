@@ -26,7 +26,7 @@ use Rattle.run_control.specs.declared.statement.Statement.{Statement}
 use Rattle.run_control.specs.declared.work.Work.TheVariants as work
 use Rattle.run_control.specs.Stacked.{Stacked}
 use Rattle.run_control.specs.View.{Meaning}
-use Rattle.run_code.specs.declared.steps.Code.{Code}
+use Rattle.run_code.specs.declared.whole.Code.{Code}
 use Rattle.run_code.specs.declared.steps.FunctionCode.{FunctionCode}
 use Rattle.run_code.specs.declared.steps.StoreCode.{StoreCode}
 use Rattle.run_machine.specs.declared.machine.Machine.{Machine}

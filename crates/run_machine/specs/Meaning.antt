@@ -17,7 +17,7 @@ use Rattle.program_view.specs.Trees.{expr_of, is_pointer}
 use Rattle.program_view.specs.View.{function_of, model_of, world_of}
 use Rattle.run_control.specs.View.{Meaning, stmt_of}
 use Rattle.run_control.specs.Targets.{AllEqual, bodies}
-use Rattle.run_code.specs.declared.steps.Code.{Code}
+use Rattle.run_code.specs.declared.whole.Code.{Code}
 use Rattle.run_code.specs.declared.steps.Expression.{Expression}
 use Rattle.run_code.specs.declared.steps.FunctionCode.{FunctionCode}
 
@@ -47,5 +47,5 @@ pub record StandsCode (world : World) (p : Program) (code : Code) (meaning : Opt
   pub body : (n : ℕ) (c : FunctionCode) → slice_get code.functions.items n ≡ Some (Some c)
       → body_of world (Some n) ≡ Some (stmt_of (meaning (Some n)) c.body)
   pub switches : (n : ℕ) (c : FunctionCode) → slice_get code.functions.items n ≡ Some (Some c) → AllEqual (bodies (meaning (Some n)) c.body)
-  pub stores : All (λ s. AccessSuits s.access (type_of s.ty.now)) code.stores.items
-  pub constants : All (λ cs. All (λ c. ContentIsLawful p c.content) cs.now) code.constants.items
+  pub stores : All (λ s. AccessSuits s.access (type_of s.ty.now)) code.tables.stores.items
+  pub constants : All (λ cs. All (λ c. ContentIsLawful p c.content) cs.now) code.tables.constants.items

@@ -31,7 +31,6 @@ use Rattle.c_typed.specs.Decide.{is_permitted, canonical}
 use Rattle.seq_order.specs.declared.done.Marks.{Marks}
 use Rattle.seq_order.specs.Marked.{taken_in, done_in}
 use Rattle.run_code.specs.declared.steps.Due.{Due}
-use Rattle.run_code.specs.declared.steps.Expression.{Expression}
 use Rattle.run_code.specs.declared.steps.Listed.{Listed}
 use Rattle.run_listing.specs.Along.{part_of, events_of, Next}
 use Rattle.run_machine.specs.declared.halt.Halt.{Halt}
@@ -45,20 +44,15 @@ use Rattle.run_machine.specs.declared.watch.Begun.{Begun}
 abbrev pub top_of : Machine → Option Begun
 top_of m = slice_get m.begun.items (length m.below.items)
 
--- its listing from its start on up to a place
-abbrev pub part_to : List Listed → (to : ℕ) → Option Expression → List Listed
-part_to listing to None = []
-part_to listing to (Some e) = part_of listing e.first to
-
--- what the cursor has passed, what is ahead of it, and the whole
+-- of its listing: what the cursor has passed, what is ahead of it, and the whole
 abbrev pub passed_part : Machine → Stage → List Listed
-passed_part m s = part_to m.code.now.listing.items s.cursor (slice_get m.code.now.expressions.items s.expression)
+passed_part m s = part_of m.code.now.listing.items s.first s.cursor
 
 abbrev pub ahead_part : Machine → Stage → List Listed
 ahead_part m s = part_of m.code.now.listing.items s.cursor s.end
 
 abbrev pub whole_part : Machine → Stage → List Listed
-whole_part m s = part_to m.code.now.listing.items s.end (slice_get m.code.now.expressions.items s.expression)
+whole_part m s = part_of m.code.now.listing.items s.first s.end
 
 -- what is kept of done events where the order isn't the canonical one
 abbrev pub kept_in : Option (List Marks) → Place → Bool

@@ -118,8 +118,8 @@ AreBytes m cs fs = AreFillings m fs (map filled_by cs.now) × AreOf m fs
 -- what the code names by numbers: where objects with static storage and literals stand, how each store accesses memory, the bytes of initializer lists
 pub record StandsTables (m : Machine) : Type 0 where
   pub places : ArePlaced m.memory m.program.now m.places
-  pub vias : AreEach (IsVia m.memory) m.code.now.stores.items m.vias.items
-  pub fillings : AreEach (AreBytes m.memory) m.code.now.constants.items m.fillings.items
+  pub vias : AreEach (IsVia m.memory) m.code.now.tables.stores.items m.vias.items
+  pub fillings : AreEach (AreBytes m.memory) m.code.now.tables.constants.items m.fillings.items
 
 -- 2. Control.
 
@@ -179,7 +179,9 @@ pub record StandsExpression (world : World) (meaning : Meaning) (m : Machine) (h
   pub laid : Expression
   pub at : slice_get m.code.now.expressions.items stage.expression ≡ Some laid
   pub root : e.root ≡ expr_of laid.root.now
+  pub first : stage.first ≡ laid.first
   pub end : stage.end ≡ laid.end
+  pub value : stage.value ≡ laid.value
   pub rooms : o.rooms ≡ laid.rooms
   pub what : use_of meaning o.how ≡ e.what
   pub shown : Shown
@@ -211,7 +213,7 @@ StandsLocal world m at f turn k =
 abbrev pub StandLocals : World → Machine → Open → Scene → List (ℕ × ℕ) → Type 0
 StandLocals world m o f [] = Unit {0}
 StandLocals world m o f (b ∷ bs) =
-    ((code : BlockCode) × (slice_get m.code.now.blocks.items (o.blocks + b.0) ≡ Some code)
+    ((code : BlockCode) × (slice_get m.code.now.tables.blocks.items (o.blocks + b.0) ≡ Some code)
     × ((k : ℕ) → k < code.objects.count → StandsLocal world m (o.locals + (code.first + k)) f b.1 k))
     × StandLocals world m o f bs
 

@@ -13,7 +13,7 @@ use crate::pick::Pick;
 use crate::watch::Begun;
 use prov_memory::ObjKind;
 use run_acts::total;
-use run_code::{BlockCode, Operand, Range};
+use run_code::{BlockCode, ObjectCode, Operand};
 use run_control::{Move, Step, Use};
 use seq_order::Taken;
 use ub_base::{Cause, NoMemory, ObjName};
@@ -84,11 +84,12 @@ impl<'p, 'c> Machine<'p, 'c> {
         Ok(Pick::Step(None))
     }
 
-    // The block of this number in the function.
-    fn block(&self, number: u32) -> Result<BlockCode, NoMemory> {
+    // The block of this number in the function, with its objects.
+    fn block(&self, number: u32) -> Result<(BlockCode, &'c [ObjectCode]), NoMemory> {
+        let code = self.code;
         let at = self.top.blocks.saturating_add(number);
-        match self.code.blocks.get(at as usize) {
-            Some(block) => Ok(*block),
+        match code.block(at) {
+            Some(block) => Ok(block),
             None => Err(NoMemory),
         }
     }
@@ -99,29 +100,48 @@ impl<'p, 'c> Machine<'p, 'c> {
     {
         self.entered = number;
         self.top.turn = self.top.turn.saturating_add(1);
-        let block = self.block(number)?;
+        let (block, objects) = self.block(number)?;
         let reached = total(self.memory.created(), block.created);
         if reached > MOST_CREATED {
             return Err(Halt::Over(Cause::Created, reached));
         }
-        for object in 0..block.objects.count {
-            self.create(block.objects, block.first, object)?;
-        }
-        for object in 0..block.arguments {
-            self.store_argument(block.objects, block.first, object)?;
-        }
+        self.create_objects(objects, block.first)?;
+        self.store_arguments(objects, block)?;
         Ok(Pick::Step(None))
     }
 
-    // The object of this number in the block.
-    fn create(&mut self, objects: Range, first: u32, number: u32) -> Result<(), Halt>
+    // The objects of a block, of which the first has this number in the function.
+    fn create_objects(&mut self, objects: &'c [ObjectCode], first: u32) -> Result<(), Halt>
         ensures { self.new.work ≡ self.old.work }
     {
-        let code = self.code;
-        let at = objects.first.saturating_add(number);
-        let Some(object) = code.objects.get(at as usize) else {
-            return Err(Halt::NoMemory);
-        };
+        let mut number: u32 = 0;
+        for object in objects {
+            self.create(object, first, number)?;
+            number = number.saturating_add(1);
+        }
+        Ok(())
+    }
+
+    // The first objects of a block take the arguments.
+    fn store_arguments(
+        &mut self,
+        objects: &'c [ObjectCode],
+        block: BlockCode,
+    ) -> Result<(), NoMemory>
+        ensures { self.new.work ≡ self.old.work }
+    {
+        let mut number: u32 = 0;
+        for object in objects.iter().take(block.arguments as usize) {
+            self.store_argument(object, block.first, number)?;
+            number = number.saturating_add(1);
+        }
+        Ok(())
+    }
+
+    // The object of this number in the block.
+    fn create(&mut self, object: &'c ObjectCode, first: u32, number: u32) -> Result<(), Halt>
+        ensures { self.new.work ≡ self.old.work }
+    {
         let name = ObjName::Auto {
             frame: self.top.frame,
             turn: self.top.turn,
@@ -160,14 +180,14 @@ impl<'p, 'c> Machine<'p, 'c> {
 
     // A parameter takes its argument. The store is an initialization of a new object by a value of its type, which raises
     // nothing.
-    fn store_argument(&mut self, objects: Range, first: u32, number: u32) -> Result<(), NoMemory>
+    fn store_argument(
+        &mut self,
+        object: &'c ObjectCode,
+        first: u32,
+        number: u32,
+    ) -> Result<(), NoMemory>
         ensures { self.new.work ≡ self.old.work }
     {
-        let code = self.code;
-        let at = objects.first.saturating_add(number);
-        let Some(object) = code.objects.get(at as usize) else {
-            return Err(NoMemory);
-        };
         let place = self.local(first.saturating_add(number), 0);
         let value = self.take(number);
         let _ = self.put_at(object.store, place, &value)?;
@@ -178,7 +198,7 @@ impl<'p, 'c> Machine<'p, 'c> {
     fn leave(&mut self, number: u32) -> Result<(), NoMemory>
         ensures { self.new.work ≡ self.old.work }
     {
-        let block = self.block(number)?;
+        let (block, _) = self.block(number)?;
         for object in 0..block.objects.count {
             let name = self.local_name(block.first.saturating_add(object))?;
             self.memory.kill(name, &mut self.spare);
@@ -202,8 +222,8 @@ impl<'p, 'c> Machine<'p, 'c> {
         let Some(block) = self.work.block() else {
             return Err(Halt::NoMemory);
         };
-        let first = self.block(block.number)?.first;
-        let name = self.local_name(first.saturating_add(object))?;
+        let (block, _) = self.block(block.number)?;
+        let name = self.local_name(block.first.saturating_add(object))?;
         self.memory.unwrite(name, &mut self.items);
         Ok(Pick::Step(None))
     }
@@ -215,20 +235,22 @@ impl<'p, 'c> Machine<'p, 'c> {
         let code = self.code;
         self.top.how = how;
         self.top.turn = self.top.turn.saturating_add(1);
-        let Some(expression) = code.expressions.get(number as usize) else {
+        let Some((expression, chosen)) = code.expression(number) else {
             return Err(Halt::NoMemory);
         };
         self.top.rooms = expression.rooms;
         self.top.stage = Some(Stage {
             expression: number,
+            first: expression.first,
             cursor: expression.first,
             end: expression.end,
             straight: true,
+            value: expression.value,
         });
         let size = self.top.base.saturating_add(expression.rooms as usize);
         self.grow(size)?;
         self.show_begun(number, expression.root)?;
-        self.choose_at_once(expression.chosen)?;
+        self.choose_at_once(chosen)?;
         Ok(Pick::Step(None))
     }
 
@@ -259,24 +281,28 @@ impl<'p, 'c> Machine<'p, 'c> {
     }
 
     // The choices whose tests are quiet.
-    pub fn choose_at_once(&mut self, chosen: Range) -> Result<(), NoMemory>
+    pub fn choose_at_once(&mut self, chosen: &'c [(u32, u32)]) -> Result<(), NoMemory>
         ensures { self.new.work ≡ self.old.work }
     {
-        let code = self.code;
-        let height = self.below.len();
-        for number in 0..chosen.count {
-            let at = chosen.first.saturating_add(number);
-            match (code.chosen.get(at as usize), self.begun.get_mut(height)) {
-                (Some((node, operand)), Some(begun)) => begun.taken.set(*node, *operand)?,
-                _ => return Err(NoMemory),
-            }
+        for (node, operand) in chosen {
+            self.take_operand(*node, *operand)?;
         }
         Ok(())
     }
 
+    // The node of the full expression chooses this operand.
+    pub fn take_operand(&mut self, node: u32, operand: u32) -> Result<(), NoMemory>
+        ensures { self.new.work ≡ self.old.work }
+    {
+        match self.begun.get_mut(self.below.len()) {
+            Some(begun) => begun.taken.set(node, operand),
+            None => Err(NoMemory),
+        }
+    }
+
     // The value of a full expression is used.
     fn settle(&mut self, stage: Stage) -> Result<Pick, Halt> {
-        let operand = self.expression(stage)?.value;
+        let operand = stage.value;
         self.top.stage = None;
         match self.top.how {
             Use::Select(switch) => self.select(switch.number, operand)?,

@@ -1,8 +1,9 @@
 // The events of a full expression.
-ghost use Rattle.std.specs.Prelude.{◌≡◌};
+ghost use Rattle.std.specs.Prelude.{◌≡◌, ◌<◌, length};
+ghost use Rattle.run_code.specs.Named.{IsNamed, IsDueOf};
 
 use crate::halt::{Fault, Halt};
-use crate::machine::Machine;
+use crate::machine::{Machine, Stage};
 use crate::pick::Pick;
 use c_typed::{Access, Change, Place};
 use c_types::Ty;
@@ -11,7 +12,7 @@ use run_acts::{
     Pointer, answer, as_function, binary, changed, convert, distance, equal, fill, load, member,
     moved, part, related, store, unary,
 };
-use run_code::{Act, Due, Operand, StoreCode};
+use run_code::{Act, Code, Due, Operand, StoreCode};
 use ub_base::{Clause, Event, NoMemory};
 
 // What an event came to.
@@ -29,16 +30,30 @@ fn number(value: bool) -> Value {
     Value::Int(i128::from(value))
 }
 
+// The cursor passes the event that is taken.
+fn passed(stage: Option<Stage>) -> Option<Stage> {
+    match stage {
+        Some(stage) if stage.straight => Some(Stage {
+            cursor: stage.cursor.saturating_add(1),
+            ..stage
+        }),
+        _ => stage,
+    }
+}
+
 impl<'p, 'c> Machine<'p, 'c> {
     // Takes a permitted event of the top frame's full expression.
-    pub fn event(&mut self, due: &'c Due<'p>) -> Result<Pick, Halt> {
+    pub fn event(&mut self, due: &'c Due<'p>) -> Result<Pick, Halt>
+        requires named { IsDueOf self.old.code.now.tables due.now }
+    {
+        let code = self.code;
         let event = Event {
             frame: self.top.frame,
             turn: self.top.turn,
             node: due.place.node,
             kind: due.place.kind,
         };
-        self.pass();
+        self.top.stage = passed(self.top.stage);
         let mut status = None;
         match self.act(due.act, event) {
             Ok(Outcome::Value(value)) => self.keep(event.node, value),
@@ -49,18 +64,9 @@ impl<'p, 'c> Machine<'p, 'c> {
         }
         self.note(due.place)?;
         if let Some(choice) = due.choice {
-            self.choose(choice)?;
+            self.choose(code, choice)?;
         }
         Ok(Pick::Event(event, self.completed(due)?, status))
-    }
-
-    // The cursor passes the event that is taken.
-    fn pass(&mut self) {
-        if let Some(stage) = &mut self.top.stage {
-            if stage.straight {
-                stage.cursor = stage.cursor.saturating_add(1);
-            }
-        }
     }
 
     // An event of the top frame's full expression is done. On the canonical way the cursor says so.
@@ -80,27 +86,21 @@ impl<'p, 'c> Machine<'p, 'c> {
     }
 
     // A node chooses the operand that it evaluates next.
-    fn choose(&mut self, number: u32) -> Result<(), NoMemory> {
-        let code = self.code;
-        let Some(choice) = code.choices.get(number as usize) else {
-            return Err(NoMemory);
-        };
-        let way = if self.truth(choice.test) {
-            choice.yes
-        } else {
-            choice.no
-        };
+    fn choose(&mut self, code: &'c Code<'p>, number: u32) -> Result<(), NoMemory>
+        requires there { number < length code.now.tables.choices.items }
+    {
+        let choice = code.choice(number);
+        let (way, chosen) = code.way(number, self.truth(choice.test));
         let Some(operand) = way.operand else {
             return Ok(());
         };
-        match self.newest() {
-            Some(begun) => begun.taken.set(choice.node, operand)?,
-            None => return Err(NoMemory),
-        }
-        self.choose_at_once(way.chosen)
+        self.take_operand(choice.node, operand)?;
+        self.choose_at_once(chosen)
     }
 
-    fn act(&mut self, act: Act<'p>, event: Event) -> Result<Outcome, Fault> {
+    fn act(&mut self, act: Act<'p>, event: Event) -> Result<Outcome, Fault>
+        requires named { IsNamed self.old.code.now.tables act }
+    {
         match act {
             Act::Store {
                 store,
@@ -108,10 +108,18 @@ impl<'p, 'c> Machine<'p, 'c> {
                 value,
             } => self.store(store, place, value),
             Act::Fill { object, constants } => self.fill(object, constants),
-            Act::Call(number) => self.call(number, event),
+            Act::Call(number) => self.call_of(number, event),
             Act::Initialize(number) => self.initialize(number, event),
             _ => Ok(Outcome::Value(self.value_act(act, event)?)),
         }
+    }
+
+    // The body of the call of this number.
+    fn call_of(&mut self, number: u32, event: Event) -> Result<Outcome, Fault>
+        requires there { number < length self.old.code.now.tables.calls.items }
+    {
+        let code = self.code;
+        self.call(&code.tables.calls[number as usize], event)
     }
 
     // The value that an act gives.
@@ -263,7 +271,7 @@ impl<'p, 'c> Machine<'p, 'c> {
     // How the store of this number accesses memory.
     fn target(&self, number: u32) -> Result<(StoreCode<'p>, Via), NoMemory> {
         let at = number as usize;
-        match (self.code.stores.get(at), self.vias.get(at)) {
+        match (self.code.tables.stores.get(at), self.vias.get(at)) {
             (Some(target), Some(via)) => Ok((*target, *via)),
             _ => Err(NoMemory),
         }

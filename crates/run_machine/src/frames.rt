@@ -20,11 +20,7 @@ pub const MOST_FRAMES: u64 = 100_000;
 
 impl<'p, 'c> Machine<'p, 'c> {
     // The body of a call: an act of the library, or a new frame.
-    pub fn call(&mut self, number: u32, event: Event) -> Result<Outcome, Fault> {
-        let code = self.code;
-        let Some(call) = code.calls.get(number as usize) else {
-            return Err(Fault::NoMemory);
-        };
+    pub fn call(&mut self, call: &'c CallCode<'p>, event: Event) -> Result<Outcome, Fault> {
         let Some(ty) = call.ty else {
             return Err(Fault::Raise(Clause::InvalidPointer));
         };

@@ -28,10 +28,10 @@ use ub_base::{Bytes, Frame, Items, NoMemory};
 fn vias_of(alloc: Global, code: &Code, memory: &mut Memory) -> Result<Vec<Via>, NoMemory>
     ensures kept { Keeps memory.old memory.new }
     ensures store { AreTagged memory.old → (io : Io) → store_of memory.new io ≡ store_of memory.old io }
-    ensures vias { IfOk result (λ vias. AreEach (IsNamedVia memory.new) code.now.stores.items vias.items) }
+    ensures vias { IfOk result (λ vias. AreEach (IsNamedVia memory.new) code.now.tables.stores.items vias.items) }
 {
     let mut vias = Vec::new(alloc);
-    for store in &code.stores {
+    for store in &code.tables.stores {
         vias.push(via_of(store, memory)?)?;
     }
     Ok(vias)
@@ -56,10 +56,10 @@ fn fillings_of(
     memory: &Memory,
     places: &Places,
 ) -> Result<Vec<Items<Filling>>, NoMemory>
-    ensures { AreNamed memory.now → IfOk result (λ all. AreEach (AreBytesWhere memory.now places.now) code.now.constants.items all.items) }
+    ensures { AreNamed memory.now → IfOk result (λ all. AreEach (AreBytesWhere memory.now places.now) code.now.tables.constants.items all.items) }
 {
     let mut all = Vec::new(alloc);
-    for constants in &code.constants {
+    for constants in &code.tables.constants {
         all.push(fillings(alloc, memory, places, *constants)?)?;
     }
     Ok(all)

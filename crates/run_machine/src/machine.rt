@@ -17,11 +17,14 @@ use ub_base::{Frame, Frames, Items, NoMemory, ObjName};
 #[derive(Clone, Copy, Debug)]
 pub struct Stage {
     pub expression: u32,
-    // Where the next entry of its listing stands, and where the listing ends.
+    // Where its listing begins, where the next entry of it stands, and where it ends.
+    pub first: usize,
     pub cursor: usize,
     pub end: usize,
     // Each event so far was the canonical one, so that those done are those that the cursor has passed.
     pub straight: bool,
+    // Where its value comes from.
+    pub value: Operand,
 }
 
 // An open frame.
@@ -218,12 +221,6 @@ impl<'p, 'c> Machine<'p, 'c> {
             })?;
         }
         Ok(())
-    }
-
-    // The full expression of the top frame.
-    pub fn newest(&mut self) -> Option<&mut Begun<'p>> {
-        let height = self.below.len();
-        self.begun.get_mut(height)
     }
 
     /// The full expressions that have begun and aren't settled, from the frame of `main` on.

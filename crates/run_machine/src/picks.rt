@@ -5,6 +5,7 @@ ghost use Rattle.c_typed.specs.Tree.{tree_of};
 ghost use Rattle.c_typed.specs.Order.{has};
 ghost use Rattle.c_typed.specs.Decide.{is_permitted as permitted_in, canonical as canonical_in};
 ghost use Rattle.seq_order.specs.Marked.{taken_in, done_in};
+ghost use Rattle.run_code.specs.Named.{IsDueOf};
 ghost use Rattle.run_listing.specs.Along.{events_of, Next, IsListed};
 ghost use Rattle.run_machine.specs.declared.watch.Begun.{Begun as BegunOf};
 ghost use Rattle.run_machine.specs.Picks.{top_of, passed_part, ahead_part, whole_part, kept_of, permits, at_cursor, place_of, Fits, IsAlong, Refuses, Takes, Strays, Follows};
@@ -14,7 +15,7 @@ use crate::machine::{Machine, Stage};
 use crate::pick::{Completed, Pick};
 use crate::watch::Begun;
 use c_typed::Place;
-use run_code::{Due, Expression, Listed};
+use run_code::Due;
 use run_listing::{due_of, next, part, passed};
 use seq_order::{Done, canonical_next, is_permitted};
 use std::alloc::Global;
@@ -49,6 +50,7 @@ impl<'p, 'c> Machine<'p, 'c> {
         ensures refused { Fits self.old → IfOk result (λ due. IfNone due (permits self.old place ≡ false)) }
         ensures taken { Fits self.old → IsAlong self.old place → IfOk result (λ due. IfSome due (λ _. permits self.old place ≡ true)) }
         ensures place { IfOk result (λ due. IfSome due (λ d. d.now.place ≡ place)) }
+        ensures named { IfOk result (λ due. IfSome due (λ d. IsDueOf self.new.code.now.tables d.now)) }
         ensures unchanged { IfOk result (λ due. IfNone due (self.new ≡ self.old)) }
     {
         let Some(stage) = self.top.stage else {
@@ -122,28 +124,18 @@ impl<'p, 'c> Machine<'p, 'c> {
         ensures { IfOk result (λ done. (b : BegunOf) × (top_of self.now ≡ Some b) × ((p : PlaceOf) → done_in done p ≡ has (events_of (taken_in b.taken) (passed_part self.now stage)) p)) }
     {
         let code = self.code;
-        let first = self.expression(stage)?.first;
         let begun = self.opened()?;
         passed(
             self.alloc,
-            part(&code.listing, first, stage.cursor),
+            part(&code.listing, stage.first, stage.cursor),
             &begun.taken,
         )
     }
 
-    pub fn expression(&self, stage: Stage) -> Result<&'c Expression<'p>, NoMemory>
-        ensures { IfOk result (λ e. slice_get self.now.code.now.expressions.items stage.expression ≡ Some e.now) }
-    {
-        let code = self.code;
-        match code.expressions.get(stage.expression as usize) {
-            Some(expression) => Ok(expression),
-            None => Err(NoMemory),
-        }
-    }
-
     // Goes on to the next event of the top frame's full expression in canonical order; None where none is left or none has begun.
     fn follow(&mut self) -> Result<Option<&'c Due<'p>>, NoMemory>
-        ensures { Fits self.old → IfOk result (Follows self.old self.new) }
+        ensures follows { Fits self.old → IfOk result (Follows self.old self.new) }
+        ensures named { IfOk result (λ due. IfSome due (λ d. IsDueOf self.new.code.now.tables d.now)) }
     {
         let Some(stage) = self.top.stage else {
             return Ok(None);
@@ -160,7 +152,8 @@ impl<'p, 'c> Machine<'p, 'c> {
 
     // The next event by what is done.
     fn strayed_next(&self, stage: Stage) -> Result<Option<&'c Due<'p>>, NoMemory>
-        ensures { Fits self.now → IfOk result (λ due. (b : BegunOf) × (top_of self.now ≡ Some b) × (place_of due ≡ canonical_in (tree_of b.root.now) (taken_in b.taken) (kept_of self.now))) }
+        ensures next { Fits self.now → IfOk result (λ due. (b : BegunOf) × (top_of self.now ≡ Some b) × (place_of due ≡ canonical_in (tree_of b.root.now) (taken_in b.taken) (kept_of self.now))) }
+        ensures named { IfOk result (λ due. IfSome due (λ d. IsDueOf self.now.code.now.tables d.now)) }
     {
         let begun = self.opened()?;
         match canonical_next(begun.root, &begun.taken, self.strayed()?) {
@@ -171,7 +164,8 @@ impl<'p, 'c> Machine<'p, 'c> {
 
     // The next event of the listing from the cursor on, and how many entries behind the cursor it stands.
     fn listed_next(&self, stage: Stage) -> Result<Option<(usize, &'c Due<'p>)>, NoMemory>
-        ensures { IfOk result (λ found. (b : BegunOf) × (top_of self.now ≡ Some b) × Next (taken_in b.taken) (ahead_part self.now stage) found) }
+        ensures next { IfOk result (λ found. (b : BegunOf) × (top_of self.now ≡ Some b) × Next (taken_in b.taken) (ahead_part self.now stage) found) }
+        ensures named { IfOk result (λ found. IfSome found (λ f. IsDueOf self.now.code.now.tables f.1.now)) }
     {
         let code = self.code;
         let begun = self.opened()?;
@@ -190,10 +184,10 @@ impl<'p, 'c> Machine<'p, 'c> {
     fn due_of(&self, stage: Stage, place: Place) -> Result<&'c Due<'p>, NoMemory>
         ensures place { IfOk result (λ due. due.now.place ≡ place) }
         ensures listed { IfOk result (λ due. IsListed (whole_part self.now stage) due.now) }
+        ensures named { IfOk result (λ due. IsDueOf self.now.code.now.tables due.now) }
     {
         let code = self.code;
-        let first = self.expression(stage)?.first;
-        match due_of(part(&code.listing, first, stage.end), place) {
+        match due_of(part(&code.listing, stage.first, stage.end), place) {
             Some(due) => Ok(due),
             None => Err(NoMemory),
         }

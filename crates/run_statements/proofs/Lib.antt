@@ -1,3 +1,4 @@
 pub mod Equations
 pub mod Forms
 pub mod Loops
+pub mod Ordered

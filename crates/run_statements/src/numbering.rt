@@ -1,5 +1,6 @@
 // The statements of functions with the numbers of their full expressions.
-ghost use Rattle.std.specs.Prelude.{◌≡◌, [], ◌∷◌, ◌++◌, IfOk, OnOk, None, Some};
+ghost use Rattle.std.specs.Prelude.{◌≡◌, [], ◌∷◌, ◌++◌, map, IfOk, OnOk, None, Some};
+ghost use Rattle.elaborate.specs.Expressions.{full_trees, option_trees, body_trees, block_trees, entry_trees};
 ghost use Rattle.run_control.specs.declared.statement.Statement.TheVariants as statement;
 ghost use Rattle.run_statements.specs.Bodies.{Grows, IsStatement, IsSimple, IsReturned, IsSelection, IsRound, IsBlock, AreEntries, IsEntry};
 
@@ -17,6 +18,7 @@ fn statement<'p>(
     numbers: &mut Numbers<'p>,
 ) -> Result<Statement, NoMemory>
     ensures grows { OnOk result (Grows numbers.old numbers.new) }
+    ensures order { OnOk result (map (λ t. t.now) numbers.new.roots.items ≡ map (λ t. t.now) numbers.old.roots.items ++ body_trees body.now) }
     ensures statement { IfOk result (λ s. IsStatement numbers.new body.now s) }
 {
     match body {
@@ -83,6 +85,7 @@ fn boxed<'p>(
     numbers: &mut Numbers<'p>,
 ) -> Result<Boxed<Statement>, NoMemory>
     ensures grows { OnOk result (Grows numbers.old numbers.new) }
+    ensures order { OnOk result (map (λ t. t.now) numbers.new.roots.items ≡ map (λ t. t.now) numbers.old.roots.items ++ body_trees body.now) }
     ensures statement { IfOk result (λ s. IsStatement numbers.new body.now s) }
 {
     Ok(Boxed::new(alloc, statement(alloc, body, numbers)?)?)
@@ -98,6 +101,7 @@ fn case(value: &i128, inner: Boxed<Statement>) -> Statement
 // An expression statement, which may be empty.
 fn simple<'p>(root: &'p Option<Typed>, numbers: &mut Numbers<'p>) -> Result<Statement, NoMemory>
     ensures grows { OnOk result (Grows numbers.old numbers.new) }
+    ensures order { OnOk result (map (λ t. t.now) numbers.new.roots.items ≡ map (λ t. t.now) numbers.old.roots.items ++ option_trees root.now) }
     ensures statement { IfOk result (λ s. IsSimple numbers.new root.now s) }
 {
     match root {
@@ -108,6 +112,7 @@ fn simple<'p>(root: &'p Option<Typed>, numbers: &mut Numbers<'p>) -> Result<Stat
 
 fn returned<'p>(root: &'p Option<Typed>, numbers: &mut Numbers<'p>) -> Result<Statement, NoMemory>
     ensures grows { OnOk result (Grows numbers.old numbers.new) }
+    ensures order { OnOk result (map (λ t. t.now) numbers.new.roots.items ≡ map (λ t. t.now) numbers.old.roots.items ++ option_trees root.now) }
     ensures statement { IfOk result (λ s. IsReturned numbers.new root.now s) }
 {
     match root {
@@ -125,6 +130,7 @@ fn selection<'p>(
     numbers: &mut Numbers<'p>,
 ) -> Result<Switch, NoMemory>
     ensures grows { OnOk result (Grows numbers.old numbers.new) }
+    ensures order { OnOk result (map (λ t. t.now) numbers.new.roots.items ≡ map (λ t. t.now) numbers.old.roots.items ++ body_trees body.now) }
     ensures selection { IfOk result (λ s. IsSelection numbers.new test body.now s) }
 {
     let number = switch_number(body, numbers)?;
@@ -144,6 +150,7 @@ fn tested<'p>(
     numbers: &mut Numbers<'p>,
 ) -> Result<Round, NoMemory>
     ensures grows { OnOk result (Grows numbers.old numbers.new) }
+    ensures order { OnOk result (map (λ t. t.now) numbers.new.roots.items ≡ map (λ t. t.now) numbers.old.roots.items ++ (full_trees test.now ++ body_trees body.now)) }
     ensures round { IfOk result (λ r. IsRound numbers.new (Some test.now) None body.now r) }
 {
     let test = full(test, numbers)?;
@@ -164,6 +171,7 @@ fn round<'p>(
     numbers: &mut Numbers<'p>,
 ) -> Result<Round, NoMemory>
     ensures grows { OnOk result (Grows numbers.old numbers.new) }
+    ensures order { OnOk result (map (λ t. t.now) numbers.new.roots.items ≡ map (λ t. t.now) numbers.old.roots.items ++ (option_trees test.now ++ (option_trees step.now ++ body_trees body.now))) }
     ensures round { IfOk result (λ r. IsRound numbers.new test.now step.now body.now r) }
 {
     let test = optional(test, numbers)?;
@@ -193,6 +201,7 @@ pub fn block<'p>(
     numbers: &mut Numbers<'p>,
 ) -> Result<Block, NoMemory>
     ensures grows { OnOk result (Grows numbers.old numbers.new) }
+    ensures order { OnOk result (map (λ t. t.now) numbers.new.roots.items ≡ map (λ t. t.now) numbers.old.roots.items ++ block_trees block.now) }
     ensures block { IfOk result (λ b. IsBlock numbers.new block.now b) }
 {
     Ok(Block {
@@ -209,6 +218,7 @@ fn entries<'p>(
     numbers: &mut Numbers<'p>,
 ) -> Result<Items<Statement>, NoMemory>
     ensures grows { OnOk result (Grows numbers.old numbers.new) }
+    ensures order { OnOk result (map (λ t. t.now) numbers.new.roots.items ≡ map (λ t. t.now) numbers.old.roots.items ++ block_trees block.now) }
     ensures statements { IfOk result (λ ss. AreEntries numbers.new block.now ss) }
 {
     let mut statements = Items::new(alloc);
@@ -225,6 +235,7 @@ fn entry<'p>(
     numbers: &mut Numbers<'p>,
 ) -> Result<Statement, NoMemory>
     ensures grows { OnOk result (Grows numbers.old numbers.new) }
+    ensures order { OnOk result (map (λ t. t.now) numbers.new.roots.items ≡ map (λ t. t.now) numbers.old.roots.items ++ entry_trees entry.now) }
     ensures statement { IfOk result (λ s. IsEntry numbers.new entry.now s) }
 {
     match entry {

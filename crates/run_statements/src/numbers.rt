@@ -1,5 +1,6 @@
 // What numbers stand for.
-ghost use Rattle.std.specs.Prelude.{◌≡◌, length, IfOk, OnOk};
+ghost use Rattle.std.specs.Prelude.{◌≡◌, [], ◌++◌, length, map, IfOk, OnOk};
+ghost use Rattle.elaborate.specs.Expressions.{own_trees, full_trees, option_trees};
 ghost use Rattle.run_statements.specs.Bodies.{Grows, IsRoot, IsRootIf, IsSwitch};
 
 use c_typed::{Body, Node, Typed};
@@ -16,7 +17,10 @@ pub struct Numbers<'p> {
 
 impl<'p> Numbers<'p> {
     /// No number is given.
-    pub fn new(alloc: Global) -> Numbers<'p> {
+    pub fn new(alloc: Global) -> Numbers<'p>
+        ensures roots { result.roots.items ≡ [] }
+        ensures switches { result.switches.items ≡ [] }
+    {
         Numbers {
             roots: Vec::new(alloc),
             switches: Vec::new(alloc),
@@ -37,6 +41,7 @@ fn next_number<T>(items: &Vec<T>) -> Result<u32, NoMemory>
 // The number of a full expression; behind it come the own trees of the isolated initializers in it.
 pub fn full<'p>(root: &'p Typed, numbers: &mut Numbers<'p>) -> Result<u32, NoMemory>
     ensures grows { OnOk result (Grows numbers.old numbers.new) }
+    ensures order { OnOk result (map (λ t. t.now) numbers.new.roots.items ≡ map (λ t. t.now) numbers.old.roots.items ++ full_trees root.now) }
     ensures number { IfOk result (λ n. IsRoot numbers.new root.now n) }
 {
     let number = next_number(&numbers.roots)?;
@@ -46,7 +51,8 @@ pub fn full<'p>(root: &'p Typed, numbers: &mut Numbers<'p>) -> Result<u32, NoMem
 }
 
 fn isolated<'p>(root: &'p Typed, numbers: &mut Numbers<'p>) -> Result<(), NoMemory>
-    ensures { OnOk result (Grows numbers.old numbers.new) }
+    ensures grows { OnOk result (Grows numbers.old numbers.new) }
+    ensures order { OnOk result (map (λ t. t.now) numbers.new.roots.items ≡ map (λ t. t.now) numbers.old.roots.items ++ own_trees root.now) }
 {
     if let Node::Isolated(tree) = &root.node {
         let tree = tree.get();
@@ -64,6 +70,7 @@ pub fn optional<'p>(
     numbers: &mut Numbers<'p>,
 ) -> Result<Option<u32>, NoMemory>
     ensures grows { OnOk result (Grows numbers.old numbers.new) }
+    ensures order { OnOk result (map (λ t. t.now) numbers.new.roots.items ≡ map (λ t. t.now) numbers.old.roots.items ++ option_trees root.now) }
     ensures number { IfOk result (λ n. IsRootIf numbers.new root.now n) }
 {
     match root {
@@ -75,6 +82,7 @@ pub fn optional<'p>(
 // The number of the `switch` with this body.
 pub fn switch_number<'p>(body: &'p Body, numbers: &mut Numbers<'p>) -> Result<u32, NoMemory>
     ensures grows { OnOk result (Grows numbers.old numbers.new) }
+    ensures roots { OnOk result (numbers.new.roots.items ≡ numbers.old.roots.items) }
     ensures number { IfOk result (λ n. IsSwitch numbers.new body.now n) }
 {
     let number = next_number(&numbers.switches)?;

@@ -327,7 +327,7 @@ impl Memory {
 
     fn make_ambiguity(&mut self, id: Event, past: ObjName, start: ObjName) -> Result<(), NoMemory>
         ensures more { HasMore self.old self.new }
-        ensures made { OnOk result (IsMade self.new (Either id past start)) }
+        ensures made { AreCreated self.old (Either id past start) → OnOk result (IsMade self.new (Either id past start)) }
         ensures each { (m : Kept) → IsMade m (Either id past start) → AllMade m self.old.origins → AllMade m self.new.origins }
         ensures err { OnErr result (self.new.origins ≡ self.old.origins) }
     {

@@ -15,6 +15,7 @@ ghost use Rattle.prov_memory.specs.Held.{changed, uncovered, held_of};
 ghost use Rattle.prov_memory.specs.Made.{AreNamed, IsMade};
 ghost use Rattle.prov_memory.specs.Keeps.{Keeps, MayHaveRow};
 ghost use Rattle.prov_memory.specs.Sound.{IsSound};
+ghost use Rattle.prov_memory.specs.Room.{IsClose, CanPlace};
 ghost use Rattle.prov_memory.specs.Memory.{store_of, uncovered_each, AreKnown, IsBorn, cannot_create, no_place, base_by, rows_with};
 
 use super::*;
@@ -22,7 +23,7 @@ use super::*;
 impl Memory {
     /// Creates an object: live, unexposed, unwritten and untagged, with the shape of its declared type, if any. Unplaced where
     /// it isn't placed and the map has no row of that name, size and alignment, where it can't be placed, and where the name
-    /// was created before; the memory is then unchanged.
+    /// was created before; the memory is then unchanged. After want of memory the row may be there; the memory then counts as full.
     pub fn create(
         &mut self,
         name: ObjName,
@@ -45,8 +46,10 @@ impl Memory {
         ensures able { OnOk result (cannot_create self.old name size align ≡ false) }
         ensures unplaced { result ≡ Err Unplaced → cannot_create self.old name size align ≡ true }
         ensures same { result ≡ Err Unplaced → self.new ≡ self.old }
+        ensures end { IfOk result (λ base. base + size ≤ 2 ^ 47) }
         ensures failed { OnErr result (MayHaveRow self.old self.new name size align) }
         ensures mode { self.new.mode ≡ self.old.mode }
+        ensures room { IsClose self.old → CanPlace self.old name size align → result ≡ Err Unplaced → ⊥ }
         ensures kept { (kind.heap ≡ true → option_map (λ shape. form_of shape.value) declared ≡ None) → Keeps self.old self.new }
     {
         self.bear(name, size, align, kind, declared, t)
@@ -69,6 +72,7 @@ impl Memory {
         ensures able { OnOk result (cannot_create self.old name size align ≡ false) }
         ensures unplaced { result ≡ Err Unplaced → cannot_create self.old name size align ≡ true }
         ensures same { result ≡ Err Unplaced → self.new ≡ self.old }
+        ensures end { IfOk result (λ base. base + size ≤ 2 ^ 47) }
         ensures failed { OnErr result (MayHaveRow self.old self.new name size align) }
         ensures mode { self.new.mode ≡ self.old.mode }
         ensures kept { OnErr result (Keeps self.old self.new) }
@@ -82,6 +86,9 @@ impl Memory {
         };
         let cells = Vec::with_capacity(self.alloc, room).map_err(NoMemory::from)?;
         let base = self.base_for(name, size, align)?;
+        // full until the object is there
+        let created = self.created;
+        self.created = MOST;
         let origin = self.origins.add_object(name)?;
         let object = Object {
             name,
@@ -97,12 +104,12 @@ impl Memory {
             cells,
         };
         add_last(&mut self.objects, &mut self.origins, object)?;
-        self.created = counted(self.created, size);
+        self.created = counted(created, size);
         t.note(Item::Born(name));
         Ok(base)
     }
 
-    // The base of a new object, whose row is then there.
+    // The base of a new object, whose row is then there; until the object is there, the memory keeps what it keeps where it counts as full.
     fn base_for(&mut self, name: ObjName, size: u64, align: u64) -> Result<u64, CreateFault>
         ensures rest { record self.new { rows = [] } ≡ record self.old { rows = [] } }
         ensures row { IfOk result (λ base. row_of self.new.rows name ≡ Some (row_at name base size align)) }
@@ -112,7 +119,7 @@ impl Memory {
         ensures rows { IfOk result (λ base. self.new.rows ≡ rows_with (row_of self.old.rows name) (row_at name base size align) self.old.rows) }
         ensures able { OnOk result (no_place self.old (row_of self.old.rows name) self.old.mode size align ≡ false) }
         ensures unplaced { result ≡ Err Unplaced → no_place self.old (row_of self.old.rows name) self.old.mode size align ≡ true }
-        ensures kept { Keeps self.old self.new }
+        ensures kept { OnOk result (Keeps self.old (record self.new { created = 2 ^ 62 })) }
     {
         if let Some(row) = self.map.row(name) {
             if row.size == size && row.align == align {
@@ -207,11 +214,13 @@ impl Memory {
     }
 }
 
+/// The greatest sum of created bytes.
+const MOST: u64 = 1 << 62;
+
 /// The sum of created bytes with one more object.
 fn counted(created: u64, size: u64) -> u64
     ensures { result ≡ min (created + max size 16) (2 ^ 62) }
 {
-    const MOST: u64 = 1 << 62;
     created.saturating_add(size.max(16)).min(MOST)
 }
 

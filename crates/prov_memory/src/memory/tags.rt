@@ -1,5 +1,5 @@
 // The tags of bytes.
-ghost use Rattle.std.specs.Prelude.{◌≡◌, ◌≤◌, ◌+◌, [], Some, length, map, option_map, IfOk, IfSome, OnOk};
+ghost use Rattle.std.specs.Prelude.{◌≡◌, ℕ, ◌≤◌, ◌+◌, [], Some, None, Ok, length, map, slice_get, option_map, IfOk, IfSome, OnOk};
 ghost use Rattle.c_types.specs.Types.{type_of};
 ghost use Rattle.c_types.specs.Shapes.{form_of};
 ghost use Rattle.mem_spec.specs.Agreement.{read_as_int};
@@ -20,6 +20,7 @@ impl Memory {
     pub fn type_id(&mut self, ty: &Ty) -> Result<TypeId, NoMemory>
         ensures id { IfOk result (λ id. type_numbered (map type_of self.new.types) id.number ≡ Some (read_as_int (type_of ty.now))) }
         ensures known { IfOk result (λ id. id.number ≤ length self.new.types + 12) }
+        ensures listed { (n : ℕ) → type_numbered (map type_of self.old.types) n ≡ Some (read_as_int (type_of ty.now)) → self.new ≡ self.old }
         ensures more { AddsTypes self.old self.new }
         ensures rest { record self.new { types = [] } ≡ record self.old { types = [] } }
         ensures made { (p : Prov) → IsMade self.old p → IsMade self.new p }
@@ -29,20 +30,21 @@ impl Memory {
         if let Some(id) = kind_id(ty) {
             return Ok(id);
         }
-        if let Some(id) = self.listed_type(ty) {
+        if let Some(id) = self.listed_type(ty)? {
             return Ok(id);
         }
         let copy = copied(self.alloc, ty)?;
         self.add_type(copy)
     }
 
-    fn listed_type(&self, ty: &Ty) -> Option<TypeId>
-        ensures { IfSome result (λ id. (type_numbered (map type_of self.now.types) id.number ≡ Some (type_of ty.now)) × (id.number ≤ length self.now.types + 12)) }
+    // The number of a type that stands in the list.
+    fn listed_type(&self, ty: &Ty) -> Result<Option<TypeId>, NoMemory>
+        ensures some { IfOk result (λ found. IfSome found (λ id. (type_numbered (map type_of self.now.types) id.number ≡ Some (type_of ty.now)) × (id.number ≤ length self.now.types + 12))) }
+        ensures none { result ≡ Ok None → (at : ℕ) → slice_get (map type_of self.now.types) at ≡ Some (type_of ty.now) → ⊥ }
     {
-        let at = types::place_of(self.types.as_slice(), ty)?;
-        match types::id_at(at) {
-            Ok(id) => Some(id),
-            Err(NoMemory) => None,
+        match types::place_of(self.types.as_slice(), ty) {
+            None => Ok(None),
+            Some(at) => Ok(Some(types::id_at(at)?)),
         }
     }
 

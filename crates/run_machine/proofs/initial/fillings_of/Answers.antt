@@ -11,7 +11,7 @@ loop-constants-init c = record {
 pub loop-constants-preserved : goal.loop-constants-preserved
 loop-constants-preserved c = record {
   each = λ named.
-      each_more (AreBytesWhere c.args.memory.now c.args.places.now) c.args.code.now.constants.items c.deref-constants-items.result.now
+      each_more (AreBytesWhere c.args.memory.now c.args.places.now) c.args.code.now.tables.constants.items c.deref-constants-items.result.now
       c.loop-constants.all.items c.push.new.self.items c.loop-constants.constants-index (c.loop-constants.constants-index + 1) c.constants-item.result
       c.in_ok-fillings.field-0 c.deref-constants-items.ensures.value c.loop-constants-test.true c.constants-item.is (omega arith)
       c.in_ok-push.ensures.items (c.loop-constants.invariant.each named)
@@ -20,6 +20,6 @@ loop-constants-preserved c = record {
 
 pub returns : goal.returns
 returns c = λ named.
-    each_all (AreBytesWhere c.args.memory.now c.args.places.now) c.args.code.now.constants.items c.deref-constants-items.result.now
+    each_all (AreBytesWhere c.args.memory.now c.args.places.now) c.args.code.now.tables.constants.items c.deref-constants-items.result.now
     c.loop-constants.all.items c.loop-constants.constants-index c.deref-constants-items.ensures.value c.loop-constants.auto.constants-index-end
     c.loop-constants-test.false (c.loop-constants.invariant.each named)

@@ -7,5 +7,5 @@ use Rattle.run_machine.proofs.initial.fillings_of.Given as goal
 
 abbrev pub invariant-loop-constants : goal.invariant-loop-constants
 invariant-loop-constants l = record {
-  each : AreNamed l.fn.memory → AreEach (AreBytesWhere l.fn.memory l.fn.places) (take l.constants-index l.fn.code.constants.items) l.all.items;
+  each : AreNamed l.fn.memory → AreEach (AreBytesWhere l.fn.memory l.fn.places) (take l.constants-index l.fn.code.tables.constants.items) l.all.items;
 }

@@ -5,7 +5,7 @@ use Rattle.prov_memory.specs.Memory.{Kept}
 use Rattle.prov_memory.specs.Sound.{IsSound}
 use Rattle.prov_memory.specs.Tags.{AreTagged}
 use Rattle.prov_memory.proofs.SoundLemmas.{empty_sound}
-use Rattle.run_code.specs.declared.steps.Code.{Code}
+use Rattle.run_code.specs.declared.whole.Code.{Code}
 use Rattle.run_machine.proofs.Beginning.{assembled_parts, parts_after, begins}
 use Rattle.run_machine.proofs.initial.prepare.Goals as goal
 

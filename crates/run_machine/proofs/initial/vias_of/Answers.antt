@@ -18,7 +18,7 @@ loop-store-preserved c = record {
   keeps = keeps_then c.args.memory.now c.loop-store.memory c.via_of.new.memory c.loop-store.invariant.keeps c.via_of.ensures.kept;
   store = λ tagged io. c.via_of.ensures.store (c.loop-store.invariant.keeps.tagged tagged) io ∙ c.loop-store.invariant.store tagged io;
   each =
-      each_more (IsNamedVia c.via_of.new.memory) c.args.code.now.stores.items c.deref-store-items.result.now c.loop-store.vias.items
+      each_more (IsNamedVia c.via_of.new.memory) c.args.code.now.tables.stores.items c.deref-store-items.result.now c.loop-store.vias.items
       c.push.new.self.items c.loop-store.store-index (c.loop-store.store-index + 1) c.store-item.result c.in_ok-via_of.field-0
       c.deref-store-items.ensures.value c.loop-store-test.true c.store-item.is (omega arith) c.in_ok-push.ensures.items
       (each_then (IsNamedVia c.loop-store.memory) (IsNamedVia c.via_of.new.memory) _ c.loop-store.vias.items
@@ -50,5 +50,5 @@ returns-clause-kept c = c.loop-store.invariant.keeps
 
 pub returns-clause-vias : goal.returns-clause-vias
 returns-clause-vias c =
-    each_all (IsNamedVia c.loop-store.memory) c.args.code.now.stores.items c.deref-store-items.result.now c.loop-store.vias.items
+    each_all (IsNamedVia c.loop-store.memory) c.args.code.now.tables.stores.items c.deref-store-items.result.now c.loop-store.vias.items
     c.loop-store.store-index c.deref-store-items.ensures.value c.loop-store.auto.store-index-end c.loop-store-test.false c.loop-store.invariant.each

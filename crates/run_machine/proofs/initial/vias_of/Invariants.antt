@@ -12,5 +12,5 @@ abbrev pub invariant-loop-store : goal.invariant-loop-store
 invariant-loop-store l = record {
   keeps : Keeps l.fn.memory l.memory;
   store : AreTagged l.fn.memory → (io : Io) → store_of l.memory io ≡ store_of l.fn.memory io;
-  each : AreEach (IsNamedVia l.memory) (take l.store-index l.fn.code.stores.items) l.vias.items;
+  each : AreEach (IsNamedVia l.memory) (take l.store-index l.fn.code.tables.stores.items) l.vias.items;
 }

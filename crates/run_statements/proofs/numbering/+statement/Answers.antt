@@ -1,10 +1,12 @@
-use Rattle.std.proofs.Common.{◌+◌, ◌∷◌, drop, Some, refl, sym, ap, subst, ◌∙◌}
+use Rattle.std.proofs.Common.{◌+◌, ◌∷◌, drop, map, Some, refl, sym, ap, subst, ◌∙◌}
 use Rattle.std.proofs.lemmas.List.{drop_more}
 use Rattle.c_typed.specs.declared.statement.Body.TheVariants as body
 use Rattle.run_control.specs.declared.statement.Again.{roll-Again}
+use Rattle.elaborate.specs.Expressions.{entry_trees, block_trees}
 use Rattle.run_statements.proofs.Forms.{grows_two, stands_before, at_if_only, at_if, at_goto, at_continue, at_break, at_label, at_case, at_default}
-use Rattle.run_statements.proofs.Loops.{AreSoFar, at_block, at_switch, at_while, at_do, at_for, at_for_value, at_for_declared, so_far_more}
+use Rattle.run_statements.proofs.Loops.{AreSoFar, at_block, at_switch, at_while, at_do, at_for, at_for_value, at_for_declared, so_far_none, so_far_more}
 use Rattle.run_statements.proofs.Loops.{entry_initializer, entry_declare}
+use Rattle.run_statements.proofs.Ordered.{grown_next, start_entries}
 use Rattle.run_statements.proofs.numbering.+statement.Goals as goal
 
 pub entry-returns-in_ok-full-in-Initializer-clause-statement : goal.entry-returns-in_ok-full-in-Initializer-clause-statement
@@ -14,6 +16,15 @@ entry-returns-in_ok-full-in-Initializer-clause-statement t c =
 
 pub entry-returns-in-Declare-clause-statement : goal.entry-returns-in-Declare-clause-statement
 entry-returns-in-Declare-clause-statement t c = entry_declare c.args.numbers.now c.args.entry.now c.in-Declare.object c.in-Declare.is
+
+pub entries-loop-item-init : goal.entries-loop-item-init
+entries-loop-item-init t c =
+    let items = c.as_slice-item-items.result.now in (
+      (λ n x at. at, λ n x at. at),
+      subst (λ ss. AreSoFar c.args.numbers.now c.args.block.now ss items) (sym c.new-statements.ensures)
+          (so_far_none c.args.numbers.now c.args.block.now items c.as_slice-item-items.ensures),
+      start_entries (map (λ t. t.now) c.args.numbers.now.roots.items) c.args.block.now items c.as_slice-item-items.ensures,
+    )
 
 pub entries-loop-item-preserved : goal.entries-loop-item-preserved
 entries-loop-item-preserved t c =
@@ -25,6 +36,8 @@ entries-loop-item-preserved t c =
           (so_far_more c.loop-item.numbers c.entry.new.numbers c.args.block.now c.loop-item.statements c.in_ok-entry.field-0 c.item-item.result rest
           c.in_ok-entry.ensures.grows c.in_ok-entry.ensures.statement
           (subst (AreSoFar c.loop-item.numbers c.args.block.now c.loop-item.statements) next c.loop-item.invariant.1)),
+      grown_next entry_trees c.args.numbers.now c.loop-item.numbers c.entry.new.numbers c.item-item.result rest (block_trees c.args.block.now)
+          (drop c.loop-item.item-index items) next c.loop-item.invariant.2 c.in_ok-entry.ensures.order,
     )
 
 pub round-returns-clause-round : goal.round-returns-clause-round

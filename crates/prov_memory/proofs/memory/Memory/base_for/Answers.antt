@@ -8,7 +8,7 @@ use Rattle.prov_memory.proofs.StoreLemmas.{row_as, end_of_row, rows_inserted, in
 use Rattle.std.proofs.Common.{true, rules, ◌≤◌}
 use Rattle.addr_map.specs.Rows.{is_power}
 use Rattle.prov_memory.specs.contracts.memory.Memory.{the_view}
-use Rattle.prov_memory.proofs.BirthLemmas.{keeps_placed, base_high}
+use Rattle.prov_memory.proofs.BirthLemmas.{keeps_full, keeps_placed, base_high}
 use Rattle.prov_memory.proofs.memory.Memory.base_for.Goals as goal
 
 pub returns-then-row-align-clause-row : goal.returns-then-row-align-clause-row
@@ -24,6 +24,9 @@ returns-then-row-align-clause-end c =
       c.in-Some.ensures.end,
       c.if-row-size.true,
     )
+
+pub returns-then-row-align-clause-kept : goal.returns-then-row-align-clause-kept
+returns-then-row-align-clause-kept c = keeps_full c.args.self.now
 
 pub invariant_of-self-2 : goal.invariant_of-self-2
 invariant_of-self-2 c =

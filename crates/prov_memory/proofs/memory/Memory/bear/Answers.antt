@@ -1,4 +1,4 @@
-use Rattle.std.proofs.Common.{◌≡◌, ◌∙◌, ap, sym, subst, List, Some}
+use Rattle.std.proofs.Common.{◌≡◌, ◌∙◌, ◌^◌, ap, sym, subst, List, Some}
 use Rattle.addr_map.specs.Rows.{row_of, row_at}
 use Rattle.prov_memory.specs.Held.{Held}
 use Rattle.prov_memory.specs.Memory.{Kept, HaveRows}
@@ -8,6 +8,7 @@ use Rattle.prov_memory.proofs.PieceLemmas.{named_born}
 use Rattle.prov_memory.proofs.StoreLemmas.{rows_created}
 use Rattle.exposure.specs.declared.prov.Prov.{Prov}
 use Rattle.prov_memory.proofs.BirthLemmas.{failed_kept, failed_row, row_left}
+use Rattle.prov_memory.proofs.KeepLemmas.{keeps_none}
 use Rattle.prov_memory.proofs.memory.Memory.bear.Goals as goal
 
 pub invariant_of-self-2 : goal.invariant_of-self-2
@@ -30,26 +31,34 @@ add_last-requires-clause-last c = (c.self-2.inside.origins, c.args.name, c.in_ok
 
 pub returns-in_err-origin-clause-kept : goal.returns-in_err-origin-clause-kept
 returns-in_err-origin-clause-kept c =
-    failed_kept _ c.args.self.now c.base_for.new.self _
-    (ap (λ (ps : List Prov). record (the_view c.self-2.inside) { origins = ps }) c.in_err-origin.ensures.err ∙ c.self-2.view_is) c.base_for.ensures.kept
+    let full = ap (λ (m : Kept). record m { created = 2 ^ 62 }) c.self-2.view_is in
+    failed_kept _ c.args.self.now (record c.base_for.new.self { created = 2 ^ 62 }) _
+    (ap (λ (ps : List Prov). record (the_view c.self-2.inside) { origins = ps; created = 2 ^ 62 }) c.in_err-origin.ensures.err ∙ full) c.in_ok-base.ensures.kept
 
 pub returns-in_err-add_last-clause-kept : goal.returns-in_err-add_last-clause-kept
 returns-in_err-add_last-clause-kept c =
+    let full = ap (λ (m : Kept). record m { created = 2 ^ 62 }) c.self-2.view_is in
     let origins = c.in_err-add_last.ensures.taken c.self-2.inside.origins c.args.name c.in_ok-origin.ensures.ok in
-    failed_kept _ c.args.self.now c.base_for.new.self _
-    ((λ i. record (the_view c.self-2.inside) { objects = c.in_err-add_last.ensures.err i; origins = origins i }) ∙ c.self-2.view_is) c.base_for.ensures.kept
+    failed_kept _ c.args.self.now (record c.base_for.new.self { created = 2 ^ 62 }) _
+    ((λ i. record (the_view c.self-2.inside) { objects = c.in_err-add_last.ensures.err i; origins = origins i; created = 2 ^ 62 }) ∙ full) c.in_ok-base.ensures.kept
 
 pub returns-in_err-origin-clause-failed : goal.returns-in_err-origin-clause-failed
 returns-in_err-origin-clause-failed c =
-    failed_row _ c.args.self.now c.base_for.new.self _ c.args.name c.args.size c.args.align
-    (ap (λ (ps : List Prov). record (the_view c.self-2.inside) { origins = ps }) c.in_err-origin.ensures.err ∙ c.self-2.view_is)
+    let full = ap (λ (m : Kept). record m { created = 2 ^ 62 }) c.self-2.view_is in
+    failed_row _ c.args.self.now (record c.base_for.new.self { created = 2 ^ 62 }) _ c.args.name c.args.size c.args.align
+    (ap (λ (ps : List Prov). record (the_view c.self-2.inside) { origins = ps; created = 2 ^ 62 }) c.in_err-origin.ensures.err ∙ full)
     (row_left c.args.self.now c.base_for.new.self c.args.name c.in_ok-base.base c.args.size c.args.align c.base_for.ensures.rest c.in_ok-base.ensures.base
     c.in_ok-base.ensures.rows)
 
 pub returns-in_err-add_last-clause-failed : goal.returns-in_err-add_last-clause-failed
 returns-in_err-add_last-clause-failed c =
+    let full = ap (λ (m : Kept). record m { created = 2 ^ 62 }) c.self-2.view_is in
     let origins = c.in_err-add_last.ensures.taken c.self-2.inside.origins c.args.name c.in_ok-origin.ensures.ok in
-    failed_row _ c.args.self.now c.base_for.new.self _ c.args.name c.args.size c.args.align
-    ((λ i. record (the_view c.self-2.inside) { objects = c.in_err-add_last.ensures.err i; origins = origins i }) ∙ c.self-2.view_is)
+    failed_row _ c.args.self.now (record c.base_for.new.self { created = 2 ^ 62 }) _ c.args.name c.args.size c.args.align
+    ((λ i. record (the_view c.self-2.inside) { objects = c.in_err-add_last.ensures.err i; origins = origins i; created = 2 ^ 62 }) ∙ full)
     (row_left c.args.self.now c.base_for.new.self c.args.name c.in_ok-base.base c.args.size c.args.align c.base_for.ensures.rest c.in_ok-base.ensures.base
     c.in_ok-base.ensures.rows)
+
+pub returns-in_err-base-clause-kept : goal.returns-in_err-base-clause-kept
+returns-in_err-base-clause-kept c =
+    failed_kept _ c.args.self.now c.args.self.now c.base_for.new.self c.in_err-base.ensures.err (keeps_none c.args.self.now)

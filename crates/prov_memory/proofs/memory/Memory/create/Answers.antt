@@ -1,7 +1,8 @@
 use Rattle.prov_memory.proofs.ActLemmas.{created_all, created_known}
 use Rattle.std.proofs.Common.{option_map}
 use Rattle.prov_memory.proofs.SoundLemmas.{created_made, created_whole, created_sound}
-use Rattle.prov_memory.proofs.BirthLemmas.{keeps_created, made_either, sound_either}
+use Rattle.prov_memory.proofs.BirthLemmas.{keeps_created, rows_kept, made_either, sound_either}
+use Rattle.prov_memory.proofs.RoomLemmas.{place_found}
 use Rattle.prov_memory.proofs.memory.Memory.create.Goals as goal
 
 pub returns-clause-exact : goal.returns-clause-exact
@@ -29,10 +30,14 @@ pub returns-clause-sound : goal.returns-clause-sound
 returns-clause-sound c =
     sound_either c.bear.result c.args.self.now c.bear.new.self
     (created_sound c.bear.result c.args.self.now c.bear.new.self c.args.name c.args.size c.args.align c.args.kind
-    (option_map (λ shape. shape.value) c.args.declared) c.bear.ensures.born c.bear.ensures.named) c.bear.ensures.kept
+    (option_map (λ shape. shape.value) c.args.declared) c.bear.ensures.born c.bear.ensures.named
+    (rows_kept c.bear.result c.args.self.now c.bear.new.self c.args.name c.args.size c.args.align c.bear.ensures.rows)) c.bear.ensures.kept
 
 pub returns-clause-kept : goal.returns-clause-kept
 returns-clause-kept c =
     keeps_created c.bear.result c.args.self.now c.bear.new.self c.args.name c.args.size c.args.align c.args.kind
     (λ shape. shape.value) c.args.declared c.bear.ensures.born c.bear.ensures.named c.bear.ensures.base c.bear.ensures.rows c.bear.ensures.able
     c.bear.ensures.mode c.bear.ensures.kept
+
+pub returns-clause-room : goal.returns-clause-room
+returns-clause-room c = λ close can e. place_found c.args.self.now c.args.name c.args.size c.args.align close can (c.bear.ensures.unplaced e)

@@ -1,11 +1,13 @@
-use Rattle.std.proofs.Common.{refl, sym, ap, subst, ◌∙◌}
+use Rattle.std.proofs.Common.{refl, ap, ◌∙◌}
 use Rattle.c_typed.specs.declared.tree.Typed.{out-Typed}
-use Rattle.run_code.specs.EventActs.{head_at, seen, room_of, IsAct, AreGrown}
-use Rattle.run_code.proofs.Grown.{noted_due}
+use Rattle.run_code.specs.EventActs.{head_at, seen, room_of}
+use Rattle.run_code.proofs.Grown.{act_grown, grown_both, noted_due}
 use Rattle.run_code.proofs.draft.Draft.due.Goals as goal
 
 pub returns-clause-grown : goal.returns-clause-grown
-returns-clause-grown c = subst (AreGrown c.args.self.now.expressions.tables) (sym c.choice_at.ensures.tables) c.in_ok-act.ensures.grown
+returns-clause-grown c =
+    grown_both c.args.self.now.expressions.tables c.act.new.self.expressions.tables c.choice_at.new.self.expressions.tables c.in_ok-act.ensures.grown
+    c.in_ok-choice.ensures.grown
 
 pub returns-clause-due : goal.returns-clause-due
 returns-clause-due c = λ noted there.
@@ -16,5 +18,6 @@ returns-clause-due c = λ noted there.
     refl c.completes.ensures
     (λ n b. c.deref.ensures.value ∙ c.in_ok-operands.ensures firsts n b)
     (c.room-room.ensures ∙ ap (λ n. room_of h n c.args.number x.room) c.count_of_nodes.ensures)
-    (subst (λ t. IsAct firsts t x.initializer h (seen x.tree.now c.deref.result.now x.operand c.room-room.result) c.args.kind c.in_ok-act.act)
-    (sym c.choice_at.ensures.tables) c.in_ok-act.ensures.act)
+    (act_grown firsts c.act.new.self.expressions.tables c.choice_at.new.self.expressions.tables x.initializer h
+    (seen x.tree.now c.deref.result.now x.operand c.room-room.result) c.args.kind c.in_ok-act.act c.in_ok-choice.ensures.grown c.in_ok-act.ensures.act)
+    c.in_ok-choice.ensures.within

@@ -2,21 +2,24 @@ use Rattle.std.proofs.Common.{◌≡◌, [], None, sym, subst, ◌∙◌}
 use Rattle.run_code.specs.EventActs.{AreEntries}
 use Rattle.run_code.specs.Numbered.{AreAdded, AreNodes}
 use Rattle.run_code.proofs.Collected.{nodes_added}
+use Rattle.run_code.proofs.Grown.{entries_grown}
 use Rattle.run_code.proofs.draft.Draft.expression.Goals as goal
 
-pub add_expression-requires : goal.add_expression-requires
-add_expression-requires c =
+pub add_expression-requires-clause-laid_out : goal.add_expression-requires-clause-laid_out
+add_expression-requires-clause-laid_out c =
     let firsts = c.args.self.now.function.objects.first.items in
-    let tables = c.listing.new.self.expressions.tables in
+    let old = c.listing.new.self.expressions.tables in
+    let tables = c.chosen.new.self.expressions.tables in
     let root = c.args.root.now in
     let added : AreAdded firsts None root [] c.collect.new.nodes.items =
     subst (λ old. AreAdded firsts None root old c.collect.new.nodes.items) c.new-nodes.ensures.items c.in_ok-collect.ensures in
-    let same : c.deref-2.result.now ≡ c.deref-3.result.now = c.deref-2.ensures.value ∙ sym c.deref-3.ensures.value in
-    let laid : AreEntries firsts tables c.deref-2.result.now c.in_ok-entries.entries.items =
-    subst (λ fs. AreEntries fs tables c.deref-2.result.now c.in_ok-entries.entries.items) (c.in_ok-entries.ensures.objects ∙ c.chosen.ensures.objects)
-    c.in_ok-entries.ensures.due in (
+    let same : c.deref.result.now ≡ c.deref-3.result.now = c.deref.ensures.value ∙ sym c.deref-3.ensures.value in
+    let laid : AreEntries firsts old c.deref.result.now c.in_ok-entries.entries.items =
+    subst (λ fs. AreEntries fs old c.deref.result.now c.in_ok-entries.entries.items) c.in_ok-entries.ensures.objects c.in_ok-entries.ensures.due in
+    let grown : AreEntries firsts tables c.deref.result.now c.in_ok-entries.entries.items =
+    entries_grown firsts old tables c.deref.result.now c.in_ok-entries.entries.items c.in_ok-chosen.ensures.grown laid in (
       firsts,
       subst (AreNodes firsts root) (sym c.deref-3.ensures.value) (nodes_added firsts root c.collect.new.nodes.items added),
       subst (AreEntries firsts tables c.deref-3.result.now) (sym c.deref-4.ensures.value)
-          (subst (λ ns. AreEntries firsts tables ns c.in_ok-entries.entries.items) same laid),
+          (subst (λ ns. AreEntries firsts tables ns c.in_ok-entries.entries.items) same grown),
     )

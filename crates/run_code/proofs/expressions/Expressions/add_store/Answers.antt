@@ -1,30 +1,16 @@
-use Rattle.std.proofs.Common.{rules, ◌≡◌, ◌++◌, ◌∷◌, [], length, slice_get, ap, ◌∙◌}
-use Rattle.run_code.proofs.Collected.{slice_get-seam}
-use Rattle.std.specs.Prelude.{is_ok}
-use Rattle.run_code.proofs.Grown.{front_of, pushed_front, tables_grown}
+use Rattle.std.proofs.Common.{arith}
+use Rattle.run_code.proofs.Grown.{tables_grown}
+use Rattle.run_code.proofs.NamedLemmas.{named_grown, within_grown}
 use Rattle.run_code.proofs.expressions.Expressions.add_store.Goals as goal
 
-pub returns-clause-at : goal.returns-clause-at
-returns-clause-at c =
-    let at : c.in_ok-number.number ≡ length c.args.self.now.tables.stores.items = search rules in
-    ap (λ l. slice_get l c.in_ok-number.number) c.in_ok-push.ensures.items
-    ∙ ap (slice_get (c.args.self.now.tables.stores.items ++ c.args.store ∷ [])) at
-    ∙ slice_get-seam c.args.self.now.tables.stores.items c.args.store []
-
-pub returns-clause-grown : goal.returns-clause-grown
-returns-clause-grown c = record {
-  stores = front_of c.args.self.now.tables.stores.items c.push.new.self.items (c.args.store ∷ []) c.in_ok-push.ensures.items;
-  calls = λ n x h. h;
-  constants = λ n x h. h;
-}
-
 pub invariant_of-self : goal.invariant_of-self
-invariant_of-self c = record {
-  laid_out = tables_grown c.args.self.now.tables _ c.args.self.now.entries.items c.args.self.now.all.items
-      (record {
-        stores = pushed_front (is_ok c.push.result) c.args.self.now.tables.stores.items c.push.new.self.items c.args.store c.push.ensures.items;
-        calls = λ n x h. h;
-        constants = λ n x h. h;
-      })
-      c.args.self.now.laid_out;
-}
+invariant_of-self c =
+    let old = c.args.self.now.tables in
+    let new = c.add_store.new.self in
+    let entries = c.args.self.now.entries.items in
+    let all = c.args.self.now.all.items in
+    record {
+      laid_out = tables_grown old new entries all c.add_store.ensures.grown c.args.self.now.laid_out;
+      named = named_grown old new entries c.add_store.ensures.grown c.args.self.now.named;
+      within = within_grown old new entries entries all c.add_store.ensures.grown (omega arith) c.args.self.now.within;
+    }

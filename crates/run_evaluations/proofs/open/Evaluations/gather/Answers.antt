@@ -5,6 +5,7 @@ use Rattle.run_evaluations.proofs.LooseWholeLemmas.{right_same}
 use Rattle.evaluation_log.proofs.KeptLemmas.{sorted_alike}
 use Rattle.evaluation_log.specs.Kept.{AllBelow}
 use Rattle.evaluation_log.specs.declared.level.Level.{Level}
+use Rattle.run_evaluations.proofs.WayLemmas.{gathered_none, gathered_one}
 use Rattle.run_evaluations.proofs.open.Evaluations.gather.Goals as goal
 
 pub join-requires : goal.join-requires
@@ -30,3 +31,20 @@ returns-clause-loose c = λ w r.
     (sorted_alike a.segments.items t.segments.items a.events.items t.events.items 0 same.alike same.events w.kept.sorted)
     (subst (λ (ls : List Level). AllBelow ls c.operands-at.result) (sym same.levels) (c.operands-at.ensures.below w))
     (right_same a t same r)
+
+pub returns-then-at-len-clause-made : goal.returns-then-at-len-clause-made
+returns-then-at-len-clause-made c =
+    let o = c.operands-at.ensures in
+    let n = c.len.ensures ∙ c.args.self.now.segments.ok.0 in
+    (c.operands-at.result, gathered_none c.args.self.now c.args.node c.operands-at.result (omega (arith, n, c.if-at-len.true)) o.low o.behind o.least)
+
+pub returns-clause-made : goal.returns-clause-made
+returns-clause-made c =
+    let o = c.operands-at.ensures in
+    let t = c.take_only-foot.ensures in
+    let j = c.join.ensures in
+    let n = c.len.ensures ∙ c.args.self.now.segments.ok.0 in (
+      c.operands-at.result,
+      gathered_one c.args.self.now c.take_only-foot.new.self c.join.new.self c.args.node c.operands-at.result
+          (omega (arith, n, c.if-at-len.false)) o.low o.behind o.least t.same.alike t.nodes j.joined.count j.joined.begins j.own j.others,
+    )

@@ -20,4 +20,13 @@ returns-else-at-base-clause-below c = λ w d b h.
     omega (arith, r, e, c.if-at-base.false)
 
 pub returns-else-at-base-clause-least : goal.returns-else-at-base-clause-least
-returns-else-at-base-clause-least c = λ g of. let e = c.base-base.ensures in c.first_above-at.ensures g (omega (arith, of.0, e)) of.1
+returns-else-at-base-clause-least c = λ g of. let e = c.base-base.ensures in c.first_above-at.ensures.least g (omega (arith, of.0, e)) of.1
+
+pub returns-then-at-base-clause-low : goal.returns-then-at-base-clause-low
+returns-then-at-base-clause-low c = let e = c.base-base.ensures in omega (arith, e)
+
+pub returns-else-at-base-clause-low : goal.returns-else-at-base-clause-low
+returns-else-at-base-clause-low c = let e = c.base-base.ensures in omega (arith, e, c.if-at-base.false)
+
+pub returns-then-at-base-clause-behind : goal.returns-then-at-base-clause-behind
+returns-then-at-base-clause-behind c = λ k s le at. c.first_above-at.ensures.behind k s (omega (arith, le, c.if-at-base.true)) at

@@ -5,5 +5,5 @@ use Rattle.run_machine.proofs.machine.Machine.passed.Goals as goal
 
 pub returns : goal.returns
 returns c =
-    passed_as c.args.self.now c.args.stage c.in_ok-begun.begun.now c.in_ok-first.field-0.now c.part.result.now c.passed.result c.in_ok-first.ensures
-    c.in_ok-begun.ensures (c.part.ensures ∙ ap (λ es. part_of es c.in_ok-first.field-0.now.first c.args.stage.cursor) c.deref.ensures.value) c.passed.ensures
+    passed_as c.args.self.now c.args.stage c.in_ok-begun.begun.now c.part.result.now c.passed.result c.in_ok-begun.ensures
+    (c.part.ensures ∙ ap (λ es. part_of es c.args.stage.first c.args.stage.cursor) c.deref.ensures.value) c.passed.ensures

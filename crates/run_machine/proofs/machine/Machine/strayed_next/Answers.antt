@@ -5,8 +5,8 @@ use Rattle.seq_order.specs.Marked.{taken_in}
 use Rattle.run_machine.proofs.Picked.{kept_as}
 use Rattle.run_machine.proofs.machine.Machine.strayed_next.Goals as goal
 
-pub returns-in_ok-due_of-in-Some : goal.returns-in_ok-due_of-in-Some
-returns-in_ok-due_of-in-Some c = λ fits.
+pub returns-in_ok-due_of-in-Some-clause-next : goal.returns-in_ok-due_of-in-Some-clause-next
+returns-in_ok-due_of-in-Some-clause-next c = λ fits.
     let b = c.in_ok-begun.begun.now in (
       b,
       c.in_ok-begun.ensures,
@@ -14,8 +14,8 @@ returns-in_ok-due_of-in-Some c = λ fits.
           ∙ ap (canonical (tree_of b.root.now) (taken_in b.taken)) (kept_as c.args.self.now c.in_ok-strayed.field-0.now c.in_ok-strayed.ensures),
     )
 
-pub returns-in-None : goal.returns-in-None
-returns-in-None c = λ fits.
+pub returns-in-None-clause-next : goal.returns-in-None-clause-next
+returns-in-None-clause-next c = λ fits.
     let b = c.in_ok-begun.begun.now in (
       b,
       c.in_ok-begun.ensures,

@@ -1,0 +1,6 @@
+use Rattle.std.proofs.Common.{◌≤◌, length}
+use Rattle.run_code.proofs.draft.Draft.objects_of.Given as goal
+
+-- objects are only added
+abbrev pub invariant-loop-qual : goal.invariant-loop-qual
+invariant-loop-qual l = l.first ≤ length l.self.expressions.tables.objects.items

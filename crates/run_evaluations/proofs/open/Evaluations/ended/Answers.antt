@@ -1,0 +1,21 @@
+use Rattle.std.proofs.Common.{◌≡◌, ◌∙◌, sym, ap, subst, ℕ, List, Some, None}
+use Rattle.std.proofs.lemmas.Option.{same_Some}
+use Rattle.c_typed.specs.Tree.{tree_of}
+use Rattle.evaluation_log.specs.Ways.{above_in, IsRising}
+use Rattle.run_evaluations.specs.Ways.{NoneOnWay, NoneAtEnd}
+use Rattle.evaluation_log.proofs.LooseLemmas.{first_none, none_at, if_none_by}
+use Rattle.evaluation_log.proofs.WayLemmas.{in_rising}
+use Rattle.run_evaluations.proofs.open.Evaluations.ended.Goals as goal
+
+pub returns-in_default-clause-none : goal.returns-in_default-clause-none
+returns-in_default-clause-none c = λ w room last at. absurd (let e : None ≡ Some last.node = c.in_default.ensures last at in cc)
+
+pub returns-clause-none : goal.returns-clause-none
+returns-clause-none c = λ w room.
+    if_none_by c.first_of.result (NoneAtEnd c.args.map.now c.args.rules.now (tree_of c.args.root.now) c.args.self.now) (λ e last at.
+    let r = first_none _ c.in_ok-beside.beside c.in_ok-open.open (sym c.first_of.ensures.first ∙ e) in
+    let tree = tree_of c.args.root.now in
+    let t : c.in-Some.target ≡ last.node = same_Some _ _ (c.in-Some.ensures last at) in
+    let way = c.in_ok-way.ensures room in
+    subst (λ (xs : List ℕ). NoneOnWay c.args.map.now c.args.rules.now xs c.args.self.now) (way ∙ ap (λ n. above_in 0 tree n) t)
+    (none_at _ c.in_ok-open.open r.1 (c.in_ok-open.ensures.none w (subst IsRising (sym way) (in_rising 0 tree c.in-Some.target)))))

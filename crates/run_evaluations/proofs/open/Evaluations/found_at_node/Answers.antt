@@ -1,0 +1,8 @@
+use Rattle.std.proofs.Common.{sym, ◌∙◌}
+use Rattle.evaluation_log.proofs.LooseLemmas.{first_none, none_at}
+use Rattle.run_evaluations.proofs.open.Evaluations.found_at_node.Goals as goal
+
+pub returns-clause-none : goal.returns-clause-none
+returns-clause-none c = λ w e.
+    let r = first_none _ c.args.best c.in_ok-found.found (sym c.first_of.ensures.first ∙ e) in
+    (r.0, λ free. none_at _ c.in_ok-found.found r.1 (c.in_ok-found.ensures.none w free))

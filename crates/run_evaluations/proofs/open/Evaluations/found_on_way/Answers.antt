@@ -1,0 +1,46 @@
+use Rattle.std.proofs.Common.{length, ◌≡◌, ◌∙◌, ◌-◌, suc, ap, arith}
+use Rattle.evaluation_log.specs.Kept.{is_unsequenced}
+use Rattle.evaluation_log.proofs.LooseLemmas.{if_none_by}
+use Rattle.run_evaluations.proofs.WayLemmas.{shape_self, shape_next, shape_before, none_before, none_so_far, none_here, all_so_far, indexed}
+use Rattle.run_evaluations.proofs.open.Evaluations.found_on_way.Goals as goal
+
+pub loop-i-init : goal.loop-i-init
+loop-i-init c = record {
+  conflict = tt;
+  kept = λ w. w;
+  loose = λ w r. r;
+  shape = λ rising. (length c.args.self.now.segments.items, shape_self c.args.self.now c.args.way.now.above.items c.len-i.result);
+  none = λ w rising e. none_so_far c.args.under.map.now c.args.rules.now c.args.way.now.above.items c.args.self.now c.len-i.result
+      (let n = c.len-i.ensures ∙ c.args.way.now.above.ok.0 in omega (arith, n));
+}
+
+pub loop-i-preserved : goal.loop-i-preserved
+loop-i-preserved c =
+    let a = c.args.self.now in
+    let b = c.loop-i.self in
+    let above = c.args.way.now.above.items in
+    let p = c.loop-i.i - 1 in
+    let e : c.loop-i.i ≡ suc p = omega (arith, c.loop-i-test.true) in
+    let here = indexed above p c.index-node.result.now
+    (let a = c.loop-i.auto.i in let n = c.len-i.ensures ∙ c.args.way.now.above.ok.0 in omega (arith, a, n, c.loop-i-test.true)) c.index-node.ensures in
+    record {
+      conflict = c.in_ok-best.ensures.conflict;
+      kept = λ w. c.found_at_node.ensures.kept (c.loop-i.invariant.kept w);
+      loose = λ w r. c.found_at_node.ensures.loose (c.loop-i.invariant.kept w) (c.loop-i.invariant.loose w r);
+      shape = λ rising.
+          let s = c.loop-i.invariant.shape rising in
+          let m = c.in_ok-best.ensures.made in
+          shape_next a b above p s.0 c.index-node.result.now (shape_before a b above c.loop-i.i p s.0 e s.1) rising here c.found_at_node.new.self m.0
+          c.found_at_node.ensures.rest m.1;
+      none = λ w rising none.
+          let s = c.loop-i.invariant.shape rising in
+          let f = c.in_ok-best.ensures.none (c.loop-i.invariant.kept w) none in
+          none_here a b above p s.0 c.index-node.result.now (shape_before a b above c.loop-i.i p s.0 e s.1) rising here c.args.under.map.now w.kept.sorted
+          c.args.rules.now (λ free. f.1 (ap is_unsequenced c.get.ensures ∙ free))
+          (none_before c.args.under.map.now c.args.rules.now above a c.loop-i.i p e (c.loop-i.invariant.none w rising f.0));
+    }
+
+pub returns-clause-none : goal.returns-clause-none
+returns-clause-none c = λ w rising.
+    if_none_by c.loop-i.best _ (λ e. all_so_far c.args.under.map.now c.args.rules.now c.args.way.now.above.items c.args.self.now c.loop-i.i
+    (omega (arith, c.loop-i-test.false)) (c.loop-i.invariant.none w rising e))

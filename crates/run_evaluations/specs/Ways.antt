@@ -1,0 +1,39 @@
+-- The operands of the nodes along a way (own).
+use Rattle.std.specs.Prelude.{◌≡◌, ◌<◌, ◌≤◌, ◌-◌, ℕ, suc, true, List, Some, slice_get, length}
+use Rattle.addr_map.specs.declared.map.Row.{Row}
+use Rattle.c_typed.specs.Tree.{Tree}
+use Rattle.evaluation_log.specs.declared.log.Logged.{Logged}
+use Rattle.evaluation_log.specs.declared.log.Segment.{Segment}
+use Rattle.evaluation_log.specs.declared.rules.Rules.{Rules}
+use Rattle.evaluation_log.specs.declared.sought.Sought.TheVariants.{Any}
+use Rattle.evaluation_log.specs.Clashes.{NoClash, operand_has}
+use Rattle.evaluation_log.specs.Kept.{IsOperand, base_of, marks, is_unsequenced}
+use Rattle.evaluation_log.specs.Ways.{above_in, rule_in, node_of}
+use Rattle.run_evaluations.specs.declared.open.Evaluations.{Evaluations}
+
+-- the segment is of an operand of this node on the way, and of none further down on it
+abbrev pub IsNearest : Evaluations → List ℕ → (j n g : ℕ) → Type 0
+IsNearest o above j n g = (slice_get above j ≡ Some n) × IsOperand o.segments.items o.levels.items n g ×
+    ((k m : ℕ) → j < k → slice_get above k ≡ Some m → IsOperand o.segments.items o.levels.items m g → ⊥)
+
+-- no operand of a node on the way clashes with a later one, where no rule of the node sequences them; of operands further down that node is asked
+abbrev pub NoneOnWay : List Row → Rules → List ℕ → Evaluations → Type 0
+NoneOnWay rows rules above o = (j n g h : ℕ) → IsNearest o above j n g → is_unsequenced (rule_in rules n) ≡ true → g < h →
+    NoClash Any rows (operand_has Any o.segments.items o.events.items o.items.items g) (operand_has Any o.segments.items o.events.items o.items.items h)
+
+-- on the way to the node of the last event
+abbrev pub NoneAtEnd : List Row → Rules → Tree → Evaluations → Type 0
+NoneAtEnd rows rules tree o = (last : Logged) → slice_get o.events.items (length o.events.items - 1) ≡ Some last →
+    NoneOnWay rows rules (above_in 0 tree last.node) o
+
+-- the segments of a node's operands, which begin at this one, are made one of its own
+pub record IsGathered (old new : Evaluations) (n at : ℕ) : Type 0 where
+  pub low : base_of old.levels.items ≤ at
+  pub behind : (k : ℕ) (s : Segment) → at ≤ k → slice_get old.segments.items k ≡ Some s → n < s.node
+  pub least : (g : ℕ) → IsOperand old.segments.items old.levels.items n g → at ≤ g
+  pub same : length old.segments.items ≤ at → new.segments.items ≡ old.segments.items
+  pub count : at < length old.segments.items → length new.segments.items ≡ suc at
+  pub others : at < length old.segments.items → (g : ℕ) → g < at → (marks (slice_get new.segments.items g) ≡ marks (slice_get old.segments.items g)) ×
+      (node_of (slice_get new.segments.items g) ≡ node_of (slice_get old.segments.items g))
+  pub begins : at < length old.segments.items → marks (slice_get new.segments.items at) ≡ marks (slice_get old.segments.items at)
+  pub own : at < length old.segments.items → node_of (slice_get new.segments.items at) ≡ Some n
