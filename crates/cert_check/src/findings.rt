@@ -2,7 +2,7 @@
 ghost use Rattle.std.specs.Prelude.{OnOk};
 
 use c_typed::Typed;
-use footprint_run::{Detector, Go, Seen};
+use footprint_run::{Detector, Seen};
 use run_machine::{Completed, Pick, View};
 use std::alloc::Global;
 use ub_base::{Event, Item, NoMemory};
@@ -12,7 +12,7 @@ pub struct Findings<'p> {
     // The program's full expressions.
     roots: &'p [&'p Typed],
     detector: Detector,
-    seen: Option<Seen>,
+    found: bool,
 }
 
 impl<'p> Findings<'p> {
@@ -20,52 +20,48 @@ impl<'p> Findings<'p> {
         Ok(Findings {
             roots,
             detector: Detector::new(alloc)?,
-            seen: None,
+            found: false,
         })
     }
 
     pub fn found(&self) -> bool {
-        self.seen.is_some()
+        self.found
     }
 
     // After the first finding nothing more is looked at.
     pub fn tell(&mut self, view: &View, pick: Pick, items: &[Item]) -> Result<(), NoMemory> {
-        if self.found() {
+        if self.found {
             return Ok(());
         }
-        match pick {
-            Pick::Step(_) => self.pick(view, None, items)?,
-            Pick::Starts(event) => self.pick(view, Some(event), items)?,
-            Pick::Event(event, completed, _) => {
-                if self.pick(view, Some(event), items)? == Go::Stop {
-                    return Ok(());
-                }
-                self.completed(view, event, completed)?
-            }
+        let seen = match pick {
+            Pick::Step(_) => self.detector.pick(self.roots, view, None, items)?,
+            Pick::Starts(event) => self.detector.pick(self.roots, view, Some(event), items)?,
+            Pick::Event(event, completed, _) => self.event(view, event, completed, items)?,
         };
+        self.found = seen.is_some();
         Ok(())
     }
 
-    fn pick(&mut self, view: &View, event: Option<Event>, items: &[Item]) -> Result<Go, NoMemory> {
-        self.detector
-            .pick(self.roots, view, event, items, &mut self.seen)
-    }
-
-    fn completed(
+    fn event(
         &mut self,
         view: &View,
         event: Event,
         completed: Completed,
-    ) -> Result<Go, NoMemory> {
-        let seen = &mut self.seen;
+        items: &[Item],
+    ) -> Result<Option<Seen>, NoMemory> {
+        let seen = self.detector.pick(self.roots, view, Some(event), items)?;
+        if seen.is_some() {
+            return Ok(seen);
+        }
         match completed {
-            Completed::Nothing => Ok(Go::On),
-            Completed::Node => self.detector.node_done(self.roots, view, event.node, seen),
+            Completed::Nothing => Ok(None),
+            Completed::Node => self.detector.node_done(self.roots, view, event.node),
             Completed::Operands(above) => {
-                match self.detector.node_done(self.roots, view, event.node, seen)? {
-                    Go::Stop => Ok(Go::Stop),
-                    Go::On => self.detector.operands_done(self.roots, view, above, seen),
+                let seen = self.detector.node_done(self.roots, view, event.node)?;
+                if seen.is_some() {
+                    return Ok(seen);
                 }
+                self.detector.operands_done(self.roots, view, above)
             }
         }
     }

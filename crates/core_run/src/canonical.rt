@@ -4,7 +4,6 @@ ghost use Rattle.core_run.specs.Calls.{GoesOn, FollowsPick, Tells, completions, 
 ghost use Rattle.core_run.specs.Ends.{picks_of, told_of, IsOutOfSteps};
 ghost use Rattle.core_run.specs.Steps.{told_by, told_at_end, taken_by, EndsAfter, EndsRun, AnswersNext, IsUnstopped, GoesUnstopped, Grows};
 ghost use Rattle.core_run.specs.Told.{more};
-ghost use Rattle.run_machine.specs.declared.pick.Pick.TheVariants.{Starts};
 
 use crate::watch::{Go, Ran, RunState, Watch};
 use addr_map::{AddrMap, Mode};
@@ -102,18 +101,9 @@ fn start_frame(machine: &mut Machine, frames: &mut Frames, told: Pick) -> Result
     ensures items { machine.new.items ≡ machine.old.items }
     ensures rows { OnOk result (Grows told frames.old frames.new) }
 {
-    match told {
-        Pick::Starts(event) => number_frame(machine, frames, event),
-        _ => Ok(()),
-    }
-}
-
-// The frame that this event starts gets its number. It isn't inlined, as most picks start none.
-#[inline(never)]
-fn number_frame(machine: &mut Machine, frames: &mut Frames, event: Event) -> Result<(), NoMemory>
-    ensures items { machine.new.items ≡ machine.old.items }
-    ensures rows { OnOk result (Grows (Starts event) frames.old frames.new) }
-{
+    let Pick::Starts(event) = told else {
+        return Ok(());
+    };
     let count = frames.len();
     if count == u32::MAX || event.frame.0 > count {
         return Err(NoMemory);
@@ -209,7 +199,6 @@ fn advance<W: Watch>(
 }
 
 // The end of a run whose next pick isn't taken.
-#[inline(never)]
 fn ended_by(halt: Halt, picks: u64) -> Result<Ran, NoMemory>
     requires { picks < 2 ^ 32 }
     ensures end { IfOk result (λ ran. EndsRun ran picks) }
