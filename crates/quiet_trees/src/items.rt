@@ -1,5 +1,5 @@
 // Items that are recorded in quiet expressions too.
-ghost use Rattle.std.specs.Prelude.{◌≡◌, ◌×◌, ℕ, false, slice_get, Some, true};
+ghost use Rattle.std.specs.Prelude.{◌≡◌, ℕ, false, slice_get, Some, true};
 ghost use Rattle.ub_base.specs.declared.names.Item.{Item};
 ghost use Rattle.quiet_trees.specs.Items.{is_noted};
 
