@@ -35,7 +35,7 @@ pub fn control_step(machine: &mut Machine) -> Result<Pick, Halt>
     }
 }
 
-fn take_step<'p, 'c>(machine: &mut Machine<'p, 'c>, step: Step<'c>) -> Result<Pick, Halt>
+fn take_step<'c>(machine: &mut Machine<'_, 'c>, step: Step<'c>) -> Result<Pick, Halt>
     ensures { OnOk result ((m : Meaning) → StepLeaves m machine.old.jumps.links.items step.entry machine.old.work machine.new.work) }
 {
     match step {
@@ -85,8 +85,8 @@ fn go_to(machine: &mut Machine, label: u32) -> Result<Pick, Halt>
 }
 
 // The block of this number in the function, with its objects.
-fn block_of<'p, 'c>(
-    machine: &Machine<'p, 'c>,
+fn block_of<'c>(
+    machine: &Machine<'_, 'c>,
     number: u32,
 ) -> Result<(BlockCode, &'c [ObjectCode]), NoMemory> {
     let code = machine.code;
@@ -211,7 +211,7 @@ fn declare(machine: &mut Machine, object: u32) -> Result<Pick, Halt>
 }
 
 // A full expression begins, whose value has this use.
-fn begin<'p, 'c>(machine: &mut Machine<'p, 'c>, number: u32, how: Use<'c>) -> Result<Pick, Halt>
+fn begin<'c>(machine: &mut Machine<'_, 'c>, number: u32, how: Use<'c>) -> Result<Pick, Halt>
     ensures { machine.new.work ≡ machine.old.work }
 {
     let code = machine.code;
@@ -237,8 +237,8 @@ fn begin<'p, 'c>(machine: &mut Machine<'p, 'c>, number: u32, how: Use<'c>) -> Re
 }
 
 // It takes the place of the one that was settled before it at this height.
-fn show_begun<'p, 'c>(
-    machine: &mut Machine<'p, 'c>,
+fn show_begun<'p>(
+    machine: &mut Machine<'p, '_>,
     number: u32,
     root: &'p Typed,
 ) -> Result<(), NoMemory>
@@ -297,8 +297,8 @@ fn settle(machine: &mut Machine, stage: Stage) -> Result<Pick, Halt> {
     go_on(machine)
 }
 
-fn use_value<'p, 'c>(
-    machine: &mut Machine<'p, 'c>,
+fn use_value<'c>(
+    machine: &mut Machine<'_, 'c>,
     how: Use<'c>,
     operand: Operand,
 ) -> Result<(), NoMemory>

@@ -60,47 +60,30 @@ fn call_library(
     event: Event,
 ) -> Result<Outcome, Fault> {
     let arguments = arguments_of(machine, call)?;
-    let answer = match library {
-        LibFunc::Printf => libc_print::format(
-            machine.alloc,
-            &arguments,
-            call.types.as_slice(),
-            &mut machine.memory,
-            &mut machine.streams,
-            &mut machine.items,
-        ),
-        LibFunc::Fprintf => libc_print::format_to(
-            machine.alloc,
-            &arguments,
-            call.types.as_slice(),
-            &mut machine.memory,
-            &mut machine.streams,
-            &mut machine.items,
-        ),
-        LibFunc::Sprintf => libc_print::format_into(
-            machine.alloc,
-            &arguments,
-            call.types.as_slice(),
-            &mut machine.memory,
-            &mut machine.items,
-        ),
-        LibFunc::Snprintf => libc_print::format_within(
-            machine.alloc,
-            &arguments,
-            call.types.as_slice(),
-            &mut machine.memory,
-            &mut machine.items,
-        ),
-        _ => libc_model::call(
-            machine.alloc,
-            library,
-            &arguments,
-            event,
-            &mut machine.memory,
-            &mut machine.streams,
-            &mut machine.items,
-        ),
-    };
+    outcome_of(answer_of(machine, library, call, &arguments, event))
+}
+
+fn answer_of(
+    machine: &mut Machine,
+    library: LibFunc,
+    call: &CallCode,
+    arguments: &Values,
+    event: Event,
+) -> LibAnswer {
+    let alloc = machine.alloc;
+    let types = call.types.as_slice();
+    let t = &mut machine.items;
+    let (memory, streams) = (&mut machine.memory, &mut machine.streams);
+    match library {
+        LibFunc::Printf => libc_print::format(alloc, arguments, types, memory, streams, t),
+        LibFunc::Fprintf => libc_print::format_to(alloc, arguments, types, memory, streams, t),
+        LibFunc::Sprintf => libc_print::format_into(alloc, arguments, types, memory, t),
+        LibFunc::Snprintf => libc_print::format_within(alloc, arguments, types, memory, t),
+        _ => libc_model::call(alloc, library, arguments, event, memory, streams, t),
+    }
+}
+
+fn outcome_of(answer: LibAnswer) -> Result<Outcome, Fault> {
     match answer {
         LibAnswer::Value(value) => Ok(Outcome::Value(value)),
         LibAnswer::End(status) => Ok(Outcome::End(status)),
