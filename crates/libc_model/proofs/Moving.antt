@@ -159,6 +159,12 @@ moved_noted target source r u is one js i e even read first second =
     ∙ ap (λ (b : Bool). is ++ (cond b [] (Read u.object u.from u.len ∷ []) ++ write_items (Some r))) (sym (ap (λ (n : ℕ). n == 0) (sym same) ∙ k.0))
     ∙ ap₂ (λ (o p : Option Range). is ++ moved_items o p) (sym k.1) (sym k.2)
 
+-- as many bytes as come from the one range go to the other
+pub moved_even : (target source : Option Range) (r u : Range) (n : ℕ) → Some (r, u) ≡ moving target source → AreEven target source → n ≡ u.len → n ≡ r.len
+moved_even target source r u n e even is =
+    let k = moving_is target source r u e in
+    is ∙ sym (subst (λ (o : Option Range). AreEven o (Some u)) k.1 (subst (λ (o : Option Range). AreEven target o) k.2 even))
+
 -- a load of a place gives no other fault than want of memory
 pub copied_fault : (m : Kept) (a : ℕ) (r : Range) (f : MemFault) (c : Clause) → IsPlace m a r → f ≡ faults.Raise c →
     IfRaise f (λ c. (io : Io) → run m.rows (acts.load_block m.rows r.len 1 a (Whole r.object)) (store_of m io) ≡ Raised c) → ⊥

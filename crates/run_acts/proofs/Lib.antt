@@ -16,3 +16,6 @@ pub mod Arguments
 pub mod Statics
 pub mod Vectors
 pub mod Begins
+pub mod Outcomes
+pub mod Ready
+pub mod NoPlace

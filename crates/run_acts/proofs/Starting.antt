@@ -1,12 +1,13 @@
 -- Objects that stand before a run.
-use Rattle.std.proofs.Common.{◌≡◌, ℕ, zero, suc, ◌+◌, ◌<◌, ◌^◌, List, [], ◌∷◌, ◌++◌, length, get_or, Option, refl, ap, sym, subst, ◌∙◌, arith}
+use Rattle.std.proofs.Common.{◌≡◌, ℕ, zero, suc, ◌+◌, ◌<◌, ◌≤◌, ◌^◌, List, [], ◌∷◌, ◌++◌, length, get_or, Option, Some, None, refl, ap, sym, subst, ◌∙◌, arith}
 use Rattle.std.specs.Prelude.{Result, Ok, Err, IfOk, OnOk, slice_get, ℤ}
 use Rattle.std.specs.List.{All}
 use Rattle.std.proofs.lemmas.List.{length-append}
 use Rattle.std.proofs.lemmas.List.Elements.{All-head, All-tail}
 use Rattle.ub_base.specs.declared.names.ObjName.{ObjName}
 use Rattle.ub_base.specs.declared.names.ObjName.TheVariants.{Static, Lit}
-use Rattle.addr_map.specs.Rows.{row_at}
+use Rattle.addr_map.specs.declared.map.Row.{Row}
+use Rattle.addr_map.specs.Rows.{row_at, row_of}
 use Rattle.exposure.specs.declared.prov.Prov.TheVariants.{Whole}
 use Rattle.c_types.specs.declared.shape.Shape.{Shape}
 use Rattle.c_typed.specs.Lawful.{There, IsLawful, ContentIsLawful}
@@ -37,11 +38,11 @@ use Rattle.run_acts.specs.declared.storage.Filling.{Filling}
 use Rattle.run_acts.specs.Kept.{IsOf, AreOf}
 use Rattle.run_acts.specs.Views.{value_in, pointer_at}
 use Rattle.run_acts.proofs.Keeping.{int_of, seen_pointer}
-use Rattle.run_acts.specs.Starting.{AllStand, AreAll, ArePlaced, LawfulCanHold, AreMadeAll, AddsArgument}
+use Rattle.run_acts.specs.Starting.{AllStand, AreAll, ArePlaced, LawfulCanHold, AreMadeAll, AddsArgument, EndsLow}
 
 -- ---- what stands stands on
 pub stands_still : (old new : Kept) (x : ObjName) (base : ℕ) → Keeps old new → Stands old x base → Stands new x base
-stands_still old new x base keeps s = record { row = s.row; named = keeps.rows x s.row s.named; at = s.at; made = keeps.made (Whole x) s.made }
+stands_still old new x base keeps s = record { row = s.row; named = keeps.rows x s.row s.named; at = s.at; ends = s.ends; made = keeps.made (Whole x) s.made }
 
 pub all_still : (old new : Kept) (name : ℕ → ObjName) (k : ℕ) (xs : List ℕ) → Keeps old new → AllStand old name k xs → AllStand new name k xs
 all_still old new name k [] keeps all = tt
@@ -58,9 +59,21 @@ placed_still old new p places keeps placed = record {
 
 -- ---- one after the other
 pub created_stands : {E : Type 0} (r : Result ℕ E) (old new : Kept) (x : ObjName) (size align : ℕ) (kind : ObjKind) (declared : Option Shape) →
-    IfOk r (λ base. IsBorn old new x base size align kind declared) → OnOk r (IsMade new (Whole x)) → IfOk r (λ a. Stands new x a)
-created_stands (Ok a) old new x size align kind declared born made = record { row = row_at x a size align; named = born.row; at = refl; made = made }
-created_stands (Err e) old new x size align kind declared born made = tt
+    IfOk r (λ base. IsBorn old new x base size align kind declared) → IfOk r (λ base. base + size ≤ 2 ^ 47) → OnOk r (IsMade new (Whole x)) →
+    IfOk r (λ a. Stands new x a)
+created_stands (Ok a) old new x size align kind declared born ends made =
+    record { row = row_at x a size align; named = born.row; at = refl; ends = ends; made = made }
+created_stands (Err e) old new x size align kind declared born ends made = tt
+
+pub row_ends : (o : Option Row) (s r : Row) → o ≡ Some s → s.base + s.size ≤ 2 ^ 47 → o ≡ Some r → r.base + r.size ≤ 2 ^ 47
+row_ends None s r e ends is = absurd (cc)
+row_ends (Some q) s r e ends is =
+    let first : q ≡ s = cc in
+    let second : q ≡ r = cc in
+    subst (λ (p : Row). p.base + p.size ≤ 2 ^ 47) (sym first ∙ second) ends
+
+pub stands_low : (m : Kept) (x : ObjName) (base : ℕ) → Stands m x base → EndsLow m x
+stands_low m x base s r is = row_ends (row_of m.rows x) s.row r s.named s.ends is
 
 all_more : (m : Kept) (name : ℕ → ObjName) (k n : ℕ) (xs : List ℕ) (a : ℕ) → n ≡ k + length xs → AllStand m name k xs → Stands m (name n) a →
     AllStand m name k (xs ++ a ∷ [])

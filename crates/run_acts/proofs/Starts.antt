@@ -1,7 +1,7 @@
 -- The memories that creations and initializations lead to, under all rows that stay.
-use Rattle.std.proofs.Common.{◌≡◌, ℕ, ◌+◌, ◌*◌, ◌-◌, ◌/◌, ◌%◌, ◌<◌, ◌^◌, min, Bool, true}
-use Rattle.std.proofs.Common.{false, cond, refl, sym, ap, ◌∙◌, subst, arith, List, length, map, Option, Some}
-use Rattle.std.specs.Prelude.{Result, Ok, Err, IfOk, OnOk, replicate, nat_lt}
+use Rattle.std.proofs.Common.{◌≡◌, ℕ, ◌+◌, ◌*◌, ◌-◌, ◌/◌, ◌%◌, ◌<◌, ◌≤◌, ◌^◌, min, Bool, true}
+use Rattle.std.proofs.Common.{false, cond, refl, sym, ap, ◌∙◌, subst, arith, List, [], length, map, Option, Some, None}
+use Rattle.std.specs.Prelude.{Result, Ok, Err, IfOk, OnOk, replicate}
 use Rattle.std.proofs.lemmas.Bool.Decides.{nat_tests}
 use Rattle.ub_base.specs.declared.names.Item.{Item}
 use Rattle.ub_base.specs.declared.names.ObjName.{ObjName}
@@ -16,15 +16,15 @@ use Rattle.c_types.specs.declared.kind.IntKind.TheVariants.{Char}
 use Rattle.mem_spec.specs.declared.kind.ObjKind.{ObjKind}
 use Rattle.mem_spec.specs.Store.{Store, TaggedByte}
 use Rattle.mem_spec.specs.Script.{Script, Act, Done, Bear, Give, Misplace, run, touch, ◌>>◌}
-use Rattle.mem_spec.specs.Acts.{store, bytes, create, has_place, base_in}
+use Rattle.mem_spec.specs.Acts.{store, bytes, create, has_place, base_in, in_row}
 use Rattle.mem_spec.specs.Bytes.{number_bytes}
-use Rattle.mem_spec.specs.Streams.{Io}
+use Rattle.mem_spec.specs.Streams.{Io, silent}
 use Rattle.prov_memory.specs.declared.cell.Cell.{Cell}
 use Rattle.prov_memory.specs.Cells.{plain_cell}
 use Rattle.prov_memory.specs.Keeps.{RowsStay}
 use Rattle.prov_memory.specs.Memory.{Kept, HasCell, AreKnown, IsBorn, store_of}
 use Rattle.prov_memory.specs.Pieces.{seen}
-use Rattle.run_acts.specs.Starting.{Puts, Creates}
+use Rattle.run_acts.specs.Starting.{Puts, Creates, EndsLow}
 use Rattle.run_acts.proofs.Clears.{Stored, stored, does_store, stored_still, stored_both, zeros_length, zeros_both}
 use Rattle.c_model.specs.Nodes.{plain_byte}
 use Rattle.c_model.specs.Values.{address_after}
@@ -90,15 +90,37 @@ page_cells cells size number k lt is e =
     let whole : k ≡ 4096 = omega (arith, lt, is, div-add-mod' size 4096) in
     subst (λ (j : ℕ). cells ≡ map plain_cell (replicate j 0)) whole e
 
-pub page_place : (a size number r : ℕ) → a + size < 2 ^ 64 → number < size / 4096 →
+-- a store of plain bytes that gave no clause ended at 2^47 at most where the row does
+in_low : (o : Option Row) (a n : ℕ) → in_row o a n ≡ true → ((r : Row) → o ≡ Some r → r.base + r.size ≤ 2 ^ 47) → a + n ≤ 2 ^ 47
+in_low None a n inside low = absurd (cc)
+in_low (Some r) a n inside low =
+    let ends : r.base + r.size ≤ 2 ^ 47 = low r refl in
+    let within : a + n ≤ r.base + r.size = grind (arith, nat_tests, inside) in
+    omega (arith, ends, within)
+
+zeros_low : (old new : Kept) (x : ObjName) (a n : ℕ) → Puts old new x a (number_bytes n 0) → EndsLow old x → a + n ≤ 2 ^ 47
+zeros_low old new x a n p low =
+    let io : Io = record { input = []; position = 0; output = silent } in
+    let put = p old.rows (λ y r e. e) io in
+    let did = stored old.rows a x (number_bytes n 0) put.0 (store_of old io) (store_of new io) put.1 in
+    subst (λ (k : ℕ). a + k ≤ 2 ^ 47) (zeros_length n) (in_low (row_of old.rows x) a (length (number_bytes n 0)) did.inside low)
+
+pub cells_low : (old new : Kept) (x : ObjName) (a n : ℕ) (cells : List Cell) → Puts old new x a (seen old cells) →
+    cells ≡ map plain_cell (replicate n 0) → EndsLow old x → a + n ≤ 2 ^ 47
+cells_low old new x a n cells p e low =
+    zeros_low old new x a n (put_at old new x a a (seen old cells) (number_bytes n 0) refl (zeros_in old cells n e) p) low
+
+pub low_still : (old now : Kept) (x : ObjName) → Alike now old → EndsLow old x → EndsLow now x
+low_still old now x alike low =
+    let same : now.rows ≡ old.rows = ap (λ (m : Kept). m.rows) alike in
+    λ r is. low r (ap (λ (rs : List Row). row_of rs x) (sym same) ∙ is)
+
+pub page_place : (a size number r : ℕ) → address_after a r + 4096 ≤ 2 ^ 47 → number < size / 4096 →
     r ≡ min (min (number * 4096) (2 ^ 64 - 1) + size % 4096) (2 ^ 64 - 1) → address_after a r ≡ a + (size % 4096 + number * 4096)
-page_place a size number r few lt is = omega (arith, few, lt, is, div-add-mod' size 4096)
+page_place a size number r low lt is = omega (arith, low, lt, is, div-add-mod' size 4096)
 
-pub first_place : (a size : ℕ) → a + size < 2 ^ 64 → address_after a 0 ≡ a
-first_place a size few = omega (arith, few)
-
-pub not_beyond : (n : ℕ) → nat_lt (2 ^ 64 - 1) n ≡ false → n < 2 ^ 64
-not_beyond n e = grind (arith, nat_tests, e)
+pub first_place : (a n : ℕ) → address_after a 0 + n ≤ 2 ^ 47 → address_after a 0 ≡ a
+first_place a n low = omega (arith, low)
 
 pub first_zeros : (size : ℕ) → size % 4096 ≡ size % 4096 + 0 * 4096
 first_zeros size = omega arith

@@ -64,12 +64,12 @@ use Rattle.run_acts.specs.declared.values.Pointer.{Pointer}
 use Rattle.run_acts.specs.Contents.{Stands, IsPlaced, CanHold, CanHoldAll, address_of, content_of, filled_by}
 use Rattle.run_acts.specs.Fills.{AreFillings}
 use Rattle.run_acts.specs.Standing.{extent_of, IsStatic, AreStatics, place_of, AllFilled, StaticFilled, StaticsFilled}
-use Rattle.run_acts.specs.Starting.{Puts, ArePlaced}
+use Rattle.run_acts.specs.Starting.{Puts, ArePlaced, EndsLow}
 use Rattle.run_acts.specs.Views.{pointer_at}
 use Rattle.run_acts.proofs.Fills.{Alike, before_twice, before_done, filling_at, none_left, first_of}
 use Rattle.run_acts.proofs.Filled.{filled_behind, twice}
 use Rattle.run_acts.proofs.Stands.{take_next, take_every}
-use Rattle.run_acts.proofs.Starting.{all_at, can_hold_all, placed_still}
+use Rattle.run_acts.proofs.Starting.{all_at, can_hold_all, placed_still, stands_low}
 use Rattle.run_acts.proofs.Starts.{put_at}
 
 -- ---- contents under rows that stay
@@ -211,7 +211,7 @@ pub static_filled : (m0 m1 m2 : Kept) (p : Program) (places : Places) (k j i : �
     All (λ c. ContentIsLawful p c.content) s.constants → j ≡ k → k < length p.statics → ds ≡ s.constants →
     e ≡ extent_of p.tags (qualified_of s.qual).ty →
     ((a : ℕ) → slice_get places.objects j ≡ Some a → pointer_at whole ≡ record { address = address_after a 0; prov = Whole (Static j) }) →
-    ((x : ObjName) → whole.prov ≡ Whole x → Puts m0 m1 x whole.addr (number_bytes e.size 0)) →
+    ((x : ObjName) → whole.prov ≡ Whole x → EndsLow m0 x → Puts m0 m1 x whole.addr (number_bytes e.size 0)) →
     (AreNamed m1 → CanHoldAll m1 places ds → AreFillings m1 fs (map filled_by ds)) → gs ≡ fs → i ≡ length gs →
     ((x : ObjName) → whole.prov ≡ Whole x → (cs : List Filled) → AreFillings m1 gs cs → AreStill m1 cs →
     Reached m1 m2 (at_object x whole.addr) cs (drop i cs)) → StaticFilled m0 m2 p.tags k s
@@ -228,11 +228,11 @@ static_filled m0 m1 m2 p places k j i s e whole ds fs gs one two keeps sound pla
     (filled (keeps.sound sound).named (subst (λ (xs : List Constant). CanHoldAll m1 places xs) (sym same) can))) in
     static_is m0 m2 p.tags j s at.0 whole.addr e.size (ap (λ (m : Kept). m.rows) two ∙ ap (λ (m : Kept). m.rows) one) at.2 address
     (ap (λ (x : Extent). x.size) sized)
-    (static_reached m0 m1 m2 (Static j) at.0 whole.addr e.size i gs cs one address (cleared (Static j) own) are all
+    (static_reached m0 m1 m2 (Static j) at.0 whole.addr e.size i gs cs one address (cleared (Static j) own (stands_low m0 (Static j) at.0 at.2)) are all
     (puts (Static j) own cs are (constants_still m1 places s.constants can))))
 
 -- ---- one after the other
-static_at : (tags : List Tag) (k n i : ℕ) (xs : List Object) (os : List Standing) (s : Object) → n ≡ k + i → i < length xs → s ≡ get_or xs i s →
+pub static_at : (tags : List Tag) (k n i : ℕ) (xs : List Object) (os : List Standing) (s : Object) → n ≡ k + i → i < length xs → s ≡ get_or xs i s →
     AreStatics tags k xs os → (o : Standing) × (i < length os) × (o ≡ get_or os i o) × IsStatic tags n s o
 static_at tags k n i [] [] s e lt is are = absurd (omega (arith, lt))
 static_at tags k n i [] (o ∷ os) s e lt is are = absurd are

@@ -1,14 +1,17 @@
 -- Stores as acts of nodes.
-use Rattle.std.proofs.Common.{◌≡◌, ℕ, ◌<◌, ◌^◌, Bool, true, false, not, refl, ap, ◌∙◌, arith, ℤ, pos, List, []}
+use Rattle.std.proofs.Common.{◌≡◌, ℕ, ◌<◌, ◌^◌, Bool, true, false, not, refl, sym, ap, subst, ◌∙◌, arith, ℤ, pos, List, []}
 use Rattle.std.specs.Prelude.{Result, Ok, Err, OnOk, IfOk, IfErr}
 use Rattle.std.proofs.lemmas.List.{append-nil}
 use Rattle.ub_base.specs.declared.clause.Clause.{Clause}
 use Rattle.ub_base.specs.declared.clause.Clause.TheVariants.{OverlappingAssignment}
 use Rattle.ub_base.specs.declared.names.Item.{Item}
+use Rattle.ub_base.specs.declared.names.Event.{Event}
 use Rattle.addr_map.specs.declared.map.Row.{Row}
+use Rattle.c_types.specs.Types.{CType}
+use Rattle.c_typed.specs.declared.tree.Access.{Access}
 use Rattle.mem_spec.specs.Bytes.{low_bits}
 use Rattle.mem_spec.specs.Store.{Store}
-use Rattle.mem_spec.specs.Script.{Script, Give, Done, Raised, run, require, ◌>>◌}
+use Rattle.mem_spec.specs.Script.{Script, Act, Give, Done, Raised, run, require, ◌>>◌}
 use Rattle.prov_memory.specs.declared.answer.MemFault.{MemFault}
 use Rattle.prov_memory.specs.declared.answer.MemFault.TheVariants as faults
 use Rattle.prov_memory.specs.declared.value.Value.{Value as Held}
@@ -20,7 +23,7 @@ use Rattle.prov_memory.specs.Memory.{Kept}
 use Rattle.prov_memory.specs.Pieces.{IsMadeValue}
 use Rattle.prov_memory.proofs.AccessLemmas.{done_then, raised_then, raised_first}
 use Rattle.c_model.specs.Values.{Value, Nothing, Pointer, pointer_of}
-use Rattle.c_model.specs.Nodes.{put_whole}
+use Rattle.c_model.specs.Nodes.{load, put_whole}
 use Rattle.run_acts.specs.Views.{value_in}
 
 -- ---- what holds where a call succeeds, or where it raises
@@ -104,3 +107,8 @@ unstored_raised rows p b s c e = raised_first rows p (λ (u : Unit {0}). checked
 -- ---- the bytes of an address
 pub low_address : (z : ℤ) (a : ℕ) → z ≡ pos a → a < 2 ^ 64 → low_bits z ≡ a
 low_address z a e lt = rw e (omega arith)
+
+-- a load by an access is that of the access that it is
+pub loaded_by : (rows : List Row) (who : Event) (a b : Access) (ty : CType) (p : Pointer) (s : Store) (o : Act Value) → a ≡ b →
+    run rows (load rows who b ty p) s ≡ o → run rows (load rows who a ty p) s ≡ o
+loaded_by rows who a b ty p s o e did = subst (λ (x : Access). run rows (load rows who x ty p) s ≡ o) (sym e) did

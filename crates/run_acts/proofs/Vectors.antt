@@ -61,7 +61,7 @@ abbrev pub PointedSo : Kept → Kept → ObjName → ℕ → List (List ℕ) →
 PointedSo old now x a words i = Reached old now (at_object x a) (pointers 0 0 words) (drop i (pointers 0 0 words))
 
 -- ---- a pointer to an argument
-value_held : (now : Kept) (v : Held) (p : Place) (cells : List Cell) → IsSound now → value_in now v ≡ pointer_value p → IsMade now p.prov →
+pub value_held : (now : Kept) (v : Held) (p : Place) (cells : List Cell) → IsSound now → value_in now v ≡ pointer_value p → IsMade now p.prov →
     (AreNamed now → IsMadeValue now v → seen now cells ≡ value_bytes now 8 v) → seen now cells ≡ pointer_bytes 8 0 p.prov p.address
 value_held now v p cells sound e made filled =
     let known : IsOf now v = seen_pointer now now v p e made in

@@ -1,5 +1,5 @@
 -- The constants of a typed program as the definitions have them, and the objects that they name (6.6p9, 6.7.9).
-use Rattle.std.specs.Prelude.{◌≡◌, ℕ, List, [], ◌∷◌, ◌++◌, Some, slice_get}
+use Rattle.std.specs.Prelude.{◌≡◌, ℕ, ◌+◌, ◌^◌, ◌≤◌, List, [], ◌∷◌, ◌++◌, Some, slice_get}
 use Rattle.ub_base.specs.declared.names.ObjName.{ObjName}
 use Rattle.ub_base.specs.declared.names.ObjName.TheVariants.{Static, Lit}
 use Rattle.addr_map.specs.declared.map.Row.{Row}
@@ -31,11 +31,12 @@ content_of (contents.Address target offset) = address_of target offset
 abbrev pub filled_by : Constant → Filling
 filled_by c = record { offset = c.at; content = content_of c.content }
 
--- the object was created at its row, which begins at this address
+-- the object was created at its row, which begins at this address and ends at 2^47 at most
 pub record Stands (m : Kept) (x : ObjName) (base : ℕ) : Type 0 where
   pub row : Row
   pub named : row_of m.rows x ≡ Some row
   pub at : row.base ≡ base
+  pub ends : row.base + row.size ≤ 2 ^ 47
   pub made : IsMade m (Whole x)
 
 -- the object was created, and the list has its address

@@ -10,4 +10,5 @@ pub mod Kept
 pub mod Contents
 pub mod Starting
 pub mod Standing
+pub mod Outcomes
 pub mod Choices

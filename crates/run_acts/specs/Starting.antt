@@ -1,5 +1,5 @@
 -- Where the objects stand before a run (5.1.2p1, 6.4.5p6).
-use Rattle.std.specs.Prelude.{◌≡◌, ℕ, suc, true, List, [], ◌∷◌, ◌++◌, length, Option}
+use Rattle.std.specs.Prelude.{◌≡◌, ℕ, suc, ◌+◌, ◌^◌, ◌≤◌, true, Some, List, [], ◌∷◌, ◌++◌, length, Option}
 use Rattle.ub_base.specs.declared.names.ObjName.{ObjName}
 use Rattle.ub_base.specs.declared.names.ObjName.TheVariants.{Static, Lit}
 use Rattle.c_typed.specs.Lawful.{ContentIsLawful}
@@ -8,6 +8,7 @@ use Rattle.c_typed.specs.declared.program.Program.{Program}
 use Rattle.std.specs.List.{All}
 use Rattle.ub_base.specs.declared.names.Item.{Item}
 use Rattle.addr_map.specs.declared.map.Row.{Row}
+use Rattle.addr_map.specs.Rows.{row_of}
 use Rattle.exposure.specs.declared.prov.Prov.TheVariants.{Whole}
 use Rattle.c_types.specs.Shapes.{Form}
 use Rattle.mem_spec.specs.declared.kind.ObjKind.{ObjKind}
@@ -51,6 +52,10 @@ AreMadeAll m (a ∷ xs) = IsMade m a.place.prov × AreMadeAll m xs
 -- one more, at this place
 abbrev pub AddsArgument : Pointer → (old new : List Argument) → Type 0
 AddsArgument place old new = (a : Argument) × (new ≡ old ++ a ∷ []) × (a.place ≡ place)
+
+-- the row of the object, if any, ends at 2^47 at most
+abbrev pub EndsLow : Kept → ObjName → Type 0
+EndsLow m x = (r : Row) → row_of m.rows x ≡ Some r → r.base + r.size ≤ 2 ^ 47
 
 -- under all rows that stay, the creation of this object leads from the one memory to the other
 abbrev pub Creates : Kept → Kept → ObjName → (size align : ℕ) → ObjKind → Option Form → Type 0

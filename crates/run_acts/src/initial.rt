@@ -1,5 +1,5 @@
 // The objects that stand before the first pick: those with static storage, string literals, and the arguments of `main`.
-ghost use Rattle.std.specs.Prelude.{◌≡◌, List, ◌+◌, ◌-◌, ◌*◌, ◌%◌, min, ◌<◌, ◌^◌, ◌++◌, ◌∷◌, [], ℕ, Some, false, length, nat_lt, map, option_map, slice_get, string_bytes, IfOk, OnOk};
+ghost use Rattle.std.specs.Prelude.{◌≡◌, List, ◌+◌, ◌-◌, ◌*◌, ◌%◌, min, ◌<◌, ◌≤◌, ◌^◌, ◌++◌, ◌∷◌, [], ℕ, Some, Err, false, length, map, option_map, slice_get, string_bytes, IfOk, OnOk};
 ghost use Rattle.std.specs.List.{All};
 ghost use Rattle.ub_base.specs.declared.names.ObjName.{ObjName};
 ghost use Rattle.ub_base.specs.declared.names.ObjName.TheVariants as names;
@@ -11,6 +11,7 @@ ghost use Rattle.c_types.specs.declared.kind.IntKind.TheVariants.{Char};
 ghost use Rattle.mem_spec.specs.Bytes.{number_bytes};
 ghost use Rattle.c_model.specs.Nodes.{plain_byte};
 ghost use Rattle.c_model.specs.Values.{address_after, pointer_value};
+ghost use Rattle.prov_memory.specs.declared.answer.CreateFault.TheVariants.{Unplaced};
 ghost use Rattle.prov_memory.specs.declared.value.Value.TheVariants.{Int};
 ghost use Rattle.prov_memory.specs.Keeps.{Keeps};
 ghost use Rattle.prov_memory.specs.Made.{IsMade};
@@ -20,9 +21,10 @@ ghost use Rattle.prov_memory.specs.Sound.{IsSound};
 ghost use Rattle.prov_memory.specs.Tags.{CellsTagged};
 ghost use Rattle.run_acts.specs.Contents.{Stands};
 ghost use Rattle.run_acts.specs.Kept.{IsOf};
+ghost use Rattle.run_acts.specs.Outcomes.{CannotHold, CannotStand, IsFilled, IsReady, NoVector, SomeArgument, SomeLiteral, SomeStatic};
 ghost use Rattle.run_acts.specs.Standing.{AreArguments, ArgumentAdded, AllCreated, AllFilled, StaticFilled, StaticsFilled, extent_of, HasForm, literals, NamedFilled, program_name, StartStands, StaticCreated, StaticsCreated, StandsThere};
 ghost use Rattle.run_acts.specs.Standing as standing;
-ghost use Rattle.run_acts.specs.Starting.{AreAll, ArePlaced, AreMadeAll, AddsArgument, Creates, Puts};
+ghost use Rattle.run_acts.specs.Starting.{AreAll, ArePlaced, AreMadeAll, AddsArgument, Creates, EndsLow, Puts};
 ghost use Rattle.run_acts.specs.Views.{pointer_at, value_in};
 
 use crate::storage::{fillings, pointer_to, written, zeros};
@@ -228,6 +230,7 @@ fn create_statics(
     ensures rest { places.new.literals ≡ places.old.literals }
     ensures exact { OnOk result (IsSound m.old → places.old.objects ≡ [] → length p.now.statics < 2 ^ 32 → StaticsCreated m.old m.new p.now.tags p.now.statics) }
     ensures placed { OnOk result (places.old.objects ≡ [] → length p.now.statics < 2 ^ 32 → AreAll m.new (λ k. names.Static k) places.new.objects (length p.now.statics)) }
+    ensures unplaced { result ≡ Err Unplaced → places.old.objects ≡ [] → length p.now.statics < 2 ^ 32 → SomeStatic m.new p.now.tags p.now.statics }
 {
     for object in p.statics.as_slice() {
         let addr = create_static(alloc, p, object, count_of(&places.objects), m, t)?;
@@ -247,6 +250,7 @@ fn create_literals(
     ensures rest { places.new.objects ≡ places.old.objects }
     ensures exact { OnOk result (IsSound m.old → places.old.literals ≡ [] → length p.now.literals < 2 ^ 32 → AllCreated m.old m.new (literals 0 p.now.literals)) }
     ensures placed { OnOk result (places.old.literals ≡ [] → length p.now.literals < 2 ^ 32 → AreAll m.new (λ k. names.Lit k) places.new.literals (length p.now.literals)) }
+    ensures unplaced { result ≡ Err Unplaced → places.old.literals ≡ [] → length p.now.literals < 2 ^ 32 → SomeLiteral m.new p.now.literals }
 {
     for literal in p.literals.as_slice() {
         let name = ObjName::Lit(count_of(&places.literals));
@@ -347,6 +351,7 @@ fn create_static(
     ensures kept { Keeps m.old m.new }
     ensures exact { OnOk result (AreKnown m.old → StaticCreated m.old m.new p.now.tags number object.now) }
     ensures stands { IfOk result (λ addr. Stands m.new (names.Static number) addr) }
+    ensures unplaced { result ≡ Err Unplaced → CannotStand m.new (names.Static number) (extent_of p.now.tags (qualified_of object.now.qual).ty) }
 {
     let extent = extent_of_object(&p.tags, &object.qual);
     let shape = shape_of_object(alloc, &p.tags, &object.qual)?;
@@ -405,13 +410,6 @@ fn page_at(size: u64, number: u64) -> u64
     number.saturating_mul(PAGE).saturating_add(size % PAGE)
 }
 
-// Whether so many bytes from this address on end behind the last address.
-fn ends_beyond(addr: u64, size: u64) -> bool
-    ensures { result ≡ nat_lt (2 ^ 64 - 1) (addr + size) }
-{
-    size > u64::MAX - addr
-}
-
 // Makes the bytes of a new object zero: what is no whole page, and then a page at a time.
 fn clear(
     alloc: Global,
@@ -420,13 +418,11 @@ fn clear(
     m: &mut Memory,
     t: &mut Touched,
 ) -> Result<(), CreateFault>
-    ensures exact { OnOk result ((x : ObjName) → whole.prov ≡ Whole x → Puts m.old m.new x whole.addr (number_bytes size 0)) }
+    ensures exact { OnOk result ((x : ObjName) → whole.prov ≡ Whole x → EndsLow m.old x → Puts m.old m.new x whole.addr (number_bytes size 0)) }
     ensures rest { record m.new { objects = []; cells = [] } ≡ record m.old { objects = []; cells = [] } }
     ensures kept { Keeps m.old m.new }
+    ensures room { (x : ObjName) → whole.prov ≡ Whole x → IsReady m.old x whole.addr size → IsFilled m.old m.new result }
 {
-    if ends_beyond(whole.addr, size) {
-        return Err(CreateFault::Unplaced);
-    }
     let first = zeros(alloc, size % PAGE)?;
     put(whole, 0, &first, m, t)?;
     let page = zeros(alloc, page_of(size))?;
@@ -447,6 +443,7 @@ fn put(
     ensures exact { OnOk result ((x : ObjName) → whole.prov ≡ Whole x → Puts m.old m.new x (address_after whole.addr at) (seen m.old bytes.now.cells)) }
     ensures rest { record m.new { objects = []; cells = [] } ≡ record m.old { objects = []; cells = [] } }
     ensures kept { CellsKnown (length m.old.origins) bytes.now.cells → CellsTagged (length m.old.types) bytes.now.cells → Keeps m.old m.new }
+    ensures room { (x : ObjName) (size : ℕ) → whole.prov ≡ Whole x → IsReady m.old x whole.addr size → at + length bytes.now.cells ≤ size → IsFilled m.old m.new result }
 {
     let addr = whole.addr.saturating_add(at);
     match m.store(true, Via::Bytes, 1, addr, whole.prov, bytes, t) {
@@ -467,6 +464,7 @@ fn create_text(
     ensures kept { Keeps m.old m.new }
     ensures exact { OnOk result (AreKnown m.old → Creates m.old m.new name count 1 (record { heap = false; literal = literal; constant = false }) (Some (repeat count 1 (leaf (int Char))))) }
     ensures stands { IfOk result (λ addr. Stands m.new name addr) }
+    ensures unplaced { result ≡ Err Unplaced → CannotHold m.new name count }
 {
     let shape = repeated(alloc, count, 1, character())?;
     let kind = ObjKind {
@@ -488,6 +486,7 @@ fn fill_text(
     ensures exact { OnOk result ((x : ObjName) → whole.prov ≡ Whole x → Puts m.old m.new x (address_after whole.addr 0) (map plain_byte bytes.now)) }
     ensures rest { record m.new { objects = []; cells = [] } ≡ record m.old { objects = []; cells = [] } }
     ensures kept { Keeps m.old m.new }
+    ensures room { (x : ObjName) → whole.prov ≡ Whole x → IsReady m.old x whole.addr (length bytes.now) → IsFilled m.old m.new result }
 {
     let content = written(alloc, bytes)?;
     put(whole, 0, &content, m, t)
@@ -525,6 +524,7 @@ fn create_arguments(
     ensures exact { OnOk result (IsSound m.old → length args.now + 1 < 2 ^ 32 → AllCreated m.old m.new (standing.arguments 0 (program_name ∷ map string_bytes args.now))) }
     ensures there { IfOk result (λ all. length args.now + 1 < 2 ^ 32 → AreArguments m.new 0 (program_name ∷ map string_bytes args.now) all) }
     ensures made { IfOk result (AreMadeAll m.new) }
+    ensures unplaced { result ≡ Err Unplaced → length args.now + 1 < 2 ^ 32 → SomeArgument m.new (program_name ∷ map string_bytes args.now) }
 {
     let mut all = Items::new(alloc);
     create_argument(alloc, NAME, &mut all, m, t)?;
@@ -546,6 +546,7 @@ fn create_argument(
     ensures there { OnOk result (length all.old < 2 ^ 32 → ArgumentAdded m.new text.now all.old all.new) }
     ensures count { OnOk result (length all.new ≡ length all.old + 1) }
     ensures made { OnOk result (AreMadeAll m.old all.old → AreMadeAll m.new all.new) }
+    ensures unplaced { result ≡ Err Unplaced → length all.old < 2 ^ 32 → CannotHold m.new (names.Arg (length all.old)) (length text.now + 1) }
 {
     let text = text_of(alloc, text)?;
     let name = ObjName::Arg(short(all.len()));
@@ -596,6 +597,7 @@ fn create_vector(
     ensures exact { OnOk result (AreKnown m.old → length args.now < 2 ^ 32 → Creates m.old m.new names.Argv (8 * (length args.now + 2)) 8 (record { heap = false; literal = false; constant = false }) (Some (repeat (length args.now + 2) 8 (leaf (pointer false (int Char)))))) }
     ensures made { IfOk result (λ p. IsMade m.new p.prov) }
     ensures stands { IfOk result (λ p. StandsThere m.new names.Argv p) }
+    ensures unplaced { result ≡ Err Unplaced → length args.now < 2 ^ 32 → NoVector m.new (length args.now + 1) }
 {
     let count = (args.len() as u64).saturating_add(2);
     let element = character_pointer(alloc)?;

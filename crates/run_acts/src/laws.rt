@@ -1,5 +1,6 @@
 // Laws of values and memories.
 ghost use Rattle.run_acts.specs.Kept.{ValuesStay, FillingsStay};
+ghost use Rattle.run_acts.specs.Outcomes.{StartIsDefined};
 ghost use Rattle.run_acts.specs.Standing.{StandsSo};
 ghost use Rattle.run_acts.specs.Starting.{LawfulCanHold};
 
@@ -18,4 +19,10 @@ pub fn law_can_hold()
 /// What stands before a run is created, object by object, and then filled, object by object (own).
 pub fn law_stands()
     ensures { StandsSo }
+{}
+
+/// What stands before a run of a lawful program is created and filled without undefined behaviour, or one of its objects has no place:
+/// no initialization leaves its object, under a map whose rows are addresses (5.1.2p1, 6.7.9).
+pub fn law_start_is_defined()
+    ensures { StartIsDefined }
 {}

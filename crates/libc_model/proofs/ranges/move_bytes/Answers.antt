@@ -1,11 +1,11 @@
 use Rattle.std.proofs.Common.{◌∙◌, ap, subst, Option}
-use Rattle.std.specs.Prelude.{IfSome}
+use Rattle.std.specs.Prelude.{IfSome, length}
 use Rattle.mem_spec.specs.Acts.{whole}
 use Rattle.prov_memory.specs.Memory.{Kept}
 use Rattle.libc_model.specs.declared.arguments.Range.{Range}
 use Rattle.libc_model.specs.Writes.{IsPlace}
 use Rattle.libc_model.proofs.Writing.{place_stays}
-use Rattle.libc_model.proofs.Moving.{kept_place, moving_is, moved_noted, move_done}
+use Rattle.libc_model.proofs.Moving.{kept_place, moving_is, moved_even, moved_noted, move_done}
 use Rattle.libc_model.proofs.Living.{failed_after}
 use Rattle.prov_memory.proofs.KeepLemmas.{keeps_then}
 use Rattle.libc_model.proofs.Keeping.{keeps_three}
@@ -17,6 +17,11 @@ put_over-requires-clause-place c =
     (place_stays c.args.m.now c.settle-2.new.m c.args.to c.in-Some.target c.settle-2.ensures.lives c.settle-2.ensures.rows
     (subst (λ (o : Option Range). IfSome o (IsPlace c.args.m.now c.args.to))
     (moving_is c.args.ranges.target c.args.ranges.source c.in-Some.target c.in-Some.source c.in-Some.ensures).1 c.requires.to))
+
+pub put_over-requires-clause-len : goal.put_over-requires-clause-len
+put_over-requires-clause-len c =
+    moved_even c.args.ranges.target c.args.ranges.source c.in-Some.target c.in-Some.source (length c.in_ok-block.block.cells) c.in-Some.ensures
+    c.requires.even c.in_ok-block.ensures.len
 
 pub returns-clause-items : goal.returns-clause-items
 returns-clause-items c = moved_noted c.args.ranges.target c.args.ranges.source c.in-Some.target c.in-Some.source c.args.t.now c.add.new.self c.add_write.new.t

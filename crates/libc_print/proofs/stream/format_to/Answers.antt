@@ -22,6 +22,15 @@ returns-in-Err-clause-exact c = λ within cells.
     c.as_slice.ensures)
     ((rw c.as_slice-2.ensures at c.in-Err.ensures.exact) within cells)
 
+pub returns-in-Ok-clause-exact : goal.returns-in-Ok-clause-exact
+returns-in-Ok-clause-exact c = λ within cells.
+    subst (λ (z : ℤ). Answers (answers.Value c.in-Ok.value) c.written.new.t (store_of c.written.new.m c.written.new.io)
+    (printed_to_by c.written.new.m.rows z (argument_at (values_seen c.args.args.now) 1) (drop 2 (typed c.args.args.now c.args.types.now))
+    (store_of c.args.m.now c.args.io.now)))
+    (to_z-of_z w128 c.int_at.result (search rules) ∙ c.int_at.ensures ∙ ap (λ (vs : List Value). integer_in (argument_at (values_seen vs) 0))
+    c.as_slice.ensures)
+    ((rw c.as_slice-2.ensures at c.in-Ok.ensures.exact) within cells)
+
 pub returns-in-Ok-clause-made : goal.returns-in-Ok-clause-made
 returns-in-Ok-clause-made c =
     let m = c.args.m.now in

@@ -1,4 +1,5 @@
-use Rattle.std.proofs.Common.{◌∙◌, sym, ◌+◌, ◌*◌, ◌%◌, length, replicate, arith}
+use Rattle.std.proofs.Common.{◌∙◌, ap, ◌+◌, ◌*◌, ◌%◌, length, replicate, arith}
+use Rattle.prov_memory.specs.Memory.{Kept}
 use Rattle.prov_memory.proofs.KeepLemmas.{keeps_then}
 use Rattle.c_model.specs.Values.{address_after}
 use Rattle.run_acts.proofs.Contents.{cells_known, cells_tagged}
@@ -6,22 +7,29 @@ use Rattle.run_acts.proofs.Starts.{
   clears_first,
   clears_more,
   all_zeros,
+  cells_low,
+  low_still,
   page_cells,
   page_place,
   first_place,
   first_zeros,
-  not_beyond,
   all_pages,
   one_page_more,
 }
+use Rattle.run_acts.proofs.Ready.{first_fits, page_fits, puts_live, ready_low, ready_still, refused_then}
+use Rattle.std.proofs.lemmas.Result.{err_from_is_err_and}
 use Rattle.run_acts.proofs.initial.clear.Goals as goal
 
 pub loop-number-init : goal.loop-number-init
 loop-number-init c = record {
   alike = c.put.ensures.rest;
-  cleared = λ x is few.
+  cleared = λ x is low.
+      let put = c.in_ok-put.ensures.exact x is in
       clears_first c.args.m.now c.put.new.m x c.args.whole.addr (address_after c.args.whole.addr 0) (c.args.size % 4096) (c.args.size % 4096 + 0 * 4096) _
-      (c.in_ok-put.ensures.exact x is) c.in_ok-first.ensures (first_place c.args.whole.addr c.args.size few) (first_zeros c.args.size);
+      put c.in_ok-first.ensures
+      (first_place c.args.whole.addr (c.args.size % 4096)
+      (cells_low c.args.m.now c.put.new.m x (address_after c.args.whole.addr 0) (c.args.size % 4096) _ put c.in_ok-first.ensures low))
+      (first_zeros c.args.size);
   keeps = c.put.ensures.kept (cells_known (length c.args.m.now.origins) _ (replicate (c.args.size % 4096) 0) c.in_ok-first.ensures)
       (cells_tagged (length c.args.m.now.types) _ (replicate (c.args.size % 4096) 0) c.in_ok-first.ensures);
 }
@@ -32,12 +40,15 @@ loop-number-preserved c =
     let now = c.loop-number.m in
     record {
       alike = c.put-in-loop-number.ensures.rest ∙ inv.alike;
-      cleared = λ x is few.
+      cleared = λ x is low.
+          let put = c.in_ok-put-2.ensures.exact x is in
+          let zeros = page_cells _ c.args.size c.loop-number.number c.page_of.result c.loop-number-test.true c.page_of.ensures c.in_ok-page.ensures in
           clears_more c.args.m.now now c.put-in-loop-number.new.m x c.args.whole.addr (address_after c.args.whole.addr c.page_at.result)
           (c.args.size % 4096 + c.loop-number.number * 4096) 4096 (c.args.size % 4096 + (c.loop-number.number + 1) * 4096) _ inv.alike
-          (inv.cleared x is few) (c.in_ok-put-2.ensures.exact x is)
-          (page_cells _ c.args.size c.loop-number.number c.page_of.result c.loop-number-test.true c.page_of.ensures c.in_ok-page.ensures)
-          (page_place c.args.whole.addr c.args.size c.loop-number.number c.page_at.result few c.loop-number-test.true c.page_at.ensures)
+          (inv.cleared x is low) put zeros
+          (page_place c.args.whole.addr c.args.size c.loop-number.number c.page_at.result
+          (cells_low now c.put-in-loop-number.new.m x (address_after c.args.whole.addr c.page_at.result) 4096 _ put zeros
+          (low_still c.args.m.now now x inv.alike low)) c.loop-number-test.true c.page_at.ensures)
           (one_page_more c.args.size c.loop-number.number);
       keeps = keeps_then c.args.m.now now c.put-in-loop-number.new.m inv.keeps
           (c.put-in-loop-number.ensures.kept (cells_known (length now.origins) _ (replicate c.page_of.result 0) c.in_ok-page.ensures)
@@ -45,10 +56,9 @@ loop-number-preserved c =
     }
 
 pub returns-clause-exact : goal.returns-clause-exact
-returns-clause-exact c = λ x is.
-    let few = not_beyond (c.args.whole.addr + c.args.size) (sym c.ends_beyond.ensures ∙ c.if-ends_beyond.false) in
+returns-clause-exact c = λ x is low.
     all_zeros c.args.m.now c.loop-number.m x c.args.whole.addr (c.args.size % 4096 + c.loop-number.number * 4096) c.args.size
-    (all_pages c.args.size c.loop-number.number (omega arith)) (c.loop-number.invariant.cleared x is few)
+    (all_pages c.args.size c.loop-number.number (omega arith)) (c.loop-number.invariant.cleared x is low)
 
 pub returns-clause-rest : goal.returns-clause-rest
 returns-clause-rest c = c.loop-number.invariant.alike
@@ -75,3 +85,27 @@ returns-in_err-put-2-clause-kept c =
     keeps_then c.args.m.now now c.put-in-loop-number.new.m c.loop-number.invariant.keeps
     (c.put-in-loop-number.ensures.kept (cells_known (length now.origins) _ (replicate c.page_of.result 0) c.in_ok-page.ensures)
     (cells_tagged (length now.types) _ (replicate c.page_of.result 0) c.in_ok-page.ensures))
+
+pub returns-in_err-put-clause-room : goal.returns-in_err-put-clause-room
+returns-in_err-put-clause-room c = λ x is ready.
+    let p = err_from_is_err_and c.from_residual-in_err-put.result c.from_residual-in_err-put.ensures.1 in
+    refused_then c.args.m.now c.args.m.now c.put.new.m _ p.0 c.in_err-put.field-0.0 p.1 p.2
+    (c.in_err-put.ensures.room x c.args.size is ready (first_fits _ c.args.size c.in_ok-first.ensures))
+
+pub returns-in_err-put-2-clause-room : goal.returns-in_err-put-2-clause-room
+returns-in_err-put-2-clause-room c = λ x is ready.
+    let inv = c.loop-number.invariant in
+    let now = c.loop-number.m in
+    let low = ready_low c.args.m.now x c.args.whole.addr c.args.size ready in
+    let lives = puts_live c.args.m.now now x c.args.whole.addr _ (inv.cleared x is low) in
+    let zeros = page_cells _ c.args.size c.loop-number.number c.page_of.result c.loop-number-test.true c.page_of.ensures c.in_ok-page.ensures in
+    let p = err_from_is_err_and c.from_residual-in_err-put-2.result c.from_residual-in_err-put-2.ensures.1 in
+    refused_then c.args.m.now now c.put-in-loop-number.new.m _ p.0 c.in_err-put-2.field-0.0 p.1 p.2
+    (c.in_err-put-2.ensures.room x c.args.size is
+    (ready_still c.args.m.now now x c.args.whole.addr c.args.size (ap (λ (m : Kept). m.rows) inv.alike) lives ready)
+    (page_fits _ c.args.size c.loop-number.number c.page_at.result c.loop-number-test.true c.page_at.ensures zeros))
+
+pub returns-clause-room : goal.returns-clause-room
+returns-clause-room c = λ x is ready.
+    puts_live c.args.m.now c.loop-number.m x c.args.whole.addr _
+    (c.loop-number.invariant.cleared x is (ready_low c.args.m.now x c.args.whole.addr c.args.size ready))

@@ -1,9 +1,11 @@
-use Rattle.std.proofs.Common.{List, ap, arith, get_or, length, map, refl, string_bytes, subst, suc, sym, take, ℕ, ◌+◌, ◌∙◌, ◌∷◌, ◌≡◌}
+use Rattle.std.proofs.Common.{List, ap, arith, get_or, length, map, refl, string_bytes, subst, suc, sym, take, ℕ, ◌+◌, ◌∙◌, ◌∷◌, ◌≡◌, Err}
 use Rattle.prov_memory.proofs.KeepLemmas.{keeps_then}
 use Rattle.run_acts.specs.Standing.{AreArguments, program_name}
 use Rattle.run_acts.proofs.Arguments.{argument_more, argument_words, none_are}
 use Rattle.run_acts.proofs.Starting.{none_made}
 use Rattle.run_acts.proofs.Stands.{none_created, arguments_more, arguments_next, arguments_all, mapped_at, mapped_length}
+use Rattle.run_acts.proofs.NoPlace.{fault_of, first_argument, some_argument}
+use Rattle.std.proofs.lemmas.Result.{err_from_is_err_and}
 use Rattle.run_acts.proofs.initial.create_arguments.Goals as goal
 
 pub loop-arg-init : goal.loop-arg-init
@@ -72,3 +74,18 @@ pub returns-clause-there : goal.returns-clause-there
 returns-clause-there c = λ few.
     argument_words c.loop-arg.m (program_name ∷ map string_bytes c.args.args.now) (c.loop-arg.arg-index + 1) c.loop-arg.all
     (omega (arith, mapped_length string_bytes c.args.args.now)) (c.loop-arg.invariant.there few)
+
+pub returns-in_err-create_argument-clause-unplaced : goal.returns-in_err-create_argument-clause-unplaced
+returns-in_err-create_argument-clause-unplaced c = λ e few.
+    let none : length c.new-all.result ≡ 0 = ap length c.new-all.ensures in
+    let p = err_from_is_err_and c.from_residual.result c.from_residual.ensures.1 in
+    first_argument c.create_argument.new.m (map string_bytes c.args.args.now) (length c.new-all.result) none
+    (c.in_err-create_argument.ensures.unplaced (ap Err (fault_of _ p.0 _ p.1 p.2 e)) (omega (arith, none)))
+
+pub returns-in_err-create_argument-2-clause-unplaced : goal.returns-in_err-create_argument-2-clause-unplaced
+returns-in_err-create_argument-2-clause-unplaced c = λ e few.
+    let inv = c.loop-arg.invariant in
+    let p = err_from_is_err_and c.from_residual-in_err-create_argument-2.result c.from_residual-in_err-create_argument-2.ensures.1 in
+    some_argument c.create_argument-in-loop-arg.new.m c.args.args.now c.loop-arg.arg-index (length c.loop-arg.all) c.arg-item.result c.as_bytes.result.now
+    inv.count c.loop-arg-test.true c.arg-item.is c.as_bytes.ensures.value
+    (c.in_err-create_argument-2.ensures.unplaced (ap Err (fault_of _ p.0 _ p.1 p.2 e)) (omega (arith, few, inv.count, c.loop-arg-test.true)))

@@ -1,8 +1,10 @@
-use Rattle.std.proofs.Common.{refl, ap, ◌∙◌, length, arith}
+use Rattle.std.proofs.Common.{refl, ap, ◌∙◌, length, arith, Err}
 use Rattle.ub_base.specs.declared.names.ObjName.TheVariants.{Lit}
 use Rattle.prov_memory.proofs.KeepLemmas.{keeps_none, keeps_then}
 use Rattle.run_acts.proofs.Starting.{none_stand, one_more_stands}
 use Rattle.run_acts.proofs.Stands.{none_created, literals_more, literals_all}
+use Rattle.run_acts.proofs.NoPlace.{fault_of, some_literal}
+use Rattle.std.proofs.lemmas.Result.{err_from_is_err_and}
 use Rattle.run_acts.proofs.initial.create_literals.Goals as goal
 
 pub loop-literal-init : goal.loop-literal-init
@@ -43,3 +45,12 @@ returns-clause-exact c = λ sound none few.
     literals_all c.args.m.now c.loop-literal.m c.as_slice-literal-items.result.now c.args.p.now.literals c.loop-literal.literal-index (omega arith)
     c.as_slice-literal-items.ensures
     (c.loop-literal.invariant.created sound none (omega (arith, few, ap length c.as_slice-literal-items.ensures)))
+
+pub returns-in_err-addr-clause-unplaced : goal.returns-in_err-addr-clause-unplaced
+returns-in_err-addr-clause-unplaced c = λ e none few.
+    let are = c.loop-literal.invariant.placed none (omega (arith, few, ap length c.as_slice-literal-items.ensures)) in
+    let number = c.count_of.ensures (omega (arith, are.count, few, c.loop-literal-test.true, ap length c.as_slice-literal-items.ensures)) in
+    let p = err_from_is_err_and c.from_residual.result c.from_residual.ensures.1 in
+    some_literal c.create_text.new.m c.as_slice-literal-items.result.now c.args.p.now.literals c.loop-literal.literal-index c.count_of.result _
+    c.literal-item.result (number ∙ are.count) c.as_slice-literal-items.ensures c.loop-literal-test.true c.literal-item.is c.len.ensures
+    (c.in_err-addr.ensures.unplaced (ap Err (fault_of _ p.0 _ p.1 p.2 e)))

@@ -1,8 +1,10 @@
-use Rattle.std.proofs.Common.{refl, ap, ◌∙◌, length, arith}
+use Rattle.std.proofs.Common.{refl, ap, ◌∙◌, length, arith, Err}
 use Rattle.ub_base.specs.declared.names.ObjName.TheVariants.{Static}
 use Rattle.prov_memory.proofs.KeepLemmas.{keeps_none, keeps_then}
 use Rattle.run_acts.proofs.Starting.{none_stand, one_more_stands}
 use Rattle.run_acts.proofs.Stands.{none_static, statics_more, statics_all}
+use Rattle.run_acts.proofs.NoPlace.{fault_of, some_static}
+use Rattle.std.proofs.lemmas.Result.{err_from_is_err_and}
 use Rattle.run_acts.proofs.initial.create_statics.Goals as goal
 
 pub loop-object-init : goal.loop-object-init
@@ -43,3 +45,12 @@ returns-clause-exact c = λ sound none few.
     statics_all c.args.m.now c.loop-object.m c.args.p.now.tags c.as_slice-object-items.result.now c.args.p.now.statics c.loop-object.object-index
     (omega arith) c.as_slice-object-items.ensures
     (c.loop-object.invariant.created sound none (omega (arith, few, ap length c.as_slice-object-items.ensures)))
+
+pub returns-in_err-addr-clause-unplaced : goal.returns-in_err-addr-clause-unplaced
+returns-in_err-addr-clause-unplaced c = λ e none few.
+    let are = c.loop-object.invariant.placed none (omega (arith, few, ap length c.as_slice-object-items.ensures)) in
+    let number = c.count_of.ensures (omega (arith, are.count, few, c.loop-object-test.true, ap length c.as_slice-object-items.ensures)) in
+    let p = err_from_is_err_and c.from_residual.result c.from_residual.ensures.1 in
+    some_static c.create_static.new.m c.args.p.now.tags c.as_slice-object-items.result.now c.args.p.now.statics c.loop-object.object-index c.count_of.result
+    c.object-item.result (number ∙ are.count) c.as_slice-object-items.ensures c.loop-object-test.true c.object-item.is
+    (c.in_err-addr.ensures.unplaced (ap Err (fault_of _ p.0 _ p.1 p.2 e)))

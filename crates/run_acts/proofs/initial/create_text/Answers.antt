@@ -17,7 +17,8 @@ returns-clause-exact c =
 
 pub returns-clause-stands : goal.returns-clause-stands
 returns-clause-stands c =
-    created_stands c.create.result c.args.m.now c.create.new.self c.args.name _ _ _ _ c.create.ensures.born c.create.ensures.whole
+    created_stands c.create.result c.args.m.now c.create.new.self c.args.name _ _ _ _ c.create.ensures.born c.create.ensures.end
+    c.create.ensures.whole
 
 pub returns-in_err-shape-clause-kept : goal.returns-in_err-shape-clause-kept
 returns-in_err-shape-clause-kept c = keeps_none c.args.m.now

@@ -45,6 +45,7 @@ returns-clause-stands c = (
     row = row_at Argv c.in_ok-base.base _ _;
     named = c.in_ok-base.ensures.born.row;
     at = refl;
+    ends = c.in_ok-base.ensures.end;
     made = c.in_ok-base.ensures.whole;
   },
 )

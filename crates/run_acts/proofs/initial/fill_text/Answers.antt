@@ -2,6 +2,7 @@ use Rattle.std.proofs.Common.{length}
 use Rattle.c_model.specs.Values.{address_after}
 use Rattle.run_acts.proofs.Contents.{cells_known, cells_tagged}
 use Rattle.run_acts.proofs.Starts.{text_put}
+use Rattle.run_acts.proofs.Ready.{plain_fits}
 use Rattle.run_acts.proofs.initial.fill_text.Goals as goal
 
 pub returns-clause-exact : goal.returns-clause-exact
@@ -13,3 +14,7 @@ pub returns-clause-kept : goal.returns-clause-kept
 returns-clause-kept c =
     c.put.ensures.kept (cells_known (length c.args.m.now.origins) _ c.args.bytes.now c.in_ok-content.ensures)
     (cells_tagged (length c.args.m.now.types) _ c.args.bytes.now c.in_ok-content.ensures)
+
+pub returns-clause-room : goal.returns-clause-room
+returns-clause-room c = λ x is ready.
+    c.put.ensures.room x (length c.args.bytes.now) is ready (plain_fits _ c.args.bytes.now c.in_ok-content.ensures)
