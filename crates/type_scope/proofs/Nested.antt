@@ -3,6 +3,7 @@ use Rattle.std.proofs.Common.{◌≡◌, ℕ, zero, suc, ◌≤◌, ◌<◌, Boo
 use Rattle.std.proofs.Common.{inl, inr}
 use Rattle.std.specs.Prelude.{◌-◌, ◌==◌, Option, Some, None}
 use Rattle.std.proofs.lemmas.Bool.{eq-eqb, ne_eqb, cases_lt}
+use Rattle.std.proofs.lemmas.List.{append_cancel_left}
 use borrow.Author.Tests.{lt-ltb, le-ltb}
 use Rattle.type_name_space.specs.Scopes.{Declared, kept, left, put_at, changed, changed_in, visible, IsFront}
 use Rattle.typing_env.specs.Names.{declared_from}
@@ -118,3 +119,13 @@ leaves (suc n) ds h = outer 0 (suc n) ds (omega arith) h
 -- .. and before it has a number less
 pub leaves_inside : {M : Type 0} (depth : ℕ) (ds : List (Declared M)) → AreNested 0 depth ds → AreNested 0 depth (left depth ds)
 leaves_inside depth ds h = wider 0 (depth - 1) depth (left depth ds) (omega arith) (leaves depth ds h)
+
+-- one declaration more in the innermost scope
+pub one_more : {M : Type 0} (depth symbol : ℕ) (meaning : M) (ds : List (Declared M)) → AreNested 0 depth ds
+    → AreNested 0 depth (ds ++ record { symbol = symbol; depth = depth; meaning = meaning } ∷ [])
+one_more {M} depth symbol meaning ds h =
+    let d : Declared M = record { symbol = symbol; depth = depth; meaning = meaning } in behind 0 depth ds (d ∷ []) h (refl, tt)
+
+-- what is lifted is what the innermost scope declares
+pub lifted_are : {M : Type 0} (depth : ℕ) (ds rest : List (Declared M)) → AreNested 0 depth ds → ds ≡ left depth ds ++ rest → rest ≡ declared_from depth ds
+lifted_are depth ds rest h e = append_cancel_left (left depth ds) rest (declared_from depth ds) (sym e ∙ parted 0 depth ds h)

@@ -88,6 +88,7 @@ impl Scopes {
     }
 
     /// Declares the ordinary identifier in the innermost scope.
+    #[tactic(auto, using(crate::proofs::Nested::one_more))]
     pub fn declare(&mut self, symbol: u32, meaning: Meaning) -> Result<(), NoMemory>
         ensures ok { OnOk result (self.new ≡ with_name symbol meaning self.old) }
         ensures err { OnErr result (self.new ≡ self.old) }
@@ -96,6 +97,7 @@ impl Scopes {
     }
 
     /// Gives its innermost declaration another meaning.
+    #[tactic(auto, using(crate::proofs::Nested::change))]
     pub fn change(&mut self, symbol: u32, meaning: Meaning)
         ensures { self.new ≡ record self.old { ordinary = changed symbol meaning self.old.ordinary } }
     {
@@ -103,6 +105,7 @@ impl Scopes {
     }
 
     /// Declares the tag in the innermost scope.
+    #[tactic(auto, using(crate::proofs::Nested::one_more))]
     pub fn declare_tag(&mut self, symbol: u32, meaning: TagMeaning) -> Result<(), NoMemory>
         ensures ok { OnOk result (self.new ≡ with_tag symbol meaning self.old) }
         ensures err { OnErr result (self.new ≡ self.old) }
@@ -125,6 +128,7 @@ impl Scopes {
     }
 
     /// Ends the innermost scope.
+    #[tactic(auto, using(crate::proofs::Nested::leaves))]
     pub fn leave(&mut self)
         ensures { self.new ≡ left_scope self.old }
     {

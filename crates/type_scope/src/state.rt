@@ -84,6 +84,7 @@ impl State {
     }
 
     /// Ends the innermost scope.
+    #[tactic(auto, using(crate::proofs::Seen::left_is))]
     pub fn leave_scope(&mut self)
         ensures known { (n : Naming) (t : TokenText) (env : Env) → known_by n t self.new env ≡ left_scope (known_by n t self.old env) }
     {
@@ -92,6 +93,7 @@ impl State {
 
     /// Ends the innermost scope, that of a parameter list. Its declarations are kept for a body where `own` is true, as behind a
     /// declared name, and the list stands at file scope (6.2.1p4).
+    #[tactic(auto, using(crate::proofs::Seen::kept_is))]
     pub fn leave_parameters(&mut self, own: bool) -> Result<(), NoMemory>
         ensures known { OnOk result ((n : Naming) (t : TokenText) (env : Env) → known_by n t self.new env ≡ left_scope (kept_prototype own (known_by n t self.old env))) }
     {
@@ -99,6 +101,7 @@ impl State {
     }
 
     /// Begins the scope of a body, with what is kept of its parameters.
+    #[tactic(auto, using(crate::proofs::Seen::parameters_are))]
     pub fn enter_body(&mut self) -> Result<(), NoMemory>
         ensures known { OnOk result ((n : Naming) (t : TokenText) (env : Env) → known_by n t self.new env ≡ with_parameters (entered (known_by n t self.old env))) }
     {
