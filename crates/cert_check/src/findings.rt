@@ -2,7 +2,7 @@
 ghost use Rattle.std.specs.Prelude.{OnOk};
 
 use c_typed::Typed;
-use footprint_run::{Detector, Seen};
+use footprint_run::{Detector, Go, Seen};
 use run_machine::{Completed, Pick, View};
 use std::alloc::Global;
 use ub_base::{Event, Item, NoMemory};
@@ -12,7 +12,7 @@ pub struct Findings<'p> {
     // The program's full expressions.
     roots: &'p [&'p Typed],
     detector: Detector,
-    found: bool,
+    seen: Option<Seen>,
 }
 
 impl<'p> Findings<'p> {
@@ -20,48 +20,52 @@ impl<'p> Findings<'p> {
         Ok(Findings {
             roots,
             detector: Detector::new(alloc)?,
-            found: false,
+            seen: None,
         })
     }
 
     pub fn found(&self) -> bool {
-        self.found
+        self.seen.is_some()
     }
 
     // After the first finding nothing more is looked at.
     pub fn tell(&mut self, view: &View, pick: Pick, items: &[Item]) -> Result<(), NoMemory> {
-        if self.found {
+        if self.found() {
             return Ok(());
         }
-        let seen = match pick {
-            Pick::Step(_) => self.detector.pick(self.roots, view, None, items)?,
-            Pick::Starts(event) => self.detector.pick(self.roots, view, Some(event), items)?,
-            Pick::Event(event, completed, _) => self.event(view, event, completed, items)?,
+        match pick {
+            Pick::Step(_) => self.pick(view, None, items)?,
+            Pick::Starts(event) => self.pick(view, Some(event), items)?,
+            Pick::Event(event, completed, _) => {
+                if self.pick(view, Some(event), items)? == Go::Stop {
+                    return Ok(());
+                }
+                self.completed(view, event, completed)?
+            }
         };
-        self.found = seen.is_some();
         Ok(())
     }
 
-    fn event(
+    fn pick(&mut self, view: &View, event: Option<Event>, items: &[Item]) -> Result<Go, NoMemory> {
+        self.detector
+            .pick(self.roots, view, event, items, &mut self.seen)
+    }
+
+    fn completed(
         &mut self,
         view: &View,
         event: Event,
         completed: Completed,
-        items: &[Item],
-    ) -> Result<Option<Seen>, NoMemory> {
-        let seen = self.detector.pick(self.roots, view, Some(event), items)?;
-        if seen.is_some() {
-            return Ok(seen);
-        }
+    ) -> Result<Go, NoMemory> {
+        let seen = &mut self.seen;
         match completed {
-            Completed::Nothing => Ok(None),
-            Completed::Node => self.detector.node_done(self.roots, view, event.node),
+            Completed::Nothing => Ok(Go::On),
+            Completed::Node => self.detector.node_done(self.roots, view, event.node, seen),
             Completed::Operands(above) => {
-                let seen = self.detector.node_done(self.roots, view, event.node)?;
-                if seen.is_some() {
-                    return Ok(seen);
+                match self.detector.node_done(self.roots, view, event.node, seen)? {
+                    Go::Stop => Ok(Go::Stop),
+                    Go::On => self.detector.operands_done(self.roots, view, above, seen),
                 }
-                self.detector.operands_done(self.roots, view, above)
             }
         }
     }

@@ -1,15 +1,17 @@
 -- What a watch answers, and what it has seen where a run ended.
-use Rattle.std.specs.Prelude.{Option, Some, None, IsSome}
+use Rattle.std.specs.Prelude.{◌≡◌, List, Option, Some, None, IsSome}
+use Rattle.c_typed.specs.Tree.{Tree}
 use Rattle.core_run.specs.declared.watch.Go.{Go}
 use Rattle.core_run.specs.declared.watch.Go.TheVariants.{On, Stop}
 use Rattle.core_run.specs.declared.watch.Ran.{Ran}
 use Rattle.core_run.specs.declared.watch.Ran.TheVariants as ran
+use Rattle.footprint_run.specs.Apart.{SeenApart}
 use Rattle.footprint_run.specs.declared.seen.Seen.{Seen}
 
--- a watch stops a run where it has seen a conflict
-abbrev pub go_of : Option Seen → Go
-go_of None = On
-go_of (Some seen) = Stop
+-- a call goes on where it has seen nothing more, and stops where it has seen a conflict whose two evaluations stand apart
+abbrev pub Sees : List Tree → Option Seen → Option Seen → Go → Type 0
+Sees trees before after On = after ≡ before
+Sees trees before after Stop = IsSome after × SeenApart trees after
 
 -- a run that the watch stopped has seen a conflict
 abbrev pub HasSeen : Ran → Option Seen → Type 0

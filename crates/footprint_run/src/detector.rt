@@ -1,21 +1,26 @@
 // The open evaluations of a run, and its first conflict.
-ghost use Rattle.std.specs.Prelude.{◌≡◌, IfOk, IsTrue};
+ghost use Rattle.std.specs.Prelude.{◌≡◌, ℕ, IfOk, IsTrue, OnErr, slice_get, Some, true, false};
+ghost use Rattle.ub_base.specs.declared.names.Item.{Item};
+ghost use Rattle.ub_base.specs.declared.clause.Kind.TheVariants.{Body};
 ghost use Rattle.c_typed.specs.Tree.{tree_of};
 ghost use Rattle.elaborate.specs.Roots.{trees_at};
+ghost use Rattle.quiet_trees.specs.Items.{is_noted};
 ghost use Rattle.seq_order.specs.Marked.{taken_in};
 ghost use Rattle.evaluation_log.specs.FoundItems.{ItemsConflict};
+ghost use Rattle.footprint_run.specs.declared.detector.Recording.TheVariants.{Event as Logs};
 ghost use Rattle.footprint_run.specs.Apart.{AreApart, IsApart, SeenApart, place_of};
+ghost use Rattle.footprint_run.specs.Record.{Sees};
 
 use crate::examined::Examined;
 use crate::seen::Seen;
 use c_typed::{Place, Typed};
-use core_run::View;
+use core_run::{Go, View};
 use evaluation_log::{Found, Rule, first_of, last_operand_of, line_of};
 use quiet_trees::some_noted;
 use run_evaluations::Evaluations;
 use seq_order::{Relation, Taken, due, relation};
 use std::alloc::Global;
-use ub_base::{Event, Item, Kind, NoMemory};
+use ub_base::{Event, Frame, Item, Kind, NoMemory};
 
 /// Keeps the open evaluations of a run, and finds its first conflict. A full expression in which no two evaluations may conflict of
 /// which neither is sequenced before the other is quiet, and isn't recorded, nor are the frames that it starts: only its events with
@@ -34,6 +39,14 @@ pub struct Detector {
     logged: bool,
 }
 
+// What is recorded of an event.
+enum Recording {
+    Nothing,
+    // only what it touched, for the body that it stands in
+    Items,
+    Event,
+}
+
 impl Detector {
     pub fn new(alloc: Global) -> Result<Self, NoMemory> {
         Ok(Detector {
@@ -46,29 +59,58 @@ impl Detector {
         })
     }
 
-    /// A pick and what it touched.
+    /// A pick and what it touched. Here and below, Stop where a conflict is seen, which is in `seen` then.
     pub fn pick(
         &mut self,
         roots: &[&Typed],
         v: &View,
         event: Option<Event>,
         items: &[Item],
-    ) -> Result<Option<Seen>, NoMemory>
-        ensures { IfOk result (SeenApart (trees_at roots.now)) }
+        seen: &mut Option<Seen>,
+    ) -> Result<Go, NoMemory>
+        ensures sees { IfOk result (Sees (trees_at roots.now) seen.old seen.new) }
+        ensures unseen { OnErr result (seen.new ≡ seen.old) }
     {
         self.logged = false;
         let Some(event) = event else {
             self.step(v, items)?;
-            return Ok(None);
+            return Ok(Go::On);
         };
-        if !self.records(v, event, items)? {
-            return Ok(None);
+        if self.passes_over(event, items) {
+            return Ok(Go::On);
         }
-        self.event(v, event, items)?;
+        self.recorded_pick(roots, v, event, items, seen)
+    }
+
+    // An event that isn't passed over. This and what follows isn't inlined, so that picks that are passed over cost next to nothing.
+    #[inline(never)]
+    fn recorded_pick(
+        &mut self,
+        roots: &[&Typed],
+        v: &View,
+        event: Event,
+        items: &[Item],
+        seen: &mut Option<Seen>,
+    ) -> Result<Go, NoMemory>
+        ensures sees { IfOk result (Sees (trees_at roots.now) seen.old seen.new) }
+        ensures unseen { OnErr result (seen.new ≡ seen.old) }
+    {
+        match self.recording(v, event, items)? {
+            Recording::Nothing => return Ok(Go::On),
+            Recording::Items => {
+                self.reach(event.frame)?;
+                self.open.step(items)?;
+                return Ok(Go::On);
+            }
+            Recording::Event => {
+                self.reach(event.frame)?;
+                self.event(v, event, items)?;
+            }
+        }
         if event.kind == Kind::Body && items.contains(&Item::Ending) {
-            return self.end(roots, v);
+            return self.end(roots, v, seen);
         }
-        Ok(None)
+        Ok(Go::On)
     }
 
     /// The operands of this node of the top full expression are done.
@@ -77,30 +119,34 @@ impl Detector {
         roots: &[&Typed],
         v: &View,
         node: u32,
-    ) -> Result<Option<Seen>, NoMemory>
-        ensures { IfOk result (SeenApart (trees_at roots.now)) }
+        seen: &mut Option<Seen>,
+    ) -> Result<Go, NoMemory>
+        ensures sees { IfOk result (Sees (trees_at roots.now) seen.old seen.new) }
+        ensures unseen { OnErr result (seen.new ≡ seen.old) }
     {
         if self.recorded == 0 {
-            return Ok(None);
+            return Ok(Go::On);
         }
-        self.recorded_operands(roots, v, node)
+        self.recorded_operands(roots, v, node, seen)
     }
 
-    // The same in a full expression that is recorded. It isn't inlined either.
+    // The same in a full expression that is recorded.
     #[inline(never)]
     fn recorded_operands(
         &mut self,
         roots: &[&Typed],
         v: &View,
         node: u32,
-    ) -> Result<Option<Seen>, NoMemory>
-        ensures { IfOk result (SeenApart (trees_at roots.now)) }
+        seen: &mut Option<Seen>,
+    ) -> Result<Go, NoMemory>
+        ensures sees { IfOk result (Sees (trees_at roots.now) seen.old seen.new) }
+        ensures unseen { OnErr result (seen.new ≡ seen.old) }
     {
         let (rule, chosen) = self.rule(v, node);
         let found = self
             .open
             .operands_done(v.frames, v.map, node, rule, chosen)?;
-        Ok(seen_of(roots, v, found))
+        Ok(see(roots, v, found, seen))
     }
 
     /// This node of the top full expression is done.
@@ -109,28 +155,32 @@ impl Detector {
         roots: &[&Typed],
         v: &View,
         node: u32,
-    ) -> Result<Option<Seen>, NoMemory>
-        ensures { IfOk result (SeenApart (trees_at roots.now)) }
+        seen: &mut Option<Seen>,
+    ) -> Result<Go, NoMemory>
+        ensures sees { IfOk result (Sees (trees_at roots.now) seen.old seen.new) }
+        ensures unseen { OnErr result (seen.new ≡ seen.old) }
     {
         if !self.logged {
-            return Ok(None);
+            return Ok(Go::On);
         }
-        self.logged_done(roots, v, node)
+        self.logged_done(roots, v, node, seen)
     }
 
-    // The same where the last pick was recorded. It isn't inlined, so that a pick that wasn't costs next to nothing.
+    // The same where the last pick was recorded.
     #[inline(never)]
     fn logged_done(
         &mut self,
         roots: &[&Typed],
         v: &View,
         node: u32,
-    ) -> Result<Option<Seen>, NoMemory>
-        ensures { IfOk result (SeenApart (trees_at roots.now)) }
+        seen: &mut Option<Seen>,
+    ) -> Result<Go, NoMemory>
+        ensures sees { IfOk result (Sees (trees_at roots.now) seen.old seen.new) }
+        ensures unseen { OnErr result (seen.new ≡ seen.old) }
     {
         let found = self.open.node_done(v.frames, v.map, node)?;
         if found.is_none() {
-            return Ok(None);
+            return Ok(Go::On);
         }
         let above = match v.begun.last() {
             Some(begun) => last_operand_of(begun.root, node),
@@ -144,31 +194,35 @@ impl Detector {
             }
             None => None,
         };
-        Ok(seen_of(roots, v, first_of(v.frames, found, more)))
+        Ok(see(roots, v, first_of(v.frames, found, more), seen))
     }
 
     // A control step: a full expression begins, or is settled, or something else.
     fn step(&mut self, v: &View, items: &[Item]) -> Result<(), NoMemory> {
         let count = v.begun.len();
-        if count < self.begun {
-            self.begun = count;
-            return self.settle(count);
-        }
-        if count > self.begun {
-            self.begun = count;
-            return self.begin(v);
-        }
-        if self.recorded == 0 {
+        let before = self.begun;
+        self.begun = count;
+        if self.recorded == 0 && (count <= before || self.is_quiet(v)) {
             return Ok(());
         }
-        self.open.step(items)
+        self.recorded_step(v, items, before)
+    }
+
+    // A control step where something is recorded, or begins to be. So many full expressions were open before it.
+    #[inline(never)]
+    fn recorded_step(&mut self, v: &View, items: &[Item], before: usize) -> Result<(), NoMemory> {
+        let count = v.begun.len();
+        if count > before {
+            self.begin(v)
+        } else if count < before {
+            self.settle(count)
+        } else {
+            self.open.step(items)
+        }
     }
 
     // So many full expressions are left open.
     fn settle(&mut self, count: usize) -> Result<(), NoMemory> {
-        if self.recorded == 0 {
-            return Ok(());
-        }
         if count < self.recorded {
             return self.close();
         }
@@ -234,22 +288,36 @@ impl Detector {
         }
     }
 
-    // Whether an event of the top full expression is recorded. One that is quiet is recorded from an event on with items that are noted,
-    // up to a body: each event before a body is sequenced before it and so before all that follow it.
-    fn records(&mut self, v: &View, event: Event, items: &[Item]) -> Result<bool, NoMemory> {
-        let body = event.kind == Kind::Body;
+    // Whether an event changes nothing: none is recorded, and this one has no items that are noted, or is a body.
+    fn passes_over(&self, event: Event, items: &[Item]) -> bool
+        ensures { result ≡ true → (event.kind ≡ Body → ⊥) → (p : ℕ) (x : Item) → slice_get items.now p ≡ Some x → is_noted x ≡ false }
+    {
+        self.recorded == 0 && (event.kind == Kind::Body || !some_noted(items))
+    }
+
+    // What is recorded of any other event of the top full expression. One that is quiet is recorded from an event on with items that are
+    // noted, up to a body: each event before a body is sequenced before it and so before all that follow it. In a quiet one inside a body
+    // that is recorded, what an event touches is kept for that body.
+    fn recording(&mut self, v: &View, event: Event, items: &[Item]) -> Result<Recording, NoMemory>
+        ensures { IfOk result (λ r. (event.kind ≡ Body → ⊥) → (p : ℕ) (x : Item) → slice_get items.now p ≡ Some x → is_noted x ≡ true → r ≡ Logs) }
+    {
         if self.recorded == 0 {
-            if body || !some_noted(items) {
-                return Ok(false);
-            }
             self.record(v)?;
-            return Ok(true);
+            return Ok(Recording::Event);
         }
-        if body && self.recorded == v.begun.len() && self.is_quiet(v) {
+        if !self.is_quiet(v) {
+            return Ok(Recording::Event);
+        }
+        let body = event.kind == Kind::Body;
+        let inside = self.recorded < v.begun.len();
+        if body && !inside {
             self.close()?;
-            return Ok(false);
+            return Ok(Recording::Nothing);
         }
-        Ok(true)
+        if inside && !body && !some_noted(items) {
+            return Ok(Recording::Items);
+        }
+        Ok(Recording::Event)
     }
 
     // The rule of a node of the top full expression, and whether the node has chosen a further operand.
@@ -265,16 +333,19 @@ impl Detector {
         (rule, chosen)
     }
 
-    fn event(&mut self, v: &View, event: Event, items: &[Item]) -> Result<(), NoMemory> {
+    // The frames above this one are left.
+    fn reach(&mut self, frame: Frame) -> Result<(), NoMemory> {
         for _ in 0..self.open.depth() {
-            if self.open.is_top(event.frame) {
+            if self.open.is_top(frame) {
                 break;
             }
             self.open.leave()?;
         }
-        if self.is_kept_for_body(v, event, items) {
-            return self.open.step(items);
-        }
+        Ok(())
+    }
+
+    // An event that is recorded, in the frame that is reached.
+    fn event(&mut self, v: &View, event: Event, items: &[Item]) -> Result<(), NoMemory> {
         self.logged = true;
         let (rule, chosen) = self.rule(v, event.node);
         self.open
@@ -285,17 +356,10 @@ impl Detector {
         Ok(())
     }
 
-    // Whether of the event only what it touched is kept, for a body that is recorded: it stands in a quiet expression inside that body.
-    fn is_kept_for_body(&self, v: &View, event: Event, items: &[Item]) -> bool {
-        event.kind != Kind::Body
-            && self.recorded < v.begun.len()
-            && self.is_quiet(v)
-            && !some_noted(items)
-    }
-
     // An end of the run: the first conflict of all that have both sides by now.
-    fn end(&mut self, roots: &[&Typed], v: &View) -> Result<Option<Seen>, NoMemory>
-        ensures { IfOk result (SeenApart (trees_at roots.now)) }
+    fn end(&mut self, roots: &[&Typed], v: &View, seen: &mut Option<Seen>) -> Result<Go, NoMemory>
+        ensures sees { IfOk result (Sees (trees_at roots.now) seen.old seen.new) }
+        ensures unseen { OnErr result (seen.new ≡ seen.old) }
     {
         let mut best = None;
         for (i, begun) in v.begun.iter().enumerate().rev() {
@@ -311,7 +375,21 @@ impl Detector {
                 self.open.leave()?;
             }
         }
-        Ok(seen_of(roots, v, best))
+        Ok(see(roots, v, best, seen))
+    }
+}
+
+// What is found counts, and stops the run, where its two evaluations stand to one another as its kind asks.
+fn see(roots: &[&Typed], v: &View, found: Option<Found>, seen: &mut Option<Seen>) -> Go
+    requires { ItemsConflict found }
+    ensures { Sees (trees_at roots.now) seen.old seen.new result }
+{
+    match seen_of(roots, v, found) {
+        Some(new) => {
+            *seen = Some(new);
+            Go::Stop
+        }
+        None => Go::On,
     }
 }
 

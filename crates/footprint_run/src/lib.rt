@@ -10,6 +10,7 @@ mod seen;
 mod watcher;
 
 pub use audit::audit_run;
+pub use core_run::Go;
 pub use detector::Detector;
 pub use finding::{Audit, Finding, Race};
 pub use progress::{Progress, Quiet};

@@ -3,7 +3,6 @@ ghost use Rattle.std.specs.Prelude.{◌≡◌, [], IfOk, Some, IsSome};
 ghost use Rattle.core_run.specs.Calls.{HasStopped, picks_in};
 ghost use Rattle.elaborate.specs.Roots.{trees_at};
 ghost use Rattle.footprint_run.specs.Apart.{SeenApart};
-ghost use Rattle.footprint_run.specs.Record.{go_of};
 
 use crate::detector::Detector;
 use crate::seen::Seen;
@@ -57,22 +56,18 @@ impl<'p> Watch for Watcher<'p> {
     ghost trees = { λ w. trees_at w.roots.now };
 
     fn pick(&mut self, v: &View, event: Option<Event>, items: &Touched) -> Result<Go, NoMemory> {
-        let seen = self.detector.pick(self.roots, v, event, items.items())?;
-        let go = go_of(&seen);
+        let go = self
+            .detector
+            .pick(self.roots, v, event, items.items(), &mut self.seen)?;
         self.calls = self.calls.picked(event, items, go);
-        if seen.is_some() {
-            self.seen = seen;
-        }
         Ok(go)
     }
 
     fn node_done(&mut self, v: &View, frame: Frame, turn: u64, node: u32) -> Result<Go, NoMemory> {
-        let seen = self.detector.node_done(self.roots, v, node)?;
-        let go = go_of(&seen);
+        let go = self
+            .detector
+            .node_done(self.roots, v, node, &mut self.seen)?;
         self.calls = self.calls.node_done(frame, turn, node, go);
-        if seen.is_some() {
-            self.seen = seen;
-        }
         Ok(go)
     }
 
@@ -83,22 +78,10 @@ impl<'p> Watch for Watcher<'p> {
         turn: u64,
         node: u32,
     ) -> Result<Go, NoMemory> {
-        let seen = self.detector.operands_done(self.roots, v, node)?;
-        let go = go_of(&seen);
+        let go = self
+            .detector
+            .operands_done(self.roots, v, node, &mut self.seen)?;
         self.calls = self.calls.operands_done(frame, turn, node, go);
-        if seen.is_some() {
-            self.seen = seen;
-        }
         Ok(go)
-    }
-}
-
-// A watch stops a run where it has seen a conflict.
-fn go_of(seen: &Option<Seen>) -> Go
-    ensures { result ≡ go_of seen.now }
-{
-    match seen {
-        Some(_) => Go::Stop,
-        None => Go::On,
     }
 }

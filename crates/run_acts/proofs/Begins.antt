@@ -54,7 +54,7 @@ named_all_filled old now new p places first keeps lawful placed statics texts = 
     (texts (placed_still old now p places first placed).literals lawful.numbered.literals)
 
 -- ---- what is known of the arguments stays
-arguments_still : (old new : Kept) (k : ℕ) (words : List (List ℕ)) (xs : List Argument) → Keeps old new → AreArguments old k words xs →
+pub arguments_still : (old new : Kept) (k : ℕ) (words : List (List ℕ)) (xs : List Argument) → Keeps old new → AreArguments old k words xs →
     AreArguments new k words xs
 arguments_still old new k [] [] keeps are = tt
 arguments_still old new k [] (x ∷ xs) keeps are = absurd are

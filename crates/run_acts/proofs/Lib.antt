@@ -19,3 +19,4 @@ pub mod Begins
 pub mod Outcomes
 pub mod Ready
 pub mod NoPlace
+pub mod Rooms

@@ -4,12 +4,14 @@ ghost use Rattle.std.specs.List.{All};
 ghost use Rattle.ub_base.specs.declared.names.ObjName.{ObjName};
 ghost use Rattle.ub_base.specs.declared.names.ObjName.TheVariants as names;
 ghost use Rattle.exposure.specs.declared.prov.Prov.TheVariants.{Whole};
-ghost use Rattle.c_typed.specs.Lawful.{IsLawful, ContentIsLawful};
+ghost use Rattle.addr_map.specs.Sound.{Above};
+ghost use Rattle.c_typed.specs.Lawful.{IsLawful, ContentIsLawful, StaticIsLawful};
 ghost use Rattle.c_types.specs.Shapes.{form_of, leaf, repeat};
 ghost use Rattle.c_types.specs.Types.{int, params_of, pointer, qualified_of, signature_of, type_of};
 ghost use Rattle.c_types.specs.declared.kind.IntKind.TheVariants.{Char};
 ghost use Rattle.mem_spec.specs.Bytes.{number_bytes};
 ghost use Rattle.c_model.specs.Nodes.{plain_byte};
+ghost use Rattle.c_model.specs.Program.{Standing};
 ghost use Rattle.c_model.specs.Values.{address_after, pointer_value};
 ghost use Rattle.prov_memory.specs.declared.answer.CreateFault.TheVariants.{Unplaced};
 ghost use Rattle.prov_memory.specs.declared.value.Value.TheVariants.{Int};
@@ -21,8 +23,8 @@ ghost use Rattle.prov_memory.specs.Sound.{IsSound};
 ghost use Rattle.prov_memory.specs.Tags.{CellsTagged};
 ghost use Rattle.run_acts.specs.Contents.{Stands};
 ghost use Rattle.run_acts.specs.Kept.{IsOf};
-ghost use Rattle.run_acts.specs.Outcomes.{CannotHold, CannotStand, IsFilled, IsReady, NoVector, SomeArgument, SomeLiteral, SomeStatic};
-ghost use Rattle.run_acts.specs.Standing.{AreArguments, ArgumentAdded, AllCreated, AllFilled, StaticFilled, StaticsFilled, extent_of, HasForm, literals, NamedFilled, program_name, StartStands, StaticCreated, StaticsCreated, StandsThere};
+ghost use Rattle.run_acts.specs.Outcomes.{CannotHold, CannotStand, HasNoPlace, IsFilled, IsReady, NoVector, SomeArgument, SomeLiteral, SomeStatic, Waits, WaitAll};
+ghost use Rattle.run_acts.specs.Standing.{AreArguments, AreStatics, ArgumentAdded, IsStatic, AllCreated, AllFilled, StaticFilled, StaticsFilled, extent_of, HasForm, literals, NamedFilled, program_name, StartStands, StaticCreated, StaticsCreated, StandsThere};
 ghost use Rattle.run_acts.specs.Standing as standing;
 ghost use Rattle.run_acts.specs.Starting.{AreAll, ArePlaced, AreMadeAll, AddsArgument, Creates, EndsLow, Puts};
 ghost use Rattle.run_acts.specs.Views.{pointer_at, value_in};
@@ -189,6 +191,7 @@ pub fn start(
     ensures placed { IfOk result (λ s. IsSound m.old → IsLawful p.now → ArePlaced m.new p.now s.places) }
     ensures stands { OnOk result (IsSound m.old → IsLawful p.now → length args.now + 1 < 2 ^ 32 → StartStands m.old m.new p.now (program_name ∷ map string_bytes args.now)) }
     ensures made { IfOk result (λ s. IsSound m.old → IsLawful p.now → IsOf m.new s.count × IsOf m.new s.vector) }
+    ensures unplaced { result ≡ Err Unplaced → IsSound m.old → IsLawful p.now → Above 16777216 m.old.rows → length args.now + 1 < 2 ^ 32 → HasNoPlace m.new p.now (program_name ∷ map string_bytes args.now) }
 {
     let mut t = Touched::new(alloc)?;
     let mut places = Places::new(alloc);
@@ -269,6 +272,7 @@ fn fill_named(
     t: &mut Touched,
 ) -> Result<(), CreateFault>
     ensures kept { IsSound m.old → IsLawful p.now → ArePlaced m.old p.now places.now → Keeps m.old m.new }
+    ensures room { IsSound m.old → IsLawful p.now → ArePlaced m.old p.now places.now → Above 16777216 m.old.rows → (os : List Standing) → AreStatics p.now.tags 0 p.now.statics os → WaitAll m.old (os ++ literals 0 p.now.literals) → IsFilled m.old m.new result }
     ensures exact { OnOk result (IsSound m.old → IsLawful p.now → ArePlaced m.old p.now places.now → NamedFilled m.old m.new p.now) }
 {
     fill_statics(alloc, p, places, m, t)?;
@@ -284,6 +288,7 @@ fn fill_statics(
 ) -> Result<(), CreateFault>
     ensures kept { IsSound m.old → IsLawful p.now → ArePlaced m.old p.now places.now → Keeps m.old m.new }
     ensures exact { OnOk result (IsSound m.old → IsLawful p.now → ArePlaced m.old p.now places.now → StaticsFilled m.old m.new p.now.tags p.now.statics) }
+    ensures room { IsSound m.old → IsLawful p.now → ArePlaced m.old p.now places.now → Above 16777216 m.old.rows → (os : List Standing) → AreStatics p.now.tags 0 p.now.statics os → WaitAll m.old os → IsFilled m.old m.new result }
 {
     for (number, object) in p.statics.as_slice().iter().enumerate() {
         fill_static(alloc, p, object, number, places, m, t)?;
@@ -300,6 +305,7 @@ fn fill_literals(
 ) -> Result<(), CreateFault>
     ensures exact { OnOk result (AreAll m.old (λ k. names.Lit k) places.now.literals (length p.now.literals) → length p.now.literals < 2 ^ 32 → AllFilled m.old m.new (literals 0 p.now.literals)) }
     ensures kept { Keeps m.old m.new }
+    ensures room { AreAll m.old (λ k. names.Lit k) places.now.literals (length p.now.literals) → length p.now.literals < 2 ^ 32 → Above 16777216 m.old.rows → WaitAll m.old (literals 0 p.now.literals) → IsFilled m.old m.new result }
 {
     for (number, literal) in p.literals.as_slice().iter().enumerate() {
         let number = short(number);
@@ -382,6 +388,7 @@ fn fill_static(
 ) -> Result<(), CreateFault>
     ensures kept { IsSound m.old → ArePlaced m.old p.now places.now → All (λ c. ContentIsLawful p.now c.content) object.now.constants → Keeps m.old m.new }
     ensures exact { OnOk result (IsSound m.old → ArePlaced m.old p.now places.now → All (λ c. ContentIsLawful p.now c.content) object.now.constants → number < length p.now.statics → length p.now.statics < 2 ^ 32 → StaticFilled m.old m.new p.now.tags number object.now) }
+    ensures room { IsSound m.old → ArePlaced m.old p.now places.now → StaticIsLawful p.now object.now → number < length p.now.statics → length p.now.statics < 2 ^ 32 → Above 16777216 m.old.rows → (o : Standing) → IsStatic p.now.tags number object.now o → Waits m.old o → IsFilled m.old m.new result }
 {
     let number = short(number);
     let whole = places.object(number, 0);
@@ -579,6 +586,7 @@ fn fill_arguments(
 ) -> Result<(), CreateFault>
     ensures exact { OnOk result ((words : List (List ℕ)) → AreArguments m.old 0 words arguments.now → AllFilled m.old m.new (standing.arguments 0 words)) }
     ensures kept { Keeps m.old m.new }
+    ensures room { Above 16777216 m.old.rows → (words : List (List ℕ)) → AreArguments m.old 0 words arguments.now → WaitAll m.old (standing.arguments 0 words) → IsFilled m.old m.new result }
 {
     for argument in arguments {
         fill_text(alloc, argument.text.as_slice(), argument.place, m, t)?;
@@ -631,6 +639,7 @@ fn point(
 ) -> Result<(), CreateFault>
     ensures kept { IsSound m.old → AreMadeAll m.old arguments.now → Keeps m.old m.new }
     ensures exact { OnOk result (IsSound m.old → AreMadeAll m.old arguments.now → StandsThere m.old names.Argv vector → (words : List (List ℕ)) → AreArguments m.old 0 words arguments.now → length words < 2 ^ 32 → AllFilled m.old m.new (standing.vector words ∷ [])) }
+    ensures room { IsSound m.old → AreMadeAll m.old arguments.now → StandsThere m.old names.Argv vector → Above 16777216 m.old.rows → (words : List (List ℕ)) → AreArguments m.old 0 words arguments.now → length words < 2 ^ 32 → Waits m.old (standing.vector words) → IsFilled m.old m.new result }
 {
     let mut at = 0;
     for argument in arguments {

@@ -7,3 +7,4 @@ mod ResolvedLemmas
 mod Picked
 mod Heads
 mod NamedLemmas
+mod Rooted

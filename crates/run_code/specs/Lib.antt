@@ -5,3 +5,4 @@ pub mod InRange
 pub mod EventActs
 pub mod LaidOut
 pub mod Named
+pub mod Roots

@@ -1,4 +1,5 @@
 // Code in the making.
+ghost use Rattle.std.specs.Prelude.{◌≡◌};
 
 use crate::expressions::Expressions;
 use crate::nodes::Objects;
@@ -22,7 +23,6 @@ pub struct Draft<'p, 't> {
     pub program: &'p Program,
     pub terms: &'t [Core],
     pub expressions: Expressions<'p>,
-    pub functions: Vec<Option<FunctionCode>>,
     pub function: FunctionDraft,
 }
 
@@ -31,14 +31,16 @@ pub fn count_of<T>(items: &Vec<T>) -> u32 {
     u32::try_from(items.len()).unwrap_or(u32::MAX)
 }
 
-// The finished code.
-pub fn finished<'p>(draft: Draft<'p, '_>) -> Code<'p> {
+// The finished code, with these functions.
+pub fn finished<'p>(draft: Draft<'p, '_>, functions: Vec<Option<FunctionCode>>) -> Code<'p>
+    ensures expressions { result.expressions.items ≡ draft.entry.expressions.all.items }
+    ensures functions { result.functions.items ≡ functions.items }
+{
     let Draft {
         alloc: _,
         program: _,
         terms: _,
         expressions,
-        functions,
         function: _,
     } = draft;
     code_of_expressions(expressions, functions)
@@ -47,7 +49,10 @@ pub fn finished<'p>(draft: Draft<'p, '_>) -> Code<'p> {
 fn code_of_expressions<'p>(
     expressions: Expressions<'p>,
     functions: Vec<Option<FunctionCode>>,
-) -> Code<'p> {
+) -> Code<'p>
+    ensures expressions { result.expressions.items ≡ expressions.entry.all.items }
+    ensures functions { result.functions.items ≡ functions.items }
+{
     let Expressions {
         tables,
         entries,

@@ -1,10 +1,11 @@
 // The listing of one full expression, from its term.
-ghost use Rattle.std.specs.Prelude.{◌≡◌, ◌<◌, ◌++◌, ◌-◌, ◌^◌, ℕ, min, length, OnOk, IfOk, Some, slice_get};
+ghost use Rattle.std.specs.Prelude.{◌≡◌, ◌<◌, [], ◌∷◌, ◌++◌, ◌-◌, ◌^◌, ℕ, min, length, OnOk, IfOk, Some, slice_get};
 ghost use Rattle.std.specs.Option.{ForSome};
 ghost use Rattle.c_types.specs.Types.{type_of};
 ghost use Rattle.c_typed.specs.declared.tree.Typed.{out-Typed};
 ghost use Rattle.c_typed.specs.Order.{place};
 ghost use Rattle.core_ir.specs.Term.{term_of};
+ghost use Rattle.run_code.specs.Roots.{roots_in};
 ghost use Rattle.run_code.specs.Listings.{entries_of, one, continuation, flat};
 ghost use Rattle.run_code.specs.declared.steps.Operand.{Operand as OperandOf};
 ghost use Rattle.run_code.specs.Resolved.{value_at};
@@ -54,7 +55,9 @@ fn object_ty(tree: &Typed) -> &Ty
 
 impl<'p, 't> Draft<'p, 't> {
     // The full expression of this root, which comes next.
-    pub fn expression(&mut self, root: &'p Typed) -> Result<(), NoMemory> {
+    pub fn expression(&mut self, root: &'p Typed) -> Result<(), NoMemory>
+        ensures { OnOk result (roots_in self.new.expressions.all.items ≡ roots_in self.old.expressions.all.items ++ root.now ∷ []) }
+    {
         let mut nodes = Vec::new(self.alloc);
         let mut counts = Counts {
             initializers: count_of(&self.expressions.all).saturating_add(1),
@@ -71,6 +74,7 @@ impl<'p, 't> Draft<'p, 't> {
     // The listing of the full expression that comes next, whose nodes these are: that of the next term.
     fn listing(&mut self, nodes: &[NodeInfo<'p>]) -> Result<Vec<Listed<'p>>, NoMemory>
         ensures objects { OnOk result (self.new.function.objects.first.items ≡ self.old.function.objects.first.items) }
+        ensures kept { OnOk result (self.new.expressions.all.items ≡ self.old.expressions.all.items) }
         ensures due { IfOk result (λ es. AreEntries self.new.function.objects.first.items self.new.expressions.tables nodes.now es.items) }
     {
         let mut entries = Vec::new(self.alloc);
@@ -92,6 +96,7 @@ impl<'p, 't> Draft<'p, 't> {
         nodes: &[NodeInfo<'p>],
     ) -> Result<Range, NoMemory>
         ensures objects { self.new.function.objects.first.items ≡ self.old.function.objects.first.items }
+        ensures kept { self.new.expressions.all.items ≡ self.old.expressions.all.items }
         ensures grown { OnOk result (AreGrown self.old.expressions.tables self.new.expressions.tables) }
         ensures within { IfOk result (IsRange (length self.new.expressions.tables.chosen.items)) }
     {
@@ -110,6 +115,7 @@ impl<'p, 't> Draft<'p, 't> {
     ) -> Result<(), NoMemory>
         ensures listing { OnOk result (entries_of entries.new.items ≡ entries_of entries.old.items ++ flat (length nodes.now) (term_of core.now)) }
         ensures objects { OnOk result (self.new.function.objects.first.items ≡ self.old.function.objects.first.items) }
+        ensures kept { OnOk result (self.new.expressions.all.items ≡ self.old.expressions.all.items) }
         ensures due { AreEntries self.old.function.objects.first.items self.old.expressions.tables nodes.now entries.old.items → OnOk result (AreEntries self.new.function.objects.first.items self.new.expressions.tables nodes.now entries.new.items) }
     {
         match core {
@@ -147,6 +153,7 @@ impl<'p, 't> Draft<'p, 't> {
     ) -> Result<(), NoMemory>
         ensures listing { OnOk result (entries_of entries.new.items ≡ entries_of entries.old.items ++ continuation node operand (flat (length nodes.now) (term_of core.now))) }
         ensures objects { OnOk result (self.new.function.objects.first.items ≡ self.old.function.objects.first.items) }
+        ensures kept { OnOk result (self.new.expressions.all.items ≡ self.old.expressions.all.items) }
         ensures due { AreEntries self.old.function.objects.first.items self.old.expressions.tables nodes.now entries.old.items → OnOk result (AreEntries self.new.function.objects.first.items self.new.expressions.tables nodes.now entries.new.items) }
     {
         let at = entries.len();
@@ -221,6 +228,7 @@ impl<'p, 't> Draft<'p, 't> {
     ) -> Result<(), NoMemory>
         ensures listing { OnOk result (entries_of entries.new.items ≡ entries_of entries.old.items ++ one (length nodes.now) (place number kind)) }
         ensures objects { OnOk result (self.new.function.objects.first.items ≡ self.old.function.objects.first.items) }
+        ensures kept { OnOk result (self.new.expressions.all.items ≡ self.old.expressions.all.items) }
         ensures due { AreEntries self.old.function.objects.first.items self.old.expressions.tables nodes.now entries.old.items → OnOk result (AreEntries self.new.function.objects.first.items self.new.expressions.tables nodes.now entries.new.items) }
     {
         let Some(info) = nodes.get(number as usize) else {
@@ -241,6 +249,7 @@ impl<'p, 't> Draft<'p, 't> {
     ) -> Result<Due<'p>, NoMemory>
         ensures place { IfOk result (λ d. d.place ≡ place number kind) }
         ensures objects { OnOk result (self.new.function.objects.first.items ≡ self.old.function.objects.first.items) }
+        ensures kept { OnOk result (self.new.expressions.all.items ≡ self.old.expressions.all.items) }
         ensures grown { OnOk result (AreGrown self.old.expressions.tables self.new.expressions.tables) }
         ensures due { IfOk result (λ d. AreNoted self.old.function.objects.first.items nodes.now → slice_get nodes.now number ≡ Some info.entry → IsDue self.old.function.objects.first.items self.new.expressions.tables (length nodes.now) d info.entry) }
     {
@@ -268,6 +277,7 @@ impl<'p, 't> Draft<'p, 't> {
         operands: &[Operand],
     ) -> Result<Act<'p>, NoMemory>
         ensures objects { OnOk result (self.new.function.objects.first.items ≡ self.old.function.objects.first.items) }
+        ensures kept { OnOk result (self.new.expressions.all.items ≡ self.old.expressions.all.items) }
         ensures grown { OnOk result (AreGrown self.old.expressions.tables self.new.expressions.tables) }
         ensures act { IfOk result (λ a. IsAct self.old.function.objects.first.items self.new.expressions.tables info.entry.initializer (head_at (out-Typed info.entry.tree.now).node) (seen info.entry.tree.now operands.now info.entry.operand room) kind a) }
     {
@@ -287,6 +297,7 @@ impl<'p, 't> Draft<'p, 't> {
         nodes: &[NodeInfo<'p>],
     ) -> Result<Option<u32>, NoMemory>
         ensures objects { self.new.function.objects.first.items ≡ self.old.function.objects.first.items }
+        ensures kept { self.new.expressions.all.items ≡ self.old.expressions.all.items }
         ensures grown { OnOk result (AreGrown self.old.expressions.tables self.new.expressions.tables) }
         ensures within { IfOk result (λ o. ForSome o (λ n. n < length self.new.expressions.tables.choices.items)) }
     {
@@ -304,6 +315,7 @@ impl<'p, 't> Draft<'p, 't> {
         nodes: &[NodeInfo<'p>],
     ) -> Result<Option<u32>, NoMemory>
         ensures objects { self.new.function.objects.first.items ≡ self.old.function.objects.first.items }
+        ensures kept { self.new.expressions.all.items ≡ self.old.expressions.all.items }
         ensures grown { OnOk result (AreGrown self.old.expressions.tables self.new.expressions.tables) }
         ensures within { IfOk result (λ o. ForSome o (λ n. n < length self.new.expressions.tables.choices.items)) }
     {
@@ -329,6 +341,7 @@ impl<'p, 't> Draft<'p, 't> {
         nodes: &[NodeInfo<'p>],
     ) -> Result<Choice, NoMemory>
         ensures objects { self.new.function.objects.first.items ≡ self.old.function.objects.first.items }
+        ensures kept { self.new.expressions.all.items ≡ self.old.expressions.all.items }
         ensures grown { OnOk result (AreGrown self.old.expressions.tables self.new.expressions.tables) }
         ensures within { IfOk result (IsChoice (length self.new.expressions.tables.chosen.items)) }
     {
@@ -350,6 +363,7 @@ impl<'p, 't> Draft<'p, 't> {
         nodes: &[NodeInfo<'p>],
     ) -> Result<Way, NoMemory>
         ensures objects { self.new.function.objects.first.items ≡ self.old.function.objects.first.items }
+        ensures kept { self.new.expressions.all.items ≡ self.old.expressions.all.items }
         ensures grown { OnOk result (AreGrown self.old.expressions.tables self.new.expressions.tables) }
         ensures within { IfOk result (λ w. IsRange (length self.new.expressions.tables.chosen.items) w.chosen) }
     {
@@ -374,6 +388,7 @@ impl<'p, 't> Draft<'p, 't> {
         operands: &[Operand],
     ) -> Result<Act<'p>, NoMemory>
         ensures objects { OnOk result (self.new.function.objects.first.items ≡ self.old.function.objects.first.items) }
+        ensures kept { OnOk result (self.new.expressions.all.items ≡ self.old.expressions.all.items) }
         ensures grown { OnOk result (AreGrown self.old.expressions.tables self.new.expressions.tables) }
         ensures act { (own : OperandOf) → IfOk result (λ a. IsEffect self.old.function.objects.first.items self.new.expressions.tables (head_at (out-Typed tree.now).node) (seen tree.now operands.now own room) a) }
     {
@@ -408,6 +423,7 @@ impl<'p, 't> Draft<'p, 't> {
         value: Operand,
     ) -> Result<Act<'p>, NoMemory>
         ensures objects { OnOk result (self.new.function.objects.first.items ≡ self.old.function.objects.first.items) }
+        ensures kept { OnOk result (self.new.expressions.all.items ≡ self.old.expressions.all.items) }
         ensures grown { OnOk result (AreGrown self.old.expressions.tables self.new.expressions.tables) }
         ensures act { IfOk result (λ a. Stores self.new.expressions.tables access initializing (pointed (first_type (type_of (out-Typed tree.now).ty) (out-Typed tree.now).children)) place value a) }
     {
@@ -430,6 +446,7 @@ impl<'p, 't> Draft<'p, 't> {
         operands: &[Operand],
     ) -> Result<Act<'p>, NoMemory>
         ensures objects { OnOk result (self.new.function.objects.first.items ≡ self.old.function.objects.first.items) }
+        ensures kept { OnOk result (self.new.expressions.all.items ≡ self.old.expressions.all.items) }
         ensures grown { OnOk result (AreGrown self.old.expressions.tables self.new.expressions.tables) }
         ensures act { (own : OperandOf) (room : ℕ) → IfOk result (λ a. IsBody self.new.expressions.tables initializer (head_at (out-Typed tree.now).node) (seen tree.now operands.now own room) a) }
     {
@@ -442,6 +459,7 @@ impl<'p, 't> Draft<'p, 't> {
 
     fn call(&mut self, tree: &'p Typed, operands: &[Operand]) -> Result<Act<'p>, NoMemory>
         ensures objects { OnOk result (self.new.function.objects.first.items ≡ self.old.function.objects.first.items) }
+        ensures kept { OnOk result (self.new.expressions.all.items ≡ self.old.expressions.all.items) }
         ensures grown { OnOk result (AreGrown self.old.expressions.tables self.new.expressions.tables) }
         ensures act { IfOk result (λ a. Calls self.new.expressions.tables operands.now a) }
     {

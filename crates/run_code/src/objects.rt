@@ -1,5 +1,5 @@
 // The blocks of a function with their objects.
-ghost use Rattle.std.specs.Prelude.{length, IfOk, OnOk};
+ghost use Rattle.std.specs.Prelude.{◌≡◌, length, IfOk, OnOk};
 ghost use Rattle.run_code.specs.InRange.{IsRange};
 ghost use Rattle.run_code.specs.EventActs.{AreGrown};
 
@@ -34,6 +34,7 @@ impl<'p, 't> Draft<'p, 't> {
     // Gives how many bytes it counts.
     fn object(&mut self, qual: &'p Qual) -> Result<u64, NoMemory>
         ensures grown { OnOk result (AreGrown self.old.expressions.tables self.new.expressions.tables) }
+        ensures kept { OnOk result (self.new.expressions.all.items ≡ self.old.expressions.all.items) }
     {
         let tags = &self.program.tags;
         let extent = extent(tags, &qual.ty);
@@ -56,6 +57,7 @@ impl<'p, 't> Draft<'p, 't> {
     // The objects of a block, and the bytes that they count.
     fn objects_of(&mut self, block: &'p Block) -> Result<(Range, u64), NoMemory>
         ensures within { IfOk result (λ r. IsRange (length self.new.expressions.tables.objects.items) r.0) }
+        ensures kept { OnOk result (self.new.expressions.all.items ≡ self.old.expressions.all.items) }
     {
         let first = next_number(&self.expressions.tables.objects)?;
         let mut created = 0;
@@ -67,7 +69,9 @@ impl<'p, 't> Draft<'p, 't> {
     }
 
     // A block of the function; `arguments` of its objects take arguments.
-    fn add_block(&mut self, block: &'p Block, arguments: u32) -> Result<(), NoMemory> {
+    fn add_block(&mut self, block: &'p Block, arguments: u32) -> Result<(), NoMemory>
+        ensures { OnOk result (self.new.expressions.all.items ≡ self.old.expressions.all.items) }
+    {
         let (objects, created) = self.objects_of(block)?;
         let number = self.function.count;
         self.function.count = number.saturating_add(objects.count);
@@ -82,7 +86,9 @@ impl<'p, 't> Draft<'p, 't> {
 
     // The blocks in a statement.
     #[cycle(survey)]
-    pub fn survey(&mut self, body: &'p Body) -> Result<(), NoMemory> {
+    pub fn survey(&mut self, body: &'p Body) -> Result<(), NoMemory>
+        ensures { OnOk result (self.new.expressions.all.items ≡ self.old.expressions.all.items) }
+    {
         match body {
             Body::Block(inner) => self.survey_block(inner, 0),
             Body::If(_, yes, no) => {
@@ -114,7 +120,9 @@ impl<'p, 't> Draft<'p, 't> {
     }
 
     #[cycle(survey)]
-    pub fn survey_block(&mut self, block: &'p Block, arguments: u32) -> Result<(), NoMemory> {
+    pub fn survey_block(&mut self, block: &'p Block, arguments: u32) -> Result<(), NoMemory>
+        ensures { OnOk result (self.new.expressions.all.items ≡ self.old.expressions.all.items) }
+    {
         self.add_block(block, arguments)?;
         for entry in block.entries.as_slice() {
             if let Entry::Statement(inner) = entry {

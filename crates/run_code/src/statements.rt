@@ -1,6 +1,12 @@
 // The code of a program.
-ghost use Rattle.std.specs.Prelude.{IfOk};
+ghost use Rattle.std.specs.Prelude.{◌≡◌, ◌≤◌, ◌++◌, length, drop, map, flat_map, IfOk, OnOk};
 ghost use Rattle.std.specs.List.{All};
+ghost use Rattle.elaborate.specs.Expressions.{block_trees, program_trees};
+ghost use Rattle.c_typed.specs.Tree.{tree_of};
+ghost use Rattle.c_typed.specs.declared.statement.Body.TheVariants as body_form;
+ghost use Rattle.run_statements.specs.Bodies.{Grows, IsStatement};
+ghost use Rattle.run_statements.specs.declared.numbers.Numbers.{Numbers as NumbersOf};
+ghost use Rattle.run_code.specs.Roots.{roots_in, code_trees, IsNumberedBy, AreInBlocks};
 ghost use Rattle.run_code.specs.LaidOut.{IsLaidOut};
 
 use crate::draft::{Draft, FunctionDraft, count_of, finished};
@@ -17,10 +23,14 @@ use ub_base::NoMemory;
 
 impl<'p, 't> Draft<'p, 't> {
     // These full expressions in turn, but for the first so many.
-    fn expressions(&mut self, roots: &[&'p Typed], passed: usize) -> Result<Range, NoMemory> {
+    fn expressions(&mut self, roots: &[&'p Typed], passed: usize) -> Result<Range, NoMemory>
+        requires { passed ≤ length roots.now }
+        ensures { OnOk result (roots_in self.new.expressions.all.items ≡ roots_in self.old.expressions.all.items ++ drop passed (map (λ root. root.now) roots.now)) }
+    {
         let first = count_of(&self.expressions.all);
-        for root in roots.iter().skip(passed) {
-            self.expression(*root)?;
+        let (_, rest) = roots.split_at(passed);
+        for root in rest {
+            self.expression(root)?;
         }
         let count = count_of(&self.expressions.all).saturating_sub(first);
         Ok(Range { first, count })
@@ -31,7 +41,12 @@ impl<'p, 't> Draft<'p, 't> {
         function: &'p Function,
         body: &'p Block,
         numbers: &mut Numbers<'p>,
-    ) -> Result<FunctionCode, NoMemory> {
+    ) -> Result<FunctionCode, NoMemory>
+        ensures order { OnOk result (roots_in self.new.expressions.all.items ≡ roots_in self.old.expressions.all.items ++ block_trees body.now) }
+        ensures numbers { OnOk result (map (λ root. root.now) numbers.new.roots.items ≡ map (λ root. root.now) numbers.old.roots.items ++ block_trees body.now) }
+        ensures grows { OnOk result (Grows numbers.old numbers.new) }
+        ensures body { IfOk result (λ code. IsStatement numbers.new (body_form.Block body.now) code.body) }
+    {
         self.function = start_function(self.alloc);
         let blocks = count_of(&self.expressions.tables.blocks);
         self.survey_block(body, count_of_items(function.ty.params.len()))?;
@@ -68,22 +83,31 @@ pub fn code_of<'p>(
 ) -> Result<Code<'p>, NoMemory>
     // Each event that is listed of a full expression is one of its nodes, and has the act of that node.
     ensures laid_out { IfOk result (λ code. ∥ All (IsLaidOut code.tables code.listing.items) code.expressions.items ∥₁) }
+    // The full expressions are those of the functions in turn, in the order of the text.
+    ensures order { IfOk result (λ code. roots_in code.expressions.items ≡ flat_map code_trees program.now.functions) }
+    // So they are those of the terms, where what is defined is defined by a block.
+    ensures trees { AreInBlocks program.now.functions → IfOk result (λ code. map tree_of (roots_in code.expressions.items) ≡ program_trees program.now) }
+    // The statements are those of the functions, in which numbers stand for these full expressions.
+    ensures bodies { IfOk result (λ code. (numbers : NumbersOf) × IsNumberedBy numbers program.now.functions code) }
 {
     let mut draft = Draft {
         alloc,
         program,
         terms,
         expressions: Expressions::new(alloc),
-        functions: Vec::new(alloc),
         function: start_function(alloc),
     };
     let mut numbers = Numbers::new(alloc);
+    let mut functions = Vec::new(alloc);
     for function in program.functions.as_slice() {
         let code = match &function.body {
-            Some(Body::Block(block)) => Some(draft.function(function, block, &mut numbers)?),
-            _ => None,
+            Some(body) => match body {
+                Body::Block(block) => Some(draft.function(function, block, &mut numbers)?),
+                _ => None,
+            },
+            None => None,
         };
-        draft.functions.push(code)?;
+        functions.push(code)?;
     }
-    Ok(finished(draft))
+    Ok(finished(draft, functions))
 }

@@ -1,7 +1,9 @@
 -- Those filled so far.
 use Rattle.std.proofs.Common.{◌<◌, ◌^◌, length, take}
+use Rattle.addr_map.specs.Sound.{Above}
 use Rattle.ub_base.specs.declared.names.ObjName.TheVariants.{Lit}
 use Rattle.prov_memory.specs.Keeps.{Keeps}
+use Rattle.run_acts.specs.Outcomes.{LivesStay, WaitAll}
 use Rattle.run_acts.specs.Standing.{AllFilled, literals}
 use Rattle.run_acts.specs.Starting.{AreAll}
 use Rattle.run_acts.proofs.initial.fill_literals.Given as goal
@@ -11,4 +13,6 @@ invariant-loop-number l = record {
   keeps : Keeps l.initial.m l.m;
   filled : AreAll l.initial.m (λ k. Lit k) l.places.literals (length l.literal-items) → length l.literal-items < 2 ^ 32
       → AllFilled l.initial.m l.m (take l.number (literals 0 l.literal-items));
+  live : AreAll l.initial.m (λ k. Lit k) l.places.literals (length l.p.literals) → length l.p.literals < 2 ^ 32 → Above 16777216 l.initial.m.rows
+      → WaitAll l.initial.m (literals 0 l.p.literals) → LivesStay l.initial.m l.m;
 }

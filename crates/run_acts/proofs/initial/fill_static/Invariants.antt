@@ -1,12 +1,14 @@
 -- Those put so far.
-use Rattle.std.proofs.Common.{◌≡◌, List, drop}
+use Rattle.std.proofs.Common.{◌≡◌, ℕ, List, drop}
 use Rattle.ub_base.specs.declared.names.ObjName.{ObjName}
 use Rattle.exposure.specs.declared.prov.Prov.TheVariants.{Whole}
 use Rattle.prov_memory.specs.Keeps.{Keeps}
 use Rattle.c_model.specs.Program.{Filling as Filled}
 use Rattle.run_acts.specs.Fills.{AreFillings}
 use Rattle.run_acts.specs.Kept.{AreOf}
+use Rattle.run_acts.specs.Outcomes.{IsReady, LivesStay}
 use Rattle.run_acts.proofs.Fills.{Alike}
+use Rattle.run_acts.proofs.Ready.{AllWithin}
 use Rattle.run_acts.proofs.Statics.{AreStill, Reached, at_object}
 use Rattle.run_acts.proofs.initial.fill_static.Given as goal
 
@@ -16,4 +18,6 @@ invariant-loop-filling l = record {
   keeps : AreOf l.initial.m l.filling-items → Keeps l.initial.m l.m;
   reached : (x : ObjName) → l.whole.prov ≡ Whole x → (cs : List Filled) → AreFillings l.initial.m l.filling-items cs → AreStill l.initial.m cs
       → Reached l.initial.m l.m (at_object x l.whole.addr) cs (drop l.filling-index cs);
+  live : (x : ObjName) (size : ℕ) → l.whole.prov ≡ Whole x → IsReady l.initial.m x l.whole.addr size → AllWithin size l.filling-items
+      → LivesStay l.initial.m l.m;
 }

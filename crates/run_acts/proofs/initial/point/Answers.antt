@@ -4,6 +4,9 @@ use Rattle.run_acts.specs.Standing.{pointers}
 use Rattle.run_acts.proofs.Starting.{pointing, pointing_null}
 use Rattle.run_acts.proofs.Statics.{at_object, reached_none}
 use Rattle.run_acts.proofs.Vectors.{next_offset, pointed_next, pointed_all, ok_then}
+use Rattle.std.proofs.lemmas.Result.{err_from_is_err_and}
+use Rattle.run_acts.proofs.Ready.{filled_then, lives_same, lives_then, refused_then}
+use Rattle.run_acts.proofs.Rooms.{null_room, pointer_room}
 use Rattle.run_acts.proofs.initial.point.Goals as goal
 
 pub loop-argument-init : goal.loop-argument-init
@@ -12,6 +15,7 @@ loop-argument-init c = record {
   alike = refl;
   offset = refl;
   pointed = λ sound made x is words are few. reached_none c.args.m.now (at_object x c.args.vector.addr) (pointers 0 0 words);
+  live = λ sound made stands above words are few waits. lives_same c.args.m.now;
 }
 
 pub loop-argument-preserved : goal.loop-argument-preserved
@@ -29,6 +33,11 @@ loop-argument-preserved c =
           c.loop-argument.at c.argument-item.result c.value.result _ sound (inv.keeps sound made) made c.loop-argument-test.true c.argument-item.is
           inv.offset (c.value.ensures c.loop-argument.m) c.in_ok-bytes.ensures.bytes inv.alike (c.in_ok-put.ensures.exact x is) are few
           (inv.pointed sound made x is words are few);
+      live = λ sound made stands above words are few waits.
+          lives_then c.args.m.now c.loop-argument.m c.put.new.m (inv.live sound made stands above words are few waits)
+          (pointer_room c.args.m.now c.loop-argument.m c.args.vector words c.args.arguments.now c.loop-argument.argument-index c.loop-argument.at
+          c.argument-item.result c.value.result _ sound (inv.keeps sound made) made c.loop-argument-test.true c.argument-item.is inv.offset
+          (c.value.ensures c.loop-argument.m) c.in_ok-bytes.ensures.bytes (inv.live sound made stands above words are few waits) inv.alike stands above are waits c.in_ok-put.ensures.room);
     }
 
 pub returns-in_err-put-clause-kept : goal.returns-in_err-put-clause-kept
@@ -50,3 +59,21 @@ returns-clause-exact c =
     c.loop-argument.at c.value-2.result _ sound (inv.keeps sound made) (omega arith) inv.offset c.null.ensures (c.value-2.ensures c.loop-argument.m)
     c.in_ok-null.ensures.bytes inv.alike c.put-2.ensures.rest puts stands are few (λ x is. inv.pointed sound made x is words are few))
     c.put-2.ensures.exact
+
+pub returns-in_err-put-clause-room : goal.returns-in_err-put-clause-room
+returns-in_err-put-clause-room c = λ sound made stands above words are few waits.
+    let inv = c.loop-argument.invariant in
+    let p = err_from_is_err_and c.from_residual-in_err-put.result c.from_residual-in_err-put.ensures.1 in
+    refused_then c.args.m.now c.loop-argument.m c.put.new.m _ p.0 c.in_err-put.field-0.0 p.1 p.2
+    (pointer_room c.args.m.now c.loop-argument.m c.args.vector words c.args.arguments.now c.loop-argument.argument-index c.loop-argument.at
+    c.argument-item.result c.value.result _ sound (inv.keeps sound made) made c.loop-argument-test.true c.argument-item.is inv.offset
+    (c.value.ensures c.loop-argument.m) c.in_ok-bytes.ensures.bytes (inv.live sound made stands above words are few waits) inv.alike stands above are waits c.in_err-put.ensures.room)
+
+pub returns-clause-room : goal.returns-clause-room
+returns-clause-room c = λ sound made stands above words are few waits.
+    let inv = c.loop-argument.invariant in
+    let lives = inv.live sound made stands above words are few waits in
+    filled_then c.args.m.now c.loop-argument.m c.put-2.new.m _ lives
+    (null_room c.args.m.now c.loop-argument.m c.args.vector c.null.result words c.args.arguments.now c.loop-argument.argument-index c.loop-argument.at
+    c.value-2.result _ sound (inv.keeps sound made) (omega arith) inv.offset c.null.ensures (c.value-2.ensures c.loop-argument.m)
+    c.in_ok-null.ensures.bytes lives inv.alike stands above are waits c.put-2.ensures.room)

@@ -1,5 +1,5 @@
 use Rattle.std.proofs.Common.{subst, sym, List}
-use Rattle.std.proofs.Common.{◌∙◌, ◌∷◌, map, length, string_bytes, arith}
+use Rattle.std.proofs.Common.{ap, Err, ◌≡◌, ◌+◌, inl, inr, ◌∙◌, ◌∷◌, map, length, string_bytes, arith}
 use Rattle.run_acts.specs.Standing.{program_name}
 use Rattle.run_acts.proofs.Begins.{with_arguments, without_arguments, strings_filled, vector_filled}
 use Rattle.run_acts.proofs.Stands.{vector_created, mapped_length}
@@ -8,6 +8,10 @@ use Rattle.run_acts.specs.declared.initial.Places.{Places}
 use Rattle.run_acts.specs.declared.initial.Argument.{Argument}
 use Rattle.run_acts.specs.Starting.{ArePlaced, AreMadeAll}
 use Rattle.run_acts.proofs.Starting.{made_still, placed_still, named_placed, named_filled, pointed, count_of, vector_of, null_of}
+use Rattle.std.proofs.lemmas.Result.{err_from_is_err_and}
+use Rattle.run_acts.proofs.NoPlace.{fault_of}
+use Rattle.run_acts.proofs.Ready.{lives_then}
+use Rattle.run_acts.proofs.Rooms.{all_wait, named_wait, never, no_vector, pointers_never, strings_live, strings_never}
 use Rattle.run_acts.proofs.initial.start.Goals as goal
 
 pub returns-in_err-create_literals-clause-kept : goal.returns-in_err-create_literals-clause-kept
@@ -230,3 +234,147 @@ returns-clause-stands c = λ sound lawful few.
     (c.in_ok-create_statics.ensures.exact sound c.new-places.ensures.objects lawful.numbered.statics)
     (c.in_ok-create_literals.ensures.exact one (c.create_statics.ensures.rest ∙ c.new-places.ensures.literals) lawful.numbered.literals)
     (c.in_ok-fill_named-2.ensures.exact (named.sound sound) lawful placed)
+
+pub returns-in_err-create_statics-clause-unplaced : goal.returns-in_err-create_statics-clause-unplaced
+returns-in_err-create_statics-clause-unplaced c = λ e sound lawful above few.
+    let p = err_from_is_err_and c.from_residual-in_err-create_statics.result c.from_residual-in_err-create_statics.ensures.1 in
+    let fault = fault_of _ p.0 c.in_err-create_statics.field-0.0 p.1 p.2 e in
+    inl (c.in_err-create_statics.ensures.unplaced (ap Err fault) c.new-places.ensures.objects lawful.numbered.statics)
+
+pub returns-in_err-create_literals-clause-unplaced : goal.returns-in_err-create_literals-clause-unplaced
+returns-in_err-create_literals-clause-unplaced c = λ e sound lawful above few.
+    let p = err_from_is_err_and c.from_residual-in_err-create_literals.result c.from_residual-in_err-create_literals.ensures.1 in
+    let fault = fault_of _ p.0 c.in_err-create_literals.field-0.0 p.1 p.2 e in
+    inr (inl (c.in_err-create_literals.ensures.unplaced (ap Err fault) (c.create_statics.ensures.rest ∙ c.new-places.ensures.literals)
+    lawful.numbered.literals))
+
+pub returns-in_err-arguments-clause-unplaced : goal.returns-in_err-arguments-clause-unplaced
+returns-in_err-arguments-clause-unplaced c = λ e sound lawful above few.
+    let p = err_from_is_err_and c.from_residual-in_err-arguments.result c.from_residual-in_err-arguments.ensures.1 in
+    let fault = fault_of _ p.0 c.in_err-arguments.field-0.0 p.1 p.2 e in
+    inr (inr (sym c.takes_arguments.ensures ∙ c.if-takes_arguments.true, inl (c.in_err-arguments.ensures.unplaced (ap Err fault) few)))
+
+pub returns-in_err-vector-clause-unplaced : goal.returns-in_err-vector-clause-unplaced
+returns-in_err-vector-clause-unplaced c = λ e sound lawful above few.
+    let p = err_from_is_err_and c.from_residual-in_err-vector.result c.from_residual-in_err-vector.ensures.1 in
+    let fault = fault_of _ p.0 c.in_err-vector.field-0.0 p.1 p.2 e in
+    let count : length c.args.args.now + 1 ≡ length (program_name ∷ map string_bytes c.args.args.now) =
+    omega (arith, mapped_length string_bytes c.args.args.now) in
+    inr (inr (
+      sym c.takes_arguments.ensures ∙ c.if-takes_arguments.true,
+      inr (no_vector c.create_vector.new.m (length c.args.args.now + 1)
+          (length (program_name ∷ map string_bytes c.args.args.now)) count (c.in_err-vector.ensures.unplaced (ap Err fault) (omega (arith, few)))),
+    ))
+
+pub returns-in_err-fill_named-clause-unplaced : goal.returns-in_err-fill_named-clause-unplaced
+returns-in_err-fill_named-clause-unplaced c = λ e sound lawful above few.
+    let p = err_from_is_err_and c.from_residual-in_err-fill_named.result c.from_residual-in_err-fill_named.ensures.1 in
+    let fault = fault_of _ p.0 c.in_err-fill_named.field-0.0 p.1 p.2 e in
+    let named = keeps_then c.args.m.now c.create_statics.new.m c.create_literals.new.m c.create_statics.ensures.kept c.create_literals.ensures.kept in
+    let placed = named_placed c.create_statics.new.m c.create_literals.new.m c.args.p.now c.new-places.result c.create_statics.new.places
+    c.create_literals.new.places c.new-places.ensures.objects c.new-places.ensures.literals lawful c.create_literals.ensures.kept
+    c.in_ok-create_statics.ensures.placed c.create_statics.ensures.rest c.in_ok-create_literals.ensures.placed c.create_literals.ensures.rest in
+    let more = keeps_then c.create_literals.new.m c.create_arguments.new.m c.create_vector.new.m c.create_arguments.ensures.kept
+    c.create_vector.ensures.kept in
+    let all = keeps_then c.args.m.now c.create_literals.new.m c.create_vector.new.m named more in
+    let there = placed_still c.create_literals.new.m c.create_vector.new.m c.args.p.now c.create_literals.new.places more placed in
+    let one = c.create_statics.ensures.kept.sound sound in
+    let two = c.create_literals.ensures.kept.sound one in
+    let three = c.create_arguments.ensures.kept.sound two in
+    let words = program_name ∷ map string_bytes c.args.args.now in
+    let waiting = all_wait c.args.m.now c.create_statics.new.m c.create_literals.new.m c.create_arguments.new.m c.create_vector.new.m c.args.p.now words
+    c.create_literals.ensures.kept c.create_arguments.ensures.kept c.create_vector.ensures.kept
+    (c.in_ok-create_statics.ensures.exact sound c.new-places.ensures.objects lawful.numbered.statics)
+    (c.in_ok-create_literals.ensures.exact one (c.create_statics.ensures.rest ∙ c.new-places.ensures.literals) lawful.numbered.literals)
+    (c.in_ok-arguments.ensures.exact two few)
+    (vector_created c.create_arguments.new.m c.create_vector.new.m words (length c.args.args.now)
+    (omega (arith, mapped_length string_bytes c.args.args.now)) c.create_vector.ensures.kept (c.in_ok-vector.ensures.exact three.known (omega (arith, few))))
+    in
+    never c.create_vector.new.m c.fill_named.new.m _ fault
+    (c.in_err-fill_named.ensures.room (all.sound sound) lawful there (all.high above) waiting.statics waiting.are waiting.named)
+
+pub returns-in_err-fill_arguments-clause-unplaced : goal.returns-in_err-fill_arguments-clause-unplaced
+returns-in_err-fill_arguments-clause-unplaced c = λ e sound lawful above few.
+    let p = err_from_is_err_and c.from_residual-in_err-fill_arguments.result c.from_residual-in_err-fill_arguments.ensures.1 in
+    let fault = fault_of _ p.0 c.in_err-fill_arguments.field-0.0 p.1 p.2 e in
+    let named = keeps_then c.args.m.now c.create_statics.new.m c.create_literals.new.m c.create_statics.ensures.kept c.create_literals.ensures.kept in
+    let placed = named_placed c.create_statics.new.m c.create_literals.new.m c.args.p.now c.new-places.result c.create_statics.new.places
+    c.create_literals.new.places c.new-places.ensures.objects c.new-places.ensures.literals lawful c.create_literals.ensures.kept
+    c.in_ok-create_statics.ensures.placed c.create_statics.ensures.rest c.in_ok-create_literals.ensures.placed c.create_literals.ensures.rest in
+    let more = keeps_then c.create_literals.new.m c.create_arguments.new.m c.create_vector.new.m c.create_arguments.ensures.kept
+    c.create_vector.ensures.kept in
+    let all = keeps_then c.args.m.now c.create_literals.new.m c.create_vector.new.m named more in
+    let there = placed_still c.create_literals.new.m c.create_vector.new.m c.args.p.now c.create_literals.new.places more placed in
+    let one = c.create_statics.ensures.kept.sound sound in
+    let two = c.create_literals.ensures.kept.sound one in
+    let three = c.create_arguments.ensures.kept.sound two in
+    let words = program_name ∷ map string_bytes c.args.args.now in
+    let waiting = all_wait c.args.m.now c.create_statics.new.m c.create_literals.new.m c.create_arguments.new.m c.create_vector.new.m c.args.p.now words
+    c.create_literals.ensures.kept c.create_arguments.ensures.kept c.create_vector.ensures.kept
+    (c.in_ok-create_statics.ensures.exact sound c.new-places.ensures.objects lawful.numbered.statics)
+    (c.in_ok-create_literals.ensures.exact one (c.create_statics.ensures.rest ∙ c.new-places.ensures.literals) lawful.numbered.literals)
+    (c.in_ok-arguments.ensures.exact two few)
+    (vector_created c.create_arguments.new.m c.create_vector.new.m words (length c.args.args.now)
+    (omega (arith, mapped_length string_bytes c.args.args.now)) c.create_vector.ensures.kept (c.in_ok-vector.ensures.exact three.known (omega (arith, few))))
+    in
+    let behind = c.fill_named.ensures.kept (all.sound sound) lawful there in
+    let lives = c.in_ok-fill_named.ensures.room (all.sound sound) lawful there (all.high above) waiting.statics waiting.are waiting.named in
+    let since = keeps_then c.create_arguments.new.m c.create_vector.new.m c.fill_named.new.m c.create_vector.ensures.kept behind in
+    let strings = c.in_ok-arguments.ensures.there few in
+    strings_never c.create_arguments.new.m c.create_vector.new.m c.fill_named.new.m c.fill_arguments.new.m c.args.p.now words
+    c.in_ok-arguments.arguments c.as_slice.result.now _ (behind.high (all.high above)) since behind lives waiting c.as_slice.ensures strings
+    c.in_err-fill_arguments.ensures.room fault
+
+pub returns-in_err-point-clause-unplaced : goal.returns-in_err-point-clause-unplaced
+returns-in_err-point-clause-unplaced c = λ e sound lawful above few.
+    let p = err_from_is_err_and c.from_residual-in_err-point.result c.from_residual-in_err-point.ensures.1 in
+    let fault = fault_of _ p.0 c.in_err-point.field-0.0 p.1 p.2 e in
+    let named = keeps_then c.args.m.now c.create_statics.new.m c.create_literals.new.m c.create_statics.ensures.kept c.create_literals.ensures.kept in
+    let placed = named_placed c.create_statics.new.m c.create_literals.new.m c.args.p.now c.new-places.result c.create_statics.new.places
+    c.create_literals.new.places c.new-places.ensures.objects c.new-places.ensures.literals lawful c.create_literals.ensures.kept
+    c.in_ok-create_statics.ensures.placed c.create_statics.ensures.rest c.in_ok-create_literals.ensures.placed c.create_literals.ensures.rest in
+    let more = keeps_then c.create_literals.new.m c.create_arguments.new.m c.create_vector.new.m c.create_arguments.ensures.kept
+    c.create_vector.ensures.kept in
+    let all = keeps_then c.args.m.now c.create_literals.new.m c.create_vector.new.m named more in
+    let there = placed_still c.create_literals.new.m c.create_vector.new.m c.args.p.now c.create_literals.new.places more placed in
+    let one = c.create_statics.ensures.kept.sound sound in
+    let two = c.create_literals.ensures.kept.sound one in
+    let three = c.create_arguments.ensures.kept.sound two in
+    let words = program_name ∷ map string_bytes c.args.args.now in
+    let waiting = all_wait c.args.m.now c.create_statics.new.m c.create_literals.new.m c.create_arguments.new.m c.create_vector.new.m c.args.p.now words
+    c.create_literals.ensures.kept c.create_arguments.ensures.kept c.create_vector.ensures.kept
+    (c.in_ok-create_statics.ensures.exact sound c.new-places.ensures.objects lawful.numbered.statics)
+    (c.in_ok-create_literals.ensures.exact one (c.create_statics.ensures.rest ∙ c.new-places.ensures.literals) lawful.numbered.literals)
+    (c.in_ok-arguments.ensures.exact two few)
+    (vector_created c.create_arguments.new.m c.create_vector.new.m words (length c.args.args.now)
+    (omega (arith, mapped_length string_bytes c.args.args.now)) c.create_vector.ensures.kept (c.in_ok-vector.ensures.exact three.known (omega (arith, few))))
+    in
+    let behind = c.fill_named.ensures.kept (all.sound sound) lawful there in
+    let lives = c.in_ok-fill_named.ensures.room (all.sound sound) lawful there (all.high above) waiting.statics waiting.are waiting.named in
+    let since = keeps_then c.create_arguments.new.m c.create_vector.new.m c.fill_named.new.m c.create_vector.ensures.kept behind in
+    let strings = c.in_ok-arguments.ensures.there few in
+    let rest = keeps_then c.create_vector.new.m c.fill_named.new.m c.fill_arguments.new.m behind c.fill_arguments.ensures.kept in
+    let last = keeps_then c.args.m.now c.create_vector.new.m c.fill_arguments.new.m all rest in
+    let on = lives_then c.create_vector.new.m c.fill_named.new.m c.fill_arguments.new.m lives
+    (strings_live c.create_arguments.new.m c.create_vector.new.m c.fill_named.new.m c.fill_arguments.new.m c.args.p.now words
+    c.in_ok-arguments.arguments c.as_slice.result.now (behind.high (all.high above)) since behind lives waiting c.as_slice.ensures strings
+    c.in_ok-fill_arguments.ensures.room) in
+    pointers_never c.create_arguments.new.m c.create_vector.new.m c.fill_arguments.new.m c.point.new.m c.args.p.now words
+    c.in_ok-arguments.arguments c.as_slice-then-takes_arguments.result.now c.in_ok-vector.vector _ (last.sound sound) (last.high above)
+    c.create_vector.ensures.kept rest on waiting c.as_slice-then-takes_arguments.ensures strings c.in_ok-arguments.ensures.made
+    c.in_ok-vector.ensures.stands (omega (arith, few, mapped_length string_bytes c.args.args.now)) c.in_err-point.ensures.room fault
+
+pub returns-in_err-fill_named-2-clause-unplaced : goal.returns-in_err-fill_named-2-clause-unplaced
+returns-in_err-fill_named-2-clause-unplaced c = λ e sound lawful above few.
+    let p = err_from_is_err_and c.from_residual-in_err-fill_named-2.result c.from_residual-in_err-fill_named-2.ensures.1 in
+    let fault = fault_of _ p.0 c.in_err-fill_named-2.field-0.0 p.1 p.2 e in
+    let named = keeps_then c.args.m.now c.create_statics.new.m c.create_literals.new.m c.create_statics.ensures.kept c.create_literals.ensures.kept in
+    let placed = named_placed c.create_statics.new.m c.create_literals.new.m c.args.p.now c.new-places.result c.create_statics.new.places
+    c.create_literals.new.places c.new-places.ensures.objects c.new-places.ensures.literals lawful c.create_literals.ensures.kept
+    c.in_ok-create_statics.ensures.placed c.create_statics.ensures.rest c.in_ok-create_literals.ensures.placed c.create_literals.ensures.rest in
+    let one = c.create_statics.ensures.kept.sound sound in
+    let statics = c.in_ok-create_statics.ensures.exact sound c.new-places.ensures.objects lawful.numbered.statics in
+    let wait = named_wait c.args.m.now c.create_statics.new.m c.create_literals.new.m c.args.p.now c.create_literals.ensures.kept statics
+    (c.in_ok-create_literals.ensures.exact one (c.create_statics.ensures.rest ∙ c.new-places.ensures.literals) lawful.numbered.literals) in
+    never c.create_literals.new.m c.fill_named-2.new.m _ fault
+    (c.in_err-fill_named-2.ensures.room (named.sound sound) lawful placed (named.high above) statics.0 statics.1 wait)

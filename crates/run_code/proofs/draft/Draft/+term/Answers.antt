@@ -36,6 +36,7 @@ term-loop-part-preserved t c = (
       c.in_ok-term-in-Unseq.ensures.listing c.loop-part.invariant.0,
   c.in_ok-term-in-Unseq.ensures.objects ∙ c.loop-part.invariant.1,
   λ h. c.in_ok-term-in-Unseq.ensures.due (c.loop-part.invariant.2 h),
+  c.in_ok-term-in-Unseq.ensures.kept ∙ c.loop-part.invariant.3,
 )
 
 pub term-returns-in_ok-continuation-in-Choose-clause-listing : goal.term-returns-in_ok-continuation-in-Choose-clause-listing
@@ -86,3 +87,12 @@ term-returns-in_ok-term-in-Weak-clause-objects t c = on_ok c.term-in-Weak-2.resu
 
 pub term-returns-in_ok-term-in-Weak-clause-due : goal.term-returns-in_ok-term-in-Weak-clause-due
 term-returns-in_ok-term-in-Weak-clause-due t c = λ h. c.term-in-Weak-2.ensures.due (c.in_ok-term-in-Weak.ensures.due h)
+
+pub term-returns-in_ok-continuation-in-Choose-clause-kept : goal.term-returns-in_ok-continuation-in-Choose-clause-kept
+term-returns-in_ok-continuation-in-Choose-clause-kept t c =
+    on_ok c.continuation-in-Choose.result _ _ (λ e. e ∙ (c.in_ok-continuation-in-Choose.ensures.kept ∙ c.in_ok-term-in-Choose.ensures.kept))
+    c.continuation-in-Choose.ensures.kept
+
+pub term-returns-in_ok-term-in-Weak-clause-kept : goal.term-returns-in_ok-term-in-Weak-clause-kept
+term-returns-in_ok-term-in-Weak-clause-kept t c = on_ok c.term-in-Weak-2.result _ _ (λ e. e ∙ c.in_ok-term-in-Weak.ensures.kept)
+    c.term-in-Weak-2.ensures.kept

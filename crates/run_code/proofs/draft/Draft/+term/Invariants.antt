@@ -12,3 +12,4 @@ invariant-term-loop-part l =
     × (l.self.function.objects.first.items ≡ l.fn.self.function.objects.first.items)
     × (AreEntries l.fn.self.function.objects.first.items l.fn.self.expressions.tables l.nodes l.fn.entries.items
     → AreEntries l.self.function.objects.first.items l.self.expressions.tables l.nodes l.entries.items)
+    × (l.self.expressions.all.items ≡ l.fn.self.expressions.all.items)

@@ -1,6 +1,7 @@
-use Rattle.std.proofs.Common.{◌≤◌, length}
+use Rattle.std.proofs.Common.{◌≡◌, ◌≤◌, length}
 use Rattle.run_code.proofs.draft.Draft.objects_of.Given as goal
 
--- objects are only added
+-- objects are only added, and no full expression
 abbrev pub invariant-loop-qual : goal.invariant-loop-qual
-invariant-loop-qual l = l.first ≤ length l.self.expressions.tables.objects.items
+invariant-loop-qual l =
+    (l.first ≤ length l.self.expressions.tables.objects.items) × (l.self.expressions.all.items ≡ l.fn.self.expressions.all.items)

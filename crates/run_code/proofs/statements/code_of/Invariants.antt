@@ -1,0 +1,10 @@
+use Rattle.std.proofs.Common.{◌≡◌, ◌++◌, map, flat_map, take, drop}
+use Rattle.run_code.specs.Roots.{roots_in, code_trees, AreCodeOf}
+use Rattle.run_code.proofs.statements.code_of.Given as goal
+
+-- what is laid out so far, and the trees of the functions that are left; its numbers; and the code of the functions so far
+abbrev pub invariant-loop-function : goal.invariant-loop-function
+invariant-loop-function l =
+    (roots_in l.draft.expressions.all.items ++ flat_map code_trees (drop l.function-index l.function-items) ≡ flat_map code_trees l.program.functions)
+    × (map (λ root. root.now) l.numbers.roots.items ≡ roots_in l.draft.expressions.all.items)
+    × AreCodeOf l.numbers (take l.function-index l.function-items) l.functions.items

@@ -1,0 +1,64 @@
+-- The full expressions of a program, as they are laid out in turn.
+use Rattle.std.specs.Prelude.{◌≡◌, List, [], ◌∷◌, map, Option, Some, None}
+use Rattle.c_typed.specs.declared.tree.Typed.{Typed}
+use Rattle.c_typed.specs.declared.statement.Body.{Body, out-Body}
+use Rattle.c_typed.specs.declared.statement.Body.TheOpen as form
+use Rattle.c_typed.specs.declared.statement.Body.TheOpen.{Body-F}
+use Rattle.c_typed.specs.declared.statement.Block.{Block}
+use Rattle.c_typed.specs.declared.statement.Entry.{Entry}
+use Rattle.c_typed.specs.declared.statement.ForStart.{ForStart}
+use Rattle.c_typed.specs.declared.program.Function.{Function}
+use Rattle.elaborate.specs.Expressions.{block_trees}
+use Rattle.c_typed.specs.declared.statement.Body.TheVariants as body
+use Rattle.run_statements.specs.declared.numbers.Numbers.{Numbers}
+use Rattle.run_statements.specs.Bodies.{IsStatement}
+use Rattle.run_code.specs.declared.whole.Code.{Code}
+use Rattle.run_code.specs.declared.steps.Expression.{Expression}
+use Rattle.run_code.specs.declared.steps.FunctionCode.{FunctionCode}
+
+-- the roots of what is laid out
+abbrev pub roots_in : List Expression → List Typed
+roots_in = map (λ e. e.root.now)
+
+-- the block by which a function is defined (6.9.1p1)
+abbrev pub as_block : Body-F Body Entry ForStart Block → Option Block
+as_block (form.Block b) = Some b
+as_block _ = None
+
+abbrev pub block_in : Option Body → Option Block
+block_in None = None
+block_in (Some b) = as_block (out-Body b)
+
+abbrev pub trees_in : Option Block → List Typed
+trees_in None = []
+trees_in (Some b) = block_trees b
+
+-- the full expressions of a function
+abbrev pub code_trees : Function → List Typed
+code_trees f = trees_in (block_in f.body)
+
+-- a function has code where it is defined, and its statements are then those of its block
+abbrev pub IsCodeOf : Numbers → Option Block → Option FunctionCode → Type 0
+IsCodeOf numbers None None = Unit {0}
+IsCodeOf numbers None (Some c) = ⊥
+IsCodeOf numbers (Some b) None = ⊥
+IsCodeOf numbers (Some b) (Some c) = IsStatement numbers (body.Block b) c.body
+
+abbrev pub AreCodeOf : Numbers → List Function → List (Option FunctionCode) → Type 0
+AreCodeOf numbers [] [] = Unit {0}
+AreCodeOf numbers (f ∷ fs) (c ∷ cs) = IsCodeOf numbers (block_in f.body) c × AreCodeOf numbers fs cs
+AreCodeOf numbers [] (c ∷ cs) = ⊥
+AreCodeOf numbers (f ∷ fs) [] = ⊥
+
+-- numbers stand for the full expressions that are laid out, and the statements are those of the functions
+abbrev pub IsNumberedBy : Numbers → List Function → Code → Type 0
+IsNumberedBy numbers fs code = (map (λ root. root.now) numbers.roots.items ≡ roots_in code.expressions.items) × AreCodeOf numbers fs code.functions.items
+
+-- what is defined is defined by a block
+abbrev pub IsInBlock : Option Body → Type 0
+IsInBlock None = Unit {0}
+IsInBlock (Some b) = (x : Block) × (as_block (out-Body b) ≡ Some x)
+
+abbrev pub AreInBlocks : List Function → Type 0
+AreInBlocks [] = Unit {0}
+AreInBlocks (f ∷ fs) = IsInBlock f.body × AreInBlocks fs
