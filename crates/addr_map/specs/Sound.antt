@@ -4,7 +4,7 @@ use Rattle.std.specs.BTreeMap.{BTreeMap, get}
 use Rattle.ub_base.specs.declared.names.ObjName.{ObjName}
 use Rattle.ub_base.specs.NameOrders.{object_cmp}
 use Rattle.addr_map.specs.declared.map.Row.{Row}
-use Rattle.addr_map.specs.Rows.{free_of, is_lawful}
+use Rattle.addr_map.specs.Rows.{free_of, is_lawful, row_of}
 
 -- the rows of these entries
 abbrev pub rows_in : List (ℕ × Row) → List Row
@@ -34,6 +34,17 @@ AllSized (r ∷ rs) = (0 < r.size) × AllSized rs
 abbrev pub or_else : Option Row → Row → Option Row
 or_else None r = Some r
 or_else (Some s) r = Some s
+
+-- each row is the one of its name
+abbrev pub EachFound : List Row → List Row → Type 0
+EachFound rows [] = Unit {0}
+EachFound rows (r ∷ rs) = (row_of rows r.name ≡ Some r) × EachFound rows rs
+
+-- rows as an address map has them: one ends before the next begins, none is empty, and each has a name of its own
+pub record AreApart (rows : List Row) : Type 0 where
+  pub apart : Apart rows
+  pub sized : AllSized rows
+  pub named : EachFound rows rows
 
 -- the last row whose base passes the test
 abbrev pub last_row : (ℕ → Bool) → List Row → Option Row

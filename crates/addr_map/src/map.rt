@@ -1,7 +1,7 @@
 // The address map: rows in two ordered maps, by base and by name.
 ghost use Rattle.std.specs.Prelude.{◌≡◌, ◌+◌, ◌-◌, ◌*◌, ◌/◌, ◌≤◌, ◌<◌, ◌^◌, ◌↔◌, [], None, Ok, true, false, not, is_some, nat_le, nat_lt, IsTrue, IfOk, OnOk, OnErr, IfSome, ◌%◌};
 ghost use Rattle.addr_map.specs.Rows.{row_of, first_row, covers, past, overlaps, IsRoomFor, is_power, is_lawful, base_of, round_up, insert_row, breaks, free_of, row_at};
-ghost use Rattle.addr_map.specs.Sound.{last_row, Apart, AllSized};
+ghost use Rattle.addr_map.specs.Sound.{last_row, Apart, AllSized, AreApart};
 
 use std::alloc::Global;
 use std::collections::BTreeMap;
@@ -91,6 +91,7 @@ impl AddrMap {
     pub fn row(&self, name: ObjName) -> Option<Row>
         ensures row { result ≡ row_of self.now name }
         ensures end { free_of self.now ≤ 2 ^ 47 }
+        ensures apart { AreApart self.now }
     {
         let base = self.bases.get(&name).copied()?;
         let row = self.rows.get(&base).copied()?;

@@ -5,8 +5,8 @@ use Rattle.ub_base.specs.declared.names.ObjName.{ObjName}
 use Rattle.ub_base.specs.Names.{same_object}
 use Rattle.addr_map.specs.declared.map.Row.{Row}
 use Rattle.addr_map.specs.Rows.{first_row, row_of, contains, is_past, name_of}
-use Rattle.addr_map.specs.Sound.{Above, Apart, AllSized}
-use Rattle.mem_laws.specs.MoreRows.{EachFound, AreApart, ApartExtend}
+use Rattle.addr_map.specs.Sound.{Above, Apart, AllSized, EachFound, AreApart}
+use Rattle.mem_laws.specs.MoreRows.{ApartExtend}
 
 abbrev In : Row → List Row → Type 0
 In r [] = ⊥

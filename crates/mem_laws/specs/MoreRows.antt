@@ -4,7 +4,7 @@ use Rattle.ub_base.specs.declared.names.Event.{Event}
 use Rattle.ub_base.specs.declared.names.ObjName.{ObjName}
 use Rattle.addr_map.specs.declared.map.Row.{Row}
 use Rattle.addr_map.specs.Rows.{row_of, covers, past}
-use Rattle.addr_map.specs.Sound.{Apart, AllSized}
+use Rattle.addr_map.specs.Sound.{AreApart}
 use Rattle.exposure.specs.declared.prov.Prov.{Prov}
 use Rattle.exposure.specs.declared.prov.Prov.TheVariants.{Empty, Whole, Either}
 use Rattle.c_types.specs.declared.kind.IntKind.{IntKind}
@@ -20,17 +20,6 @@ pub record Extends (few more : List Row) : Type 0 where
   pub covered : (a : ℕ) (x : ObjName) → is_some (row_of few x) ≡ true → covers more a ≡ Some x → covers few a ≡ Some x
   pub passing : (a : ℕ) (x : ObjName) → past few a ≡ Some x → past more a ≡ Some x
   pub passed : (a : ℕ) (x : ObjName) → is_some (row_of few x) ≡ true → past more a ≡ Some x → past few a ≡ Some x
-
--- each row is the one of its name
-abbrev pub EachFound : List Row → List Row → Type 0
-EachFound rows [] = Unit {0}
-EachFound rows (r ∷ rs) = (row_of rows r.name ≡ Some r) × EachFound rows rs
-
--- rows as an address map has them: one ends before the next begins, none is empty, and each has a name of its own
-pub record AreApart (rows : List Row) : Type 0 where
-  pub apart : Apart rows
-  pub sized : AllSized rows
-  pub named : EachFound rows rows
 
 -- such rows are extended by such rows that have each of them
 abbrev pub ApartExtend : Type 0

@@ -5,6 +5,7 @@ use Rattle.std.specs.BTreeMap.{get, is_at}
 use Rattle.ub_base.specs.NameOrders.{object_cmp}
 use Rattle.addr_map.specs.Sound.{rows_in}
 use Rattle.addr_map.proofs.RowLists.{lookup_is}
+use Rattle.addr_map.proofs.ApartRows.{apart_rows}
 use Rattle.addr_map.proofs.Found.{none_found, found_is, named, named_same, named_other}
 use Rattle.addr_map.proofs.map.AddrMap.row.Goals as goal
 
@@ -43,3 +44,19 @@ returns-else-eq-clause-row c =
     let off : c.eq.result ≡ false = c.if-eq.false in
     rw (← c.self.view_is) (sym (g ∙ ap (named c.args.name) (sym (lookup_is c.self.inside.rows.entries c.in_ok-base.base c.self.invariant.keyed) ∙ f) ∙
     named_other c.args.name c.in_ok-row.row (λ n. let on : c.eq.result ≡ true = same n in cc)))
+
+pub returns-in_err-base-clause-apart : goal.returns-in_err-base-clause-apart
+returns-in_err-base-clause-apart c =
+    rw (← c.self.view_is) (apart_rows c.self.inside.rows c.self.inside.bases c.self.inside.free c.self.invariant)
+
+pub returns-in_err-row-clause-apart : goal.returns-in_err-row-clause-apart
+returns-in_err-row-clause-apart c =
+    rw (← c.self.view_is) (apart_rows c.self.inside.rows c.self.inside.bases c.self.inside.free c.self.invariant)
+
+pub returns-then-eq-clause-apart : goal.returns-then-eq-clause-apart
+returns-then-eq-clause-apart c =
+    rw (← c.self.view_is) (apart_rows c.self.inside.rows c.self.inside.bases c.self.inside.free c.self.invariant)
+
+pub returns-else-eq-clause-apart : goal.returns-else-eq-clause-apart
+returns-else-eq-clause-apart c =
+    rw (← c.self.view_is) (apart_rows c.self.inside.rows c.self.inside.bases c.self.inside.free c.self.invariant)
