@@ -4,6 +4,9 @@ pub mod KeepLemmas
 pub mod KeptLemmas
 pub mod LooseLemmas
 pub mod LooseWholeLemmas
+pub mod RememberedLemmas
+pub mod RuledLemmas
+pub mod SideLemmas
 pub mod StandLemmas
 pub mod TouchedLemmas
 pub mod WayLemmas

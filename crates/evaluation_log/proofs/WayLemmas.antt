@@ -33,11 +33,11 @@ pub child_of : (t x : Typed) (ys : List Typed) (j : ℕ) → j < length (out-Typ
 child_of t x ys j h q e =
     ap (λ z. nth z j) (operands_of t) ∙ nth_child (out-Typed t).children j x h (e ∙ ap (λ z. get_or z j x) q)
 
-next_plain : (m c : ℕ) → m + c < 2 ^ 32 → next_number m c ≡ m + c
+pub next_plain : (m c : ℕ) → m + c < 2 ^ 32 → next_number m c ≡ m + c
 next_plain m c h = omega (arith, h)
 
 -- the same with numbers that have no end
-abbrev plain_among : ℕ → ℕ → Trees → ℕ → Option Spot
+abbrev pub plain_among : ℕ → ℕ → Trees → ℕ → Option Spot
 plain_among i m none n = None
 plain_among i m (more t ts) n = if nat_lt n (m + size t) then Some (spot_at i m) else plain_among (suc i) (m + size t) ts n
 
@@ -48,7 +48,7 @@ plain (more t ts) i m n h =
     ∙ ap (λ z. if nat_lt n (m + size t) then Some (spot_at i m) else z) (plain ts (suc i) (m + size t) n (omega (arith, h)))
 
 -- the way to the operand x at the spot a, which holds the node n
-data Walk (n : ℕ) (a : Spot) (x : Tree) : ℕ → ℕ → Trees → Type 0 where
+pub data Walk (n : ℕ) (a : Spot) (x : Tree) : ℕ → ℕ → Trees → Type 0 where
   here : (i m : ℕ) (t : Tree) (ts : Trees) → nat_lt n (m + size t) ≡ true → a ≡ spot_at i m → x ≡ t → Walk n a x i m (more t ts)
   on : (i m : ℕ) (t : Tree) (ts : Trees) → nat_lt n (m + size t) ≡ false → Walk n a x (suc i) (m + size t) ts → Walk n a x i m (more t ts)
 
@@ -64,7 +64,7 @@ index_low (more t ts) i m n a h =
     (λ b e. let q = ap (λ (z : Spot). z.index) e in omega (arith, q))
     (λ b e. let q = index_low ts (suc i) (m + size t) n a e in omega (arith, q))
 
-walk_of : (ts : Trees) (i m n j : ℕ) (a : Spot) (x : Tree) → plain_among i m ts n ≡ Some a → a.index ≡ i + j → nth ts j ≡ Some x → Walk n a x i m ts
+pub walk_of : (ts : Trees) (i m n j : ℕ) (a : Spot) (x : Tree) → plain_among i m ts n ≡ Some a → a.index ≡ i + j → nth ts j ≡ Some x → Walk n a x i m ts
 walk_of none i m n j a x h e s = absurd (cc)
 walk_of (more t ts) i m n zero a x h e s =
     spot_step (nat_lt n (m + size t)) i m (plain_among (suc i) (m + size t) ts n) a h
@@ -93,10 +93,10 @@ lost_above n (more t ts) i m h = step (nat_lt n (m + size t)) (above_in m t n) (
     step true xs f h = absurd (cc)
     step false xs f h = f h
 
-abbrev Spotted : ℕ → Trees → ℕ → Option Spot
+abbrev pub Spotted : ℕ → Trees → ℕ → Option Spot
 Spotted k ts n = spot_among 0 (min (k + 1) (2 ^ 32 - 1)) ts n
 
-begin_at : (k : ℕ) (ts : Trees) (n : ℕ) → k + suc (sizes ts) < 2 ^ 32 → Spotted k ts n ≡ plain_among 0 (suc k) ts n
+pub begin_at : (k : ℕ) (ts : Trees) (n : ℕ) → k + suc (sizes ts) < 2 ^ 32 → Spotted k ts n ≡ plain_among 0 (suc k) ts n
 begin_at k ts n h =
     let e : min (k + 1) (2 ^ 32 - 1) ≡ suc k = omega (arith, h) in
     ap (λ z. spot_among 0 z ts n) e ∙ plain ts 0 (suc k) n (omega (arith, h))

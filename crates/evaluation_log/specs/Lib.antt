@@ -3,5 +3,8 @@ pub mod Clashes
 pub mod FoundItems
 pub mod Kept
 pub mod Loose
+pub mod Remembered
+pub mod Ruled
+pub mod Sides
 pub mod Touched
 pub mod Ways

@@ -1,4 +1,8 @@
 // Accesses that frames have among what they touched.
+ghost use Rattle.std.specs.Prelude.{◌≡◌, ◌⊎◌, true, false, IfOk, IfSome};
+ghost use Rattle.ub_base.specs.declared.names.Frame.{Frame};
+ghost use Rattle.ub_base.specs.declared.names.Item.{Item};
+ghost use Rattle.evaluation_log.specs.Remembered.{Knows, is_remembered};
 
 use std::alloc::Global;
 use ub_base::{Frame, Item, NoMemory, ObjName};
@@ -14,8 +18,10 @@ pub struct Known {
 }
 
 impl Known {
-    /// Nothing that a frame above `main` touches.
-    pub fn new(alloc: Global) -> Result<Self, NoMemory> {
+    /// Nothing is remembered.
+    pub fn new(alloc: Global) -> Result<Self, NoMemory>
+        ensures { IfOk result (λ known. (frame : Frame) (item : Item) → Knows known frame item → ⊥) }
+    {
         let mut entries = Vec::with_capacity(alloc, ROOM)?;
         for _ in 0..ROOM {
             entries.push((Frame(0), Item::Any))?;
@@ -24,7 +30,10 @@ impl Known {
     }
 
     /// Remembers that the frame's set has the item from now on. Whether that may be new.
-    pub fn note(&mut self, frame: Frame, item: Item) -> bool {
+    pub fn note(&mut self, frame: Frame, item: Item) -> bool
+        ensures known { result ≡ false → Knows self.old frame item }
+        ensures noted { (other : Frame) (one : Item) → Knows self.new other one → Knows self.old other one ⊎ ((other ≡ frame) × (one ≡ item)) }
+    {
         let Some(slot) = slot_of(&item) else {
             return true;
         };
@@ -40,7 +49,9 @@ impl Known {
 }
 
 // Where an access is remembered.
-fn slot_of(item: &Item) -> Option<usize> {
+fn slot_of(item: &Item) -> Option<usize>
+    ensures { IfSome result (λ slot. is_remembered item.now ≡ true) }
+{
     match *item {
         Item::Read { object, from, .. } => Some(mixed(object, from.wrapping_mul(3))),
         Item::Write { object, from, .. } => Some(mixed(

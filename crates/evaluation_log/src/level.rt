@@ -1,7 +1,9 @@
 // The frames that are open.
 ghost use Rattle.std.specs.Prelude.{◌≡◌, OnOk, Some};
+ghost use Rattle.ub_base.specs.declared.names.Item.TheVariants.{Dies};
 ghost use Rattle.evaluation_log.specs.Bodies.{Keeps};
 ghost use Rattle.evaluation_log.specs.Kept.{cut_of};
+ghost use Rattle.evaluation_log.specs.Remembered.{AreKnown, HasHadAll, HasHadEach, IsOfOne};
 
 use crate::known::Known;
 use footprint::Foot;
@@ -26,6 +28,10 @@ impl Level {
     pub fn touch(&mut self, known: &mut Known, items: &[Item]) -> Result<(), NoMemory>
         ensures keeps { OnOk result (Keeps self.old.foot self.new.foot) }
         ensures cut { cut_of (Some self.new) ≡ cut_of (Some self.old) }
+        ensures frame { self.new.frame ≡ self.old.frame }
+        ensures known { OnOk result (AreKnown known.old self.old.frame self.old.foot → AreKnown known.new self.new.frame self.new.foot) }
+        ensures others { IsOfOne known.old known.new self.old.frame }
+        ensures has { OnOk result (AreKnown known.old self.old.frame self.old.foot → HasHadEach items.now self.new.foot) }
     {
         for item in items {
             self.touch_one(known, *item)?;
@@ -36,6 +42,10 @@ impl Level {
     fn touch_one(&mut self, known: &mut Known, item: Item) -> Result<(), NoMemory>
         ensures keeps { OnOk result (Keeps self.old.foot self.new.foot) }
         ensures cut { cut_of (Some self.new) ≡ cut_of (Some self.old) }
+        ensures frame { self.new.frame ≡ self.old.frame }
+        ensures known { OnOk result (AreKnown known.old self.old.frame self.old.foot → AreKnown known.new self.new.frame self.new.foot) }
+        ensures others { IsOfOne known.old known.new self.old.frame }
+        ensures has { OnOk result (AreKnown known.old self.old.frame self.old.foot → HasHadAll self.new.foot item) }
     {
         if let Item::Dies(object) = item {
             return self.bury(object);
@@ -49,6 +59,8 @@ impl Level {
     fn bury(&mut self, object: ObjName) -> Result<(), NoMemory>
         ensures keeps { OnOk result (Keeps self.old.foot self.new.foot) }
         ensures cut { cut_of (Some self.new) ≡ cut_of (Some self.old) }
+        ensures frame { self.new.frame ≡ self.old.frame }
+        ensures has { OnOk result (HasHadAll self.new.foot (Dies object)) }
     {
         self.foot.add(Item::Dies(object))?;
         if self.foot.has_born(object) {

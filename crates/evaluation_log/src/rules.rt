@@ -1,5 +1,7 @@
 // How the nodes of a full expression sequence their operands.
-ghost use Rattle.std.specs.Prelude.{◌≡◌};
+ghost use Rattle.std.specs.Prelude.{◌≡◌, ◌-◌, ◌^◌, ◌++◌, ◌==◌, min, [], length, set, OnOk, IfOk};
+ghost use Rattle.c_typed.specs.declared.tree.Node.{fold-Node};
+ghost use Rattle.evaluation_log.specs.Ruled.{NodeRule, TreeRules, node_rule, tree_rules, rules_of};
 ghost use Rattle.evaluation_log.specs.Ways.{rule_in};
 ghost use Rattle.evaluation_log.specs.Kept.{is_unsequenced};
 
@@ -30,21 +32,27 @@ pub struct Rules {
 
 impl Rules {
     /// No rules.
-    pub fn new(alloc: Global) -> Self {
+    pub fn new(alloc: Global) -> Self
+        ensures { result.list.items ≡ [] }
+    {
         Rules {
             list: Vec::new(alloc),
         }
     }
 
     /// The rules of the nodes of this tree.
-    pub fn of(alloc: Global, root: &Typed) -> Result<Rules, NoMemory> {
+    pub fn of(alloc: Global, root: &Typed) -> Result<Rules, NoMemory>
+        ensures rules { IfOk result (λ rules. rules.list.items ≡ rules_of root.now 0) }
+    {
         let mut list = Vec::new(alloc);
-        add_rules(root, &mut list, 0)?;
+        add_rules(root, &mut list)?;
         Ok(Rules { list })
     }
 
     /// Whether there are none.
-    pub fn is_empty(&self) -> bool {
+    pub fn is_empty(&self) -> bool
+        ensures { result ≡ (length self.now.list.items == 0) }
+    {
         self.list.is_empty()
     }
 
@@ -71,31 +79,42 @@ impl Rule {
     }
 }
 
-// Adds the rules of a tree whose root has this number, and gives the number behind its last node.
-fn add_rules(tree: &Typed, list: &mut Vec<Rule>, number: u32) -> Result<u32, NoMemory> {
-    list.push(rule_of(&tree.node))?;
-    let mut next = number.saturating_add(1);
-    let mut last = next;
-    for child in tree.children.as_slice() {
-        last = next;
-        next = add_rules(child, list, next)?;
+// Adds the rules of a tree, whose root has the number of those that are there.
+fn add_rules(tree: &Typed, list: &mut Vec<Rule>) -> Result<(), NoMemory>
+    ensures { OnOk result (list.new.items ≡ list.old.items ++ rules_of tree.now (length list.old.items)) }
+{
+    let number = list.len();
+    list.push(Rule::Open)?;
+    let mut last = number;
+    for operand in tree.children.as_slice() {
+        last = list.len();
+        add_rules(operand, list)?;
     }
-    if let Node::Comma = tree.node {
-        set_rule(list, number, Rule::Comma(last));
-    }
-    Ok(next)
+    set_rule(list, number, rule_of(&tree.node, number_of(last)));
+    Ok(())
 }
 
-fn set_rule(list: &mut Vec<Rule>, number: u32, rule: Rule) {
-    if (number as usize) < list.len() {
-        list[number as usize] = rule;
+fn set_rule(list: &mut Vec<Rule>, number: usize, rule: Rule)
+    ensures { list.new.items ≡ set list.old.items number rule }
+{
+    if number < list.len() {
+        list[number] = rule;
     }
 }
 
-fn rule_of(node: &Node) -> Rule {
+fn number_of(place: usize) -> u32
+    ensures { result ≡ min place (2 ^ 32 - 1) }
+{
+    u32::try_from(place).unwrap_or(u32::MAX)
+}
+
+// The rule of a node whose last operand has this number.
+fn rule_of(node: &Node, last: u32) -> Rule
+    ensures { result ≡ fold-Node NodeRule TreeRules node_rule tree_rules node.now last }
+{
     match node {
         Node::And | Node::Or | Node::Cond => Rule::Choice,
-        Node::Comma => Rule::Comma(0),
+        Node::Comma => Rule::Comma(last),
         Node::Call { .. } | Node::List { .. } | Node::Isolated(_) => Rule::Closed,
         _ => Rule::Open,
     }

@@ -1,11 +1,18 @@
--- What the frame had is kept so far, and where its part of the lists begins.
-use Rattle.std.specs.Prelude.{◌≡◌, Some}
+-- What the frame had is kept so far, and where its part of the lists begins; the items so far are among what it has.
+use Rattle.std.specs.Prelude.{◌≡◌, ◌<◌, ℕ, Some, slice_get}
+use Rattle.ub_base.specs.declared.names.Item.{Item}
 use Rattle.evaluation_log.specs.Bodies.{Keeps}
 use Rattle.evaluation_log.specs.Kept.{cut_of}
+use Rattle.evaluation_log.specs.Remembered.{AreKnown, HasHadAll, IsOfOne}
 use Rattle.evaluation_log.proofs.level.Level.touch.Given as goal
 
 abbrev pub invariant-loop-item : goal.invariant-loop-item
 invariant-loop-item l = record {
   keeps : Keeps l.fn.self.foot l.self.foot;
   cut : cut_of (Some l.self) ≡ cut_of (Some l.fn.self);
+  frame : l.self.frame ≡ l.fn.self.frame;
+  known : AreKnown l.fn.known l.fn.self.frame l.fn.self.foot → AreKnown l.known l.self.frame l.self.foot;
+  others : IsOfOne l.fn.known l.known l.fn.self.frame;
+  has : AreKnown l.fn.known l.fn.self.frame l.fn.self.foot →
+      (p : ℕ) (item : Item) → p < l.item-index → slice_get l.item-items p ≡ Some item → HasHadAll l.self.foot item;
 }
