@@ -18,7 +18,7 @@ pub rules_here : (t : Typed) (k : ℕ) → rules_of t k ≡
 rules_here t k = ap (λ (g : TreeRules). g k) (fold_out-Typed NodeRule TreeRules node_rule tree_rules t)
 
 length-join : (xs ys : List Rule) → length (xs ++ ys) ≡ length xs + length ys
-length-join [] ys = refl
+length-join [] ys = omega arith
 length-join (x ∷ xs) ys = let r = length-join xs ys in omega (arith, r)
 
 -- the place of the root is taken before its operands are added
@@ -27,17 +27,22 @@ pub begun : (t : Typed) (items : List Typed) (old new : List Rule) → items ≡
     ≡ old ++ (Open ∷ rules_among (map rules_of (out-Typed t).children) (suc (length old)))) ×
     (last_among (map rules_of items) (length new) (length old) ≡ last_among (map rules_of (out-Typed t).children) (suc (length old)) (length old))
 begun t items old new k p =
-    let n : length new ≡ suc (length old) = ap length p ∙ (length-join old (Open ∷ []) ∙ omega arith) in
-    (ap (λ z. z ++ rules_among (map rules_of items) (length new)) p
-    ∙ (append_assoc old (Open ∷ []) (rules_among (map rules_of items) (length new))
-    ∙ (ap (λ z. old ++ (Open ∷ rules_among (map rules_of items) z)) n
-    ∙ ap (λ z. old ++ (Open ∷ rules_among (map rules_of z) (suc (length old)))) k)),
-    ap (λ z. last_among (map rules_of items) z (length old)) n ∙ ap (λ z. last_among (map rules_of z) (suc (length old)) (length old)) k)
+    let n : length new ≡ suc (length old) = ap length p ∙ (length-join old (Open ∷ []) ∙ omega arith) in (
+      ap (λ z. z ++ rules_among (map rules_of items) (length new)) p
+          ∙ (append_assoc old (Open ∷ []) (rules_among (map rules_of items) (length new))
+          ∙ (ap (λ z. old ++ (Open ∷ rules_among (map rules_of items) z)) n
+          ∙ ap (λ z. old ++ (Open ∷ rules_among (map rules_of z) (suc (length old)))) k)),
+      ap (λ z. last_among (map rules_of items) z (length old)) n ∙ ap (λ z. last_among (map rules_of z) (suc (length old)) (length old)) k,
+    )
+
+next : (i : ℕ) → suc (i + 1) ≡ suc i + 1
+next i = omega arith
 
 dropped : (ts : List Typed) (i : ℕ) (x : Typed) → i < length ts → x ≡ get_or ts i x → drop i ts ≡ x ∷ drop (i + 1) ts
 dropped [] i x h e = absurd (omega (arith, h))
 dropped (t ∷ ts) zero x h e = ap (λ z. z ∷ ts) (sym e)
-dropped (t ∷ ts) (suc i) x h e = dropped ts i x (omega (arith, h)) e
+dropped (t ∷ ts) (suc i) x h e =
+    dropped ts i x (omega (arith, h)) e ∙ ap (λ z. x ∷ drop z (t ∷ ts)) (next i)
 
 -- an operand's rules are added to those that are there
 pub rules_step : (ts : List Typed) (i : ℕ) (x : Typed) (old new : List Rule) → i < length ts → x ≡ get_or ts i x → new ≡ old ++ rules_of x (length old) →

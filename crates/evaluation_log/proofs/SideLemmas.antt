@@ -53,16 +53,21 @@ behind_plain (more t ts) m n l h =
     step true = refl
     step false = refl
 
+not_less_is : (n m : ℕ) → nat_lt n m ≡ false → m ≤ n
+not_less_is n m h = grind (arith, nat_tests)
+
 pub right_plain : (ts : Trees) (m n : ℕ) → m ≤ n → m + sizes ts < 2 ^ 32 → right_spot m ts n ≡ first_loud (own_rights m ts n)
 right_plain none m n l h = refl
 right_plain (more t ts) m n l h =
     ap (λ z. if z && not (is_quiet t) then Some m else right_spot (next_number m (size t)) ts n) (not_less_test n m l)
-    ∙ (ap (λ z. right_spot z ts n) (next_plain m (size t) (omega (arith, h))) ∙ step (nat_lt n (m + size t)) refl)
+    ∙ (ap (λ z. right_spot z ts n) (next_plain m (size t) (omega (arith, h)))
+    ∙ step (nat_lt n (m + size t)) refl (λ le. right_plain ts (m + size t) n le (omega (arith, h))))
   where
     step : (b : Bool) → nat_lt n (m + size t) ≡ b →
+        (m + size t ≤ n → right_spot (m + size t) ts n ≡ first_loud (own_rights (m + size t) ts n)) →
         right_spot (m + size t) ts n ≡ first_loud (if b then sides_from (m + size t) ts else own_rights (m + size t) ts n)
-    step true e = behind_plain ts (m + size t) n (less_is n (m + size t) e) (omega (arith, h))
-    step false e = right_plain ts (m + size t) n (not_less_is n (m + size t) e) (omega (arith, h))
+    step true e f = behind_plain ts (m + size t) n (less_is n (m + size t) e) (omega (arith, h))
+    step false e f = f (not_less_is n (m + size t) e)
 
 -- ---- the way goes on in one operand
 module _ (free : ℕ → Bool) (n : ℕ) (a : Spot) (x : Tree) where
@@ -202,11 +207,14 @@ nth_there (more t ts) i m n a h = step (nat_lt n (m + size t)) (nth_there ts (su
     step true f h = (0, (let q = ap (λ (z : Spot). z.index) (some_is _ _ h) in omega (arith, q)), (t, refl))
     step false f h = let r = f h in (suc r.0, (let q = r.1 in omega (arith, q)), r.2)
 
+at_zero : (i j : ℕ) → i ≡ 0 + j → i ≡ j
+at_zero i j h = omega (arith, h)
+
 pub last_found : (k : ℕ) (tree : Tree) (n : ℕ) (a : Spot) → k < n → k + size tree < 2 ^ 32 → Spotted k (operands tree) n ≡ Some a →
     a.number ≡ n → last_in k tree n ≡ last_if k (right_spot (min (k + 1) (2 ^ 32 - 1)) (operands tree) n)
 last_found k (node class ts) n a less h s q =
     let r = nth_there ts 0 (suc k) n a (sym (begin_at k ts n h) ∙ s) in
-    last_walked k (node class ts) (r.2.0) n a less h s (ap (nth ts) r.1 ∙ r.2.1)
+    last_walked k (node class ts) (r.2.0) n a less h s (ap (nth ts) (at_zero a.index r.0 r.1) ∙ r.2.1)
     ∙ (if_true _ _ _ (number_equal n a.number (sym q)) ∙ ap (last_if k) (sym (behind_start k (node class ts) n less h)))
 
 pub first_opened : (b : Bool) (ss : List Side) → b ≡ true → first_loud ss ≡ first_loud (opened b ss)

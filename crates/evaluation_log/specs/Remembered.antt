@@ -1,9 +1,10 @@
 -- The accesses of which it is remembered that sets of open frames have them (own).
-use Rattle.std.specs.Prelude.{◌≡◌, ◌⊎◌, ℕ, Bool, true, false, List, Some, slice_get}
+use Rattle.std.specs.Prelude.{◌≡◌, ◌⊎◌, ℕ, Bool, true, false, ◌&&◌, ◌==◌, List, Option, Some, None, slice_get}
 use Rattle.ub_base.specs.declared.names.Frame.{Frame}
 use Rattle.ub_base.specs.declared.names.ObjName.{ObjName}
 use Rattle.ub_base.specs.declared.names.Item.{Item}
 use Rattle.ub_base.specs.declared.names.Item.TheVariants.{Read, Write, Alive, Dies}
+use Rattle.ub_base.specs.Names.{same_object}
 use Rattle.footprint.specs.declared.foot.Foot.{Foot}
 use Rattle.footprint.specs.Holds.{holds, stands_for, is_forgotten}
 use Rattle.evaluation_log.specs.declared.known.Known.{Known}
@@ -14,6 +15,18 @@ is_remembered (Read x i n) = true
 is_remembered (Write x i n) = true
 is_remembered (Alive x) = true
 is_remembered _ = false
+
+-- they are the same access
+abbrev pub same_access : Item → Item → Bool
+same_access (Read x f n) (Read y g m) = (same_object x y && (f == g)) && (n == m)
+same_access (Write x f n) (Write y g m) = (same_object x y && (f == g)) && (n == m)
+same_access (Alive x) (Alive y) = same_object x y
+same_access _ _ = false
+
+-- the entry is of this frame and this access
+abbrev pub has_entry : Option (Frame × Item) → Frame → Item → Bool
+has_entry None frame item = false
+has_entry (Some e) frame item = same_access e.1 item && (e.0.0 == frame.0)
 
 -- it is remembered that the frame's set has the item
 abbrev pub Knows : Known → Frame → Item → Type 0

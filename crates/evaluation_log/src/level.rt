@@ -51,9 +51,17 @@ impl Level {
             return self.bury(object);
         }
         if known.note(self.frame, item) {
-            self.foot.add(item)?;
+            return self.take(item);
         }
         Ok(())
+    }
+
+    fn take(&mut self, item: Item) -> Result<(), NoMemory>
+        ensures cut { cut_of (Some self.new) ≡ cut_of (Some self.old) }
+        ensures frame { self.new.frame ≡ self.old.frame }
+        ensures kept { OnOk result (Keeps self.old.foot self.new.foot × HasHadAll self.new.foot item) }
+    {
+        self.foot.add(item)
     }
 
     fn bury(&mut self, object: ObjName) -> Result<(), NoMemory>

@@ -54,11 +54,7 @@ fn last_operand_in(tree: &Typed, k: u32, node: u32) -> Option<u32>
     if spot.number == node {
         return if_none(first_behind(tree, k, node), k);
     }
-    last_operand_in(
-        &tree.children.as_slice()[spot.index],
-        spot.number,
-        node,
-    )
+    last_operand_in(&tree.children.as_slice()[spot.index], spot.number, node)
 }
 
 // This node, where there is no other one.

@@ -14,5 +14,5 @@ returns t c =
     ended c.args.tree.now old now c.set_rule.new.list.items c.loop-operand.last
     (ap (λ z. now ++ rules_among (map rules_of z) (length now)) (sym none) ∙ c.loop-operand.invariant.rules)
     (ap (λ z. last_among (map rules_of z) (length now) c.loop-operand.last) (sym none) ∙ c.loop-operand.invariant.last)
-    (c.set_rule.ensures ∙ (ap (λ z. set now z c.rule_of.result) c.len-number.ensures
+    (c.set_rule.ensures ∙ (ap (λ z. set now z c.rule_of.result) (c.len-number.ensures ∙ c.args.list.now.ok.0)
     ∙ ap (λ z. set now (length old) z) (c.rule_of.ensures ∙ ap (own_rule (out-Typed c.args.tree.now).node) c.number_of.ensures)))

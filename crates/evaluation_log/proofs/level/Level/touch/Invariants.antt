@@ -14,5 +14,5 @@ invariant-loop-item l = record {
   known : AreKnown l.fn.known l.fn.self.frame l.fn.self.foot → AreKnown l.known l.self.frame l.self.foot;
   others : IsOfOne l.fn.known l.known l.fn.self.frame;
   has : AreKnown l.fn.known l.fn.self.frame l.fn.self.foot →
-      (p : ℕ) (item : Item) → p < l.item-index → slice_get l.item-items p ≡ Some item → HasHadAll l.self.foot item;
+      (p : ℕ) (item : Item) → p < l.item-index → slice_get l.items p ≡ Some item → HasHadAll l.self.foot item;
 }

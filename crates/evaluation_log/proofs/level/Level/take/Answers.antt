@@ -1,0 +1,9 @@
+use Rattle.std.proofs.lemmas.Result.{on_ok_weaker}
+use Rattle.evaluation_log.proofs.KeepLemmas.{added}
+use Rattle.evaluation_log.proofs.RememberedLemmas.{added_all}
+use Rattle.evaluation_log.proofs.level.Level.take.Goals as goal
+
+pub returns-clause-kept : goal.returns-clause-kept
+returns-clause-kept c =
+    on_ok_weaker c.add.result
+    (λ is. (added c.args.self.now.foot c.add.new.self c.args.item is, added_all c.args.self.now.foot c.add.new.self c.args.item is)) c.add.ensures.added
