@@ -4,14 +4,13 @@ use Rattle.std.proofs.Common.{Option, Some, None, refl, sym, ap, ◌∙◌, arit
 use Rattle.std.specs.Prelude.{slice_get, slice_index_or, length, ◌==◌}
 use Rattle.std.proofs.lemmas.Option.{same_Some, slice_get-get_or}
 use Rattle.ub_base.specs.declared.names.Frame.{Frame}
-use Rattle.ub_base.specs.declared.names.ObjName.{ObjName}
 use Rattle.ub_base.specs.declared.names.Item.{Item}
 use Rattle.ub_base.specs.declared.names.Item.TheVariants.{Read, Write, Alive, Dies}
 use Rattle.ub_base.specs.Names.{same_object}
 use Rattle.ub_base.proofs.NameLemmas.{same_object_is}
 use Rattle.ub_base.proofs.Tests.{and_parts, number_is}
 use Rattle.footprint.specs.declared.foot.Foot.{Foot}
-use Rattle.footprint.specs.Holds.{holds, stands_for, is_forgotten}
+use Rattle.footprint.specs.Holds.{holds, stands_for}
 use Rattle.evaluation_log.specs.declared.known.Known.{Known}
 use Rattle.evaluation_log.specs.Bodies.{Keeps}
 use Rattle.evaluation_log.specs.Remembered.{is_remembered, same_access, has_entry, Knows, HasHad, HasHadAll, AreKnown, IsOfOne}

@@ -7,7 +7,7 @@ use Rattle.c_typed.specs.declared.tree.Typed.{Typed, out-Typed, fold_out-Typed}
 use Rattle.evaluation_log.specs.declared.rules.Rule.{Rule}
 use Rattle.evaluation_log.specs.declared.rules.Rule.TheVariants.{Open}
 use Rattle.evaluation_log.specs.Ruled.{NodeRule, TreeRules, node_rule, tree_rules, rules_of, rules_among, last_among}
-use Rattle.evaluation_log.specs.Ruled.{joined, no_line, tree_lines, lines_of, line_or, line_at, sought_line}
+use Rattle.evaluation_log.specs.Ruled.{joined, no_line, tree_lines, lines_of, line_or, sought_line}
 
 abbrev pub own_rule : Node → NodeRule
 own_rule = fold-Node NodeRule TreeRules node_rule tree_rules

@@ -1,12 +1,12 @@
 -- The operands beside a way are those of its root, and those beside the rest of the way.
-use Rattle.std.proofs.Common.{◌≡◌, ℕ, zero, suc, ◌≤◌, ◌<◌, ◌+◌, ◌-◌, ◌^◌, min, nat_lt, ◌==◌, Bool, true, false, not, ◌&&◌, List, [], ◌∷◌, ◌++◌, refl, sym, ap}
-use Rattle.std.proofs.Common.{◌∙◌, arith, Option, Some, None, if◌then◌else◌, append_assoc}
+use Rattle.std.proofs.Common.{◌≡◌, ℕ, suc, ◌≤◌, ◌<◌, ◌+◌, ◌-◌, ◌^◌, min, nat_lt, ◌==◌, Bool, true, false, not, ◌&&◌, List, [], ◌∷◌, ◌++◌, refl, sym, ap}
+use Rattle.std.proofs.Common.{◌∙◌, arith, Option, Some, None, if◌then◌else◌}
 use Rattle.std.specs.Option.{option_or}
 use Rattle.std.proofs.lemmas.Bool.Decides.{nat_tests}
 use Rattle.ub_base.proofs.Tests.{less_test, not_less_test, less_is, if_true, if_false, some_is, number_equal, number_other}
 use Rattle.c_typed.specs.Tree.{Tree, Trees, node, none, more, size, sizes, operands, is_quiet}
 use Rattle.evaluation_log.specs.declared.trees.Spot.{Spot}
-use Rattle.evaluation_log.specs.Ways.{next_number, spot_among}
+use Rattle.evaluation_log.specs.Ways.{next_number}
 use Rattle.evaluation_log.specs.Sides.{Side, side, sides_from, own_lefts, own_rights, opened, lefts_in, lefts_among, rights_in, rights_among}
 use Rattle.evaluation_log.specs.Sides.{first_loud, last_if, last_in, last_among, left_spot, right_spot}
 use Rattle.evaluation_log.proofs.WayLemmas.{Walk, here, on, nth, plain_among, walk_of, Spotted, begin_at, next_plain, spot_at}

@@ -1,5 +1,5 @@
 -- The operands beside the way to a node of a full expression, of the nodes on the way whose operands no rule sequences (own).
-use Rattle.std.specs.Prelude.{◌≡◌, ℕ, suc, ◌+◌, Bool, true, false, not, ◌&&◌, ◌==◌, nat_lt, List, [], ◌∷◌, ◌++◌, Option, Some, None, if◌then◌else◌}
+use Rattle.std.specs.Prelude.{ℕ, suc, ◌+◌, Bool, true, false, not, ◌&&◌, ◌==◌, nat_lt, List, [], ◌∷◌, ◌++◌, Option, Some, None, if◌then◌else◌}
 use Rattle.c_typed.specs.Tree.{Tree, Trees, node, none, more, size, is_quiet}
 use Rattle.evaluation_log.specs.declared.rules.Rules.{Rules}
 use Rattle.evaluation_log.specs.Kept.{is_unsequenced}

@@ -21,7 +21,6 @@ pub struct Known {
 
 impl Known {
     /// Nothing is remembered.
-    #[tactic(auto, using(crate::proofs::RememberedLemmas::none_at_first, crate::proofs::RememberedLemmas::none_pushed, crate::proofs::RememberedLemmas::none_known))]
     pub fn new(alloc: Global) -> Result<Self, NoMemory>
         ensures { IfOk result (λ known. (frame : Frame) (item : Item) → Knows known frame item → ⊥) }
     {
