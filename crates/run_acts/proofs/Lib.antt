@@ -20,3 +20,4 @@ pub mod Outcomes
 pub mod Ready
 pub mod NoPlace
 pub mod Rooms
+pub mod Sums

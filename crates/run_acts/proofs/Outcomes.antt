@@ -181,13 +181,13 @@ fill_does rows r x (c ∷ cs) s named live begins ends fit =
     let bs = content_bytes rows c.content in
     let act = store rows true bytes 1 (address_after r.base c.offset) (Whole x) bs in
     let one = store_does rows r x c.offset bs s named live begins ends (omega (arith, fit.0, content_bytes_length rows c.content)) in
-    let more = fill_does rows r x cs one.1 named (ap is_live (one.3 x) ∙ live) begins ends fit.1 in (
-      one.0 ++ more.0,
-      more.1,
-      run_bind rows act (λ (u : Unit {0}). fill rows p cs) s ∙ ap (after rows (λ (u : Unit {0}). fill rows p cs)) one.2 ∙ ap (before one.0) more.2
-          ∙ items_before one.0 more.0 Nothing more.1,
-      λ y. more.3 y ∙ one.3 y,
-    )
+    let more = fill_does rows r x cs one.1 named (ap is_live (one.3 x) ∙ live) begins ends fit.1 in
+    let rest = λ (u : Unit {0}). fill rows p cs in
+    let first : run rows (fill rows p (c ∷ cs)) s ≡ before one.0 (run rows (fill rows p cs) one.1) =
+    run_bind rows act rest s ∙ ap (after rows rest) one.2 in
+    let then : before one.0 (run rows (fill rows p cs) one.1) ≡ Done Nothing (one.0 ++ more.0) more.1 =
+    ap (before one.0) more.2 ∙ items_before one.0 more.0 Nothing more.1 in
+    (one.0 ++ more.0, more.1, first ∙ then, λ y. more.3 y ∙ one.3 y)
 
 -- the row of an object that has its place
 pub row_placed : (o : Option Row) (size align : ℕ) → has_place o size align ≡ true → (r : Row) × (o ≡ Some r) × (r.size ≡ size)

@@ -1,5 +1,5 @@
 // The objects that stand before the first pick: those with static storage, string literals, and the arguments of `main`.
-ghost use Rattle.std.specs.Prelude.{◌≡◌, List, ◌+◌, ◌-◌, ◌*◌, ◌%◌, min, ◌<◌, ◌≤◌, ◌^◌, ◌++◌, ◌∷◌, [], ℕ, Some, Err, false, length, map, option_map, slice_get, string_bytes, IfOk, OnOk};
+ghost use Rattle.std.specs.Prelude.{◌≡◌, List, ◌+◌, ◌-◌, ◌*◌, ◌%◌, min, max, ◌<◌, ◌≤◌, ◌^◌, ◌++◌, ◌∷◌, [], ℕ, Some, Err, false, length, map, option_map, slice_get, string_bytes, IfOk, OnOk};
 ghost use Rattle.std.specs.List.{All};
 ghost use Rattle.ub_base.specs.declared.names.ObjName.{ObjName};
 ghost use Rattle.ub_base.specs.declared.names.ObjName.TheVariants as names;
@@ -12,6 +12,7 @@ ghost use Rattle.c_types.specs.declared.kind.IntKind.TheVariants.{Char};
 ghost use Rattle.mem_spec.specs.Bytes.{number_bytes};
 ghost use Rattle.c_model.specs.Nodes.{plain_byte};
 ghost use Rattle.c_model.specs.Program.{Standing};
+ghost use Rattle.c_model.specs.Runs.{created_after};
 ghost use Rattle.c_model.specs.Values.{address_after, pointer_value};
 ghost use Rattle.prov_memory.specs.declared.answer.CreateFault.TheVariants.{Unplaced};
 ghost use Rattle.prov_memory.specs.declared.value.Value.TheVariants.{Int};
@@ -24,9 +25,10 @@ ghost use Rattle.prov_memory.specs.Tags.{CellsTagged};
 ghost use Rattle.run_acts.specs.Contents.{Stands};
 ghost use Rattle.run_acts.specs.Kept.{IsOf};
 ghost use Rattle.run_acts.specs.Outcomes.{CannotHold, CannotStand, HasNoPlace, IsFilled, IsReady, NoVector, SomeArgument, SomeLiteral, SomeStatic, Waits, WaitAll};
-ghost use Rattle.run_acts.specs.Standing.{AreArguments, AreStatics, ArgumentAdded, IsStatic, AllCreated, AllFilled, StaticFilled, StaticsFilled, extent_of, HasForm, literals, NamedFilled, program_name, StartStands, StaticCreated, StaticsCreated, StandsThere};
+ghost use Rattle.run_acts.specs.Standing.{AreArguments, AreStatics, ArgumentAdded, IsStatic, AllCreated, AllFilled, StaticFilled, StaticsFilled, extent_of, HasForm, literals, NamedFilled, program_name, Stand, StartStands, StaticCreated, StaticsCreated, StandsThere};
 ghost use Rattle.run_acts.specs.Standing as standing;
 ghost use Rattle.run_acts.specs.Starting.{AreAll, ArePlaced, AreMadeAll, AddsArgument, Creates, EndsLow, Puts};
+ghost use Rattle.run_acts.specs.Sums.{argument_sizes, static_sizes, summed};
 ghost use Rattle.run_acts.specs.Views.{pointer_at, value_in};
 
 use crate::storage::{fillings, pointer_to, written, zeros};
@@ -123,32 +125,60 @@ pub struct Started {
 const NAME: &[u8; 4] = b"prog";
 
 /// The bytes that an object of this size counts (own).
-pub fn counted(size: u64) -> u64 {
+pub fn counted(size: u64) -> u64
+    ensures { result ≡ max size 16 }
+{
     size.max(16)
 }
 
 /// The sum of two counts of bytes; one above 2^62 counts as 2^62 (own).
-pub fn total(a: u64, b: u64) -> u64 {
+pub fn total(a: u64, b: u64) -> u64
+    ensures { result ≡ min (a + b) (2 ^ 62) }
+{
     a.saturating_add(b).min(1 << 62)
 }
 
 /// The bytes that the objects count which stand before the first pick.
-pub fn start_bytes(p: &Program, args: &[String]) -> u64 {
+pub fn start_bytes(p: &Program, args: &[String]) -> u64
+    ensures exact { length args.now + 1 < 2 ^ 32 → (os : List Standing) → Stand p.now (program_name ∷ map string_bytes args.now) os → result ≡ created_after 0 (map (λ o. o.decl) os) }
+{
+    let named = literal_bytes(p, static_bytes(p));
+    if takes_arguments(p) {
+        let strings = argument_bytes(args, total(named, counted(5)));
+        return total(strings, counted(vector_size(args)));
+    }
+    named
+}
+
+fn static_bytes(p: &Program) -> u64
+    ensures { result ≡ summed 0 (static_sizes p.now.tags p.now.statics) }
+{
     let mut sum = 0;
     for object in p.statics.as_slice() {
-        sum = total(sum, counted(extent(&p.tags, &object.qual.ty).size));
+        sum = total(sum, counted(extent_of_object(&p.tags, &object.qual).size));
     }
+    sum
+}
+
+fn literal_bytes(p: &Program, before: u64) -> u64
+    ensures { result ≡ summed before (map length p.now.literals) }
+{
+    let mut sum = before;
     for literal in p.literals.as_slice() {
         sum = total(sum, counted(literal.len() as u64));
     }
-    if !takes_arguments(p) {
-        return sum;
-    }
-    sum = total(sum, counted(5));
+    sum
+}
+
+// Each argument has a zero behind it.
+fn argument_bytes(args: &[String], before: u64) -> u64
+    ensures { result ≡ summed before (argument_sizes (map string_bytes args.now)) }
+{
+    let mut sum = before;
     for arg in args {
         sum = total(sum, counted((arg.len() as u64).saturating_add(1)));
     }
-    total(sum, counted(vector_size(args)))
+    sum
 }
 
 fn vector_size(args: &[String]) -> u64
