@@ -170,15 +170,21 @@ fn literal_bytes(p: &Program, before: u64) -> u64
     sum
 }
 
-// Each argument has a zero behind it.
 fn argument_bytes(args: &[String], before: u64) -> u64
     ensures { result ≡ summed before (argument_sizes (map string_bytes args.now)) }
 {
     let mut sum = before;
     for arg in args {
-        sum = total(sum, counted((arg.len() as u64).saturating_add(1)));
+        sum = with_text(sum, arg.as_bytes());
     }
     sum
+}
+
+// One string more, with a zero behind it.
+fn with_text(sum: u64, text: &[u8]) -> u64
+    ensures { result ≡ min (sum + max (length text.now + 1) 16) (2 ^ 62) }
+{
+    total(sum, counted((text.len() as u64).saturating_add(1)))
 }
 
 fn vector_size(args: &[String]) -> u64
