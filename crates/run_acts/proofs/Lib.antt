@@ -21,3 +21,5 @@ pub mod Ready
 pub mod NoPlace
 pub mod Rooms
 pub mod Sums
+pub mod Aligned
+pub mod Finds

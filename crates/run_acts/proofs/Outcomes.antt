@@ -306,20 +306,20 @@ start_is_defined world p args os s lawful stand addresses =
     stands_end world [] os os s addresses (stand_fits p args os lawful stand) refl tt
 
 -- ---- after creations that gave no clause, the objects are there
-abbrev bears_one : (has refuses : Bool) → List Row → Standing → Store → Act ℕ
+abbrev pub bears_one : (has refuses : Bool) → List Row → Standing → Store → Act ℕ
 bears_one false refuses rows o s = Unplaced
 bears_one true true rows o s = Unplaced
 bears_one true false rows o s =
     Done (base_in (row_of rows o.name)) (item.Born o.name ∷ []) (born s o.name o.decl.size (kind_of o) o.decl.form)
 
-creates_one : (has refuses : Bool) (rows : List Row) (o : Standing) (s : Store) → has_place (row_of rows o.name) o.decl.size o.decl.align ≡ has →
+pub creates_one : (has refuses : Bool) (rows : List Row) (o : Standing) (s : Store) → has_place (row_of rows o.name) o.decl.size o.decl.align ≡ has →
     is_some (s.life o.name) ≡ refuses →
     run rows (create rows o.name o.decl.size o.decl.align (kind_of o) o.decl.form) s ≡ bears_one has refuses rows o s
 creates_one false refuses rows o s h e = rw h refl
 creates_one true true rows o s h e = rw (h, e) refl
 creates_one true false rows o s h e = rw (h, e) refl
 
-abbrev store_in : Act ℕ → Store → Store
+abbrev pub store_in : Act ℕ → Store → Store
 store_in (Done v is t) s = t
 store_in _ s = s
 

@@ -37,7 +37,7 @@ use Rattle.run_acts.proofs.Outcomes.{FillingsFit, content_bytes_length, content_
 use Rattle.run_acts.proofs.Starting.{row_ends, stands_low}
 
 -- ---- a store of plain bytes
-abbrev quiet : Io
+abbrev pub quiet : Io
 quiet = record { input = []; position = 0; output = silent }
 
 pub puts_live : (old new : Kept) (x : ObjName) (a : ℕ) (bs : List TaggedByte) → Puts old new x a bs → LivesStay old new

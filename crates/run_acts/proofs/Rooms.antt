@@ -33,7 +33,7 @@ use Rattle.run_acts.specs.declared.storage.Filling.{Filling}
 use Rattle.run_acts.specs.declared.values.Pointer.{Pointer}
 use Rattle.run_acts.specs.Contents.{CanHoldAll, filled_by}
 use Rattle.run_acts.specs.Fills.{AreFillings}
-use Rattle.run_acts.specs.Outcomes.{IsFilled, IsReady, LivesStay, NoVector, WaitAll, Waits}
+use Rattle.run_acts.specs.Outcomes.{IsFilled, IsReady, LivesStay, WaitAll, Waits}
 use Rattle.run_acts.specs.Standing.{AllCreated, AreArguments, AreStatics, arguments, extent_of, IsStatic, literals, StandsThere, StaticsCreated, text, vector}
 use Rattle.run_acts.specs.Starting.{AreAll, AreMadeAll, ArePlaced}
 use Rattle.run_acts.specs.Views.{pointer_at, value_in}
@@ -235,6 +235,3 @@ pointers_never made m4 m6 end p words xs ys q fault sound above k4 k6 lives wait
     (stands.0, stands.1, stands_still m4 m6 names.Argv stands.0 k6 stands.2) above words
     (subst (λ (zs : List Argument). AreArguments m6 0 words zs) (sym same) (arguments_still made m6 0 words xs all are)) few
     (waits_still m4 m6 (vector words) k6 lives waiting.pointers))
-
-pub no_vector : (m : Kept) (n k : ℕ) → n ≡ k → NoVector m n → NoVector m k
-no_vector m n k e none = subst (λ (j : ℕ). NoVector m j) e none

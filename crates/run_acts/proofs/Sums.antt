@@ -15,7 +15,7 @@ use Rattle.run_acts.specs.Sums.{argument_sizes, given_sizes, sizes_of, static_si
 use Rattle.run_acts.proofs.Stands.{mapped_length, take_every, take_next}
 
 -- ---- one more
-summed_behind : (n k : ℕ) (ks : List ℕ) → summed n (ks ++ k ∷ []) ≡ min (summed n ks + max k 16) (2 ^ 62)
+pub summed_behind : (n k : ℕ) (ks : List ℕ) → summed n (ks ++ k ∷ []) ≡ min (summed n ks + max k 16) (2 ^ 62)
 summed_behind n k [] = refl
 summed_behind n k (j ∷ ks) = summed_behind (min (n + max j 16) (2 ^ 62)) k ks
 
@@ -46,18 +46,18 @@ summed_then n [] ks = refl
 summed_then n (j ∷ js) ks = summed_then (min (n + max j 16) (2 ^ 62)) js ks
 
 -- ---- as the definitions count them
-created_sum : (n : ℕ) (os : List Standing) → created_after n (map (λ o. o.decl) os) ≡ summed n (map (λ o. o.decl.size) os)
+pub created_sum : (n : ℕ) (os : List Standing) → created_after n (map (λ o. o.decl) os) ≡ summed n (map (λ o. o.decl.size) os)
 created_sum n [] = refl
 created_sum n (o ∷ os) = created_sum (min (n + max o.decl.size 16) (2 ^ 62)) os
 
-abbrev sizes : List Standing → List ℕ
+abbrev pub sizes : List Standing → List ℕ
 sizes os = map (λ o. o.decl.size) os
 
-sizes_then : (os ps : List Standing) → sizes (os ++ ps) ≡ sizes os ++ sizes ps
+pub sizes_then : (os ps : List Standing) → sizes (os ++ ps) ≡ sizes os ++ sizes ps
 sizes_then [] ps = refl
 sizes_then (o ∷ os) ps = ap (λ (ks : List ℕ). o.decl.size ∷ ks) (sizes_then os ps)
 
-sizes_of_statics : (tags : List Tag) (k : ℕ) (ss : List Static) (os : List Standing) → AreStatics tags k ss os → sizes os ≡ static_sizes tags ss
+pub sizes_of_statics : (tags : List Tag) (k : ℕ) (ss : List Static) (os : List Standing) → AreStatics tags k ss os → sizes os ≡ static_sizes tags ss
 sizes_of_statics tags k [] [] are = refl
 sizes_of_statics tags k [] (o ∷ os) are = absurd are
 sizes_of_statics tags k (s ∷ ss) [] are = absurd are
@@ -65,11 +65,11 @@ sizes_of_statics tags k (s ∷ ss) (o ∷ os) are =
     let rest = sizes_of_statics tags (suc k) ss os are.1 in
     λ i. are.0.size i ∷ rest i
 
-sizes_of_literals : (k : ℕ) (texts : List (List ℕ)) → sizes (literals k texts) ≡ map length texts
+pub sizes_of_literals : (k : ℕ) (texts : List (List ℕ)) → sizes (literals k texts) ≡ map length texts
 sizes_of_literals k [] = refl
 sizes_of_literals k (bs ∷ rest) = ap (λ (ks : List ℕ). length bs ∷ ks) (sizes_of_literals (suc k) rest)
 
-sizes_of_arguments : (k : ℕ) (words : List (List ℕ)) → sizes (arguments k words) ≡ argument_sizes words
+pub sizes_of_arguments : (k : ℕ) (words : List (List ℕ)) → sizes (arguments k words) ≡ argument_sizes words
 sizes_of_arguments k [] = refl
 sizes_of_arguments k (bs ∷ rest) =
     let here = length-append bs (0 ∷ []) in

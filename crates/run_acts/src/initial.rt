@@ -24,7 +24,7 @@ ghost use Rattle.prov_memory.specs.Sound.{IsSound};
 ghost use Rattle.prov_memory.specs.Tags.{CellsTagged};
 ghost use Rattle.run_acts.specs.Contents.{Stands};
 ghost use Rattle.run_acts.specs.Kept.{IsOf};
-ghost use Rattle.run_acts.specs.Outcomes.{CannotHold, CannotStand, HasNoPlace, IsFilled, IsReady, NoVector, SomeArgument, SomeLiteral, SomeStatic, Waits, WaitAll};
+ghost use Rattle.run_acts.specs.Outcomes.{CannotHold, CannotStand, FirstArgument, FirstLiteral, HasNoPlace, IsFilled, IsReady, NoVector, SomeStatic, Waits, WaitAll};
 ghost use Rattle.run_acts.specs.Standing.{AreArguments, AreStatics, ArgumentAdded, IsStatic, AllCreated, AllFilled, StaticFilled, StaticsFilled, extent_of, HasForm, literals, NamedFilled, program_name, Stand, StartStands, StaticCreated, StaticsCreated, StandsThere};
 ghost use Rattle.run_acts.specs.Standing as standing;
 ghost use Rattle.run_acts.specs.Starting.{AreAll, ArePlaced, AreMadeAll, AddsArgument, Creates, EndsLow, Puts};
@@ -227,7 +227,7 @@ pub fn start(
     ensures placed { IfOk result (λ s. IsSound m.old → IsLawful p.now → ArePlaced m.new p.now s.places) }
     ensures stands { OnOk result (IsSound m.old → IsLawful p.now → length args.now + 1 < 2 ^ 32 → StartStands m.old m.new p.now (program_name ∷ map string_bytes args.now)) }
     ensures made { IfOk result (λ s. IsSound m.old → IsLawful p.now → IsOf m.new s.count × IsOf m.new s.vector) }
-    ensures unplaced { result ≡ Err Unplaced → IsSound m.old → IsLawful p.now → Above 16777216 m.old.rows → length args.now + 1 < 2 ^ 32 → HasNoPlace m.new p.now (program_name ∷ map string_bytes args.now) }
+    ensures unplaced { result ≡ Err Unplaced → IsSound m.old → IsLawful p.now → Above 16777216 m.old.rows → length args.now + 1 < 2 ^ 32 → HasNoPlace m.old m.new p.now (program_name ∷ map string_bytes args.now) }
 {
     let mut t = Touched::new(alloc)?;
     let mut places = Places::new(alloc);
@@ -269,7 +269,7 @@ fn create_statics(
     ensures rest { places.new.literals ≡ places.old.literals }
     ensures exact { OnOk result (IsSound m.old → places.old.objects ≡ [] → length p.now.statics < 2 ^ 32 → StaticsCreated m.old m.new p.now.tags p.now.statics) }
     ensures placed { OnOk result (places.old.objects ≡ [] → length p.now.statics < 2 ^ 32 → AreAll m.new (λ k. names.Static k) places.new.objects (length p.now.statics)) }
-    ensures unplaced { result ≡ Err Unplaced → places.old.objects ≡ [] → length p.now.statics < 2 ^ 32 → SomeStatic m.new p.now.tags p.now.statics }
+    ensures unplaced { result ≡ Err Unplaced → IsSound m.old → places.old.objects ≡ [] → length p.now.statics < 2 ^ 32 → SomeStatic m.old m.new p.now.tags p.now.statics }
 {
     for object in p.statics.as_slice() {
         let addr = create_static(alloc, p, object, count_of(&places.objects), m, t)?;
@@ -289,7 +289,7 @@ fn create_literals(
     ensures rest { places.new.objects ≡ places.old.objects }
     ensures exact { OnOk result (IsSound m.old → places.old.literals ≡ [] → length p.now.literals < 2 ^ 32 → AllCreated m.old m.new (literals 0 p.now.literals)) }
     ensures placed { OnOk result (places.old.literals ≡ [] → length p.now.literals < 2 ^ 32 → AreAll m.new (λ k. names.Lit k) places.new.literals (length p.now.literals)) }
-    ensures unplaced { result ≡ Err Unplaced → places.old.literals ≡ [] → length p.now.literals < 2 ^ 32 → SomeLiteral m.new p.now.literals }
+    ensures unplaced { result ≡ Err Unplaced → IsSound m.old → places.old.literals ≡ [] → length p.now.literals < 2 ^ 32 → FirstLiteral m.old m.new p.now.literals }
 {
     for literal in p.literals.as_slice() {
         let name = ObjName::Lit(count_of(&places.literals));
@@ -394,6 +394,7 @@ fn create_static(
     ensures exact { OnOk result (AreKnown m.old → StaticCreated m.old m.new p.now.tags number object.now) }
     ensures stands { IfOk result (λ addr. Stands m.new (names.Static number) addr) }
     ensures unplaced { result ≡ Err Unplaced → CannotStand m.new (names.Static number) (extent_of p.now.tags (qualified_of object.now.qual).ty) }
+    ensures same { result ≡ Err Unplaced → m.new ≡ m.old }
 {
     let extent = extent_of_object(&p.tags, &object.qual);
     let shape = shape_of_object(alloc, &p.tags, &object.qual)?;
@@ -508,6 +509,7 @@ fn create_text(
     ensures exact { OnOk result (AreKnown m.old → Creates m.old m.new name count 1 (record { heap = false; literal = literal; constant = false }) (Some (repeat count 1 (leaf (int Char))))) }
     ensures stands { IfOk result (λ addr. Stands m.new name addr) }
     ensures unplaced { result ≡ Err Unplaced → CannotHold m.new name count }
+    ensures same { result ≡ Err Unplaced → m.new ≡ m.old }
 {
     let shape = repeated(alloc, count, 1, character())?;
     let kind = ObjKind {
@@ -567,7 +569,7 @@ fn create_arguments(
     ensures exact { OnOk result (IsSound m.old → length args.now + 1 < 2 ^ 32 → AllCreated m.old m.new (standing.arguments 0 (program_name ∷ map string_bytes args.now))) }
     ensures there { IfOk result (λ all. length args.now + 1 < 2 ^ 32 → AreArguments m.new 0 (program_name ∷ map string_bytes args.now) all) }
     ensures made { IfOk result (AreMadeAll m.new) }
-    ensures unplaced { result ≡ Err Unplaced → length args.now + 1 < 2 ^ 32 → SomeArgument m.new (program_name ∷ map string_bytes args.now) }
+    ensures unplaced { result ≡ Err Unplaced → IsSound m.old → length args.now + 1 < 2 ^ 32 → FirstArgument m.old m.new (program_name ∷ map string_bytes args.now) }
 {
     let mut all = Items::new(alloc);
     create_argument(alloc, NAME, &mut all, m, t)?;
@@ -590,6 +592,7 @@ fn create_argument(
     ensures count { OnOk result (length all.new ≡ length all.old + 1) }
     ensures made { OnOk result (AreMadeAll m.old all.old → AreMadeAll m.new all.new) }
     ensures unplaced { result ≡ Err Unplaced → length all.old < 2 ^ 32 → CannotHold m.new (names.Arg (length all.old)) (length text.now + 1) }
+    ensures same { result ≡ Err Unplaced → m.new ≡ m.old }
 {
     let text = text_of(alloc, text)?;
     let name = ObjName::Arg(short(all.len()));
@@ -642,6 +645,7 @@ fn create_vector(
     ensures made { IfOk result (λ p. IsMade m.new p.prov) }
     ensures stands { IfOk result (λ p. StandsThere m.new names.Argv p) }
     ensures unplaced { result ≡ Err Unplaced → length args.now < 2 ^ 32 → NoVector m.new (length args.now + 1) }
+    ensures same { result ≡ Err Unplaced → m.new ≡ m.old }
 {
     let count = (args.len() as u64).saturating_add(2);
     let element = character_pointer(alloc)?;

@@ -9,9 +9,9 @@ use Rattle.run_acts.specs.declared.initial.Argument.{Argument}
 use Rattle.run_acts.specs.Starting.{ArePlaced, AreMadeAll}
 use Rattle.run_acts.proofs.Starting.{made_still, placed_still, named_placed, named_filled, pointed, count_of, vector_of, null_of}
 use Rattle.std.proofs.lemmas.Result.{err_from_is_err_and}
-use Rattle.run_acts.proofs.NoPlace.{fault_of}
+use Rattle.run_acts.proofs.NoPlace.{argument_behind, fault_of, literal_behind, vector_behind}
 use Rattle.run_acts.proofs.Ready.{lives_then}
-use Rattle.run_acts.proofs.Rooms.{all_wait, named_wait, never, no_vector, pointers_never, strings_live, strings_never}
+use Rattle.run_acts.proofs.Rooms.{all_wait, named_wait, never, pointers_never, strings_live, strings_never}
 use Rattle.run_acts.proofs.initial.start.Goals as goal
 
 pub returns-in_err-create_literals-clause-kept : goal.returns-in_err-create_literals-clause-kept
@@ -239,20 +239,32 @@ pub returns-in_err-create_statics-clause-unplaced : goal.returns-in_err-create_s
 returns-in_err-create_statics-clause-unplaced c = λ e sound lawful above few.
     let p = err_from_is_err_and c.from_residual-in_err-create_statics.result c.from_residual-in_err-create_statics.ensures.1 in
     let fault = fault_of _ p.0 c.in_err-create_statics.field-0.0 p.1 p.2 e in
-    inl (c.in_err-create_statics.ensures.unplaced (ap Err fault) c.new-places.ensures.objects lawful.numbered.statics)
+    inl (c.in_err-create_statics.ensures.unplaced (ap Err fault) sound c.new-places.ensures.objects lawful.numbered.statics)
 
 pub returns-in_err-create_literals-clause-unplaced : goal.returns-in_err-create_literals-clause-unplaced
 returns-in_err-create_literals-clause-unplaced c = λ e sound lawful above few.
     let p = err_from_is_err_and c.from_residual-in_err-create_literals.result c.from_residual-in_err-create_literals.ensures.1 in
     let fault = fault_of _ p.0 c.in_err-create_literals.field-0.0 p.1 p.2 e in
-    inr (inl (c.in_err-create_literals.ensures.unplaced (ap Err fault) (c.create_statics.ensures.rest ∙ c.new-places.ensures.literals)
-    lawful.numbered.literals))
+    let one = c.create_statics.ensures.kept.sound sound in
+    let statics = c.in_ok-create_statics.ensures.exact sound c.new-places.ensures.objects lawful.numbered.statics in
+    inr (inl (literal_behind c.args.m.now c.create_statics.new.m c.create_literals.new.m c.args.p.now c.create_literals.ensures.kept statics
+    (c.in_err-create_literals.ensures.unplaced (ap Err fault) one (c.create_statics.ensures.rest ∙ c.new-places.ensures.literals)
+    lawful.numbered.literals)))
 
 pub returns-in_err-arguments-clause-unplaced : goal.returns-in_err-arguments-clause-unplaced
 returns-in_err-arguments-clause-unplaced c = λ e sound lawful above few.
     let p = err_from_is_err_and c.from_residual-in_err-arguments.result c.from_residual-in_err-arguments.ensures.1 in
     let fault = fault_of _ p.0 c.in_err-arguments.field-0.0 p.1 p.2 e in
-    inr (inr (sym c.takes_arguments.ensures ∙ c.if-takes_arguments.true, inl (c.in_err-arguments.ensures.unplaced (ap Err fault) few)))
+    let one = c.create_statics.ensures.kept.sound sound in
+    let two = c.create_literals.ensures.kept.sound one in
+    let statics = c.in_ok-create_statics.ensures.exact sound c.new-places.ensures.objects lawful.numbered.statics in
+    let texts = c.in_ok-create_literals.ensures.exact one (c.create_statics.ensures.rest ∙ c.new-places.ensures.literals) lawful.numbered.literals in
+    inr (inr (
+      sym c.takes_arguments.ensures ∙ c.if-takes_arguments.true,
+      inl (argument_behind c.args.m.now c.create_statics.new.m c.create_literals.new.m c.create_arguments.new.m c.args.p.now
+          (program_name ∷ map string_bytes c.args.args.now) c.create_literals.ensures.kept c.create_arguments.ensures.kept statics texts
+          (c.in_err-arguments.ensures.unplaced (ap Err fault) two few)),
+    ))
 
 pub returns-in_err-vector-clause-unplaced : goal.returns-in_err-vector-clause-unplaced
 returns-in_err-vector-clause-unplaced c = λ e sound lawful above few.
@@ -260,10 +272,16 @@ returns-in_err-vector-clause-unplaced c = λ e sound lawful above few.
     let fault = fault_of _ p.0 c.in_err-vector.field-0.0 p.1 p.2 e in
     let count : length c.args.args.now + 1 ≡ length (program_name ∷ map string_bytes c.args.args.now) =
     omega (arith, mapped_length string_bytes c.args.args.now) in
+    let one = c.create_statics.ensures.kept.sound sound in
+    let two = c.create_literals.ensures.kept.sound one in
+    let statics = c.in_ok-create_statics.ensures.exact sound c.new-places.ensures.objects lawful.numbered.statics in
+    let texts = c.in_ok-create_literals.ensures.exact one (c.create_statics.ensures.rest ∙ c.new-places.ensures.literals) lawful.numbered.literals in
     inr (inr (
       sym c.takes_arguments.ensures ∙ c.if-takes_arguments.true,
-      inr (no_vector c.create_vector.new.m (length c.args.args.now + 1)
-          (length (program_name ∷ map string_bytes c.args.args.now)) count (c.in_err-vector.ensures.unplaced (ap Err fault) (omega (arith, few)))),
+      inr (vector_behind c.args.m.now c.create_statics.new.m c.create_literals.new.m c.create_arguments.new.m c.create_vector.new.m c.args.p.now
+          (program_name ∷ map string_bytes c.args.args.now) (length c.args.args.now + 1) c.create_literals.ensures.kept c.create_arguments.ensures.kept
+          statics texts (c.in_ok-arguments.ensures.exact two few) (c.in_err-vector.ensures.same (ap Err fault)) count
+          (c.in_err-vector.ensures.unplaced (ap Err fault) (omega (arith, few)))),
     ))
 
 pub returns-in_err-fill_named-clause-unplaced : goal.returns-in_err-fill_named-clause-unplaced
