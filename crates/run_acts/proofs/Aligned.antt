@@ -1,5 +1,5 @@
 -- The alignment of each type is a power of two.
-use Rattle.std.proofs.Common.{◌≡◌, ℕ, zero, suc, ◌≤◌, ◌<◌, ◌^◌, ◌*◌, Bool, true, false, refl, subst, sym, arith, List, [], ◌∷◌, length, Option, Some, None, max, slice_get}
+use Rattle.std.proofs.Common.{◌≡◌, ℕ, zero, suc, ◌^◌, ◌*◌, Bool, true, false, refl, subst, arith, List, [], ◌∷◌, length, Option, Some, None, max, slice_get}
 use Rattle.std.specs.Prelude.{nat_le, if◌then◌else◌}
 use Rattle.addr_map.specs.Rows.{is_power}
 use Rattle.addr_map.proofs.Tests.{le_true, le_false}
@@ -25,7 +25,6 @@ use Rattle.c_types.specs.Layout.{
   placed,
   repeated,
   rounded,
-  tag_extent,
   type_of_member,
   with_member,
 }

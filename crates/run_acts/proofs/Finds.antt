@@ -23,15 +23,14 @@ use Rattle.c_typed.specs.declared.program.Static.{Static}
 use Rattle.mem_spec.specs.declared.kind.ObjKind.{ObjKind}
 use Rattle.mem_spec.specs.Acts.{has_place}
 use Rattle.mem_spec.specs.Script.{Act, Done}
-use Rattle.mem_spec.specs.Store.{Life, Store, born}
+use Rattle.mem_spec.specs.Store.{Store, born}
 use Rattle.prov_memory.specs.Held.{Held, held_of}
 use Rattle.prov_memory.specs.Keeps.{Keeps}
 use Rattle.prov_memory.specs.Memory.{Kept, life_in, store_of}
 use Rattle.prov_memory.proofs.RoomLemmas.{place_found}
 use Rattle.c_model.specs.Program.{Standing}
-use Rattle.c_model.specs.Runs.{created_after}
 use Rattle.run_acts.specs.Outcomes.{CannotStand, FindsRoom, HasNoPlace, IsNew, SomeArgument, SomeLiteral, SomeStatic, VectorRefused, lives_of}
-use Rattle.run_acts.specs.Standing.{AllCreated, AreStatics, CreatesAll, Stand, arguments, extent_of, extent_or_byte, kind_of, literals, takes_arguments, text}
+use Rattle.run_acts.specs.Standing.{AllCreated, AreStatics, CreatesAll, arguments, extent_of, extent_or_byte, kind_of, literals, takes_arguments, text}
 use Rattle.run_acts.specs.Sums.{argument_sizes, given_sizes, sizes_of, static_sizes, summed}
 use Rattle.run_acts.proofs.Aligned.{extent_aligned}
 use Rattle.run_acts.proofs.Outcomes.{bears_one, creates_one, store_in}
@@ -197,11 +196,14 @@ static_refused old new p words is keeps lawful within refused =
     let all = refused.3 in
     let size_of : Static → ℕ = λ t. (extent_of p.tags (qualified_of t.qual).ty).size in
     let split = mapped_split size_of k p.statics s refused.2 in
-    let others = map length p.literals ++ given_sizes (takes_arguments (slice_get p.functions p.main)) words in
+    let given = given_sizes (takes_arguments (slice_get p.functions p.main)) words in
+    let others = map length p.literals ++ given in
     let whole : sizes_of p words ≡ static_sizes p.tags (take k p.statics) ++ size_of s ∷ (split.0 ++ others) =
-    ap (λ (ks : List ℕ). ks ++ others) split.1 ∙ append_assoc (static_sizes p.tags (take k p.statics)) (size_of s ∷ split.0) others in
+    append_assoc (static_sizes p.tags p.statics) (map length p.literals) given ∙ ap (λ (ks : List ℕ). ks ++ others) split.1
+    ∙ append_assoc (static_sizes p.tags (take k p.statics)) (size_of s ∷ split.0) others in
     not_refused old new all.0 (names.Static k) (size_of s) (extent_of p.tags (qualified_of s.qual).ty).align is keeps all.2
-    (statics_apart (names.Static k) k (λ j lt. other_number j k lt) p.tags 0 (take k p.statics) all.0 (taken_few k p.statics) all.1)
+    (statics_apart (names.Static k) k (λ j lt. other_number j k lt) p.tags 0 (take k p.statics) all.0
+    (omega (arith, taken_few k p.statics)) all.1)
     (sized (extent (extents p.tags) (qualified_of s.qual).ty) (at_all (StaticIsLawful p) k p.statics s lawful.statics refused.2).sized)
     (extent_aligned p.tags (qualified_of s.qual).ty)
     (part_within (sizes_of p words) (static_sizes p.tags (take k p.statics)) (sizes all.0) (size_of s) (split.0 ++ others) whole
@@ -219,7 +221,8 @@ literal_refused old new p words is keeps lawful within refused =
     let before = map length (take k p.literals) in
     let others = given_sizes (takes_arguments (slice_get p.functions p.main)) words in
     let whole : sizes_of p words ≡ (first ++ before) ++ length bs ∷ (split.0 ++ others) =
-    ap (λ (ks : List ℕ). first ++ ks) (ap (λ (ks : List ℕ). ks ++ others) split.1 ∙ append_assoc before (length bs ∷ split.0) others)
+    append_assoc first (map length p.literals) others
+    ∙ ap (λ (ks : List ℕ). first ++ ks) (ap (λ (ks : List ℕ). ks ++ others) split.1 ∙ append_assoc before (length bs ∷ split.0) others)
     ∙ sym (append_assoc first before (length bs ∷ (split.0 ++ others))) in
     let texts = take k (literals 0 p.literals) in
     not_refused old new (all.0 ++ texts) (names.Lit k) (length bs) 1 is keeps all.2
@@ -244,7 +247,7 @@ argument_refused old new p words is keeps takes within refused =
     let before = argument_sizes (take k words) in
     let others = 8 * (length words + 1) ∷ [] in
     let given : sizes_of p words ≡ first ++ (second ++ (argument_sizes words ++ others)) =
-    ap (λ (b : Bool). first ++ (second ++ given_sizes b words)) takes in
+    ap (λ (b : Bool). first ++ second ++ given_sizes b words) takes ∙ append_assoc first second (argument_sizes words ++ others) in
     let rest = size_of bs ∷ (split.0 ++ others) in
     let behind : argument_sizes words ++ others ≡ before ++ rest =
     ap (λ (ks : List ℕ). ks ++ others) split.1 ∙ append_assoc before (size_of bs ∷ split.0) others in
@@ -274,8 +277,8 @@ pointers_refused old new p words is keeps takes within refused =
     let before = argument_sizes words in
     let rest = 8 * (length words + 1) ∷ [] in
     let whole : sizes_of p words ≡ (first ++ (second ++ before)) ++ rest =
-    ap (λ (b : Bool). first ++ (second ++ given_sizes b words)) takes ∙ ap (λ (ks : List ℕ). first ++ ks) (sym (append_assoc second before rest))
-    ∙ sym (append_assoc first (second ++ before) rest) in
+    ap (λ (b : Bool). first ++ second ++ given_sizes b words) takes ∙ append_assoc first second (before ++ rest)
+    ∙ ap (λ (ks : List ℕ). first ++ ks) (sym (append_assoc second before rest)) ∙ sym (append_assoc first (second ++ before) rest) in
     let texts = literals 0 p.literals in
     let strings = arguments 0 words in
     not_refused old new (all.0 ++ (texts ++ strings)) names.Argv (8 * (length words + 1)) 8 is keeps all.2

@@ -24,7 +24,7 @@ ghost use Rattle.prov_memory.specs.Sound.{IsSound};
 ghost use Rattle.prov_memory.specs.Tags.{CellsTagged};
 ghost use Rattle.run_acts.specs.Contents.{Stands};
 ghost use Rattle.run_acts.specs.Kept.{IsOf};
-ghost use Rattle.run_acts.specs.Outcomes.{CannotHold, CannotStand, FirstArgument, FirstLiteral, HasNoPlace, IsFilled, IsReady, NoVector, SomeStatic, Waits, WaitAll};
+ghost use Rattle.run_acts.specs.Outcomes.{CannotHold, CannotStand, FirstArgument, FirstLiteral, HasNoPlace, IsFilled, IsNew, IsReady, NoVector, SomeStatic, Waits, WaitAll};
 ghost use Rattle.run_acts.specs.Standing.{AreArguments, AreStatics, ArgumentAdded, IsStatic, AllCreated, AllFilled, StaticFilled, StaticsFilled, extent_of, HasForm, literals, NamedFilled, program_name, Stand, StartStands, StaticCreated, StaticsCreated, StandsThere};
 ghost use Rattle.run_acts.specs.Standing as standing;
 ghost use Rattle.run_acts.specs.Starting.{AreAll, ArePlaced, AreMadeAll, AddsArgument, Creates, EndsLow, Puts};
@@ -228,21 +228,38 @@ pub fn start(
     ensures stands { OnOk result (IsSound m.old → IsLawful p.now → length args.now + 1 < 2 ^ 32 → StartStands m.old m.new p.now (program_name ∷ map string_bytes args.now)) }
     ensures made { IfOk result (λ s. IsSound m.old → IsLawful p.now → IsOf m.new s.count × IsOf m.new s.vector) }
     ensures unplaced { result ≡ Err Unplaced → IsSound m.old → IsLawful p.now → Above 16777216 m.old.rows → length args.now + 1 < 2 ^ 32 → HasNoPlace m.old m.new p.now (program_name ∷ map string_bytes args.now) }
+    ensures room { result ≡ Err Unplaced → IsSound m.old → IsLawful p.now → IsNew m.old → Above 16777216 m.old.rows → length args.now + 1 < 2 ^ 32 → (os : List Standing) → Stand p.now (program_name ∷ map string_bytes args.now) os → created_after 0 (map (λ o. o.decl) os) ≤ 2 ^ 40 → ⊥ }
 {
     let mut t = Touched::new(alloc)?;
+    begin(alloc, p, args, m, &mut t)
+}
+
+fn begin(
+    alloc: Global,
+    p: &Program,
+    args: &[String],
+    m: &mut Memory,
+    t: &mut Touched,
+) -> Result<Started, CreateFault>
+    ensures kept { IsSound m.old → IsLawful p.now → Keeps m.old m.new }
+    ensures placed { IfOk result (λ s. IsSound m.old → IsLawful p.now → ArePlaced m.new p.now s.places) }
+    ensures stands { OnOk result (IsSound m.old → IsLawful p.now → length args.now + 1 < 2 ^ 32 → StartStands m.old m.new p.now (program_name ∷ map string_bytes args.now)) }
+    ensures made { IfOk result (λ s. IsSound m.old → IsLawful p.now → IsOf m.new s.count × IsOf m.new s.vector) }
+    ensures unplaced { result ≡ Err Unplaced → IsSound m.old → IsLawful p.now → Above 16777216 m.old.rows → length args.now + 1 < 2 ^ 32 → HasNoPlace m.old m.new p.now (program_name ∷ map string_bytes args.now) }
+{
     let mut places = Places::new(alloc);
-    create_statics(alloc, p, &mut places, m, &mut t)?;
-    create_literals(alloc, p, &mut places, m, &mut t)?;
+    create_statics(alloc, p, &mut places, m, t)?;
+    create_literals(alloc, p, &mut places, m, t)?;
     if takes_arguments(p) {
-        let arguments = create_arguments(alloc, args, m, &mut t)?;
-        let vector = create_vector(alloc, args, m, &mut t)?;
-        fill_named(alloc, p, &places, m, &mut t)?;
-        fill_arguments(alloc, arguments.as_slice(), m, &mut t)?;
-        point(alloc, arguments.as_slice(), vector, m, &mut t)?;
+        let arguments = create_arguments(alloc, args, m, t)?;
+        let vector = create_vector(alloc, args, m, t)?;
+        fill_named(alloc, p, &places, m, t)?;
+        fill_arguments(alloc, arguments.as_slice(), m, t)?;
+        point(alloc, arguments.as_slice(), vector, m, t)?;
         let count = i128::from(args.len() as u64).wrapping_add(1);
         return Ok(standing(places, count, vector));
     }
-    fill_named(alloc, p, &places, m, &mut t)?;
+    fill_named(alloc, p, &places, m, t)?;
     Ok(standing(places, 0, Pointer::null()))
 }
 
