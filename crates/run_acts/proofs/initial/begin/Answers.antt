@@ -237,7 +237,7 @@ returns-clause-stands c = λ sound lawful few.
 
 pub returns-in_err-create_statics-clause-unplaced : goal.returns-in_err-create_statics-clause-unplaced
 returns-in_err-create_statics-clause-unplaced c = λ e sound lawful above few.
-    let p = err_from_is_err_and c.from_residual-in_err-create_statics.result c.from_residual-in_err-create_statics.ensures.1 in
+    let p = err_from_is_err_and c.from_residual.result c.from_residual.ensures.1 in
     let fault = fault_of _ p.0 c.in_err-create_statics.field-0.0 p.1 p.2 e in
     inl (c.in_err-create_statics.ensures.unplaced (ap Err fault) sound c.new-places.ensures.objects lawful.numbered.statics)
 
