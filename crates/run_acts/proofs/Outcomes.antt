@@ -1,10 +1,9 @@
 -- What the definitions do before the first pick raises no clause.
 use Rattle.std.proofs.Common.{◌≡◌, ℕ, zero, suc, ◌+◌, ◌*◌, ◌<◌, ◌≤◌, ◌^◌, Bool, true, false, cond, refl, sym, ap, ◌∙◌, subst, arith, List, [], ◌∷◌, ◌++◌}
-use Rattle.std.proofs.Common.{length, map, get_or, slice_get, Option, Some, None}
-use Rattle.std.specs.Prelude.{is_some, nat_lt, nat_le, ◌==◌, ◌&&◌, ◌/◌, ◌%◌}
+use Rattle.std.proofs.Common.{length, map, slice_get, Option, Some, None}
+use Rattle.std.specs.Prelude.{is_some, nat_le, ◌==◌, ◌/◌}
 use Rattle.std.specs.List.{All}
 use Rattle.std.proofs.lemmas.Bool.Decides.{nat_tests}
-use Rattle.std.proofs.lemmas.List.{length-append}
 use Rattle.std.proofs.lemmas.List.Elements.{All-head, All-tail}
 use Rattle.ub_base.specs.declared.names.Item.{Item}
 use Rattle.ub_base.specs.declared.names.Item.TheVariants as item
@@ -17,11 +16,10 @@ use Rattle.addr_map.specs.Rows.{row_of}
 use Rattle.exposure.specs.declared.prov.Prov.{Prov}
 use Rattle.exposure.specs.declared.prov.Prov.TheVariants.{Whole, Empty}
 use Rattle.c_types.specs.declared.tags.Extent.{Extent}
-use Rattle.c_types.specs.declared.tags.Tag.{Tag}
 use Rattle.c_types.specs.Layout.{extent, extents, size_in, size_of}
 use Rattle.c_types.specs.Shapes.{Form}
 use Rattle.c_types.specs.Types.{qualified_of}
-use Rattle.c_typed.specs.Lawful.{There, IsLawful, StaticIsLawful, IsSized, end_of, length_of}
+use Rattle.c_typed.specs.Lawful.{There, IsLawful, StaticIsLawful, end_of, length_of}
 use Rattle.c_typed.specs.declared.program.Constant.{Constant}
 use Rattle.c_typed.specs.declared.program.Content.{Content as Held}
 use Rattle.c_typed.specs.declared.program.Content.TheVariants as contents
@@ -32,7 +30,7 @@ use Rattle.c_typed.specs.declared.tree.Target.TheVariants as targets
 use Rattle.mem_spec.specs.declared.kind.ObjKind.{ObjKind}
 use Rattle.mem_spec.specs.Acts.{store, bytes, has_place, base_in, in_row, create}
 use Rattle.mem_spec.specs.Bytes.{number_bytes, pointer_bytes}
-use Rattle.mem_spec.specs.Script.{Script, Act, Done, Raised, Ended, Outside, Unplaced, Bear, Give, Misplace, run, touch, touched, ◌>>◌}
+use Rattle.mem_spec.specs.Script.{Script, Act, Done, Raised, Ended, Outside, Unplaced, run, touched, ◌>>◌}
 use Rattle.mem_spec.specs.Store.{Store, Life, TaggedByte, is_live, born, with_bytes}
 use Rattle.prov_memory.proofs.AccessLemmas.{before, after, run_bind}
 use Rattle.c_model.specs.Nodes.{fill, content_bytes, plain_byte}
@@ -42,9 +40,8 @@ use Rattle.c_model.specs.Values.{Value, Nothing, Pointer, address_after, functio
 use Rattle.c_model.specs.World.{World}
 use Rattle.run_acts.specs.Contents.{address_of, content_of, filled_by}
 use Rattle.run_acts.specs.Outcomes.{IsDoneOrUnplaced, AreAddresses, StartIsDefined, IsThere, AreThere}
-use Rattle.run_acts.specs.Standing.{CreatesAll, IsStatic, AreStatics, Stand, arguments, takes_arguments, extent_of, extent_or_byte, given, kind_of, literals, place_of, pointers, text, vector}
-use Rattle.run_acts.proofs.Clears.{Stored, does_store, untagged}
-use Rattle.run_acts.proofs.Fills.{before_done, before_twice}
+use Rattle.run_acts.specs.Standing.{CreatesAll, IsStatic, AreStatics, Stand, arguments, takes_arguments, extent_or_byte, given, kind_of, literals, place_of, pointers, text, vector}
+use Rattle.run_acts.proofs.Clears.{does_store, untagged}
 use Rattle.run_acts.proofs.Stands.{items_before}
 
 -- ---- how many bytes a content has

@@ -13,8 +13,6 @@ use Rattle.c_typed.specs.Lawful.{IsLawful, StaticIsLawful}
 use Rattle.c_typed.specs.declared.program.Constant.{Constant}
 use Rattle.c_typed.specs.declared.program.Program.{Program}
 use Rattle.c_typed.specs.declared.program.Static.{Static as Object}
-use Rattle.mem_spec.specs.Bytes.{pointer_bytes}
-use Rattle.mem_spec.specs.Store.{TaggedByte}
 use Rattle.prov_memory.specs.declared.answer.CreateFault.{CreateFault}
 use Rattle.prov_memory.specs.declared.answer.CreateFault.TheVariants as faults
 use Rattle.prov_memory.specs.declared.cell.Cell.{Cell}
@@ -25,7 +23,7 @@ use Rattle.prov_memory.specs.Memory.{Kept}
 use Rattle.prov_memory.specs.Pieces.{IsMadeValue, seen, value_bytes}
 use Rattle.prov_memory.specs.Sound.{IsSound}
 use Rattle.prov_memory.proofs.KeepLemmas.{keeps_then}
-use Rattle.c_model.specs.Program.{Standing, Filling as Filled}
+use Rattle.c_model.specs.Program.{Standing}
 use Rattle.c_model.specs.Values.{address_after, null, pointer_value, Pointer as Place}
 use Rattle.run_acts.specs.declared.initial.Argument.{Argument}
 use Rattle.run_acts.specs.declared.initial.Places.{Places}
