@@ -20,3 +20,6 @@ pub mod Outcomes
 pub mod Ready
 pub mod NoPlace
 pub mod Rooms
+pub mod Sums
+pub mod Aligned
+pub mod Finds

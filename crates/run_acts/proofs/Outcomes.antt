@@ -1,10 +1,9 @@
 -- What the definitions do before the first pick raises no clause.
 use Rattle.std.proofs.Common.{◌≡◌, ℕ, zero, suc, ◌+◌, ◌*◌, ◌<◌, ◌≤◌, ◌^◌, Bool, true, false, cond, refl, sym, ap, ◌∙◌, subst, arith, List, [], ◌∷◌, ◌++◌}
-use Rattle.std.proofs.Common.{length, map, get_or, slice_get, Option, Some, None}
-use Rattle.std.specs.Prelude.{is_some, nat_lt, nat_le, ◌==◌, ◌&&◌, ◌/◌, ◌%◌}
+use Rattle.std.proofs.Common.{length, map, slice_get, Option, Some, None}
+use Rattle.std.specs.Prelude.{is_some, nat_le, ◌==◌, ◌/◌}
 use Rattle.std.specs.List.{All}
 use Rattle.std.proofs.lemmas.Bool.Decides.{nat_tests}
-use Rattle.std.proofs.lemmas.List.{length-append}
 use Rattle.std.proofs.lemmas.List.Elements.{All-head, All-tail}
 use Rattle.ub_base.specs.declared.names.Item.{Item}
 use Rattle.ub_base.specs.declared.names.Item.TheVariants as item
@@ -17,11 +16,10 @@ use Rattle.addr_map.specs.Rows.{row_of}
 use Rattle.exposure.specs.declared.prov.Prov.{Prov}
 use Rattle.exposure.specs.declared.prov.Prov.TheVariants.{Whole, Empty}
 use Rattle.c_types.specs.declared.tags.Extent.{Extent}
-use Rattle.c_types.specs.declared.tags.Tag.{Tag}
 use Rattle.c_types.specs.Layout.{extent, extents, size_in, size_of}
 use Rattle.c_types.specs.Shapes.{Form}
 use Rattle.c_types.specs.Types.{qualified_of}
-use Rattle.c_typed.specs.Lawful.{There, IsLawful, StaticIsLawful, IsSized, end_of, length_of}
+use Rattle.c_typed.specs.Lawful.{There, IsLawful, StaticIsLawful, end_of, length_of}
 use Rattle.c_typed.specs.declared.program.Constant.{Constant}
 use Rattle.c_typed.specs.declared.program.Content.{Content as Held}
 use Rattle.c_typed.specs.declared.program.Content.TheVariants as contents
@@ -32,7 +30,7 @@ use Rattle.c_typed.specs.declared.tree.Target.TheVariants as targets
 use Rattle.mem_spec.specs.declared.kind.ObjKind.{ObjKind}
 use Rattle.mem_spec.specs.Acts.{store, bytes, has_place, base_in, in_row, create}
 use Rattle.mem_spec.specs.Bytes.{number_bytes, pointer_bytes}
-use Rattle.mem_spec.specs.Script.{Script, Act, Done, Raised, Ended, Outside, Unplaced, Bear, Give, Misplace, run, touch, touched, ◌>>◌}
+use Rattle.mem_spec.specs.Script.{Script, Act, Done, Raised, Ended, Outside, Unplaced, run, touched, ◌>>◌}
 use Rattle.mem_spec.specs.Store.{Store, Life, TaggedByte, is_live, born, with_bytes}
 use Rattle.prov_memory.proofs.AccessLemmas.{before, after, run_bind}
 use Rattle.c_model.specs.Nodes.{fill, content_bytes, plain_byte}
@@ -42,9 +40,8 @@ use Rattle.c_model.specs.Values.{Value, Nothing, Pointer, address_after, functio
 use Rattle.c_model.specs.World.{World}
 use Rattle.run_acts.specs.Contents.{address_of, content_of, filled_by}
 use Rattle.run_acts.specs.Outcomes.{IsDoneOrUnplaced, AreAddresses, StartIsDefined, IsThere, AreThere}
-use Rattle.run_acts.specs.Standing.{CreatesAll, IsStatic, AreStatics, Stand, arguments, takes_arguments, extent_of, extent_or_byte, given, kind_of, literals, place_of, pointers, text, vector}
-use Rattle.run_acts.proofs.Clears.{Stored, does_store, untagged}
-use Rattle.run_acts.proofs.Fills.{before_done, before_twice}
+use Rattle.run_acts.specs.Standing.{CreatesAll, IsStatic, AreStatics, Stand, arguments, takes_arguments, extent_or_byte, given, kind_of, literals, place_of, pointers, text, vector}
+use Rattle.run_acts.proofs.Clears.{does_store, untagged}
 use Rattle.run_acts.proofs.Stands.{items_before}
 
 -- ---- how many bytes a content has
@@ -181,13 +178,13 @@ fill_does rows r x (c ∷ cs) s named live begins ends fit =
     let bs = content_bytes rows c.content in
     let act = store rows true bytes 1 (address_after r.base c.offset) (Whole x) bs in
     let one = store_does rows r x c.offset bs s named live begins ends (omega (arith, fit.0, content_bytes_length rows c.content)) in
-    let more = fill_does rows r x cs one.1 named (ap is_live (one.3 x) ∙ live) begins ends fit.1 in (
-      one.0 ++ more.0,
-      more.1,
-      run_bind rows act (λ (u : Unit {0}). fill rows p cs) s ∙ ap (after rows (λ (u : Unit {0}). fill rows p cs)) one.2 ∙ ap (before one.0) more.2
-          ∙ items_before one.0 more.0 Nothing more.1,
-      λ y. more.3 y ∙ one.3 y,
-    )
+    let more = fill_does rows r x cs one.1 named (ap is_live (one.3 x) ∙ live) begins ends fit.1 in
+    let rest = λ (u : Unit {0}). fill rows p cs in
+    let first : run rows (fill rows p (c ∷ cs)) s ≡ before one.0 (run rows (fill rows p cs) one.1) =
+    run_bind rows act rest s ∙ ap (after rows rest) one.2 in
+    let then : before one.0 (run rows (fill rows p cs) one.1) ≡ Done Nothing (one.0 ++ more.0) more.1 =
+    ap (before one.0) more.2 ∙ items_before one.0 more.0 Nothing more.1 in
+    (one.0 ++ more.0, more.1, first ∙ then, λ y. more.3 y ∙ one.3 y)
 
 -- the row of an object that has its place
 pub row_placed : (o : Option Row) (size align : ℕ) → has_place o size align ≡ true → (r : Row) × (o ≡ Some r) × (r.size ≡ size)
@@ -306,20 +303,20 @@ start_is_defined world p args os s lawful stand addresses =
     stands_end world [] os os s addresses (stand_fits p args os lawful stand) refl tt
 
 -- ---- after creations that gave no clause, the objects are there
-abbrev bears_one : (has refuses : Bool) → List Row → Standing → Store → Act ℕ
+abbrev pub bears_one : (has refuses : Bool) → List Row → Standing → Store → Act ℕ
 bears_one false refuses rows o s = Unplaced
 bears_one true true rows o s = Unplaced
 bears_one true false rows o s =
     Done (base_in (row_of rows o.name)) (item.Born o.name ∷ []) (born s o.name o.decl.size (kind_of o) o.decl.form)
 
-creates_one : (has refuses : Bool) (rows : List Row) (o : Standing) (s : Store) → has_place (row_of rows o.name) o.decl.size o.decl.align ≡ has →
+pub creates_one : (has refuses : Bool) (rows : List Row) (o : Standing) (s : Store) → has_place (row_of rows o.name) o.decl.size o.decl.align ≡ has →
     is_some (s.life o.name) ≡ refuses →
     run rows (create rows o.name o.decl.size o.decl.align (kind_of o) o.decl.form) s ≡ bears_one has refuses rows o s
 creates_one false refuses rows o s h e = rw h refl
 creates_one true true rows o s h e = rw (h, e) refl
 creates_one true false rows o s h e = rw (h, e) refl
 
-abbrev store_in : Act ℕ → Store → Store
+abbrev pub store_in : Act ℕ → Store → Store
 store_in (Done v is t) s = t
 store_in _ s = s
 

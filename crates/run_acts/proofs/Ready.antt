@@ -1,6 +1,6 @@
 -- Objects that are there to be filled.
 use Rattle.std.proofs.Common.{◌≡◌, ℕ, zero, suc, ◌+◌, ◌-◌, ◌*◌, ◌/◌, ◌%◌, ◌<◌, ◌≤◌, ◌^◌, min, Bool, true, false, cond, refl, sym, ap, ◌∙◌, subst, arith, List, [], ◌∷◌, ◌++◌, length, map}
-use Rattle.std.proofs.Common.{get_or, slice_get, Option, Some, None}
+use Rattle.std.proofs.Common.{get_or, Option, Some}
 use Rattle.std.specs.Prelude.{Result, Ok, Err, replicate}
 use Rattle.std.proofs.lemmas.Nat.{div-add-mod'}
 use Rattle.std.proofs.lemmas.List.{length-replicate}
@@ -13,7 +13,7 @@ use Rattle.addr_map.specs.Sound.{Above}
 use Rattle.exposure.specs.declared.prov.Prov.{Prov}
 use Rattle.exposure.specs.declared.prov.Prov.TheVariants.{Whole}
 use Rattle.mem_spec.specs.Acts.{store, bytes, has_place}
-use Rattle.mem_spec.specs.Script.{Act, Done, Raised, run}
+use Rattle.mem_spec.specs.Script.{Done, Raised, run}
 use Rattle.mem_spec.specs.Store.{Store, TaggedByte, is_live}
 use Rattle.mem_spec.specs.Streams.{Io, silent}
 use Rattle.prov_memory.specs.declared.answer.CreateFault.{CreateFault}
@@ -24,20 +24,19 @@ use Rattle.prov_memory.specs.Keeps.{Keeps}
 use Rattle.prov_memory.specs.Memory.{Kept, store_of}
 use Rattle.prov_memory.specs.Pieces.{seen}
 use Rattle.c_model.specs.Program.{Standing, Filling as Filled}
-use Rattle.c_model.specs.Values.{address_after, Pointer as Place}
+use Rattle.c_model.specs.Values.{address_after}
 use Rattle.run_acts.specs.declared.storage.Filling.{Filling}
 use Rattle.run_acts.specs.Contents.{Stands}
 use Rattle.run_acts.specs.Fills.{AreFillings}
-use Rattle.run_acts.specs.Outcomes.{IsFilled, IsReady, IsThere, LivesStay, lives_of, Waits, WaitAll}
+use Rattle.run_acts.specs.Outcomes.{IsFilled, IsReady, LivesStay, lives_of, Waits, WaitAll}
 use Rattle.run_acts.specs.Standing.{AllCreated}
 use Rattle.run_acts.specs.Starting.{EndsLow, Puts}
 use Rattle.run_acts.proofs.Clears.{stored}
-use Rattle.run_acts.proofs.Fills.{Alike}
 use Rattle.run_acts.proofs.Outcomes.{FillingsFit, content_bytes_length, content_length, created_there, row_placed, store_does}
 use Rattle.run_acts.proofs.Starting.{row_ends, stands_low}
 
 -- ---- a store of plain bytes
-abbrev quiet : Io
+abbrev pub quiet : Io
 quiet = record { input = []; position = 0; output = silent }
 
 pub puts_live : (old new : Kept) (x : ObjName) (a : ℕ) (bs : List TaggedByte) → Puts old new x a bs → LivesStay old new

@@ -13,8 +13,6 @@ use Rattle.c_typed.specs.Lawful.{IsLawful, StaticIsLawful}
 use Rattle.c_typed.specs.declared.program.Constant.{Constant}
 use Rattle.c_typed.specs.declared.program.Program.{Program}
 use Rattle.c_typed.specs.declared.program.Static.{Static as Object}
-use Rattle.mem_spec.specs.Bytes.{pointer_bytes}
-use Rattle.mem_spec.specs.Store.{TaggedByte}
 use Rattle.prov_memory.specs.declared.answer.CreateFault.{CreateFault}
 use Rattle.prov_memory.specs.declared.answer.CreateFault.TheVariants as faults
 use Rattle.prov_memory.specs.declared.cell.Cell.{Cell}
@@ -25,7 +23,7 @@ use Rattle.prov_memory.specs.Memory.{Kept}
 use Rattle.prov_memory.specs.Pieces.{IsMadeValue, seen, value_bytes}
 use Rattle.prov_memory.specs.Sound.{IsSound}
 use Rattle.prov_memory.proofs.KeepLemmas.{keeps_then}
-use Rattle.c_model.specs.Program.{Standing, Filling as Filled}
+use Rattle.c_model.specs.Program.{Standing}
 use Rattle.c_model.specs.Values.{address_after, null, pointer_value, Pointer as Place}
 use Rattle.run_acts.specs.declared.initial.Argument.{Argument}
 use Rattle.run_acts.specs.declared.initial.Places.{Places}
@@ -33,7 +31,7 @@ use Rattle.run_acts.specs.declared.storage.Filling.{Filling}
 use Rattle.run_acts.specs.declared.values.Pointer.{Pointer}
 use Rattle.run_acts.specs.Contents.{CanHoldAll, filled_by}
 use Rattle.run_acts.specs.Fills.{AreFillings}
-use Rattle.run_acts.specs.Outcomes.{IsFilled, IsReady, LivesStay, NoVector, WaitAll, Waits}
+use Rattle.run_acts.specs.Outcomes.{IsFilled, IsReady, LivesStay, WaitAll, Waits}
 use Rattle.run_acts.specs.Standing.{AllCreated, AreArguments, AreStatics, arguments, extent_of, IsStatic, literals, StandsThere, StaticsCreated, text, vector}
 use Rattle.run_acts.specs.Starting.{AreAll, AreMadeAll, ArePlaced}
 use Rattle.run_acts.specs.Views.{pointer_at, value_in}
@@ -235,6 +233,3 @@ pointers_never made m4 m6 end p words xs ys q fault sound above k4 k6 lives wait
     (stands.0, stands.1, stands_still m4 m6 names.Argv stands.0 k6 stands.2) above words
     (subst (λ (zs : List Argument). AreArguments m6 0 words zs) (sym same) (arguments_still made m6 0 words xs all are)) few
     (waits_still m4 m6 (vector words) k6 lives waiting.pointers))
-
-pub no_vector : (m : Kept) (n k : ℕ) → n ≡ k → NoVector m n → NoVector m k
-no_vector m n k e none = subst (λ (j : ℕ). NoVector m j) e none

@@ -11,4 +11,5 @@ pub mod Contents
 pub mod Starting
 pub mod Standing
 pub mod Outcomes
+pub mod Sums
 pub mod Choices

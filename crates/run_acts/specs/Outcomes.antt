@@ -1,5 +1,6 @@
 -- What the start of a run comes to: its objects stand, or one of them has no place (own).
-use Rattle.std.specs.Prelude.{◌≡◌, ℕ, ◌+◌, ◌*◌, ◌<◌, ◌≤◌, ◌^◌, true, ◌⊎◌, List, [], ◌∷◌, length, slice_get, Option, Some, Result, Ok, Err}
+use Rattle.std.specs.Prelude.{◌≡◌, ℕ, ◌+◌, ◌*◌, ◌<◌, ◌≤◌, ◌^◌, true, ◌⊎◌, List, [], ◌∷◌, ◌++◌, is_some, length, map, take, slice_get}
+use Rattle.std.specs.Prelude.{Option, Some, Result, Ok, Err}
 use Rattle.ub_base.specs.declared.names.ObjName.{ObjName}
 use Rattle.ub_base.specs.declared.names.ObjName.TheVariants as names
 use Rattle.addr_map.specs.declared.map.Row.{Row}
@@ -16,11 +17,13 @@ use Rattle.mem_spec.specs.Store.{Life, Store, is_live}
 use Rattle.prov_memory.specs.declared.answer.CreateFault.{CreateFault}
 use Rattle.prov_memory.specs.declared.answer.CreateFault.TheVariants as faults
 use Rattle.prov_memory.specs.Held.{held_of}
+use Rattle.prov_memory.specs.Keeps.{Keeps}
 use Rattle.prov_memory.specs.Memory.{Kept, life_in, cannot_create}
+use Rattle.prov_memory.specs.Room.{IsClose}
 use Rattle.c_model.specs.Program.{Standing}
-use Rattle.c_model.specs.Runs.{stand}
+use Rattle.c_model.specs.Runs.{created_after, stand}
 use Rattle.c_model.specs.World.{World}
-use Rattle.run_acts.specs.Standing.{Stand, extent_of, takes_arguments}
+use Rattle.run_acts.specs.Standing.{AllCreated, AreStatics, Stand, StaticsCreated, arguments, extent_of, literals, takes_arguments}
 
 -- ---- the definitions
 
@@ -87,26 +90,64 @@ IsFilled old new (Err faults.Unplaced) = ⊥
 abbrev pub CannotStand : Kept → ObjName → Extent → Type 0
 CannotStand m x e = cannot_create m x e.size e.align ≡ true
 
-abbrev pub SomeStatic : Kept → List Tag → List Static → Type 0
-SomeStatic m tags ss = (k : ℕ) × (s : Static) × (slice_get ss k ≡ Some s) × CannotStand m (names.Static k) (extent_of tags (qualified_of s.qual).ty)
+-- so many objects with static storage were created, and then these others
+abbrev pub StandSoFar : Kept → Kept → List Tag → List Static → List Standing → Type 0
+StandSoFar old new tags ss more = (os : List Standing) × AreStatics tags 0 ss os × AllCreated old new (os ++ more)
+
+-- the ones before one of them were created, and it can't be
+abbrev pub SomeStatic : Kept → Kept → List Tag → List Static → Type 0
+SomeStatic old new tags ss =
+    (k : ℕ) × (s : Static) × (slice_get ss k ≡ Some s) × StaticsCreated old new tags (take k ss)
+    × CannotStand new (names.Static k) (extent_of tags (qualified_of s.qual).ty)
 
 -- .. an array of so many characters
 abbrev pub CannotHold : Kept → ObjName → ℕ → Type 0
 CannotHold m x n = CannotStand m x (record { size = n; align = 1 })
 
-abbrev pub SomeLiteral : Kept → List (List ℕ) → Type 0
-SomeLiteral m texts = (k : ℕ) × (bs : List ℕ) × (slice_get texts k ≡ Some bs) × CannotHold m (names.Lit k) (length bs)
+abbrev pub FirstLiteral : Kept → Kept → List (List ℕ) → Type 0
+FirstLiteral old new texts =
+    (k : ℕ) × (bs : List ℕ) × (slice_get texts k ≡ Some bs) × AllCreated old new (take k (literals 0 texts)) × CannotHold new (names.Lit k) (length bs)
+
+-- .. behind all objects with static storage
+abbrev pub SomeLiteral : Kept → Kept → Program → Type 0
+SomeLiteral old new p =
+    (k : ℕ) × (bs : List ℕ) × (slice_get p.literals k ≡ Some bs) × StandSoFar old new p.tags p.statics (take k (literals 0 p.literals))
+    × CannotHold new (names.Lit k) (length bs)
 
 -- each argument has a zero behind it
-abbrev pub SomeArgument : Kept → List (List ℕ) → Type 0
-SomeArgument m words = (k : ℕ) × (bs : List ℕ) × (slice_get words k ≡ Some bs) × CannotHold m (names.Arg k) (length bs + 1)
+abbrev pub FirstArgument : Kept → Kept → List (List ℕ) → Type 0
+FirstArgument old new words =
+    (k : ℕ) × (bs : List ℕ) × (slice_get words k ≡ Some bs) × AllCreated old new (take k (arguments 0 words)) × CannotHold new (names.Arg k) (length bs + 1)
+
+-- .. behind all string literals
+abbrev pub SomeArgument : Kept → Kept → Program → List (List ℕ) → Type 0
+SomeArgument old new p words =
+    (k : ℕ) × (bs : List ℕ) × (slice_get words k ≡ Some bs)
+    × StandSoFar old new p.tags p.statics (literals 0 p.literals ++ take k (arguments 0 words)) × CannotHold new (names.Arg k) (length bs + 1)
 
 -- .. the array of pointers to so many arguments
 abbrev pub NoVector : Kept → ℕ → Type 0
 NoVector m n = CannotStand m names.Argv (record { size = 8 * (n + 1); align = 8 })
 
--- some object that stands before a run can't be created in the memory, by the arguments with the program's name before them
-abbrev pub HasNoPlace : Kept → Program → List (List ℕ) → Type 0
-HasNoPlace m p words =
-    SomeStatic m p.tags p.statics ⊎ (SomeLiteral m p.literals
-    ⊎ ((takes_arguments (slice_get p.functions p.main) ≡ true) × (SomeArgument m words ⊎ NoVector m (length words))))
+abbrev pub VectorRefused : Kept → Kept → Program → List (List ℕ) → Type 0
+VectorRefused old new p words = StandSoFar old new p.tags p.statics (literals 0 p.literals ++ arguments 0 words) × NoVector new (length words)
+
+-- of the objects that stand before a run the first ones were created, and the next one can't be in the memory that is left,
+-- by the arguments with the program's name before them
+abbrev pub HasNoPlace : Kept → Kept → Program → List (List ℕ) → Type 0
+HasNoPlace old new p words =
+    SomeStatic old new p.tags p.statics ⊎ (SomeLiteral old new p
+    ⊎ ((takes_arguments (slice_get p.functions p.main) ≡ true) × (SomeArgument old new p words ⊎ VectorRefused old new p words)))
+
+-- a memory in which nothing was created yet, and which places each new object
+pub record IsNew (m : Kept) : Type 0 where
+  pub close : IsClose m
+  pub none : m.objects ≡ []
+  pub counts : m.created ≡ 0
+  pub mode : is_some m.mode ≡ true
+
+-- so each of the objects has its place there, as long as they count within 2^40 bytes together
+abbrev pub FindsRoom : Type 0
+FindsRoom =
+    (old new : Kept) (p : Program) (words : List (List ℕ)) (os : List Standing) → IsNew old → Keeps old new → IsLawful p → Stand p words os →
+    created_after 0 (map (λ o. o.decl) os) ≤ 2 ^ 40 → HasNoPlace old new p words → ⊥

@@ -1,5 +1,5 @@
 // The objects that stand before the first pick: those with static storage, string literals, and the arguments of `main`.
-ghost use Rattle.std.specs.Prelude.{◌≡◌, List, ◌+◌, ◌-◌, ◌*◌, ◌%◌, min, ◌<◌, ◌≤◌, ◌^◌, ◌++◌, ◌∷◌, [], ℕ, Some, Err, false, length, map, option_map, slice_get, string_bytes, IfOk, OnOk};
+ghost use Rattle.std.specs.Prelude.{◌≡◌, List, ◌+◌, ◌-◌, ◌*◌, ◌%◌, min, max, ◌<◌, ◌≤◌, ◌^◌, ◌++◌, ◌∷◌, [], ℕ, Some, Err, false, length, map, option_map, slice_get, string_bytes, IfOk, OnOk};
 ghost use Rattle.std.specs.List.{All};
 ghost use Rattle.ub_base.specs.declared.names.ObjName.{ObjName};
 ghost use Rattle.ub_base.specs.declared.names.ObjName.TheVariants as names;
@@ -12,6 +12,7 @@ ghost use Rattle.c_types.specs.declared.kind.IntKind.TheVariants.{Char};
 ghost use Rattle.mem_spec.specs.Bytes.{number_bytes};
 ghost use Rattle.c_model.specs.Nodes.{plain_byte};
 ghost use Rattle.c_model.specs.Program.{Standing};
+ghost use Rattle.c_model.specs.Runs.{created_after};
 ghost use Rattle.c_model.specs.Values.{address_after, pointer_value};
 ghost use Rattle.prov_memory.specs.declared.answer.CreateFault.TheVariants.{Unplaced};
 ghost use Rattle.prov_memory.specs.declared.value.Value.TheVariants.{Int};
@@ -23,10 +24,11 @@ ghost use Rattle.prov_memory.specs.Sound.{IsSound};
 ghost use Rattle.prov_memory.specs.Tags.{CellsTagged};
 ghost use Rattle.run_acts.specs.Contents.{Stands};
 ghost use Rattle.run_acts.specs.Kept.{IsOf};
-ghost use Rattle.run_acts.specs.Outcomes.{CannotHold, CannotStand, HasNoPlace, IsFilled, IsReady, NoVector, SomeArgument, SomeLiteral, SomeStatic, Waits, WaitAll};
-ghost use Rattle.run_acts.specs.Standing.{AreArguments, AreStatics, ArgumentAdded, IsStatic, AllCreated, AllFilled, StaticFilled, StaticsFilled, extent_of, HasForm, literals, NamedFilled, program_name, StartStands, StaticCreated, StaticsCreated, StandsThere};
+ghost use Rattle.run_acts.specs.Outcomes.{CannotHold, CannotStand, FirstArgument, FirstLiteral, HasNoPlace, IsFilled, IsNew, IsReady, NoVector, SomeStatic, Waits, WaitAll};
+ghost use Rattle.run_acts.specs.Standing.{AreArguments, AreStatics, ArgumentAdded, IsStatic, AllCreated, AllFilled, StaticFilled, StaticsFilled, extent_of, HasForm, literals, NamedFilled, program_name, Stand, StartStands, StaticCreated, StaticsCreated, StandsThere};
 ghost use Rattle.run_acts.specs.Standing as standing;
 ghost use Rattle.run_acts.specs.Starting.{AreAll, ArePlaced, AreMadeAll, AddsArgument, Creates, EndsLow, Puts};
+ghost use Rattle.run_acts.specs.Sums.{argument_sizes, static_sizes, summed};
 ghost use Rattle.run_acts.specs.Views.{pointer_at, value_in};
 
 use crate::storage::{fillings, pointer_to, written, zeros};
@@ -123,32 +125,66 @@ pub struct Started {
 const NAME: &[u8; 4] = b"prog";
 
 /// The bytes that an object of this size counts (own).
-pub fn counted(size: u64) -> u64 {
+pub fn counted(size: u64) -> u64
+    ensures { result ≡ max size 16 }
+{
     size.max(16)
 }
 
 /// The sum of two counts of bytes; one above 2^62 counts as 2^62 (own).
-pub fn total(a: u64, b: u64) -> u64 {
+pub fn total(a: u64, b: u64) -> u64
+    ensures { result ≡ min (a + b) (2 ^ 62) }
+{
     a.saturating_add(b).min(1 << 62)
 }
 
 /// The bytes that the objects count which stand before the first pick.
-pub fn start_bytes(p: &Program, args: &[String]) -> u64 {
+pub fn start_bytes(p: &Program, args: &[String]) -> u64
+    ensures exact { length args.now + 1 < 2 ^ 32 → (os : List Standing) → Stand p.now (program_name ∷ map string_bytes args.now) os → result ≡ created_after 0 (map (λ o. o.decl) os) }
+{
+    let named = literal_bytes(p, static_bytes(p));
+    if takes_arguments(p) {
+        let strings = argument_bytes(args, total(named, counted(5)));
+        return total(strings, counted(vector_size(args)));
+    }
+    named
+}
+
+fn static_bytes(p: &Program) -> u64
+    ensures { result ≡ summed 0 (static_sizes p.now.tags p.now.statics) }
+{
     let mut sum = 0;
     for object in p.statics.as_slice() {
-        sum = total(sum, counted(extent(&p.tags, &object.qual.ty).size));
+        sum = total(sum, counted(extent_of_object(&p.tags, &object.qual).size));
     }
+    sum
+}
+
+fn literal_bytes(p: &Program, before: u64) -> u64
+    ensures { result ≡ summed before (map length p.now.literals) }
+{
+    let mut sum = before;
     for literal in p.literals.as_slice() {
         sum = total(sum, counted(literal.len() as u64));
     }
-    if !takes_arguments(p) {
-        return sum;
-    }
-    sum = total(sum, counted(5));
+    sum
+}
+
+fn argument_bytes(args: &[String], before: u64) -> u64
+    ensures { result ≡ summed before (argument_sizes (map string_bytes args.now)) }
+{
+    let mut sum = before;
     for arg in args {
-        sum = total(sum, counted((arg.len() as u64).saturating_add(1)));
+        sum = with_text(sum, arg.as_bytes());
     }
-    total(sum, counted(vector_size(args)))
+    sum
+}
+
+// One string more, with a zero behind it.
+fn with_text(sum: u64, text: &[u8]) -> u64
+    ensures { result ≡ min (sum + max (length text.now + 1) 16) (2 ^ 62) }
+{
+    total(sum, counted((text.len() as u64).saturating_add(1)))
 }
 
 fn vector_size(args: &[String]) -> u64
@@ -191,22 +227,39 @@ pub fn start(
     ensures placed { IfOk result (λ s. IsSound m.old → IsLawful p.now → ArePlaced m.new p.now s.places) }
     ensures stands { OnOk result (IsSound m.old → IsLawful p.now → length args.now + 1 < 2 ^ 32 → StartStands m.old m.new p.now (program_name ∷ map string_bytes args.now)) }
     ensures made { IfOk result (λ s. IsSound m.old → IsLawful p.now → IsOf m.new s.count × IsOf m.new s.vector) }
-    ensures unplaced { result ≡ Err Unplaced → IsSound m.old → IsLawful p.now → Above 16777216 m.old.rows → length args.now + 1 < 2 ^ 32 → HasNoPlace m.new p.now (program_name ∷ map string_bytes args.now) }
+    ensures unplaced { result ≡ Err Unplaced → IsSound m.old → IsLawful p.now → Above 16777216 m.old.rows → length args.now + 1 < 2 ^ 32 → HasNoPlace m.old m.new p.now (program_name ∷ map string_bytes args.now) }
+    ensures room { result ≡ Err Unplaced → IsSound m.old → IsLawful p.now → IsNew m.old → Above 16777216 m.old.rows → length args.now + 1 < 2 ^ 32 → (os : List Standing) → Stand p.now (program_name ∷ map string_bytes args.now) os → created_after 0 (map (λ o. o.decl) os) ≤ 2 ^ 40 → ⊥ }
 {
     let mut t = Touched::new(alloc)?;
+    begin(alloc, p, args, m, &mut t)
+}
+
+fn begin(
+    alloc: Global,
+    p: &Program,
+    args: &[String],
+    m: &mut Memory,
+    t: &mut Touched,
+) -> Result<Started, CreateFault>
+    ensures kept { IsSound m.old → IsLawful p.now → Keeps m.old m.new }
+    ensures placed { IfOk result (λ s. IsSound m.old → IsLawful p.now → ArePlaced m.new p.now s.places) }
+    ensures stands { OnOk result (IsSound m.old → IsLawful p.now → length args.now + 1 < 2 ^ 32 → StartStands m.old m.new p.now (program_name ∷ map string_bytes args.now)) }
+    ensures made { IfOk result (λ s. IsSound m.old → IsLawful p.now → IsOf m.new s.count × IsOf m.new s.vector) }
+    ensures unplaced { result ≡ Err Unplaced → IsSound m.old → IsLawful p.now → Above 16777216 m.old.rows → length args.now + 1 < 2 ^ 32 → HasNoPlace m.old m.new p.now (program_name ∷ map string_bytes args.now) }
+{
     let mut places = Places::new(alloc);
-    create_statics(alloc, p, &mut places, m, &mut t)?;
-    create_literals(alloc, p, &mut places, m, &mut t)?;
+    create_statics(alloc, p, &mut places, m, t)?;
+    create_literals(alloc, p, &mut places, m, t)?;
     if takes_arguments(p) {
-        let arguments = create_arguments(alloc, args, m, &mut t)?;
-        let vector = create_vector(alloc, args, m, &mut t)?;
-        fill_named(alloc, p, &places, m, &mut t)?;
-        fill_arguments(alloc, arguments.as_slice(), m, &mut t)?;
-        point(alloc, arguments.as_slice(), vector, m, &mut t)?;
+        let arguments = create_arguments(alloc, args, m, t)?;
+        let vector = create_vector(alloc, args, m, t)?;
+        fill_named(alloc, p, &places, m, t)?;
+        fill_arguments(alloc, arguments.as_slice(), m, t)?;
+        point(alloc, arguments.as_slice(), vector, m, t)?;
         let count = i128::from(args.len() as u64).wrapping_add(1);
         return Ok(standing(places, count, vector));
     }
-    fill_named(alloc, p, &places, m, &mut t)?;
+    fill_named(alloc, p, &places, m, t)?;
     Ok(standing(places, 0, Pointer::null()))
 }
 
@@ -233,7 +286,7 @@ fn create_statics(
     ensures rest { places.new.literals ≡ places.old.literals }
     ensures exact { OnOk result (IsSound m.old → places.old.objects ≡ [] → length p.now.statics < 2 ^ 32 → StaticsCreated m.old m.new p.now.tags p.now.statics) }
     ensures placed { OnOk result (places.old.objects ≡ [] → length p.now.statics < 2 ^ 32 → AreAll m.new (λ k. names.Static k) places.new.objects (length p.now.statics)) }
-    ensures unplaced { result ≡ Err Unplaced → places.old.objects ≡ [] → length p.now.statics < 2 ^ 32 → SomeStatic m.new p.now.tags p.now.statics }
+    ensures unplaced { result ≡ Err Unplaced → IsSound m.old → places.old.objects ≡ [] → length p.now.statics < 2 ^ 32 → SomeStatic m.old m.new p.now.tags p.now.statics }
 {
     for object in p.statics.as_slice() {
         let addr = create_static(alloc, p, object, count_of(&places.objects), m, t)?;
@@ -253,7 +306,7 @@ fn create_literals(
     ensures rest { places.new.objects ≡ places.old.objects }
     ensures exact { OnOk result (IsSound m.old → places.old.literals ≡ [] → length p.now.literals < 2 ^ 32 → AllCreated m.old m.new (literals 0 p.now.literals)) }
     ensures placed { OnOk result (places.old.literals ≡ [] → length p.now.literals < 2 ^ 32 → AreAll m.new (λ k. names.Lit k) places.new.literals (length p.now.literals)) }
-    ensures unplaced { result ≡ Err Unplaced → places.old.literals ≡ [] → length p.now.literals < 2 ^ 32 → SomeLiteral m.new p.now.literals }
+    ensures unplaced { result ≡ Err Unplaced → IsSound m.old → places.old.literals ≡ [] → length p.now.literals < 2 ^ 32 → FirstLiteral m.old m.new p.now.literals }
 {
     for literal in p.literals.as_slice() {
         let name = ObjName::Lit(count_of(&places.literals));
@@ -358,6 +411,7 @@ fn create_static(
     ensures exact { OnOk result (AreKnown m.old → StaticCreated m.old m.new p.now.tags number object.now) }
     ensures stands { IfOk result (λ addr. Stands m.new (names.Static number) addr) }
     ensures unplaced { result ≡ Err Unplaced → CannotStand m.new (names.Static number) (extent_of p.now.tags (qualified_of object.now.qual).ty) }
+    ensures same { result ≡ Err Unplaced → m.new ≡ m.old }
 {
     let extent = extent_of_object(&p.tags, &object.qual);
     let shape = shape_of_object(alloc, &p.tags, &object.qual)?;
@@ -472,6 +526,7 @@ fn create_text(
     ensures exact { OnOk result (AreKnown m.old → Creates m.old m.new name count 1 (record { heap = false; literal = literal; constant = false }) (Some (repeat count 1 (leaf (int Char))))) }
     ensures stands { IfOk result (λ addr. Stands m.new name addr) }
     ensures unplaced { result ≡ Err Unplaced → CannotHold m.new name count }
+    ensures same { result ≡ Err Unplaced → m.new ≡ m.old }
 {
     let shape = repeated(alloc, count, 1, character())?;
     let kind = ObjKind {
@@ -531,7 +586,7 @@ fn create_arguments(
     ensures exact { OnOk result (IsSound m.old → length args.now + 1 < 2 ^ 32 → AllCreated m.old m.new (standing.arguments 0 (program_name ∷ map string_bytes args.now))) }
     ensures there { IfOk result (λ all. length args.now + 1 < 2 ^ 32 → AreArguments m.new 0 (program_name ∷ map string_bytes args.now) all) }
     ensures made { IfOk result (AreMadeAll m.new) }
-    ensures unplaced { result ≡ Err Unplaced → length args.now + 1 < 2 ^ 32 → SomeArgument m.new (program_name ∷ map string_bytes args.now) }
+    ensures unplaced { result ≡ Err Unplaced → IsSound m.old → length args.now + 1 < 2 ^ 32 → FirstArgument m.old m.new (program_name ∷ map string_bytes args.now) }
 {
     let mut all = Items::new(alloc);
     create_argument(alloc, NAME, &mut all, m, t)?;
@@ -554,6 +609,7 @@ fn create_argument(
     ensures count { OnOk result (length all.new ≡ length all.old + 1) }
     ensures made { OnOk result (AreMadeAll m.old all.old → AreMadeAll m.new all.new) }
     ensures unplaced { result ≡ Err Unplaced → length all.old < 2 ^ 32 → CannotHold m.new (names.Arg (length all.old)) (length text.now + 1) }
+    ensures same { result ≡ Err Unplaced → m.new ≡ m.old }
 {
     let text = text_of(alloc, text)?;
     let name = ObjName::Arg(short(all.len()));
@@ -606,6 +662,7 @@ fn create_vector(
     ensures made { IfOk result (λ p. IsMade m.new p.prov) }
     ensures stands { IfOk result (λ p. StandsThere m.new names.Argv p) }
     ensures unplaced { result ≡ Err Unplaced → length args.now < 2 ^ 32 → NoVector m.new (length args.now + 1) }
+    ensures same { result ≡ Err Unplaced → m.new ≡ m.old }
 {
     let count = (args.len() as u64).saturating_add(2);
     let element = character_pointer(alloc)?;

@@ -1,6 +1,6 @@
 // Laws of values and memories.
 ghost use Rattle.run_acts.specs.Kept.{ValuesStay, FillingsStay};
-ghost use Rattle.run_acts.specs.Outcomes.{StartIsDefined};
+ghost use Rattle.run_acts.specs.Outcomes.{FindsRoom, StartIsDefined};
 ghost use Rattle.run_acts.specs.Standing.{StandsSo};
 ghost use Rattle.run_acts.specs.Starting.{LawfulCanHold};
 
@@ -25,4 +25,10 @@ pub fn law_stands()
 /// no initialization leaves its object, under a map whose rows are addresses (5.1.2p1, 6.7.9).
 pub fn law_start_is_defined()
     ensures { StartIsDefined }
+{}
+
+/// A new memory has room for all objects that stand before a run of a lawful program, as long as they count within 2^40 bytes together: their
+/// names are new, and their alignments powers of two (own).
+pub fn law_finds_room()
+    ensures { FindsRoom }
 {}

@@ -76,16 +76,18 @@ returns-clause-there c = λ few.
     (omega (arith, mapped_length string_bytes c.args.args.now)) (c.loop-arg.invariant.there few)
 
 pub returns-in_err-create_argument-clause-unplaced : goal.returns-in_err-create_argument-clause-unplaced
-returns-in_err-create_argument-clause-unplaced c = λ e few.
+returns-in_err-create_argument-clause-unplaced c = λ e sound few.
     let none : length c.new-all.result ≡ 0 = ap length c.new-all.ensures in
     let p = err_from_is_err_and c.from_residual.result c.from_residual.ensures.1 in
-    first_argument c.create_argument.new.m (map string_bytes c.args.args.now) (length c.new-all.result) none
-    (c.in_err-create_argument.ensures.unplaced (ap Err (fault_of _ p.0 _ p.1 p.2 e)) (omega (arith, none)))
+    let fault = ap Err (fault_of _ p.0 _ p.1 p.2 e) in
+    first_argument c.args.m.now c.create_argument.new.m (map string_bytes c.args.args.now) (length c.new-all.result) none
+    (c.in_err-create_argument.ensures.same fault) (c.in_err-create_argument.ensures.unplaced fault (omega (arith, none)))
 
 pub returns-in_err-create_argument-2-clause-unplaced : goal.returns-in_err-create_argument-2-clause-unplaced
-returns-in_err-create_argument-2-clause-unplaced c = λ e few.
+returns-in_err-create_argument-2-clause-unplaced c = λ e sound few.
     let inv = c.loop-arg.invariant in
     let p = err_from_is_err_and c.from_residual-in_err-create_argument-2.result c.from_residual-in_err-create_argument-2.ensures.1 in
-    some_argument c.create_argument-in-loop-arg.new.m c.args.args.now c.loop-arg.arg-index (length c.loop-arg.all) c.arg-item.result c.as_bytes.result.now
-    inv.count c.loop-arg-test.true c.arg-item.is c.as_bytes.ensures.value
-    (c.in_err-create_argument-2.ensures.unplaced (ap Err (fault_of _ p.0 _ p.1 p.2 e)) (omega (arith, few, inv.count, c.loop-arg-test.true)))
+    let fault = ap Err (fault_of _ p.0 _ p.1 p.2 e) in
+    some_argument c.args.m.now c.loop-arg.m c.create_argument-in-loop-arg.new.m c.args.args.now c.loop-arg.arg-index (length c.loop-arg.all) c.arg-item.result c.as_bytes.result.now
+    inv.count c.loop-arg-test.true c.arg-item.is c.as_bytes.ensures.value (inv.created sound few) (c.in_err-create_argument-2.ensures.same fault)
+    (c.in_err-create_argument-2.ensures.unplaced fault (omega (arith, few, inv.count, c.loop-arg-test.true)))

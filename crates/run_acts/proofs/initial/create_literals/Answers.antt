@@ -47,10 +47,12 @@ returns-clause-exact c = λ sound none few.
     (c.loop-literal.invariant.created sound none (omega (arith, few, ap length c.as_slice-literal-items.ensures)))
 
 pub returns-in_err-addr-clause-unplaced : goal.returns-in_err-addr-clause-unplaced
-returns-in_err-addr-clause-unplaced c = λ e none few.
+returns-in_err-addr-clause-unplaced c = λ e sound none few.
     let are = c.loop-literal.invariant.placed none (omega (arith, few, ap length c.as_slice-literal-items.ensures)) in
     let number = c.count_of.ensures (omega (arith, are.count, few, c.loop-literal-test.true, ap length c.as_slice-literal-items.ensures)) in
     let p = err_from_is_err_and c.from_residual.result c.from_residual.ensures.1 in
-    some_literal c.create_text.new.m c.as_slice-literal-items.result.now c.args.p.now.literals c.loop-literal.literal-index c.count_of.result _
+    let fault = ap Err (fault_of _ p.0 _ p.1 p.2 e) in
+    some_literal c.args.m.now c.loop-literal.m c.create_text.new.m c.as_slice-literal-items.result.now c.args.p.now.literals c.loop-literal.literal-index c.count_of.result _
     c.literal-item.result (number ∙ are.count) c.as_slice-literal-items.ensures c.loop-literal-test.true c.literal-item.is c.len.ensures
-    (c.in_err-addr.ensures.unplaced (ap Err (fault_of _ p.0 _ p.1 p.2 e)))
+    (c.loop-literal.invariant.created sound none (omega (arith, few, ap length c.as_slice-literal-items.ensures)))
+    (c.in_err-addr.ensures.same fault) (c.in_err-addr.ensures.unplaced fault)

@@ -47,10 +47,12 @@ returns-clause-exact c = λ sound none few.
     (c.loop-object.invariant.created sound none (omega (arith, few, ap length c.as_slice-object-items.ensures)))
 
 pub returns-in_err-addr-clause-unplaced : goal.returns-in_err-addr-clause-unplaced
-returns-in_err-addr-clause-unplaced c = λ e none few.
+returns-in_err-addr-clause-unplaced c = λ e sound none few.
     let are = c.loop-object.invariant.placed none (omega (arith, few, ap length c.as_slice-object-items.ensures)) in
     let number = c.count_of.ensures (omega (arith, are.count, few, c.loop-object-test.true, ap length c.as_slice-object-items.ensures)) in
     let p = err_from_is_err_and c.from_residual.result c.from_residual.ensures.1 in
-    some_static c.create_static.new.m c.args.p.now.tags c.as_slice-object-items.result.now c.args.p.now.statics c.loop-object.object-index c.count_of.result
+    let fault = ap Err (fault_of _ p.0 _ p.1 p.2 e) in
+    some_static c.args.m.now c.loop-object.m c.create_static.new.m c.args.p.now.tags c.as_slice-object-items.result.now c.args.p.now.statics c.loop-object.object-index c.count_of.result
     c.object-item.result (number ∙ are.count) c.as_slice-object-items.ensures c.loop-object-test.true c.object-item.is
-    (c.in_err-addr.ensures.unplaced (ap Err (fault_of _ p.0 _ p.1 p.2 e)))
+    (c.loop-object.invariant.created sound none (omega (arith, few, ap length c.as_slice-object-items.ensures)))
+    (c.in_err-addr.ensures.same fault) (c.in_err-addr.ensures.unplaced fault)
