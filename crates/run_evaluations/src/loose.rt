@@ -131,7 +131,7 @@ impl Evaluations {
     fn loose_set(&self, loose: usize) -> Result<Foot, NoMemory>
         ensures { IfOk result (HasLoose self.now.events.items self.now.items.items self.now.loose.items loose) }
     {
-        self.log().loose_set(loose)
+        self.as_log().loose_set(loose)
     }
 
     fn has_loose_foot(&self) -> bool {

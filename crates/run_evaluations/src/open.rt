@@ -714,7 +714,7 @@ impl Evaluations {
     }
 
     // What is logged.
-    pub(crate) fn log(&self) -> Log<'_>
+    pub(crate) fn as_log(&self) -> Log<'_>
         ensures events { result.events.now ≡ self.now.events.items }
         ensures items { result.items.now ≡ self.now.items.items }
         ensures large { result.large.now ≡ self.now.large.items }
@@ -733,7 +733,7 @@ impl Evaluations {
     pub(crate) fn event_foot(&self, at: usize) -> Result<Foot, NoMemory>
         ensures { IfOk result (λ f. (i : Item) → holds f i ≡ event_has self.now.items.items (slice_get self.now.events.items at) i) }
     {
-        self.log().event_foot(at)
+        self.as_log().event_foot(at)
     }
 
     // Adds what the event and the body touched that it started.
@@ -741,7 +741,7 @@ impl Evaluations {
         ensures { OnOk result
             ((i : Item) → holds foot.new i ≡ (holds foot.old i || event_has self.now.items.items (slice_get self.now.events.items at) i)) }
     {
-        self.log().add_event(foot, at)
+        self.as_log().add_event(foot, at)
     }
 
     // A search for a conflict in the top frame's full expression.
@@ -752,7 +752,7 @@ impl Evaluations {
         ensures rows { result.under.map.now ≡ under.entry.map.now }
     {
         Search {
-            log: self.log(),
+            log: self.as_log(),
             place: self.place(),
             under,
         }

@@ -10,7 +10,7 @@ pub returns : goal.returns
 returns c =
     subst (λ (xs : List Logged). OnOk c.add_event.result
     ((i : Item) → holds c.add_event.new.foot i ≡ (holds c.args.foot.now i || event_has c.args.self.now.items.items (slice_get xs c.args.at) i)))
-    c.log.ensures.events
+    c.as_log.ensures.events
     (subst (λ (xs : List Item). OnOk c.add_event.result
-    ((i : Item) → holds c.add_event.new.foot i ≡ (holds c.args.foot.now i || event_has xs (slice_get c.log.result.events.now c.args.at) i)))
-    c.log.ensures.items c.add_event.ensures)
+    ((i : Item) → holds c.add_event.new.foot i ≡ (holds c.args.foot.now i || event_has xs (slice_get c.as_log.result.events.now c.args.at) i)))
+    c.as_log.ensures.items c.add_event.ensures)

@@ -9,6 +9,6 @@ use Rattle.run_evaluations.proofs.open.Evaluations.event_foot.Goals as goal
 pub returns : goal.returns
 returns c =
     subst (λ (xs : List Logged). IfOk c.event_foot.result (λ f. (i : Item) → holds f i ≡ event_has c.args.self.now.items.items (slice_get xs c.args.at) i))
-    c.log.ensures.events
-    (subst (λ (xs : List Item). IfOk c.event_foot.result (λ f. (i : Item) → holds f i ≡ event_has xs (slice_get c.log.result.events.now c.args.at) i))
-    c.log.ensures.items c.event_foot.ensures)
+    c.as_log.ensures.events
+    (subst (λ (xs : List Item). IfOk c.event_foot.result (λ f. (i : Item) → holds f i ≡ event_has xs (slice_get c.as_log.result.events.now c.args.at) i))
+    c.as_log.ensures.items c.event_foot.ensures)

@@ -5,7 +5,6 @@ use Rattle.addr_map.specs.declared.map.Row.{Row}
 use Rattle.evaluation_log.specs.declared.log.Logged.{Logged}
 use Rattle.evaluation_log.specs.Touched.{event_has}
 use Rattle.evaluation_log.specs.Loose.{NoLoose, LooseKept}
-use Rattle.evaluation_log.proofs.BetweenLemmas.{same_le}
 use Rattle.evaluation_log.proofs.LooseLemmas.{loose_end}
 use Rattle.run_evaluations.proofs.open.Evaluations.found_below.Goals as goal
 
