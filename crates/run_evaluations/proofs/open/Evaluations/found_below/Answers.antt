@@ -8,11 +8,11 @@ use Rattle.evaluation_log.specs.Loose.{NoLoose, LooseKept}
 use Rattle.evaluation_log.proofs.LooseLemmas.{loose_end}
 use Rattle.run_evaluations.proofs.open.Evaluations.found_below.Goals as goal
 
-pub returns-then-len-clause-none : goal.returns-then-len-clause-none
-returns-then-len-clause-none c = λ kept k le less.
+pub returns-then-loose-len-clause-none : goal.returns-then-loose-len-clause-none
+returns-then-loose-len-clause-none c = λ kept k le less.
     let o = c.args.self.now in
     loose_end c.args.under.map.now o.events.items o.items.items o.loose.items c.args.loose c.args.loose
-    (event_has o.items.items (slice_get o.events.items k)) (omega (arith, c.len.ensures, o.loose.ok.0, c.if-len.true))
+    (event_has o.items.items (slice_get o.events.items k)) (omega (arith, c.len.ensures, o.loose.ok.0, c.if-loose-len.true))
     (λ i below from. absurd (omega (arith, below, from)))
 
 pub returns-clause-none : goal.returns-clause-none
