@@ -335,10 +335,17 @@ impl Evaluations {
         ensures loose { AreSorted self.old.segments.items self.old.events.items 0 → AllBelow self.old.levels.items at → IsLooseKept self.old →
             IsLooseKept self.new }
     {
-        let harmless = all_harmless(&self.segments, at);
+        let harmless = self.all_harmless(at);
         self.keep_loose(at, node, rule, chosen);
         let loose_foot = self.left_loose_foot(at, rule);
         self.put_joined(at, node, harmless, foot, loose_foot);
+    }
+
+    // Whether each segment from this one on is harmless.
+    pub(crate) fn all_harmless(&self, at: usize) -> bool
+        ensures { result ≡ true → (g : ℕ) (s : Segment) → at ≤ g → slice_get self.now.segments.items g ≡ Some s → s.harmless ≡ true }
+    {
+        all_harmless(&self.segments, at)
     }
 
     // Leaves this segment as the last one, with what is said of it.

@@ -13,7 +13,7 @@ ghost use Rattle.run_evaluations.specs.Loose.{IsLooseKept};
 use crate::open::Evaluations;
 use addr_map::AddrMap;
 use evaluation_log::{Found, Rule, Under};
-use evaluation_search::{Log, all_harmless, take_foot};
+use evaluation_search::{Log, take_foot};
 use footprint::Foot;
 use ub_base::{Frames, NoMemory};
 
@@ -89,7 +89,7 @@ impl Evaluations {
         ensures none { Kept self.old.segments.items self.old.events.items self.old.items.items self.old.large.items at → IfOk result
             (λ b. b ≡ false → NoneBetween Any map.now self.old.segments.items self.old.events.items self.old.items.items at) }
     {
-        if all_harmless(&self.segments, at) {
+        if self.all_harmless(at) {
             let _ = self.take_foot(at);
             return Ok(false);
         }

@@ -3,6 +3,7 @@ use Rattle.std.specs.Prelude.{IfNone, slice_get}
 use Rattle.ub_base.specs.declared.names.Item.{Item}
 use Rattle.addr_map.specs.declared.map.Row.{Row}
 use Rattle.evaluation_log.specs.declared.log.Logged.{Logged}
+use Rattle.evaluation_log.specs.declared.log.Segment.{Segment}
 use Rattle.evaluation_log.specs.Touched.{event_has}
 use Rattle.evaluation_log.specs.Loose.{NoLoose, LooseKept}
 use Rattle.evaluation_log.proofs.LooseLemmas.{loose_end}
@@ -34,4 +35,7 @@ returns-clause-none c =
     c.search.ensures.items
     (subst (λ (xs : List ℕ). LooseKept ss g.log.events.now g.log.items.now xs b → IfOk r (λ r. IfNone r ((k : ℕ) → a ≤ k →
     k < length g.log.events.now → NoLoose g.under.map.now g.log.events.now g.log.items.now xs b
-    (event_has g.log.items.now (slice_get g.log.events.now k))))) c.search.ensures.loose c.found_below.ensures.none)))
+    (event_has g.log.items.now (slice_get g.log.events.now k))))) c.search.ensures.loose
+    (subst (λ (xs : List Segment). LooseKept xs g.log.events.now g.log.items.now g.log.loose.now b → IfOk r (λ r. IfNone r ((k : ℕ) → a ≤ k →
+    k < length g.log.events.now → NoLoose g.under.map.now g.log.events.now g.log.items.now g.log.loose.now b
+    (event_has g.log.items.now (slice_get g.log.events.now k))))) c.deref.ensures.value c.found_below.ensures.none))))
