@@ -13,7 +13,7 @@ ghost use Rattle.run_evaluations.specs.Kept.{IsKept, IsSameRest, NoneOfOperands}
 ghost use Rattle.run_evaluations.specs.Loose.{IsLooseKept};
 ghost use Rattle.run_evaluations.specs.Ways.{IsGathered, NoneOnWay, NoneAtEnd};
 
-use crate::open::{Evaluations, named};
+use crate::open::Evaluations;
 use addr_map::AddrMap;
 use c_typed::Typed;
 use evaluation_log::{
@@ -87,8 +87,8 @@ impl Evaluations {
         let foot = self.value_foot(node)?;
         let ending = self.event_foot(last)?;
         let place = self.place();
-        let value = named(place, node, Kind::Val);
-        let body = named(place, from, end);
+        let value = place.event(node, Kind::Val);
+        let body = place.event(from, end);
         Ok(if node < from {
             dependence(value, body, least_items(under, Sought::Any, &foot, &ending))
         } else {

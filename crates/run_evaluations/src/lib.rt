@@ -1,10 +1,9 @@
 //! The evaluations of the full expressions that are open along a run, and the first conflict between two of them.
 #![tactic(auto)]
 
-mod compare;
 mod ends;
 mod loose;
 mod open;
-mod search;
+mod operands;
 
 pub use open::Evaluations;

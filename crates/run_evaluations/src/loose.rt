@@ -1,21 +1,17 @@
 // A node's own events beside the side effects below it that come before its value in no order.
-ghost use Rattle.std.specs.Prelude.{Box, ◌≡◌, ◌≤◌, ◌<◌, ◌-◌, ℕ, true, false, length, slice_get, suc, Some, None, IfOk, IfNone, IfSome, OnOk};
-ghost use Rattle.ub_base.specs.declared.names.Item.{Item};
+ghost use Rattle.std.specs.Prelude.{Box, ◌≡◌, ◌≤◌, ◌<◌, ◌-◌, ℕ, true, false, length, slice_get, suc, Some, None, IfOk, IfNone, OnOk};
 ghost use Rattle.std.specs.Global.{Global};
-ghost use Rattle.footprint.specs.Holds.{holds};
 ghost use Rattle.evaluation_log.specs.declared.log.Logged.{Logged};
-ghost use Rattle.evaluation_log.specs.declared.sought.Sought.TheVariants.{Any};
 ghost use Rattle.evaluation_log.specs.Touched.{event_has};
-ghost use Rattle.evaluation_log.specs.Clashes.{NoClash};
 ghost use Rattle.evaluation_log.specs.FoundItems.{ItemsConflict};
 ghost use Rattle.run_evaluations.specs.Kept.{IsKept, IsSameRest};
-ghost use Rattle.evaluation_log.specs.Kept.{AreLike, AllBelow, IsApart, span_of};
-ghost use Rattle.evaluation_log.specs.Loose.{NoLoose, HasLoose, LooseKept, loose_has, loose_from, HasEvent, loose_start_of, loose_foot_of};
+ghost use Rattle.evaluation_log.specs.Kept.{AreLike, AllBelow};
+ghost use Rattle.evaluation_log.specs.Loose.{NoLoose, HasLoose, LooseKept, loose_from, HasEvent, loose_start_of, loose_foot_of};
 ghost use Rattle.run_evaluations.specs.Loose.{IsLooseKept, NoneBelow, IsListed, KeepsLoose};
 
 use crate::open::Evaluations;
 use addr_map::AddrMap;
-use evaluation_log::{Found, Under, clash, first_of};
+use evaluation_log::{Found, Under};
 use footprint::Foot;
 use ub_base::{Frames, Kind, NoMemory};
 
@@ -57,33 +53,10 @@ impl Evaluations {
             NoLoose under.entry.map.now self.now.events.items self.now.items.items self.now.loose.items loose
             (event_has self.now.items.items (slice_get self.now.events.items k)))) }
     {
-        let mut found = None;
-        for at in own..self.events.len() {
-            found = self.found_at(under, at, loose, found)?;
+        if loose >= self.loose.len() {
+            return Ok(None);
         }
-        Ok(found)
-    }
-
-    // The first conflict so far, with those of this event.
-    fn found_at(
-        &self,
-        under: Under<'_>,
-        at: usize,
-        loose: usize,
-        best: Option<Found>,
-    ) -> Result<Option<Found>, NoMemory>
-        requires { ItemsConflict best }
-        ensures conflict { IfOk result ItemsConflict }
-        ensures none { LooseKept self.now.segments.items self.now.events.items self.now.items.items self.now.loose.items loose → IfOk result
-            (λ r. r ≡ None → (best ≡ None) ×
-            NoLoose under.entry.map.now self.now.events.items self.now.items.items self.now.loose.items loose
-            (event_has self.now.items.items (slice_get self.now.events.items at))) }
-    {
-        if self.meets_loose(under.map, at, loose)? {
-            self.found_among(under, at, loose, best)
-        } else {
-            Ok(best)
-        }
+        self.search(under).found_below(&self.segments, own, loose)
     }
 
     // Where the loose events of the top segment begin.
@@ -154,193 +127,18 @@ impl Evaluations {
         Ok(())
     }
 
+    // The set of what the events touched that are in the list from there on.
+    fn loose_set(&self, loose: usize) -> Result<Foot, NoMemory>
+        ensures { IfOk result (HasLoose self.now.events.items self.now.items.items self.now.loose.items loose) }
+    {
+        self.as_log().loose_set(loose)
+    }
+
     fn has_loose_foot(&self) -> bool {
         match self.segments.last() {
             Some(segment) => segment.loose_foot.is_some(),
             None => false,
         }
-    }
-
-    // The set of what the events touched that are in the list from there on.
-    fn loose_set(&self, loose: usize) -> Result<Foot, NoMemory>
-        ensures { IfOk result (HasLoose self.now.events.items self.now.items.items self.now.loose.items loose) }
-    {
-        let mut foot = Foot::new(self.alloc);
-        for i in loose..self.loose.len() {
-            self.add_listed(i, &mut foot)?;
-        }
-        Ok(foot)
-    }
-
-    fn add_listed(&self, i: usize, foot: &mut Foot) -> Result<(), NoMemory>
-        ensures more { OnOk result ((j : Item) → holds foot.old j ≡ true → holds foot.new j ≡ true) }
-        ensures one { OnOk result ((j : Item) → loose_has self.now.events.items self.now.items.items self.now.loose.items i j ≡ true →
-            holds foot.new j ≡ true) }
-    {
-        match self.loose.get(i) {
-            Some(at) => self.add_event(foot, *at),
-            None => Ok(()),
-        }
-    }
-
-    // Whether an item of the event conflicts with one of the events of the list.
-    fn meets_loose(&self, map: &AddrMap, at: usize, loose: usize) -> Result<bool, NoMemory>
-        ensures { LooseKept self.now.segments.items self.now.events.items self.now.items.items self.now.loose.items loose → IfOk result (λ b. b ≡ false →
-            NoLoose map.now self.now.events.items self.now.items.items self.now.loose.items loose
-            (event_has self.now.items.items (slice_get self.now.events.items at))) }
-    {
-        let Some(segment) = self.segments.last() else {
-            return self.meets_few(map, at, loose);
-        };
-        match &segment.loose_foot {
-            Some(below) => self.meets_set(map, at, below),
-            None => self.meets_few(map, at, loose),
-        }
-    }
-
-    fn meets_set(&self, map: &AddrMap, at: usize, below: &Foot) -> Result<bool, NoMemory>
-        ensures { IfOk result (λ b. b ≡ false →
-            NoClash Any map.now (event_has self.now.items.items (slice_get self.now.events.items at)) (holds below.now)) }
-    {
-        let foot = self.event_foot(at)?;
-        Ok(clash(&foot, below, map))
-    }
-
-    fn meets_few(&self, map: &AddrMap, at: usize, loose: usize) -> Result<bool, NoMemory>
-        ensures { IfOk result (λ b. b ≡ false →
-            NoLoose map.now self.now.events.items self.now.items.items self.now.loose.items loose
-            (event_has self.now.items.items (slice_get self.now.events.items at))) }
-    {
-        for i in loose..self.loose.len() {
-            if self.meets_listed(map, at, i)? {
-                return Ok(true);
-            }
-        }
-        Ok(false)
-    }
-
-    fn meets_listed(&self, map: &AddrMap, at: usize, i: usize) -> Result<bool, NoMemory>
-        ensures { IfOk result (λ b. b ≡ false →
-            NoClash Any map.now (event_has self.now.items.items (slice_get self.now.events.items at))
-            (loose_has self.now.events.items self.now.items.items self.now.loose.items i)) }
-    {
-        match self.loose.get(i) {
-            Some(other) => self.events_meet(map, at, *other),
-            None => Ok(false),
-        }
-    }
-
-    // Whether what two events touched conflicts: item by item, where none of them started a frame.
-    fn events_meet(&self, map: &AddrMap, a: usize, b: usize) -> Result<bool, NoMemory>
-        ensures { IfOk result (λ r. r ≡ false → NoClash Any map.now (event_has self.now.items.items (slice_get self.now.events.items a))
-            (event_has self.now.items.items (slice_get self.now.events.items b))) }
-    {
-        if self.are_alone(a, b) {
-            let first = self.span(a);
-            let second = self.span(b);
-            return Ok(self.spans_meet(map, first, second));
-        }
-        let foot = self.event_foot(b)?;
-        self.meets_set(map, a, &foot)
-    }
-
-    // Whether none of the two events started a frame.
-    fn are_alone(&self, a: usize, b: usize) -> bool
-        ensures first { result ≡ true → (e : Logged) → slice_get self.now.events.items a ≡ Some e → e.foot ≡ None }
-        ensures second { result ≡ true → (e : Logged) → slice_get self.now.events.items b ≡ Some e → e.foot ≡ None }
-    {
-        self.has_items_alone(a) && self.has_items_alone(b)
-    }
-
-    // Where the items of an event stand.
-    fn span(&self, at: usize) -> (usize, usize)
-        ensures { IfSome (span_of (slice_get self.now.events.items at)) (λ s. result ≡ s) }
-    {
-        match self.events.get(at) {
-            Some(event) => (event.from, event.to),
-            None => (0, 0),
-        }
-    }
-
-    // Whether an item of one range conflicts with one of another.
-    fn spans_meet(&self, map: &AddrMap, a: (usize, usize), b: (usize, usize)) -> bool
-        ensures { result ≡ false → (p : ℕ) → a.0 ≤ p → p < a.1 → (q : ℕ) → b.0 ≤ q → q < b.1 →
-            IsApart map.now (slice_get self.now.items.items p) (slice_get self.now.items.items q) }
-    {
-        for p in a.0..a.1 {
-            if self.meets_span(map, p, b) {
-                return true;
-            }
-        }
-        false
-    }
-
-    fn meets_span(&self, map: &AddrMap, p: usize, b: (usize, usize)) -> bool
-        ensures { result ≡ false → (q : ℕ) → b.0 ≤ q → q < b.1 → IsApart map.now (slice_get self.now.items.items p) (slice_get self.now.items.items q) }
-    {
-        for q in b.0..b.1 {
-            if self.items_at_conflict(map, p, q) {
-                return true;
-            }
-        }
-        false
-    }
-
-    // The first conflict so far, with those of this event and those of the list, which stand below it.
-    fn found_among(
-        &self,
-        under: Under<'_>,
-        event: usize,
-        loose: usize,
-        best: Option<Found>,
-    ) -> Result<Option<Found>, NoMemory>
-        requires { ItemsConflict best }
-        ensures conflict { IfOk result ItemsConflict }
-        ensures none { IfOk result (λ r. r ≡ None → (best ≡ None) ×
-            NoLoose under.entry.map.now self.now.events.items self.now.items.items self.now.loose.items loose
-            (event_has self.now.items.items (slice_get self.now.events.items event))) }
-    {
-        let mut best = best;
-        for i in loose..self.loose.len() {
-            best = self.found_listed(under, event, i, best)?;
-        }
-        Ok(best)
-    }
-
-    fn found_listed(
-        &self,
-        under: Under<'_>,
-        event: usize,
-        i: usize,
-        best: Option<Found>,
-    ) -> Result<Option<Found>, NoMemory>
-        requires { ItemsConflict best }
-        ensures conflict { IfOk result ItemsConflict }
-        ensures none { IfOk result (λ r. r ≡ None → (best ≡ None) ×
-            NoClash Any under.entry.map.now (event_has self.now.items.items (slice_get self.now.events.items event))
-            (loose_has self.now.events.items self.now.items.items self.now.loose.items i)) }
-    {
-        match self.loose.get(i) {
-            Some(other) => self.found_with(under, event, *other, best),
-            None => Ok(best),
-        }
-    }
-
-    fn found_with(
-        &self,
-        under: Under<'_>,
-        event: usize,
-        other: usize,
-        best: Option<Found>,
-    ) -> Result<Option<Found>, NoMemory>
-        requires { ItemsConflict best }
-        ensures conflict { IfOk result ItemsConflict }
-        ensures none { IfOk result (λ r. r ≡ None → (best ≡ None) ×
-            NoClash Any under.entry.map.now (event_has self.now.items.items (slice_get self.now.events.items event))
-            (event_has self.now.items.items (slice_get self.now.events.items other))) }
-    {
-        let found = self.found_of_two(under, event, other)?;
-        Ok(first_of(under.frames, best, found))
     }
 
     // The node's side effect comes before no value of a parent.

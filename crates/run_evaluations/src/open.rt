@@ -1,7 +1,8 @@
 // The open evaluations of a run.
-ghost use Rattle.std.specs.Prelude.{Box, ◌≡◌, ◌≤◌, ◌<◌, ◌-◌, ◌≢◌, ◌++◌, ◌∷◌, [], take, ℕ, suc, true, false, length, slice_get, Some, None, vec_len, IfSome};
+ghost use Rattle.std.specs.Prelude.{Box, ◌≡◌, ◌≤◌, ◌<◌, ◌-◌, ◌≢◌, ◌++◌, ◌∷◌, ◌||◌, [], take, ℕ, suc, true, false, length, slice_get, Some, None, vec_len, IfSome};
 ghost use Rattle.std.specs.Prelude.{OnOk, IfOk};
 ghost use Rattle.std.specs.Global.{Global};
+ghost use Rattle.footprint.specs.Holds.{holds};
 ghost use Rattle.evaluation_log.specs.declared.log.Logged.{Logged};
 ghost use Rattle.evaluation_log.specs.declared.log.Segment.{Segment};
 ghost use Rattle.evaluation_log.specs.declared.rules.Rule.TheVariants.{Open};
@@ -12,20 +13,22 @@ ghost use Rattle.evaluation_log.specs.Loose.{HasRange, Thins, loose_of, loose_st
 ghost use Rattle.run_evaluations.specs.Kept.{IsKept, IsSameRest, IsSameLog, IsFirst, IsLogged, IsTold, IsSameOpen};
 ghost use Rattle.evaluation_log.specs.Kept.{AreLike, IsJoined, AllBelow, IsAdded, IsOperand, cut_of, base_of, marks, harmless_of, foot_of, span_of, is_large};
 ghost use Rattle.evaluation_log.specs.Kept.{own_body};
+ghost use Rattle.evaluation_log.specs.Touched.{event_has};
 ghost use Rattle.evaluation_log.specs.Ways.{node_of};
 ghost use Rattle.run_evaluations.specs.Ways.{IsGathered};
 ghost use Rattle.ub_base.specs.declared.names.Item.{Item};
 
-use evaluation_log::{Known, Level, Logged, Rule, Segment, are_harmless};
+use evaluation_log::{Known, Level, Logged, Rule, Segment, Under, are_harmless};
+use evaluation_search::{Log, Place, Search, all_harmless};
 use footprint::Foot;
 use std::alloc::Global;
-use ub_base::{Event, Frame, Item, Kind, NoMemory};
+use ub_base::{Frame, Item, Kind, NoMemory};
 
 /// A body of more entries than this isn't copied where footprints are gathered.
 const LARGE: usize = 64;
 
-/// The evaluations of the full expressions that are open along a run, from the frame of `main` to the top frame. The run
-/// tells it each pick, the events of each subtree together.
+/// The evaluations of the full expressions that are open along a run and recorded, from the outermost one to that of the top
+/// frame. It is told each pick of what is recorded, the events of each subtree together.
 #[derive(Drop)]
 pub struct Evaluations {
     pub(crate) alloc: Global,
@@ -336,6 +339,13 @@ impl Evaluations {
         self.keep_loose(at, node, rule, chosen);
         let loose_foot = self.left_loose_foot(at, rule);
         self.put_joined(at, node, harmless, foot, loose_foot);
+    }
+
+    // Whether each segment from this one on is harmless.
+    pub(crate) fn all_harmless(&self, at: usize) -> bool
+        ensures { result ≡ true → (g : ℕ) (s : Segment) → at ≤ g → slice_get self.now.segments.items g ≡ Some s → s.harmless ≡ true }
+    {
+        all_harmless(&self.segments, at)
     }
 
     // Leaves this segment as the last one, with what is said of it.
@@ -710,24 +720,63 @@ impl Evaluations {
         Ok(())
     }
 
-    // The top frame and the turn of its full expression.
-    pub(crate) fn place(&self) -> (Frame, u64) {
-        match self.levels.last() {
-            Some(level) => (level.frame, level.turn),
-            None => (Frame(0), 0),
+    // What is logged.
+    pub(crate) fn as_log(&self) -> Log<'_>
+        ensures events { result.events.now ≡ self.now.events.items }
+        ensures items { result.items.now ≡ self.now.items.items }
+        ensures large { result.large.now ≡ self.now.large.items }
+        ensures loose { result.loose.now ≡ self.now.loose.items }
+    {
+        Log {
+            alloc: self.alloc,
+            events: self.events.as_slice(),
+            items: self.items.as_slice(),
+            large: self.large.as_slice(),
+            loose: self.loose.as_slice(),
         }
     }
-}
 
-// An event of a full expression, by its name.
-pub(crate) fn named(place: (Frame, u64), node: u32, kind: Kind) -> Event
-    ensures { result ≡ record { frame = place.0; turn = place.1; node = node; kind = kind } }
-{
-    Event {
-        frame: place.0,
-        turn: place.1,
-        node,
-        kind,
+    // The set of the event's items, and of what the body touched that it started.
+    pub(crate) fn event_foot(&self, at: usize) -> Result<Foot, NoMemory>
+        ensures { IfOk result (λ f. (i : Item) → holds f i ≡ event_has self.now.items.items (slice_get self.now.events.items at) i) }
+    {
+        self.as_log().event_foot(at)
+    }
+
+    // Adds what the event and the body touched that it started.
+    pub(crate) fn add_event(&self, foot: &mut Foot, at: usize) -> Result<(), NoMemory>
+        ensures { OnOk result
+            ((i : Item) → holds foot.new i ≡ (holds foot.old i || event_has self.now.items.items (slice_get self.now.events.items at) i)) }
+    {
+        self.as_log().add_event(foot, at)
+    }
+
+    // A search for a conflict in the top frame's full expression.
+    pub(crate) fn search<'s>(&'s self, under: Under<'s>) -> Search<'s>
+        ensures events { result.log.events.now ≡ self.now.events.items }
+        ensures items { result.log.items.now ≡ self.now.items.items }
+        ensures loose { result.log.loose.now ≡ self.now.loose.items }
+        ensures rows { result.under.map.now ≡ under.entry.map.now }
+    {
+        Search {
+            log: self.as_log(),
+            place: self.place(),
+            under,
+        }
+    }
+
+    // The top frame's full expression.
+    pub(crate) fn place(&self) -> Place {
+        match self.levels.last() {
+            Some(level) => Place {
+                frame: level.frame,
+                turn: level.turn,
+            },
+            None => Place {
+                frame: Frame(0),
+                turn: 0,
+            },
+        }
     }
 }
 

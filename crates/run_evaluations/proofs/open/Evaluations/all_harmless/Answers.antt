@@ -1,9 +1,7 @@
-use Rattle.std.proofs.Common.{below_more, arith}
-use Rattle.std.proofs.lemmas.Option.{slice_get_within}
+use Rattle.std.proofs.Common.{List, ap, ◌∙◌}
+use Rattle.std.specs.Prelude.{slice_get}
+use Rattle.evaluation_log.specs.declared.log.Segment.{Segment}
 use Rattle.run_evaluations.proofs.open.Evaluations.all_harmless.Goals as goal
 
-pub loop-group-preserved : goal.loop-group-preserved
-loop-group-preserved c = below_more _ _ c.loop-group.invariant (λ le s e. c.is_harmless.ensures c.if-not-is_harmless.false s e)
-
 pub returns : goal.returns
-returns c = λ h g s le e. c.loop-group.invariant g (let w = slice_get_within c.args.self.now.segments.items g s e in omega (arith, w)) le s e
+returns c = λ h g s le e. c.all_harmless.ensures h g s le (ap (λ (xs : List Segment). slice_get xs g) c.deref.ensures.value ∙ e)

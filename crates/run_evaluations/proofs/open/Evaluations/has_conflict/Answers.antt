@@ -1,4 +1,4 @@
-use Rattle.evaluation_log.proofs.KeptLemmas.{harmless_none, few_none}
+use Rattle.evaluation_log.proofs.KeptLemmas.{harmless_none}
 use Rattle.evaluation_log.proofs.WholeLemmas.{loses_none, loses_more, feet_lost, not_none}
 use Rattle.run_evaluations.proofs.open.Evaluations.has_conflict.Goals as goal
 
@@ -6,12 +6,6 @@ pub returns-then-all_harmless-clause-none : goal.returns-then-all_harmless-claus
 returns-then-all_harmless-clause-none c = λ kept h.
     harmless_none c.args.map.now c.args.self.now.segments.items c.args.self.now.events.items c.args.self.now.items.items
     c.args.self.now.large.items c.args.at kept (λ g s le e. c.all_harmless.ensures c.if-all_harmless.true g s le e)
-
-pub returns-then-are_few-clause-none : goal.returns-then-are_few-clause-none
-returns-then-are_few-clause-none c = λ kept h.
-    few_none c.args.map.now c.args.self.now.segments.items c.args.self.now.events.items c.args.self.now.items.items
-    c.args.self.now.large.items c.args.at kept (λ k e le there. c.are_few.ensures c.if-are_few.true k e le there)
-    (c.some_items_conflict-meets.ensures h)
 
 pub returns-then-all_harmless-clause-feet : goal.returns-then-all_harmless-clause-feet
 returns-then-all_harmless-clause-feet c = λ kept.
@@ -22,14 +16,3 @@ returns-then-all_harmless-clause-feet c = λ kept.
 
 pub returns-then-all_harmless-clause-whole : goal.returns-then-all_harmless-clause-whole
 returns-then-all_harmless-clause-whole c = λ kept no f h. not_none _ f _ c.take_foot.ensures.taken.gone h
-
-pub returns-then-are_few-clause-feet : goal.returns-then-are_few-clause-feet
-returns-then-are_few-clause-feet c = λ kept.
-    let t = c.take_foot-then-are_few.ensures.taken in
-    feet_lost c.args.self.now.segments.items c.take_foot-then-are_few.new.self.segments.items c.args.self.now.events.items c.args.self.now.items.items
-    c.args.at
-    (loses_more c.args.self.now.segments.items c.args.self.now.segments.items c.take_foot-then-are_few.new.self.segments.items c.args.at
-    (loses_none c.args.self.now.segments.items) t.gone t.others)
-
-pub returns-then-are_few-clause-whole : goal.returns-then-are_few-clause-whole
-returns-then-are_few-clause-whole c = λ kept no f h. not_none _ f _ c.take_foot-then-are_few.ensures.taken.gone h

@@ -1,0 +1,8 @@
+use Rattle.std.proofs.Common.{below_more, arith}
+use Rattle.evaluation_search.proofs.log.Log.larges_conflict.Goals as goal
+
+pub loop-i-preserved : goal.loop-i-preserved
+loop-i-preserved c = below_more _ _ c.loop-i.invariant (λ le. c.large_meets_some.ensures c.if-large_meets_some.false)
+
+pub returns : goal.returns
+returns c = λ h k le less. c.loop-i.invariant k (omega (arith, less, c.loop-i-test.false)) le

@@ -1,7 +1,0 @@
--- The item conflicts with none so far.
-use Rattle.std.specs.Prelude.{◌≤◌, ◌<◌, ℕ, slice_get}
-use Rattle.evaluation_log.specs.Kept.{IsApart}
-use Rattle.run_evaluations.proofs.open.Evaluations.item_meets_some.Given as goal
-
-abbrev pub invariant-loop-q : goal.invariant-loop-q
-invariant-loop-q l = (q : ℕ) → q < l.q → l.fn.from ≤ q → IsApart l.map (slice_get l.self.items.items l.fn.i) (slice_get l.self.items.items q)

@@ -1,0 +1,132 @@
+// Whether operands conflict, as they are completed.
+ghost use Rattle.std.specs.Global.{Global};
+ghost use Rattle.std.specs.Prelude.{Box, ◌≡◌, ◌<◌, ℕ, vec_len, true, false, IfOk, IfNone, Some, slice_get};
+ghost use Rattle.footprint.specs.declared.foot.Foot.{Foot};
+ghost use Rattle.evaluation_log.specs.declared.sought.Sought.TheVariants.{Any};
+ghost use Rattle.evaluation_log.specs.Clashes.{NoneBetween, AreSorted};
+ghost use Rattle.evaluation_log.specs.FoundItems.{ItemsConflict};
+ghost use Rattle.evaluation_log.specs.Kept.{Kept, AllBelow, KeepsFeet, Spreads, foot_of, is_unsequenced};
+ghost use Rattle.evaluation_log.specs.Ways.{node_of};
+ghost use Rattle.run_evaluations.specs.Kept.{IsSameLog, IsTaken, IsKept, NoneOfOperands};
+ghost use Rattle.run_evaluations.specs.Loose.{IsLooseKept};
+
+use crate::open::Evaluations;
+use addr_map::AddrMap;
+use evaluation_log::{Found, Rule, Under};
+use evaluation_search::{Log, take_foot};
+use footprint::Foot;
+use ub_base::{Frames, NoMemory};
+
+impl Evaluations {
+    /// The operands of this node of the top frame's full expression are complete. Gives the first conflict between two of
+    /// them.
+    pub fn operands_done(
+        &mut self,
+        frames: &Frames,
+        map: &AddrMap,
+        node: u32,
+        rule: Rule,
+        chosen: bool,
+    ) -> Result<Option<Found>, NoMemory>
+        ensures conflict { IfOk result ItemsConflict }
+        ensures kept { IsKept self.old → IsKept self.new }
+        ensures loose { IsKept self.old → IsLooseKept self.old → IsLooseKept self.new }
+        ensures none { IsKept self.old → is_unsequenced rule ≡ true → IfOk result (λ r. IfNone r (NoneOfOperands map.now self.old node)) }
+    {
+        let at = self.operands(node);
+        if at.saturating_add(1) < self.segments.len() {
+            return self.several_done(Under { frames, map }, at, node, rule, chosen);
+        }
+        self.gather(node, rule, chosen);
+        Ok(None)
+    }
+
+    // The same for several operands, whose segments begin at this one.
+    fn several_done(
+        &mut self,
+        under: Under<'_>,
+        at: usize,
+        node: u32,
+        rule: Rule,
+        chosen: bool,
+    ) -> Result<Option<Found>, NoMemory>
+        requires { at < vec_len self.old.segments }
+        ensures conflict { IfOk result ItemsConflict }
+        ensures kept { IsKept self.old → AllBelow self.old.levels.items at → IsKept self.new }
+        ensures loose { IsKept self.old → AllBelow self.old.levels.items at → IsLooseKept self.old → IsLooseKept self.new }
+        ensures none { is_unsequenced rule ≡ true → Kept self.old.segments.items self.old.events.items self.old.items.items self.old.large.items at →
+            IfOk result (λ r. IfNone r
+            (NoneBetween Any under.entry.map.now self.old.segments.items self.old.events.items self.old.items.items at)) }
+    {
+        if !rule.is_unsequenced() {
+            self.join(at, node, rule, chosen, None);
+            return Ok(None);
+        }
+        if self.has_conflict(under.map, at)? {
+            return self.found_between(under, at);
+        }
+        let foot = self.take_foot(at);
+        self.join(at, node, rule, chosen, foot);
+        Ok(None)
+    }
+
+    pub(crate) fn take_foot(&mut self, at: usize) -> Option<Box<Foot>>
+        ensures taken { IsTaken self.old self.new at }
+        ensures nodes { (g : ℕ) → node_of (slice_get self.new.segments.items g) ≡ node_of (slice_get self.old.segments.items g) }
+        ensures given { result ≡ foot_of (slice_get self.old.segments.items at) }
+    {
+        take_foot(&mut self.segments, at)
+    }
+
+    // Whether two of the operands whose segments begin at this one conflict.
+    fn has_conflict(&mut self, map: &AddrMap, at: usize) -> Result<bool, NoMemory>
+        ensures same { IsSameLog self.old self.new }
+        ensures feet { Kept self.old.segments.items self.old.events.items self.old.items.items self.old.large.items at →
+            KeepsFeet self.old.segments.items self.new.segments.items self.old.events.items self.old.items.items at }
+        ensures whole { Kept self.old.segments.items self.old.events.items self.old.items.items self.old.large.items at → IfOk result
+            (λ b. b ≡ false → (f : Box Foot Global) → foot_of (slice_get self.new.segments.items at) ≡ Some f →
+            Spreads self.old.segments.items self.old.events.items self.old.items.items at f.value) }
+        ensures none { Kept self.old.segments.items self.old.events.items self.old.items.items self.old.large.items at → IfOk result
+            (λ b. b ≡ false → NoneBetween Any map.now self.old.segments.items self.old.events.items self.old.items.items at) }
+    {
+        if self.all_harmless(at) {
+            let _ = self.take_foot(at);
+            return Ok(false);
+        }
+        self.items_conflict(map, at)
+    }
+
+    // The same for operands that aren't all harmless.
+    fn items_conflict(&mut self, map: &AddrMap, at: usize) -> Result<bool, NoMemory>
+        ensures same { IsSameLog self.old self.new }
+        ensures feet { Kept self.old.segments.items self.old.events.items self.old.items.items self.old.large.items at →
+            KeepsFeet self.old.segments.items self.new.segments.items self.old.events.items self.old.items.items at }
+        ensures whole { Kept self.old.segments.items self.old.events.items self.old.items.items self.old.large.items at → IfOk result
+            (λ b. b ≡ false → (f : Box Foot Global) → foot_of (slice_get self.new.segments.items at) ≡ Some f →
+            Spreads self.old.segments.items self.old.events.items self.old.items.items at f.value) }
+        ensures none { Kept self.old.segments.items self.old.events.items self.old.items.items self.old.large.items at → IfOk result
+            (λ b. b ≡ false → NoneBetween Any map.now self.old.segments.items self.old.events.items self.old.items.items at) }
+    {
+        let log = Log {
+            alloc: self.alloc,
+            events: self.events.as_slice(),
+            items: self.items.as_slice(),
+            large: self.large.as_slice(),
+            loose: self.loose.as_slice(),
+        };
+        log.has_conflict(&mut self.segments, map, at)
+    }
+
+    // The first conflict between the operands whose segments begin at this one.
+    pub(crate) fn found_between(
+        &self,
+        under: Under<'_>,
+        at: usize,
+    ) -> Result<Option<Found>, NoMemory>
+        ensures conflict { IfOk result ItemsConflict }
+        ensures none { AreSorted self.now.segments.items self.now.events.items at → IfOk result
+            (λ r. IfNone r (NoneBetween Any under.entry.map.now self.now.segments.items self.now.events.items self.now.items.items at)) }
+    {
+        self.search(under).found_between(&self.segments, at)
+    }
+}
