@@ -79,7 +79,8 @@ fn strays(machine: &mut Machine, stage: Stage, place: Place) -> Result<bool, NoM
     ensures state { IfOk result (Strays machine.old stage machine.new) }
 {
     if !stage.straight {
-        return is_permitted_after(machine, place, strayed(machine)?);
+        let done = strayed(machine)?;
+        return is_permitted_after(machine, place, done);
     }
     let done = passed_events(machine, stage)?;
     if !is_permitted_after(machine, place, &done)? {
@@ -107,7 +108,7 @@ fn is_permitted_after(machine: &Machine, place: Place, done: &Done) -> Result<bo
 }
 
 // The top frame's full expression.
-fn opened<'p, 'c>(machine: &Machine<'p, 'c>) -> Result<&Begun<'p>, NoMemory>
+fn opened<'m, 'p>(machine: &'m Machine<'p, '_>) -> Result<&'m Begun<'p>, NoMemory>
     ensures { IfOk result (λ b. top_of machine.now ≡ Some b.now) }
 {
     match machine.begun.get(machine.below.len()) {
@@ -117,7 +118,7 @@ fn opened<'p, 'c>(machine: &Machine<'p, 'c>) -> Result<&Begun<'p>, NoMemory>
 }
 
 // What is done in it, where its order isn't the canonical one.
-fn strayed(machine: &Machine) -> Result<&Done, NoMemory>
+fn strayed<'m>(machine: &'m Machine) -> Result<&'m Done, NoMemory>
     ensures { IfOk result (λ done. slice_get machine.now.strayed.items (length machine.now.below.items) ≡ Some done.now) }
 {
     match machine.strayed.get(machine.below.len()) {
