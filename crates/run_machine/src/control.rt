@@ -7,7 +7,6 @@ ghost use Rattle.run_control.specs.Links.{work_at};
 ghost use Rattle.run_control.specs.View.{Meaning, after, todo_of};
 ghost use Rattle.run_machine.specs.Moving.{GoesOn, IsGone, StepLeaves, TakesStep};
 
-use crate::events::put_at;
 use crate::frames::end_frame;
 use crate::pick::Pick;
 use c_typed::Typed;
@@ -15,6 +14,7 @@ use prov_memory::ObjKind;
 use run_acts::total;
 use run_code::{BlockCode, ObjectCode, Operand};
 use run_control::{Move, Step, Use};
+use run_events::{choose_at_once, put_at};
 use run_state::{Begun, Halt, Local, Machine, Stage};
 use seq_order::Taken;
 use ub_base::{Cause, NoMemory, ObjName};
@@ -264,26 +264,6 @@ fn show_begun<'p>(
         taken: Taken::new(alloc),
     })?;
     Ok(())
-}
-
-// The choices whose tests are quiet.
-pub fn choose_at_once(machine: &mut Machine, chosen: &[(u32, u32)]) -> Result<(), NoMemory>
-    ensures { machine.new.work ≡ machine.old.work }
-{
-    for (node, operand) in chosen {
-        take_operand(machine, *node, *operand)?;
-    }
-    Ok(())
-}
-
-// The node of the full expression chooses this operand.
-pub fn take_operand(machine: &mut Machine, node: u32, operand: u32) -> Result<(), NoMemory>
-    ensures { machine.new.work ≡ machine.old.work }
-{
-    match machine.begun.get_mut(machine.below.len()) {
-        Some(begun) => begun.taken.set(node, operand),
-        None => Err(NoMemory),
-    }
 }
 
 // The value of a full expression is used.

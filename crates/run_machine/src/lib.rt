@@ -3,7 +3,6 @@
 
 mod control;
 mod events;
-mod fault;
 mod frames;
 mod pick;
 mod picks;

@@ -1,10 +1,10 @@
 -- How many frames of functions may be open at once (own).
 use Rattle.std.specs.Prelude.{◌≡◌, ℕ, ◌+◌, ◌-◌, ◌^◌, ◌<◌, ◌≤◌, min, Result, Ok, Err}
 use Rattle.ub_base.specs.declared.clause.Cause.TheVariants.{Depth}
-use Rattle.run_machine.specs.declared.events.Outcome.{Outcome}
-use Rattle.run_machine.specs.declared.events.Outcome.TheVariants.{Value, Stored, Started, End}
-use Rattle.run_machine.specs.declared.fault.Fault.{Fault}
-use Rattle.run_machine.specs.declared.fault.Fault.TheVariants.{Raise, Over, Unplaced, NoMemory}
+use Rattle.run_events.specs.declared.acts.Outcome.{Outcome}
+use Rattle.run_events.specs.declared.acts.Outcome.TheVariants.{Value, Stored, Started, End}
+use Rattle.run_events.specs.declared.fault.Fault.{Fault}
+use Rattle.run_events.specs.declared.fault.Fault.TheVariants.{Raise, Over, Unplaced, NoMemory}
 
 -- a frame starts where fewer than 100,000 are open; otherwise it is one too many, by the number that would be reached
 abbrev pub StartsWithin : Result Outcome Fault → ℕ → ℕ → Type 0

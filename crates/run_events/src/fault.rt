@@ -14,7 +14,7 @@ pub enum Fault {
 }
 
 impl Fault {
-    // The act was that of this event.
+    /// Why the pick isn't taken: the act was that of this event, of a node in this line.
     pub fn of(self, event: Event, line: u32) -> Halt {
         match self {
             Fault::Raise(clause) => Halt::Raised {
@@ -31,7 +31,7 @@ impl Fault {
 
 impl From<NoMemory> for Fault {
     ghost use Rattle.std.specs.Prelude.{◌≡◌};
-    ghost use Rattle.run_machine.specs.declared.fault.Fault.TheVariants.{NoMemory};
+    ghost use Rattle.run_events.specs.declared.fault.Fault.TheVariants.{NoMemory};
 
     ghost from_gives = { λ _ e. e ≡ NoMemory };
 
