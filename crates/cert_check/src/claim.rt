@@ -8,7 +8,7 @@ use crate::run::{Course, Run};
 use c_typed::Typed;
 use certificate::Claim;
 use prov_memory::Streams;
-use run_machine::{Halt, Machine, Pick};
+use run_machine::{Halt, Machine, Pick, canonical};
 use std::alloc::Global;
 use ub_base::{Bytes, Cause, Clause, NoMemory};
 
@@ -109,7 +109,7 @@ fn has_written(machine: &mut Machine, output: &[u8]) -> bool {
 
 // Whether the next canonical pick would pass this limit with this number.
 fn passes_next(machine: &mut Machine, cause: Cause, number: u64) -> Result<bool, NoMemory> {
-    match machine.canonical() {
+    match canonical(machine) {
         Err(Halt::Over(passed, reached)) => Ok(passed == cause && reached == number),
         Err(Halt::NoMemory) => Err(NoMemory),
         _ => Ok(false),

@@ -2,7 +2,7 @@
 
 use crate::claim::Witness;
 use c_typed::Place;
-use run_machine::{Halt, Machine, Pick};
+use run_machine::{Halt, Machine, Pick, canonical, single};
 use ub_base::{Clause, Event, Frame, Frames, NoMemory};
 
 // How far an order has led: it can go on, its last pick ended the run or raised a clause, or it breaks a rule.
@@ -36,7 +36,7 @@ impl<'p, 'c> Run<'p, 'c> {
             if course != Course::Going {
                 return Ok(Course::Broken);
             }
-            let taken = self.machine.canonical();
+            let taken = canonical(&mut self.machine);
             course = self.course_of(witness, taken)?;
         }
         Ok(course)
@@ -52,7 +52,7 @@ impl<'p, 'c> Run<'p, 'c> {
         if course != Course::Going {
             return Ok(Course::Broken);
         }
-        match self.machine.single(place) {
+        match single(&mut self.machine, place) {
             Ok(None) => Ok(Course::Broken),
             Ok(Some(pick)) => self.course_of(witness, Ok(pick)),
             Err(halt) => self.course_of(witness, Err(halt)),

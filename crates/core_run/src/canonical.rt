@@ -10,7 +10,9 @@ use addr_map::{AddrMap, Mode};
 use core_ir::CoreProgram;
 use prov_memory::{Memory, Outputs};
 use run_acts::start_bytes;
-use run_machine::{Completed, Halt, MOST_CREATED, Machine, Pick, View, code_of, prepare};
+use run_machine::{
+    Completed, Halt, MOST_CREATED, Machine, Pick, View, canonical, code_of, prepare,
+};
 use std::alloc::Global;
 use ub_base::{Bytes, Cause, Event, Frame, Frames, NoMemory};
 
@@ -187,7 +189,7 @@ fn advance<W: Watch>(
     ensures answers { IfOk result (λ next. AnswersNext next (W.heard watch.new)) }
     ensures started { StartedBy (W.heard watch.old) frames.old → OnOk result (StartedBy (W.heard watch.new) frames.new) }
 {
-    let told = match machine.canonical() {
+    let told = match canonical(machine) {
         Ok(told) => told,
         Err(halt) => return Ok(Next::End(ended_by(halt, picks)?)),
     };

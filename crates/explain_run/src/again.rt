@@ -9,7 +9,7 @@ use c_typed::Place;
 use core_ir::CoreProgram;
 use explain_facts::{Moment, Outcome, Sought, Trail};
 use prov_memory::{Memory, Outputs, Streams};
-use run_machine::{Code, Machine, Pick, code_of, prepare};
+use run_machine::{Code, Machine, Pick, code_of, prepare, single};
 use std::alloc::Global;
 use ub_base::{Bytes, Event, Frames, Kind, NoMemory};
 
@@ -191,7 +191,7 @@ fn preferred(
 ) -> Result<Option<Pick>, NoMemory> {
     for node in before.first..before.end {
         for kind in [Kind::Val, Kind::Body, Kind::Eff] {
-            if let Ok(Some(pick)) = machine.single(Place { node, kind }) {
+            if let Ok(Some(pick)) = single(machine, Place { node, kind }) {
                 return taken(machine, frames, Ok(pick));
             }
         }

@@ -1,6 +1,6 @@
 // A run made again, pick by pick.
 
-use run_machine::{Halt, Machine, Pick};
+use run_machine::{Halt, Machine, Pick, canonical};
 use ub_base::{Event, Frames, NoMemory};
 
 // Where a pick starts a frame, the frame gets its number.
@@ -38,7 +38,7 @@ pub fn taken(
 
 /// Takes the canonical pick.
 pub fn step(machine: &mut Machine, frames: &mut Frames) -> Result<Option<Pick>, NoMemory> {
-    let pick = machine.canonical();
+    let pick = canonical(machine);
     taken(machine, frames, pick)
 }
 

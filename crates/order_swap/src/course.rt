@@ -12,7 +12,7 @@ use c_typed::Place;
 use core_ir::CoreProgram;
 use prov_memory::{Memory, Outputs};
 use run_acts::start_bytes;
-use run_machine::{Halt, MOST_CREATED, Machine, Pick, code_of, prepare};
+use run_machine::{Halt, MOST_CREATED, Machine, Pick, canonical, code_of, prepare, single};
 use std::alloc::Global;
 use ub_base::{Bytes, Cause, Clause, Event, Frame, Frames, NoMemory};
 
@@ -155,8 +155,8 @@ fn next_pick<G: Guide>(machine: &mut Machine, guide: &mut G) -> Result<Result<Pi
     ensures given { OnOk result (G.given guide.new ≡ G.given guide.old) }
 {
     match chosen(machine, guide)? {
-        Some(place) => single(machine, place),
-        None => Ok(machine.canonical()),
+        Some(place) => chosen_pick(machine, place),
+        None => Ok(canonical(machine)),
     }
 }
 
@@ -175,8 +175,8 @@ fn chosen<G: Guide>(machine: &Machine, guide: &mut G) -> Result<Option<Place>, N
 }
 
 // A guide chooses only what is permitted.
-fn single(machine: &mut Machine, place: Place) -> Result<Result<Pick, Halt>, NoMemory> {
-    match machine.single(place) {
+fn chosen_pick(machine: &mut Machine, place: Place) -> Result<Result<Pick, Halt>, NoMemory> {
+    match single(machine, place) {
         Ok(Some(pick)) => Ok(Ok(pick)),
         Ok(None) => Err(NoMemory),
         Err(halt) => Ok(Err(halt)),

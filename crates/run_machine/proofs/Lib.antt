@@ -1,6 +1,3 @@
 mod Picked
 mod Parts
-mod Each
-mod Vias
-mod Beginning
 mod Steering

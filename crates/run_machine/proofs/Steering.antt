@@ -16,8 +16,8 @@ use Rattle.run_control.specs.Links.{work_from}
 use Rattle.run_control.specs.Moves.{moved}
 use Rattle.run_control.specs.Stacked.{Stacked, Closes}
 use Rattle.run_control.specs.View.{Meaning, is_nothing, readied, step_of, todo_of}
-use Rattle.run_machine.specs.declared.machine.Stage.{Stage}
-use Rattle.run_machine.specs.Stands.{StandsControl}
+use Rattle.run_state.specs.declared.machine.Stage.{Stage}
+use Rattle.run_state.specs.Stands.{StandsControl}
 use Rattle.run_machine.specs.Moving.{GoesOn, IsGone, Leaves, StepLeaves, TakesStep}
 
 both : (b : Bool) → b ≡ true → b ≡ false → ⊥

@@ -10,7 +10,7 @@ use Rattle.run_control.specs.declared.work.Step.TheVariants as step
 use Rattle.run_control.specs.Links.{work_from}
 use Rattle.run_control.specs.Stacked.{Stacked, Closes}
 use Rattle.run_control.specs.View.{Meaning, is_nothing, step_of, todo_of}
-use Rattle.run_machine.specs.Stands.{StandsControl}
+use Rattle.run_state.specs.Stands.{StandsControl}
 
 -- Where something is left to do, the frame goes on: ends of blocks and of `switch` statements that come first may be taken off. Else the frame ends,
 -- and the one below it goes on.

@@ -33,12 +33,12 @@ use Rattle.seq_order.specs.Marked.{taken_in, done_in}
 use Rattle.run_code.specs.declared.steps.Due.{Due}
 use Rattle.run_code.specs.declared.steps.Listed.{Listed}
 use Rattle.run_listing.specs.Along.{part_of, events_of, Next}
-use Rattle.run_machine.specs.declared.halt.Halt.{Halt}
-use Rattle.run_machine.specs.declared.halt.Halt.TheVariants.{Raised, Over, Unplaced, NoMemory}
-use Rattle.run_machine.specs.declared.machine.Machine.{Machine}
-use Rattle.run_machine.specs.declared.machine.Stage.{Stage}
+use Rattle.run_state.specs.declared.halt.Halt.{Halt}
+use Rattle.run_state.specs.declared.halt.Halt.TheVariants.{Raised, Over, Unplaced, NoMemory}
+use Rattle.run_state.specs.declared.machine.Machine.{Machine}
+use Rattle.run_state.specs.declared.machine.Stage.{Stage}
 use Rattle.run_machine.specs.declared.pick.Pick.{Pick}
-use Rattle.run_machine.specs.declared.watch.Begun.{Begun}
+use Rattle.run_state.specs.declared.watch.Begun.{Begun}
 
 -- the full expression of the top frame
 abbrev pub top_of : Machine → Option Begun

@@ -1,20 +1,14 @@
-//! The machine of a run: it takes the canonical pick, or one that is named where it is permitted.
+//! How the machine of a run goes on: it takes the canonical pick, or one that is named where it is permitted.
 #![tactic(auto)]
 
 mod control;
 mod events;
 mod frames;
-mod halt;
-mod initial;
-mod machine;
 mod pick;
 mod picks;
-mod watch;
 
 pub use control::MOST_CREATED;
-pub use halt::Halt;
-pub use initial::prepare;
-pub use machine::Machine;
 pub use pick::{Completed, Pick};
+pub use picks::{canonical, single};
 pub use run_code::{Code, code_of};
-pub use watch::{Begun, View};
+pub use run_state::{Begun, Halt, Machine, View, prepare};

@@ -1,0 +1,309 @@
+// The acts of events.
+ghost use Rattle.std.specs.Prelude.{◌≡◌, ◌<◌, length};
+ghost use Rattle.run_code.specs.Named.{IsNamed};
+
+use crate::fault::Fault;
+use crate::frames::{call, initialize};
+use c_typed::{Access, Change};
+use c_types::Ty;
+use prov_memory::{Value, Via};
+use run_acts::{
+    Pointer, answer, as_function, binary, changed, convert, distance, equal, fill, load, member,
+    moved, part, related, store, unary,
+};
+use run_code::{Act, Operand, StoreCode};
+use run_state::Machine;
+use ub_base::{Clause, Event, NoMemory};
+
+/// What an event came to.
+#[derive(Drop)]
+pub enum Outcome {
+    Value(Value),
+    /// An effect.
+    Stored,
+    /// A frame has started.
+    Started,
+    /// The end of the run, with its status.
+    End(u8),
+}
+
+fn number(value: bool) -> Value {
+    Value::Int(i128::from(value))
+}
+
+/// Does the act of an event of the top frame's full expression: it touches what the pick touches, and its value is left to the caller.
+pub fn perform(machine: &mut Machine, act: Act, event: Event) -> Result<Outcome, Fault>
+    requires named { IsNamed machine.old.code.now.tables act }
+{
+    match act {
+        Act::Store {
+            store,
+            place,
+            value,
+        } => store_value(machine, store, place, value),
+        Act::Fill { object, constants } => fill_list(machine, object, constants),
+        Act::Call(number) => call_of(machine, number, event),
+        Act::Initialize(number) => initialize(machine, number, event),
+        _ => Ok(Outcome::Value(value_act(machine, act, event)?)),
+    }
+}
+
+// The body of the call of this number.
+fn call_of(machine: &mut Machine, number: u32, event: Event) -> Result<Outcome, Fault>
+    requires there { number < length machine.old.code.now.tables.calls.items }
+{
+    let code = machine.code;
+    call(machine, &code.tables.calls[number as usize], event)
+}
+
+// The value that an act gives.
+fn value_act(machine: &mut Machine, act: Act, event: Event) -> Result<Value, Fault> {
+    match act {
+        Act::Load { access, ty, place } => {
+            let place = machine.pointer(place);
+            let t = &mut machine.items;
+            Ok(load(&mut machine.memory, access, ty, event, place, t)?)
+        }
+        Act::Same(operand) => Ok(machine.value(operand)?),
+        Act::Binary(op, kind, left, right) => {
+            let (left, right) = (machine.integer(left), machine.integer(right));
+            Ok(Value::Int(binary(op, kind, left, right)?))
+        }
+        Act::Convert(conversion, operand) => {
+            let operand = machine.value(operand)?;
+            let t = &mut machine.items;
+            Ok(convert(&mut machine.memory, conversion, event, &operand, t)?)
+        }
+        Act::Unary(op, operand) => {
+            let operand = machine.value(operand)?;
+            Ok(unary(op, &operand)?)
+        }
+        Act::Logical {
+            either,
+            first,
+            second,
+        } => Ok(number(logical(machine, either, first, second))),
+        Act::Selected { test, yes, no } => {
+            let taken = if machine.truth(test) { yes } else { no };
+            Ok(machine.value(taken)?)
+        }
+        Act::Change {
+            change,
+            old,
+            ty,
+            place,
+            operand,
+            room,
+        } => update(machine, change, old, ty, event, place, operand, room),
+        Act::Answer { discarded } => Ok(answer(machine.take(event.node), discarded)?),
+        Act::Part {
+            offset,
+            access,
+            whole,
+        } => part_of(machine, offset, access, whole, event),
+        _ => pointer_act(machine, act),
+    }
+}
+
+// The acts on pointers. Lists and isolated initializers have no value.
+fn pointer_act(machine: &mut Machine, act: Act) -> Result<Value, Fault> {
+    match act {
+        Act::Move {
+            size,
+            subtract,
+            pointer,
+            index,
+        } => {
+            let pointer = machine.pointer(pointer);
+            let index = machine.integer(index);
+            let t = &mut machine.items;
+            let moved = moved(&mut machine.memory, pointer, size, subtract, index, t)?;
+            Ok(moved.value())
+        }
+        Act::Member { offset, pointer } => {
+            let pointer = machine.pointer(pointer);
+            let t = &mut machine.items;
+            let member = member(&mut machine.memory, pointer, offset, t)?;
+            Ok(member.value())
+        }
+        Act::Distance { size, left, right } => {
+            let (left, right) = (machine.pointer(left), machine.pointer(right));
+            let t = &mut machine.items;
+            Ok(distance(&mut machine.memory, left, right, size, t)?)
+        }
+        Act::Related {
+            op,
+            pointers,
+            left,
+            right,
+        } => {
+            let (left, right) = (machine.value(left)?, machine.value(right)?);
+            let t = &mut machine.items;
+            Ok(related(&mut machine.memory, op, pointers, &left, &right, t)?)
+        }
+        Act::Equal(op, left, right) => {
+            let (left, right) = (machine.value(left)?, machine.value(right)?);
+            Ok(equal(op, &left, &right))
+        }
+        _ => Ok(Value::Nothing),
+    }
+}
+
+// A member of a structure or union that stands nowhere.
+fn part_of(
+    machine: &mut Machine,
+    offset: u64,
+    access: Access,
+    whole: Operand,
+    event: Event,
+) -> Result<Value, Fault> {
+    let alloc = machine.alloc;
+    let whole = machine.value(whole)?;
+    let t = &mut machine.items;
+    Ok(part(alloc, &mut machine.memory, access, event, &whole, offset, t)?)
+}
+
+fn logical(machine: &Machine, either: bool, first: Operand, second: Operand) -> bool {
+    if either {
+        machine.truth(first) || machine.truth(second)
+    } else {
+        machine.truth(first) && machine.truth(second)
+    }
+}
+
+pub fn function_value(machine: &Machine, operand: Operand) -> u64 {
+    match machine.value(operand) {
+        Ok(value) => as_function(&value),
+        Err(_) => 0,
+    }
+}
+
+// An Update's value, and in its room what it will store.
+fn update(
+    machine: &mut Machine,
+    change: Change,
+    old: bool,
+    ty: &Ty,
+    event: Event,
+    place: Operand,
+    operand: Operand,
+    room: u32,
+) -> Result<Value, Fault> {
+    let place = machine.pointer(place);
+    let operand = machine.integer(operand);
+    let (t, spare) = (&mut machine.items, &mut machine.spare);
+    let memory = &mut machine.memory;
+    let (before, after) = changed(memory, change, ty, event, place, operand, t, spare)?;
+    if old {
+        machine.keep(room, after);
+        Ok(before)
+    } else {
+        Ok(after)
+    }
+}
+
+// How the store of this number accesses memory.
+fn target_of<'p>(machine: &Machine<'p, '_>, number: u32) -> Result<(StoreCode<'p>, Via), NoMemory> {
+    let at = number as usize;
+    match (machine.code.tables.stores.get(at), machine.vias.get(at)) {
+        (Some(target), Some(via)) => Ok((*target, *via)),
+        _ => Err(NoMemory),
+    }
+}
+
+// The effect of an Assign or Update: the value goes to the place.
+fn store_value(
+    machine: &mut Machine,
+    number: u32,
+    place: Operand,
+    value: Operand,
+) -> Result<Outcome, Fault> {
+    let place = machine.pointer(place);
+    match value {
+        Operand::Done(room) => store_room(machine, number, place, room),
+        _ => store_quiet(machine, number, place, value),
+    }
+}
+
+// The value in the room of this number goes to the place.
+fn store_room(
+    machine: &mut Machine,
+    number: u32,
+    place: Pointer,
+    room: u32,
+) -> Result<Outcome, Fault> {
+    let (target, via) = target_of(machine, number)?;
+    let at = machine.top.base.saturating_add(room as usize);
+    let Some(value) = machine.values.get(at) else {
+        return Err(Fault::NoMemory);
+    };
+    let (access, initializing) = (target.access, target.initializing);
+    let t = &mut machine.items;
+    store(
+        &mut machine.memory,
+        access,
+        via,
+        initializing,
+        place,
+        value,
+        t,
+    )?;
+    Ok(Outcome::Stored)
+}
+
+// A value that is known beforehand goes to the place.
+fn store_quiet(
+    machine: &mut Machine,
+    number: u32,
+    place: Pointer,
+    value: Operand,
+) -> Result<Outcome, Fault> {
+    let (target, via) = target_of(machine, number)?;
+    let value = machine.value(value)?;
+    let (access, initializing) = (target.access, target.initializing);
+    let t = &mut machine.items;
+    store(
+        &mut machine.memory,
+        access,
+        via,
+        initializing,
+        place,
+        &value,
+        t,
+    )?;
+    Ok(Outcome::Stored)
+}
+
+/// A parameter's store: the value goes to the place, by the store of this number. The inner result says which clause it raises.
+pub fn put_at(
+    machine: &mut Machine,
+    number: u32,
+    place: Pointer,
+    value: &Value,
+) -> Result<Result<(), Clause>, NoMemory>
+    ensures { machine.new.work ≡ machine.old.work }
+{
+    let (target, via) = target_of(machine, number)?;
+    let (access, initializing) = (target.access, target.initializing);
+    let t = &mut machine.spare;
+    Ok(store(
+        &mut machine.memory,
+        access,
+        via,
+        initializing,
+        place,
+        value,
+        t,
+    ))
+}
+
+// The effect of a List: its constant bytes go to its object.
+fn fill_list(machine: &mut Machine, object: Operand, constants: u32) -> Result<Outcome, Fault> {
+    let object = machine.pointer(object);
+    let Some(fillings) = machine.fillings.get(constants as usize) else {
+        return Err(Fault::NoMemory);
+    };
+    let (t, spare) = (&mut machine.items, &mut machine.spare);
+    fill(&mut machine.memory, fillings.as_slice(), object, t, spare)?;
+    Ok(Outcome::Stored)
+}

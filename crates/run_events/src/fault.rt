@@ -1,0 +1,56 @@
+// Why an act isn't done.
+
+use prov_memory::MemFault;
+use run_state::Halt;
+use ub_base::{Cause, Clause, Event, NoMemory};
+
+/// Why an act isn't done.
+#[derive(Clone, Copy, Debug, PartialEq, Eq)]
+pub enum Fault {
+    Raise(Clause),
+    Over(Cause, u64),
+    Unplaced,
+    NoMemory,
+}
+
+impl Fault {
+    /// Why the pick isn't taken: the act was that of this event, of a node in this line.
+    pub fn of(self, event: Event, line: u32) -> Halt {
+        match self {
+            Fault::Raise(clause) => Halt::Raised {
+                event,
+                line,
+                clause,
+            },
+            Fault::Over(cause, number) => Halt::Over(cause, number),
+            Fault::Unplaced => Halt::Unplaced,
+            Fault::NoMemory => Halt::NoMemory,
+        }
+    }
+}
+
+impl From<NoMemory> for Fault {
+    ghost use Rattle.std.specs.Prelude.{◌≡◌};
+    ghost use Rattle.run_events.specs.declared.fault.Fault.TheVariants.{NoMemory};
+
+    ghost from_gives = { λ _ e. e ≡ NoMemory };
+
+    fn from(_e: NoMemory) -> Fault {
+        Fault::NoMemory
+    }
+}
+
+impl From<Clause> for Fault {
+    fn from(clause: Clause) -> Fault {
+        Fault::Raise(clause)
+    }
+}
+
+impl From<MemFault> for Fault {
+    fn from(fault: MemFault) -> Fault {
+        match fault {
+            MemFault::Raise(clause) => Fault::Raise(clause),
+            MemFault::NoMemory => Fault::NoMemory,
+        }
+    }
+}

@@ -1,0 +1,172 @@
+// The bodies of calls, and the frames that they start.
+ghost use Rattle.run_events.specs.Depth.{StartsWithin};
+
+use crate::acts::{Outcome, function_value};
+use crate::fault::Fault;
+use c_typed::Function;
+use c_types::LibFunc;
+use prov_memory::{LibAnswer, Values};
+use run_acts::callee;
+use run_code::{CallCode, FunctionCode, Operand};
+use run_control::Use;
+use run_state::{Machine, Open};
+use ub_base::{Cause, Clause, Event, Items, NoMemory};
+
+// How many frames of functions may be open at once (own).
+const MOST_FRAMES: u64 = 100_000;
+
+// The body of a call: an act of the library, or a new frame.
+pub fn call(machine: &mut Machine, call: &CallCode, event: Event) -> Result<Outcome, Fault> {
+    let Some(ty) = call.ty else {
+        return Err(Fault::Raise(Clause::InvalidPointer));
+    };
+    let program = machine.program;
+    let function = callee(program, designated(machine, call.designator), ty)?;
+    match program.functions.as_slice().get(function as usize) {
+        Some(
+            Function {
+                ty: _,
+                library: Some(library),
+                body: _,
+            },
+        ) => call_library(machine, *library, call, event),
+        _ => start_function(machine, function, call, event),
+    }
+}
+
+fn designated(machine: &Machine, designator: Operand) -> u64 {
+    match designator {
+        Operand::Function(addr) => addr,
+        Operand::Done(_) => function_value(machine, designator),
+        _ => 0,
+    }
+}
+
+fn arguments_of(machine: &Machine, call: &CallCode) -> Result<Values, NoMemory> {
+    let mut arguments = Items::new(machine.alloc);
+    for operand in call.arguments.as_slice() {
+        arguments.push(machine.value(*operand)?)?;
+    }
+    Ok(arguments)
+}
+
+fn call_library(
+    machine: &mut Machine,
+    library: LibFunc,
+    call: &CallCode,
+    event: Event,
+) -> Result<Outcome, Fault> {
+    let arguments = arguments_of(machine, call)?;
+    outcome_of(answer_of(machine, library, call, &arguments, event))
+}
+
+fn answer_of(
+    machine: &mut Machine,
+    library: LibFunc,
+    call: &CallCode,
+    arguments: &Values,
+    event: Event,
+) -> LibAnswer {
+    let alloc = machine.alloc;
+    let types = call.types.as_slice();
+    let t = &mut machine.items;
+    let (memory, streams) = (&mut machine.memory, &mut machine.streams);
+    match library {
+        LibFunc::Printf => libc_print::format(alloc, arguments, types, memory, streams, t),
+        LibFunc::Fprintf => libc_print::format_to(alloc, arguments, types, memory, streams, t),
+        LibFunc::Sprintf => libc_print::format_into(alloc, arguments, types, memory, t),
+        LibFunc::Snprintf => libc_print::format_within(alloc, arguments, types, memory, t),
+        _ => libc_model::call(alloc, library, arguments, event, memory, streams, t),
+    }
+}
+
+fn outcome_of(answer: LibAnswer) -> Result<Outcome, Fault> {
+    match answer {
+        LibAnswer::Value(value) => Ok(Outcome::Value(value)),
+        LibAnswer::End(status) => Ok(Outcome::End(status)),
+        LibAnswer::Raise(clause) => Err(Fault::Raise(clause)),
+        LibAnswer::Outside(cause, number) => Err(Fault::Over(cause, number)),
+        LibAnswer::Unplaced => Err(Fault::Unplaced),
+        LibAnswer::NoMemory => Err(Fault::NoMemory),
+    }
+}
+
+// The arguments become the first values of the new frame, whose body block takes them as it is entered.
+fn start_function(
+    machine: &mut Machine,
+    function: u32,
+    call: &CallCode,
+    event: Event,
+) -> Result<Outcome, Fault>
+    ensures { StartsWithin result machine.old.depth machine.new.depth }
+{
+    let reached = machine.depth.saturating_add(1);
+    if reached > MOST_FRAMES {
+        return Err(Fault::Over(Cause::Depth, reached));
+    }
+    let base = machine.top.base.saturating_add(machine.top.rooms as usize);
+    machine.grow(base.saturating_add(call.arguments.len()))?;
+    let mut at = base;
+    for operand in call.arguments.as_slice() {
+        let value = machine.value(*operand)?;
+        machine.put(at, value);
+        at = at.saturating_add(1);
+    }
+    open_function(machine, function, event)?;
+    machine.depth = reached;
+    Ok(Outcome::Started)
+}
+
+fn function_code<'c>(
+    machine: &Machine<'_, 'c>,
+    function: u32,
+) -> Result<&'c FunctionCode, NoMemory> {
+    let code = machine.code;
+    match code.functions.get(function as usize) {
+        Some(Some(function)) => Ok(function),
+        _ => Err(NoMemory),
+    }
+}
+
+// The frame of an isolated initializer, by its full expression, which sees the objects of the frame below.
+pub fn initialize(machine: &mut Machine, number: u32, event: Event) -> Result<Outcome, Fault> {
+    machine.work.start_initializer(number)?;
+    let locals = (machine.top.locals, machine.top.above);
+    let blocks = machine.top.blocks;
+    open_frame(machine, None, blocks, locals, event)?;
+    Ok(Outcome::Started)
+}
+
+fn open_function(machine: &mut Machine, function: u32, event: Event) -> Result<(), NoMemory> {
+    let code = function_code(machine, function)?;
+    let locals = machine.top.above;
+    let above = locals.saturating_add(code.objects as usize);
+    machine.grow_locals(above)?;
+    machine.work.start(&code.body)?;
+    open_frame(machine, Some(function), code.blocks, (locals, above), event)
+}
+
+// A frame becomes the top one, whose work was started.
+fn open_frame(
+    machine: &mut Machine,
+    function: Option<u32>,
+    blocks: u32,
+    locals: (usize, usize),
+    event: Event,
+) -> Result<(), NoMemory> {
+    machine.below.push(machine.top)?;
+    machine.top = Open {
+        frame: event.frame,
+        turn: 0,
+        stage: None,
+        how: Use::Unused,
+        base: machine.top.base.saturating_add(machine.top.rooms as usize),
+        rooms: 0,
+        locals: locals.0,
+        above: locals.1,
+        function,
+        blocks,
+        node: event.node,
+    };
+    Ok(())
+}

@@ -1,0 +1,12 @@
+//! What an event of a full expression does to the machine of a run: its act, a call of the library, the frame that it starts, and the
+//! operands that are chosen after it.
+#![tactic(auto)]
+
+mod acts;
+mod choices;
+mod fault;
+mod frames;
+
+pub use acts::{Outcome, perform, put_at};
+pub use choices::{choose, choose_at_once};
+pub use fault::Fault;

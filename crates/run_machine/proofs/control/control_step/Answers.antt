@@ -1,0 +1,9 @@
+use Rattle.run_machine.proofs.Steering.{takes_step}
+use Rattle.run_machine.proofs.control.control_step.Goals as goal
+
+pub returns-in-Some-2 : goal.returns-in-Some-2
+returns-in-Some-2 c = record {
+  step = takes_step c.take_step.result c.args.machine.now.jumps.links.items c.in_ok-step-in-None.field-0 c.in-Some-2.step c.args.machine.now.top.stage
+      c.args.machine.now.work c.next.new.self c.take_step.new.machine.work c.in-Some-2.is c.in_ok-step-in-None.ensures.below c.in_ok-step-in-None.ensures.step
+      c.take_step.ensures;
+}

@@ -1,0 +1,6 @@
+-- The work stays.
+use Rattle.std.proofs.Common.{◌≡◌}
+use Rattle.run_machine.proofs.control.store_arguments.Given as goal
+
+abbrev pub invariant-loop-object : goal.invariant-loop-object
+invariant-loop-object l = record { work : l.machine.work ≡ l.fn.machine.work }

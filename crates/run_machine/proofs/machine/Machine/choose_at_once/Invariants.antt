@@ -1,6 +1,0 @@
--- The work stays.
-use Rattle.std.proofs.Common.{◌≡◌}
-use Rattle.run_machine.proofs.machine.Machine.choose_at_once.Given as goal
-
-abbrev pub invariant-loop-node : goal.invariant-loop-node
-invariant-loop-node l = record { work : l.self.work ≡ l.fn.self.work }

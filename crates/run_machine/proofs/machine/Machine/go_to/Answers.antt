@@ -1,7 +1,0 @@
-use Rattle.run_machine.proofs.Steering.{gone_by}
-use Rattle.run_machine.proofs.machine.Machine.go_to.Goals as goal
-
-pub returns : goal.returns
-returns c = λ m.
-    gone_by m c.args.self.now.jumps.links.items c.deref.result.now c.args.self.now.work c.go_to.new.self c.in_ok-target.target c.deref.ensures.value
-    c.in_ok-go_to.ensures.below (c.in_ok-go_to.ensures.now m)

@@ -1,4 +1,0 @@
-use Rattle.run_machine.proofs.machine.Machine.is_permitted.Goals as goal
-
-pub returns : goal.returns
-returns c = λ fits. (c.in_ok-begun.begun.now, c.in_ok-begun.ensures, c.is_permitted.ensures (fits c.in_ok-begun.begun.now c.in_ok-begun.ensures))

@@ -1,6 +1,0 @@
--- The work stays.
-use Rattle.std.proofs.Common.{◌≡◌}
-use Rattle.run_machine.proofs.machine.Machine.store_arguments.Given as goal
-
-abbrev pub invariant-loop-object : goal.invariant-loop-object
-invariant-loop-object l = record { work : l.self.work ≡ l.fn.self.work }
