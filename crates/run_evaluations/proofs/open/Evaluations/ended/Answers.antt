@@ -16,6 +16,6 @@ returns-clause-none c = λ w room.
     let r = first_none _ c.in_ok-beside.beside c.in_ok-open.open (sym c.first_of.ensures.first ∙ e) in
     let tree = tree_of c.args.root.now in
     let t : c.in-Some.target ≡ last.node = same_Some _ _ (c.in-Some.ensures last at) in
-    let way = c.in_ok-way.ensures room in
+    let way = c.in_ok-way.ensures.above room in
     subst (λ (xs : List ℕ). NoneOnWay c.args.map.now c.args.rules.now xs c.args.self.now) (way ∙ ap (λ n. above_in 0 tree n) t)
     (none_at _ c.in_ok-open.open r.1 (c.in_ok-open.ensures.none w (subst IsRising (sym way) (in_rising 0 tree c.in-Some.target)))))
