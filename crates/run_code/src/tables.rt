@@ -33,7 +33,9 @@ impl<'p> Tables<'p> {
     ghost use Rattle.c_typed.specs.declared.program.Program.{Program as ProgramOf};
     ghost use Rattle.run_code.specs.Fitting.{AreFit, AreLawful, StoreFits};
 
-    pub fn new(alloc: Global) -> Self {
+    pub fn new(alloc: Global) -> Self
+        ensures fit { (p : ProgramOf) → AreFit p result }
+    {
         Tables {
             calls: Vec::new(alloc),
             stores: Vec::new(alloc),
