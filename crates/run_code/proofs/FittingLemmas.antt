@@ -1,8 +1,7 @@
 -- Trees whose nodes fit, and tables that do.
-use Rattle.std.proofs.Common.{◌≡◌, ◌≤◌, ◌<◌, arith, Bool, if◌then◌else◌, ℕ, zero, suc, List, [], ◌∷◌, ◌++◌, map, length, drop, Some, slice_get}
+use Rattle.std.proofs.Common.{◌≡◌, ◌≤◌, ◌<◌, arith, Bool, ℕ, zero, suc, List, [], ◌∷◌, ◌++◌, map, length, drop, Some, slice_get}
 use Rattle.std.proofs.Common.{append_assoc, flat_map, refl, sym, ap, subst, ◌∙◌}
 use Rattle.std.specs.Prelude.{Result, Ok, Err, OnOk}
-use Rattle.std.specs.Borrow.{Bor}
 use Rattle.std.specs.List.{All}
 use Rattle.std.proofs.Math.ListN.{set}
 use Rattle.std.proofs.lemmas.List.Elements.{All-nil, All-cons, All-head, All-tail, All-push, All-set, All-get_or}
@@ -12,17 +11,14 @@ use Rattle.c_typed.specs.declared.program.Constant.{Constant}
 use Rattle.c_typed.specs.declared.program.Program.{Program}
 use Rattle.c_typed.specs.declared.tree.Access.{Access}
 use Rattle.c_typed.specs.declared.tree.Change.{Change}
-use Rattle.c_typed.specs.declared.tree.Slot.{Slot}
 use Rattle.c_typed.specs.declared.tree.Node.{fold-Node}
 use Rattle.c_typed.specs.declared.tree.Node.TheVariants as nodes
 use Rattle.c_typed.specs.declared.tree.Typed.{Typed, out-Typed, fold_out-Typed}
 use Rattle.c_typed.specs.Sites.{Head, Site, Seen, SeenNode, seen_node, seen_tree, seen, type_seen, all_sites, sites}
 use Rattle.run_code.specs.declared.nodes.NodeInfo.{NodeInfo}
 use Rattle.run_code.specs.EventActs.{head_at, pointed, first_type, change_access}
-use Rattle.run_code.specs.declared.steps.StoreCode.{StoreCode}
-use Rattle.run_code.specs.declared.tables.Tables.{Tables}
-use Rattle.run_code.specs.Fitting.{AccessFits, AreLawful, HeadFits, first_operand, SiteFits, TreeFits, RootFits, NodesFit, StoreFits, AreFit}
-use Rattle.run_code.proofs.Heads.{head_at-Assign, head_at-Update, head_at-List}
+use Rattle.run_code.specs.Fitting.{AccessFits, AreLawful, HeadFits, first_operand, SiteFits, TreeFits, RootFits, NodesFit}
+use Rattle.run_code.proofs.Heads.{head_at-Assign, head_at-Update}
 
 abbrev sites_seen : Seen → List Site
 sites_seen s = s.sites
@@ -102,11 +98,6 @@ update_fits p t c old how e k r =
     let object = pointed (first_type (type_of (out-Typed t).ty) (out-Typed t).children) in
     subst (λ a. AccessFits a object) (sym k) (subst (λ h. HeadFits p h object) (head_at-Update (out-Typed t).node c old e) r)
 
-pub list_fits : (p : Program) (t : Typed) (slot : Slot) (bytes : List Constant) → (out-Typed t).node ≡ nodes.List slot bytes → RootFits p t
-    → AreLawful p bytes
-list_fits p t slot bytes e =
-    subst (λ h. HeadFits p h (pointed (first_type (type_of (out-Typed t).ty) (out-Typed t).children))) (head_at-List (out-Typed t).node slot bytes e)
-
 -- a node more
 pub node_pushed : (p : Program) (xs end : List NodeInfo) (x : NodeInfo) (t : Typed) → end ≡ xs ++ x ∷ [] → x.tree.now ≡ t → RootFits p t → NodesFit p xs
     → NodesFit p end
@@ -146,44 +137,3 @@ dropped xs ys zs n e k = ap (drop n) e ∙ (ap (λ m. drop m (xs ++ ys)) k ∙ b
 pub always : {A E : Type 0} (r : Result A E) (P : Type 0) → P → OnOk r P
 always (Ok x) P h = h
 always (Err e) P h = tt
-
--- one store more, or none
-pub store_pushed : (b : Bool) (p : Program) (old new : Tables) (s : StoreCode) →
-    new.stores.items ≡ (if b then old.stores.items ++ s ∷ [] else old.stores.items) → new.constants.items ≡ old.constants.items → StoreFits s
-    → AreFit p old → AreFit p new
-store_pushed true p old new s e k f h = record {
-  stores = subst (All StoreFits) (sym e) (All-push StoreFits old.stores.items s h.stores f);
-  constants = subst (All (λ cs. AreLawful p cs.now)) (sym k) h.constants;
-}
-store_pushed false p old new s e k f h = record {
-  stores = subst (All StoreFits) (sym e) h.stores;
-  constants = subst (All (λ cs. AreLawful p cs.now)) (sym k) h.constants;
-}
-
--- more constants, or none
-pub constants_pushed : (b : Bool) (p : Program) (old new : Tables) (cs : Bor (List Constant)) →
-    new.constants.items ≡ (if b then old.constants.items ++ cs ∷ [] else old.constants.items) → new.stores.items ≡ old.stores.items
-    → AreLawful p cs.now → AreFit p old → AreFit p new
-constants_pushed true p old new cs e k f h = record {
-  stores = subst (All StoreFits) (sym k) h.stores;
-  constants = subst (All (λ cs. AreLawful p cs.now)) (sym e) (All-push (λ (cs : Bor (List Constant)). AreLawful p cs.now) old.constants.items cs h.constants f);
-}
-constants_pushed false p old new cs e k f h = record {
-  stores = subst (All StoreFits) (sym k) h.stores;
-  constants = subst (All (λ cs. AreLawful p cs.now)) (sym e) h.constants;
-}
-
--- the same stores and constants
-pub fit_same : (p : Program) (old new : Tables) → new.stores.items ≡ old.stores.items → new.constants.items ≡ old.constants.items → AreFit p old
-    → AreFit p new
-fit_same p old new s k h = record {
-  stores = subst (All StoreFits) (sym s) h.stores;
-  constants = subst (All (λ cs. AreLawful p cs.now)) (sym k) h.constants;
-}
-
--- none at all
-pub none_fit : (p : Program) (tables : Tables) → tables.stores.items ≡ [] → tables.constants.items ≡ [] → AreFit p tables
-none_fit p tables s k = record {
-  stores = subst (All StoreFits) (sym s) (All-nil StoreFits);
-  constants = subst (All (λ cs. AreLawful p cs.now)) (sym k) (All-nil (λ (cs : Bor (List Constant)). AreLawful p cs.now));
-}

@@ -3,13 +3,11 @@ use Rattle.std.proofs.Common.{◌≡◌, ℕ, Bool, false, List, sym, ap, subst,
 use Rattle.std.specs.Borrow.{Bor}
 use Rattle.c_types.specs.declared.ty.Ty.{Ty}
 use Rattle.c_types.specs.Types.{type_of}
-use Rattle.c_typed.specs.declared.program.Constant.{Constant}
 use Rattle.c_typed.specs.declared.tree.Access.{Access}
 use Rattle.c_typed.specs.declared.tree.Change.{Change}
 use Rattle.c_typed.specs.declared.tree.Node.{Node, fold-roll-Node}
 use Rattle.c_typed.specs.declared.tree.Node.TheOpen as shape
 use Rattle.c_typed.specs.declared.tree.Node.TheVariants as nodes
-use Rattle.c_typed.specs.declared.tree.Slot.{Slot}
 use Rattle.c_typed.specs.declared.tree.Typed.{Typed, out-Typed}
 use Rattle.c_typed.specs.Sites.{Head, Seen, SeenNode, seen_node, seen_tree}
 use Rattle.run_code.specs.declared.steps.Operand.{Operand}
@@ -33,10 +31,6 @@ head_at-Assign n first a e = ap head_at (e ∙ sym (nodes.rolls-Assign first a))
 pub head_at-Update : (n : Node) (c : Change) (old : Bool) → n ≡ nodes.Update c old → head_at n ≡ shape.Update c old
 head_at-Update n c old e = ap head_at (e ∙ sym (nodes.rolls-Update c old)) ∙ ap head_seen
     (fold-roll-Node SeenNode Seen seen_node seen_tree (shape.Update c old))
-
-pub head_at-List : (n : Node) (slot : Slot) (bytes : List Constant) → n ≡ nodes.List slot bytes → head_at n ≡ shape.List slot bytes
-head_at-List n slot bytes e = ap head_at (e ∙ sym (nodes.rolls-List slot bytes)) ∙ ap head_seen
-    (fold-roll-Node SeenNode Seen seen_node seen_tree (shape.List slot bytes))
 
 pub loads : (t : Typed) (how : Access) (os : List Operand) (own place : Operand) (room : ℕ) (ty : Bor Ty) → (out-Typed t).node ≡ nodes.Load how
     → type_of ty.now ≡ pointed (first_type (type_of (out-Typed t).ty) (out-Typed t).children) → place ≡ value_at os 0 →

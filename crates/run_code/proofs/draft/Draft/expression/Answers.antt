@@ -33,5 +33,5 @@ returns-clause-fit c = λ p h t.
     let none : NodesFit p c.new-nodes.result.items =
     subst (NodesFit p) (sym c.new-nodes.ensures.items) (All-nil (λ (x : NodeInfo). RootFits p x.tree.now)) in
     let nodes : NodesFit p c.deref.result.now = subst (NodesFit p) (sym c.deref.ensures.value) (c.in_ok-collect.ensures.fit p h none) in
-    on_ok c.add_expression.result _ _ (λ e. subst (AreFit p) (sym e) (c.in_ok-chosen.ensures.fit p (c.in_ok-entries.ensures.fit p nodes t)))
+    on_ok c.add_expression.result (c.add_expression.new.self.tables ≡ c.chosen.new.self.expressions.tables) _ (λ e. subst (AreFit p) (sym e) (c.in_ok-chosen.ensures.fit p (c.in_ok-entries.ensures.fit p nodes t)))
     c.add_expression.ensures.tables
