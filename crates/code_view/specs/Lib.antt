@@ -1,0 +1,4 @@
+pub mod Meaning
+pub mod Numbering
+pub mod Fitting
+pub mod Laws
