@@ -1,0 +1,5 @@
+mod Viewed
+mod Full
+mod Own
+mod Sited
+mod Whole

@@ -1,0 +1,30 @@
+//! What the code of a typed program is to the definitions of runs.
+//!
+//! A law function takes nothing and answers nothing: its contract is a law about the definitions.
+#![tactic(auto)]
+
+ghost use Rattle.code_view.specs.Laws.{RootsStand, BodiesStand, SwitchesStand, TreesFit, LawfulCodeStands};
+
+/// The number of a full expression in the code stands for the expression of its typed tree.
+pub fn law_code_roots()
+    ensures { RootsStand }
+{}
+
+/// The body of each function that has code is that of the function of the model's program, with the objects of its blocks; the number of each `switch` in
+/// it stands for the body that is there.
+pub fn law_code_bodies()
+    ensures bodies { BodiesStand }
+    ensures switches { SwitchesStand }
+{}
+
+/// Each node of the full expressions of a lawful program stores a pointer by its own type, and fills objects with lawful constants, where those of its
+/// initializer lists are.
+pub fn law_code_trees()
+    ensures { TreesFit }
+{}
+
+/// The numbers in the code that run_code lays out of a lawful program stand for what is in the program: full expressions, the objects of blocks, `switch`
+/// statements, the bodies of functions, stores and constants.
+pub fn law_code()
+    ensures { LawfulCodeStands }
+{}
