@@ -41,7 +41,7 @@ use Rattle.run_statements.specs.Bodies.{Stands, IsStatement}
 use Rattle.run_code.specs.declared.steps.Expression.{Expression as Laid}
 use Rattle.run_code.specs.declared.steps.FunctionCode.{FunctionCode}
 use Rattle.run_code.specs.declared.whole.Code.{Code}
-use Rattle.code_view.specs.Fitting.{AccessFits, AreLawful, SiteFits, TreeFits, AreFit, StoreFits}
+use Rattle.run_code.specs.Fitting.{AccessFits, AreLawful, SiteFits, TreeFits, AreFit, StoreFits}
 use Rattle.run_code.specs.Roots.{as_block, block_in, trees_in, code_trees, IsCodeOf, AreCodeOf, IsNumberedBy}
 use Rattle.run_state.specs.Meaning.{AccessSuits, StandsProgram, StandsCode}
 use Rattle.code_view.specs.Numbering.{RowHas, root_by, row_decls, body_decls, function_decls, decls_in, switch_by, meaning_of}

@@ -16,7 +16,7 @@ use Rattle.run_statements.specs.declared.numbers.Numbers.{Numbers}
 use Rattle.run_code.specs.declared.steps.Expression.{Expression as Laid}
 use Rattle.run_code.specs.declared.steps.FunctionCode.{FunctionCode}
 use Rattle.run_code.specs.declared.whole.Code.{Code}
-use Rattle.code_view.specs.Fitting.{AreLawful, TreeFits, AreFit}
+use Rattle.run_code.specs.Fitting.{AreLawful, TreeFits, AreFit}
 use Rattle.run_code.specs.Roots.{code_trees, IsNumberedBy}
 use Rattle.run_state.specs.Meaning.{StandsProgram, StandsCode}
 use Rattle.code_view.specs.Numbering.{meaning_of}

@@ -8,3 +8,4 @@ mod Picked
 mod Heads
 mod NamedLemmas
 mod Rooted
+mod FittingLemmas
