@@ -1,1 +1,4 @@
+pub mod InScope
+pub mod Known
+pub mod Reads
 pub mod Tagged

@@ -1,4 +1,5 @@
 // Why a unit has no typed program.
+ghost use Rattle.std.specs.Prelude.{◌≡◌};
 
 use std::alloc::{AllocError, AllocFailed};
 use type_reasons::{Reason, Refused};
@@ -12,18 +13,30 @@ pub enum TypeFault {
 }
 
 impl From<NoMemory> for TypeFault {
+    ghost use Rattle.type_scope.specs.declared.fault.TypeFault.TheVariants as fault;
+
+    ghost from_gives = { λ _ e. e ≡ fault.NoMemory };
+
     fn from(_e: NoMemory) -> TypeFault {
         TypeFault::NoMemory
     }
 }
 
 impl From<AllocError> for TypeFault {
+    ghost use Rattle.type_scope.specs.declared.fault.TypeFault.TheVariants as fault;
+
+    ghost from_gives = { λ _ e. e ≡ fault.NoMemory };
+
     fn from(_e: AllocError) -> TypeFault {
         TypeFault::NoMemory
     }
 }
 
 impl<T: Drop> From<AllocFailed<T>> for TypeFault {
+    ghost use Rattle.type_scope.specs.declared.fault.TypeFault.TheVariants as fault;
+
+    ghost from_gives = { λ _ e. e ≡ fault.NoMemory };
+
     fn from(_e: AllocFailed<T>) -> TypeFault {
         TypeFault::NoMemory
     }

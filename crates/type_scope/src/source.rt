@@ -1,9 +1,14 @@
 // The tokens of a text, with a number for each spelling.
+ghost use Rattle.std.specs.Prelude.{◌≡◌, slice_get, length, IfOk};
+ghost use Rattle.c_lex.specs.TokenText.{text_at, line_at};
+ghost use Rattle.typing_env.specs.Env.{symbol_in, line_in, last_line};
+ghost use Rattle.type_scope.specs.declared.fault.TypeFault.TheVariants as fault;
 
 use crate::TypeFault;
 use c_lex::{TokenKind, Tokens};
 use c_spelling::spelled_by;
 use std::alloc::Global;
+use std::marker::Model;
 use type_reasons::Reason;
 use ub_base::NoMemory;
 
@@ -14,10 +19,20 @@ pub struct Source<'a> {
     symbols: Vec<u32>,
 }
 
-/// The symbol behind the last token.
-const NO_SYMBOL: u32 = u32::MAX;
+impl<'a> Model for Source<'a> {
+    ghost use Rattle.c_lex.specs.TokenText.{TokenText};
+    ghost use Rattle.c_spelling.specs.Spelling.{IsSpelling};
 
-fn spelling<'a>(tokens: &Tokens<'a>, at: u32) -> &'a [u8] {
+    ghost Value = { TokenText };
+
+    ghost view = { λ s. s.tokens.now };
+
+    ghost invariant = { λ s. IsSpelling s.tokens.now s.symbols.items };
+}
+
+fn spelling<'a>(tokens: &Tokens<'a>, at: u32) -> &'a [u8]
+    ensures { result.now ≡ text_at tokens.now at }
+{
     if at < tokens.len() {
         tokens.text(at)
     } else {
@@ -27,7 +42,9 @@ fn spelling<'a>(tokens: &Tokens<'a>, at: u32) -> &'a [u8] {
 
 impl<'a> Source<'a> {
     /// The tokens with their symbols.
-    pub fn new(alloc: Global, tokens: &'a Tokens<'a>) -> Result<Source<'a>, NoMemory> {
+    pub fn new(alloc: Global, tokens: &'a Tokens<'a>) -> Result<Source<'a>, NoMemory>
+        ensures { IfOk result (λ s. s ≡ tokens.now) }
+    {
         Ok(Source {
             tokens,
             symbols: spelled_by(alloc, tokens)?,
@@ -39,13 +56,20 @@ impl<'a> Source<'a> {
         self.symbols.len()
     }
 
-    /// The symbol of the token of this number.
-    pub fn symbol(&self, at: u32) -> u32 {
-        self.symbols.get(at as usize).copied().unwrap_or(NO_SYMBOL)
+    /// The symbol of the token of this number; behind the last token a number of its own.
+    pub fn symbol(&self, at: u32) -> u32
+        ensures { result ≡ symbol_in self.now (slice_get self.now.list at) }
+    {
+        match self.symbols.get(at as usize) {
+            Some(symbol) => *symbol,
+            None => self.tokens.len(),
+        }
     }
 
     /// The line of the token; behind the last token that of the last one, and 1 where there is none.
-    pub fn line(&self, at: u32) -> u32 {
+    pub fn line(&self, at: u32) -> u32
+        ensures { result ≡ line_in self.now.list (line_at self.now at) }
+    {
         match self.tokens.line(at) {
             Some(line) => line,
             None => self.last_line(),
@@ -53,13 +77,17 @@ impl<'a> Source<'a> {
     }
 
     /// The line of the last token, 1 where there is none.
-    pub fn last_line(&self) -> u32 {
+    pub fn last_line(&self) -> u32
+        ensures { result ≡ last_line 1 self.now.list }
+    {
         let last = self.tokens.len().saturating_sub(1);
         self.tokens.line(last).unwrap_or(1)
     }
 
     /// The spelling of the token.
-    pub fn spelling(&self, at: u32) -> &'a [u8] {
+    pub fn spelling(&self, at: u32) -> &'a [u8]
+        ensures { result.now ≡ text_at self.now at }
+    {
         spelling(self.tokens, at)
     }
 
@@ -76,7 +104,9 @@ impl<'a> Source<'a> {
     }
 
     /// The fault of a unit that breaks a rule at this token, for this reason.
-    pub fn fault(&self, at: u32, reason: Reason) -> TypeFault {
+    pub fn fault(&self, at: u32, reason: Reason) -> TypeFault
+        ensures { result ≡ fault.NotTyped (line_in self.now.list (line_at self.now at)) reason }
+    {
         TypeFault::NotTyped {
             line: self.line(at),
             reason,

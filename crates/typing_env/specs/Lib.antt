@@ -1,0 +1,3 @@
+pub mod Env
+pub mod Names
+pub mod Seen
