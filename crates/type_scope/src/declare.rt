@@ -1,13 +1,15 @@
 // Declarations of identifiers without linkage (6.7p3).
-ghost use Rattle.std.specs.Prelude.{◌≡◌, is_some, Some};
-ghost use Rattle.c_lex.specs.TokenText.{TokenText};
+ghost use Rattle.std.specs.Prelude.{◌≡◌, ◌≢◌, is_some, Some, IfErr, OnErr};
+ghost use Rattle.c_lex.specs.TokenText.{TokenText, line_at};
 ghost use Rattle.c_types.specs.Types.{qualified_of};
 ghost use Rattle.type_name_space.specs.Scopes.{visible, at_depth};
-ghost use Rattle.typing_env.specs.Env.{Env};
+ghost use Rattle.type_reasons.specs.declared.reason.Reason.TheVariants as reason;
+ghost use Rattle.typing_env.specs.Env.{Env, line_in};
 ghost use Rattle.typing_env.specs.Names as names;
 ghost use Rattle.typing_env.specs.Names.{meaning_in};
 ghost use Rattle.type_scope.specs.Known.{Naming, known_by, meaning_seen};
 ghost use Rattle.type_scope.specs.Reads.{Reads};
+ghost use Rattle.type_scope.specs.declared.fault.TypeFault.TheVariants as fault;
 
 use crate::rows::Meaning;
 use crate::{Source, State, TypeFault};
@@ -40,6 +42,9 @@ impl State {
         meaning: Meaning,
     ) -> Result<(), TypeFault>
         ensures reads { (n : Naming) (env : Env) → Reads (λ u. u) (names.declare at (meaning_seen n meaning) (known_by n source.now self.old env)) result (known_by n source.now self.new env) }
+        ensures rest { self.new ≡ record self.old { names = self.new.names } }
+        ensures err { OnErr result (self.new ≡ self.old) }
+        ensures line { IfErr result (λ e. e ≢ fault.NoMemory → e ≡ fault.NotTyped (line_in source.now.list (line_at source.now at)) reason.DeclaredTwice) }
     {
         let symbol = source.symbol(at);
         if self.is_taken(symbol) {
@@ -67,6 +72,9 @@ impl State {
         qual: Qual,
     ) -> Result<(), TypeFault>
         ensures reads { (n : Naming) (env : Env) → Reads (λ u. u) (names.declare_typedef at (qualified_of qual) (known_by n source.now self.old env)) result (known_by n source.now self.new env) }
+        ensures rest { self.new ≡ record self.old { names = self.new.names } }
+        ensures err { OnErr result (self.new ≡ self.old) }
+        ensures line { IfErr result (λ e. e ≢ fault.NoMemory → e ≡ fault.NotTyped (line_in source.now.list (line_at source.now at)) reason.DeclaredTwice) }
     {
         if self.is_same_typedef(source.symbol(at), &qual) {
             return Ok(());

@@ -1,7 +1,8 @@
 // The tokens of a text, with a number for each spelling.
-ghost use Rattle.std.specs.Prelude.{◌≡◌, slice_get, length, IfOk};
+ghost use Rattle.std.specs.Prelude.{◌≡◌, slice_get, length, drop, IfOk};
 ghost use Rattle.c_lex.specs.TokenText.{text_at, line_at};
 ghost use Rattle.typing_env.specs.Env.{symbol_in, line_in, last_line};
+ghost use Rattle.type_scope.specs.Strings.{is_string, strings_of};
 ghost use Rattle.type_scope.specs.declared.fault.TypeFault.TheVariants as fault;
 
 use crate::TypeFault;
@@ -40,6 +41,32 @@ fn spelling<'a>(tokens: &Tokens<'a>, at: u32) -> &'a [u8]
     }
 }
 
+fn is_string(kind: Option<TokenKind>) -> bool
+    ensures { result ≡ is_string kind }
+{
+    matches!(kind, Some(TokenKind::StringLit))
+}
+
+#[tactic(auto, using(crate::proofs::Strings::strings_step))]
+fn strings_from(tokens: &Tokens<'_>, first: u32) -> u32
+    ensures { result ≡ strings_of (drop first tokens.now.list) }
+{
+    let mut count: u32 = 0;
+    for at in first..tokens.len() {
+        if !is_string(tokens.kind(at)) {
+            return count;
+        }
+        count = count.saturating_add(1);
+    }
+    count
+}
+
+fn number_at(numbers: &[u32], at: u32) -> Option<u32>
+    ensures { result ≡ slice_get numbers.now at }
+{
+    numbers.get(at as usize).copied()
+}
+
 impl<'a> Source<'a> {
     /// The tokens with their symbols.
     pub fn new(alloc: Global, tokens: &'a Tokens<'a>) -> Result<Source<'a>, NoMemory>
@@ -51,17 +78,20 @@ impl<'a> Source<'a> {
         })
     }
 
-    /// A number above all symbols of tokens.
-    pub fn symbol_count(&self) -> usize {
+    /// How many tokens there are: a number above all their symbols.
+    pub fn symbol_count(&self) -> usize
+        ensures { result ≡ length self.now.list }
+    {
         self.symbols.len()
     }
 
     /// The symbol of the token of this number; behind the last token a number of its own.
+    #[tactic(auto, using(crate::proofs::Symbols::symbol_found, crate::proofs::Symbols::symbol_none))]
     pub fn symbol(&self, at: u32) -> u32
         ensures { result ≡ symbol_in self.now (slice_get self.now.list at) }
     {
-        match self.symbols.get(at as usize) {
-            Some(symbol) => *symbol,
+        match number_at(&self.symbols, at) {
+            Some(symbol) => symbol,
             None => self.tokens.len(),
         }
     }
@@ -77,6 +107,7 @@ impl<'a> Source<'a> {
     }
 
     /// The line of the last token, 1 where there is none.
+    #[tactic(auto, using(crate::proofs::Symbols::last_is))]
     pub fn last_line(&self) -> u32
         ensures { result ≡ last_line 1 self.now.list }
     {
@@ -92,15 +123,10 @@ impl<'a> Source<'a> {
     }
 
     /// How many string literals stand one after the other from this token on.
-    pub fn string_count(&self, first: u32) -> u32 {
-        let mut count: u32 = 0;
-        for at in first..self.tokens.len() {
-            if !matches!(self.tokens.kind(at), Some(TokenKind::StringLit)) {
-                return count;
-            }
-            count = count.saturating_add(1);
-        }
-        count
+    pub fn string_count(&self, first: u32) -> u32
+        ensures { result ≡ strings_of (drop first self.now.list) }
+    {
+        strings_from(self.tokens, first)
     }
 
     /// The fault of a unit that breaks a rule at this token, for this reason.

@@ -1,9 +1,9 @@
 // All that is declared so far.
-ghost use Rattle.std.specs.Prelude.{◌≡◌, OnOk};
+ghost use Rattle.std.specs.Prelude.{◌≡◌, length, vec_len, IfOk, OnOk, OnErr};
 ghost use Rattle.c_lex.specs.TokenText.{TokenText};
 ghost use Rattle.c_typed.specs.Lawful.{HasBytes};
-ghost use Rattle.typing_env.specs.Env.{Env};
-ghost use Rattle.typing_env.specs.Names.{entered, left_scope, kept_prototype, with_parameters};
+ghost use Rattle.typing_env.specs.Env.{Env, start_of};
+ghost use Rattle.typing_env.specs.Names.{entered, left_scope, kept_prototype, with_parameters, with_new_tag, with_new_enumeration};
 ghost use Rattle.type_scope.specs.Known.{Naming, known_by};
 
 use crate::literals::Literal;
@@ -47,7 +47,9 @@ pub struct Mark(usize);
 
 impl State {
     /// Nothing declared; `order` as the field says.
-    pub fn new(alloc: Global, source: &Source<'_>, order: Vec<u32>) -> Result<State, NoMemory> {
+    pub fn new(alloc: Global, source: &Source<'_>, order: Vec<u32>) -> Result<State, NoMemory>
+        ensures known { IfOk result (λ s. (n : Naming) → known_by n source.now s (start_of source.now) ≡ start_of source.now) }
+    {
         let symbols = source.symbol_count();
         let mut linked = Vec::new(alloc);
         for _ in 0..symbols {
@@ -79,6 +81,8 @@ impl State {
     /// Begins a scope.
     pub fn enter_scope(&mut self) -> Result<(), NoMemory>
         ensures known { OnOk result ((n : Naming) (t : TokenText) (env : Env) → known_by n t self.new env ≡ entered (known_by n t self.old env)) }
+        ensures rest { self.new ≡ record self.old { names = self.new.names } }
+        ensures err { OnErr result (self.new ≡ self.old) }
     {
         self.names.enter()
     }
@@ -87,6 +91,7 @@ impl State {
     #[tactic(auto, using(crate::proofs::Seen::left_is))]
     pub fn leave_scope(&mut self)
         ensures known { (n : Naming) (t : TokenText) (env : Env) → known_by n t self.new env ≡ left_scope (known_by n t self.old env) }
+        ensures rest { self.new ≡ record self.old { names = self.new.names } }
     {
         self.names.leave();
     }
@@ -96,6 +101,7 @@ impl State {
     #[tactic(auto, using(crate::proofs::Seen::kept_is))]
     pub fn leave_parameters(&mut self, own: bool) -> Result<(), NoMemory>
         ensures known { OnOk result ((n : Naming) (t : TokenText) (env : Env) → known_by n t self.new env ≡ left_scope (kept_prototype own (known_by n t self.old env))) }
+        ensures rest { self.new ≡ record self.old { names = self.new.names } }
     {
         self.names.leave_parameters(self.alloc, own)
     }
@@ -104,6 +110,7 @@ impl State {
     #[tactic(auto, using(crate::proofs::Seen::parameters_are))]
     pub fn enter_body(&mut self) -> Result<(), NoMemory>
         ensures known { OnOk result ((n : Naming) (t : TokenText) (env : Env) → known_by n t self.new env ≡ with_parameters (entered (known_by n t self.old env))) }
+        ensures rest { self.new ≡ record self.old { names = self.new.names } }
     {
         self.names.enter_body(self.alloc)
     }
@@ -211,7 +218,12 @@ impl State {
     }
 
     /// Declares a new structure or union; the answer is its number.
-    pub fn add_tag(&mut self, kind: TagKind) -> Result<u32, NoMemory> {
+    #[tactic(auto, using(crate::proofs::Seen::new_tag_is))]
+    pub fn add_tag(&mut self, kind: TagKind) -> Result<u32, NoMemory>
+        ensures number { IfOk result (λ number. number ≡ length self.old.tags) }
+        ensures known { OnOk result ((n : Naming) (t : TokenText) (env : Env) → known_by n t self.new env ≡ with_new_tag kind (known_by n t self.old env)) }
+        ensures rest { self.new ≡ record self.old { tags = self.new.tags; tag_rows = self.new.tag_rows } }
+    {
         if self.tags.is_full() {
             return Err(NoMemory);
         }
@@ -223,8 +235,14 @@ impl State {
     }
 
     /// Declares a new enumeration; the answer is its number.
-    pub fn add_enumeration(&mut self) -> Result<u32, NoMemory> {
-        let number = u32::try_from(self.enumerations.len()).unwrap_or(u32::MAX);
+    pub fn add_enumeration(&mut self) -> Result<u32, NoMemory>
+        ensures number { IfOk result (λ number. number ≡ vec_len self.old.enumerations) }
+        ensures known { OnOk result ((n : Naming) (t : TokenText) (env : Env) → known_by n t self.new env ≡ with_new_enumeration (known_by n t self.old env)) }
+        ensures rest { self.new ≡ record self.old { enumerations = self.new.enumerations } }
+    {
+        let Ok(number) = u32::try_from(self.enumerations.len()) else {
+            return Err(NoMemory);
+        };
         self.enumerations.push(false)?;
         Ok(number)
     }

@@ -4,6 +4,7 @@ use Rattle.std.specs.Prelude.{ℕ, ◌+◌, ◌-◌, ◌==◌, Bool, true, false
 use Rattle.std.specs.Prelude.{Option, Some, None, is_some}
 use Rattle.std.specs.Str.{bytes_eq}
 use Rattle.c_types.specs.Types.{CType, function, Qualified, Signature, composite_qualified, composite_signature}
+use Rattle.c_types.specs.declared.tags.TagKind.{TagKind}
 use Rattle.c_types.specs.declared.library.LibFunc.{LibFunc}
 use Rattle.c_types.specs.declared.library.LibFunc.TheVariants as libc
 use Rattle.c_typed.specs.declared.tree.Slot.TheVariants as slot
@@ -114,6 +115,14 @@ with_tag_name symbol meaning env = record env { tag_names = env.tag_names ++ rec
 abbrev pub tag_seen : Env → (alone : Bool) → ℕ → Option TagMeaning
 tag_seen env true symbol = meaning_in (at_depth env.depth (visible symbol env.tag_names))
 tag_seen env false symbol = meaning_in (visible symbol env.tag_names)
+
+-- a structure or union more, incomplete (6.7.2.3p4); its number is that of the tags before it
+abbrev pub with_new_tag : TagKind → Env → Env
+with_new_tag kind env = record env { tags = env.tags ++ record { kind = kind; members = [] } ∷ [] }
+
+-- an enumeration more, incomplete (6.7.2.2p4)
+abbrev pub with_new_enumeration : Env → Env
+with_new_enumeration env = record env { enumerations = env.enumerations ++ false ∷ [] }
 
 -- 3. Linkage (6.2.2).
 

@@ -19,7 +19,7 @@ use Rattle.typing_spec.specs.Tags.{is_complete, names, are_distinct, completed}
 use Rattle.type_limits.specs.Limits.{is_within}
 use Rattle.typing_env.specs.Env.{Env, Typing, if_found, ◌>>=◌, ◌>>◌, pure, refuse, known, knowing, found, holds, an_object, a_typedef}
 use Rattle.typing_env.specs.Env.{Meaning, TagMeaning, a_tag, an_enumeration, symbol_of, spelling}
-use Rattle.typing_env.specs.Names.{declare, with_tag_name, tag_seen}
+use Rattle.typing_env.specs.Names.{declare, with_tag_name, tag_seen, with_new_tag, with_new_enumeration}
 
 -- 1. Keywords among specifiers.
 
@@ -298,7 +298,7 @@ tagged Union number = union number
 unfoldable pub new_tag : TagKind → Typing ℕ
 new_tag kind = do
   env ← known
-  knowing (λ e. record e { tags = e.tags ++ record { kind = kind; members = [] } ∷ [] })
+  knowing (with_new_tag kind)
   pure (length env.tags)
 
 unfoldable pub declare_tag : ℕ → TagKind → Typing ℕ
@@ -407,7 +407,7 @@ name_enumeration (Some at) number = do
 unfoldable pub open_enumeration : Option ℕ → Typing ℕ
 open_enumeration tag = do
   env ← known
-  knowing (λ e. record e { enumerations = e.enumerations ++ false ∷ [] })
+  knowing with_new_enumeration
   name_enumeration tag (length env.enumerations)
   pure (length env.enumerations)
 
