@@ -25,9 +25,13 @@ pub struct Scopes {
 impl Model for Scopes {
     ghost use Rattle.std.specs.Prelude.{map, reverse};
     ghost use Rattle.type_name_space.specs.Links.{declared_of};
+    ghost use Rattle.std.specs.Coded.{codes};
+    ghost use Rattle.type_scope.specs.contracts.rows.Meaning as meaning;
     ghost use Rattle.type_scope.specs.InScope.{InScope, AreNested};
 
     ghost Value = { InScope };
+
+    ghost coded = { Prim.hlevel (codes, meaning.the_row.coded) };
 
     ghost view = { λ s. record { ordinary = s.ordinary; tags = s.tags; depth = s.depth; kept_ordinary = reverse (map declared_of s.kept_ordinary.items); kept_tags = reverse (map declared_of s.kept_tags.items) } };
 
