@@ -18,6 +18,7 @@ use Rattle.c_typed.specs.Lawful.{
   IsMainType,
   fixed,
   FunctionIsLawful,
+  IsUsual,
   BodyIsLawful,
   LibraryFits,
   IsExternal,
@@ -69,6 +70,7 @@ least_is_lawful p f b fs ss ls ts m sig lib bod ex su h = record {
   main_type = subst (λ (xs : List Function). There (slice_get xs p.main) (λ g. IsMainType (signature_of g.ty))) (sym fs)
       (subst (λ (n : ℕ). There (slice_get (f ∷ []) n) (λ g. IsMainType (signature_of g.ty))) (sym m) (inl sig));
   functions = subst (All (FunctionIsLawful p)) (sym fs) (All-cons (FunctionIsLawful p) f [] (record {
+    usual = subst IsUsual (sym sig) (tt, tt);
     body = subst (Where (BodyIsLawful p (signature_of f.ty))) (sym bod) (body_of p (signature_of f.ty) b sig ex su);
     library = subst (Where (LibraryFits f)) (sym lib) tt;
     height = h;

@@ -521,13 +521,24 @@ abbrev pub IsOwnObject : Blocks → Root → Type 0
 IsOwnObject blocks (shape.Obj named) = IsOwn blocks named
 IsOwnObject blocks _ = ⊥
 
--- one expression for the whole object, or a list of parts of it, each inside it and none over another (6.7.9p11, 6.7.9p13,
--- 6.7.9p14, 6.7.9p16)
+-- an address lies in its object or one past it (6.5.6p8), is one of a function where its offset is 0
+abbrev pub AddressIsLawful : Program → Target → ℕ → Type 0
+AddressIsLawful p (target.Static number) offset =
+    There (slice_get p.statics number) (λ s. offset ≤ size_of p.tags (qualified_of s.qual).ty)
+AddressIsLawful p (target.Literal number) offset = There (slice_get p.literals number) (λ bytes. offset ≤ length bytes)
+AddressIsLawful p (target.Function number) offset = There (slice_get p.functions number) (λ f. CanBeCalled f × (offset ≡ 0))
+
+abbrev pub ContentIsLawful : Program → Content → Type 0
+ContentIsLawful p (content.Address target offset) = AddressIsLawful p target offset
+ContentIsLawful p _ = Unit {0}
+
+-- one expression for the whole object, or a list of parts of it, each inside it and none over another, whose addresses are lawful (6.7.9p11,
+-- 6.7.9p13, 6.7.9p14, 6.7.9p16)
 abbrev pub Initializes : Program → Blocks → Root → List Typed → Type 0
 Initializes p blocks (shape.Assign initializing access) (place ∷ value ∷ []) =
     IsTrue initializing × IsOwnObject blocks (root_of place) × IsPlainTree value
 Initializes p blocks (shape.List slot bytes) operands =
-    IsOwn blocks slot × All (λ t. IsListed slot (root_of t)) operands
+    IsOwn blocks slot × All (λ t. IsListed slot (root_of t)) operands × All (λ c. ContentIsLawful p c.content) bytes
     × There (object_at p blocks slot) (λ object. PartsFit (size_of p.tags object.ty) (given_parts p.tags bytes operands))
 Initializes p blocks _ _ = ⊥
 
@@ -666,19 +677,25 @@ pub record BodyIsLawful (p : Program) (f : Signature) (b : Body) : Type 0 where
   pub full : All (ExpressionIsLawful p f) (expressions b)
   pub few : length (expressions b) < 2 ^ 32
 
+abbrev pub IsNoArray : CType → Type 0
+IsNoArray (array constant element count) = ⊥
+IsNoArray t = Unit {0}
+
+abbrev pub AreNoArrays : Params → Type 0
+AreNoArrays none = Unit {0}
+AreNoArrays (more constant t params) = IsNoArray t × AreNoArrays params
+
+-- it gives and takes no arrays (6.7.6.3p1, 6.7.6.3p7)
+abbrev pub IsUsual : Signature → Type 0
+IsUsual f = IsNoArray f.result × AreNoArrays f.params
+
 pub record FunctionIsLawful (p : Program) (f : Function) : Type 0 where
+  pub usual : IsUsual (signature_of f.ty)
   pub body : Where (BodyIsLawful p (signature_of f.ty)) f.body
   pub library : Where (LibraryFits f) f.library
   pub height : function_height f < 2 ^ 32
 
 -- 8. Objects with static storage (6.7.9, 6.9.2).
-
--- an address lies in its object or one past it (6.5.6p8), is one of a function where its offset is 0
-abbrev pub AddressIsLawful : Program → Target → ℕ → Type 0
-AddressIsLawful p (target.Static number) offset =
-    There (slice_get p.statics number) (λ s. offset ≤ size_of p.tags (qualified_of s.qual).ty)
-AddressIsLawful p (target.Literal number) offset = There (slice_get p.literals number) (λ bytes. offset ≤ length bytes)
-AddressIsLawful p (target.Function number) offset = There (slice_get p.functions number) (λ f. CanBeCalled f × (offset ≡ 0))
 
 abbrev pub Divides : ℕ → ℕ → Type 0
 Divides align n = n % align ≡ 0
@@ -689,10 +706,6 @@ AddressSuits p align (target.Static number) offset =
     There (slice_get p.statics number) (λ s. Divides align (align_of p.tags (qualified_of s.qual).ty) × Divides align offset)
 AddressSuits p align (target.Literal number) offset = align ≡ 1
 AddressSuits p align (target.Function number) offset = Unit {0}
-
-abbrev pub ContentIsLawful : Program → Content → Type 0
-ContentIsLawful p (content.Address target offset) = AddressIsLawful p target offset
-ContentIsLawful p _ = Unit {0}
 
 -- an address stands only where the type is a pointer, and is aligned for what that points to
 abbrev pub SuitsType : Program → CType → Target → ℕ → Type 0

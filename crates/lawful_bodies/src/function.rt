@@ -10,7 +10,7 @@ use crate::distinct::{are_distinct, are_in};
 use crate::found::{Found, Inside};
 use crate::full::{Place, body_trees};
 use crate::library::library_fits;
-use crate::parameters::starts_with;
+use crate::parameters::{is_usual, starts_with};
 use crate::statements::statement;
 use crate::stop::{Stop, must};
 use c_typed::{Body, Function, Program, body_height};
@@ -18,8 +18,8 @@ use c_types::{FuncTy, Tags};
 use std::alloc::Global;
 use ub_base::{Items, NoMemory};
 
-/// Whether the function is lawful in the program: its body, that it has the type of the library function that it stands
-/// for, and that its trees are not too high.
+/// Whether the function is lawful in the program: its body, that it gives and takes no arrays, that it has the type of the
+/// library function that it stands for, and that its trees are not too high.
 pub fn is_lawful_function(
     alloc: Global,
     program: &Program,
@@ -37,7 +37,7 @@ pub fn is_lawful_function(
 fn lawful_function(alloc: Global, program: &Program, function: &Function) -> Result<(), Stop>
     ensures { OnOk result (FunctionIsLawful program.now function.now) }
 {
-    must(fits_library(function))?;
+    must(is_usual(&function.ty) && fits_library(function))?;
     match &function.body {
         None => Ok(()),
         Some(body) => lawful_body(alloc, program, &function.ty, body),

@@ -1,4 +1,3 @@
 pub mod Found
-pub mod Loops
 pub mod Seen
 pub mod Whole

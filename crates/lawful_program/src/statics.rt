@@ -3,13 +3,12 @@ ghost use Rattle.std.specs.Prelude.{IsTrue, IfOk};
 ghost use Rattle.std.specs.List.{All};
 ghost use Rattle.c_types.specs.Types.{type_of};
 ghost use Rattle.c_types.specs.Leaves.{scalars};
-ghost use Rattle.c_typed.specs.Lawful.{IsSized, ContentIsLawful, ContentSuits, StaticIsLawful};
+ghost use Rattle.c_typed.specs.Lawful.{IsSized, ContentSuits, StaticIsLawful};
 
-use crate::addresses::is_lawful_content;
 use crate::places::type_takes;
 use c_typed::{Constant, Content, Program, Static};
 use c_types::{Tags, Ty};
-use lawful_trees::parts_fit;
+use lawful_trees::{are_lawful_contents, parts_fit};
 use layout::size;
 use std::alloc::Global;
 use ub_base::NoMemory;
@@ -21,17 +20,6 @@ fn is_sized(tags: &Tags, ty: &Ty) -> bool
         Some(extent) => 0 < extent.size,
         None => false,
     }
-}
-
-fn are_lawful_contents(program: &Program, constants: &[Constant]) -> bool
-    ensures { IsTrue result → All (λ c. ContentIsLawful program.now c.content) constants.now }
-{
-    for constant in constants {
-        if !is_lawful_content(program, &constant.content) {
-            return false;
-        }
-    }
-    true
 }
 
 // Whether an address stands only where the type has a pointer, to what the address is aligned for.

@@ -12,6 +12,7 @@ ghost use Rattle.c_typed.specs.Sites.{no_block};
 ghost use Rattle.lawful_trees.specs.Parts.{listed_range};
 ghost use Rattle.lawful_trees.specs.Places.{blocks_of, use_of};
 
+use crate::addresses::are_lawful_contents;
 use crate::names::object_at;
 use crate::parts::{ranges_fit, ranges_of};
 use crate::plain::is_plain_tree;
@@ -229,7 +230,10 @@ fn is_list(
     let Some(object) = object_at(program, around, slot) else {
         return Ok(false);
     };
-    if !is_own(around, slot) || !are_listed(slot, operands) {
+    if !is_own(around, slot)
+        || !are_listed(slot, operands)
+        || !are_lawful_contents(program, bytes)
+    {
         return Ok(false);
     }
     let size = size(&program.tags, &object.ty);

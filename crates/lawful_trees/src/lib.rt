@@ -1,6 +1,7 @@
 //! Whether a full expression of a typed program is lawful, so that all that runs may rely on it.
 #![tactic(auto)]
 
+mod addresses;
 mod expression;
 mod initial;
 mod lists;
@@ -12,6 +13,7 @@ mod place;
 mod plain;
 mod types;
 
+pub use addresses::are_lawful_contents;
 pub use expression::is_lawful_expression;
 pub use parts::parts_fit;
 pub use place::{Around, Purpose};

@@ -35,8 +35,8 @@ pub fn object_at<'a>(program: &'a Program, around: &'a [Around<'a>], slot: Slot)
     }
 }
 
-// Whether the function is defined, or the library's (6.9p3, 6.9p5).
-fn can_be_called(function: &Function) -> bool
+/// Whether the function is defined, or the library's (6.9p3, 6.9p5).
+pub fn can_be_called(function: &Function) -> bool
     ensures { IsTrue result → CanBeCalled function.now }
 {
     function.body.is_some() || function.library.is_some()

@@ -1,6 +1,6 @@
 use Rattle.std.proofs.Common.{rules, arith}
 use Rattle.c_typed.specs.Lawful.{IsExternal}
-use Rattle.lawful_program.proofs.Loops.{more, whole}
+use Rattle.lawful_trees.proofs.Loops.{more, whole}
 use Rattle.lawful_program.proofs.program.are_external.Goals as goal
 
 pub loop-function-preserved : goal.loop-function-preserved

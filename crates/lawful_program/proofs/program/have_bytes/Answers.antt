@@ -1,6 +1,6 @@
 use Rattle.std.proofs.Common.{rules, arith}
 use Rattle.c_typed.specs.Lawful.{HasBytes}
-use Rattle.lawful_program.proofs.Loops.{more, whole}
+use Rattle.lawful_trees.proofs.Loops.{more, whole}
 use Rattle.lawful_program.proofs.program.have_bytes.Goals as goal
 
 pub loop-literal-preserved : goal.loop-literal-preserved

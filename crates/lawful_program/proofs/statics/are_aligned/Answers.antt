@@ -2,7 +2,7 @@ use Rattle.std.proofs.Common.{rules, arith}
 use Rattle.c_types.specs.Types.{type_of}
 use Rattle.c_types.specs.Leaves.{scalars}
 use Rattle.c_typed.specs.Lawful.{ContentSuits}
-use Rattle.lawful_program.proofs.Loops.{more, whole}
+use Rattle.lawful_trees.proofs.Loops.{more, whole}
 use Rattle.lawful_program.proofs.statics.are_aligned.Goals as goal
 
 pub loop-constant-preserved : goal.loop-constant-preserved

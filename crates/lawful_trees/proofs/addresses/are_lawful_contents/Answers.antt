@@ -1,7 +1,7 @@
 use Rattle.std.proofs.Common.{rules, arith}
 use Rattle.c_typed.specs.Lawful.{ContentIsLawful}
-use Rattle.lawful_program.proofs.Loops.{more, whole}
-use Rattle.lawful_program.proofs.statics.are_lawful_contents.Goals as goal
+use Rattle.lawful_trees.proofs.Loops.{more, whole}
+use Rattle.lawful_trees.proofs.addresses.are_lawful_contents.Goals as goal
 
 pub loop-constant-preserved : goal.loop-constant-preserved
 loop-constant-preserved c =
