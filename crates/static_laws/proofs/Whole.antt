@@ -22,14 +22,14 @@ use Rattle.c_typed.specs.declared.program.Function.{Function}
 use Rattle.c_typed.specs.declared.program.Program.{Program}
 use Rattle.c_typed.specs.Sites.{no_block, Summary, BlockRow, summary, summary_step, entry_summary, start_summary, block_summary}
 use Rattle.c_typed.specs.Lawful as lawful
-use Rattle.c_typed.specs.Lawful.{There, Where, IsSized, AccessIs, StartsWith, BlockIsLawful, BodyIsLawful, FunctionIsLawful, IsLawful}
+use Rattle.c_typed.specs.Lawful.{There, Where, IsNoArray, AreNoArrays, IsSized, AccessIs, StartsWith, BlockIsLawful, BodyIsLawful, FunctionIsLawful, IsLawful}
 use Rattle.c_model.specs.Program as model
 use Rattle.c_model.specs.Program.{Decl, Stmt}
 use Rattle.c_model.specs.Values as values
 use Rattle.c_model.specs.World.{World}
 use Rattle.exposure.specs.declared.prov.Prov.{Prov}
 use Rattle.value_laws.specs.Sizes.{HasSize}
-use Rattle.value_laws.specs.Layouts.{laid_out, IsNoArray, AreNoArrays}
+use Rattle.value_laws.specs.Layouts.{laid_out}
 use Rattle.value_laws.specs.Parameters.{AreTaken, parameters}
 use Rattle.program_view.specs.Objects.{decl_of, access_of, extent_or_byte}
 use Rattle.program_view.specs.Statements as view
@@ -38,7 +38,7 @@ use Rattle.program_view.specs.View.{function_of, has_parameters, has_parameters_
 use Rattle.program_view.specs.View.{type_by, world_of}
 use Rattle.value_laws.specs.Wholes.{LibraryGivesPlain}
 use Rattle.static_laws.specs.LawfulSizes.{IsMadeOf, ObjectsAre, IsBodyOf, IsFunctionOf}
-use Rattle.static_laws.specs.WholePrograms.{IsUsualFunction, IsRunOf, WholeProgramsAreMade, WholeProgramsFit, WholeParametersFit, RunsKeepSizes, RunsNeverRace}
+use Rattle.static_laws.specs.WholePrograms.{IsRunOf, WholeProgramsAreMade, WholeProgramsFit, WholeParametersFit, RunsKeepSizes, RunsNeverRace}
 use Rattle.static_laws.proofs.Fits.{programs_fit, parameters_fit}
 use Rattle.static_laws.specs.NeverRaces.{KeepsSizes}
 use Rattle.static_laws.proofs.Reduction.{never_sized}
@@ -149,33 +149,32 @@ module _ (p : Program) (f : Signature) (u : AreNoArrays f.params) where
   definition_made None s h e = absurd (cc)
   definition_made (Some b) s h e = layer_made (out-Body b) s (subst (BodyIsLawful p f) (sym (roll-out-Body b)) h) e
 
-function_made : (p : Program) (f : Function) → FunctionIsLawful p f → IsUsualFunction f → IsFunctionOf p (function_of p.tags f)
-function_made p f h u = record {
+function_made : (p : Program) (f : Function) → FunctionIsLawful p f → IsFunctionOf p (function_of p.tags f)
+function_made p f h = record {
   signature = signature_of f.ty;
   ty = refl;
-  usual = u;
-  body = λ s e. definition_made p (signature_of f.ty) u.1 f.body s h.body e;
+  usual = h.usual;
+  body = λ s e. definition_made p (signature_of f.ty) h.usual.1 f.body s h.body e;
 }
 
-functions_made : (p : Program) (fs : List Function) (n : ℕ) (g : model.Function) → All (FunctionIsLawful p) fs → All IsUsualFunction fs
+functions_made : (p : Program) (fs : List Function) (n : ℕ) (g : model.Function) → All (FunctionIsLawful p) fs
     → slice_get (map (function_of p.tags) fs) n ≡ Some g → IsFunctionOf p g
-functions_made p [] n g h u e = absurd (cc)
-functions_made p (f ∷ fs) zero g h u e =
+functions_made p [] n g h e = absurd (cc)
+functions_made p (f ∷ fs) zero g h e =
     let same : function_of p.tags f ≡ g = cc in
-    subst (IsFunctionOf p) same (function_made p f (All-head (FunctionIsLawful p) f fs h) (All-head IsUsualFunction f fs u))
-functions_made p (f ∷ fs) (suc n) g h u e =
-    functions_made p fs n g (All-tail (FunctionIsLawful p) f fs h) (All-tail IsUsualFunction f fs u) e
+    subst (IsFunctionOf p) same (function_made p f (All-head (FunctionIsLawful p) f fs h))
+functions_made p (f ∷ fs) (suc n) g h e = functions_made p fs n g (All-tail (FunctionIsLawful p) f fs h) e
 
 pub programs_made : WholeProgramsAreMade
-programs_made p arguments world h u run = record {
-  functions = λ number fun e. functions_made p p.functions number fun h.functions u
+programs_made p arguments world h run = record {
+  functions = λ number fun e. functions_made p p.functions number fun h.functions
       (subst (λ (m : model.Program). slice_get m.functions number ≡ Some fun) run.program e);
   agree = λ f g e. (matches_tells false (type_by f) (type_by g)).0 (sym (run.agree (type_by f) (type_by g)) ∙ e);
   library = run.library;
 }
 
 pub wholes_fit : WholeProgramsFit
-wholes_fit p arguments world h u run = programs_fit p world (programs_made p arguments world h u run)
+wholes_fit p arguments world h run = programs_fit p world (programs_made p arguments world h run)
 
 -- what `main` is called with has no structure or union, and is no more than it takes
 
@@ -220,18 +219,18 @@ main_taken p arguments world h run fun e =
     values_are)
 
 pub parameters_taken : WholeParametersFit
-parameters_taken p arguments world h u run =
-    parameters_fit p world (main_values p world arguments) (programs_made p arguments world h u run) (main_taken p arguments world h run)
+parameters_taken p arguments world h run =
+    parameters_fit p world (main_values p world arguments) (programs_made p arguments world h run) (main_taken p arguments world h run)
 
 pub runs_keep_sizes : LibraryGivesPlain → RunsKeepSizes
-runs_keep_sizes plain p arguments rows number limits h u =
+runs_keep_sizes plain p arguments rows number limits h =
     let world : World = world_of p arguments rows number limits in
     let run : IsRunOf p arguments world = record { program = refl; agree = λ a b. refl; library = plain rows } in
-    (wholes_fit p arguments world h u run, parameters_taken p arguments world h u run)
+    (wholes_fit p arguments world h run, parameters_taken p arguments world h run)
 
 pub runs_never_race : LibraryGivesPlain → RunsNeverRace
-runs_never_race plain p arguments rows number limits h u are input vs ps o comes d e x y race =
+runs_never_race plain p arguments rows number limits h are input vs ps o comes d e x y race =
     let world : World = world_of p arguments rows number limits in
-    let keeps : KeepsSizes world = (laid_out p.tags, (runs_keep_sizes plain p arguments rows number limits h u).0) in
+    let keeps : KeepsSizes world = (laid_out p.tags, (runs_keep_sizes plain p arguments rows number limits h).0) in
     let at = never_sized world input vs ps o keeps are comes d e x y race in
     (at.0, λ function root is usual never. at.1 p function root is usual never)

@@ -1,15 +1,13 @@
 -- The program of a run of a lawful typed program is made of that program's full expressions, so it keeps the sizes of its types.
 use Rattle.std.specs.Prelude.{◌≡◌, ℕ, true, List}
-use Rattle.std.specs.List.{All}
 use Rattle.ub_base.specs.declared.names.Event.{Event}
 use Rattle.ub_base.specs.Frames.{Path}
 use Rattle.addr_map.specs.declared.map.Row.{Row}
 use Rattle.c_types.specs.declared.library.LibFunc.{LibFunc}
-use Rattle.c_types.specs.Types.{CType, signature_of}
+use Rattle.c_types.specs.Types.{CType}
 use Rattle.c_types.specs.Same.{compatible}
 use Rattle.c_typed.specs.declared.tree.Place.{Place}
 use Rattle.c_typed.specs.declared.tree.Typed.{Typed}
-use Rattle.c_typed.specs.declared.program.Function.{Function}
 use Rattle.c_typed.specs.declared.program.Program.{Program}
 use Rattle.c_typed.specs.Lawful.{IsLawful}
 use Rattle.c_model.specs.Values as values
@@ -20,19 +18,12 @@ use Rattle.c_model.specs.Findings.{Race}
 use Rattle.c_model.specs.Claims.{ComesTo}
 use Rattle.value_laws.specs.Sizes.{Gives, IsPlain, ProgramFits}
 use Rattle.value_laws.specs.Parameters.{ProgramTakes}
-use Rattle.value_laws.specs.Layouts.{laid_out, IsUsual as IsUsualType}
-use Rattle.program_view.specs.View.{type_by, model_of, world_of, main_values}
+use Rattle.value_laws.specs.Layouts.{laid_out}
+use Rattle.program_view.specs.View.{model_of, world_of, main_values}
 use Rattle.program_view.specs.Trees.{expr_of}
 use Rattle.static_laws.specs.LawfulSizes.{IsProgramOf}
 use Rattle.static_laws.specs.NeverRaces.{AreRows, PickedIn, IsUsual}
 use Rattle.static_laws.specs.Apart.{never_races}
-
--- its functions give and take no arrays (6.7.6.3p1, 6.7.6.3p7)
-abbrev pub IsUsualFunction : Function → Type 0
-IsUsualFunction f = IsUsualType (type_by (signature_of f.ty))
-
-abbrev pub HasUsualFunctions : Program → Type 0
-HasUsualFunctions p = All IsUsualFunction p.functions
 
 -- A run of the program with these arguments: a call asks whether function types are compatible (6.5.2.2p9), and the library gives no
 -- structure or union.
@@ -43,24 +34,24 @@ pub record IsRunOf (p : Program) (arguments : List (List ℕ)) (world : World) :
 
 abbrev pub WholeProgramsAreMade : Type 0
 WholeProgramsAreMade =
-    (p : Program) (arguments : List (List ℕ)) (world : World) → IsLawful p → HasUsualFunctions p → IsRunOf p arguments world → IsProgramOf p world
+    (p : Program) (arguments : List (List ℕ)) (world : World) → IsLawful p → IsRunOf p arguments world → IsProgramOf p world
 
 -- So the sizes are kept by each of its nodes, calls and results.
 abbrev pub WholeProgramsFit : Type 0
 WholeProgramsFit =
-    (p : Program) (arguments : List (List ℕ)) (world : World) → IsLawful p → HasUsualFunctions p → IsRunOf p arguments world
+    (p : Program) (arguments : List (List ℕ)) (world : World) → IsLawful p → IsRunOf p arguments world
     → ProgramFits (laid_out p.tags) world
 
 -- And by its parameters, those of `main` too.
 abbrev pub WholeParametersFit : Type 0
 WholeParametersFit =
-    (p : Program) (arguments : List (List ℕ)) (world : World) → IsLawful p → HasUsualFunctions p → IsRunOf p arguments world
+    (p : Program) (arguments : List (List ℕ)) (world : World) → IsLawful p → IsRunOf p arguments world
     → ProgramTakes (laid_out p.tags) world (main_values p world arguments)
 
 -- So in each run of the program, under any rows, with the library of libc_spec.
 abbrev pub RunsKeepSizes : Type 0
 RunsKeepSizes =
-    (p : Program) (arguments : List (List ℕ)) (rows : List Row) (number : Path → ℕ) (limits : Limits) → IsLawful p → HasUsualFunctions p
+    (p : Program) (arguments : List (List ℕ)) (rows : List Row) (number : Path → ℕ) (limits : Limits) → IsLawful p
     → ProgramFits (laid_out p.tags) (world_of p arguments rows number limits)
     × ProgramTakes (laid_out p.tags) (world_of p arguments rows number limits) (main_values p (world_of p arguments rows number limits) arguments)
 
@@ -68,7 +59,7 @@ RunsKeepSizes =
 -- accesses are all apart (6.5p2).
 abbrev pub RunsNeverRace : Type 0
 RunsNeverRace =
-    (p : Program) (arguments : List (List ℕ)) (rows : List Row) (number : Path → ℕ) (limits : Limits) → IsLawful p → HasUsualFunctions p → AreRows rows
+    (p : Program) (arguments : List (List ℕ)) (rows : List Row) (number : Path → ℕ) (limits : Limits) → IsLawful p → AreRows rows
     → let world = world_of p arguments rows number limits in
     (input : List ℕ) (vs : List values.Value) (ps : List Pick) (o : Outcome) → ComesTo world input vs ps o
     → (d e : Entry) (u v : Place) → Race world (trace_of o) d u e v

@@ -4,7 +4,8 @@ use Rattle.c_types.specs.declared.tags.Tag.{Tag}
 use Rattle.c_types.specs.Types.{CType, void, int, enumeration, pointer, array, struct, union, function, Params, none, more, Compatible, EachMatches}
 use Rattle.value_laws.specs.Sizes.{Keeps}
 use Rattle.value_laws.specs.Parameters.{Passes, AreKept}
-use Rattle.value_laws.specs.Layouts.{laid_out, IsNoArray, AreNoArrays, IsUsual, CallKeeps}
+use Rattle.c_typed.specs.Lawful.{IsNoArray, AreNoArrays}
+use Rattle.value_laws.specs.Layouts.{laid_out, IsUsual, CallKeeps}
 use Rattle.value_laws.proofs.Frames.{keeps_itself}
 
 module _ (tags : List Tag) where

@@ -4,6 +4,7 @@ use Rattle.c_types.specs.Types.{CType, array, function, Params, none, more, Comp
 use Rattle.c_types.specs.Layout.{extent, extents}
 use Rattle.c_types.specs.declared.tags.Extent.{Extent}
 use Rattle.c_types.specs.declared.tags.Tag.{Tag}
+use Rattle.c_typed.specs.Lawful.{IsNoArray, AreNoArrays}
 use Rattle.value_laws.specs.Sizes.{Sizes, Keeps, result_size}
 use Rattle.value_laws.specs.Parameters.{Passes}
 
@@ -14,14 +15,6 @@ size_in (Some e) = Some e.size
 -- the size of each complete type among these tags (6.2.5p1, 6.5.3.4)
 abbrev pub laid_out : List Tag → Sizes
 laid_out tags ty = size_in (extent (extents tags) ty)
-
-abbrev pub IsNoArray : CType → Type 0
-IsNoArray (array constant element count) = ⊥
-IsNoArray ty = Unit {0}
-
-abbrev pub AreNoArrays : Params → Type 0
-AreNoArrays none = Unit {0}
-AreNoArrays (more constant ty params) = IsNoArray ty × AreNoArrays params
 
 -- a function type that gives and takes no arrays (6.7.6.3p1, 6.7.6.3p7)
 abbrev pub IsUsual : CType → Type 0
