@@ -4,8 +4,8 @@ ghost use Rattle.run_code.specs.Named.{IsNamed};
 
 use crate::fault::Fault;
 use crate::frames::{call, initialize};
-use c_typed::{Access, Change};
-use c_types::Ty;
+use c_typed::{Access, Change, Conversion, EqOp, RelOp, UnOp};
+use c_types::{BinOp, IntKind, Ty};
 use prov_memory::{Value, Via};
 use run_acts::{
     Pointer, answer, as_function, binary, changed, convert, distance, equal, fill, load, member,
@@ -32,10 +32,10 @@ fn number(value: bool) -> Value {
 }
 
 /// Does the act of an event of the top frame's full expression: it touches what the pick touches, and its value is left to the caller.
-pub fn perform(machine: &mut Machine, act: Act, event: Event) -> Result<Outcome, Fault>
-    requires named { IsNamed machine.old.code.now.tables act }
+pub fn perform(machine: &mut Machine, act: &Act, event: Event) -> Result<Outcome, Fault>
+    requires named { IsNamed machine.old.code.now.tables act.now }
 {
-    match act {
+    match *act {
         Act::Store {
             store,
             place,
@@ -49,6 +49,7 @@ pub fn perform(machine: &mut Machine, act: Act, event: Event) -> Result<Outcome,
 }
 
 // The body of the call of this number.
+#[inline(never)]
 fn call_of(machine: &mut Machine, number: u32, event: Event) -> Result<Outcome, Fault>
     requires there { number < length machine.old.code.now.tables.calls.items }
 {
@@ -56,28 +57,15 @@ fn call_of(machine: &mut Machine, number: u32, event: Event) -> Result<Outcome, 
     call(machine, &code.tables.calls[number as usize], event)
 }
 
-// The value that an act gives.
-fn value_act(machine: &mut Machine, act: Act, event: Event) -> Result<Value, Fault> {
-    match act {
-        Act::Load { access, ty, place } => {
-            let place = machine.pointer(place);
-            let t = &mut machine.items;
-            Ok(load(&mut machine.memory, access, ty, event, place, t)?)
-        }
-        Act::Same(operand) => Ok(machine.value(operand)?),
-        Act::Binary(op, kind, left, right) => {
-            let (left, right) = (machine.integer(left), machine.integer(right));
-            Ok(Value::Int(binary(op, kind, left, right)?))
-        }
-        Act::Convert(conversion, operand) => {
-            let operand = machine.value(operand)?;
-            let t = &mut machine.items;
-            Ok(convert(&mut machine.memory, conversion, event, &operand, t)?)
-        }
-        Act::Unary(op, operand) => {
-            let operand = machine.value(operand)?;
-            Ok(unary(op, &operand)?)
-        }
+// The value that an act gives. What a function keeps on the stack is set to zero as it begins: so each act stands in one of its own,
+// which isn't inlined.
+fn value_act(machine: &mut Machine, act: &Act, event: Event) -> Result<Value, Fault> {
+    match *act {
+        Act::Load { access, ty, place } => loaded(machine, access, ty, place, event),
+        Act::Same(operand) => same(machine, operand),
+        Act::Binary(op, kind, left, right) => arithmetic(machine, op, kind, left, right),
+        Act::Convert(conversion, operand) => converted(machine, conversion, operand, event),
+        Act::Unary(op, operand) => unary_value(machine, op, operand),
         Act::Logical {
             either,
             first,
@@ -85,7 +73,7 @@ fn value_act(machine: &mut Machine, act: Act, event: Event) -> Result<Value, Fau
         } => Ok(number(logical(machine, either, first, second))),
         Act::Selected { test, yes, no } => {
             let taken = if machine.truth(test) { yes } else { no };
-            Ok(machine.value(taken)?)
+            same(machine, taken)
         }
         Act::Change {
             change,
@@ -105,51 +93,132 @@ fn value_act(machine: &mut Machine, act: Act, event: Event) -> Result<Value, Fau
     }
 }
 
+#[inline(never)]
+fn loaded(
+    machine: &mut Machine,
+    access: Access,
+    ty: &Ty,
+    place: Operand,
+    event: Event,
+) -> Result<Value, Fault> {
+    let place = machine.pointer(place);
+    let t = &mut machine.items;
+    Ok(load(&mut machine.memory, access, ty, event, place, t)?)
+}
+
+#[inline(never)]
+fn same(machine: &Machine, operand: Operand) -> Result<Value, Fault> {
+    Ok(machine.value(operand)?)
+}
+
+#[inline(never)]
+fn arithmetic(
+    machine: &Machine,
+    op: BinOp,
+    kind: IntKind,
+    left: Operand,
+    right: Operand,
+) -> Result<Value, Fault> {
+    let (left, right) = (machine.integer(left), machine.integer(right));
+    Ok(Value::Int(binary(op, kind, left, right)?))
+}
+
+#[inline(never)]
+fn converted(
+    machine: &mut Machine,
+    conversion: Conversion,
+    operand: Operand,
+    event: Event,
+) -> Result<Value, Fault> {
+    let operand = machine.value(operand)?;
+    let t = &mut machine.items;
+    Ok(convert(&mut machine.memory, conversion, event, &operand, t)?)
+}
+
+#[inline(never)]
+fn unary_value(machine: &Machine, op: UnOp, operand: Operand) -> Result<Value, Fault> {
+    let operand = machine.value(operand)?;
+    Ok(unary(op, &operand)?)
+}
+
 // The acts on pointers. Lists and isolated initializers have no value.
-fn pointer_act(machine: &mut Machine, act: Act) -> Result<Value, Fault> {
-    match act {
+fn pointer_act(machine: &mut Machine, act: &Act) -> Result<Value, Fault> {
+    match *act {
         Act::Move {
             size,
             subtract,
             pointer,
             index,
-        } => {
-            let pointer = machine.pointer(pointer);
-            let index = machine.integer(index);
-            let t = &mut machine.items;
-            let moved = moved(&mut machine.memory, pointer, size, subtract, index, t)?;
-            Ok(moved.value())
-        }
-        Act::Member { offset, pointer } => {
-            let pointer = machine.pointer(pointer);
-            let t = &mut machine.items;
-            let member = member(&mut machine.memory, pointer, offset, t)?;
-            Ok(member.value())
-        }
-        Act::Distance { size, left, right } => {
-            let (left, right) = (machine.pointer(left), machine.pointer(right));
-            let t = &mut machine.items;
-            Ok(distance(&mut machine.memory, left, right, size, t)?)
-        }
+        } => move_by(machine, size, subtract, pointer, index),
+        Act::Member { offset, pointer } => member_of(machine, offset, pointer),
+        Act::Distance { size, left, right } => distance_between(machine, size, left, right),
         Act::Related {
             op,
             pointers,
             left,
             right,
-        } => {
-            let (left, right) = (machine.value(left)?, machine.value(right)?);
-            let t = &mut machine.items;
-            Ok(related(&mut machine.memory, op, pointers, &left, &right, t)?)
-        }
-        Act::Equal(op, left, right) => {
-            let (left, right) = (machine.value(left)?, machine.value(right)?);
-            Ok(equal(op, &left, &right))
-        }
+        } => relation(machine, op, pointers, left, right),
+        Act::Equal(op, left, right) => equality(machine, op, left, right),
         _ => Ok(Value::Nothing),
     }
 }
 
+#[inline(never)]
+fn move_by(
+    machine: &mut Machine,
+    size: u64,
+    subtract: bool,
+    pointer: Operand,
+    index: Operand,
+) -> Result<Value, Fault> {
+    let pointer = machine.pointer(pointer);
+    let index = machine.integer(index);
+    let t = &mut machine.items;
+    let moved = moved(&mut machine.memory, pointer, size, subtract, index, t)?;
+    Ok(moved.value())
+}
+
+#[inline(never)]
+fn member_of(machine: &mut Machine, offset: u64, pointer: Operand) -> Result<Value, Fault> {
+    let pointer = machine.pointer(pointer);
+    let t = &mut machine.items;
+    let member = member(&mut machine.memory, pointer, offset, t)?;
+    Ok(member.value())
+}
+
+#[inline(never)]
+fn distance_between(
+    machine: &mut Machine,
+    size: u64,
+    left: Operand,
+    right: Operand,
+) -> Result<Value, Fault> {
+    let (left, right) = (machine.pointer(left), machine.pointer(right));
+    let t = &mut machine.items;
+    Ok(distance(&mut machine.memory, left, right, size, t)?)
+}
+
+#[inline(never)]
+fn relation(
+    machine: &mut Machine,
+    op: RelOp,
+    pointers: bool,
+    left: Operand,
+    right: Operand,
+) -> Result<Value, Fault> {
+    let (left, right) = (machine.value(left)?, machine.value(right)?);
+    let t = &mut machine.items;
+    Ok(related(&mut machine.memory, op, pointers, &left, &right, t)?)
+}
+
+#[inline(never)]
+fn equality(machine: &Machine, op: EqOp, left: Operand, right: Operand) -> Result<Value, Fault> {
+    let (left, right) = (machine.value(left)?, machine.value(right)?);
+    Ok(equal(op, &left, &right))
+}
+
 // A member of a structure or union that stands nowhere.
+#[inline(never)]
 fn part_of(
     machine: &mut Machine,
     offset: u64,
@@ -179,6 +248,7 @@ pub fn function_value(machine: &Machine, operand: Operand) -> u64 {
 }
 
 // An Update's value, and in its room what it will store.
+#[inline(never)]
 fn update(
     machine: &mut Machine,
     change: Change,
@@ -226,6 +296,7 @@ fn store_value(
 }
 
 // The value in the room of this number goes to the place.
+#[inline(never)]
 fn store_room(
     machine: &mut Machine,
     number: u32,
@@ -252,6 +323,7 @@ fn store_room(
 }
 
 // A value that is known beforehand goes to the place.
+#[inline(never)]
 fn store_quiet(
     machine: &mut Machine,
     number: u32,
@@ -298,6 +370,7 @@ pub fn put_at(
 }
 
 // The effect of a List: its constant bytes go to its object.
+#[inline(never)]
 fn fill_list(machine: &mut Machine, object: Operand, constants: u32) -> Result<Outcome, Fault> {
     let object = machine.pointer(object);
     let Some(fillings) = machine.fillings.get(constants as usize) else {

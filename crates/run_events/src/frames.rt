@@ -129,6 +129,7 @@ fn function_code<'c>(
 }
 
 // The frame of an isolated initializer, by its full expression, which sees the objects of the frame below.
+#[inline(never)]
 pub fn initialize(machine: &mut Machine, number: u32, event: Event) -> Result<Outcome, Fault> {
     machine.work.start_initializer(number)?;
     let locals = (machine.top.locals, machine.top.above);

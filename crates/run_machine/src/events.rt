@@ -34,7 +34,7 @@ pub fn take_event(machine: &mut Machine, due: &Due) -> Result<Pick, Halt>
     };
     machine.top.stage = passed(machine.top.stage);
     let mut status = None;
-    match perform(machine, due.act, event) {
+    match perform(machine, &due.act, event) {
         Ok(Outcome::Value(value)) => machine.keep(event.node, value),
         Ok(Outcome::Stored) => {}
         Ok(Outcome::Started) => return Ok(Pick::Starts(event)),
