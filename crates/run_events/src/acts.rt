@@ -16,11 +16,10 @@ use run_state::Machine;
 use ub_base::{Clause, Event, NoMemory};
 
 /// What an event came to.
-#[derive(Drop)]
+#[derive(Clone, Copy, Debug, PartialEq, Eq)]
 pub enum Outcome {
-    Value(Value),
-    /// An effect.
-    Stored,
+    /// Its act is done. The value of a node is in its room.
+    Done,
     /// A frame has started.
     Started,
     /// The end of the run, with its status.
@@ -31,7 +30,7 @@ fn number(value: bool) -> Value {
     Value::Int(i128::from(value))
 }
 
-/// Does the act of an event of the top frame's full expression: it touches what the pick touches, and its value is left to the caller.
+/// Does the act of an event of the top frame's full expression: it touches what the pick touches, and a value goes to the room of the node.
 pub fn perform(machine: &mut Machine, act: &Act, event: Event) -> Result<Outcome, Fault>
     requires named { IsNamed machine.old.code.now.tables act.now }
 {
@@ -44,7 +43,11 @@ pub fn perform(machine: &mut Machine, act: &Act, event: Event) -> Result<Outcome
         Act::Fill { object, constants } => fill_list(machine, object, constants),
         Act::Call(number) => call_of(machine, number, event),
         Act::Initialize(number) => initialize(machine, number, event),
-        _ => Ok(Outcome::Value(value_act(machine, act, event)?)),
+        _ => {
+            let value = value_act(machine, act, event)?;
+            machine.keep(event.node, value);
+            Ok(Outcome::Done)
+        }
     }
 }
 
@@ -319,7 +322,7 @@ fn store_room(
         value,
         t,
     )?;
-    Ok(Outcome::Stored)
+    Ok(Outcome::Done)
 }
 
 // A value that is known beforehand goes to the place.
@@ -343,7 +346,7 @@ fn store_quiet(
         &value,
         t,
     )?;
-    Ok(Outcome::Stored)
+    Ok(Outcome::Done)
 }
 
 /// A parameter's store: the value goes to the place, by the store of this number. The inner result says which clause it raises.
@@ -378,5 +381,5 @@ fn fill_list(machine: &mut Machine, object: Operand, constants: u32) -> Result<O
     };
     let (t, spare) = (&mut machine.items, &mut machine.spare);
     fill(&mut machine.memory, fillings.as_slice(), object, t, spare)?;
-    Ok(Outcome::Stored)
+    Ok(Outcome::Done)
 }

@@ -57,7 +57,8 @@ fn call_library(
     event: Event,
 ) -> Result<Outcome, Fault> {
     let arguments = arguments_of(machine, call)?;
-    outcome_of(answer_of(machine, library, call, &arguments, event))
+    let answer = answer_of(machine, library, call, &arguments, event);
+    take_answer(machine, answer, event)
 }
 
 fn answer_of(
@@ -80,9 +81,13 @@ fn answer_of(
     }
 }
 
-fn outcome_of(answer: LibAnswer) -> Result<Outcome, Fault> {
+// What the library has answered: a value goes to the room of the call.
+fn take_answer(machine: &mut Machine, answer: LibAnswer, event: Event) -> Result<Outcome, Fault> {
     match answer {
-        LibAnswer::Value(value) => Ok(Outcome::Value(value)),
+        LibAnswer::Value(value) => {
+            machine.keep(event.node, value);
+            Ok(Outcome::Done)
+        }
         LibAnswer::End(status) => Ok(Outcome::End(status)),
         LibAnswer::Raise(clause) => Err(Fault::Raise(clause)),
         LibAnswer::Outside(cause, number) => Err(Fault::Over(cause, number)),

@@ -35,8 +35,7 @@ pub fn take_event(machine: &mut Machine, due: &Due) -> Result<Pick, Halt>
     machine.top.stage = passed(machine.top.stage);
     let mut status = None;
     match perform(machine, &due.act, event) {
-        Ok(Outcome::Value(value)) => machine.keep(event.node, value),
-        Ok(Outcome::Stored) => {}
+        Ok(Outcome::Done) => {}
         Ok(Outcome::Started) => return Ok(Pick::Starts(event)),
         Ok(Outcome::End(ended)) => status = Some(ended),
         Err(fault) => return Err(fault.of(event, due.line)),
