@@ -1,2 +1,6 @@
+pub mod Cursor
 mod Lists
+pub mod Once
+pub mod Reached
+pub mod Straight
 mod Walked

@@ -2,5 +2,7 @@
 #![tactic(auto)]
 
 mod along;
+mod laws;
 
 pub use along::{due_of, next, part, passed};
+pub use laws::{law_cursor, law_listed_tree, law_strayed};
