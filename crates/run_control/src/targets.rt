@@ -1,6 +1,6 @@
 //! The targets of jumps in a statement.
 
-ghost use Rattle.std.specs.Prelude.{◌≡◌, [], ◌∷◌, ◌++◌, drop, length, map, List, IfOk, OnOk};
+ghost use Rattle.std.specs.Prelude.{◌≡◌, ◌≤◌, [], ◌∷◌, ◌++◌, drop, length, map, List, IfOk, OnOk};
 ghost use Rattle.run_control.specs.declared.links.Link.{Link};
 ghost use Rattle.run_control.specs.View.{Meaning, stmt_of, block_of};
 ghost use Rattle.run_control.specs.Links.{work_at};
@@ -36,6 +36,7 @@ pub fn targets_of<'p>(
     ensures finds { IfOk result (λ found. Finds links.new.items found.items body.now labels) }
     ensures range { IfOk result (λ found. InRange (length links.new.items) found.items) }
     ensures older { OnOk result (Older links.old.items links.new.items) }
+    ensures longer { OnOk result (length links.old.items ≤ length links.new.items) }
 {
     let mut found = Vec::new(alloc);
     visit(links, &mut found, body, 0, labels)?;

@@ -2,3 +2,4 @@ pub mod Equations
 pub mod Forms
 pub mod Loops
 pub mod Ordered
+pub mod Jumping

@@ -1,5 +1,11 @@
 // Where jumps go: the labels of functions, and the cases of `switch` statements.
 
+ghost use Rattle.std.specs.Prelude.{◌≡◌, ◌≤◌, [], ◌∷◌, ◌++◌, List, length, Option, Some, slice_get, IfOk, OnOk};
+ghost use Rattle.std.specs.Borrow.{Bor};
+ghost use Rattle.run_control.specs.declared.statement.Statement.{Statement as StatementOf};
+ghost use Rattle.run_control.specs.Search.{Older};
+ghost use Rattle.run_statements.specs.Jumping.{HasJumps, IsFound};
+
 use crate::switches_of;
 use run_control::{Found, Link, Place, Statement, Switch, Target, find, targets_of};
 use std::alloc::Global;
@@ -9,13 +15,15 @@ use ub_base::NoMemory;
 #[derive(Drop)]
 pub struct Jumps<'p> {
     pub links: Vec<Link<'p>>,
-    labels: Vec<Vec<Found<'p>>>,
+    pub labels: Vec<Vec<Found<'p>>>,
     cases: Vec<Vec<Found<'p>>>,
 }
 
 impl<'p> Jumps<'p> {
     /// No function was added.
-    pub fn new(alloc: Global) -> Jumps<'p> {
+    pub fn new(alloc: Global) -> Jumps<'p>
+        ensures { HasJumps result [] }
+    {
         Jumps {
             links: Vec::new(alloc),
             labels: Vec::new(alloc),
@@ -25,7 +33,9 @@ impl<'p> Jumps<'p> {
 
     /// Adds the next function, with its body where it is defined. The `switch` statements are to be numbered in the order of the
     /// text.
-    pub fn add(&mut self, alloc: Global, body: Option<&'p Statement>) -> Result<(), NoMemory> {
+    pub fn add(&mut self, alloc: Global, body: Option<&'p Statement>) -> Result<(), NoMemory>
+        ensures { (bodies : List (Option (Bor StatementOf))) → HasJumps self.old bodies → OnOk result (HasJumps self.new (bodies ++ body.entry ∷ [])) }
+    {
         let Some(body) = body else {
             self.labels.push(Vec::new(alloc))?;
             return Ok(());
@@ -38,7 +48,11 @@ impl<'p> Jumps<'p> {
         Ok(())
     }
 
-    fn add_cases(&mut self, alloc: Global, switches: &[&'p Switch]) -> Result<(), NoMemory> {
+    fn add_cases(&mut self, alloc: Global, switches: &[&'p Switch]) -> Result<(), NoMemory>
+        ensures labels { OnOk result (self.new.labels ≡ self.old.labels) }
+        ensures older { OnOk result (Older self.old.links.items self.new.links.items) }
+        ensures longer { OnOk result (length self.old.links.items ≤ length self.new.links.items) }
+    {
         for switch in switches {
             if switch.number as usize != self.cases.len() {
                 return Err(NoMemory);
@@ -50,7 +64,9 @@ impl<'p> Jumps<'p> {
     }
 
     /// Where a label of the function stands. None that isn't there is asked for.
-    pub fn label(&self, function: u32, label: u32) -> Result<Place<'p>, NoMemory> {
+    pub fn label(&self, function: u32, label: u32) -> Result<Place<'p>, NoMemory>
+        ensures { (bodies : List (Option (Bor StatementOf))) (body : Bor StatementOf) → HasJumps self.now bodies → slice_get bodies function ≡ Some (Some body) → IfOk result (IsFound self.now.links.items body.now label) }
+    {
         let Some(labels) = self.labels.get(function as usize) else {
             return Err(NoMemory);
         };
