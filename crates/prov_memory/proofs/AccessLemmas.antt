@@ -4,6 +4,7 @@ use Rattle.std.proofs.Common.{
   ℕ,
   ◌+◌,
   ◌-◌,
+  ◌<◌,
   ◌≤◌,
   Bool,
   true,
@@ -21,6 +22,7 @@ use Rattle.std.proofs.Common.{
   [],
   ◌∷◌,
   ◌++◌,
+  length,
   Option,
   Some,
   None,
@@ -82,8 +84,8 @@ use Rattle.mem_spec.specs.Streams.{Io}
 use Rattle.prov_memory.specs.Held.{Held, held_of, has_range, name_at}
 use Rattle.prov_memory.proofs.HeldLemmas.{named_at}
 use Rattle.prov_memory.specs.Memory.{Kept, store_of, life_in, IsRowOf}
-use Rattle.prov_memory.specs.Made.{Settling, after_settling, settling_items}
-use Rattle.prov_memory.specs.Access.{chosen_of, CanSettleOf, IsReachedBy, reached, access_in, checked_offset}
+use Rattle.prov_memory.specs.Made.{Settling, CanSettle, after_settling, settling_items}
+use Rattle.prov_memory.specs.Access.{chosen_of, CanSettleOf, IsReached, IsReachedBy, reached, access_in, checked_offset}
 
 -- items before those of what follows
 abbrev pub before : {V : Type 0} → List Item → Act V → Act V
@@ -324,6 +326,26 @@ access_raises (Err c) rows m len align a prov x settles p runs k = λ io.
     ap (λ (q : Script Accessed). run rows q (store_of m io)) (access_is rows len align a prov p)
     ∙ raised_then rows (object_of rows len a prov) (access_in rows len align a) (store_of m io) (after_settling settles (store_of m io)) x
     (settling_items settles) c (runs io) (k (after_settling settles (store_of m io)) (settled_life settles (store_of m io) x))
+
+-- ---- an access by a pointer that isn't ambiguous settles nothing
+pub whole_found : (r : Result Found Clause) (m : Kept) (x : ObjName) (len : ℕ) → IfOk r (λ f. IsReachedBy m.objects f x None len) →
+    IfOk r (λ f. IsReached m.objects f len)
+whole_found (Err c) m x len by = tt
+whole_found (Ok f) m x len by = by.reached
+
+pub whole_settles : (r : Result Found Clause) (m : Kept) (prov : Prov) (x : ObjName) (len : ℕ) → IfOk r (λ f. IsReachedBy m.objects f x None len) →
+    IfOk r (λ f. CanSettleOf m prov f.settles)
+whole_settles (Err c) m prov x len by = tt
+whole_settles (Ok f) m prov x len by = λ cell. subst (λ (o : Settling). CanSettle m.cells o) (sym by.settles_is) tt
+
+pub whole_items : (r : Result Found Clause) (m : Kept) (x : ObjName) (len : ℕ) (old new : List Item) →
+    IfOk r (λ f. IsReachedBy m.objects f x None len) → (length old < 32 → new ≡ old ++ Alive x ∷ []) →
+    IfOk r (λ f. old ≡ [] → new ≡ settling_items f.settles ++ Alive f.name ∷ [])
+whole_items (Err c) m x len old new by noted = tt
+whole_items (Ok f) m x len old new by noted = λ e.
+    noted (omega (arith, ap length e))
+    ∙ ap (λ (ts : List Item). ts ++ Alive x ∷ []) e
+    ∙ ap₂ (λ (y : ObjName) (o : Settling). settling_items o ++ Alive y ∷ []) (sym by.name_is) (sym by.settles_is)
 
 pub object_raises : (rows : List Row) (m : Kept) (len align a : ℕ) (prov : Prov) (c : Clause) → 0 + 1 ≤ a →
     ((io : Io) → run rows (object_of rows len a prov) (store_of m io) ≡ Raised c) →

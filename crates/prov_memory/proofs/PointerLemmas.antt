@@ -41,6 +41,7 @@ use Rattle.ub_base.specs.declared.names.Event.{Event}
 use Rattle.ub_base.specs.declared.names.Item.{Item}
 use Rattle.ub_base.specs.declared.names.Item.TheVariants.{Alive, Read}
 use Rattle.ub_base.specs.declared.names.ObjName.{ObjName}
+use Rattle.ub_base.proofs.NameLemmas.{same_event_refl, same_object_refl}
 use Rattle.addr_map.specs.declared.map.Row.{Row}
 use Rattle.addr_map.specs.Rows.{covers, past}
 use Rattle.exposure.specs.declared.prov.Prov.{Prov}
@@ -53,8 +54,9 @@ use Rattle.prov_memory.specs.declared.answer.MemFault.TheVariants as faults
 use Rattle.prov_memory.specs.declared.memory.access.Accessed.{Accessed as Found}
 use Rattle.mem_spec.specs.Store.{Store, TaggedByte, range_from, is_live, findable}
 use Rattle.mem_spec.specs.Script.{Script, Give, Act, Done, Raised, run, ◌>>◌}
-use Rattle.mem_spec.specs.Acts.{access, candidates, number_of, is_piece, are_pieces, pointer_in, from_int, target_lives, pointer_or_number, load_ptr}
+use Rattle.mem_spec.specs.Acts.{access, candidates, number_of, is_piece, are_pieces, same_prov, pointer_in, from_int, target_lives, pointer_or_number, load_ptr}
 use Rattle.mem_spec.specs.Streams.{Io}
+use Rattle.prov_memory.specs.Cells.{prov_numbered}
 use Rattle.prov_memory.specs.Held.{Held}
 use Rattle.prov_memory.specs.Memory.{Kept, HasCell, AreKnown, store_of}
 use Rattle.prov_memory.specs.Access.{CanSettleOf, IsReached, reached, bytes_in}
@@ -65,6 +67,15 @@ use Rattle.prov_memory.proofs.FindLemmas.{store_more}
 use Rattle.prov_memory.proofs.WriteLemmas.{Makes}
 use Rattle.prov_memory.proofs.LoadLemmas.{ReadFails, load_tail, tail_raises}
 use Rattle.prov_memory.proofs.ShowLemmas.{Reads, tail_then, two_at_most}
+
+-- ---- one number
+pub same_prov_refl : (p : Prov) → same_prov p p ≡ true
+same_prov_refl Empty = refl
+same_prov_refl (Whole x) = same_object_refl x
+same_prov_refl (Either e x y) = rw (same_event_refl e, same_object_refl x, same_object_refl y) refl
+
+pub same_numbered : (ps : List Prov) (n k : ℕ) (p : Prov) → prov_numbered ps k ≡ p → n ≡ k → true ≡ same_prov (prov_numbered ps n) p
+same_numbered ps n k p is same = sym (rw (same, is) (same_prov_refl p))
 
 -- ---- the pieces of a range
 pieces_next : (p : Prov) (f : ℕ → TaggedByte) (from i n : ℕ) → i < n →

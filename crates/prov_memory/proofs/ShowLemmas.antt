@@ -68,7 +68,9 @@ use Rattle.mem_spec.specs.Acts.{
   load_func,
 }
 use Rattle.mem_spec.specs.Streams.{Io}
-use Rattle.prov_memory.specs.Cells.{cell_at, byte_in, tagged_in}
+use Rattle.prov_memory.specs.declared.cell.State.{State}
+use Rattle.prov_memory.specs.declared.cell.State.TheVariants as states
+use Rattle.prov_memory.specs.Cells.{cell_at, byte_in, byte_in_state, prov_numbered, tagged_in}
 use Rattle.prov_memory.specs.Held.{Held, changed, uncovered}
 use Rattle.prov_memory.specs.Memory.{Kept, HasCell, store_of, life_in, uncovered_each}
 use Rattle.prov_memory.specs.Made.{Settling, CanSettle, after_settling, settling_items}
@@ -161,6 +163,11 @@ showing_append : (xs ys : List ObjName) (m : Kept) → showing (xs ++ ys) m ≡ 
 showing_append xs ys m = ap (λ (hs : List Held). record m { objects = hs }) (uncovered_append xs ys m.objects)
 
 -- ---- one byte more
+pub piece_named : (ps : List Prov) (s : State) (c : Cell) → (p : Prov) × (candidates p ≡ origins_in (byte_in_state ps s c))
+piece_named ps states.Unwritten c = (Empty, refl)
+piece_named ps states.Plain c = (Empty, refl)
+piece_named ps states.Piece c = (prov_numbered ps c.origin.number, refl)
+
 pub piece_seen : (m now : Kept) (h : Held) (at from n : ℕ) (cell : Cell) (prov : Prov) → slice_get m.objects at ≡ Some h →
     now ≡ showing (origins_of (bytes_in m h from n)) m → ((g : Held) → slice_get now.objects at ≡ Some g → cell ≡ cell_at g.cells (from + n)) →
     candidates prov ≡ origins_in (byte_in now.origins cell) → candidates prov ≡ origins_in (byte_in m.origins (cell_at h.cells (from + n)))

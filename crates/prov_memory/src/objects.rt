@@ -19,7 +19,7 @@ use ub_base::{NoMemory, ObjName};
 pub(crate) struct Objects {
     list: Vec<Object>,
     indices: BTreeMap<ObjName, usize>,
-    recent: [usize; 32],
+    recent: [usize; 128],
 }
 
 impl Model for Objects {
@@ -39,7 +39,7 @@ impl Model for Objects {
 
 /// Where a name is looked for first.
 fn slot_of(name: ObjName) -> usize
-    ensures { result < 32 }
+    ensures { result < 128 }
 {
     let mixed = match name {
         ObjName::Static(k) => k,
@@ -54,7 +54,7 @@ fn slot_of(name: ObjName) -> usize
             .wrapping_add(frame.0.wrapping_mul(7))
             .wrapping_add(17),
     };
-    (mixed % 32) as usize
+    (mixed % 128) as usize
 }
 
 impl Objects {
@@ -65,7 +65,7 @@ impl Objects {
         Objects {
             list: Vec::new(alloc),
             indices: BTreeMap::new(alloc),
-            recent: [0; 32],
+            recent: [0; 128],
         }
     }
 
@@ -132,6 +132,7 @@ impl Objects {
     {
         self.list.reserve(1)?;
         self.indices.insert(object.name, self.list.len())?;
+        self.recent[slot_of(object.name)] = self.list.len();
         self.list.push_reserved(object);
         Ok(())
     }

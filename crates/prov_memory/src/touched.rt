@@ -67,6 +67,7 @@ impl Touched {
     }
 
     /// Adds an item of an act of memory, for which there is room.
+    #[inline(always)]
     pub(crate) fn note(&mut self, item: Item)
         ensures { length self.old < 32 → self.new ≡ self.old ++ item ∷ [] }
     {

@@ -1,5 +1,5 @@
 // The checks of an access.
-ghost use Rattle.std.specs.Prelude.{◌≡◌, ◌++◌, ◌∷◌, [], IfOk, IfErr};
+ghost use Rattle.std.specs.Prelude.{◌≡◌, ◌<◌, ◌++◌, ◌∷◌, [], IfOk, IfErr};
 ghost use Rattle.ub_base.specs.declared.names.Item.TheVariants.{Alive};
 ghost use Rattle.addr_map.specs.Rows.{row_of};
 ghost use Rattle.exposure.specs.Cells.{kept_in, has_cell, is_other};
@@ -109,6 +109,31 @@ impl Memory {
         if addr == 0 {
             return Err(Clause::InvalidPointer);
         }
+        let Prov::Whole(name) = prov else {
+            return self.access_settling(len, align, addr, prov, t);
+        };
+        t.note(Item::Alive(name));
+        self.reach(name, None, len, align, addr)
+    }
+
+    // The checks of an access by any pointer other than null. Not inlined, since few pointers are ambiguous.
+    #[inline(never)]
+    fn access_settling(
+        &mut self,
+        len: u64,
+        align: u64,
+        addr: u64,
+        prov: Prov,
+        t: &mut Touched,
+    ) -> Result<Accessed, Clause>
+        requires { 0 < addr }
+        ensures same { self.new ≡ self.old }
+        ensures found { IfOk result (λ found. IsReached self.old.objects found len) }
+        ensures settles { IfOk result (λ found. CanSettleOf self.old prov found.settles) }
+        ensures items { IfOk result (λ found. t.old ≡ [] → t.new ≡ settling_items found.settles ++ Alive found.name ∷ []) }
+        ensures exact { IfOk result (λ found. (io : Io) → run self.old.rows (acts.access self.old.rows len align addr prov) (store_of self.old io) ≡ Done (reached self.old.objects found) (settling_items found.settles ++ Alive found.name ∷ []) (after_settling found.settles (store_of self.old io))) }
+        ensures raises { IfErr result (λ c. (io : Io) → run self.old.rows (acts.access self.old.rows len align addr prov) (store_of self.old io) ≡ Raised c) }
+    {
         let target = self.target(addr, prov, len)?;
         note_settles(target.1, t);
         t.note(Item::Alive(target.0));
@@ -116,6 +141,7 @@ impl Memory {
     }
 
     // The checks of an access whose object is known.
+    #[inline(always)]
     fn reach(
         &mut self,
         name: ObjName,

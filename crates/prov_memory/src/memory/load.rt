@@ -12,7 +12,7 @@ ghost use Rattle.mem_spec.specs.Acts.{candidates, origins_in, tag_agrees, tags_a
 ghost use Rattle.mem_spec.specs.Script.{run, Done, Raised};
 ghost use Rattle.mem_spec.specs.Store.{is_live};
 ghost use Rattle.mem_spec.specs.Streams.{Io};
-ghost use Rattle.prov_memory.specs.Cells.{byte_in, cell_at, tag_in};
+ghost use Rattle.prov_memory.specs.Cells.{byte_in, cell_at, prov_numbered, tag_in};
 ghost use Rattle.prov_memory.specs.Held.{Held, held_of};
 ghost use Rattle.prov_memory.specs.Memory.{Kept, HasCell, AreKnown, life_in, store_of, uncovered_each};
 ghost use Rattle.prov_memory.specs.Made.{Extends, HasMore, IsMade};
@@ -39,8 +39,7 @@ impl Memory {
     {
         for offset in 0..len {
             let cell = self.cell_in(at, from + offset);
-            let prov = self.piece_of(cell);
-            self.show_each(prov, t);
+            self.show_piece(cell, t);
         }
     }
 
@@ -54,15 +53,26 @@ impl Memory {
         }
     }
 
-    // What a byte is a piece of, the empty provenance for another.
-    pub(super) fn piece_of(&self, cell: Cell) -> Prov
-        ensures { candidates result ≡ origins_in (byte_in self.now.origins cell) }
+    // Exposes what a byte is a piece of, if it is one.
+    pub(super) fn show_piece(&mut self, cell: Cell, t: &mut Touched)
+        ensures shown { self.new ≡ record self.old { objects = uncovered_each (origins_in (byte_in self.old.origins cell)) self.old.objects } }
+        ensures items { length t.old + 1 < 32 → t.new ≡ t.old ++ map Expose (origins_in (byte_in self.old.origins cell)) }
     {
         match cell.state {
-            State::Unwritten => Prov::Empty,
-            State::Plain => Prov::Empty,
-            State::Piece => self.prov(cell.origin),
+            State::Unwritten => {}
+            State::Plain => {}
+            State::Piece => self.show_origin(cell.origin, t),
         }
+    }
+
+    // Exposes the objects of a provenance. Not inlined, since few bytes are pieces of pointers.
+    #[inline(never)]
+    fn show_origin(&mut self, origin: Origin, t: &mut Touched)
+        ensures shown { self.new ≡ record self.old { objects = uncovered_each (candidates (prov_numbered self.old.origins origin.number)) self.old.objects } }
+        ensures items { length t.old + 1 < 32 → t.new ≡ t.old ++ map Expose (candidates (prov_numbered self.old.origins origin.number)) }
+    {
+        let prov = self.prov(origin);
+        self.show_each(prov, t);
     }
 
     /// Loads an integer (6.3.2.1p2).
@@ -242,43 +252,74 @@ impl Memory {
         requires { from + 8 ≤ 2 ^ 47 }
         ensures { result ≡ acts.pointer_in (bytes_in self.now object.now from 8) }
     {
-        match self.origin_in(object.cell(from)) {
+        let cell = object.cell(from);
+        match self.origin_in(cell) {
             None => None,
             Some(prov) => self
-                .are_pieces(object.cells(), prov, from, 8)
+                .are_pieces(object.cells(), prov, cell.origin, from, 8)
                 .then_some(prov),
         }
     }
 
-    // Whether the bytes are the first pieces of one pointer value with the provenance.
-    pub(super) fn are_pieces(&self, cells: &[Cell], prov: Prov, from: u64, len: u64) -> bool
-        requires { from + len ≤ 2 ^ 47 }
+    // Whether the bytes are the first pieces of one pointer value with the provenance, which has this number.
+    pub(super) fn are_pieces(
+        &self,
+        cells: &[Cell],
+        prov: Prov,
+        number: Origin,
+        from: u64,
+        len: u64,
+    ) -> bool
+        requires range { from + len ≤ 2 ^ 47 }
+        requires numbered { prov_numbered self.now.origins number.number ≡ prov }
         ensures { result ≡ acts.are_pieces prov 0 (range_in self.now cells.now from len) }
     {
         for index in 0..len {
-            if !self.is_piece(cell_at(cells, from + index), prov, index) {
+            if !self.is_piece(cell_at(cells, from + index), prov, number, index) {
                 return false;
             }
         }
         true
     }
 
-    // Whether the byte is this piece of a pointer with the provenance.
-    fn is_piece(&self, cell: Cell, prov: Prov, index: u64) -> bool
+    // Whether the byte is this piece of a pointer with the provenance, which has this number.
+    fn is_piece(&self, cell: Cell, prov: Prov, number: Origin, index: u64) -> bool
+        requires { prov_numbered self.now.origins number.number ≡ prov }
         ensures { result ≡ acts.is_piece prov index (byte_in self.now.origins cell) }
     {
         match cell.state {
             State::Unwritten => false,
             State::Plain => false,
             State::Piece => {
-                is_same(self.prov(cell.origin), prov) && u64::from(cell.piece_index) == index
+                self.is_made_from(cell.origin, prov, number) && u64::from(cell.piece_index) == index
             }
         }
     }
 
+    // Whether the number is that of the provenance, which has the other number.
+    #[tactic(auto, using(crate::proofs::PointerLemmas::same_numbered))]
+    fn is_made_from(&self, origin: Origin, prov: Prov, number: Origin) -> bool
+        requires { prov_numbered self.now.origins number.number ≡ prov }
+        ensures { result ≡ acts.same_prov (prov_numbered self.now.origins origin.number) prov }
+    {
+        if origin.number == number.number {
+            return true;
+        }
+        self.is_number_of(origin, prov)
+    }
+
+    // Whether the number is that of the provenance. Not inlined, since the pieces of a pointer have one number.
+    #[inline(never)]
+    fn is_number_of(&self, origin: Origin, prov: Prov) -> bool
+        ensures { result ≡ acts.same_prov (prov_numbered self.now.origins origin.number) prov }
+    {
+        is_same(self.prov(origin), prov)
+    }
+
     // What a byte that is a piece of a pointer was made from.
     pub(super) fn origin_in(&self, cell: Cell) -> Option<Prov>
-        ensures { result ≡ acts.origin_in (byte_in self.now.origins cell) }
+        ensures value { result ≡ acts.origin_in (byte_in self.now.origins cell) }
+        ensures numbered { IfSome result (λ prov. prov_numbered self.now.origins cell.origin.number ≡ prov) }
     {
         match cell.state {
             State::Unwritten => None,

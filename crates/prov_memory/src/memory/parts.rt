@@ -35,8 +35,7 @@ impl Memory {
     {
         for at in 0..cells.len() {
             let cell = cell_at(cells, at as u64);
-            let prov = self.piece_of(cell);
-            self.show_each(prov, t);
+            self.show_piece(cell, t);
         }
     }
 
@@ -132,10 +131,11 @@ impl Memory {
         requires { length cells.now ≤ 8 }
         ensures { result ≡ acts.pointer_in (seen self.now cells.now) }
     {
-        match self.origin_in(cell_at(cells, 0)) {
+        let cell = cell_at(cells, 0);
+        match self.origin_in(cell) {
             None => None,
             Some(prov) => self
-                .are_pieces(cells, prov, 0, cells.len() as u64)
+                .are_pieces(cells, prov, cell.origin, 0, cells.len() as u64)
                 .then_some(prov),
         }
     }

@@ -1,25 +1,28 @@
-use Rattle.std.proofs.Common.{◌+◌, ◌≤◌, arith}
-use Rattle.std.proofs.lemmas.Result.{err_from_is_err_and}
-use Rattle.prov_memory.proofs.AccessLemmas.{access_done, access_raises, object_raises}
+use Rattle.std.proofs.Common.{◌+◌, ◌≤◌, None, refl, arith}
+use Rattle.exposure.specs.declared.prov.Prov.TheVariants.{Whole}
+use Rattle.prov_memory.proofs.AccessLemmas.{access_done, access_raises, whole_found, whole_settles, whole_items}
 use Rattle.prov_memory.proofs.memory.Memory.access.Goals as goal
 
-pub returns-in_err-target-clause-raises : goal.returns-in_err-target-clause-raises
-returns-in_err-target-clause-raises c =
-    let m = c.args.self.now in
-    let some : 0 + 1 ≤ c.args.addr = omega arith in
-    let p = err_from_is_err_and c.from_residual.result c.from_residual.ensures.1 in
-    rw (p.1, p.2) (object_raises m.rows m c.args.len c.args.align c.args.addr c.args.prov _ some c.in_err-target.ensures.raises)
+pub returns-clause-found : goal.returns-clause-found
+returns-clause-found c = whole_found c.reach.result c.args.self.now c.in-Whole.name c.args.len c.reach.ensures.found
+
+pub returns-clause-settles : goal.returns-clause-settles
+returns-clause-settles c = whole_settles c.reach.result c.args.self.now c.args.prov c.in-Whole.name c.args.len c.reach.ensures.found
+
+pub returns-clause-items : goal.returns-clause-items
+returns-clause-items c =
+    whole_items c.reach.result c.args.self.now c.in-Whole.name c.args.len c.args.t.now c.note.new.self c.reach.ensures.found c.note.ensures
 
 pub returns-clause-exact : goal.returns-clause-exact
 returns-clause-exact c =
     let m = c.args.self.now in
     let some : 0 + 1 ≤ c.args.addr = omega arith in
-    access_done c.reach.result m.rows m c.args.len c.args.align c.args.addr c.args.prov c.in_ok-target.target.0 c.in_ok-target.target.1 some
-    c.in_ok-target.ensures.found c.reach.ensures.found c.reach.ensures.exact
+    rw c.in-Whole.is (access_done c.reach.result m.rows m c.args.len c.args.align c.args.addr (Whole c.in-Whole.name) c.in-Whole.name None some (λ io. refl)
+    c.reach.ensures.found c.reach.ensures.exact)
 
 pub returns-clause-raises : goal.returns-clause-raises
 returns-clause-raises c =
     let m = c.args.self.now in
     let some : 0 + 1 ≤ c.args.addr = omega arith in
-    access_raises c.reach.result m.rows m c.args.len c.args.align c.args.addr c.args.prov c.in_ok-target.target.0 c.in_ok-target.target.1 some
-    c.in_ok-target.ensures.found c.reach.ensures.raises
+    rw c.in-Whole.is (access_raises c.reach.result m.rows m c.args.len c.args.align c.args.addr (Whole c.in-Whole.name) c.in-Whole.name None some
+    (λ io. refl) c.reach.ensures.raises)
