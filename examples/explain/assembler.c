@@ -1,0 +1,2 @@
+# 1 "a.c"
+int main(void) { asm volatile (""); return 0; }

@@ -1,0 +1,2 @@
+# 1 "m.c"
+main(void) { return 0; }

@@ -1,0 +1,3 @@
+# 1 "e.c"
+#define N 3
+int main(void) { return N; }

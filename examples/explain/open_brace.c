@@ -1,0 +1,2 @@
+# 1 "o.c"
+int main(void) { return 0;

@@ -1,0 +1,2 @@
+# 1 "o.c"
+int main(void) { char *s = "x; }

@@ -1,0 +1,2 @@
+# 1 "examples/explain/other_lines.written"
+int main(void) { return puts("x"); }

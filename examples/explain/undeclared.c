@@ -1,0 +1,2 @@
+# 1 "u.c"
+int main(void) { return puts("x"); }

@@ -1,0 +1,2 @@
+# 1 "n.c"
+int main(void) { uint32_t n = 0; return n; }

@@ -1,0 +1,2 @@
+# 1 "w.c"
+int main(void) { return sizeof L"x"; }
