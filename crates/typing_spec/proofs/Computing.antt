@@ -24,11 +24,11 @@ use Rattle.type_constants.specs.Constants as operate_constants
 use Rattle.type_operands.specs.Conversions as operate_conversions
 use Rattle.type_operators.specs.Members as operate_members
 use Rattle.type_operators.specs.Operators as operate_operators
-use Rattle.typing_spec.specs.Env as typing_env
+use Rattle.typing_env.specs.Env as env
 use Rattle.typing_spec.specs.Expressions as typing_expressions
 use Rattle.typing_spec.specs.Externals as typing_externals
 use Rattle.typing_spec.specs.Initializers as typing_initializers
-use Rattle.typing_spec.specs.Names as typing_names
+use Rattle.typing_env.specs.Names as typing_names
 use Rattle.typing_spec.specs.Statements as typing_statements
 use Rattle.typing_spec.specs.Units as typing_units
 use Rattle.typing_spec.specs.Words as typing_words
@@ -73,7 +73,7 @@ unfolding hidden roll enumerator.roll-Enumerator tree_base.hidden-the_row-Declar
     operate_operators.plus operate_operators.of_promoted operate_casts.truth operate_operators.inverted operate_conversions.step
     operate_operators.moved operate_operators.added operate_operators.difference operate_operators.subtracted operate_operators.indexed
     operate_operators.compared operate_operators.joined operate_operators.dereferenced operate_operators.equated operate_casts.scalar_cast
-    operate_casts.void_cast typing_env.symbol_of typing_env.line_of typing_env.spelling typing_expressions.literal_at
+    operate_casts.void_cast env.symbol_of env.line_of env.spelling typing_expressions.literal_at
     typing_expressions.made typing_expressions.named_as typing_expressions.named typing_expressions.number typing_expressions.character
     typing_expressions.strings typing_expressions.made_modifying typing_expressions.measured typing_expressions.measured_operand
     typing_expressions.asserted typing_expressions.specified_as typing_expressions.by_keywords typing_expressions.by_typedef typing_expressions.lone

@@ -15,7 +15,7 @@ use Rattle.c_types.specs.Layout as below
 use Rattle.c_types.specs.Layout.{Known, and_then, padded, no_members, offset_behind, number_in, placed, extent}
 use Rattle.layout.specs.Names as named
 use Rattle.layout.specs.Names.{Named, farther}
-use Rattle.typing_spec.specs.Seen.{SeenMember, SeenTag, member_seen, tag_seen}
+use Rattle.typing_env.specs.Seen.{SeenMember, SeenTag, member_seen, tag_seen}
 use Rattle.typing_spec.specs.Tags.{HeldIsSeen, HasExtents, HasNames, ty_of, quals_of, qual_of, member_held, tag_held, held}
 use Rattle.typing_spec.specs.Tags.{members_extent, if_any, extent_of_tag, known_by, extents, extent_of_member, offset_in}
 use Rattle.typing_spec.specs.Tags.{brought, member_names, tag_names, names_by, names}

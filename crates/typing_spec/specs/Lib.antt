@@ -1,13 +1,10 @@
 pub mod Declarations
-pub mod Env
 pub mod Expressions
 pub mod Externals
 pub mod Initialized
 pub mod Initializers
-pub mod Names
 pub mod Refused
 pub mod Sampling
-pub mod Seen
 pub mod Statements
 pub mod Tags
 pub mod Trees

@@ -11,9 +11,9 @@ use Rattle.c_typed.specs.declared.program.Content.TheVariants as content
 use Rattle.c_typed.specs.declared.program.Constant.{Constant}
 use Rattle.c_typed.specs.Sites.{Head}
 use Rattle.type_operands.specs.Terms.{Term, term, none, terms_from}
-use Rattle.typing_spec.specs.Seen.{SeenStatic, SeenFunction, SeenMember, SeenTag, Statement, Entries}
-use Rattle.typing_spec.specs.Seen.{compound, section, initializes, returns, statement, declares}
-use Rattle.typing_spec.specs.Env.{Object, Routine, if_found}
+use Rattle.typing_env.specs.Seen.{SeenStatic, SeenFunction, SeenMember, SeenTag, Statement, Entries}
+use Rattle.typing_env.specs.Seen.{compound, section, initializes, returns, statement, declares}
+use Rattle.typing_env.specs.Env.{Object, Routine, if_found}
 use Rattle.typing_spec.specs.Units.{tokens_of, known_in, program_in}
 
 -- 1. What is found.

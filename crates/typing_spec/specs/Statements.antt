@@ -21,14 +21,15 @@ use Rattle.type_operands.specs.Terms.{Term}
 use Rattle.type_operands.specs.Conversions.{value, promoted, discarded, Integer}
 use Rattle.type_conversions.specs.Casts.{truth}
 use Rattle.type_conversions.specs.Assigned.{as_if_assigned}
-use Rattle.typing_spec.specs.Seen.{Statement, Otherwise, Start, Section, Entries, expressed, compound, chooses, switches, while_loop}
-use Rattle.typing_spec.specs.Seen.{do_loop, for_loop, goes_to, continues, breaks, returns, labelled, case_of, by_default, nothing}
-use Rattle.typing_spec.specs.Seen.{else_does, no_start, start_value, start_block, section, end, statement, initializes, declares}
+use Rattle.typing_env.specs.Seen.{Statement, Otherwise, Start, Section, Entries, expressed, compound, chooses, switches, while_loop}
+use Rattle.typing_env.specs.Seen.{do_loop, for_loop, goes_to, continues, breaks, returns, labelled, case_of, by_default, nothing}
+use Rattle.typing_env.specs.Seen.{else_does, no_start, start_value, start_block, section, end, statement, initializes, declares}
 use Rattle.typing_spec.specs.Tags.{layouts_of, is_complete}
-use Rattle.typing_spec.specs.Env.{Env, Typing, ◌>>=◌, ◌>>◌, pure, refuse, known, knowing, found, holds, an_object, Task, OpenBlock}
-use Rattle.typing_spec.specs.Env.{OpenSwitch, symbol_of, spelling}
-use Rattle.typing_spec.specs.Names.{scoped, declare, declare_typedef, renamed, as_extern, declare_object, declare_function, with_object}
-use Rattle.typing_spec.specs.Names.{new_object, give_initial, define_object, complete_object}
+use Rattle.typing_env.specs.Env.{Env, Typing, ◌>>=◌, ◌>>◌, pure, refuse, known, knowing, found, holds, an_object, Task, OpenBlock}
+use Rattle.typing_env.specs.Env.{OpenSwitch, symbol_of, spelling}
+use Rattle.typing_env.specs.Names.{scoped, declare, declare_typedef, renamed, as_extern, declare_object, declare_function, with_object}
+use Rattle.typing_env.specs.Names.{new_object, give_initial, define_object, complete_object}
+use Rattle.typing_env.specs.Tasks.{open_block, close_block, innermost, tail, another_object, retyped_task}
 use Rattle.typing_spec.specs.Words.{Storage, no_storage, typedefs, externs, statics, autos, registers, Words, declares_alone, defines_type, is_void}
 use Rattle.typing_spec.specs.Expressions.{Specified, specified, declared, expr, constant, assertion}
 use Rattle.typing_spec.specs.Initializers.{initialized, automatic, static_constants}
@@ -37,23 +38,6 @@ use Rattle.typing_spec.specs.Initializers.{initialized, automatic, static_consta
 
 abbrev pub with_task : (Task → Task) → Env → Env
 with_task f env = record env { task = f env.task }
-
-abbrev pub open_block : Task → Task
-open_block t = record t { blocks = t.blocks + 1; open_blocks = record { number = t.blocks; objects = [] } ∷ t.open_blocks }
-
-abbrev pub no_block : OpenBlock
-no_block = record { number = 0; objects = [] }
-
-abbrev pub innermost : List OpenBlock → OpenBlock
-innermost [] = no_block
-innermost (b ∷ bs) = b
-
-abbrev pub tail : {A : Type 0} → List A → List A
-tail [] = []
-tail (x ∷ xs) = xs
-
-abbrev pub close_block : Task → Task
-close_block t = record t { open_blocks = tail t.open_blocks }
 
 -- begins a block: blocks are numbered in the order in which they begin (own)
 unfoldable pub begin_block : Typing (Unit {0})
@@ -65,27 +49,6 @@ end_block = do
   env ← known
   knowing (with_task close_block)
   pure (innermost (env.task).open_blocks)
-
-abbrev pub with_innermost : (OpenBlock → OpenBlock) → List OpenBlock → List OpenBlock
-with_innermost f [] = []
-with_innermost f (b ∷ bs) = f b ∷ bs
-
-abbrev pub one_object : Qualified → OpenBlock → OpenBlock
-one_object q b = record b { objects = b.objects ++ q ∷ [] }
-
-abbrev pub another_object : Qualified → Task → Task
-another_object q t = record t { open_blocks = with_innermost (one_object q) t.open_blocks }
-
-abbrev pub retyped_in : ℕ → Qualified → List Qualified → List Qualified
-retyped_in n q [] = []
-retyped_in zero q (p ∷ ps) = q ∷ ps
-retyped_in (suc n) q (p ∷ ps) = p ∷ retyped_in n q ps
-
-abbrev pub retyped_object : ℕ → Qualified → OpenBlock → OpenBlock
-retyped_object n q b = record b { objects = retyped_in n q b.objects }
-
-abbrev pub retyped_task : ℕ → Qualified → Task → Task
-retyped_task n q t = record t { open_blocks = with_innermost (retyped_object n q) t.open_blocks }
 
 -- 2. Declarations in a block (6.7).
 

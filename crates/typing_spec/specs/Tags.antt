@@ -17,7 +17,7 @@ use Rattle.c_types.specs.declared.ty.FuncTy.{roll-FuncTy}
 use Rattle.layout.specs.Names.{Named, if_named, also_const, farther}
 use Rattle.layout.specs.Names as layout
 use Rattle.type_operands.specs.Layouts.{Layouts}
-use Rattle.typing_spec.specs.Seen.{SeenTag, SeenMember, tag_seen}
+use Rattle.typing_env.specs.Seen.{SeenTag, SeenMember, tag_seen}
 
 -- 1. Extents (6.7.2.1p15 to 6.7.2.1p17).
 

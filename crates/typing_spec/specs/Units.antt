@@ -18,13 +18,13 @@ use Rattle.c_typed.specs.declared.program.Program.{Program}
 use Rattle.c_typed.specs.Sites.{Head}
 use Rattle.c_typed.specs.Lawful.{IsLawful}
 use Rattle.type_operands.specs.Terms.{Term, Terms, term, none, more}
-use Rattle.typing_spec.specs.Seen.{Statement, Otherwise, Start, Section, Entries, expressed, compound, chooses, switches, while_loop}
-use Rattle.typing_spec.specs.Seen.{do_loop, for_loop, goes_to, continues, breaks, returns, labelled, case_of, by_default, nothing}
-use Rattle.typing_spec.specs.Seen.{else_does, no_start, start_value, start_block, section, end, statement, initializes, declares}
-use Rattle.typing_spec.specs.Seen.{SeenFunction, SeenStatic, SeenTag, SeenProgram, program_seen, ordered}
+use Rattle.typing_env.specs.Seen.{Statement, Otherwise, Start, Section, Entries, expressed, compound, chooses, switches, while_loop}
+use Rattle.typing_env.specs.Seen.{do_loop, for_loop, goes_to, continues, breaks, returns, labelled, case_of, by_default, nothing}
+use Rattle.typing_env.specs.Seen.{else_does, no_start, start_value, start_block, section, end, statement, initializes, declares}
+use Rattle.typing_env.specs.Seen.{SeenFunction, SeenStatic, SeenTag, SeenProgram, program_seen, ordered}
 use Rattle.typing_spec.specs.Tags.{is_complete, size_of}
-use Rattle.typing_spec.specs.Env.{Env, Use, if_found, Object, Routine, Linked, start_of, spelling}
-use Rattle.typing_spec.specs.Names.{object_named, number_of_function}
+use Rattle.typing_env.specs.Env.{Env, Use, if_found, Object, Routine, Linked, start_of, spelling}
+use Rattle.typing_env.specs.Names.{object_named, number_of_function}
 use Rattle.typing_spec.specs.Words.{is_so, count_of}
 use Rattle.typing_spec.specs.Expressions.{literal_at}
 use Rattle.typing_spec.specs.Statements.{place_of, is_main_name}

@@ -14,13 +14,12 @@ use Rattle.type_operands.specs.Qualifiers.{qualified}
 use Rattle.c_typed.specs.declared.tree.Slot.TheVariants as slot
 use Rattle.c_ast.specs.declared.declaration.Base.{Base}
 use Rattle.c_ast.specs.declared.declaration.Base.TheBlock.{Tagged', Base-Tagged-2-Some', Enumerated', Base-Enumerated-1-Some'}
-use Rattle.type_name_space.specs.Scopes.{visible, at_depth}
-use Rattle.typing_spec.specs.Seen.{SeenMember, SeenTag}
+use Rattle.typing_env.specs.Seen.{SeenMember, SeenTag}
 use Rattle.typing_spec.specs.Tags.{is_complete, names, are_distinct, completed}
 use Rattle.type_limits.specs.Limits.{is_within}
-use Rattle.typing_spec.specs.Env.{Env, Typing, if_found, ◌>>=◌, ◌>>◌, pure, refuse, known, knowing, found, holds, an_object, a_typedef}
-use Rattle.typing_spec.specs.Env.{Meaning, TagMeaning, a_tag, an_enumeration, symbol_of, spelling}
-use Rattle.typing_spec.specs.Names.{meaning_in, declare}
+use Rattle.typing_env.specs.Env.{Typing, if_found, ◌>>=◌, ◌>>◌, pure, refuse, known, knowing, found, holds, an_object, a_typedef}
+use Rattle.typing_env.specs.Env.{Meaning, TagMeaning, a_tag, an_enumeration, symbol_of, spelling}
+use Rattle.typing_env.specs.Names.{declare, with_tag_name, tag_seen, with_new_tag, with_new_enumeration}
 
 -- 1. Keywords among specifiers.
 
@@ -299,11 +298,8 @@ tagged Union number = union number
 unfoldable pub new_tag : TagKind → Typing ℕ
 new_tag kind = do
   env ← known
-  knowing (λ e. record e { tags = e.tags ++ record { kind = kind; members = [] } ∷ [] })
+  knowing (with_new_tag kind)
   pure (length env.tags)
-
-abbrev pub with_tag_name : ℕ → TagMeaning → Env → Env
-with_tag_name symbol meaning env = record env { tag_names = env.tag_names ++ record { symbol = symbol; depth = env.depth; meaning = meaning } ∷ [] }
 
 unfoldable pub declare_tag : ℕ → TagKind → Typing ℕ
 declare_tag at kind = do
@@ -324,11 +320,6 @@ tag_or_new at kind (Some (a_tag was number)) = do
   holds (is_kind was kind)
   pure number
 tag_or_new at kind (Some (an_enumeration number)) = refuse
-
--- the tag as it is visible, or, where a declaration is `struct S;` alone, in this scope (6.7.2.3p7, 6.7.2.3p8)
-abbrev pub tag_seen : Env → (alone : Bool) → ℕ → Option TagMeaning
-tag_seen env true symbol = meaning_in (at_depth env.depth (visible symbol env.tag_names))
-tag_seen env false symbol = meaning_in (visible symbol env.tag_names)
 
 -- `struct S` without a member list
 unfoldable pub reference : (alone : Bool) → TagKind → Option ℕ → Typing Qualified
@@ -416,7 +407,7 @@ name_enumeration (Some at) number = do
 unfoldable pub open_enumeration : Option ℕ → Typing ℕ
 open_enumeration tag = do
   env ← known
-  knowing (λ e. record e { enumerations = e.enumerations ++ false ∷ [] })
+  knowing with_new_enumeration
   name_enumeration tag (length env.enumerations)
   pure (length env.enumerations)
 

@@ -1,9 +1,10 @@
 -- Declarations of names: scopes, name spaces, linkage, and the types of identifiers that are declared more than once (6.2.1 to 6.2.3,
 -- 6.2.7, 6.7p3, 6.7p4, 6.9.2).
-use Rattle.std.specs.Prelude.{ℕ, ◌+◌, ◌==◌, Bool, true, false, not, ◌&&◌, if◌then◌else◌, List, [], ◌∷◌, ◌++◌, length, codes, Option, Some}
-use Rattle.std.specs.Prelude.{None, is_some}
+use Rattle.std.specs.Prelude.{ℕ, ◌+◌, ◌-◌, ◌==◌, Bool, true, false, not, ◌&&◌, if◌then◌else◌, List, [], ◌∷◌, ◌++◌, map, length, codes}
+use Rattle.std.specs.Prelude.{Option, Some, None, is_some}
 use Rattle.std.specs.Str.{bytes_eq}
 use Rattle.c_types.specs.Types.{CType, function, Qualified, Signature, composite_qualified, composite_signature}
+use Rattle.c_types.specs.declared.tags.TagKind.{TagKind}
 use Rattle.c_types.specs.declared.library.LibFunc.{LibFunc}
 use Rattle.c_types.specs.declared.library.LibFunc.TheVariants as libc
 use Rattle.c_typed.specs.declared.tree.Slot.TheVariants as slot
@@ -12,25 +13,29 @@ use Rattle.c_typed.specs.declared.tree.Target.TheVariants as target
 use Rattle.c_typed.specs.declared.program.Constant.{Constant}
 use Rattle.c_typed.specs.Lawful.{library_type}
 use Rattle.c_types.specs.Same.{same_qualified, same_qualifier, compatible}
-use Rattle.type_name_space.specs.Scopes.{Declared, visible, at_depth, left, changed}
-use Rattle.typing_spec.specs.Env.{Env, Typing, ◌>>=◌, ◌>>◌, pure, known, knowing, found, holds, Meaning, an_object, a_function, a_typedef}
-use Rattle.typing_spec.specs.Env.{Linked, Object, Routine, Prototype, symbol_of, spelling}
+use Rattle.type_name_space.specs.Scopes.{Declared, visible, at_depth, left, changed, put_at}
+use Rattle.typing_env.specs.Env.{Env, Typing, ◌>>=◌, ◌>>◌, pure, known, knowing, found, holds, Meaning, an_object, a_function, a_typedef}
+use Rattle.typing_env.specs.Env.{TagMeaning, Linked, Object, Routine, Prototype, no_prototype, symbol_of, spelling}
 
 -- 1. Scopes (6.2.1).
 
--- what is left where the innermost scope ends
-abbrev pub left_scope : ℕ → Env → Env
-left_scope outer env = record env { ordinary = left (outer + 1) env.ordinary; tag_names = left (outer + 1) env.tag_names; depth = outer }
+-- one scope more encloses this place
+abbrev pub entered : Env → Env
+entered env = record env { depth = env.depth + 1 }
 
-abbrev pub ended : {A : Type 0} → ℕ → Option (A × Env) → Option (A × Env)
-ended outer None = None
-ended outer (Some p) = Some (p.0, left_scope outer p.1)
+-- what is left where the innermost scope ends
+abbrev pub left_scope : Env → Env
+left_scope env = record env { ordinary = left env.depth env.ordinary; tag_names = left env.depth env.tag_names; depth = env.depth - 1 }
+
+abbrev pub ended : {A : Type 0} → Option (A × Env) → Option (A × Env)
+ended None = None
+ended (Some p) = Some (p.0, left_scope p.1)
 
 -- all of this in a scope of its own
 unfoldable pub scoped : {A : Type 0} → Typing A → Typing A
-scoped p = λ env. ended env.depth (p (record env { depth = env.depth + 1 }))
+scoped p = λ env. ended (p (entered env))
 
--- what is declared in the scopes of this depth and of greater ones
+-- what is declared in the scopes of this depth
 abbrev pub declared_from : {M : Type 0} → ℕ → List (Declared M) → List (Declared M)
 declared_from depth [] = []
 declared_from depth (d ∷ ds) = if d.depth == depth then d ∷ declared_from depth ds else declared_from depth ds
@@ -38,20 +43,31 @@ declared_from depth (d ∷ ds) = if d.depth == depth then d ∷ declared_from de
 abbrev pub prototype_of : Env → Prototype
 prototype_of env = record { ordinary = declared_from env.depth env.ordinary; tags = declared_from env.depth env.tag_names }
 
-abbrev pub kept_prototype : Bool → Env → Env → Env
-kept_prototype own before env = record env { prototype = if own then prototype_of env else before.prototype }
+-- the declarations of a parameter list at file scope behind a declared name are kept for a body (6.2.1p4)
+abbrev pub kept_prototype : (own : Bool) → Env → Env
+kept_prototype own env = if own && (env.depth == 1) then record env { prototype = prototype_of env } else env
 
--- a parameter list in a scope of its own; the declarations of the one behind the declared name are kept for a body (6.2.1p4)
-unfoldable pub in_prototype : {A : Type 0} → Bool → Typing A → Typing A
+-- a parameter list in a scope of its own
+unfoldable pub in_prototype : {A : Type 0} → (own : Bool) → Typing A → Typing A
 in_prototype own p = scoped (do
-  before ← known
   a ← p
-  knowing (kept_prototype own before)
+  knowing (kept_prototype own)
   pure a)
 
+-- these are declared in this scope
+abbrev pub declared_at : {M : Type 0} → ℕ → List (Declared M) → List (Declared M) → List (Declared M)
+declared_at depth before ds = before ++ map (put_at depth) ds
+
 -- the declarations of the function's own parameters are in scope here
+abbrev pub with_parameters : Env → Env
+with_parameters env = record env {
+  ordinary = declared_at env.depth env.ordinary env.prototype.ordinary;
+  tag_names = declared_at env.depth env.tag_names env.prototype.tags;
+  prototype = no_prototype;
+}
+
 unfoldable pub with_prototype : Typing (Unit {0})
-with_prototype = knowing (λ env. record env { ordinary = env.ordinary ++ env.prototype.ordinary; tag_names = env.tag_names ++ env.prototype.tags })
+with_prototype = knowing with_parameters
 
 -- 2. Identifiers without linkage (6.2.2p6).
 
@@ -90,6 +106,23 @@ declare_typedef at qual = do
 -- the visible declaration of the identifier tells more of its type
 abbrev pub renamed : ℕ → Meaning → Env → Env
 renamed symbol meaning env = record env { ordinary = changed symbol meaning env.ordinary }
+
+-- a tag is declared in this scope
+abbrev pub with_tag_name : ℕ → TagMeaning → Env → Env
+with_tag_name symbol meaning env = record env { tag_names = env.tag_names ++ record { symbol = symbol; depth = env.depth; meaning = meaning } ∷ [] }
+
+-- what it stands for: as it is visible, or, where a declaration is `struct S;` alone, in this scope (6.7.2.3p7, 6.7.2.3p8)
+abbrev pub tag_seen : Env → (alone : Bool) → ℕ → Option TagMeaning
+tag_seen env true symbol = meaning_in (at_depth env.depth (visible symbol env.tag_names))
+tag_seen env false symbol = meaning_in (visible symbol env.tag_names)
+
+-- a structure or union more, incomplete (6.7.2.3p4); its number is that of the tags before it
+abbrev pub with_new_tag : TagKind → Env → Env
+with_new_tag kind env = record env { tags = env.tags ++ record { kind = kind; members = [] } ∷ [] }
+
+-- an enumeration more, incomplete (6.7.2.2p4)
+abbrev pub with_new_enumeration : Env → Env
+with_new_enumeration env = record env { enumerations = env.enumerations ++ false ∷ [] }
 
 -- 3. Linkage (6.2.2).
 

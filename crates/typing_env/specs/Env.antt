@@ -1,11 +1,9 @@
 -- What is known of a translation unit where its text is read up to a place, and the functions that read on from there (own). The
 -- definition of typing goes through the text in its order, since the scope of a name begins behind its declarator (6.2.1p7).
-use Rattle.std.specs.Prelude.{ℕ, ◌+◌, Bool, true, false, ◌&&◌, if◌then◌else◌, ℤ, List, [], ◌∷◌, Option, Some, None}
+use Rattle.std.specs.Prelude.{ℕ, ◌+◌, Bool, if◌then◌else◌, ℤ, List, [], ◌∷◌, length, slice_get, Option, Some, None}
 use Rattle.std.specs.Str.{bytes_eq}
 use Rattle.c_lex.specs.TokenText.{TokenText, line_at, text_at, span_text}
 use Rattle.c_lex.specs.declared.token.Token.{Token}
-use Rattle.c_lex.specs.declared.token.TokenKind.{TokenKind}
-use Rattle.c_lex.specs.declared.token.TokenKind.TheVariants as token
 use Rattle.c_types.specs.Types.{CType, void, Qualified, Signature}
 use Rattle.c_types.specs.declared.kind.IntKind.{IntKind}
 use Rattle.c_types.specs.declared.library.LibFunc.{LibFunc}
@@ -14,7 +12,7 @@ use Rattle.c_typed.specs.declared.tree.Slot.{Slot}
 use Rattle.c_typed.specs.declared.tree.Target.{Target}
 use Rattle.c_typed.specs.declared.program.Constant.{Constant}
 use Rattle.type_name_space.specs.Scopes.{Declared}
-use Rattle.typing_spec.specs.Seen.{Statement, SeenTag}
+use Rattle.typing_env.specs.Seen.{Statement, SeenTag}
 
 -- 1. What names stand for.
 
@@ -103,8 +101,11 @@ pub record Prototype : Type 0 where
   pub ordinary : List (Declared Meaning)
   pub tags : List (Declared TagMeaning)
 
+abbrev pub no_prototype : Prototype
+no_prototype = record { ordinary = []; tags = [] }
+
 -- The tokens; the declarations in scope, the oldest first (6.2.1), and how many scopes enclose this place, 0 at file scope; those of
--- the parameters of the function declarator that was read last; the structures and unions; of each enumeration whether it is
+-- the parameters of the function declarator of file scope that was read last; the structures and unions; of each enumeration whether it is
 -- complete; the identifiers with linkage; the objects with static storage and the functions; what was used in an expression that
 -- is evaluated (6.9p3, 6.9p5); and the open function.
 pub record Env : Type 0 where
@@ -127,7 +128,7 @@ start_of tokens = record {
   ordinary = [];
   tag_names = [];
   depth = 0;
-  prototype = record { ordinary = []; tags = [] };
+  prototype = no_prototype;
   tags = [];
   enumerations = [];
   linked = [];
@@ -192,26 +193,31 @@ unevaluated p = λ env. without_uses env (p env)
 
 -- 5. Tokens.
 
-abbrev pub is_name : TokenKind → Bool
-is_name token.Name = true
-is_name _ = false
-
+-- the first token that is spelled so
 abbrev pub spelled_first : List ℕ → List ℕ → ℕ → List Token → ℕ
 spelled_first source text n [] = n
-spelled_first source text n (t ∷ ts) =
-    if is_name t.kind && bytes_eq (span_text source (Some t)) text then n else spelled_first source text (n + 1) ts
+spelled_first source text n (t ∷ ts) = if bytes_eq (span_text source (Some t)) text then n else spelled_first source text (n + 1) ts
+
+-- behind the last token there is none
+abbrev pub symbol_in : TokenText → Option Token → ℕ
+symbol_in tokens None = length tokens.list
+symbol_in tokens (Some t) = spelled_first tokens.source (span_text tokens.source (Some t)) 0 tokens.list
 
 -- the symbol of a name: the first token that is spelled so
 unfoldable pub symbol_of : Env → ℕ → ℕ
-symbol_of env at = spelled_first env.tokens.source (text_at env.tokens at) 0 env.tokens.list
+symbol_of env at = symbol_in env.tokens (slice_get env.tokens.list at)
 
-abbrev pub line_in : Option ℕ → ℕ
-line_in None = 1
-line_in (Some line) = line
+abbrev pub last_line : ℕ → List Token → ℕ
+last_line line [] = line
+last_line line (t ∷ ts) = last_line t.line ts
 
--- the line of a token
+abbrev pub line_in : List Token → Option ℕ → ℕ
+line_in tokens None = last_line 1 tokens
+line_in tokens (Some line) = line
+
+-- the line of a token; behind the last token that of the last one
 unfoldable pub line_of : Env → ℕ → ℕ
-line_of env at = line_in (line_at env.tokens at)
+line_of env at = line_in env.tokens.list (line_at env.tokens at)
 
 -- how a token is spelled
 unfoldable pub spelling : Env → ℕ → List ℕ

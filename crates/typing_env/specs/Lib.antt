@@ -1,0 +1,4 @@
+pub mod Env
+pub mod Names
+pub mod Seen
+pub mod Tasks
