@@ -1,7 +1,7 @@
 -- What holds of the nodes of a tree holds of those of the own trees of its listed initializers.
-use Rattle.std.proofs.Common.{◌≡◌, List, [], ◌∷◌, ◌++◌, map, flat_map, refl, sym, ap, subst, ◌∙◌}
+use Rattle.std.proofs.Common.{List, [], ◌∷◌, ◌++◌, map, flat_map, sym, subst}
 use Rattle.std.specs.List.{All}
-use Rattle.std.proofs.lemmas.List.Elements.{All-nil, All-cons, All-head, All-tail, All-append}
+use Rattle.std.proofs.lemmas.List.Elements.{All-nil, All-cons, All-tail, All-append}
 use Rattle.c_types.specs.Types.{type_of}
 use Rattle.c_typed.specs.declared.tree.Node.{Node, fold-Node, fold-roll-Node, para-Node, para-roll-Node, map-Node, roll-Node}
 use Rattle.c_typed.specs.declared.tree.Node.TheFolds.{ind-Typed}
