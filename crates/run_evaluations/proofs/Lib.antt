@@ -1,7 +1,10 @@
 pub mod EndLemmas
+pub mod FullLemmas
 pub mod KeptLemmas
 pub mod LentLemmas
+pub mod ListedLemmas
 pub mod LooseLemmas
 pub mod LooseWholeLemmas
+pub mod PartLemmas
 pub mod WayLemmas
 pub mod WholeLemmas

@@ -21,7 +21,7 @@ use Rattle.evaluation_log.proofs.WholeLemmas.{get_left, get_seam, not_none, star
 use Rattle.evaluation_log.proofs.LooseWholeLemmas.{listed_by, listed_to, start_by, foot_there, below_or_at, looses_past, right_levels, right_by, right_joined}
 use Rattle.evaluation_log.proofs.LooseWholeLemmas.{right_moved, right_logged, right_listed, right_cut}
 
-start_marked : (o p : Option Segment) → loose_mark p ≡ loose_mark o → loose_start_of p ≡ loose_start_of o
+pub start_marked : (o p : Option Segment) → loose_mark p ≡ loose_mark o → loose_start_of p ≡ loose_start_of o
 start_marked None None e = refl
 start_marked None (Some t) e = absurd (cc)
 start_marked (Some s) None e = absurd (cc)
@@ -52,24 +52,24 @@ right_same a b same r =
     (λ g f h. r.has g f (sym (foot_marked (slice_get a.segments.items g) (slice_get b.segments.items g) (same.lows g)) ∙ h)))
 
 -- two segments begin alike, of which the same is kept
-record AreAlike (s t : Segment) : Type 0 where
-  first : t.first ≡ s.first
-  low : t.loose ≡ s.loose
-  below : t.loose_foot ≡ s.loose_foot
+pub record AreAlike (s t : Segment) : Type 0 where
+  pub first : t.first ≡ s.first
+  pub low : t.loose ≡ s.loose
+  pub below : t.loose_foot ≡ s.loose_foot
 
-abbrev AlikeAt : List Segment → List Segment → ℕ → Type 0
+abbrev pub AlikeAt : List Segment → List Segment → ℕ → Type 0
 AlikeAt ss ts g = (s t : Segment) × (slice_get ss g ≡ Some s) × (slice_get ts g ≡ Some t) × AreAlike s t
 
-alike_start : (ss ts : List Segment) (es fs : List Logged) (g : ℕ) → AlikeAt ss ts g → start_of ts fs g ≡ start_of ss es g
+pub alike_start : (ss ts : List Segment) (es fs : List Logged) (g : ℕ) → AlikeAt ss ts g → start_of ts fs g ≡ start_of ss es g
 alike_start ss ts es fs g a = ap (first_event fs) a.3 ∙ a.4.first ∙ sym (ap (first_event es) a.2)
 
-alike_low : (ss ts : List Segment) (ls : List ℕ) (g : ℕ) → AlikeAt ss ts g → loose_of ts ls g ≡ loose_of ss ls g
+pub alike_low : (ss ts : List Segment) (ls : List ℕ) (g : ℕ) → AlikeAt ss ts g → loose_of ts ls g ≡ loose_of ss ls g
 alike_low ss ts ls g a = ap (first_loose ls) a.3 ∙ a.4.low ∙ sym (ap (first_loose ls) a.2)
 
 alike_foot : (ss ts : List Segment) (g : ℕ) → AlikeAt ss ts g → loose_foot_of (slice_get ts g) ≡ loose_foot_of (slice_get ss g)
 alike_foot ss ts g a = ap loose_foot_of a.3 ∙ a.4.below ∙ sym (ap loose_foot_of a.2)
 
-same_alike : (ss ts : List Segment) (g : ℕ) (s : Segment) → slice_get ss g ≡ Some s → slice_get ts g ≡ slice_get ss g → AlikeAt ss ts g
+pub same_alike : (ss ts : List Segment) (g : ℕ) (s : Segment) → slice_get ss g ≡ Some s → slice_get ts g ≡ slice_get ss g → AlikeAt ss ts g
 same_alike ss ts g s at same = (s, s, at, same ∙ at, record { first = refl; low = refl; below = refl })
 
 pub right_at_top : (a b d : Evaluations) (e : Logged) (added : List Item) (last : ℕ) → IsSameRest a b → b.loose.items ≡ a.loose.items →

@@ -5,9 +5,14 @@ ghost use Rattle.evaluation_log.specs.declared.log.Logged.{Logged};
 ghost use Rattle.evaluation_log.specs.Touched.{event_has};
 ghost use Rattle.evaluation_log.specs.FoundItems.{ItemsConflict};
 ghost use Rattle.run_evaluations.specs.Kept.{IsKept, IsSameRest};
-ghost use Rattle.evaluation_log.specs.Kept.{AreLike, AllBelow};
+ghost use Rattle.evaluation_log.specs.Kept.{AreLike, AllBelow, base_of};
 ghost use Rattle.evaluation_log.specs.Loose.{NoLoose, HasLoose, LooseKept, loose_from, HasEvent, loose_start_of, loose_foot_of};
-ghost use Rattle.run_evaluations.specs.Loose.{IsLooseKept, NoneBelow, IsListed, KeepsLoose};
+ghost use Rattle.run_evaluations.specs.Listed.{NoneApart, is_eff};
+ghost use Rattle.run_evaluations.specs.Loose.{EndsAt, IsFull, IsFullBut, IsLooseKept, IsListed, KeepsLoose, NoneBelow, top_scope};
+ghost use Rattle.run_evaluations.specs.Scopes.{ListsAreAlone, Scope, place_of};
+ghost use Rattle.evaluation_log.specs.Ways.{node_of};
+ghost use Rattle.c_typed.specs.declared.tree.Place.{Place};
+ghost use Rattle.ub_base.specs.declared.clause.Kind.TheVariants.{Eff};
 
 use crate::open::Evaluations;
 use addr_map::AddrMap;
@@ -31,6 +36,11 @@ impl Evaluations {
         ensures kept { OnOk result (IsKept self.old → IsKept self.new) }
         ensures loose { OnOk result (IsKept self.old → IsLooseKept self.old → IsLooseKept self.new) }
         ensures none { IsLooseKept self.old → IfOk result (λ r. IfNone r (NoneBelow map.now self.old node)) }
+        ensures apart { (scopes : ℕ → Scope) → IsLooseKept self.old → IsFullBut scopes self.old → EndsAt self.old node →
+            ListsAreAlone (top_scope scopes self.old) → IfOk result (λ r. IfNone r (NoneApart map.now (top_scope scopes self.old)
+            self.old.segments.items self.old.events.items self.old.items.items node)) }
+        ensures full { OnOk result ((scopes : ℕ → Scope) → IsKept self.old → IsLooseKept self.old → IsFullBut scopes self.old →
+            EndsAt self.old node → IsFull scopes self.new) }
     {
         let loose = self.loose_start();
         let own = self.own_events(node);
@@ -109,6 +119,7 @@ impl Evaluations {
         ensures loose { self.new.loose.items ≡ self.old.loose.items }
         ensures like { (g : ℕ) → AreLike (slice_get self.old.segments.items g) (slice_get self.new.segments.items g) }
         ensures lows { (g : ℕ) → loose_start_of (slice_get self.new.segments.items g) ≡ loose_start_of (slice_get self.old.segments.items g) }
+        ensures nodes { (g : ℕ) → node_of (slice_get self.new.segments.items g) ≡ node_of (slice_get self.old.segments.items g) }
         ensures feet { KeepsLoose self.old self.new loose }
         ensures right { LooseKept self.old.segments.items self.old.events.items self.old.items.items self.old.loose.items loose →
             LooseKept self.new.segments.items self.new.events.items self.new.items.items self.new.loose.items loose }
@@ -146,6 +157,8 @@ impl Evaluations {
         ensures rest { IsSameRest self.old self.new }
         ensures like { (g : ℕ) → AreLike (slice_get self.old.segments.items g) (slice_get self.new.segments.items g) }
         ensures loose { OnOk result (IsKept self.old → IsLooseKept self.old → IsLooseKept self.new) }
+        ensures full { OnOk result ((scopes : ℕ → Scope) → IsKept self.old → IsLooseKept self.old → IsFullBut scopes self.old →
+            EndsAt self.old node → IsFull scopes self.new) }
     {
         if !self.ends_with_effect(node) {
             return Ok(());
@@ -156,7 +169,9 @@ impl Evaluations {
 
     // Whether the last event of the top frame's full expression is the node's side effect.
     fn ends_with_effect(&self, node: u32) -> bool
-        ensures { result ≡ true → IsKept self.now → (last : ℕ) × (length self.now.segments.items ≡ suc last) × AllBelow self.now.levels.items last }
+        ensures top { result ≡ true → IsKept self.now → (last : ℕ) × (length self.now.segments.items ≡ suc last) × AllBelow self.now.levels.items last }
+        ensures no { result ≡ false → base_of self.now.levels.items < length self.now.segments.items → (u : Place) →
+            place_of (slice_get self.now.events.items (length self.now.events.items - 1)) ≡ Some u → u.node ≡ node → u.kind ≡ Eff → ⊥ }
     {
         if self.segments.len() <= self.base() {
             return false;
@@ -164,9 +179,12 @@ impl Evaluations {
         self.is_effect_last(node)
     }
 
-    fn is_effect_last(&self, node: u32) -> bool {
+    fn is_effect_last(&self, node: u32) -> bool
+        ensures { result ≡ false → (u : Place) →
+            place_of (slice_get self.now.events.items (length self.now.events.items - 1)) ≡ Some u → u.node ≡ node → u.kind ≡ Eff → ⊥ }
+    {
         match self.events.last() {
-            Some(event) => event.kind == Kind::Eff && event.node == node,
+            Some(event) => is_effect(event.kind) && event.node == node,
             None => false,
         }
     }
@@ -176,6 +194,7 @@ impl Evaluations {
         ensures rest { IsSameRest self.old self.new }
         ensures like { (g : ℕ) → AreLike (slice_get self.old.segments.items g) (slice_get self.new.segments.items g) }
         ensures listed { OnOk result (IsListed self.old self.new) }
+        ensures nodes { (g : ℕ) → node_of (slice_get self.new.segments.items g) ≡ node_of (slice_get self.old.segments.items g) }
     {
         let at = self.events.len().saturating_sub(1);
         self.loose.push(at)?;
@@ -192,6 +211,7 @@ impl Evaluations {
         ensures count { length self.new.segments.items ≡ length self.old.segments.items }
         ensures lows { (g : ℕ) → loose_start_of (slice_get self.new.segments.items g) ≡ loose_start_of (slice_get self.old.segments.items g) }
         ensures others { (g : ℕ) → suc g < length self.old.segments.items → slice_get self.new.segments.items g ≡ slice_get self.old.segments.items g }
+        ensures nodes { (g : ℕ) → node_of (slice_get self.new.segments.items g) ≡ node_of (slice_get self.old.segments.items g) }
         ensures given { result ≡ loose_foot_of (slice_get self.old.segments.items (length self.old.segments.items - 1)) }
     {
         match self.segments.last_mut() {
@@ -218,10 +238,20 @@ impl Evaluations {
         ensures count { length self.new.segments.items ≡ length self.old.segments.items }
         ensures lows { (g : ℕ) → loose_start_of (slice_get self.new.segments.items g) ≡ loose_start_of (slice_get self.old.segments.items g) }
         ensures others { (g : ℕ) → suc g < length self.old.segments.items → slice_get self.new.segments.items g ≡ slice_get self.old.segments.items g }
+        ensures nodes { (g : ℕ) → node_of (slice_get self.new.segments.items g) ≡ node_of (slice_get self.old.segments.items g) }
         ensures below { (f : Box Foot Global) → loose_foot_of (slice_get self.new.segments.items (length self.old.segments.items - 1)) ≡ Some f → foot ≡ Some f }
     {
         if let Some(segment) = self.segments.last_mut() {
             segment.loose_foot = foot;
         }
+    }
+}
+
+fn is_effect(kind: Kind) -> bool
+    ensures { result ≡ is_eff kind }
+{
+    match kind {
+        Kind::Eff => true,
+        _ => false,
     }
 }

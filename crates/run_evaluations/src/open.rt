@@ -8,10 +8,13 @@ ghost use Rattle.evaluation_log.specs.declared.log.Segment.{Segment};
 ghost use Rattle.evaluation_log.specs.declared.rules.Rule.TheVariants.{Open};
 ghost use Rattle.evaluation_log.specs.Bodies.{HasBody};
 ghost use Rattle.evaluation_log.specs.Clashes.{AreSorted};
-ghost use Rattle.run_evaluations.specs.Loose.{IsLooseKept};
+ghost use Rattle.run_evaluations.specs.Listed.{Stays, is_node, stays_from};
+ghost use Rattle.run_evaluations.specs.Loose.{EndsAt, IsFull, IsFullBut, IsLooseKept, IsOver, stays_of, top_scope};
+ghost use Rattle.run_evaluations.specs.Scopes.{IsBelow, Scope};
+ghost use Rattle.c_typed.specs.Order.{place};
 ghost use Rattle.evaluation_log.specs.Loose.{HasRange, Thins, loose_of, loose_start_of, loose_foot_of};
 ghost use Rattle.run_evaluations.specs.Kept.{IsKept, IsSameRest, IsSameLog, IsFirst, IsLogged, IsTold, IsSameOpen};
-ghost use Rattle.evaluation_log.specs.Kept.{AreLike, IsJoined, AllBelow, IsAdded, IsOperand, cut_of, base_of, marks, harmless_of, foot_of, span_of, is_large};
+ghost use Rattle.evaluation_log.specs.Kept.{AreLike, IsJoined, AllBelow, IsAdded, IsOperand, cut_of, base_of, marks, harmless_of, foot_of, span_of, is_large, IsMore};
 ghost use Rattle.evaluation_log.specs.Kept.{own_body};
 ghost use Rattle.evaluation_log.specs.Touched.{event_has};
 ghost use Rattle.evaluation_log.specs.Ways.{node_of};
@@ -142,6 +145,9 @@ impl Evaluations {
         ensures kept { OnOk result (IsKept self.old → IsKept self.new) }
         ensures loose { OnOk result (IsKept self.old → IsLooseKept self.old → IsLooseKept self.new) }
         ensures told { OnOk result ((e : Logged) × (e.node ≡ node) × (e.kind ≡ kind) × IsTold self.old self.new e items.now) }
+        ensures full { OnOk result ((scopes : ℕ → Scope) → IsKept self.old → IsLooseKept self.old → IsFull scopes self.old →
+            IsOver (top_scope scopes self.old) self.old node rule chosen → IsBelow (top_scope scopes self.old) node (place node kind) →
+            IsFullBut scopes self.new × EndsAt self.new node) }
     {
         self.gather(node, rule, chosen);
         if self.is_top_of(node) {
@@ -159,8 +165,12 @@ impl Evaluations {
         ensures loose { OnOk result (IsKept self.old → IsLooseKept self.old → (last : ℕ) → length self.old.segments.items ≡ suc last →
             AllBelow self.old.levels.items last → IsLooseKept self.new) }
         ensures told { OnOk result ((e : Logged) × (e.node ≡ node) × (e.kind ≡ kind) × IsTold self.old self.new e items.now) }
+        ensures full { OnOk result ((scopes : ℕ → Scope) → IsKept self.old → IsLooseKept self.old → IsFull scopes self.old →
+            base_of self.old.levels.items < length self.old.segments.items →
+            node_of (slice_get self.old.segments.items (length self.old.segments.items - 1)) ≡ Some node → 0 < length self.old.levels.items →
+            IsBelow (top_scope scopes self.old) node (place node kind) → IsFullBut scopes self.new × EndsAt self.new node) }
     {
-        self.add_to_top(items)?;
+        self.add_to_top(node, items)?;
         self.log(node, kind, items)?;
         Ok(())
     }
@@ -170,6 +180,9 @@ impl Evaluations {
         ensures kept { OnOk result (IsKept self.old → IsKept self.new) }
         ensures loose { OnOk result (IsKept self.old → IsLooseKept self.old → IsLooseKept self.new) }
         ensures told { OnOk result ((e : Logged) × (e.node ≡ node) × (e.kind ≡ kind) × IsTold self.old self.new e items.now) }
+        ensures full { OnOk result ((scopes : ℕ → Scope) → IsKept self.old → IsLooseKept self.old → IsFull scopes self.old →
+            0 < length self.old.levels.items → IsBelow (top_scope scopes self.old) node (place node kind) →
+            IsFullBut scopes self.new × EndsAt self.new node) }
     {
         self.push_segment(node, items)?;
         self.log(node, kind, items)?;
@@ -178,7 +191,9 @@ impl Evaluations {
 
     // Whether the top segment of the top frame is that of this node.
     fn is_top_of(&self, node: u32) -> bool
-        ensures { result ≡ true → IsKept self.now → (last : ℕ) × (length self.now.segments.items ≡ suc last) × AllBelow self.now.levels.items last }
+        ensures top { result ≡ true → IsKept self.now → (last : ℕ) × (length self.now.segments.items ≡ suc last) × AllBelow self.now.levels.items last }
+        ensures base { result ≡ true → base_of self.now.levels.items < length self.now.segments.items }
+        ensures own { result ≡ true → node_of (slice_get self.now.segments.items (length self.now.segments.items - 1)) ≡ Some node }
     {
         if self.segments.len() <= self.base() {
             return false;
@@ -189,14 +204,15 @@ impl Evaluations {
         }
     }
 
-    // The top segment has these items too.
-    fn add_to_top(&mut self, items: &[Item]) -> Result<(), NoMemory>
+    // The top segment, which is of this node, has these items too.
+    fn add_to_top(&mut self, node: u32, items: &[Item]) -> Result<(), NoMemory>
         ensures rest { IsSameRest self.old self.new }
         ensures loose { self.new.loose.items ≡ self.old.loose.items }
         ensures added { OnOk result (IsAdded self.old.segments.items self.new.segments.items items.now) }
+        ensures own { OnOk result ((s : Segment) → slice_get self.new.segments.items (length self.old.segments.items - 1) ≡ Some s → s.node ≡ node) }
     {
         match self.segments.last_mut() {
-            Some(segment) => segment.add(items),
+            Some(segment) => add_to(segment, node, items),
             None => Ok(()),
         }
     }
@@ -205,7 +221,7 @@ impl Evaluations {
     fn push_segment(&mut self, node: u32, items: &[Item]) -> Result<(), NoMemory>
         ensures rest { IsSameRest self.old self.new }
         ensures loose { self.new.loose.items ≡ self.old.loose.items }
-        ensures pushed { OnOk result ((s : Segment) × IsFirst self.old self.new s items.now) }
+        ensures pushed { OnOk result ((s : Segment) × (s.node ≡ node) × IsFirst self.old self.new s items.now) }
     {
         let segment = Segment {
             node,
@@ -294,6 +310,8 @@ impl Evaluations {
         ensures kept { IsKept self.old → IsKept self.new }
         ensures loose { IsKept self.old → IsLooseKept self.old → IsLooseKept self.new }
         ensures made { (at : ℕ) × IsGathered self.old self.new node at }
+        ensures full { (scopes : ℕ → Scope) → IsKept self.old → IsLooseKept self.old → IsFull scopes self.old →
+            IsOver (top_scope scopes self.old) self.old node rule chosen → IsFull scopes self.new }
     {
         let at = self.operands(node);
         if at >= self.segments.len() {
@@ -334,6 +352,9 @@ impl Evaluations {
         ensures others { (g : ℕ) → g < at → slice_get self.new.segments.items g ≡ slice_get self.old.segments.items g }
         ensures loose { AreSorted self.old.segments.items self.old.events.items 0 → AllBelow self.old.levels.items at → IsLooseKept self.old →
             IsLooseKept self.new }
+        ensures full { (scopes : ℕ → Scope) → AllBelow self.old.levels.items at → IsLooseKept self.old → IsFull scopes self.old →
+            base_of self.old.levels.items ≤ at → ((g m : ℕ) → at ≤ g → node_of (slice_get self.old.segments.items g) ≡ Some m → node < m) →
+            IsOver (top_scope scopes self.old) self.old node rule chosen → IsFull scopes self.new }
     {
         let harmless = self.all_harmless(at);
         self.keep_loose(at, node, rule, chosen);
@@ -471,28 +492,44 @@ impl Evaluations {
         ensures rest { IsSameRest self.old self.new }
         ensures thins { Thins (loose_of self.old.segments.items self.old.loose.items at) self.old.loose.items self.new.loose.items }
         ensures open { rule ≡ Open → self.new.loose.items ≡ self.old.loose.items }
+        ensures stays { Stays (stays_of self.old at node rule chosen) (loose_of self.old.segments.items self.old.loose.items at)
+            self.old.loose.items self.new.loose.items }
     {
-        let first = self.segments[at].loose;
-        let last = self.segments.len() - 1;
-        let behind = self.segments[last].loose;
-        let last_node = self.segments[last].node;
+        let first = self.loose_begin(at);
+        let stays = self.loose_left(first, node, rule, chosen);
+        close_gap(&mut self.loose, first, stays);
+    }
+
+    // From which place on they stay listed, where those of the operands are listed from this one on.
+    fn loose_left(&self, first: usize, node: u32, rule: Rule, chosen: bool) -> usize
+        ensures { result ≡ stays_from rule chosen node (node_of (slice_get self.now.segments.items (length self.now.segments.items - 1))) first
+            (loose_of self.now.segments.items self.now.loose.items (length self.now.segments.items - 1)) (length self.now.loose.items) }
+    {
+        let end = self.loose.len();
+        let behind = self.loose_begin(self.segments.len().saturating_sub(1));
         match rule {
-            Rule::Open => {}
-            Rule::Closed => self.loose.truncate(first),
+            Rule::Open => first,
+            Rule::Closed => end,
             Rule::Choice => {
-                if chosen && last_node == node.saturating_add(1) {
-                    self.loose.truncate(first);
-                } else if chosen {
-                    close_gap(&mut self.loose, first, behind);
-                }
-            }
-            Rule::Comma(number) => {
-                if last_node == number {
-                    close_gap(&mut self.loose, first, behind);
+                if !chosen {
+                    first
+                } else if self.is_last_of(node.saturating_add(1)) {
+                    end
                 } else {
-                    self.loose.truncate(first);
+                    behind
                 }
             }
+            Rule::Comma(number) => { if self.is_last_of(number) { behind } else { end } }
+        }
+    }
+
+    // Whether the last segment is of this node.
+    fn is_last_of(&self, node: u32) -> bool
+        ensures { result ≡ is_node (node_of (slice_get self.now.segments.items (length self.now.segments.items - 1))) node }
+    {
+        match self.segments.last() {
+            Some(segment) => segment.node == node,
+            None => false,
         }
     }
 
@@ -780,18 +817,38 @@ impl Evaluations {
     }
 }
 
+// The segment, which is of this node, has these items too.
+fn add_to(segment: &mut Segment, node: u32, items: &[Item]) -> Result<(), NoMemory>
+    ensures more { OnOk result (IsMore segment.old segment.new items.now) }
+    ensures own { OnOk result (segment.new.node ≡ node) }
+{
+    segment.add(items)?;
+    segment.node = node;
+    Ok(())
+}
+
 // Takes the entries from one place up to another away.
 fn close_gap(list: &mut Vec<usize>, from: usize, to: usize)
-    ensures { Thins from list.old.items list.new.items }
+    ensures thins { Thins from list.old.items list.new.items }
+    ensures none { to ≤ from → list.new.items ≡ list.old.items }
+    ensures stays { Stays to from list.old.items list.new.items }
 {
-    for _ in from..to {
+    if to <= from {
+        return;
+    }
+    if to >= list.len() {
+        list.truncate(from);
+        return;
+    }
+    for i in from..to {
         take_out(list, from);
     }
 }
 
 // Takes the entry at this place away, if there is one.
 fn take_out(list: &mut Vec<usize>, at: usize)
-    ensures { Thins at list.old.items list.new.items }
+    ensures thins { Thins at list.old.items list.new.items }
+    ensures behind { (p : ℕ) → at < p → slice_get list.new.items (p - 1) ≡ slice_get list.old.items p }
 {
     if at < list.len() {
         list.remove(at);

@@ -1,9 +1,10 @@
-use Rattle.std.proofs.Common.{◌∙◌, sym, arith, subst, List}
+use Rattle.std.proofs.Common.{◌∙◌, ◌≤◌, sym, arith, subst, List}
 use Rattle.run_evaluations.proofs.WholeLemmas.{kept_made_one}
 use Rattle.evaluation_log.proofs.WholeLemmas.{only_spreads, length_alike}
+use Rattle.run_evaluations.proofs.FullLemmas.{full_same, over_same, node_behind}
 use Rattle.run_evaluations.proofs.LooseWholeLemmas.{right_same}
 use Rattle.evaluation_log.proofs.KeptLemmas.{sorted_alike}
-use Rattle.evaluation_log.specs.Kept.{AllBelow}
+use Rattle.evaluation_log.specs.Kept.{AllBelow, base_of}
 use Rattle.evaluation_log.specs.declared.level.Level.{Level}
 use Rattle.run_evaluations.proofs.WayLemmas.{gathered_none, gathered_one}
 use Rattle.run_evaluations.proofs.open.Evaluations.gather.Goals as goal
@@ -48,3 +49,19 @@ returns-clause-made c =
       gathered_one c.args.self.now c.take_only-foot.new.self c.join.new.self c.args.node c.operands-at.result
           (omega (arith, n, c.if-at-len.false)) o.low o.behind o.least t.same.alike t.nodes j.joined.count j.joined.begins j.own j.others,
     )
+
+pub returns-then-at-len-clause-full : goal.returns-then-at-len-clause-full
+returns-then-at-len-clause-full c = λ scopes w r full over. full
+
+pub returns-clause-full : goal.returns-clause-full
+returns-clause-full c = λ scopes w r full over.
+    let a = c.args.self.now in
+    let t = c.take_only-foot.new.self in
+    let e = c.take_only-foot.ensures in
+    let o = c.operands-at.ensures in
+    c.join.ensures.full scopes
+    (subst (λ (ls : List Level). AllBelow ls c.operands-at.result) (sym e.same.levels) (o.below w))
+    (right_same a t e.same r) (full_same a t scopes e.same e.nodes full)
+    (subst (λ (ls : List Level). base_of ls ≤ c.operands-at.result) (sym e.same.levels) o.low)
+    (λ g m le h. node_behind a.segments.items c.operands-at.result c.args.node o.behind g m le (sym (e.nodes g) ∙ h))
+    (over_same a t scopes c.args.node c.args.rule c.args.chosen e.same.levels e.nodes over)

@@ -2,8 +2,8 @@ use Rattle.std.proofs.Common.{arith, ◌-◌, length, ◌∙◌}
 use Rattle.evaluation_log.proofs.WholeLemmas.{base_below}
 use Rattle.run_evaluations.proofs.open.Evaluations.is_top_of.Goals as goal
 
-pub returns-in-Some : goal.returns-in-Some
-returns-in-Some c = λ h w.
+pub returns-in-Some-clause-top : goal.returns-in-Some-clause-top
+returns-in-Some-clause-top c = λ h w.
     let n = c.len.ensures ∙ c.args.self.now.segments.ok.0 in
     let b = c.base.ensures in (
       length c.args.self.now.segments.items - 1,
@@ -11,3 +11,9 @@ returns-in-Some c = λ h w.
       λ d x k. let r = base_below c.args.self.now.segments.items c.args.self.now.events.items c.args.self.now.items.items c.args.self.now.large.items
           c.args.self.now.levels.items w d x k in omega (arith, r, n, b, c.if-len-base.false),
     )
+
+pub returns-in-Some-clause-base : goal.returns-in-Some-clause-base
+returns-in-Some-clause-base c = λ h.
+    let n = c.len.ensures ∙ c.args.self.now.segments.ok.0 in
+    let b = c.base.ensures in
+    omega (arith, n, b, c.if-len-base.false)

@@ -1,4 +1,5 @@
 use Rattle.std.proofs.Common.{ap, arith}
+use Rattle.run_evaluations.proofs.FullLemmas.{full_join}
 use Rattle.run_evaluations.proofs.LooseWholeLemmas.{right_join}
 use Rattle.evaluation_log.proofs.LooseWholeLemmas.{some_at}
 use Rattle.run_evaluations.proofs.open.Evaluations.join.Goals as goal
@@ -13,3 +14,12 @@ returns-clause-loose c = λ sorted below r.
     l.rest l.loose l.like l.lows l.others p.rest p.loose p.count p.others p.begins p.low p.below
     (λ f h. let s = some_at _ c.left_loose_foot-loose_foot.result f h l.has in (k.open s.0, s.1))
     sorted below r
+
+pub returns-clause-full : goal.returns-clause-full
+returns-clause-full c = λ scopes below r full base behind over.
+    let k = c.keep_loose.ensures in
+    let l = c.left_loose_foot-loose_foot.ensures in
+    let p = c.put_joined.ensures in
+    full_join c.args.self.now c.keep_loose.new.self c.left_loose_foot-loose_foot.new.self c.put_joined.new.self c.args.at c.args.node c.args.rule
+    c.args.chosen scopes (omega (arith, c.requires, c.args.self.now.segments.ok.0)) (ap (λ v. v.items) k.segments) k.rest k.thins k.stays
+    l.rest l.loose l.like l.lows l.others p.rest p.loose p.count p.others p.begins p.low p.own below r full base behind over

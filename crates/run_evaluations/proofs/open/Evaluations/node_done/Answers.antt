@@ -1,6 +1,7 @@
 use Rattle.run_evaluations.proofs.WholeLemmas.{kept_like}
 use Rattle.std.proofs.Common.{subst, sym, ℕ}
 use Rattle.evaluation_log.specs.Loose.{LooseKept}
+use Rattle.run_evaluations.proofs.FullLemmas.{apart_if, but_like, ends_like}
 use Rattle.run_evaluations.proofs.LooseLemmas.{all_below}
 use Rattle.run_evaluations.proofs.LooseWholeLemmas.{right_set}
 use Rattle.evaluation_log.proofs.LooseWholeLemmas.{top_right}
@@ -26,3 +27,16 @@ returns-clause-loose c = λ w r.
     c.in_ok-add_loose.ensures.loose
     (kept_like c.args.self.now c.gather_loose.new.self g.rest g.like w)
     (right_set c.args.self.now c.gather_loose.new.self c.loose_start-loose.result g.rest g.loose g.like g.lows g.feet c.loose_start-loose.ensures r)
+
+pub returns-clause-apart : goal.returns-clause-apart
+returns-clause-apart c = λ scopes right but ends alone.
+    apart_if c.args.map.now c.args.self.now scopes c.args.node but ends alone c.in_ok-found.found (returns-clause-none c right)
+
+pub returns-clause-full : goal.returns-clause-full
+returns-clause-full c = λ scopes w r but ends.
+    let g = c.gather_loose.ensures in
+    let a = c.args.self.now in
+    let b = c.gather_loose.new.self in
+    c.in_ok-add_loose.ensures.full scopes (kept_like a b g.rest g.like w)
+    (right_set a b c.loose_start-loose.result g.rest g.loose g.like g.lows g.feet c.loose_start-loose.ensures r)
+    (but_like a b scopes g.rest g.loose g.like g.lows g.nodes but) (ends_like a b c.args.node g.rest g.like g.nodes ends)
