@@ -308,8 +308,7 @@ impl Memory {
         self.is_number_of(origin, prov)
     }
 
-    // Whether the number is that of the provenance. Not inlined, since the pieces of a pointer have one number.
-    #[inline(never)]
+    // Whether the number is that of the provenance.
     fn is_number_of(&self, origin: Origin, prov: Prov) -> bool
         ensures { result ≡ acts.same_prov (prov_numbered self.now.origins origin.number) prov }
     {
