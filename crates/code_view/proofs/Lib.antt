@@ -1,5 +1,6 @@
 mod Viewed
 mod Full
 mod Own
+mod Listed
 mod Sited
 mod Whole

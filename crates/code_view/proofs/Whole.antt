@@ -41,14 +41,15 @@ use Rattle.run_statements.specs.Bodies.{Stands, IsStatement}
 use Rattle.run_code.specs.declared.steps.Expression.{Expression as Laid}
 use Rattle.run_code.specs.declared.steps.FunctionCode.{FunctionCode}
 use Rattle.run_code.specs.declared.whole.Code.{Code}
-use Rattle.code_view.specs.Fitting.{AccessFits, AreLawful, SiteFits, TreeFits, AreFit, StoreFits}
+use Rattle.run_code.specs.Fitting.{AccessFits, SiteFits, TreeFits, StoreFits}
 use Rattle.run_code.specs.Roots.{as_block, block_in, trees_in, code_trees, IsCodeOf, AreCodeOf, IsNumberedBy}
 use Rattle.run_state.specs.Meaning.{AccessSuits, StandsProgram, StandsCode}
 use Rattle.code_view.specs.Numbering.{RowHas, root_by, row_decls, body_decls, function_decls, decls_in, switch_by, meaning_of}
-use Rattle.code_view.specs.Laws.{HeadLists, ExpressionLists, BodyLists, RootsStand, BodiesStand, SwitchesStand, TreesFit, LawfulCodeStands}
+use Rattle.code_view.specs.Laws.{RootsStand, BodiesStand, SwitchesStand, TreesFit, LawfulCodeStands}
 use Rattle.code_view.proofs.Viewed.{body_seen}
 use Rattle.code_view.proofs.Full.{body_full}
 use Rattle.code_view.proofs.Own.{all_own}
+use Rattle.code_view.proofs.Listed.{HeadLists, lists_lawful}
 use Rattle.code_view.proofs.Sited.{head_fits}
 
 -- a number stands for the full expression that has it
@@ -162,37 +163,33 @@ both_give : {A : Type 0} (P Q R : A → Type 0) → ((x : A) → P x → Q x →
 both_give P Q R f [] h k = All-nil R
 both_give P Q R f (x ∷ xs) h k = All-cons R x xs (f x (All-head P x xs h) (All-head Q x xs k)) (both_give P Q R f xs (All-tail P x xs h) (All-tail Q x xs k))
 
-expression_fits : (p : Program) (f : Signature) (e : Expression) → ExpressionIsLawful p f e → ExpressionLists p e → TreeFits p e.tree
-expression_fits p f e h k =
+expression_fits : (p : Program) (f : Signature) (e : Expression) → ExpressionIsLawful p f e → TreeFits p e.tree
+expression_fits p f e h =
     both_give (SiteIsLawful p e.blocks) (λ s. HeadLists p s.head) (SiteFits p) (λ s l m. head_fits p e.blocks s.head s.ty s.operands l.types m) (sites e.tree)
-    h.nodes k
+    h.nodes (lists_lawful p f e h)
 
 -- the trees of a body
-body_fits : (p : Program) (f : Signature) (x : Body) → BodyIsLawful p f x → BodyLists p x → All (TreeFits p) (body_trees x)
-body_fits p f x h k =
+body_fits : (p : Program) (f : Signature) (x : Body) → BodyIsLawful p f x → All (TreeFits p) (body_trees x)
+body_fits p f x h =
     body_full (TreeFits p) (all_own (SiteFits p)) x no_block
-    (both_give (ExpressionIsLawful p f) (ExpressionLists p) (λ e. TreeFits p e.tree) (expression_fits p f) (expressions x) h.full k)
+    (All-weaker (ExpressionIsLawful p f) (λ e. TreeFits p e.tree) (expression_fits p f) (expressions x) h.full)
 
 block_form : (b : Block) → body_trees (body.Block b) ≡ block_trees b
 block_form b = search (rules, folds.the_lemmas)
 
-function_fits : (p : Program) (f : Function) (o : Option Block) → block_in f.body ≡ o → FunctionIsLawful p f → Where (BodyLists p) f.body
-    → All (TreeFits p) (trees_in o)
-function_fits p f None is h k = All-nil (TreeFits p)
-function_fits p f (Some b) is h k =
+function_fits : (p : Program) (f : Function) (o : Option Block) → block_in f.body ≡ o → FunctionIsLawful p f → All (TreeFits p) (trees_in o)
+function_fits p f None is h = All-nil (TreeFits p)
+function_fits p f (Some b) is h =
     let there : f.body ≡ Some (body.Block b) = body_there f.body b is in
     subst (All (TreeFits p)) (block_form b)
-    (body_fits p (signature_of f.ty) (body.Block b) (where_some (BodyIsLawful p (signature_of f.ty)) f.body (body.Block b) there h.body)
-    (where_some (BodyLists p) f.body (body.Block b) there k))
+    (body_fits p (signature_of f.ty) (body.Block b) (where_some (BodyIsLawful p (signature_of f.ty)) f.body (body.Block b) there h.body))
 
-functions_fit : (p : Program) (fs : List Function) → All (FunctionIsLawful p) fs → All (λ f. Where (BodyLists p) f.body) fs
-    → All (TreeFits p) (flat_map code_trees fs)
-functions_fit p [] h k = All-nil (TreeFits p)
-functions_fit p (f ∷ fs) h k =
-    let L : Function → Type 0 = λ g. Where (BodyLists p) g.body in
+functions_fit : (p : Program) (fs : List Function) → All (FunctionIsLawful p) fs → All (TreeFits p) (flat_map code_trees fs)
+functions_fit p [] h = All-nil (TreeFits p)
+functions_fit p (f ∷ fs) h =
     All-append (TreeFits p) (code_trees f) (flat_map code_trees fs)
-    (function_fits p f (block_in f.body) refl (All-head (FunctionIsLawful p) f fs h) (All-head L f fs k))
-    (functions_fit p fs (All-tail (FunctionIsLawful p) f fs h) (All-tail L f fs k))
+    (function_fits p f (block_in f.body) refl (All-head (FunctionIsLawful p) f fs h))
+    (functions_fit p fs (All-tail (FunctionIsLawful p) f fs h))
 
 seen_pointer : (ty : CType) → IsPointer ty → is_pointer ty ≡ true
 seen_pointer (pointer c t) h = refl
@@ -211,11 +208,11 @@ suits (access.Integer kind) ty h = tt
 suits (access.Whole size align) ty h = tt
 
 pub trees_fit : TreesFit
-trees_fit p lawful lists = functions_fit p p.functions lawful.functions lists
+trees_fit p lawful = functions_fit p p.functions lawful.functions
 
 pub code_stands : LawfulCodeStands
-code_stands p numbers c world lawful lists laid stands =
-    let fit = laid.fit (trees_fit p lawful lists) in
+code_stands p numbers c world lawful laid stands =
+    let fit = laid.fit (trees_fit p lawful) in
     record {
       root = roots_stand p numbers c;
       body = bodies_stand p numbers c world lawful laid.numbered stands;

@@ -17,8 +17,7 @@ pub fn law_code_bodies()
     ensures switches { SwitchesStand }
 {}
 
-/// Each node of the full expressions of a lawful program stores a pointer by its own type, and fills objects with lawful constants, where those of its
-/// initializer lists are.
+/// Each node of the full expressions of a lawful program stores a pointer by its own type, and fills objects with lawful constants.
 pub fn law_code_trees()
     ensures { TreesFit }
 {}

@@ -8,3 +8,5 @@ mod Picked
 mod Heads
 mod NamedLemmas
 mod Rooted
+mod FittingLemmas
+mod Coded

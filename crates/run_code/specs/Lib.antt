@@ -4,5 +4,6 @@ pub mod Numbered
 pub mod InRange
 pub mod EventActs
 pub mod LaidOut
+pub mod Fitting
 pub mod Named
 pub mod Roots

@@ -35,6 +35,7 @@ pub fn count_of<T>(items: &Vec<T>) -> u32 {
 pub fn finished<'p>(draft: Draft<'p, '_>, functions: Vec<Option<FunctionCode>>) -> Code<'p>
     ensures expressions { result.expressions.items ≡ draft.entry.expressions.all.items }
     ensures functions { result.functions.items ≡ functions.items }
+    ensures tables { result.tables ≡ draft.entry.expressions.tables }
 {
     let Draft {
         alloc: _,
@@ -52,6 +53,7 @@ fn code_of_expressions<'p>(
 ) -> Code<'p>
     ensures expressions { result.expressions.items ≡ expressions.entry.all.items }
     ensures functions { result.functions.items ≡ functions.items }
+    ensures tables { result.tables ≡ expressions.entry.tables }
 {
     let Expressions {
         tables,

@@ -27,9 +27,12 @@ impl<'p> Expressions<'p> {
     ghost use Rattle.run_code.specs.Numbered.{AreNodes};
     ghost use Rattle.run_code.specs.InRange.{IsRange, IsChoice, IsObject, IsBlock};
     ghost use Rattle.run_code.specs.EventActs.{AreGrown, AreEntries};
+    ghost use Rattle.c_typed.specs.declared.program.Program.{Program as ProgramOf};
+    ghost use Rattle.run_code.specs.Fitting.{AreFit, AreLawful, StoreFits};
 
     pub fn new(alloc: Global) -> Self
-        ensures { result.all.items ≡ [] }
+        ensures none { result.all.items ≡ [] }
+        ensures fit { (p : ProgramOf) → AreFit p result.tables }
     {
         Expressions {
             tables: Tables::new(alloc),
@@ -42,6 +45,7 @@ impl<'p> Expressions<'p> {
     pub fn add_store(&mut self, store: StoreCode<'p>) -> Result<u32, NoMemory>
         ensures at { IfOk result (λ n. slice_get self.new.tables.stores.items n ≡ Some store.entry) }
         ensures grown { AreGrown self.old.tables self.new.tables }
+        ensures fit { (p : ProgramOf) → StoreFits store.entry → AreFit p self.old.tables → AreFit p self.new.tables }
         ensures kept { self.new.all.items ≡ self.old.all.items }
     {
         self.tables.add_store(store)
@@ -50,6 +54,7 @@ impl<'p> Expressions<'p> {
     pub fn add_call(&mut self, call: CallCode<'p>) -> Result<u32, NoMemory>
         ensures at { IfOk result (λ n. slice_get self.new.tables.calls.items n ≡ Some call.entry) }
         ensures grown { AreGrown self.old.tables self.new.tables }
+        ensures fit { (p : ProgramOf) → AreFit p self.old.tables → AreFit p self.new.tables }
         ensures kept { self.new.all.items ≡ self.old.all.items }
     {
         self.tables.add_call(call)
@@ -58,6 +63,7 @@ impl<'p> Expressions<'p> {
     pub fn add_constants(&mut self, constants: &'p [Constant]) -> Result<u32, NoMemory>
         ensures at { IfOk result (λ n. slice_get self.new.tables.constants.items n ≡ Some constants.entry) }
         ensures grown { AreGrown self.old.tables self.new.tables }
+        ensures fit { (p : ProgramOf) → AreLawful p constants.now → AreFit p self.old.tables → AreFit p self.new.tables }
         ensures kept { self.new.all.items ≡ self.old.all.items }
     {
         self.tables.add_constants(constants)
@@ -66,6 +72,7 @@ impl<'p> Expressions<'p> {
     pub fn add_chosen(&mut self, chosen: &[(u32, u32)]) -> Result<Range, NoMemory>
         ensures within { IfOk result (IsRange (length self.new.tables.chosen.items)) }
         ensures grown { AreGrown self.old.tables self.new.tables }
+        ensures fit { (p : ProgramOf) → AreFit p self.old.tables → AreFit p self.new.tables }
         ensures kept { self.new.all.items ≡ self.old.all.items }
     {
         self.tables.add_chosen(chosen)
@@ -75,6 +82,7 @@ impl<'p> Expressions<'p> {
         requires { IsChoice (length self.old.tables.chosen.items) choice }
         ensures within { IfOk result (λ n. n < length self.new.tables.choices.items) }
         ensures grown { AreGrown self.old.tables self.new.tables }
+        ensures fit { (p : ProgramOf) → AreFit p self.old.tables → AreFit p self.new.tables }
         ensures kept { self.new.all.items ≡ self.old.all.items }
     {
         self.tables.add_choice(choice)
@@ -83,6 +91,7 @@ impl<'p> Expressions<'p> {
     pub fn add_object(&mut self, object: ObjectCode) -> Result<(), NoMemory>
         requires { IsObject (length self.old.tables.stores.items) object }
         ensures grown { AreGrown self.old.tables self.new.tables }
+        ensures fit { (p : ProgramOf) → AreFit p self.old.tables → AreFit p self.new.tables }
         ensures kept { self.new.all.items ≡ self.old.all.items }
     {
         self.tables.add_object(object)
@@ -91,6 +100,7 @@ impl<'p> Expressions<'p> {
     pub fn add_block(&mut self, block: BlockCode) -> Result<(), NoMemory>
         requires { IsBlock (length self.old.tables.objects.items) block }
         ensures grown { AreGrown self.old.tables self.new.tables }
+        ensures fit { (p : ProgramOf) → AreFit p self.old.tables → AreFit p self.new.tables }
         ensures kept { self.new.all.items ≡ self.old.all.items }
     {
         self.tables.add_block(block)
@@ -107,7 +117,8 @@ impl<'p> Expressions<'p> {
     ) -> Result<(), NoMemory>
         requires laid_out { (firsts : List ℕ) × AreNodes firsts root.now nodes.now × AreEntries firsts self.old.tables nodes.now entries.now }
         requires within { IsRange (length self.old.tables.chosen.items) chosen }
-        ensures { OnOk result (roots_in self.new.all.items ≡ roots_in self.old.all.items ++ root.now ∷ []) }
+        ensures order { OnOk result (roots_in self.new.all.items ≡ roots_in self.old.all.items ++ root.now ∷ []) }
+        ensures tables { self.new.tables ≡ self.old.tables }
     {
         let first = self.entries.len();
         self.entries.extend_from_slice(entries)?;

@@ -4,6 +4,7 @@ ghost use Rattle.std.specs.Option.{ForSome};
 ghost use Rattle.c_types.specs.Types.{type_of};
 ghost use Rattle.c_typed.specs.declared.tree.Typed.{out-Typed};
 ghost use Rattle.c_typed.specs.Order.{place};
+ghost use Rattle.c_typed.specs.declared.program.Program.{Program as ProgramOf};
 ghost use Rattle.core_ir.specs.Term.{term_of};
 ghost use Rattle.run_code.specs.Roots.{roots_in};
 ghost use Rattle.run_code.specs.Listings.{entries_of, one, continuation, flat};
@@ -11,6 +12,7 @@ ghost use Rattle.run_code.specs.declared.steps.Operand.{Operand as OperandOf};
 ghost use Rattle.run_code.specs.Resolved.{value_at};
 ghost use Rattle.run_code.specs.Numbered.{AreNoted};
 ghost use Rattle.run_code.specs.InRange.{IsRange, IsChoice};
+ghost use Rattle.run_code.specs.Fitting.{AccessFits, RootFits, NodesFit, TreeFits, AreFit};
 ghost use Rattle.run_code.specs.EventActs.{head_at, pointed, first_type, seen, last_of, rest_of, room_of, change_access, IsValue, Stores, IsEffect, Calls, IsBody, IsAct, ends_with, IsDue, AreEntries, AreGrown};
 
 use crate::choices::{chosen_at_once, is_choice};
@@ -56,7 +58,8 @@ fn object_ty(tree: &Typed) -> &Ty
 impl<'p, 't> Draft<'p, 't> {
     // The full expression of this root, which comes next.
     pub fn expression(&mut self, root: &'p Typed) -> Result<(), NoMemory>
-        ensures { OnOk result (roots_in self.new.expressions.all.items ≡ roots_in self.old.expressions.all.items ++ root.now ∷ []) }
+        ensures order { OnOk result (roots_in self.new.expressions.all.items ≡ roots_in self.old.expressions.all.items ++ root.now ∷ []) }
+        ensures fit { (p : ProgramOf) → TreeFits p root.now → AreFit p self.old.expressions.tables → OnOk result (AreFit p self.new.expressions.tables) }
     {
         let mut nodes = Vec::new(self.alloc);
         let mut counts = Counts {
@@ -75,6 +78,7 @@ impl<'p, 't> Draft<'p, 't> {
     fn listing(&mut self, nodes: &[NodeInfo<'p>]) -> Result<Vec<Listed<'p>>, NoMemory>
         ensures objects { OnOk result (self.new.function.objects.first.items ≡ self.old.function.objects.first.items) }
         ensures kept { OnOk result (self.new.expressions.all.items ≡ self.old.expressions.all.items) }
+        ensures fit { (p : ProgramOf) → NodesFit p nodes.now → AreFit p self.old.expressions.tables → OnOk result (AreFit p self.new.expressions.tables) }
         ensures due { IfOk result (λ es. AreEntries self.new.function.objects.first.items self.new.expressions.tables nodes.now es.items) }
     {
         let mut entries = Vec::new(self.alloc);
@@ -97,6 +101,7 @@ impl<'p, 't> Draft<'p, 't> {
     ) -> Result<Range, NoMemory>
         ensures objects { self.new.function.objects.first.items ≡ self.old.function.objects.first.items }
         ensures kept { self.new.expressions.all.items ≡ self.old.expressions.all.items }
+        ensures fit { (p : ProgramOf) → AreFit p self.old.expressions.tables → OnOk result (AreFit p self.new.expressions.tables) }
         ensures grown { OnOk result (AreGrown self.old.expressions.tables self.new.expressions.tables) }
         ensures within { IfOk result (IsRange (length self.new.expressions.tables.chosen.items)) }
     {
@@ -116,6 +121,7 @@ impl<'p, 't> Draft<'p, 't> {
         ensures listing { OnOk result (entries_of entries.new.items ≡ entries_of entries.old.items ++ flat (length nodes.now) (term_of core.now)) }
         ensures objects { OnOk result (self.new.function.objects.first.items ≡ self.old.function.objects.first.items) }
         ensures kept { OnOk result (self.new.expressions.all.items ≡ self.old.expressions.all.items) }
+        ensures fit { (p : ProgramOf) → NodesFit p nodes.now → AreFit p self.old.expressions.tables → OnOk result (AreFit p self.new.expressions.tables) }
         ensures due { AreEntries self.old.function.objects.first.items self.old.expressions.tables nodes.now entries.old.items → OnOk result (AreEntries self.new.function.objects.first.items self.new.expressions.tables nodes.now entries.new.items) }
     {
         match core {
@@ -154,6 +160,7 @@ impl<'p, 't> Draft<'p, 't> {
         ensures listing { OnOk result (entries_of entries.new.items ≡ entries_of entries.old.items ++ continuation node operand (flat (length nodes.now) (term_of core.now))) }
         ensures objects { OnOk result (self.new.function.objects.first.items ≡ self.old.function.objects.first.items) }
         ensures kept { OnOk result (self.new.expressions.all.items ≡ self.old.expressions.all.items) }
+        ensures fit { (p : ProgramOf) → NodesFit p nodes.now → AreFit p self.old.expressions.tables → OnOk result (AreFit p self.new.expressions.tables) }
         ensures due { AreEntries self.old.function.objects.first.items self.old.expressions.tables nodes.now entries.old.items → OnOk result (AreEntries self.new.function.objects.first.items self.new.expressions.tables nodes.now entries.new.items) }
     {
         let at = entries.len();
@@ -229,6 +236,7 @@ impl<'p, 't> Draft<'p, 't> {
         ensures listing { OnOk result (entries_of entries.new.items ≡ entries_of entries.old.items ++ one (length nodes.now) (place number kind)) }
         ensures objects { OnOk result (self.new.function.objects.first.items ≡ self.old.function.objects.first.items) }
         ensures kept { OnOk result (self.new.expressions.all.items ≡ self.old.expressions.all.items) }
+        ensures fit { (p : ProgramOf) → NodesFit p nodes.now → AreFit p self.old.expressions.tables → OnOk result (AreFit p self.new.expressions.tables) }
         ensures due { AreEntries self.old.function.objects.first.items self.old.expressions.tables nodes.now entries.old.items → OnOk result (AreEntries self.new.function.objects.first.items self.new.expressions.tables nodes.now entries.new.items) }
     {
         let Some(info) = nodes.get(number as usize) else {
@@ -250,6 +258,7 @@ impl<'p, 't> Draft<'p, 't> {
         ensures place { IfOk result (λ d. d.place ≡ place number kind) }
         ensures objects { OnOk result (self.new.function.objects.first.items ≡ self.old.function.objects.first.items) }
         ensures kept { OnOk result (self.new.expressions.all.items ≡ self.old.expressions.all.items) }
+        ensures fit { (p : ProgramOf) → RootFits p info.entry.tree.now → AreFit p self.old.expressions.tables → OnOk result (AreFit p self.new.expressions.tables) }
         ensures grown { OnOk result (AreGrown self.old.expressions.tables self.new.expressions.tables) }
         ensures due { IfOk result (λ d. AreNoted self.old.function.objects.first.items nodes.now → slice_get nodes.now number ≡ Some info.entry → IsDue self.old.function.objects.first.items self.new.expressions.tables (length nodes.now) d info.entry) }
     {
@@ -278,6 +287,7 @@ impl<'p, 't> Draft<'p, 't> {
     ) -> Result<Act<'p>, NoMemory>
         ensures objects { OnOk result (self.new.function.objects.first.items ≡ self.old.function.objects.first.items) }
         ensures kept { OnOk result (self.new.expressions.all.items ≡ self.old.expressions.all.items) }
+        ensures fit { (p : ProgramOf) → RootFits p info.entry.tree.now → AreFit p self.old.expressions.tables → OnOk result (AreFit p self.new.expressions.tables) }
         ensures grown { OnOk result (AreGrown self.old.expressions.tables self.new.expressions.tables) }
         ensures act { IfOk result (λ a. IsAct self.old.function.objects.first.items self.new.expressions.tables info.entry.initializer (head_at (out-Typed info.entry.tree.now).node) (seen info.entry.tree.now operands.now info.entry.operand room) kind a) }
     {
@@ -298,6 +308,7 @@ impl<'p, 't> Draft<'p, 't> {
     ) -> Result<Option<u32>, NoMemory>
         ensures objects { self.new.function.objects.first.items ≡ self.old.function.objects.first.items }
         ensures kept { self.new.expressions.all.items ≡ self.old.expressions.all.items }
+        ensures fit { (p : ProgramOf) → AreFit p self.old.expressions.tables → OnOk result (AreFit p self.new.expressions.tables) }
         ensures grown { OnOk result (AreGrown self.old.expressions.tables self.new.expressions.tables) }
         ensures within { IfOk result (λ o. ForSome o (λ n. n < length self.new.expressions.tables.choices.items)) }
     {
@@ -316,6 +327,7 @@ impl<'p, 't> Draft<'p, 't> {
     ) -> Result<Option<u32>, NoMemory>
         ensures objects { self.new.function.objects.first.items ≡ self.old.function.objects.first.items }
         ensures kept { self.new.expressions.all.items ≡ self.old.expressions.all.items }
+        ensures fit { (p : ProgramOf) → AreFit p self.old.expressions.tables → OnOk result (AreFit p self.new.expressions.tables) }
         ensures grown { OnOk result (AreGrown self.old.expressions.tables self.new.expressions.tables) }
         ensures within { IfOk result (λ o. ForSome o (λ n. n < length self.new.expressions.tables.choices.items)) }
     {
@@ -342,6 +354,7 @@ impl<'p, 't> Draft<'p, 't> {
     ) -> Result<Choice, NoMemory>
         ensures objects { self.new.function.objects.first.items ≡ self.old.function.objects.first.items }
         ensures kept { self.new.expressions.all.items ≡ self.old.expressions.all.items }
+        ensures fit { (p : ProgramOf) → AreFit p self.old.expressions.tables → OnOk result (AreFit p self.new.expressions.tables) }
         ensures grown { OnOk result (AreGrown self.old.expressions.tables self.new.expressions.tables) }
         ensures within { IfOk result (IsChoice (length self.new.expressions.tables.chosen.items)) }
     {
@@ -364,6 +377,7 @@ impl<'p, 't> Draft<'p, 't> {
     ) -> Result<Way, NoMemory>
         ensures objects { self.new.function.objects.first.items ≡ self.old.function.objects.first.items }
         ensures kept { self.new.expressions.all.items ≡ self.old.expressions.all.items }
+        ensures fit { (p : ProgramOf) → AreFit p self.old.expressions.tables → OnOk result (AreFit p self.new.expressions.tables) }
         ensures grown { OnOk result (AreGrown self.old.expressions.tables self.new.expressions.tables) }
         ensures within { IfOk result (λ w. IsRange (length self.new.expressions.tables.chosen.items) w.chosen) }
     {
@@ -389,6 +403,7 @@ impl<'p, 't> Draft<'p, 't> {
     ) -> Result<Act<'p>, NoMemory>
         ensures objects { OnOk result (self.new.function.objects.first.items ≡ self.old.function.objects.first.items) }
         ensures kept { OnOk result (self.new.expressions.all.items ≡ self.old.expressions.all.items) }
+        ensures fit { (p : ProgramOf) → RootFits p tree.now → AreFit p self.old.expressions.tables → OnOk result (AreFit p self.new.expressions.tables) }
         ensures grown { OnOk result (AreGrown self.old.expressions.tables self.new.expressions.tables) }
         ensures act { (own : OperandOf) → IfOk result (λ a. IsEffect self.old.function.objects.first.items self.new.expressions.tables (head_at (out-Typed tree.now).node) (seen tree.now operands.now own room) a) }
     {
@@ -424,6 +439,7 @@ impl<'p, 't> Draft<'p, 't> {
     ) -> Result<Act<'p>, NoMemory>
         ensures objects { OnOk result (self.new.function.objects.first.items ≡ self.old.function.objects.first.items) }
         ensures kept { OnOk result (self.new.expressions.all.items ≡ self.old.expressions.all.items) }
+        ensures fit { (p : ProgramOf) → AccessFits access (pointed (first_type (type_of (out-Typed tree.now).ty) (out-Typed tree.now).children)) → AreFit p self.old.expressions.tables → OnOk result (AreFit p self.new.expressions.tables) }
         ensures grown { OnOk result (AreGrown self.old.expressions.tables self.new.expressions.tables) }
         ensures act { IfOk result (λ a. Stores self.new.expressions.tables access initializing (pointed (first_type (type_of (out-Typed tree.now).ty) (out-Typed tree.now).children)) place value a) }
     {
@@ -447,6 +463,7 @@ impl<'p, 't> Draft<'p, 't> {
     ) -> Result<Act<'p>, NoMemory>
         ensures objects { OnOk result (self.new.function.objects.first.items ≡ self.old.function.objects.first.items) }
         ensures kept { OnOk result (self.new.expressions.all.items ≡ self.old.expressions.all.items) }
+        ensures fit { (p : ProgramOf) → AreFit p self.old.expressions.tables → OnOk result (AreFit p self.new.expressions.tables) }
         ensures grown { OnOk result (AreGrown self.old.expressions.tables self.new.expressions.tables) }
         ensures act { (own : OperandOf) (room : ℕ) → IfOk result (λ a. IsBody self.new.expressions.tables initializer (head_at (out-Typed tree.now).node) (seen tree.now operands.now own room) a) }
     {
@@ -460,6 +477,7 @@ impl<'p, 't> Draft<'p, 't> {
     fn call(&mut self, tree: &'p Typed, operands: &[Operand]) -> Result<Act<'p>, NoMemory>
         ensures objects { OnOk result (self.new.function.objects.first.items ≡ self.old.function.objects.first.items) }
         ensures kept { OnOk result (self.new.expressions.all.items ≡ self.old.expressions.all.items) }
+        ensures fit { (p : ProgramOf) → AreFit p self.old.expressions.tables → OnOk result (AreFit p self.new.expressions.tables) }
         ensures grown { OnOk result (AreGrown self.old.expressions.tables self.new.expressions.tables) }
         ensures act { IfOk result (λ a. Calls self.new.expressions.tables operands.now a) }
     {
