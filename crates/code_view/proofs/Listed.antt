@@ -1,12 +1,12 @@
 -- The constants of the initializer lists of a lawful program are lawful.
-use Rattle.std.proofs.Common.{◌≡◌, Bool, List, [], ◌∷◌, ◌++◌, map, sym, ap, subst, ◌∙◌}
+use Rattle.std.proofs.Common.{◌≡◌, ℕ, suc, Bool, false, List, [], ◌∷◌, ◌++◌, map, length, refl, sym, ap, subst, ◌∙◌}
 use Rattle.std.specs.List.{All}
 use Rattle.std.proofs.lemmas.List.Elements.{All-nil, All-cons, All-head, All-tail, All-append, All-weaker}
 use Rattle.c_types.specs.Types.{CType, Signature, type_of}
 use Rattle.c_typed.specs.declared.program.Program.{Program}
 use Rattle.c_typed.specs.declared.tree.Access.{Access}
 use Rattle.c_typed.specs.declared.tree.Slot.{Slot}
-use Rattle.c_typed.specs.declared.tree.Node.{Node, fold-Node, fold_out-Node, map-Node}
+use Rattle.c_typed.specs.declared.tree.Node.{Node, fold-Node, fold_out-Node, map-Node, out-Node}
 use Rattle.c_typed.specs.declared.tree.Node.TheOpen as shape
 use Rattle.c_typed.specs.declared.tree.Typed.{Typed, out-Typed, fold_out-Typed}
 use Rattle.c_typed.specs.Lawful.{IsPlain, IsPlainTree, Root, root_of, operands_of, IsOwnObject, IsObject, IsPart, StoresPart, IsListed, Initializes}

@@ -10,3 +10,4 @@ mod NamedLemmas
 mod Rooted
 mod FittingLemmas
 mod Coded
+mod AtOnce

@@ -9,13 +9,18 @@ use Rattle.std.proofs.Common.{
   false,
   if◌then◌else◌,
   ℕ,
+  zero,
+  suc,
   List,
   [],
   ◌∷◌,
   ◌++◌,
   length,
+  Option,
   Some,
+  None,
   slice_get,
+  refl,
   sym,
   ap,
   subst,
@@ -25,6 +30,7 @@ use Rattle.std.proofs.Common.{
   inr,
 }
 use Rattle.std.specs.List.{All}
+use Rattle.std.specs.Option.{ForSome}
 use Rattle.std.proofs.lemmas.List.Elements.{All-weaker, All-push, All-append}
 use Rattle.std.proofs.lemmas.Option.{slice_get_within, slice_get_cases}
 use Rattle.ub_base.specs.declared.clause.Kind.{Kind}
@@ -45,6 +51,7 @@ use Rattle.run_code.specs.declared.steps.ObjectCode.{ObjectCode}
 use Rattle.run_code.specs.declared.tables.Tables.{Tables}
 use Rattle.run_code.specs.InRange.{IsChoice, IsObject, IsBlock}
 use Rattle.run_code.specs.EventActs.{Sight, IsValue, IsEffect, IsBody, IsAct, IsEntry, AreEntries, AreGrown}
+use Rattle.run_code.specs.Choices.{MakesChoice, ChoosesAt}
 use Rattle.run_code.specs.Numbered.{AreNodes}
 use Rattle.run_code.specs.Named.{IsNamed, IsDueOf, IsListedOf, IsExpressionOf}
 
@@ -176,10 +183,24 @@ abbrev is_event : Listed → Bool
 is_event (listed.Event e) = true
 is_event (listed.Operand node index count) = false
 
+-- a choice that is made is in the table
+made_there : (firsts : List ℕ) (tables : Tables) (nodes : List NodeInfo) (n : ℕ) (x : NodeInfo) (o : Option ℕ) → MakesChoice firsts tables nodes n x o →
+    ForSome o (λ k. k < length tables.choices.items)
+made_there firsts tables nodes n x None h = λ k e. absurd (cc)
+made_there firsts tables nodes n x (Some number) h = λ k e.
+    let same : number ≡ k = cc in
+    subst (λ z. z < length tables.choices.items) same (slice_get_within tables.choices.items number h.3 h.4)
+
+choice_there : (firsts : List ℕ) (tables : Tables) (nodes : List NodeInfo) (n : ℕ) (x : NodeInfo) (kind : Kind) (o : Option ℕ) → ChoosesAt firsts tables nodes n x kind o →
+    ForSome o (λ k. k < length tables.choices.items)
+choice_there firsts tables nodes n x Val o h = made_there firsts tables nodes n x o h
+choice_there firsts tables nodes n x Eff o h = λ k e. absurd (cc)
+choice_there firsts tables nodes n x Body o h = λ k e. absurd (cc)
+
 -- an event of a node names what is there
 pub entry_named : (firsts : List ℕ) (tables : Tables) (nodes : List NodeInfo) (x : Listed) → IsEntry firsts tables nodes x → IsListedOf tables x
 entry_named firsts tables nodes (listed.Event d) e = λ f k.
-    subst (IsDueOf tables) (ap (due_or d) k) (act_named firsts tables _ _ _ d.place.kind d.act e.2.does, e.2.choice)
+    subst (IsDueOf tables) (ap (due_or d) k) (act_named firsts tables _ _ _ d.place.kind d.act e.2.does, choice_there firsts tables nodes d.place.node e.0 d.place.kind d.choice e.2.choice)
 entry_named firsts tables nodes (listed.Operand node index count) e = λ f k. absurd (cc (ap is_event k))
 
 pub entries_named : (firsts : List ℕ) (root : Typed) (tables : Tables) (nodes : List NodeInfo) (es : List Listed) → AreNodes firsts root nodes →
@@ -193,6 +214,13 @@ slice_get_at xs n l = elim (slice_get_cases xs n).1 [ inl k ↦ (k.0, k.2) | inr
 first_longer : {A : Type 0} (xs ys : List A) → ((n : ℕ) (x : A) → slice_get xs n ≡ Some x → slice_get ys n ≡ Some x) → (n : ℕ) → n < length xs → n < length ys
 first_longer xs ys f n l = let there = slice_get_at xs n l in slice_get_within ys n there.0 (f n there.0 there.1)
 
+all_longer : {A : Type 0} (xs ys : List A) → ((n : ℕ) (x : A) → slice_get xs n ≡ Some x → slice_get ys n ≡ Some x) → length xs ≤ length ys
+all_longer xs ys f = by_last (length xs) refl
+  where
+    by_last : (n : ℕ) → n ≡ length xs → length xs ≤ length ys
+    by_last zero e = omega (arith, e)
+    by_last (suc n) e = let there = first_longer xs ys f n (omega (arith, e)) in omega (arith, there, e)
+
 act_of_longer : (old new : Tables) → AreGrown old new → (a : Act) → IsNamed old a → IsNamed new a
 act_of_longer old new g a h = (
   λ n place value e. first_longer old.stores.items new.stores.items g.stores n (h.0 n place value e),
@@ -201,7 +229,7 @@ act_of_longer old new g a h = (
 )
 
 listed_longer : (old new : Tables) → AreGrown old new → (x : Listed) → IsListedOf old x → IsListedOf new x
-listed_longer old new g x h = λ d e. (act_of_longer old new g d.act (h d e).0, λ n k. omega (arith, (h d e).1 n k, g.choices))
+listed_longer old new g x h = λ d e. (act_of_longer old new g d.act (h d e).0, λ n k. first_longer old.choices.items new.choices.items g.choices n ((h d e).1 n k))
 
 pub named_grown : (old new : Tables) (es : List Listed) → AreGrown old new → All (IsListedOf old) es → All (IsListedOf new) es
 named_grown old new es g h = All-weaker (IsListedOf old) (IsListedOf new) (listed_longer old new g) es h
@@ -209,4 +237,5 @@ named_grown old new es g h = All-weaker (IsListedOf old) (IsListedOf new) (liste
 pub within_grown : (old new : Tables) (entries longer : List Listed) (es : List Expression) → AreGrown old new → length entries ≤ length longer →
     All (IsExpressionOf old entries) es → All (IsExpressionOf new longer) es
 within_grown old new entries longer es g l h =
-    All-weaker (IsExpressionOf old entries) (IsExpressionOf new longer) (λ e k. (k.0, omega (arith, k.1, l), omega (arith, k.2, g.chosen))) es h
+    All-weaker (IsExpressionOf old entries) (IsExpressionOf new longer)
+    (λ e k. (k.0, omega (arith, k.1, l), omega (arith, k.2, all_longer old.chosen.items new.chosen.items g.chosen))) es h

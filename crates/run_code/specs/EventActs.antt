@@ -1,7 +1,6 @@
 -- What the events of a node do, by the node and where the values of its operands come from (6.5), and what is noted of them.
 use Rattle.std.specs.Prelude.{◌≡◌, ℕ, suc, ◌+◌, ◌^◌, ◌-◌, ◌<◌, ◌≤◌, min, pos, Bool, true, false, List, [], ◌∷◌, length, Some, slice_get}
 use Rattle.std.specs.List.{All}
-use Rattle.std.specs.Option.{ForSome}
 use Rattle.std.specs.Borrow.{Bor}
 use Rattle.ub_base.specs.declared.clause.Kind.{Kind}
 use Rattle.ub_base.specs.declared.clause.Kind.TheVariants.{Val, Eff, Body}
@@ -29,6 +28,7 @@ use Rattle.run_code.specs.declared.steps.Listed.TheVariants as listed
 use Rattle.run_code.specs.declared.tables.Tables.{Tables}
 use Rattle.run_code.specs.Resolved.{resolved, object_of, operands_from, value_at}
 use Rattle.run_code.specs.Numbered.{AreNoted}
+use Rattle.run_code.specs.Choices.{ChoosesAt}
 
 -- a node without the trees below it
 abbrev pub head_at : Node → Head
@@ -166,16 +166,16 @@ IsAct firsts tables initializer h s Val a = IsValue h s a
 IsAct firsts tables initializer h s Eff a = IsEffect firsts tables h s a
 IsAct firsts tables initializer h s Body a = IsBody tables initializer h s a
 
--- what is noted of an event of this node; the choice that is made at it is one of the table
-pub record IsDue (firsts : List ℕ) (tables : Tables) (count : ℕ) (d : Due) (x : NodeInfo) : Type 0 where
+-- what is noted of an event of this node
+pub record IsDue (firsts : List ℕ) (tables : Tables) (nodes : List NodeInfo) (d : Due) (x : NodeInfo) : Type 0 where
   pub line : d.line ≡ (out-Typed x.tree.now).line
   pub parent : d.parent ≡ x.parent
   pub completes : d.completes ≡ ends_with (head_at (out-Typed x.tree.now).node) d.place.kind
-  pub does : IsAct firsts tables x.initializer (head_at (out-Typed x.tree.now).node) (sight_of firsts count d.place.node x) d.place.kind d.act
-  pub choice : ForSome d.choice (λ n. n < length tables.choices.items)
+  pub does : IsAct firsts tables x.initializer (head_at (out-Typed x.tree.now).node) (sight_of firsts (length nodes) d.place.node x) d.place.kind d.act
+  pub choice : ChoosesAt firsts tables nodes d.place.node x d.place.kind d.choice
 
 abbrev pub IsEntry : List ℕ → Tables → List NodeInfo → Listed → Type 0
-IsEntry firsts tables nodes (listed.Event d) = (x : NodeInfo) × (slice_get nodes d.place.node ≡ Some x) × IsDue firsts tables (length nodes) d x
+IsEntry firsts tables nodes (listed.Event d) = (x : NodeInfo) × (slice_get nodes d.place.node ≡ Some x) × IsDue firsts tables nodes d x
 IsEntry firsts tables nodes (listed.Operand node index count) = Unit {0}
 
 -- where what is noted of the nodes is so, what is noted of the events is so too
@@ -191,6 +191,6 @@ pub record AreGrown (old new : Tables) : Type 0 where
   pub calls : AreFirst old.calls.items new.calls.items
   pub stores : AreFirst old.stores.items new.stores.items
   pub constants : AreFirst old.constants.items new.constants.items
-  pub chosen : length old.chosen.items ≤ length new.chosen.items
-  pub choices : length old.choices.items ≤ length new.choices.items
+  pub chosen : AreFirst old.chosen.items new.chosen.items
+  pub choices : AreFirst old.choices.items new.choices.items
   pub objects : length old.objects.items ≤ length new.objects.items

@@ -2,6 +2,9 @@ pub mod Listings
 pub mod Resolved
 pub mod Numbered
 pub mod InRange
+pub mod Choosing
+pub mod AtOnce
+pub mod Choices
 pub mod EventActs
 pub mod LaidOut
 pub mod Fitting

@@ -26,6 +26,7 @@ impl<'p> Expressions<'p> {
     ghost use Rattle.run_code.specs.Roots.{roots_in};
     ghost use Rattle.run_code.specs.Numbered.{AreNodes};
     ghost use Rattle.run_code.specs.InRange.{IsRange, IsChoice, IsObject, IsBlock};
+    ghost use Rattle.run_code.specs.AtOnce.{chosen_of, Lists};
     ghost use Rattle.run_code.specs.EventActs.{AreGrown, AreEntries};
     ghost use Rattle.c_typed.specs.declared.program.Program.{Program as ProgramOf};
     ghost use Rattle.run_code.specs.Fitting.{AreFit, AreLawful, StoreFits};
@@ -71,6 +72,7 @@ impl<'p> Expressions<'p> {
 
     pub fn add_chosen(&mut self, chosen: &[(u32, u32)]) -> Result<Range, NoMemory>
         ensures within { IfOk result (IsRange (length self.new.tables.chosen.items)) }
+        ensures lists { IfOk result (λ r. Lists self.new.tables.chosen.items r chosen.now) }
         ensures grown { AreGrown self.old.tables self.new.tables }
         ensures fit { (p : ProgramOf) → AreFit p self.old.tables → AreFit p self.new.tables }
         ensures kept { self.new.all.items ≡ self.old.all.items }
@@ -80,7 +82,7 @@ impl<'p> Expressions<'p> {
 
     pub fn add_choice(&mut self, choice: Choice) -> Result<u32, NoMemory>
         requires { IsChoice (length self.old.tables.chosen.items) choice }
-        ensures within { IfOk result (λ n. n < length self.new.tables.choices.items) }
+        ensures at { IfOk result (λ n. slice_get self.new.tables.choices.items n ≡ Some choice) }
         ensures grown { AreGrown self.old.tables self.new.tables }
         ensures fit { (p : ProgramOf) → AreFit p self.old.tables → AreFit p self.new.tables }
         ensures kept { self.new.all.items ≡ self.old.all.items }
@@ -115,8 +117,7 @@ impl<'p> Expressions<'p> {
         nodes: &[NodeInfo<'p>],
         entries: &[Listed<'p>],
     ) -> Result<(), NoMemory>
-        requires laid_out { (firsts : List ℕ) × AreNodes firsts root.now nodes.now × AreEntries firsts self.old.tables nodes.now entries.now }
-        requires within { IsRange (length self.old.tables.chosen.items) chosen }
+        requires { (firsts : List ℕ) × AreNodes firsts root.now nodes.now × AreEntries firsts self.old.tables nodes.now entries.now × Lists self.old.tables.chosen.items chosen (chosen_of firsts root.now 0) }
         ensures order { OnOk result (roots_in self.new.all.items ≡ roots_in self.old.all.items ++ root.now ∷ []) }
         ensures tables { self.new.tables ≡ self.old.tables }
     {
