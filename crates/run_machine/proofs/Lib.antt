@@ -1,3 +1,7 @@
 mod Picked
 mod Parts
 mod Steering
+mod Aside
+mod Staying
+mod Lives
+mod Unwriting

@@ -1,10 +1,11 @@
 // The control steps (6.8).
-ghost use Rattle.std.specs.Prelude.{◌≡◌, ◌∷◌, ℤ, Bool, Option, None, OnOk};
+ghost use Rattle.std.specs.Prelude.{◌≡◌, ◌∷◌, ◌+◌, ◌-◌, ◌^◌, min, ℤ, Bool, Option, None, Some, slice_get, IfOk, OnOk};
 ghost use Rattle.run_control.specs.Moves.{moved};
 ghost use Rattle.c_model.specs.Control.{Break_here, moved_in};
 ghost use Rattle.run_control.specs.declared.links.Place.{Place};
 ghost use Rattle.run_control.specs.Links.{work_at};
 ghost use Rattle.run_control.specs.View.{Meaning, after, todo_of};
+ghost use Rattle.run_machine.specs.Answering.{AnswersStep, AnswersUnwrite, step_of_move};
 ghost use Rattle.run_machine.specs.Moving.{GoesOn, IsGone, StepLeaves, TakesStep};
 
 use crate::frames::end_frame;
@@ -68,6 +69,7 @@ fn go_on(machine: &mut Machine) -> Result<Pick, Halt>
 fn go(machine: &mut Machine, how: Move) -> Result<Pick, Halt>
     ensures below { OnOk result (machine.new.work.below ≡ machine.old.work.below) }
     ensures now { OnOk result ((m : Meaning) → todo_of m machine.new.work.now ≡ moved how (todo_of m machine.old.work.now)) }
+    ensures answers { AnswersStep (step_of_move how) machine.old machine.new result }
 {
     machine.work.go(how)?;
     Ok(Pick::Step(None))
@@ -88,7 +90,9 @@ fn go_to(machine: &mut Machine, label: u32) -> Result<Pick, Halt>
 fn block_of<'c>(
     machine: &Machine<'_, 'c>,
     number: u32,
-) -> Result<(BlockCode, &'c [ObjectCode]), NoMemory> {
+) -> Result<(BlockCode, &'c [ObjectCode]), NoMemory>
+    ensures { IfOk result (λ b. slice_get machine.now.code.now.tables.blocks.items (min (machine.now.top.blocks + number) (2 ^ 32 - 1)) ≡ Some b.0) }
+{
     let code = machine.code;
     let at = machine.top.blocks.saturating_add(number);
     match code.block(at) {
@@ -199,7 +203,8 @@ fn leave(machine: &mut Machine, number: u32) -> Result<(), NoMemory>
 
 // The bytes of an object of the innermost block become unwritten.
 fn declare(machine: &mut Machine, object: u32) -> Result<Pick, Halt>
-    ensures { machine.new.work ≡ machine.old.work }
+    ensures work { machine.new.work ≡ machine.old.work }
+    ensures answers { AnswersUnwrite object machine.old machine.new result }
 {
     let Some(block) = machine.work.block() else {
         return Err(Halt::NoMemory);
