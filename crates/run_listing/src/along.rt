@@ -1,8 +1,9 @@
 // What a listing has from one place on.
-ghost use Rattle.std.specs.Prelude.{◌≡◌, ◌+◌, ◌<◌, min, length, IfOk, IfSome, if◌then◌else◌};
+ghost use Rattle.std.specs.Prelude.{◌≡◌, ◌≢◌, ◌+◌, ◌<◌, min, length, IfOk, IfSome, IfNone, if◌then◌else◌};
 ghost use Rattle.c_typed.specs.declared.tree.Place.{Place as PlaceOf};
 ghost use Rattle.c_typed.specs.Order.{has, is_number};
 ghost use Rattle.seq_order.specs.Marked.{taken_in, done_in};
+ghost use Rattle.run_code.specs.declared.steps.Due.{Due as DueOf};
 ghost use Rattle.run_listing.specs.Along.{part_of, events_of, Next, IsListed};
 
 use c_typed::Place;
@@ -86,6 +87,7 @@ fn behind<'c, 'p>(entries: &'c [Listed<'p>], at: usize) -> &'c [Listed<'p>]
 pub fn due_of<'c, 'p>(entries: &'c [Listed<'p>], place: Place) -> Option<&'c Due<'p>>
     ensures place { IfSome result (λ due. due.now.place ≡ place) }
     ensures listed { IfSome result (λ due. IsListed entries.now due.now) }
+    ensures none { IfNone result ((due : DueOf) → IsListed entries.now due → due.place ≢ place) }
 {
     for entry in entries {
         if let Listed::Event(due) = entry {
