@@ -1,3 +1,5 @@
 mod Each
 mod Vias
 mod Beginning
+mod Operands
+mod Rooms

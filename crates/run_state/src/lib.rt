@@ -3,10 +3,12 @@
 
 mod halt;
 mod initial;
+mod laws;
 mod machine;
 mod watch;
 
 pub use halt::Halt;
 pub use initial::prepare;
+pub use laws::law_operands;
 pub use machine::{Local, Machine, Open, Stage};
 pub use watch::{Begun, View};

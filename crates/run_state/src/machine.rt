@@ -1,5 +1,12 @@
 // The state of a run.
-ghost use Rattle.std.specs.Prelude.{◌≡◌};
+ghost use Rattle.std.specs.Prelude.{◌≡◌, ◌≢◌, ◌+◌, ◌<◌, ℕ, Some, IfOk, length, option_copied, slice_get};
+ghost use Rattle.c_model.specs.Values as model;
+ghost use Rattle.c_model.specs.Values.{integer_of, pointer_of};
+ghost use Rattle.prov_memory.specs.Memory.{Kept};
+ghost use Rattle.prov_memory.specs.declared.value.Value.{Value as Kept_value};
+ghost use Rattle.run_acts.specs.Views.{value_in, pointer_at};
+ghost use Rattle.run_code.specs.declared.steps.Operand.TheVariants as operands;
+ghost use Rattle.run_state.specs.Operands.{operand_in};
 
 use crate::watch::{Begun, View};
 use addr_map::AddrMap;
@@ -109,11 +116,15 @@ impl<'p, 'c> Machine<'p, 'c> {
     }
 
     // The value of a node of the open full expression.
-    fn done(&self, node: u32) -> Option<&Value> {
+    fn done(&self, node: u32) -> Option<&Value>
+        ensures { option_copied result ≡ slice_get self.now.values.items (self.now.top.base + node) }
+    {
         self.values.get(self.top.base.saturating_add(node as usize))
     }
 
-    pub fn local(&self, object: u32, offset: u64) -> Pointer {
+    pub fn local(&self, object: u32, offset: u64) -> Pointer
+        ensures { (h : Kept_value) → operand_in self.now (operands.Local object offset) ≡ Some h → (m : Kept) → pointer_at result ≡ pointer_of (value_in m h) }
+    {
         match self
             .locals
             .get(self.top.locals.saturating_add(object as usize))
@@ -123,7 +134,9 @@ impl<'p, 'c> Machine<'p, 'c> {
         }
     }
 
-    pub fn pointer(&self, operand: Operand) -> Pointer {
+    pub fn pointer(&self, operand: Operand) -> Pointer
+        ensures { (h : Kept_value) → operand_in self.now operand ≡ Some h → (m : Kept) → pointer_at result ≡ pointer_of (value_in m h) }
+    {
         match operand {
             Operand::Local { object, offset } => self.local(object, offset),
             Operand::Done(node) => match self.done(node) {
@@ -140,7 +153,9 @@ impl<'p, 'c> Machine<'p, 'c> {
         }
     }
 
-    pub fn integer(&self, operand: Operand) -> i128 {
+    pub fn integer(&self, operand: Operand) -> i128
+        ensures { (h : Kept_value) → operand_in self.now operand ≡ Some h → (m : Kept) → result ≡ integer_of (value_in m h) }
+    {
         match operand {
             Operand::Integer(number) => number,
             Operand::Done(node) => match self.done(node) {
@@ -151,18 +166,24 @@ impl<'p, 'c> Machine<'p, 'c> {
         }
     }
 
-    pub fn truth(&self, operand: Operand) -> bool {
+    pub fn truth(&self, operand: Operand) -> bool
+        ensures { (h : Kept_value) → operand_in self.now operand ≡ Some h → (m : Kept) → result ≡ model.truth (value_in m h) }
+    {
         match operand {
+            Operand::Integer(number) => number != 0,
+            Operand::Function(addr) => addr != 0,
             Operand::Done(node) => match self.done(node) {
                 Some(value) => truth(value),
                 None => true,
             },
-            _ => operand.truth(),
+            _ => self.pointer(operand).addr != 0,
         }
     }
 
     // A copy of an operand's value.
-    pub fn value(&self, operand: Operand) -> Result<Value, NoMemory> {
+    pub fn value(&self, operand: Operand) -> Result<Value, NoMemory>
+        ensures { IfOk result (λ v. (h : Kept_value) → operand_in self.now operand ≡ Some h → v ≡ h) }
+    {
         match operand {
             Operand::Integer(number) => Ok(Value::Int(number)),
             Operand::Function(addr) => Ok(Value::Func(addr)),
@@ -176,14 +197,18 @@ impl<'p, 'c> Machine<'p, 'c> {
 
     // Gives a room of the open full expression its value.
     pub fn keep(&mut self, room: u32, value: Value)
-        ensures { self.new ≡ record self.old { values = self.new.values } }
+        ensures rest { self.new ≡ record self.old { values = self.new.values } }
+        ensures room { self.old.top.base + room < length self.old.values.items → slice_get self.new.values.items (self.old.top.base + room) ≡ Some value }
+        ensures others { (j : ℕ) → j ≢ self.old.top.base + room → slice_get self.new.values.items j ≡ slice_get self.old.values.items j }
     {
         let at = self.top.base.saturating_add(room as usize);
         self.put(at, value);
     }
 
     pub fn put(&mut self, at: usize, value: Value)
-        ensures { self.new ≡ record self.old { values = self.new.values } }
+        ensures rest { self.new ≡ record self.old { values = self.new.values } }
+        ensures room { at < length self.old.values.items → slice_get self.new.values.items at ≡ Some value }
+        ensures others { (j : ℕ) → j ≢ at → slice_get self.new.values.items j ≡ slice_get self.old.values.items j }
     {
         if let Some(place) = self.values.get_mut(at) {
             *place = value;
@@ -192,7 +217,9 @@ impl<'p, 'c> Machine<'p, 'c> {
 
     // Takes the value out of a room.
     pub fn take(&mut self, room: u32) -> Value
-        ensures { self.new ≡ record self.old { values = self.new.values } }
+        ensures rest { self.new ≡ record self.old { values = self.new.values } }
+        ensures room { (h : Kept_value) → slice_get self.old.values.items (self.old.top.base + room) ≡ Some h → result ≡ h }
+        ensures others { (j : ℕ) → j ≢ self.old.top.base + room → slice_get self.new.values.items j ≡ slice_get self.old.values.items j }
     {
         let at = self.top.base.saturating_add(room as usize);
         match self.values.get_mut(at) {
