@@ -1,6 +1,17 @@
 // The acts of events.
-ghost use Rattle.std.specs.Prelude.{◌≡◌, ◌<◌, length};
+ghost use Rattle.std.specs.Prelude.{◌≡◌, ◌<◌, ◌&&◌, ◌||◌, not, if◌then◌else◌, length};
+ghost use Rattle.c_model.specs.Nodes as nodes;
+ghost use Rattle.c_model.specs.Nodes.{bool_value, int_outcome, operated};
+ghost use Rattle.c_model.specs.Values as model;
+ghost use Rattle.c_model.specs.Values.{integer_of, pointer_of};
+ghost use Rattle.c_types.specs.Types.{type_of};
+ghost use Rattle.mem_spec.specs.Script.{Give};
+ghost use Rattle.prov_memory.specs.Memory.{Kept};
+ghost use Rattle.run_acts.specs.Kept.{IsOf};
+ghost use Rattle.run_acts.specs.Updates.{IsNear, IsNearChange};
+ghost use Rattle.run_acts.specs.Views.{value_in};
 ghost use Rattle.run_code.specs.Named.{IsNamed};
+ghost use Rattle.run_events.specs.Acts.{given_by, pointer_script, value_script, AreGiven, ArePointersGiven, CanAct, Does, IsGiven, IsKept, KeepsValues};
 
 use crate::fault::Fault;
 use crate::frames::{call, initialize};
@@ -26,7 +37,10 @@ pub enum Outcome {
     End(u8),
 }
 
-fn number(value: bool) -> Value {
+fn number(value: bool) -> Value
+    ensures seen { (m : Kept) → value_in m result ≡ bool_value value }
+    ensures made { (m : Kept) → IsOf m result }
+{
     Value::Int(i128::from(value))
 }
 
@@ -62,7 +76,10 @@ fn call_of(machine: &mut Machine, number: u32, event: Event) -> Result<Outcome, 
 
 // The value that an act gives. What a function keeps on the stack is set to zero as it begins: so each act stands in one of its own,
 // which isn't inlined.
-fn value_act(machine: &mut Machine, act: &Act, event: Event) -> Result<Value, Fault> {
+fn value_act(machine: &mut Machine, act: &Act, event: Event) -> Result<Value, Fault>
+    ensures exact { CanAct machine.old → AreGiven machine.old event act.now → Does machine.old machine.new (value_script machine.old.memory.rows event (given_by machine.old) act.now) result }
+    ensures kept { IsKept machine.old machine.new }
+{
     match *act {
         Act::Load { access, ty, place } => loaded(machine, access, ty, place, event),
         Act::Same(operand) => same(machine, operand),
@@ -103,14 +120,19 @@ fn loaded(
     ty: &Ty,
     place: Operand,
     event: Event,
-) -> Result<Value, Fault> {
+) -> Result<Value, Fault>
+    ensures exact { CanAct machine.old → IsGiven machine.old place → Does machine.old machine.new (nodes.load machine.old.memory.rows event access (type_of ty.now) (pointer_of (given_by machine.old place))) result }
+    ensures kept { KeepsValues machine.old machine.new }
+{
     let place = machine.pointer(place);
     let t = &mut machine.items;
     Ok(load(&mut machine.memory, access, ty, event, place, t)?)
 }
 
 #[inline(never)]
-fn same(machine: &Machine, operand: Operand) -> Result<Value, Fault> {
+fn same(machine: &Machine, operand: Operand) -> Result<Value, Fault>
+    ensures exact { CanAct machine.now → IsGiven machine.now operand → Does machine.now machine.now (Give (given_by machine.now operand)) result }
+{
     Ok(machine.value(operand)?)
 }
 
@@ -121,7 +143,9 @@ fn arithmetic(
     kind: IntKind,
     left: Operand,
     right: Operand,
-) -> Result<Value, Fault> {
+) -> Result<Value, Fault>
+    ensures exact { CanAct machine.now → IsGiven machine.now left → IsGiven machine.now right → Does machine.now machine.now (int_outcome (operated op kind (integer_of (given_by machine.now left)) (integer_of (given_by machine.now right)))) result }
+{
     let (left, right) = (machine.integer(left), machine.integer(right));
     Ok(Value::Int(binary(op, kind, left, right)?))
 }
@@ -132,20 +156,28 @@ fn converted(
     conversion: Conversion,
     operand: Operand,
     event: Event,
-) -> Result<Value, Fault> {
+) -> Result<Value, Fault>
+    ensures exact { CanAct machine.old → IsGiven machine.old operand → Does machine.old machine.new (nodes.convert event conversion (given_by machine.old operand)) result }
+    ensures kept { KeepsValues machine.old machine.new }
+{
     let operand = machine.value(operand)?;
     let t = &mut machine.items;
     Ok(convert(&mut machine.memory, conversion, event, &operand, t)?)
 }
 
 #[inline(never)]
-fn unary_value(machine: &Machine, op: UnOp, operand: Operand) -> Result<Value, Fault> {
+fn unary_value(machine: &Machine, op: UnOp, operand: Operand) -> Result<Value, Fault>
+    ensures exact { CanAct machine.now → IsGiven machine.now operand → Does machine.now machine.now (nodes.unary_value op (given_by machine.now operand)) result }
+{
     let operand = machine.value(operand)?;
     Ok(unary(op, &operand)?)
 }
 
 // The acts on pointers. Lists and isolated initializers have no value.
-fn pointer_act(machine: &mut Machine, act: &Act) -> Result<Value, Fault> {
+fn pointer_act(machine: &mut Machine, act: &Act) -> Result<Value, Fault>
+    ensures exact { CanAct machine.old → ArePointersGiven machine.old act.now → Does machine.old machine.new (pointer_script machine.old.memory.rows (given_by machine.old) act.now) result }
+    ensures kept { KeepsValues machine.old machine.new }
+{
     match *act {
         Act::Move {
             size,
@@ -173,7 +205,10 @@ fn move_by(
     subtract: bool,
     pointer: Operand,
     index: Operand,
-) -> Result<Value, Fault> {
+) -> Result<Value, Fault>
+    ensures exact { CanAct machine.old → IsGiven machine.old pointer → IsGiven machine.old index → IsNear size (integer_of (given_by machine.old index)) → Does machine.old machine.new (nodes.shifted machine.old.memory.rows (pointer_of (given_by machine.old pointer)) (nodes.distance size subtract (integer_of (given_by machine.old index)))) result }
+    ensures kept { KeepsValues machine.old machine.new }
+{
     let pointer = machine.pointer(pointer);
     let index = machine.integer(index);
     let t = &mut machine.items;
@@ -182,7 +217,10 @@ fn move_by(
 }
 
 #[inline(never)]
-fn member_of(machine: &mut Machine, offset: u64, pointer: Operand) -> Result<Value, Fault> {
+fn member_of(machine: &mut Machine, offset: u64, pointer: Operand) -> Result<Value, Fault>
+    ensures exact { CanAct machine.old → IsGiven machine.old pointer → Does machine.old machine.new (nodes.member machine.old.memory.rows offset (pointer_of (given_by machine.old pointer))) result }
+    ensures kept { KeepsValues machine.old machine.new }
+{
     let pointer = machine.pointer(pointer);
     let t = &mut machine.items;
     let member = member(&mut machine.memory, pointer, offset, t)?;
@@ -195,7 +233,10 @@ fn distance_between(
     size: u64,
     left: Operand,
     right: Operand,
-) -> Result<Value, Fault> {
+) -> Result<Value, Fault>
+    ensures exact { CanAct machine.old → IsGiven machine.old left → IsGiven machine.old right → Does machine.old machine.new (nodes.difference size (pointer_of (given_by machine.old left)) (pointer_of (given_by machine.old right))) result }
+    ensures kept { KeepsValues machine.old machine.new }
+{
     let (left, right) = (machine.pointer(left), machine.pointer(right));
     let t = &mut machine.items;
     Ok(distance(&mut machine.memory, left, right, size, t)?)
@@ -208,14 +249,19 @@ fn relation(
     pointers: bool,
     left: Operand,
     right: Operand,
-) -> Result<Value, Fault> {
+) -> Result<Value, Fault>
+    ensures exact { CanAct machine.old → IsGiven machine.old left → IsGiven machine.old right → Does machine.old machine.new (nodes.relational op pointers (given_by machine.old left) (given_by machine.old right)) result }
+    ensures kept { KeepsValues machine.old machine.new }
+{
     let (left, right) = (machine.value(left)?, machine.value(right)?);
     let t = &mut machine.items;
     Ok(related(&mut machine.memory, op, pointers, &left, &right, t)?)
 }
 
 #[inline(never)]
-fn equality(machine: &Machine, op: EqOp, left: Operand, right: Operand) -> Result<Value, Fault> {
+fn equality(machine: &Machine, op: EqOp, left: Operand, right: Operand) -> Result<Value, Fault>
+    ensures exact { CanAct machine.now → IsGiven machine.now left → IsGiven machine.now right → Does machine.now machine.now (Give (nodes.equal op (given_by machine.now left) (given_by machine.now right))) result }
+{
     let (left, right) = (machine.value(left)?, machine.value(right)?);
     Ok(equal(op, &left, &right))
 }
@@ -228,14 +274,19 @@ fn part_of(
     access: Access,
     whole: Operand,
     event: Event,
-) -> Result<Value, Fault> {
+) -> Result<Value, Fault>
+    ensures exact { CanAct machine.old → IsGiven machine.old whole → Does machine.old machine.new (nodes.part_of event offset access (given_by machine.old whole)) result }
+    ensures kept { KeepsValues machine.old machine.new }
+{
     let alloc = machine.alloc;
     let whole = machine.value(whole)?;
     let t = &mut machine.items;
     Ok(part(alloc, &mut machine.memory, access, event, &whole, offset, t)?)
 }
 
-fn logical(machine: &Machine, either: bool, first: Operand, second: Operand) -> bool {
+fn logical(machine: &Machine, either: bool, first: Operand, second: Operand) -> bool
+    ensures { IsGiven machine.now first → (model.truth (given_by machine.now first) ≡ not either → IsGiven machine.now second) → result ≡ (if either then model.truth (given_by machine.now first) || model.truth (given_by machine.now second) else model.truth (given_by machine.now first) && model.truth (given_by machine.now second)) }
+{
     if either {
         machine.truth(first) || machine.truth(second)
     } else {
@@ -261,7 +312,10 @@ fn update(
     place: Operand,
     operand: Operand,
     room: u32,
-) -> Result<Value, Fault> {
+) -> Result<Value, Fault>
+    ensures exact { CanAct machine.old → IsGiven machine.old place → IsGiven machine.old operand → IsNearChange change (integer_of (given_by machine.old operand)) → Does machine.old machine.new (nodes.update_value machine.old.memory.rows event change old (type_of ty.now) (pointer_of (given_by machine.old place)) (integer_of (given_by machine.old operand))) result }
+    ensures kept { IsKept machine.old machine.new }
+{
     let place = machine.pointer(place);
     let operand = machine.integer(operand);
     let (t, spare) = (&mut machine.items, &mut machine.spare);
