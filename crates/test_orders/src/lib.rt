@@ -1,7 +1,9 @@
-//! Runs in another order, from their texts on. No code.
+//! Stories of objects and both orders of quarrels, from their texts on. No code.
 #![tactic(auto)]
 
 #[cfg(test)]
 mod orders;
 #[cfg(test)]
 mod programs;
+#[cfg(test)]
+mod stories;

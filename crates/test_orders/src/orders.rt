@@ -1,16 +1,74 @@
-// Orders that a guide chooses.
-use crate::programs::{CLEAN, program_of};
+// Both orders of two events, and orders that a guide chooses.
+use crate::programs::{CLEAN, ORDERS, program_of};
 use addr_map::{AddrMap, Mode};
 use c_typed::{Place, Program};
+use core_ir::CoreProgram;
 use elaborate::elaborate;
-use order_swap::{End, Followed, Guide, follow, post_order};
+use footprint_run::{Audit, Finding, Quiet, audit_run};
+use order_swap::{End, Followed, Guide, follow, post_order, swap_run, swapped_text};
 use run_machine::Begun;
 use seq_order::{Done, is_permitted};
 use std::alloc::Global;
 use std::test::Fail;
-use ub_base::{Event, Frame, Frames, NoMemory};
+use ub_base::{Bytes, Event, Frame, Frames, NoMemory};
 
 const STEPS: u64 = 1_000_000;
+
+// The text of both orders of the dependence that an audit found, or none where it found none.
+fn swapped_of(
+    alloc: Global,
+    core: &CoreProgram<'_>,
+    audit: &Audit,
+) -> Result<Option<Bytes>, NoMemory> {
+    let Finding::OrderDependent {
+        event,
+        line,
+        against,
+        against_line,
+        ..
+    } = audit.finding
+    else {
+        return Ok(None);
+    };
+    let swapped = swap_run(
+        alloc,
+        core,
+        b"",
+        &[],
+        Mode::Spaced,
+        STEPS,
+        &audit.frames,
+        event,
+        against,
+    )?;
+    let sides = ((event, line), (against, against_line));
+    match swapped_text(alloc, &audit.frames, sides.0, sides.1, &swapped) {
+        Ok(text) => Ok(Some(text)),
+        Err(NoMemory) => Err(NoMemory),
+    }
+}
+
+fn audited(alloc: Global, core: &CoreProgram<'_>) -> Result<Option<Bytes>, NoMemory> {
+    let audit = audit_run(alloc, core, b"", &[], Mode::Spaced, STEPS, &mut Quiet)?;
+    swapped_of(alloc, core, &audit)
+}
+
+// The text of both orders of a program's first dependence, or none where it has none.
+fn both_orders(alloc: Global, program: &Program) -> Result<Option<Bytes>, NoMemory> {
+    let core = elaborate(alloc, program)?;
+    audited(alloc, &core)
+}
+
+#[test]
+fn dependences_are_swapped(rt: HostRuntime) -> Result<(), Fail> {
+    let alloc = rt.alloc();
+    for (text, wanted) in ORDERS {
+        let program = program_of(alloc, text).expect(&rt, "a program");
+        let report = both_orders(alloc, &program)?.expect(&rt, "a dependence");
+        assert_eq!(rt; report.as_slice(), wanted.as_bytes(), "{text}");
+    }
+    Ok(())
+}
 
 // What is done in a full expression that has begun.
 #[derive(Drop)]
