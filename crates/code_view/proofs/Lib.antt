@@ -4,3 +4,4 @@ mod Own
 mod Listed
 mod Sited
 mod Whole
+mod Formed

@@ -37,7 +37,7 @@ use Rattle.run_statements.specs.Bodies.{Stands, IsStatement}
 use Rattle.run_code.specs.declared.steps.Expression.{Expression as Laid}
 use Rattle.run_code.specs.declared.steps.FunctionCode.{FunctionCode}
 use Rattle.run_code.specs.declared.whole.Code.{Code}
-use Rattle.code_view.specs.Fitting.{AccessFits, SiteFits, TreeFits, StoreFits}
+use Rattle.run_code.specs.Fitting.{AccessFits, SiteFits, TreeFits, StoreFits}
 use Rattle.run_code.specs.Roots.{as_block, block_in, trees_in, code_trees, IsCodeOf, AreCodeOf, IsNumberedBy}
 use Rattle.run_state.specs.Meaning.{AccessSuits}
 use Rattle.code_view.specs.Numbering.{RowHas, root_by, row_decls, body_decls, function_decls, decls_in, switch_by, meaning_of}

@@ -3,6 +3,8 @@ use Rattle.std.specs.Prelude.{◌≡◌, ℕ, flat_map, Option, Some, slice_get}
 use Rattle.std.specs.List.{All}
 use Rattle.c_typed.specs.declared.program.Program.{Program}
 use Rattle.c_typed.specs.Lawful.{IsLawful}
+use Rattle.elaborate.specs.Expressions.{program_trees}
+use Rattle.elaborate.specs.Formed.{EachFormed}
 use Rattle.c_model.specs.World.{World}
 use Rattle.c_model.specs.Steps.{body_of}
 use Rattle.program_view.specs.Trees.{expr_of}
@@ -12,7 +14,7 @@ use Rattle.run_statements.specs.declared.numbers.Numbers.{Numbers}
 use Rattle.run_code.specs.declared.steps.Expression.{Expression as Laid}
 use Rattle.run_code.specs.declared.steps.FunctionCode.{FunctionCode}
 use Rattle.run_code.specs.declared.whole.Code.{Code}
-use Rattle.code_view.specs.Fitting.{TreeFits, AreFit}
+use Rattle.run_code.specs.Fitting.{TreeFits, AreFit}
 use Rattle.run_code.specs.Roots.{code_trees, IsNumberedBy}
 use Rattle.run_state.specs.Meaning.{StandsProgram, StandsCode}
 use Rattle.code_view.specs.Numbering.{meaning_of}
@@ -41,6 +43,10 @@ SwitchesStand = (p : Program) (numbers : Numbers) (code : Code) → IsNumberedBy
 -- each node of the full expressions of a lawful program stores a pointer by its own type, and fills objects with lawful constants
 abbrev pub TreesFit : Type 0
 TreesFit = (p : Program) → IsLawful p → All (TreeFits p) (flat_map code_trees p.functions)
+
+-- the nodes of the full expressions of a lawful program have the operands that their operators take
+abbrev pub TreesAreFormed : Type 0
+TreesAreFormed = (p : Program) → IsLawful p → EachFormed (program_trees p)
 
 -- all together, in each world of the program
 abbrev pub LawfulCodeStands : Type 0

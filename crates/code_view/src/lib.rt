@@ -3,7 +3,7 @@
 //! A law function takes nothing and answers nothing: its contract is a law about the definitions.
 #![tactic(auto)]
 
-ghost use Rattle.code_view.specs.Laws.{RootsStand, BodiesStand, SwitchesStand, TreesFit, LawfulCodeStands};
+ghost use Rattle.code_view.specs.Laws.{RootsStand, BodiesStand, SwitchesStand, TreesFit, TreesAreFormed, LawfulCodeStands};
 
 /// The number of a full expression in the code stands for the expression of its typed tree.
 pub fn law_code_roots()
@@ -20,6 +20,11 @@ pub fn law_code_bodies()
 /// Each node of the full expressions of a lawful program stores a pointer by its own type, and fills objects with lawful constants.
 pub fn law_code_trees()
     ensures { TreesFit }
+{}
+
+/// The nodes of the full expressions of a lawful program have the operands that their operators take.
+pub fn law_code_formed()
+    ensures { TreesAreFormed }
 {}
 
 /// The numbers in the code that run_code lays out of a lawful program stand for what is in the program: full expressions, the objects of blocks, `switch`

@@ -155,13 +155,13 @@ entries_grown firsts old new nodes es g h noted = All-weaker (IsEntry firsts old
     (h noted)
 
 -- an element of two lists stands in the one or in the other
-in_both : {A : Type 0} (xs ys : List A) (i : ℕ) (x : A) → slice_get (xs ++ ys) i ≡ Some x → (slice_get xs i ≡ Some x) ⊎
+pub in_both : {A : Type 0} (xs ys : List A) (i : ℕ) (x : A) → slice_get (xs ++ ys) i ≡ Some x → (slice_get xs i ≡ Some x) ⊎
     ((j : ℕ) × (slice_get ys j ≡ Some x) × (i ≡ length xs + j))
 in_both [] ys i x h = inr (i, h, omega arith)
 in_both (z ∷ xs) ys zero x h = inl h
 in_both (z ∷ xs) ys (suc i) x h = elim (in_both xs ys i x h) [ inl a ↦ inl a | inr b ↦ inr (b.0, b.1, omega (arith, b.2)) ]
 
-at_all : {A : Type 0} (P : A → Type 0) (xs : List A) (i : ℕ) (x : A) → All P xs → slice_get xs i ≡ Some x → P x
+pub at_all : {A : Type 0} (P : A → Type 0) (xs : List A) (i : ℕ) (x : A) → All P xs → slice_get xs i ≡ Some x → P x
 at_all P xs i x a h = subst P (get_or_from_slice_get xs i x x h) (All-get_or P xs i x (slice_get_within xs i x h) a)
 
 laid_out_grown : (old new : Tables) (entries more : List Listed) → AreGrown old new → (e : Expression) → IsLaidOut old entries e →

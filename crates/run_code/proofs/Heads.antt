@@ -24,11 +24,11 @@ head_seen s = s.head
 head_at-Load : (n : Node) (a : Access) → n ≡ nodes.Load a → head_at n ≡ shape.Load a
 head_at-Load n a e = ap head_at (e ∙ sym (nodes.rolls-Load a)) ∙ ap head_seen (fold-roll-Node SeenNode Seen seen_node seen_tree (shape.Load a))
 
-head_at-Assign : (n : Node) (first : Bool) (a : Access) → n ≡ nodes.Assign first a → head_at n ≡ shape.Assign first a
+pub head_at-Assign : (n : Node) (first : Bool) (a : Access) → n ≡ nodes.Assign first a → head_at n ≡ shape.Assign first a
 head_at-Assign n first a e = ap head_at (e ∙ sym (nodes.rolls-Assign first a)) ∙ ap head_seen
     (fold-roll-Node SeenNode Seen seen_node seen_tree (shape.Assign first a))
 
-head_at-Update : (n : Node) (c : Change) (old : Bool) → n ≡ nodes.Update c old → head_at n ≡ shape.Update c old
+pub head_at-Update : (n : Node) (c : Change) (old : Bool) → n ≡ nodes.Update c old → head_at n ≡ shape.Update c old
 head_at-Update n c old e = ap head_at (e ∙ sym (nodes.rolls-Update c old)) ∙ ap head_seen
     (fold-roll-Node SeenNode Seen seen_node seen_tree (shape.Update c old))
 

@@ -8,3 +8,6 @@ mod Picked
 mod Heads
 mod NamedLemmas
 mod Rooted
+mod Termed
+mod FittingLemmas
+mod Coded

@@ -209,4 +209,4 @@ named_grown old new es g h = All-weaker (IsListedOf old) (IsListedOf new) (liste
 pub within_grown : (old new : Tables) (entries longer : List Listed) (es : List Expression) → AreGrown old new → length entries ≤ length longer →
     All (IsExpressionOf old entries) es → All (IsExpressionOf new longer) es
 within_grown old new entries longer es g l h =
-    All-weaker (IsExpressionOf old entries) (IsExpressionOf new longer) (λ e k. (k.0, omega (arith, k.1, l), omega (arith, k.2, g.chosen))) es h
+    All-weaker (IsExpressionOf old entries) (IsExpressionOf new longer) (λ e k. (k.0, omega (arith, k.1, l), omega (arith, k.2, g.chosen), k.3)) es h

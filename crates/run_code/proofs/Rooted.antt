@@ -1,5 +1,6 @@
 -- The full expressions that are laid out, in turn.
-use Rattle.std.proofs.Common.{rules, ◌≡◌, ◌≤◌, ℕ, length, drop, List, [], ◌∷◌, ◌++◌, map, flat_map, Option, Some, None, refl, sym, ap, subst, ◌∙◌, append_assoc, append-nil}
+use Rattle.std.proofs.Common.{rules, ◌≡◌, ◌≤◌, ℕ, length, drop, List, [], ◌∷◌, ◌++◌, map, flat_map, Option, Some, None}
+use Rattle.std.proofs.Common.{refl, sym, ap, subst, ◌∙◌, append_assoc, append-nil}
 use Rattle.std.proofs.lemmas.List.{drop_all}
 use Rattle.c_typed.specs.declared.tree.Typed.{Typed}
 use Rattle.c_typed.specs.declared.statement.Body.{Body, out-Body, out-roll-Body, roll-Body, roll-out-Body}
@@ -33,6 +34,11 @@ next_trees f old new all x rest items ts is h e k = ap (λ z. z ++ flat_map f re
     ∙ (append_assoc old ts (flat_map f rest)
     ∙ (ap (λ z. old ++ (z ++ flat_map f rest)) (sym e)
     ∙ (ap (λ z. old ++ flat_map f z) (sym is) ∙ h)))
+
+pub next_mapped : {A B : Type 0} → (f : A → B) (old new all : List B) (x : A) (rest items : List A) → items ≡ x ∷ rest → old ++ map f items ≡ all
+    → new ≡ old ++ f x ∷ [] → new ++ map f rest ≡ all
+next_mapped f old new all x rest items is h e =
+    ap (λ z. z ++ map f rest) e ∙ (append_assoc old (f x ∷ []) (map f rest) ∙ (ap (λ z. old ++ map f z) (sym is) ∙ h))
 
 -- where none is left
 pub no_trees : {A : Type 0} → (f : A → List Typed) (old all : List Typed) (items : List A) (i : ℕ) → length items ≤ i

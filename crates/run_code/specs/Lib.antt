@@ -4,5 +4,7 @@ pub mod Numbered
 pub mod InRange
 pub mod EventActs
 pub mod LaidOut
+pub mod Fitting
 pub mod Named
 pub mod Roots
+pub mod OfTrees

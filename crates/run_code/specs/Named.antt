@@ -1,6 +1,7 @@
 -- What the entries of a listing name in the tables is there, and so are the entries of each full expression (own).
-use Rattle.std.specs.Prelude.{◌≡◌, ℕ, ◌<◌, ◌≤◌, List, length}
+use Rattle.std.specs.Prelude.{◌≡◌, ℕ, ◌^◌, ◌<◌, ◌≤◌, List, length}
 use Rattle.std.specs.Option.{ForSome}
+use Rattle.c_typed.specs.Tree.{tree_of, size}
 use Rattle.run_code.specs.declared.steps.Operand.{Operand}
 use Rattle.run_code.specs.declared.steps.Act.{Act}
 use Rattle.run_code.specs.declared.steps.Act.TheVariants as act
@@ -25,6 +26,7 @@ IsDueOf tables d = IsNamed tables d.act × ForSome d.choice (λ n. n < length ta
 abbrev pub IsListedOf : Tables → Listed → Type 0
 IsListedOf tables x = (d : Due) → x ≡ listed.Event d → IsDueOf tables d
 
--- the entries of a full expression, and the choices that are made as it begins
+-- the entries of a full expression, and the choices that are made as it begins; its nodes have numbers of 32 bits
 abbrev pub IsExpressionOf : Tables → List Listed → Expression → Type 0
-IsExpressionOf tables entries e = (e.first ≤ e.end) × (e.end ≤ length entries) × IsRange (length tables.chosen.items) e.chosen
+IsExpressionOf tables entries e =
+    (e.first ≤ e.end) × (e.end ≤ length entries) × IsRange (length tables.chosen.items) e.chosen × (size (tree_of e.root.now) < 2 ^ 32)

@@ -1,5 +1,5 @@
 -- The full expressions of a program, as they are laid out in turn.
-use Rattle.std.specs.Prelude.{◌≡◌, List, [], ◌∷◌, map, Option, Some, None}
+use Rattle.std.specs.Prelude.{◌≡◌, ℕ, List, [], ◌∷◌, map, Option, Some, None, slice_get}
 use Rattle.c_typed.specs.declared.tree.Typed.{Typed}
 use Rattle.c_typed.specs.declared.statement.Body.{Body, out-Body}
 use Rattle.c_typed.specs.declared.statement.Body.TheOpen as form
@@ -53,6 +53,15 @@ AreCodeOf numbers (f ∷ fs) [] = ⊥
 -- numbers stand for the full expressions that are laid out, and the statements are those of the functions
 abbrev pub IsNumberedBy : Numbers → List Function → Code → Type 0
 IsNumberedBy numbers fs code = (map (λ root. root.now) numbers.roots.items ≡ roots_in code.expressions.items) × AreCodeOf numbers fs code.functions.items
+
+-- the function of this number has code
+abbrev pub HasCode : Code → ℕ → Type 0
+HasCode code n = (c : FunctionCode) × (slice_get code.functions.items n ≡ Some (Some c))
+
+-- each of these functions that is defined by a block has its code, and no other has (6.9.1p1)
+pub record HaveCode (fs : List Function) (code : Code) : Type 0 where
+  pub defined : (n : ℕ) (f : Function) (b : Block) → slice_get fs n ≡ Some f → block_in f.body ≡ Some b → HasCode code n
+  pub only : (n : ℕ) → HasCode code n → (f : Function) × (slice_get fs n ≡ Some f) × (b : Block) × (block_in f.body ≡ Some b)
 
 -- what is defined is defined by a block
 abbrev pub IsInBlock : Option Body → Type 0

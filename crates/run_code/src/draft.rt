@@ -1,12 +1,11 @@
 // Code in the making.
 ghost use Rattle.std.specs.Prelude.{◌≡◌};
 
-use crate::expressions::Expressions;
+use crate::expressions::{Expressions, Laid};
 use crate::nodes::Objects;
 use crate::steps::FunctionCode;
 use crate::whole::Code;
 use c_typed::Program;
-use core_ir::Core;
 use std::alloc::Global;
 
 // The function that is in the making.
@@ -18,10 +17,9 @@ pub struct FunctionDraft {
 }
 
 #[derive(Drop)]
-pub struct Draft<'p, 't> {
+pub struct Draft<'p> {
     pub alloc: Global,
     pub program: &'p Program,
-    pub terms: &'t [Core],
     pub expressions: Expressions<'p>,
     pub function: FunctionDraft,
 }
@@ -32,14 +30,15 @@ pub fn count_of<T>(items: &Vec<T>) -> u32 {
 }
 
 // The finished code, with these functions.
-pub fn finished<'p>(draft: Draft<'p, '_>, functions: Vec<Option<FunctionCode>>) -> Code<'p>
-    ensures expressions { result.expressions.items ≡ draft.entry.expressions.all.items }
+pub fn finished<'p>(draft: Draft<'p>, functions: Vec<Option<FunctionCode>>) -> Code<'p>
+    ensures expressions { result.expressions.items ≡ draft.entry.expressions.laid.all.items }
+    ensures listing { result.listing.items ≡ draft.entry.expressions.laid.entries.items }
     ensures functions { result.functions.items ≡ functions.items }
+    ensures tables { result.tables ≡ draft.entry.expressions.tables }
 {
     let Draft {
         alloc: _,
         program: _,
-        terms: _,
         expressions,
         function: _,
     } = draft;
@@ -50,14 +49,13 @@ fn code_of_expressions<'p>(
     expressions: Expressions<'p>,
     functions: Vec<Option<FunctionCode>>,
 ) -> Code<'p>
-    ensures expressions { result.expressions.items ≡ expressions.entry.all.items }
+    ensures expressions { result.expressions.items ≡ expressions.entry.laid.all.items }
+    ensures listing { result.listing.items ≡ expressions.entry.laid.entries.items }
     ensures functions { result.functions.items ≡ functions.items }
+    ensures tables { result.tables ≡ expressions.entry.tables }
 {
-    let Expressions {
-        tables,
-        entries,
-        all,
-    } = expressions;
+    let Expressions { tables, laid } = expressions;
+    let Laid { entries, all } = laid;
     Code {
         expressions: all,
         listing: entries,

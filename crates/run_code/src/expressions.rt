@@ -10,31 +10,46 @@ use c_typed::{Constant, Typed};
 use std::alloc::Global;
 use ub_base::NoMemory;
 
-/// The listings of full expressions one behind the other, and what they name by numbers.
+/// Full expressions, and their listings one behind the other.
+#[derive(Drop)]
+pub struct Laid<'p> {
+    pub entries: Vec<Listed<'p>>,
+    pub all: Vec<Expression<'p>>,
+}
+
+/// The full expressions with their listings, and what these name by numbers.
 #[derive(Drop)]
 pub struct Expressions<'p> {
     pub tables: Tables<'p>,
-    pub entries: Vec<Listed<'p>>,
-    pub all: Vec<Expression<'p>>,
-    pub ghost laid_out: { ∥ All (IsLaidOut tables entries.items) all.items ∥₁ },
-    pub ghost named: { All (IsListedOf tables) entries.items },
-    pub ghost within: { All (IsExpressionOf tables entries.items) all.items },
+    pub laid: Laid<'p>,
+    pub ghost laid_out: { ∥ All (IsLaidOut tables laid.entries.items) laid.all.items ∥₁ },
+    pub ghost named: { All (IsListedOf tables) laid.entries.items },
+    pub ghost within: { All (IsExpressionOf tables laid.entries.items) laid.all.items },
 }
 
 impl<'p> Expressions<'p> {
-    ghost use Rattle.std.specs.Prelude.{◌≡◌, ◌<◌, ℕ, List, [], ◌∷◌, ◌++◌, Some, length, slice_get, IfOk, OnOk};
+    ghost use Rattle.std.specs.Prelude.{◌≡◌, ◌<◌, ◌^◌, ℕ, List, [], ◌∷◌, ◌++◌, Some, length, slice_get, IfOk, OnOk};
     ghost use Rattle.run_code.specs.Roots.{roots_in};
     ghost use Rattle.run_code.specs.Numbered.{AreNodes};
     ghost use Rattle.run_code.specs.InRange.{IsRange, IsChoice, IsObject, IsBlock};
     ghost use Rattle.run_code.specs.EventActs.{AreGrown, AreEntries};
+    ghost use Rattle.c_typed.specs.Tree.{tree_of, size};
+    ghost use Rattle.core_ir.specs.declared.term.Core.{Core as CoreOf};
+    ghost use Rattle.run_code.specs.Listings.{entries_of};
+    ghost use Rattle.run_code.specs.OfTrees.{flat_of, AreOfTerms};
+    ghost use Rattle.c_typed.specs.declared.program.Program.{Program as ProgramOf};
+    ghost use Rattle.run_code.specs.Fitting.{AreFit, AreLawful, StoreFits};
 
     pub fn new(alloc: Global) -> Self
-        ensures { result.all.items ≡ [] }
+        ensures none { result.laid.all.items ≡ [] }
+        ensures fit { (p : ProgramOf) → AreFit p result.tables }
     {
         Expressions {
             tables: Tables::new(alloc),
-            entries: Vec::new(alloc),
-            all: Vec::new(alloc),
+            laid: Laid {
+                entries: Vec::new(alloc),
+                all: Vec::new(alloc),
+            },
         }
     }
 
@@ -42,7 +57,8 @@ impl<'p> Expressions<'p> {
     pub fn add_store(&mut self, store: StoreCode<'p>) -> Result<u32, NoMemory>
         ensures at { IfOk result (λ n. slice_get self.new.tables.stores.items n ≡ Some store.entry) }
         ensures grown { AreGrown self.old.tables self.new.tables }
-        ensures kept { self.new.all.items ≡ self.old.all.items }
+        ensures fit { (p : ProgramOf) → StoreFits store.entry → AreFit p self.old.tables → AreFit p self.new.tables }
+        ensures kept { self.new.laid ≡ self.old.laid }
     {
         self.tables.add_store(store)
     }
@@ -50,7 +66,8 @@ impl<'p> Expressions<'p> {
     pub fn add_call(&mut self, call: CallCode<'p>) -> Result<u32, NoMemory>
         ensures at { IfOk result (λ n. slice_get self.new.tables.calls.items n ≡ Some call.entry) }
         ensures grown { AreGrown self.old.tables self.new.tables }
-        ensures kept { self.new.all.items ≡ self.old.all.items }
+        ensures fit { (p : ProgramOf) → AreFit p self.old.tables → AreFit p self.new.tables }
+        ensures kept { self.new.laid ≡ self.old.laid }
     {
         self.tables.add_call(call)
     }
@@ -58,7 +75,8 @@ impl<'p> Expressions<'p> {
     pub fn add_constants(&mut self, constants: &'p [Constant]) -> Result<u32, NoMemory>
         ensures at { IfOk result (λ n. slice_get self.new.tables.constants.items n ≡ Some constants.entry) }
         ensures grown { AreGrown self.old.tables self.new.tables }
-        ensures kept { self.new.all.items ≡ self.old.all.items }
+        ensures fit { (p : ProgramOf) → AreLawful p constants.now → AreFit p self.old.tables → AreFit p self.new.tables }
+        ensures kept { self.new.laid ≡ self.old.laid }
     {
         self.tables.add_constants(constants)
     }
@@ -66,7 +84,8 @@ impl<'p> Expressions<'p> {
     pub fn add_chosen(&mut self, chosen: &[(u32, u32)]) -> Result<Range, NoMemory>
         ensures within { IfOk result (IsRange (length self.new.tables.chosen.items)) }
         ensures grown { AreGrown self.old.tables self.new.tables }
-        ensures kept { self.new.all.items ≡ self.old.all.items }
+        ensures fit { (p : ProgramOf) → AreFit p self.old.tables → AreFit p self.new.tables }
+        ensures kept { self.new.laid ≡ self.old.laid }
     {
         self.tables.add_chosen(chosen)
     }
@@ -75,7 +94,8 @@ impl<'p> Expressions<'p> {
         requires { IsChoice (length self.old.tables.chosen.items) choice }
         ensures within { IfOk result (λ n. n < length self.new.tables.choices.items) }
         ensures grown { AreGrown self.old.tables self.new.tables }
-        ensures kept { self.new.all.items ≡ self.old.all.items }
+        ensures fit { (p : ProgramOf) → AreFit p self.old.tables → AreFit p self.new.tables }
+        ensures kept { self.new.laid ≡ self.old.laid }
     {
         self.tables.add_choice(choice)
     }
@@ -83,7 +103,8 @@ impl<'p> Expressions<'p> {
     pub fn add_object(&mut self, object: ObjectCode) -> Result<(), NoMemory>
         requires { IsObject (length self.old.tables.stores.items) object }
         ensures grown { AreGrown self.old.tables self.new.tables }
-        ensures kept { self.new.all.items ≡ self.old.all.items }
+        ensures fit { (p : ProgramOf) → AreFit p self.old.tables → AreFit p self.new.tables }
+        ensures kept { self.new.laid ≡ self.old.laid }
     {
         self.tables.add_object(object)
     }
@@ -91,7 +112,8 @@ impl<'p> Expressions<'p> {
     pub fn add_block(&mut self, block: BlockCode) -> Result<(), NoMemory>
         requires { IsBlock (length self.old.tables.objects.items) block }
         ensures grown { AreGrown self.old.tables self.new.tables }
-        ensures kept { self.new.all.items ≡ self.old.all.items }
+        ensures fit { (p : ProgramOf) → AreFit p self.old.tables → AreFit p self.new.tables }
+        ensures kept { self.new.laid ≡ self.old.laid }
     {
         self.tables.add_block(block)
     }
@@ -107,12 +129,16 @@ impl<'p> Expressions<'p> {
     ) -> Result<(), NoMemory>
         requires laid_out { (firsts : List ℕ) × AreNodes firsts root.now nodes.now × AreEntries firsts self.old.tables nodes.now entries.now }
         requires within { IsRange (length self.old.tables.chosen.items) chosen }
-        ensures { OnOk result (roots_in self.new.all.items ≡ roots_in self.old.all.items ++ root.now ∷ []) }
+        requires counted { length nodes.now < 2 ^ 32 }
+        ensures order { OnOk result (roots_in self.new.laid.all.items ≡ roots_in self.old.laid.all.items ++ root.now ∷ []) }
+        ensures listed { (terms : List CoreOf) → AreOfTerms terms self.old.laid → entries_of entries.now ≡ flat_of (size (tree_of root.now)) (slice_get terms (length self.old.laid.all.items))
+            → OnOk result (AreOfTerms terms self.new.laid) }
+        ensures tables { self.new.tables ≡ self.old.tables }
     {
-        let first = self.entries.len();
-        self.entries.extend_from_slice(entries)?;
-        let end = self.entries.len();
-        self.all.push(Expression {
+        let first = self.laid.entries.len();
+        self.laid.entries.extend_from_slice(entries)?;
+        let end = self.laid.entries.len();
+        self.laid.all.push(Expression {
             root,
             rooms,
             chosen,

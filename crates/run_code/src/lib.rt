@@ -15,7 +15,7 @@ mod steps;
 mod tables;
 mod whole;
 
-pub use expressions::Expressions;
+pub use expressions::{Expressions, Laid};
 pub use laws::law_listing;
 pub use statements::code_of;
 pub use steps::{

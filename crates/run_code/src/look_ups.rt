@@ -3,8 +3,9 @@ ghost use Rattle.std.specs.Prelude.{◌≡◌, ◌<◌, ◌≤◌, Some, length,
 ghost use Rattle.std.specs.List.{All};
 ghost use Rattle.run_code.specs.declared.steps.Choice.{Choice as ChoiceOf};
 ghost use Rattle.run_code.specs.InRange.{IsRange, IsObject, part_of, way_of};
+ghost use Rattle.run_code.specs.Roots.{HasCode};
 
-use crate::steps::{BlockCode, Choice, Expression, ObjectCode, Range, Way};
+use crate::steps::{BlockCode, Choice, Expression, FunctionCode, ObjectCode, Range, Way};
 use crate::whole::Code;
 
 // The entries of a range of a table.
@@ -45,6 +46,17 @@ impl<'p> Code<'p> {
             expression,
             part(self.tables.chosen.as_slice(), expression.chosen),
         ))
+    }
+
+    /// The code of the function of this number, which the program defines.
+    pub fn function(&self, number: u32) -> &FunctionCode
+        requires there { HasCode self.now number }
+        ensures { slice_get self.now.functions.items number ≡ Some (Some result.now) }
+    {
+        match &self.functions[number as usize] {
+            Some(function) => function,
+            None => unreachable!(),
+        }
     }
 
     /// The choice of this number.

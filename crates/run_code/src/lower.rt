@@ -4,13 +4,16 @@ ghost use Rattle.std.specs.Option.{ForSome};
 ghost use Rattle.c_types.specs.Types.{type_of};
 ghost use Rattle.c_typed.specs.declared.tree.Typed.{out-Typed};
 ghost use Rattle.c_typed.specs.Order.{place};
+ghost use Rattle.c_typed.specs.declared.program.Program.{Program as ProgramOf};
 ghost use Rattle.core_ir.specs.Term.{term_of};
 ghost use Rattle.run_code.specs.Roots.{roots_in};
 ghost use Rattle.run_code.specs.Listings.{entries_of, one, continuation, flat};
+ghost use Rattle.run_code.specs.OfTrees.{flat_of, AreOfTerms};
 ghost use Rattle.run_code.specs.declared.steps.Operand.{Operand as OperandOf};
 ghost use Rattle.run_code.specs.Resolved.{value_at};
 ghost use Rattle.run_code.specs.Numbered.{AreNoted};
 ghost use Rattle.run_code.specs.InRange.{IsRange, IsChoice};
+ghost use Rattle.run_code.specs.Fitting.{AccessFits, RootFits, NodesFit, TreeFits, AreFit};
 ghost use Rattle.run_code.specs.EventActs.{head_at, pointed, first_type, seen, last_of, rest_of, room_of, change_access, IsValue, Stores, IsEffect, Calls, IsBody, IsAct, ends_with, IsDue, AreEntries, AreGrown};
 
 use crate::choices::{chosen_at_once, is_choice};
@@ -53,18 +56,20 @@ fn object_ty(tree: &Typed) -> &Ty
     target(first_ty(tree))
 }
 
-impl<'p, 't> Draft<'p, 't> {
+impl<'p> Draft<'p> {
     // The full expression of this root, which comes next.
-    pub fn expression(&mut self, root: &'p Typed) -> Result<(), NoMemory>
-        ensures { OnOk result (roots_in self.new.expressions.all.items ≡ roots_in self.old.expressions.all.items ++ root.now ∷ []) }
+    pub fn expression(&mut self, root: &'p Typed, terms: &[Core]) -> Result<(), NoMemory>
+        ensures order { OnOk result (roots_in self.new.expressions.laid.all.items ≡ roots_in self.old.expressions.laid.all.items ++ root.now ∷ []) }
+        ensures listed { AreOfTerms terms.now self.old.expressions.laid → OnOk result (AreOfTerms terms.now self.new.expressions.laid) }
+        ensures fit { (p : ProgramOf) → TreeFits p root.now → AreFit p self.old.expressions.tables → OnOk result (AreFit p self.new.expressions.tables) }
     {
         let mut nodes = Vec::new(self.alloc);
         let mut counts = Counts {
-            initializers: count_of(&self.expressions.all).saturating_add(1),
+            initializers: count_of(&self.expressions.laid.all).saturating_add(1),
             olds: 0,
         };
         collect(&self.function.objects, root, None, &mut nodes, &mut counts)?;
-        let entries = self.listing(&nodes)?;
+        let entries = self.listing(terms, &nodes)?;
         let chosen = self.chosen(root, 0, &nodes)?;
         let rooms = count_of(&nodes).saturating_add(counts.olds);
         let all = &mut self.expressions;
@@ -72,14 +77,19 @@ impl<'p, 't> Draft<'p, 't> {
     }
 
     // The listing of the full expression that comes next, whose nodes these are: that of the next term.
-    fn listing(&mut self, nodes: &[NodeInfo<'p>]) -> Result<Vec<Listed<'p>>, NoMemory>
+    fn listing(
+        &mut self,
+        terms: &[Core],
+        nodes: &[NodeInfo<'p>],
+    ) -> Result<Vec<Listed<'p>>, NoMemory>
+        ensures listed { IfOk result (λ es. entries_of es.items ≡ flat_of (length nodes.now) (slice_get terms.now (length self.old.expressions.laid.all.items))) }
         ensures objects { OnOk result (self.new.function.objects.first.items ≡ self.old.function.objects.first.items) }
-        ensures kept { OnOk result (self.new.expressions.all.items ≡ self.old.expressions.all.items) }
+        ensures kept { OnOk result (self.new.expressions.laid ≡ self.old.expressions.laid) }
+        ensures fit { (p : ProgramOf) → NodesFit p nodes.now → AreFit p self.old.expressions.tables → OnOk result (AreFit p self.new.expressions.tables) }
         ensures due { IfOk result (λ es. AreEntries self.new.function.objects.first.items self.new.expressions.tables nodes.now es.items) }
     {
         let mut entries = Vec::new(self.alloc);
-        let terms = self.terms;
-        match terms.get(self.expressions.all.len()) {
+        match terms.get(self.expressions.laid.all.len()) {
             Some(core) => {
                 self.term(core, nodes, &mut entries)?;
                 Ok(entries)
@@ -96,7 +106,8 @@ impl<'p, 't> Draft<'p, 't> {
         nodes: &[NodeInfo<'p>],
     ) -> Result<Range, NoMemory>
         ensures objects { self.new.function.objects.first.items ≡ self.old.function.objects.first.items }
-        ensures kept { self.new.expressions.all.items ≡ self.old.expressions.all.items }
+        ensures kept { self.new.expressions.laid ≡ self.old.expressions.laid }
+        ensures fit { (p : ProgramOf) → AreFit p self.old.expressions.tables → OnOk result (AreFit p self.new.expressions.tables) }
         ensures grown { OnOk result (AreGrown self.old.expressions.tables self.new.expressions.tables) }
         ensures within { IfOk result (IsRange (length self.new.expressions.tables.chosen.items)) }
     {
@@ -115,7 +126,8 @@ impl<'p, 't> Draft<'p, 't> {
     ) -> Result<(), NoMemory>
         ensures listing { OnOk result (entries_of entries.new.items ≡ entries_of entries.old.items ++ flat (length nodes.now) (term_of core.now)) }
         ensures objects { OnOk result (self.new.function.objects.first.items ≡ self.old.function.objects.first.items) }
-        ensures kept { OnOk result (self.new.expressions.all.items ≡ self.old.expressions.all.items) }
+        ensures kept { OnOk result (self.new.expressions.laid ≡ self.old.expressions.laid) }
+        ensures fit { (p : ProgramOf) → NodesFit p nodes.now → AreFit p self.old.expressions.tables → OnOk result (AreFit p self.new.expressions.tables) }
         ensures due { AreEntries self.old.function.objects.first.items self.old.expressions.tables nodes.now entries.old.items → OnOk result (AreEntries self.new.function.objects.first.items self.new.expressions.tables nodes.now entries.new.items) }
     {
         match core {
@@ -153,7 +165,8 @@ impl<'p, 't> Draft<'p, 't> {
     ) -> Result<(), NoMemory>
         ensures listing { OnOk result (entries_of entries.new.items ≡ entries_of entries.old.items ++ continuation node operand (flat (length nodes.now) (term_of core.now))) }
         ensures objects { OnOk result (self.new.function.objects.first.items ≡ self.old.function.objects.first.items) }
-        ensures kept { OnOk result (self.new.expressions.all.items ≡ self.old.expressions.all.items) }
+        ensures kept { OnOk result (self.new.expressions.laid ≡ self.old.expressions.laid) }
+        ensures fit { (p : ProgramOf) → NodesFit p nodes.now → AreFit p self.old.expressions.tables → OnOk result (AreFit p self.new.expressions.tables) }
         ensures due { AreEntries self.old.function.objects.first.items self.old.expressions.tables nodes.now entries.old.items → OnOk result (AreEntries self.new.function.objects.first.items self.new.expressions.tables nodes.now entries.new.items) }
     {
         let at = entries.len();
@@ -218,7 +231,7 @@ fn changes(change: &Change) -> Access
     }
 }
 
-impl<'p, 't> Draft<'p, 't> {
+impl<'p> Draft<'p> {
     fn event(
         &mut self,
         number: u32,
@@ -228,7 +241,8 @@ impl<'p, 't> Draft<'p, 't> {
     ) -> Result<(), NoMemory>
         ensures listing { OnOk result (entries_of entries.new.items ≡ entries_of entries.old.items ++ one (length nodes.now) (place number kind)) }
         ensures objects { OnOk result (self.new.function.objects.first.items ≡ self.old.function.objects.first.items) }
-        ensures kept { OnOk result (self.new.expressions.all.items ≡ self.old.expressions.all.items) }
+        ensures kept { OnOk result (self.new.expressions.laid ≡ self.old.expressions.laid) }
+        ensures fit { (p : ProgramOf) → NodesFit p nodes.now → AreFit p self.old.expressions.tables → OnOk result (AreFit p self.new.expressions.tables) }
         ensures due { AreEntries self.old.function.objects.first.items self.old.expressions.tables nodes.now entries.old.items → OnOk result (AreEntries self.new.function.objects.first.items self.new.expressions.tables nodes.now entries.new.items) }
     {
         let Some(info) = nodes.get(number as usize) else {
@@ -249,7 +263,8 @@ impl<'p, 't> Draft<'p, 't> {
     ) -> Result<Due<'p>, NoMemory>
         ensures place { IfOk result (λ d. d.place ≡ place number kind) }
         ensures objects { OnOk result (self.new.function.objects.first.items ≡ self.old.function.objects.first.items) }
-        ensures kept { OnOk result (self.new.expressions.all.items ≡ self.old.expressions.all.items) }
+        ensures kept { OnOk result (self.new.expressions.laid ≡ self.old.expressions.laid) }
+        ensures fit { (p : ProgramOf) → RootFits p info.entry.tree.now → AreFit p self.old.expressions.tables → OnOk result (AreFit p self.new.expressions.tables) }
         ensures grown { OnOk result (AreGrown self.old.expressions.tables self.new.expressions.tables) }
         ensures due { IfOk result (λ d. AreNoted self.old.function.objects.first.items nodes.now → slice_get nodes.now number ≡ Some info.entry → IsDue self.old.function.objects.first.items self.new.expressions.tables (length nodes.now) d info.entry) }
     {
@@ -277,7 +292,8 @@ impl<'p, 't> Draft<'p, 't> {
         operands: &[Operand],
     ) -> Result<Act<'p>, NoMemory>
         ensures objects { OnOk result (self.new.function.objects.first.items ≡ self.old.function.objects.first.items) }
-        ensures kept { OnOk result (self.new.expressions.all.items ≡ self.old.expressions.all.items) }
+        ensures kept { OnOk result (self.new.expressions.laid ≡ self.old.expressions.laid) }
+        ensures fit { (p : ProgramOf) → RootFits p info.entry.tree.now → AreFit p self.old.expressions.tables → OnOk result (AreFit p self.new.expressions.tables) }
         ensures grown { OnOk result (AreGrown self.old.expressions.tables self.new.expressions.tables) }
         ensures act { IfOk result (λ a. IsAct self.old.function.objects.first.items self.new.expressions.tables info.entry.initializer (head_at (out-Typed info.entry.tree.now).node) (seen info.entry.tree.now operands.now info.entry.operand room) kind a) }
     {
@@ -297,7 +313,8 @@ impl<'p, 't> Draft<'p, 't> {
         nodes: &[NodeInfo<'p>],
     ) -> Result<Option<u32>, NoMemory>
         ensures objects { self.new.function.objects.first.items ≡ self.old.function.objects.first.items }
-        ensures kept { self.new.expressions.all.items ≡ self.old.expressions.all.items }
+        ensures kept { self.new.expressions.laid ≡ self.old.expressions.laid }
+        ensures fit { (p : ProgramOf) → AreFit p self.old.expressions.tables → OnOk result (AreFit p self.new.expressions.tables) }
         ensures grown { OnOk result (AreGrown self.old.expressions.tables self.new.expressions.tables) }
         ensures within { IfOk result (λ o. ForSome o (λ n. n < length self.new.expressions.tables.choices.items)) }
     {
@@ -315,7 +332,8 @@ impl<'p, 't> Draft<'p, 't> {
         nodes: &[NodeInfo<'p>],
     ) -> Result<Option<u32>, NoMemory>
         ensures objects { self.new.function.objects.first.items ≡ self.old.function.objects.first.items }
-        ensures kept { self.new.expressions.all.items ≡ self.old.expressions.all.items }
+        ensures kept { self.new.expressions.laid ≡ self.old.expressions.laid }
+        ensures fit { (p : ProgramOf) → AreFit p self.old.expressions.tables → OnOk result (AreFit p self.new.expressions.tables) }
         ensures grown { OnOk result (AreGrown self.old.expressions.tables self.new.expressions.tables) }
         ensures within { IfOk result (λ o. ForSome o (λ n. n < length self.new.expressions.tables.choices.items)) }
     {
@@ -341,7 +359,8 @@ impl<'p, 't> Draft<'p, 't> {
         nodes: &[NodeInfo<'p>],
     ) -> Result<Choice, NoMemory>
         ensures objects { self.new.function.objects.first.items ≡ self.old.function.objects.first.items }
-        ensures kept { self.new.expressions.all.items ≡ self.old.expressions.all.items }
+        ensures kept { self.new.expressions.laid ≡ self.old.expressions.laid }
+        ensures fit { (p : ProgramOf) → AreFit p self.old.expressions.tables → OnOk result (AreFit p self.new.expressions.tables) }
         ensures grown { OnOk result (AreGrown self.old.expressions.tables self.new.expressions.tables) }
         ensures within { IfOk result (IsChoice (length self.new.expressions.tables.chosen.items)) }
     {
@@ -363,7 +382,8 @@ impl<'p, 't> Draft<'p, 't> {
         nodes: &[NodeInfo<'p>],
     ) -> Result<Way, NoMemory>
         ensures objects { self.new.function.objects.first.items ≡ self.old.function.objects.first.items }
-        ensures kept { self.new.expressions.all.items ≡ self.old.expressions.all.items }
+        ensures kept { self.new.expressions.laid ≡ self.old.expressions.laid }
+        ensures fit { (p : ProgramOf) → AreFit p self.old.expressions.tables → OnOk result (AreFit p self.new.expressions.tables) }
         ensures grown { OnOk result (AreGrown self.old.expressions.tables self.new.expressions.tables) }
         ensures within { IfOk result (λ w. IsRange (length self.new.expressions.tables.chosen.items) w.chosen) }
     {
@@ -388,7 +408,8 @@ impl<'p, 't> Draft<'p, 't> {
         operands: &[Operand],
     ) -> Result<Act<'p>, NoMemory>
         ensures objects { OnOk result (self.new.function.objects.first.items ≡ self.old.function.objects.first.items) }
-        ensures kept { OnOk result (self.new.expressions.all.items ≡ self.old.expressions.all.items) }
+        ensures kept { OnOk result (self.new.expressions.laid ≡ self.old.expressions.laid) }
+        ensures fit { (p : ProgramOf) → RootFits p tree.now → AreFit p self.old.expressions.tables → OnOk result (AreFit p self.new.expressions.tables) }
         ensures grown { OnOk result (AreGrown self.old.expressions.tables self.new.expressions.tables) }
         ensures act { (own : OperandOf) → IfOk result (λ a. IsEffect self.old.function.objects.first.items self.new.expressions.tables (head_at (out-Typed tree.now).node) (seen tree.now operands.now own room) a) }
     {
@@ -423,7 +444,8 @@ impl<'p, 't> Draft<'p, 't> {
         value: Operand,
     ) -> Result<Act<'p>, NoMemory>
         ensures objects { OnOk result (self.new.function.objects.first.items ≡ self.old.function.objects.first.items) }
-        ensures kept { OnOk result (self.new.expressions.all.items ≡ self.old.expressions.all.items) }
+        ensures kept { OnOk result (self.new.expressions.laid ≡ self.old.expressions.laid) }
+        ensures fit { (p : ProgramOf) → AccessFits access (pointed (first_type (type_of (out-Typed tree.now).ty) (out-Typed tree.now).children)) → AreFit p self.old.expressions.tables → OnOk result (AreFit p self.new.expressions.tables) }
         ensures grown { OnOk result (AreGrown self.old.expressions.tables self.new.expressions.tables) }
         ensures act { IfOk result (λ a. Stores self.new.expressions.tables access initializing (pointed (first_type (type_of (out-Typed tree.now).ty) (out-Typed tree.now).children)) place value a) }
     {
@@ -446,7 +468,8 @@ impl<'p, 't> Draft<'p, 't> {
         operands: &[Operand],
     ) -> Result<Act<'p>, NoMemory>
         ensures objects { OnOk result (self.new.function.objects.first.items ≡ self.old.function.objects.first.items) }
-        ensures kept { OnOk result (self.new.expressions.all.items ≡ self.old.expressions.all.items) }
+        ensures kept { OnOk result (self.new.expressions.laid ≡ self.old.expressions.laid) }
+        ensures fit { (p : ProgramOf) → AreFit p self.old.expressions.tables → OnOk result (AreFit p self.new.expressions.tables) }
         ensures grown { OnOk result (AreGrown self.old.expressions.tables self.new.expressions.tables) }
         ensures act { (own : OperandOf) (room : ℕ) → IfOk result (λ a. IsBody self.new.expressions.tables initializer (head_at (out-Typed tree.now).node) (seen tree.now operands.now own room) a) }
     {
@@ -459,7 +482,8 @@ impl<'p, 't> Draft<'p, 't> {
 
     fn call(&mut self, tree: &'p Typed, operands: &[Operand]) -> Result<Act<'p>, NoMemory>
         ensures objects { OnOk result (self.new.function.objects.first.items ≡ self.old.function.objects.first.items) }
-        ensures kept { OnOk result (self.new.expressions.all.items ≡ self.old.expressions.all.items) }
+        ensures kept { OnOk result (self.new.expressions.laid ≡ self.old.expressions.laid) }
+        ensures fit { (p : ProgramOf) → AreFit p self.old.expressions.tables → OnOk result (AreFit p self.new.expressions.tables) }
         ensures grown { OnOk result (AreGrown self.old.expressions.tables self.new.expressions.tables) }
         ensures act { IfOk result (λ a. Calls self.new.expressions.tables operands.now a) }
     {

@@ -1,9 +1,11 @@
 // The nodes of a full expression by their numbers.
-ghost use Rattle.std.specs.Prelude.{◌≡◌, ℕ, List, OnOk, IfOk, suc, slice_get};
+ghost use Rattle.std.specs.Prelude.{◌≡◌, ◌<◌, ◌^◌, ℕ, List, OnOk, IfOk, suc, length, slice_get};
 ghost use Rattle.c_typed.specs.declared.tree.Typed.{out-Typed};
 ghost use Rattle.c_types.specs.Types.{type_of};
 ghost use Rattle.run_code.specs.Resolved.{object_of, local_number, constant_of, by_conversion, member_of, resolved, operands_from, value_at};
 ghost use Rattle.run_code.specs.Numbered.{AreAdded, AreNoted, AreBelow};
+ghost use Rattle.run_code.specs.Fitting.{TreeFits, NodesFit};
+ghost use Rattle.c_typed.specs.declared.program.Program.{Program as ProgramOf};
 
 use crate::numbers::number_of;
 use crate::steps::Operand;
@@ -170,7 +172,9 @@ pub fn collect<'p>(
     nodes: &mut Vec<NodeInfo<'p>>,
     counts: &mut Counts,
 ) -> Result<(), NoMemory>
-    ensures { OnOk result (AreAdded objects.now.first.items parent root.now nodes.old.items nodes.new.items) }
+    ensures added { OnOk result (AreAdded objects.now.first.items parent root.now nodes.old.items nodes.new.items) }
+    ensures counted { OnOk result (length nodes.new.items < 2 ^ 32) }
+    ensures fit { (p : ProgramOf) → TreeFits p root.now → NodesFit p nodes.old.items → OnOk result (NodesFit p nodes.new.items) }
 {
     let number = number_of(nodes.len())?;
     nodes.push(info(objects, root, parent, number, counts))?;

@@ -2,6 +2,9 @@
 ghost use Rattle.std.specs.Prelude.{◌≡◌, length, IfOk, OnOk};
 ghost use Rattle.run_code.specs.InRange.{IsRange};
 ghost use Rattle.run_code.specs.EventActs.{AreGrown};
+ghost use Rattle.run_code.specs.Fitting.{AccessFits, AreFit};
+ghost use Rattle.c_types.specs.Types.{type_of};
+ghost use Rattle.c_typed.specs.declared.program.Program.{Program as ProgramOf};
 
 use crate::draft::Draft;
 use crate::numbers::{next_number, range_from};
@@ -12,7 +15,9 @@ use run_acts::{counted, extent, is_constant, shape_of, total};
 use ub_base::NoMemory;
 
 // How a value of a complete type lies in memory.
-fn access_of(tags: &Tags, ty: &Ty) -> Access {
+fn access_of(tags: &Tags, ty: &Ty) -> Access
+    ensures { AccessFits result (type_of ty.now) }
+{
     match ty {
         Ty::Int(kind) => Access::Integer(*kind),
         Ty::Enum(_) => Access::Integer(IntKind::Int),
@@ -30,11 +35,12 @@ fn access_of(tags: &Tags, ty: &Ty) -> Access {
     }
 }
 
-impl<'p, 't> Draft<'p, 't> {
+impl<'p> Draft<'p> {
     // Gives how many bytes it counts.
     fn object(&mut self, qual: &'p Qual) -> Result<u64, NoMemory>
         ensures grown { OnOk result (AreGrown self.old.expressions.tables self.new.expressions.tables) }
-        ensures kept { OnOk result (self.new.expressions.all.items ≡ self.old.expressions.all.items) }
+        ensures kept { OnOk result (self.new.expressions.laid ≡ self.old.expressions.laid) }
+        ensures fit { (p : ProgramOf) → AreFit p self.old.expressions.tables → OnOk result (AreFit p self.new.expressions.tables) }
     {
         let tags = &self.program.tags;
         let extent = extent(tags, &qual.ty);
@@ -57,7 +63,8 @@ impl<'p, 't> Draft<'p, 't> {
     // The objects of a block, and the bytes that they count.
     fn objects_of(&mut self, block: &'p Block) -> Result<(Range, u64), NoMemory>
         ensures within { IfOk result (λ r. IsRange (length self.new.expressions.tables.objects.items) r.0) }
-        ensures kept { OnOk result (self.new.expressions.all.items ≡ self.old.expressions.all.items) }
+        ensures kept { OnOk result (self.new.expressions.laid ≡ self.old.expressions.laid) }
+        ensures fit { (p : ProgramOf) → AreFit p self.old.expressions.tables → OnOk result (AreFit p self.new.expressions.tables) }
     {
         let first = next_number(&self.expressions.tables.objects)?;
         let mut created = 0;
@@ -70,7 +77,8 @@ impl<'p, 't> Draft<'p, 't> {
 
     // A block of the function; `arguments` of its objects take arguments.
     fn add_block(&mut self, block: &'p Block, arguments: u32) -> Result<(), NoMemory>
-        ensures { OnOk result (self.new.expressions.all.items ≡ self.old.expressions.all.items) }
+        ensures kept { OnOk result (self.new.expressions.laid ≡ self.old.expressions.laid) }
+        ensures fit { (p : ProgramOf) → AreFit p self.old.expressions.tables → OnOk result (AreFit p self.new.expressions.tables) }
     {
         let (objects, created) = self.objects_of(block)?;
         let number = self.function.count;
@@ -87,7 +95,8 @@ impl<'p, 't> Draft<'p, 't> {
     // The blocks in a statement.
     #[cycle(survey)]
     pub fn survey(&mut self, body: &'p Body) -> Result<(), NoMemory>
-        ensures { OnOk result (self.new.expressions.all.items ≡ self.old.expressions.all.items) }
+        ensures kept { OnOk result (self.new.expressions.laid ≡ self.old.expressions.laid) }
+        ensures fit { (p : ProgramOf) → AreFit p self.old.expressions.tables → OnOk result (AreFit p self.new.expressions.tables) }
     {
         match body {
             Body::Block(inner) => self.survey_block(inner, 0),
@@ -121,7 +130,8 @@ impl<'p, 't> Draft<'p, 't> {
 
     #[cycle(survey)]
     pub fn survey_block(&mut self, block: &'p Block, arguments: u32) -> Result<(), NoMemory>
-        ensures { OnOk result (self.new.expressions.all.items ≡ self.old.expressions.all.items) }
+        ensures kept { OnOk result (self.new.expressions.laid ≡ self.old.expressions.laid) }
+        ensures fit { (p : ProgramOf) → AreFit p self.old.expressions.tables → OnOk result (AreFit p self.new.expressions.tables) }
     {
         self.add_block(block, arguments)?;
         for entry in block.entries.as_slice() {

@@ -6,8 +6,12 @@ ghost use Rattle.c_typed.specs.Tree.{tree_of};
 ghost use Rattle.c_typed.specs.declared.statement.Body.TheVariants as body_form;
 ghost use Rattle.run_statements.specs.Bodies.{Grows, IsStatement};
 ghost use Rattle.run_statements.specs.declared.numbers.Numbers.{Numbers as NumbersOf};
-ghost use Rattle.run_code.specs.Roots.{roots_in, code_trees, IsNumberedBy, AreInBlocks};
+ghost use Rattle.run_code.specs.Roots.{roots_in, code_trees, IsNumberedBy, HaveCode, AreInBlocks};
 ghost use Rattle.run_code.specs.LaidOut.{IsLaidOut};
+ghost use Rattle.run_code.specs.OfTrees.{AreOfTerms, ListsTrees, AreTermsOf};
+ghost use Rattle.elaborate.specs.Formed.{EachFormed};
+ghost use Rattle.run_code.specs.Fitting.{TreeFits, AreFit};
+ghost use Rattle.c_typed.specs.declared.program.Program.{Program as ProgramOf};
 
 use crate::draft::{Draft, FunctionDraft, count_of, finished};
 use crate::expressions::Expressions;
@@ -21,18 +25,25 @@ use run_statements::{Numbers, block};
 use std::alloc::Global;
 use ub_base::NoMemory;
 
-impl<'p, 't> Draft<'p, 't> {
+impl<'p> Draft<'p> {
     // These full expressions in turn, but for the first so many.
-    fn expressions(&mut self, roots: &[&'p Typed], passed: usize) -> Result<Range, NoMemory>
+    fn expressions(
+        &mut self,
+        roots: &[&'p Typed],
+        passed: usize,
+        terms: &[Core],
+    ) -> Result<Range, NoMemory>
         requires { passed ≤ length roots.now }
-        ensures { OnOk result (roots_in self.new.expressions.all.items ≡ roots_in self.old.expressions.all.items ++ drop passed (map (λ root. root.now) roots.now)) }
+        ensures listed { AreOfTerms terms.now self.old.expressions.laid → OnOk result (AreOfTerms terms.now self.new.expressions.laid) }
+        ensures order { OnOk result (roots_in self.new.expressions.laid.all.items ≡ roots_in self.old.expressions.laid.all.items ++ drop passed (map (λ root. root.now) roots.now)) }
+        ensures fit { (p : ProgramOf) → All (TreeFits p) (drop passed (map (λ root. root.now) roots.now)) → AreFit p self.old.expressions.tables → OnOk result (AreFit p self.new.expressions.tables) }
     {
-        let first = count_of(&self.expressions.all);
+        let first = count_of(&self.expressions.laid.all);
         let (_, rest) = roots.split_at(passed);
         for root in rest {
-            self.expression(root)?;
+            self.expression(root, terms)?;
         }
-        let count = count_of(&self.expressions.all).saturating_sub(first);
+        let count = count_of(&self.expressions.laid.all).saturating_sub(first);
         Ok(Range { first, count })
     }
 
@@ -41,10 +52,13 @@ impl<'p, 't> Draft<'p, 't> {
         function: &'p Function,
         body: &'p Block,
         numbers: &mut Numbers<'p>,
+        terms: &[Core],
     ) -> Result<FunctionCode, NoMemory>
-        ensures order { OnOk result (roots_in self.new.expressions.all.items ≡ roots_in self.old.expressions.all.items ++ block_trees body.now) }
+        ensures listed { AreOfTerms terms.now self.old.expressions.laid → OnOk result (AreOfTerms terms.now self.new.expressions.laid) }
+        ensures order { OnOk result (roots_in self.new.expressions.laid.all.items ≡ roots_in self.old.expressions.laid.all.items ++ block_trees body.now) }
         ensures numbers { OnOk result (map (λ root. root.now) numbers.new.roots.items ≡ map (λ root. root.now) numbers.old.roots.items ++ block_trees body.now) }
         ensures grows { OnOk result (Grows numbers.old numbers.new) }
+        ensures fit { (p : ProgramOf) → All (TreeFits p) (block_trees body.now) → AreFit p self.old.expressions.tables → OnOk result (AreFit p self.new.expressions.tables) }
         ensures body { IfOk result (λ code. IsStatement numbers.new (body_form.Block body.now) code.body) }
     {
         self.function = start_function(self.alloc);
@@ -52,7 +66,7 @@ impl<'p, 't> Draft<'p, 't> {
         self.survey_block(body, count_of_items(function.ty.params.len()))?;
         let first = numbers.roots.len();
         let body = Statement::Block(block(self.alloc, body, numbers)?);
-        let expressions = self.expressions(&numbers.roots, first)?;
+        let expressions = self.expressions(&numbers.roots, first, terms)?;
         Ok(FunctionCode {
             body,
             blocks,
@@ -87,13 +101,18 @@ pub fn code_of<'p>(
     ensures order { IfOk result (λ code. roots_in code.expressions.items ≡ flat_map code_trees program.now.functions) }
     // So they are those of the terms, where what is defined is defined by a block.
     ensures trees { AreInBlocks program.now.functions → IfOk result (λ code. map tree_of (roots_in code.expressions.items) ≡ program_trees program.now) }
+    // The listing of each is that of its tree, where the terms are elaborate's and the nodes have the operands that their operators take.
+    ensures listed { AreInBlocks program.now.functions → AreTermsOf program.now terms.now → EachFormed (program_trees program.now) → IfOk result (λ code. ListsTrees code) }
+    // Each function that is defined by a block has its code, and no other has.
+    ensures functions { IfOk result (HaveCode program.now.functions) }
     // The statements are those of the functions, in which numbers stand for these full expressions.
     ensures bodies { IfOk result (λ code. (numbers : NumbersOf) × IsNumberedBy numbers program.now.functions code) }
+    // Where each of their nodes is lawful in it, a pointer is stored by its own type, and the constants that objects are filled with are lawful.
+    ensures fit { (p : ProgramOf) → All (TreeFits p) (flat_map code_trees program.now.functions) → IfOk result (λ code. AreFit p code.tables) }
 {
     let mut draft = Draft {
         alloc,
         program,
-        terms,
         expressions: Expressions::new(alloc),
         function: start_function(alloc),
     };
@@ -102,7 +121,7 @@ pub fn code_of<'p>(
     for function in program.functions.as_slice() {
         let code = match &function.body {
             Some(body) => match body {
-                Body::Block(block) => Some(draft.function(function, block, &mut numbers)?),
+                Body::Block(block) => Some(draft.function(function, block, &mut numbers, terms)?),
                 _ => None,
             },
             None => None,

@@ -30,8 +30,12 @@ impl<'p> Tables<'p> {
     ghost use Rattle.std.specs.Prelude.{◌≡◌, ◌<◌, ◌≤◌, Some, slice_get, IfOk};
     ghost use Rattle.run_code.specs.InRange.{IsRange};
     ghost use Rattle.run_code.specs.EventActs.{AreGrown};
+    ghost use Rattle.c_typed.specs.declared.program.Program.{Program as ProgramOf};
+    ghost use Rattle.run_code.specs.Fitting.{AreFit, AreLawful, StoreFits};
 
-    pub fn new(alloc: Global) -> Self {
+    pub fn new(alloc: Global) -> Self
+        ensures fit { (p : ProgramOf) → AreFit p result }
+    {
         Tables {
             calls: Vec::new(alloc),
             stores: Vec::new(alloc),
@@ -47,6 +51,7 @@ impl<'p> Tables<'p> {
     pub fn add_store(&mut self, store: StoreCode<'p>) -> Result<u32, NoMemory>
         ensures at { IfOk result (λ n. slice_get self.new.stores.items n ≡ Some store.entry) }
         ensures grown { AreGrown self.old self.new }
+        ensures fit { (p : ProgramOf) → StoreFits store.entry → AreFit p self.old → AreFit p self.new }
     {
         let number = next_number(&self.stores)?;
         self.stores.push(store)?;
@@ -56,6 +61,7 @@ impl<'p> Tables<'p> {
     pub fn add_call(&mut self, call: CallCode<'p>) -> Result<u32, NoMemory>
         ensures at { IfOk result (λ n. slice_get self.new.calls.items n ≡ Some call.entry) }
         ensures grown { AreGrown self.old self.new }
+        ensures fit { (p : ProgramOf) → AreFit p self.old → AreFit p self.new }
     {
         let number = next_number(&self.calls)?;
         self.calls.push(call)?;
@@ -65,6 +71,7 @@ impl<'p> Tables<'p> {
     pub fn add_constants(&mut self, constants: &'p [Constant]) -> Result<u32, NoMemory>
         ensures at { IfOk result (λ n. slice_get self.new.constants.items n ≡ Some constants.entry) }
         ensures grown { AreGrown self.old self.new }
+        ensures fit { (p : ProgramOf) → AreLawful p constants.now → AreFit p self.old → AreFit p self.new }
     {
         let number = next_number(&self.constants)?;
         self.constants.push(constants)?;
@@ -75,6 +82,7 @@ impl<'p> Tables<'p> {
     pub fn add_chosen(&mut self, chosen: &[(u32, u32)]) -> Result<Range, NoMemory>
         ensures within { IfOk result (IsRange (length self.new.chosen.items)) }
         ensures grown { AreGrown self.old self.new }
+        ensures fit { (p : ProgramOf) → AreFit p self.old → AreFit p self.new }
     {
         let first = next_number(&self.chosen)?;
         self.chosen.extend_from_slice(chosen)?;
@@ -85,6 +93,7 @@ impl<'p> Tables<'p> {
         requires { IsChoice (length self.old.chosen.items) choice }
         ensures within { IfOk result (λ n. n < length self.new.choices.items) }
         ensures grown { AreGrown self.old self.new }
+        ensures fit { (p : ProgramOf) → AreFit p self.old → AreFit p self.new }
     {
         let number = next_number(&self.choices)?;
         self.choices.push(choice)?;
@@ -94,6 +103,7 @@ impl<'p> Tables<'p> {
     pub fn add_object(&mut self, object: ObjectCode) -> Result<(), NoMemory>
         requires { IsObject (length self.old.stores.items) object }
         ensures grown { AreGrown self.old self.new }
+        ensures fit { (p : ProgramOf) → AreFit p self.old → AreFit p self.new }
     {
         self.objects.push(object)?;
         Ok(())
@@ -102,6 +112,7 @@ impl<'p> Tables<'p> {
     pub fn add_block(&mut self, block: BlockCode) -> Result<(), NoMemory>
         requires { IsBlock (length self.old.objects.items) block }
         ensures grown { AreGrown self.old self.new }
+        ensures fit { (p : ProgramOf) → AreFit p self.old → AreFit p self.new }
     {
         self.blocks.push(block)?;
         Ok(())

@@ -18,7 +18,8 @@ use Rattle.run_code.specs.declared.steps.Due.{Due}
 use Rattle.run_code.specs.declared.steps.Listed.{Listed}
 use Rattle.run_code.specs.declared.steps.Listed.TheVariants as listed
 use Rattle.run_listing.specs.Along.{part_of, events_of, Next}
-use Rattle.run_listing.specs.Straight.{EndAtEvent, IsListingOf}
+use Rattle.run_code.specs.OfTrees.{IsListingOf}
+use Rattle.run_listing.specs.Straight.{EndAtEvent}
 use Rattle.run_listing.specs.Cursor.{
   StandsStraight,
   placed,

@@ -16,7 +16,8 @@ use Rattle.run_code.specs.declared.steps.Listed.{Listed}
 use Rattle.run_code.specs.declared.steps.Listed.TheVariants as listed
 use Rattle.run_code.specs.Listings.{Entry, event, entry_of, entries_of, flat, passed, within}
 use Rattle.run_listing.specs.Along.{events_of, IsListed}
-use Rattle.run_listing.specs.Straight.{IsListingOf, ListsTree, HasEntries, PartsAtEvent, PartsAlike, PartsFurther}
+use Rattle.run_code.specs.OfTrees.{IsListingOf}
+use Rattle.run_listing.specs.Straight.{ListsTree, HasEntries, PartsAtEvent, PartsAlike, PartsFurther}
 use Rattle.run_listing.proofs.Once.{places, unique_places}
 use Rattle.run_listing.proofs.Reached.{StandsOnce, stands_once, parts, up_to, further, passed_has}
 

@@ -14,8 +14,9 @@ use Rattle.listing_laws.specs.Along.{StandsAlong}
 use Rattle.listing_laws.specs.Due.{AgreeWhereDue}
 use Rattle.run_code.specs.declared.steps.Due.{Due}
 use Rattle.run_code.specs.declared.steps.Listed.{Listed}
+use Rattle.run_code.specs.OfTrees.{IsListingOf}
 use Rattle.run_listing.specs.Along.{part_of, events_of, Next}
-use Rattle.run_listing.specs.Straight.{EndAtEvent, IsListingOf}
+use Rattle.run_listing.specs.Straight.{EndAtEvent}
 
 -- The cursor stands at the first entry, or straight behind an event that was passed. What it has passed is done, and the body that waits; this,
 -- followed by what it still lists, is the canonical listing.

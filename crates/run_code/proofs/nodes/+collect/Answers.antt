@@ -2,37 +2,53 @@ use Rattle.std.proofs.Common.{rules, arith, ◌≡◌, ◌<◌, ◌+◌, ◌∷�
 use Rattle.std.proofs.lemmas.List.{drop_more}
 use Rattle.std.proofs.lemmas.Option.{slice_get_within, get_or_from_slice_get}
 use Rattle.run_code.proofs.Collected.{Between, begun, more_collected, collected, drop_past, relabelled}
+use Rattle.run_code.proofs.FittingLemmas.{root_fits, child_fits, node_pushed, nodes_set}
 use Rattle.run_code.proofs.nodes.+collect.Goals as goal
 
 pub loop-child-init : goal.loop-child-init
 loop-child-init t c =
-    let at : c.in_ok-number.number ≡ length c.args.nodes.now.items = search rules in
-    subst (Between c.args.objects.now.first.items c.args.parent c.args.root.now c.in_ok-number.number c.args.nodes.now.items c.push.new.self.items)
-    (sym c.as_slice-child-items.ensures)
-    (begun c.args.objects.now.first.items c.args.parent c.args.root.now c.in_ok-number.number c.args.nodes.now.items c.push.new.self.items c.info.result at
-    c.in_ok-push.ensures.items c.info.ensures.tree c.info.ensures.parent c.info.ensures.operand)
+    let at : c.in_ok-number.number ≡ length c.args.nodes.now.items = search rules in (
+      subst (Between c.args.objects.now.first.items c.args.parent c.args.root.now c.in_ok-number.number c.args.nodes.now.items c.push.new.self.items)
+          (sym c.as_slice-child-items.ensures)
+          (begun c.args.objects.now.first.items c.args.parent c.args.root.now c.in_ok-number.number c.args.nodes.now.items c.push.new.self.items c.info.result at
+          c.in_ok-push.ensures.items c.info.ensures.tree c.info.ensures.parent c.info.ensures.operand),
+      λ p h. node_pushed p c.args.nodes.now.items c.push.new.self.items c.info.result c.args.root.now c.in_ok-push.ensures.items c.info.ensures.tree
+          (root_fits p c.args.root.now h),
+    )
 
 pub loop-child-preserved : goal.loop-child-preserved
 loop-child-preserved t c =
-    more_collected c.args.objects.now.first.items c.args.parent c.args.root.now c.in_ok-number.number c.args.nodes.now.items c.loop-child.nodes.items
-    c.collect.new.nodes.items c.child-item.result
-    (drop c.loop-child.child-index c.as_slice-child-items.result.now) (drop (c.loop-child.child-index + 1) c.as_slice-child-items.result.now)
-    (drop_more c.as_slice-child-items.result.now c.loop-child.child-index c.child-item.result c.loop-child-test.true ∙ ap
-    (λ y. y ∷ drop (c.loop-child.child-index + 1) c.as_slice-child-items.result.now) (sym c.child-item.is))
-    c.loop-child.invariant c.in_ok-collect.ensures
+    let rest = drop (c.loop-child.child-index + 1) c.as_slice-child-items.result.now in
+    let left = drop_more c.as_slice-child-items.result.now c.loop-child.child-index c.child-item.result c.loop-child-test.true ∙ ap (λ y. y ∷ rest)
+    (sym c.child-item.is) in (
+      more_collected c.args.objects.now.first.items c.args.parent c.args.root.now c.in_ok-number.number c.args.nodes.now.items c.loop-child.nodes.items
+          c.collect.new.nodes.items c.child-item.result
+          (drop c.loop-child.child-index c.as_slice-child-items.result.now) (drop (c.loop-child.child-index + 1) c.as_slice-child-items.result.now)
+          left c.loop-child.invariant.0 c.in_ok-collect.ensures.added,
+      λ p h old. c.in_ok-collect.ensures.fit p
+          (child_fits p c.args.root.now c.child-item.result c.as_slice-child-items.result.now rest c.loop-child.child-index c.as_slice-child-items.ensures left h)
+          (c.loop-child.invariant.1 p h old),
+    )
 
 pub index_mut-requires : goal.index_mut-requires
 index_mut-requires t c =
     let inside : c.in_ok-number.number < length c.loop-child.nodes.items =
-    slice_get_within c.loop-child.nodes.items c.in_ok-number.number c.loop-child.invariant.top.0 c.loop-child.invariant.top.1 in
+    slice_get_within c.loop-child.nodes.items c.in_ok-number.number c.loop-child.invariant.0.top.0 c.loop-child.invariant.0.top.1 in
     omega (arith, inside, c.loop-child.nodes.ok)
 
-pub returns : goal.returns
-returns t c =
+pub returns-clause-added : goal.returns-clause-added
+returns-clause-added t c =
     let next : c.in_ok-next.next ≡ length c.loop-child.nodes.items = search rules in
     collected c.args.objects.now.first.items c.args.parent c.args.root.now c.in_ok-number.number c.args.nodes.now.items c.loop-child.nodes.items _
     (drop c.loop-child.child-index c.as_slice-child-items.result.now)
     (record c.index_mut.result.now { next = c.in_ok-next.next })
-    (drop_past c.as_slice-child-items.result.now c.loop-child.child-index (omega (arith, c.loop-child-test.false))) c.loop-child.invariant refl
+    (drop_past c.as_slice-child-items.result.now c.loop-child.child-index (omega (arith, c.loop-child-test.false))) c.loop-child.invariant.0 refl
     (λ y h. relabelled c.index_mut.result.now y c.in_ok-next.next (length c.loop-child.nodes.items)
     (c.index_mut.ensures.value ∙ get_or_from_slice_get c.loop-child.nodes.items c.in_ok-number.number y c.index_mut.result.now h) next)
+
+pub returns-clause-fit : goal.returns-clause-fit
+returns-clause-fit t c = λ p h old.
+    let top = c.loop-child.invariant.0.top in
+    nodes_set p c.loop-child.nodes.items _ c.in_ok-number.number (record c.index_mut.result.now { next = c.in_ok-next.next }) top.0 refl
+    (ap (λ y. y.tree.now) (c.index_mut.ensures.value ∙ get_or_from_slice_get c.loop-child.nodes.items c.in_ok-number.number top.0 c.index_mut.result.now top.1))
+    top.1 (c.loop-child.invariant.1 p h old)

@@ -1,19 +1,30 @@
 use Rattle.std.proofs.Common.{arith, ◌+◌, [], ◌∷◌, ◌++◌, map, flat_map, take, drop, sym, ap, subst, ◌∙◌}
-use Rattle.std.proofs.lemmas.List.{drop_more, take_more, take_all}
+use Rattle.std.specs.List.{All}
+use Rattle.std.proofs.lemmas.List.{drop_more, take_more}
 use Rattle.c_typed.specs.declared.statement.Body.TheVariants as body
 use Rattle.c_typed.specs.Tree.{tree_of}
 use Rattle.run_statements.specs.Bodies.{Grows, IsStatement}
-use Rattle.run_code.specs.Roots.{roots_in, code_trees, block_in, AreCodeOf}
+use Rattle.run_code.specs.declared.draft.Draft.{Draft}
+use Rattle.run_code.specs.OfTrees.{OfTerms, AreOfTerms}
+use Rattle.run_code.specs.Roots.{roots_in, code_trees, block_in, trees_in, AreCodeOf}
+use Rattle.run_code.specs.Fitting.{TreeFits, AreFit}
+use Rattle.run_code.proofs.FittingLemmas.{part_fits}
+use Rattle.run_code.proofs.Coded.{all_coded, have_code}
 use Rattle.run_code.proofs.Rooted.{block_of, no_block, laid_block, laid_none, no_trees, all_same}
+use Rattle.run_code.proofs.Termed.{none_termed, lists_trees}
 use Rattle.run_code.proofs.statements.code_of.Goals as goal
 use Rattle.run_code.proofs.statements.code_of.Goals.{in-Some+in-Block+in_ok-function-in-Block, in-Some+in_default, in-None}
 
 pub loop-function-init : goal.loop-function-init
 loop-function-init c = (
-  ap (λ z. roots_in z ++ flat_map code_trees c.as_slice-function-items.result.now) c.new.ensures
-      ∙ ap (flat_map code_trees) c.as_slice-function-items.ensures,
-  ap (map (λ t. t.now)) c.new-numbers.ensures.roots ∙ sym (ap roots_in c.new.ensures),
-  subst (AreCodeOf c.new-numbers.result []) (sym c.new-functions.ensures.items) tt,
+  (
+    ap (λ z. roots_in z ++ flat_map code_trees c.as_slice-function-items.result.now) c.new.ensures.none
+        ∙ ap (flat_map code_trees) c.as_slice-function-items.ensures,
+    ap (map (λ t. t.now)) c.new-numbers.ensures.roots ∙ sym (ap roots_in c.new.ensures.none),
+    subst (AreCodeOf c.new-numbers.result []) (sym c.new-functions.ensures.items) tt,
+  ),
+  none_termed c.args.terms.now c.new.result.laid.entries.items c.new.result.laid.all.items c.new.ensures.none,
+  λ p h. c.new.ensures.fit p,
 )
 
 pub loop-function-preserved : goal.loop-function-preserved
@@ -23,54 +34,95 @@ loop-function-preserved c =
     let f = c.function-item.result in
     let rest = drop (i + 1) items in
     let left = drop_more items i f c.loop-function-test.true ∙ ap (λ y. y ∷ rest) (sym c.function-item.is) in
-    let after = take_more items i f c.loop-function-test.true ∙ ap (λ y. take i items ++ y ∷ []) (sym c.function-item.is) in
-    elim c.match-function.branch [
-      | in-Some+in-Block+in_ok-function-in-Block w ↦
-          let x = w.in-Block.block in
-          let code = w.in_ok-function-in-Block.field-0 in
-          let told = w.in_ok-function-in-Block.ensures in
-          laid_block c.loop-function.numbers c.match-function.numbers c.loop-function.draft.expressions.all.items c.match-function.draft.expressions.all.items f x
-          code c.match-function.code rest (drop i items) (take i items) (take (i + 1) items) c.loop-function.functions.items c.push.new.self.items
-          (flat_map code_trees c.args.program.now.functions) left after c.in_ok-push.ensures.items w.code-is
-          (block_of f w.in-Some.body x w.in-Some.is w.in-Block.is)
-          (ap (λ d. roots_in d.expressions.all.items) w.draft-is ∙ told.order)
-          (ap (λ n. map (λ t. t.now) n.roots.items) w.numbers-is ∙ told.numbers)
-          (subst (Grows c.loop-function.numbers) (sym w.numbers-is) told.grows)
-          (subst (λ n. IsStatement n (body.Block x) code.body) (sym w.numbers-is) told.body)
-          c.loop-function.invariant
-      | in-Some+in_default w ↦
-          laid_none c.loop-function.numbers c.match-function.numbers c.loop-function.draft.expressions.all.items c.match-function.draft.expressions.all.items f
-          c.match-function.code rest (drop i items) (take i items) (take (i + 1) items) c.loop-function.functions.items c.push.new.self.items
-          (flat_map code_trees c.args.program.now.functions) left after c.in_ok-push.ensures.items w.code-is
-          (no_block f.body w.in-Some.body w.in-Some.is w.in_default.not-Block)
-          (ap (λ d. d.expressions.all.items) w.draft-is) w.numbers-is c.loop-function.invariant
-      | in-None w ↦
-          laid_none c.loop-function.numbers c.match-function.numbers c.loop-function.draft.expressions.all.items c.match-function.draft.expressions.all.items f
-          c.match-function.code rest (drop i items) (take i items) (take (i + 1) items) c.loop-function.functions.items c.push.new.self.items
-          (flat_map code_trees c.args.program.now.functions) left after c.in_ok-push.ensures.items w.code-is
-          (ap block_in w.in-None.is)
-          (ap (λ d. d.expressions.all.items) w.draft-is) w.numbers-is c.loop-function.invariant
-    ]
+    let after = take_more items i f c.loop-function-test.true ∙ ap (λ y. take i items ++ y ∷ []) (sym c.function-item.is) in (
+      elim c.match-function.branch [
+        | in-Some+in-Block+in_ok-function-in-Block w ↦
+            let x = w.in-Block.block in
+            let code = w.in_ok-function-in-Block.field-0 in
+            let told = w.in_ok-function-in-Block.ensures in
+            laid_block c.loop-function.numbers c.match-function.numbers c.loop-function.draft.expressions.laid.all.items
+            c.match-function.draft.expressions.laid.all.items f x
+            code c.match-function.code rest (drop i items) (take i items) (take (i + 1) items) c.loop-function.functions.items c.push.new.self.items
+            (flat_map code_trees c.args.program.now.functions) left after c.in_ok-push.ensures.items w.code-is
+            (block_of f w.in-Some.body x w.in-Some.is w.in-Block.is)
+            (ap (λ d. roots_in d.expressions.laid.all.items) w.draft-is ∙ told.order)
+            (ap (λ n. map (λ t. t.now) n.roots.items) w.numbers-is ∙ told.numbers)
+            (subst (Grows c.loop-function.numbers) (sym w.numbers-is) told.grows)
+            (subst (λ n. IsStatement n (body.Block x) code.body) (sym w.numbers-is) told.body)
+            c.loop-function.invariant.0
+        | in-Some+in_default w ↦
+            laid_none c.loop-function.numbers c.match-function.numbers c.loop-function.draft.expressions.laid.all.items
+            c.match-function.draft.expressions.laid.all.items f
+            c.match-function.code rest (drop i items) (take i items) (take (i + 1) items) c.loop-function.functions.items c.push.new.self.items
+            (flat_map code_trees c.args.program.now.functions) left after c.in_ok-push.ensures.items w.code-is
+            (no_block f.body w.in-Some.body w.in-Some.is w.in_default.not-Block)
+            (ap (λ d. d.expressions.laid.all.items) w.draft-is) w.numbers-is c.loop-function.invariant.0
+        | in-None w ↦
+            laid_none c.loop-function.numbers c.match-function.numbers c.loop-function.draft.expressions.laid.all.items
+            c.match-function.draft.expressions.laid.all.items f
+            c.match-function.code rest (drop i items) (take i items) (take (i + 1) items) c.loop-function.functions.items c.push.new.self.items
+            (flat_map code_trees c.args.program.now.functions) left after c.in_ok-push.ensures.items w.code-is
+            (ap block_in w.in-None.is)
+            (ap (λ d. d.expressions.laid.all.items) w.draft-is) w.numbers-is c.loop-function.invariant.0
+      ],
+      elim c.match-function.branch [
+        | in-Some+in-Block+in_ok-function-in-Block w ↦
+            subst (λ (d : Draft). AreOfTerms c.args.terms.now d.expressions.laid) (sym w.draft-is)
+            (w.in_ok-function-in-Block.ensures.listed c.loop-function.invariant.1)
+        | in-Some+in_default w ↦ subst (λ (d : Draft). AreOfTerms c.args.terms.now d.expressions.laid) (sym w.draft-is) c.loop-function.invariant.1
+        | in-None w ↦ subst (λ (d : Draft). AreOfTerms c.args.terms.now d.expressions.laid) (sym w.draft-is) c.loop-function.invariant.1
+      ],
+      elim c.match-function.branch [
+        | in-Some+in-Block+in_ok-function-in-Block w ↦ λ p h.
+            let part = subst (All (TreeFits p)) (ap trees_in (block_of f w.in-Some.body w.in-Block.block w.in-Some.is w.in-Block.is))
+            (part_fits (TreeFits p) code_trees i items rest f left
+            (subst (λ fs. All (TreeFits p) (flat_map code_trees fs)) (sym c.as_slice-function-items.ensures) h)) in
+            subst (λ d. AreFit p d.expressions.tables) (sym w.draft-is) (w.in_ok-function-in-Block.ensures.fit p part (c.loop-function.invariant.2 p h))
+        | in-Some+in_default w ↦ λ p h. subst (λ d. AreFit p d.expressions.tables) (sym w.draft-is) (c.loop-function.invariant.2 p h)
+        | in-None w ↦ λ p h. subst (λ d. AreFit p d.expressions.tables) (sym w.draft-is) (c.loop-function.invariant.2 p h)
+      ],
+    )
 
 pub returns-clause-bodies : goal.returns-clause-bodies
-returns-clause-bodies c =
-    let items = c.as_slice-function-items.result.now in
-    let i = c.loop-function.function-index in
-    let end = c.loop-function-test.false in (
-      c.loop-function.numbers,
-      (
-        c.loop-function.invariant.1 ∙ ap roots_in (sym c.finished.ensures.expressions),
-        subst (AreCodeOf c.loop-function.numbers c.args.program.now.functions) (sym c.finished.ensures.functions)
-            (subst (λ fs. AreCodeOf c.loop-function.numbers fs c.loop-function.functions.items)
-            (take_all i items (omega (arith, end)) ∙ c.as_slice-function-items.ensures) c.loop-function.invariant.2),
-      ),
-    )
+returns-clause-bodies c = (
+  c.loop-function.numbers,
+  (
+    c.loop-function.invariant.0.1 ∙ ap roots_in (sym c.finished.ensures.expressions),
+    all_coded c.loop-function.numbers c.args.program.now.functions c.as_slice-function-items.result.now c.loop-function.function-index
+        c.loop-function.functions.items c.finished.result.functions.items (omega (arith, c.loop-function-test.false)) c.as_slice-function-items.ensures
+        c.finished.ensures.functions c.loop-function.invariant.0.2,
+  ),
+)
+
+pub returns-clause-functions : goal.returns-clause-functions
+returns-clause-functions c =
+    have_code c.loop-function.numbers c.args.program.now.functions c.finished.result
+    (all_coded c.loop-function.numbers c.args.program.now.functions c.as_slice-function-items.result.now c.loop-function.function-index
+    c.loop-function.functions.items c.finished.result.functions.items (omega (arith, c.loop-function-test.false)) c.as_slice-function-items.ensures
+    c.finished.ensures.functions c.loop-function.invariant.0.2)
 
 pub returns-clause-trees : goal.returns-clause-trees
 returns-clause-trees c =
     let items = c.as_slice-function-items.result.now in
     let end = c.loop-function-test.false in
     let order = ap roots_in c.finished.ensures.expressions
-    ∙ no_trees code_trees (roots_in c.loop-function.draft.expressions.all.items) (flat_map code_trees c.args.program.now.functions) items
-    c.loop-function.function-index (omega (arith, end)) c.loop-function.invariant.0 in
+    ∙ no_trees code_trees (roots_in c.loop-function.draft.expressions.laid.all.items) (flat_map code_trees c.args.program.now.functions) items
+    c.loop-function.function-index (omega (arith, end)) c.loop-function.invariant.0.0 in
     λ h. ap (map tree_of) (order ∙ sym (all_same c.args.program.now.functions h))
+
+pub returns-clause-listed : goal.returns-clause-listed
+returns-clause-listed c = λ h given formed.
+    let items = c.as_slice-function-items.result.now in
+    let end = c.loop-function-test.false in
+    let order = ap roots_in c.finished.ensures.expressions
+    ∙ no_trees code_trees (roots_in c.loop-function.draft.expressions.laid.all.items) (flat_map code_trees c.args.program.now.functions) items
+    c.loop-function.function-index (omega (arith, end)) c.loop-function.invariant.0.0 in
+    let trees = ap (map tree_of) (order ∙ sym (all_same c.args.program.now.functions h)) in
+    let code = c.finished.result in
+    lists_trees c.args.program.now c.args.terms.now code.tables code.listing.items code.expressions.items
+    (subst (λ es. OfTerms c.args.terms.now code.listing.items es) (sym c.finished.ensures.expressions)
+    (subst (λ es. OfTerms c.args.terms.now es c.loop-function.draft.expressions.laid.all.items) (sym c.finished.ensures.listing) c.loop-function.invariant.1))
+    code.within trees given formed
+
+pub returns-clause-fit : goal.returns-clause-fit
+returns-clause-fit c = λ p h. subst (AreFit p) (sym c.finished.ensures.tables) (c.loop-function.invariant.2 p h)

@@ -37,6 +37,7 @@ term-loop-part-preserved t c = (
   c.in_ok-term-in-Unseq.ensures.objects ∙ c.loop-part.invariant.1,
   λ h. c.in_ok-term-in-Unseq.ensures.due (c.loop-part.invariant.2 h),
   c.in_ok-term-in-Unseq.ensures.kept ∙ c.loop-part.invariant.3,
+  λ p n h. c.in_ok-term-in-Unseq.ensures.fit p n (c.loop-part.invariant.4 p n h),
 )
 
 pub term-returns-in_ok-continuation-in-Choose-clause-listing : goal.term-returns-in_ok-continuation-in-Choose-clause-listing
@@ -96,3 +97,10 @@ term-returns-in_ok-continuation-in-Choose-clause-kept t c =
 pub term-returns-in_ok-term-in-Weak-clause-kept : goal.term-returns-in_ok-term-in-Weak-clause-kept
 term-returns-in_ok-term-in-Weak-clause-kept t c = on_ok c.term-in-Weak-2.result _ _ (λ e. e ∙ c.in_ok-term-in-Weak.ensures.kept)
     c.term-in-Weak-2.ensures.kept
+
+pub term-returns-in_ok-continuation-in-Choose-clause-fit : goal.term-returns-in_ok-continuation-in-Choose-clause-fit
+term-returns-in_ok-continuation-in-Choose-clause-fit t c = λ p n h.
+    c.continuation-in-Choose.ensures.fit p n (c.in_ok-continuation-in-Choose.ensures.fit p n (c.in_ok-term-in-Choose.ensures.fit p n h))
+
+pub term-returns-in_ok-term-in-Weak-clause-fit : goal.term-returns-in_ok-term-in-Weak-clause-fit
+term-returns-in_ok-term-in-Weak-clause-fit t c = λ p n h. c.term-in-Weak-2.ensures.fit p n (c.in_ok-term-in-Weak.ensures.fit p n h)

@@ -21,3 +21,6 @@ returns-clause-due c = λ noted there.
     (act_grown firsts c.act.new.self.expressions.tables c.choice_at.new.self.expressions.tables x.initializer h
     (seen x.tree.now c.deref.result.now x.operand c.room-room.result) c.args.kind c.in_ok-act.act c.in_ok-choice.ensures.grown c.in_ok-act.ensures.act)
     c.in_ok-choice.ensures.within
+
+pub returns-clause-fit : goal.returns-clause-fit
+returns-clause-fit c = λ p r h. c.in_ok-choice.ensures.fit p (c.in_ok-act.ensures.fit p r h)

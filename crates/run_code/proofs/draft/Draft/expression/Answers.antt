@@ -1,7 +1,15 @@
-use Rattle.std.proofs.Common.{◌≡◌, [], None, sym, subst, ◌∙◌}
+use Rattle.std.proofs.Common.{◌≡◌, [], None, length, slice_get, sym, ap, subst, ◌∙◌}
+use Rattle.c_typed.specs.Tree.{tree_of, size}
+use Rattle.std.proofs.lemmas.List.Elements.{All-nil}
 use Rattle.run_code.specs.EventActs.{AreEntries}
+use Rattle.run_code.specs.declared.expressions.Laid.{Laid}
+use Rattle.run_code.specs.Listings.{entries_of}
+use Rattle.run_code.specs.OfTrees.{flat_of, AreOfTerms}
 use Rattle.run_code.specs.Numbered.{AreAdded, AreNodes}
+use Rattle.run_code.specs.declared.nodes.NodeInfo.{NodeInfo}
+use Rattle.run_code.specs.Fitting.{RootFits, NodesFit, AreFit}
 use Rattle.run_code.proofs.Collected.{nodes_added}
+use Rattle.run_code.proofs.FittingLemmas.{always}
 use Rattle.run_code.proofs.Grown.{entries_grown}
 use Rattle.run_code.proofs.draft.Draft.expression.Goals as goal
 
@@ -12,7 +20,7 @@ add_expression-requires-clause-laid_out c =
     let tables = c.chosen.new.self.expressions.tables in
     let root = c.args.root.now in
     let added : AreAdded firsts None root [] c.collect.new.nodes.items =
-    subst (λ old. AreAdded firsts None root old c.collect.new.nodes.items) c.new-nodes.ensures.items c.in_ok-collect.ensures in
+    subst (λ old. AreAdded firsts None root old c.collect.new.nodes.items) c.new-nodes.ensures.items c.in_ok-collect.ensures.added in
     let same : c.deref.result.now ≡ c.deref-3.result.now = c.deref.ensures.value ∙ sym c.deref-3.ensures.value in
     let laid : AreEntries firsts old c.deref.result.now c.in_ok-entries.entries.items =
     subst (λ fs. AreEntries fs old c.deref.result.now c.in_ok-entries.entries.items) c.in_ok-entries.ensures.objects c.in_ok-entries.ensures.due in
@@ -23,3 +31,26 @@ add_expression-requires-clause-laid_out c =
       subst (AreEntries firsts tables c.deref-3.result.now) (sym c.deref-4.ensures.value)
           (subst (λ ns. AreEntries firsts tables ns c.in_ok-entries.entries.items) same grown),
     )
+
+pub returns-clause-listed : goal.returns-clause-listed
+returns-clause-listed c = λ h.
+    let firsts = c.args.self.now.function.objects.first.items in
+    let root = c.args.root.now in
+    let terms = c.args.terms.now in
+    let added : AreAdded firsts None root [] c.collect.new.nodes.items =
+    subst (λ old. AreAdded firsts None root old c.collect.new.nodes.items) c.new-nodes.ensures.items c.in_ok-collect.ensures.added in
+    let nodes : AreNodes firsts root c.collect.new.nodes.items = nodes_added firsts root c.collect.new.nodes.items added in
+    let kept : c.chosen.new.self.expressions.laid ≡ c.args.self.now.expressions.laid = c.in_ok-chosen.ensures.kept ∙ c.in_ok-entries.ensures.kept in
+    c.add_expression.ensures.listed terms (subst (AreOfTerms terms) (sym kept) h)
+    (ap entries_of c.deref-4.ensures.value
+    ∙ (c.in_ok-entries.ensures.listed
+    ∙ (ap (λ n. flat_of n (slice_get terms (length c.args.self.now.expressions.laid.all.items))) (ap length c.deref.ensures.value ∙ nodes.count)
+    ∙ ap (λ (l : Laid). flat_of (size (tree_of root)) (slice_get terms (length l.all.items))) (sym kept))))
+
+pub returns-clause-fit : goal.returns-clause-fit
+returns-clause-fit c = λ p h t.
+    let none : NodesFit p c.new-nodes.result.items =
+    subst (NodesFit p) (sym c.new-nodes.ensures.items) (All-nil (λ (x : NodeInfo). RootFits p x.tree.now)) in
+    let nodes : NodesFit p c.deref.result.now = subst (NodesFit p) (sym c.deref.ensures.value) (c.in_ok-collect.ensures.fit p h none) in
+    always c.add_expression.result _ (subst (AreFit p) (sym c.add_expression.ensures.tables)
+    (c.in_ok-chosen.ensures.fit p (c.in_ok-entries.ensures.fit p nodes t)))

@@ -7,8 +7,8 @@ pub invariant_of-self : goal.invariant_of-self
 invariant_of-self c =
     let old = c.args.self.now.tables in
     let new = c.add_call.new.self in
-    let entries = c.args.self.now.entries.items in
-    let all = c.args.self.now.all.items in
+    let entries = c.args.self.now.laid.entries.items in
+    let all = c.args.self.now.laid.all.items in
     record {
       laid_out = tables_grown old new entries all c.add_call.ensures.grown c.args.self.now.laid_out;
       named = named_grown old new entries c.add_call.ensures.grown c.args.self.now.named;

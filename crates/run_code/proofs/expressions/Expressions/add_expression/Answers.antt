@@ -3,29 +3,30 @@ use Rattle.std.specs.Prelude.{is_ok}
 use Rattle.run_code.specs.Named.{IsListedOf, IsExpressionOf}
 use Rattle.run_code.proofs.Grown.{nothing_grown, extended, all_grown, expression_pushed, root_value}
 use Rattle.run_code.proofs.NamedLemmas.{pushed_longer, one_pushed, all_pushed, entries_named, within_grown}
+use Rattle.run_code.proofs.Termed.{one_termed}
 use Rattle.run_code.proofs.expressions.Expressions.add_expression.Goals as goal
 
 pub invariant_of-self : goal.invariant_of-self
 invariant_of-self c =
     let tables = c.args.self.now.tables in
-    let entries = c.args.self.now.entries.items in
+    let entries = c.args.self.now.laid.entries.items in
     let longer = c.extend_from_slice.new.self.items in
     let nodes = c.requires.laid_out in
     record {
-      laid_out = all_grown tables tables entries longer (if is_ok c.extend_from_slice.result then c.args.entries.now else []) c.args.self.now.all.items
+      laid_out = all_grown tables tables entries longer (if is_ok c.extend_from_slice.result then c.args.entries.now else []) c.args.self.now.laid.all.items
           (nothing_grown tables)
           (extended (is_ok c.extend_from_slice.result) entries longer c.args.entries.now c.extend_from_slice.ensures.items) c.args.self.now.laid_out;
       named = all_pushed (IsListedOf tables) (is_ok c.extend_from_slice.result) entries longer c.args.entries.now c.extend_from_slice.ensures.items
           c.args.self.now.named
           (entries_named nodes.0 c.args.root.now tables c.args.nodes.now c.args.entries.now nodes.1 nodes.2);
-      within = within_grown tables tables entries longer c.args.self.now.all.items (nothing_grown tables)
+      within = within_grown tables tables entries longer c.args.self.now.laid.all.items (nothing_grown tables)
           (pushed_longer (is_ok c.extend_from_slice.result) entries longer c.args.entries.now c.extend_from_slice.ensures.items) c.args.self.now.within;
     }
 
 pub invariant_of-self-2 : goal.invariant_of-self-2
 invariant_of-self-2 c =
     let tables = c.args.self.now.tables in
-    let entries = c.args.self.now.entries.items in
+    let entries = c.args.self.now.laid.entries.items in
     let longer = c.extend_from_slice.new.self.items in
     let nodes = c.requires.laid_out in
     let first : c.len-first.result ≡ length entries = search rules in
@@ -33,15 +34,28 @@ invariant_of-self-2 c =
     let more : length entries ≤ length longer =
     pushed_longer (is_ok c.extend_from_slice.result) entries longer c.args.entries.now c.extend_from_slice.ensures.items in
     record {
-      laid_out = expression_pushed (is_ok c.push.result) tables entries longer c.args.entries.now c.args.self.now.all.items c.push.new.self.items
+      laid_out = expression_pushed (is_ok c.push.result) tables entries longer c.args.entries.now c.args.self.now.laid.all.items c.push.new.self.items
           nodes.0 c.args.nodes.now _ c.push.ensures.items c.in_ok-extend_from_slice.ensures.items nodes.1 nodes.2
           (root_value nodes.0 c.args.root.now c.args.nodes.now c.index-nodes-0.result nodes.1) first end
-          (all_grown tables tables entries longer c.args.entries.now c.args.self.now.all.items (nothing_grown tables)
+          (all_grown tables tables entries longer c.args.entries.now c.args.self.now.laid.all.items (nothing_grown tables)
           c.in_ok-extend_from_slice.ensures.items c.args.self.now.laid_out);
       named = all_pushed (IsListedOf tables) (is_ok c.extend_from_slice.result) entries longer c.args.entries.now c.extend_from_slice.ensures.items
           c.args.self.now.named
           (entries_named nodes.0 c.args.root.now tables c.args.nodes.now c.args.entries.now nodes.1 nodes.2);
-      within = one_pushed (IsExpressionOf tables longer) (is_ok c.push.result) c.args.self.now.all.items c.push.new.self.items _ c.push.ensures.items
-          (within_grown tables tables entries longer c.args.self.now.all.items (nothing_grown tables) more c.args.self.now.within)
-          (omega (arith, first, end, more), omega (arith, end), c.requires.within);
+      within = one_pushed (IsExpressionOf tables longer) (is_ok c.push.result) c.args.self.now.laid.all.items c.push.new.self.items _ c.push.ensures.items
+          (within_grown tables tables entries longer c.args.self.now.laid.all.items (nothing_grown tables) more c.args.self.now.within) (
+            omega (arith, first, end, more),
+            omega (arith, end),
+            c.requires.within,
+            omega (arith, c.requires.counted, nodes.1.count),
+          );
     }
+
+pub returns-clause-listed : goal.returns-clause-listed
+returns-clause-listed c = λ terms old given.
+    let entries = c.args.self.now.laid.entries.items in
+    let longer = c.extend_from_slice.new.self.items in
+    let first : c.len-first.result ≡ length entries = search rules in
+    let end : c.len-end.result ≡ length longer = search rules in
+    one_termed c.args.self.now.tables terms entries longer c.args.entries.now c.args.self.now.laid.all.items c.push.new.self.items _
+    c.in_ok-extend_from_slice.ensures.items c.in_ok-push.ensures.items first end c.args.self.now.within given old

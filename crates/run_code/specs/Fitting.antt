@@ -7,12 +7,13 @@ use Rattle.c_typed.specs.declared.program.Program.{Program}
 use Rattle.c_typed.specs.declared.tree.Access.{Access}
 use Rattle.c_typed.specs.declared.tree.Access.TheVariants as access
 use Rattle.c_typed.specs.declared.tree.Node.TheOpen as shape
-use Rattle.c_typed.specs.declared.tree.Typed.{Typed}
+use Rattle.c_typed.specs.declared.tree.Typed.{Typed, out-Typed}
 use Rattle.c_typed.specs.Lawful.{IsPointer, ContentIsLawful}
 use Rattle.c_typed.specs.Sites.{Head, Site, sites}
+use Rattle.run_code.specs.declared.nodes.NodeInfo.{NodeInfo}
 use Rattle.run_code.specs.declared.steps.StoreCode.{StoreCode}
 use Rattle.run_code.specs.declared.tables.Tables.{Tables}
-use Rattle.run_code.specs.EventActs.{pointed, change_access}
+use Rattle.run_code.specs.EventActs.{head_at, pointed, first_type, change_access}
 
 -- a pointer is stored by its own type
 abbrev pub AccessFits : Access → CType → Type 0
@@ -40,6 +41,13 @@ SiteFits p s = HeadFits p s.head (pointed (first_operand s.ty s.operands))
 -- each node of a tree, of the own trees of listed initializers too
 abbrev pub TreeFits : Program → Typed → Type 0
 TreeFits p t = All (SiteFits p) (sites t)
+
+-- its root
+abbrev pub RootFits : Program → Typed → Type 0
+RootFits p t = HeadFits p (head_at (out-Typed t).node) (pointed (first_type (type_of (out-Typed t).ty) (out-Typed t).children))
+
+abbrev pub NodesFit : Program → List NodeInfo → Type 0
+NodesFit p = All (λ x. RootFits p x.tree.now)
 
 abbrev pub StoreFits : StoreCode → Type 0
 StoreFits s = AccessFits s.access (type_of s.ty.now)
