@@ -1,20 +1,30 @@
 -- Where a cursor stands in the listing of a full expression (own).
-use Rattle.std.specs.Prelude.{◌≡◌, ◌⊎◌, true, List, [], ◌∷◌, ◌++◌, IsTrue}
+use Rattle.std.specs.Prelude.{◌≡◌, ◌⊎◌, ◌<◌, ◌^◌, true, List, [], ◌∷◌, ◌++◌, IsTrue}
+use Rattle.std.specs.List.{All}
 use Rattle.c_typed.specs.declared.tree.Place.{Place}
-use Rattle.c_typed.specs.Tree.{Tree, size}
+use Rattle.c_typed.specs.Tree.{Tree, tree_of, size}
 use Rattle.c_typed.specs.Order.{Taken, events, has}
 use Rattle.elaborate.specs.Terms.{term_for}
 use Rattle.elaborate.specs.Formed.{is_formed}
 use Rattle.run_code.specs.declared.steps.Due.{Due}
+use Rattle.run_code.specs.declared.steps.Expression.{Expression}
 use Rattle.run_code.specs.declared.steps.Listed.{Listed}
 use Rattle.run_code.specs.declared.steps.Listed.TheVariants as listed
+use Rattle.run_code.specs.declared.whole.Code.{Code}
 use Rattle.run_code.specs.Listings.{entries_of, flat}
-use Rattle.run_listing.specs.Along.{events_of, IsListed}
+use Rattle.run_listing.specs.Along.{part_of, events_of, IsListed}
 
 -- what is laid out of the term of this tree, whose nodes have the operands that their operators take
 pub record IsListingOf (entries : List Listed) (tree : Tree) : Type 0 where
   pub laid : entries_of entries ≡ flat (size tree) (term_for 0 tree)
   pub formed : IsTrue (is_formed tree)
+
+-- the listing of a full expression is that of its tree, whose nodes have numbers
+abbrev pub HasListing : List Listed → Expression → Type 0
+HasListing listing e = IsListingOf (part_of listing e.first e.end) (tree_of e.root.now) × (size (tree_of e.root.now) < 2 ^ 32)
+
+abbrev pub ListsTrees : Code → Type 0
+ListsTrees code = All (HasListing code.listing.items) code.expressions.items
 
 -- these entries are none, or the last one is an event that is listed by the operands that are chosen
 abbrev pub EndAtEvent : Taken → List Listed → Type 0
