@@ -3,4 +3,5 @@ mod Lists
 pub mod Once
 pub mod Reached
 pub mod Straight
+mod Seeking
 mod Walked

@@ -23,6 +23,11 @@ Next taken entries (Some next) =
     (slice_get entries next.0 ≡ Some (listed.Event next.1.now)) ×
     (events_of taken entries ≡ next.1.now.place ∷ events_of taken (drop (suc next.0) entries))
 
+-- the place of an entry that was found
+abbrev pub place_of : Option (Bor Due) → Option Place
+place_of None = None
+place_of (Some due) = Some due.now.place
+
 -- the event stands among these entries
 abbrev pub IsListed : List Listed → Due → Type 0
 IsListed entries due = (at : ℕ) × (slice_get entries at ≡ Some (listed.Event due))

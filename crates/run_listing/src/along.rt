@@ -76,7 +76,7 @@ pub fn passed(alloc: Global, entries: &[Listed], taken: &Taken) -> Result<Done, 
 }
 
 // The entries behind this one.
-fn behind<'c, 'p>(entries: &'c [Listed<'p>], at: usize) -> &'c [Listed<'p>]
+pub fn behind<'c, 'p>(entries: &'c [Listed<'p>], at: usize) -> &'c [Listed<'p>]
     requires within { at < length entries.now }
     ensures { result.now ≡ part_of entries.now (at + 1) (length entries.now) }
 {

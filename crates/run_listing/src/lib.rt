@@ -3,6 +3,8 @@
 
 mod along;
 mod laws;
+mod strayed;
 
 pub use along::{due_of, next, part, passed};
 pub use laws::{law_cursor, law_listed_tree, law_strayed};
+pub use strayed::next_left;

@@ -1,3 +1,5 @@
-mod Picked
+mod Opened
 mod Parts
+mod Picked
 mod Steering
+mod Taken

@@ -1,5 +1,5 @@
 -- An event of a part of a listing is one of the listing, so that what it names is there.
-use Rattle.std.proofs.Common.{◌≡◌, ℕ, ◌-◌, List, take, drop, Option, Some, None, slice_get, refl, sym, subst}
+use Rattle.std.proofs.Common.{◌≡◌, ℕ, ◌-◌, List, drop, Option, Some, None, slice_get, refl, sym, subst}
 use Rattle.std.specs.Borrow.{Bor}
 use Rattle.std.specs.List.{All}
 use Rattle.std.specs.Option.{IfSome}
@@ -14,7 +14,7 @@ use Rattle.run_code.specs.Named.{IsDueOf, IsListedOf}
 use Rattle.run_listing.specs.Along.{part_of, Next, IsListed}
 
 -- what holds of each element holds of this one
-each_at : {A : Type 0} (P : A → Type 0) (xs : List A) (i : ℕ) (x : A) → slice_get xs i ≡ Some x → All P xs → P x
+pub each_at : {A : Type 0} (P : A → Type 0) (xs : List A) (i : ℕ) (x : A) → slice_get xs i ≡ Some x → All P xs → P x
 each_at P xs i x h all = subst P (get_or_from_slice_get xs i x x h) (All-get_or P xs i x (slice_get_within xs i x h) all)
 
 -- what holds of each entry holds of each one of a part
@@ -30,3 +30,8 @@ pub named_next : (tables : Tables) (listing es : List Listed) (from to : ℕ) (t
     All (IsListedOf tables) listing → Next taken es found → IfSome found (λ f. IsDueOf tables f.1.now)
 named_next tables listing es from to taken None part all next = tt
 named_next tables listing es from to taken (Some f) part all next = named_listed tables listing es from to f.1.now part all (f.0, next.0)
+
+pub named_found : (tables : Tables) (listing es : List Listed) (from to : ℕ) (found : Option (Bor Due)) → es ≡ part_of listing from to →
+    All (IsListedOf tables) listing → IfSome found (λ due. IsListed es due.now) → IfSome found (λ due. IsDueOf tables due.now)
+named_found tables listing es from to None part all at = tt
+named_found tables listing es from to (Some due) part all at = named_listed tables listing es from to due.now part all at

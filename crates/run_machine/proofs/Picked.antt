@@ -1,10 +1,9 @@
--- What is done, and what comes next, in the top frame's full expression.
-use Rattle.std.proofs.Common.{◌≡◌, Bool, true, false, if◌then◌else◌, List, [], ◌∷◌, Option, Some, None, Result, Ok, Err, IfOk, slice_get, length, refl, sym, ap, subst, ◌∙◌}
+-- What is done in the top frame's full expression.
+use Rattle.std.proofs.Common.{◌≡◌, ◌<◌, ◌^◌, Bool, true, false, List, Some, Result, Ok, Err, IfOk, slice_get, length, sym, ap, ◌∙◌}
 use Rattle.c_typed.specs.declared.tree.Place.{Place}
-use Rattle.c_typed.specs.Tree.{tree_of}
-use Rattle.c_typed.specs.Order.{has, events}
-use Rattle.c_typed.specs.Decide.{first_place, is_permitted}
-use Rattle.c_model.proofs.Listed.{next_listed}
+use Rattle.c_typed.specs.Tree.{tree_of, size}
+use Rattle.c_typed.specs.Order.{has}
+use Rattle.c_typed.specs.Decide.{is_permitted}
 use Rattle.seq_order.specs.declared.done.Marks.{Marks}
 use Rattle.seq_order.specs.Marked.{taken_in, done_in}
 use Rattle.run_code.specs.declared.steps.Listed.{Listed}
@@ -12,7 +11,7 @@ use Rattle.run_listing.specs.Along.{events_of}
 use Rattle.run_state.specs.declared.machine.Machine.{Machine}
 use Rattle.run_state.specs.declared.machine.Stage.{Stage}
 use Rattle.run_state.specs.declared.watch.Begun.{Begun}
-use Rattle.run_machine.specs.Picks.{top_of, passed_part, ahead_part, kept_in, kept_of, by_way, permits_in, permits, IsAlong}
+use Rattle.run_machine.specs.Picks.{top_of, passed_part, kept_in, kept_of, by_way, Decides, StraysIn}
 
 pub kept_as : (m : Machine) (done : List Marks) → slice_get m.strayed.items (length m.below.items) ≡ Some done → done_in done ≡ kept_of m
 kept_as m done h = sym (ap kept_in h)
@@ -25,26 +24,41 @@ pub passed_as : {E : Type 0} (m : Machine) (s : Stage) (b : Begun) (es : List Li
 passed_as m s b es (Ok done) top part h = (b, top, λ p. h p ∙ ap (λ xs. has (events_of (taken_in b.taken) xs) p) part)
 passed_as m s b es (Err error) top part h = h
 
-abbrev or_else : Option Place → Place → Place
-or_else None d = d
-or_else (Some u) d = u
+-- ---- whether an event is permitted
+abbrev DecidesBy : Machine → Place → List Marks → Bool → Type 0
+DecidesBy m u done permitted = (b : Begun) × (top_of m ≡ Some b)
+    × (size (tree_of b.root.now) < 2 ^ 32 → permitted ≡ is_permitted (tree_of b.root.now) (taken_in b.taken) (done_in done) u)
 
-first_taken : (test : Place → Bool) (us : List Place) (v : Place) → first_place test us ≡ Some v → test v ≡ true
-first_taken test [] v h = absurd (cc)
-first_taken test (u ∷ us) v h = step (test u) refl (first_taken test us v) h
-  where
-    step : (b : Bool) → test u ≡ b → (first_place test us ≡ Some v → test v ≡ true) → (if b then Some u else first_place test us) ≡ Some v → test v ≡ true
-    step true e later g = subst (λ w. test w ≡ true) (ap (λ o. or_else o u) g) e
-    step false e later g = later g
+-- by what is kept
+pub decided_kept : {E : Type 0} (m : Machine) (s : Stage) (u : Place) (done : List Marks) (r : Result Bool E) → s.straight ≡ false
+    → slice_get m.strayed.items (length m.below.items) ≡ Some done → IfOk r (DecidesBy m u done) → IfOk r (Decides m s u)
+decided_kept m s u done (Ok permitted) strayed kept by = (
+  by.0,
+  by.1,
+  λ few. by.2 few
+      ∙ ap (λ d. is_permitted (tree_of by.0.root.now) (taken_in by.0.taken) d u) (kept_as m done kept ∙ sym (ap (λ w. by_way w m s by.0) strayed)),
+)
+decided_kept m s u done (Err error) strayed kept by = by
 
--- the next event along the canonical way may come next
-pub next_permitted : (m : Machine) (s : Stage) (b : Begun) (p : Place) (rest : List Place) → m.top.stage ≡ Some s → top_of m ≡ Some b → s.straight ≡ true
-    → events_of (taken_in b.taken) (ahead_part m s) ≡ p ∷ rest → IsAlong m p → permits m p ≡ true
-next_permitted m s b p rest stage top straight ahead along =
-    ap (λ x. permits_in m x (top_of m) p) stage
-    ∙ ap (λ x. permits_in m (Some s) x p) top
-    ∙ ap (λ w. is_permitted (tree_of b.root.now) (taken_in b.taken) (by_way w m s b) p) straight
-    ∙ first_taken (is_permitted (tree_of b.root.now) (taken_in b.taken) (has (events_of (taken_in b.taken) (passed_part m s))))
-    (events (taken_in b.taken) 0 (tree_of b.root.now)) p
-    (next_listed (tree_of b.root.now) (taken_in b.taken) (events_of (taken_in b.taken) (passed_part m s)) rest p
-    (along s b rest stage top straight ahead))
+same_shown : (m : Machine) (b x : Begun) → top_of m ≡ Some b → top_of m ≡ Some x → x ≡ b
+same_shown m b x top other = (let both : Some x ≡ Some b = sym other ∙ top in cc)
+
+-- by what was passed
+pub decided_passed : (m : Machine) (s : Stage) (u : Place) (done : List Marks) (permitted is : Bool) → s.straight ≡ true → permitted ≡ is
+    → (b : Begun) × (top_of m ≡ Some b) × ((p : Place) → done_in done p ≡ has (events_of (taken_in b.taken) (passed_part m s)) p)
+    → DecidesBy m u done permitted → Decides m s u is
+decided_passed m s u done permitted is straight same passed by =
+    let x = by.0 in
+    let one = same_shown m x passed.0 by.1 passed.1 in
+    let all : done_in done ≡ has (events_of (taken_in passed.0.taken) (passed_part m s)) = (λ i p. passed.2 p i) in (
+      x,
+      by.1,
+      λ few. sym same ∙ by.2 few
+          ∙ ap (λ d. is_permitted (tree_of x.root.now) (taken_in x.taken) d u)
+          (all ∙ ap (λ (z : Begun). has (events_of (taken_in z.taken) (passed_part m s))) one ∙ sym (ap (λ w. by_way w m s x) straight)),
+    )
+
+pub strays_code : (straight : Bool) (old : Machine) (s : Stage) (new : Machine) (permitted : Bool) → StraysIn straight old s new permitted → new.code ≡ old.code
+strays_code true old s new true h = ap (λ (m : Machine). m.code) h.0
+strays_code true old s new false h = ap (λ (m : Machine). m.code) h
+strays_code false old s new permitted h = ap (λ (m : Machine). m.code) h

@@ -1,6 +1,8 @@
--- What is done in the top frame's full expression, which event may come next there, and which is the canonical one.
+-- Which pick the machine takes next in the top frame's full expression, and which event may come next there (own).
 use Rattle.std.specs.Prelude.{
   ◌≡◌,
+  ◌≢◌,
+  ◌↔◌,
   ◌+◌,
   ◌-◌,
   ◌^◌,
@@ -11,9 +13,6 @@ use Rattle.std.specs.Prelude.{
   true,
   false,
   List,
-  [],
-  ◌∷◌,
-  ◌++◌,
   length,
   Option,
   Some,
@@ -24,23 +23,32 @@ use Rattle.std.specs.Prelude.{
   slice_get,
 }
 use Rattle.std.specs.Borrow.{Bor}
+use Rattle.ub_base.specs.declared.names.Event.{Event}
 use Rattle.c_typed.specs.declared.tree.Place.{Place}
 use Rattle.c_typed.specs.Tree.{tree_of, size}
 use Rattle.c_typed.specs.Order.{events, has}
 use Rattle.c_typed.specs.Decide.{is_permitted, canonical}
+use Rattle.c_model.specs.Steps.{Control, Ev, MayPick, event_of}
+use Rattle.c_model.specs.Steps as steps
+use Rattle.c_model.specs.Runs.{State, canonical_pick, chosen_pick}
+use Rattle.c_model.specs.World.{World}
 use Rattle.seq_order.specs.declared.done.Marks.{Marks}
 use Rattle.seq_order.specs.Marked.{taken_in, done_in}
+use Rattle.run_control.specs.View.{Meaning}
 use Rattle.run_code.specs.declared.steps.Due.{Due}
 use Rattle.run_code.specs.declared.steps.Listed.{Listed}
-use Rattle.run_listing.specs.Along.{part_of, events_of, Next}
+use Rattle.run_listing.specs.Along.{part_of, events_of, Next, place_of, IsListed}
 use Rattle.run_state.specs.declared.halt.Halt.{Halt}
 use Rattle.run_state.specs.declared.halt.Halt.TheVariants.{Raised, Over, Unplaced, NoMemory}
 use Rattle.run_state.specs.declared.machine.Machine.{Machine}
 use Rattle.run_state.specs.declared.machine.Stage.{Stage}
-use Rattle.run_machine.specs.declared.pick.Pick.{Pick}
 use Rattle.run_state.specs.declared.watch.Begun.{Begun}
+use Rattle.run_state.specs.Stands.{Stands}
+use Rattle.run_machine.specs.declared.pick.Pick.{Pick}
+use Rattle.run_machine.specs.declared.pick.Pick.TheVariants as pick
 
--- the full expression of the top frame
+-- 1. The full expression of the top frame.
+
 abbrev pub top_of : Machine → Option Begun
 top_of m = slice_get m.begun.items (length m.below.items)
 
@@ -70,40 +78,16 @@ by_way false m s b = kept_of m
 abbrev pub is_done : Machine → Stage → Begun → Place → Bool
 is_done m s b = by_way s.straight m s b
 
--- the event may come next; none may where no full expression has begun
-abbrev pub permits_in : Machine → Option Stage → Option Begun → Place → Bool
-permits_in m (Some s) (Some b) p = is_permitted (tree_of b.root.now) (taken_in b.taken) (is_done m s b) p
-permits_in m (Some s) None p = false
-permits_in m None b p = false
+-- whether the event is permitted by what is done, in a tree whose nodes have numbers
+abbrev pub Decides : Machine → Stage → Place → (permitted : Bool) → Type 0
+Decides m s u permitted = (b : Begun) × (top_of m ≡ Some b)
+    × (size (tree_of b.root.now) < 2 ^ 32 → permitted ≡ is_permitted (tree_of b.root.now) (taken_in b.taken) (is_done m s b) u)
 
-abbrev pub permits : Machine → Place → Bool
-permits m = permits_in m m.top.stage (top_of m)
+-- the next event along the canonical way, and how many entries behind the cursor it stands
+abbrev pub ComesNext : Machine → Stage → Option (ℕ × Bor Due) → Type 0
+ComesNext m s found = (b : Begun) × (top_of m ≡ Some b) × Next (taken_in b.taken) (ahead_part m s) found
 
--- its nodes have numbers
-abbrev pub Fits : Machine → Type 0
-Fits m = (b : Begun) → top_of m ≡ Some b → size (tree_of b.root.now) < 2 ^ 32
-
--- where the event comes next along the canonical way, it stands behind what was passed in the canonical order of its tree
-abbrev pub IsAlong : Machine → Place → Type 0
-IsAlong m p =
-    (s : Stage) (b : Begun) (rest : List Place) → m.top.stage ≡ Some s → top_of m ≡ Some b → s.straight ≡ true
-    → events_of (taken_in b.taken) (ahead_part m s) ≡ p ∷ rest
-    → events (taken_in b.taken) 0 (tree_of b.root.now) ≡ events_of (taken_in b.taken) (passed_part m s) ++ p ∷ rest
-
--- nothing is taken only where the event isn't permitted
-abbrev pub Refuses : (permitted : Bool) → Result (Option Pick) Halt → Type 0
-Refuses permitted (Ok None) = permitted ≡ false
-Refuses permitted (Ok (Some pick)) = Unit {0}
-Refuses permitted (Err halt) = Unit {0}
-
--- it is taken, or its act isn't done, only where the event is permitted
-abbrev pub Takes : (permitted : Bool) → Result (Option Pick) Halt → Type 0
-Takes permitted (Ok None) = Unit {0}
-Takes permitted (Ok (Some pick)) = permitted ≡ true
-Takes permitted (Err NoMemory) = Unit {0}
-Takes permitted (Err (Raised event line clause)) = permitted ≡ true
-Takes permitted (Err (Over cause number)) = permitted ≡ true
-Takes permitted (Err Unplaced) = permitted ≡ true
+-- 2. How the machine goes on in it.
 
 -- the machine with the cursor there
 abbrev pub at_cursor : Machine → Stage → ℕ → Machine
@@ -115,17 +99,15 @@ ByListing old s b new None = Next (taken_in b.taken) (ahead_part old s) None × 
 ByListing old s b new (Some due) =
     (count : ℕ) × Next (taken_in b.taken) (ahead_part old s) (Some (count, due)) × (new ≡ at_cursor old s (min (s.cursor + count) (2 ^ 64 - 1)))
 
-abbrev pub place_of : Option (Bor Due) → Option Place
-place_of None = None
-place_of (Some due) = Some due.now.place
-
--- the next event by what is kept of done events
-abbrev pub ByOrder : Machine → Begun → Machine → Option (Bor Due) → Type 0
-ByOrder old b new due = (place_of due ≡ canonical (tree_of b.root.now) (taken_in b.taken) (kept_of old)) × (new ≡ old)
+-- the next event by what is kept of done events, where the listing is that of the tree
+abbrev pub ByOrder : Machine → Stage → Begun → Option (Bor Due) → Type 0
+ByOrder m s b due =
+    size (tree_of b.root.now) < 2 ^ 32 → events_of (taken_in b.taken) (whole_part m s) ≡ events (taken_in b.taken) 0 (tree_of b.root.now)
+    → place_of due ≡ canonical (tree_of b.root.now) (taken_in b.taken) (kept_of m)
 
 abbrev pub ByWay : (straight : Bool) → Machine → Stage → Begun → Machine → Option (Bor Due) → Type 0
 ByWay true old s b new due = ByListing old s b new due
-ByWay false old s b new due = ByOrder old b new due
+ByWay false old s b new due = ByOrder old s b due × (new ≡ old)
 
 abbrev pub FollowsIn : Machine → Option Stage → Option Begun → Machine → Option (Bor Due) → Type 0
 FollowsIn old None b new due = (due ≡ None) × (new ≡ old)
@@ -145,3 +127,75 @@ StraysIn false old s new permitted = new ≡ old
 
 abbrev pub Strays : Machine → Stage → Machine → Bool → Type 0
 Strays old s new permitted = StraysIn s.straight old s new permitted
+
+-- 3. By the definitions: of each state that the machine stands for, in each world.
+
+-- the event may come next exactly where this is true
+abbrev pub Permits : Machine → Place → (permitted : Bool) → Type 0
+Permits m u permitted =
+    (world : World) (meaning : Option ℕ → Meaning) (st : State) → Stands world meaning m st → (permitted ≡ true) ↔ MayPick world st.top st.top.begun (Ev u)
+
+-- the canonical pick is this event; the control step where there is none
+abbrev pub TakesCanonical : Machine → Option Place → Type 0
+TakesCanonical m chosen =
+    (world : World) (meaning : Option ℕ → Meaning) (st : State) → Stands world meaning m st
+    → chosen_pick world chosen ≡ canonical_pick world st.top st.top.begun
+
+-- where no full expression has begun, no event may come next
+abbrev pub NoneIsPermitted : Type 0
+NoneIsPermitted = (m : Machine) (u : Place) → m.top.stage ≡ None → Permits m u false
+
+-- one that isn't listed may not
+abbrev pub UnlistedIsRefused : Type 0
+UnlistedIsRefused =
+    (m : Machine) (s : Stage) (u : Place) → m.top.stage ≡ Some s → ((due : Due) → IsListed (whole_part m s) due → due.place ≢ u) → Permits m u false
+
+-- the next one along the canonical way may
+abbrev pub NextIsPermitted : Type 0
+NextIsPermitted =
+    (m : Machine) (s : Stage) (next : ℕ × Bor Due) → m.top.stage ≡ Some s → s.straight ≡ true → ComesNext m s (Some next)
+    → Permits m next.1.now.place true
+
+-- and any other one as is decided by what is done
+abbrev pub PermitsDecided : Type 0
+PermitsDecided = (m : Machine) (s : Stage) (u : Place) (permitted : Bool) → m.top.stage ≡ Some s → Decides m s u permitted → Permits m u permitted
+
+-- the event that the machine goes on to is the canonical pick
+abbrev pub FollowsCanonical : Type 0
+FollowsCanonical = (old new : Machine) (due : Option (Bor Due)) → Follows old new due → TakesCanonical old (place_of due)
+
+-- 4. What is answered.
+
+-- the event of this place in the top frame
+abbrev pub event_at : Machine → Place → Event
+event_at m u = record { frame = m.top.frame; turn = m.top.turn; node = u.node; kind = u.kind }
+
+-- the pick is that of this event
+abbrev pub IsOfEvent : Event → Pick → Type 0
+IsOfEvent event (pick.Event taken completed status) = taken ≡ event
+IsOfEvent event (pick.Starts started) = started ≡ event
+IsOfEvent event (pick.Step status) = ⊥
+
+abbrev pub IsStep : Pick → Type 0
+IsStep (pick.Step status) = Unit {0}
+IsStep _ = ⊥
+
+-- the pick is this one of the definitions
+abbrev pub IsPick : World → State → steps.Pick → Pick → Type 0
+IsPick world st Control p = IsStep p
+IsPick world st (Ev u) p = IsOfEvent (event_of world st.top.scene u) p
+
+-- nothing is taken only where the event isn't permitted
+abbrev pub Refuses : (Permitted : Type 0) → Result (Option Pick) Halt → Type 0
+Refuses Permitted (Ok None) = Permitted → ⊥
+Refuses Permitted (Ok (Some pick)) = Unit {0}
+Refuses Permitted (Err halt) = Unit {0}
+
+-- it is taken, or its act isn't done, only where the event is permitted
+abbrev pub Takes : (Permitted : Type 0) → Result (Option Pick) Halt → Type 0
+Takes Permitted (Ok None) = Unit {0}
+Takes Permitted (Ok (Some pick)) = Permitted
+Takes Permitted (Err NoMemory) = Unit {0}
+Takes Permitted (Err (Raised event line clause)) = Permitted
+Takes Permitted (Err (Over cause number)) = Permitted
+Takes Permitted (Err Unplaced) = Permitted

@@ -8,7 +8,6 @@ ghost use Rattle.run_control.specs.View.{Meaning, after, todo_of};
 ghost use Rattle.run_machine.specs.Moving.{GoesOn, IsGone, StepLeaves, TakesStep};
 
 use crate::frames::end_frame;
-use crate::pick::Pick;
 use c_typed::Typed;
 use prov_memory::ObjKind;
 use run_acts::total;
@@ -22,8 +21,8 @@ use ub_base::{Cause, NoMemory, ObjName};
 /// How many bytes the created objects may count (own).
 pub const MOST_CREATED: u64 = 1 << 26;
 
-// The control step of the top frame, in whose full expression no event is left.
-pub fn control_step(machine: &mut Machine) -> Result<Pick, Halt>
+// The control step of the top frame, in whose full expression no event is left, with the status where it ends the run.
+pub fn control_step(machine: &mut Machine) -> Result<Option<u8>, Halt>
     ensures step { OnOk result (machine.old.top.stage ≡ None → (m : Meaning) → TakesStep m machine.old.jumps.links.items machine.old.work machine.new.work) }
 {
     match machine.top.stage {
@@ -35,7 +34,7 @@ pub fn control_step(machine: &mut Machine) -> Result<Pick, Halt>
     }
 }
 
-fn take_step<'c>(machine: &mut Machine<'_, 'c>, step: Step<'c>) -> Result<Pick, Halt>
+fn take_step<'c>(machine: &mut Machine<'_, 'c>, step: Step<'c>) -> Result<Option<u8>, Halt>
     ensures { OnOk result ((m : Meaning) → StepLeaves m machine.old.jumps.links.items step.entry machine.old.work machine.new.work) }
 {
     match step {
@@ -46,7 +45,7 @@ fn take_step<'c>(machine: &mut Machine<'_, 'c>, step: Step<'c>) -> Result<Pick, 
             go_on(machine)
         }
         Step::Unwrite(object) => declare(machine, object),
-        Step::Nothing => Ok(Pick::Step(None)),
+        Step::Nothing => Ok(None),
         Step::GoTo(label) => go_to(machine, label),
         Step::GoOut => go(machine, Move::Out),
         Step::GoOn => go(machine, Move::On),
@@ -55,25 +54,25 @@ fn take_step<'c>(machine: &mut Machine<'_, 'c>, step: Step<'c>) -> Result<Pick, 
 }
 
 // The frame ends with this step where nothing is left to do in it.
-fn go_on(machine: &mut Machine) -> Result<Pick, Halt>
+fn go_on(machine: &mut Machine) -> Result<Option<u8>, Halt>
     ensures { OnOk result ((m : Meaning) → GoesOn m machine.old.work machine.new.work) }
 {
     if machine.work.is_over()? {
         end_frame(machine)
     } else {
-        Ok(Pick::Step(None))
+        Ok(None)
     }
 }
 
-fn go(machine: &mut Machine, how: Move) -> Result<Pick, Halt>
+fn go(machine: &mut Machine, how: Move) -> Result<Option<u8>, Halt>
     ensures below { OnOk result (machine.new.work.below ≡ machine.old.work.below) }
     ensures now { OnOk result ((m : Meaning) → todo_of m machine.new.work.now ≡ moved how (todo_of m machine.old.work.now)) }
 {
     machine.work.go(how)?;
-    Ok(Pick::Step(None))
+    Ok(None)
 }
 
-fn go_to(machine: &mut Machine, label: u32) -> Result<Pick, Halt>
+fn go_to(machine: &mut Machine, label: u32) -> Result<Option<u8>, Halt>
     ensures { OnOk result ((m : Meaning) → IsGone m machine.old.jumps.links.items machine.old.work machine.new.work) }
 {
     let Some(function) = machine.top.function else {
@@ -81,7 +80,7 @@ fn go_to(machine: &mut Machine, label: u32) -> Result<Pick, Halt>
     };
     let target = machine.jumps.label(function, label)?;
     machine.work.go_to(&machine.jumps.links, target)?;
-    Ok(Pick::Step(None))
+    Ok(None)
 }
 
 // The block of this number in the function, with its objects.
@@ -98,7 +97,7 @@ fn block_of<'c>(
 }
 
 // A block is entered: its objects are created in order, and the first take the arguments.
-fn enter(machine: &mut Machine, number: u32) -> Result<Pick, Halt>
+fn enter(machine: &mut Machine, number: u32) -> Result<Option<u8>, Halt>
     ensures { machine.new.work ≡ machine.old.work }
 {
     machine.entered = number;
@@ -110,7 +109,7 @@ fn enter(machine: &mut Machine, number: u32) -> Result<Pick, Halt>
     }
     create_objects(machine, objects, block.first)?;
     store_arguments(machine, objects, block)?;
-    Ok(Pick::Step(None))
+    Ok(None)
 }
 
 // The objects of a block, of which the first has this number in the function.
@@ -198,7 +197,7 @@ fn leave(machine: &mut Machine, number: u32) -> Result<(), NoMemory>
 }
 
 // The bytes of an object of the innermost block become unwritten.
-fn declare(machine: &mut Machine, object: u32) -> Result<Pick, Halt>
+fn declare(machine: &mut Machine, object: u32) -> Result<Option<u8>, Halt>
     ensures { machine.new.work ≡ machine.old.work }
 {
     let Some(block) = machine.work.block() else {
@@ -207,11 +206,11 @@ fn declare(machine: &mut Machine, object: u32) -> Result<Pick, Halt>
     let (block, _) = block_of(machine, block.number)?;
     let name = machine.local_name(block.first.saturating_add(object))?;
     machine.memory.unwrite(name, &mut machine.items);
-    Ok(Pick::Step(None))
+    Ok(None)
 }
 
 // A full expression begins, whose value has this use.
-fn begin<'c>(machine: &mut Machine<'_, 'c>, number: u32, how: Use<'c>) -> Result<Pick, Halt>
+fn begin<'c>(machine: &mut Machine<'_, 'c>, number: u32, how: Use<'c>) -> Result<Option<u8>, Halt>
     ensures { machine.new.work ≡ machine.old.work }
 {
     let code = machine.code;
@@ -233,7 +232,7 @@ fn begin<'c>(machine: &mut Machine<'_, 'c>, number: u32, how: Use<'c>) -> Result
     machine.grow(size)?;
     show_begun(machine, number, expression.root)?;
     choose_at_once(machine, chosen)?;
-    Ok(Pick::Step(None))
+    Ok(None)
 }
 
 // It takes the place of the one that was settled before it at this height.
@@ -267,7 +266,7 @@ fn show_begun<'p>(
 }
 
 // The value of a full expression is used.
-fn settle(machine: &mut Machine, stage: Stage) -> Result<Pick, Halt> {
+fn settle(machine: &mut Machine, stage: Stage) -> Result<Option<u8>, Halt> {
     let operand = stage.value;
     machine.top.stage = None;
     match machine.top.how {

@@ -1,6 +1,7 @@
 // An event of a full expression is taken.
-ghost use Rattle.std.specs.Prelude.{◌≡◌};
+ghost use Rattle.std.specs.Prelude.{◌≡◌, IfOk};
 ghost use Rattle.run_code.specs.Named.{IsDueOf};
+ghost use Rattle.run_machine.specs.Picks.{event_at, IsOfEvent};
 
 use crate::pick::Pick;
 use crate::picks::completed;
@@ -24,6 +25,7 @@ fn passed(stage: Option<Stage>) -> Option<Stage> {
 // Takes a permitted event of the top frame's full expression.
 pub fn take_event(machine: &mut Machine, due: &Due) -> Result<Pick, Halt>
     requires named { IsDueOf machine.old.code.now.tables due.now }
+    ensures event { IfOk result (IsOfEvent (event_at machine.old due.now.place)) }
 {
     let code = machine.code;
     let event = Event {

@@ -3,7 +3,6 @@ ghost use Rattle.std.specs.Prelude.{◌≡◌, [], true, OnOk};
 ghost use Rattle.run_control.specs.Stacked.{Closes};
 
 use crate::events::note;
-use crate::pick::Pick;
 use c_typed::Place;
 use prov_memory::Value;
 use run_acts::{exit_status, left};
@@ -11,8 +10,8 @@ use run_state::{Halt, Machine};
 use ub_base::Kind;
 
 // The top frame, in which nothing is left to do, ends: its body is done in the frame below and leaves its result there.
-// The end of the first frame is that of the run.
-pub fn end_frame(machine: &mut Machine) -> Result<Pick, Halt>
+// The end of the first frame is that of the run, with this status.
+pub fn end_frame(machine: &mut Machine) -> Result<Option<u8>, Halt>
     requires over { machine.old.work.now ≡ [] }
     ensures work { OnOk result (Closes machine.old.work.below true machine.new.work) }
 {
@@ -22,7 +21,7 @@ pub fn end_frame(machine: &mut Machine) -> Result<Pick, Halt>
     let value = result_of(machine);
     let node = machine.top.node;
     let Some(open) = machine.below.pop() else {
-        return Ok(Pick::Step(Some(exit_status(&value))));
+        return Ok(Some(exit_status(&value)));
     };
     machine.top = open;
     machine.keep(node, value);
@@ -33,7 +32,7 @@ pub fn end_frame(machine: &mut Machine) -> Result<Pick, Halt>
             kind: Kind::Body,
         },
     )?;
-    Ok(Pick::Step(None))
+    Ok(None)
 }
 
 // What the top frame leaves.

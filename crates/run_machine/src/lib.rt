@@ -4,10 +4,12 @@
 mod control;
 mod events;
 mod frames;
+mod laws;
 mod pick;
 mod picks;
 
 pub use control::MOST_CREATED;
+pub use laws::law_picks;
 pub use pick::{Completed, Pick};
 pub use picks::{canonical, single};
 pub use run_code::{Code, code_of};

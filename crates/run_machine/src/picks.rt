@@ -1,46 +1,61 @@
 // Which pick is the canonical one, which are permitted, and what an event completes.
-ghost use Rattle.std.specs.Prelude.{◌≡◌, ◌+◌, ◌-◌, ◌^◌, min, false, true, [], length, Some, slice_get, IfOk, IfSome, IfNone, OnOk};
+ghost use Rattle.std.specs.Prelude.{◌≡◌, ◌+◌, ◌-◌, ◌<◌, ◌^◌, min, false, true, [], length, is_some, ℕ, Option, Some, slice_get, IfOk, IfSome, IfNone, OnOk};
 ghost use Rattle.c_typed.specs.declared.tree.Place.{Place as PlaceOf};
-ghost use Rattle.c_typed.specs.Tree.{tree_of};
+ghost use Rattle.c_typed.specs.Tree.{tree_of, size};
 ghost use Rattle.c_typed.specs.Order.{has};
-ghost use Rattle.c_typed.specs.Decide.{is_permitted as permitted_in, canonical as canonical_in};
+ghost use Rattle.c_typed.specs.Decide.{is_permitted as permitted_in};
+ghost use Rattle.c_model.specs.Steps.{Ev, MayPick};
+ghost use Rattle.c_model.specs.Runs.{State, canonical_pick};
+ghost use Rattle.c_model.specs.World.{World};
 ghost use Rattle.seq_order.specs.Marked.{taken_in, done_in};
+ghost use Rattle.run_control.specs.View.{Meaning};
 ghost use Rattle.run_code.specs.Named.{IsDueOf};
-ghost use Rattle.run_listing.specs.Along.{events_of, Next, IsListed};
+ghost use Rattle.run_listing.specs.Along.{events_of};
+ghost use Rattle.run_state.specs.Stands.{Stands};
 ghost use Rattle.run_state.specs.declared.watch.Begun.{Begun as BegunOf};
-ghost use Rattle.run_machine.specs.Picks.{top_of, passed_part, ahead_part, whole_part, kept_of, permits, at_cursor, place_of, Fits, IsAlong, Refuses, Takes, Strays, Follows};
+ghost use Rattle.run_machine.specs.Picks.{top_of, passed_part, kept_of, at_cursor, ByOrder, ComesNext, Decides, Follows, IsPick, Permits, Refuses, Strays, Takes};
 
 use crate::control::control_step;
 use crate::events::take_event;
+use crate::laws::law_picks;
 use crate::pick::{Completed, Pick};
 use c_typed::Place;
 use run_code::Due;
-use run_listing::{due_of, next, part, passed};
+use run_listing::{due_of, next, next_left, part, passed};
 use run_state::{Begun, Halt, Machine, Stage};
-use seq_order::{Done, canonical_next, is_permitted};
+use seq_order::{Done, is_permitted};
 use std::alloc::Global;
 use ub_base::NoMemory;
 
 /// Takes the canonical pick: the control step, or the next event of the top frame's full expression.
-pub fn canonical(machine: &mut Machine) -> Result<Pick, Halt> {
+pub fn canonical(machine: &mut Machine) -> Result<Pick, Halt>
+    ensures takes { (world : World) (meaning : Option ℕ → Meaning) (st : State) → Stands world meaning machine.old st
+        → IfOk result (IsPick world st (canonical_pick world st.top st.top.begun)) }
+{
+    law_picks();
+    let next = follow(machine)?;
     machine.items.clear();
-    match follow(machine)? {
+    match next {
         Some(due) => take_event(machine, due),
-        None => control_step(machine),
+        None => Ok(Pick::Step(control_step(machine)?)),
     }
 }
 
 /// Takes this event of the top frame's full expression. None where it isn't permitted, and then nothing was taken.
 pub fn single(machine: &mut Machine, place: Place) -> Result<Option<Pick>, Halt>
-    ensures refused { Fits machine.old → Refuses (permits machine.old place) result }
-    ensures taken { Fits machine.old → IsAlong machine.old place → Takes (permits machine.old place) result }
+    ensures refused { (world : World) (meaning : Option ℕ → Meaning) (st : State) → Stands world meaning machine.old st
+        → Refuses (MayPick world st.top st.top.begun (Ev place)) result }
+    ensures taken { (world : World) (meaning : Option ℕ → Meaning) (st : State) → Stands world meaning machine.old st
+        → Takes (MayPick world st.top st.top.begun (Ev place)) result }
+    ensures named { (world : World) (meaning : Option ℕ → Meaning) (st : State) → Stands world meaning machine.old st
+        → IfOk result (λ pick. IfSome pick (IsPick world st (Ev place))) }
     ensures unchanged { IfOk result (λ pick. IfNone pick (machine.new ≡ record machine.old { items = [] })) }
 {
+    let due = permitted(machine, place)?;
     machine.items.clear();
-    match permitted(machine, place) {
-        Ok(Some(due)) => Ok(Some(take_event(machine, due)?)),
-        Ok(None) => Ok(None),
-        Err(NoMemory) => Err(Halt::NoMemory),
+    match due {
+        Some(due) => Ok(Some(take_event(machine, due)?)),
+        None => Ok(None),
     }
 }
 
@@ -49,12 +64,13 @@ fn permitted<'p, 'c>(
     machine: &mut Machine<'p, 'c>,
     place: Place,
 ) -> Result<Option<&'c Due<'p>>, NoMemory>
-    ensures refused { Fits machine.old → IfOk result (λ due. IfNone due (permits machine.old place ≡ false)) }
-    ensures taken { Fits machine.old → IsAlong machine.old place → IfOk result (λ due. IfSome due (λ _. permits machine.old place ≡ true)) }
+    ensures permits { IfOk result (λ due. Permits machine.old place (is_some due)) }
     ensures place { IfOk result (λ due. IfSome due (λ d. d.now.place ≡ place)) }
     ensures named { IfOk result (λ due. IfSome due (λ d. IsDueOf machine.new.code.now.tables d.now)) }
+    ensures frame { IfOk result (λ due. (machine.new.top.frame ≡ machine.old.top.frame) × (machine.new.top.turn ≡ machine.old.top.turn)) }
     ensures unchanged { IfOk result (λ due. IfNone due (machine.new ≡ machine.old)) }
 {
+    law_picks();
     let Some(stage) = machine.top.stage else {
         return Ok(None);
     };
@@ -66,16 +82,21 @@ fn permitted<'p, 'c>(
             }
         }
     }
-    if !strays(machine, stage, place)? {
+    let code = machine.code;
+    let Some(due) = due_of(part(&code.listing, stage.first, stage.end), place) else {
         return Ok(None);
+    };
+    if strays(machine, stage, place)? {
+        Ok(Some(due))
+    } else {
+        Ok(None)
     }
-    Ok(Some(entry_of(machine, stage, place)?))
 }
 
 // Whether this event is permitted. Where it is, the order isn't the canonical one any more.
 fn strays(machine: &mut Machine, stage: Stage, place: Place) -> Result<bool, NoMemory>
     requires stage { machine.old.top.stage ≡ Some stage }
-    ensures permitted { Fits machine.old → IfOk result (λ permitted. permitted ≡ permits machine.old place) }
+    ensures permitted { IfOk result (Decides machine.old stage place) }
     ensures state { IfOk result (Strays machine.old stage machine.new) }
 {
     if !stage.straight {
@@ -101,7 +122,8 @@ fn strays(machine: &mut Machine, stage: Stage, place: Place) -> Result<bool, NoM
 
 // Whether this event is permitted in the top frame's full expression where these are done.
 fn is_permitted_after(machine: &Machine, place: Place, done: &Done) -> Result<bool, NoMemory>
-    ensures { Fits machine.now → IfOk result (λ permitted. (b : BegunOf) × (top_of machine.now ≡ Some b) × (permitted ≡ permitted_in (tree_of b.root.now) (taken_in b.taken) (done_in done.now) place)) }
+    ensures { IfOk result (λ permitted. (b : BegunOf) × (top_of machine.now ≡ Some b) × (size (tree_of b.root.now) < 2 ^ 32
+        → permitted ≡ permitted_in (tree_of b.root.now) (taken_in b.taken) (done_in done.now) place)) }
 {
     let begun = opened(machine)?;
     Ok(is_permitted(begun.root, place, &begun.taken, done))
@@ -142,8 +164,9 @@ fn passed_events(machine: &Machine, stage: Stage) -> Result<Done, NoMemory>
 
 // Goes on to the next event of the top frame's full expression in canonical order; None where none is left or none has begun.
 fn follow<'p, 'c>(machine: &mut Machine<'p, 'c>) -> Result<Option<&'c Due<'p>>, NoMemory>
-    ensures follows { Fits machine.old → IfOk result (Follows machine.old machine.new) }
+    ensures follows { IfOk result (Follows machine.old machine.new) }
     ensures named { IfOk result (λ due. IfSome due (λ d. IsDueOf machine.new.code.now.tables d.now)) }
+    ensures frame { IfOk result (λ due. (machine.new.top.frame ≡ machine.old.top.frame) × (machine.new.top.turn ≡ machine.old.top.turn)) }
 {
     let Some(stage) = machine.top.stage else {
         return Ok(None);
@@ -163,14 +186,18 @@ fn strayed_next<'p, 'c>(
     machine: &Machine<'p, 'c>,
     stage: Stage,
 ) -> Result<Option<&'c Due<'p>>, NoMemory>
-    ensures next { Fits machine.now → IfOk result (λ due. (b : BegunOf) × (top_of machine.now ≡ Some b) × (place_of due ≡ canonical_in (tree_of b.root.now) (taken_in b.taken) (kept_of machine.now))) }
+    ensures next { IfOk result (λ due. (b : BegunOf) × (top_of machine.now ≡ Some b) × ByOrder machine.now stage b due) }
     ensures named { IfOk result (λ due. IfSome due (λ d. IsDueOf machine.now.code.now.tables d.now)) }
 {
+    let code = machine.code;
     let begun = opened(machine)?;
-    match canonical_next(begun.root, &begun.taken, strayed(machine)?) {
-        Some(place) => Ok(Some(entry_of(machine, stage, place)?)),
-        None => Ok(None),
-    }
+    let done = strayed(machine)?;
+    Ok(next_left(
+        part(&code.listing, stage.first, stage.end),
+        begun.root,
+        &begun.taken,
+        done,
+    ))
 }
 
 // The next event of the listing from the cursor on, and how many entries behind the cursor it stands.
@@ -178,7 +205,7 @@ fn listed_next<'p, 'c>(
     machine: &Machine<'p, 'c>,
     stage: Stage,
 ) -> Result<Option<(usize, &'c Due<'p>)>, NoMemory>
-    ensures next { IfOk result (λ found. (b : BegunOf) × (top_of machine.now ≡ Some b) × Next (taken_in b.taken) (ahead_part machine.now stage) found) }
+    ensures next { IfOk result (ComesNext machine.now stage) }
     ensures named { IfOk result (λ found. IfSome found (λ f. IsDueOf machine.now.code.now.tables f.1.now)) }
 {
     let code = machine.code;
@@ -192,23 +219,6 @@ fn move_on(machine: &mut Machine, stage: Stage, count: usize)
 {
     let cursor = stage.cursor.saturating_add(count);
     machine.top.stage = Some(Stage { cursor, ..stage });
-}
-
-// The entry of an event in the listing. It costs a walk over the listing.
-fn entry_of<'p, 'c>(
-    machine: &Machine<'p, 'c>,
-    stage: Stage,
-    place: Place,
-) -> Result<&'c Due<'p>, NoMemory>
-    ensures place { IfOk result (λ due. due.now.place ≡ place) }
-    ensures listed { IfOk result (λ due. IsListed (whole_part machine.now stage) due.now) }
-    ensures named { IfOk result (λ due. IsDueOf machine.now.code.now.tables due.now) }
-{
-    let code = machine.code;
-    match due_of(part(&code.listing, stage.first, stage.end), place) {
-        Some(due) => Ok(due),
-        None => Err(NoMemory),
-    }
 }
 
 // What the event completes: its node, and where the next event is the parent's own, all below the parent.
@@ -234,14 +244,9 @@ fn keep_done(
 ) -> Result<(), NoMemory>
     ensures { OnOk result (slice_get strayed.new.items height ≡ Some done) }
 {
-    for _ in strayed.len()..height.saturating_add(1) {
+    while strayed.len() <= height {
         strayed.push(Done::new(alloc))?;
     }
-    match strayed.get_mut(height) {
-        Some(place) => {
-            *place = done;
-            Ok(())
-        }
-        None => Err(NoMemory),
-    }
+    strayed[height] = done;
+    Ok(())
 }

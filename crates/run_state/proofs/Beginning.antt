@@ -3,28 +3,24 @@ use Rattle.std.proofs.Common.{◌≡◌, ℕ, true, refl, sym, ap, ap₂, ◌∙
 use Rattle.std.specs.Borrow.{Bor}
 use Rattle.std.specs.List.{All}
 use Rattle.std.specs.Prelude.{is_some}
-use Rattle.addr_map.specs.declared.map.Row.{Row}
 use Rattle.addr_map.specs.Sound.{Above}
-use Rattle.ub_base.specs.Frames.{Path}
 use Rattle.c_types.specs.Types.{type_of}
 use Rattle.c_typed.specs.Lawful.{ContentIsLawful}
-use Rattle.c_typed.specs.declared.program.Constant.{Constant}
 use Rattle.c_typed.specs.declared.program.Program.{Program}
 use Rattle.mem_spec.specs.Script.{Act, Done, run}
 use Rattle.mem_spec.specs.Store.{Store}
 use Rattle.mem_spec.specs.Streams.{Io, silent}
-use Rattle.prov_memory.specs.Keeps.{Keeps, RowsStay, AreBare}
+use Rattle.prov_memory.specs.Keeps.{Keeps, AreBare}
 use Rattle.prov_memory.specs.Memory.{Kept, store_of, empty}
 use Rattle.prov_memory.specs.Sound.{IsSound}
 use Rattle.prov_memory.specs.Tags.{AreTagged}
 use Rattle.prov_memory.proofs.KeepLemmas.{keeps_then}
 use Rattle.prov_memory.proofs.SoundLemmas.{empty_sound}
-use Rattle.c_model.specs.Program.{Standing}
 use Rattle.c_model.specs.Values.{Value, Nothing}
-use Rattle.c_model.specs.World.{World, Limits}
-use Rattle.c_model.specs.Control.{Todo, To_do, ready_work}
+use Rattle.c_model.specs.World.{World}
+use Rattle.c_model.specs.Control.{To_do, ready_work}
 use Rattle.c_model.specs.Steps.{body_of}
-use Rattle.c_model.specs.Runs.{State, Outcome, Running, limit_passed, main_frame, nothing_stands, stand, start, started_run, within, work_of}
+use Rattle.c_model.specs.Runs.{State, Running, limit_passed, main_frame, nothing_stands, stand, start, started_run, within, work_of}
 use Rattle.prov_memory.specs.declared.cell.Via.{Via}
 use Rattle.run_acts.specs.declared.initial.Places.{Places}
 use Rattle.run_acts.specs.declared.storage.Filling.{Filling}
@@ -42,22 +38,8 @@ use Rattle.run_state.specs.declared.machine.Machine.{Machine}
 use Rattle.run_state.specs.declared.machine.Open.{Open}
 use Rattle.run_state.specs.declared.machine.Stage.{Stage}
 use Rattle.run_state.specs.Meaning.{world_with, AccessSuits, StandsProgram, StandsCode}
-use Rattle.run_state.specs.Stands.{
-  AreBytes,
-  AreEach,
-  HoldsAll,
-  IsVia,
-  StandFrames,
-  Stands,
-  StandsBegun,
-  StandsControl,
-  StandsFrame,
-  StandsMemory,
-  StandsTables,
-  frames_of,
-  result_seen,
-}
-use Rattle.run_state.specs.Begins.{AreBytesWhere, BeginsAsDefined, IsFirst, IsNamedVia, StartIsWithin, StartsAs, StartsMain}
+use Rattle.run_state.specs.Stands.{AreBytes, AreEach, HoldsAll, IsVia, StandFrames, StandsBegun, StandsFrame, StandsTables, frames_of, result_seen}
+use Rattle.run_state.specs.Begins.{AreBytesWhere, BeginsAsDefined, IsFirst, IsNamedVia, StartIsWithin, StartsMain}
 use Rattle.run_state.proofs.Each.{each_where}
 use Rattle.run_state.proofs.Vias.{named_seen}
 
@@ -214,7 +196,7 @@ begins old first p args input m nothing high parts =
     let os = parts.started.0 in (
       os,
       parts.started.1,
-      λ rows number limits meaning vs stay zero within code held.
+      λ rows number limits meaning vs stay zero within code listed held.
           let world = world_with p args os rows number limits in
           let c = parts.work.0 in
           let b = parts.work.2 in
@@ -229,6 +211,7 @@ begins old first p args input m nothing high parts =
               program = subst (λ (q : Program). StandsProgram world q) (sym parts.program)
                   (record { functions = refl; main = refl; agree = refl; library = refl });
               code = subst (λ (q : Program). StandsCode world q m.code.now meaning) (sym parts.program) code;
+              listed = listed;
               memory = record {
                 store = refl;
                 sound = all.sound (subst (λ (k : Kept). IsSound k) (sym nothing) (empty_sound old.rows old.mode));

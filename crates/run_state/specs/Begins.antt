@@ -29,6 +29,7 @@ use Rattle.run_control.specs.View.{Meaning}
 use Rattle.run_code.specs.declared.whole.Code.{Code}
 use Rattle.run_code.specs.declared.steps.FunctionCode.{FunctionCode}
 use Rattle.run_code.specs.declared.steps.StoreCode.{StoreCode}
+use Rattle.run_code.specs.OfTrees.{ListsTrees}
 use Rattle.run_state.specs.declared.machine.Machine.{Machine}
 use Rattle.run_state.specs.declared.machine.Open.{Open}
 use Rattle.run_state.specs.Meaning.{world_with, StandsCode}
@@ -45,13 +46,14 @@ StartsAs world meaning input vs m = (st : State) × (start world input vs ≡ Ru
 
 -- Some objects are those that stand before the first pick (`Stand`). In each world of the program with these objects, whose rows have those of the
 -- machine's memory, in which the first frame has the number 0, and whose limits are kept: where the numbers in the code stand for what is in the program,
--- and `main` is given what the first rooms hold, the definitions start from a state that the machine stands for.
+-- the listing of each full expression is that of its tree, and `main` is given what the first rooms hold, the definitions start from a state that the
+-- machine stands for.
 abbrev pub BeginsAsDefined : Program → List (List ℕ) → List ℕ → Machine → Type 0
 BeginsAsDefined p arguments input m =
     (os : List Standing) × Stand p (program_name ∷ arguments) os
     × ((rows : List Row) (number : Path → ℕ) (limits : Limits) (meaning : Option ℕ → Meaning) (vs : List Value) → RowsStay m.memory.rows rows
     → number [] ≡ 0 → StartIsWithin limits os m → StandsCode (world_with p arguments os rows number limits) p m.code.now meaning
-    → HoldsAll m.memory m.values.items 0 vs → StartsAs (world_with p arguments os rows number limits) meaning input vs m)
+    → ListsTrees m.code.now → HoldsAll m.memory m.values.items 0 vs → StartsAs (world_with p arguments os rows number limits) meaning input vs m)
 
 -- Of the parts that a machine is made of before its first pick.
 

@@ -4,18 +4,13 @@ use Rattle.std.specs.Prelude.{
   ℕ,
   suc,
   ◌+◌,
-  ◌-◌,
   ◌<◌,
   Bool,
   true,
   false,
-  ◌||◌,
   List,
   [],
   ◌∷◌,
-  ◌++◌,
-  take,
-  drop,
   length,
   map,
   reverse,
@@ -34,7 +29,7 @@ use Rattle.c_types.specs.Types.{type_of}
 use Rattle.c_typed.specs.declared.program.Constant.{Constant}
 use Rattle.c_typed.specs.declared.tree.Change.{Change}
 use Rattle.c_typed.specs.declared.tree.Place.{Place}
-use Rattle.c_typed.specs.Order.{Taken, place, same_place, has, is_due, events}
+use Rattle.c_typed.specs.Order.{place, is_due}
 use Rattle.mem_spec.specs.Acts.{base_in}
 use Rattle.mem_spec.specs.Store.{Store}
 use Rattle.mem_spec.specs.Streams.{Io}
@@ -68,12 +63,13 @@ use Rattle.run_code.specs.declared.steps.Act.TheVariants as act
 use Rattle.run_code.specs.declared.steps.BlockCode.{BlockCode}
 use Rattle.run_code.specs.declared.steps.Due.{Due}
 use Rattle.run_code.specs.declared.steps.Expression.{Expression}
-use Rattle.run_code.specs.declared.steps.Listed.{Listed}
 use Rattle.run_code.specs.declared.steps.Listed.TheVariants as listed
 use Rattle.run_code.specs.declared.steps.Operand.{Operand}
 use Rattle.run_code.specs.declared.steps.Operand.TheVariants.{Done}
 use Rattle.run_code.specs.declared.steps.StoreCode.{StoreCode}
-use Rattle.run_code.specs.Listings.{entries_of, passed}
+use Rattle.run_listing.specs.Along.{part_of}
+use Rattle.run_listing.specs.Cursor.{StandsStraight}
+use Rattle.run_code.specs.OfTrees.{ListsTrees}
 use Rattle.run_state.specs.declared.machine.Machine.{Machine}
 use Rattle.run_state.specs.declared.machine.Open.{Open}
 use Rattle.run_state.specs.declared.machine.Stage.{Stage}
@@ -131,32 +127,15 @@ pub record StandsControl (meaning : Meaning) (ws : List Work) (f : Local) : Type
 
 -- 3. The full expression that has begun.
 
--- the entries of a listing from one place on up to another
-abbrev pub part_of : List Listed → (from to : ℕ) → List Listed
-part_of listing from to = take (to - from) (drop from listing)
-
--- the events of entries, without those of operands that aren't chosen
-abbrev pub events_in : Taken → List Listed → List Place
-events_in taken entries = passed taken 0 (entries_of entries)
-
--- the body of this event has started, and its frame hasn't ended
-abbrev pub is_waiting : Option Place → Place → Bool
-is_waiting None u = false
-is_waiting (Some w) u = same_place w u
-
--- On the straight way the cursor has passed what is done, and the body that waits; this, followed by what it still lists, is the canonical listing.
-pub record StandsStraight (listing : List Listed) (first cursor end : ℕ) (taken : Taken) (e : Begun) (waiting : Option Place) : Type 0 where
-  pub done : (u : Place) → has (events_in taken (part_of listing first cursor)) u ≡ (is_done e u || is_waiting waiting u)
-  pub listed : events_in taken (part_of listing first cursor) ++ events_in taken (part_of listing cursor end) ≡ events taken 0 (tree_of e.root)
-
 -- off it the done events are noted one by one
 abbrev pub StandsStrayed : List (List Marks) → ℕ → Begun → Type 0
 StandsStrayed strayed height e =
     (marks : List Marks) × (slice_get strayed height ≡ Some marks) × ((u : Place) → done_in marks u ≡ is_done e u)
 
-abbrev pub StandsDone : Bool → Machine → ℕ → (first cursor end : ℕ) → Taken → Begun → Option Place → Type 0
-StandsDone true m height first cursor end taken e waiting = StandsStraight m.code.now.listing.items first cursor end taken e waiting
-StandsDone false m height first cursor end taken e waiting = StandsStrayed m.strayed.items height e
+-- on the straight way the cursor says what is done
+abbrev pub StandsDone : Bool → World → Machine → ℕ → (first cursor end : ℕ) → Scene → Begun → Option Place → Type 0
+StandsDone true world m height first cursor end f e waiting = StandsStraight world f m.code.now.listing.items first cursor end e waiting
+StandsDone false world m height first cursor end f e waiting = StandsStrayed m.strayed.items height e
 
 -- the node is an update, with these operands
 abbrev pub IsUpdate : Option Expr → Change → Bool → Exprs → Type 0
@@ -192,7 +171,7 @@ pub record StandsExpression (world : World) (meaning : Meaning) (m : Machine) (h
   pub tree_root : shown.root.now ≡ laid.root.now
   -- of the nodes that are evaluated
   pub taken : (n : ℕ) → is_due (tree_of e.root) (taken_by world f e) (place n Val) ≡ true → taken_in shown.taken n ≡ taken_by world f e n
-  pub done : StandsDone stage.straight m height laid.first stage.cursor laid.end (taken_by world f e) e waiting
+  pub done : StandsDone stage.straight world m height laid.first stage.cursor laid.end f e waiting
   pub values : StandsValues world m o.base laid.first laid.end f e
 
 -- where none has begun, no body waits
@@ -270,6 +249,7 @@ frames_of st = (st.top, None) ∷ map (λ h. (h.0, Some h.1)) st.held
 pub record Stands (world : World) (meaning : Option ℕ → Meaning) (m : Machine) (st : State) : Type 0 where
   pub program : StandsProgram world m.program.now
   pub code : StandsCode world m.program.now m.code.now meaning
+  pub listed : ListsTrees m.code.now
   pub memory : StandsMemory world m.memory m.streams st.store
   pub tables : StandsTables m
   pub frames : StandFrames world meaning m m.left (m.top ∷ reverse m.below.items) (m.work.now ∷ m.work.below) (frames_of st)

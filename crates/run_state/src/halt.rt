@@ -1,5 +1,4 @@
 // Why a pick isn't taken.
-
 use prov_memory::CreateFault;
 use ub_base::{Cause, Clause, Event, NoMemory};
 
@@ -20,12 +19,22 @@ pub enum Halt {
 }
 
 impl From<NoMemory> for Halt {
+    ghost use Rattle.std.specs.Prelude.{◌≡◌};
+    ghost use Rattle.run_state.specs.declared.halt.Halt.TheVariants.{NoMemory};
+
+    ghost from_gives = { λ _ e. e ≡ NoMemory };
+
     fn from(_e: NoMemory) -> Halt {
         Halt::NoMemory
     }
 }
 
 impl From<CreateFault> for Halt {
+    ghost use Rattle.std.specs.Prelude.{◌≡◌};
+    ghost use Rattle.run_state.specs.Faults.{halt_of};
+
+    ghost from_gives = { λ fault e. e ≡ halt_of fault };
+
     fn from(fault: CreateFault) -> Halt {
         match fault {
             CreateFault::Unplaced => Halt::Unplaced,

@@ -1,5 +1,5 @@
 // The state of a run.
-ghost use Rattle.std.specs.Prelude.{◌≡◌, ◌≢◌, ◌+◌, ◌<◌, ℕ, Some, IfOk, length, option_copied, slice_get};
+ghost use Rattle.std.specs.Prelude.{◌≡◌, ◌≢◌, ◌+◌, ◌-◌, ◌^◌, ◌<◌, min, ℕ, Some, IfOk, length, option_copied, slice_get};
 ghost use Rattle.c_model.specs.Values as model;
 ghost use Rattle.c_model.specs.Values.{integer_of, pointer_of};
 ghost use Rattle.prov_memory.specs.Memory.{Kept};
@@ -7,6 +7,7 @@ ghost use Rattle.prov_memory.specs.declared.value.Value.{Value as Kept_value};
 ghost use Rattle.run_acts.specs.Views.{value_in, pointer_at};
 ghost use Rattle.run_code.specs.declared.steps.Operand.TheVariants as operands;
 ghost use Rattle.run_state.specs.Operands.{operand_in};
+ghost use Rattle.run_state.specs.declared.machine.Local.{Local as LocalOf};
 
 use crate::watch::{Begun, View};
 use addr_map::AddrMap;
@@ -264,7 +265,9 @@ impl<'p, 'c> Machine<'p, 'c> {
         }
     }
 
-    pub fn local_name(&self, object: u32) -> Result<ObjName, NoMemory> {
+    pub fn local_name(&self, object: u32) -> Result<ObjName, NoMemory>
+        ensures { IfOk result (λ name. (l : LocalOf) × (slice_get self.now.locals.items (min (self.now.top.locals + object) (2 ^ 64 - 1)) ≡ Some l) × (l.name ≡ name)) }
+    {
         let at = self.top.locals.saturating_add(object as usize);
         match self.locals.get(at) {
             Some(local) => Ok(local.name),

@@ -1,24 +1,26 @@
-use Rattle.std.proofs.Common.{Some, sym, ap, ◌∙◌}
+use Rattle.std.proofs.Common.{ap, ◌∙◌}
 use Rattle.c_typed.specs.Tree.{tree_of}
 use Rattle.c_typed.specs.Decide.{canonical}
 use Rattle.seq_order.specs.Marked.{taken_in}
+use Rattle.run_listing.specs.Along.{part_of, events_of}
 use Rattle.run_machine.proofs.Picked.{kept_as}
+use Rattle.run_machine.proofs.Parts.{named_found}
 use Rattle.run_machine.proofs.picks.strayed_next.Goals as goal
 
-pub returns-in_ok-entry_of-in-Some-clause-next : goal.returns-in_ok-entry_of-in-Some-clause-next
-returns-in_ok-entry_of-in-Some-clause-next c = λ fits.
-    let b = c.in_ok-begun.begun.now in (
+pub returns-clause-next : goal.returns-clause-next
+returns-clause-next c =
+    let b = c.in_ok-begun.begun.now in
+    let taken = taken_in b.taken in
+    let part = c.part.ensures ∙ ap (λ es. part_of es c.args.stage.first c.args.stage.end) c.deref.ensures.value in (
       b,
       c.in_ok-begun.ensures,
-      ap Some c.in_ok-entry_of-in-Some.ensures.place ∙ sym c.in-Some.is ∙ c.canonical_next.ensures (fits b c.in_ok-begun.ensures)
-          ∙ ap (canonical (tree_of b.root.now) (taken_in b.taken)) (kept_as c.args.machine.now c.in_ok-strayed.field-0.now c.in_ok-strayed.ensures),
+      λ few all.
+          c.next_left.ensures.next few (ap (events_of taken) part ∙ all)
+          ∙ ap (canonical (tree_of b.root.now) taken) (kept_as c.args.machine.now c.in_ok-done.done.now c.in_ok-done.ensures),
     )
 
-pub returns-in-None-clause-next : goal.returns-in-None-clause-next
-returns-in-None-clause-next c = λ fits.
-    let b = c.in_ok-begun.begun.now in (
-      b,
-      c.in_ok-begun.ensures,
-      sym c.in-None.is ∙ c.canonical_next.ensures (fits b c.in_ok-begun.ensures)
-          ∙ ap (canonical (tree_of b.root.now) (taken_in b.taken)) (kept_as c.args.machine.now c.in_ok-strayed.field-0.now c.in_ok-strayed.ensures),
-    )
+pub returns-clause-named : goal.returns-clause-named
+returns-clause-named c =
+    let code = c.args.machine.now.code.now in
+    named_found code.tables code.listing.items c.part.result.now c.args.stage.first c.args.stage.end c.next_left.result
+    (c.part.ensures ∙ ap (λ es. part_of es c.args.stage.first c.args.stage.end) c.deref.ensures.value) code.named c.next_left.ensures.listed

@@ -1,4 +1,4 @@
-use Rattle.std.proofs.Common.{ap, ◌∙◌, map, subst, sym, string_bytes, List, Vec}
+use Rattle.std.proofs.Common.{ap, ◌∙◌, map, subst, sym, string_bytes}
 use Rattle.std.specs.Borrow.{Bor}
 use Rattle.c_typed.specs.declared.program.Program.{Program}
 use Rattle.prov_memory.specs.Memory.{Kept}
