@@ -1,10 +1,16 @@
 pub mod EndLemmas
+pub mod FollowLemmas
+pub mod FrameLemmas
+pub mod GiveLemmas
 pub mod FullLemmas
+pub mod GrowLemmas
 pub mod KeptLemmas
 pub mod LentLemmas
 pub mod ListedLemmas
 pub mod LooseLemmas
 pub mod LooseWholeLemmas
 pub mod PartLemmas
+pub mod ShowLemmas
+pub mod ToldLemmas
 pub mod WayLemmas
 pub mod WholeLemmas

@@ -1,3 +1,4 @@
+use Rattle.run_evaluations.proofs.FrameLemmas.{below_all, follow_under}
 use Rattle.std.proofs.Common.{◌≡◌, ◌∙◌, sym, ap, subst, ℕ, List, Some, None}
 use Rattle.std.proofs.lemmas.Option.{same_Some}
 use Rattle.c_typed.specs.Tree.{tree_of}
@@ -19,3 +20,13 @@ returns-clause-none c = λ w room.
     let way = c.in_ok-way.ensures.above room in
     subst (λ (xs : List ℕ). NoneOnWay c.args.map.now c.args.rules.now xs c.args.self.now) (way ∙ ap (λ n. above_in 0 tree n) t)
     (none_at _ c.in_ok-open.open r.1 (c.in_ok-open.ensures.none w (subst IsRising (sym way) (in_rising 0 tree c.in-Some.target)))))
+
+pub returns-in_default-clause-follows : goal.returns-in_default-clause-follows
+returns-in_default-clause-follows c = λ t ts f. below_all c.args.self.now t ts f
+
+pub returns-clause-follows : goal.returns-clause-follows
+returns-clause-follows c = λ t ts f.
+    let w = f.holds.kept in
+    let r = f.holds.loose in
+    let e = c.found_on_way.ensures in
+    follow_under c.args.self.now c.found_on_way.new.self t ts (e.kept w) (e.loose w r) (e.under w r) f
