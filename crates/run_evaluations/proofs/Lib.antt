@@ -1,4 +1,5 @@
 pub mod EndLemmas
+pub mod EndShowLemmas
 pub mod FollowLemmas
 pub mod FrameLemmas
 pub mod GiveLemmas
@@ -10,6 +11,7 @@ pub mod ListedLemmas
 pub mod LooseLemmas
 pub mod LooseWholeLemmas
 pub mod PartLemmas
+pub mod PendingLemmas
 pub mod ShowLemmas
 pub mod ToldLemmas
 pub mod WayLemmas

@@ -21,7 +21,7 @@ pub by_test : (b : Bool) {C : Type 0} → (b ≡ true → C) → (b ≡ false �
 by_test true f g = f refl
 by_test false f g = g refl
 
-not_less_is : (n m : ℕ) → nat_lt n m ≡ false → m ≤ n
+pub not_less_is : (n m : ℕ) → nat_lt n m ≡ false → m ≤ n
 not_less_is n m h = grind (arith, nat_tests)
 
 pub number_is : (n m : ℕ) → (n == m) ≡ true → n ≡ m
@@ -116,7 +116,7 @@ pub record At (m : ℕ) (ts : Trees) (s : Side) : Type 0 where
   pub low : m ≤ s.number
   pub high : s.number + size s.tree ≤ m + sizes ts
 
-root_part : (m : ℕ) (t : Tree) → part_in m t m ≡ Some t
+pub root_part : (m : ℕ) (t : Tree) → part_in m t m ≡ Some t
 root_part m (node class ts) = if_true _ _ _ (number_equal m m refl)
 
 pub size_some : (t : Tree) → 0 < size t
@@ -261,7 +261,7 @@ module _ (taken : Taken) (choice : Option ℕ) where
 same_part : {X : Type 0} (o : Option X) (x y : X) → o ≡ Some x → o ≡ Some y → x ≡ y
 same_part o x y a b = some_is x y (sym a ∙ b)
 
-val_kind : (c : Class) (kind : Kind) → (kind ≡ Eff → ⊥) → (is_val kind || own_rule c kind Val) ≡ true
+pub val_kind : (c : Class) (kind : Kind) → (kind ≡ Eff → ⊥) → (is_val kind || own_rule c kind Val) ≡ true
 val_kind c Val n = refl
 val_kind c Eff n = absurd (n refl)
 val_kind class.Object Body n = refl

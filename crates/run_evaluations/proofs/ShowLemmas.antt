@@ -244,7 +244,7 @@ in_operand ss es is g k e j from to there h =
     let here : slice_get es (k + 0) ≡ Some e = ap (slice_get es) (omega arith) ∙ there in
     ap (λ n. range_has es is Any k n j) one ∙ (ap (λ o. is_sought Any o && event_has is o j) here ∙ h))
 
-none_sub : (rows : List Row) (f g k l : Item → Bool) → ((j : Item) → k j ≡ true → f j ≡ true) → ((j : Item) → l j ≡ true → g j ≡ true) →
+pub none_sub : (rows : List Row) (f g k l : Item → Bool) → ((j : Item) → k j ≡ true → f j ≡ true) → ((j : Item) → l j ≡ true → g j ≡ true) →
     NoClash Any rows f g → NoClash Any rows k l
 none_sub rows f g k l p q clean i j c = clean i j (p i c.0, q j c.1, c.2)
 

@@ -40,7 +40,7 @@ use Rattle.run_evaluations.proofs.PartLemmas.{by_test, number_is, part_range, am
 -- ---- what is due in the tree is due in the part that holds it
 module _ (taken : Taken) where
   mutual
-    due_part : (k : ℕ) (t : Tree) (n : ℕ) (u : Place) (x : Tree) → part_in k t n ≡ Some x → n ≤ u.node → u.node < n + size x →
+    pub due_part : (k : ℕ) (t : Tree) (n : ℕ) (u : Place) (x : Tree) → part_in k t n ≡ Some x → n ≤ u.node → u.node < n + size x →
         due_in taken k t u ≡ true → due_in taken n x u ≡ true
     due_part k (node class ts) n u x h low high due = by_test (n == k)
         (λ e. let s = same_Some (node class ts) x (sym (if_true _ _ _ e) ∙ h) in

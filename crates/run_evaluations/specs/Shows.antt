@@ -1,5 +1,5 @@
 -- Which pairs of evaluations show at a telling, and that none of them clash, unless one is sequenced before the other (5.1.2.3p3, 6.5p2).
-use Rattle.std.specs.Prelude.{◌≡◌, ◌⊎◌, ◌≤◌, ◌<◌, ◌+◌, ◌-◌, ℕ, true, false, List, Some, is_some, slice_get, length}
+use Rattle.std.specs.Prelude.{◌≡◌, ◌⊎◌, ◌≤◌, ◌<◌, ◌+◌, ◌-◌, ◌^◌, ℕ, true, false, List, Some, is_some, slice_get, length}
 use Rattle.ub_base.specs.declared.clause.Kind.TheVariants.{Body}
 use Rattle.ub_base.specs.declared.names.Item.TheVariants.{Any as AnyEvent}
 use Rattle.addr_map.specs.declared.map.Row.{Row}
@@ -14,7 +14,7 @@ use Rattle.evaluation_log.specs.Kept.{is_unsequenced}
 use Rattle.evaluation_log.specs.Ways.{rule_in}
 use Rattle.evaluation_log.specs.declared.sought.Sought.TheVariants.{Any}
 use Rattle.evaluation_log.specs.Clashes.{NoClash}
-use Rattle.run_evaluations.specs.Scopes.{Scope, IsRuled, part_of}
+use Rattle.run_evaluations.specs.Scopes.{Scope, IsRuled, ListsAreAlone, part_of}
 use Rattle.run_evaluations.specs.Told.{Evaluation, Opened, has, IsBeside, IsOperandIn, IsUnder}
 
 -- the evaluation is done
@@ -75,6 +75,15 @@ pub record EndsTop (t : Opened) (last : Evaluation) : Type 0 where
   pub body : last.place.kind ≡ Body
   pub due : due_in t.scope.taken 0 t.scope.tree last.place ≡ true
   pub parts : (m : ℕ) → t.parts m ≡ true → (m ≡ last.place.node) ⊎ IsBeside t.scope m last.place.node
+
+-- an end of the run is told of this full expression, with its rules
+pub record TellsEnd (t : Opened) (tree : Tree) (rules : Rules) (last : Evaluation) : Type 0 where
+  pub same : t.scope.tree ≡ tree
+  pub fits : FitsRules t.scope rules
+  pub still : IsStill t.scope
+  pub alone : ListsAreAlone t.scope
+  pub top : EndsTop t last
+  pub small : size tree < 2 ^ 32
 
 -- no evaluations of two operands of a node above this one clash
 abbrev pub NoneOfWay : List Row → Opened → ℕ → Type 0

@@ -12,7 +12,8 @@ ghost use Rattle.run_evaluations.specs.Ends.{is_value, is_value_kind, events_fro
 ghost use Rattle.run_evaluations.specs.Kept.{IsKept, IsSameRest, NoneOfOperands};
 ghost use Rattle.run_evaluations.specs.Loose.{IsLooseKept};
 ghost use Rattle.run_evaluations.specs.Follows.{Follows, FollowsBelow};
-ghost use Rattle.run_evaluations.specs.Told.{Opened};
+ghost use Rattle.run_evaluations.specs.Shows.{NoneOfWay, NonePending, TellsEnd};
+ghost use Rattle.run_evaluations.specs.Told.{Evaluation, Opened};
 ghost use Rattle.run_evaluations.specs.Ways.{IsGathered, IsSameUnder, NoneOnWay, NoneAtEnd};
 
 use crate::open::Evaluations;
@@ -41,6 +42,9 @@ impl Evaluations {
         ensures none { IsKept self.old → size (tree_of root.now) < 2 ^ 32 → IfOk result
             (λ r. IfNone r (NoneAtEnd map.now rules.now (tree_of root.now) self.old)) }
         ensures follows { OnOk result ((t : Opened) (ts : List Opened) → Follows (t ∷ ts) self.old → FollowsBelow ts self.new) }
+        ensures apart { (t : Opened) (ts : List Opened) (last : Evaluation) → Follows (t ∷ ts) self.old →
+            TellsEnd t (tree_of root.now) rules.now last → IfOk result
+            (λ r. IfNone r (NoneOfWay map.now t last.place.node × NonePending map.now t last)) }
     {
         let Some(target) = self.last_node() else {
             return Ok(None);
