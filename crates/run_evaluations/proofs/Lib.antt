@@ -1,5 +1,6 @@
 pub mod EndLemmas
 pub mod EndShowLemmas
+pub mod FitLemmas
 pub mod FollowLemmas
 pub mod FrameLemmas
 pub mod GiveLemmas

@@ -1,4 +1,5 @@
 pub mod Ends
+pub mod Fitting
 pub mod Follows
 pub mod Kept
 pub mod Listed

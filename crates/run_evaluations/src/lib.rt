@@ -8,5 +8,5 @@ mod loose;
 mod open;
 mod operands;
 
-pub use laws::law_choices_grow;
+pub use laws::{law_choices_grow, law_rules_fit};
 pub use open::Evaluations;
