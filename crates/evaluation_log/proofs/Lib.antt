@@ -8,6 +8,7 @@ pub mod RememberedLemmas
 pub mod RuledLemmas
 pub mod SideLemmas
 pub mod StandLemmas
+pub mod TouchLemmas
 pub mod TouchedLemmas
 pub mod WayLemmas
 pub mod WholeLemmas

@@ -1,9 +1,12 @@
 // The frames that are open.
-ghost use Rattle.std.specs.Prelude.{◌≡◌, OnOk, Some};
+ghost use Rattle.std.specs.Prelude.{◌≡◌, ◌⊎◌, ◌||◌, true, length, OnOk, Some};
+ghost use Rattle.ub_base.specs.declared.names.Item.{Item};
 ghost use Rattle.ub_base.specs.declared.names.Item.TheVariants.{Dies};
+ghost use Rattle.footprint.specs.Holds.{holds, stands_for};
 ghost use Rattle.evaluation_log.specs.Bodies.{Keeps};
 ghost use Rattle.evaluation_log.specs.Kept.{cut_of};
 ghost use Rattle.evaluation_log.specs.Remembered.{AreKnown, HasHadAll, HasHadEach, IsOfOne};
+ghost use Rattle.evaluation_log.specs.Touched.{touched};
 
 use crate::known::Known;
 use footprint::Foot;
@@ -29,9 +32,12 @@ impl Level {
         ensures keeps { OnOk result (Keeps self.old.foot self.new.foot) }
         ensures cut { cut_of (Some self.new) ≡ cut_of (Some self.old) }
         ensures frame { self.new.frame ≡ self.old.frame }
+        ensures turn { self.new.turn ≡ self.old.turn }
         ensures known { OnOk result (AreKnown known.old self.old.frame self.old.foot → AreKnown known.new self.new.frame self.new.foot) }
         ensures others { IsOfOne known.old known.new self.old.frame }
         ensures has { OnOk result (AreKnown known.old self.old.frame self.old.foot → HasHadEach items.now self.new.foot) }
+        ensures only { OnOk result ((i : Item) → holds self.new.foot i ≡ true →
+            (holds self.old.foot i ≡ true) ⊎ (touched items.now 0 (length items.now) i ≡ true)) }
     {
         for item in items {
             self.touch_one(known, *item)?;
@@ -43,9 +49,11 @@ impl Level {
         ensures keeps { OnOk result (Keeps self.old.foot self.new.foot) }
         ensures cut { cut_of (Some self.new) ≡ cut_of (Some self.old) }
         ensures frame { self.new.frame ≡ self.old.frame }
+        ensures turn { self.new.turn ≡ self.old.turn }
         ensures known { OnOk result (AreKnown known.old self.old.frame self.old.foot → AreKnown known.new self.new.frame self.new.foot) }
         ensures others { IsOfOne known.old known.new self.old.frame }
         ensures has { OnOk result (AreKnown known.old self.old.frame self.old.foot → HasHadAll self.new.foot item) }
+        ensures only { OnOk result ((i : Item) → holds self.new.foot i ≡ true → (holds self.old.foot i || stands_for item i) ≡ true) }
     {
         if let Item::Dies(object) = item {
             return self.bury(object);
@@ -59,7 +67,9 @@ impl Level {
     fn take(&mut self, item: Item) -> Result<(), NoMemory>
         ensures cut { cut_of (Some self.new) ≡ cut_of (Some self.old) }
         ensures frame { self.new.frame ≡ self.old.frame }
+        ensures turn { self.new.turn ≡ self.old.turn }
         ensures kept { OnOk result (Keeps self.old.foot self.new.foot × HasHadAll self.new.foot item) }
+        ensures only { OnOk result ((i : Item) → holds self.new.foot i ≡ true → (holds self.old.foot i || stands_for item i) ≡ true) }
     {
         self.foot.add(item)
     }
@@ -68,7 +78,9 @@ impl Level {
         ensures keeps { OnOk result (Keeps self.old.foot self.new.foot) }
         ensures cut { cut_of (Some self.new) ≡ cut_of (Some self.old) }
         ensures frame { self.new.frame ≡ self.old.frame }
+        ensures turn { self.new.turn ≡ self.old.turn }
         ensures has { OnOk result (HasHadAll self.new.foot (Dies object)) }
+        ensures only { OnOk result ((i : Item) → holds self.new.foot i ≡ true → (holds self.old.foot i || stands_for (Dies object) i) ≡ true) }
     {
         self.foot.add(Item::Dies(object))?;
         if self.foot.has_born(object) {

@@ -8,6 +8,7 @@ alike_after a b d first second = record {
   alike = λ g. second.alike g ∙ first.alike g;
   harm = λ g. second.harm g ∙ first.harm g;
   lows = λ g. second.lows g ∙ first.lows g;
+  nodes = λ g. second.nodes g ∙ first.nodes g;
 }
 
 pub alike_self : (a : List Segment) → AreAlike a a
@@ -15,4 +16,5 @@ alike_self a = record {
   alike = λ g. refl;
   harm = λ g. refl;
   lows = λ g. refl;
+  nodes = λ g. refl;
 }

@@ -49,7 +49,7 @@ but_moved ss ts es fs ls ms xs ys scopes s e l y all =
     (subst (λ z. AllListed ss es z ys scopes (NotLastEffect es)) (sym l)
     (subst (λ z. AllListed ss es ls z scopes (NotLastEffect es)) (sym y) all)))
 
-node_some : (o : Option Segment) (m : ℕ) → node_of o ≡ Some m → (s : Segment) × (o ≡ Some s) × (s.node ≡ m)
+pub node_some : (o : Option Segment) (m : ℕ) → node_of o ≡ Some m → (s : Segment) × (o ≡ Some s) × (s.node ≡ m)
 node_some None m h = absurd (cc)
 node_some (Some s) m h = (s, refl, same_Some s.node m h)
 
@@ -61,10 +61,10 @@ node_behind ss at n behind g m le h =
     let e = s.2 in
     omega (arith, b, e)
 
-low_some : (ls ms : List ℕ) (o p : Option Segment) (s : Segment) → o ≡ Some s → loose_start_of p ≡ loose_start_of o → first_loose ms p ≡ first_loose ls o
+pub low_some : (ls ms : List ℕ) (o p : Option Segment) (s : Segment) → o ≡ Some s → loose_start_of p ≡ loose_start_of o → first_loose ms p ≡ first_loose ls o
 low_some ls ms o p s at e = start_by ms o p e ∙ ap (first_loose ms) at ∙ ap (first_loose ls) (sym at)
 
-looses_up : (a : Evaluations) → IsLooseKept a → (g h : ℕ) → g ≤ h → loose_of a.segments.items a.loose.items g ≤ loose_of a.segments.items a.loose.items h
+pub looses_up : (a : Evaluations) → IsLooseKept a → (g h : ℕ) → g ≤ h → loose_of a.segments.items a.loose.items g ≤ loose_of a.segments.items a.loose.items h
 looses_up a r g h le = rises_to (loose_of a.segments.items a.loose.items) 0 g h (λ k more. r.rise k) (omega arith) le
 
 looses_top : (a : Evaluations) → IsLooseKept a → (g : ℕ) → loose_of a.segments.items a.loose.items g ≤ length a.loose.items

@@ -13,6 +13,7 @@ same_after a b d first second = record {
   harm = λ g. second.harm g ∙ first.harm g;
   loose = second.loose ∙ first.loose;
   lows = λ g. second.lows g ∙ first.lows g;
+  nodes = λ g. second.nodes g ∙ first.nodes g;
 }
 
 pub same_self : (a : Evaluations) → IsSameLog a a
@@ -25,4 +26,5 @@ same_self a = record {
   harm = λ g. refl;
   loose = refl;
   lows = λ g. refl;
+  nodes = λ g. refl;
 }

@@ -38,6 +38,7 @@ same_lent old new s n es eb a ee ei el ev eo =
       harm = b.harm;
       loose = eo;
       lows = b.lows;
+      nodes = b.nodes;
     }
 
 pub taken_lent : (old new : Evaluations) (at : ℕ) (s n : List Segment) → s ≡ old.segments.items → new.segments.items ≡ n → IsGone s n at →

@@ -40,7 +40,7 @@ pub node_within : (ss : List Segment) (g m : ℕ) → node_of (slice_get ss g) �
 node_within ss g m h =
     ⊎_elim (λ less. less) (λ past. not_none (node_of (slice_get ss g)) m _ (ap node_of (slice_get_past ss g past)) h) (before_or_past g (length ss))
 
-node_there : (ss : List Segment) (g : ℕ) → g < length ss → (m : ℕ) × (node_of (slice_get ss g) ≡ Some m)
+pub node_there : (ss : List Segment) (g : ℕ) → g < length ss → (m : ℕ) × (node_of (slice_get ss g) ≡ Some m)
 node_there ss g less =
     ⊎_elim (λ one. (_, ap node_of one.2)) (λ past. absurd (let e = past.0 in omega (arith, e, less))) (slice_get_cases ss g).1
 
@@ -86,7 +86,7 @@ open_up ls d at g below le opens =
     }
 
 -- ---- the segment of an event
-locate : (ss : List Segment) (es : List Logged) (n at k : ℕ) → start_of ss es at ≤ k → k < start_of ss es (at + n) →
+pub locate : (ss : List Segment) (es : List Logged) (n at k : ℕ) → start_of ss es at ≤ k → k < start_of ss es (at + n) →
     (g : ℕ) × (at ≤ g) × (g < at + n) × (start_of ss es g ≤ k) × (k < start_of ss es (suc g))
 locate ss es zero at k from to = absurd (let e = ap (start_of ss es) (none_more at) in omega (arith, e, from, to))
   where
@@ -310,11 +310,11 @@ one_number : (o : Option ℕ) (i j : ℕ) → is_number o i ≡ true → is_numb
 one_number None i j p q = absurd (cc)
 one_number (Some x) i j p q = sym (number_same x i p) ∙ number_same x j q
 
-goes_parts : (o : Option ℕ) (i : ℕ) → goes class.Choice o i ≡ true → (i ≡ 0) ⊎ (is_number o i ≡ true)
+pub goes_parts : (o : Option ℕ) (i : ℕ) → goes class.Choice o i ≡ true → (i ≡ 0) ⊎ (is_number o i ≡ true)
 goes_parts o i p = ⊎_elim (λ e. inl (number_same i 0 e)) inr (or_cases (i == 0) (is_number o i) p)
 
 -- of a choice, what the last operand doesn't hold is in the first
-goes_first : (o : Option ℕ) (i j : ℕ) → goes class.Choice o i ≡ true → goes class.Choice o j ≡ true → (j ≡ 0 → ⊥) → (i ≡ j → ⊥) → i ≡ 0
+pub goes_first : (o : Option ℕ) (i j : ℕ) → goes class.Choice o i ≡ true → goes class.Choice o j ≡ true → (j ≡ 0 → ⊥) → (i ≡ j → ⊥) → i ≡ 0
 goes_first o i j p q far apart =
     ⊎_elim (λ z. z)
     (λ a. ⊎_elim (λ z. absurd (far z)) (λ b. absurd (apart (one_number o i j a b))) (goes_parts o j q))

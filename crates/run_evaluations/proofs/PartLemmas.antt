@@ -17,14 +17,14 @@ use Rattle.evaluation_log.specs.declared.rules.Rule.TheVariants as rules
 use Rattle.evaluation_log.specs.Sides.{Side, side, sides_from}
 use Rattle.run_evaluations.specs.Scopes.{Scope, part_in, part_among, part_of, IsBelow, ComesTo, IsOperandOf, last_number}
 
-by_test : (b : Bool) {C : Type 0} → (b ≡ true → C) → (b ≡ false → C) → C
+pub by_test : (b : Bool) {C : Type 0} → (b ≡ true → C) → (b ≡ false → C) → C
 by_test true f g = f refl
 by_test false f g = g refl
 
-not_less_is : (n m : ℕ) → nat_lt n m ≡ false → m ≤ n
+pub not_less_is : (n m : ℕ) → nat_lt n m ≡ false → m ≤ n
 not_less_is n m h = grind (arith, nat_tests)
 
-number_is : (n m : ℕ) → (n == m) ≡ true → n ≡ m
+pub number_is : (n m : ℕ) → (n == m) ≡ true → n ≡ m
 number_is n m h = grind (arith, nat_tests)
 
 number_not : (n m : ℕ) → (n == m) ≡ false → n ≡ m → ⊥
@@ -46,7 +46,7 @@ mutual
       let u = r.high in
       record { low = omega (arith, l); high = omega (arith, u) })
 
-  among_range : (m : ℕ) (ts : Trees) (n : ℕ) (x : Tree) → part_among m ts n ≡ Some x → Range m n (size x) (sizes ts)
+  pub among_range : (m : ℕ) (ts : Trees) (n : ℕ) (x : Tree) → part_among m ts n ≡ Some x → Range m n (size x) (sizes ts)
   among_range m none n x h = absurd (cc)
   among_range m (more t ts) n x h = by_test (nat_lt n (m + size t))
       (λ e. let r = part_range m t n x (sym (if_true _ _ _ e) ∙ h) in
@@ -116,10 +116,10 @@ pub record At (m : ℕ) (ts : Trees) (s : Side) : Type 0 where
   pub low : m ≤ s.number
   pub high : s.number + size s.tree ≤ m + sizes ts
 
-root_part : (m : ℕ) (t : Tree) → part_in m t m ≡ Some t
+pub root_part : (m : ℕ) (t : Tree) → part_in m t m ≡ Some t
 root_part m (node class ts) = if_true _ _ _ (number_equal m m refl)
 
-size_some : (t : Tree) → 0 < size t
+pub size_some : (t : Tree) → 0 < size t
 size_some (node class ts) = omega arith
 
 pub side_at : (m : ℕ) (ts : Trees) (i : ℕ) (s : Side) → slice_get (sides_from m ts) i ≡ Some s → At m ts s
@@ -261,7 +261,7 @@ module _ (taken : Taken) (choice : Option ℕ) where
 same_part : {X : Type 0} (o : Option X) (x y : X) → o ≡ Some x → o ≡ Some y → x ≡ y
 same_part o x y a b = some_is x y (sym a ∙ b)
 
-val_kind : (c : Class) (kind : Kind) → (kind ≡ Eff → ⊥) → (is_val kind || own_rule c kind Val) ≡ true
+pub val_kind : (c : Class) (kind : Kind) → (kind ≡ Eff → ⊥) → (is_val kind || own_rule c kind Val) ≡ true
 val_kind c Val n = refl
 val_kind c Eff n = absurd (n refl)
 val_kind class.Object Body n = refl

@@ -210,6 +210,7 @@ pub told_by : (a b d : Evaluations) (e : Logged) (added : List Item) → IsSameR
 told_by a b d e added rest logged = record {
   events = logged.events ∙ ap (λ (xs : List Logged). xs ++ (e ∷ [])) rest.events;
   items = logged.items ∙ ap (λ (xs : List Item). xs ++ added) rest.items;
+  levels = logged.levels ∙ rest.levels;
   from = logged.from ∙ ap length rest.items;
   to = logged.to ∙ ap (λ (xs : List Item). length xs + length added) rest.items;
   foot = logged.foot;
@@ -219,6 +220,7 @@ pub told_after : (a b d : Evaluations) (e : Logged) (added : List Item) → IsSa
 told_after a b d e added rest told = record {
   events = told.events ∙ ap (λ (xs : List Logged). xs ++ (e ∷ [])) rest.events;
   items = told.items ∙ ap (λ (xs : List Item). xs ++ added) rest.items;
+  levels = told.levels ∙ rest.levels;
   from = told.from ∙ ap length rest.items;
   to = told.to ∙ ap (λ (xs : List Item). length xs + length added) rest.items;
   foot = told.foot;

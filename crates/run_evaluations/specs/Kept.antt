@@ -7,10 +7,11 @@ use Rattle.evaluation_log.specs.declared.log.Segment.{Segment}
 use Rattle.run_evaluations.specs.declared.open.Evaluations.{Evaluations}
 use Rattle.evaluation_log.specs.declared.sought.Sought.TheVariants.{Any}
 use Rattle.evaluation_log.specs.Clashes.{NoClash, operand_has}
+use Rattle.evaluation_log.specs.Ways.{node_of}
 use Rattle.evaluation_log.specs.Kept.{harmless_of, foot_of, marks, loose_mark, cut_of, Whole, AllHarmless, IsOperand}
 
--- the log, the lists of large bodies and of loose events, the open frames, and where segments begin, which are harmless, and what is kept of their loose
--- events are as they were
+-- the log, the lists of large bodies and of loose events, the open frames, where segments begin, of which nodes they are, which are harmless, and what is
+-- kept of their loose events are as they were
 pub record IsSameLog (old new : Evaluations) : Type 0 where
   pub events : new.events.items ≡ old.events.items
   pub items : new.items.items ≡ old.items.items
@@ -20,6 +21,7 @@ pub record IsSameLog (old new : Evaluations) : Type 0 where
   pub harm : (g : ℕ) → harmless_of (slice_get new.segments.items g) ≡ harmless_of (slice_get old.segments.items g)
   pub loose : new.loose.items ≡ old.loose.items
   pub lows : (g : ℕ) → loose_mark (slice_get new.segments.items g) ≡ loose_mark (slice_get old.segments.items g)
+  pub nodes : (g : ℕ) → node_of (slice_get new.segments.items g) ≡ node_of (slice_get old.segments.items g)
 
 -- all is as it was, but for the set of one segment, which is gone
 pub record IsTaken (old new : Evaluations) (at : ℕ) : Type 0 where
@@ -80,6 +82,7 @@ pub record IsSameOpen (old new : Evaluations) : Type 0 where
 pub record IsTold (old new : Evaluations) (e : Logged) (added : List Item) : Type 0 where
   pub events : new.events.items ≡ old.events.items ++ (e ∷ [])
   pub items : new.items.items ≡ old.items.items ++ added
+  pub levels : new.levels.items ≡ old.levels.items
   pub from : e.from ≡ length old.items.items
   pub to : e.to ≡ length old.items.items + length added
   pub foot : e.foot ≡ None

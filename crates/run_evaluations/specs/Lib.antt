@@ -1,6 +1,10 @@
 pub mod Ends
+pub mod Fitting
+pub mod Follows
 pub mod Kept
 pub mod Listed
 pub mod Loose
 pub mod Scopes
+pub mod Shows
+pub mod Told
 pub mod Ways

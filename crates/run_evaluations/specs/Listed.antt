@@ -32,11 +32,14 @@ pub record IsOpenIn (levels : List Level) (d g : ℕ) : Type 0 where
 abbrev pub IsListed : List Segment → List ℕ → (g k : ℕ) → Type 0
 IsListed segments loose g k = (i : ℕ) × (loose_of segments loose g ≤ i) × (i < loose_of segments loose (suc g)) × (slice_get loose i ≡ Some k)
 
--- each event that is asked for is listed, or it is the value of the node of its segment, or comes before that
-abbrev pub AllListed : List Segment → List Logged → List ℕ → List Level → (ℕ → Scope) → (ℕ → Place → Type 0) → Type 0
-AllListed segments events loose levels scopes asked = (d g k m : ℕ) (u : Place) → IsOpenIn levels d g → node_of (slice_get segments g) ≡ Some m →
+-- of the full expression that is open in a frame, each event that is asked for is listed, or it is the value of the node of its segment, or comes before that
+abbrev pub ListedIn : List Segment → List Logged → List ℕ → List Level → (d : ℕ) → Scope → (ℕ → Place → Type 0) → Type 0
+ListedIn segments events loose levels d scope asked = (g k m : ℕ) (u : Place) → IsOpenIn levels d g → node_of (slice_get segments g) ≡ Some m →
     start_of segments events g ≤ k → k < start_of segments events (suc g) → place_of (slice_get events k) ≡ Some u →
-    IsBelow (scopes d) m u × (asked k u → ComesTo (scopes d) m u ⊎ IsListed segments loose g k)
+    IsBelow scope m u × (asked k u → ComesTo scope m u ⊎ IsListed segments loose g k)
+
+abbrev pub AllListed : List Segment → List Logged → List ℕ → List Level → (ℕ → Scope) → (ℕ → Place → Type 0) → Type 0
+AllListed segments events loose levels scopes asked = (d : ℕ) → ListedIn segments events loose levels d (scopes d) asked
 
 abbrev pub is_eff : Kind → Bool
 is_eff Val = false

@@ -5,6 +5,7 @@ use Rattle.addr_map.specs.declared.map.Row.{Row}
 use Rattle.footprint.specs.declared.foot.Foot.{Foot}
 use Rattle.evaluation_log.specs.declared.log.Logged.{Logged}
 use Rattle.evaluation_log.specs.declared.rules.Rule.{Rule}
+use Rattle.evaluation_log.specs.Kept.{AllBelow, base_of}
 use Rattle.evaluation_log.specs.Ways.{node_of}
 use Rattle.c_typed.specs.declared.tree.Place.{Place}
 use Rattle.c_typed.specs.declared.class.Class.{Class}
@@ -61,6 +62,12 @@ pub record IsOver (s : Scope) (o : Evaluations) (n : ℕ) (rule : Rule) (chosen 
   pub parts : AreOperands o.segments.items o.levels.items s n class operands
   pub small : n + 1 < 2 ^ 32
   pub frame : 0 < length o.levels.items
+
+-- the list has what it must, once segments from one on, which are behind the node, are made one of it
+abbrev pub IsFullAfter : (old new : Evaluations) (at n : ℕ) → Rule → Bool → Type 0
+IsFullAfter old new at n rule chosen = (scopes : ℕ → Scope) → AllBelow old.levels.items at → IsLooseKept old → IsFull scopes old →
+    base_of old.levels.items ≤ at → ((g m : ℕ) → at ≤ g → node_of (slice_get old.segments.items g) ≡ Some m → n < m) →
+    IsOver (top_scope scopes old) old n rule chosen → IsFull scopes new
 
 -- the event that was told last is of this node
 pub record EndsAt (o : Evaluations) (n : ℕ) : Type 0 where

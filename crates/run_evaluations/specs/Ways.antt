@@ -8,8 +8,11 @@ use Rattle.evaluation_log.specs.declared.rules.Rules.{Rules}
 use Rattle.evaluation_log.specs.declared.sought.Sought.TheVariants.{Any}
 use Rattle.evaluation_log.specs.Clashes.{NoClash, operand_has}
 use Rattle.evaluation_log.specs.Kept.{IsOperand, base_of, marks, is_unsequenced}
+use Rattle.evaluation_log.specs.Touched.{start_of}
+use Rattle.evaluation_log.specs.Loose.{loose_of}
 use Rattle.evaluation_log.specs.Ways.{above_in, rule_in, node_of}
 use Rattle.run_evaluations.specs.declared.open.Evaluations.{Evaluations}
+use Rattle.run_evaluations.specs.Kept.{IsSameRest}
 
 -- the segment is of an operand of this node on the way, and of none further down on it
 abbrev pub IsNearest : Evaluations → List ℕ → (j n g : ℕ) → Type 0
@@ -37,3 +40,29 @@ pub record IsGathered (old new : Evaluations) (n at : ℕ) : Type 0 where
       (node_of (slice_get new.segments.items g) ≡ node_of (slice_get old.segments.items g))
   pub begins : at < length old.segments.items → marks (slice_get new.segments.items at) ≡ marks (slice_get old.segments.items at)
   pub own : at < length old.segments.items → node_of (slice_get new.segments.items at) ≡ Some n
+
+-- what stands below the segments of the frame on top is as it was
+pub record IsSameUnder (old new : Evaluations) : Type 0 where
+  pub rest : IsSameRest old new
+  pub starts : (g : ℕ) → g ≤ base_of old.levels.items →
+      start_of new.segments.items new.events.items g ≡ start_of old.segments.items old.events.items g
+  pub nodes : (g : ℕ) → g < base_of old.levels.items → node_of (slice_get new.segments.items g) ≡ node_of (slice_get old.segments.items g)
+  pub lows : (g : ℕ) → g ≤ base_of old.levels.items → loose_of new.segments.items new.loose.items g ≡ loose_of old.segments.items old.loose.items g
+  pub loose : (i : ℕ) → i < loose_of old.segments.items old.loose.items (base_of old.levels.items) →
+      slice_get new.loose.items i ≡ slice_get old.loose.items i
+
+-- the segments from one on are made one of this node
+pub record IsOne (old new : Evaluations) (n at : ℕ) : Type 0 where
+  pub rest : IsSameRest old new
+  pub count : length new.segments.items ≡ suc at
+  pub others : (g : ℕ) → g < at → (marks (slice_get new.segments.items g) ≡ marks (slice_get old.segments.items g)) ×
+      (node_of (slice_get new.segments.items g) ≡ node_of (slice_get old.segments.items g))
+  pub begins : marks (slice_get new.segments.items at) ≡ marks (slice_get old.segments.items at)
+  pub own : node_of (slice_get new.segments.items at) ≡ Some n
+
+-- an event is added to the last segment, or to one of its own, which is of this node then; there are so many
+pub record IsPlaced (old new : Evaluations) (n count : ℕ) : Type 0 where
+  pub size : length new.segments.items ≡ count
+  pub some : 0 < count
+  pub others : (g : ℕ) → suc g < count → node_of (slice_get new.segments.items g) ≡ node_of (slice_get old.segments.items g)
+  pub own : node_of (slice_get new.segments.items (count - 1)) ≡ Some n

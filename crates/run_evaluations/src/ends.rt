@@ -1,5 +1,5 @@
 // An end of the run beside evaluations that it isn't sequenced with.
-ghost use Rattle.std.specs.Prelude.{◌≡◌, ◌<◌, ◌^◌, ◌-◌, ℕ, true, None, Some, IfOk, IfNone, IfSome, OnOk, slice_get, length};
+ghost use Rattle.std.specs.Prelude.{◌≡◌, ◌<◌, ◌^◌, ◌-◌, ◌∷◌, ℕ, true, List, None, Some, IfOk, IfNone, IfSome, OnOk, slice_get, length};
 ghost use Rattle.ub_base.specs.declared.names.Item.{Item};
 ghost use Rattle.c_typed.specs.Tree.{tree_of, size};
 ghost use Rattle.footprint.specs.Holds.{holds};
@@ -11,7 +11,10 @@ ghost use Rattle.evaluation_log.specs.Ways.{IsRising};
 ghost use Rattle.run_evaluations.specs.Ends.{is_value, is_value_kind, events_from, IsDone, HasValue, NoneBeside};
 ghost use Rattle.run_evaluations.specs.Kept.{IsKept, IsSameRest, NoneOfOperands};
 ghost use Rattle.run_evaluations.specs.Loose.{IsLooseKept};
-ghost use Rattle.run_evaluations.specs.Ways.{IsGathered, NoneOnWay, NoneAtEnd};
+ghost use Rattle.run_evaluations.specs.Follows.{Follows, FollowsBelow};
+ghost use Rattle.run_evaluations.specs.Shows.{NoneOfWay, NonePending, TellsEnd};
+ghost use Rattle.run_evaluations.specs.Told.{Evaluation, Opened};
+ghost use Rattle.run_evaluations.specs.Ways.{IsGathered, IsSameUnder, NoneOnWay, NoneAtEnd};
 
 use crate::open::Evaluations;
 use addr_map::AddrMap;
@@ -38,6 +41,10 @@ impl Evaluations {
         ensures loose { OnOk result (IsKept self.old → IsLooseKept self.old → IsLooseKept self.new) }
         ensures none { IsKept self.old → size (tree_of root.now) < 2 ^ 32 → IfOk result
             (λ r. IfNone r (NoneAtEnd map.now rules.now (tree_of root.now) self.old)) }
+        ensures follows { OnOk result ((t : Opened) (ts : List Opened) → Follows (t ∷ ts) self.old → FollowsBelow ts self.new) }
+        ensures apart { (t : Opened) (ts : List Opened) (last : Evaluation) → Follows (t ∷ ts) self.old →
+            TellsEnd t (tree_of root.now) rules.now last → IfOk result
+            (λ r. IfNone r (NoneOfWay map.now t last.place.node × NonePending map.now t last)) }
     {
         let Some(target) = self.last_node() else {
             return Ok(None);
@@ -129,7 +136,7 @@ impl Evaluations {
     }
 
     // Where the events of the top frame's full expression begin.
-    fn events_from(&self) -> usize
+    pub(crate) fn events_from(&self) -> usize
         ensures { result ≡ events_from self.now }
     {
         match self.levels.last() {
@@ -159,6 +166,7 @@ impl Evaluations {
         ensures loose { IsKept self.old → IsLooseKept self.old → IsLooseKept self.new }
         ensures none { IsKept self.old → IsRising way.now.above.items → IfOk result
             (λ r. IfNone r (NoneOnWay under.entry.map.now rules.now way.now.above.items self.old)) }
+        ensures under { IsKept self.old → IsLooseKept self.old → IsSameUnder self.old self.new }
     {
         let mut best = None;
         for i in (0..way.above.len()).rev() {
@@ -184,6 +192,7 @@ impl Evaluations {
             (is_unsequenced rule ≡ true → NoneOfOperands under.entry.map.now self.old node)) }
         ensures rest { IsSameRest self.old self.new }
         ensures made { OnOk result ((at : ℕ) × IsGathered self.old self.new node at) }
+        ensures under { IsKept self.old → IsLooseKept self.old → IsSameUnder self.old self.new }
     {
         let found = self.found_of_operands(under, node, rule)?;
         self.gather(node, rule, true);

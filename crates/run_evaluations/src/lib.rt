@@ -2,8 +2,11 @@
 #![tactic(auto)]
 
 mod ends;
+mod gather;
+mod laws;
 mod loose;
 mod open;
 mod operands;
 
+pub use laws::{law_choices_grow, law_rules_fit};
 pub use open::Evaluations;

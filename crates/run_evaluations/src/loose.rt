@@ -1,5 +1,5 @@
 // A node's own events beside the side effects below it that come before its value in no order.
-ghost use Rattle.std.specs.Prelude.{Box, ◌≡◌, ◌≤◌, ◌<◌, ◌-◌, ℕ, true, false, length, slice_get, suc, Some, None, IfOk, IfNone, OnOk};
+ghost use Rattle.std.specs.Prelude.{Box, ◌≡◌, ◌≤◌, ◌<◌, ◌-◌, ◌∷◌, ℕ, true, false, length, slice_get, suc, List, Some, None, IfOk, IfNone, OnOk};
 ghost use Rattle.std.specs.Global.{Global};
 ghost use Rattle.evaluation_log.specs.declared.log.Logged.{Logged};
 ghost use Rattle.evaluation_log.specs.Touched.{event_has};
@@ -7,8 +7,11 @@ ghost use Rattle.evaluation_log.specs.FoundItems.{ItemsConflict};
 ghost use Rattle.run_evaluations.specs.Kept.{IsKept, IsSameRest};
 ghost use Rattle.evaluation_log.specs.Kept.{AreLike, AllBelow, base_of};
 ghost use Rattle.evaluation_log.specs.Loose.{NoLoose, HasLoose, LooseKept, loose_from, HasEvent, loose_start_of, loose_foot_of};
-ghost use Rattle.run_evaluations.specs.Listed.{NoneApart, is_eff};
-ghost use Rattle.run_evaluations.specs.Loose.{EndsAt, IsFull, IsFullBut, IsLooseKept, IsListed, KeepsLoose, NoneBelow, top_scope};
+ghost use Rattle.run_evaluations.specs.Follows.{Follows, FollowsBut};
+ghost use Rattle.run_evaluations.specs.Listed.{is_eff};
+ghost use Rattle.run_evaluations.specs.Shows.{NoneOfNode, OwnAreLast};
+ghost use Rattle.run_evaluations.specs.Told.{Opened};
+ghost use Rattle.run_evaluations.specs.Loose.{EndsAt, IsFull, IsFullBut, IsLooseKept, IsListed, KeepsLoose, NoneBelow};
 ghost use Rattle.run_evaluations.specs.Scopes.{ListsAreAlone, Scope, place_of};
 ghost use Rattle.evaluation_log.specs.Ways.{node_of};
 ghost use Rattle.c_typed.specs.declared.tree.Place.{Place};
@@ -36,11 +39,9 @@ impl Evaluations {
         ensures kept { OnOk result (IsKept self.old → IsKept self.new) }
         ensures loose { OnOk result (IsKept self.old → IsLooseKept self.old → IsLooseKept self.new) }
         ensures none { IsLooseKept self.old → IfOk result (λ r. IfNone r (NoneBelow map.now self.old node)) }
-        ensures apart { (scopes : ℕ → Scope) → IsLooseKept self.old → IsFullBut scopes self.old → EndsAt self.old node →
-            ListsAreAlone (top_scope scopes self.old) → IfOk result (λ r. IfNone r (NoneApart map.now (top_scope scopes self.old)
-            self.old.segments.items self.old.events.items self.old.items.items node)) }
-        ensures full { OnOk result ((scopes : ℕ → Scope) → IsKept self.old → IsLooseKept self.old → IsFullBut scopes self.old →
-            EndsAt self.old node → IsFull scopes self.new) }
+        ensures apart { (t : Opened) (ts : List Opened) → FollowsBut (t ∷ ts) node self.old → OwnAreLast t node → ListsAreAlone t.scope →
+            IfOk result (λ r. IfNone r (NoneOfNode map.now t node)) }
+        ensures follows { OnOk result ((os : List Opened) → FollowsBut os node self.old → Follows os self.new) }
     {
         let loose = self.loose_start();
         let own = self.own_events(node);
@@ -159,6 +160,7 @@ impl Evaluations {
         ensures loose { OnOk result (IsKept self.old → IsLooseKept self.old → IsLooseKept self.new) }
         ensures full { OnOk result ((scopes : ℕ → Scope) → IsKept self.old → IsLooseKept self.old → IsFullBut scopes self.old →
             EndsAt self.old node → IsFull scopes self.new) }
+        ensures nodes { (g : ℕ) → node_of (slice_get self.new.segments.items g) ≡ node_of (slice_get self.old.segments.items g) }
     {
         if !self.ends_with_effect(node) {
             return Ok(());

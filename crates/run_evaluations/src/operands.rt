@@ -1,6 +1,6 @@
 // Whether operands conflict, as they are completed.
 ghost use Rattle.std.specs.Global.{Global};
-ghost use Rattle.std.specs.Prelude.{Box, ◌≡◌, ◌<◌, ℕ, vec_len, true, false, IfOk, IfNone, Some, slice_get};
+ghost use Rattle.std.specs.Prelude.{Box, ◌≡◌, ◌<◌, ◌∷◌, ℕ, List, vec_len, true, false, IfOk, IfNone, OnOk, Some, slice_get};
 ghost use Rattle.footprint.specs.declared.foot.Foot.{Foot};
 ghost use Rattle.evaluation_log.specs.declared.sought.Sought.TheVariants.{Any};
 ghost use Rattle.evaluation_log.specs.Clashes.{NoneBetween, AreSorted};
@@ -8,7 +8,11 @@ ghost use Rattle.evaluation_log.specs.FoundItems.{ItemsConflict};
 ghost use Rattle.evaluation_log.specs.Kept.{Kept, AllBelow, KeepsFeet, Spreads, foot_of, is_unsequenced};
 ghost use Rattle.evaluation_log.specs.Ways.{node_of};
 ghost use Rattle.run_evaluations.specs.Kept.{IsSameLog, IsTaken, IsKept, NoneOfOperands};
-ghost use Rattle.run_evaluations.specs.Loose.{IsLooseKept};
+ghost use Rattle.run_evaluations.specs.Follows.{Follows};
+ghost use Rattle.run_evaluations.specs.Loose.{IsFullAfter, IsLooseKept};
+ghost use Rattle.run_evaluations.specs.Shows.{NoneOfTwo};
+ghost use Rattle.run_evaluations.specs.Told.{Opened, TellsNode, gathered};
+ghost use Rattle.run_evaluations.specs.Ways.{IsOne};
 
 use crate::open::Evaluations;
 use addr_map::AddrMap;
@@ -32,6 +36,10 @@ impl Evaluations {
         ensures kept { IsKept self.old → IsKept self.new }
         ensures loose { IsKept self.old → IsLooseKept self.old → IsLooseKept self.new }
         ensures none { IsKept self.old → is_unsequenced rule ≡ true → IfOk result (λ r. IfNone r (NoneOfOperands map.now self.old node)) }
+        ensures follows { OnOk result ((t : Opened) (ts : List Opened) → Follows (t ∷ ts) self.old → TellsNode t node rule chosen →
+            Follows (gathered node t ∷ ts) self.new) }
+        ensures apart { (t : Opened) (ts : List Opened) → Follows (t ∷ ts) self.old → TellsNode t node rule chosen → t.parts node ≡ false →
+            IfOk result (λ r. IfNone r (NoneOfTwo map.now t node)) }
     {
         let at = self.operands(node);
         if at.saturating_add(1) < self.segments.len() {
@@ -57,13 +65,16 @@ impl Evaluations {
         ensures none { is_unsequenced rule ≡ true → Kept self.old.segments.items self.old.events.items self.old.items.items self.old.large.items at →
             IfOk result (λ r. IfNone r
             (NoneBetween Any under.entry.map.now self.old.segments.items self.old.events.items self.old.items.items at)) }
+        ensures one { OnOk result (IsOne self.old self.new node at × IsFullAfter self.old self.new at node rule chosen) }
     {
         if !rule.is_unsequenced() {
             self.join(at, node, rule, chosen, None);
             return Ok(None);
         }
         if self.has_conflict(under.map, at)? {
-            return self.found_between(under, at);
+            let found = self.found_between(under, at)?;
+            self.join(at, node, rule, chosen, None);
+            return Ok(found);
         }
         let foot = self.take_foot(at);
         self.join(at, node, rule, chosen, foot);

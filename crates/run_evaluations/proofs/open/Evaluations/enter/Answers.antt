@@ -1,3 +1,4 @@
+use Rattle.run_evaluations.proofs.FrameLemmas.{follow_entered}
 use Rattle.std.proofs.Common.{refl, ◌∙◌}
 use Rattle.evaluation_log.proofs.WholeLemmas.{whole_enter, whole_moved}
 use Rattle.evaluation_log.proofs.LooseWholeLemmas.{right_moved, right_enter}
@@ -18,3 +19,9 @@ returns-clause-loose c = λ r.
     _ c.push.new.self.items refl refl refl refl c.in_ok-push.ensures.items
     (right_enter a.segments.items a.events.items a.items.items a.loose.items a.levels.items r _ (c.len-3.ensures ∙ a.segments.ok.0)
     (c.len-4.ensures ∙ a.loose.ok.0))
+
+pub returns-clause-follows : goal.returns-clause-follows
+returns-clause-follows c = λ os f.
+    let a = c.args.self.now in
+    follow_entered a (record a { levels = c.push.new.self }) _ refl refl refl refl c.in_ok-push.ensures.items (c.len-3.ensures ∙ a.segments.ok.0) (c.len.ensures ∙ a.events.ok.0)
+    c.args.frame os refl refl (returns-clause-kept c f.holds.kept) (returns-clause-loose c f.holds.loose) f

@@ -1,6 +1,7 @@
 use Rattle.std.proofs.Common.{length, ◌≡◌, ◌∙◌, ◌-◌, suc, ap, arith}
 use Rattle.evaluation_log.specs.Kept.{is_unsequenced}
 use Rattle.evaluation_log.proofs.LooseLemmas.{if_none_by}
+use Rattle.run_evaluations.proofs.GiveLemmas.{under_after, under_none}
 use Rattle.run_evaluations.proofs.WayLemmas.{shape_self, shape_next, shape_before, none_before, none_so_far, none_here, all_so_far, indexed}
 use Rattle.run_evaluations.proofs.open.Evaluations.found_on_way.Goals as goal
 
@@ -9,6 +10,7 @@ loop-i-init c = record {
   conflict = tt;
   kept = λ w. w;
   loose = λ w r. r;
+  under = λ w r. under_none c.args.self.now;
   shape = λ rising. (length c.args.self.now.segments.items, shape_self c.args.self.now c.args.way.now.above.items c.len-i.result);
   none = λ w rising e. none_so_far c.args.under.map.now c.args.rules.now c.args.way.now.above.items c.args.self.now c.len-i.result
       (let n = c.len-i.ensures ∙ c.args.way.now.above.ok.0 in omega (arith, n));
@@ -27,6 +29,8 @@ loop-i-preserved c =
       conflict = c.in_ok-best.ensures.conflict;
       kept = λ w. c.found_at_node.ensures.kept (c.loop-i.invariant.kept w);
       loose = λ w r. c.found_at_node.ensures.loose (c.loop-i.invariant.kept w) (c.loop-i.invariant.loose w r);
+      under = λ w r. under_after a b c.found_at_node.new.self (c.loop-i.invariant.under w r)
+          (c.found_at_node.ensures.under (c.loop-i.invariant.kept w) (c.loop-i.invariant.loose w r));
       shape = λ rising.
           let s = c.loop-i.invariant.shape rising in
           let m = c.in_ok-best.ensures.made in
@@ -44,3 +48,8 @@ pub returns-clause-none : goal.returns-clause-none
 returns-clause-none c = λ w rising.
     if_none_by c.loop-i.best _ (λ e. all_so_far c.args.under.map.now c.args.rules.now c.args.way.now.above.items c.args.self.now c.loop-i.i
     (omega (arith, c.loop-i-test.false)) (c.loop-i.invariant.none w rising e))
+
+pub returns-in_err-best-clause-under : goal.returns-in_err-best-clause-under
+returns-in_err-best-clause-under c = λ w r.
+    under_after c.args.self.now c.loop-i.self c.found_at_node.new.self (c.loop-i.invariant.under w r)
+    (c.found_at_node.ensures.under (c.loop-i.invariant.kept w) (c.loop-i.invariant.loose w r))

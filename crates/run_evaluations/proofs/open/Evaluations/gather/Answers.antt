@@ -1,3 +1,4 @@
+use Rattle.run_evaluations.proofs.GiveLemmas.{under_joined, under_none}
 use Rattle.std.proofs.Common.{◌∙◌, ◌≤◌, sym, arith, subst, List}
 use Rattle.run_evaluations.proofs.WholeLemmas.{kept_made_one}
 use Rattle.evaluation_log.proofs.WholeLemmas.{only_spreads, length_alike}
@@ -65,3 +66,13 @@ returns-clause-full c = λ scopes w r full over.
     (subst (λ (ls : List Level). base_of ls ≤ c.operands-at.result) (sym e.same.levels) o.low)
     (λ g m le h. node_behind a.segments.items c.operands-at.result c.args.node o.behind g m le (sym (e.nodes g) ∙ h))
     (over_same a t scopes c.args.node c.args.rule c.args.chosen e.same.levels e.nodes over)
+
+pub returns-then-at-len-clause-under : goal.returns-then-at-len-clause-under
+returns-then-at-len-clause-under c = λ w r. under_none c.args.self.now
+
+pub returns-clause-under : goal.returns-clause-under
+returns-clause-under c = λ w r.
+    let j = c.join.ensures in
+    under_joined c.args.self.now c.take_only-foot.new.self c.join.new.self c.operands-at.result w r c.operands-at.ensures.low
+    (omega (arith, c.args.self.now.segments.ok.0, c.len.ensures, c.if-at-len.false)) c.take_only-foot.ensures.same j.rest j.others j.joined.begins j.low
+    j.thins

@@ -9,7 +9,7 @@ returns-clause-kept c = λ w.
     let t = c.take_body-body.ensures in
     let a = c.args.self.now in
     let b = c.take_body-body.new.self in
-    kept_open b c.absorb.new.self c.absorb.ensures
+    kept_open b c.absorb.new.self c.absorb.ensures.same
     (whole_moved a.segments.items b.segments.items b.events.items b.events.items a.items.items b.items.items a.large.items b.large.items a.levels.items
     b.levels.items
     t.segments refl t.items t.larges t.levels
@@ -19,5 +19,5 @@ pub returns-clause-loose : goal.returns-clause-loose
 returns-clause-loose c = λ r.
     let t = c.take_body-body.ensures in
     let b = c.take_body-body.new.self in
-    right_open b c.absorb.new.self c.absorb.ensures
+    right_open b c.absorb.new.self c.absorb.ensures.same
     (right_taken c.args.self.now b t.segments t.items t.loose t.levels t.count t.spans t.bodies r)

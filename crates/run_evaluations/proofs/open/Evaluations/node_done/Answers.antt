@@ -1,5 +1,9 @@
 use Rattle.run_evaluations.proofs.WholeLemmas.{kept_like}
-use Rattle.std.proofs.Common.{subst, sym, ℕ}
+use Rattle.std.proofs.Common.{subst, sym, ◌∙◌, ◌∷◌, ℕ}
+use Rattle.run_evaluations.specs.Scopes.{ListsAreAlone}
+use Rattle.run_evaluations.proofs.ShowLemmas.{node_done, scope_but}
+use Rattle.run_evaluations.specs.Follows.{scopes_of}
+use Rattle.run_evaluations.proofs.ToldLemmas.{follow_done, full_but, rest_after}
 use Rattle.evaluation_log.specs.Loose.{LooseKept}
 use Rattle.run_evaluations.proofs.FullLemmas.{apart_if, but_like, ends_like}
 use Rattle.run_evaluations.proofs.LooseLemmas.{all_below}
@@ -29,14 +33,24 @@ returns-clause-loose c = λ w r.
     (right_set c.args.self.now c.gather_loose.new.self c.loose_start-loose.result g.rest g.loose g.like g.lows g.feet c.loose_start-loose.ensures r)
 
 pub returns-clause-apart : goal.returns-clause-apart
-returns-clause-apart c = λ scopes right but ends alone.
-    apart_if c.args.map.now c.args.self.now scopes c.args.node but ends alone c.in_ok-found.found (returns-clause-none c right)
+returns-clause-apart c = λ t ts f own alone.
+    let a = c.args.self.now in
+    let scopes = scopes_of (t ∷ ts) in
+    node_done c.args.map.now a t ts c.args.node f own c.in_ok-found.found
+    (apart_if c.args.map.now a scopes c.args.node (full_but a (t ∷ ts) c.args.node f) f.last
+    (subst ListsAreAlone (sym (scope_but a t ts c.args.node f)) alone) c.in_ok-found.found (returns-clause-none c f.holds.loose))
 
-pub returns-clause-full : goal.returns-clause-full
-returns-clause-full c = λ scopes w r but ends.
+pub returns-clause-follows : goal.returns-clause-follows
+returns-clause-follows c = λ os f.
     let g = c.gather_loose.ensures in
     let a = c.args.self.now in
     let b = c.gather_loose.new.self in
-    c.in_ok-add_loose.ensures.full scopes (kept_like a b g.rest g.like w)
+    let d = c.add_loose.new.self in
+    let w = f.holds.kept in
+    let r = f.holds.loose in
+    let full = c.in_ok-add_loose.ensures.full (scopes_of os) (kept_like a b g.rest g.like w)
     (right_set a b c.loose_start-loose.result g.rest g.loose g.like g.lows g.feet c.loose_start-loose.ensures r)
-    (but_like a b scopes g.rest g.loose g.like g.lows g.nodes but) (ends_like a b c.args.node g.rest g.like g.nodes ends)
+    (but_like a b (scopes_of os) g.rest g.loose g.like g.lows g.nodes (full_but a os c.args.node f))
+    (ends_like a b c.args.node g.rest g.like g.nodes f.last) in
+    follow_done a d os c.args.node f (rest_after a b d g.rest c.add_loose.ensures.rest) (λ x. c.add_loose.ensures.nodes x ∙ g.nodes x)
+    (returns-clause-kept c w) (returns-clause-loose c w r) full

@@ -1,4 +1,9 @@
-use Rattle.std.proofs.Common.{◌∙◌, arith}
+use Rattle.std.proofs.Common.{◌∙◌, ◌∷◌, arith}
+use Rattle.std.proofs.lemmas.Result.{on_ok_weaker}
+use Rattle.run_evaluations.specs.Follows.{scopes_of}
+use Rattle.run_evaluations.proofs.FullLemmas.{node_behind}
+use Rattle.run_evaluations.proofs.ShowLemmas.{none_of_two, two_done}
+use Rattle.run_evaluations.proofs.ToldLemmas.{follow_operands, full_all, one_gathered, over_told}
 use Rattle.evaluation_log.specs.declared.sought.Sought.TheVariants.{Any}
 use Rattle.evaluation_log.specs.Clashes.{NoneBetween}
 use Rattle.run_evaluations.specs.Kept.{NoneOfOperands}
@@ -27,3 +32,40 @@ returns-clause-none c = λ w open_rule.
 
 pub returns-then-saturating_add-len-clause-loose : goal.returns-then-saturating_add-len-clause-loose
 returns-then-saturating_add-len-clause-loose c = λ w r. c.several_done.ensures.loose w (c.operands-at.ensures.below w) r
+
+pub returns-then-saturating_add-len-clause-follows : goal.returns-then-saturating_add-len-clause-follows
+returns-then-saturating_add-len-clause-follows c =
+    on_ok_weaker c.several_done.result
+    (λ p t ts f tell.
+    let a = c.args.self.now in
+    let d = c.several_done.new.self in
+    let o = c.operands-at.ensures in
+    let w = f.holds.kept in
+    let r = f.holds.loose in
+    let n = c.len.ensures ∙ a.segments.ok.0 in
+    follow_operands a d t ts f c.args.node c.args.rule c.args.chosen tell c.operands-at.result
+    (one_gathered a d c.args.node c.operands-at.result (omega (arith, n, c.saturating_add.ensures, c.if-saturating_add-len.true)) o.low o.behind o.least p.0)
+    p.0.rest (c.several_done.ensures.kept w (o.below w)) (c.several_done.ensures.loose w (o.below w) r)
+    (p.1 (scopes_of (t ∷ ts)) (o.below w) r (full_all a t ts f) o.low
+    (λ g m le h. node_behind a.segments.items c.operands-at.result c.args.node o.behind g m le h)
+    (over_told a t ts f c.args.node c.args.rule c.args.chosen tell)))
+    c.several_done.ensures.one
+
+pub returns-clause-follows : goal.returns-clause-follows
+returns-clause-follows c = λ t ts f tell.
+    let a = c.args.self.now in
+    let d = c.gather.new.self in
+    let g = c.gather.ensures in
+    let w = f.holds.kept in
+    let r = f.holds.loose in
+    follow_operands a d t ts f c.args.node c.args.rule c.args.chosen tell g.made.0 g.made.1 g.rest (g.kept w) (g.loose w r)
+    (g.full (scopes_of (t ∷ ts)) w r (full_all a t ts f) (over_told a t ts f c.args.node c.args.rule c.args.chosen tell))
+
+pub returns-then-saturating_add-len-clause-apart : goal.returns-then-saturating_add-len-clause-apart
+returns-then-saturating_add-len-clause-apart c = λ t ts f tell fresh.
+    two_done c.args.map.now c.args.self.now t ts f c.args.node c.args.rule c.args.chosen tell fresh c.several_done.result
+    (returns-then-saturating_add-len-clause-none c f.holds.kept)
+
+pub returns-clause-apart : goal.returns-clause-apart
+returns-clause-apart c = λ t ts f tell fresh.
+    none_of_two c.args.map.now c.args.self.now t ts f c.args.node c.args.rule c.args.chosen tell fresh (returns-clause-none c f.holds.kept)

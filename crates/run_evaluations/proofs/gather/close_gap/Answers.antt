@@ -2,7 +2,7 @@ use Rattle.std.proofs.Common.{sym, subst, ◌∙◌, arith}
 use Rattle.std.proofs.lemmas.Option.{slice_get_within}
 use Rattle.evaluation_log.specs.Loose.{Thins}
 use Rattle.evaluation_log.proofs.LooseWholeLemmas.{thin_take}
-use Rattle.run_evaluations.proofs.open.close_gap.Goals as goal
+use Rattle.run_evaluations.proofs.gather.close_gap.Goals as goal
 
 pub returns-then-to-from-clause-stays : goal.returns-then-to-from-clause-stays
 returns-then-to-from-clause-stays c = λ p k low le h. (p, low, h)

@@ -1,0 +1,13 @@
+// What holds of all evaluations, whatever is told.
+ghost use Rattle.run_evaluations.specs.Fitting.{RulesFit};
+ghost use Rattle.run_evaluations.specs.Follows.{ChoicesGrow};
+
+/// What was told is followed as And, Or and Cond choose further operands.
+pub fn law_choices_grow()
+    ensures { ChoicesGrow }
+{}
+
+/// The rules that are made of a typed tree are those of its nodes, and its listed initializers have no operands, where its lists have such alone.
+pub fn law_rules_fit()
+    ensures { RulesFit }
+{}
