@@ -114,9 +114,9 @@ enum Visible {
 }
 
 fn seen_as(state: &State, symbol: u32) -> Visible {
-    match state.ordinary.find(symbol) {
+    match state.names.find(symbol) {
         None => Visible::Nothing,
-        Some(binding) => match &binding.meaning {
+        Some(meaning) => match meaning {
             Meaning::Function { number: _, ty: _ } => Visible::WithLinkage,
             Meaning::Object {
                 slot: Slot::Static(number),
@@ -195,8 +195,8 @@ fn visible_object_type(
     symbol: u32,
     qual: &Qual,
 ) -> Result<Qual, NoMemory> {
-    match state.ordinary.find(symbol) {
-        Some(binding) => match &binding.meaning {
+    match state.names.find(symbol) {
+        Some(meaning) => match meaning {
             Meaning::Object {
                 slot: Slot::Static(number),
                 qual: old,
@@ -213,10 +213,10 @@ fn visible_object_type(
 
 fn bind(state: &mut State, symbol: u32, meaning: Meaning) -> Result<(), NoMemory> {
     if state.is_taken(symbol) {
-        state.ordinary.change(symbol, meaning);
+        state.names.change(symbol, meaning);
         Ok(())
     } else {
-        state.ordinary.add(symbol, state.depth, meaning)
+        state.names.declare(symbol, meaning)
     }
 }
 
@@ -272,7 +272,7 @@ fn set_object_type(state: &mut State, number: u32, qual: Qual) {
 fn bind_object(state: &mut State, symbol: u32, number: u32, qual: &Qual) -> Result<(), NoMemory> {
     let alloc = state.alloc;
     let seen = visible_object_type(state, alloc, symbol, qual)?;
-    if state.depth == 0 {
+    if state.names.is_file() {
         set_object_type(state, number, copied_qual(alloc, &seen)?);
     }
     let meaning = Meaning::Object {
@@ -343,7 +343,7 @@ pub fn complete_object(
         qual: copied_qual(alloc, qual)?,
         register: false,
     };
-    state.ordinary.change(symbol, meaning);
+    state.names.change(symbol, meaning);
     Ok(())
 }
 
@@ -384,8 +384,8 @@ fn visible_function_type(
     symbol: u32,
     ty: &FuncTy,
 ) -> Result<FuncTy, NoMemory> {
-    match state.ordinary.find(symbol) {
-        Some(binding) => match &binding.meaning {
+    match state.names.find(symbol) {
+        Some(meaning) => match meaning {
             Meaning::Function {
                 number: _,
                 ty: Ty::Function(old),

@@ -122,10 +122,7 @@ pub fn finished(alloc: Global, source: &Source<'_>, state: State) -> Result<Prog
 {
     let State {
         alloc: _,
-        ordinary: _,
-        tag_names: _,
-        depth: _,
-        prototype: _,
+        names: _,
         tags,
         tag_rows: _,
         enumerations: _,
