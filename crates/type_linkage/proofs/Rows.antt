@@ -1,8 +1,8 @@
 -- The library's rows: names in parts, parameters one after the other.
-use Rattle.std.proofs.Common.{◌≡◌, ℕ, ◌+◌, ◌<◌, List, [], ◌∷◌, ◌++◌, map, refl, sym, ap, ◌∙◌, Bool, true, false, take}
-use Rattle.std.specs.Prelude.{Option, Some, None, if◌then◌else◌}
+use Rattle.std.proofs.Common.{◌≡◌, ℕ, List, [], ◌∷◌, ◌++◌, map, refl, ap, ◌∙◌, Bool, true, false}
+use Rattle.std.specs.Prelude.{Option, Some, if◌then◌else◌}
 use Rattle.std.specs.Str.{bytes_eq}
-use Rattle.c_types.specs.Types.{Qualified, Params, more, params_of}
+use Rattle.c_types.specs.Types.{more, params_of}
 use Rattle.c_types.specs.declared.library.LibFunc.{LibFunc}
 use Rattle.c_typed.specs.Lawful.{taking}
 use Rattle.type_name_space.specs.Scopes.{or_else}

@@ -1,5 +1,5 @@
 -- The functions of the library by name and by type, as their rows are kept here (7.21, 7.22, 7.24).
-use Rattle.std.specs.Prelude.{◌≡◌, ℕ, Bool, true, false, ◌&&◌, List, [], ◌∷◌, ◌++◌, codes, map, Option, Some, None}
+use Rattle.std.specs.Prelude.{ℕ, Bool, false, List, [], ◌∷◌, codes, map}
 use Rattle.c_types.specs.Types.{CType, void, int, Qualified, Signature}
 use Rattle.c_types.specs.declared.kind.IntKind.TheVariants.{Int}
 use Rattle.c_types.specs.declared.library.LibFunc.{LibFunc}

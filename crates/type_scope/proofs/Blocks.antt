@@ -69,7 +69,8 @@ changed_is f bs n b now e some is same =
     ap (λ k. reverse (map block_seen (slice_set bs (k - 1) now))) e ∙ changed_last f bs b now (last_of bs n b e some is) same
 
 -- an object of a block has another type
-pub retyped_set : (n : ℕ) (q : Qual) (qs : List Qual) → n < length qs → map qualified_of (slice_set qs n q) ≡ retyped_in n (qualified_of q) (map qualified_of qs)
+pub retyped_set : (n : ℕ) (q : Qual) (qs : List Qual) → n < length qs
+    → map qualified_of (slice_set qs n q) ≡ retyped_in n (qualified_of q) (map qualified_of qs)
 retyped_set n q [] less = absurd (omega arith)
 retyped_set zero q (p ∷ ps) less = refl
 retyped_set (suc n) q (p ∷ ps) less = ap (λ (rs : List Qualified). qualified_of p ∷ rs) (retyped_set n q ps (omega arith))

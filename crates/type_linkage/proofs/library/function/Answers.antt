@@ -1,4 +1,4 @@
-use Rattle.std.proofs.Common.{◌≡◌, ap, ◌∙◌}
+use Rattle.std.proofs.Common.{ap, ◌∙◌}
 use Rattle.c_types.specs.Types.{CType, Qualified, Signature, params_of, ty_step, func_step, qual_step}
 use Rattle.c_types.specs.declared.ty.FuncTy.{fold-roll-FuncTy}
 use Rattle.type_linkage.specs.Library.{function_of}
