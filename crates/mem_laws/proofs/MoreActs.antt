@@ -26,7 +26,7 @@ use Rattle.mem_laws.proofs.MoreRows.{run_same, access_same, row_same}
 
 module _ (rows : List Row) where
   -- ---- scripts that create nothing
-  bears_bind : {A B : Type 0} (p : Script A) (k : A → Script B) → BearsIn rows p → ((v : A) → BearsIn rows (k v)) → BearsIn rows (p >>= k)
+  pub bears_bind : {A B : Type 0} (p : Script A) (k : A → Script B) → BearsIn rows p → ((v : A) → BearsIn rows (k v)) → BearsIn rows (p >>= k)
   bears_bind (Give v) k b h = h v
   bears_bind (Raise c) k b h = tt
   bears_bind (Finish n) k b h = tt
@@ -43,15 +43,15 @@ module _ (rows : List Row) where
   bears_bind (Do Take g) k b h = λ r. bears_bind (g r) k (b r) h
   bears_bind (Do (Print to bs) g) k b h = λ r. bears_bind (g r) k (b r) h
 
-  bears_then : {B : Type 0} (b : Bool) (c : Clause) (p : Script B) → BearsIn rows p → BearsIn rows (require b c >> p)
+  pub bears_then : {B : Type 0} (b : Bool) (c : Clause) (p : Script B) → BearsIn rows p → BearsIn rows (require b c >> p)
   bears_then true c p h = h
   bears_then false c p h = tt
 
-  bears_show : (xs : List ObjName) → BearsIn rows (show_each xs)
+  pub bears_show : (xs : List ObjName) → BearsIn rows (show_each xs)
   bears_show [] = tt
   bears_show (x ∷ xs) = λ r. bears_show xs
 
-  bears_pieces : (bs : List TaggedByte) → BearsIn rows (show_pieces bs)
+  pub bears_pieces : (bs : List TaggedByte) → BearsIn rows (show_pieces bs)
   bears_pieces [] = tt
   bears_pieces (b ∷ bs) = bears_bind (show_each (origins_in b.byte)) (λ u. show_pieces bs) (bears_show (origins_in b.byte)) (λ u. bears_pieces bs)
 
@@ -145,11 +145,11 @@ module _ (rows : List Row) where
   bears_live [] = tt
   bears_live (x ∷ xs) = λ life. bears_bind (some_live xs) _ (bears_live xs) (λ rest. tt)
 
-  bears_required : (b : Bool) (c : Clause) → BearsIn rows (require b c)
+  pub bears_required : (b : Bool) (c : Clause) → BearsIn rows (require b c)
   bears_required true c = tt
   bears_required false c = tt
 
-  bears_target : (prov : Prov) → BearsIn rows (target_lives prov)
+  pub bears_target : (prov : Prov) → BearsIn rows (target_lives prov)
   bears_target Empty = tt
   bears_target (Whole x) = bears_bind (some_live (candidates (Whole x))) (λ ok. require ok DeadObject) (bears_live (x ∷ []))
       (λ ok. bears_required ok DeadObject)
@@ -192,7 +192,7 @@ module _ (rows : List Row) where
       → BearsIn rows (access rows len align a prov >>= k)
   bears_accessed len align a prov k h = bears_bind (access rows len align a prov) k (bears_access len align a prov) h
 
-  bears_settled : (b1 b2 : Bool) (id : Event) (past start : ObjName) (c : Clause) → BearsIn rows (settle_by b1 b2 id past start c)
+  pub bears_settled : (b1 b2 : Bool) (id : Event) (past start : ObjName) (c : Clause) → BearsIn rows (settle_by b1 b2 id past start c)
   bears_settled true true id past start c = tt
   bears_settled true false id past start c = λ r. tt
   bears_settled false true id past start c = λ r. tt

@@ -1,6 +1,24 @@
 // The acts of events.
-ghost use Rattle.std.specs.Prelude.{◌≡◌, ◌<◌, length};
+ghost use Rattle.std.specs.Prelude.{◌≡◌, ◌≢◌, ◌+◌, ◌<◌, ℕ, true, false, not, List, length, slice_get, Some, IfOk};
+ghost use Rattle.addr_map.specs.declared.map.Row.{Row};
+ghost use Rattle.c_model.specs.Nodes as nodes;
+ghost use Rattle.c_model.specs.Nodes.{bool_value, int_outcome, operated};
+ghost use Rattle.c_model.specs.Values as model;
+ghost use Rattle.c_model.specs.Values.{integer_of, pointer_of};
+ghost use Rattle.c_types.specs.Types.{type_of};
+ghost use Rattle.mem_spec.specs.Script.{Give};
+ghost use Rattle.prov_memory.specs.Keeps.{Keeps};
+ghost use Rattle.prov_memory.specs.Made.{IsMade};
+ghost use Rattle.prov_memory.specs.Memory.{Kept};
+ghost use Rattle.run_acts.specs.Kept.{IsOf};
+ghost use Rattle.run_acts.specs.Updates.{IsNear, IsNearChange};
+ghost use Rattle.run_acts.specs.Views.{value_in, pointer_at};
 ghost use Rattle.run_code.specs.Named.{IsNamed};
+ghost use Rattle.run_code.specs.declared.steps.Operand.TheVariants as operands;
+ghost use Rattle.run_state.specs.Stands.{Holds, StandsTables};
+ghost use Rattle.run_events.specs.Acts.{chosen_by, either_truth, filled_from, given_by, pointer_script, stored_by, value_script, AreGiven, ArePointersGiven, CanAct, ChangesOnly, Does};
+ghost use Rattle.run_events.specs.Acts.{Effects, IsGiven, KeepsUpdate, KeepsValues, TouchesMemory, TouchesValues};
+ghost use Rattle.run_events.specs.Performs.{is_body_act, CanPerform, Performs};
 
 use crate::fault::Fault;
 use crate::frames::{call, initialize};
@@ -26,13 +44,18 @@ pub enum Outcome {
     End(u8),
 }
 
-fn number(value: bool) -> Value {
+fn number(value: bool) -> Value
+    ensures seen { (m : Kept) → value_in m result ≡ bool_value value }
+    ensures made { (m : Kept) → IsOf m result }
+{
     Value::Int(i128::from(value))
 }
 
 /// Does the act of an event of the top frame's full expression: it touches what the pick touches, and a value goes to the room of the node.
 pub fn perform(machine: &mut Machine, act: &Act, event: Event) -> Result<Outcome, Fault>
     requires named { IsNamed machine.old.code.now.tables act.now }
+    ensures exact { (rows : List Row) → CanPerform rows machine.old → AreGiven machine.old event act.now → is_body_act act.now ≡ false → Performs rows machine.old machine.new event act.now result }
+    ensures changes { is_body_act act.now ≡ false → ChangesOnly machine.old machine.new event.node act.now }
 {
     match *act {
         Act::Store {
@@ -62,7 +85,12 @@ fn call_of(machine: &mut Machine, number: u32, event: Event) -> Result<Outcome, 
 
 // The value that an act gives. What a function keeps on the stack is set to zero as it begins: so each act stands in one of its own,
 // which isn't inlined.
-fn value_act(machine: &mut Machine, act: &Act, event: Event) -> Result<Value, Fault> {
+fn value_act(machine: &mut Machine, act: &Act, event: Event) -> Result<Value, Fault>
+    ensures exact { CanAct machine.old → AreGiven machine.old event act.now → Does machine.old machine.new (value_script machine.old.memory.rows event (given_by machine.old) act.now) result }
+    ensures update { CanAct machine.old → AreGiven machine.old event act.now → IfOk result (KeepsUpdate machine.old machine.new act.now) }
+    ensures kept { Keeps machine.old.memory machine.new.memory }
+    ensures changes { ChangesOnly machine.old machine.new event.node act.now }
+{
     match *act {
         Act::Load { access, ty, place } => loaded(machine, access, ty, place, event),
         Act::Same(operand) => same(machine, operand),
@@ -74,10 +102,7 @@ fn value_act(machine: &mut Machine, act: &Act, event: Event) -> Result<Value, Fa
             first,
             second,
         } => Ok(number(logical(machine, either, first, second))),
-        Act::Selected { test, yes, no } => {
-            let taken = if machine.truth(test) { yes } else { no };
-            same(machine, taken)
-        }
+        Act::Selected { test, yes, no } => same(machine, selected(machine, test, yes, no)),
         Act::Change {
             change,
             old,
@@ -103,14 +128,19 @@ fn loaded(
     ty: &Ty,
     place: Operand,
     event: Event,
-) -> Result<Value, Fault> {
+) -> Result<Value, Fault>
+    ensures exact { CanAct machine.old → IsGiven machine.old place → Does machine.old machine.new (nodes.load machine.old.memory.rows event access (type_of ty.now) (pointer_of (given_by machine.old place))) result }
+    ensures kept { KeepsValues machine.old machine.new }
+{
     let place = machine.pointer(place);
     let t = &mut machine.items;
     Ok(load(&mut machine.memory, access, ty, event, place, t)?)
 }
 
 #[inline(never)]
-fn same(machine: &Machine, operand: Operand) -> Result<Value, Fault> {
+fn same(machine: &Machine, operand: Operand) -> Result<Value, Fault>
+    ensures exact { CanAct machine.now → IsGiven machine.now operand → Does machine.now machine.now (Give (given_by machine.now operand)) result }
+{
     Ok(machine.value(operand)?)
 }
 
@@ -121,7 +151,9 @@ fn arithmetic(
     kind: IntKind,
     left: Operand,
     right: Operand,
-) -> Result<Value, Fault> {
+) -> Result<Value, Fault>
+    ensures exact { CanAct machine.now → IsGiven machine.now left → IsGiven machine.now right → Does machine.now machine.now (int_outcome (operated op kind (integer_of (given_by machine.now left)) (integer_of (given_by machine.now right)))) result }
+{
     let (left, right) = (machine.integer(left), machine.integer(right));
     Ok(Value::Int(binary(op, kind, left, right)?))
 }
@@ -132,20 +164,28 @@ fn converted(
     conversion: Conversion,
     operand: Operand,
     event: Event,
-) -> Result<Value, Fault> {
+) -> Result<Value, Fault>
+    ensures exact { CanAct machine.old → IsGiven machine.old operand → Does machine.old machine.new (nodes.convert event conversion (given_by machine.old operand)) result }
+    ensures kept { KeepsValues machine.old machine.new }
+{
     let operand = machine.value(operand)?;
     let t = &mut machine.items;
     Ok(convert(&mut machine.memory, conversion, event, &operand, t)?)
 }
 
 #[inline(never)]
-fn unary_value(machine: &Machine, op: UnOp, operand: Operand) -> Result<Value, Fault> {
+fn unary_value(machine: &Machine, op: UnOp, operand: Operand) -> Result<Value, Fault>
+    ensures exact { CanAct machine.now → IsGiven machine.now operand → Does machine.now machine.now (nodes.unary_value op (given_by machine.now operand)) result }
+{
     let operand = machine.value(operand)?;
     Ok(unary(op, &operand)?)
 }
 
 // The acts on pointers. Lists and isolated initializers have no value.
-fn pointer_act(machine: &mut Machine, act: &Act) -> Result<Value, Fault> {
+fn pointer_act(machine: &mut Machine, act: &Act) -> Result<Value, Fault>
+    ensures exact { CanAct machine.old → ArePointersGiven machine.old act.now → Does machine.old machine.new (pointer_script machine.old.memory.rows (given_by machine.old) act.now) result }
+    ensures kept { KeepsValues machine.old machine.new }
+{
     match *act {
         Act::Move {
             size,
@@ -173,7 +213,10 @@ fn move_by(
     subtract: bool,
     pointer: Operand,
     index: Operand,
-) -> Result<Value, Fault> {
+) -> Result<Value, Fault>
+    ensures exact { CanAct machine.old → IsGiven machine.old pointer → IsGiven machine.old index → IsNear size (integer_of (given_by machine.old index)) → Does machine.old machine.new (nodes.shifted machine.old.memory.rows (pointer_of (given_by machine.old pointer)) (nodes.distance size subtract (integer_of (given_by machine.old index)))) result }
+    ensures kept { KeepsValues machine.old machine.new }
+{
     let pointer = machine.pointer(pointer);
     let index = machine.integer(index);
     let t = &mut machine.items;
@@ -182,7 +225,10 @@ fn move_by(
 }
 
 #[inline(never)]
-fn member_of(machine: &mut Machine, offset: u64, pointer: Operand) -> Result<Value, Fault> {
+fn member_of(machine: &mut Machine, offset: u64, pointer: Operand) -> Result<Value, Fault>
+    ensures exact { CanAct machine.old → IsGiven machine.old pointer → Does machine.old machine.new (nodes.member machine.old.memory.rows offset (pointer_of (given_by machine.old pointer))) result }
+    ensures kept { KeepsValues machine.old machine.new }
+{
     let pointer = machine.pointer(pointer);
     let t = &mut machine.items;
     let member = member(&mut machine.memory, pointer, offset, t)?;
@@ -195,7 +241,10 @@ fn distance_between(
     size: u64,
     left: Operand,
     right: Operand,
-) -> Result<Value, Fault> {
+) -> Result<Value, Fault>
+    ensures exact { CanAct machine.old → IsGiven machine.old left → IsGiven machine.old right → Does machine.old machine.new (nodes.difference size (pointer_of (given_by machine.old left)) (pointer_of (given_by machine.old right))) result }
+    ensures kept { KeepsValues machine.old machine.new }
+{
     let (left, right) = (machine.pointer(left), machine.pointer(right));
     let t = &mut machine.items;
     Ok(distance(&mut machine.memory, left, right, size, t)?)
@@ -208,14 +257,19 @@ fn relation(
     pointers: bool,
     left: Operand,
     right: Operand,
-) -> Result<Value, Fault> {
+) -> Result<Value, Fault>
+    ensures exact { CanAct machine.old → IsGiven machine.old left → IsGiven machine.old right → Does machine.old machine.new (nodes.relational op pointers (given_by machine.old left) (given_by machine.old right)) result }
+    ensures kept { KeepsValues machine.old machine.new }
+{
     let (left, right) = (machine.value(left)?, machine.value(right)?);
     let t = &mut machine.items;
     Ok(related(&mut machine.memory, op, pointers, &left, &right, t)?)
 }
 
 #[inline(never)]
-fn equality(machine: &Machine, op: EqOp, left: Operand, right: Operand) -> Result<Value, Fault> {
+fn equality(machine: &Machine, op: EqOp, left: Operand, right: Operand) -> Result<Value, Fault>
+    ensures exact { CanAct machine.now → IsGiven machine.now left → IsGiven machine.now right → Does machine.now machine.now (Give (nodes.equal op (given_by machine.now left) (given_by machine.now right))) result }
+{
     let (left, right) = (machine.value(left)?, machine.value(right)?);
     Ok(equal(op, &left, &right))
 }
@@ -228,19 +282,31 @@ fn part_of(
     access: Access,
     whole: Operand,
     event: Event,
-) -> Result<Value, Fault> {
+) -> Result<Value, Fault>
+    ensures exact { CanAct machine.old → IsGiven machine.old whole → Does machine.old machine.new (nodes.part_of event offset access (given_by machine.old whole)) result }
+    ensures kept { KeepsValues machine.old machine.new }
+{
     let alloc = machine.alloc;
     let whole = machine.value(whole)?;
     let t = &mut machine.items;
     Ok(part(alloc, &mut machine.memory, access, event, &whole, offset, t)?)
 }
 
-fn logical(machine: &Machine, either: bool, first: Operand, second: Operand) -> bool {
+fn logical(machine: &Machine, either: bool, first: Operand, second: Operand) -> bool
+    ensures { IsGiven machine.now first → (model.truth (given_by machine.now first) ≡ not either → IsGiven machine.now second) → result ≡ either_truth either (model.truth (given_by machine.now first)) (model.truth (given_by machine.now second)) }
+{
     if either {
         machine.truth(first) || machine.truth(second)
     } else {
         machine.truth(first) && machine.truth(second)
     }
+}
+
+// The operand that a `?:` gives (6.5.15p4).
+fn selected(machine: &Machine, test: Operand, yes: Operand, no: Operand) -> Operand
+    ensures { IsGiven machine.now test → result ≡ chosen_by (model.truth (given_by machine.now test)) yes no }
+{
+    if machine.truth(test) { yes } else { no }
 }
 
 pub fn function_value(machine: &Machine, operand: Operand) -> u64 {
@@ -261,7 +327,13 @@ fn update(
     place: Operand,
     operand: Operand,
     room: u32,
-) -> Result<Value, Fault> {
+) -> Result<Value, Fault>
+    ensures exact { CanAct machine.old → IsGiven machine.old place → IsGiven machine.old operand → IsNearChange change (integer_of (given_by machine.old operand)) → Does machine.old machine.new (nodes.update_value machine.old.memory.rows event change old (type_of ty.now) (pointer_of (given_by machine.old place)) (integer_of (given_by machine.old operand))) result }
+    ensures stored { CanAct machine.old → IsGiven machine.old place → IsGiven machine.old operand → IsNearChange change (integer_of (given_by machine.old operand)) → old ≡ true → IfOk result (λ before. machine.old.top.base + room < length machine.old.values.items → Holds machine.new.memory machine.new.values.items (machine.old.top.base + room) (nodes.changed change (value_in machine.new.memory before) (integer_of (given_by machine.old operand)))) }
+    ensures kept { Keeps machine.old.memory machine.new.memory }
+    ensures rest { TouchesValues machine.old machine.new }
+    ensures others { (j : ℕ) → (old ≡ true → j ≢ machine.old.top.base + room) → slice_get machine.new.values.items j ≡ slice_get machine.old.values.items j }
+{
     let place = machine.pointer(place);
     let operand = machine.integer(operand);
     let (t, spare) = (&mut machine.items, &mut machine.spare);
@@ -276,7 +348,10 @@ fn update(
 }
 
 // How the store of this number accesses memory.
-fn target_of<'p>(machine: &Machine<'p, '_>, number: u32) -> Result<(StoreCode<'p>, Via), NoMemory> {
+fn target_of<'p>(machine: &Machine<'p, '_>, number: u32) -> Result<(StoreCode<'p>, Via), NoMemory>
+    ensures store { IfOk result (λ t. slice_get machine.now.code.now.tables.stores.items number ≡ Some t.0) }
+    ensures via { IfOk result (λ t. slice_get machine.now.vias.items number ≡ Some t.1) }
+{
     let at = number as usize;
     match (machine.code.tables.stores.get(at), machine.vias.get(at)) {
         (Some(target), Some(via)) => Ok((*target, *via)),
@@ -290,7 +365,10 @@ fn store_value(
     number: u32,
     place: Operand,
     value: Operand,
-) -> Result<Outcome, Fault> {
+) -> Result<Outcome, Fault>
+    ensures exact { CanAct machine.old → StandsTables machine.old → IsGiven machine.old place → IsGiven machine.old value → Effects machine.old machine.new (stored_by machine.old.memory.rows (slice_get machine.old.code.now.tables.stores.items number) (pointer_of (given_by machine.old place)) (given_by machine.old value)) result }
+    ensures rest { TouchesMemory machine.old machine.new }
+{
     let place = machine.pointer(place);
     match value {
         Operand::Done(room) => store_room(machine, number, place, room),
@@ -305,7 +383,10 @@ fn store_room(
     number: u32,
     place: Pointer,
     room: u32,
-) -> Result<Outcome, Fault> {
+) -> Result<Outcome, Fault>
+    ensures exact { CanAct machine.old → StandsTables machine.old → IsMade machine.old.memory place.prov → IsGiven machine.old (operands.Done room) → Effects machine.old machine.new (stored_by machine.old.memory.rows (slice_get machine.old.code.now.tables.stores.items number) (pointer_at place) (given_by machine.old (operands.Done room))) result }
+    ensures rest { TouchesMemory machine.old machine.new }
+{
     let (target, via) = target_of(machine, number)?;
     let at = machine.top.base.saturating_add(room as usize);
     let Some(value) = machine.values.get(at) else {
@@ -332,7 +413,10 @@ fn store_quiet(
     number: u32,
     place: Pointer,
     value: Operand,
-) -> Result<Outcome, Fault> {
+) -> Result<Outcome, Fault>
+    ensures exact { CanAct machine.old → StandsTables machine.old → IsMade machine.old.memory place.prov → IsGiven machine.old value → Effects machine.old machine.new (stored_by machine.old.memory.rows (slice_get machine.old.code.now.tables.stores.items number) (pointer_at place) (given_by machine.old value)) result }
+    ensures rest { TouchesMemory machine.old machine.new }
+{
     let (target, via) = target_of(machine, number)?;
     let value = machine.value(value)?;
     let (access, initializing) = (target.access, target.initializing);
@@ -374,7 +458,10 @@ pub fn put_at(
 
 // The effect of a List: its constant bytes go to its object.
 #[inline(never)]
-fn fill_list(machine: &mut Machine, object: Operand, constants: u32) -> Result<Outcome, Fault> {
+fn fill_list(machine: &mut Machine, object: Operand, constants: u32) -> Result<Outcome, Fault>
+    ensures exact { CanAct machine.old → StandsTables machine.old → IsGiven machine.old object → Effects machine.old machine.new (filled_from machine.old.memory.rows (slice_get machine.old.code.now.tables.constants.items constants) (pointer_of (given_by machine.old object))) result }
+    ensures rest { TouchesMemory machine.old machine.new }
+{
     let object = machine.pointer(object);
     let Some(fillings) = machine.fillings.get(constants as usize) else {
         return Err(Fault::NoMemory);

@@ -41,12 +41,22 @@ impl From<NoMemory> for Fault {
 }
 
 impl From<Clause> for Fault {
+    ghost use Rattle.std.specs.Prelude.{◌≡◌};
+    ghost use Rattle.run_events.specs.declared.fault.Fault.TheVariants.{Raise};
+
+    ghost from_gives = { λ c e. e ≡ Raise c };
+
     fn from(clause: Clause) -> Fault {
         Fault::Raise(clause)
     }
 }
 
 impl From<MemFault> for Fault {
+    ghost use Rattle.std.specs.Prelude.{◌≡◌};
+    ghost use Rattle.run_events.specs.Faults.{fault_of};
+
+    ghost from_gives = { λ f e. e ≡ fault_of f };
+
     fn from(fault: MemFault) -> Fault {
         match fault {
             MemFault::Raise(clause) => Fault::Raise(clause),
