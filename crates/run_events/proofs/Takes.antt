@@ -46,9 +46,10 @@ use Rattle.run_code.specs.EventActs.{pointed, sight_of, IsAct}
 use Rattle.run_code.specs.EventActs as code
 use Rattle.run_code.specs.Resolved as resolved
 use Rattle.run_code.specs.Resolved.{object_of, operands_from}
+use Rattle.run_listing.specs.Along.{part_of}
 use Rattle.run_state.specs.declared.machine.Machine.{Machine}
 use Rattle.run_state.specs.Operands.{Gives, IsNamed, IsThere, StandsObjects}
-use Rattle.run_state.specs.Stands.{part_of, IsUpdate, StandsValues}
+use Rattle.run_state.specs.Stands.{IsUpdate, StandsValues}
 use Rattle.run_state.proofs.Operands.{quiet_gives, room_gives}
 use Rattle.run_events.specs.Nodes.{head_of, Evaluates, OwnIsGiven, TakesGiven}
 use Rattle.run_events.specs.Takes.{ListIsThere, PermittedTakesGiven}

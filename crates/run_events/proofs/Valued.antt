@@ -50,25 +50,29 @@ pub touches_all : (old new : Machine) (node : ℕ) (a : Act) → TouchesMemory o
 touches_all old new node a e = record {
   rest = subst (λ (k : Machine). TouchesValues old k) (sym e) refl;
   others = λ j apart away. ap (λ (k : Machine). slice_get k.values.items j) e;
+  count = ap (λ (k : Machine). length k.values.items) e;
 }
 
 pub unchanged : (m : Machine) (node : ℕ) (a : Act) → ChangesOnly m m node a
-unchanged m node a = record { rest = refl; others = λ j apart away. refl }
+unchanged m node a = record { rest = refl; others = λ j apart away. refl; count = refl }
 
 -- .. where a value was taken out of the room of the node
 pub room_taken : (old new : Machine) (node : ℕ) (a : Act) → new ≡ record old { values = new.values } →
-    ((j : ℕ) → j ≢ old.top.base + node → slice_get new.values.items j ≡ slice_get old.values.items j) → ChangesOnly old new node a
-room_taken old new node a e others = record {
+    ((j : ℕ) → j ≢ old.top.base + node → slice_get new.values.items j ≡ slice_get old.values.items j) →
+    length new.values.items ≡ length old.values.items → ChangesOnly old new node a
+room_taken old new node a e others count = record {
   rest = subst (λ (k : Machine). TouchesValues old k) (sym e) refl;
   others = λ j apart away. others j apart;
+  count = count;
 }
 
 -- .. of an update
 pub updated_only : (old new : Machine) (node : ℕ) (c : Change) (keeps_old : Bool) (ty : Bor Ty) (place o : Operand) (room : ℕ) → TouchesValues old new →
     ((j : ℕ) → (keeps_old ≡ true → j ≢ old.top.base + room) → slice_get new.values.items j ≡ slice_get old.values.items j) →
-    ChangesOnly old new node (act.Change c keeps_old ty place o room)
-updated_only old new node c true ty place o room e others = record { rest = e; others = λ j apart away. others j (λ is. away) }
-updated_only old new node c false ty place o room e others = record { rest = e; others = λ j apart away. others j (λ is. absurd (cc)) }
+    length new.values.items ≡ length old.values.items → ChangesOnly old new node (act.Change c keeps_old ty place o room)
+updated_only old new node c true ty place o room e others count = record { rest = e; others = λ j apart away. others j (λ is. away); count = count }
+updated_only old new node c false ty place o room e others count =
+    record { rest = e; others = λ j apart away. others j (λ is. absurd (cc)); count = count }
 
 -- only an update that gives the old value keeps what it will store
 pub no_update : (old new : Machine) (a : Act) (r : Result Kept_value Fault) → kept_room a ≡ None → IfOk r (KeepsUpdate old new a)

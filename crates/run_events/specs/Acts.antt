@@ -203,6 +203,7 @@ pub record ChangesOnly (old new : Machine) (node : ℕ) (a : Act) : Type 0 where
   pub rest : TouchesValues old new
   pub others : (j : ℕ) → j ≢ old.top.base + node → ForSome (kept_room a) (λ r. j ≢ old.top.base + r)
       → slice_get new.values.items j ≡ slice_get old.values.items j
+  pub count : length new.values.items ≡ length old.values.items
 
 -- what an update that gives the old value will store is in its room, where there is one
 abbrev pub KeepsUpdate : Machine → Machine → Act → Kept_value → Type 0

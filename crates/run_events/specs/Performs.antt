@@ -36,10 +36,12 @@ is_body_act (act.Call n) = true
 is_body_act (act.Initialize n) = true
 is_body_act a = false
 
--- an effect gives no value
+-- an effect gives no value, and a body keeps its own
 abbrev pub gives_value : Act → Bool
 gives_value (act.Store n place value) = false
 gives_value (act.Fill object n) = false
+gives_value (act.Call n) = false
+gives_value (act.Initialize n) = false
 gives_value a = true
 
 -- what an update that gives the old value will store is in its room, where there is one

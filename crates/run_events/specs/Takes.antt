@@ -14,9 +14,10 @@ use Rattle.run_code.specs.declared.steps.Due.{Due}
 use Rattle.run_code.specs.declared.steps.Listed.TheVariants as listed
 use Rattle.run_code.specs.EventActs.{IsDue, head_at}
 use Rattle.run_code.specs.Numbered.{AreNodes}
+use Rattle.run_listing.specs.Along.{part_of}
 use Rattle.run_state.specs.declared.machine.Machine.{Machine}
 use Rattle.run_state.specs.Operands.{IsNamed, IsThere, StandsObjects}
-use Rattle.run_state.specs.Stands.{part_of, StandsValues}
+use Rattle.run_state.specs.Stands.{StandsValues}
 use Rattle.run_events.specs.Nodes.{head_of, IsNearBy, TakesGiven}
 
 -- where the head is that of an initializer list, its object is there

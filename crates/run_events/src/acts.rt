@@ -333,6 +333,7 @@ fn update(
     ensures kept { Keeps machine.old.memory machine.new.memory }
     ensures rest { TouchesValues machine.old machine.new }
     ensures others { (j : ℕ) → (old ≡ true → j ≢ machine.old.top.base + room) → slice_get machine.new.values.items j ≡ slice_get machine.old.values.items j }
+    ensures count { length machine.new.values.items ≡ length machine.old.values.items }
 {
     let place = machine.pointer(place);
     let operand = machine.integer(operand);

@@ -201,6 +201,7 @@ impl<'p, 'c> Machine<'p, 'c> {
         ensures rest { self.new ≡ record self.old { values = self.new.values } }
         ensures room { self.old.top.base + room < length self.old.values.items → slice_get self.new.values.items (self.old.top.base + room) ≡ Some value }
         ensures others { (j : ℕ) → j ≢ self.old.top.base + room → slice_get self.new.values.items j ≡ slice_get self.old.values.items j }
+        ensures count { length self.new.values.items ≡ length self.old.values.items }
     {
         let at = self.top.base.saturating_add(room as usize);
         self.put(at, value);
@@ -210,6 +211,7 @@ impl<'p, 'c> Machine<'p, 'c> {
         ensures rest { self.new ≡ record self.old { values = self.new.values } }
         ensures room { at < length self.old.values.items → slice_get self.new.values.items at ≡ Some value }
         ensures others { (j : ℕ) → j ≢ at → slice_get self.new.values.items j ≡ slice_get self.old.values.items j }
+        ensures count { length self.new.values.items ≡ length self.old.values.items }
     {
         if let Some(place) = self.values.get_mut(at) {
             *place = value;
@@ -221,6 +223,7 @@ impl<'p, 'c> Machine<'p, 'c> {
         ensures rest { self.new ≡ record self.old { values = self.new.values } }
         ensures room { (h : Kept_value) → slice_get self.old.values.items (self.old.top.base + room) ≡ Some h → result ≡ h }
         ensures others { (j : ℕ) → j ≢ self.old.top.base + room → slice_get self.new.values.items j ≡ slice_get self.old.values.items j }
+        ensures count { length self.new.values.items ≡ length self.old.values.items }
     {
         let at = self.top.base.saturating_add(room as usize);
         match self.values.get_mut(at) {
