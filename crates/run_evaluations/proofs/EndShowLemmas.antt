@@ -339,16 +339,17 @@ module _ (rows : List Row) (a : Evaluations) (t : Opened) (os : List Opened) (f 
       let at_tree = ap (λ z. slice_get (above_in 0 z n) at.0) (sym same) ∙ at.1 in
       by_test (is_unsequenced (rule_in rules p))
       (λ free. between_kept rows a t d e _ _ P Q
-      (none_at end_logged.0 end_logged.1 at.0 p P.segment Q.segment
-      (ap (λ z. slice_get (above_in 0 tree z) at.0) end_logged.2 ∙ at_tree,
-      operand_at a t os f p P.segment P.of P.low P.own (omega (arith, first, under, number)),
-      λ k m behind h q.
-          let z = node_some (slice_get a.segments.items P.segment) P.of P.own in
-          let l = q.1 P.segment z.0 (omega arith) z.1 in
-          let w = z.2 in
-          deeper k m at.0 behind
-          (ap (λ y. slice_get (above_in 0 y n) k) same ∙ (ap (λ y. slice_get (above_in 0 tree y) k) (sym end_logged.2) ∙ h)) at.1 two.first o past
-          (omega (arith, l, w, first)))
+      (none_at end_logged.0 end_logged.1 at.0 p P.segment Q.segment (
+        ap (λ z. slice_get (above_in 0 tree z) at.0) end_logged.2 ∙ at_tree,
+        operand_at a t os f p P.segment P.of P.low P.own (omega (arith, first, under, number)),
+        λ k m behind h q.
+            let z = node_some (slice_get a.segments.items P.segment) P.of P.own in
+            let l = q.1 P.segment z.0 (omega arith) z.1 in
+            let w = z.2 in
+            deeper k m at.0 behind
+            (ap (λ y. slice_get (above_in 0 y n) k) same ∙ (ap (λ y. slice_get (above_in 0 tree y) k) (sym end_logged.2) ∙ h)) at.1 two.first o past
+            (omega (arith, l, w, first)),
+      )
       free later))
       (λ other. absurd (
       let c = o.class in

@@ -259,11 +259,13 @@ fits_among (u ∷ us) m each small all n c ts h =
     (r.0, get_left (rules_of u m) (rules_among (map rules_of us) (m + length (rules_of u m))) (n - m) (slice_get_within (rules_of u m) (n - m) r.0 r.1) ∙ r.1, r.2))
     (λ past.
     let low = not_less_is n (m + size (tree_of u)) past in
-    let r = fits_among us (m + size (tree_of u)) (λ v e. each v (omega (arith, e))) (omega (arith, small)) p.1 n c ts (sym (if_false _ _ _ past) ∙ h) in
-    (r.0,
-    ap (slice_get (rules_of u m ++ rules_among (map rules_of us) (m + length (rules_of u m)))) (omega (arith, low, count))
-    ∙ (get_right (rules_of u m) (rules_among (map rules_of us) (m + length (rules_of u m))) (n - (m + size (tree_of u)))
-    ∙ (ap (λ z. slice_get (rules_among (map rules_of us) (m + z)) (n - (m + size (tree_of u)))) count ∙ r.1)), r.2))
+    let r = fits_among us (m + size (tree_of u)) (λ v e. each v (omega (arith, e))) (omega (arith, small)) p.1 n c ts (sym (if_false _ _ _ past) ∙ h) in (
+      r.0,
+      ap (slice_get (rules_of u m ++ rules_among (map rules_of us) (m + length (rules_of u m)))) (omega (arith, low, count))
+          ∙ (get_right (rules_of u m) (rules_among (map rules_of us) (m + length (rules_of u m))) (n - (m + size (tree_of u)))
+          ∙ (ap (λ z. slice_get (rules_among (map rules_of us) (m + z)) (n - (m + size (tree_of u)))) count ∙ r.1)),
+      r.2,
+    ))
 
 fits : (t : Typed) → Fits t
 fits = by_size Fits (λ t each k small all n c ts h.

@@ -137,6 +137,7 @@ first_taken test (u ∷ us) v h = step (test u) refl (first_taken test us v) h
     or_else : Option Place → Place → Place
     or_else None d = d
     or_else (Some w) d = w
+
     step : (b : Bool) → test u ≡ b → (first_place test us ≡ Some v → test v ≡ true) → (if b then Some u else first_place test us) ≡ Some v → test v ≡ true
     step true e later g = subst (λ w. test w ≡ true) (ap (λ o. or_else o u) g) e
     step false e later g = later g
