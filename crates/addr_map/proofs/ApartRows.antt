@@ -1,9 +1,8 @@
 -- The rows of a sound map stand apart, and each is the one of its name.
-use Rattle.std.proofs.Common.{◌≡◌, ℕ, ◌+◌, ◌<◌, ◌≤◌, Bool, true, false, refl, sym, ◌∙◌, subst, arith, List, [], ◌∷◌, Some}
-use Rattle.std.specs.BTreeMap.{BTreeMap, get}
+use Rattle.std.proofs.Common.{◌≡◌, ℕ, ◌+◌, ◌<◌, ◌≤◌, Bool, true, false, refl, sym, ◌∙◌, subst, arith, List, [], ◌∷◌, Option, Some}
+use Rattle.std.specs.BTreeMap.{BTreeMap}
 use Rattle.ub_base.specs.declared.names.ObjName.{ObjName}
 use Rattle.ub_base.specs.Names.{same_object}
-use Rattle.ub_base.specs.NameOrders.{object_cmp}
 use Rattle.ub_base.proofs.NameLemmas.{same_object_is, same_object_refl}
 use Rattle.addr_map.specs.declared.map.Row.{Row}
 use Rattle.addr_map.specs.Rows.{row_of}
@@ -14,21 +13,21 @@ use Rattle.addr_map.proofs.Last.{sized_of_held}
 some_is : (a b : ℕ) → Some a ≡ Some b → a ≡ b
 some_is a b h = cc
 
-same_base : (bases : BTreeMap ObjName ℕ) (r s : Row) → get object_cmp bases r.name ≡ Some r.base → get object_cmp bases s.name ≡ Some s.base →
+same_base : (bases : ObjName → Option ℕ) (r s : Row) → bases r.name ≡ Some r.base → bases s.name ≡ Some s.base →
     same_object r.name s.name ≡ true → r.base ≡ s.base
 same_base bases r s one two same =
-    some_is r.base s.base (sym one ∙ subst (λ (y : ObjName). get object_cmp bases y ≡ Some s.base) (sym (same_object_is r.name s.name same)) two)
+    some_is r.base s.base (sym one ∙ subst (λ (y : ObjName). bases y ≡ Some s.base) (sym (same_object_is r.name s.name same)) two)
 
 -- rows whose bases differ have other names
-other_if : (t : Bool) (bases : BTreeMap ObjName ℕ) (r s : Row) → same_object r.name s.name ≡ t → get object_cmp bases r.name ≡ Some r.base →
-    get object_cmp bases s.name ≡ Some s.base → r.base < s.base → t ≡ false
+other_if : (t : Bool) (bases : ObjName → Option ℕ) (r s : Row) → same_object r.name s.name ≡ t → bases r.name ≡ Some r.base →
+    bases s.name ≡ Some s.base → r.base < s.base → t ≡ false
 other_if true bases r s same one two lt = absurd (omega (arith, same_base bases r s one two same))
 other_if false bases r s same one two lt = refl
 
 behind : (base size next : ℕ) → 0 < size → base + size ≤ next → base < next
 behind base size next some le = omega (arith)
 
-found_behind : (bases : BTreeMap ObjName ℕ) (r : Row) (all rs : List Row) → get object_cmp bases r.name ≡ Some r.base → 0 < r.size →
+found_behind : (bases : ObjName → Option ℕ) (r : Row) (all rs : List Row) → bases r.name ≡ Some r.base → 0 < r.size →
     Above (r.base + r.size) rs → EachHeld bases rs → EachFound all rs → EachFound (r ∷ all) rs
 found_behind bases r all [] at some above held found = tt
 found_behind bases r all (s ∷ rs) at some above held found = (
@@ -39,12 +38,12 @@ found_behind bases r all (s ∷ rs) at some above held found = (
 own_name : (r : Row) (rs : List Row) → row_of (r ∷ rs) r.name ≡ Some r
 own_name r rs = rw (same_object_refl r.name) refl
 
-each_found : (bases : BTreeMap ObjName ℕ) (rs : List Row) → Apart rs → EachHeld bases rs → EachFound rs rs
+each_found : (bases : ObjName → Option ℕ) (rs : List Row) → Apart rs → EachHeld bases rs → EachFound rs rs
 each_found bases [] apart held = tt
 each_found bases (r ∷ rs) apart held =
     (own_name r rs, found_behind bases r rs rs held.0.0 (size_of_lawful r held.0.1) apart.0 held.1 (each_found bases rs apart.1 held.1))
 
-pub apart_rows : (rows : BTreeMap ℕ Row) (bases : BTreeMap ObjName ℕ) (free : ℕ) → IsSound rows bases free → AreApart (rows_in rows.entries)
+pub apart_rows : (rows : BTreeMap ℕ Row) (bases : ObjName → Option ℕ) (free : ℕ) → IsSound rows bases free → AreApart (rows_in rows.entries)
 apart_rows rows bases free s = record {
   apart = s.apart;
   sized = sized_of_held bases (rows_in rows.entries) s.held;

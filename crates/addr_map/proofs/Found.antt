@@ -1,11 +1,9 @@
 -- The row of a name.
 use Rattle.std.proofs.Common.{◌≡◌, ℕ, ◌+◌, ◌<◌, Bool, true, false, cond, refl, sym, ◌∙◌, subst, arith, List, [], ◌∷◌, Some, None, Option}
 use Rattle.std.specs.Prelude.{◌==◌}
-use Rattle.std.specs.BTreeMap.{BTreeMap, get}
 use Rattle.std.proofs.lemmas.Bool.Decides.{nat_tests}
 use Rattle.ub_base.specs.declared.names.ObjName.{ObjName}
 use Rattle.ub_base.specs.Names.{same_object}
-use Rattle.ub_base.specs.NameOrders.{object_cmp}
 use Rattle.ub_base.proofs.NameLemmas.{same_object_is, same_object_refl}
 use Rattle.addr_map.specs.declared.map.Row.{Row}
 use Rattle.addr_map.specs.Rows.{first_row, row_of}
@@ -21,29 +19,29 @@ some_is : (a b : ℕ) → Some a ≡ Some b → a ≡ b
 some_is a b h = cc
 
 -- the base by which a row of that name is found
-at_base : (bases : BTreeMap ObjName ℕ) (x : ObjName) (r : Row) (b : ℕ) → get object_cmp bases x ≡ Some b → get object_cmp bases r.name ≡ Some r.base →
+at_base : (bases : ObjName → Option ℕ) (x : ObjName) (r : Row) (b : ℕ) → bases x ≡ Some b → bases r.name ≡ Some r.base →
     same_object r.name x ≡ true → r.base ≡ b
 at_base bases x r b h at same =
-    some_is r.base b (sym at ∙ subst (λ (y : ObjName). get object_cmp bases y ≡ Some b) (sym (same_object_is r.name x same)) h)
+    some_is r.base b (sym at ∙ subst (λ (y : ObjName). bases y ≡ Some b) (sym (same_object_is r.name x same)) h)
 
-other_if : (t : Bool) (bases : BTreeMap ObjName ℕ) (x : ObjName) (r : Row) → same_object r.name x ≡ t → get object_cmp bases x ≡ None →
-    get object_cmp bases r.name ≡ Some r.base → t ≡ false
+other_if : (t : Bool) (bases : ObjName → Option ℕ) (x : ObjName) (r : Row) → same_object r.name x ≡ t → bases x ≡ None →
+    bases r.name ≡ Some r.base → t ≡ false
 other_if true bases x r same h at =
-    let none : get object_cmp bases r.name ≡ None = subst (λ (y : ObjName). get object_cmp bases y ≡ None) (sym (same_object_is r.name x same)) h in
+    let none : bases r.name ≡ None = subst (λ (y : ObjName). bases y ≡ None) (sym (same_object_is r.name x same)) h in
     absurd (cc)
 other_if false bases x r same h at = refl
 
-pub none_found : (bases : BTreeMap ObjName ℕ) (x : ObjName) (rs : List Row) → get object_cmp bases x ≡ None → EachHeld bases rs → row_of rs x ≡ None
+pub none_found : (bases : ObjName → Option ℕ) (x : ObjName) (rs : List Row) → bases x ≡ None → EachHeld bases rs → row_of rs x ≡ None
 none_found bases x [] h held = refl
 none_found bases x (r ∷ rs) h held =
     rw (other_if (same_object r.name x) bases x r refl h held.0.0) (none_found bases x rs h held.1)
 
-above_if : (t : Bool) (bases : BTreeMap ObjName ℕ) (x : ObjName) (r : Row) (b : ℕ) → same_object r.name x ≡ t → get object_cmp bases x ≡ Some b →
-    get object_cmp bases r.name ≡ Some r.base → b < r.base → t ≡ false
+above_if : (t : Bool) (bases : ObjName → Option ℕ) (x : ObjName) (r : Row) (b : ℕ) → same_object r.name x ≡ t → bases x ≡ Some b →
+    bases r.name ≡ Some r.base → b < r.base → t ≡ false
 above_if true bases x r b same h at lt = absurd (omega (arith, at_base bases x r b h at same))
 above_if false bases x r b same h at lt = refl
 
-none_above : (bases : BTreeMap ObjName ℕ) (x : ObjName) (b n : ℕ) (rs : List Row) → get object_cmp bases x ≡ Some b → b < n → Above n rs → EachHeld bases rs →
+none_above : (bases : ObjName → Option ℕ) (x : ObjName) (b n : ℕ) (rs : List Row) → bases x ≡ Some b → b < n → Above n rs → EachHeld bases rs →
     row_of rs x ≡ None
 none_above bases x b n [] h lt above held = refl
 none_above bases x b n (r ∷ rs) h lt above held =
@@ -65,7 +63,7 @@ found_if true false r x found rest e up down h = absurd (false_up (up refl))
 found_if false true r x found rest e up down h = rw (← e) (down refl)
 found_if false false r x found rest e up down h = h
 
-pub found_is : (bases : BTreeMap ObjName ℕ) (x : ObjName) (b : ℕ) (rs : List Row) → get object_cmp bases x ≡ Some b → Apart rs → EachHeld bases rs →
+pub found_is : (bases : ObjName → Option ℕ) (x : ObjName) (b : ℕ) (rs : List Row) → bases x ≡ Some b → Apart rs → EachHeld bases rs →
     row_of rs x ≡ named x (first_row (λ r. b == r.base) rs)
 found_is bases x b [] h apart held = refl
 found_is bases x b (r ∷ rs) h apart held =

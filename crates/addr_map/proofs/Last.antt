@@ -2,7 +2,6 @@
 use Rattle.std.proofs.Common.{◌≡◌, ℕ, ◌+◌, ◌-◌, ◌≤◌, ◌<◌, Bool, true, false, cond, refl, sym, ap, ◌∙◌, subst, arith, List, [], ◌∷◌, ◌++◌, Some, None, Option}
 use Rattle.std.specs.Prelude.{◌==◌, ◌^◌, nat_lt, nat_le, is_some}
 use Rattle.std.specs.List.{filter}
-use Rattle.std.specs.BTreeMap.{BTreeMap}
 use Rattle.std.proofs.lemmas.Bool.Decides.{nat_tests}
 use Rattle.ub_base.specs.declared.names.ObjName.{ObjName}
 use Rattle.addr_map.specs.declared.map.Row.{Row}
@@ -171,7 +170,7 @@ overlaps_is x (r ∷ rs) apart =
     overlap_step (nat_lt r.base (x.base + x.size)) r x (last_row (λ c. nat_lt c (x.base + x.size)) rs) (first_row (λ s. overlaps s x) rs) refl
     (λ s h. later (λ c. nat_lt c (x.base + x.size)) (r.base + r.size) rs s apart.0 h) (overlaps_is x rs apart.1)
 
-pub sized_of_held : (bases : BTreeMap ObjName ℕ) (rs : List Row) → EachHeld bases rs → AllSized rs
+pub sized_of_held : (bases : ObjName → Option ℕ) (rs : List Row) → EachHeld bases rs → AllSized rs
 sized_of_held bases [] held = tt
 sized_of_held bases (r ∷ rs) held = (size_of_lawful r held.0.1, sized_of_held bases rs held.1)
 
@@ -181,7 +180,7 @@ within_if true r s None le h more = subst (λ (x : Row). x.base + x.size ≤ 2 ^
 within_if true r s (Some q) le h more = more h
 within_if false r s found le h more = more h
 
-pub last_within : (test : ℕ → Bool) (bases : BTreeMap ObjName ℕ) (rs : List Row) (s : Row) → EachHeld bases rs → last_row test rs ≡ Some s →
+pub last_within : (test : ℕ → Bool) (bases : ObjName → Option ℕ) (rs : List Row) (s : Row) → EachHeld bases rs → last_row test rs ≡ Some s →
     s.base + s.size ≤ 2 ^ 47
 last_within test bases [] s held h = absurd (cc)
 last_within test bases (r ∷ rs) s held h =

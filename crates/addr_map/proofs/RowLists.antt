@@ -6,15 +6,15 @@ use Rattle.std.specs.declared.cmp.Ordering.{Ordering}
 use Rattle.std.specs.declared.cmp.Ordering.TheVariants.{Less, Equal, Greater}
 use Rattle.std.specs.Cmp.{ranked}
 use Rattle.std.specs.Map.{lookup}
-use Rattle.std.specs.BTreeMap.{BTreeMap, get, is_at, insert_entry}
+use Rattle.std.specs.BTreeMap.{is_at, insert_entry}
 use Rattle.std.proofs.lemmas.Bool.Decides.{nat_tests}
 use Rattle.ub_base.specs.declared.names.ObjName.{ObjName}
+use Rattle.ub_base.specs.declared.names.ObjName.TheVariants.{Static, Lit, Argv, Arg, Auto, Heap}
 use Rattle.ub_base.specs.Names.{same_object}
-use Rattle.ub_base.specs.NameOrders.{object_cmp}
-use Rattle.ub_base.proofs.NameLemmas.{tie_object, same_object_is, same_object_refl}
+use Rattle.ub_base.proofs.NameLemmas.{same_object_is, same_object_refl}
 use Rattle.addr_map.specs.declared.map.Row.{Row}
 use Rattle.addr_map.specs.Rows.{first_row, row_of, insert_row, free_of, overlaps, is_lawful, is_power}
-use Rattle.addr_map.specs.Sound.{rows_in, Keyed, Above, Apart, EachHeld}
+use Rattle.addr_map.specs.Sound.{rows_in, Keyed, Above, Apart, EachHeld, object_eq}
 use Rattle.addr_map.proofs.Tests.{number_ties, lt_true, lt_false, le_true, none_parts}
 
 -- a look-up by base
@@ -83,11 +83,11 @@ free-insert r [] = refl
 free-insert r (s ∷ rs) =
     choose_free (nat_lt r.base s.base) _ (r ∷ s ∷ rs) (s ∷ insert_row r rs) refl (rw (free-insert r rs) (omega arith))
 
-choose_held : (b : Bool) (bases : BTreeMap ObjName ℕ) (xs ys : List Row) → EachHeld bases xs → EachHeld bases ys → EachHeld bases (cond b xs ys)
+choose_held : (b : Bool) (bases : ObjName → Option ℕ) (xs ys : List Row) → EachHeld bases xs → EachHeld bases ys → EachHeld bases (cond b xs ys)
 choose_held true bases xs ys f g = f
 choose_held false bases xs ys f g = g
 
-pub held-insert : (bases : BTreeMap ObjName ℕ) (r : Row) (rs : List Row) → get object_cmp bases r.name ≡ Some r.base → is_lawful r ≡ true →
+pub held-insert : (bases : ObjName → Option ℕ) (r : Row) (rs : List Row) → bases r.name ≡ Some r.base → is_lawful r ≡ true →
     EachHeld bases rs → EachHeld bases (insert_row r rs)
 held-insert bases r [] at lawful h = ((at, lawful), tt)
 held-insert bases r (s ∷ rs) at lawful h =
@@ -107,20 +107,25 @@ swapped_if false x y h f = refl
 swapped : (x y : ObjName) → same_object y x ≡ false → same_object x y ≡ false
 swapped x y h = swapped_if (same_object x y) x y refl h
 
+-- the two equalities of names
+pub eq_object : (x y : ObjName) → object_eq x y ≡ same_object x y
+eq_object (Static k) (Static l) = refl
+eq_object (Lit k) (Lit l) = refl
+eq_object Argv Argv = refl
+eq_object (Arg k) (Arg l) = refl
+eq_object (Auto f t k) (Auto g u l) = refl
+eq_object (Heap f t k) (Heap g u l) = refl
+eq_object _ _ = refl
+
 -- another name's base leaves the rows found by theirs
-pub held-update : (old new : BTreeMap ObjName ℕ) (x : ObjName) (n : ℕ) (rs : List Row) →
-    ((y : ObjName) → get object_cmp new y ≡ cond (is_at (object_cmp x) y) (Some n) (get object_cmp old y)) → row_of rs x ≡ None → EachHeld old rs →
+pub held-update : (old new : ObjName → Option ℕ) (x : ObjName) (n : ℕ) (rs : List Row) →
+    ((y : ObjName) → new y ≡ cond (object_eq x y) (Some n) (old y)) → row_of rs x ≡ None → EachHeld old rs →
     EachHeld new rs
 held-update old new x n [] update none h = tt
 held-update old new x n (r ∷ rs) update none h =
     let parts : (same_object r.name x ≡ false) × (row_of rs x ≡ None) = none_parts (same_object r.name x) r (row_of rs x) none in
-    let apart : is_at (object_cmp x) r.name ≡ false = tie_object x r.name ∙ swapped x r.name parts.0 in
+    let apart : object_eq x r.name ≡ false = eq_object x r.name ∙ swapped x r.name parts.0 in
     ((still _ _ _ (Some n) r.base apart (update r.name) h.0.0, h.0.1), held-update old new x n rs update parts.1 h.1)
-
--- the same maps
-pub held-same : (old new : BTreeMap ObjName ℕ) (rs : List Row) → new.entries ≡ old.entries → EachHeld old rs → EachHeld new rs
-held-same old new [] e h = tt
-held-same old new (r ∷ rs) e h = ((ap (lookup (is_at (object_cmp r.name))) e ∙ h.0.0, h.0.1), held-same old new rs e h.1)
 
 -- the rows of a map with one more
 entry_rows : (o : Ordering) (e : ℕ × Row) (es : List (ℕ × Row)) (r : Row) (more : List (ℕ × Row)) → o ≡ nat_cmp r.base e.0 → e.1.base ≡ e.0 →
@@ -164,7 +169,7 @@ begins_elsewhere : (r s : Row) → 0 < r.size → 0 < s.size → overlaps s r �
 begins_elsewhere r s some others h = grind (arith, nat_tests)
 
 -- no row that leaves the new one its place begins where it begins
-pub absent : (r : Row) (rs : List Row) → 0 < r.size → first_row (λ s. overlaps s r) rs ≡ None → (bases : BTreeMap ObjName ℕ) → EachHeld bases rs →
+pub absent : (r : Row) (rs : List Row) → 0 < r.size → first_row (λ s. overlaps s r) rs ≡ None → (bases : ObjName → Option ℕ) → EachHeld bases rs →
     first_row (λ s. r.base == s.base) rs ≡ None
 absent r [] some none bases held = refl
 absent r (s ∷ rs) some none bases held =

@@ -1,8 +1,8 @@
 -- How the parts of an address map go together.
 use Rattle.std.specs.Prelude.{◌≡◌, ℕ, ◌+◌, ◌-◌, ◌<◌, ◌≤◌, ◌^◌, ◌==◌, nat_lt, Bool, true, false, List, [], ◌∷◌, Option, Some, None, if◌then◌else◌}
-use Rattle.std.specs.BTreeMap.{BTreeMap, get}
+use Rattle.std.specs.BTreeMap.{BTreeMap}
 use Rattle.ub_base.specs.declared.names.ObjName.{ObjName}
-use Rattle.ub_base.specs.NameOrders.{object_cmp}
+use Rattle.ub_base.specs.contracts.names.ObjNamePartialEq.TheImpl as object_equality
 use Rattle.addr_map.specs.declared.map.Row.{Row}
 use Rattle.addr_map.specs.Rows.{free_of, is_lawful, row_of}
 
@@ -66,12 +66,16 @@ abbrev pub reaches : Row → Option Row → Bool
 reaches x None = false
 reaches x (Some s) = nat_lt x.base (s.base + s.size)
 
--- each row is found by its name and keeps the rules
-abbrev pub EachHeld : BTreeMap ObjName ℕ → List Row → Type 0
-EachHeld bases [] = Unit {0}
-EachHeld bases (r ∷ rs) = ((get object_cmp bases r.name ≡ Some r.base) × (is_lawful r ≡ true)) × EachHeld bases rs
+-- the equality that the derive gives names
+abbrev pub object_eq : ObjName → ObjName → Bool
+object_eq = (object_equality.ghosts).eq
 
-pub record IsSound (rows : BTreeMap ℕ Row) (bases : BTreeMap ObjName ℕ) (free : ℕ) : Type 0 where
+-- each row is found by its name and keeps the rules
+abbrev pub EachHeld : (ObjName → Option ℕ) → List Row → Type 0
+EachHeld bases [] = Unit {0}
+EachHeld bases (r ∷ rs) = ((bases r.name ≡ Some r.base) × (is_lawful r ≡ true)) × EachHeld bases rs
+
+pub record IsSound (rows : BTreeMap ℕ Row) (bases : ObjName → Option ℕ) (free : ℕ) : Type 0 where
   pub keyed : Keyed rows.entries
   pub apart : Apart (rows_in rows.entries)
   pub held : EachHeld bases (rows_in rows.entries)

@@ -1,10 +1,10 @@
-// The address map: rows in two ordered maps, by base and by name.
+// The address map: rows in an ordered map by base, and their bases in a hash map by name.
 ghost use Rattle.std.specs.Prelude.{◌≡◌, ◌+◌, ◌-◌, ◌*◌, ◌/◌, ◌≤◌, ◌<◌, ◌^◌, ◌↔◌, [], None, Ok, true, false, not, is_some, nat_le, nat_lt, IsTrue, IfOk, OnOk, OnErr, IfSome, ◌%◌};
 ghost use Rattle.addr_map.specs.Rows.{row_of, first_row, covers, past, overlaps, IsRoomFor, is_power, is_lawful, base_of, round_up, insert_row, breaks, free_of, row_at};
 ghost use Rattle.addr_map.specs.Sound.{last_row, Apart, AllSized, AreApart};
 
 use std::alloc::Global;
-use std::collections::BTreeMap;
+use std::collections::{BTreeMap, HashMap};
 use std::marker::Model;
 use ub_base::{NoMemory, ObjName};
 
@@ -36,20 +36,21 @@ pub struct Row {
 pub struct AddrMap {
     rows: BTreeMap<u64, Row>,
     // the base of each row by its name, and of names whose row was refused memory
-    bases: BTreeMap<ObjName, u64>,
+    bases: HashMap<ObjName, u64>,
     free: u64,
 }
 
 impl Model for AddrMap {
     ghost use Rattle.std.specs.Prelude.{List};
     ghost use Rattle.addr_map.specs.declared.map.Row.{Row};
-    ghost use Rattle.addr_map.specs.Sound.{rows_in, IsSound};
+    ghost use Rattle.std.specs.HashMap as hash;
+    ghost use Rattle.addr_map.specs.Sound.{rows_in, IsSound, object_eq};
 
     ghost Value = { List Row };
 
     ghost view = { λ m. rows_in m.rows.entries };
 
-    ghost invariant = { λ m. IsSound m.rows m.bases m.free };
+    ghost invariant = { λ m. IsSound m.rows (hash.get object_eq m.bases) m.free };
 }
 
 /// Whether the number is 1, 2, 4, 8 or 16.
@@ -75,7 +76,7 @@ impl AddrMap {
     {
         AddrMap {
             rows: BTreeMap::new(alloc),
-            bases: BTreeMap::new(alloc),
+            bases: HashMap::new(alloc),
             free: FIRST,
         }
     }

@@ -6,32 +6,15 @@ use crate::statement::block_items;
 use c_ast::{Declaration, Declarator, Entry as SyntaxEntry, Specs, Unit, UnitEntry};
 use c_lex::Tokens;
 use c_typed::Program;
-use c_types::FuncTy;
 use std::alloc::Global;
 use type_bodies::{begin_body, defined_before, end_body, own_params, undefinable};
 use type_declarations::{function_type, global_declaration, global_function, near};
 use type_declarators::declarator::{Declared, assertion};
-use type_declarators::words::Words;
 use type_expressions::expression::{constant, declared, specified};
 use type_linkage::copied_function;
 use type_program::{final_order, finished};
 use type_reasons::Reason;
 use type_scope::{Source, State, TypeFault};
-
-// Declares the function in the scope around its parameters, which stay in scope; the answer is its number.
-fn declare_around(
-    source: &Source<'_>,
-    state: &mut State,
-    words: &Words,
-    name: u32,
-    ty: &FuncTy,
-) -> Result<u32, TypeFault> {
-    let lifted = state.lift_scope()?;
-    let ty = copied_function(state.alloc, ty)?;
-    let number = global_function(source, state, words, name, ty)?;
-    state.lower_scope(lifted)?;
-    Ok(number)
-}
 
 // A function definition (6.9.1).
 fn function_definition(
@@ -43,7 +26,7 @@ fn function_definition(
 ) -> Result<(), TypeFault> {
     let at = near(specs, Some(declarator));
     let (words, base) = specified(source, state, specs, at, false)?;
-    let Declared { name, qual } = declared(source, state, declarator, base, at, true)?;
+    let Declared { name, qual } = declared(source, state, declarator, base, at)?;
     let ty = function_type(state.alloc, &qual)?;
     let (Some(name), Some(params), Some(ty)) = (name, own_params(declarator), ty) else {
         return Err(source.fault(at, Reason::DefinedByTypedef));
@@ -51,10 +34,12 @@ fn function_definition(
     if let Some(reason) = undefinable(state, &ty, params) {
         return Err(source.fault(name, reason));
     }
-    let number = declare_around(source, state, &words, name, &ty)?;
+    let own = copied_function(state.alloc, &ty)?;
+    let number = global_function(source, state, &words, name, own)?;
     if let Some(reason) = defined_before(state, number) {
         return Err(source.fault(name, reason));
     }
+    state.enter_body()?;
     begin_body(state, number, &ty)?;
     let entries = block_items(source, state, body)?;
     end_body(state, number, entries)?;

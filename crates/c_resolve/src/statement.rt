@@ -57,7 +57,7 @@ pub fn statement(source: &Source<'_>, state: &mut State, s: &Stmt) -> Result<Bod
         Stmt::Block(entries) => compound(source, state, entries.as_slice()),
         Stmt::If(e, yes, None) => selection(source, state, yes.get(), e),
         Stmt::If(e, yes, Some(no)) => {
-            state.enter_scope();
+            state.enter_scope()?;
             let (test, yes) = tested(source, state, yes.get(), e)?;
             alternative(source, state, no.get(), test, yes)
         }
@@ -98,7 +98,7 @@ fn selection(
     yes: &Stmt,
     e: &Expr,
 ) -> Result<Body, TypeFault> {
-    state.enter_scope();
+    state.enter_scope()?;
     let test = condition(source, state, e, Reason::SelectionTest)?;
     let yes = inner(source, state, yes)?;
     state.leave_scope();
@@ -124,7 +124,7 @@ fn alternative(
 #[cycle(statement)]
 #[inline(never)]
 fn switch(source: &Source<'_>, state: &mut State, s: &Stmt, e: &Expr) -> Result<Body, TypeFault> {
-    state.enter_scope();
+    state.enter_scope()?;
     let (test, kind) = selector(source, state, e)?;
     open_switch(state, kind)?;
     let body = inner(source, state, s)?;
@@ -142,7 +142,7 @@ fn while_loop(
     s: &Stmt,
     e: &Expr,
 ) -> Result<Body, TypeFault> {
-    state.enter_scope();
+    state.enter_scope()?;
     let test = condition(source, state, e, Reason::LoopTest)?;
     let body = repeated(source, state, s)?;
     state.leave_scope();
@@ -153,7 +153,7 @@ fn while_loop(
 #[cycle(statement)]
 #[inline(never)]
 fn do_loop(source: &Source<'_>, state: &mut State, s: &Stmt, e: &Expr) -> Result<Body, TypeFault> {
-    state.enter_scope();
+    state.enter_scope()?;
     let body = repeated(source, state, s)?;
     let test = condition(source, state, e, Reason::LoopTest)?;
     state.leave_scope();
@@ -171,7 +171,7 @@ fn for_loop(
     test: &Option<Expr>,
     step: &Option<Expr>,
 ) -> Result<Body, TypeFault> {
-    state.enter_scope();
+    state.enter_scope()?;
     let start = loop_start(source, state, init)?;
     let test = match test {
         None => None,
@@ -225,7 +225,7 @@ fn default(source: &Source<'_>, state: &mut State, s: &Stmt, at: u32) -> Result<
 // A statement inside another one, a scope of its own (6.8.4p3, 6.8.5p5).
 #[cycle(statement)]
 fn inner(source: &Source<'_>, state: &mut State, s: &Stmt) -> Result<Boxed<Body>, TypeFault> {
-    state.enter_scope();
+    state.enter_scope()?;
     let body = statement(source, state, s)?;
     state.leave_scope();
     Ok(Boxed::new(state.alloc, body)?)
@@ -247,7 +247,7 @@ fn compound(
     state: &mut State,
     entries: &[SyntaxEntry],
 ) -> Result<Body, TypeFault> {
-    state.enter_scope();
+    state.enter_scope()?;
     let _number = state.task.enter(state.alloc)?;
     let entries = block_items(source, state, entries)?;
     let block = ended_block(state, entries);

@@ -15,6 +15,6 @@ pub use known::Known;
 pub use level::Level;
 pub use log::{Logged, Segment, add_range, are_harmless};
 pub use rules::{Rule, Rules};
-pub use sought::{Sought, Under, clash, is_race, least_items, nearer};
+pub use sought::{Sought, Under, clash, is_race, least_items, meets};
 pub use trees::{last_operand_of, line_of};
 pub use way::{Way, way_to};

@@ -1,5 +1,5 @@
 // Which conflicts are sought, and between two sets of items the least one.
-ghost use Rattle.std.specs.Prelude.{◌≡◌, ◌≢◌, ◌⊎◌, ◌↔◌, IfSome, IsTrue, None, Some, true, false};
+ghost use Rattle.std.specs.Prelude.{◌≡◌, ◌≢◌, ◌↔◌, IfSome, IsTrue, true, false};
 ghost use Rattle.ub_base.specs.declared.clause.Kind.TheVariants.{Body};
 ghost use Rattle.addr_map.specs.Conflict.{is_access};
 ghost use Rattle.footprint.specs.Conflicts.{MayConflict};
@@ -26,7 +26,8 @@ pub enum Sought {
     Any,
 }
 
-fn meet(under: Under<'_>, sought: Sought, a: &Foot, b: &Foot) -> bool
+/// Whether two sets have items that conflict.
+pub fn meets(under: Under<'_>, sought: Sought, a: &Foot, b: &Foot) -> bool
     ensures { IsTrue result ↔ SomeClash sought under.entry.map.now (holds a.now) (holds b.now) }
 {
     match sought {
@@ -40,25 +41,6 @@ pub fn clash(a: &Foot, b: &Foot, map: &AddrMap) -> bool
     ensures { result ≡ false → NoClash Any map.now (holds a.now) (holds b.now) }
 {
     conflicts(a, b, map)
-}
-
-/// This event or operand, if what it touched conflicts with the rest, or else the best one so far.
-pub fn nearer(
-    under: Under<'_>,
-    sought: Sought,
-    one: usize,
-    foot: &Foot,
-    rest: &Foot,
-    best: Option<usize>,
-) -> Option<usize>
-    ensures none { result ≡ None → (best ≡ None) × NoClash sought under.entry.map.now (holds foot.now) (holds rest.now) }
-    ensures some { (result ≡ best) ⊎ ((result ≡ Some one) × SomeClash sought under.entry.map.now (holds foot.now) (holds rest.now)) }
-{
-    if meet(under, sought, foot, rest) {
-        Some(one)
-    } else {
-        best
-    }
 }
 
 /// The least pair of items, if two sets conflict.
@@ -75,7 +57,8 @@ pub fn least_items(under: Under<'_>, sought: Sought, a: &Foot, b: &Foot) -> Opti
 
 /// Whether conflicting accesses are a race: a body is sequenced before or after what it isn't sequenced with.
 pub fn is_race(sought: Sought, a: Kind, b: Kind) -> bool
-    ensures { result ≡ true → (sought ≡ Races) × (a ≢ Body) × (b ≢ Body) }
+    ensures yes { result ≡ true → (sought ≡ Races) × (a ≢ Body) × (b ≢ Body) }
+    ensures no { result ≡ false → (sought ≡ Races) → (a ≢ Body) → (b ≢ Body) → ⊥ }
 {
     match sought {
         Sought::Races => a != Kind::Body && b != Kind::Body,

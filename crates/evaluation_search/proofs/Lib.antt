@@ -1,1 +1,3 @@
+pub mod BetweenFirst
+pub mod FirstLemmas
 pub mod SegmentLemmas

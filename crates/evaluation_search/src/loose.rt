@@ -1,19 +1,17 @@
 // Events beside those of a list, which come before a value in no order.
-ghost use Rattle.std.specs.Prelude.{◌≡◌, ◌≤◌, ◌<◌, ℕ, true, false, length, slice_get, Some, None, IfOk, IfNone, OnOk};
+ghost use Rattle.std.specs.Prelude.{◌≡◌, ℕ, true, false, slice_get, Some, None, IfOk, OnOk};
 ghost use Rattle.ub_base.specs.declared.names.Item.{Item};
 ghost use Rattle.footprint.specs.Holds.{holds};
 ghost use Rattle.evaluation_log.specs.declared.log.Logged.{Logged};
 ghost use Rattle.evaluation_log.specs.declared.sought.Sought.TheVariants.{Any};
 ghost use Rattle.evaluation_log.specs.Touched.{event_has};
 ghost use Rattle.evaluation_log.specs.Clashes.{NoClash};
-ghost use Rattle.evaluation_log.specs.FoundItems.{ItemsConflict};
 ghost use Rattle.evaluation_log.specs.Loose.{NoLoose, HasLoose, LooseKept, loose_has};
 
 use crate::items::spans_meet;
 use crate::log::Log;
-use crate::search::Search;
 use addr_map::AddrMap;
-use evaluation_log::{Found, Segment, clash, first_of};
+use evaluation_log::{Segment, clash};
 use footprint::Foot;
 use ub_base::NoMemory;
 
@@ -40,8 +38,8 @@ impl Log<'_> {
         }
     }
 
-    // Whether an item of the event conflicts with one of the events of the list.
-    fn meets_loose(
+    /// Whether an item of the event conflicts with one of the events of the list.
+    pub fn meets_loose(
         &self,
         segments: &[Segment],
         map: &AddrMap,
@@ -113,103 +111,5 @@ impl Log<'_> {
         ensures second { result ≡ true → (e : Logged) → slice_get self.now.events.now b ≡ Some e → e.foot ≡ None }
     {
         self.has_items_alone(a) && self.has_items_alone(b)
-    }
-}
-
-impl Search<'_> {
-    /// The first conflict between an event from this one on and one of the list from a place on.
-    pub fn found_below(
-        &self,
-        segments: &[Segment],
-        own: usize,
-        loose: usize,
-    ) -> Result<Option<Found>, NoMemory>
-        ensures conflict { IfOk result ItemsConflict }
-        ensures none { LooseKept segments.now self.now.log.events.now self.now.log.items.now self.now.log.loose.now loose → IfOk result
-            (λ r. IfNone r ((k : ℕ) → own ≤ k → k < length self.now.log.events.now →
-            NoLoose self.now.under.map.now self.now.log.events.now self.now.log.items.now self.now.log.loose.now loose
-            (event_has self.now.log.items.now (slice_get self.now.log.events.now k)))) }
-    {
-        let mut found = None;
-        for at in own..self.log.events.len() {
-            found = self.found_at(segments, at, loose, found)?;
-        }
-        Ok(found)
-    }
-
-    // The first conflict so far, with those of this event.
-    fn found_at(
-        &self,
-        segments: &[Segment],
-        at: usize,
-        loose: usize,
-        best: Option<Found>,
-    ) -> Result<Option<Found>, NoMemory>
-        requires { ItemsConflict best }
-        ensures conflict { IfOk result ItemsConflict }
-        ensures none { LooseKept segments.now self.now.log.events.now self.now.log.items.now self.now.log.loose.now loose → IfOk result
-            (λ r. r ≡ None → (best ≡ None) ×
-            NoLoose self.now.under.map.now self.now.log.events.now self.now.log.items.now self.now.log.loose.now loose
-            (event_has self.now.log.items.now (slice_get self.now.log.events.now at))) }
-    {
-        if self.log.meets_loose(segments, self.under.map, at, loose)? {
-            self.found_among(at, loose, best)
-        } else {
-            Ok(best)
-        }
-    }
-
-    // The first conflict so far, with those of this event and those of the list, which stand below it.
-    fn found_among(
-        &self,
-        event: usize,
-        loose: usize,
-        best: Option<Found>,
-    ) -> Result<Option<Found>, NoMemory>
-        requires { ItemsConflict best }
-        ensures conflict { IfOk result ItemsConflict }
-        ensures none { IfOk result (λ r. r ≡ None → (best ≡ None) ×
-            NoLoose self.now.under.map.now self.now.log.events.now self.now.log.items.now self.now.log.loose.now loose
-            (event_has self.now.log.items.now (slice_get self.now.log.events.now event))) }
-    {
-        let mut best = best;
-        for i in loose..self.log.loose.len() {
-            best = self.found_listed(event, i, best)?;
-        }
-        Ok(best)
-    }
-
-    fn found_listed(
-        &self,
-        event: usize,
-        i: usize,
-        best: Option<Found>,
-    ) -> Result<Option<Found>, NoMemory>
-        requires { ItemsConflict best }
-        ensures conflict { IfOk result ItemsConflict }
-        ensures none { IfOk result (λ r. r ≡ None → (best ≡ None) ×
-            NoClash Any self.now.under.map.now (event_has self.now.log.items.now (slice_get self.now.log.events.now event))
-            (loose_has self.now.log.events.now self.now.log.items.now self.now.log.loose.now i)) }
-    {
-        match self.log.loose.get(i) {
-            Some(other) => self.found_with(event, *other, best),
-            None => Ok(best),
-        }
-    }
-
-    fn found_with(
-        &self,
-        event: usize,
-        other: usize,
-        best: Option<Found>,
-    ) -> Result<Option<Found>, NoMemory>
-        requires { ItemsConflict best }
-        ensures conflict { IfOk result ItemsConflict }
-        ensures none { IfOk result (λ r. r ≡ None → (best ≡ None) ×
-            NoClash Any self.now.under.map.now (event_has self.now.log.items.now (slice_get self.now.log.events.now event))
-            (event_has self.now.log.items.now (slice_get self.now.log.events.now other))) }
-    {
-        let found = self.found_of_two(event, other)?;
-        Ok(first_of(self.under.frames, best, found))
     }
 }

@@ -1,13 +1,17 @@
 -- The definition's search finds the least pair in the order of rows.
-use Rattle.std.proofs.Common.{◌≡◌, ◌⊎◌, inl, inr, ⊎_elim, Bool, true, false, cond, List, [], ◌∷◌, refl, sym, ap, ◌∙◌, subst, Option, Some, None}
-use Rattle.std.specs.Ordering.{ordering_reverse}
+use Rattle.std.proofs.Common.{◌≡◌, ◌⊎◌, inl, inr, ⊎_elim, ℕ, ◌≤◌, ◌<◌, arith, Bool, true, false, cond, List, [], ◌∷◌, refl, sym, ap, ◌∙◌, subst, Option, Some, None}
+use Rattle.std.specs.Ordering.{nat_cmp, ordering_reverse, ordering_then, MatchOrdering}
+use Rattle.std.proofs.lemmas.Cmp.{ranked}
 use Rattle.std.specs.declared.cmp.Ordering.{Ordering}
 use Rattle.std.specs.declared.cmp.Ordering.TheVariants.{Less, Equal, Greater}
+use Rattle.ub_base.specs.declared.names.ObjName.{ObjName}
 use Rattle.ub_base.specs.declared.names.Item.{Item}
+use Rattle.ub_base.specs.declared.names.Item.TheVariants.{Read, Write, Born, Dies, Alive, Expose, Lookup, Narrow, Input, Output, Ending, Any}
+use Rattle.addr_map.specs.Conflict.{items_conflict, stands_at, is_access}
 use Rattle.ub_base.specs.Frames.{Row}
-use Rattle.footprint.specs.Least.{pair_cmp, IsLeast}
+use Rattle.footprint.specs.Holds.{holds}
+use Rattle.footprint.specs.Least.{item_rank, item_cmp, pair_cmp, IsLeast}
 use Rattle.footprint.specs.Least as rows_order
-use Rattle.footprint.specs.Found.{ConflictIn}
 use Rattle.footprint.proofs.LeastLemmas.{pair_total, both, alike, not_itself}
 use Rattle.c_model.specs.World.{World}
 use Rattle.c_model.specs.Runs.{Entry}
@@ -15,7 +19,7 @@ use Rattle.c_model.specs.Findings.{clash}
 use Rattle.c_model.specs.Keys.{lesser, least_beside, least_among, all_by_bytes, least_items}
 use Rattle.finding_laws.specs.ItemOrder.{IsKnownItem}
 use Rattle.finding_laws.specs.Footprints.{IsAmong}
-use Rattle.finding_laws.specs.LeastPairs.{LeastIsTold}
+use Rattle.finding_laws.specs.LeastPairs.{LeastAccesses, LeastIsTold, LeastOfItems}
 use Rattle.finding_laws.proofs.Keys.{pairs_by}
 use Rattle.finding_laws.proofs.OneItem.{IsByte, pair_is}
 use Rattle.finding_laws.proofs.Bytes.{are_bytes}
@@ -131,12 +135,109 @@ module _ (world : World) (trace : List Entry) (rows : List Row) where
       ap Some (pair_is world trace rows p q mine.0 mine.1 other.0 other.1 mine.2 mine.3 other.2 other.3
       (tied (pair_cmp rows p q) p q refl (hr.1 p.0 p.1 ho.0) (ho.1 q.0 q.1 hr.0)))
 
-pub least_is_told : LeastIsTold
-least_is_told world trace rows is js f g pair ki kj hf hg least =
+pub least_of_items : LeastOfItems
+least_of_items world trace rows is js f g pair ki kj hf hg least =
     only_one world trace rows (Among world trace rows (λ a b. ⊥) (all_by_bytes is) (all_by_bytes js)) pair (least_items world trace is js)
     (λ a b one. ⊎_elim (λ none. absurd none)
     (λ own. (are_bytes is a own.0, are_bytes js b own.1, ki a own.0, kj b own.1)) one)
-    (alike rows (ConflictIn f g world.rows) (Among world trace rows (λ a b. ⊥) (all_by_bytes is) (all_by_bytes js)) pair
+    (alike rows (λ i j. (f i ≡ true) × (g j ≡ true) × (items_conflict (stands_at world.rows) i j ≡ true))
+    (Among world trace rows (λ a b. ⊥) (all_by_bytes is) (all_by_bytes js)) pair
     (λ a b c. inr ((hf a).0 c.0, (hg b).0 c.1, c.2))
     (λ a b one. ⊎_elim (λ none. absurd none) (λ own. ((hf a).1 own.0, (hg b).1 own.1, own.2)) one) least)
     (among world trace rows (all_by_bytes is) (all_by_bytes js) None (λ a b. ⊥) ki kj tt (λ a b none. none))
+
+pub least_is_told : LeastIsTold
+least_is_told world trace rows is js f g pair ki kj hf hg least =
+    least_of_items world trace rows is js (holds f) (holds g) pair ki kj (λ i. hf i) (λ i. hg i) least
+
+-- ---- accesses
+-- an access conflicts with accesses alone, wherever objects stand
+access_alone : (stands : ObjName → ℕ → Bool) (i j : Item) → is_access i ≡ true → items_conflict stands i j ≡ true → is_access j ≡ true
+access_alone stands i (Read y b m) h c = refl
+access_alone stands i (Write y b m) h c = refl
+access_alone stands (Read x a n) (Born y) h c = absurd (cc)
+access_alone stands (Write x a n) (Born y) h c = absurd (cc)
+access_alone stands (Read x a n) (Dies y) h c = absurd (cc)
+access_alone stands (Write x a n) (Dies y) h c = absurd (cc)
+access_alone stands (Read x a n) (Alive y) h c = absurd (cc)
+access_alone stands (Write x a n) (Alive y) h c = absurd (cc)
+access_alone stands (Read x a n) (Expose y) h c = absurd (cc)
+access_alone stands (Write x a n) (Expose y) h c = absurd (cc)
+access_alone stands (Read x a n) (Lookup y) h c = absurd (cc)
+access_alone stands (Write x a n) (Lookup y) h c = absurd (cc)
+access_alone stands (Read x a n) (Narrow d y) h c = absurd (cc)
+access_alone stands (Write x a n) (Narrow d y) h c = absurd (cc)
+access_alone stands (Read x a n) Input h c = absurd (cc)
+access_alone stands (Write x a n) Input h c = absurd (cc)
+access_alone stands (Read x a n) Output h c = absurd (cc)
+access_alone stands (Write x a n) Output h c = absurd (cc)
+access_alone stands (Read x a n) Ending h c = absurd (cc)
+access_alone stands (Write x a n) Ending h c = absurd (cc)
+access_alone stands (Read x a n) Any h c = absurd (cc)
+access_alone stands (Write x a n) Any h c = absurd (cc)
+access_alone stands (Born x) j h c = absurd (cc)
+access_alone stands (Dies x) j h c = absurd (cc)
+access_alone stands (Alive x) j h c = absurd (cc)
+access_alone stands (Expose x) j h c = absurd (cc)
+access_alone stands (Lookup x) j h c = absurd (cc)
+access_alone stands (Narrow d x) j h c = absurd (cc)
+access_alone stands Input j h c = absurd (cc)
+access_alone stands Output j h c = absurd (cc)
+access_alone stands Ending j h c = absurd (cc)
+access_alone stands Any j h c = absurd (cc)
+
+access_anywhere : (stands other : ObjName → ℕ → Bool) (i j : Item) → is_access i ≡ true → is_access j ≡ true →
+    items_conflict stands i j ≡ items_conflict other i j
+access_anywhere stands other (Read x a n) (Read y b m) h k = refl
+access_anywhere stands other (Read x a n) (Write y b m) h k = refl
+access_anywhere stands other (Write x a n) (Read y b m) h k = refl
+access_anywhere stands other (Write x a n) (Write y b m) h k = refl
+access_anywhere stands other (Read x a n) j h k = absurd (cc)
+access_anywhere stands other (Write x a n) j h k = absurd (cc)
+access_anywhere stands other i j h k = absurd (cc)
+
+low_rank : (i : Item) → item_rank i ≤ 1 → is_access i ≡ true
+low_rank (Read x a n) h = refl
+low_rank (Write x a n) h = refl
+low_rank (Born x) h = absurd (omega (arith, h))
+low_rank (Dies x) h = absurd (omega (arith, h))
+low_rank (Alive x) h = absurd (omega (arith, h))
+low_rank (Expose x) h = absurd (omega (arith, h))
+low_rank (Lookup x) h = absurd (omega (arith, h))
+low_rank (Narrow d x) h = absurd (omega (arith, h))
+low_rank Input h = absurd (omega (arith, h))
+low_rank Output h = absurd (omega (arith, h))
+low_rank Ending h = absurd (omega (arith, h))
+low_rank Any h = absurd (omega (arith, h))
+
+access_rank : (i : Item) → is_access i ≡ true → item_rank i ≤ 1
+access_rank (Read x a n) h = omega arith
+access_rank (Write x a n) h = omega arith
+access_rank (Born x) h = absurd (cc)
+access_rank (Dies x) h = absurd (cc)
+access_rank (Alive x) h = absurd (cc)
+access_rank (Expose x) h = absurd (cc)
+access_rank (Lookup x) h = absurd (cc)
+access_rank (Narrow d x) h = absurd (cc)
+access_rank Input h = absurd (cc)
+access_rank Output h = absurd (cc)
+access_rank Ending h = absurd (cc)
+access_rank Any h = absurd (cc)
+
+-- what isn't greater has no greater rank
+rank_up_to : (o r s : Ordering) (m n : ℕ) → nat_cmp m n ≡ o → ordering_then (ordering_then o r) s ≡ Less → m ≤ n
+rank_up_to Less r s m n e h = let w = subst (λ o. MatchOrdering o (m < n) (m ≡ n) (n < m)) e (ranked m n (nat_cmp m n) refl) in omega (arith, w)
+rank_up_to Equal r s m n e h = let w = subst (λ o. MatchOrdering o (m < n) (m ≡ n) (n < m)) e (ranked m n (nat_cmp m n) refl) in omega (arith, w)
+rank_up_to Greater r s m n e h = absurd (cc)
+
+pub least_accesses : LeastAccesses
+least_accesses world trace rows is js f g pair ki kj hf hg least =
+    least_of_items world trace rows is js f g (Some pair) ki kj hf hg (
+      (least.0.0, least.0.1, access_anywhere (stands_at world.rows) (λ x n. true) pair.0 pair.1 least.0.2 least.0.3 ∙ least.0.4),
+      λ i j c lt.
+          let low = rank_up_to (nat_cmp (item_rank i) (item_rank pair.0)) _ (item_cmp rows j pair.1) (item_rank i) (item_rank pair.0) refl lt in
+          let up = access_rank pair.0 least.0.2 in
+          let one = low_rank i (omega (arith, low, up)) in
+          let other = access_alone (stands_at world.rows) i j one c.2 in
+          least.1 i j (c.0, c.1, one, other, access_anywhere (λ x n. true) (stands_at world.rows) i j one other ∙ c.2) lt,
+    )

@@ -1,3 +1,4 @@
+pub mod FirstPairs
 pub mod Keys
 pub mod OneItem
 pub mod Bytes

@@ -1,4 +1,5 @@
 pub mod Conflicts
+pub mod FirstPairs
 pub mod Footprints
 pub mod Forgotten
 pub mod ItemOrder

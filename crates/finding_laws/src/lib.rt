@@ -5,7 +5,8 @@ ghost use Rattle.finding_laws.specs.ItemOrder.{ItemsByKeys, PairsByKeys};
 ghost use Rattle.finding_laws.specs.Footprints.{EmptyIsNone, AddIsMore, UnionIsBoth};
 ghost use Rattle.finding_laws.specs.Conflicts.{ConflictsAreTold, RacesAreTold};
 ghost use Rattle.finding_laws.specs.Forgotten.{ForgottenTellNothing};
-ghost use Rattle.finding_laws.specs.LeastPairs.{LeastIsTold};
+ghost use Rattle.finding_laws.specs.LeastPairs.{LeastAccesses, LeastIsTold, LeastOfItems};
+ghost use Rattle.finding_laws.specs.FirstPairs.{EventsByPlaces, FirstIsFound, FirstPairIsTaken, NoPairIsTaken};
 
 /// The order of items and of pairs in which a footprint's least pair is sought is that of the definition's keys, where the frames of their
 /// names are known.
@@ -35,4 +36,19 @@ pub fn law_forgotten_items()
 pub fn law_conflicts_told()
     ensures any { ConflictsAreTold }
     ensures races { RacesAreTold }
+{}
+
+/// The pair of due events that passes a test, such that no lesser one does, is the pair that the definition takes, and what it finds in a full
+/// expression is the first race, or else the first quarrel. Events of one full expression stand as their places do.
+pub fn law_first_pair()
+    ensures taken { FirstPairIsTaken }
+    ensures none { NoPairIsTaken }
+    ensures found { FirstIsFound }
+    ensures events { EventsByPlaces }
+{}
+
+/// The least pair of items that conflict, of two evaluations that have the items of two lists, is the definition's; so are the least accesses of a race.
+pub fn law_least_of_items()
+    ensures any { LeastOfItems }
+    ensures races { LeastAccesses }
 {}

@@ -17,7 +17,7 @@ use c_typed::{Place, Typed};
 use core_run::{Go, View};
 use evaluation_log::{Found, Rule, first_of, last_operand_of, line_of};
 use quiet_trees::some_noted;
-use run_evaluations::Evaluations;
+use run_evaluations::{Evaluations, Order};
 use seq_order::{Relation, Taken, due, relation};
 use std::alloc::Global;
 use ub_base::{Event, Frame, Item, Kind, NoMemory};
@@ -178,14 +178,18 @@ impl Detector {
         ensures sees { IfOk result (Sees (trees_at roots.now) seen.old seen.new) }
         ensures unseen { OnErr result (seen.new ≡ seen.old) }
     {
-        let found = self.open.node_done(v.frames, v.map, node)?;
+        let Some(begun) = v.begun.last() else {
+            return Ok(Go::On);
+        };
+        let order = Order {
+            root: begun.root,
+            taken: &begun.taken,
+        };
+        let found = self.open.node_done(v.frames, v.map, order, node)?;
         if found.is_none() {
             return Ok(Go::On);
         }
-        let above = match v.begun.last() {
-            Some(begun) => last_operand_of(begun.root, node),
-            None => None,
-        };
+        let above = last_operand_of(begun.root, node);
         let more = match above {
             Some(above) => {
                 let (rule, chosen) = self.rule(v, above);

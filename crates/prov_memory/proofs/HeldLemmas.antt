@@ -33,12 +33,14 @@ use Rattle.std.proofs.Common.{
   None,
 }
 use Rattle.std.specs.Option.{option_and_then, option_copied, IfSome}
-use Rattle.std.specs.BTreeMap.{BTreeMap, get, is_at}
+use Rattle.std.specs.HashMap as hash
+use Rattle.std.specs.HashMap.{HashMap}
 use Rattle.std.specs.Map.{lookup}
 use Rattle.ub_base.specs.declared.names.ObjName.{ObjName}
 use Rattle.ub_base.specs.Names.{same_object}
-use Rattle.ub_base.specs.NameOrders.{object_cmp}
-use Rattle.ub_base.proofs.NameLemmas.{same_object_is, same_object_refl, tie_object}
+use Rattle.ub_base.proofs.NameLemmas.{same_object_is, same_object_refl}
+use Rattle.addr_map.specs.Sound.{object_eq}
+use Rattle.addr_map.proofs.RowLists.{eq_object}
 use Rattle.prov_memory.specs.Held.{Held, held_of, changed, emptied, killed, uncovered, name_at, Fits, AllFit, IsIndexed, IsLiveRange, FallsIn}
 
 -- an object is at most at one place
@@ -121,7 +123,7 @@ pub changed_fit : (f : Held → Held) (hs : List Held) (x : ObjName) → ((h : H
 changed_fit f [] x fits all = tt
 changed_fit f (h ∷ hs) x fits all = (fit_split (same_object h.name x) f h all.0 (fits h all.0), changed_fit f hs x fits all.1)
 
-pub once_at : (indices : BTreeMap ObjName ℕ) (hs : List Held) (x : ObjName) (k : ℕ) → IsIndexed indices hs → name_at hs k ≡ Some x → Once hs x k
+pub once_at : (indices : ObjName → Option ℕ) (hs : List Held) (x : ObjName) (k : ℕ) → IsIndexed indices hs → name_at hs k ≡ Some x → Once hs x k
 once_at indices hs x k s e = λ j at. some_is j k (sym (s.found x j at) ∙ s.found x k e)
 
 none_some : (j : ℕ) (o : Option ℕ) → o ≡ None → o ≡ Some j → ⊥
@@ -130,10 +132,10 @@ none_some j o e f = cc
 none_held : (h : Held) (o : Option Held) → o ≡ None → o ≡ Some h → ⊥
 none_held h o e f = cc
 
-pub nowhere_at : (indices : BTreeMap ObjName ℕ) (hs : List Held) (x : ObjName) → IsIndexed indices hs → get object_cmp indices x ≡ None → Nowhere hs x
-nowhere_at indices hs x s e = λ j at. none_some j (get object_cmp indices x) e (s.found x j at)
+pub nowhere_at : (indices : ObjName → Option ℕ) (hs : List Held) (x : ObjName) → IsIndexed indices hs → indices x ≡ None → Nowhere hs x
+nowhere_at indices hs x s e = λ j at. none_some j (indices x) e (s.found x j at)
 
-pub indexed_changed : (f : Held → Held) (indices : BTreeMap ObjName ℕ) (hs : List Held) (x : ObjName) → ((h : Held) → (f h).name ≡ h.name) →
+pub indexed_changed : (f : Held → Held) (indices : ObjName → Option ℕ) (hs : List Held) (x : ObjName) → ((h : Held) → (f h).name ≡ h.name) →
     ((h : Held) → Fits h → Fits (f h)) → IsIndexed indices hs → IsIndexed indices (changed f x hs)
 indexed_changed f indices hs x names fits s = record {
   there = λ y k e. changed_names f hs x k names ∙ s.there y k e;
@@ -141,7 +143,7 @@ indexed_changed f indices hs x names fits s = record {
   fit = changed_fit f hs x fits s.fit;
 }
 
-pub look_up_is : (indices : BTreeMap ObjName ℕ) (hs : List Held) (x : ObjName) (at : Option ℕ) → IsIndexed indices hs → get object_cmp indices x ≡ at →
+pub look_up_is : (indices : ObjName → Option ℕ) (hs : List Held) (x : ObjName) (at : Option ℕ) → IsIndexed indices hs → indices x ≡ at →
     held_of hs x ≡ option_and_then (λ k. slice_get hs k) at
 look_up_is indices hs x None s e = none_is hs x (nowhere_at indices hs x s e)
 look_up_is indices hs x (Some k) s e = found_is hs k x (s.there x k e) (once_at indices hs x k s (s.there x k e))
@@ -151,7 +153,7 @@ pub set_changed : (f : Held → Held) (hs : List Held) (k : ℕ) (x : ObjName) (
 set_changed f hs k x d new e once at is =
     sym (changed_is f hs k x d e once ∙ ap (λ (h : Held). set hs k (f h)) (sym at) ∙ ap (λ (h : Held). set hs k h) (sym is))
 
-pub indexed_set : (f : Held → Held) (indices : BTreeMap ObjName ℕ) (hs : List Held) (k : ℕ) (x : ObjName) (d new : Held) →
+pub indexed_set : (f : Held → Held) (indices : ObjName → Option ℕ) (hs : List Held) (k : ℕ) (x : ObjName) (d new : Held) →
     ((h : Held) → (f h).name ≡ h.name) → ((h : Held) → Fits h → Fits (f h)) → IsIndexed indices hs → name_at hs k ≡ Some x → d ≡ get_or hs k d → new ≡ f d →
     IsIndexed indices (set hs k new)
 indexed_set f indices hs k x d new names fits s e at is =
@@ -233,7 +235,7 @@ put_fit [] k new fits all = tt
 put_fit (h ∷ hs) zero new fits all = (fits, all.1)
 put_fit (h ∷ hs) (suc k) new fits all = (all.0, put_fit hs k new fits all.1)
 
-pub indexed_put : (indices : BTreeMap ObjName ℕ) (hs : List Held) (k : ℕ) (d new : Held) → IsIndexed indices hs → new.name ≡ (get_or hs k d).name → Fits new →
+pub indexed_put : (indices : ObjName → Option ℕ) (hs : List Held) (k : ℕ) (d new : Held) → IsIndexed indices hs → new.name ≡ (get_or hs k d).name → Fits new →
     IsIndexed indices (set hs k new)
 indexed_put indices hs k d new s e fits = record {
   there = λ y j g. put_name hs k j d new e ∙ s.there y j g;
@@ -278,8 +280,8 @@ nowhere_from (h ∷ hs) x e zero at = first_none (same_object h.name x) h (held_
 nowhere_from (h ∷ hs) x e (suc j) at = nowhere_from hs x (absent_parts (same_object h.name x) h (held_of hs x) e).1 j at
 
 -- a place at a name
-abbrev pub Places : BTreeMap ObjName ℕ → BTreeMap ObjName ℕ → ObjName → ℕ → Type 0
-Places old new x n = (y : ObjName) → get object_cmp new y ≡ cond (is_at (object_cmp x) y) (Some n) (get object_cmp old y)
+abbrev pub Places : (ObjName → Option ℕ) → (ObjName → Option ℕ) → ObjName → ℕ → Type 0
+Places old new x n = (y : ObjName) → new y ≡ cond (object_eq x y) (Some n) (old y)
 
 there_split : (b : Bool) (hs : List Held) (h : Held) (x y : ObjName) (k : ℕ) (rest : Option ℕ) → same_object x y ≡ b → h.name ≡ x →
     cond b (Some (length hs)) rest ≡ Some k → (rest ≡ Some k → name_at hs k ≡ Some y) → name_at (hs ++ h ∷ []) k ≡ Some y
@@ -297,25 +299,19 @@ found_split false hs h x y k rest other name never (inr e) old = absurd (not_sam
     not_same : same_object x y ≡ true → same_object x y ≡ false → ⊥
     not_same t f = cc
 
-pub indexed_added : (old new : BTreeMap ObjName ℕ) (hs : List Held) (h : Held) (n : ℕ) → IsIndexed old hs → Places old new h.name n → n ≡ length hs →
+pub indexed_added : (old new : ObjName → Option ℕ) (hs : List Held) (h : Held) (n : ℕ) → IsIndexed old hs → Places old new h.name n → n ≡ length hs →
     held_of hs h.name ≡ None → Fits h → IsIndexed new (hs ++ h ∷ [])
 indexed_added old new hs h n s places is none fits =
-    let at : (y : ObjName) → get object_cmp new y ≡ cond (same_object h.name y) (Some (length hs)) (get object_cmp old y) = λ y.
-    places y ∙ ap (λ (b : Bool). cond b (Some n) (get object_cmp old y)) (tie_object h.name y) ∙ ap
-    (λ (m : ℕ). cond (same_object h.name y) (Some m) (get object_cmp old y)) is in
+    let at : (y : ObjName) → new y ≡ cond (same_object h.name y) (Some (length hs)) (old y) = λ y.
+    places y ∙ ap (λ (b : Bool). cond b (Some n) (old y)) (eq_object h.name y) ∙ ap
+    (λ (m : ℕ). cond (same_object h.name y) (Some m) (old y)) is in
     record {
-      there = λ y k e. there_split (same_object h.name y) hs h h.name y k (get object_cmp old y) refl refl (sym (at y) ∙ e) (s.there y k);
-      found = λ y k e. at y ∙ found_split (same_object h.name y) hs h h.name y k (get object_cmp old y) refl refl (nowhere_from hs h.name none)
+      there = λ y k e. there_split (same_object h.name y) hs h h.name y k (old y) refl refl (sym (at y) ∙ e) (s.there y k);
+      found = λ y k e. at y ∙ found_split (same_object h.name y) hs h h.name y k (old y) refl refl (nowhere_from hs h.name none)
           (added_name hs h k y e) (s.found y k);
       fit = added_fit hs h s.fit fits;
     }
 
-pub indexed_same : (old new : BTreeMap ObjName ℕ) (hs : List Held) → new.entries ≡ old.entries → IsIndexed old hs → IsIndexed new hs
-indexed_same old new hs e s = record {
-  there = λ y k g. s.there y k (sym (same_get y) ∙ g);
-  found = λ y k g. same_get y ∙ s.found y k g;
-  fit = s.fit;
-}
-  where
-    same_get : (y : ObjName) → get object_cmp new y ≡ get object_cmp old y
-    same_get y = ap (λ (es : List (ObjName × ℕ)). lookup (is_at (object_cmp y)) es) e
+pub indexed_same : {S : Type 0} (old new : HashMap ObjName ℕ S) (hs : List Held) → new.entries ≡ old.entries → IsIndexed (hash.get object_eq old) hs →
+    IsIndexed (hash.get object_eq new) hs
+indexed_same old new hs e s = subst (λ (es : List (ObjName × ℕ)). IsIndexed (λ y. lookup (object_eq y) es) hs) (sym e) s

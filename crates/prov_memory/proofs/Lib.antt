@@ -1,4 +1,5 @@
 pub mod HeldLemmas
+pub mod IndexLemmas
 pub mod StoreLemmas
 pub mod ActLemmas
 pub mod CellLemmas
@@ -14,6 +15,7 @@ pub mod WriteLemmas
 pub mod LoadLemmas
 pub mod ShowLemmas
 pub mod PointerLemmas
+pub mod NumberLemmas
 pub mod ValueLemmas
 pub mod TagLemmas
 pub mod BlockLemmas

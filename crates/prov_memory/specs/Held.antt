@@ -26,10 +26,8 @@ use Rattle.std.specs.Prelude.{
   pos,
   int_le,
 }
-use Rattle.std.specs.BTreeMap.{BTreeMap, get}
 use Rattle.ub_base.specs.declared.names.ObjName.{ObjName}
 use Rattle.ub_base.specs.Names.{same_object}
-use Rattle.ub_base.specs.NameOrders.{object_cmp}
 use Rattle.c_types.specs.declared.shape.Shape.{Shape}
 use Rattle.prov_memory.specs.declared.object.ObjState.{ObjState}
 use Rattle.prov_memory.specs.declared.cell.Cell.{Cell}
@@ -92,9 +90,9 @@ AllFit [] = Unit {0}
 AllFit (h ∷ hs) = Fits h × AllFit hs
 
 -- each object is found at its place by its name
-pub record IsIndexed (indices : BTreeMap ObjName ℕ) (hs : List Held) : Type 0 where
-  pub there : (x : ObjName) (k : ℕ) → get object_cmp indices x ≡ Some k → name_at hs k ≡ Some x
-  pub found : (x : ObjName) (k : ℕ) → name_at hs k ≡ Some x → get object_cmp indices x ≡ Some k
+pub record IsIndexed (indices : ObjName → Option ℕ) (hs : List Held) : Type 0 where
+  pub there : (x : ObjName) (k : ℕ) → indices x ≡ Some k → name_at hs k ≡ Some x
+  pub found : (x : ObjName) (k : ℕ) → name_at hs k ≡ Some x → indices x ≡ Some k
   pub fit : AllFit hs
 
 -- the object at the place is live and has the range from an offset on

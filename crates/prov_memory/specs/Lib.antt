@@ -12,3 +12,4 @@ pub mod Tags
 pub mod Sound
 pub mod Keeps
 pub mod Room
+pub mod Named

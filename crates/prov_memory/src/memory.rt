@@ -110,6 +110,7 @@ impl Memory {
     }
 
     // The object's place in `objects`.
+    #[inline(always)]
     fn find(&mut self, name: ObjName) -> Option<usize>
         ensures same { self.new ≡ self.old }
         ensures some { IfSome result (λ at. name_at self.old.objects at ≡ Some name) }

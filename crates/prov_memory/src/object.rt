@@ -84,6 +84,7 @@ impl Object {
     }
 
     /// Whether the range lies in the object.
+    #[inline(always)]
     pub fn has_range(&self, addr: u64, len: u64) -> bool
         ensures { result ≡ has_range self.now addr len }
     {

@@ -9,7 +9,7 @@ use crate::Via;
 use crate::cell::Cell;
 use crate::object::Object;
 use std::alloc::Global;
-use std::collections::BTreeMap;
+use std::collections::HashMap;
 use std::marker::Model;
 use ub_base::{NoMemory, ObjName};
 
@@ -18,7 +18,7 @@ use ub_base::{NoMemory, ObjName};
 #[derive(Drop)]
 pub(crate) struct Objects {
     list: Vec<Object>,
-    indices: BTreeMap<ObjName, usize>,
+    indices: HashMap<ObjName, usize>,
     recent: [usize; 128],
 }
 
@@ -26,6 +26,8 @@ impl Model for Objects {
     ghost use Rattle.std.specs.Coded.{codes};
     ghost use Rattle.c_types.specs.contracts.shape.Shape as shape;
     ghost use Rattle.std.specs.Prelude.{List};
+    ghost use Rattle.std.specs.HashMap as hash;
+    ghost use Rattle.addr_map.specs.Sound.{object_eq};
     ghost use Rattle.prov_memory.specs.Held.{Held, IsIndexed};
 
     ghost Value = { List Held };
@@ -34,10 +36,11 @@ impl Model for Objects {
 
     ghost view = { λ o. o.list.items };
 
-    ghost invariant = { λ o. IsIndexed o.indices o.list.items };
+    ghost invariant = { λ o. IsIndexed (hash.get object_eq o.indices) o.list.items };
 }
 
 /// Where a name is looked for first.
+#[inline(always)]
 fn slot_of(name: ObjName) -> usize
     ensures { result < 128 }
 {
@@ -64,12 +67,13 @@ impl Objects {
     {
         Objects {
             list: Vec::new(alloc),
-            indices: BTreeMap::new(alloc),
+            indices: HashMap::new(alloc),
             recent: [0; 128],
         }
     }
 
     /// The object at the place.
+    #[inline(always)]
     pub fn get(&self, at: usize) -> Option<&Object>
         ensures object { option_copied result ≡ slice_get self.now at }
         ensures fit { IfSome result (λ object. Fits object.now) }
@@ -78,12 +82,14 @@ impl Objects {
         self.item(at)
     }
 
+    #[inline(always)]
     fn item(&self, at: usize) -> Option<&Object>
         ensures { option_copied result ≡ slice_get self.now at }
     {
         self.list.get(at)
     }
 
+    #[inline(always)]
     fn is_at(&self, at: usize, name: ObjName) -> bool
         ensures { result ≡ true → name_at self.now at ≡ Some name }
     {
@@ -93,7 +99,17 @@ impl Objects {
         }
     }
 
+    // The place of the object of that name by the index. Not inlined, since most places are remembered.
+    #[inline(never)]
+    fn indexed(&self, name: ObjName) -> Option<usize>
+        ensures some { IfSome result (λ at. name_at self.now at ≡ Some name) }
+        ensures object { held_of self.now name ≡ option_and_then (λ at. slice_get self.now at) result }
+    {
+        self.indices.get(&name).copied()
+    }
+
     /// The place of the object of that name.
+    #[inline(always)]
     pub fn find(&mut self, name: ObjName) -> Option<usize>
         ensures same { self.new ≡ self.old }
         ensures some { IfSome result (λ at. name_at self.old at ≡ Some name) }
@@ -104,7 +120,7 @@ impl Objects {
         if self.is_at(guess, name) {
             return Some(guess);
         }
-        let at = self.indices.get(&name).copied()?;
+        let at = self.indexed(name)?;
         self.recent[slot] = at;
         Some(at)
     }
@@ -118,7 +134,7 @@ impl Objects {
         if self.is_at(guess, name) {
             return self.get(guess);
         }
-        match self.indices.get(&name).copied() {
+        match self.indexed(name) {
             None => None,
             Some(at) => self.get(at),
         }

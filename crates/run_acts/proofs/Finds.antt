@@ -55,7 +55,7 @@ born_other : (s : Store) (x y : ObjName) (size : ℕ) (kind : ObjKind) (form : O
 born_other s x y size kind form other =
     ap (λ (b : Bool). cond b (Some (record { live = true; kind = kind; declared = form })) (s.life y)) other
 
-created_leaves : (rows : List Row) (os : List Standing) (s t : Store) → CreatesAll rows os s t →
+pub created_leaves : (rows : List Row) (os : List Standing) (s t : Store) → CreatesAll rows os s t →
     (t.created ≡ summed s.created (sizes os)) × ((y : ObjName) → NotNamed y os → t.life y ≡ s.life y)
 created_leaves rows [] s t e = (ap (λ (u : Store). u.created) e, λ y apart. ap (λ (u : Store). u.life y) e)
 created_leaves rows (o ∷ os) s t c =

@@ -23,3 +23,6 @@ pub mod Rooms
 pub mod Sums
 pub mod Aligned
 pub mod Finds
+pub mod Viewed
+pub mod Counts
+pub mod Given

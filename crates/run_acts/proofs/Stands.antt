@@ -23,11 +23,11 @@ use Rattle.c_types.specs.declared.tags.Extent.{Extent}
 use Rattle.c_types.specs.declared.tags.Tag.{Tag}
 use Rattle.c_types.specs.Shapes.{Form}
 use Rattle.c_types.specs.Types.{qualified_of}
-use Rattle.c_typed.specs.declared.tree.Access.TheVariants as access
 use Rattle.c_typed.specs.declared.program.Static.{Static as Object}
 use Rattle.c_model.specs.Program.{Zeros}
 use Rattle.prov_memory.specs.Memory.{AreKnown}
 use Rattle.ub_base.specs.declared.names.ObjName.TheVariants as names
+use Rattle.program_view.specs.Objects.{access_of}
 use Rattle.run_acts.specs.Contents.{filled_by}
 use Rattle.run_acts.specs.Standing.{extent_of, is_constant, HasForm, IsStatic, AreStatics, StaticCreated, StaticsCreated}
 use Rattle.std.proofs.lemmas.List.{length-append}
@@ -126,15 +126,15 @@ literals_all old new xs ys n e same all =
     subst (λ (os : List Standing). AllCreated old new os) (take_all 0 n xs e ∙ ap (λ (zs : List (List ℕ)). literals 0 zs) same) all
 
 -- ---- objects with static storage
-abbrev static_as : ℕ → Extent → Bool → Option Form → Object → Standing
-static_as k e constant form s = record {
+abbrev static_as : List Tag → ℕ → Extent → Bool → Option Form → Object → Standing
+static_as tags k e constant form s = record {
   name = names.Static k;
   decl = record {
     size = e.size;
     align = e.align;
     constant = constant;
     form = form;
-    access = access.Whole e.size e.align;
+    access = access_of tags (qualified_of s.qual).ty;
     ty = (qualified_of s.qual).ty;
   };
   literal = false;
@@ -147,13 +147,14 @@ pub static_created : {E : Type 0} (r : Result ℕ E) (old new : Kept) (tags : Li
     OnOk r (AreKnown old → Creates old new (names.Static k) e.size e.align (record { heap = false; literal = false; constant = constant }) form) →
     OnOk r (AreKnown old → StaticCreated old new tags k s)
 static_created (Ok a) old new tags k s e constant form sized const formed creates = λ known. (
-  static_as k e constant form s,
+  static_as tags k e constant form s,
   record {
     name = refl;
     size = ap (λ (x : Extent). x.size) sized;
     align = ap (λ (x : Extent). x.align) sized;
     constant = const;
     form = formed;
+    access = refl;
     ty = refl;
     literal = refl;
     fillings = refl;

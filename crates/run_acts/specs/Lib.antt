@@ -13,3 +13,4 @@ pub mod Standing
 pub mod Outcomes
 pub mod Sums
 pub mod Choices
+pub mod Viewed

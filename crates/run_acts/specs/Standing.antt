@@ -21,7 +21,6 @@ use Rattle.c_types.specs.declared.kind.IntKind.TheVariants.{Char}
 use Rattle.c_types.specs.declared.tags.Extent.{Extent}
 use Rattle.c_types.specs.declared.tags.Tag.{Tag}
 use Rattle.c_types.specs.Layout.{extent, extents}
-use Rattle.c_types.specs.Leaves.{leaves, scalars}
 use Rattle.c_types.specs.Shapes.{Form, leaf, repeat}
 use Rattle.c_types.specs.Types.{CType, int, pointer, array, Params, none, more, Qualified, qualified_of, signature_of}
 use Rattle.c_typed.specs.declared.tree.Access.TheVariants as access
@@ -29,6 +28,7 @@ use Rattle.c_typed.specs.declared.program.Function.{Function}
 use Rattle.c_typed.specs.declared.program.Program.{Program}
 use Rattle.c_typed.specs.declared.program.Static.{Static}
 use Rattle.c_model.specs.Program.{Standing, Filling, Zeros, Bytes, Object_at, No_object}
+use Rattle.program_view.specs.Objects.{access_of, form_of_type, form_where}
 use Rattle.run_acts.specs.declared.initial.Argument.{Argument}
 use Rattle.run_acts.specs.declared.values.Pointer.{Pointer as Place}
 use Rattle.run_acts.specs.Views.{pointer_at}
@@ -51,10 +51,9 @@ has_constant_elements _ = false
 abbrev pub is_constant : Qualified → Bool
 is_constant q = q.constant || has_constant_elements q.ty
 
--- the form of a complete type has its scalars at their places (6.5p7)
+-- the form of a complete type, with its scalars at their places (6.5p7)
 abbrev pub HasForm : List Tag → CType → Option Form → Type 0
-HasForm tags ty None = extent (extents tags) ty ≡ None
-HasForm tags ty (Some form) = leaves form ≡ scalars tags ty
+HasForm tags ty form = form ≡ form_where (extent (extents tags) ty) (form_of_type tags ty)
 
 -- an object with static storage: zeros, and then its constants (6.7.9p10)
 pub record IsStatic (tags : List Tag) (k : ℕ) (s : Static) (o : Standing) : Type 0 where
@@ -63,6 +62,7 @@ pub record IsStatic (tags : List Tag) (k : ℕ) (s : Static) (o : Standing) : Ty
   pub align : o.decl.align ≡ (extent_of tags (qualified_of s.qual).ty).align
   pub constant : o.decl.constant ≡ is_constant (qualified_of s.qual)
   pub form : HasForm tags (qualified_of s.qual).ty o.decl.form
+  pub access : o.decl.access ≡ access_of tags (qualified_of s.qual).ty
   pub ty : o.decl.ty ≡ (qualified_of s.qual).ty
   pub literal : o.literal ≡ false
   pub fillings : o.fillings ≡ record { offset = 0; content = Zeros o.decl.size } ∷ map filled_by s.constants

@@ -1,5 +1,5 @@
 // The objects that stand before the first pick: those with static storage, string literals, and the arguments of `main`.
-ghost use Rattle.std.specs.Prelude.{◌≡◌, List, ◌+◌, ◌-◌, ◌*◌, ◌%◌, min, max, ◌<◌, ◌≤◌, ◌^◌, ◌++◌, ◌∷◌, [], ℕ, Some, Err, false, length, map, option_map, slice_get, string_bytes, IfOk, OnOk};
+ghost use Rattle.std.specs.Prelude.{◌≡◌, List, pos, ◌+◌, ◌-◌, ◌*◌, ◌%◌, min, max, ◌<◌, ◌≤◌, ◌^◌, ◌++◌, ◌∷◌, [], ℕ, Some, Err, false, length, map, option_map, slice_get, string_bytes, IfOk, OnOk};
 ghost use Rattle.std.specs.List.{All};
 ghost use Rattle.ub_base.specs.declared.names.ObjName.{ObjName};
 ghost use Rattle.ub_base.specs.declared.names.ObjName.TheVariants as names;
@@ -29,13 +29,14 @@ ghost use Rattle.run_acts.specs.Standing.{AreArguments, AreStatics, ArgumentAdde
 ghost use Rattle.run_acts.specs.Standing as standing;
 ghost use Rattle.run_acts.specs.Starting.{AreAll, ArePlaced, AreMadeAll, AddsArgument, Creates, EndsLow, Puts};
 ghost use Rattle.run_acts.specs.Sums.{argument_sizes, static_sizes, summed};
+ghost use Rattle.run_acts.specs.Viewed.{IsGiven};
 ghost use Rattle.run_acts.specs.Views.{pointer_at, value_in};
 
 use crate::storage::{fillings, pointer_to, written, zeros};
 use crate::values::Pointer;
 use c_typed::{Program, Static};
 use c_types::{Extent, FuncTy, IntKind, Qual, Shape, Shared, Tags, Ty};
-use layout::shape;
+use object_shapes::shape;
 use prov_memory::{Block, CreateFault, Memory, ObjKind, Touched, Value, Via};
 use std::alloc::Global;
 use std::rc::Rc;
@@ -90,15 +91,17 @@ pub fn extent(tags: &Tags, ty: &Ty) -> Extent
     }
 }
 
-/// The scalars of a complete type by their places.
+/// The scalars of a complete type by their places, in the form in which the definitions of runs have them.
 pub fn shape_of(alloc: Global, tags: &Tags, ty: &Ty) -> Result<Option<Rc<Shape>>, NoMemory>
     ensures { IfOk result (λ o. HasForm tags.now (type_of ty.now) (option_map (λ s. form_of s.value) o)) }
 {
-    if tags.extent(ty).is_none() {
-        return Ok(None);
+    match tags.extent(ty) {
+        None => Ok(None),
+        Some(_) => {
+            let shape = shape(alloc, tags, ty)?;
+            Ok(Some(Rc::new(alloc, shape)?))
+        }
     }
-    let shape = shape(alloc, tags, ty)?;
-    Ok(Some(Rc::new(alloc, shape)?))
 }
 
 /// Whether an object of this type is defined const: an array where its elements are (6.7.3p9).
@@ -227,6 +230,7 @@ pub fn start(
     ensures placed { IfOk result (λ s. IsSound m.old → IsLawful p.now → ArePlaced m.new p.now s.places) }
     ensures stands { OnOk result (IsSound m.old → IsLawful p.now → length args.now + 1 < 2 ^ 32 → StartStands m.old m.new p.now (program_name ∷ map string_bytes args.now)) }
     ensures made { IfOk result (λ s. IsSound m.old → IsLawful p.now → IsOf m.new s.count × IsOf m.new s.vector) }
+    ensures given { IfOk result (λ s. IsSound m.old → IsLawful p.now → IsGiven m.new p.now (length args.now + 1) s) }
     ensures unplaced { result ≡ Err Unplaced → IsSound m.old → IsLawful p.now → Above 16777216 m.old.rows → length args.now + 1 < 2 ^ 32 → HasNoPlace m.old m.new p.now (program_name ∷ map string_bytes args.now) }
     ensures room { result ≡ Err Unplaced → IsSound m.old → IsLawful p.now → IsNew m.old → Above 16777216 m.old.rows → length args.now + 1 < 2 ^ 32 → (os : List Standing) → Stand p.now (program_name ∷ map string_bytes args.now) os → created_after 0 (map (λ o. o.decl) os) ≤ 2 ^ 40 → ⊥ }
 {
@@ -245,6 +249,7 @@ fn begin(
     ensures placed { IfOk result (λ s. IsSound m.old → IsLawful p.now → ArePlaced m.new p.now s.places) }
     ensures stands { OnOk result (IsSound m.old → IsLawful p.now → length args.now + 1 < 2 ^ 32 → StartStands m.old m.new p.now (program_name ∷ map string_bytes args.now)) }
     ensures made { IfOk result (λ s. IsSound m.old → IsLawful p.now → IsOf m.new s.count × IsOf m.new s.vector) }
+    ensures given { IfOk result (λ s. IsSound m.old → IsLawful p.now → IsGiven m.new p.now (length args.now + 1) s) }
     ensures unplaced { result ≡ Err Unplaced → IsSound m.old → IsLawful p.now → Above 16777216 m.old.rows → length args.now + 1 < 2 ^ 32 → HasNoPlace m.old m.new p.now (program_name ∷ map string_bytes args.now) }
 {
     let mut places = Places::new(alloc);
@@ -256,11 +261,17 @@ fn begin(
         fill_named(alloc, p, &places, m, t)?;
         fill_arguments(alloc, arguments.as_slice(), m, t)?;
         point(alloc, arguments.as_slice(), vector, m, t)?;
-        let count = i128::from(args.len() as u64).wrapping_add(1);
-        return Ok(standing(places, count, vector));
+        return Ok(standing(places, string_count(args), vector));
     }
     fill_named(alloc, p, &places, m, t)?;
     Ok(standing(places, 0, Pointer::null()))
+}
+
+// How many strings `main` is given, the program's name among them.
+fn string_count(args: &[String]) -> i128
+    ensures { result ≡ pos (length args.now + 1) }
+{
+    i128::from(args.len() as u64) + 1
 }
 
 fn standing(places: Places, count: i128, vector: Pointer) -> Started

@@ -3,6 +3,7 @@ ghost use Rattle.run_acts.specs.Kept.{ValuesStay, FillingsStay};
 ghost use Rattle.run_acts.specs.Outcomes.{FindsRoom, StartIsDefined};
 ghost use Rattle.run_acts.specs.Standing.{StandsSo};
 ghost use Rattle.run_acts.specs.Starting.{LawfulCanHold};
+ghost use Rattle.run_acts.specs.Viewed.{StandsAsViewed, StartCounts, ViewStands};
 
 /// What a call of a memory keeps keeps its values: one that is of the memory before is of the memory after, and so are the bytes of fillings
 /// (own).
@@ -31,4 +32,16 @@ pub fn law_start_is_defined()
 /// names are new, and their alignments powers of two (own).
 pub fn law_finds_room()
     ensures { FindsRoom }
+{}
+
+/// The objects that stand before a run are those of the model's program (program_view), and only those: the same names, sizes, forms and fillings
+/// (5.1.2p1, 6.4.5p6, 5.1.2.2.1p2).
+pub fn law_standing()
+    ensures viewed { StandsAsViewed }
+    ensures stand { ViewStands }
+{}
+
+/// Where they were created and filled, the created bytes are what they count together (own).
+pub fn law_start_counts()
+    ensures { StartCounts }
 {}

@@ -22,7 +22,9 @@ use Rattle.std.proofs.Common.{
   ◌∷◌,
   ◌++◌,
   length,
+  Option,
   Some,
+  None,
   slice_get,
   sym,
   ap,
@@ -32,7 +34,7 @@ use Rattle.std.proofs.Common.{
 }
 use Rattle.std.proofs.Math.Logic.{∥∥₁_map}
 use Rattle.std.specs.List.{All}
-use Rattle.std.specs.Option.{ForSome}
+use Rattle.std.specs.Option.{ForSome, IfSome}
 use Rattle.std.proofs.Math.ListN.{get_or, set}
 use Rattle.std.proofs.lemmas.List.{append-nil}
 use Rattle.std.proofs.lemmas.List.Elements.{All-nil, All-weaker, All-push, All-get_or, All-set}
@@ -49,9 +51,11 @@ use Rattle.run_code.specs.declared.steps.Due.{Due}
 use Rattle.run_code.specs.declared.nodes.NodeInfo.{NodeInfo}
 use Rattle.run_code.specs.declared.steps.Operand.{Operand}
 use Rattle.run_code.specs.declared.steps.Act.{Act}
+use Rattle.run_code.specs.declared.steps.Choice.{Choice}
 use Rattle.run_code.specs.declared.steps.Expression.{Expression}
 use Rattle.run_code.specs.declared.steps.Listed.{Listed}
 use Rattle.run_code.specs.declared.steps.Listed.TheVariants as listed
+use Rattle.run_code.specs.declared.steps.Way.{Way}
 use Rattle.run_code.specs.declared.tables.Tables.{Tables}
 use Rattle.run_code.specs.Resolved.{resolved, operands_from}
 use Rattle.run_code.specs.Numbered.{AreNodes, AreNoted, AreBelow}
@@ -74,7 +78,10 @@ use Rattle.run_code.specs.EventActs.{
   AreFirst,
   AreGrown,
 }
+use Rattle.run_code.specs.AtOnce.{chosen_in, chosen_of, Lists}
+use Rattle.run_code.specs.Choices.{Goes, IsChoiceOf, MakesChoice, ChoosesAt}
 use Rattle.run_code.specs.LaidOut.{IsLaidOut}
+use Rattle.run_code.proofs.AtOnce.{lists_grown, front_longer}
 use Rattle.run_code.proofs.Collected.{slice_get-front}
 
 pub nothing_grown : (tables : Tables) → AreGrown tables tables
@@ -82,8 +89,8 @@ nothing_grown tables = record {
   calls = λ n x h. h;
   stores = λ n x h. h;
   constants = λ n x h. h;
-  chosen = omega arith;
-  choices = omega arith;
+  chosen = λ n x h. h;
+  choices = λ n x h. h;
   objects = omega arith;
 }
 
@@ -92,8 +99,8 @@ grown_both first second third g h = record {
   calls = λ n x k. h.calls n x (g.calls n x k);
   stores = λ n x k. h.stores n x (g.stores n x k);
   constants = λ n x k. h.constants n x (g.constants n x k);
-  chosen = omega (arith, g.chosen, h.chosen);
-  choices = omega (arith, g.choices, h.choices);
+  chosen = λ n x k. h.chosen n x (g.chosen n x k);
+  choices = λ n x k. h.choices n x (g.choices n x k);
   objects = omega (arith, g.objects, h.objects);
 }
 
@@ -134,6 +141,53 @@ pub body_acts : (firsts : List ℕ) (tables : Tables) (initializer : ℕ) (h : H
     IsBody tables initializer h s a → IsAct firsts tables initializer h s kind a
 body_acts firsts tables initializer h s kind a e i = subst (λ k. IsAct firsts tables initializer h s k a) (sym e) i
 
+some_weaker : {A : Type 0} (o : Option A) (P Q : A → Type 0) → ((x : A) → P x → Q x) → IfSome o P → IfSome o Q
+some_weaker None P Q f h = h
+some_weaker (Some x) P Q f h = f x h
+
+pub goes_grown : (firsts : List ℕ) (old new : Tables) (number : ℕ) (above : NodeInfo) (test : Bool) (w : Way) → AreGrown old new →
+    Goes firsts old number above test w → Goes firsts new number above test w
+goes_grown firsts old new number above test w g h = record {
+  operand = h.operand;
+  chosen = some_weaker w.operand _ _
+      (λ i. lists_grown old.chosen.items new.chosen.items w.chosen (chosen_in firsts (out-Typed above.tree.now).children i (suc number)) g.chosen) h.chosen;
+}
+
+pub choice_of_grown : (firsts : List ℕ) (old new : Tables) (number : ℕ) (above : NodeInfo) (value : Operand) (c : Choice) → AreGrown old new →
+    IsChoiceOf firsts old number above value c → IsChoiceOf firsts new number above value c
+choice_of_grown firsts old new number above value c g h = record {
+  node = h.node;
+  test = h.test;
+  yes = goes_grown firsts old new number above true c.yes g h.yes;
+  no = goes_grown firsts old new number above false c.no g h.no;
+}
+
+makes_grown : (firsts : List ℕ) (old new : Tables) (nodes : List NodeInfo) (n : ℕ) (x : NodeInfo) (o : Option ℕ) → AreGrown old new →
+    MakesChoice firsts old nodes n x o → MakesChoice firsts new nodes n x o
+makes_grown firsts old new nodes n x None g h = h
+makes_grown firsts old new nodes n x (Some number) g h =
+    (h.0, h.1, h.2, h.3, g.choices number h.3 h.4, choice_of_grown firsts old new h.0 h.1 x.operand h.3 g h.5)
+
+choice_grown : (firsts : List ℕ) (old new : Tables) (nodes : List NodeInfo) (n : ℕ) (x : NodeInfo) (kind : Kind) (o : Option ℕ) → AreGrown old new →
+    ChoosesAt firsts old nodes n x kind o → ChoosesAt firsts new nodes n x kind o
+choice_grown firsts old new nodes n x Val o g h = makes_grown firsts old new nodes n x o g h
+choice_grown firsts old new nodes n x Eff o g h = h
+choice_grown firsts old new nodes n x Body o g h = h
+
+-- a choice that is made is in the table
+made_there : (firsts : List ℕ) (tables : Tables) (nodes : List NodeInfo) (n : ℕ) (x : NodeInfo) (o : Option ℕ) → MakesChoice firsts tables nodes n x o →
+    ForSome o (λ k. k < length tables.choices.items)
+made_there firsts tables nodes n x None h = λ k e. absurd (cc)
+made_there firsts tables nodes n x (Some number) h = λ k e.
+    let same : number ≡ k = cc in
+    subst (λ z. z < length tables.choices.items) same (slice_get_within tables.choices.items number h.3 h.4)
+
+pub choice_there : (firsts : List ℕ) (tables : Tables) (nodes : List NodeInfo) (n : ℕ) (x : NodeInfo) (kind : Kind) (o : Option ℕ) →
+    ChoosesAt firsts tables nodes n x kind o → ForSome o (λ k. k < length tables.choices.items)
+choice_there firsts tables nodes n x Val o h = made_there firsts tables nodes n x o h
+choice_there firsts tables nodes n x Eff o h = λ k e. absurd (cc)
+choice_there firsts tables nodes n x Body o h = λ k e. absurd (cc)
+
 pub entry_grown : (firsts : List ℕ) (old new : Tables) (nodes : List NodeInfo) → AreGrown old new → (x : Listed) → IsEntry firsts old nodes x →
     IsEntry firsts new nodes x
 entry_grown firsts old new nodes g (listed.Event d) e = (
@@ -144,8 +198,9 @@ entry_grown firsts old new nodes g (listed.Event d) e = (
     parent = e.2.parent;
     completes = e.2.completes;
     does = act_grown firsts old new _ _ _ d.place.kind d.act g e.2.does;
-    choice = λ n h. omega (arith, e.2.choice n h, g.choices);
+    choice = λ n h. omega (arith, e.2.choice n h, front_longer old.choices.items new.choices.items g.choices);
   },
+  choice_grown firsts old new nodes d.place.node e.0 d.place.kind d.choice g e.3,
 )
 entry_grown firsts old new nodes g (listed.Operand node index count) e = tt
 
@@ -172,6 +227,7 @@ laid_out_grown old new entries more g e l = (
   record {
     numbered = l.2.numbered;
     value = l.2.value;
+    chosen = lists_grown old.chosen.items new.chosen.items e.chosen (chosen_of l.0 e.root.now 0) g.chosen l.2.chosen;
     order = l.2.order;
     within = omega (arith, l.2.within, length-append entries more);
     each = λ i x a b h. elim (in_both entries more i x h) [
@@ -191,10 +247,10 @@ all_grown old new entries longer more es g e h =
 -- one more full expression, whose entries come last
 pub one_more : (tables : Tables) (entries longer more : List Listed) (es : List Expression) (firsts : List ℕ) (nodes : List NodeInfo) (e : Expression) →
     longer ≡ entries ++ more
-    → AreNodes firsts e.root.now nodes → AreEntries firsts tables nodes more → e.value ≡ resolved firsts e.root.now 0 → e.first ≡ length entries →
-    e.end ≡ length longer
+    → AreNodes firsts e.root.now nodes → AreEntries firsts tables nodes more → Lists tables.chosen.items e.chosen (chosen_of firsts e.root.now 0)
+    → e.value ≡ resolved firsts e.root.now 0 → e.first ≡ length entries → e.end ≡ length longer
     → ∥ All (IsLaidOut tables longer) es ∥₁ → ∥ All (IsLaidOut tables longer) (es ++ e ∷ []) ∥₁
-one_more tables entries longer more es firsts nodes e l n a v f t h =
+one_more tables entries longer more es firsts nodes e l n a k v f t h =
     let count : length longer ≡ length entries + length more = ap length l ∙ length-append entries more in
     let new : IsLaidOut tables longer e = (
       firsts,
@@ -202,6 +258,7 @@ one_more tables entries longer more es firsts nodes e l n a v f t h =
       record {
         numbered = n;
         value = v;
+        chosen = k;
         order = omega (arith, f, t, count);
         within = omega (arith, t);
         each = λ i x b c g. elim (in_both entries more i x (ap (λ z. slice_get z i) (sym l) ∙ g)) [
@@ -227,12 +284,14 @@ entries_set firsts tables nodes es at node index count h noted = All-set (IsEntr
 pub event_added : (firsts firsts2 : List ℕ) (old new : Tables) (nodes : List NodeInfo) (es longer : List Listed) (d : Due) (x : NodeInfo) (number : ℕ) →
     firsts2 ≡ firsts → AreGrown old new → longer ≡ es ++ listed.Event d ∷ []
     → d.place.node ≡ number → slice_get nodes number ≡ Some x →
-    (AreNoted firsts nodes → slice_get nodes number ≡ Some x → IsDue firsts new (length nodes) d x) → AreEntries firsts old nodes es →
+    (AreNoted firsts nodes → slice_get nodes number ≡ Some x → IsDue firsts new (length nodes) d x) →
+    (AreNoted firsts nodes → slice_get nodes number ≡ Some x → ChoosesAt firsts new nodes number x d.place.kind d.choice) → AreEntries firsts old nodes es →
     AreEntries firsts2 new nodes longer
-event_added firsts firsts2 old new nodes es longer d x number f g l p at due h =
+event_added firsts firsts2 old new nodes es longer d x number f g l p at due choice h =
     subst (λ fs. AreEntries fs new nodes longer) (sym f)
     (λ noted. subst (All (IsEntry firsts new nodes)) (sym l)
-    (All-push (IsEntry firsts new nodes) es (listed.Event d) (entries_grown firsts old new nodes es g h noted) (x, ap (slice_get nodes) p ∙ at, due noted at)))
+    (All-push (IsEntry firsts new nodes) es (listed.Event d) (entries_grown firsts old new nodes es g h noted)
+    (x, ap (slice_get nodes) p ∙ at, due noted at, subst (λ n. ChoosesAt firsts new nodes n x d.place.kind d.choice) (sym p) (choice noted at))))
 
 pub noted_due : (firsts : List ℕ) (tables : Tables) (nodes : List NodeInfo) (number room : ℕ) (x : NodeInfo) (d : Due) (os : List Operand) →
     AreNoted firsts nodes → slice_get nodes number ≡ Some x
@@ -277,12 +336,12 @@ tables_grown old new entries es g h = all_grown old new entries entries [] es g 
 
 pub expression_pushed : (b : Bool) (tables : Tables) (entries longer more : List Listed) (es fs : List Expression) (firsts : List ℕ) (nodes : List NodeInfo)
     (e : Expression) → fs ≡ (if b then es ++ e ∷ [] else es) → longer ≡ entries ++ more
-    → AreNodes firsts e.root.now nodes → AreEntries firsts tables nodes more → e.value ≡ resolved firsts e.root.now 0 → e.first ≡ length entries →
-    e.end ≡ length longer
+    → AreNodes firsts e.root.now nodes → AreEntries firsts tables nodes more → Lists tables.chosen.items e.chosen (chosen_of firsts e.root.now 0)
+    → e.value ≡ resolved firsts e.root.now 0 → e.first ≡ length entries → e.end ≡ length longer
     → ∥ All (IsLaidOut tables longer) es ∥₁ → ∥ All (IsLaidOut tables longer) fs ∥₁
-expression_pushed true tables entries longer more es fs firsts nodes e p l n a v f t h =
-    subst (λ z. ∥ All (IsLaidOut tables longer) z ∥₁) (sym p) (one_more tables entries longer more es firsts nodes e l n a v f t h)
-expression_pushed false tables entries longer more es fs firsts nodes e p l n a v f t h = subst (λ z. ∥ All (IsLaidOut tables longer) z ∥₁) (sym p) h
+expression_pushed true tables entries longer more es fs firsts nodes e p l n a k v f t h =
+    subst (λ z. ∥ All (IsLaidOut tables longer) z ∥₁) (sym p) (one_more tables entries longer more es firsts nodes e l n a k v f t h)
+expression_pushed false tables entries longer more es fs firsts nodes e p l n a k v f t h = subst (λ z. ∥ All (IsLaidOut tables longer) z ∥₁) (sym p) h
 
 -- the value of the root
 pub root_value : (firsts : List ℕ) (root : Typed) (nodes : List NodeInfo) (x : NodeInfo) → AreNodes firsts root nodes →

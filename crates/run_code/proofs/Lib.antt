@@ -11,3 +11,7 @@ mod Rooted
 mod Termed
 mod FittingLemmas
 mod Coded
+mod AtOnce
+mod ChosenLemmas
+mod Tested
+mod Keeping

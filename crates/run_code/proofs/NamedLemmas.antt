@@ -46,6 +46,7 @@ use Rattle.run_code.specs.declared.tables.Tables.{Tables}
 use Rattle.run_code.specs.InRange.{IsChoice, IsObject, IsBlock}
 use Rattle.run_code.specs.EventActs.{Sight, IsValue, IsEffect, IsBody, IsAct, IsEntry, AreEntries, AreGrown}
 use Rattle.run_code.specs.Numbered.{AreNodes}
+use Rattle.run_code.proofs.AtOnce.{front_longer}
 use Rattle.run_code.specs.Named.{IsNamed, IsDueOf, IsListedOf, IsExpressionOf}
 
 -- a list that a push leaves, whether it had memory or not, is as long at least
@@ -201,7 +202,8 @@ act_of_longer old new g a h = (
 )
 
 listed_longer : (old new : Tables) → AreGrown old new → (x : Listed) → IsListedOf old x → IsListedOf new x
-listed_longer old new g x h = λ d e. (act_of_longer old new g d.act (h d e).0, λ n k. omega (arith, (h d e).1 n k, g.choices))
+listed_longer old new g x h = λ d e.
+    (act_of_longer old new g d.act (h d e).0, λ n k. first_longer old.choices.items new.choices.items g.choices n ((h d e).1 n k))
 
 pub named_grown : (old new : Tables) (es : List Listed) → AreGrown old new → All (IsListedOf old) es → All (IsListedOf new) es
 named_grown old new es g h = All-weaker (IsListedOf old) (IsListedOf new) (listed_longer old new g) es h
@@ -209,4 +211,5 @@ named_grown old new es g h = All-weaker (IsListedOf old) (IsListedOf new) (liste
 pub within_grown : (old new : Tables) (entries longer : List Listed) (es : List Expression) → AreGrown old new → length entries ≤ length longer →
     All (IsExpressionOf old entries) es → All (IsExpressionOf new longer) es
 within_grown old new entries longer es g l h =
-    All-weaker (IsExpressionOf old entries) (IsExpressionOf new longer) (λ e k. (k.0, omega (arith, k.1, l), omega (arith, k.2, g.chosen), k.3)) es h
+    All-weaker (IsExpressionOf old entries) (IsExpressionOf new longer)
+    (λ e k. (k.0, omega (arith, k.1, l), omega (arith, k.2, front_longer old.chosen.items new.chosen.items g.chosen), k.3)) es h

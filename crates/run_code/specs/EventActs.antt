@@ -29,6 +29,7 @@ use Rattle.run_code.specs.declared.steps.Listed.TheVariants as listed
 use Rattle.run_code.specs.declared.tables.Tables.{Tables}
 use Rattle.run_code.specs.Resolved.{resolved, object_of, operands_from, value_at}
 use Rattle.run_code.specs.Numbered.{AreNoted}
+use Rattle.run_code.specs.Choices.{ChoosesAt}
 
 -- a node without the trees below it
 abbrev pub head_at : Node → Head
@@ -174,8 +175,11 @@ pub record IsDue (firsts : List ℕ) (tables : Tables) (count : ℕ) (d : Due) (
   pub does : IsAct firsts tables x.initializer (head_at (out-Typed x.tree.now).node) (sight_of firsts count d.place.node x) d.place.kind d.act
   pub choice : ForSome d.choice (λ n. n < length tables.choices.items)
 
+-- it is an event of one of these nodes, and the choice that is made at it is the one that its node's value makes
 abbrev pub IsEntry : List ℕ → Tables → List NodeInfo → Listed → Type 0
-IsEntry firsts tables nodes (listed.Event d) = (x : NodeInfo) × (slice_get nodes d.place.node ≡ Some x) × IsDue firsts tables (length nodes) d x
+IsEntry firsts tables nodes (listed.Event d) =
+    (x : NodeInfo) × (slice_get nodes d.place.node ≡ Some x) × IsDue firsts tables (length nodes) d x
+    × ChoosesAt firsts tables nodes d.place.node x d.place.kind d.choice
 IsEntry firsts tables nodes (listed.Operand node index count) = Unit {0}
 
 -- where what is noted of the nodes is so, what is noted of the events is so too
@@ -191,6 +195,6 @@ pub record AreGrown (old new : Tables) : Type 0 where
   pub calls : AreFirst old.calls.items new.calls.items
   pub stores : AreFirst old.stores.items new.stores.items
   pub constants : AreFirst old.constants.items new.constants.items
-  pub chosen : length old.chosen.items ≤ length new.chosen.items
-  pub choices : length old.choices.items ≤ length new.choices.items
+  pub chosen : AreFirst old.chosen.items new.chosen.items
+  pub choices : AreFirst old.choices.items new.choices.items
   pub objects : length old.objects.items ≤ length new.objects.items

@@ -2,9 +2,14 @@ pub mod Listings
 pub mod Resolved
 pub mod Numbered
 pub mod InRange
+pub mod Choosing
+pub mod AtOnce
+pub mod Choices
 pub mod EventActs
 pub mod LaidOut
 pub mod Fitting
 pub mod Named
 pub mod Roots
 pub mod OfTrees
+pub mod Chosen
+pub mod Keeping

@@ -1,51 +1,73 @@
 // The choices of And, Or and Cond nodes that quiet tests make.
+ghost use Rattle.std.specs.Prelude.{◌≡◌, ◌+◌, ◌++◌, ◌≤◌, ℕ, suc, true, length, List, Option, OnOk, slice_get};
+ghost use Rattle.c_typed.specs.declared.tree.Node.{out-Node};
+ghost use Rattle.c_typed.specs.declared.tree.Typed.{Typed as TypedOf, out-Typed};
+ghost use Rattle.c_typed.specs.Tree.{tree_of, size};
+ghost use Rattle.run_code.specs.Numbered.{IsAt, AreBelow, AreNoted};
+ghost use Rattle.run_code.specs.Choosing.{chooses};
+ghost use Rattle.run_code.specs.AtOnce.{first_evaluated, own_choice, operand_number as number_of_operand, chosen_of};
 
-use crate::nodes::{NodeInfo, operand};
-use crate::steps::Operand;
+use crate::nodes::NodeInfo;
+use crate::numbers::number_of;
 use c_typed::{Node, Typed};
 use run_acts::chosen;
-use std::alloc::Global;
 use ub_base::NoMemory;
 
-// Which operands of a node are due as soon as the node is.
-#[derive(Clone, Copy, Debug)]
-enum Due {
-    All,
-    Only(u32),
-    No,
-}
-
-impl Due {
-    fn has(self, index: usize) -> bool {
-        match self {
-            Due::All => true,
-            Due::Only(only) => index == only as usize,
-            Due::No => false,
-        }
-    }
-}
-
-pub fn is_choice(node: &Node) -> bool {
+pub fn is_choice(node: &Node) -> bool
+    ensures { result ≡ chooses (out-Node node.now) }
+{
     matches!(node, Node::And | Node::Or | Node::Cond)
 }
 
-// What a choice on this test evaluates at once: the test, unless it is quiet, and then the operand that it takes.
-fn first_due(node: &Node, test: Operand) -> Due {
-    if !test.is_quiet() {
-        return Due::Only(0);
+// The number of an operand, given the node's.
+pub fn operand_number(nodes: &[NodeInfo], number: u32, index: u32) -> usize
+    ensures { (firsts : List ℕ) (ts : List TypedOf) → AreNoted firsts nodes.now → AreBelow nodes.now number (suc number) ts → index ≤ length ts
+        → result ≡ number_of_operand ts index (suc number) }
+{
+    let mut at = number as usize + 1;
+    for _operand in 0..index {
+        at = behind(nodes, at);
     }
-    match chosen(node, test.truth()) {
-        Some(operand) => Due::Only(operand),
-        None => Due::No,
+    at
+}
+
+// The number of the operand behind the one with this number.
+fn behind(nodes: &[NodeInfo], at: usize) -> usize
+    ensures { (firsts : List ℕ) (parent : Option ℕ) (t : TypedOf) → AreNoted firsts nodes.now → IsAt nodes.now at parent t
+        → result ≡ at + size (tree_of t) }
+{
+    match nodes.get(at) {
+        Some(info) => info.next as usize,
+        None => at,
     }
 }
 
-fn due_operands(node: &Node, number: u32, nodes: &[NodeInfo]) -> Due {
-    if is_choice(node) {
-        first_due(node, operand(nodes, number, 0))
-    } else {
-        Due::All
+// The operand that a choice evaluates first: its test, unless that is quiet, and then the one that it takes.
+fn first_operand(root: &Typed, number: u32, nodes: &[NodeInfo]) -> Option<u32>
+    ensures { (firsts : List ℕ) (parent : Option ℕ) → AreNoted firsts nodes.now → IsAt nodes.now number parent root.now
+        → chooses (out-Node (out-Typed root.now).node) ≡ true
+        → result ≡ first_evaluated firsts (out-Node (out-Typed root.now).node) number (slice_get (out-Typed root.now).children 0) }
+{
+    let Some(_test) = root.children.get(0) else {
+        return None;
+    };
+    let Some(test) = nodes.get(number as usize + 1) else {
+        return None;
+    };
+    if !test.operand.is_quiet() {
+        return Some(0);
     }
+    chosen(&root.node, test.operand.truth())
+}
+
+// Adds the choice of a node that takes this operand, if that isn't its test.
+fn add_own(number: u32, operand: u32, all: &mut Vec<(u32, u32)>) -> Result<(), NoMemory>
+    ensures { OnOk result (all.new.items ≡ all.old.items ++ own_choice number operand) }
+{
+    if operand != 0 {
+        all.push((number, operand))?;
+    }
+    Ok(())
 }
 
 // Adds the choices that are made as soon as this node is due: those whose test is quiet.
@@ -54,21 +76,26 @@ pub fn chosen_at_once(
     number: u32,
     nodes: &[NodeInfo],
     all: &mut Vec<(u32, u32)>,
-) -> Result<(), NoMemory> {
-    let due = due_operands(&root.node, number, nodes);
-    if let Due::Only(operand) = due {
-        if operand != 0 {
-            all.push((number, operand))?;
-        }
+) -> Result<(), NoMemory>
+    ensures { (firsts : List ℕ) (parent : Option ℕ) → AreNoted firsts nodes.now → IsAt nodes.now number parent root.now
+        → OnOk result (all.new.items ≡ all.old.items ++ chosen_of firsts root.now number) }
+{
+    if is_choice(&root.node) {
+        let Some(operand) = first_operand(root, number, nodes) else {
+            return Ok(());
+        };
+        add_own(number, operand, all)?;
+        let Some(child) = root.children.get(operand as usize) else {
+            return Ok(());
+        };
+        let at = number_of(operand_number(nodes, number, operand))?;
+        return chosen_at_once(child, at, nodes, all);
     }
-    let mut at = number.saturating_add(1);
-    for (index, child) in root.children.as_slice().iter().enumerate() {
-        if due.has(index) {
-            chosen_at_once(child, at, nodes, all)?;
-        }
-        if let Some(info) = nodes.get(at as usize) {
-            at = info.next;
-        }
+    let mut at = number as usize + 1;
+    for child in root.children.as_slice() {
+        let operand = number_of(at)?;
+        chosen_at_once(child, operand, nodes, all)?;
+        at = behind(nodes, at);
     }
     Ok(())
 }

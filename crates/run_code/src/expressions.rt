@@ -32,6 +32,7 @@ impl<'p> Expressions<'p> {
     ghost use Rattle.run_code.specs.Roots.{roots_in};
     ghost use Rattle.run_code.specs.Numbered.{AreNodes};
     ghost use Rattle.run_code.specs.InRange.{IsRange, IsChoice, IsObject, IsBlock};
+    ghost use Rattle.run_code.specs.AtOnce.{chosen_of, Lists};
     ghost use Rattle.run_code.specs.EventActs.{AreGrown, AreEntries};
     ghost use Rattle.c_typed.specs.Tree.{tree_of, size};
     ghost use Rattle.core_ir.specs.declared.term.Core.{Core as CoreOf};
@@ -83,6 +84,7 @@ impl<'p> Expressions<'p> {
 
     pub fn add_chosen(&mut self, chosen: &[(u32, u32)]) -> Result<Range, NoMemory>
         ensures within { IfOk result (IsRange (length self.new.tables.chosen.items)) }
+        ensures lists { IfOk result (λ r. Lists self.new.tables.chosen.items r chosen.now) }
         ensures grown { AreGrown self.old.tables self.new.tables }
         ensures fit { (p : ProgramOf) → AreFit p self.old.tables → AreFit p self.new.tables }
         ensures kept { self.new.laid ≡ self.old.laid }
@@ -92,7 +94,7 @@ impl<'p> Expressions<'p> {
 
     pub fn add_choice(&mut self, choice: Choice) -> Result<u32, NoMemory>
         requires { IsChoice (length self.old.tables.chosen.items) choice }
-        ensures within { IfOk result (λ n. n < length self.new.tables.choices.items) }
+        ensures at { IfOk result (λ n. slice_get self.new.tables.choices.items n ≡ Some choice) }
         ensures grown { AreGrown self.old.tables self.new.tables }
         ensures fit { (p : ProgramOf) → AreFit p self.old.tables → AreFit p self.new.tables }
         ensures kept { self.new.laid ≡ self.old.laid }
@@ -127,8 +129,8 @@ impl<'p> Expressions<'p> {
         nodes: &[NodeInfo<'p>],
         entries: &[Listed<'p>],
     ) -> Result<(), NoMemory>
-        requires laid_out { (firsts : List ℕ) × AreNodes firsts root.now nodes.now × AreEntries firsts self.old.tables nodes.now entries.now }
-        requires within { IsRange (length self.old.tables.chosen.items) chosen }
+        requires laid_out { (firsts : List ℕ) × AreNodes firsts root.now nodes.now × AreEntries firsts self.old.tables nodes.now entries.now
+            × Lists self.old.tables.chosen.items chosen (chosen_of firsts root.now 0) }
         requires counted { length nodes.now < 2 ^ 32 }
         ensures order { OnOk result (roots_in self.new.laid.all.items ≡ roots_in self.old.laid.all.items ++ root.now ∷ []) }
         ensures listed { (terms : List CoreOf) → AreOfTerms terms self.old.laid → entries_of entries.now ≡ flat_of (size (tree_of root.now)) (slice_get terms (length self.old.laid.all.items))

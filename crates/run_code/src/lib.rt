@@ -16,7 +16,7 @@ mod tables;
 mod whole;
 
 pub use expressions::{Expressions, Laid};
-pub use laws::law_listing;
+pub use laws::{law_choices, law_listing};
 pub use statements::code_of;
 pub use steps::{
     Act, BlockCode, CallCode, Choice, Due, Expression, FunctionCode, Listed, ObjectCode, Operand,

@@ -1,6 +1,5 @@
 // The listing of one full expression, from its term.
-ghost use Rattle.std.specs.Prelude.{◌≡◌, ◌<◌, [], ◌∷◌, ◌++◌, ◌-◌, ◌^◌, ℕ, min, length, OnOk, IfOk, Some, slice_get};
-ghost use Rattle.std.specs.Option.{ForSome};
+ghost use Rattle.std.specs.Prelude.{◌≡◌, ◌<◌, [], ◌∷◌, ◌++◌, ◌-◌, ◌^◌, ℕ, List, Option, min, length, OnOk, IfOk, Some, slice_get};
 ghost use Rattle.c_types.specs.Types.{type_of};
 ghost use Rattle.c_typed.specs.declared.tree.Typed.{out-Typed};
 ghost use Rattle.c_typed.specs.Order.{place};
@@ -11,14 +10,17 @@ ghost use Rattle.run_code.specs.Listings.{entries_of, one, continuation, flat};
 ghost use Rattle.run_code.specs.OfTrees.{flat_of, AreOfTerms};
 ghost use Rattle.run_code.specs.declared.steps.Operand.{Operand as OperandOf};
 ghost use Rattle.run_code.specs.Resolved.{value_at};
-ghost use Rattle.run_code.specs.Numbered.{AreNoted};
+ghost use Rattle.run_code.specs.Numbered.{IsAt, AreNoted};
 ghost use Rattle.run_code.specs.InRange.{IsRange, IsChoice};
+ghost use Rattle.run_code.specs.AtOnce.{chosen_of, Lists};
+ghost use Rattle.run_code.specs.Choices.{Goes, IsChoiceOf, MakesChoice, ChoosesAt};
 ghost use Rattle.run_code.specs.Fitting.{AccessFits, RootFits, NodesFit, TreeFits, AreFit};
 ghost use Rattle.run_code.specs.EventActs.{head_at, pointed, first_type, seen, last_of, rest_of, room_of, change_access, IsValue, Stores, IsEffect, Calls, IsBody, IsAct, ends_with, IsDue, AreEntries, AreGrown};
 
-use crate::choices::{chosen_at_once, is_choice};
+use crate::choices::{chosen_at_once, is_choice, operand_number};
 use crate::draft::{Draft, count_of};
-use crate::nodes::{Counts, NodeInfo, collect, operand_number, operands};
+use crate::nodes::{Counts, NodeInfo, collect, operands};
+use crate::numbers::number_of;
 use crate::steps::{
     Act, CallCode, Choice, Due, Expression, Listed, Operand, Range, StoreCode, Way,
 };
@@ -110,6 +112,7 @@ impl<'p> Draft<'p> {
         ensures fit { (p : ProgramOf) → AreFit p self.old.expressions.tables → OnOk result (AreFit p self.new.expressions.tables) }
         ensures grown { OnOk result (AreGrown self.old.expressions.tables self.new.expressions.tables) }
         ensures within { IfOk result (IsRange (length self.new.expressions.tables.chosen.items)) }
+        ensures chosen { (firsts : List ℕ) (parent : Option ℕ) → AreNoted firsts nodes.now → IsAt nodes.now number parent root.now → IfOk result (λ r. Lists self.new.expressions.tables.chosen.items r (chosen_of firsts root.now number)) }
     {
         let mut chosen = Vec::new(self.alloc);
         chosen_at_once(root, number, nodes, &mut chosen)?;
@@ -267,6 +270,7 @@ impl<'p> Draft<'p> {
         ensures fit { (p : ProgramOf) → RootFits p info.entry.tree.now → AreFit p self.old.expressions.tables → OnOk result (AreFit p self.new.expressions.tables) }
         ensures grown { OnOk result (AreGrown self.old.expressions.tables self.new.expressions.tables) }
         ensures due { IfOk result (λ d. AreNoted self.old.function.objects.first.items nodes.now → slice_get nodes.now number ≡ Some info.entry → IsDue self.old.function.objects.first.items self.new.expressions.tables (length nodes.now) d info.entry) }
+        ensures choice { (firsts : List ℕ) → AreNoted firsts nodes.now → IfOk result (λ d. ChoosesAt firsts self.new.expressions.tables nodes.now number info.entry d.place.kind d.choice) }
     {
         let tree = info.tree;
         let operands = operands(self.alloc, nodes, tree, number)?;
@@ -316,7 +320,7 @@ impl<'p> Draft<'p> {
         ensures kept { self.new.expressions.laid ≡ self.old.expressions.laid }
         ensures fit { (p : ProgramOf) → AreFit p self.old.expressions.tables → OnOk result (AreFit p self.new.expressions.tables) }
         ensures grown { OnOk result (AreGrown self.old.expressions.tables self.new.expressions.tables) }
-        ensures within { IfOk result (λ o. ForSome o (λ n. n < length self.new.expressions.tables.choices.items)) }
+        ensures choice { (firsts : List ℕ) → AreNoted firsts nodes.now → IfOk result (ChoosesAt firsts self.new.expressions.tables nodes.now number info.entry kind) }
     {
         match kind {
             Kind::Val => self.choice(info, number, nodes),
@@ -335,7 +339,7 @@ impl<'p> Draft<'p> {
         ensures kept { self.new.expressions.laid ≡ self.old.expressions.laid }
         ensures fit { (p : ProgramOf) → AreFit p self.old.expressions.tables → OnOk result (AreFit p self.new.expressions.tables) }
         ensures grown { OnOk result (AreGrown self.old.expressions.tables self.new.expressions.tables) }
-        ensures within { IfOk result (λ o. ForSome o (λ n. n < length self.new.expressions.tables.choices.items)) }
+        ensures choice { (firsts : List ℕ) → AreNoted firsts nodes.now → IfOk result (MakesChoice firsts self.new.expressions.tables nodes.now number info.entry) }
     {
         let Some(parent) = info.parent else {
             return Ok(None);
@@ -343,7 +347,7 @@ impl<'p> Draft<'p> {
         let Some(above) = nodes.get(parent as usize) else {
             return Ok(None);
         };
-        if !is_choice(&above.tree.node) || parent.saturating_add(1) != number {
+        if !is_choice(&above.tree.node) || number <= parent || number - parent != 1 {
             return Ok(None);
         }
         let choice = self.ways(above, parent, info.operand, nodes)?;
@@ -363,6 +367,7 @@ impl<'p> Draft<'p> {
         ensures fit { (p : ProgramOf) → AreFit p self.old.expressions.tables → OnOk result (AreFit p self.new.expressions.tables) }
         ensures grown { OnOk result (AreGrown self.old.expressions.tables self.new.expressions.tables) }
         ensures within { IfOk result (IsChoice (length self.new.expressions.tables.chosen.items)) }
+        ensures choice { (firsts : List ℕ) → AreNoted firsts nodes.now → slice_get nodes.now node ≡ Some above.now → IfOk result (IsChoiceOf firsts self.new.expressions.tables node above.now test) }
     {
         let yes = self.way(above, node, true, nodes)?;
         let no = self.way(above, node, false, nodes)?;
@@ -386,18 +391,24 @@ impl<'p> Draft<'p> {
         ensures fit { (p : ProgramOf) → AreFit p self.old.expressions.tables → OnOk result (AreFit p self.new.expressions.tables) }
         ensures grown { OnOk result (AreGrown self.old.expressions.tables self.new.expressions.tables) }
         ensures within { IfOk result (λ w. IsRange (length self.new.expressions.tables.chosen.items) w.chosen) }
+        ensures goes { (firsts : List ℕ) → AreNoted firsts nodes.now → slice_get nodes.now number ≡ Some above.now → IfOk result (Goes firsts self.new.expressions.tables number above.now truth) }
     {
         let operand = chosen(&above.tree.node, truth);
+        let none = Range { first: 0, count: 0 };
         let Some(index) = operand else {
-            let chosen = Range { first: 0, count: 0 };
-            return Ok(Way { operand, chosen });
+            return Ok(Way {
+                operand,
+                chosen: none,
+            });
         };
-        let at = operand_number(nodes, number, index);
-        let Some(info) = nodes.get(at as usize) else {
-            let chosen = Range { first: 0, count: 0 };
-            return Ok(Way { operand, chosen });
+        let Some(child) = above.tree.children.get(index as usize) else {
+            return Ok(Way {
+                operand,
+                chosen: none,
+            });
         };
-        let chosen = self.chosen(info.tree, at, nodes)?;
+        let at = number_of(operand_number(nodes, number, index))?;
+        let chosen = self.chosen(child, at, nodes)?;
         Ok(Way { operand, chosen })
     }
 

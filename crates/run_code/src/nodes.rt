@@ -4,6 +4,7 @@ ghost use Rattle.c_typed.specs.declared.tree.Typed.{out-Typed};
 ghost use Rattle.c_types.specs.Types.{type_of};
 ghost use Rattle.run_code.specs.Resolved.{object_of, local_number, constant_of, by_conversion, member_of, resolved, operands_from, value_at};
 ghost use Rattle.run_code.specs.Numbered.{AreAdded, AreNoted, AreBelow};
+ghost use Rattle.run_code.specs.AtOnce.{truth_of, is_known};
 ghost use Rattle.run_code.specs.Fitting.{TreeFits, NodesFit};
 ghost use Rattle.c_typed.specs.declared.program.Program.{Program as ProgramOf};
 
@@ -127,7 +128,9 @@ pub fn operand_of(objects: &Objects, root: &Typed, number: u32) -> Operand
 
 impl Operand {
     // The node has no event.
-    pub fn is_quiet(self) -> bool {
+    pub fn is_quiet(self) -> bool
+        ensures { result ≡ is_known self }
+    {
         match self {
             Operand::Done(_) => false,
             _ => true,
@@ -135,7 +138,9 @@ impl Operand {
     }
 
     // Whether a quiet value is unequal to 0. Objects and functions stand at no address 0.
-    pub fn truth(self) -> bool {
+    pub fn truth(self) -> bool
+        ensures { result ≡ truth_of self }
+    {
         match self {
             Operand::Integer(value) => value != 0,
             Operand::Address(addr) | Operand::Function(addr) => addr != 0,
@@ -216,18 +221,6 @@ fn info<'p>(
     }
 }
 
-// The number of an operand, given the node's.
-pub fn operand_number(nodes: &[NodeInfo], number: u32, index: u32) -> u32 {
-    let mut at = number.saturating_add(1);
-    for _ in 0..index {
-        at = match nodes.get(at as usize) {
-            Some(info) => info.next,
-            None => at,
-        };
-    }
-    at
-}
-
 // Where the values of the operands of the node of this number come from.
 pub fn operands(
     alloc: Global,
@@ -248,12 +241,4 @@ pub fn operands(
         at = info.next as usize;
     }
     Ok(operands)
-}
-
-// Where the value of an operand comes from.
-pub fn operand(nodes: &[NodeInfo], number: u32, index: u32) -> Operand {
-    match nodes.get(operand_number(nodes, number, index) as usize) {
-        Some(info) => info.operand,
-        None => Operand::Integer(0),
-    }
 }

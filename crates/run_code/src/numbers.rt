@@ -1,5 +1,5 @@
 // Numbers of nodes, and of what stands in a table.
-ghost use Rattle.std.specs.Prelude.{◌≡◌, ◌-◌, ◌^◌, ◌≤◌, min, length, IfOk};
+ghost use Rattle.std.specs.Prelude.{◌≡◌, ◌+◌, ◌-◌, ◌^◌, ◌≤◌, min, length, IfOk};
 ghost use Rattle.run_code.specs.InRange.{IsRange};
 
 use crate::steps::Range;
@@ -25,7 +25,8 @@ pub fn next_number<T>(items: &Vec<T>) -> Result<u32, NoMemory>
 // What stands in a table from this entry on.
 pub fn range_from<T>(items: &Vec<T>, first: u32) -> Result<Range, NoMemory>
     requires { first ≤ length items.now.items }
-    ensures { IfOk result (IsRange (length items.now.items)) }
+    ensures within { IfOk result (IsRange (length items.now.items)) }
+    ensures whole { IfOk result (λ r. (r.first ≡ first) × (r.first + r.count ≡ length items.now.items)) }
 {
     let end = next_number(items)?;
     Ok(Range {

@@ -29,6 +29,7 @@ pub struct Tables<'p> {
 impl<'p> Tables<'p> {
     ghost use Rattle.std.specs.Prelude.{◌≡◌, ◌<◌, ◌≤◌, Some, slice_get, IfOk};
     ghost use Rattle.run_code.specs.InRange.{IsRange};
+    ghost use Rattle.run_code.specs.AtOnce.{Lists};
     ghost use Rattle.run_code.specs.EventActs.{AreGrown};
     ghost use Rattle.c_typed.specs.declared.program.Program.{Program as ProgramOf};
     ghost use Rattle.run_code.specs.Fitting.{AreFit, AreLawful, StoreFits};
@@ -81,6 +82,7 @@ impl<'p> Tables<'p> {
     // Gives the range of these.
     pub fn add_chosen(&mut self, chosen: &[(u32, u32)]) -> Result<Range, NoMemory>
         ensures within { IfOk result (IsRange (length self.new.chosen.items)) }
+        ensures lists { IfOk result (λ r. Lists self.new.chosen.items r chosen.now) }
         ensures grown { AreGrown self.old self.new }
         ensures fit { (p : ProgramOf) → AreFit p self.old → AreFit p self.new }
     {
@@ -91,7 +93,7 @@ impl<'p> Tables<'p> {
 
     pub fn add_choice(&mut self, choice: Choice) -> Result<u32, NoMemory>
         requires { IsChoice (length self.old.chosen.items) choice }
-        ensures within { IfOk result (λ n. n < length self.new.choices.items) }
+        ensures at { IfOk result (λ n. slice_get self.new.choices.items n ≡ Some choice) }
         ensures grown { AreGrown self.old self.new }
         ensures fit { (p : ProgramOf) → AreFit p self.old → AreFit p self.new }
     {

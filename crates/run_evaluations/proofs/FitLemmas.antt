@@ -133,6 +133,7 @@ pub record RootFits (c : Class) (own : Listing) (r : Rule) (last : ℕ) : Type 0
   pub comma : (l : ℕ) → r ≡ rules.Comma l → (c ≡ class.Comma) × (l ≡ last)
   pub free : (c ≡ class.Choice → ⊥) → (c ≡ class.Comma → ⊥) → is_unsequenced r ≡ true
   pub listed : c ≡ class.Isolated → own.listed ≡ true
+  pub exact : is_unsequenced r ≡ true → (c ≡ class.Choice → ⊥) × (c ≡ class.Comma → ⊥)
 
 conversion_other : (c : Conversion) (o : Option Class) → conversion_class c o ≡ class.Isolated → ⊥
 conversion_other (conversion.Integer k) None h = absurd (cc)
@@ -148,13 +149,33 @@ member_other None h = absurd (cc)
 member_other (Some class.Object) h = absurd (cc)
 member_other (Some _) h = absurd (cc)
 
-open_fits : (c : Class) (own : Listing) (last : ℕ) → (c ≡ class.Isolated → ⊥) → RootFits c own rules.Open last
-open_fits c own last other = record {
+conversion_plain : (c : Conversion) (o : Option Class) → (conversion_class c o ≡ class.Choice → ⊥) × (conversion_class c o ≡ class.Comma → ⊥)
+conversion_plain (conversion.Integer k) None = (λ h. absurd (cc), λ h. absurd (cc))
+conversion_plain (conversion.Integer k) (Some c) = (λ h. go (is_quiet_class c) h, λ h. on (is_quiet_class c) h)
+  where
+    go : (b : Bool) → (if b then class.Constant else class.Plain) ≡ class.Choice → ⊥
+    go true e = absurd (cc)
+    go false e = absurd (cc)
+
+    on : (b : Bool) → (if b then class.Constant else class.Plain) ≡ class.Comma → ⊥
+    on true e = absurd (cc)
+    on false e = absurd (cc)
+conversion_plain _ o = (λ h. absurd (cc), λ h. absurd (cc))
+
+member_plain : (o : Option Class) → (member_class o ≡ class.Choice → ⊥) × (member_class o ≡ class.Comma → ⊥)
+member_plain None = (λ h. absurd (cc), λ h. absurd (cc))
+member_plain (Some class.Object) = (λ h. absurd (cc), λ h. absurd (cc))
+member_plain (Some _) = (λ h. absurd (cc), λ h. absurd (cc))
+
+open_fits : (c : Class) (own : Listing) (last : ℕ) → (c ≡ class.Isolated → ⊥) → (c ≡ class.Choice → ⊥) × (c ≡ class.Comma → ⊥) →
+    RootFits c own rules.Open last
+open_fits c own last other plain = record {
   closed = λ h. absurd (cc);
   choice = λ h. absurd (cc);
   comma = λ l h. absurd (cc);
   free = λ a b. refl;
   listed = λ h. absurd (other h);
+  exact = λ h. plain;
 }
 
 choice_fits : (own : Listing) (last : ℕ) → RootFits class.Choice own rules.Choice last
@@ -164,6 +185,7 @@ choice_fits own last = record {
   comma = λ l h. absurd (cc);
   free = λ a b. absurd (a refl);
   listed = λ h. absurd (cc);
+  exact = λ h. absurd (cc);
 }
 
 root_fits : (z : Node-F Node Typed) (ts : Trees) (last : ℕ) → RootFits (class_in z ts) (listing_in z) (rule_at z last) last
@@ -176,6 +198,7 @@ root_fits shape.Comma ts last = record {
   comma = λ l h. (refl, sym (ap comma_number h));
   free = λ a b. absurd (b refl);
   listed = λ h. absurd (cc);
+  exact = λ h. absurd (cc);
 }
 root_fits (shape.Call discarded) ts last = record {
   closed = λ h. inl refl;
@@ -183,6 +206,7 @@ root_fits (shape.Call discarded) ts last = record {
   comma = λ l h. absurd (cc);
   free = λ a b. refl;
   listed = λ h. absurd (cc);
+  exact = λ h. (λ e. absurd (cc), λ e. absurd (cc));
 }
 root_fits (shape.List object bytes) ts last = record {
   closed = λ h. inr (inl refl);
@@ -190,6 +214,7 @@ root_fits (shape.List object bytes) ts last = record {
   comma = λ l h. absurd (cc);
   free = λ a b. refl;
   listed = λ h. absurd (cc);
+  exact = λ h. (λ e. absurd (cc), λ e. absurd (cc));
 }
 root_fits (shape.Isolated tree) ts last = record {
   closed = λ h. inr (inr refl);
@@ -197,10 +222,12 @@ root_fits (shape.Isolated tree) ts last = record {
   comma = λ l h. absurd (cc);
   free = λ a b. refl;
   listed = λ h. refl;
+  exact = λ h. (λ e. absurd (cc), λ e. absurd (cc));
 }
 root_fits (shape.Conv c) ts last = open_fits (conversion_class c (first_class ts)) no_listing last (conversion_other c (first_class ts))
-root_fits (shape.Member offset) ts last = open_fits (member_class (first_class ts)) no_listing last (member_other (first_class ts))
-root_fits z ts last = open_fits (class_in z ts) (listing_in z) last (λ h. absurd (cc))
+    (conversion_plain c (first_class ts))
+root_fits (shape.Member offset) ts last = open_fits (member_class (first_class ts)) no_listing last (member_other (first_class ts)) (member_plain (first_class ts))
+root_fits z ts last = open_fits (class_in z ts) (listing_in z) last (λ h. absurd (cc)) (λ h. absurd (cc), λ h. absurd (cc))
 
 -- ---- lists and their initializers
 has_nothing : (us : List Typed) → has_none (map listing us) ≡ true → trees_of us ≡ none
@@ -237,6 +264,7 @@ pub record NodeFits (n : ℕ) (c : Class) (ts : Trees) (r : Rule) : Type 0 where
   pub comma : (l : ℕ) → r ≡ rules.Comma l → (c ≡ class.Comma) × (l ≡ last_number (suc n) ts n)
   pub free : (c ≡ class.Choice → ⊥) → (c ≡ class.Comma → ⊥) → is_unsequenced r ≡ true
   pub alone : c ≡ class.Isolated → ts ≡ none
+  pub exact : is_unsequenced r ≡ true → (c ≡ class.Choice → ⊥) × (c ≡ class.Comma → ⊥)
 
 abbrev Fits : Typed → Type 0
 Fits t = (k : ℕ) → k + size (tree_of t) < 2 ^ 32 → (listing t).lists ≡ true → (n : ℕ) (c : Class) (ts : Trees) →
@@ -306,6 +334,7 @@ fits = by_size Fits (λ t each k small all n c ts h.
         comma = λ x is. let r = root.comma x is in (sym c_is ∙ r.0, r.1 ∙ last_one);
         free = λ a b. root.free (λ e. a (sym c_is ∙ e)) (λ e. b (sym c_is ∙ e));
         alone = λ is. sym ts_is ∙ has_nothing us (implied (listing_in z).listed _ q.1 (root.listed (c_is ∙ is)));
+        exact = λ h. let x = root.exact h in (λ e. x.0 (c_is ∙ e), λ e. x.1 (c_is ∙ e));
       },
     ))
     (λ other.
@@ -336,6 +365,9 @@ rules_fit root list taken listed small alone = (
         ap is_unsequenced (sym (rule_is n r.0 r.1)) ∙ r.2.free a b;
   },
   λ n ts h. (fits root 0 (omega (arith, small)) alone n class.Isolated ts h).2.alone refl,
+  λ n free c ts h.
+      let r = fits root 0 (omega (arith, small)) alone n c ts h in
+      r.2.exact (ap is_unsequenced (rule_is n r.0 r.1) ∙ free),
 )
   where
     rule_is : (n : ℕ) (r : Rule) → slice_get (rules_of root 0) (n - 0) ≡ Some r → r ≡ rule_in list n

@@ -25,11 +25,11 @@ use Rattle.evaluation_log.proofs.WholeLemmas.{get_left, get_seam, starts_past, s
 use Rattle.evaluation_log.proofs.LooseWholeLemmas.{start_by, below_or_at, looses_past}
 use Rattle.run_evaluations.specs.declared.open.Evaluations.{Evaluations}
 use Rattle.run_evaluations.specs.Kept.{IsKept, IsFirst, IsLogged, IsSameLog, IsSameRest}
-use Rattle.run_evaluations.specs.Listed.{IsOpenIn, AllListed, AnyEvent, NotLastEffect, AreOperands, NoneApart, Stays, stays_from}
-use Rattle.run_evaluations.specs.Loose.{EndsAt, IsFull, IsFullBut, IsListed, IsLooseKept, IsOver, NoneBelow, stays_of, top_scope}
+use Rattle.run_evaluations.specs.Listed.{IsOpenIn, AllListed, AnyEvent, NotLastEffect, AreOperands, Stays, stays_from}
+use Rattle.run_evaluations.specs.Loose.{EndsAt, IsFull, IsFullBut, IsListed, IsLooseKept, IsOver, stays_of, top_scope}
 use Rattle.run_evaluations.specs.Scopes.{Scope, IsBelow, ComesTo, IsRuled, ListsAreAlone, place_of}
 use Rattle.run_evaluations.proofs.LooseWholeLemmas.{start_marked, AreAlike, AlikeAt, alike_start, alike_low, same_alike}
-use Rattle.run_evaluations.proofs.ListedLemmas.{all_by, all_joined, all_listed, all_logged, apart_of, top_only, top_cut, cut_there, level_within, node_within}
+use Rattle.run_evaluations.proofs.ListedLemmas.{all_by, all_joined, all_listed, all_logged, top_only, top_cut, cut_there, level_within, node_within}
 use Rattle.run_evaluations.proofs.ListedLemmas.{rule_below, rule_comes, rule_gone}
 
 -- ---- the same lists
@@ -328,13 +328,6 @@ full_listed a d scopes last rest like listed nodes n w r but =
     (λ g le. let s = inside ss a.events.items a.items.items a.large.items a.levels.items w g (omega (arith, le, n)) in
     low_some a.loose.items (a.loose.items ++ ((length a.events.items - 1) ∷ [])) (slice_get ss g) (slice_get ts g) s.0 s.1 (listed.lows g))
     (omega (arith, count, n)))
-
-pub apart_if : (rows : List Row) (a : Evaluations) (scopes : ℕ → Scope) (n : ℕ) → IsFullBut scopes a → EndsAt a n → ListsAreAlone (top_scope scopes a) →
-    (r : Option Found) → IfNone r (NoneBelow rows a n) →
-    IfNone r (NoneApart rows (top_scope scopes a) a.segments.items a.events.items a.items.items n)
-apart_if rows a scopes n but ends alone (Some f) none = tt
-apart_if rows a scopes n but ends alone None none =
-    apart_of a.segments.items a.events.items a.loose.items a.levels.items scopes rows a.items.items n but ends.top ends.own ends.event (alone n) none
 
 pub below_after : (a b : Evaluations) (scopes : ℕ → Scope) (node : ℕ) (kind : Kind) → b.levels.items ≡ a.levels.items →
     IsBelow (top_scope scopes a) node (place node kind) → IsBelow (top_scope scopes b) node (place node kind)

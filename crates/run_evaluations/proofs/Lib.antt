@@ -1,5 +1,7 @@
+pub mod BelowLemmas
 pub mod EndLemmas
 pub mod EndShowLemmas
+pub mod FirstLemmas
 pub mod FitLemmas
 pub mod FollowLemmas
 pub mod FrameLemmas
@@ -9,8 +11,9 @@ pub mod GrowLemmas
 pub mod KeptLemmas
 pub mod LentLemmas
 pub mod ListedLemmas
-pub mod LooseLemmas
+pub mod ListingLemmas
 pub mod LooseWholeLemmas
+pub mod NodeLemmas
 pub mod PartLemmas
 pub mod PendingLemmas
 pub mod ShowLemmas

@@ -30,7 +30,7 @@ use Rattle.evaluation_log.specs.Ways.{node_of}
 use Rattle.evaluation_log.proofs.KeptLemmas.{before_or_past}
 use Rattle.evaluation_log.proofs.WholeLemmas.{get_left, get_seam, starts_past, not_none}
 use Rattle.run_evaluations.specs.Scopes.{Scope, IsBelow, ComesTo, IsRuled, IsOperandOf, part_of, place_of, last_number}
-use Rattle.run_evaluations.specs.Listed.{IsOpenIn, IsListed, AllListed, AnyEvent, NotLastEffect, AreOperands, is_node, stays_from, Stays, NoneApart}
+use Rattle.run_evaluations.specs.Listed.{IsOpenIn, IsListed, AllListed, AnyEvent, NotLastEffect, AreOperands, is_node, stays_from, Stays}
 use Rattle.run_evaluations.proofs.PartLemmas.{own_comes, before_own, below_up, comes_up, lift_up, side_at, side_part, side_due, is_last_at, last_at, last_high, first_at, first_number}
 
 below_or_at : (k n : ℕ) → k < suc n → (k < n) ⊎ (k ≡ n)
@@ -277,14 +277,15 @@ module _ (segments : List Segment) (events : List Logged) (loose : List ℕ) (le
       (before_or_past g at)
 
   -- ---- a node that is complete
-  pub apart_of : (rows : List Row) (items : List Item) (n : ℕ) → AllListed segments events loose levels scopes (NotLastEffect events) →
+  pub listed_apart : (n : ℕ) → AllListed segments events loose levels scopes (NotLastEffect events) →
       IsOpenIn levels (length levels - 1) (length segments - 1) → node_of (slice_get segments (length segments - 1)) ≡ Some n →
       ((u : Place) → place_of (slice_get events (length events - 1)) ≡ Some u → u.node ≡ n) →
       ((ts : Trees) → part_of (scopes (length levels - 1)) n ≡ Some (node class.Isolated ts) → ts ≡ none) →
-      ((k : ℕ) (e : Logged) → length events - 2 ≤ k → slice_get events k ≡ Some e → e.node ≡ n →
-      NoLoose rows events items loose (loose_from segments loose) (event_has items (Some e))) →
-      NoneApart rows (scopes (length levels - 1)) segments events items n
-  apart_of rows items n all opens at last alone none_below k i e d u v low from_e here v_is own from_i there u_is behind not_before =
+      (k i : ℕ) (e d : Logged) (u v : Place) → start_of segments events (length segments - 1) ≤ k → slice_get events k ≡ Some e →
+      place_of (Some e) ≡ Some v → e.node ≡ n → start_of segments events (length segments - 1) ≤ i → slice_get events i ≡ Some d →
+      place_of (Some d) ≡ Some u → n < d.node → is_before (scopes (length levels - 1)).taken 0 (scopes (length levels - 1)).tree u v ≡ false →
+      IsListed segments loose (length segments - 1) i
+  listed_apart n all opens at last alone k i e d u v from_e here v_is own from_i there u_is behind not_before =
       let s = scopes (length levels - 1) in
       let w = node_within segments (length segments - 1) n at in
       let end = starts_past segments events (suc (length segments - 1)) (omega (arith, w)) in
@@ -297,9 +298,7 @@ module _ (segments : List Segment) (events : List Logged) (loose : List ℕ) (le
       ⊎_elim
       (λ comes. absurd (let b = before_own s n u v r.0 t.0 (omega (arith, behind, node_is)) own_is alone comes in
       let z : false ≡ true = sym not_before ∙ b in cc))
-      (λ l. subst (λ (f : Item → Bool). NoClash Any rows (event_has items (Some e)) f)
-      (λ j q. (ap (λ o. event_has items (event_of events o) q) l.3 ∙ ap (λ o. event_has items o q) there) j)
-      (none_below k e low here own l.0 l.1))
+      (λ l. l)
       (r.1 (λ one. absurd (let z = last u (ap (λ q. place_of (slice_get events q)) (omega (arith, one)) ∙ ap place_of there ∙ u_is) in omega (arith, z, node_is, behind))))
 
 -- ---- what a rule takes from the list

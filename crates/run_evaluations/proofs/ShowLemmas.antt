@@ -28,7 +28,7 @@ use Rattle.evaluation_log.proofs.KeptLemmas.{before_or_past}
 use Rattle.evaluation_log.proofs.WholeLemmas.{get_right, starts_past}
 use Rattle.run_evaluations.specs.declared.open.Evaluations.{Evaluations}
 use Rattle.run_evaluations.specs.Kept.{NoneOfOperands}
-use Rattle.run_evaluations.specs.Listed.{ListedIn, NoneApart}
+use Rattle.run_evaluations.specs.Listed.{ListedIn}
 use Rattle.run_evaluations.specs.Loose.{top_scope}
 use Rattle.run_evaluations.specs.Scopes.{Scope, IsBelow, IsOperandOf, part_of, place_of}
 use Rattle.run_evaluations.specs.Shows.{IsAmong, AreApart, IsIn, AreOfTwo, NoneOfTwo, NoneOfNode, OwnAreLast}
@@ -123,7 +123,7 @@ module _ (taken : Taken) (c : Class) (choice : Option ℕ) where
 
 module _ (s : Scope) (n : ℕ) (c : Class) (ts : Trees) (here : part_of s n ≡ Some (node c ts)) (a b i j : ℕ) (p : IsOperandOf s n c ts i a)
     (q : IsOperandOf s n c ts j b) (rise : a < b) (u v : Place) (in_a : IsIn s a u.node) (in_b : IsIn s b v.node) where
-  in_order : i < j
+  pub in_order : i < j
   in_order =
       let na = p.number in
       let nb = q.number in
@@ -134,10 +134,10 @@ module _ (s : Scope) (n : ℕ) (c : Class) (ts : Trees) (here : part_of s n ≡ 
       (before_or_past j i)))
       (before_or_past i j)
 
-  tree_a : in_a.part ≡ p.side.tree
+  pub tree_a : in_a.part ≡ p.side.tree
   tree_a = same_Some _ _ (sym in_a.there ∙ operand_part s n a (record { class = c; operands = ts; there = here; index = i; of = p }))
 
-  tree_b : in_b.part ≡ q.side.tree
+  pub tree_b : in_b.part ≡ q.side.tree
   tree_b = same_Some _ _ (sym in_b.there ∙ operand_part s n b (record { class = c; operands = ts; there = here; index = j; of = q }))
 
   pub before_is : is_before s.taken 0 s.tree u v ≡ across c (s.taken n) i j
@@ -320,45 +320,6 @@ module _ (rows : List Row) (a : Evaluations) (t : Opened) (ts : List Opened) (f 
       operand_less : (m i : ℕ) → IsOperandOf t.scope n tell.class tell.operands i m → n < m
       operand_less m i o = let l = (side_at (suc n) tell.operands i o.side o.there).low in let e = o.number in omega (arith, l, e)
 
--- ---- a node and what is below it
-pub none_of_node : (rows : List Row) (a : Evaluations) (t : Opened) (ts : List Opened) (n : ℕ) (f : FollowsBut (t ∷ ts) n a) → OwnAreLast t n →
-    top_scope (scopes_of (t ∷ ts)) a ≡ t.scope →
-    NoneApart rows (top_scope (scopes_of (t ∷ ts)) a) a.segments.items a.events.items a.items.items n → NoneOfNode rows t n
-none_of_node rows a t ts n f own same no_clash d e x y here under apart =
-    let p = in_log a t ts _ f.holds f.all d x.0 x.1 in
-    let q = in_log a t ts _ f.holds f.all e y.0 y.1 in
-    let last = length a.segments.items - 1 in
-    let frame = f.holds.frames.0 in
-    let count = f.all.count in
-    let opens = top_open a.levels.items (length ts) in
-    let behind_all : (g m : ℕ) → base_of a.levels.items ≤ g → g < last → node_of (slice_get a.segments.items g) ≡ Some m → IsBeside t.scope m n =
-    λ g m low less h. frame.beside g last m n (opens g count low) (opens last count (omega (arith, low, less))) less h f.last.own in
-    let at_last : (g m : ℕ) (z : ℕ) → base_of a.levels.items ≤ g → g < length a.segments.items → node_of (slice_get a.segments.items g) ≡ Some m → n ≤ z →
-    (part : Tree) → part_of t.scope m ≡ Some part → z < m + size part → g ≡ last =
-    λ g m z low within h le part there high. ⊎_elim
-    (λ less. absurd (let b = (behind_all g m low less h).behind part there in omega (arith, b, le, high)))
-    (λ past. omega (arith, past, within))
-    (before_or_past g last) in
-    let node_d = at_last p.segment p.of d.place.node p.low p.within p.own (omega (arith, here)) p.below.part p.below.there p.below.high in
-    let low = under.low in
-    let node_e = at_last q.segment q.of e.place.node q.low q.within q.own (omega (arith, low)) q.below.part q.below.there q.below.high in
-    let size_all = length-append (all_done ts) t.done in
-    let logged = f.all.events in
-    let ends = own x.0 d x.1 here in
-    let from_d = p.from in
-    let from_e = q.from in
-    let sd = ap (start_of a.segments.items a.events.items) node_d in
-    let se = ap (start_of a.segments.items a.events.items) node_e in
-    let at_d = same_Some _ _ p.at in
-    let at_e = same_Some _ _ q.at in
-    let node_of_d = ap (λ (z : Place). z.node) at_d in
-    let node_of_e = ap (λ (z : Place). z.node) at_e in
-    none_sub rows (event_has a.items.items (Some p.event)) (event_has a.items.items (Some q.event)) (has d) (has e)
-    (λ j i. p.items j ∙ i) (λ j i. q.items j ∙ i)
-    (no_clash (length (all_done ts) + x.0) (length (all_done ts) + y.0) p.event q.event e.place d.place (omega (arith, logged, size_all, ends))
-    (omega (arith, sd, from_d)) p.there p.at (omega (arith, node_of_d, here)) (omega (arith, se, from_e)) q.there q.at (omega (arith, node_of_e, low))
-    (ap (λ s. is_before s.taken 0 s.tree e.place d.place) same ∙ apart.behind))
-
 pub scope_but : (a : Evaluations) (t : Opened) (ts : List Opened) (n : ℕ) → FollowsBut (t ∷ ts) n a → top_scope (scopes_of (t ∷ ts)) a ≡ t.scope
 scope_but a t ts n f = let c = f.all.count in ap (scopes_of (t ∷ ts)) (omega (arith, c)) ∙ scope_top t ts
 
@@ -369,9 +330,3 @@ pub two_done : {E : Type 0} (rows : List Row) (a : Evaluations) (t : Opened) (ts
 two_done rows a t ts f n rule chosen tell fresh (Err e) h = tt
 two_done rows a t ts f n rule chosen tell fresh (Ok (Some found)) h = tt
 two_done rows a t ts f n rule chosen tell fresh (Ok None) h = none_of_two rows a t ts f n rule chosen tell fresh h
-
-pub node_done : (rows : List Row) (a : Evaluations) (t : Opened) (ts : List Opened) (n : ℕ) (f : FollowsBut (t ∷ ts) n a) → OwnAreLast t n →
-    (r : Option Found) →
-    IfNone r (NoneApart rows (top_scope (scopes_of (t ∷ ts)) a) a.segments.items a.events.items a.items.items n) → IfNone r (NoneOfNode rows t n)
-node_done rows a t ts n f own (Some found) h = tt
-node_done rows a t ts n f own None h = none_of_node rows a t ts n f own (scope_but a t ts n f) h

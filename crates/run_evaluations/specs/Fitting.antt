@@ -1,5 +1,5 @@
 -- The rules of a typed tree's nodes fit its tree (6.5.13 to 6.5.17, 6.5.2.2p10, 6.7.9p23).
-use Rattle.std.specs.Prelude.{◌≡◌, ◌<◌, ◌^◌, Bool, true, false, not, ◌&&◌, ◌||◌, List, [], ◌∷◌}
+use Rattle.std.specs.Prelude.{◌≡◌, ◌<◌, ◌^◌, ℕ, Bool, true, false, not, ◌&&◌, ◌||◌, List, [], ◌∷◌}
 use Rattle.std.specs.List.{list_all}
 use Rattle.c_typed.specs.declared.tree.Node.TheOpen as shape
 use Rattle.c_typed.specs.declared.tree.Node.TheOpen.{Node-F, Typed-F}
@@ -8,6 +8,8 @@ use Rattle.c_typed.specs.Tree.{tree_of, size}
 use Rattle.c_typed.specs.Order.{Taken}
 use Rattle.evaluation_log.specs.declared.rules.Rules.{Rules}
 use Rattle.evaluation_log.specs.Ruled.{rules_of}
+use Rattle.evaluation_log.specs.Ways.{rule_in}
+use Rattle.run_evaluations.specs.First.{SequencesNone}
 use Rattle.run_evaluations.specs.Scopes.{ListsAreAlone}
 use Rattle.run_evaluations.specs.Shows.{FitsRules}
 
@@ -41,8 +43,9 @@ tree_listing t = record {
 abbrev pub has_lists_alone : Typed → Bool
 has_lists_alone t = (fold-Typed Listing Listing node_listing tree_listing t).lists
 
--- the rules that are made of such a tree are those of its nodes
+-- the rules that are made of such a tree are those of its nodes, and sequence no operands of those alone that do so
 abbrev pub RulesFit : Type 0
 RulesFit = (root : Typed) (rules : Rules) (taken : Taken) → rules.list.items ≡ rules_of root 0 → size (tree_of root) < 2 ^ 32 →
     has_lists_alone root ≡ true →
-    FitsRules (record { tree = tree_of root; taken = taken }) rules × ListsAreAlone (record { tree = tree_of root; taken = taken })
+    FitsRules (record { tree = tree_of root; taken = taken }) rules × ListsAreAlone (record { tree = tree_of root; taken = taken }) ×
+    ((n : ℕ) → SequencesNone (record { tree = tree_of root; taken = taken }) n (rule_in rules n))

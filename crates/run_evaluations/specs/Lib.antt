@@ -1,8 +1,11 @@
+pub mod Below
 pub mod Ends
+pub mod First
 pub mod Fitting
 pub mod Follows
 pub mod Kept
 pub mod Listed
+pub mod Listing
 pub mod Loose
 pub mod Scopes
 pub mod Shows

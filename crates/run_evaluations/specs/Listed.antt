@@ -75,10 +75,3 @@ stays_from (Comma number) chosen n last first behind end = if is_node last numbe
 -- what stands in a list from one place on stands in another from another place on
 abbrev pub Stays : (stays first : ℕ) → List ℕ → List ℕ → Type 0
 Stays stays first old new = (p k : ℕ) → first ≤ p → stays ≤ p → slice_get old p ≡ Some k → (q : ℕ) × (first ≤ q) × (slice_get new q ≡ Some k)
-
--- no event of the top segment that is below a node clashes with one of the node itself, which are of the last two, unless it is sequenced before that (6.5p2)
-abbrev pub NoneApart : List Row → Scope → List Segment → List Logged → List Item → (n : ℕ) → Type 0
-NoneApart rows s segments events items n = (k i : ℕ) (e d : Logged) (u v : Place) → length events - 2 ≤ k →
-    start_of segments events (length segments - 1) ≤ k → slice_get events k ≡ Some e → place_of (Some e) ≡ Some v → e.node ≡ n →
-    start_of segments events (length segments - 1) ≤ i → slice_get events i ≡ Some d → place_of (Some d) ≡ Some u → n < d.node →
-    is_before s.taken 0 s.tree u v ≡ false → NoClash Any rows (event_has items (Some e)) (event_has items (Some d))

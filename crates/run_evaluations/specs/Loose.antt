@@ -35,11 +35,6 @@ pub record IsListed (old new : Evaluations) : Type 0 where
       (loose_foot_of (slice_get new.segments.items (length old.segments.items - 1)))
       (event_has old.items.items (slice_get old.events.items (length old.events.items - 1)))
 
--- none of the node's own events, which are of the last two, clashes with a side effect below it
-abbrev pub NoneBelow : List Row → Evaluations → ℕ → Type 0
-NoneBelow rows o node = (k : ℕ) (e : Logged) → length o.events.items - 2 ≤ k → slice_get o.events.items k ≡ Some e → e.node ≡ node →
-    NoLoose rows o.events.items o.items.items o.loose.items (loose_from o.segments.items o.loose.items) (event_has o.items.items (Some e))
-
 -- ---- which events the list has
 
 -- each evaluation below the node of a segment that doesn't come before its value is listed, where these full expressions are open in the frames

@@ -1,5 +1,5 @@
 // A node's own events beside the side effects below it that come before its value in no order.
-ghost use Rattle.std.specs.Prelude.{Box, ◌≡◌, ◌≤◌, ◌<◌, ◌-◌, ◌∷◌, ℕ, true, false, length, slice_get, suc, List, Some, None, IfOk, IfNone, OnOk};
+ghost use Rattle.std.specs.Prelude.{Box, ◌≡◌, ◌≤◌, ◌<◌, ◌-◌, ◌∷◌, ℕ, true, false, length, slice_get, suc, List, Some, None, IfOk, IfNone, IfSome, OnOk};
 ghost use Rattle.std.specs.Global.{Global};
 ghost use Rattle.evaluation_log.specs.declared.log.Logged.{Logged};
 ghost use Rattle.evaluation_log.specs.Touched.{event_has};
@@ -7,17 +7,22 @@ ghost use Rattle.evaluation_log.specs.FoundItems.{ItemsConflict};
 ghost use Rattle.run_evaluations.specs.Kept.{IsKept, IsSameRest};
 ghost use Rattle.evaluation_log.specs.Kept.{AreLike, AllBelow, base_of};
 ghost use Rattle.evaluation_log.specs.Loose.{NoLoose, HasLoose, LooseKept, loose_from, HasEvent, loose_start_of, loose_foot_of};
+ghost use Rattle.c_typed.specs.Tree.{tree_of};
+ghost use Rattle.seq_order.specs.Marked.{taken_in};
+ghost use Rattle.evaluation_search.specs.First.{IsFirst};
+ghost use Rattle.run_evaluations.specs.First.{AreOfNode, IsConflictIn, IsOrdered};
 ghost use Rattle.run_evaluations.specs.Follows.{Follows, FollowsBut};
 ghost use Rattle.run_evaluations.specs.Listed.{is_eff};
 ghost use Rattle.run_evaluations.specs.Shows.{NoneOfNode, OwnAreLast};
 ghost use Rattle.run_evaluations.specs.Told.{Opened};
-ghost use Rattle.run_evaluations.specs.Loose.{EndsAt, IsFull, IsFullBut, IsLooseKept, IsListed, KeepsLoose, NoneBelow};
+ghost use Rattle.run_evaluations.specs.Loose.{EndsAt, IsFull, IsFullBut, IsLooseKept, IsListed, KeepsLoose};
 ghost use Rattle.run_evaluations.specs.Scopes.{ListsAreAlone, Scope, place_of};
 ghost use Rattle.evaluation_log.specs.Ways.{node_of};
 ghost use Rattle.c_typed.specs.declared.tree.Place.{Place};
 ghost use Rattle.ub_base.specs.declared.clause.Kind.TheVariants.{Eff};
 
 use crate::open::Evaluations;
+use crate::order::Order;
 use addr_map::AddrMap;
 use evaluation_log::{Found, Under};
 use footprint::Foot;
@@ -33,41 +38,26 @@ impl Evaluations {
         &mut self,
         frames: &Frames,
         map: &AddrMap,
+        order: Order<'_>,
         node: u32,
     ) -> Result<Option<Found>, NoMemory>
         ensures conflict { IfOk result ItemsConflict }
         ensures kept { OnOk result (IsKept self.old → IsKept self.new) }
         ensures loose { OnOk result (IsKept self.old → IsLooseKept self.old → IsLooseKept self.new) }
-        ensures none { IsLooseKept self.old → IfOk result (λ r. IfNone r (NoneBelow map.now self.old node)) }
         ensures apart { (t : Opened) (ts : List Opened) → FollowsBut (t ∷ ts) node self.old → OwnAreLast t node → ListsAreAlone t.scope →
+            IsOrdered t (taken_in order.entry.taken.now) (tree_of order.entry.root.now) →
             IfOk result (λ r. IfNone r (NoneOfNode map.now t node)) }
+        ensures first { (t : Opened) (ts : List Opened) → FollowsBut (t ∷ ts) node self.old → OwnAreLast t node → ListsAreAlone t.scope →
+            IsOrdered t (taken_in order.entry.taken.now) (tree_of order.entry.root.now) →
+            IfOk result (λ r. IfSome r (IsFirst frames.now (IsConflictIn frames.now map.now t (AreOfNode t node)))) }
         ensures follows { OnOk result ((os : List Opened) → FollowsBut os node self.old → Follows os self.new) }
     {
         let loose = self.loose_start();
         let own = self.own_events(node);
         self.gather_loose(own, loose)?;
-        let found = self.found_below(Under { frames, map }, own, loose)?;
+        let found = self.found_below(Under { frames, map }, order, own, loose)?;
         self.add_loose(node)?;
         Ok(found)
-    }
-
-    // The first conflict between an event from this one on and one of the list from a place on.
-    fn found_below(
-        &self,
-        under: Under<'_>,
-        own: usize,
-        loose: usize,
-    ) -> Result<Option<Found>, NoMemory>
-        ensures conflict { IfOk result ItemsConflict }
-        ensures none { LooseKept self.now.segments.items self.now.events.items self.now.items.items self.now.loose.items loose → IfOk result
-            (λ r. IfNone r ((k : ℕ) → own ≤ k → k < length self.now.events.items →
-            NoLoose under.entry.map.now self.now.events.items self.now.items.items self.now.loose.items loose
-            (event_has self.now.items.items (slice_get self.now.events.items k)))) }
-    {
-        if loose >= self.loose.len() {
-            return Ok(None);
-        }
-        self.search(under).found_below(&self.segments, own, loose)
     }
 
     // Where the loose events of the top segment begin.
@@ -82,7 +72,9 @@ impl Evaluations {
 
     // The first of the node's own events, which are of the last two.
     fn own_events(&self, node: u32) -> usize
-        ensures { (k : ℕ) (e : Logged) → length self.now.events.items - 2 ≤ k → slice_get self.now.events.items k ≡ Some e → e.node ≡ node → result ≤ k }
+        ensures low { length self.now.events.items - 2 ≤ result }
+        ensures least { (k : ℕ) (e : Logged) → length self.now.events.items - 2 ≤ k → slice_get self.now.events.items k ≡ Some e → e.node ≡ node → result ≤ k }
+        ensures own { (k : ℕ) (e : Logged) → result ≤ k → suc k < length self.now.events.items → slice_get self.now.events.items k ≡ Some e → e.node ≡ node }
     {
         let count = self.events.len();
         let first = count.saturating_sub(2);
@@ -97,7 +89,8 @@ impl Evaluations {
     }
 
     fn is_of(&self, at: usize, node: u32) -> bool
-        ensures { result ≡ false → (e : Logged) → slice_get self.now.events.items at ≡ Some e → e.node ≡ node → ⊥ }
+        ensures other { result ≡ false → (e : Logged) → slice_get self.now.events.items at ≡ Some e → e.node ≡ node → ⊥ }
+        ensures own { result ≡ true → (e : Logged) → slice_get self.now.events.items at ≡ Some e → e.node ≡ node }
     {
         match self.events.get(at) {
             Some(event) => event.node == node,

@@ -11,6 +11,7 @@ ghost use Rattle.evaluation_log.specs.Kept.{own_body};
 ghost use Rattle.evaluation_log.specs.Touched.{event_has};
 ghost use Rattle.evaluation_log.specs.Ways.{node_of};
 ghost use Rattle.run_evaluations.specs.Ends.{events_from};
+ghost use Rattle.run_evaluations.specs.First.{expression_in};
 ghost use Rattle.run_evaluations.specs.Follows.{AreNamed, Follows, FollowsBelow, FollowsBut, HasStarted, IsNamed, IsSameBefore, IsTurned};
 ghost use Rattle.run_evaluations.specs.Kept.{IsKept, IsSameRest, IsFirst, IsLogged, IsTold, IsSameOpen};
 ghost use Rattle.run_evaluations.specs.Loose.{EndsAt, IsFull, IsFullBut, IsLooseKept, top_scope};
@@ -551,6 +552,8 @@ impl Evaluations {
         ensures items { result.log.items.now ≡ self.now.items.items }
         ensures loose { result.log.loose.now ≡ self.now.loose.items }
         ensures rows { result.under.map.now ≡ under.entry.map.now }
+        ensures frames { result.under.frames.now ≡ under.entry.frames.now }
+        ensures place { result.place ≡ expression_in (slice_get self.now.levels.items (length self.now.levels.items - 1)) }
     {
         Search {
             log: self.as_log(),
@@ -560,7 +563,9 @@ impl Evaluations {
     }
 
     // The top frame's full expression.
-    pub(crate) fn place(&self) -> Place {
+    pub(crate) fn place(&self) -> Place
+        ensures { result ≡ expression_in (slice_get self.now.levels.items (length self.now.levels.items - 1)) }
+    {
         match self.levels.last() {
             Some(level) => Place {
                 frame: level.frame,

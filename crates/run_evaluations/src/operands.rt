@@ -1,12 +1,15 @@
 // Whether operands conflict, as they are completed.
 ghost use Rattle.std.specs.Global.{Global};
-ghost use Rattle.std.specs.Prelude.{Box, ◌≡◌, ◌<◌, ◌∷◌, ℕ, List, vec_len, true, false, IfOk, IfNone, OnOk, Some, slice_get};
+ghost use Rattle.std.specs.Prelude.{Box, ◌≡◌, ◌<◌, ◌-◌, ◌∷◌, ℕ, List, vec_len, true, false, IfOk, IfNone, IfSome, OnOk, Some, slice_get, length};
 ghost use Rattle.footprint.specs.declared.foot.Foot.{Foot};
 ghost use Rattle.evaluation_log.specs.declared.sought.Sought.TheVariants.{Any};
 ghost use Rattle.evaluation_log.specs.Clashes.{NoneBetween, AreSorted};
 ghost use Rattle.evaluation_log.specs.FoundItems.{ItemsConflict};
 ghost use Rattle.evaluation_log.specs.Kept.{Kept, AllBelow, KeepsFeet, Spreads, foot_of, is_unsequenced};
+ghost use Rattle.evaluation_log.specs.Touched.{start_of};
 ghost use Rattle.evaluation_log.specs.Ways.{node_of};
+ghost use Rattle.evaluation_search.specs.First.{AreBetween, AreOnce, AreRising, IsFirst, IsFirstOf, IsOfPair};
+ghost use Rattle.run_evaluations.specs.First.{AreOfOperands, IsConflictIn, IsOnce, SequencesNone, expression_in};
 ghost use Rattle.run_evaluations.specs.Kept.{IsSameLog, IsTaken, IsKept, NoneOfOperands};
 ghost use Rattle.run_evaluations.specs.Follows.{Follows};
 ghost use Rattle.run_evaluations.specs.Loose.{IsFullAfter, IsLooseKept};
@@ -40,6 +43,9 @@ impl Evaluations {
             Follows (gathered node t ∷ ts) self.new) }
         ensures apart { (t : Opened) (ts : List Opened) → Follows (t ∷ ts) self.old → TellsNode t node rule chosen → t.parts node ≡ false →
             IfOk result (λ r. IfNone r (NoneOfTwo map.now t node)) }
+        ensures first { (t : Opened) (ts : List Opened) → Follows (t ∷ ts) self.old → TellsNode t node rule chosen → t.parts node ≡ false →
+            SequencesNone t.scope node rule → IsOnce t → IfOk result
+            (λ r. IfSome r (IsFirst frames.now (IsConflictIn frames.now map.now t (AreOfOperands t node)))) }
     {
         let at = self.operands(node);
         if at.saturating_add(1) < self.segments.len() {
@@ -65,6 +71,12 @@ impl Evaluations {
         ensures none { is_unsequenced rule ≡ true → Kept self.old.segments.items self.old.events.items self.old.items.items self.old.large.items at →
             IfOk result (λ r. IfNone r
             (NoneBetween Any under.entry.map.now self.old.segments.items self.old.events.items self.old.items.items at)) }
+        ensures first { Kept self.old.segments.items self.old.events.items self.old.items.items self.old.large.items at →
+            AreRising self.old.segments.items self.old.events.items at →
+            AreOnce self.old.events.items (start_of self.old.segments.items self.old.events.items at) → IfOk result
+            (λ r. IfSome r (λ f. (is_unsequenced rule ≡ true) × IsFirst under.entry.frames.now (IsOfPair under.entry.frames.now under.entry.map.now
+            (expression_in (slice_get self.old.levels.items (length self.old.levels.items - 1))) self.old.events.items self.old.items.items
+            (AreBetween self.old.segments.items self.old.events.items at)) f)) }
         ensures one { OnOk result (IsOne self.old self.new node at × IsFullAfter self.old self.new at node rule chosen) }
     {
         if !rule.is_unsequenced() {
@@ -137,6 +149,10 @@ impl Evaluations {
         ensures conflict { IfOk result ItemsConflict }
         ensures none { AreSorted self.now.segments.items self.now.events.items at → IfOk result
             (λ r. IfNone r (NoneBetween Any under.entry.map.now self.now.segments.items self.now.events.items self.now.items.items at)) }
+        ensures first { AreSorted self.now.segments.items self.now.events.items at → AreRising self.now.segments.items self.now.events.items at →
+            AreOnce self.now.events.items (start_of self.now.segments.items self.now.events.items at) → IfOk result (IsFirstOf under.entry.frames.now
+            (IsOfPair under.entry.frames.now under.entry.map.now (expression_in (slice_get self.now.levels.items (length self.now.levels.items - 1)))
+            self.now.events.items self.now.items.items (AreBetween self.now.segments.items self.now.events.items at))) }
     {
         self.search(under).found_between(&self.segments, at)
     }

@@ -92,7 +92,7 @@ pub fn named_part(
 ) -> Result<(u32, Qual), TypeFault> {
     let base = copy(state, base)?;
     let at = name_of(&part.declarator).unwrap_or(at);
-    let Declared { name, qual } = declared(source, state, &part.declarator, base, at, false)?;
+    let Declared { name, qual } = declared(source, state, &part.declarator, base, at)?;
     match name {
         Some(name) => Ok((name, qual)),
         None => Err(source.fault(at, Reason::DeclaresNothing)),
@@ -174,7 +174,7 @@ fn automatic_object(
                 qual,
                 register,
             };
-            state.ordinary.change(source.symbol(name), meaning);
+            state.names.change(source.symbol(name), meaning);
             Ok(Entry::Initializer(tree))
         }
     }

@@ -48,12 +48,9 @@ pub fn plain_type(source: &Source<'_>, words: &Words, at: u32) -> Result<Qual, T
 
 /// The type that a typedef name denotes (6.7.8p3).
 pub fn typedef_type(source: &Source<'_>, state: &State, name: u32) -> Result<Qual, TypeFault> {
-    match state.ordinary.find(source.symbol(name)) {
-        Some(binding) => match &binding.meaning {
-            Meaning::Typedef(qual) => copy(state, qual),
-            _ => Err(source.fault(name, Reason::TypeSpecifiers)),
-        },
-        None => Err(source.fault(name, Reason::TypeSpecifiers)),
+    match state.names.find(source.symbol(name)) {
+        Some(Meaning::Typedef(qual)) => copy(state, qual),
+        _ => Err(source.fault(name, Reason::TypeSpecifiers)),
     }
 }
 

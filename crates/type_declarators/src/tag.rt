@@ -32,20 +32,10 @@ fn declare_tag(
     kind: TagKind,
 ) -> Result<u32, NoMemory> {
     let number = state.add_tag(kind)?;
-    let depth = state.depth;
     state
-        .tag_names
-        .add(source.symbol(at), depth, TagMeaning::Tagged(kind, number))?;
+        .names
+        .declare_tag(source.symbol(at), TagMeaning::Tagged(kind, number))?;
     Ok(number)
-}
-
-fn found_tag(state: &State, symbol: u32, here: bool) -> Option<TagMeaning> {
-    let binding = if here {
-        state.tag_names.find_at(symbol, state.depth)?
-    } else {
-        state.tag_names.find(symbol)?
-    };
-    Some(binding.meaning)
 }
 
 /// A structure or union that is named by its tag alone: one that is in scope, or a new one. Where no declarator follows, only
@@ -61,7 +51,7 @@ pub fn reference(
     let Some(tag) = tag else {
         return Err(source.fault(at, Reason::TypeSpecifiers));
     };
-    match found_tag(state, source.symbol(tag), alone) {
+    match state.names.find_tag(source.symbol(tag), alone) {
         Some(TagMeaning::Tagged(known, number)) if known == kind => Ok(tagged_type(kind, number)),
         Some(_) => Err(source.fault(tag, Reason::TagKind)),
         None => Ok(tagged_type(kind, declare_tag(source, state, tag, kind)?)),
@@ -78,7 +68,7 @@ pub fn open(
     let Some(tag) = tag else {
         return Ok(state.add_tag(kind)?);
     };
-    match found_tag(state, source.symbol(tag), true) {
+    match state.names.find_tag(source.symbol(tag), true) {
         Some(TagMeaning::Tagged(known, number))
             if known == kind && !state.tags.is_complete(number) => { Ok(number) }
         Some(TagMeaning::Tagged(known, _)) if known == kind => {
@@ -257,7 +247,7 @@ pub fn enumeration(
     let Some(tag) = tag else {
         return Err(source.fault(at, Reason::TypeSpecifiers));
     };
-    match found_tag(state, source.symbol(tag), false) {
+    match state.names.find_tag(source.symbol(tag), false) {
         Some(TagMeaning::Enumerated(number))
             if state.enumerations.get(number as usize).copied() == Some(true) => {
             Ok(Ty::Enum(number))
@@ -276,8 +266,7 @@ pub fn open_enumeration(
     let number = state.add_enumeration()?;
     if let Some(tag) = tag {
         let symbol = source.symbol(tag);
-        let depth = state.depth;
-        match found_tag(state, symbol, true) {
+        match state.names.find_tag(symbol, true) {
             Some(TagMeaning::Enumerated(_)) => {
                 return Err(source.fault(tag, Reason::DefinedTwice));
             }
@@ -285,8 +274,8 @@ pub fn open_enumeration(
             None => {}
         }
         state
-            .tag_names
-            .add(symbol, depth, TagMeaning::Enumerated(number))?;
+            .names
+            .declare_tag(symbol, TagMeaning::Enumerated(number))?;
     }
     Ok(number)
 }

@@ -52,10 +52,10 @@ enum NameMeaning {
 }
 
 fn meaning_of(alloc: Global, state: &State, symbol: u32) -> Result<NameMeaning, NoMemory> {
-    let Some(binding) = state.ordinary.find(symbol) else {
+    let Some(meaning) = state.names.find(symbol) else {
         return Ok(NameMeaning::Nothing);
     };
-    match &binding.meaning {
+    match meaning {
         Meaning::Object {
             slot,
             qual,

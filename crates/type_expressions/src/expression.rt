@@ -267,7 +267,7 @@ pub fn type_name(
     if words.storage != Storage::None || words.function {
         return Err(source.fault(at, Reason::TypeName));
     }
-    let Declared { name: _, qual } = declared(source, state, &name.declarator, base, at, false)?;
+    let Declared { name: _, qual } = declared(source, state, &name.declarator, base, at)?;
     Ok(qual)
 }
 
@@ -371,7 +371,7 @@ fn members(
     let mut list = list;
     for d in declarators {
         let base = declarator::copy(state, &base)?;
-        let member = declared(source, state, d, base, at, false)?;
+        let member = declared(source, state, d, base, at)?;
         list = tag::add_member(source, state, member, list, at)?;
     }
     Ok(list)
@@ -399,8 +399,7 @@ fn enumerated(
     Ok(())
 }
 
-/// What a declarator declares, from the type in front of it; `at` is a token near it. Where `keep` is true, a scope is open
-/// behind it, with what the parameter list of the function that it declares makes known (6.7.6).
+/// What a declarator declares, from the type in front of it; `at` is a token near it (6.7.6).
 #[cycle(expression)]
 pub fn declared(
     source: &Source<'_>,
@@ -408,13 +407,9 @@ pub fn declared(
     d: &Declarator,
     base: Qual,
     at: u32,
-    keep: bool,
 ) -> Result<Declared, TypeFault> {
     let mut parts = Vec::new(state.alloc);
-    let name = derivations(source, state, d, at, keep, &mut parts)?;
-    if keep {
-        state.lower_prototype()?;
-    }
+    let name = derivations(source, state, d, at, &mut parts)?;
     let qual = declarator::derived(source, state, parts, base, at)?;
     Ok(Declared { name, qual })
 }
@@ -427,30 +422,29 @@ fn derivations(
     state: &mut State,
     d: &Declarator,
     at: u32,
-    keep: bool,
     parts: &mut Vec<Derivation>,
 ) -> Result<Option<u32>, TypeFault> {
     match d {
         Declarator::Ident(name) => Ok(*name),
         Declarator::Pointer(words, d) => {
-            let name = derivations(source, state, d.get(), at, keep, parts)?;
+            let name = derivations(source, state, d.get(), at, parts)?;
             parts.push(declarator::pointer_part(source, words.as_slice(), at)?)?;
             Ok(name)
         }
         Declarator::Array(d, None) => {
-            let name = derivations(source, state, d.get(), at, keep, parts)?;
+            let name = derivations(source, state, d.get(), at, parts)?;
             parts.push(Derivation::Array(None))?;
             Ok(name)
         }
         Declarator::Array(d, Some(count)) => {
-            let name = derivations(source, state, d.get(), at, keep, parts)?;
+            let name = derivations(source, state, d.get(), at, parts)?;
             let number = constant(source, state, count.get(), Reason::LeftOutVariableLength)?;
             parts.push(Derivation::Array(Some(number)))?;
             Ok(name)
         }
         Declarator::Function(d, params, variadic) => {
-            let name = derivations(source, state, d.get(), at, keep, parts)?;
-            let own = keep && declarator::is_name(d.get());
+            let name = derivations(source, state, d.get(), at, parts)?;
+            let own = declarator::is_name(d.get());
             let params = prototype(source, state, params.as_slice(), *variadic, at, own)?;
             parts.push(Derivation::Function(params, *variadic))?;
             Ok(name)
@@ -458,7 +452,7 @@ fn derivations(
     }
 }
 
-// The types of the parameters, in a scope of their own, which is kept where `own` is true (6.2.1p4).
+// The types of the parameters, in a scope of their own. `own` says that the list stands behind the declared name (6.2.1p4).
 #[cycle(expression)]
 fn prototype(
     source: &Source<'_>,
@@ -468,14 +462,10 @@ fn prototype(
     at: u32,
     own: bool,
 ) -> Result<Items<Qual>, TypeFault> {
-    state.enter_scope();
+    state.enter_scope()?;
     let lone = params.len() == 1 && !variadic;
     let params = parameters(source, state, params, lone, at)?;
-    if own {
-        state.lift_prototype()?;
-    } else {
-        state.leave_scope();
-    }
+    state.leave_parameters(own)?;
     Ok(params)
 }
 
@@ -508,6 +498,6 @@ fn parameter(
     at: u32,
 ) -> Result<(Words, Declared), TypeFault> {
     let (words, base) = specified(source, state, &param.specs, at, false)?;
-    let found = declared(source, state, &param.declarator, base, at, false)?;
+    let found = declared(source, state, &param.declarator, base, at)?;
     Ok((words, found))
 }

@@ -1,14 +1,28 @@
 // Declarations of objects and functions whose identifiers have linkage, and what they redeclare (6.2.2, 6.7p3, 6.9.2).
+ghost use Rattle.std.specs.Prelude.{◌≡◌, ◌+◌, ◌||◌, false, true, not, map, vec_len, slice_get, IfOk, OnOk, is_some};
+ghost use Rattle.std.specs.Option.{option_map, option_copied};
+ghost use Rattle.c_lex.specs.TokenText.{TokenText, text_at};
+ghost use Rattle.c_types.specs.Types.{type_of, qualified_of, signature_of, composite_qualified};
+ghost use Rattle.c_types.specs.Same.{same_qualifier};
+ghost use Rattle.c_typed.specs.declared.tree.Slot.TheVariants as slot;
+ghost use Rattle.c_typed.specs.declared.tree.Target.TheVariants as target;
+ghost use Rattle.type_name_space.specs.Scopes.{visible, at_depth};
+ghost use Rattle.typing_env.specs.Env.{Env, an_object, a_function, symbol_in};
+ghost use Rattle.typing_env.specs.Names as names;
+ghost use Rattle.typing_env.specs.Names.{meaning_in};
+ghost use Rattle.type_scope.specs.Known.{Naming, known_by, meaning_seen, linked_seen, target_seen, IsKnown};
+ghost use Rattle.type_scope.specs.Reads.{Reads, Follows};
+ghost use Rattle.type_linkage.specs.Linkage.{given_of, held_target, target_held, if_held, entity_in, prior_in, IsOneToOne, IsNamed, HasFunctions, IsDeclared, redeclared_seen, function_qualified, one_more_type};
 
 use crate::library::{library_function, library_type};
 use c_typed::{Slot, Target};
 use c_types::{
     FuncTy, LibFunc, Qual, Shared, Ty, compatible, compatible_functions, composite, copied,
-    copied_qual, same_type,
+    copied_qual, same_qualified,
 };
 use std::alloc::Global;
 use type_reasons::Reason;
-use type_scope::{Definition, FunctionRow, Meaning, ObjectRow, Source, State, TypeFault};
+use type_scope::{Definition, FunctionRow, Linked, Meaning, ObjectRow, Source, State, TypeFault};
 use ub_base::{Items, NoMemory};
 
 /// How a declaration gives linkage: `static` at file scope; nothing at file scope; `extern`.
@@ -19,61 +33,73 @@ pub enum Linkage {
     Extern,
 }
 
-// The composite of two compatible types with their qualifier; none where they aren't compatible.
-fn joined_quals(alloc: Global, old: &Qual, new: &Qual) -> Result<Option<Qual>, NoMemory> {
-    if old.constant != new.constant || !compatible(&old.ty, &new.ty) {
-        return Ok(None);
-    }
-    Ok(Some(Qual {
-        ty: composite(alloc, &old.ty, &new.ty)?,
-        constant: old.constant,
-    }))
+// 1. Types of one identifier.
+
+fn same_qualifier(a: bool, b: bool) -> bool
+    ensures { result ≡ same_qualifier a b }
+{
+    if a { b } else { !b }
 }
 
-// Whether the type is compatible with each of these, and as const (6.2.7p2, 6.7.3p10).
-fn suits_all(qual: &Qual, types: &[Qual]) -> bool {
+// Whether the types are compatible, and both const or neither (6.2.7p2, 6.7.3p10).
+fn are_alike(known: &Qual, qual: &Qual) -> bool
+    ensures { result ≡ names.alike (qualified_of known.now) (qualified_of qual.now) }
+{
+    if same_qualifier(known.constant, qual.constant) {
+        compatible(&known.ty, &qual.ty)
+    } else {
+        false
+    }
+}
+
+// Whether the type is like each of these.
+fn suits_all(qual: &Qual, types: &[Qual]) -> bool
+    ensures { result ≡ names.all_alike (qualified_of qual.now) (map qualified_of types.now) }
+{
     for known in types {
-        if known.constant != qual.constant || !compatible(&known.ty, &qual.ty) {
+        if !are_alike(known, qual) {
             return false;
         }
     }
     true
 }
 
-// Adds the type to these, where it isn't among them.
-fn note_type(alloc: Global, types: &mut Items<Qual>, qual: &Qual) -> Result<(), NoMemory> {
-    for known in types.as_slice() {
-        if same_type(&known.ty, &qual.ty) {
-            return Ok(());
+fn is_among(qual: &Qual, types: &[Qual]) -> bool
+    ensures { result ≡ names.is_among (qualified_of qual.now) (map qualified_of types.now) }
+{
+    for known in types {
+        if same_qualified(known, qual) {
+            return true;
         }
     }
-    types.push(copied_qual(alloc, qual)?)?;
-    Ok(())
+    false
 }
 
-fn function_type(alloc: Global, ty: FuncTy) -> Result<Ty, NoMemory> {
-    Ok(Ty::Function(Shared::new(alloc, ty)?))
+// Copies of these types.
+fn copied_quals(alloc: Global, quals: &[Qual]) -> Result<Items<Qual>, NoMemory>
+    ensures { IfOk result (λ qs. map qualified_of qs ≡ map qualified_of quals.now) }
+{
+    let mut copies = Items::new(alloc);
+    for qual in quals {
+        copies.push(copied_qual(alloc, qual)?)?;
+    }
+    Ok(copies)
 }
 
-// A copy of the function type, as a type.
-fn function_copy(alloc: Global, ty: &FuncTy) -> Result<Ty, NoMemory> {
-    function_type(alloc, copied_function(alloc, ty)?)
-}
-
-// The type as that of an identifier.
-fn function_qual(alloc: Global, ty: &FuncTy) -> Result<Qual, NoMemory> {
+fn composite_qual(alloc: Global, old: &Qual, new: &Qual) -> Result<Qual, NoMemory>
+    ensures { IfOk result (λ q. qualified_of q ≡ composite_qualified (qualified_of old.now) (qualified_of new.now)) }
+{
     Ok(Qual {
-        ty: function_copy(alloc, ty)?,
-        constant: false,
+        ty: composite(alloc, &old.ty, &new.ty)?,
+        constant: old.constant,
     })
 }
 
 /// A copy of the function type.
-pub fn copied_function(alloc: Global, ty: &FuncTy) -> Result<FuncTy, NoMemory> {
-    let mut params = Items::new(alloc);
-    for param in ty.params.as_slice() {
-        params.push(copied_qual(alloc, param)?)?;
-    }
+pub fn copied_function(alloc: Global, ty: &FuncTy) -> Result<FuncTy, NoMemory>
+    ensures { IfOk result (λ f. signature_of f ≡ signature_of ty.now) }
+{
+    let params = copied_quals(alloc, ty.params.as_slice())?;
     Ok(FuncTy {
         result: copied(alloc, &ty.result)?,
         params,
@@ -81,87 +107,167 @@ pub fn copied_function(alloc: Global, ty: &FuncTy) -> Result<FuncTy, NoMemory> {
     })
 }
 
-// The function type, where the type is one.
-fn own_function(alloc: Global, ty: &Ty) -> Result<Option<FuncTy>, NoMemory> {
-    match ty {
-        Ty::Function(ty) => Ok(Some(copied_function(alloc, ty.get())?)),
-        _ => Ok(None),
+// The type as that of an identifier.
+fn function_qual(alloc: Global, ty: &FuncTy) -> Result<Qual, NoMemory>
+    ensures { IfOk result (λ q. qualified_of q ≡ function_qualified (signature_of ty.now)) }
+{
+    Ok(Qual {
+        ty: Ty::Function(Shared::new(alloc, copied_function(alloc, ty)?)?),
+        constant: false,
+    })
+}
+
+// 2. Linkage.
+
+// What the meaning stands for, where that can have linkage.
+fn target_of(meaning: &Meaning) -> Option<Target>
+    ensures { result ≡ held_target meaning.now }
+{
+    match meaning {
+        Meaning::Object {
+            slot: Slot::Static(number),
+            qual: _,
+            register: _,
+        } => Some(Target::Static(*number)),
+        Meaning::Function { number, ty: _ } => Some(Target::Function(*number)),
+        _ => None,
     }
 }
 
-// The composite of a function type with one that is compatible.
-fn with_function(alloc: Global, old: &Ty, new: &FuncTy) -> Result<Ty, NoMemory> {
-    let new = function_copy(alloc, new)?;
-    composite(alloc, old, &new)
-}
-
-// The composite of two compatible function types; none where they aren't compatible.
-fn joined_functions(alloc: Global, old: &FuncTy, new: &FuncTy) -> Result<Option<FuncTy>, NoMemory> {
-    if !compatible_functions(old, new) {
-        return Ok(None);
-    }
-    let old = function_copy(alloc, old)?;
-    let joined = with_function(alloc, &old, new)?;
-    own_function(alloc, &joined)
-}
-
-// What an earlier declaration that is visible says of the linkage.
-#[derive(Clone, Copy, PartialEq, Eq)]
-enum Visible {
-    Nothing,
-    WithLinkage,
-    WithoutLinkage,
-}
-
-fn seen_as(state: &State, symbol: u32) -> Visible {
-    match state.ordinary.find(symbol) {
-        None => Visible::Nothing,
-        Some(binding) => match &binding.meaning {
-            Meaning::Function { number: _, ty: _ } => Visible::WithLinkage,
-            Meaning::Object {
-                slot: Slot::Static(number),
-                qual: _,
-                register: _,
-            } if is_linked(state, *number) => Visible::WithLinkage,
-            _ => Visible::WithoutLinkage,
+fn is_target(a: Target, b: Target) -> bool
+    ensures { result ≡ names.is_target a b }
+{
+    match a {
+        Target::Static(m) => match b {
+            Target::Static(n) => m == n,
+            _ => false,
+        },
+        Target::Function(m) => match b {
+            Target::Function(n) => m == n,
+            _ => false,
+        },
+        Target::Literal(m) => match b {
+            Target::Literal(n) => m == n,
+            _ => false,
         },
     }
 }
 
-fn is_linked(state: &State, number: u32) -> bool {
-    match state.objects.get(number as usize) {
-        Some(row) => row.linked,
-        None => false,
-    }
-}
-
-// Whether the identifier would be internal; none where it would be both internal and external (6.2.2p4, 6.2.2p5,
-// 6.2.2p7).
-fn is_internal(state: &State, symbol: u32, linkage: Linkage, known: Option<bool>) -> Option<bool> {
-    let internal = match linkage {
-        Linkage::Internal => true,
-        Linkage::Plain => false,
-        Linkage::Extern => match seen_as(state, symbol) {
-            Visible::WithLinkage => known.unwrap_or(false),
-            Visible::Nothing | Visible::WithoutLinkage => false,
-        },
-    };
-    match known {
-        Some(known) if known != internal => None,
-        _ => Some(internal),
-    }
-}
-
-fn target(state: &State, symbol: u32) -> Option<Target> {
-    match state.linked.get(symbol as usize) {
-        Some(target) => *target,
+// The identifier with linkage that is spelled so.
+fn entity(state: &State, symbol: u32) -> Option<&Linked>
+    ensures { option_copied result ≡ entity_in state.now symbol }
+{
+    match state.linked.find(symbol) {
+        Some(binding) => Some(&binding.meaning),
         None => None,
     }
 }
 
-fn link(state: &mut State, symbol: u32, target: Target) {
-    if let Some(linked) = state.linked.get_mut(symbol as usize) {
-        *linked = Some(target);
+fn target_held(meaning: Option<&Meaning>) -> Option<Target>
+    ensures { result ≡ target_held (option_copied meaning.entry) }
+{
+    match meaning {
+        Some(meaning) => target_of(meaning),
+        None => None,
+    }
+}
+
+// The identifier, where it stands for this.
+fn if_linked<'a>(target: Option<Target>, entity: Option<&'a Linked>) -> Option<&'a Linked>
+    ensures { option_copied result ≡ if_held target (option_copied entity.entry) }
+{
+    match target {
+        Some(target) => match entity {
+            Some(known) if is_target(known.target, target) => Some(known),
+            _ => None,
+        },
+        None => None,
+    }
+}
+
+// The one that the visible declaration declares.
+fn prior(state: &State, symbol: u32) -> Option<&Linked>
+    ensures { option_copied result ≡ prior_in state.now symbol }
+{
+    if_linked(target_held(state.names.find(symbol)), entity(state, symbol))
+}
+
+// Whether the identifier would be internal (6.2.2p3, 6.2.2p4, 6.2.2p5).
+fn is_internal(linkage: Linkage, prior: Option<&Linked>) -> bool
+    ensures { (n : Naming) → result ≡ names.is_internal (given_of linkage) (option_map (linked_seen n) (option_copied prior.entry)) }
+{
+    match linkage {
+        Linkage::Internal => true,
+        Linkage::Plain => false,
+        Linkage::Extern => match prior {
+            Some(known) => known.internal,
+            None => false,
+        },
+    }
+}
+
+// Whether it isn't both internal and external (6.2.2p7).
+fn keeps_linkage(internal: bool, entity: Option<&Linked>) -> bool
+    ensures { (n : Naming) → result ≡ names.keeps_linkage internal (option_map (linked_seen n) (option_copied entity.entry)) }
+{
+    match entity {
+        Some(known) => same_qualifier(known.internal, internal),
+        None => true,
+    }
+}
+
+fn is_known(found: Option<&Linked>) -> bool
+    ensures { result ≡ is_some (option_copied found.entry) }
+{
+    found.is_some()
+}
+
+// Whether no declaration of this scope stands in its way (6.7p3).
+fn may_redeclare(state: &State, symbol: u32, prior: Option<&Linked>) -> bool
+    ensures { result ≡ (not (is_some (meaning_in (at_depth state.now.names.depth (visible symbol state.now.names.ordinary)))) || is_some (option_copied prior.entry)) }
+{
+    !state.is_taken(symbol) || is_known(prior)
+}
+
+// Whether its declarations have types like this one.
+fn agrees(qual: &Qual, entity: Option<&Linked>) -> bool
+    ensures { (n : Naming) → result ≡ names.agrees (qualified_of qual.now) (option_map (linked_seen n) (option_copied entity.entry)) }
+{
+    match entity {
+        Some(known) => suits_all(qual, known.types.as_slice()),
+        None => true,
+    }
+}
+
+// The composite with the type of a meaning.
+fn composite_with(alloc: Global, qual: &Qual, meaning: Option<&Meaning>) -> Result<Qual, NoMemory>
+    ensures { (n : Naming) → IfOk result (λ q. qualified_of q ≡ names.composite_with (qualified_of qual.now) (names.type_visible (option_map (meaning_seen n) (option_copied meaning.entry)))) }
+{
+    match meaning {
+        Some(
+            Meaning::Object {
+                slot: _,
+                qual: old,
+                register: _,
+            },
+        ) => composite_qual(alloc, old, qual),
+        Some(Meaning::Function { number: _, ty }) => Ok(Qual {
+            ty: composite(alloc, ty, &qual.ty)?,
+            constant: false,
+        }),
+        _ => copied_qual(alloc, qual),
+    }
+}
+
+// The type that the identifier has from here on: the composite with that of the visible declaration, where that has linkage
+// (6.2.7p4).
+fn type_seen(state: &State, symbol: u32, qual: &Qual, linked: bool) -> Result<Qual, NoMemory>
+    ensures { (n : Naming) → IfOk result (λ q. qualified_of q ≡ names.type_seen (qualified_of qual.now) (option_map (meaning_seen n) (meaning_in (visible symbol state.now.names.ordinary))) linked) }
+{
+    if linked {
+        composite_with(state.alloc, qual, state.names.find(symbol))
+    } else {
+        copied_qual(state.alloc, qual)
     }
 }
 
@@ -175,106 +281,188 @@ fn clash(state: &State, symbol: u32) -> Reason {
     }
 }
 
-// The number and the linkage of the object that the identifier stands for already; refused where it is a function.
-fn known_object(state: &State, symbol: u32) -> Result<Option<(u32, bool)>, ()> {
-    match target(state, symbol) {
-        None => Ok(None),
-        Some(Target::Static(number)) => match state.objects.get(number as usize) {
-            Some(row) => Ok(Some((number, row.internal))),
-            None => Err(()),
-        },
-        Some(Target::Function(_)) | Some(Target::Literal(_)) => Err(()),
-    }
-}
-
-// The type that the identifier has from here on in this scope: the composite with that of the visible declaration
-// (6.2.7p4).
-fn visible_object_type(
-    state: &State,
-    alloc: Global,
+// What a declaration with linkage finds.
+#[derive(Drop)]
+struct Found {
     symbol: u32,
-    qual: &Qual,
-) -> Result<Qual, NoMemory> {
-    match state.ordinary.find(symbol) {
-        Some(binding) => match &binding.meaning {
-            Meaning::Object {
-                slot: Slot::Static(number),
-                qual: old,
-                register: _,
-            } if is_linked(state, *number) => match joined_quals(alloc, old, qual)? {
-                Some(qual) => Ok(qual),
-                None => copied_qual(alloc, qual),
-            },
-            _ => copied_qual(alloc, qual),
-        },
-        None => copied_qual(alloc, qual),
+    internal: bool,
+    /// What the identifier stands for, where it is known.
+    target: Option<Target>,
+    /// The type that it has from here on.
+    seen: Qual,
+}
+
+// What the identifier stands for, where it is known.
+fn known_target(state: &State, symbol: u32) -> Option<Target>
+    ensures { result ≡ option_map (λ l. l.target) (entity_in state.now symbol) }
+{
+    match entity(state, symbol) {
+        Some(known) => Some(known.target),
+        None => None,
     }
 }
 
-fn bind(state: &mut State, symbol: u32, meaning: Meaning) -> Result<(), NoMemory> {
-    if state.is_taken(symbol) {
-        state.ordinary.change(symbol, meaning);
-        Ok(())
+// Which rule a declaration of this type breaks, if it breaks one.
+fn broken_rule(state: &State, symbol: u32, qual: &Qual, linkage: Linkage) -> Option<Reason>
+    ensures { (n : Naming) → IsOneToOne n → (t : TokenText) (env : Env) → is_some result ≡ not (names.may_stand (qualified_of qual.now) (given_of linkage) symbol (known_by n t state.now env)) }
+{
+    let prior = prior(state, symbol);
+    let entity = entity(state, symbol);
+    if !keeps_linkage(is_internal(linkage, prior), entity) {
+        Some(Reason::LinkageClash)
+    } else if !may_redeclare(state, symbol, prior) {
+        Some(Reason::DeclaredTwice)
+    } else if !agrees(qual, entity) {
+        Some(clash(state, symbol))
     } else {
-        state.ordinary.add(symbol, state.depth, meaning)
+        None
     }
 }
 
-// Whether the declaration of this scope, if there is one, may be redeclared as an object or function with linkage.
-fn may_redeclare(state: &State, symbol: u32) -> bool {
-    !state.is_taken(symbol) || seen_as(state, symbol) == Visible::WithLinkage
-}
-
-fn note_object_type(state: &mut State, number: u32, qual: &Qual) -> Result<(), NoMemory> {
-    let alloc = state.alloc;
-    match state.objects.get_mut(number as usize) {
-        Some(row) => note_type(alloc, &mut row.types, qual),
-        None => Ok(()),
+// What the declaration finds; refused where it breaks a rule.
+fn redeclared(
+    state: &State,
+    source: &Source<'_>,
+    at: u32,
+    qual: &Qual,
+    linkage: Linkage,
+) -> Result<Found, TypeFault>
+    ensures reads { (n : Naming) → IsOneToOne n → (env : Env) → Reads (redeclared_seen n state.now) (names.redeclared at (qualified_of qual.now) (given_of linkage) (known_by n source.now state.now env)) result (known_by n source.now state.now env) }
+    ensures symbol { IfOk result (λ r. r.symbol ≡ symbol_in source.now (slice_get source.now.list at)) }
+    ensures internal { (n : Naming) → IfOk result (λ r. r.internal ≡ names.is_internal (given_of linkage) (option_map (linked_seen n) (prior_in state.now r.symbol))) }
+    ensures target { IfOk result (λ r. r.target ≡ option_map (λ l. l.target) (entity_in state.now r.symbol)) }
+{
+    let symbol = source.symbol(at);
+    if let Some(reason) = broken_rule(state, symbol, qual, linkage) {
+        return Err(source.fault(at, reason));
     }
+    let prior = prior(state, symbol);
+    Ok(Found {
+        symbol,
+        internal: is_internal(linkage, prior),
+        target: known_target(state, symbol),
+        seen: type_seen(state, symbol, qual, is_known(prior))?,
+    })
 }
 
-fn new_object(
+// 3. What a declaration makes known.
+
+// A row with the type among the types of its declarations; none where it is there already.
+fn further_row(alloc: Global, known: &Linked, qual: &Qual) -> Result<Option<Linked>, NoMemory>
+    ensures { (n : Naming) → IfOk result (λ row. option_map (linked_seen n) row ≡ one_more_type (qualified_of qual.now) (linked_seen n known.now)) }
+{
+    if is_among(qual, known.types.as_slice()) {
+        return Ok(None);
+    }
+    let mut types = copied_quals(alloc, known.types.as_slice())?;
+    types.push(copied_qual(alloc, qual)?)?;
+    Ok(Some(Linked {
+        target: known.target,
+        internal: known.internal,
+        types,
+    }))
+}
+
+// Notes the type of a further declaration of the identifier.
+fn note_type(state: &mut State, symbol: u32, qual: &Qual) -> Result<(), NoMemory>
+    ensures known { OnOk result ((n : Naming) (t : TokenText) (env : Env) → known_by n t state.new env ≡ names.with_further symbol (qualified_of qual.now) (known_by n t state.old env)) }
+    ensures rest { state.new ≡ record state.old { linked = state.new.linked } }
+{
+    let Some(known) = entity(state, symbol) else {
+        return Ok(());
+    };
+    match further_row(state.alloc, known, qual)? {
+        Some(row) => state.linked.change(symbol, row),
+        None => {}
+    }
+    Ok(())
+}
+
+// Notes an identifier with linkage.
+fn link(
     state: &mut State,
     symbol: u32,
-    qual: &Qual,
+    target: Target,
     internal: bool,
-) -> Result<u32, NoMemory> {
+    qual: &Qual,
+) -> Result<(), NoMemory>
+    ensures known { OnOk result ((n : Naming) (t : TokenText) (env : Env) → known_by n t state.new env ≡ names.with_link symbol internal (target_seen n target) (qualified_of qual.now) (known_by n t state.old env)) }
+    ensures rest { state.new ≡ record state.old { linked = state.new.linked } }
+{
     let alloc = state.alloc;
-    let row = ObjectRow::new(alloc, copied_qual(alloc, qual)?, true, internal);
-    let number = state.add_object(row)?;
-    note_object_type(state, number, qual)?;
-    link(state, symbol, Target::Static(number));
+    let mut types = Items::new(alloc);
+    types.push(copied_qual(alloc, qual)?)?;
+    let row = Linked {
+        target,
+        internal,
+        types,
+    };
+    state.linked.add(symbol, 0, row)
+}
+
+// Declares the identifier in this scope, or gives the declaration there this meaning.
+fn bind(state: &mut State, symbol: u32, meaning: Meaning) -> Result<(), NoMemory>
+    ensures known { OnOk result ((n : Naming) (t : TokenText) (env : Env) → known_by n t state.new env ≡ names.bound symbol (meaning_seen n meaning) (known_by n t state.old env)) }
+    ensures rest { state.new ≡ record state.old { names = state.new.names } }
+{
+    if state.is_taken(symbol) {
+        state.names.change(symbol, meaning);
+        Ok(())
+    } else {
+        state.names.declare(symbol, meaning)
+    }
+}
+
+// 4. Objects.
+
+// The number of an object; a function has none (6.2.7p2).
+fn object_in(target: Target) -> Option<u32>
+    ensures { result ≡ names.name_of_object target }
+{
+    match target {
+        Target::Static(number) => Some(number),
+        _ => None,
+    }
+}
+
+fn set_object_type(state: &mut State, number: u32, qual: Qual)
+    ensures { state.new ≡ record state.old { objects = state.new.objects } }
+{
+    if (number as usize) < state.objects.len() {
+        state.objects[number as usize].qual = qual;
+    }
+}
+
+fn new_object(state: &mut State, symbol: u32, qual: &Qual, internal: bool) -> Result<u32, NoMemory>
+    ensures known { IfOk result (λ number. (n : Naming) (t : TokenText) (env : Env) → known_by n t state.new env ≡ names.with_link symbol internal (target_seen n (target.Static number)) (qualified_of qual.now) (known_by n t state.old env)) }
+{
+    let alloc = state.alloc;
+    let number = state.add_object(ObjectRow::new(alloc, copied_qual(alloc, qual)?, internal))?;
+    link(state, symbol, Target::Static(number), internal, qual)?;
     Ok(number)
 }
 
-// A further declaration of the object; false where the declared type isn't compatible with that of each other declaration
-// (6.2.7p2).
-fn redeclare_object(state: &mut State, number: u32, qual: &Qual) -> Result<bool, NoMemory> {
-    let alloc = state.alloc;
-    let Some(row) = state.objects.get_mut(number as usize) else {
-        return Ok(false);
-    };
-    if !suits_all(qual, row.types.as_slice()) {
-        return Ok(false);
+// A further declaration of the object; at file scope the type that the identifier has there is the object's so far.
+fn further_object(
+    state: &mut State,
+    symbol: u32,
+    number: u32,
+    qual: &Qual,
+    seen: &Qual,
+) -> Result<(), NoMemory>
+    ensures known { OnOk result ((n : Naming) (t : TokenText) (env : Env) → known_by n t state.new env ≡ names.with_further symbol (qualified_of qual.now) (known_by n t state.old env)) }
+{
+    note_type(state, symbol, qual)?;
+    if state.names.is_file() {
+        let seen = copied_qual(state.alloc, seen)?;
+        set_object_type(state, number, seen);
     }
-    note_type(alloc, &mut row.types, qual)?;
-    Ok(true)
+    Ok(())
 }
 
-fn set_object_type(state: &mut State, number: u32, qual: Qual) {
-    if let Some(row) = state.objects.get_mut(number as usize) {
-        row.qual = qual;
-    }
-}
-
-// Gives the identifier the object, with the type that it has from here on in this scope; at file scope that is the object's
-// so far.
-fn bind_object(state: &mut State, symbol: u32, number: u32, qual: &Qual) -> Result<(), NoMemory> {
-    let alloc = state.alloc;
-    let seen = visible_object_type(state, alloc, symbol, qual)?;
-    if state.depth == 0 {
-        set_object_type(state, number, copied_qual(alloc, &seen)?);
-    }
+fn bind_object(state: &mut State, symbol: u32, number: u32, seen: Qual) -> Result<(), NoMemory>
+    ensures { OnOk result ((n : Naming) (t : TokenText) (env : Env) → known_by n t state.new env ≡ names.bound symbol (an_object (slot.Static (n number)) (qualified_of seen) false) (known_by n t state.old env)) }
+{
     let meaning = Meaning::Object {
         slot: Slot::Static(number),
         qual: seen,
@@ -290,29 +478,29 @@ fn object_number(
     at: u32,
     qual: &Qual,
     linkage: Linkage,
-) -> Result<u32, TypeFault> {
-    let symbol = source.symbol(at);
-    let Ok(known) = known_object(state, symbol) else {
-        return Err(source.fault(at, clash(state, symbol)));
+) -> Result<u32, TypeFault>
+    ensures { (n : Naming) → IsOneToOne n → IsNamed n source.now at state.old result → (env : Env) → IsKnown n source.now state.old env → Follows n (IsKnown n source.now state.new) (names.declare_object at (qualified_of qual.now) (given_of linkage) env) result }
+{
+    let found = match redeclared(state, source, at, qual, linkage) {
+        Ok(found) => found,
+        Err(fault) => return Err(fault),
     };
-    let was = known.map(|object| object.1);
-    let Some(internal) = is_internal(state, symbol, linkage, was) else {
-        return Err(source.fault(at, Reason::LinkageClash));
-    };
-    if !may_redeclare(state, symbol) {
-        return Err(source.fault(at, Reason::DeclaredTwice));
-    }
-    let number = match known {
-        None => new_object(state, symbol, qual, internal)?,
-        Some((number, _)) => {
-            if !redeclare_object(state, number, qual)? {
-                return Err(source.fault(at, clash(state, symbol)));
-            }
-            number
+    let symbol = found.symbol;
+    match found.target {
+        None => {
+            let number = new_object(state, symbol, qual, found.internal)?;
+            bind_object(state, symbol, number, found.seen)?;
+            Ok(number)
         }
-    };
-    bind_object(state, symbol, number, qual)?;
-    Ok(number)
+        Some(target) => {
+            let Some(number) = object_in(target) else {
+                return Err(source.fault(at, clash(state, symbol)));
+            };
+            further_object(state, symbol, number, qual, &found.seen)?;
+            bind_object(state, symbol, number, found.seen)?;
+            Ok(number)
+        }
+    }
 }
 
 /// Declares an object with linkage; the answer is its number.
@@ -322,7 +510,9 @@ pub fn declare_object(
     at: u32,
     qual: Qual,
     linkage: Linkage,
-) -> Result<u32, TypeFault> {
+) -> Result<u32, TypeFault>
+    ensures { (n : Naming) → IsOneToOne n → IsNamed n source.now at state.old result → (env : Env) → IsKnown n source.now state.old env → Follows n (IsKnown n source.now state.new) (names.declare_object at (qualified_of qual) (given_of linkage) env) result }
+{
     object_number(state, source, at, &qual, linkage)
 }
 
@@ -332,18 +522,18 @@ pub fn complete_object(
     symbol: u32,
     number: u32,
     qual: &Qual,
-) -> Result<(), NoMemory> {
+) -> Result<(), NoMemory>
+    ensures { OnOk result ((n : Naming) (t : TokenText) (env : Env) → known_by n t state.new env ≡ names.renamed symbol (an_object (slot.Static (n number)) (qualified_of qual.now) false) (names.with_further symbol (qualified_of qual.now) (known_by n t state.old env))) }
+{
     let alloc = state.alloc;
-    if let Some(row) = state.objects.get_mut(number as usize) {
-        row.qual = copied_qual(alloc, qual)?;
-        note_type(alloc, &mut row.types, qual)?;
-    }
+    set_object_type(state, number, copied_qual(alloc, qual)?);
+    note_type(state, symbol, qual)?;
     let meaning = Meaning::Object {
         slot: Slot::Static(number),
         qual: copied_qual(alloc, qual)?,
         register: false,
     };
-    state.ordinary.change(symbol, meaning);
+    state.names.change(symbol, meaning);
     Ok(())
 }
 
@@ -356,7 +546,7 @@ pub fn declare_local_static(
 ) -> Result<u32, TypeFault> {
     let alloc = state.alloc;
     let copy = copied_qual(alloc, &qual)?;
-    let number = state.add_object(ObjectRow::new(alloc, qual, false, true))?;
+    let number = state.add_object(ObjectRow::new(alloc, qual, true))?;
     state.define_object(number, source.line(at));
     let meaning = Meaning::Object {
         slot: Slot::Static(number),
@@ -367,65 +557,39 @@ pub fn declare_local_static(
     Ok(number)
 }
 
-fn known_function(state: &State, symbol: u32) -> Result<Option<(u32, bool)>, ()> {
-    match target(state, symbol) {
-        None => Ok(None),
-        Some(Target::Function(number)) => match state.functions.get(number as usize) {
-            Some(row) => Ok(Some((number, row.internal))),
-            None => Err(()),
-        },
-        Some(Target::Static(_)) | Some(Target::Literal(_)) => Err(()),
+// 5. Functions.
+
+// The number of a function; an object has none (6.2.7p2).
+fn function_in(target: Target) -> Option<u32>
+    ensures { result ≡ names.number_of_function target }
+{
+    match target {
+        Target::Function(number) => Some(number),
+        _ => None,
     }
 }
 
-fn visible_function_type(
-    state: &State,
-    alloc: Global,
-    symbol: u32,
-    ty: &FuncTy,
-) -> Result<FuncTy, NoMemory> {
-    match state.ordinary.find(symbol) {
-        Some(binding) => match &binding.meaning {
-            Meaning::Function {
-                number: _,
-                ty: Ty::Function(old),
-            } => match joined_functions(alloc, old.get(), ty)? {
-                Some(ty) => Ok(ty),
-                None => copied_function(alloc, ty),
-            },
-            _ => copied_function(alloc, ty),
-        },
-        None => copied_function(alloc, ty),
-    }
-}
-
-// The library function that an external name stands for; refused where its type isn't the library's (7.1.3).
-fn library_of(
-    state: &State,
-    name: &[u8],
-    internal: bool,
-    ty: &FuncTy,
-) -> Result<Option<LibFunc>, TypeRefused> {
+// The library function that an external name stands for (7.1.3p1).
+fn library_of(name: &[u8], internal: bool) -> Option<LibFunc>
+    ensures { result ≡ names.library_of internal name.now }
+{
     if internal {
-        return Ok(None);
-    }
-    let Some(library) = library_function(name) else {
-        return Ok(None);
-    };
-    let known = library_type(state.alloc, library)?;
-    if compatible_functions(&known, ty) {
-        Ok(Some(library))
+        None
     } else {
-        Err(TypeRefused::Incompatible)
+        library_function(name)
     }
 }
 
-fn note_function_type(state: &mut State, number: u32, ty: &FuncTy) -> Result<(), NoMemory> {
-    let alloc = state.alloc;
-    let qual = function_qual(alloc, ty)?;
-    match state.functions.get_mut(number as usize) {
-        Some(row) => note_type(alloc, &mut row.types, &qual),
-        None => Ok(()),
+// Whether the type is that of the library's function (7.1.3p2).
+fn fits_library(alloc: Global, ty: &FuncTy, library: Option<LibFunc>) -> Result<bool, NoMemory>
+    ensures { IfOk result (λ fits. fits ≡ names.fits_library (signature_of ty.now) library) }
+{
+    match library {
+        None => Ok(true),
+        Some(library) => {
+            let known = library_type(alloc, library)?;
+            Ok(compatible_functions(&known, ty))
+        }
     }
 }
 
@@ -436,108 +600,116 @@ fn first_definition(library: Option<LibFunc>) -> Definition {
     }
 }
 
-// A function of this type, before its declarations' types are noted.
-fn first_row(alloc: Global, ty: FuncTy, internal: bool, library: Option<LibFunc>) -> FunctionRow {
-    FunctionRow {
-        ty,
-        types: Items::new(alloc),
-        internal,
-        definition: first_definition(library),
-        used: None,
-    }
-}
-
 fn new_function(
     state: &mut State,
     symbol: u32,
     ty: &FuncTy,
+    qual: &Qual,
     internal: bool,
     library: Option<LibFunc>,
-) -> Result<u32, NoMemory> {
+) -> Result<u32, NoMemory>
+    ensures number { IfOk result (λ number. number ≡ vec_len state.old.functions) }
+    ensures more { OnOk result (vec_len state.new.functions ≡ vec_len state.old.functions + 1) }
+    ensures known { OnOk result ((n : Naming) (t : TokenText) (env : Env) → known_by n t state.new env ≡ names.with_link symbol internal (target.Function (vec_len state.old.functions)) (qualified_of qual.now) (known_by n t state.old env)) }
+{
     let alloc = state.alloc;
-    let number = u32::try_from(state.functions.len()).unwrap_or(u32::MAX);
-    let row = first_row(alloc, copied_function(alloc, ty)?, internal, library);
+    let Ok(number) = u32::try_from(state.functions.len()) else {
+        return Err(NoMemory);
+    };
+    let row = FunctionRow {
+        ty: copied_function(alloc, ty)?,
+        internal,
+        definition: first_definition(library),
+        used: None,
+    };
     state.functions.push(row)?;
-    note_function_type(state, number, ty)?;
-    link(state, symbol, Target::Function(number));
+    link(state, symbol, Target::Function(number), internal, qual)?;
     Ok(number)
 }
 
-// Gives the function the composite of its type and a compatible one; false where it isn't compatible.
-fn join_function(alloc: Global, row: &mut FunctionRow, ty: &FuncTy) -> Result<bool, NoMemory> {
-    match joined_functions(alloc, &row.ty, ty)? {
-        None => Ok(false),
-        Some(joined) => {
-            row.ty = joined;
-            Ok(true)
-        }
+// The composite of the function types.
+fn joined_functions(alloc: Global, old: &FuncTy, new: &FuncTy) -> Result<FuncTy, NoMemory> {
+    let first = function_qual(alloc, old)?;
+    let second = function_qual(alloc, new)?;
+    match composite(alloc, &first.ty, &second.ty)? {
+        Ty::Function(joined) => copied_function(alloc, joined.get()),
+        _ => copied_function(alloc, old),
     }
 }
 
-// A further declaration of the function; false where its type isn't compatible with that of each other one (6.2.7p2).
-fn redeclare_function(state: &mut State, number: u32, ty: &FuncTy) -> Result<bool, NoMemory> {
-    let alloc = state.alloc;
-    if !suits_function(state, number, ty)? {
-        return Ok(false);
+// Gives the function the composite of its type so far and this one.
+fn join_function(state: &mut State, number: u32, ty: &FuncTy) -> Result<(), NoMemory>
+    ensures rest { state.new ≡ record state.old { functions = state.new.functions } }
+    ensures same { vec_len state.new.functions ≡ vec_len state.old.functions }
+{
+    let joined = match state.functions.get(number as usize) {
+        Some(row) => joined_functions(state.alloc, &row.ty, ty)?,
+        None => return Ok(()),
+    };
+    if (number as usize) < state.functions.len() {
+        state.functions[number as usize].ty = joined;
     }
-    note_function_type(state, number, ty)?;
-    match state.functions.get_mut(number as usize) {
-        Some(row) => join_function(alloc, row, ty),
-        None => Ok(false),
-    }
+    Ok(())
 }
 
-// Whether the type is compatible with that of each declaration of the function so far.
-fn suits_function(state: &State, number: u32, ty: &FuncTy) -> Result<bool, NoMemory> {
-    let qual = function_qual(state.alloc, ty)?;
-    match state.functions.get(number as usize) {
-        Some(row) => Ok(suits_all(&qual, row.types.as_slice())),
-        None => Ok(false),
-    }
+// A further declaration of the function.
+fn further_function(
+    state: &mut State,
+    symbol: u32,
+    number: u32,
+    ty: &FuncTy,
+    qual: &Qual,
+) -> Result<(), NoMemory>
+    ensures same { vec_len state.new.functions ≡ vec_len state.old.functions }
+    ensures known { OnOk result ((n : Naming) (t : TokenText) (env : Env) → known_by n t state.new env ≡ names.with_further symbol (qualified_of qual.now) (known_by n t state.old env)) }
+{
+    note_type(state, symbol, qual)?;
+    join_function(state, number, ty)
 }
 
-// Gives the identifier the function, with the type that it has from here on in this scope (6.2.7p4).
-fn bind_function(state: &mut State, symbol: u32, number: u32, ty: &FuncTy) -> Result<(), NoMemory> {
-    let alloc = state.alloc;
-    let ty = function_type(alloc, visible_function_type(state, alloc, symbol, ty)?)?;
-    bind(state, symbol, Meaning::Function { number, ty })
+fn bind_function(state: &mut State, symbol: u32, number: u32, seen: Qual) -> Result<(), NoMemory>
+    ensures known { OnOk result ((n : Naming) (t : TokenText) (env : Env) → known_by n t state.new env ≡ names.bound symbol (a_function number (qualified_of seen).ty) (known_by n t state.old env)) }
+    ensures same { state.new.functions ≡ state.old.functions }
+{
+    let meaning = Meaning::Function {
+        number,
+        ty: seen.ty,
+    };
+    bind(state, symbol, meaning)
 }
 
-// The number of a function that is declared.
+// The number of a function that is declared, whose type fits the library's.
 fn function_number(
     state: &mut State,
     source: &Source<'_>,
     at: u32,
     ty: &FuncTy,
     linkage: Linkage,
-) -> Result<u32, TypeFault> {
-    let symbol = source.symbol(at);
-    let Ok(known) = known_function(state, symbol) else {
-        return Err(source.fault(at, clash(state, symbol)));
+    library: Option<LibFunc>,
+) -> Result<u32, TypeFault>
+    ensures { (n : Naming) → IsOneToOne n → (env : Env) → IsKnown n source.now state.old env → HasFunctions state.old env → library ≡ names.library_of (names.is_internal (given_of linkage) (option_map (linked_seen n) (prior_in state.old (symbol_in source.now (slice_get source.now.list at))))) (text_at source.now at) → names.fits_library (signature_of ty.now) library ≡ true → Follows (λ number. number) (IsDeclared n source.now state.new) (names.declare_function at (signature_of ty.now) (given_of linkage) env) result }
+{
+    let qual = function_qual(state.alloc, ty)?;
+    let found = match redeclared(state, source, at, &qual, linkage) {
+        Ok(found) => found,
+        Err(fault) => return Err(fault),
     };
-    let was = known.map(|function| function.1);
-    let Some(internal) = is_internal(state, symbol, linkage, was) else {
-        return Err(source.fault(at, Reason::LinkageClash));
-    };
-    if !may_redeclare(state, symbol) {
-        return Err(source.fault(at, Reason::DeclaredTwice));
-    }
-    let library = match library_of(state, source.spelling(at), internal, ty) {
-        Ok(library) => library,
-        Err(TypeRefused::Incompatible) => return Err(source.fault(at, Reason::LibraryName)),
-        Err(TypeRefused::NoMemory) => return Err(TypeFault::NoMemory),
-    };
-    let number = match known {
-        None => new_function(state, symbol, ty, internal, library)?,
-        Some((number, _)) => {
-            if !redeclare_function(state, number, ty)? {
-                return Err(source.fault(at, clash(state, symbol)));
-            }
-            number
+    let symbol = found.symbol;
+    match found.target {
+        None => {
+            let number = new_function(state, symbol, ty, &qual, found.internal, library)?;
+            bind_function(state, symbol, number, found.seen)?;
+            Ok(number)
         }
-    };
-    bind_function(state, symbol, number, ty)?;
-    Ok(number)
+        Some(target) => {
+            let Some(number) = function_in(target) else {
+                return Err(source.fault(at, clash(state, symbol)));
+            };
+            further_function(state, symbol, number, ty, &qual)?;
+            bind_function(state, symbol, number, found.seen)?;
+            Ok(number)
+        }
+    }
 }
 
 /// Declares a function; the answer is its number.
@@ -547,18 +719,13 @@ pub fn declare_function(
     at: u32,
     ty: FuncTy,
     linkage: Linkage,
-) -> Result<u32, TypeFault> {
-    function_number(state, source, at, &ty, linkage)
-}
-
-// Why a declaration isn't that of a library function.
-enum TypeRefused {
-    Incompatible,
-    NoMemory,
-}
-
-impl From<NoMemory> for TypeRefused {
-    fn from(_e: NoMemory) -> TypeRefused {
-        TypeRefused::NoMemory
+) -> Result<u32, TypeFault>
+    ensures { (n : Naming) → IsOneToOne n → (env : Env) → IsKnown n source.now state.old env → HasFunctions state.old env → Follows (λ number. number) (IsDeclared n source.now state.new) (names.declare_function at (signature_of ty) (given_of linkage) env) result }
+{
+    let internal = is_internal(linkage, prior(state, source.symbol(at)));
+    let library = library_of(source.spelling(at), internal);
+    if !fits_library(state.alloc, &ty, library)? {
+        return Err(source.fault(at, Reason::LibraryName));
     }
+    function_number(state, source, at, &ty, linkage, library)
 }

@@ -65,7 +65,6 @@ fn program_function(row: FunctionRow) -> Function
 {
     let FunctionRow {
         ty,
-        types: _,
         internal: _,
         definition,
         used: _,
@@ -122,10 +121,7 @@ pub fn finished(alloc: Global, source: &Source<'_>, state: State) -> Result<Prog
 {
     let State {
         alloc: _,
-        ordinary: _,
-        tag_names: _,
-        depth: _,
-        prototype: _,
+        names: _,
         tags,
         tag_rows: _,
         enumerations: _,

@@ -106,8 +106,6 @@ fn program_static(
 {
     let ObjectRow {
         qual,
-        types: _,
-        linked: _,
         internal,
         defined,
         line,

@@ -1,0 +1,5 @@
+pub mod Blocks
+pub mod Nested
+pub mod Seen
+pub mod Strings
+pub mod Symbols

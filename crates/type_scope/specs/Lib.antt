@@ -1,1 +1,7 @@
+pub mod Faults
+pub mod InScope
+pub mod Known
+pub mod Reads
+pub mod Strings
 pub mod Tagged
+pub mod Working

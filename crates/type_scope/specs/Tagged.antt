@@ -1,5 +1,5 @@
 -- Which structures and unions have a const member, as it is noted when they are completed (6.3.2.1p1).
-use Rattle.std.specs.Prelude.{ℕ, Bool, false, List, Option, Some, None, slice_get}
+use Rattle.std.specs.Prelude.{ℕ, Bool, false, Option, Some, None, slice_get}
 use Rattle.type_scope.specs.declared.rows.TagRow.{TagRow}
 use Rattle.type_scope.specs.declared.state.State.{State}
 

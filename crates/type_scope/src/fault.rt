@@ -1,4 +1,7 @@
 // Why a unit has no typed program.
+ghost use Rattle.std.specs.Prelude.{◌≡◌};
+ghost use Rattle.std.specs.Result.{result_map_both};
+ghost use Rattle.type_scope.specs.Faults.{told_on, told_for, is_own_rule, reason_told};
 
 use std::alloc::{AllocError, AllocFailed};
 use type_reasons::{Reason, Refused};
@@ -12,25 +15,39 @@ pub enum TypeFault {
 }
 
 impl From<NoMemory> for TypeFault {
+    ghost use Rattle.type_scope.specs.declared.fault.TypeFault.TheVariants as fault;
+
+    ghost from_gives = { λ _ e. e ≡ fault.NoMemory };
+
     fn from(_e: NoMemory) -> TypeFault {
         TypeFault::NoMemory
     }
 }
 
 impl From<AllocError> for TypeFault {
+    ghost use Rattle.type_scope.specs.declared.fault.TypeFault.TheVariants as fault;
+
+    ghost from_gives = { λ _ e. e ≡ fault.NoMemory };
+
     fn from(_e: AllocError) -> TypeFault {
         TypeFault::NoMemory
     }
 }
 
 impl<T: Drop> From<AllocFailed<T>> for TypeFault {
+    ghost use Rattle.type_scope.specs.declared.fault.TypeFault.TheVariants as fault;
+
+    ghost from_gives = { λ _ e. e ≡ fault.NoMemory };
+
     fn from(_e: AllocFailed<T>) -> TypeFault {
         TypeFault::NoMemory
     }
 }
 
 /// The result, a refusal standing on this line.
-pub fn placed<T>(line: u32, made: Result<T, Refused>) -> Result<T, TypeFault> {
+pub fn placed<T>(line: u32, made: Result<T, Refused>) -> Result<T, TypeFault>
+    ensures { result ≡ result_map_both (λ value. value) (told_on line) made }
+{
     match made {
         Ok(value) => Ok(value),
         Err(Refused::Constraint(reason)) => Err(TypeFault::NotTyped { line, reason }),
@@ -38,12 +55,21 @@ pub fn placed<T>(line: u32, made: Result<T, Refused>) -> Result<T, TypeFault> {
     }
 }
 
+// Whether it is a rule of the profile that is told of operands.
+fn is_own_rule(told: Reason) -> bool
+    ensures { result ≡ is_own_rule told }
+{
+    matches!(told, Reason::FunctionConversion | Reason::ArrayOfValue)
+}
+
 // Why a call refuses whose operand was refused for the reason `told`: a rule of the profile stays, and so does `kept`.
-fn reason_of(told: Reason, kept: Reason, reason: Reason) -> Reason {
-    match told {
-        Reason::FunctionConversion | Reason::ArrayOfValue => told,
-        told if told == kept => kept,
-        _ => reason,
+fn reason_of(told: Reason, kept: Reason, reason: Reason) -> Reason
+    ensures { result ≡ reason_told kept reason told }
+{
+    if is_own_rule(told) || told == kept {
+        told
+    } else {
+        reason
     }
 }
 
@@ -53,7 +79,9 @@ pub fn placed_unless<T>(
     kept: Reason,
     reason: Reason,
     made: Result<T, Refused>,
-) -> Result<T, TypeFault> {
+) -> Result<T, TypeFault>
+    ensures { result ≡ result_map_both (λ value. value) (told_for line kept reason) made }
+{
     match made {
         Ok(value) => Ok(value),
         Err(Refused::Constraint(told)) => Err(TypeFault::NotTyped {
@@ -65,6 +93,8 @@ pub fn placed_unless<T>(
 }
 
 /// The result, a refusal standing on this line and for this reason, unless it is for a rule of the profile.
-pub fn placed_for<T>(line: u32, reason: Reason, made: Result<T, Refused>) -> Result<T, TypeFault> {
+pub fn placed_for<T>(line: u32, reason: Reason, made: Result<T, Refused>) -> Result<T, TypeFault>
+    ensures { result ≡ result_map_both (λ value. value) (told_for line reason reason) made }
+{
     placed_unless(line, reason, reason, made)
 }

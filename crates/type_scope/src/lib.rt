@@ -6,14 +6,17 @@ mod declare;
 mod fault;
 mod literals;
 mod rows;
+mod scopes;
 mod source;
 mod state;
 mod task;
 
 pub use fault::{TypeFault, placed, placed_for, placed_unless};
 pub use literals::Literal;
-pub use rows::{CountedUse, Definition, FunctionRow, Meaning, ObjectRow, TagMeaning, TagRow};
+pub use rows::{
+    CountedUse, Definition, FunctionRow, Linked, Meaning, ObjectRow, TagMeaning, TagRow,
+};
+pub use scopes::Scopes;
 pub use source::Source;
-pub use state::{Lifted, Mark, State};
+pub use state::{Mark, State};
 pub use task::{Label, OpenBlock, OpenSwitch, Task};
-pub use type_name_space::{Binding, Space};

@@ -1,6 +1,6 @@
 // What names stand for.
 
-use c_typed::{Body, Constant, Slot};
+use c_typed::{Body, Constant, Slot, Target};
 use c_types::{FuncTy, LibFunc, Qual, TagKind, Ty};
 use std::alloc::Global;
 use ub_base::Items;
@@ -39,16 +39,22 @@ pub struct TagRow {
     pub symbols: Vec<u32>,
 }
 
+/// An identifier with linkage: what it stands for, whether it is internal, and the types that its declarations gave it, each once
+/// (6.2.2, 6.2.7p2).
+#[derive(Drop)]
+pub struct Linked {
+    pub target: Target,
+    pub internal: bool,
+    pub types: Items<Qual>,
+}
+
 /// An object with static storage.
 #[derive(Drop)]
 pub struct ObjectRow {
     /// The type of its identifier by its declarations at file scope so far (6.2.7p4, 6.9.2p2); before the first of them that of
     /// its first declaration.
     pub qual: Qual,
-    /// The types that its declarations gave it, each once.
-    pub types: Items<Qual>,
-    /// Whether its identifier has linkage, and then whether it is internal.
-    pub linked: bool,
+    /// Whether its identifier isn't external.
     pub internal: bool,
     /// Its place among the objects with static storage, in the order of their first definitions.
     pub defined: Option<u32>,
@@ -85,8 +91,6 @@ pub enum Definition {
 pub struct FunctionRow {
     /// The composite of its types so far.
     pub ty: FuncTy,
-    /// The types that its declarations gave it, each once.
-    pub types: Items<Qual>,
     pub internal: bool,
     pub definition: Definition,
     /// The line of its first use.
@@ -95,11 +99,9 @@ pub struct FunctionRow {
 
 impl ObjectRow {
     /// An object of this type that isn't defined yet.
-    pub fn new(alloc: Global, qual: Qual, linked: bool, internal: bool) -> ObjectRow {
+    pub fn new(alloc: Global, qual: Qual, internal: bool) -> ObjectRow {
         ObjectRow {
             qual,
-            types: Items::new(alloc),
-            linked,
             internal,
             defined: None,
             line: 1,

@@ -1,14 +1,18 @@
 // All that is declared so far.
-ghost use Rattle.std.specs.Prelude.{◌≡◌, OnOk};
+ghost use Rattle.std.specs.Prelude.{◌≡◌, length, vec_len, IfOk, OnOk, OnErr};
+ghost use Rattle.c_lex.specs.TokenText.{TokenText};
 ghost use Rattle.c_typed.specs.Lawful.{HasBytes};
-ghost use Rattle.type_name_space.specs.Scopes.{left};
+ghost use Rattle.typing_env.specs.Env.{Env, start_of};
+ghost use Rattle.typing_env.specs.Names.{entered, left_scope, kept_prototype, with_parameters, with_new_tag, with_new_enumeration};
+ghost use Rattle.type_scope.specs.Known.{Naming, known_by};
 
 use crate::literals::Literal;
-use crate::rows::{FunctionRow, Meaning, ObjectRow, TagMeaning, TagRow};
-use crate::{Binding, Source, Space, Task};
+use crate::rows::{FunctionRow, Linked, ObjectRow, TagRow};
+use crate::{Scopes, Source, Task};
 use c_typed::Target;
 use c_types::{Extent, Qual, TagKind, Tags, Ty};
 use std::alloc::Global;
+use type_name_space::Space;
 use type_reasons::{Constants, Objects};
 use ub_base::{Bytes, NoMemory};
 
@@ -16,12 +20,7 @@ use ub_base::{Bytes, NoMemory};
 #[derive(Drop)]
 pub struct State {
     pub alloc: Global,
-    pub ordinary: Space<Meaning>,
-    pub tag_names: Space<TagMeaning>,
-    /// How many scopes enclose this one: 0 at file scope.
-    pub depth: u32,
-    /// The declarations in the parameter list of a function definition, while the rest of its declarator is read (6.2.1p4).
-    pub prototype: Lifted,
+    pub names: Scopes,
     pub tags: Tags,
     pub tag_rows: Vec<TagRow>,
     /// Which enumerations are complete, by number.
@@ -33,8 +32,8 @@ pub struct State {
     /// Where an object stands in `objects`, by the order of first declarations; the same place where it is empty.
     pub order: Vec<u32>,
     pub functions: Vec<FunctionRow>,
-    /// The object or function that a name with linkage stands for, by symbol.
-    pub linked: Vec<Option<Target>>,
+    /// The identifiers with linkage, each declared once, at depth 0.
+    pub linked: Space<Linked>,
     pub literals: Vec<Literal>,
     /// How many operands that aren't evaluated are open.
     pub unevaluated: u32,
@@ -43,45 +42,23 @@ pub struct State {
     pub task: Task,
 }
 
-/// The declarations of a scope that was taken away, the newest first.
-#[derive(Drop)]
-pub struct Lifted {
-    ordinary: Vec<Binding<Meaning>>,
-    tag_names: Vec<Binding<TagMeaning>>,
-}
-
-impl Lifted {
-    // No declarations.
-    fn new(alloc: Global) -> Lifted {
-        Lifted {
-            ordinary: Vec::new(alloc),
-            tag_names: Vec::new(alloc),
-        }
-    }
-}
-
 /// How many string literals were there before an operand that isn't evaluated.
 #[derive(Clone, Copy, Debug, PartialEq, Eq)]
 pub struct Mark(usize);
 
 impl State {
     /// Nothing declared; `order` as the field says.
-    pub fn new(alloc: Global, source: &Source<'_>, order: Vec<u32>) -> Result<State, NoMemory> {
+    pub fn new(alloc: Global, source: &Source<'_>, order: Vec<u32>) -> Result<State, NoMemory>
+        ensures known { IfOk result (λ s. (n : Naming) → known_by n source.now s (start_of source.now) ≡ start_of source.now) }
+    {
         let symbols = source.symbol_count();
-        let mut linked = Vec::new(alloc);
-        for _ in 0..symbols {
-            linked.push(None)?;
-        }
         let mut objects = Vec::new(alloc);
         for _ in 0..order.len() {
-            objects.push(ObjectRow::new(alloc, no_type(), false, false))?;
+            objects.push(ObjectRow::new(alloc, no_type(), false))?;
         }
         Ok(State {
             alloc,
-            ordinary: Space::new(alloc, symbols)?,
-            tag_names: Space::new(alloc, symbols)?,
-            depth: 0,
-            prototype: Lifted::new(alloc),
+            names: Scopes::new(alloc, symbols)?,
             tags: Tags::new(alloc),
             tag_rows: Vec::new(alloc),
             enumerations: Vec::new(alloc),
@@ -90,7 +67,7 @@ impl State {
             defined: 0,
             order,
             functions: Vec::new(alloc),
-            linked,
+            linked: Space::new(alloc, symbols)?,
             literals: Vec::new(alloc),
             unevaluated: 0,
             main: None,
@@ -99,56 +76,37 @@ impl State {
     }
 
     /// Begins a scope.
-    pub fn enter_scope(&mut self) {
-        self.depth = self.depth.saturating_add(1);
+    pub fn enter_scope(&mut self) -> Result<(), NoMemory>
+        ensures known { OnOk result ((n : Naming) (t : TokenText) (env : Env) → known_by n t self.new env ≡ entered (known_by n t self.old env)) }
+        ensures rest { self.new ≡ record self.old { names = self.new.names } }
+        ensures err { OnErr result (self.new ≡ self.old) }
+    {
+        self.names.enter()
     }
 
     /// Ends the innermost scope.
     pub fn leave_scope(&mut self)
-        ensures ordinary { self.new.ordinary ≡ left self.old.depth self.old.ordinary }
-        ensures tags { self.new.tag_names ≡ left self.old.depth self.old.tag_names }
+        ensures known { (n : Naming) (t : TokenText) (env : Env) → known_by n t self.new env ≡ left_scope (known_by n t self.old env) }
+        ensures rest { self.new ≡ record self.old { names = self.new.names } }
     {
-        self.ordinary.leave(self.depth);
-        self.tag_names.leave(self.depth);
-        self.depth = self.depth.saturating_sub(1);
+        self.names.leave();
     }
 
-    /// Takes the declarations of the innermost scope away, and ends it.
-    pub fn lift_scope(&mut self) -> Result<Lifted, NoMemory>
-        ensures ordinary { OnOk result (self.new.ordinary ≡ left self.old.depth self.old.ordinary) }
-        ensures tags { OnOk result (self.new.tag_names ≡ left self.old.depth self.old.tag_names) }
+    /// Ends the innermost scope, that of a parameter list. Its declarations are kept for a body where `own` is true, as behind a
+    /// declared name, and the list stands at file scope (6.2.1p4).
+    pub fn leave_parameters(&mut self, own: bool) -> Result<(), NoMemory>
+        ensures known { OnOk result ((n : Naming) (t : TokenText) (env : Env) → known_by n t self.new env ≡ left_scope (kept_prototype own (known_by n t self.old env))) }
+        ensures rest { self.new ≡ record self.old { names = self.new.names } }
     {
-        let ordinary = self.ordinary.lift(self.alloc, self.depth)?;
-        let tag_names = self.tag_names.lift(self.alloc, self.depth)?;
-        self.depth = self.depth.saturating_sub(1);
-        Ok(Lifted {
-            ordinary,
-            tag_names,
-        })
+        self.names.leave_parameters(self.alloc, own)
     }
 
-    /// Begins a scope with these declarations.
-    pub fn lower_scope(&mut self, lifted: Lifted) -> Result<(), NoMemory> {
-        let Lifted {
-            ordinary,
-            tag_names,
-        } = lifted;
-        self.enter_scope();
-        self.ordinary.lower(self.depth, ordinary)?;
-        self.tag_names.lower(self.depth, tag_names)
-    }
-
-    /// Ends the innermost scope, that of the parameters of a function definition, and keeps what it declares for the body.
-    pub fn lift_prototype(&mut self) -> Result<(), NoMemory> {
-        self.prototype = self.lift_scope()?;
-        Ok(())
-    }
-
-    /// Begins the scope of a body, with what the parameter list declares.
-    pub fn lower_prototype(&mut self) -> Result<(), NoMemory> {
-        let none = Lifted::new(self.alloc);
-        let kept = std::mem::replace(&mut self.prototype, none);
-        self.lower_scope(kept)
+    /// Begins the scope of a body, with what is kept of its parameters.
+    pub fn enter_body(&mut self) -> Result<(), NoMemory>
+        ensures known { OnOk result ((n : Naming) (t : TokenText) (env : Env) → known_by n t self.new env ≡ with_parameters (entered (known_by n t self.old env))) }
+        ensures rest { self.new ≡ record self.old { names = self.new.names } }
+    {
+        self.names.enter_body(self.alloc)
     }
 
     /// Begins an operand that isn't evaluated: its literals are no objects, and it uses no name (6.9p3).
@@ -199,7 +157,9 @@ impl State {
     }
 
     /// A further object with static storage; the answer is its number.
-    pub fn add_object(&mut self, row: ObjectRow) -> Result<u32, NoMemory> {
+    pub fn add_object(&mut self, row: ObjectRow) -> Result<u32, NoMemory>
+        ensures rest { self.new ≡ record self.old { objects = self.new.objects; declared = self.new.declared } }
+    {
         let at = self.declared;
         self.declared = at.saturating_add(1);
         match self.order.get(at) {
@@ -209,14 +169,18 @@ impl State {
                 Ok(place)
             }
             None => {
-                let place = u32::try_from(self.objects.len()).unwrap_or(u32::MAX);
+                let Ok(place) = u32::try_from(self.objects.len()) else {
+                    return Err(NoMemory);
+                };
                 self.objects.push(row)?;
                 Ok(place)
             }
         }
     }
 
-    fn put_object(&mut self, place: u32, row: ObjectRow) {
+    fn put_object(&mut self, place: u32, row: ObjectRow)
+        ensures { self.new ≡ record self.old { objects = self.new.objects } }
+    {
         if (place as usize) < self.objects.len() {
             self.objects[place as usize] = row;
         }
@@ -254,7 +218,11 @@ impl State {
     }
 
     /// Declares a new structure or union; the answer is its number.
-    pub fn add_tag(&mut self, kind: TagKind) -> Result<u32, NoMemory> {
+    pub fn add_tag(&mut self, kind: TagKind) -> Result<u32, NoMemory>
+        ensures number { IfOk result (λ number. number ≡ length self.old.tags) }
+        ensures known { OnOk result ((n : Naming) (t : TokenText) (env : Env) → known_by n t self.new env ≡ with_new_tag kind (known_by n t self.old env)) }
+        ensures rest { self.new ≡ record self.old { tags = self.new.tags; tag_rows = self.new.tag_rows } }
+    {
         if self.tags.is_full() {
             return Err(NoMemory);
         }
@@ -266,8 +234,14 @@ impl State {
     }
 
     /// Declares a new enumeration; the answer is its number.
-    pub fn add_enumeration(&mut self) -> Result<u32, NoMemory> {
-        let number = u32::try_from(self.enumerations.len()).unwrap_or(u32::MAX);
+    pub fn add_enumeration(&mut self) -> Result<u32, NoMemory>
+        ensures number { IfOk result (λ number. number ≡ vec_len self.old.enumerations) }
+        ensures known { OnOk result ((n : Naming) (t : TokenText) (env : Env) → known_by n t self.new env ≡ with_new_enumeration (known_by n t self.old env)) }
+        ensures rest { self.new ≡ record self.old { enumerations = self.new.enumerations } }
+    {
+        let Ok(number) = u32::try_from(self.enumerations.len()) else {
+            return Err(NoMemory);
+        };
         self.enumerations.push(false)?;
         Ok(number)
     }

@@ -1,4 +1,10 @@
 // The function definition that is being resolved.
+ghost use Rattle.std.specs.Prelude.{◌≡◌, length, map, IfOk, OnOk, OnErr};
+ghost use Rattle.c_types.specs.Types.{type_of, qualified_of};
+ghost use Rattle.typing_env.specs.Env as env;
+ghost use Rattle.typing_env.specs.Env.{no_task};
+ghost use Rattle.typing_env.specs.Tasks.{open_block, close_block, innermost, another_object, retyped_task, one_object, retyped_object};
+ghost use Rattle.type_scope.specs.Working.{task_seen, blocks_seen, block_seen};
 
 use c_types::{IntKind, Qual, Ty};
 use indexmap::IndexMap;
@@ -31,13 +37,21 @@ pub struct OpenBlock {
 
 impl OpenBlock {
     // Adds an object; the answer is the number of the block and that of the object in it.
-    fn add(&mut self, qual: Qual) -> Result<(u32, u32), NoMemory> {
-        let decl = u32::try_from(self.objects.len()).unwrap_or(u32::MAX);
+    fn add(&mut self, qual: Qual) -> Result<(u32, u32), NoMemory>
+        ensures place { IfOk result (λ place. (place.0 ≡ self.old.number) × (place.1 ≡ length self.old.objects)) }
+        ensures ok { OnOk result (block_seen self.new ≡ one_object (qualified_of qual) (block_seen self.old)) }
+        ensures err { OnErr result (self.new ≡ self.old) }
+    {
+        let Ok(decl) = u32::try_from(self.objects.len()) else {
+            return Err(NoMemory);
+        };
         self.objects.push(qual)?;
         Ok((self.number, decl))
     }
 
-    fn complete(&mut self, decl: u32, qual: Qual) {
+    fn complete(&mut self, decl: u32, qual: Qual)
+        ensures { block_seen self.new ≡ retyped_object decl (qualified_of qual) (block_seen self.old) }
+    {
         if (decl as usize) < self.objects.len() {
             self.objects.set(decl as usize, qual);
         }
@@ -53,7 +67,7 @@ pub struct Task {
     /// How many blocks have begun.
     pub blocks: u32,
     /// The blocks that are open, outermost first.
-    pub open: Vec<OpenBlock>,
+    pub open_blocks: Vec<OpenBlock>,
     /// How many loops, and how many loops and `switch` statements, are open.
     pub loops: u32,
     pub breakable: u32,
@@ -62,48 +76,69 @@ pub struct Task {
 
 impl Task {
     /// A function that returns this type.
-    pub fn new(alloc: Global, returned: Ty) -> Task {
+    pub fn new(alloc: Global, returned: Ty) -> Task
+        ensures { task_seen result no_task ≡ record no_task { result = type_of returned } }
+    {
         Task {
             result: returned,
             labels: IndexMap::new(alloc),
             blocks: 0,
-            open: Vec::new(alloc),
+            open_blocks: Vec::new(alloc),
             loops: 0,
             breakable: 0,
             switches: Vec::new(alloc),
         }
     }
 
-    /// Begins a block, which has the next number.
-    pub fn enter(&mut self, alloc: Global) -> Result<u32, NoMemory> {
+    /// Begins a block, which has the next number; there are numbers for 2^32 - 1 of them.
+    pub fn enter(&mut self, alloc: Global) -> Result<u32, NoMemory>
+        ensures number { IfOk result (λ number. number ≡ self.old.blocks) }
+        ensures ok { OnOk result ((was : env.Task) → task_seen self.new was ≡ open_block (task_seen self.old was)) }
+        ensures err { OnErr result ((was : env.Task) → task_seen self.new was ≡ task_seen self.old was) }
+        ensures rest { self.new ≡ record self.old { blocks = self.new.blocks; open_blocks = self.new.open_blocks } }
+    {
         let number = self.blocks;
-        self.open.push(OpenBlock {
-            number,
-            objects: Items::new(alloc),
-        })?;
-        self.blocks = number.saturating_add(1);
+        let Some(next) = number.checked_add(1) else {
+            return Err(NoMemory);
+        };
+        let objects = Items::new(alloc);
+        self.open_blocks.push(OpenBlock { number, objects })?;
+        self.blocks = next;
         Ok(number)
     }
 
     /// Ends the innermost block; the answer is its number and its objects.
-    pub fn leave(&mut self, alloc: Global) -> (u32, Items<Qual>) {
-        match self.open.pop() {
+    pub fn leave(&mut self, alloc: Global) -> (u32, Items<Qual>)
+        ensures number { result.0 ≡ (innermost (blocks_seen self.old)).number }
+        ensures objects { map qualified_of result.1 ≡ (innermost (blocks_seen self.old)).objects }
+        ensures closed { (was : env.Task) → task_seen self.new was ≡ close_block (task_seen self.old was) }
+        ensures rest { self.new ≡ record self.old { open_blocks = self.new.open_blocks } }
+    {
+        match self.open_blocks.pop() {
             Some(OpenBlock { number, objects }) => (number, objects),
             None => (0, Items::new(alloc)),
         }
     }
 
     /// Adds an object to the innermost block; the answer is the number of the block and its number in it.
-    pub fn add(&mut self, qual: Qual) -> Result<(u32, u32), NoMemory> {
-        match self.open.last_mut() {
+    pub fn add(&mut self, qual: Qual) -> Result<(u32, u32), NoMemory>
+        ensures block { IfOk result (λ place. place.0 ≡ (innermost (blocks_seen self.old)).number) }
+        ensures number { IfOk result (λ place. place.1 ≡ length (innermost (blocks_seen self.old)).objects) }
+        ensures ok { OnOk result ((was : env.Task) → task_seen self.new was ≡ another_object (qualified_of qual) (task_seen self.old was)) }
+        ensures rest { self.new ≡ record self.old { open_blocks = self.new.open_blocks } }
+    {
+        match self.open_blocks.last_mut() {
             Some(block) => block.add(qual),
             None => Ok((0, 0)),
         }
     }
 
     /// Gives an object of the innermost block its type.
-    pub fn complete(&mut self, decl: u32, qual: Qual) {
-        if let Some(block) = self.open.last_mut() {
+    pub fn complete(&mut self, decl: u32, qual: Qual)
+        ensures completed { (was : env.Task) → task_seen self.new was ≡ retyped_task decl (qualified_of qual) (task_seen self.old was) }
+        ensures rest { self.new ≡ record self.old { open_blocks = self.new.open_blocks } }
+    {
+        if let Some(block) = self.open_blocks.last_mut() {
             block.complete(decl, qual);
         }
     }

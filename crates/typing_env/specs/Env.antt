@@ -30,9 +30,9 @@ pub data TagMeaning : Type 0 where
   a_tag : (kind : TagKind) → (number : ℕ) → TagMeaning
   an_enumeration : (number : ℕ) → TagMeaning
 
--- an identifier with linkage (6.2.2): what it stands for, whether it is internal, and the type of each declaration, the oldest first
+-- an identifier with linkage (6.2.2): what it stands for, whether it is internal, and the types of its declarations, each once, the
+-- oldest first
 pub record Linked : Type 0 where
-  pub symbol : ℕ
   pub target : Target
   pub internal : Bool
   pub types : List Qualified
@@ -106,7 +106,7 @@ no_prototype = record { ordinary = []; tags = [] }
 
 -- The tokens; the declarations in scope, the oldest first (6.2.1), and how many scopes enclose this place, 0 at file scope; those of
 -- the parameters of the function declarator of file scope that was read last; the structures and unions; of each enumeration whether it is
--- complete; the identifiers with linkage; the objects with static storage and the functions; what was used in an expression that
+-- complete; the identifiers with linkage, at depth 0; the objects with static storage and the functions; what was used in an expression that
 -- is evaluated (6.9p3, 6.9p5); and the open function.
 pub record Env : Type 0 where
   pub tokens : TokenText
@@ -116,7 +116,7 @@ pub record Env : Type 0 where
   pub prototype : Prototype
   pub tags : List SeenTag
   pub enumerations : List Bool
-  pub linked : List Linked
+  pub linked : List (Declared Linked)
   pub objects : List Object
   pub functions : List Routine
   pub uses : List Use

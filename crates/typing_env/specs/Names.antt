@@ -1,6 +1,6 @@
 -- Declarations of names: scopes, name spaces, linkage, and the types of identifiers that are declared more than once (6.2.1 to 6.2.3,
 -- 6.2.7, 6.7p3, 6.7p4, 6.9.2).
-use Rattle.std.specs.Prelude.{ℕ, ◌+◌, ◌-◌, ◌==◌, Bool, true, false, not, ◌&&◌, if◌then◌else◌, List, [], ◌∷◌, ◌++◌, map, length, codes}
+use Rattle.std.specs.Prelude.{ℕ, ◌+◌, ◌-◌, ◌==◌, Bool, true, false, not, ◌&&◌, ◌||◌, if◌then◌else◌, List, [], ◌∷◌, ◌++◌, map, length, codes}
 use Rattle.std.specs.Prelude.{Option, Some, None, is_some}
 use Rattle.std.specs.Str.{bytes_eq}
 use Rattle.c_types.specs.Types.{CType, function, Qualified, Signature, composite_qualified, composite_signature}
@@ -132,19 +132,27 @@ is_target (target.Function m) (target.Function n) = m == n
 is_target (target.Literal m) (target.Literal n) = m == n
 is_target _ _ = false
 
-abbrev pub linked_as : Target → List Linked → Option Linked
-linked_as t [] = None
-linked_as t (l ∷ ls) = if is_target l.target t then Some l else linked_as t ls
+-- the identifier with linkage that is spelled so
+abbrev pub linked_symbol : Env → ℕ → Option Linked
+linked_symbol env symbol = meaning_in (visible symbol env.linked)
 
-abbrev pub linked_symbol : ℕ → List Linked → Option Linked
-linked_symbol symbol [] = None
-linked_symbol symbol (l ∷ ls) = if l.symbol == symbol then Some l else linked_symbol symbol ls
+-- what may have linkage; an object of block scope without `extern` has none, though it may have static storage (6.2.2p6)
+abbrev pub target_in : Meaning → Option Target
+target_in (an_object (slot.Static name) qual register) = Some (target.Static name)
+target_in (a_function number ty) = Some (target.Function number)
+target_in _ = None
 
--- the identifier with linkage that a declaration declares; an object of block scope without `extern` has none (6.2.2p6)
-abbrev pub linkage_in : List Linked → Option Meaning → Option Linked
-linkage_in ls (Some (an_object (slot.Static name) qual register)) = linked_as (target.Static name) ls
-linkage_in ls (Some (a_function number ty)) = linked_as (target.Function number) ls
-linkage_in ls _ = None
+abbrev pub target_visible : Option Meaning → Option Target
+target_visible None = None
+target_visible (Some m) = target_in m
+
+abbrev pub if_linked : Option Target → Option Linked → Option Linked
+if_linked (Some t) (Some l) = if is_target l.target t then Some l else None
+if_linked _ _ = None
+
+-- the identifier with linkage that the visible declaration of the symbol declares, if that has linkage
+abbrev pub linkage_seen : Env → ℕ → Option Linked
+linkage_seen env symbol = if_linked (target_visible (meaning_of env symbol)) (linked_symbol env symbol)
 
 -- how a declaration gives linkage: `static` at file scope; no storage class at file scope, of an object; `extern`, or none and a function
 pub data Given : Type 0 where
@@ -195,17 +203,18 @@ abbrev pub composite_with : Qualified → Option Qualified → Qualified
 composite_with q None = q
 composite_with q (Some p) = composite_qualified p q
 
-abbrev pub prior_type : Option Meaning → Option Linked → Option Qualified
-prior_type (Some m) (Some l) = type_in m
-prior_type _ _ = None
+abbrev pub type_visible : Option Meaning → Option Qualified
+type_visible None = None
+type_visible (Some m) = type_in m
 
--- the type that the identifier has from here on: the composite with that of the visible prior declaration, if that has linkage (6.2.7p4)
-abbrev pub type_seen : Qualified → Option Meaning → Option Linked → Qualified
-type_seen q prior linked = composite_with q (prior_type prior linked)
+-- the type that the identifier has from here on: the composite with that of the visible declaration, if that has linkage (6.2.7p4)
+abbrev pub type_seen : Qualified → Option Meaning → (linked : Bool) → Qualified
+type_seen q prior true = composite_with q (type_visible prior)
+type_seen q prior false = q
 
-abbrev pub with_type : Target → Qualified → List Linked → List Linked
-with_type t q [] = []
-with_type t q (l ∷ ls) = (if is_target l.target t then record l { types = l.types ++ q ∷ [] } else l) ∷ with_type t q ls
+abbrev pub is_among : Qualified → List Qualified → Bool
+is_among q [] = false
+is_among q (p ∷ ps) = same_qualified p q || is_among q ps
 
 -- 5. Declarations with linkage.
 
@@ -216,17 +225,25 @@ pub record Redeclared : Type 0 where
   pub entity : Option Linked
   pub seen : Qualified
 
+-- it keeps the identifier's linkage, is the first one in its scope or of an identifier with linkage, and has a type like all others
+abbrev pub may_stand : Qualified → Given → ℕ → Env → Bool
+may_stand qual given symbol env =
+    keeps_linkage (is_internal given (linkage_seen env symbol)) (linked_symbol env symbol)
+    && (may_redeclare (meaning_here env symbol) (linkage_seen env symbol) && agrees qual (linked_symbol env symbol))
+
+abbrev pub redeclared_at : Qualified → Given → ℕ → Env → Redeclared
+redeclared_at qual given symbol env = record {
+  symbol = symbol;
+  internal = is_internal given (linkage_seen env symbol);
+  entity = linked_symbol env symbol;
+  seen = type_seen qual (meaning_of env symbol) (is_some (linkage_seen env symbol));
+}
+
 unfoldable pub redeclared : ℕ → Qualified → Given → Typing Redeclared
 redeclared at qual given = do
   env ← known
-  let symbol = symbol_of env at in
-      let prior = linkage_in env.linked (meaning_of env symbol) in
-      let entity = linked_symbol symbol env.linked in
-      let internal = is_internal given prior in (do
-        holds (keeps_linkage internal entity)
-        holds (may_redeclare (meaning_here env symbol) prior)
-        holds (agrees qual entity)
-        pure (record { symbol = symbol; internal = internal; entity = entity; seen = type_seen qual (meaning_of env symbol) prior }))
+  holds (may_stand qual given (symbol_of env at) env)
+  pure (redeclared_at qual given (symbol_of env at) env)
 
 abbrev pub is_here : Env → ℕ → Bool
 is_here env symbol = is_some (meaning_here env symbol)
@@ -235,11 +252,22 @@ is_here env symbol = is_some (meaning_here env symbol)
 abbrev pub bound : ℕ → Meaning → Env → Env
 bound symbol meaning env = if is_here env symbol then renamed symbol meaning env else with_declared symbol meaning env
 
-abbrev pub with_link : Redeclared → Target → Qualified → Env → Env
-with_link r t qual env = record env { linked = env.linked ++ record { symbol = r.symbol; target = t; internal = r.internal; types = qual ∷ [] } ∷ [] }
+-- an identifier with linkage more
+abbrev pub with_link : ℕ → Bool → Target → Qualified → Env → Env
+with_link symbol internal t qual env = record env {
+  linked = env.linked ++ record { symbol = symbol; depth = 0; meaning = record { target = t; internal = internal; types = qual ∷ [] } } ∷ [];
+}
 
-abbrev pub with_further : Target → Qualified → Env → Env
-with_further t qual env = record env { linked = with_type t qual env.linked }
+abbrev pub with_one_more : Qualified → Linked → Linked
+with_one_more qual l = record l { types = l.types ++ qual ∷ [] }
+
+abbrev pub further : ℕ → Qualified → Option Linked → List (Declared Linked) → List (Declared Linked)
+further symbol qual None ls = ls
+further symbol qual (Some l) ls = if is_among qual l.types then ls else changed symbol (with_one_more qual l) ls
+
+-- the identifier has a declaration of this type more
+abbrev pub with_further : ℕ → Qualified → Env → Env
+with_further symbol qual env = record env { linked = further symbol qual (linked_symbol env symbol) env.linked }
 
 -- 6. Objects with linkage.
 
@@ -271,12 +299,12 @@ file_type name qual env = if env.depth == 0 then changing_object name (λ o. rec
 
 unfoldable pub entity_of_object : ℕ → Qualified → Redeclared → Option Linked → Typing ℕ
 entity_of_object at qual r None = do
-  knowing (with_link r (target.Static at) qual)
+  knowing (with_link r.symbol r.internal (target.Static at) qual)
   knowing (with_object (new_object at qual))
   pure at
 entity_of_object at qual r (Some l) = do
   name ← found (name_of_object l.target)
-  knowing (with_further l.target qual)
+  knowing (with_further r.symbol qual)
   knowing (file_type name r.seen)
   pure name
 
@@ -296,11 +324,12 @@ first_of (Some was) at = Some was
 unfoldable pub define_object : ℕ → ℕ → Typing (Unit {0})
 define_object name at = knowing (changing_object name (λ o. record o { defined = first_of o.defined at }))
 
--- the object has its type from its initializer (6.7.9p22)
+-- the object has its type from its initializer, and so has the identifier that declares it there (6.7.9p22)
 unfoldable pub complete_object : ℕ → ℕ → Qualified → Typing (Unit {0})
 complete_object at name qual = do
   env ← known
   knowing (changing_object name (λ o. record o { qual = qual }))
+  knowing (with_further (symbol_of env at) qual)
   knowing (renamed (symbol_of env at) (an_object (slot.Static name) qual false))
 
 abbrev pub has_initial : Option Object → Bool
@@ -365,12 +394,12 @@ new_function f library = record { signature = f; library = library; defined = fa
 unfoldable pub entity_of_function : Signature → Option LibFunc → Redeclared → Option Linked → Typing ℕ
 entity_of_function f library r None = do
   env ← known
-  knowing (with_link r (target.Function (length env.functions)) (record { constant = false; ty = type_of_signature f }))
+  knowing (with_link r.symbol r.internal (target.Function (length env.functions)) (record { constant = false; ty = type_of_signature f }))
   knowing (with_function (new_function f library))
   pure (length env.functions)
 entity_of_function f library r (Some l) = do
   number ← found (number_of_function l.target)
-  knowing (with_further l.target (record { constant = false; ty = type_of_signature f }))
+  knowing (with_further r.symbol (record { constant = false; ty = type_of_signature f }))
   knowing (changing_function number (further_type f))
   pure number
 

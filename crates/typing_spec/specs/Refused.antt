@@ -11,6 +11,8 @@ pub record RefusedDeclarations : Type 0 where
   -- each two declarations have compatible types (6.2.7p2)
   pub enumerations : is_broken (codes "extern int x;extern enum A{P}x;extern enum B{Q}x;") ≡ true
   pub other_type : is_broken (codes "int x;char x;") ≡ true
+  -- an initializer completes the type of the identifier (6.7.9p22)
+  pub completed_type : is_broken (codes "int a[]={1,2};extern int a[3];") ≡ true
   pub other_function : is_broken (codes "char*f(void);int*f(void);") ≡ true
   pub object_and_function : is_broken (codes "int x;int x(void);") ≡ true
   -- a tentative definition with internal linkage has a complete type (6.9.2p3)

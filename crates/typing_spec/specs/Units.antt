@@ -18,6 +18,7 @@ use Rattle.c_typed.specs.declared.program.Program.{Program}
 use Rattle.c_typed.specs.Sites.{Head}
 use Rattle.c_typed.specs.Lawful.{IsLawful}
 use Rattle.type_operands.specs.Terms.{Term, Terms, term, none, more}
+use Rattle.type_name_space.specs.Scopes.{Declared}
 use Rattle.typing_env.specs.Seen.{Statement, Otherwise, Start, Section, Entries, expressed, compound, chooses, switches, while_loop}
 use Rattle.typing_env.specs.Seen.{do_loop, for_loop, goes_to, continues, breaks, returns, labelled, case_of, by_default, nothing}
 use Rattle.typing_env.specs.Seen.{else_does, no_start, start_value, start_block, section, end, statement, initializes, declares}
@@ -267,9 +268,9 @@ abbrev pub all_literals : Env → List ℕ → Option (List (List ℕ))
 all_literals env [] = Some []
 all_literals env (at ∷ ats) = if_found (literal_at env at) (λ bytes. if_found (all_literals env ats) (λ rest. Some (bytes ∷ rest)))
 
-abbrev pub main_among : Env → List Linked → Option ℕ
+abbrev pub main_among : Env → List (Declared Linked) → Option ℕ
 main_among env [] = None
-main_among env (l ∷ ls) = if is_main_name (spelling env l.symbol) then number_of_function l.target else main_among env ls
+main_among env (l ∷ ls) = if is_main_name (spelling env l.symbol) then number_of_function (l.meaning).target else main_among env ls
 
 abbrev pub is_main : Routine → Bool
 is_main r = is_some r.body && is_main_type r.signature

@@ -6,7 +6,7 @@ ghost use Rattle.typing_spec.specs.Refused.{RefusedDeclarations, RefusedInitiali
 ghost use Rattle.typing_spec.specs.Trees.{Integers, Pointers, Statements};
 ghost use Rattle.typing_spec.specs.Wholes.{Reached, Stored, Unreached};
 
-/// What declarations declare: 51 texts.
+/// What declarations declare: 52 texts.
 pub fn law_declaration_samples()
     ensures declarators { Declarators }
     ensures specifiers { Specifiers }
@@ -19,7 +19,7 @@ pub fn law_initializer_samples()
     ensures lists { Lists }
 {}
 
-/// Texts that break one constraint: 106 texts.
+/// Texts that break one constraint: 107 texts.
 pub fn law_refused_samples()
     ensures refused_declarations { RefusedDeclarations }
     ensures refused_initializers { RefusedInitializers }

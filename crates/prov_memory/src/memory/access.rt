@@ -91,6 +91,7 @@ impl Memory {
     }
 
     /// The checks of an access up to its alignment, in their order, without a change of the memory.
+    #[inline(always)]
     pub(super) fn access(
         &mut self,
         len: u64,
@@ -171,6 +172,7 @@ impl Memory {
     }
 
     /// Settles what an access settles.
+    #[inline(always)]
     pub(super) fn settle(&mut self, settles: Option<(Event, ObjName)>)
         ensures rest { record self.new { cells = [] } ≡ record self.old { cells = [] } }
         ensures cells { (e : Event) → has_cell self.new.cells e ≡ has_cell self.old.cells e }
@@ -193,6 +195,7 @@ fn note_settles(settles: Option<(Event, ObjName)>, t: &mut Touched)
 }
 
 /// Where an access falls in its object, by the checks that the object decides.
+#[inline(always)]
 fn offset_of(object: &Object, len: u64, align: u64, addr: u64) -> Result<u64, Clause>
     ensures { result ≡ checked_offset object.now len align addr }
 {

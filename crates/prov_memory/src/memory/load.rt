@@ -1,5 +1,5 @@
 // Loads.
-ghost use Rattle.std.specs.Prelude.{◌≡◌, ℕ, ◌+◌, ◌<◌, ◌≤◌, ◌^◌, ◌&&◌, ◌==◌, ◌++◌, ◌∷◌, [], Some, Ok, Err, length, map, slice_get, option_map, IfOk, IfErr, IfSome, OnOk, OnErr};
+ghost use Rattle.std.specs.Prelude.{◌≡◌, ℕ, ◌+◌, ◌<◌, ◌≤◌, ◌^◌, ◌&&◌, ◌==◌, ◌++◌, ◌∷◌, [], List, Some, Ok, Err, false, length, map, slice_get, option_map, IfOk, IfErr, IfSome, OnOk, OnErr};
 ghost use Rattle.ub_base.specs.Names.{same_event, same_object};
 ghost use Rattle.ub_base.specs.declared.names.Item.TheVariants.{Alive, Expose, Read};
 ghost use Rattle.c_types.specs.Types.{type_of};
@@ -19,6 +19,7 @@ ghost use Rattle.prov_memory.specs.Made.{Extends, HasMore, IsMade};
 ghost use Rattle.prov_memory.specs.Keeps.{Keeps};
 ghost use Rattle.prov_memory.specs.Sound.{IsSound};
 ghost use Rattle.prov_memory.specs.Access.{IsReached, bytes_in, range_in};
+ghost use Rattle.prov_memory.specs.Named.{named_in};
 ghost use Rattle.prov_memory.specs.Loads as loads;
 ghost use Rattle.prov_memory.specs.Loads.{IfPointer, IfRaise, IsLoaded, is_dead_in, number_if, number_read, origins_of, pointer_items};
 
@@ -31,7 +32,33 @@ use ub_base::Clause;
 
 impl Memory {
     // Exposes what the pieces of pointers in the range were made from.
+    #[inline(always)]
     fn show_pieces(&mut self, at: usize, from: u64, len: u64, t: &mut Touched)
+        requires short { len ≤ 8 }
+        requires range { from + len ≤ 2 ^ 47 }
+        ensures shown { (h : Held) → slice_get self.old.objects at ≡ Some h → self.new ≡ record self.old { objects = uncovered_each (origins_of (bytes_in self.old h from len)) self.old.objects } }
+        ensures items { (h : Held) → slice_get self.old.objects at ≡ Some h → length t.old + 16 < 32 → t.new ≡ t.old ++ map Expose (origins_of (bytes_in self.old h from len)) }
+    {
+        if self.has_piece(at, from, len) {
+            self.show_all_pieces(at, from, len, t);
+        }
+    }
+
+    // Whether a byte of the range is a piece of a pointer.
+    #[inline(always)]
+    fn has_piece(&self, at: usize, from: u64, len: u64) -> bool
+        requires { from + len ≤ 2 ^ 47 }
+        ensures { result ≡ false → (h : Held) → slice_get self.now.objects at ≡ Some h → origins_of (bytes_in self.now h from len) ≡ [] }
+    {
+        match self.objects.get(at) {
+            None => false,
+            Some(object) => any_piece(object.cells(), from, len),
+        }
+    }
+
+    // What `show_pieces` does. Not inlined, since few bytes are pieces of pointers.
+    #[inline(never)]
+    fn show_all_pieces(&mut self, at: usize, from: u64, len: u64, t: &mut Touched)
         requires short { len ≤ 8 }
         requires range { from + len ≤ 2 ^ 47 }
         ensures shown { (h : Held) → slice_get self.old.objects at ≡ Some h → self.new ≡ record self.old { objects = uncovered_each (origins_of (bytes_in self.old h from len)) self.old.objects } }
@@ -44,6 +71,7 @@ impl Memory {
     }
 
     // The byte at a place of an object.
+    #[inline(always)]
     pub(super) fn cell_in(&self, at: usize, place: u64) -> Cell
         ensures { (h : Held) → slice_get self.now.objects at ≡ Some h → result ≡ cell_at h.cells place }
     {
@@ -121,6 +149,7 @@ impl Memory {
     }
 
     // Whether the type of a load suits the bytes that it meets.
+    #[inline(always)]
     fn suits_load(&self, object: &Object, ty: &Ty, from: u64, len: u64) -> bool
         requires { from + len ≤ 2 ^ 47 }
         ensures { result ≡ acts.suits_load (type_of ty.now) (option_map form_of object.now.declared) from (bytes_in self.now object.now from len) }
@@ -161,6 +190,7 @@ impl Memory {
         }
     }
 
+    #[inline(always)]
     fn load_number(
         &mut self,
         found: Accessed,
@@ -189,6 +219,7 @@ impl Memory {
     }
 
     // The number of a range where a load of the type falls.
+    #[inline(always)]
     fn read_number(&self, found: Accessed, ty: &Ty, len: u64, is_bool: bool) -> Result<u64, Clause>
         requires short { len ≤ 8 }
         requires reached { IsReached self.now.objects found len }
@@ -237,10 +268,10 @@ impl Memory {
         })
     }
 
-    // What the eight bytes where a load falls were made from, where they are the pieces of one pointer value, from 0 on.
-    fn pointer_of(&self, found: Accessed) -> Option<Prov>
+    // The number of what the eight bytes where a load falls were made from, where they are the pieces of one pointer value, from 0 on.
+    fn pointer_of(&self, found: Accessed) -> Option<Origin>
         requires { IsReached self.now.objects found 8 }
-        ensures { (h : Held) → slice_get self.now.objects found.object ≡ Some h → result ≡ acts.pointer_in (bytes_in self.now h found.from 8) }
+        ensures { (h : Held) → slice_get self.now.objects found.object ≡ Some h → named_in self.now.origins result ≡ acts.pointer_in (bytes_in self.now h found.from 8) }
     {
         match self.objects.get(found.object) {
             None => None,
@@ -248,71 +279,65 @@ impl Memory {
         }
     }
 
-    fn pointer_in(&self, object: &Object, from: u64) -> Option<Prov>
+    fn pointer_in(&self, object: &Object, from: u64) -> Option<Origin>
         requires { from + 8 ≤ 2 ^ 47 }
-        ensures { result ≡ acts.pointer_in (bytes_in self.now object.now from 8) }
+        ensures { named_in self.now.origins result ≡ acts.pointer_in (bytes_in self.now object.now from 8) }
     {
         let cell = object.cell(from);
-        match self.origin_in(cell) {
-            None => None,
-            Some(prov) => self
-                .are_pieces(object.cells(), prov, cell.origin, from, 8)
-                .then_some(prov),
+        match cell.state {
+            State::Unwritten => None,
+            State::Plain => None,
+            State::Piece => self
+                .are_pieces(object.cells(), cell.origin, from, 8)
+                .then_some(cell.origin),
         }
     }
 
-    // Whether the bytes are the first pieces of one pointer value with the provenance, which has this number.
-    pub(super) fn are_pieces(
-        &self,
-        cells: &[Cell],
-        prov: Prov,
-        number: Origin,
-        from: u64,
-        len: u64,
-    ) -> bool
-        requires range { from + len ≤ 2 ^ 47 }
-        requires numbered { prov_numbered self.now.origins number.number ≡ prov }
-        ensures { result ≡ acts.are_pieces prov 0 (range_in self.now cells.now from len) }
+    // Whether the bytes are the first pieces of one pointer value with the provenance of this number.
+    pub(super) fn are_pieces(&self, cells: &[Cell], number: Origin, from: u64, len: u64) -> bool
+        requires { from + len ≤ 2 ^ 47 }
+        ensures { result ≡ acts.are_pieces (prov_numbered self.now.origins number.number) 0 (range_in self.now cells.now from len) }
     {
         for index in 0..len {
-            if !self.is_piece(cell_at(cells, from + index), prov, number, index) {
+            if !self.is_piece(cell_at(cells, from + index), number, index) {
                 return false;
             }
         }
         true
     }
 
-    // Whether the byte is this piece of a pointer with the provenance, which has this number.
-    fn is_piece(&self, cell: Cell, prov: Prov, number: Origin, index: u64) -> bool
-        requires { prov_numbered self.now.origins number.number ≡ prov }
-        ensures { result ≡ acts.is_piece prov index (byte_in self.now.origins cell) }
+    // Whether the byte is this piece of a pointer with the provenance of this number.
+    #[inline(always)]
+    fn is_piece(&self, cell: Cell, number: Origin, index: u64) -> bool
+        ensures { result ≡ acts.is_piece (prov_numbered self.now.origins number.number) index (byte_in self.now.origins cell) }
     {
         match cell.state {
             State::Unwritten => false,
             State::Plain => false,
             State::Piece => {
-                self.is_made_from(cell.origin, prov, number) && u64::from(cell.piece_index) == index
+                self.is_made_from(cell.origin, number) && u64::from(cell.piece_index) == index
             }
         }
     }
 
-    // Whether the number is that of the provenance, which has the other number.
-    #[tactic(auto, using(crate::proofs::PointerLemmas::same_numbered))]
-    fn is_made_from(&self, origin: Origin, prov: Prov, number: Origin) -> bool
-        requires { prov_numbered self.now.origins number.number ≡ prov }
-        ensures { result ≡ acts.same_prov (prov_numbered self.now.origins origin.number) prov }
+    // Whether the two numbers are those of one provenance.
+    #[inline(always)]
+    #[tactic(auto, using(crate::proofs::NumberLemmas::same_numbers))]
+    fn is_made_from(&self, origin: Origin, number: Origin) -> bool
+        ensures { result ≡ acts.same_prov (prov_numbered self.now.origins origin.number) (prov_numbered self.now.origins number.number) }
     {
         if origin.number == number.number {
             return true;
         }
-        self.is_number_of(origin, prov)
+        self.are_of_one(origin, number)
     }
 
-    // Whether the number is that of the provenance.
-    fn is_number_of(&self, origin: Origin, prov: Prov) -> bool
-        ensures { result ≡ acts.same_prov (prov_numbered self.now.origins origin.number) prov }
+    // What `is_made_from` does. Not inlined, since few numbers differ.
+    #[inline(never)]
+    fn are_of_one(&self, origin: Origin, number: Origin) -> bool
+        ensures { result ≡ acts.same_prov (prov_numbered self.now.origins origin.number) (prov_numbered self.now.origins number.number) }
     {
-        is_same(self.prov(origin), prov)
+        is_same(self.prov(origin), self.prov(number))
     }
 
     // What a byte that is a piece of a pointer was made from.
@@ -327,28 +352,29 @@ impl Memory {
         }
     }
 
-    // The provenance of a pointer that is loaded, by that of its pieces, if any: it isn't loaded where its candidates are dead,
+    // The provenance of a pointer that is loaded, by the number of that of its pieces, if any: it isn't loaded where its candidates are dead,
     // and a number is looked up.
     fn resolved(
         &mut self,
-        pointer: Option<Prov>,
+        pointer: Option<Origin>,
         who: Event,
         number: u64,
         t: &mut Touched,
     ) -> Result<Prov, MemFault>
-        ensures exact { IfOk result (λ prov. (io : Io) → run self.old.rows (acts.pointer_or_number who pointer number) (store_of self.old io) ≡ Done (number, prov) (pointer_items pointer number) (store_of self.old io)) }
-        ensures raises { IfErr result (λ fault. IfRaise fault (λ c. (io : Io) → run self.old.rows (acts.pointer_or_number who pointer number) (store_of self.old io) ≡ Raised c)) }
+        ensures exact { IfOk result (λ prov. (io : Io) → run self.old.rows (acts.pointer_or_number who (named_in self.old.origins pointer) number) (store_of self.old io) ≡ Done (number, prov) (pointer_items (named_in self.old.origins pointer) number) (store_of self.old io)) }
+        ensures raises { IfErr result (λ fault. IfRaise fault (λ c. (io : Io) → run self.old.rows (acts.pointer_or_number who (named_in self.old.origins pointer) number) (store_of self.old io) ≡ Raised c)) }
         ensures same { IfErr result (λ fault. IfRaise fault (λ c. self.new ≡ self.old)) }
-        ensures items { OnOk result (length t.old + 1 < 32 → t.new ≡ t.old ++ pointer_items pointer number) }
+        ensures items { OnOk result (length t.old + 1 < 32 → t.new ≡ t.old ++ pointer_items (named_in self.old.origins pointer) number) }
         ensures more { HasMore self.old self.new }
-        ensures value { IfOk result (λ prov. IfSome pointer (λ p. IsMade self.old p) → IsMade self.new prov) }
+        ensures value { IfOk result (λ prov. IfSome (named_in self.old.origins pointer) (λ p. IsMade self.old p) → IsMade self.new prov) }
         ensures sound { IsSound self.old → IsSound self.new }
         ensures kept { Keeps self.old self.new }
     {
-        let Some(prov) = pointer else {
+        let Some(origin) = pointer else {
             let prov = self.look_up(who, number, t)?;
             return Ok(prov);
         };
+        let prov = self.prov(origin);
         note_alive(prov, t);
         if self.is_dead(prov) {
             return Err(MemFault::Raise(Clause::DeadObject));
@@ -378,6 +404,7 @@ impl Memory {
 }
 
 /// Notes that a range was read.
+#[inline(always)]
 pub(super) fn note_read(found: Accessed, len: u64, t: &mut Touched)
     ensures { length t.old < 32 → t.new ≡ t.old ++ Read found.name found.from len ∷ [] }
 {
@@ -476,6 +503,31 @@ pub(super) fn number_at(cells: &[Cell], from: u64, len: u64) -> Option<u64>
         number = number * 256 + u64::from(byte);
     }
     Some(number)
+}
+
+/// Whether a byte of the range is a piece of a pointer.
+#[inline(always)]
+fn any_piece(cells: &[Cell], from: u64, len: u64) -> bool
+    requires { from + len ≤ 2 ^ 47 }
+    ensures { result ≡ false → (m : Kept) → origins_of (range_in m cells.now from len) ≡ [] }
+{
+    for offset in 0..len {
+        if is_pointer_piece(cell_at(cells, from + offset)) {
+            return true;
+        }
+    }
+    false
+}
+
+#[inline(always)]
+fn is_pointer_piece(cell: Cell) -> bool
+    ensures { result ≡ false → (ps : List Prov) → origins_in (byte_in ps cell) ≡ [] }
+{
+    match cell.state {
+        State::Unwritten => false,
+        State::Plain => false,
+        State::Piece => true,
+    }
 }
 
 /// Whether a load of the type suits an object of this shape.

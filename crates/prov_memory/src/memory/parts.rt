@@ -135,7 +135,7 @@ impl Memory {
         match self.origin_in(cell) {
             None => None,
             Some(prov) => self
-                .are_pieces(cells, prov, cell.origin, 0, cells.len() as u64)
+                .are_pieces(cells, cell.origin, 0, cells.len() as u64)
                 .then_some(prov),
         }
     }

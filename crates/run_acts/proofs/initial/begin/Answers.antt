@@ -1,4 +1,6 @@
-use Rattle.std.proofs.Common.{subst, sym, List}
+use Rattle.std.proofs.Common.{subst, sym, List, rules, to_z, of_z}
+use Rattle.std.specs.Int.{w128}
+use Rattle.std.proofs.lemmas.Int.{to_z-of_z}
 use Rattle.std.proofs.Common.{ap, Err, ◌≡◌, ◌+◌, inl, inr, ◌∙◌, ◌∷◌, map, length, string_bytes, arith}
 use Rattle.run_acts.specs.Standing.{program_name}
 use Rattle.run_acts.proofs.Begins.{with_arguments, without_arguments, strings_filled, vector_filled}
@@ -9,6 +11,7 @@ use Rattle.run_acts.specs.declared.initial.Argument.{Argument}
 use Rattle.run_acts.specs.Starting.{ArePlaced, AreMadeAll}
 use Rattle.run_acts.proofs.Starting.{made_still, placed_still, named_placed, named_filled, pointed, count_of, vector_of, null_of}
 use Rattle.std.proofs.lemmas.Result.{err_from_is_err_and}
+use Rattle.run_acts.proofs.Given.{given_so, none_given}
 use Rattle.run_acts.proofs.NoPlace.{argument_behind, fault_of, literal_behind, vector_behind}
 use Rattle.run_acts.proofs.Ready.{lives_then}
 use Rattle.run_acts.proofs.Rooms.{all_wait, named_wait, never, pointers_never, strings_live, strings_never}
@@ -143,6 +146,31 @@ returns-then-takes_arguments-clause-made c = λ sound lawful.
           c.in_ok-vector.ensures.made end,
     )
 
+pub returns-then-takes_arguments-clause-given : goal.returns-then-takes_arguments-clause-given
+returns-then-takes_arguments-clause-given c = λ sound lawful.
+    let named = keeps_then c.args.m.now c.create_statics.new.m c.create_literals.new.m c.create_statics.ensures.kept c.create_literals.ensures.kept in
+    let placed = named_placed c.create_statics.new.m c.create_literals.new.m c.args.p.now c.new-places.result c.create_statics.new.places
+    c.create_literals.new.places c.new-places.ensures.objects c.new-places.ensures.literals lawful c.create_literals.ensures.kept
+    c.in_ok-create_statics.ensures.placed c.create_statics.ensures.rest c.in_ok-create_literals.ensures.placed c.create_literals.ensures.rest in
+    let more = keeps_then c.create_literals.new.m c.create_arguments.new.m c.create_vector.new.m c.create_arguments.ensures.kept
+    c.create_vector.ensures.kept in
+    let filled = named_filled c.args.m.now c.create_literals.new.m c.fill_named.new.m c.create_vector.new.m c.args.p.now c.create_literals.new.places
+    named more sound lawful placed c.fill_named.ensures.kept in
+    let texts = keeps_then c.args.m.now c.fill_named.new.m c.fill_arguments.new.m filled c.fill_arguments.ensures.kept in
+    let all = keeps_then c.args.m.now c.create_literals.new.m c.create_vector.new.m named more in
+    let behind = c.fill_named.ensures.kept (all.sound sound) lawful
+    (placed_still c.create_literals.new.m c.create_vector.new.m c.args.p.now c.create_literals.new.places more placed) in
+    let rest = keeps_then c.create_vector.new.m c.fill_named.new.m c.fill_arguments.new.m behind c.fill_arguments.ensures.kept in
+    let since = keeps_then c.create_arguments.new.m c.create_vector.new.m c.fill_arguments.new.m c.create_vector.ensures.kept rest in
+    let last = c.point.ensures.kept (texts.sound sound) (subst (λ (xs : List Argument). AreMadeAll c.fill_arguments.new.m xs)
+    (sym c.as_slice-then-takes_arguments.ensures)
+    (made_still c.create_arguments.new.m c.fill_arguments.new.m c.in_ok-arguments.arguments since c.in_ok-arguments.ensures.made)) in
+    let end = keeps_then c.create_vector.new.m c.fill_arguments.new.m c.point.new.m rest last in
+    let value : to_z w128 (of_z w128 c.string_count.result) ≡ c.string_count.result = to_z-of_z w128 c.string_count.result (search rules) in
+    given_so c.create_vector.new.m c.point.new.m c.args.p.now (length c.args.args.now + 1) c.standing.result c.in_ok-vector.vector
+    (to_z w128 (of_z w128 c.string_count.result)) c.standing.ensures.count (value ∙ c.string_count.ensures) c.standing.ensures.vector
+    c.in_ok-vector.ensures.stands end
+
 pub returns-in_err-fill_named-2-clause-kept : goal.returns-in_err-fill_named-2-clause-kept
 returns-in_err-fill_named-2-clause-kept c = λ sound lawful.
     let named = keeps_then c.args.m.now c.create_statics.new.m c.create_literals.new.m c.create_statics.ensures.kept c.create_literals.ensures.kept in
@@ -170,6 +198,10 @@ returns-clause-placed c = λ sound lawful.
     let filled = c.fill_named-2.ensures.kept (named.sound sound) lawful placed in
     let still = placed_still c.create_literals.new.m c.fill_named-2.new.m c.args.p.now c.create_literals.new.places filled placed in
     subst (λ (places : Places). ArePlaced c.fill_named-2.new.m c.args.p.now places) (sym c.standing-2.ensures.places) still
+
+pub returns-clause-given : goal.returns-clause-given
+returns-clause-given c = λ sound lawful.
+    none_given c.fill_named-2.new.m c.args.p.now (length c.args.args.now + 1) c.standing-2.result (sym c.takes_arguments.ensures ∙ c.if-takes_arguments.false)
 
 pub returns-clause-made : goal.returns-clause-made
 returns-clause-made c = λ sound lawful. (

@@ -1,6 +1,7 @@
 use Rattle.std.proofs.Common.{◌≡◌, ◌≤◌, ◌-◌, ◌∙◌, suc, length, sym, arith}
 use Rattle.footprint.specs.Holds.{holds}
 use Rattle.evaluation_log.proofs.BetweenLemmas.{rest_past, behind_past, operand_by, rest_step, none_step, some_step, none_end}
+use Rattle.evaluation_search.proofs.BetweenFirst.{nearer_none, nearer_some, group_step, group_end}
 use Rattle.evaluation_search.proofs.search.Search.first_group.Goals as goal
 
 pub loop-group-init : goal.loop-group-init
@@ -13,6 +14,7 @@ loop-group-init c =
       none = λ sorted. behind_past c.args.self.now.under.map.now c.args.segments.now c.args.self.now.log.events.now c.args.self.now.log.items.now c.args.sought
           (length c.args.segments.now) past;
       some = λ sorted. tt;
+      first = λ sorted. tt;
     }
 
 pub loop-group-preserved : goal.loop-group-preserved
@@ -28,10 +30,15 @@ loop-group-preserved c =
           (λ j. c.in_ok-absorb.ensures.ok j) own (c.loop-group.invariant.rest sorted);
       none = λ sorted. none_step c.args.self.now.under.map.now c.args.segments.now c.args.self.now.log.events.now c.args.self.now.log.items.now c.args.sought
           (c.loop-group.group - 1) c.loop-group.group (holds c.in_ok-foot.foot) (holds c.loop-group.rest) c.loop-group.best c.nearer-best.result e own
-          (c.loop-group.invariant.rest sorted) c.nearer-best.ensures.none (c.loop-group.invariant.none sorted);
+          (c.loop-group.invariant.rest sorted) (nearer_none c.args.self.now.under.map.now c.args.sought (holds c.in_ok-foot.foot) (holds c.loop-group.rest)
+          (c.loop-group.group - 1) c.loop-group.best c.nearer-best.result c.nearer-best.ensures) (c.loop-group.invariant.none sorted);
       some = λ sorted. some_step c.args.self.now.under.map.now c.args.segments.now c.args.self.now.log.events.now c.args.self.now.log.items.now c.args.sought
           (c.loop-group.group - 1) c.loop-group.group (holds c.in_ok-foot.foot) (holds c.loop-group.rest) c.loop-group.best c.nearer-best.result e own
-          (c.loop-group.invariant.rest sorted) c.nearer-best.ensures.some (c.loop-group.invariant.some sorted);
+          (c.loop-group.invariant.rest sorted) (nearer_some c.args.self.now.under.map.now c.args.sought (holds c.in_ok-foot.foot) (holds c.loop-group.rest)
+          (c.loop-group.group - 1) c.loop-group.best c.nearer-best.result c.nearer-best.ensures) (c.loop-group.invariant.some sorted);
+      first = λ sorted. group_step c.args.self.now.under.map.now c.args.segments.now c.args.self.now.log.events.now c.args.self.now.log.items.now c.args.sought
+          c.args.at (c.loop-group.group - 1) c.loop-group.group (holds c.in_ok-foot.foot) (holds c.loop-group.rest) c.loop-group.best c.nearer-best.result e le own
+          (c.loop-group.invariant.rest sorted) c.nearer-best.ensures (c.loop-group.invariant.first sorted);
     }
 
 pub returns-clause-none : goal.returns-clause-none
@@ -41,3 +48,8 @@ returns-clause-none c = λ sorted. none_end c.args.self.now.under.map.now c.args
 
 pub returns-clause-some : goal.returns-clause-some
 returns-clause-some c = c.loop-group.invariant.some
+
+pub returns-clause-first : goal.returns-clause-first
+returns-clause-first c = λ sorted.
+    group_end c.args.self.now.under.map.now c.args.segments.now c.args.self.now.log.events.now c.args.self.now.log.items.now c.args.sought c.args.at
+    c.loop-group.group c.loop-group.best (omega (arith, c.loop-group-test.false)) (c.loop-group.invariant.first sorted)

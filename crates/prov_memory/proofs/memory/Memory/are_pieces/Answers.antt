@@ -2,7 +2,7 @@ use Rattle.std.proofs.Common.{◌≡◌, ◌<◌, ◌∙◌, ap, true, false, ma
 use Rattle.c_types.specs.Types.{type_of}
 use Rattle.prov_memory.specs.declared.cell.Cell.{Cell}
 use Rattle.mem_spec.specs.Acts.{is_piece, are_pieces}
-use Rattle.prov_memory.specs.Cells.{cell_at, byte_in, tagged_in}
+use Rattle.prov_memory.specs.Cells.{cell_at, byte_in, prov_numbered, tagged_in}
 use Rattle.prov_memory.specs.Access.{range_in}
 use Rattle.prov_memory.proofs.PointerLemmas.{pieces_pass, pieces_fail}
 use Rattle.prov_memory.proofs.memory.Memory.are_pieces.Goals as goal
@@ -10,7 +10,7 @@ use Rattle.prov_memory.proofs.memory.Memory.are_pieces.Goals as goal
 pub returns-then-not-is_piece : goal.returns-then-not-is_piece
 returns-then-not-is_piece c =
     let m = c.args.self.now in
-    let p = c.args.prov in
+    let p = prov_numbered m.origins c.args.number.number in
     let lt : c.loop-index.index < c.args.len = omega arith in
     let off : c.is_piece.result ≡ false = search rules in
     pieces_fail c.is_piece.result (are_pieces p 0 (range_in m c.args.cells.now c.args.from c.args.len)) p
@@ -20,7 +20,7 @@ returns-then-not-is_piece c =
 pub loop-index-preserved : goal.loop-index-preserved
 loop-index-preserved c =
     let m = c.args.self.now in
-    let p = c.args.prov in
+    let p = prov_numbered m.origins c.args.number.number in
     let lt : c.loop-index.index < c.args.len = omega arith in
     let on : c.is_piece.result ≡ true = search rules in
     pieces_pass c.is_piece.result (are_pieces p 0 (range_in m c.args.cells.now c.args.from c.args.len)) p

@@ -1,9 +1,10 @@
 use Rattle.std.proofs.Common.{◌≡◌, ◌+◌, ◌-◌}
 use Rattle.mem_spec.specs.Acts.{are_pieces}
 use Rattle.prov_memory.specs.Access.{range_in}
+use Rattle.prov_memory.specs.Cells.{prov_numbered}
 use Rattle.prov_memory.proofs.memory.Memory.are_pieces.Given as goal
 
 -- the pieces so far are there, so those that are left decide
 abbrev pub invariant-loop-index : goal.invariant-loop-index
-invariant-loop-index l = are_pieces l.prov 0 (range_in l.self l.cells l.from l.len) ≡ are_pieces l.prov l.index
-    (range_in l.self l.cells (l.from + l.index) (l.len - l.index))
+invariant-loop-index l = are_pieces (prov_numbered l.self.origins l.number.number) 0 (range_in l.self l.cells l.from l.len) ≡
+    are_pieces (prov_numbered l.self.origins l.number.number) l.index (range_in l.self l.cells (l.from + l.index) (l.len - l.index))

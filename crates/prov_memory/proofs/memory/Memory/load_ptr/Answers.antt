@@ -4,6 +4,7 @@ use Rattle.c_types.specs.Types.{type_of}
 use Rattle.prov_memory.specs.Memory.{Kept}
 use Rattle.prov_memory.specs.Made.{Extends, IsMade}
 use Rattle.prov_memory.specs.Sound.{IsSound}
+use Rattle.prov_memory.specs.Named.{named_in}
 use Rattle.prov_memory.proofs.PointerLemmas.{pointer_unreached, pointer_unread, pointer_exact, unresolved}
 use Rattle.prov_memory.proofs.SoundLemmas.{pointer_value, pointer_kept, more_made, settled_sound}
 use Rattle.prov_memory.proofs.ShowLemmas.{besides_looked}
@@ -27,20 +28,22 @@ pub returns-in_err-target-clause-raises : goal.returns-in_err-target-clause-rais
 returns-in_err-target-clause-raises c =
     let p = err_from_is_err_and c.from_residual-in_err-target.result c.from_residual-in_err-target.ensures.1 in
     rw (p.1, p.2) (unresolved c.in_err-target.field-0.0 c.args.self.now c.access.new.self c.in_ok-found.found (type_of c.args.ty.now) c.args.who c.args.align
-    c.args.addr c.args.prov c.pointer_of-pointer.result c.in_ok-number.number c.access.ensures.same c.in_ok-found.ensures.exact c.in_ok-found.ensures.found
-    c.in_ok-number.ensures c.pointer_of-pointer.ensures c.in_err-target.ensures.raises)
+    c.args.addr c.args.prov (named_in c.access.new.self.origins c.pointer_of-pointer.result) c.in_ok-number.number c.access.ensures.same
+    c.in_ok-found.ensures.exact c.in_ok-found.ensures.found c.in_ok-number.ensures c.pointer_of-pointer.ensures c.in_err-target.ensures.raises)
 
 pub returns-clause-exact : goal.returns-clause-exact
 returns-clause-exact c =
     pointer_exact c.args.self.now c.access.new.self c.resolved.new.self c.settle.new.self c.in_ok-found.found (type_of c.args.ty.now) c.args.who c.args.align
-    c.args.addr c.args.prov c.in_ok-target.target c.pointer_of-pointer.result c.in_ok-number.number c.access.new.t c.note_read.new.t c.resolved.new.t
+    c.args.addr c.args.prov c.in_ok-target.target (named_in c.access.new.self.origins c.pointer_of-pointer.result) c.in_ok-number.number c.access.new.t
+    c.note_read.new.t c.resolved.new.t
     c.access.ensures.same c.in_ok-found.ensures.exact c.in_ok-found.ensures.found c.in_ok-found.ensures.settles
     (c.in_ok-found.ensures.items c.clear.ensures) c.in_ok-number.ensures c.note_read.ensures c.pointer_of-pointer.ensures c.in_ok-target.ensures.exact
     c.in_ok-target.ensures.items c.resolved.ensures.more c.settle.ensures.rest c.settle.ensures.store
 
 pub returns-clause-value : goal.returns-clause-value
 returns-clause-value c =
-    pointer_value c.args.self.now c.access.new.self c.resolved.new.self c.settle.new.self c.in_ok-found.found c.pointer_of-pointer.result
+    pointer_value c.args.self.now c.access.new.self c.resolved.new.self c.settle.new.self c.in_ok-found.found
+    (named_in c.access.new.self.origins c.pointer_of-pointer.result)
     c.in_ok-target.target c.access.ensures.same c.in_ok-found.ensures.found c.pointer_of-pointer.ensures c.in_ok-target.ensures.value c.settle.ensures.rest
     c.settle.ensures.cells
 

@@ -12,13 +12,15 @@ returns-in_default-clause-exact c =
 pub returns-then-is_dead-clause-raises : goal.returns-then-is_dead-clause-raises
 returns-then-is_dead-clause-raises c =
     let on : c.is_dead.result ≡ true = search rules in
-    rw c.in-Some.is (λ io. resolved_dead c.args.self.now.rows c.args.who c.in-Some.prov c.args.number (store_of c.args.self.now io) c.is_dead.result
+    rw (c.in-Some.is, ← c.prov-prov.ensures) (λ io.
+    resolved_dead c.args.self.now.rows c.args.who c.prov-prov.result c.args.number (store_of c.args.self.now io) c.is_dead.result
     (c.is_dead.ensures io) on)
 
 pub returns-clause-exact : goal.returns-clause-exact
 returns-clause-exact c =
     let off : c.is_dead.result ≡ false = search rules in
-    rw c.in-Some.is (λ io. resolved_live c.args.self.now.rows c.args.who c.in-Some.prov c.args.number (store_of c.args.self.now io) c.is_dead.result
+    rw (c.in-Some.is, ← c.prov-prov.ensures) (λ io.
+    resolved_live c.args.self.now.rows c.args.who c.prov-prov.result c.args.number (store_of c.args.self.now io) c.is_dead.result
     (c.is_dead.ensures io) off)
 
 pub returns-then-is_dead-clause-kept : goal.returns-then-is_dead-clause-kept

@@ -1,4 +1,6 @@
 use Rattle.std.proofs.Common.{◌≡◌, ◌∙◌, sym, ap, subst, arith, List, ◌++◌, ◌∷◌, [], None}
+use Rattle.std.specs.HashMap as hash
+use Rattle.addr_map.specs.Sound.{object_eq}
 use Rattle.prov_memory.specs.contracts.object.Object.{the_view}
 use Rattle.prov_memory.specs.Held.{Held, IsIndexed, held_of}
 use Rattle.prov_memory.proofs.HeldLemmas.{indexed_added, indexed_same}
@@ -6,7 +8,7 @@ use Rattle.prov_memory.proofs.objects.Objects.add.Goals as goal
 
 pub invariant_of-self-in_err-insert : goal.invariant_of-self-in_err-insert
 invariant_of-self-in_err-insert c =
-    subst (λ (hs : List Held). IsIndexed c.insert.new.self hs) (sym c.reserve.ensures.items)
+    subst (λ (hs : List Held). IsIndexed (hash.get object_eq c.insert.new.self) hs) (sym c.reserve.ensures.items)
     (indexed_same c.self.inside.indices c.insert.new.self c.self.inside.list.items c.in_err-insert.ensures.err c.self.invariant)
 
 pub invariant_of-self-2 : goal.invariant_of-self-2
@@ -17,7 +19,8 @@ invariant_of-self-2 c =
     let items : c.push_reserved.new.self.items ≡ hs ++ the_view c.object.inside ∷ [] =
     c.push_reserved.ensures.items ∙ ap (λ (l : List Held). l ++ c.args.object ∷ []) c.reserve.ensures.items ∙ ap (λ (h : Held). hs ++ h ∷ [])
     (sym c.object.view_is) in
-    subst (λ (l : List Held). IsIndexed c.insert.new.self l) (sym items)
-    (indexed_added c.self.inside.indices c.insert.new.self hs (the_view c.object.inside) c.len.result c.self.invariant c.in_ok-insert.ensures.updates.0
+    subst (λ (l : List Held). IsIndexed (hash.get object_eq c.insert.new.self) l) (sym items)
+    (indexed_added (hash.get object_eq c.self.inside.indices) (hash.get object_eq c.insert.new.self) hs (the_view c.object.inside) c.len.result
+    c.self.invariant c.in_ok-insert.ensures.updates.0
     (omega (arith, c.len.ensures, c.reserve.ensures.len, c.self.inside.list.ok.0)) none
     (c.object.invariant.0, omega (arith, c.object.invariant.1, c.object.inside.cells.ok.0)))

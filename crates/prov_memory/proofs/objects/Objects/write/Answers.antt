@@ -1,5 +1,7 @@
 use Rattle.std.proofs.Common.{◌≡◌, ◌≤◌, ◌∙◌, Some, sym, ap, subst, arith, List, length, set}
 use Rattle.std.specs.Prelude.{slice_get}
+use Rattle.std.specs.HashMap as hash
+use Rattle.addr_map.specs.Sound.{object_eq}
 use Rattle.prov_memory.specs.Held.{Held, IsWritten, name_at, changed, holding}
 use Rattle.prov_memory.specs.Memory.{HaveRows}
 use Rattle.prov_memory.proofs.HeldLemmas.{named_at, got_is, indexed_put, not_gone, set_changed, once_at}
@@ -8,7 +10,7 @@ use Rattle.prov_memory.proofs.objects.Objects.write.Goals as goal
 
 pub invariant_of-self : goal.invariant_of-self
 invariant_of-self c =
-    indexed_put c.self.inside.indices c.self.inside.list.items c.args.at c.index_mut-object.result.now c.write.new.self c.self.invariant
+    indexed_put (hash.get object_eq c.self.inside.indices) c.self.inside.list.items c.args.at c.index_mut-object.result.now c.write.new.self c.self.invariant
     (ap (λ (h : Held). h.name) (c.write.ensures.written.rest) ∙ ap (λ (h : Held). h.name) c.index_mut-object.ensures.value) c.write.ensures.fits
 
 pub returns-then-at-len-clause-rows : goal.returns-then-at-len-clause-rows
@@ -25,7 +27,8 @@ returns-then-at-len-clause-written c = λ h e.
     let named : name_at hs c.args.at ≡ Some h.name = named_at hs c.args.at h there in
     let put : set hs c.args.at c.write.new.self ≡ changed (holding c.write.new.self.cells) h.name hs =
     set_changed (holding c.write.new.self.cells) hs c.args.at h.name d c.write.new.self named
-    (once_at c.self.inside.indices hs h.name c.args.at c.self.invariant named) c.index_mut-object.ensures.value c.write.ensures.written.rest in (
+    (once_at (hash.get object_eq c.self.inside.indices) hs h.name c.args.at c.self.invariant named) c.index_mut-object.ensures.value
+    c.write.ensures.written.rest in (
       c.write.new.self,
       put ∙ ap (λ (l : List Held). changed (holding c.write.new.self.cells) h.name l) c.self.view_is,
       subst (λ (k : Held). IsWritten k c.write.new.self c.args.from c.args.via c.args.cells.now) is c.write.ensures.written,

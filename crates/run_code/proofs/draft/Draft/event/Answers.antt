@@ -14,7 +14,7 @@ returns-clause-due c = λ h.
     c.due.new.self.expressions.tables
     c.args.nodes.now c.args.entries.now.items c.push.new.self.items c.in_ok-due.due c.in-Some.info.now c.args.number
     c.in_ok-due.ensures.objects c.in_ok-due.ensures.grown c.in_ok-push.ensures.items (ap (λ (p : Place). p.node) c.in_ok-due.ensures.place) there
-    c.in_ok-due.ensures.due h
+    c.in_ok-due.ensures.due (λ noted at. c.in_ok-due.ensures.choice c.args.self.now.function.objects.first.items noted) h
 
 pub returns-clause-fit : goal.returns-clause-fit
 returns-clause-fit c = λ p n h.

@@ -25,11 +25,14 @@ add_expression-requires-clause-laid_out c =
     let laid : AreEntries firsts old c.deref.result.now c.in_ok-entries.entries.items =
     subst (λ fs. AreEntries fs old c.deref.result.now c.in_ok-entries.entries.items) c.in_ok-entries.ensures.objects c.in_ok-entries.ensures.due in
     let grown : AreEntries firsts tables c.deref.result.now c.in_ok-entries.entries.items =
-    entries_grown firsts old tables c.deref.result.now c.in_ok-entries.entries.items c.in_ok-chosen.ensures.grown laid in (
+    entries_grown firsts old tables c.deref.result.now c.in_ok-entries.entries.items c.in_ok-chosen.ensures.grown laid in
+    let nodes : AreNodes firsts root c.collect.new.nodes.items = nodes_added firsts root c.collect.new.nodes.items added in
+    let whole : AreNodes firsts root c.deref-2.result.now = subst (AreNodes firsts root) (sym c.deref-2.ensures.value) nodes in (
       firsts,
-      subst (AreNodes firsts root) (sym c.deref-3.ensures.value) (nodes_added firsts root c.collect.new.nodes.items added),
+      subst (AreNodes firsts root) (sym c.deref-3.ensures.value) nodes,
       subst (AreEntries firsts tables c.deref-3.result.now) (sym c.deref-4.ensures.value)
           (subst (λ ns. AreEntries firsts tables ns c.in_ok-entries.entries.items) same grown),
+      c.in_ok-chosen.ensures.chosen firsts None whole.each whole.top,
     )
 
 pub returns-clause-listed : goal.returns-clause-listed

@@ -11,6 +11,14 @@ use Rattle.evaluation_log.proofs.ClashLemmas.{ok_none}
 use Rattle.evaluation_log.proofs.KeptLemmas.{single_none}
 use Rattle.evaluation_log.proofs.WholeLemmas.{kept_from}
 use Rattle.run_evaluations.proofs.WholeLemmas.{of_operands}
+use Rattle.std.proofs.Common.{◌≡◌, ◌-◌, true, length}
+use Rattle.std.specs.Prelude.{slice_get, IfSome}
+use Rattle.evaluation_log.specs.Kept.{is_unsequenced}
+use Rattle.evaluation_log.specs.Touched.{start_of}
+use Rattle.evaluation_search.specs.First.{AreBetween, IsFirst, IsOfPair}
+use Rattle.evaluation_search.proofs.BetweenFirst.{ok_weaker}
+use Rattle.run_evaluations.specs.First.{AreOfOperands, IsConflictIn, expression_in}
+use Rattle.run_evaluations.proofs.FirstLemmas.{begins_low, once_log, operands_first, rising}
 use Rattle.run_evaluations.proofs.open.Evaluations.operands_done.Goals as goal
 
 pub returns-then-saturating_add-len-clause-kept : goal.returns-then-saturating_add-len-clause-kept
@@ -69,3 +77,22 @@ returns-then-saturating_add-len-clause-apart c = λ t ts f tell fresh.
 pub returns-clause-apart : goal.returns-clause-apart
 returns-clause-apart c = λ t ts f tell fresh.
     none_of_two c.args.map.now c.args.self.now t ts f c.args.node c.args.rule c.args.chosen tell fresh (returns-clause-none c f.holds.kept)
+
+pub returns-then-saturating_add-len-clause-first : goal.returns-then-saturating_add-len-clause-first
+returns-then-saturating_add-len-clause-first c = λ t ts f tell fresh loose once.
+    let a = c.args.self.now in
+    let o = c.operands-at.ensures in
+    let at = c.operands-at.result in
+    let w = f.holds.kept in
+    ok_weaker
+    (λ r. IfSome r (λ x. (is_unsequenced c.args.rule ≡ true) × IsFirst c.args.frames.now (IsOfPair c.args.frames.now c.args.map.now
+    (expression_in (slice_get a.levels.items (length a.levels.items - 1))) a.events.items a.items.items (AreBetween a.segments.items a.events.items at)) x))
+    (λ r. IfSome r (IsFirst c.args.frames.now (IsConflictIn c.args.frames.now c.args.map.now t (AreOfOperands t c.args.node))))
+    c.several_done.result
+    (λ r. operands_first a t ts f c.args.node c.args.rule c.args.chosen tell fresh loose at o.low o.least
+    (λ g m le h. node_behind a.segments.items at c.args.node o.behind g m le h) c.args.frames.now c.args.map.now r)
+    (c.several_done.ensures.first
+    (kept_from a.segments.items a.events.items a.items.items a.large.items a.levels.items w at)
+    (rising a t ts f c.args.node c.args.rule c.args.chosen tell fresh at o.low o.least
+    (λ g m le h. node_behind a.segments.items at c.args.node o.behind g m le h))
+    (once_log a t ts _ f.holds f.all once (start_of a.segments.items a.events.items at) (begins_low a t ts _ f.holds f.all at o.low)))

@@ -10,6 +10,8 @@ use Rattle.run_evaluations.proofs.KeptLemmas.{same_self, same_after}
 use Rattle.run_evaluations.proofs.WholeLemmas.{kept_made_one, kept_feet, kept_several}
 use Rattle.evaluation_log.proofs.WholeLemmas.{kept_from, not_none, length_alike}
 use Rattle.run_evaluations.proofs.LooseWholeLemmas.{right_same}
+use Rattle.evaluation_log.specs.Kept.{is_unsequenced}
+use Rattle.run_evaluations.proofs.FirstLemmas.{once_alike, rising_alike, several_first}
 use Rattle.run_evaluations.proofs.open.Evaluations.several_done.Goals as goal
 
 pub returns-then-branch-clause-none : goal.returns-then-branch-clause-none
@@ -132,3 +134,16 @@ returns-then-branch-clause-one c =
       one_after a b d c.args.node c.args.at same j.rest j.joined.count j.others j.joined.begins j.own,
       full_after a b d c.args.at c.args.node c.args.rule c.args.chosen same j.full,
     )
+
+pub returns-then-branch-clause-first : goal.returns-then-branch-clause-first
+returns-then-branch-clause-first c = λ kept rising once.
+    let a = c.args.self.now in
+    let b = c.has_conflict.new.self in
+    let same = c.has_conflict.ensures.same in
+    several_first c.args.under.frames.now c.args.under.map.now a.segments.items b.segments.items a.events.items b.events.items a.items.items b.items.items
+    a.levels.items b.levels.items c.args.at c.in_ok-found.found (is_unsequenced c.args.rule) (sym c.is_unsequenced.ensures ∙ c.if-not-is_unsequenced.false)
+    same.alike same.events same.items same.levels
+    (c.in_ok-found.ensures.first
+    (sorted_alike a.segments.items b.segments.items a.events.items b.events.items c.args.at same.alike same.events kept.sorted)
+    (rising_alike a.segments.items b.segments.items a.events.items b.events.items c.args.at same.alike same.events rising)
+    (once_alike a.segments.items b.segments.items a.events.items b.events.items c.args.at same.alike same.events once))

@@ -1,0 +1,11 @@
+use Rattle.std.proofs.Common.{ap, ◌∙◌}
+use Rattle.std.proofs.lemmas.Result.{on_ok_weaker}
+use Rattle.type_scope.specs.Known.{with_scopes, with_tables}
+use Rattle.type_scope.proofs.Seen.{kept_is}
+use Rattle.type_scope.proofs.state.State.leave_parameters.Goals as goal
+
+pub returns-clause-known : goal.returns-clause-known
+returns-clause-known c =
+    on_ok_weaker c.leave_parameters.result (λ e. λ n t env.
+    ap (λ s. with_scopes n s (with_tables n t c.args.self.now env)) e ∙ kept_is c.args.own n (c.args.self.now).names (with_tables n t c.args.self.now env))
+    c.leave_parameters.ensures
