@@ -3,9 +3,9 @@ use Rattle.std.proofs.Common.{◌≡◌, sym, subst}
 use Rattle.audit_sources.specs.declared.fetch.FetchFault.{FetchFault}
 use Rattle.audit_sources.specs.declared.fetch.FetchFault.TheVariants as Fault
 use Rattle.command.specs.declared.request.AuditRequest.{AuditRequest}
-use Rattle.audit_top.specs.Cause.{AuditCause, Disk, IsJudged, IsStopped, stopped}
-use Rattle.audit_top.specs.declared.answer.Answer.{Answer}
-use Rattle.audit_top.specs.declared.answer.Answer.TheVariants.{
+use Rattle.audit_verdict.specs.Cause.{AuditCause, Disk, IsJudged, IsStopped, stopped}
+use Rattle.audit_verdict.specs.declared.answer.Answer.{Answer}
+use Rattle.audit_verdict.specs.declared.answer.Answer.TheVariants.{
   Clean,
   Undefined,
   Found,

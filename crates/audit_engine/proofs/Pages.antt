@@ -9,10 +9,10 @@ use Rattle.audit_sources.specs.declared.fetch.FetchFault.{FetchFault}
 use Rattle.audit_sources.specs.declared.fetch.FetchFault.TheVariants as Fault
 use Rattle.audit_sources.specs.declared.role.Role.TheVariants.{Source}
 use Rattle.audit_engine.proofs.Audits.{judged_audit, stopped_audit}
-use Rattle.audit_top.specs.Cause.{AuditCause, Leaves, TextCause, stopped}
-use Rattle.audit_top.specs.Report.{report, status}
-use Rattle.audit_top.specs.declared.answer.Answer.{Answer}
-use Rattle.audit_top.specs.declared.answer.Answer.TheVariants.{
+use Rattle.audit_verdict.specs.Cause.{AuditCause, Leaves, TextCause, stopped}
+use Rattle.audit_verdict.specs.Report.{report, status}
+use Rattle.audit_verdict.specs.declared.answer.Answer.{Answer}
+use Rattle.audit_verdict.specs.declared.answer.Answer.TheVariants.{
   Clean,
   Undefined,
   Found,

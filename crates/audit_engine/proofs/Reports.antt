@@ -7,14 +7,14 @@ use Rattle.audit_sources.specs.declared.role.Role.TheVariants.{Source}
 use Rattle.audit_engine.proofs.Audits.{judged_audit, stopped_audit}
 use Rattle.audit_engine.specs.Engine.{disk_at}
 use Rattle.audit_engine.specs.Looks.{ErrorsTold, IsRefused, IsReport, IsStoppedReport, IsTextReport, MayWrite, Quiet}
-use Rattle.audit_top.specs.Answer.{IsRunnable}
-use Rattle.audit_top.specs.Cause.{TextCause, stopped}
-use Rattle.audit_top.specs.Front.{WhyRefused}
-use Rattle.audit_top.specs.Report.{report, status}
-use Rattle.audit_top.specs.declared.answer.Answer.{Answer}
-use Rattle.audit_top.specs.declared.answer.Refusal.{Refusal}
-use Rattle.audit_top.specs.declared.front.FrontFault.{FrontFault}
-use Rattle.audit_top.specs.declared.front.FrontFault.TheVariants as FrontFault
+use Rattle.audit_verdict.specs.Answer.{IsRunnable}
+use Rattle.audit_verdict.specs.Cause.{TextCause, stopped}
+use Rattle.audit_verdict.specs.Front.{WhyRefused}
+use Rattle.audit_verdict.specs.Report.{report, status}
+use Rattle.audit_verdict.specs.declared.answer.Answer.{Answer}
+use Rattle.audit_verdict.specs.declared.answer.Refusal.{Refusal}
+use Rattle.audit_verdict.specs.declared.front.FrontFault.{FrontFault}
+use Rattle.audit_verdict.specs.declared.front.FrontFault.TheVariants as FrontFault
 use Rattle.c_typed.specs.declared.program.Program.{Program}
 use Rattle.command.specs.declared.request.AuditRequest.{AuditRequest}
 use Rattle.person_top.specs.declared.explain.Page.{Page}

@@ -18,7 +18,7 @@ use Rattle.audit_engine.specs.Looks.{
   Quiet,
   StaticTold,
 }
-use Rattle.audit_top.specs.Answer.{IsRunnable}
+use Rattle.audit_verdict.specs.Answer.{IsRunnable}
 use Rattle.c_typed.specs.declared.program.Program.{Program}
 use Rattle.command.specs.declared.request.AuditRequest.{AuditRequest}
 use Rattle.person_top.specs.declared.explain.Page.{Page}

@@ -7,7 +7,7 @@ use Rattle.audit_sources.specs.declared.role.Role.TheVariants.{Source}
 use Rattle.audit_engine.proofs.Reports.{fetched_report}
 use Rattle.audit_engine.specs.Looks.{IsRefused}
 use Rattle.audit_engine.specs.Looks.{IsFileStory, IsFront, IsStoppedReport, IsStoryText, IsTextStory, Named, NamedTold, StoryTold}
-use Rattle.audit_top.specs.Answer.{IsRunnable}
+use Rattle.audit_verdict.specs.Answer.{IsRunnable}
 use Rattle.c_names.specs.Texts.{IsNoObjectText, object_text}
 use Rattle.c_typed.specs.declared.program.Program.{Program}
 use Rattle.command.specs.declared.person_request.StoryRequest.{StoryRequest}

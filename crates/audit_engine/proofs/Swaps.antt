@@ -9,7 +9,7 @@ use Rattle.audit_sources.specs.declared.fetch.FetchFault.{FetchFault}
 use Rattle.audit_sources.specs.declared.role.Role.TheVariants.{Source}
 use Rattle.audit_engine.proofs.Reports.{fetched_report, stopped_report}
 use Rattle.audit_engine.specs.Looks.{AreBothOrders, IsFileSwap, IsProgramSwap, IsStoppedReport, IsSwap, IsTextReport, IsTextSwap}
-use Rattle.audit_top.specs.Answer.{IsRunnable}
+use Rattle.audit_verdict.specs.Answer.{IsRunnable}
 use Rattle.c_typed.specs.declared.program.Program.{Program}
 use Rattle.command.specs.declared.request.AuditRequest.{AuditRequest}
 use Rattle.elaborate.specs.Expressions.{program_trees}

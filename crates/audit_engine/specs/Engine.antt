@@ -3,9 +3,9 @@ use Rattle.std.specs.Prelude.{◌≡◌, ◌==◌, ◌||◌, ℕ, List, [], ◌+
 use Rattle.std.specs.List.{position}
 use Rattle.audit_batch.specs.Moment.{Moment}
 use Rattle.audit_batch.specs.declared.audit.Limits.{Limits}
-use Rattle.audit_top.specs.Cause.{AuditCause, Disk, TextCause, disk}
-use Rattle.audit_top.specs.Report.{report, status}
-use Rattle.audit_top.specs.declared.answer.Answer.{Answer}
+use Rattle.audit_verdict.specs.Cause.{AuditCause, Disk, TextCause, disk}
+use Rattle.audit_verdict.specs.Report.{report, status}
+use Rattle.audit_verdict.specs.declared.answer.Answer.{Answer}
 use Rattle.command.specs.declared.person_request.ExplainRequest.{ExplainRequest}
 use Rattle.command.specs.declared.request.AuditRequest.{AuditRequest}
 

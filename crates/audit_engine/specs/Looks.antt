@@ -33,11 +33,11 @@ use Rattle.audit_engine.specs.Engine.{disk_at}
 use Rattle.audit_sources.specs.Fetching.{IsWhole}
 use Rattle.audit_sources.specs.declared.fetch.FetchFault.{FetchFault}
 use Rattle.audit_sources.specs.declared.role.Role.TheVariants.{Source}
-use Rattle.audit_top.specs.Answer.{IsRunnable, Refuses}
-use Rattle.audit_top.specs.Cause.{AuditCause, IsStopped, TextCause, stopped}
-use Rattle.audit_top.specs.Report.{report, status}
-use Rattle.audit_top.specs.declared.answer.Answer.{Answer}
-use Rattle.audit_top.specs.declared.answer.Refusal.{Refusal}
+use Rattle.audit_verdict.specs.Answer.{IsRunnable, Refuses}
+use Rattle.audit_verdict.specs.Cause.{AuditCause, IsStopped, TextCause, stopped}
+use Rattle.audit_verdict.specs.Report.{report, status}
+use Rattle.audit_verdict.specs.declared.answer.Answer.{Answer}
+use Rattle.audit_verdict.specs.declared.answer.Refusal.{Refusal}
 use Rattle.c_typed.specs.declared.program.Program.{Program}
 use Rattle.command.specs.declared.person_request.Exploration.{Exploration}
 use Rattle.command.specs.declared.person_request.Exploration.TheVariants.{Errors, Static, Swap, Story}

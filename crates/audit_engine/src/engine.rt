@@ -2,7 +2,7 @@
 ghost use Rattle.std.specs.Prelude.{◌≡◌, ◌<◌, ◌≤◌, ◌==◌, None, length, IfOk, IfSome, option_copied};
 ghost use Rattle.std.specs.List.{position};
 ghost use Rattle.audit_batch.specs.Moment.{moment};
-ghost use Rattle.audit_top.specs.Report.{report, status};
+ghost use Rattle.audit_verdict.specs.Report.{report, status};
 ghost use Rattle.audit_engine.specs.Engine.{Explained, IsAudited, Says, first_line};
 ghost use Rattle.audit_engine.specs.Looks.{Explored};
 
@@ -12,7 +12,7 @@ use crate::statics::static_sheet;
 use crate::story::story_sheet;
 use crate::swap::swap_sheet;
 use audit_batch::{Auditor, Limits, Verdict};
-use audit_top::{Answer, Progress, audit};
+use audit_verdict::{Answer, Progress, audit};
 use command::{AuditRequest, ExplainRequest, Exploration};
 use person_top::{Explainer, Explorer, Page, Sheet};
 use std::alloc::Global;

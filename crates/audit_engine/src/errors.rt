@@ -6,7 +6,7 @@ ghost use Rattle.audit_engine.specs.Looks.{ErrorsTold, IsTextReport, MayWrite};
 use crate::judged::judged_report;
 use crate::looks::{run_audited, stopped_sheet};
 use audit_sources::{Sources, fetch_sources};
-use audit_top::{FrontFault, Progress, program_of};
+use audit_verdict::{FrontFault, Progress, program_of};
 use c_typed::Program;
 use command::AuditRequest;
 use elaborate::elaborate;

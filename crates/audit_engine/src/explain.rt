@@ -1,14 +1,14 @@
 // The report of an audit, and why.
 ghost use Rattle.std.specs.Prelude.{◌≡◌, ◌≤◌, ◌^◌, true, false, None, length, IfOk, option_copied};
 ghost use Rattle.audit_batch.specs.Moment.{moment};
-ghost use Rattle.audit_top.specs.Cause.{stopped};
-ghost use Rattle.audit_top.specs.Report.{report, status};
+ghost use Rattle.audit_verdict.specs.Cause.{stopped};
+ghost use Rattle.audit_verdict.specs.Report.{report, status};
 ghost use Rattle.audit_engine.specs.Engine.{Explained, Explains, IsJudgedPage, IsPage, IsPageOf, is_untold};
 
 use crate::written::written_of;
 use addr_map::Mode;
 use audit_sources::{FetchFault, Sources, fetch_sources};
-use audit_top::{Answer, Progress, judged, stopped};
+use audit_verdict::{Answer, Progress, judged, stopped};
 use command::ExplainRequest;
 use explain_report::{Asked, Written, explanation, explanation_json};
 use person_top::Page;

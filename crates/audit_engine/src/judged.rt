@@ -1,10 +1,10 @@
 // The report of an audit, where it stands alone.
 ghost use Rattle.std.specs.Prelude.{◌≡◌, ◌≤◌, ◌^◌, None, length, IfOk, option_copied};
-ghost use Rattle.audit_top.specs.Report.{report, status};
+ghost use Rattle.audit_verdict.specs.Report.{report, status};
 ghost use Rattle.audit_engine.specs.Looks.{IsTextReport};
 
 use audit_sources::Sources;
-use audit_top::{Answer, Progress, judged};
+use audit_verdict::{Answer, Progress, judged};
 use command::AuditRequest;
 use person_top::Page;
 use std::alloc::Global;

@@ -1,7 +1,7 @@
 // What further looks share.
 ghost use Rattle.std.specs.Prelude.{◌≡◌, ◌≤◌, [], IfOk};
-ghost use Rattle.audit_top.specs.Cause.{stopped};
-ghost use Rattle.audit_top.specs.Report.{report, status};
+ghost use Rattle.audit_verdict.specs.Cause.{stopped};
+ghost use Rattle.audit_verdict.specs.Report.{report, status};
 ghost use Rattle.elaborate.specs.Expressions.{program_trees};
 ghost use Rattle.footprint_run.specs.Apart.{StandsApart};
 ghost use Rattle.footprint_run.specs.Findings.{picks_of};

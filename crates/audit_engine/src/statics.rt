@@ -6,7 +6,7 @@ ghost use Rattle.audit_engine.specs.Looks.{IsFileStatic, IsOfFile, IsProgramStat
 use crate::judged::judged_report;
 use crate::looks::{quiet, stopped_sheet};
 use audit_sources::{Sources, fetch_sources};
-use audit_top::{FrontFault, program_of};
+use audit_verdict::{FrontFault, program_of};
 use c_typed::Program;
 use command::AuditRequest;
 use person_top::{Page, Sheet};
@@ -58,7 +58,7 @@ fn static_page<F: Files>(
             request,
             sources,
             files,
-            &mut audit_top::Quiet,
+            &mut audit_verdict::Quiet,
         ),
         Err(FrontFault::NoMemory) => Err(NoMemory),
     }

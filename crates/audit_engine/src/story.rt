@@ -7,7 +7,7 @@ use crate::explain::mode_of;
 use crate::judged::judged_report;
 use crate::looks::{quiet, run_audited, stopped_sheet};
 use audit_sources::{Sources, fetch_sources};
-use audit_top::{FrontFault, picks_of, program_of};
+use audit_verdict::{FrontFault, picks_of, program_of};
 use c_names::read_object;
 use c_typed::Program;
 use command::{AuditRequest, StoryRequest};
@@ -90,7 +90,7 @@ fn story_page<F: Files>(
     ensures page { IfOk result (λ page. IsTextStory (frames.now, object.now) request.now (F.write_faults files.old) (F.write_faults files.new) sources.now.text page.status page.text) }
     ensures held { F.held files.new ≡ F.held files.old }
 {
-    let page = judged_report(alloc, request, sources, files, &mut audit_top::Quiet)?;
+    let page = judged_report(alloc, request, sources, files, &mut audit_verdict::Quiet)?;
     let mut text = story_front(alloc, request, sources, frames, object)?;
     text.append(page.text.as_slice())?;
     Ok(Page {

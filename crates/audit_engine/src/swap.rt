@@ -9,7 +9,7 @@ use crate::explain::mode_of;
 use crate::judged::judged_report;
 use crate::looks::{quiet, run_audited, stopped_sheet};
 use audit_sources::{Sources, fetch_sources};
-use audit_top::{FrontFault, program_of};
+use audit_verdict::{FrontFault, program_of};
 use c_typed::Program;
 use command::AuditRequest;
 use core_ir::CoreProgram;
@@ -131,7 +131,7 @@ fn swap_page<F: Files>(
 {
     match text_quarrel(alloc, request, sources)? {
         Some(page) => Ok(page),
-        None => judged_report(alloc, request, sources, files, &mut audit_top::Quiet),
+        None => judged_report(alloc, request, sources, files, &mut audit_verdict::Quiet),
     }
 }
 

@@ -47,29 +47,11 @@ use Rattle.c_lex.specs.TokenText.{TokenText}
 use Rattle.c_lex.specs.Tokens.{lexed}
 use Rattle.c_lex.specs.declared.token.Token.{Token}
 use Rattle.c_lex.specs.declared.token.LexFault.{LexFault}
-use Rattle.audit_top.specs.Answer.{HasNoForm, HasNoTree, HasTokens, HasTree, HasVerdict, Refuses, RefusesEarly, verdict}
-use Rattle.audit_top.specs.Cause.{
-  AuditCause,
-  CertificateCause,
-  CheckCause,
-  Disk,
-  HasCause,
-  IsJudged,
-  IsStopped,
-  IsWeighed,
-  Leaves,
-  RequestCause,
-  StopsCheck,
-  TextCause,
-  UsesForm,
-  WordsCause,
-  stopped,
-}
-use Rattle.audit_top.specs.Report.{Ends, EndsWith, report, status}
-use Rattle.audit_top.specs.Told.{IsAsked, IsCheckAsked, IsCheckGiven, IsGiven}
-use Rattle.audit_top.specs.Words.{Asks, TakesWords}
-use Rattle.audit_top.specs.declared.answer.Answer.{Answer}
-use Rattle.audit_top.specs.declared.answer.Answer.TheVariants.{
+use Rattle.audit_verdict.specs.Answer.{HasNoForm, HasNoTree, HasTokens, HasTree, HasVerdict, Refuses, RefusesEarly, verdict}
+use Rattle.audit_verdict.specs.Cause.{AuditCause, Disk, IsJudged, IsStopped, Leaves, TextCause, UsesForm, stopped}
+use Rattle.audit_verdict.specs.Report.{Ends, EndsWith, report, status}
+use Rattle.audit_verdict.specs.declared.answer.Answer.{Answer}
+use Rattle.audit_verdict.specs.declared.answer.Answer.TheVariants.{
   Clean,
   Undefined,
   Found,
@@ -85,8 +67,11 @@ use Rattle.audit_top.specs.declared.answer.Answer.TheVariants.{
   ReadFault,
   NoMemory,
 }
-use Rattle.audit_top.specs.declared.answer.Refusal.{Refusal}
-use Rattle.audit_top.specs.declared.answer.Refusal.TheVariants.{Stray, OpenLiteral, BadNumber, TooDeep, TooHigh, Syntax, NotTyped}
+use Rattle.audit_verdict.specs.declared.answer.Refusal.{Refusal}
+use Rattle.audit_verdict.specs.declared.answer.Refusal.TheVariants.{Stray, OpenLiteral, BadNumber, TooDeep, TooHigh, Syntax, NotTyped}
+use Rattle.audit_top.specs.Cause.{CertificateCause, CheckCause, HasCause, IsWeighed, RequestCause, StopsCheck, WordsCause}
+use Rattle.audit_top.specs.Told.{IsAsked, IsCheckAsked, IsCheckGiven, IsGiven}
+use Rattle.audit_top.specs.Words.{Asks, TakesWords}
 use Rattle.audit_top.proofs.Requests.{SameAudit, SameCheck, asks_taken, one_audit, one_check}
 
 -- this holds, unless memory ran out

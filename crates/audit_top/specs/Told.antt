@@ -9,13 +9,13 @@ use Rattle.c_lex.specs.Tokens.{lexed}
 use Rattle.command.specs.declared.request.AuditRequest.{AuditRequest}
 use Rattle.command.specs.declared.request.CheckRequest.{CheckRequest}
 use Rattle.command.specs.declared.request.Request.TheVariants.{Audit, Check}
-use Rattle.audit_top.specs.Answer.{HasNoForm, HasNoTree, RefusesEarly, verdict}
-use Rattle.audit_top.specs.Cause.{UsesForm, stopped}
+use Rattle.audit_verdict.specs.Answer.{HasNoForm, HasNoTree, RefusesEarly, verdict}
+use Rattle.audit_verdict.specs.Cause.{UsesForm, stopped}
+use Rattle.audit_verdict.specs.declared.answer.Answer.{Answer}
+use Rattle.audit_verdict.specs.declared.answer.Answer.TheVariants.{Refused}
+use Rattle.audit_verdict.specs.declared.answer.Refusal.{Refusal}
+use Rattle.audit_verdict.specs.declared.answer.Refusal.TheVariants.{Syntax}
 use Rattle.audit_top.specs.Words.{Asks}
-use Rattle.audit_top.specs.declared.answer.Answer.{Answer}
-use Rattle.audit_top.specs.declared.answer.Answer.TheVariants.{Refused}
-use Rattle.audit_top.specs.declared.answer.Refusal.{Refusal}
-use Rattle.audit_top.specs.declared.answer.Refusal.TheVariants.{Syntax}
 
 -- the words ask for this audit, and the files are told
 pub record IsAsked (words : List (List ℕ)) (held : Option Held) (request : AuditRequest) (files : Held) : Type 0 where

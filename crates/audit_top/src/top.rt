@@ -1,50 +1,21 @@
 // The top call.
-ghost use Rattle.std.specs.Prelude.{◌≡◌, ◌≤◌, map, string_bytes, option_copied};
+ghost use Rattle.std.specs.Prelude.{◌≡◌, map, string_bytes};
 ghost use Rattle.ub_base.specs.Causes.{Rose};
-ghost use Rattle.audit_top.specs.Cause.{AuditCause, CheckCause, HasCause, Leaves, RequestCause, disk, stopped};
-ghost use Rattle.audit_top.specs.Report.{Ends, EndsWith, report};
+ghost use Rattle.audit_verdict.specs.Cause.{disk};
+ghost use Rattle.audit_verdict.specs.Report.{Ends, EndsWith, report};
+ghost use Rattle.audit_top.specs.Cause.{CheckCause, HasCause, RequestCause};
 ghost use Rattle.audit_top.specs.Told.{OnStopped, OnCheckStopped, OnFirstForm, OnRefused, OnNoTree, OnCheckRefused, StaysUncertified};
 ghost use Rattle.audit_top.specs.Words.{IsBounded};
 
-use crate::answer::Answer;
-use crate::judge::{judged, self_audit};
 use crate::weigh::weighed;
 use crate::words::asked;
-use audit_sources::{FetchFault, fetch_check_sources, fetch_sources};
-use command::{AuditRequest, CheckRequest, Request, WordFault};
-use footprint_run::{Progress, Quiet};
+use audit_sources::fetch_check_sources;
+use audit_verdict::{Answer, Quiet, audit, self_audit, stopped};
+use command::{CheckRequest, Request, WordFault};
 use std::alloc::Global;
 use ub_base::{Failed, Files, Sink, put_all};
 
 const WRITE_FAULT: u8 = 21;
-
-/// The answer where a file isn't fetched.
-pub fn stopped(fault: FetchFault) -> Answer
-    ensures { result ≡ stopped fault }
-{
-    match fault {
-        FetchFault::ReadFault => Answer::ReadFault,
-        FetchFault::TooLong(role) => Answer::TooLong(role),
-        FetchFault::NoMemory => Answer::NoMemory,
-    }
-}
-
-/// The answer to an audit. Its run is told to the progress.
-pub fn audit<F: Files, P: Progress>(
-    alloc: Global,
-    request: &AuditRequest<'_>,
-    files: &mut F,
-    progress: &mut P,
-) -> Answer
-    requires { request.now.steps ≤ 100000000 }
-    ensures why { AuditCause (disk (F.held files.old) (F.read_faults files.old) (F.write_faults files.old)) (disk (F.held files.new) (F.read_faults files.new) (F.write_faults files.new)) request.now result }
-    ensures files { Leaves (option_copied request.now.cert) (F.held files.old) (F.held files.new) result }
-{
-    match fetch_sources(alloc, request.file, request.input, files) {
-        Ok(sources) => judged(alloc, request, &sources, files, progress),
-        Err(fault) => stopped(fault),
-    }
-}
 
 // The answer to a check of a certificate.
 fn check<F: Files>(alloc: Global, request: &CheckRequest<'_>, files: &mut F) -> Answer

@@ -3,9 +3,8 @@ ghost use Rattle.std.specs.Prelude.{◌≡◌, ◌≤◌, ◌^◌, length, IfErr
 ghost use Rattle.audit_top.specs.Cause.{CertificateCause, WeighedCause, WhyBad};
 ghost use Rattle.certificate_text.specs.Reading.{States};
 
-use crate::answer::{Answer, BadCertificate};
-use crate::front::{FrontFault, program_of};
 use audit_sources::CheckSources;
+use audit_verdict::{Answer, BadCertificate, FrontFault, program_of};
 use c_typed::Program;
 use cert_check::check;
 use certificate::{Cert, CertFault};

@@ -1,15 +1,14 @@
 // The check of a certificate.
 ghost use Rattle.std.specs.Prelude.{◌≡◌, ◌≢◌, ◌↔◌, [], None, true, IfOk};
-ghost use Rattle.cert_check.specs.declared.answer.Answer.TheVariants.{Yes, No};
-ghost use Rattle.cert_check.specs.declared.answer.Part.TheVariants.{Map};
+ghost use Rattle.certificate.specs.declared.answer.Answer.TheVariants.{Yes, No};
+ghost use Rattle.certificate.specs.declared.answer.Part.TheVariants.{Map};
 ghost use Rattle.cert_check.specs.Parts.{NamesRace, added, is_formed, is_none, is_of_form, is_one, is_within, picks_of};
 
-use crate::answer::{Answer, Part};
 use crate::claim::{Witness, claim_holds};
 use crate::run::{Course, Run};
 use addr_map::{AddrMap, Row};
 use c_typed::{Place, Program};
-use certificate::{Cert, Claim, Segment};
+use certificate::{Answer, Cert, Claim, Part, Segment};
 use core_ir::Core;
 use elaborate::{elaborate, roots_of};
 use prov_memory::Memory;

@@ -1,13 +1,12 @@
 //! `cub audit FILE` follows one run of a C program, and says whether it is undefined; `cub explain FILE` says why.
 #![tactic(auto)]
 
-mod host;
 mod progress;
 
 use audit_engine::Engine;
 use audit_top::audit_main;
 use command_help::command_lines;
-use host::{HostFiles, HostSink};
+use host_files::{HostFiles, HostSink};
 use person_top::{is_for_person, person_main};
 use progress::HostProgress;
 use std::io::{ErrorKind, IsTerminal};

@@ -1,6 +1,6 @@
 // How far a run is, told at a terminal.
 
-use audit_top::Progress;
+use audit_verdict::Progress;
 use std::rt::Clock;
 use std::time::Instant;
 

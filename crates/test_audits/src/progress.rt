@@ -1,7 +1,7 @@
 // Audits that are told to a progress in memory.
 
 use crate::calls::files_of;
-use audit_top::{Progress, audit};
+use audit_verdict::{Progress, audit};
 use command::AuditRequest;
 use std::alloc::Global;
 use std::test::Fail;

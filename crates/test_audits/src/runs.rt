@@ -59,7 +59,7 @@ fn program_of(alloc: Global, text: &str) -> Option<Program> {
     if text.len() > 1048576 {
         return None;
     }
-    audit_top::program_of(alloc, text).ok()
+    audit_verdict::program_of(alloc, text).ok()
 }
 
 // The picks that the run of a program told, where the run came to its end.

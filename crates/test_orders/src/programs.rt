@@ -8,7 +8,7 @@ pub fn program_of(alloc: Global, text: &str) -> Option<Program> {
     if text.len() > 1048576 {
         return None;
     }
-    audit_top::program_of(alloc, text).ok()
+    audit_verdict::program_of(alloc, text).ok()
 }
 
 // A text, an object and its story, worked out by hand from the rules of picks and items.

@@ -1,7 +1,7 @@
 use Rattle.std.proofs.Common.{subst}
 use Rattle.audit_engine.proofs.Reports.{may_write, refused_by, writes_nothing}
 use Rattle.audit_engine.specs.Looks.{IsRefused}
-use Rattle.audit_top.specs.Answer.{IsRunnable}
+use Rattle.audit_verdict.specs.Answer.{IsRunnable}
 use Rattle.audit_engine.proofs.errors.written.Goals as goal
 
 pub returns-in-Ok : goal.returns-in-Ok

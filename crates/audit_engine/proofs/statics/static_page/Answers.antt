@@ -2,7 +2,7 @@ use Rattle.std.proofs.Common.{subst}
 use Rattle.audit_engine.proofs.Reports.{refused_by}
 use Rattle.audit_engine.proofs.StaticSheets.{program_static, refused_static}
 use Rattle.audit_engine.specs.Looks.{IsRefused}
-use Rattle.audit_top.specs.Answer.{IsRunnable}
+use Rattle.audit_verdict.specs.Answer.{IsRunnable}
 use Rattle.audit_engine.proofs.statics.static_page.Goals as goal
 
 pub returns-in-Ok-clause-page : goal.returns-in-Ok-clause-page

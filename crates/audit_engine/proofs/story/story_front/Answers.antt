@@ -2,7 +2,7 @@ use Rattle.std.proofs.Common.{subst}
 use Rattle.audit_engine.proofs.Reports.{refused_by}
 use Rattle.audit_engine.proofs.Stories.{program_front, refused_front}
 use Rattle.audit_engine.specs.Looks.{IsRefused}
-use Rattle.audit_top.specs.Answer.{IsRunnable}
+use Rattle.audit_verdict.specs.Answer.{IsRunnable}
 use Rattle.audit_engine.proofs.story.story_front.Goals as goal
 
 pub returns-in-Ok : goal.returns-in-Ok

@@ -1,6 +1,6 @@
 use Rattle.std.proofs.Common.{subst}
 use Rattle.audit_engine.proofs.Swaps.{text_swap}
-use Rattle.audit_top.specs.Answer.{IsRunnable}
+use Rattle.audit_verdict.specs.Answer.{IsRunnable}
 use Rattle.audit_engine.proofs.swap.text_quarrel.Goals as goal
 
 pub returns-in-Ok : goal.returns-in-Ok

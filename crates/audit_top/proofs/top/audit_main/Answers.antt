@@ -1,5 +1,5 @@
 use Rattle.std.proofs.Common.{map, string_bytes}
-use Rattle.audit_top.specs.Cause.{disk}
+use Rattle.audit_verdict.specs.Cause.{disk}
 use Rattle.audit_top.proofs.Exact.{
   ends_with,
   ends_with_syntax,

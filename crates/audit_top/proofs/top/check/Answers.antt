@@ -1,4 +1,4 @@
-use Rattle.audit_top.specs.Cause.{disk}
+use Rattle.audit_verdict.specs.Cause.{disk}
 use Rattle.audit_top.proofs.Causes.{stopped_check}
 use Rattle.audit_top.proofs.top.check.Goals as goal
 

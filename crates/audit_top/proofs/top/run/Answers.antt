@@ -1,6 +1,6 @@
 use Rattle.std.proofs.Common.{map, string_bytes}
-use Rattle.audit_top.specs.Cause.{disk}
-use Rattle.audit_top.specs.declared.answer.Answer.TheVariants.{NoMemory}
+use Rattle.audit_verdict.specs.Cause.{disk}
+use Rattle.audit_verdict.specs.declared.answer.Answer.TheVariants.{NoMemory}
 use Rattle.audit_top.proofs.Causes.{memory_cause}
 use Rattle.audit_top.proofs.top.run.Goals as goal
 
