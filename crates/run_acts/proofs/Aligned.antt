@@ -29,7 +29,7 @@ use Rattle.c_types.specs.Layout.{
   with_member,
 }
 use Rattle.c_types.specs.Types.{CType, void, int, enumeration, pointer, array, struct, union, function}
-use Rattle.run_acts.specs.Standing.{extent_of, extent_or_byte}
+use Rattle.run_objects.specs.Extents.{extent_of, extent_or_byte}
 
 abbrev IsPower : Option Extent → Type 0
 IsPower None = Unit {0}

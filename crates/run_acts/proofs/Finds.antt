@@ -30,7 +30,8 @@ use Rattle.prov_memory.specs.Memory.{Kept, life_in, store_of}
 use Rattle.prov_memory.proofs.RoomLemmas.{place_found}
 use Rattle.c_model.specs.Program.{Standing}
 use Rattle.run_acts.specs.Outcomes.{CannotStand, FindsRoom, HasNoPlace, IsNew, SomeArgument, SomeLiteral, SomeStatic, VectorRefused, lives_of}
-use Rattle.run_acts.specs.Standing.{AllCreated, AreStatics, CreatesAll, arguments, extent_of, extent_or_byte, kind_of, literals, takes_arguments, text}
+use Rattle.run_acts.specs.Standing.{AllCreated, AreStatics, CreatesAll, arguments, kind_of, literals, takes_arguments, text}
+use Rattle.run_objects.specs.Extents.{extent_of, extent_or_byte}
 use Rattle.run_acts.specs.Sums.{argument_sizes, given_sizes, sizes_of, static_sizes, summed}
 use Rattle.run_acts.proofs.Aligned.{extent_aligned}
 use Rattle.run_acts.proofs.Outcomes.{bears_one, creates_one, store_in}

@@ -13,7 +13,8 @@ use Rattle.prov_memory.specs.Keeps.{Keeps}
 use Rattle.prov_memory.specs.Memory.{Kept}
 use Rattle.prov_memory.proofs.KeepLemmas.{keeps_then}
 use Rattle.run_acts.specs.Outcomes.{CannotHold, CannotStand, FirstArgument, FirstLiteral, NoVector, SomeArgument, SomeLiteral, SomeStatic, VectorRefused}
-use Rattle.run_acts.specs.Standing.{AllCreated, StaticsCreated, arguments, extent_of, literals, program_name}
+use Rattle.run_acts.specs.Standing.{AllCreated, StaticsCreated, arguments, literals, program_name}
+use Rattle.run_objects.specs.Extents.{extent_of}
 use Rattle.run_acts.proofs.Stands.{created_then, mapped_at, mapped_length, none_created}
 
 -- ---- the refusal of a call in another

@@ -40,7 +40,8 @@ use Rattle.c_model.specs.Values.{Value, Nothing, Pointer, address_after, functio
 use Rattle.c_model.specs.World.{World}
 use Rattle.run_acts.specs.Contents.{address_of, content_of, filled_by}
 use Rattle.run_acts.specs.Outcomes.{IsDoneOrUnplaced, AreAddresses, StartIsDefined, IsThere, AreThere}
-use Rattle.run_acts.specs.Standing.{CreatesAll, IsStatic, AreStatics, Stand, arguments, takes_arguments, extent_or_byte, given, kind_of, literals, place_of, pointers, text, vector}
+use Rattle.run_acts.specs.Standing.{CreatesAll, IsStatic, AreStatics, Stand, arguments, takes_arguments, given, kind_of, literals, place_of, pointers, text, vector}
+use Rattle.run_objects.specs.Extents.{extent_or_byte}
 use Rattle.run_acts.proofs.Clears.{does_store, untagged}
 use Rattle.run_acts.proofs.Stands.{items_before}
 

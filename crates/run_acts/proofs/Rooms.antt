@@ -32,7 +32,8 @@ use Rattle.run_acts.specs.declared.values.Pointer.{Pointer}
 use Rattle.run_acts.specs.Contents.{CanHoldAll, filled_by}
 use Rattle.run_acts.specs.Fills.{AreFillings}
 use Rattle.run_acts.specs.Outcomes.{IsFilled, IsReady, LivesStay, WaitAll, Waits}
-use Rattle.run_acts.specs.Standing.{AllCreated, AreArguments, AreStatics, arguments, extent_of, IsStatic, literals, StandsThere, StaticsCreated, text, vector}
+use Rattle.run_acts.specs.Standing.{AllCreated, AreArguments, AreStatics, arguments, IsStatic, literals, StandsThere, StaticsCreated, text, vector}
+use Rattle.run_objects.specs.Extents.{extent_of}
 use Rattle.run_acts.specs.Starting.{AreAll, AreMadeAll, ArePlaced}
 use Rattle.run_acts.specs.Views.{pointer_at, value_in}
 use Rattle.run_acts.proofs.Arguments.{argument_count, at_argument}

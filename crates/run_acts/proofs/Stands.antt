@@ -29,7 +29,8 @@ use Rattle.prov_memory.specs.Memory.{AreKnown}
 use Rattle.ub_base.specs.declared.names.ObjName.TheVariants as names
 use Rattle.program_view.specs.Objects.{access_of}
 use Rattle.run_acts.specs.Contents.{filled_by}
-use Rattle.run_acts.specs.Standing.{extent_of, is_constant, HasForm, IsStatic, AreStatics, StaticCreated, StaticsCreated}
+use Rattle.run_acts.specs.Standing.{IsStatic, AreStatics, StaticCreated, StaticsCreated}
+use Rattle.run_objects.specs.Extents.{extent_of, is_constant, HasForm}
 use Rattle.std.proofs.lemmas.List.{length-append}
 use Rattle.std.specs.Prelude.{◌*◌, ◌==◌, not}
 use Rattle.c_types.specs.declared.ty.Qual.{Qual}

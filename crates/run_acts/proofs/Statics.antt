@@ -63,7 +63,8 @@ use Rattle.run_acts.specs.declared.storage.Filling.{Filling}
 use Rattle.run_acts.specs.declared.values.Pointer.{Pointer}
 use Rattle.run_acts.specs.Contents.{Stands, IsPlaced, CanHold, CanHoldAll, address_of, content_of, filled_by}
 use Rattle.run_acts.specs.Fills.{AreFillings}
-use Rattle.run_acts.specs.Standing.{extent_of, IsStatic, AreStatics, place_of, AllFilled, StaticFilled, StaticsFilled}
+use Rattle.run_acts.specs.Standing.{IsStatic, AreStatics, place_of, AllFilled, StaticFilled, StaticsFilled}
+use Rattle.run_objects.specs.Extents.{extent_of}
 use Rattle.run_acts.specs.Starting.{Puts, ArePlaced, EndsLow}
 use Rattle.run_acts.specs.Views.{pointer_at}
 use Rattle.run_acts.proofs.Fills.{Alike, before_twice, before_done, filling_at, none_left, first_of}

@@ -23,21 +23,8 @@ use Rattle.program_view.specs.Objects as view
 use Rattle.program_view.specs.View.{standing_of, has_parameters_in}
 use Rattle.program_view.specs.View as whole
 use Rattle.run_acts.specs.Contents.{content_of, filled_by}
-use Rattle.run_acts.specs.Standing.{
-  IsStatic,
-  AreStatics,
-  Stand,
-  arguments,
-  given,
-  has_constant_elements,
-  has_parameters,
-  literals,
-  pointers,
-  program_name,
-  takes_arguments,
-  text,
-  vector,
-}
+use Rattle.run_acts.specs.Standing.{IsStatic, AreStatics, Stand, arguments, given, has_parameters, literals, pointers, program_name, takes_arguments, text, vector}
+use Rattle.run_objects.specs.Extents.{has_constant_elements}
 use Rattle.run_acts.specs.Viewed.{StandsAsViewed, ViewStands}
 
 -- ---- objects with static storage

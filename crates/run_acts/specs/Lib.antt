@@ -12,5 +12,4 @@ pub mod Starting
 pub mod Standing
 pub mod Outcomes
 pub mod Sums
-pub mod Choices
 pub mod Viewed

@@ -23,7 +23,8 @@ use Rattle.prov_memory.specs.Room.{IsClose}
 use Rattle.c_model.specs.Program.{Standing}
 use Rattle.c_model.specs.Runs.{created_after, stand}
 use Rattle.c_model.specs.World.{World}
-use Rattle.run_acts.specs.Standing.{AllCreated, AreStatics, Stand, StaticsCreated, arguments, extent_of, literals, takes_arguments}
+use Rattle.run_acts.specs.Standing.{AllCreated, AreStatics, Stand, StaticsCreated, arguments, literals, takes_arguments}
+use Rattle.run_objects.specs.Extents.{extent_of}
 
 -- ---- the definitions
 

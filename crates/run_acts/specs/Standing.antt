@@ -29,31 +29,12 @@ use Rattle.c_typed.specs.declared.program.Program.{Program}
 use Rattle.c_typed.specs.declared.program.Static.{Static}
 use Rattle.c_model.specs.Program.{Standing, Filling, Zeros, Bytes, Object_at, No_object}
 use Rattle.program_view.specs.Objects.{access_of, form_of_type, form_where}
+use Rattle.run_objects.specs.Extents.{extent_of, HasForm, is_constant}
 use Rattle.run_acts.specs.declared.initial.Argument.{Argument}
 use Rattle.run_acts.specs.declared.values.Pointer.{Pointer as Place}
 use Rattle.run_acts.specs.Views.{pointer_at}
 use Rattle.run_acts.specs.Contents.{Stands, filled_by}
 use Rattle.run_acts.specs.Starting.{Creates}
-
--- the extent of a complete type, one byte elsewhere (own)
-abbrev pub extent_or_byte : Option Extent → Extent
-extent_or_byte None = record { size = 1; align = 1 }
-extent_or_byte (Some e) = e
-
-abbrev pub extent_of : List Tag → CType → Extent
-extent_of tags ty = extent_or_byte (extent (extents tags) ty)
-
--- an array is defined const where its elements are (6.7.3p9)
-abbrev pub has_constant_elements : CType → Bool
-has_constant_elements (array constant element count) = constant || has_constant_elements element
-has_constant_elements _ = false
-
-abbrev pub is_constant : Qualified → Bool
-is_constant q = q.constant || has_constant_elements q.ty
-
--- the form of a complete type, with its scalars at their places (6.5p7)
-abbrev pub HasForm : List Tag → CType → Option Form → Type 0
-HasForm tags ty form = form ≡ form_where (extent (extents tags) ty) (form_of_type tags ty)
 
 -- an object with static storage: zeros, and then its constants (6.7.9p10)
 pub record IsStatic (tags : List Tag) (k : ℕ) (s : Static) (o : Standing) : Type 0 where

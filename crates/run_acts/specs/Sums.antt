@@ -4,7 +4,8 @@ use Rattle.c_types.specs.declared.tags.Tag.{Tag}
 use Rattle.c_types.specs.Types.{qualified_of}
 use Rattle.c_typed.specs.declared.program.Program.{Program}
 use Rattle.c_typed.specs.declared.program.Static.{Static}
-use Rattle.run_acts.specs.Standing.{extent_of, takes_arguments}
+use Rattle.run_acts.specs.Standing.{takes_arguments}
+use Rattle.run_objects.specs.Extents.{extent_of}
 
 -- each object counts as at least 16 bytes, and the sum as at most 2^62
 abbrev pub summed : ℕ → List ℕ → ℕ

@@ -18,7 +18,6 @@ ghost use Rattle.run_acts.specs.Calls.{AreFunctions, AgreesAsCompatible, call_ch
 ghost use Rattle.run_acts.specs.Kept.{IsOf};
 ghost use Rattle.run_acts.specs.Views.{value_in, value_result};
 
-use crate::storage::function_address;
 use crate::values::as_integer;
 use c_typed::{Function, Program};
 use c_types::{FuncTy, Ty, compatible_functions};

@@ -25,7 +25,8 @@ ghost use Rattle.prov_memory.specs.Tags.{CellsTagged};
 ghost use Rattle.run_acts.specs.Contents.{Stands};
 ghost use Rattle.run_acts.specs.Kept.{IsOf};
 ghost use Rattle.run_acts.specs.Outcomes.{CannotHold, CannotStand, FirstArgument, FirstLiteral, HasNoPlace, IsFilled, IsNew, IsReady, NoVector, SomeStatic, Waits, WaitAll};
-ghost use Rattle.run_acts.specs.Standing.{AreArguments, AreStatics, ArgumentAdded, IsStatic, AllCreated, AllFilled, StaticFilled, StaticsFilled, extent_of, HasForm, literals, NamedFilled, program_name, Stand, StartStands, StaticCreated, StaticsCreated, StandsThere};
+ghost use Rattle.run_acts.specs.Standing.{AreArguments, AreStatics, ArgumentAdded, IsStatic, AllCreated, AllFilled, StaticFilled, StaticsFilled, literals, NamedFilled, program_name, Stand, StartStands, StaticCreated, StaticsCreated, StandsThere};
+ghost use Rattle.run_objects.specs.Extents.{extent_of, HasForm};
 ghost use Rattle.run_acts.specs.Standing as standing;
 ghost use Rattle.run_acts.specs.Starting.{AreAll, ArePlaced, AreMadeAll, AddsArgument, Creates, EndsLow, Puts};
 ghost use Rattle.run_acts.specs.Sums.{argument_sizes, static_sizes, summed};
@@ -36,8 +37,8 @@ use crate::storage::{fillings, pointer_to, written, zeros};
 use crate::values::Pointer;
 use c_typed::{Program, Static};
 use c_types::{Extent, FuncTy, IntKind, Qual, Shape, Shared, Tags, Ty};
-use object_shapes::shape;
 use prov_memory::{Block, CreateFault, Memory, ObjKind, Touched, Value, Via};
+use run_objects::{counted, extent, is_constant, shape_of, total};
 use std::alloc::Global;
 use std::rc::Rc;
 use ub_base::{Boxed, Bytes, Items, NoMemory, ObjName};
@@ -81,42 +82,6 @@ impl Places {
     }
 }
 
-/// The size and alignment of a complete type, one byte elsewhere.
-pub fn extent(tags: &Tags, ty: &Ty) -> Extent
-    ensures { result ≡ extent_of tags.now (type_of ty.now) }
-{
-    match tags.extent(ty) {
-        Some(extent) => extent,
-        None => Extent { size: 1, align: 1 },
-    }
-}
-
-/// The scalars of a complete type by their places, in the form in which the definitions of runs have them.
-pub fn shape_of(alloc: Global, tags: &Tags, ty: &Ty) -> Result<Option<Rc<Shape>>, NoMemory>
-    ensures { IfOk result (λ o. HasForm tags.now (type_of ty.now) (option_map (λ s. form_of s.value) o)) }
-{
-    match tags.extent(ty) {
-        None => Ok(None),
-        Some(_) => {
-            let shape = shape(alloc, tags, ty)?;
-            Ok(Some(Rc::new(alloc, shape)?))
-        }
-    }
-}
-
-/// Whether an object of this type is defined const: an array where its elements are (6.7.3p9).
-pub fn is_constant(qual: &Qual) -> bool
-    ensures { result ≡ standing.is_constant (qualified_of qual.now) }
-{
-    if qual.constant {
-        return true;
-    }
-    match &qual.ty {
-        Ty::Array(element, _) => is_constant(element.get()),
-        _ => false,
-    }
-}
-
 /// What stands before the first pick: where the objects stand, and the arguments of `main`.
 #[derive(Drop)]
 pub struct Started {
@@ -126,20 +91,6 @@ pub struct Started {
 }
 
 const NAME: &[u8; 4] = b"prog";
-
-/// The bytes that an object of this size counts (own).
-pub fn counted(size: u64) -> u64
-    ensures { result ≡ max size 16 }
-{
-    size.max(16)
-}
-
-/// The sum of two counts of bytes; one above 2^62 counts as 2^62 (own).
-pub fn total(a: u64, b: u64) -> u64
-    ensures { result ≡ min (a + b) (2 ^ 62) }
-{
-    a.saturating_add(b).min(1 << 62)
-}
 
 /// The bytes that the objects count which stand before the first pick.
 pub fn start_bytes(p: &Program, args: &[String]) -> u64

@@ -10,13 +10,11 @@ mod storage;
 mod values;
 
 pub use calls::{answer, callee, exit_status, left};
-pub use initial::{
-    Places, Started, counted, extent, is_constant, shape_of, start, start_bytes, total,
-};
+pub use initial::{Places, Started, start, start_bytes};
 pub use laws::{
     law_can_hold, law_standing, law_stands, law_start_counts, law_start_is_defined, law_values_stay,
 };
 pub use numbers::{binary, convert, equal, unary};
 pub use pointers::{changed, distance, member, moved, related};
-pub use storage::{Filling, fill, fillings, function_address, load, part, pointer_to, store};
-pub use values::{Pointer, as_function, as_integer, as_pointer, chosen, truth};
+pub use storage::{Filling, fill, fillings, load, part, pointer_to, store};
+pub use values::{Pointer, as_function, as_integer, as_pointer, truth};

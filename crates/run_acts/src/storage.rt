@@ -442,13 +442,6 @@ fn address(places: &Places, target: Target, offset: u64) -> Value
     }
 }
 
-/// The address of a function by its number (own).
-pub fn function_address(function: u32) -> u64
-    ensures { result ≡ model.function_address function }
-{
-    u64::from(function).saturating_mul(16).saturating_add(4096)
-}
-
 /// Stores the bytes in an object as its initialization (6.7.9). `spare` is overwritten.
 pub fn fill(
     m: &mut Memory,

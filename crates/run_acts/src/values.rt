@@ -3,11 +3,8 @@ ghost use Rattle.std.specs.Prelude.{◌≡◌};
 ghost use Rattle.c_model.specs.Values as model;
 ghost use Rattle.c_model.specs.Values.{null, pointer_value, integer_of, pointer_of, function_in};
 ghost use Rattle.prov_memory.specs.Memory.{Kept};
-ghost use Rattle.c_typed.specs.declared.tree.Node.{out-Node};
-ghost use Rattle.run_acts.specs.Choices.{Chooses};
 ghost use Rattle.run_acts.specs.Views.{value_in, pointer_at};
 
-use c_typed::Node;
 use exposure::Prov;
 use prov_memory::Value;
 
@@ -80,18 +77,5 @@ pub fn truth(value: &Value) -> bool
         Value::Int(number) => *number != 0,
         Value::Ptr { addr, prov: _ } | Value::Func(addr) => *addr != 0,
         _ => true,
-    }
-}
-
-/// The operand that an And, Or or Cond evaluates after its first one, which is true or false, where it evaluates another
-/// (6.5.13p4, 6.5.14p4, 6.5.15p4).
-pub fn chosen(node: &Node, test: bool) -> Option<u32>
-    ensures { Chooses (out-Node node.now) test result }
-{
-    match node {
-        Node::And => { if test { Some(1) } else { None } }
-        Node::Or => { if test { None } else { Some(1) } }
-        Node::Cond => { if test { Some(1) } else { Some(2) } }
-        _ => None,
     }
 }

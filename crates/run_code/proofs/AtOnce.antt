@@ -9,7 +9,7 @@ use Rattle.c_typed.specs.declared.tree.Typed.{Typed, out-Typed, roll-out-Typed, 
 use Rattle.c_typed.specs.Tree.{tree_of, trees_of, size, sizes}
 use Rattle.c_model.specs.Program.{And, Or, Cond}
 use Rattle.c_model.specs.Values.{Int}
-use Rattle.run_acts.specs.Choices.{Chooses}
+use Rattle.run_code.specs.Branches.{Chooses}
 use Rattle.run_code.specs.declared.nodes.NodeInfo.{NodeInfo}
 use Rattle.run_code.specs.declared.steps.Operand.{Operand}
 use Rattle.run_code.specs.declared.steps.Range.{Range}

@@ -25,7 +25,7 @@ use Rattle.c_model.specs.Steps.{Scene, Begun, quiet_value, values_of, first_know
 use Rattle.elaborate.specs.Formed.{is_formed, are_formed, takes as takes_operands}
 use Rattle.elaborate.proofs.Listed.{and_l, and_r, all_go, silent}
 use Rattle.elaborate.proofs.Ranges.{In, has_or, has_itself, own_node, events_in, eq_of, eq_eq}
-use Rattle.run_acts.specs.Choices.{IsChoiceOf, is_choice}
+use Rattle.run_code.specs.Branches.{IsChoiceOf, is_choice}
 use Rattle.run_code.specs.declared.steps.Operand.{Operand}
 use Rattle.run_code.specs.Resolved.{resolved}
 use Rattle.run_code.specs.Choosing.{chooses}

@@ -17,7 +17,7 @@ use Rattle.c_model.specs.Values.{Value, truth}
 use Rattle.c_model.specs.World.{World}
 use Rattle.c_model.specs.Steps.{Scene, Begun, with_given, taken_by}
 use Rattle.elaborate.specs.Formed.{is_formed}
-use Rattle.run_acts.specs.Choices.{Chooses}
+use Rattle.run_code.specs.Branches.{Chooses}
 use Rattle.run_code.specs.declared.nodes.NodeInfo.{NodeInfo}
 use Rattle.run_code.specs.declared.steps.Choice.{Choice}
 use Rattle.run_code.specs.declared.steps.Due.{Due}

@@ -25,7 +25,7 @@ use Rattle.elaborate.specs.Formed.{is_formed, are_formed, takes as takes_operand
 use Rattle.elaborate.proofs.Listed.{and_l, and_r, silent}
 use Rattle.elaborate.proofs.Ranges.{has_or, has_itself, has_cases, has_left, has_right, own_node, if_has, events_in, operands_in}
 use Rattle.elaborate.proofs.Ranges.{eq_of, eq_eq, same_kind_eq, size_pos}
-use Rattle.run_acts.specs.Choices.{IsChoiceOf, is_choice}
+use Rattle.run_code.specs.Branches.{IsChoiceOf, is_choice}
 use Rattle.run_code.specs.Choosing.{chooses}
 use Rattle.run_code.specs.AtOnce.{takes, chosen_in}
 use Rattle.run_code.specs.Chosen.{with_chosen, Views, ViewAll, where_due, IsNodeOf, IsNodeBelow, IsKept, by_way, IsNoTest, ChosenAtTest, ChosenElsewhere}

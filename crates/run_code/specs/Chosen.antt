@@ -12,7 +12,7 @@ use Rattle.c_model.specs.Values.{Value, truth}
 use Rattle.c_model.specs.World.{World}
 use Rattle.c_model.specs.Steps.{Scene, Begun, with_given, quiet_value, taken_by}
 use Rattle.elaborate.specs.Formed.{is_formed}
-use Rattle.run_acts.specs.Choices.{IsChoiceOf}
+use Rattle.run_code.specs.Branches.{IsChoiceOf}
 use Rattle.run_code.specs.Resolved.{resolved}
 use Rattle.run_code.specs.Choosing.{chooses}
 use Rattle.run_code.specs.AtOnce.{truth_of, takes, is_known, chosen_of, chosen_in}

@@ -2,6 +2,7 @@ pub mod Listings
 pub mod Resolved
 pub mod Numbered
 pub mod InRange
+pub mod Branches
 pub mod Choosing
 pub mod AtOnce
 pub mod Choices

@@ -4,19 +4,32 @@ ghost use Rattle.c_typed.specs.declared.tree.Node.{out-Node};
 ghost use Rattle.c_typed.specs.declared.tree.Typed.{Typed as TypedOf, out-Typed};
 ghost use Rattle.c_typed.specs.Tree.{tree_of, size};
 ghost use Rattle.run_code.specs.Numbered.{IsAt, AreBelow, AreNoted};
+ghost use Rattle.run_code.specs.Branches.{Chooses};
 ghost use Rattle.run_code.specs.Choosing.{chooses};
 ghost use Rattle.run_code.specs.AtOnce.{first_evaluated, own_choice, operand_number as number_of_operand, chosen_of};
 
 use crate::nodes::NodeInfo;
 use crate::numbers::number_of;
 use c_typed::{Node, Typed};
-use run_acts::chosen;
 use ub_base::NoMemory;
 
 pub fn is_choice(node: &Node) -> bool
     ensures { result ≡ chooses (out-Node node.now) }
 {
     matches!(node, Node::And | Node::Or | Node::Cond)
+}
+
+// The operand that an And, Or or Cond evaluates after its first one, which is true or false, where it evaluates another
+// (6.5.13p4, 6.5.14p4, 6.5.15p4).
+pub fn chosen(node: &Node, test: bool) -> Option<u32>
+    ensures { Chooses (out-Node node.now) test result }
+{
+    match node {
+        Node::And => { if test { Some(1) } else { None } }
+        Node::Or => { if test { None } else { Some(1) } }
+        Node::Cond => { if test { Some(1) } else { Some(2) } }
+        _ => None,
+    }
 }
 
 // The number of an operand, given the node's.

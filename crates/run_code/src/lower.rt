@@ -17,7 +17,7 @@ ghost use Rattle.run_code.specs.Choices.{Goes, IsChoiceOf, MakesChoice, ChoosesA
 ghost use Rattle.run_code.specs.Fitting.{AccessFits, RootFits, NodesFit, TreeFits, AreFit};
 ghost use Rattle.run_code.specs.EventActs.{head_at, pointed, first_type, seen, last_of, rest_of, room_of, change_access, IsValue, Stores, IsEffect, Calls, IsBody, IsAct, ends_with, IsDue, AreEntries, AreGrown};
 
-use crate::choices::{chosen_at_once, is_choice, operand_number};
+use crate::choices::{chosen, chosen_at_once, is_choice, operand_number};
 use crate::draft::{Draft, count_of};
 use crate::nodes::{Counts, NodeInfo, collect, operands};
 use crate::numbers::number_of;
@@ -27,7 +27,6 @@ use crate::steps::{
 use c_typed::{Access, Change, Node, Place, Typed};
 use c_types::{FuncTy, Qual, Ty, copied};
 use core_ir::Core;
-use run_acts::chosen;
 use std::alloc::Global;
 use ub_base::{Items, Kind, NoMemory};
 

@@ -12,7 +12,7 @@ use crate::numbers::number_of;
 use crate::steps::Operand;
 use c_typed::{Conversion, Node, Slot, Typed};
 use c_types::Ty;
-use run_acts::function_address;
+use run_objects::function_address;
 use std::alloc::Global;
 use ub_base::NoMemory;
 

@@ -11,7 +11,7 @@ use crate::numbers::{next_number, range_from};
 use crate::steps::{BlockCode, ObjectCode, Range, StoreCode};
 use c_typed::{Access, Block, Body, Entry, ForStart};
 use c_types::{IntKind, Qual, Tags, Ty};
-use run_acts::{counted, extent, is_constant, shape_of, total};
+use run_objects::{counted, extent, is_constant, shape_of, total};
 use ub_base::NoMemory;
 
 // How a value of a complete type lies in memory.

@@ -10,10 +10,10 @@ ghost use Rattle.run_machine.specs.Moving.{GoesOn, IsGone, StepLeaves, TakesStep
 use crate::frames::end_frame;
 use c_typed::Typed;
 use prov_memory::ObjKind;
-use run_acts::total;
 use run_code::{BlockCode, ObjectCode, Operand};
 use run_control::{Move, Step, Use};
 use run_events::{choose_at_once, put_at};
+use run_objects::total;
 use run_state::{Begun, Halt, Local, Machine, Stage};
 use seq_order::Taken;
 use ub_base::{Cause, NoMemory, ObjName};

@@ -2,8 +2,8 @@ use Rattle.std.proofs.Common.{◌≡◌, ◌+◌, ◌*◌, ◌≤◌, map}
 use Rattle.c_types.specs.Types.{type_of}
 use Rattle.c_types.specs.Shapes.{none, put_of}
 use Rattle.program_view.specs.Objects.{forms_by}
-use Rattle.object_shapes.specs.Opened.{before, remaining, AreRoomy, weight_with, weight_by, open_work, work}
-use Rattle.object_shapes.proofs.shapes.+shape.Given as goal
+use Rattle.run_objects.specs.Opened.{before, remaining, AreRoomy, weight_with, weight_by, open_work, work}
+use Rattle.run_objects.proofs.shapes.+shape.Given as goal
 
 abbrev pub decreases-shape_within : goal.decreases-shape_within
 decreases-shape_within l = 2 * weight_with (weight_by l.depth l.tags.now) (type_of l.ty.now) + 3

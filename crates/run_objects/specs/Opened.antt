@@ -7,7 +7,7 @@ use Rattle.c_types.specs.declared.tags.Member.{Member}
 use Rattle.c_types.specs.declared.tags.Tag.{Tag}
 use Rattle.c_types.specs.declared.tags.Extent.{Extent}
 use Rattle.program_view.specs.Objects.{form_with, forms_by, member_forms, moved}
-use Rattle.object_shapes.specs.declared.shapes.Open.{Open}
+use Rattle.run_objects.specs.declared.shapes.Open.{Open}
 
 -- what an array of one element is made of
 abbrev pub single_of : CType → CType

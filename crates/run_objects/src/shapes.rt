@@ -5,7 +5,7 @@ ghost use Rattle.c_types.specs.Types.{type_of};
 ghost use Rattle.c_types.specs.Shapes.{form_of, forms_of, put_of, none};
 ghost use Rattle.c_types.specs.Layout.{number_in};
 ghost use Rattle.program_view.specs.Objects.{form_of_type, form_with, forms_by};
-ghost use Rattle.object_shapes.specs.Opened.{single_of, tag_in, is_placed, opened_form, before, entered, remaining, contribution, open_work, work, IsRoomy, AreRoomy};
+ghost use Rattle.run_objects.specs.Opened.{single_of, tag_in, is_placed, opened_form, before, entered, remaining, contribution, open_work, work, IsRoomy, AreRoomy};
 
 use c_types::{Placed, Shape, Tags, Ty, copied};
 use layout::{offset_of, size};

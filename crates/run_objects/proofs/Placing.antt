@@ -15,7 +15,7 @@ use Rattle.c_types.specs.Table.{IsSettled}
 use Rattle.layout.proofs.Scalars.{put_of-roll, type_of_member-seen}
 use Rattle.layout.proofs.Within.{tag_le}
 use Rattle.program_view.specs.Objects.{form_with, forms_by, moved, placed}
-use Rattle.object_shapes.specs.Opened.{
+use Rattle.run_objects.specs.Opened.{
   single_of,
   tag_in,
   is_placed,
@@ -31,8 +31,8 @@ use Rattle.object_shapes.specs.Opened.{
   open_work,
   work,
 }
-use Rattle.object_shapes.specs.declared.shapes.Open.{Open}
-use Rattle.object_shapes.proofs.Opened.{
+use Rattle.run_objects.specs.declared.shapes.Open.{Open}
+use Rattle.run_objects.proofs.Opened.{
   single_form,
   single_extent,
   single_weight,

@@ -42,7 +42,7 @@ use Rattle.c_types.specs.Shapes.{Forms, repeat, none, place, put_of, forms_of}
 use Rattle.c_types.specs.Table.{IsSettled}
 use Rattle.layout.proofs.Slots.{fits, limited_some}
 use Rattle.program_view.specs.Objects.{form_with, forms_by, member_forms, moved, placed, tag_forms}
-use Rattle.object_shapes.specs.Opened.{
+use Rattle.run_objects.specs.Opened.{
   single_of,
   opened_form,
   before,
@@ -59,7 +59,7 @@ use Rattle.object_shapes.specs.Opened.{
   open_work,
   work,
 }
-use Rattle.object_shapes.specs.declared.shapes.Open.{Open}
+use Rattle.run_objects.specs.declared.shapes.Open.{Open}
 
 -- arrays of one element
 

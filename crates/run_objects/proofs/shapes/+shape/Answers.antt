@@ -3,9 +3,9 @@ use Rattle.std.proofs.lemmas.Result.{IfOk-weaker}
 use Rattle.c_types.specs.Shapes.{form_of}
 use Rattle.c_types.specs.Types.{type_of}
 use Rattle.program_view.specs.Objects.{forms_by}
-use Rattle.object_shapes.specs.Opened.{weight_with, weight_by, open_work}
-use Rattle.object_shapes.proofs.Placing.{begins, ends, pops, smaller, goes_on, within, falls, part_placed, part_roomy, part_less, nothing_placed, single_falls, tag_placed, tag_less, tag_roomy, at_number, kind_is, whole_is}
-use Rattle.object_shapes.proofs.shapes.+shape.Goals as goal
+use Rattle.run_objects.specs.Opened.{weight_with, weight_by, open_work}
+use Rattle.run_objects.proofs.Placing.{begins, ends, pops, smaller, goes_on, within, falls, part_placed, part_roomy, part_less, nothing_placed, single_falls, tag_placed, tag_less, tag_roomy, at_number, kind_is, whole_is}
+use Rattle.run_objects.proofs.shapes.+shape.Goals as goal
 
 pub parts_within-loop-current-init : goal.parts_within-loop-current-init
 parts_within-loop-current-init t c =
