@@ -22,6 +22,7 @@ use crate::values::as_integer;
 use c_typed::{Function, Program};
 use c_types::{FuncTy, Ty, compatible_functions};
 use prov_memory::Value;
+use run_objects::function_address;
 use ub_base::Clause;
 
 /// The number of the function that a call through this address and type calls: 6.5.3.2p4 where no function that is

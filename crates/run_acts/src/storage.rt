@@ -37,6 +37,7 @@ use c_typed::{Access, Constant, Content, Target};
 use c_types::{IntKind, Ty};
 use exposure::Prov;
 use prov_memory::{Block, MemByte, MemFault, Memory, Touched, Value, Via};
+use run_objects::function_address;
 use std::alloc::Global;
 use ub_base::{Clause, Event, Items, NoMemory, ObjName};
 
