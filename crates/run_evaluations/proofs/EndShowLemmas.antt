@@ -73,7 +73,7 @@ module _ (s : Scope) (n : ℕ) (c : Class) (ts : Trees) (here : part_of s n ≡ 
   holder x low high = sides_hold (suc n) ts x (omega (arith, low)) (omega (arith, high))
 
   -- what is in an operand, with all of its tree
-  side_holds : (i : ℕ) (d : Side) (x : ℕ) (u : Tree) → slice_get (sides_from (suc n) ts) i ≡ Some d → part_of s x ≡ Some u → d.number ≤ x →
+  pub side_holds : (i : ℕ) (d : Side) (x : ℕ) (u : Tree) → slice_get (sides_from (suc n) ts) i ≡ Some d → part_of s x ≡ Some u → d.number ≤ x →
       x < d.number + size d.tree → x + size u ≤ d.number + size d.tree
   side_holds i d x u at there low high = nested s d.number x d.tree u (side_part s n c ts here i d at) there low high
 

@@ -1,0 +1,383 @@
+-- Beside an end of the run: the first conflict of the last evaluation with another event, done or still to come.
+use Rattle.std.proofs.Common.{◌≡◌, ◌⊎◌, inl, inr, ⊎_elim, ℕ, zero, suc, ◌≤◌, ◌<◌, ◌+◌, ◌-◌, nat_lt, ◌==◌, Bool, true, false, not, ◌&&◌, ◌||◌, List, [], ◌∷◌, length}
+use Rattle.std.proofs.Common.{refl, sym, ap, ◌∙◌, arith, Option, Some, None, subst, if◌then◌else◌}
+use Rattle.std.specs.Prelude.{slice_get}
+use Rattle.std.specs.Option.{option_or}
+use Rattle.std.specs.declared.cmp.Ordering.{Ordering}
+use Rattle.std.specs.declared.cmp.Ordering.TheVariants.{Less, Equal, Greater}
+use Rattle.std.specs.Ordering.{nat_cmp, ordering_then, MatchOrdering}
+use Rattle.std.proofs.lemmas.Cmp.{ranked, tied_itself, nat_cmp_total}
+use Rattle.std.proofs.lemmas.Option.{slice_get_within, same_Some}
+use Rattle.ub_base.proofs.NameLemmas.{same_kind_is, same_kind_refl}
+use Rattle.ub_base.proofs.Tests.{if_true, if_false, less_test, not_less_test, number_other, number_equal, number_self, and_both, and_parts, or_left, or_right, or_cases}
+use Rattle.ub_base.specs.declared.clause.Kind.{Kind}
+use Rattle.ub_base.specs.declared.clause.Kind.TheVariants.{Val, Eff, Body}
+use Rattle.ub_base.specs.declared.names.Event.{Event}
+use Rattle.ub_base.specs.declared.names.Item.{Item}
+use Rattle.ub_base.specs.declared.names.Item.TheVariants.{Any as AnyEvent}
+use Rattle.ub_base.specs.Frames.{Row as FrameRow}
+use Rattle.ub_base.specs.Names.{same_kind}
+use Rattle.addr_map.specs.declared.map.Row.{Row}
+use Rattle.c_names.specs.Orders.{event_cmp, frame_cmp, kind_rank}
+use Rattle.c_typed.specs.declared.tree.Place.{Place}
+use Rattle.c_typed.specs.declared.class.Class.{Class}
+use Rattle.c_typed.specs.declared.class.Class.TheVariants as class
+use Rattle.c_typed.specs.Tree.{Tree, Trees, node, none, more, size, is_quiet, is_quiet_class, kinds_of}
+use Rattle.c_typed.specs.Order.{Taken, goes, place, same_place}
+use Rattle.c_typed.specs.Decide.{due_in, due_among, has_kind}
+use Rattle.footprint.specs.declared.foot.Foot.{Foot}
+use Rattle.footprint.specs.Holds.{holds, stands_for}
+use Rattle.footprint.specs.Least.{IsLeast}
+use Rattle.footprint.proofs.LeastLemmas.{alike as least_by}
+use Rattle.evaluation_log.specs.declared.found.Found.{Found}
+use Rattle.evaluation_log.specs.declared.level.Level.{Level}
+use Rattle.evaluation_log.specs.declared.log.Logged.{Logged}
+use Rattle.evaluation_log.specs.declared.rules.Rules.{Rules}
+use Rattle.evaluation_log.specs.declared.sought.Sought.{Sought}
+use Rattle.evaluation_log.specs.declared.sought.Sought.TheVariants.{Any}
+use Rattle.evaluation_log.specs.Clashes.{Clash, NoClash}
+use Rattle.evaluation_log.specs.FoundItems.{counts_before, first_found}
+use Rattle.evaluation_log.specs.Kept.{Cut, cut_of}
+use Rattle.evaluation_log.specs.Sides.{Side, sides_from, lefts_in, rights_in, first_loud, free_by}
+use Rattle.evaluation_log.specs.Touched.{event_has}
+use Rattle.evaluation_log.specs.Ways.{rule_in}
+use Rattle.evaluation_log.proofs.BetweenLemmas.{none_turned}
+use Rattle.evaluation_log.proofs.KeptLemmas.{before_or_past}
+use Rattle.evaluation_search.specs.First.{IsFirst, IsFirstOf, sought_of}
+use Rattle.evaluation_search.proofs.BetweenFirst.{least_like}
+use Rattle.evaluation_search.proofs.FirstLemmas.{alike, both, counts_same, event_itself}
+use Rattle.run_evaluations.specs.declared.open.Evaluations.{Evaluations}
+use Rattle.run_evaluations.specs.Ends.{begin_of, events_from, is_value, is_value_kind, HasValue, IsBeside, IsBesideSome, IsDependence, IsDone, IsInValue, last_has}
+use Rattle.run_evaluations.specs.Ends.{top_event}
+use Rattle.run_evaluations.specs.First.{IsConflictIn, IsConflictOf, IsOnce, SequencesNone, event_by, event_in, expression_in}
+use Rattle.run_evaluations.specs.FirstAtEnd.{AllSequenceNone, AreOfWay, IsConflictAtEnd, IsConflictBeside, done_has, has_at_end}
+use Rattle.run_evaluations.specs.Follows.{all_done, Follows}
+use Rattle.run_evaluations.specs.Scopes.{Scope, IsOperandOf, part_in, part_among, part_of, place_of}
+use Rattle.run_evaluations.specs.Shows.{AreApart, AreOfTwo, EndsTop, FitsRules, IsAmong, IsIn, IsStill, TellsEnd}
+use Rattle.run_evaluations.specs.Told.{Evaluation, Opened, has, IsOperandIn, IsUnder}
+use Rattle.run_evaluations.proofs.FirstLemmas.{apart_two, expression_is, from_log, once_log}
+use Rattle.run_evaluations.proofs.FrameLemmas.{named_all, top_there}
+use Rattle.run_evaluations.proofs.PartLemmas.{by_test, among_range, due_at, number_is, part_range, root_part, side_at, side_part, size_some}
+use Rattle.run_evaluations.proofs.PendingLemmas.{Fork, LoudFork, due_high, fork, lefts_nearest, lefts_there, logged_last, operand_due, rights_nearest, rights_there}
+use Rattle.run_evaluations.proofs.ShowLemmas.{InLog, in_log, side_order}
+use Rattle.run_evaluations.proofs.ToldLemmas.{due_part}
+
+-- ---- what is due in a part of a tree is due in all of it, if another event of the part is
+module _ (taken : Taken) where
+  mutual
+    due_up : (k : ℕ) (t : Tree) (n : ℕ) (u e : Place) (x : Tree) → part_in k t n ≡ Some x → n ≤ u.node → u.node < n + size x → n ≤ e.node →
+        e.node < n + size x → due_in taken k t e ≡ true → due_in taken n x u ≡ true → due_in taken k t u ≡ true
+    due_up k (node class ts) n u e x h ul uh el eh due_e due_u = by_test (n == k)
+        (λ q.
+        ap (λ z. due_in taken k z u) (same_Some (node class ts) x (sym (if_true _ _ _ q) ∙ h))
+        ∙ (ap (λ z. due_in taken z x u) (sym (number_is n k q)) ∙ due_u))
+        (λ q.
+        let g : part_among (suc k) ts n ≡ Some x = sym (if_false _ _ _ q) ∙ h in
+        let l = (among_range (suc k) ts n x g).low in
+        if_false _ _ _ (number_other u.node k (λ z. omega (arith, z, l, ul)))
+        ∙ among_up class (taken k) 0 (suc k) ts n u e x g ul uh el eh (sym (if_false _ _ _ (number_other e.node k (λ z. omega (arith, z, l, el)))) ∙ due_e)
+        due_u)
+
+    among_up : (class : Class) (choice : Option ℕ) (i m : ℕ) (ts : Trees) (n : ℕ) (u e : Place) (x : Tree) → part_among m ts n ≡ Some x → n ≤ u.node →
+        u.node < n + size x → n ≤ e.node → e.node < n + size x → due_among taken class choice i m ts e ≡ true → due_in taken n x u ≡ true →
+        due_among taken class choice i m ts u ≡ true
+    among_up class choice i m none n u e x h ul uh el eh due_e due_u = absurd (cc)
+    among_up class choice i m (more t ts) n u e x h ul uh el eh due_e due_u = by_test (nat_lt n (m + size t))
+        (λ q.
+        let g : part_in m t n ≡ Some x = sym (if_true _ _ _ q) ∙ h in
+        let o = (part_range m t n x g).high in
+        let p = and_parts (goes class choice i) (due_in taken m t e)
+        (sym (if_true _ _ _ (less_test e.node (m + size t) (omega (arith, o, eh)))) ∙ due_e) in
+        if_true _ _ _ (less_test u.node (m + size t) (omega (arith, o, uh)))
+        ∙ and_both (goes class choice i) (due_in taken m t u) p.0 (due_up m t n u e x g ul uh el eh p.1 due_u))
+        (λ q.
+        let g : part_among (m + size t) ts n ≡ Some x = sym (if_false _ _ _ q) ∙ h in
+        let o = (among_range (m + size t) ts n x g).low in
+        if_false _ _ _ (not_less_test u.node (m + size t) (omega (arith, o, ul)))
+        ∙ among_up class choice (suc i) (m + size t) ts n u e x g ul uh el eh
+        (sym (if_false _ _ _ (not_less_test e.node (m + size t) (omega (arith, o, el)))) ∙ due_e) due_u)
+
+-- ---- the value of an operand beside the way
+goes_on : (c : Class) (choice : Option ℕ) (i : ℕ) → (c ≡ class.Choice → ⊥) → goes c choice i ≡ true
+goes_on class.Object choice i h = refl
+goes_on class.Constant choice i h = refl
+goes_on class.Plain choice i h = refl
+goes_on class.Store choice i h = refl
+goes_on class.Update choice i h = refl
+goes_on class.Choice choice i h = absurd (h refl)
+goes_on class.Comma choice i h = refl
+goes_on class.Call choice i h = refl
+goes_on class.Isolated choice i h = refl
+
+loud_kind : (c : Class) → is_quiet_class c ≡ false → has_kind (kinds_of c) Val ≡ true
+loud_kind class.Object h = absurd (cc)
+loud_kind class.Constant h = absurd (cc)
+loud_kind class.Plain h = refl
+loud_kind class.Store h = refl
+loud_kind class.Update h = refl
+loud_kind class.Choice h = refl
+loud_kind class.Comma h = refl
+loud_kind class.Call h = refl
+loud_kind class.Isolated h = refl
+
+loud_due : (taken : Taken) (t : Tree) (m : ℕ) → is_quiet t ≡ false → due_in taken m t (place m Val) ≡ true
+loud_due taken (node c ts) m loud = if_true _ _ _ (number_self m) ∙ loud_kind c loud
+
+module _ (s : Scope) (rules : Rules) (free_is : (n : ℕ) → SequencesNone s n (rule_in rules n)) (still : IsStill s) (last : Place)
+    (due : due_in s.taken 0 s.tree last ≡ true) (x : ℕ) (l : LoudFork s rules x last.node) where
+  abbrev value : Place
+  value = place x Val
+
+  open_here : (l.class ≡ class.Choice → ⊥) × (l.class ≡ class.Comma → ⊥)
+  open_here = free_is l.top l.free l.class l.operands l.here
+
+  abbrev own : Side
+  own = l.loud.side
+
+  own_low : own.number ≤ x
+  own_low = let n = l.loud.number in omega (arith, n)
+
+  own_high : x < own.number + size own.tree
+  own_high = let n = l.loud.number in let z = size_some own.tree in omega (arith, n, z)
+
+  behind_top : l.top < x
+  behind_top = let a = (side_at (suc l.top) l.operands l.loud.index own l.loud.there).low in let n = l.loud.number in omega (arith, a, n)
+
+  within_top : x < l.top + size (node l.class l.operands)
+  within_top = let a = (side_at (suc l.top) l.operands l.loud.index own l.loud.there).high in let h = own_high in omega (arith, a, h)
+
+  due_own : due_in s.taken own.number own.tree value ≡ true
+  due_own = ap (λ n. due_in s.taken own.number own.tree (place n Val)) (sym l.loud.number) ∙ loud_due s.taken own.tree own.number l.loud.loud
+
+  due_top : due_in s.taken l.top (node l.class l.operands) value ≡ true
+  due_top =
+      let b = behind_top in
+      if_false _ _ _ (number_other x l.top (λ z. omega (arith, z, b)))
+      ∙ (due_at s.taken l.class (s.taken l.top) 0 (suc l.top) l.operands l.loud.index l.loud.index own value (omega arith) l.loud.there own_low own_high
+      ∙ and_both (goes l.class (s.taken l.top) l.loud.index) _ (goes_on l.class (s.taken l.top) l.loud.index open_here.0) due_own)
+
+  pub value_due : due_in s.taken 0 s.tree value ≡ true
+  value_due =
+      let b = behind_top in
+      let low = l.low in
+      due_up s.taken 0 s.tree l.top value last (node l.class l.operands) l.here (omega (arith, b)) within_top (omega (arith, low)) l.high due due_top
+
+  operand_value : IsOperandOf s l.top l.class l.operands l.loud.index own.number
+  operand_value = record { side = own; there = l.loud.there; number = refl; goes = goes_on l.class (s.taken l.top) l.loud.index open_here.0; loud = l.loud.loud }
+
+  operand_last : IsOperandOf s l.top l.class l.operands l.index l.second.number
+  operand_last = operand_due s still last due l.top l.class l.operands l.here l.index l.second l.at l.low_second l.high_second
+
+  in_value : IsIn s own.number x
+  in_value = record { part = own.tree; there = side_part s l.top l.class l.operands l.here l.loud.index own l.loud.there; low = own_low; high = own_high }
+
+  in_last : IsIn s l.second.number last.node
+  in_last = record {
+    part = l.second.tree;
+    there = side_part s l.top l.class l.operands l.here l.index l.second l.at;
+    low = l.low_second;
+    high = l.high_second;
+  }
+
+  pub value_left : l.loud.index < l.index → (x < last.node) × AreApart s value last
+  value_left less =
+      let o = side_order (suc l.top) l.operands l.loud.index l.index own l.second less l.loud.there l.at in
+      let z = size_some own.tree in
+      let n = l.loud.number in
+      let low = l.low_second in
+      let rise : own.number < l.second.number = omega (arith, o, z) in (
+        omega (arith, o, z, n, low),
+        apart_two s l.top l.class l.operands l.here own.number l.second.number l.loud.index l.index operand_value operand_last rise value last in_value in_last
+            open_here.0 open_here.1,
+      )
+
+  pub value_right : l.index < l.loud.index → (last.node < x) × AreApart s value last
+  value_right less =
+      let o = side_order (suc l.top) l.operands l.index l.loud.index l.second own less l.at l.loud.there in
+      let z = size_some l.second.tree in
+      let n = l.loud.number in
+      let high = l.high_second in
+      let rise : l.second.number < own.number = omega (arith, o, z) in
+      let a = apart_two s l.top l.class l.operands l.here l.second.number own.number l.index l.loud.index operand_last operand_value rise last value in_last
+      in_value open_here.0 open_here.1 in
+      (omega (arith, o, n, high), record { before = a.behind; behind = a.before })
+
+-- ---- two events in two operands of a node above the last one
+module _ (s : Scope) (rules : Rules) (w e : Place) (f : Fork s rules w e) where
+  first_of_two : IsOperandIn s f.top f.first.number
+  first_of_two = record { class = f.class; operands = f.operands; there = f.here; index = f.of_first; of = f.operand_first }
+
+  second_of_two : IsOperandIn s f.top f.second.number
+  second_of_two = record { class = f.class; operands = f.operands; there = f.here; index = f.of_second; of = f.operand_second }
+
+  in_first : IsIn s f.first.number w.node
+  in_first = record {
+    part = f.first.tree;
+    there = side_part s f.top f.class f.operands f.here f.of_first f.first f.at_first;
+    low = f.low_first;
+    high = f.high_first;
+  }
+
+  in_second : IsIn s f.second.number e.node
+  in_second = record {
+    part = f.second.tree;
+    there = side_part s f.top f.class f.operands f.here f.of_second f.second f.at_second;
+    low = f.low_second;
+    high = f.high_second;
+  }
+
+  pub fork_way : IsUnder s f.top e.node
+  fork_way = record { part = node f.class f.operands; there = f.here; low = f.low; high = f.high }
+
+  pub fork_left : f.of_first < f.of_second → (w.node < e.node) × AreOfTwo s f.top w.node e.node
+  fork_left less =
+      let o = side_order (suc f.top) f.operands f.of_first f.of_second f.first f.second less f.at_first f.at_second in
+      let z = size_some f.first.tree in
+      let h = f.high_first in
+      let l = f.low_second in (
+        omega (arith, o, h, l),
+        record {
+          first = f.first.number;
+          second = f.second.number;
+          of_first = first_of_two;
+          of_second = second_of_two;
+          rise = omega (arith, o, z);
+          in_first = in_first;
+          in_second = in_second;
+        },
+      )
+
+  pub fork_right : f.of_second < f.of_first → (e.node < w.node) × AreOfTwo s f.top e.node w.node
+  fork_right less =
+      let o = side_order (suc f.top) f.operands f.of_second f.of_first f.second f.first less f.at_second f.at_first in
+      let z = size_some f.second.tree in
+      let h = f.high_second in
+      let l = f.low_first in (
+        omega (arith, o, h, l),
+        record {
+          first = f.second.number;
+          second = f.first.number;
+          of_first = second_of_two;
+          of_second = first_of_two;
+          rise = omega (arith, o, z);
+          in_first = in_second;
+          in_second = in_first;
+        },
+      )
+
+-- ---- what an event has where the run ends
+same_place_is : (u v : Place) → same_place u v ≡ true → u ≡ v
+same_place_is u v h =
+    let p = and_parts (u.node == v.node) (same_kind u.kind v.kind) h in
+    (λ i. place (number_is u.node v.node p.0 i) (same_kind_is u.kind v.kind p.1 i))
+
+same_place_self : (u : Place) → same_place u u ≡ true
+same_place_self u = and_both _ _ (number_self u.node) (same_kind_refl u.kind)
+
+done_some : (es : List Evaluation) (u : Place) (j : Item) → done_has es u j ≡ true →
+    (i : ℕ) × (e : Evaluation) × (slice_get es i ≡ Some e) × (e.place ≡ u) × (has e j ≡ true)
+done_some [] u j h = absurd (cc)
+done_some (e ∷ es) u j h =
+    ⊎_elim
+    (λ here. let p = and_parts (same_place e.place u) (has e j) here in (0, e, refl, same_place_is e.place u p.0, p.1))
+    (λ later. let r = done_some es u j later in (suc r.0, r.1, r.2, r.3, r.4))
+    (or_cases (same_place e.place u && has e j) (done_has es u j) h)
+
+done_there : (es : List Evaluation) (u : Place) (i : ℕ) (e : Evaluation) (j : Item) → slice_get es i ≡ Some e → e.place ≡ u → has e j ≡ true →
+    done_has es u j ≡ true
+done_there [] u i e j at same h = absurd (cc)
+done_there (d ∷ es) u zero e j at same h =
+    let q = same_Some d e at in
+    or_left (same_place d.place u && has d j) (done_has es u j)
+    (and_both (same_place d.place u) (has d j) (ap (λ (z : Evaluation). same_place z.place u) q ∙ (ap (λ z. same_place z u) same ∙ same_place_self u))
+    (ap (λ z. has z j) q ∙ h))
+done_there (d ∷ es) u (suc i) e j at same h =
+    or_right (same_place d.place u && has d j) (done_has es u j) (done_there es u i e j at same h)
+
+both_ways : (a b : Bool) → (a ≡ true → b ≡ true) → (b ≡ true → a ≡ true) → a ≡ b
+both_ways true b there back = sym (there refl)
+both_ways false true there back = back refl
+both_ways false false there back = refl
+
+-- an evaluation that is done has its items, if it is done once
+done_is : (t : Opened) → IsOnce t → (e : Evaluation) → IsAmong t e → (j : Item) → has e j ≡ true → done_has t.done e.place j ≡ true
+done_is t once e x j h = done_there t.done e.place x.0 e j x.1 refl h
+
+done_back : (t : Opened) → IsOnce t → (e : Evaluation) → IsAmong t e → (j : Item) → done_has t.done e.place j ≡ true → has e j ≡ true
+done_back t once e x j h =
+    let r = done_some t.done e.place j h in
+    let i = once r.0 x.0 r.1 e r.2 x.1 r.3 in
+    let same = same_Some r.1 e (sym r.2 ∙ (ap (slice_get t.done) i ∙ x.1)) in
+    ap (λ z. has z j) (sym same) ∙ r.4
+
+begin_cut : (o : Option Level) (c : Cut) → cut_of o ≡ Some c → begin_of o ≡ c.events
+begin_cut None c h = absurd (cc)
+begin_cut (Some l) c h = ap (λ (z : Cut). z.events) (same_Some _ c h)
+
+val_is : (k : Kind) → is_value_kind k ≡ true → k ≡ Val
+val_is Val h = refl
+val_is Eff h = absurd (cc)
+val_is Body h = absurd (cc)
+
+value_there : (n : ℕ) (o : Option Logged) → is_value n o ≡ true → (e : Logged) × (o ≡ Some e) × (place e.node e.kind ≡ place n Val)
+value_there n None h = absurd (cc)
+value_there n (Some e) h =
+    let p = and_parts (is_value_kind e.kind) (e.node == n) h in
+    (e, refl, (λ i. place (number_is e.node n p.1 i) (val_is e.kind p.0 i)))
+
+value_is : (n : ℕ) (e : Logged) → place e.node e.kind ≡ place n Val → is_value n (Some e) ≡ true
+value_is n e h =
+    and_both (is_value_kind e.kind) (e.node == n) (ap (λ (z : Place). is_value_kind z.kind) h) (number_equal e.node n (ap (λ (z : Place). z.node) h))
+
+-- ---- the order of the events of one full expression
+then_less : (o p : Ordering) → ordering_then o p ≡ Less → (o ≡ Less) ⊎ ((o ≡ Equal) × (p ≡ Less))
+then_less Less p h = inl refl
+then_less Equal p h = inr (refl, h)
+then_less Greater p h = absurd (cc)
+
+then_equal : (o p : Ordering) → ordering_then o p ≡ Equal → o ≡ Equal
+then_equal Less p h = absurd (cc)
+then_equal Equal p h = refl
+then_equal Greater p h = absurd (cc)
+
+never_both : (o : Ordering) → o ≡ Equal → o ≡ Less → ⊥
+never_both Less h k = absurd (cc)
+never_both Equal h k = absurd (cc)
+never_both Greater h k = absurd (cc)
+
+less_number : (m n : ℕ) → nat_cmp m n ≡ Less → m < n
+less_number m n h = subst (λ o. MatchOrdering o (m < n) (m ≡ n) (n < m)) h (ranked m n (nat_cmp m n) refl)
+
+equal_number : (m n : ℕ) → nat_cmp m n ≡ Equal → m ≡ n
+equal_number m n h = subst (λ o. MatchOrdering o (m < n) (m ≡ n) (n < m)) h (ranked m n (nat_cmp m n) refl)
+
+module _ (frames : List FrameRow) (t : Opened) where
+  -- an event doesn't come before one of a node that isn't behind its own, if that is a value
+  in_names : (u v : Place) → event_cmp frames (event_in t u) (event_in t v) ≡ Less →
+      (u.node < v.node) ⊎ ((u.node ≡ v.node) × (kind_rank u.kind < kind_rank v.kind))
+  in_names u v h =
+      ⊎_elim
+      (λ frame. absurd (never_both _ (then_equal (frame_cmp frames t.frame.0 t.frame.0) _ (event_itself frames (event_in t u))) frame))
+      (λ rest. ⊎_elim
+      (λ turn. absurd (never_both _ (tied_itself nat_cmp_total t.turn) turn))
+      (λ last. ⊎_elim (λ less. inl (less_number u.node v.node less))
+      (λ kinds. inr (equal_number u.node v.node kinds.0, less_number _ _ kinds.1))
+      (then_less _ _ last.1))
+      (then_less _ _ rest.1))
+      (then_less _ _ h)
+
+  pub not_before_value : (u : Place) (x : ℕ) → x ≤ u.node → event_cmp frames (event_in t u) (event_in t (place x Val)) ≡ Less → ⊥
+  not_before_value u x le h =
+      ⊎_elim (λ less. omega (arith, less, le)) (λ same. let z = same.1 in omega (arith, z)) (in_names u (place x Val) h)
+
+  pub not_equal_value : (u : Place) (x : ℕ) → x < u.node → event_cmp frames (event_in t u) (event_in t (place x Val)) ≡ Equal → ⊥
+  not_equal_value u x less h =
+      let rest = rest_equal (frame_cmp frames t.frame.0 t.frame.0) _ h in
+      let last = rest_equal (nat_cmp t.turn t.turn) _ rest in
+      let n = equal_number u.node x (then_equal _ _ last) in
+      omega (arith, n, less)
+    where
+      rest_equal : (o p : Ordering) → ordering_then o p ≡ Equal → p ≡ Equal
+      rest_equal Less p h = absurd (cc)
+      rest_equal Equal p h = h
+      rest_equal Greater p h = absurd (cc)
