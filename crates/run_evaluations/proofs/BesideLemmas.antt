@@ -9,7 +9,7 @@ use Rattle.std.specs.Ordering.{nat_cmp, ordering_then, MatchOrdering}
 use Rattle.std.proofs.lemmas.Cmp.{ranked, tied_itself, nat_cmp_total}
 use Rattle.std.proofs.lemmas.Option.{slice_get_within, same_Some}
 use Rattle.ub_base.proofs.NameLemmas.{same_kind_is, same_kind_refl}
-use Rattle.ub_base.proofs.Tests.{if_true, if_false, less_test, not_less_test, number_other, number_equal, number_self, and_both, and_parts, or_left, or_right, or_cases}
+use Rattle.ub_base.proofs.Tests.{false_from, if_true, if_false, less_test, not_less_test, number_other, number_equal, number_self, and_both, and_parts, or_left, or_right, or_cases}
 use Rattle.ub_base.specs.declared.clause.Kind.{Kind}
 use Rattle.ub_base.specs.declared.clause.Kind.TheVariants.{Val, Eff, Body}
 use Rattle.ub_base.specs.declared.names.Event.{Event}
@@ -381,3 +381,343 @@ module _ (frames : List FrameRow) (t : Opened) where
       rest_equal Less p h = absurd (cc)
       rest_equal Equal p h = h
       rest_equal Greater p h = absurd (cc)
+
+dependence_like : (frames : List FrameRow) (rows : List Row) (d v e u : Event) (f h g k : Item → Bool) (r : Found) → d ≡ v → e ≡ u → ((j : Item) → f j ≡ h j) →
+    ((j : Item) → g j ≡ k j) → IsDependence frames rows d f e g r → IsDependence frames rows v h u k r
+dependence_like frames rows d v e u f h g k r p q i j x = record {
+  dependent = x.dependent;
+  event = x.event ∙ p;
+  against = x.against ∙ q;
+  least = least_like frames rows Any f h g k (Some r.items) i j x.least;
+}
+
+-- ---- where the run ends
+module _ (frames : List FrameRow) (rows : List Row) (a : Evaluations) (t : Opened) (os : List Opened) (f : Follows (t ∷ os) a) (tree : Tree) (rules : Rules)
+    (last : Evaluation) (tell : TellsEnd t tree rules last) (free_is : AllSequenceNone t rules) (once : IsOnce t) where
+  abbrev n : ℕ
+  n = last.place.node
+
+  abbrev before : ℕ
+  before = length (all_done os)
+
+  begins : events_from a ≡ before
+  begins =
+      let c = f.all.count in
+      let top = top_there a f.holds.kept (length os) c in
+      ap (λ x. begin_of (slice_get a.levels.items x)) (omega (arith, c))
+      ∙ (begin_cut (slice_get a.levels.items (length os)) top.0 top.1 ∙ f.holds.frames.0.begins top.0 top.1)
+
+  named_top : (m : ℕ) (k : Kind) → top_event a m k ≡ event_in t (place m k)
+  named_top m k = ap (λ p. event_by p m k) (expression_is a t (named_all a t os f))
+
+  last_due : n < size t.scope.tree
+  last_due = let h = due_high t.scope.taken 0 t.scope.tree last.place tell.top.due in omega (arith, h)
+
+  -- ---- the items of a value
+  module _ (x : ℕ) (foot : Foot) (v : HasValue a x foot) where
+    foot_there : (j : Item) → holds foot j ≡ true → has_at_end t (place x Val) j ≡ true
+    foot_there j h =
+        ⊎_elim
+        (λ (q : IsInValue a x j).
+        let d = q.1 in
+        let e = value_there x (slice_get a.events.items q.0) d.value in
+        let low = d.low in
+        let b = begins in
+        let g = from_log a t os _ f.holds f.all q.0 e.0 (omega (arith, low, b)) e.1 in
+        or_left (done_has t.done (place x Val) j) (stands_for AnyEvent j)
+        (done_there t.done (place x Val) g.0 g.1 j g.3 (sym g.4 ∙ e.2)
+        (sym (g.5 j) ∙ (ap (λ o. event_has a.items.items o j) (sym e.1) ∙ q.2))))
+        (λ any. or_right (done_has t.done (place x Val) j) (stands_for AnyEvent j) any)
+        (v.only j h)
+
+    foot_back : (j : Item) → has_at_end t (place x Val) j ≡ true → holds foot j ≡ true
+    foot_back j h =
+        ⊎_elim
+        (λ done.
+        let r = done_some t.done (place x Val) j done in
+        let p = in_log a t os _ f.holds f.all r.1 r.0 r.2 in
+        let placed : place p.event.node p.event.kind ≡ place x Val = same_Some _ _ p.at ∙ r.3 in
+        v.done (before + r.0)
+        (record {
+          low = (let b = begins in omega (arith, b));
+          value = ap (is_value x) p.there ∙ value_is x p.event placed;
+          first = λ i le less. false_from (is_value x (slice_get a.events.items i)) (λ is.
+              let e = value_there x (slice_get a.events.items i) is in
+              let b = begins in
+              let same = once_log a t os _ f.holds f.all once before (omega arith) i (before + r.0) e.0 p.event (omega (arith, le, b)) (omega arith) e.1 p.there
+              (ap (λ (z : Place). z.node) (e.2 ∙ sym placed)) (ap (λ (z : Place). z.kind) (e.2 ∙ sym placed)) in
+              omega (arith, same, less));
+        })
+        j (ap (λ o. event_has a.items.items o j) p.there ∙ (p.items j ∙ r.4)))
+        (λ any. v.any j any)
+        (or_cases (done_has t.done (place x Val) j) (stands_for AnyEvent j) h)
+
+    foot_is : (j : Item) → holds foot j ≡ has_at_end t (place x Val) j
+    foot_is j = both_ways (holds foot j) (has_at_end t (place x Val) j) (foot_there j) (foot_back j)
+
+  -- ---- another event that isn't sequenced with the last one
+  abbrev Near : Option ℕ → ℕ → Type 0
+  Near o m = (y : ℕ) × (o ≡ Some y) × (y ≤ m)
+
+  abbrev lefts : Option ℕ
+  lefts = first_loud (lefts_in (free_by rules) 0 t.scope.tree n)
+
+  abbrev rights : Option ℕ
+  rights = first_loud (rights_in (free_by rules) 0 t.scope.tree n)
+
+  module _ (z : Found) (g : IsConflictBeside frames rows t last z) where
+    forked : Fork t.scope rules g.other last.place
+    forked =
+        let eh = due_high t.scope.taken 0 t.scope.tree last.place tell.top.due in
+        let wh = due_high t.scope.taken 0 t.scope.tree g.other g.due in
+        fork t.scope rules tell.fits tell.still tell.alone g.other last.place g.due tell.top.due tell.top.body g.elsewhere g.apart (size t.scope.tree) 0
+        t.scope.tree (omega arith) (root_part 0 t.scope.tree) (omega arith) eh (omega arith) wh
+
+    near : ((g.other.node < n) × Near lefts g.other.node) ⊎ ((n < g.other.node) × Near rights g.other.node)
+    near =
+        let top = forked.low in
+        let first = forked.low_first in
+        let high = last_due in
+        ⊎_elim
+        (λ less.
+        let r = lefts_nearest t.scope rules g.other last.place forked less (size t.scope.tree) 0 t.scope.tree (omega arith) (root_part 0 t.scope.tree) (omega arith)
+        (omega (arith, top, high)) in
+        let le = r.2 in
+        inl ((fork_left t.scope rules g.other last.place forked less).0, (r.0, r.1, omega (arith, le, first))))
+        (λ less.
+        let r = rights_nearest t.scope rules g.other last.place forked less (size t.scope.tree) 0 t.scope.tree (omega arith) (root_part 0 t.scope.tree)
+        (omega arith) (omega (arith, top, high)) in
+        let le = r.2 in
+        inr ((fork_right t.scope rules g.other last.place forked less).0, (r.0, r.1, omega (arith, le, first))))
+        forked.differ
+
+    -- where the last one doesn't end the run, the other one is done
+    module _ (none : NoClash Any rows (stands_for AnyEvent) (has last)) where
+      last_done : IsAmong t last
+      last_done = (length t.done - 1, tell.top.at)
+
+      abbrev Left : Place → Type 0
+      Left w = AreOfTwo t.scope forked.top w.node n × AreApart t.scope w last.place ×
+          IsDependence frames rows (event_in t w) (has_at_end t w) (event_in t last.place) (has last) z
+
+      abbrev Right : Place → Type 0
+      Right w = AreOfTwo t.scope forked.top n w.node × AreApart t.scope w last.place ×
+          IsDependence frames rows (event_in t last.place) (has last) (event_in t w) (has_at_end t w) z
+
+      sought_any : z.race ≡ false → Any ≡ sought_of z.race
+      sought_any e = ap sought_of (sym e)
+
+      has_done : (d : Evaluation) → IsAmong t d → (i : Item) → has d i ≡ true → has_at_end t d.place i ≡ true
+      has_done d x i h = or_left (done_has t.done d.place i) (stands_for AnyEvent i) (done_is t once d x i h)
+
+      left_in : (d : Evaluation) (x : IsAmong t d) → Left d.place → IsConflictIn frames rows t (AreOfWay t last) z
+      left_in d x l = record {
+        one = d;
+        other = last;
+        one_done = x;
+        other_done = last_done;
+        pair = (forked.top, fork_way t.scope rules g.other last.place forked, l.0);
+        apart = l.1;
+        of = record {
+          event = l.2.event;
+          against = l.2.against;
+          bodiless = λ race. absurd (let e : true ≡ false = sym race ∙ l.2.dependent in cc);
+          least = subst (λ s. IsLeast frames (Clash s rows (has d) (has last)) (Some z.items)) (sought_any l.2.dependent)
+              (least_by frames (Clash Any rows (has_at_end t d.place) (has last)) (Clash Any rows (has d) (has last)) (Some z.items)
+              (λ i j c. (
+                ⊎_elim (λ done. done_back t once d x i done) (λ any. absurd (none i j (any, c.1, c.2)))
+                    (or_cases (done_has t.done d.place i) (stands_for AnyEvent i) c.0),
+                c.1,
+                c.2,
+              ))
+              (λ i j c. (has_done d x i c.0, c.1, c.2)) l.2.least);
+        };
+      }
+
+      right_in : (d : Evaluation) (x : IsAmong t d) → Right d.place → IsConflictIn frames rows t (AreOfWay t last) z
+      right_in d x l = record {
+        one = last;
+        other = d;
+        one_done = last_done;
+        other_done = x;
+        pair = (forked.top, fork_way t.scope rules g.other last.place forked, l.0);
+        apart = record { before = l.1.behind; behind = l.1.before };
+        of = record {
+          event = l.2.event;
+          against = l.2.against;
+          bodiless = λ race. absurd (let e : true ≡ false = sym race ∙ l.2.dependent in cc);
+          least = subst (λ s. IsLeast frames (Clash s rows (has last) (has d)) (Some z.items)) (sought_any l.2.dependent)
+              (least_by frames (Clash Any rows (has last) (has_at_end t d.place)) (Clash Any rows (has last) (has d)) (Some z.items)
+              (λ i j c. (
+                c.0,
+                ⊎_elim (λ done. done_back t once d x j done)
+                    (λ any. absurd (none_turned rows Any (stands_for AnyEvent) (has last) none i j (c.0, any, c.2)))
+                    (or_cases (done_has t.done d.place j) (stands_for AnyEvent j) c.1),
+                c.2,
+              ))
+              (λ i j c. (c.0, has_done d x j c.1, c.2)) l.2.least);
+        };
+      }
+
+      pub done_beside : IsConflictIn frames rows t (AreOfWay t last) z
+      done_beside =
+          ⊎_elim
+          (λ less.
+          let l = fork_left t.scope rules g.other last.place forked less in
+          let dep = g.before l.0 in
+          let c = dep.least.0 in
+          let r = ⊎_elim (λ done. done_some t.done g.other z.items.0 done) (λ any. absurd (none z.items.0 z.items.1 (any, c.1, c.2)))
+          (or_cases (done_has t.done g.other z.items.0) (stands_for AnyEvent z.items.0) c.0) in
+          left_in r.1 (r.0, r.2) (subst Left (sym r.3) (l.1, g.apart, dep)))
+          (λ less.
+          let l = fork_right t.scope rules g.other last.place forked less in
+          let dep = g.behind l.0 in
+          let c = dep.least.0 in
+          let r = ⊎_elim (λ done. done_some t.done g.other z.items.1 done)
+          (λ any. absurd (none_turned rows Any (stands_for AnyEvent) (has last) none z.items.0 z.items.1 (c.0, any, c.2)))
+          (or_cases (done_has t.done g.other z.items.1) (stands_for AnyEvent z.items.1) c.1) in
+          right_in r.1 (r.0, r.2) (subst Right (sym r.3) (l.1, g.apart, dep)))
+          forked.differ
+
+  -- ---- what is given of the last event and the first value beside it
+  abbrev pub Given : Option Found → Type 0
+  Given None = (z : Found) → IsConflictBeside frames rows t last z → IsConflictIn frames rows t (AreOfWay t last) z
+  Given (Some z) = IsFirst frames (IsConflictBeside frames rows t last) z
+
+  module _ (e : Logged) (at : slice_get a.events.items (length a.events.items - 1) ≡ Some e) where
+    last_is : (j : Item) → last_has a j ≡ has last j
+    last_is = (logged_last rows a t os f tree rules last tell).3
+
+    same_last : place e.node e.kind ≡ last.place
+    same_last =
+        let l = logged_last rows a t os f tree rules last tell in
+        ap (λ (z : Logged). place z.node z.kind) (same_Some e l.0 (sym at ∙ l.1)) ∙ l.4
+
+    same_node : e.node ≡ n
+    same_node = ap (λ (z : Place). z.node) same_last
+
+    last_name : top_event a e.node e.kind ≡ event_in t last.place
+    last_name = named_top e.node e.kind ∙ ap (event_in t) same_last
+
+    -- before the last one
+    module _ (x : ℕ) (left : lefts ≡ Some x) where
+      value_before : (l : LoudFork t.scope rules x n) × (l.loud.index < l.index)
+      value_before = lefts_there t.scope rules n (size t.scope.tree) 0 t.scope.tree x (omega arith) (root_part 0 t.scope.tree) (omega arith)
+          (let h = last_due in omega (arith, h)) left
+
+      stands_before : (x < n) × AreApart t.scope (place x Val) last.place
+      stands_before = let l = value_before in
+          value_left t.scope rules free_is tell.still last.place tell.top.due x l.0 l.1
+
+      pub left_none : IsBeside frames rows a e x None → Given None
+      left_none h z g =
+          let less = stands_before.0 in
+          let m = same_node in
+          let none = h.before (omega (arith, less, m)) in
+          done_beside z g (λ i j c. none i j (h.has.any i c.0, last_is j ∙ c.1, c.2))
+
+      pub left_some : (z : Found) → IsBeside frames rows a e x (Some z) → Given (Some z)
+      left_some z h =
+          let less = stands_before.0 in
+          let m = same_node in
+          let dep = dependence_like frames rows (top_event a x Val) (event_in t (place x Val)) (top_event a e.node e.kind) (event_in t last.place) (holds h.foot)
+          (has_at_end t (place x Val)) (last_has a) (has last) z (named_top x Val) last_name (foot_is x h.foot h.has) last_is
+          (h.before (omega (arith, less, m))) in (
+            record {
+              other = place x Val;
+              due = value_due t.scope rules free_is tell.still last.place tell.top.due x value_before.0;
+              elsewhere = λ q. omega (arith, q, less);
+              apart = stands_before.1;
+              before = λ le. dep;
+              behind = λ ge. absurd (omega (arith, ge, less));
+            },
+            λ g b.
+                ⊎_elim
+                (λ low.
+                let bd = b.before low.0 in
+                let same : x ≡ low.1.0 = same_Some x low.1.0 (sym left ∙ low.1.1) in
+                let le = low.1.2 in
+                counts_same frames g z (bd.dependent ∙ sym dep.dependent)
+                (λ l. not_before_value frames t b.other x (omega (arith, same, le)) (sym (λ i. event_cmp frames (bd.event i) (dep.event i)) ∙ l))
+                (λ q l. never_both _ (event_itself frames (event_in t last.place)) (sym (λ i. event_cmp frames (bd.against i) (dep.against i)) ∙ l)))
+                (λ up.
+                let bd = b.behind up.0 in
+                counts_same frames g z (bd.dependent ∙ sym dep.dependent)
+                (λ l. not_before_value frames t last.place x (omega (arith, less)) (sym (λ i. event_cmp frames (bd.event i) (dep.event i)) ∙ l))
+                (λ q l. not_equal_value frames t last.place x less (sym (λ i. event_cmp frames (bd.event i) (dep.event i)) ∙ q)))
+                (near g b),
+          )
+
+    -- behind it, where none is before it
+    module _ (x : ℕ) (left : lefts ≡ None) (right : rights ≡ Some x) where
+      value_behind : (l : LoudFork t.scope rules x n) × (l.index < l.loud.index) × (x < 0 + size t.scope.tree)
+      value_behind = rights_there t.scope rules n (size t.scope.tree) 0 t.scope.tree x (omega arith) (root_part 0 t.scope.tree) (omega arith)
+          (let h = last_due in omega (arith, h)) right
+
+      stands_behind : (n < x) × AreApart t.scope (place x Val) last.place
+      stands_behind = let l = value_behind in
+          value_right t.scope rules free_is tell.still last.place tell.top.due x l.0 l.1
+
+      pub right_none : IsBeside frames rows a e x None → Given None
+      right_none h z g =
+          let more = stands_behind.0 in
+          let m = same_node in
+          let none = h.behind (omega (arith, more, m)) in
+          done_beside z g (λ i j c.
+          none_turned rows Any (last_has a) (holds h.foot) none i j (h.has.any i c.0, last_is j ∙ c.1, c.2))
+
+      pub right_some : (z : Found) → IsBeside frames rows a e x (Some z) → Given (Some z)
+      right_some z h =
+          let more = stands_behind.0 in
+          let m = same_node in
+          let dep = dependence_like frames rows (top_event a e.node e.kind) (event_in t last.place) (top_event a x Val) (event_in t (place x Val)) (last_has a)
+          (has last) (holds h.foot) (has_at_end t (place x Val)) z last_name (named_top x Val) last_is (foot_is x h.foot h.has)
+          (h.behind (omega (arith, more, m))) in (
+            record {
+              other = place x Val;
+              due = value_due t.scope rules free_is tell.still last.place tell.top.due x value_behind.0;
+              elsewhere = λ q. omega (arith, q, more);
+              apart = stands_behind.1;
+              before = λ le. absurd (omega (arith, le, more));
+              behind = λ ge. dep;
+            },
+            λ g b.
+                ⊎_elim
+                (λ low. absurd (let q : None ≡ Some low.1.0 = sym left ∙ low.1.1 in cc))
+                (λ up.
+                let bd = b.behind up.0 in
+                let same : x ≡ up.1.0 = same_Some x up.1.0 (sym right ∙ up.1.1) in
+                let le = up.1.2 in
+                counts_same frames g z (bd.dependent ∙ sym dep.dependent)
+                (λ l. never_both _ (event_itself frames (event_in t last.place)) (sym (λ i. event_cmp frames (bd.event i) (dep.event i)) ∙ l))
+                (λ q l. not_before_value frames t b.other x (omega (arith, same, le)) (sym (λ i. event_cmp frames (bd.against i) (dep.against i)) ∙ l)))
+                (near g b),
+          )
+
+    -- of whichever value that is
+    pub given_first : (o p q : Option ℕ) (r : Option Found) → o ≡ option_or p q → p ≡ lefts → q ≡ rights → IsBesideSome frames rows a e o r → Given r
+    given_first None None None r or_is left right h = subst Given (sym h) nothing
+      where
+        nothing : (z : Found) → IsConflictBeside frames rows t last z → IsConflictIn frames rows t (AreOfWay t last) z
+        nothing z g = absurd (⊎_elim
+            (λ low. let c : None ≡ Some low.1.0 = left ∙ low.1.1 in cc)
+            (λ up. let c : None ≡ Some up.1.0 = right ∙ up.1.1 in cc)
+            (near z g))
+    given_first None None (Some y) r or_is left right h = absurd (cc)
+    given_first None (Some y) q r or_is left right h = absurd (cc)
+    given_first (Some x) None None r or_is left right h = absurd (cc)
+    given_first (Some x) (Some y) q None or_is left right h = left_none x (sym left ∙ sym or_is) h
+    given_first (Some x) (Some y) q (Some z) or_is left right h = left_some x (sym left ∙ sym or_is) z h
+    given_first (Some x) None (Some y) None or_is left right h = right_none x (sym left) (sym right ∙ sym or_is) h
+    given_first (Some x) None (Some y) (Some z) or_is left right h = right_some x (sym left) (sym right ∙ sym or_is) z h
+
+  -- ---- and of what operands on the way give
+  pub first_at_end : (beside open r : Option Found) → r ≡ first_found frames beside open → Given beside →
+      IsFirstOf frames (IsConflictIn frames rows t (AreOfWay t last)) open → IsFirstOf frames (IsConflictAtEnd frames rows t last) r
+  first_at_end None open r e b h =
+      subst (IsFirstOf frames (IsConflictAtEnd frames rows t last)) (sym e)
+      (alike frames (IsConflictIn frames rows t (AreOfWay t last)) (IsConflictAtEnd frames rows t last) open (λ x q. inr q)
+      (λ x q. ⊎_elim (λ g. b x g) (λ g. g) q) h)
+  first_at_end (Some z) open r e b h =
+      subst (IsFirstOf frames (IsConflictAtEnd frames rows t last)) (sym e)
+      (both frames (IsConflictBeside frames rows t last) (IsConflictIn frames rows t (AreOfWay t last)) (Some z) open b h)

@@ -1,5 +1,6 @@
 pub mod BelowLemmas
 pub mod BesideLemmas
+pub mod EndFirstLemmas
 pub mod EndLemmas
 pub mod EndShowLemmas
 pub mod FirstLemmas

@@ -162,8 +162,8 @@ module _ (old cur : Evaluations) (above : List ℕ) (p c n : ℕ) (shape : Shape
         (before_or_past c g);
     once = subst (λ (es : List Logged). AreOnce es x.from) (sym shape.rest.events) x.once;
     rising = λ g h k l d e low less from to from_h to_h at_k at_l.
-        let at_k_old = sym (ap (λ es. slice_get es k) (sym shape.rest.events)) ∙ at_k in
-        let at_l_old = sym (ap (λ es. slice_get es l) (sym shape.rest.events)) ∙ at_l in
+        let at_k_old = ap (λ es. slice_get es k) (sym shape.rest.events) ∙ at_k in
+        let at_l_old = ap (λ es. slice_get es l) (sym shape.rest.events) ∙ at_l in
         let base = base_is in
         let inside = slice_get_within old.events.items l e at_l_old in
         ⊎_elim

@@ -16,7 +16,7 @@ use Rattle.c_typed.specs.declared.tree.Place.{Place}
 use Rattle.c_typed.specs.declared.class.Class.{Class}
 use Rattle.c_typed.specs.declared.class.Class.TheVariants as class
 use Rattle.c_typed.specs.Tree.{Tree, Trees, node, none, more, size, sizes, operands, is_quiet, kinds_of}
-use Rattle.c_typed.specs.Order.{Taken, goes, is_body}
+use Rattle.c_typed.specs.Order.{Taken, goes, is_body, place}
 use Rattle.c_typed.specs.Decide.{due_in, due_among, has_kind, is_before, lifts, to_val}
 use Rattle.evaluation_log.specs.declared.log.Logged.{Logged}
 use Rattle.evaluation_log.specs.declared.rules.Rules.{Rules}
@@ -721,11 +721,11 @@ none_pending rows a t last ends rules fits still alone last_is None p q or_is le
 -- ---- where the run ends
 module _ (rows : List Row) (a : Evaluations) (t : Opened) (os : List Opened) (f : Follows (t ∷ os) a) (tree : Tree) (rules : Rules) (last : Evaluation)
     (tell : TellsEnd t tree rules last) where
-  here_is : (own : Tree) × (part_of t.scope last.place.node ≡ Some own)
+  pub here_is : (own : Tree) × (part_of t.scope last.place.node ≡ Some own)
   here_is = due_there t.scope.taken 0 t.scope.tree last.place tell.top.due
 
   pub logged_last : (e : Logged) × (slice_get a.events.items (length a.events.items - 1) ≡ Some e) × (e.node ≡ last.place.node) ×
-      ((j : Item) → last_has a j ≡ has last j)
+      ((j : Item) → last_has a j ≡ has last j) × (place e.node e.kind ≡ last.place)
   logged_last = end_logged rows a t os f rules tell.fits last tell.top tree tell.same here_is.0 here_is.1
 
   pub ended_none : (o p q : Option ℕ) (target : ℕ) → target ≡ last.place.node → o ≡ option_or p q →

@@ -1,5 +1,5 @@
 // An end of the run beside evaluations that it isn't sequenced with.
-ghost use Rattle.std.specs.Prelude.{◌≡◌, Option, ◌<◌, ◌^◌, ◌-◌, ◌∷◌, ℕ, true, List, None, Some, IfOk, IfNone, IfSome, OnOk, slice_get, length};
+ghost use Rattle.std.specs.Prelude.{◌≡◌, false, Option, ◌<◌, ◌^◌, ◌-◌, ◌∷◌, ℕ, true, List, None, Some, IfOk, IfNone, IfSome, OnOk, slice_get, length};
 ghost use Rattle.ub_base.specs.declared.names.Item.{Item};
 ghost use Rattle.c_typed.specs.Tree.{tree_of, size};
 ghost use Rattle.footprint.specs.Conflicts.{MayConflict};
@@ -17,13 +17,14 @@ ghost use Rattle.run_evaluations.specs.FirstAtEnd.{AllSequenceNone, IsConflictAt
 ghost use Rattle.run_evaluations.specs.Kept.{IsKept, IsSameRest, NoneOfOperands};
 ghost use Rattle.run_evaluations.specs.Loose.{IsLooseKept};
 ghost use Rattle.run_evaluations.specs.Follows.{Follows, FollowsBelow};
+ghost use Rattle.run_evaluations.specs.Scopes.{place_of};
 ghost use Rattle.run_evaluations.specs.Shows.{NoneOfWay, NonePending, TellsEnd};
 ghost use Rattle.run_evaluations.specs.Told.{Evaluation, Opened};
 ghost use Rattle.run_evaluations.specs.Ways.{AreBehindOperand, AreOnWay, IsGathered, IsSameUnder, NoneOnWay, NoneAtEnd, StandInOrder};
 
 use crate::open::Evaluations;
 use addr_map::AddrMap;
-use c_typed::Typed;
+use c_typed::{Place, Typed};
 use evaluation_log::{
     Found, Rule, Rules, Sought, Under, Way, first_of, least_items, way_to,
 };
@@ -68,8 +69,21 @@ impl Evaluations {
     fn last_node(&self) -> Option<u32>
         ensures { (last : Logged) → slice_get self.now.events.items (length self.now.events.items - 1) ≡ Some last → result ≡ Some last.node }
     {
+        match self.last_place() {
+            Some(place) => Some(place.node),
+            None => None,
+        }
+    }
+
+    // The last event: of which node, and which of its evaluations.
+    fn last_place(&self) -> Option<Place>
+        ensures { result ≡ place_of (slice_get self.now.events.items (length self.now.events.items - 1)) }
+    {
         match self.events.last() {
-            Some(event) => Some(event.node),
+            Some(event) => Some(Place {
+                node: event.node,
+                kind: event.kind,
+            }),
             None => None,
         }
     }
@@ -99,15 +113,15 @@ impl Evaluations {
             (IsBeside under.entry.frames.now under.entry.map.now self.now last node) }
     {
         let last = self.events.len().saturating_sub(1);
-        let (from, end) = match self.events.get(last) {
-            Some(event) => (event.node, event.kind),
-            None => return Ok(None),
+        let Some(end) = self.last_place() else {
+            return Ok(None);
         };
+        let from = end.node;
         let foot = self.value_foot(node)?;
         let ending = self.event_foot(last)?;
         let place = self.place();
         let value = place.event(node, Kind::Val);
-        let body = place.event(from, end);
+        let body = place.event(from, end.kind);
         Ok(if node < from {
             depends(
                 value,
