@@ -18,7 +18,6 @@ use Rattle.ub_base.specs.declared.names.Item.TheVariants.{Any as AnyEvent}
 use Rattle.ub_base.specs.Frames.{Row as FrameRow}
 use Rattle.ub_base.specs.Names.{same_kind}
 use Rattle.addr_map.specs.declared.map.Row.{Row}
-use Rattle.c_names.specs.Orders.{event_cmp, frame_cmp, kind_rank}
 use Rattle.c_typed.specs.declared.tree.Place.{Place}
 use Rattle.c_typed.specs.declared.class.Class.{Class}
 use Rattle.c_typed.specs.declared.class.Class.TheVariants as class
@@ -335,9 +334,9 @@ then_less Less p h = inl refl
 then_less Equal p h = inr (refl, h)
 then_less Greater p h = absurd (cc)
 
-then_equal : (o p : Ordering) → ordering_then o p ≡ Equal → o ≡ Equal
+then_equal : (o p : Ordering) → ordering_then o p ≡ Equal → (o ≡ Equal) × (p ≡ Equal)
 then_equal Less p h = absurd (cc)
-then_equal Equal p h = refl
+then_equal Equal p h = (refl, h)
 then_equal Greater p h = absurd (cc)
 
 never_both : (o : Ordering) → o ≡ Equal → o ≡ Less → ⊥
@@ -351,36 +350,50 @@ less_number m n h = subst (λ o. MatchOrdering o (m < n) (m ≡ n) (n < m)) h (r
 equal_number : (m n : ℕ) → nat_cmp m n ≡ Equal → m ≡ n
 equal_number m n h = subst (λ o. MatchOrdering o (m < n) (m ≡ n) (n < m)) h (ranked m n (nat_cmp m n) refl)
 
-module _ (frames : List FrameRow) (t : Opened) where
-  -- an event doesn't come before one of a node that isn't behind its own, if that is a value
-  in_names : (u v : Place) → event_cmp frames (event_in t u) (event_in t v) ≡ Less →
-      (u.node < v.node) ⊎ ((u.node ≡ v.node) × (kind_rank u.kind < kind_rank v.kind))
-  in_names u v h =
-      ⊎_elim
-      (λ frame. absurd (never_both _ (then_equal (frame_cmp frames t.frame.0 t.frame.0) _ (event_itself frames (event_in t u))) frame))
-      (λ rest. ⊎_elim
-      (λ turn. absurd (never_both _ (tied_itself nat_cmp_total t.turn) turn))
-      (λ last. ⊎_elim (λ less. inl (less_number u.node v.node less))
-      (λ kinds. inr (equal_number u.node v.node kinds.0, less_number _ _ kinds.1))
-      (then_less _ _ last.1))
-      (then_less _ _ rest.1))
-      (then_less _ _ h)
+-- by the frame, the turn, the node and the kind
+less_parts : (f t n k : Ordering) → f ≡ Equal → t ≡ Equal → ordering_then f (ordering_then t (ordering_then n k)) ≡ Less → (n ≡ Less) ⊎ (k ≡ Less)
+less_parts f t n k same_f same_t h =
+    ⊎_elim (λ less. absurd (never_both f same_f less))
+    (λ rest. ⊎_elim (λ less. absurd (never_both t same_t less))
+    (λ last. ⊎_elim (λ less. inl less) (λ kinds. inr kinds.1) (then_less n k last.1))
+    (then_less t (ordering_then n k) rest.1))
+    (then_less f (ordering_then t (ordering_then n k)) h)
 
-  pub not_before_value : (u : Place) (x : ℕ) → x ≤ u.node → event_cmp frames (event_in t u) (event_in t (place x Val)) ≡ Less → ⊥
-  not_before_value u x le h =
-      ⊎_elim (λ less. omega (arith, less, le)) (λ same. let z = same.1 in omega (arith, z)) (in_names u (place x Val) h)
+module _ (frames : List FrameRow) (t : Opened) (u : Place) (x : ℕ) (le : x ≤ u.node) where
+  -- an event doesn't come before the value of a node that isn't behind its own
+  value_first : (g z : Found) (d : Event) → g.race ≡ false → z.race ≡ false → g.event ≡ event_in t u → z.event ≡ event_in t (place x Val) →
+      g.against ≡ d → z.against ≡ d → counts_before frames g z ≡ false
+  value_first g z d rg rz eg ez ag az =
+      (λ i. counts_before frames (record { race = rg i; event = eg i; against = ag i; items = g.items })
+          (record { race = rz i; event = ez i; against = az i; items = z.items }))
+      ∙ counts_same frames (record { race = false; event = event_in t u; against = d; items = g.items })
+      (record { race = false; event = event_in t (place x Val); against = d; items = z.items }) refl
+      (λ l. ⊎_elim (λ n. let r = less_number u.node x n in omega (arith, r, le)) (λ k. let r = less_number _ _ k in omega (arith, r))
+      (less_parts _ _ (nat_cmp u.node x) _ (then_equal _ _ (event_itself frames (event_in t u))).0 (tied_itself nat_cmp_total t.turn) l))
+      (λ q l. never_both _ (event_itself frames d) l)
 
-  pub not_equal_value : (u : Place) (x : ℕ) → x < u.node → event_cmp frames (event_in t u) (event_in t (place x Val)) ≡ Equal → ⊥
-  not_equal_value u x less h =
-      let rest = rest_equal (frame_cmp frames t.frame.0 t.frame.0) _ h in
-      let last = rest_equal (nat_cmp t.turn t.turn) _ rest in
-      let n = equal_number u.node x (then_equal _ _ last) in
-      omega (arith, n, less)
-    where
-      rest_equal : (o p : Ordering) → ordering_then o p ≡ Equal → p ≡ Equal
-      rest_equal Less p h = absurd (cc)
-      rest_equal Equal p h = h
-      rest_equal Greater p h = absurd (cc)
+  value_before : (g z : Found) → x < u.node → g.race ≡ false → z.race ≡ false → g.event ≡ event_in t u → z.event ≡ event_in t (place x Val) →
+      counts_before frames g z ≡ false
+  value_before g z less rg rz eg ez =
+      (λ i. counts_before frames (record { race = rg i; event = eg i; against = g.against; items = g.items })
+          (record { race = rz i; event = ez i; against = z.against; items = z.items }))
+      ∙ counts_same frames (record { race = false; event = event_in t u; against = g.against; items = g.items })
+      (record { race = false; event = event_in t (place x Val); against = z.against; items = z.items }) refl
+      (λ l. ⊎_elim (λ n. let r = less_number u.node x n in omega (arith, r, le)) (λ k. let r = less_number _ _ k in omega (arith, r))
+      (less_parts _ _ (nat_cmp u.node x) _ (then_equal _ _ (event_itself frames (event_in t u))).0 (tied_itself nat_cmp_total t.turn) l))
+      (λ q l. let r = equal_number u.node x (then_equal _ _ (then_equal _ _ (then_equal _ _ q).1).1).0 in omega (arith, r, less))
+
+  -- nor does it behind another event
+  value_second : (g z : Found) (d : Event) → g.race ≡ false → z.race ≡ false → g.event ≡ d → z.event ≡ d → g.against ≡ event_in t u →
+      z.against ≡ event_in t (place x Val) → counts_before frames g z ≡ false
+  value_second g z d rg rz eg ez ag az =
+      (λ i. counts_before frames (record { race = rg i; event = eg i; against = ag i; items = g.items })
+          (record { race = rz i; event = ez i; against = az i; items = z.items }))
+      ∙ counts_same frames (record { race = false; event = d; against = event_in t u; items = g.items })
+      (record { race = false; event = d; against = event_in t (place x Val); items = z.items }) refl
+      (λ l. never_both _ (event_itself frames d) l)
+      (λ q l. ⊎_elim (λ n. let r = less_number u.node x n in omega (arith, r, le)) (λ k. let r = less_number _ _ k in omega (arith, r))
+      (less_parts _ _ (nat_cmp u.node x) _ (then_equal _ _ (event_itself frames (event_in t u))).0 (tied_itself nat_cmp_total t.turn) l))
 
 dependence_like : (frames : List FrameRow) (rows : List Row) (d v e u : Event) (f h g k : Item → Bool) (r : Found) → d ≡ v → e ≡ u → ((j : Item) → f j ≡ h j) →
     ((j : Item) → g j ≡ k j) → IsDependence frames rows d f e g r → IsDependence frames rows v h u k r
@@ -637,14 +650,11 @@ module _ (frames : List FrameRow) (rows : List Row) (a : Evaluations) (t : Opene
                 let bd = b.before low.0 in
                 let same : x ≡ low.1.0 = same_Some x low.1.0 (sym left ∙ low.1.1) in
                 let le = low.1.2 in
-                counts_same frames g z (bd.dependent ∙ sym dep.dependent)
-                (λ l. not_before_value frames t b.other x (omega (arith, same, le)) (sym (λ i. event_cmp frames (bd.event i) (dep.event i)) ∙ l))
-                (λ q l. never_both _ (event_itself frames (event_in t last.place)) (sym (λ i. event_cmp frames (bd.against i) (dep.against i)) ∙ l)))
+                value_first frames t b.other x (omega (arith, same, le)) g z (event_in t last.place) bd.dependent dep.dependent bd.event dep.event bd.against
+                dep.against)
                 (λ up.
                 let bd = b.behind up.0 in
-                counts_same frames g z (bd.dependent ∙ sym dep.dependent)
-                (λ l. not_before_value frames t last.place x (omega (arith, less)) (sym (λ i. event_cmp frames (bd.event i) (dep.event i)) ∙ l))
-                (λ q l. not_equal_value frames t last.place x less (sym (λ i. event_cmp frames (bd.event i) (dep.event i)) ∙ q)))
+                value_before frames t last.place x (omega (arith, less)) g z less bd.dependent dep.dependent bd.event dep.event)
                 (near g b),
           )
 
@@ -688,9 +698,8 @@ module _ (frames : List FrameRow) (rows : List Row) (a : Evaluations) (t : Opene
                 let bd = b.behind up.0 in
                 let same : x ≡ up.1.0 = same_Some x up.1.0 (sym right ∙ up.1.1) in
                 let le = up.1.2 in
-                counts_same frames g z (bd.dependent ∙ sym dep.dependent)
-                (λ l. never_both _ (event_itself frames (event_in t last.place)) (sym (λ i. event_cmp frames (bd.event i) (dep.event i)) ∙ l))
-                (λ q l. not_before_value frames t b.other x (omega (arith, same, le)) (sym (λ i. event_cmp frames (bd.against i) (dep.against i)) ∙ l)))
+                value_second frames t b.other x (omega (arith, same, le)) g z (event_in t last.place) bd.dependent dep.dependent bd.event dep.event bd.against
+                dep.against)
                 (near g b),
           )
 
@@ -712,12 +721,12 @@ module _ (frames : List FrameRow) (rows : List Row) (a : Evaluations) (t : Opene
     given_first (Some x) None (Some y) (Some z) or_is left right h = right_some x (sym left) (sym right ∙ sym or_is) z h
 
   -- ---- and of what operands on the way give
-  pub first_at_end : (beside open r : Option Found) → r ≡ first_found frames beside open → Given beside →
-      IsFirstOf frames (IsConflictIn frames rows t (AreOfWay t last)) open → IsFirstOf frames (IsConflictAtEnd frames rows t last) r
-  first_at_end None open r e b h =
+  pub first_at_end : (beside ways r : Option Found) → r ≡ first_found frames beside ways → Given beside →
+      IsFirstOf frames (IsConflictIn frames rows t (AreOfWay t last)) ways → IsFirstOf frames (IsConflictAtEnd frames rows t last) r
+  first_at_end None ways r e b h =
       subst (IsFirstOf frames (IsConflictAtEnd frames rows t last)) (sym e)
-      (alike frames (IsConflictIn frames rows t (AreOfWay t last)) (IsConflictAtEnd frames rows t last) open (λ x q. inr q)
+      (alike frames (IsConflictIn frames rows t (AreOfWay t last)) (IsConflictAtEnd frames rows t last) ways (λ x q. inr q)
       (λ x q. ⊎_elim (λ g. b x g) (λ g. g) q) h)
-  first_at_end (Some z) open r e b h =
+  first_at_end (Some z) ways r e b h =
       subst (IsFirstOf frames (IsConflictAtEnd frames rows t last)) (sym e)
-      (both frames (IsConflictBeside frames rows t last) (IsConflictIn frames rows t (AreOfWay t last)) (Some z) open b h)
+      (both frames (IsConflictBeside frames rows t last) (IsConflictIn frames rows t (AreOfWay t last)) (Some z) ways b h)

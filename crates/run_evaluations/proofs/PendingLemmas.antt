@@ -114,7 +114,7 @@ pub record Loud (m : ℕ) (ts : Trees) (x : ℕ) : Type 0 where
   pub number : side.number ≡ x
   pub loud : is_quiet side.tree ≡ false
 
-loud_on : (m : ℕ) (t : Tree) (ts : Trees) (x : ℕ) → Loud (m + size t) ts x → Loud m (more t ts) x
+abbrev loud_on : (m : ℕ) (t : Tree) (ts : Trees) (x : ℕ) → Loud (m + size t) ts x → Loud m (more t ts) x
 loud_on m t ts x l = record { index = suc l.index; side = l.side; there = l.there; number = l.number; loud = l.loud }
 
 sides_loud : (m : ℕ) (ts : Trees) (x : ℕ) → first_loud (sides_from m ts) ≡ Some x → Loud m ts x
@@ -226,6 +226,7 @@ pub record Fork (s : Scope) (rules : Rules) (w e : Place) : Type 0 where
   pub high_second : e.node < second.number + size second.tree
   pub free_left : of_first < of_second → free_by rules top ≡ true
   pub free_right : of_second < of_first → free_by rules top ≡ true
+  pub loud_first : is_quiet first.tree ≡ false
   pub operand_first : IsOperandOf s top class operands of_first first.number
   pub operand_second : IsOperandOf s top class operands of_second second.number
   pub differ : (of_first < of_second) ⊎ (of_second < of_first)
@@ -405,6 +406,7 @@ module _ (s : Scope) (rules : Rules) (fits : FitsRules s rules) (still : IsStill
         high_second = y.4;
         free_left = free_before k c ts here x.0 y.0 x.1 y.1 x.2 y.2 x.3 x.4 y.3 y.4;
         free_right = free_behind k c ts here x.0 y.0 x.1 y.1 x.2 y.2 x.3 x.4 y.3 y.4;
+        loud_first = is_loud s still w due_w k c ts here x.0 x.1 x.2 x.3 x.4;
         operand_first = operand_due s still w due_w k c ts here x.0 x.1 x.2 x.3 x.4;
         operand_second = operand_due s still e due_e k c ts here y.0 y.1 y.2 y.3 y.4;
         differ = differ;
@@ -605,7 +607,7 @@ module _ (s : Scope) (rules : Rules) (w e : Place) (f : Fork s rules w e) where
       ⊎_elim
       (λ own.
       let r = lefts_reach (suc k) ts e.node f.of_first f.of_second f.first f.second less (first_here k c ts here own) (second_here k c ts here own)
-      f.low_second f.operand_first.loud in (
+      f.low_second f.loud_first in (
         r.0,
         are ∙ ap (λ z. option_or z (first_loud (lefts_among (free_by rules) (suc k) ts e.node)))
             (ap (λ b. first_loud (opened b (own_lefts (suc k) ts e.node))) (free_here k c ts here own (f.free_left less)) ∙ r.1),
@@ -640,7 +642,7 @@ module _ (s : Scope) (rules : Rules) (w e : Place) (f : Fork s rules w e) where
       (λ own.
       let d = first_here k c ts here own in
       let g = second_here k c ts here own in
-      let r = rights_reach (suc k) ts e.node f.of_first f.of_second f.first f.second less d g f.low_second f.high_second f.operand_first.loud in
+      let r = rights_reach (suc k) ts e.node f.of_first f.of_second f.first f.second less d g f.low_second f.high_second f.loud_first in
       let order = side_order (suc k) ts f.of_second f.of_first f.second f.first less g d in
       let j = joined_reach (first_loud (rights_among (free_by rules) (suc k) ts e.node)) (first_loud (opened (free_by rules k) (own_rights (suc k) ts e.node)))
       f.first.number

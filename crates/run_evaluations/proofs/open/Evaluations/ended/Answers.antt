@@ -75,13 +75,13 @@ returns-clause-first c = λ t ts last f tell free once.
     let target : c.in-Some.target ≡ last.place.node = same_Some _ _ (c.in-Some.ensures l.0 l.1) ∙ l.2 in
     let way = c.in_ok-way.ensures in
     let above = way.above tell.small in
-    let open = c.in_ok-open.open in
+    let ways = c.in_ok-open.open in
     let found = c.in_ok-open.ensures.first f.holds.kept (subst IsRising (sym above) (in_rising 0 tree c.in-Some.target))
     (order frames rows a t ts f rules tell.fits last tell.top tree tell.same own.0 own.1 free tell.still once) in
-    first_at_end frames rows a t ts f tree rules last tell free once c.in_ok-beside.beside open c.first_of.result c.first_of.ensures.first
+    first_at_end frames rows a t ts f tree rules last tell free once c.in_ok-beside.beside ways c.first_of.result c.first_of.ensures.first
     (given_first frames rows a t ts f tree rules last tell free once l.0 l.1 _ _ _ c.in_ok-beside.beside c.or.ensures
     (way.before tell.small ∙ (λ i. first_loud (lefts_in (free_by rules) 0 (sym tell.same i) (target i))))
     (way.behind tell.small ∙ (λ i. first_loud (rights_in (free_by rules) 0 (sym tell.same i) (target i))))
     (c.in_ok-beside.ensures.first l.0 l.1))
-    (way_told frames rows a t ts f rules tell.fits last tell.top tree tell.same own.0 own.1 free tell.still c.in-Some.target target open
-    (subst (λ (xs : List ℕ). IsFirstOf frames (IsTopPair frames rows a (AreOnWay rules xs a 0)) open) above found))
+    (way_told frames rows a t ts f rules tell.fits last tell.top tree tell.same own.0 own.1 free tell.still c.in-Some.target target ways
+    (subst (λ (xs : List ℕ). IsFirstOf frames (IsTopPair frames rows a (AreOnWay rules xs a 0)) ways) above found))

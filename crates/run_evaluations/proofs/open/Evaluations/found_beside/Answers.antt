@@ -64,7 +64,7 @@ returns-clause-first c = λ last at.
             before = λ less. depends_by frames rows _ _ _ _ (holds foot) (holds foot) (holds ending) (last_has o) w.least_items.result c.if-node-from.result value
                 body (λ j. refl) has w.least_items.ensures.least (λ e. w.depends.ensures.none (sym w.result-is ∙ e))
                 (subst (λ (r : Option Found). IfSome r (λ x. (x.race ≡ false) × (x.event ≡ c.event-value.result) × (x.against ≡ c.event-body.result) ×
-                (w.least_items.result ≡ Some x.items))) w.result-is w.depends.ensures.some);
+                (w.least_items.result ≡ Some x.items))) (sym w.result-is) w.depends.ensures.some);
             behind = λ le. absurd (let t = w.if-node-from in omega (arith, le, from, t));
           }
       | else-node-from w ↦
@@ -76,6 +76,6 @@ returns-clause-first c = λ last at.
                 c.if-node-from.result body value has (λ j. refl) w.least_items-else-node-from.ensures.least
                 (λ e. w.depends-else-node-from.ensures.none (sym w.result-is ∙ e))
                 (subst (λ (r : Option Found). IfSome r (λ x. (x.race ≡ false) × (x.event ≡ c.event-body.result) × (x.against ≡ c.event-value.result) ×
-                (w.least_items-else-node-from.result ≡ Some x.items))) w.result-is w.depends-else-node-from.ensures.some);
+                (w.least_items-else-node-from.result ≡ Some x.items))) (sym w.result-is) w.depends-else-node-from.ensures.some);
           }
     ]
