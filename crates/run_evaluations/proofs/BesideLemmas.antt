@@ -347,6 +347,15 @@ never_both Greater h k = absurd (cc)
 less_number : (m n : ℕ) → nat_cmp m n ≡ Less → m < n
 less_number m n h = subst (λ o. MatchOrdering o (m < n) (m ≡ n) (n < m)) h (ranked m n (nat_cmp m n) refl)
 
+-- `val`, `eff`, `body`
+abbrev rank : Kind → ℕ
+rank Val = 0
+rank Eff = 1
+rank Body = 2
+
+none_less : (m : ℕ) → nat_cmp m 0 ≡ Less → ⊥
+none_less m h = let r = less_number m 0 h in omega (arith, r)
+
 equal_number : (m n : ℕ) → nat_cmp m n ≡ Equal → m ≡ n
 equal_number m n h = subst (λ o. MatchOrdering o (m < n) (m ≡ n) (n < m)) h (ranked m n (nat_cmp m n) refl)
 
@@ -365,35 +374,41 @@ module _ (frames : List FrameRow) (t : Opened) (u : Place) (x : ℕ) (le : x ≤
       g.against ≡ d → z.against ≡ d → counts_before frames g z ≡ false
   value_first g z d rg rz eg ez ag az =
       (λ i. counts_before frames (record { race = rg i; event = eg i; against = ag i; items = g.items })
-          (record { race = rz i; event = ez i; against = az i; items = z.items }))
+      (record { race = rz i; event = ez i; against = az i; items = z.items }))
       ∙ counts_same frames (record { race = false; event = event_in t u; against = d; items = g.items })
       (record { race = false; event = event_in t (place x Val); against = d; items = z.items }) refl
-      (λ l. ⊎_elim (λ n. let r = less_number u.node x n in omega (arith, r, le)) (λ k. let r = less_number _ _ k in omega (arith, r))
-      (less_parts _ _ (nat_cmp u.node x) _ (then_equal _ _ (event_itself frames (event_in t u))).0 (tied_itself nat_cmp_total t.turn) l))
+      (λ l.
+      let parts = less_parts _ _ (nat_cmp u.node x) _ (then_equal _ _ (event_itself frames (event_in t u))).0 (tied_itself nat_cmp_total t.turn) l in
+      ⊎_elim (λ n. let r = less_number u.node x n in omega (arith, r, le)) (λ k. none_less (rank u.kind) k) parts)
       (λ q l. never_both _ (event_itself frames d) l)
 
-  value_before : (g z : Found) → x < u.node → g.race ≡ false → z.race ≡ false → g.event ≡ event_in t u → z.event ≡ event_in t (place x Val) →
+  value_ahead : (g z : Found) → x < u.node → g.race ≡ false → z.race ≡ false → g.event ≡ event_in t u → z.event ≡ event_in t (place x Val) →
       counts_before frames g z ≡ false
-  value_before g z less rg rz eg ez =
+  value_ahead g z less rg rz eg ez =
       (λ i. counts_before frames (record { race = rg i; event = eg i; against = g.against; items = g.items })
-          (record { race = rz i; event = ez i; against = z.against; items = z.items }))
+      (record { race = rz i; event = ez i; against = z.against; items = z.items }))
       ∙ counts_same frames (record { race = false; event = event_in t u; against = g.against; items = g.items })
       (record { race = false; event = event_in t (place x Val); against = z.against; items = z.items }) refl
-      (λ l. ⊎_elim (λ n. let r = less_number u.node x n in omega (arith, r, le)) (λ k. let r = less_number _ _ k in omega (arith, r))
-      (less_parts _ _ (nat_cmp u.node x) _ (then_equal _ _ (event_itself frames (event_in t u))).0 (tied_itself nat_cmp_total t.turn) l))
-      (λ q l. let r = equal_number u.node x (then_equal _ _ (then_equal _ _ (then_equal _ _ q).1).1).0 in omega (arith, r, less))
+      (λ l.
+      let parts = less_parts _ _ (nat_cmp u.node x) _ (then_equal _ _ (event_itself frames (event_in t u))).0 (tied_itself nat_cmp_total t.turn) l in
+      ⊎_elim (λ n. let r = less_number u.node x n in omega (arith, r, le)) (λ k. none_less (rank u.kind) k) parts)
+      (λ q l.
+      let n = (then_equal _ _ (then_equal _ _ (then_equal _ _ q).1).1).0 in
+      let r : u.node ≡ x = equal_number u.node x n in
+      omega (arith, r, less))
 
   -- nor does it behind another event
   value_second : (g z : Found) (d : Event) → g.race ≡ false → z.race ≡ false → g.event ≡ d → z.event ≡ d → g.against ≡ event_in t u →
       z.against ≡ event_in t (place x Val) → counts_before frames g z ≡ false
   value_second g z d rg rz eg ez ag az =
       (λ i. counts_before frames (record { race = rg i; event = eg i; against = ag i; items = g.items })
-          (record { race = rz i; event = ez i; against = az i; items = z.items }))
+      (record { race = rz i; event = ez i; against = az i; items = z.items }))
       ∙ counts_same frames (record { race = false; event = d; against = event_in t u; items = g.items })
       (record { race = false; event = d; against = event_in t (place x Val); items = z.items }) refl
       (λ l. never_both _ (event_itself frames d) l)
-      (λ q l. ⊎_elim (λ n. let r = less_number u.node x n in omega (arith, r, le)) (λ k. let r = less_number _ _ k in omega (arith, r))
-      (less_parts _ _ (nat_cmp u.node x) _ (then_equal _ _ (event_itself frames (event_in t u))).0 (tied_itself nat_cmp_total t.turn) l))
+      (λ q l.
+      let parts = less_parts _ _ (nat_cmp u.node x) _ (then_equal _ _ (event_itself frames (event_in t u))).0 (tied_itself nat_cmp_total t.turn) l in
+      ⊎_elim (λ n. let r = less_number u.node x n in omega (arith, r, le)) (λ k. none_less (rank u.kind) k) parts)
 
 dependence_like : (frames : List FrameRow) (rows : List Row) (d v e u : Event) (f h g k : Item → Bool) (r : Found) → d ≡ v → e ≡ u → ((j : Item) → f j ≡ h j) →
     ((j : Item) → g j ≡ k j) → IsDependence frames rows d f e g r → IsDependence frames rows v h u k r
@@ -654,7 +669,7 @@ module _ (frames : List FrameRow) (rows : List Row) (a : Evaluations) (t : Opene
                 dep.against)
                 (λ up.
                 let bd = b.behind up.0 in
-                value_before frames t last.place x (omega (arith, less)) g z less bd.dependent dep.dependent bd.event dep.event)
+                value_ahead frames t last.place x (omega (arith, less)) g z less bd.dependent dep.dependent bd.event dep.event)
                 (near g b),
           )
 

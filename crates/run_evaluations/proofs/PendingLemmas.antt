@@ -668,7 +668,7 @@ module _ (s : Scope) (rules : Rules) (w e : Place) (f : Fork s rules w e) where
 
 -- ---- what is due stands in the tree
 mutual
-  due_high : (taken : Taken) (k : ℕ) (t : Tree) (u : Place) → due_in taken k t u ≡ true → u.node < k + size t
+  pub due_high : (taken : Taken) (k : ℕ) (t : Tree) (u : Place) → due_in taken k t u ≡ true → u.node < k + size t
   due_high taken k (node class ts) u h = by_test (u.node == k)
       (λ e. let q = number_is u.node k e in omega (arith, q))
       (λ e. let r = among_high taken class (taken k) 0 (suc k) ts u (sym (if_false _ _ _ e) ∙ h) in omega (arith, r))

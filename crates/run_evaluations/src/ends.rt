@@ -25,9 +25,7 @@ ghost use Rattle.run_evaluations.specs.Ways.{AreBehindOperand, AreOnWay, IsGathe
 use crate::open::Evaluations;
 use addr_map::AddrMap;
 use c_typed::{Place, Typed};
-use evaluation_log::{
-    Found, Rule, Rules, Sought, Under, Way, first_of, least_items, way_to,
-};
+use evaluation_log::{Found, Rule, Rules, Sought, Under, Way, first_of, least_items, way_to};
 use footprint::Foot;
 use ub_base::{Event, Frames, Item, Kind, NoMemory};
 
@@ -123,17 +121,9 @@ impl Evaluations {
         let value = place.event(node, Kind::Val);
         let body = place.event(from, end.kind);
         Ok(if node < from {
-            depends(
-                value,
-                body,
-                least_items(under, Sought::Any, &foot, &ending),
-            )
+            depends(value, body, least_items(under, Sought::Any, &foot, &ending))
         } else {
-            depends(
-                body,
-                value,
-                least_items(under, Sought::Any, &ending, &foot),
-            )
+            depends(body, value, least_items(under, Sought::Any, &ending, &foot))
         })
     }
 

@@ -12,8 +12,11 @@ loop-i-init c = record {
   kept = λ w. w;
   loose = λ w r. r;
   under = λ w r. under_none c.args.self.now;
-  shape = λ rising. (length c.args.self.now.segments.items, shape_self c.args.self.now c.args.way.now.above.items c.len-i.result
-      (let n = c.len-i.ensures ∙ c.args.way.now.above.ok.0 in omega (arith, n)));
+  shape = λ rising. (
+    length c.args.self.now.segments.items,
+    shape_self c.args.self.now c.args.way.now.above.items c.len-i.result
+        (let n = c.len-i.ensures ∙ c.args.way.now.above.ok.0 in omega (arith, n)),
+  );
   none = λ w rising e. none_so_far c.args.under.map.now c.args.rules.now c.args.way.now.above.items c.args.self.now c.len-i.result
       (let n = c.len-i.ensures ∙ c.args.way.now.above.ok.0 in omega (arith, n));
   first = λ w rising order. way_none c.args.under.frames.now c.args.under.map.now c.args.rules.now c.args.way.now.above.items c.args.self.now c.len-i.result
