@@ -1,3 +1,4 @@
+pub mod AtEnd
 pub mod FirstPairs
 pub mod Keys
 pub mod OneItem

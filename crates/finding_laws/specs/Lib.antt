@@ -1,3 +1,4 @@
+pub mod AtEnd
 pub mod Conflicts
 pub mod FirstPairs
 pub mod Footprints

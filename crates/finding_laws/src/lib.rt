@@ -1,6 +1,7 @@
 //! Footprints, and c_model's definitions of items, their order and the least conflicting pair: one and the same.
 #![tactic(auto)]
 
+ghost use Rattle.finding_laws.specs.AtEnd.{AnyIsHad, OnlyEndsMeet, RacesAsBefore};
 ghost use Rattle.finding_laws.specs.ItemOrder.{ItemsByKeys, PairsByKeys};
 ghost use Rattle.finding_laws.specs.Footprints.{EmptyIsNone, AddIsMore, UnionIsBoth};
 ghost use Rattle.finding_laws.specs.Conflicts.{ConflictsAreTold, RacesAreTold};
@@ -51,4 +52,12 @@ pub fn law_first_pair()
 pub fn law_least_of_items()
     ensures any { LeastOfItems }
     ensures races { LeastAccesses }
+{}
+
+/// Where the run ends each event that is due has `any` besides its items. Two events then conflict where their items do, or where one of them ends the run;
+/// and they race where their items do.
+pub fn law_items_at_end()
+    ensures had { AnyIsHad }
+    ensures meet { OnlyEndsMeet }
+    ensures races { RacesAsBefore }
 {}

@@ -1,7 +1,8 @@
 -- An end of the run beside the value of a node.
-use Rattle.std.proofs.Common.{◌≡◌, ⊎_elim, ℕ, ◌≤◌, ◌<◌, true, false, List, length, sym, ap, ◌∙◌, arith, Option, Some, None, subst}
-use Rattle.std.specs.Prelude.{slice_get}
+use Rattle.std.proofs.Common.{◌≡◌, ⊎_elim, ℕ, ◌≤◌, ◌<◌, ◌-◌, Bool, true, false, List, length, refl, sym, ap, ◌∙◌, arith, Option, Some, None, subst}
+use Rattle.std.specs.Prelude.{slice_get, IfSome}
 use Rattle.std.proofs.lemmas.Option.{slice_get_past}
+use Rattle.ub_base.specs.declared.names.Event.{Event}
 use Rattle.ub_base.specs.declared.names.Item.{Item}
 use Rattle.ub_base.specs.Frames.{Row as FrameRow}
 use Rattle.addr_map.specs.declared.map.Row.{Row}
@@ -9,9 +10,14 @@ use Rattle.footprint.specs.declared.foot.Foot.{Foot}
 use Rattle.footprint.specs.Holds.{holds}
 use Rattle.footprint.specs.Least.{IsLeast}
 use Rattle.run_evaluations.specs.declared.open.Evaluations.{Evaluations}
+use Rattle.evaluation_log.specs.declared.found.Found.{Found}
+use Rattle.evaluation_log.specs.declared.log.Logged.{Logged}
 use Rattle.evaluation_log.specs.declared.sought.Sought.TheVariants.{Any}
 use Rattle.evaluation_log.specs.Clashes.{Clash, NoClash}
-use Rattle.run_evaluations.specs.Ends.{is_value, events_from, IsDone, HasValue, last_has, NoneBeside}
+use Rattle.evaluation_log.specs.Touched.{event_has}
+use Rattle.run_evaluations.specs.Scopes.{place_of}
+use Rattle.run_evaluations.specs.Ends.{is_value, events_from, IsDone, HasValue, IsDependenceIf, last_has, NoneBeside}
+use Rattle.evaluation_search.proofs.BetweenFirst.{least_like}
 use Rattle.evaluation_log.proofs.BetweenLemmas.{none_turned}
 use Rattle.evaluation_log.proofs.KeptLemmas.{before_or_past}
 
@@ -61,3 +67,31 @@ pub none_second : (frames : List FrameRow) (rows : List Row) (o : Evaluations) (
 none_second frames rows o node foot ending p has last least e =
     beside_by rows o node foot ending has last
     (none_turned rows Any (holds ending) (holds foot) (no_least frames (Clash Any rows (holds ending) (holds foot)) p e least))
+
+-- what is given of two events by the least of their items that conflict
+pub depends_by : (frames : List FrameRow) (rows : List Row) (d v e u : Event) (f h g k : Item → Bool) (p : Option (Item × Item)) (r : Option Found) → d ≡ v →
+    e ≡ u → ((j : Item) → f j ≡ h j) → ((j : Item) → g j ≡ k j) → IsLeast frames (Clash Any rows f g) p → (r ≡ None → p ≡ None) →
+    IfSome r (λ x. (x.race ≡ false) × (x.event ≡ d) × (x.against ≡ e) × (p ≡ Some x.items)) → IsDependenceIf frames rows v h u k r
+depends_by frames rows d v e u f h g k p None dv eu fh gk least none some = λ i j c.
+    no_least frames (Clash Any rows f g) p (none refl) least i j (fh i ∙ c.0, gk j ∙ c.1, c.2)
+depends_by frames rows d v e u f h g k p (Some x) dv eu fh gk least none some = record {
+  dependent = some.0;
+  event = some.1 ∙ dv;
+  against = some.2 ∙ eu;
+  least = least_like frames rows Any f h g k (Some x.items) fh gk
+      (subst (λ (o : Option (Item × Item)). IsLeast frames (Clash Any rows f g) o) some.3 least);
+}
+
+-- where nothing is logged
+pub none_there : (rows : List Row) (o : Evaluations) (node : ℕ) → None ≡ place_of (slice_get o.events.items (length o.events.items - 1)) → NoneBeside rows o node
+none_there rows o node h = record {
+  any = λ i j c. no_event j c.1;
+  done = λ k d i j c. no_event j c.1;
+}
+  where
+    by_place : (p : Option Logged) (j : Item) → None ≡ place_of p → event_has o.items.items p j ≡ true → ⊥
+    by_place None j e h = absurd (cc)
+    by_place (Some x) j e h = absurd (cc)
+
+    no_event : (j : Item) → last_has o j ≡ true → ⊥
+    no_event j has = by_place (slice_get o.events.items (length o.events.items - 1)) j h has

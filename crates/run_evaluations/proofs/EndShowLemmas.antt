@@ -14,7 +14,7 @@ use Rattle.c_typed.specs.declared.tree.Place.{Place}
 use Rattle.c_typed.specs.declared.class.Class.{Class}
 use Rattle.c_typed.specs.declared.class.Class.TheVariants as class
 use Rattle.c_typed.specs.Tree.{Tree, Trees, node, none, more, size, sizes, class_of, operands, is_quiet, kinds_of}
-use Rattle.c_typed.specs.Order.{Taken, goes, is_body, own_rule}
+use Rattle.c_typed.specs.Order.{Taken, goes, is_body, own_rule, place}
 use Rattle.c_typed.specs.Decide.{due_in, has_kind, is_before, lifts, rises, to_val}
 use Rattle.evaluation_log.specs.declared.log.Logged.{Logged}
 use Rattle.evaluation_log.specs.declared.log.Segment.{Segment}
@@ -37,7 +37,7 @@ use Rattle.run_evaluations.specs.Shows.{IsAmong, AreApart, IsIn, AreOfTwo, NoneO
 use Rattle.run_evaluations.specs.Told.{Evaluation, Opened, has, IsBeside, IsOperandIn, IsUnder}
 use Rattle.run_evaluations.specs.Follows.{all_done, Follows}
 use Rattle.run_evaluations.specs.Ends.{last_has}
-use Rattle.run_evaluations.specs.Ways.{NoneAtEnd}
+use Rattle.run_evaluations.specs.Ways.{IsNearest, NoneAtEnd}
 use Rattle.run_evaluations.proofs.FullLemmas.{node_some}
 use Rattle.run_evaluations.proofs.PartLemmas.{by_test, not_less_is, number_is, part_before, part_part, part_range, among_range, rise_at, due_at, is_last_at, side_at, side_part, size_some}
 use Rattle.run_evaluations.proofs.ShowLemmas.{InLog, in_log, between_kept, same_operand, side_order, sequenced_rule, comma_before, choice_before}
@@ -55,7 +55,7 @@ sides_hold m (more t ts) x low high =
 nested : (s : Scope) (m x : ℕ) (t u : Tree) → part_of s m ≡ Some t → part_of s x ≡ Some u → m ≤ x → x < m + size t → x + size u ≤ m + size t
 nested s m x t u h k low high = (part_range m t x u (sym (part_part 0 s.tree m x t h low high) ∙ k)).high
 
-sides_meet : (m : ℕ) (ts : Trees) (i j : ℕ) (d r : Side) (x : ℕ) → slice_get (sides_from m ts) i ≡ Some d → slice_get (sides_from m ts) j ≡ Some r →
+pub sides_meet : (m : ℕ) (ts : Trees) (i j : ℕ) (d r : Side) (x : ℕ) → slice_get (sides_from m ts) i ≡ Some d → slice_get (sides_from m ts) j ≡ Some r →
     d.number ≤ x → x < d.number + size d.tree → r.number ≤ x → x < r.number + size r.tree → d ≡ r
 sides_meet m ts i j d r x h k dl dh rl rh =
     ⊎_elim
@@ -73,13 +73,13 @@ module _ (s : Scope) (n : ℕ) (c : Class) (ts : Trees) (here : part_of s n ≡ 
   holder x low high = sides_hold (suc n) ts x (omega (arith, low)) (omega (arith, high))
 
   -- what is in an operand, with all of its tree
-  side_holds : (i : ℕ) (d : Side) (x : ℕ) (u : Tree) → slice_get (sides_from (suc n) ts) i ≡ Some d → part_of s x ≡ Some u → d.number ≤ x →
+  pub side_holds : (i : ℕ) (d : Side) (x : ℕ) (u : Tree) → slice_get (sides_from (suc n) ts) i ≡ Some d → part_of s x ≡ Some u → d.number ≤ x →
       x < d.number + size d.tree → x + size u ≤ d.number + size d.tree
   side_holds i d x u at there low high = nested s d.number x d.tree u (side_part s n c ts here i d at) there low high
 
 -- ---- the way to a node
 mutual
-  above_is : (k : ℕ) (t : Tree) (n j m : ℕ) → n < k + size t → slice_get (above_in k t n) j ≡ Some m →
+  pub above_is : (k : ℕ) (t : Tree) (n j m : ℕ) → n < k + size t → slice_get (above_in k t n) j ≡ Some m →
       (x : Tree) × (part_in k t m ≡ Some x) × (k ≤ m) × (m < n) × (n < m + size x)
   above_is k (node class ts) n zero m high h = by_test (nat_lt k n)
       (λ less.
@@ -111,7 +111,7 @@ mutual
       (r.0, if_false _ _ _ (not_less_test m (k + size t) (omega (arith, l))) ∙ r.1, omega (arith, l), r.3, r.4))
 
 mutual
-  above_has : (k : ℕ) (t : Tree) (n p : ℕ) (x : Tree) → part_in k t p ≡ Some x → p < n → n < p + size x →
+  pub above_has : (k : ℕ) (t : Tree) (n p : ℕ) (x : Tree) → part_in k t p ≡ Some x → p < n → n < p + size x →
       (j : ℕ) × (slice_get (above_in k t n) j ≡ Some p)
   above_has k (node class ts) n p x h low high = by_test (p == k)
       (λ e. let q = number_is p k e in
@@ -289,7 +289,7 @@ module _ (rows : List Row) (a : Evaluations) (t : Opened) (os : List Opened) (f 
   n = last.place.node
 
   pub end_logged : (e : Logged) × (slice_get a.events.items (length a.events.items - 1) ≡ Some e) × (e.node ≡ n) ×
-      ((j : Item) → last_has a j ≡ has last j)
+      ((j : Item) → last_has a j ≡ has last j) × (place e.node e.kind ≡ last.place)
   end_logged =
       let p = in_log a t os _ f.holds f.all last (length t.done - 1) ends.at in
       let c = f.all.events in
@@ -301,99 +301,131 @@ module _ (rows : List Row) (a : Evaluations) (t : Opened) (os : List Opened) (f 
         there,
         ap (λ (z : Place). z.node) (same_Some _ _ p.at),
         λ j. ap (λ o. event_has a.items.items o j) there ∙ p.items j,
+        same_Some _ _ p.at,
       )
+
+  -- the same operand, of the node as it is written elsewhere
+  pub moved_operand : (p : ℕ) (c : Class) (ts : Trees) → part_of t.scope p ≡ Some (node c ts) → (m : ℕ) → IsOperandIn t.scope p m →
+      (i : ℕ) × IsOperandOf t.scope p c ts i m
+  moved_operand p c ts there m o = (
+    o.index,
+    subst (λ z. IsOperandOf t.scope p (class_of z) (operands z) o.index m) (same_Some (node o.class o.operands) (node c ts) (sym o.there ∙ there)) o.of,
+  )
+
+  -- the segments of two evaluations of two operands of a node above that of the last one
+  module _ (p : ℕ) (way : IsUnder t.scope p n) (d e : Evaluation) (x : IsAmong t d) (y : IsAmong t e) (two : AreOfTwo t.scope p d.place.node e.place.node) where
+    abbrev pub P : InLog a t d (length (all_done os) + x.0)
+    P = in_log a t os _ f.holds f.all d x.0 x.1
+
+    abbrev pub Q : InLog a t e (length (all_done os) + y.0)
+    Q = in_log a t os _ f.holds f.all e y.0 y.1
+
+    in_p : IsIn t.scope P.of d.place.node
+    in_p = record { part = P.below.part; there = P.below.there; low = P.below.low; high = P.below.high }
+
+    in_q : IsIn t.scope Q.of e.place.node
+    in_q = record { part = Q.below.part; there = Q.below.there; low = Q.below.low; high = Q.below.high }
+
+    part_p : (P.of ≡ n) ⊎ IsBeside t.scope P.of n
+    part_p = ends.parts P.of (part_at a t os f P.segment P.of P.low P.own)
+
+    part_q : (Q.of ≡ n) ⊎ IsBeside t.scope Q.of n
+    part_q = ends.parts Q.of (part_at a t os f Q.segment Q.of Q.low Q.own)
+
+    first_is : P.of ≡ two.first
+    first_is = way_first t.scope n p two.first two.second way own here two.of_first two.of_second two.rise d.place.node e.place.node two.in_first
+        two.in_second Q.of part_q in_q P.of part_p in_p
+
+    past : two.first + size two.of_first.of.side.tree ≤ n
+    past = way_past t.scope n p two.first two.second way own here two.of_first two.of_second two.rise d.place.node e.place.node two.in_first
+        two.in_second Q.of part_q in_q P.of part_p in_p
+
+    pub later : P.segment < Q.segment
+    later =
+        let first = first_is in
+        let el = two.in_second.low in
+        let eh = Q.below.high in
+        let rise = two.rise in
+        ⊎_elim (λ less. less)
+        (λ le. absurd (⊎_elim
+        (λ less. let b = beside_at a t os f Q.segment P.segment Q.of P.of Q.low less Q.own P.own in
+        let z = b.behind Q.below.part Q.below.there in omega (arith, z, eh, el, rise, first))
+        (λ ge. let q = same_Some Q.of P.of (sym Q.own ∙ (ap (λ g. node_of (slice_get a.segments.items g)) (omega (arith, le, ge)) ∙ P.own)) in
+        let z = same_operand t.scope p two.first two.second e.place.node two.of_first two.of_second
+        (record {
+          part = Q.below.part;
+          there = ap (part_of t.scope) (sym first ∙ sym q) ∙ Q.below.there;
+          low = (let l = Q.below.low in omega (arith, l, q, first));
+          high = (let h = Q.below.high in omega (arith, h, q, first));
+        }) two.in_second in omega (arith, z, rise))
+        (before_or_past Q.segment P.segment)))
+        (before_or_past P.segment Q.segment)
+
+    pub nearest : (target : ℕ) → target ≡ n → (j : ℕ) × IsNearest a (above_in 0 tree target) j p P.segment
+    nearest target hit =
+        let first = first_is in
+        let back = past in
+        let o = two.of_first in
+        let under = (side_at (suc p) o.operands o.index o.of.side o.of.there).low in
+        let number = o.of.number in
+        let at = above_has 0 t.scope.tree n p way.part way.there way.low way.high in (
+          at.0,
+          (
+            (λ i. slice_get (above_in 0 (sym same i) (hit i)) at.0) ∙ at.1,
+            operand_at a t os f p P.segment P.of P.low P.own (omega (arith, first, under, number)),
+            λ k m behind h q.
+                let z = node_some (slice_get a.segments.items P.segment) P.of P.own in
+                let l = q.1 P.segment z.0 (omega arith) z.1 in
+                let w = z.2 in
+                deeper k m at.0 behind ((λ i. slice_get (above_in 0 (same i) (sym hit i)) k) ∙ h) at.1 two.first o back (omega (arith, l, w, first)),
+          ),
+        )
+      where
+        -- no node further down has the earlier operand among what stands behind it
+        deeper : (k m j : ℕ) → j < k → slice_get (above_in 0 t.scope.tree n) k ≡ Some m → slice_get (above_in 0 t.scope.tree n) j ≡ Some p →
+            (first : ℕ) (o : IsOperandIn t.scope p first) → first + size o.of.side.tree ≤ n → m < first → ⊥
+        deeper k m j behind h g first o past low =
+            let wh = way.high in
+            let r = part_range 0 t.scope.tree p way.part way.there in
+            let rh = r.high in
+            let x = above_is 0 t.scope.tree n k m (omega (arith, wh, rh)) h in
+            let xl = x.3 in
+            let xh = x.4 in
+            let up = in_rising 0 t.scope.tree n j k p m behind g h in
+            let wt = ap size (same_Some way.part (node o.class o.operands) (sym way.there ∙ o.there)) in
+            let y = holder t.scope p o.class o.operands o.there m up (omega (arith, xl, wh, wt)) in
+            let u = side_holds t.scope p o.class o.operands o.there y.0 y.1 m x.0 y.2 x.1 y.3 y.4 in
+            let yl = y.3 in
+            let f = o.of.number in
+            ⊎_elim
+            (λ less. let q = side_order (suc p) o.operands y.0 o.index y.1 o.of.side less y.2 o.of.there in omega (arith, q, u, xh, past, f))
+            (λ le. ⊎_elim
+            (λ less. let q = side_order (suc p) o.operands o.index y.0 o.of.side y.1 less o.of.there y.2 in omega (arith, q, f, yl, low))
+            (λ ge. let q = ap (λ (z : Side). z.number)
+            (same_Some y.1 o.of.side (sym y.2 ∙ (ap (slice_get (sides_from (suc p) o.operands)) (omega (arith, le, ge)) ∙ o.of.there))) in
+            omega (arith, q, f, yl, low))
+            (before_or_past o.index y.0))
+            (before_or_past y.0 o.index)
+
+    -- no rule of the node sequences them
+    pub no_rule : AreApart t.scope d.place e.place → is_unsequenced (rule_in rules p) ≡ true
+    no_rule apart = by_test (is_unsequenced (rule_in rules p)) (λ free. free)
+        (λ other. absurd (
+        let c = two.of_first.class in
+        let o = two.of_first in
+        let ruled = fits.ruled p c o.operands o.there in
+        let second = moved_operand p c o.operands o.there two.second two.of_second in
+        let sequenced : is_before t.scope.taken 0 t.scope.tree d.place e.place ≡ true → ⊥ = λ z. (let w : true ≡ false = sym z ∙ apart.before in cc) in
+        ⊎_elim
+        (λ is. sequenced (choice_before t.scope p c o.operands o.there two.first two.second o.index second.0 o.of second.1 two.rise d.place e.place
+        two.in_first two.in_second (ruled.choice is).0))
+        (λ is. sequenced (comma_before t.scope p c o.operands o.there two.first two.second o.index second.0 o.of second.1 two.rise d.place e.place
+        two.in_first two.in_second (ruled.comma is.0 is.1).0))
+        (sequenced_rule (rule_in rules p) other)))
 
   pub none_of_way : NoneAtEnd rows rules tree a → NoneOfWay rows t n
   none_of_way none_at p way d e x y two apart =
-      let P = in_log a t os _ f.holds f.all d x.0 x.1 in
-      let Q = in_log a t os _ f.holds f.all e y.0 y.1 in
-      let in_p : IsIn t.scope P.of d.place.node = record { part = P.below.part; there = P.below.there; low = P.below.low; high = P.below.high } in
-      let in_q : IsIn t.scope Q.of e.place.node = record { part = Q.below.part; there = Q.below.there; low = Q.below.low; high = Q.below.high } in
-      let part_p = ends.parts P.of (part_at a t os f P.segment P.of P.low P.own) in
-      let part_q = ends.parts Q.of (part_at a t os f Q.segment Q.of Q.low Q.own) in
-      let first = way_first t.scope n p two.first two.second way own here two.of_first two.of_second two.rise d.place.node e.place.node two.in_first
-      two.in_second Q.of part_q in_q P.of part_p in_p in
-      let past = way_past t.scope n p two.first two.second way own here two.of_first two.of_second two.rise d.place.node e.place.node two.in_first
-      two.in_second Q.of part_q in_q P.of part_p in_p in
-      let el = two.in_second.low in
-      let eh = Q.below.high in
-      let rise = two.rise in
-      let later : P.segment < Q.segment = ⊎_elim (λ less. less)
-      (λ le. absurd (⊎_elim
-      (λ less. let b = beside_at a t os f Q.segment P.segment Q.of P.of Q.low less Q.own P.own in
-      let z = b.behind Q.below.part Q.below.there in omega (arith, z, eh, el, rise, first))
-      (λ ge. let q = same_Some Q.of P.of (sym Q.own ∙ (ap (λ g. node_of (slice_get a.segments.items g)) (omega (arith, le, ge)) ∙ P.own)) in
-      let z = same_operand t.scope p two.first two.second e.place.node two.of_first two.of_second
-      (record {
-        part = Q.below.part;
-        there = ap (part_of t.scope) (sym first ∙ sym q) ∙ Q.below.there;
-        low = (let l = Q.below.low in omega (arith, l, q, first));
-        high = (let h = Q.below.high in omega (arith, h, q, first));
-      }) two.in_second in omega (arith, z, rise))
-      (before_or_past Q.segment P.segment)))
-      (before_or_past P.segment Q.segment) in
-      let o = two.of_first in
-      let under = (side_at (suc p) o.operands o.index o.of.side o.of.there).low in
-      let number = o.of.number in
-      let at = above_has 0 t.scope.tree n p way.part way.there way.low way.high in
-      let at_tree = ap (λ z. slice_get (above_in 0 z n) at.0) (sym same) ∙ at.1 in
-      by_test (is_unsequenced (rule_in rules p))
-      (λ free. between_kept rows a t d e _ _ P Q
-      (none_at end_logged.0 end_logged.1 at.0 p P.segment Q.segment (
-        ap (λ z. slice_get (above_in 0 tree z) at.0) end_logged.2 ∙ at_tree,
-        operand_at a t os f p P.segment P.of P.low P.own (omega (arith, first, under, number)),
-        λ k m behind h q.
-            let z = node_some (slice_get a.segments.items P.segment) P.of P.own in
-            let l = q.1 P.segment z.0 (omega arith) z.1 in
-            let w = z.2 in
-            deeper k m at.0 behind
-            (ap (λ y. slice_get (above_in 0 y n) k) same ∙ (ap (λ y. slice_get (above_in 0 tree y) k) (sym end_logged.2) ∙ h)) at.1 two.first o past
-            (omega (arith, l, w, first)),
-      )
-      free later))
-      (λ other. absurd (
-      let c = o.class in
-      let ruled = fits.ruled p c o.operands o.there in
-      let os_same = two.of_second in
-      let second = moved_operand p c o.operands o.there two.second two.of_second in
-      let sequenced : is_before t.scope.taken 0 t.scope.tree d.place e.place ≡ true → ⊥ = λ z. (let w : true ≡ false = sym z ∙ apart.before in cc) in
-      ⊎_elim
-      (λ is. sequenced (choice_before t.scope p c o.operands o.there two.first two.second o.index second.0 o.of second.1 rise d.place e.place
-      two.in_first two.in_second (ruled.choice is).0))
-      (λ is. sequenced (comma_before t.scope p c o.operands o.there two.first two.second o.index second.0 o.of second.1 rise d.place e.place
-      two.in_first two.in_second (ruled.comma is.0 is.1).0))
-      (sequenced_rule (rule_in rules p) other)))
-    where
-      -- the same operand, of the node as it is written elsewhere
-      moved_operand : (p : ℕ) (c : Class) (ts : Trees) → part_of t.scope p ≡ Some (node c ts) → (m : ℕ) → IsOperandIn t.scope p m →
-          (i : ℕ) × IsOperandOf t.scope p c ts i m
-      moved_operand p c ts there m o = (
-        o.index,
-        subst (λ z. IsOperandOf t.scope p (class_of z) (operands z) o.index m) (same_Some (node o.class o.operands) (node c ts) (sym o.there ∙ there)) o.of,
-      )
-
-      -- no node further down has the earlier operand among what stands behind it
-      deeper : (k m j : ℕ) → j < k → slice_get (above_in 0 t.scope.tree n) k ≡ Some m → slice_get (above_in 0 t.scope.tree n) j ≡ Some p →
-          (first : ℕ) (o : IsOperandIn t.scope p first) → first + size o.of.side.tree ≤ n → m < first → ⊥
-      deeper k m j behind h g first o past low =
-          let wh = way.high in
-          let r = part_range 0 t.scope.tree p way.part way.there in
-          let rh = r.high in
-          let x = above_is 0 t.scope.tree n k m (omega (arith, wh, rh)) h in
-          let xl = x.3 in
-          let xh = x.4 in
-          let up = in_rising 0 t.scope.tree n j k p m behind g h in
-          let wt = ap size (same_Some way.part (node o.class o.operands) (sym way.there ∙ o.there)) in
-          let y = holder t.scope p o.class o.operands o.there m up (omega (arith, xl, wh, wt)) in
-          let u = side_holds t.scope p o.class o.operands o.there y.0 y.1 m x.0 y.2 x.1 y.3 y.4 in
-          let yl = y.3 in
-          let f = o.of.number in
-          ⊎_elim
-          (λ less. let q = side_order (suc p) o.operands y.0 o.index y.1 o.of.side less y.2 o.of.there in omega (arith, q, u, xh, past, f))
-          (λ le. ⊎_elim
-          (λ less. let q = side_order (suc p) o.operands o.index y.0 o.of.side y.1 less o.of.there y.2 in omega (arith, q, f, yl, low))
-          (λ ge. let q = ap (λ (z : Side). z.number)
-          (same_Some y.1 o.of.side (sym y.2 ∙ (ap (slice_get (sides_from (suc p) o.operands)) (omega (arith, le, ge)) ∙ o.of.there))) in
-          omega (arith, q, f, yl, low))
-          (before_or_past o.index y.0))
-          (before_or_past y.0 o.index)
+      let near = nearest p way d e x y two end_logged.0.node end_logged.2 in
+      between_kept rows a t d e _ _ (P p way d e x y two) (Q p way d e x y two)
+      (none_at end_logged.0 end_logged.1 near.0 p (P p way d e x y two).segment (Q p way d e x y two).segment near.1
+      (no_rule p way d e x y two apart) (later p way d e x y two))

@@ -264,21 +264,23 @@ module _ (a : Evaluations) (t : Opened) (ts : List Opened) (asked : ℕ → Plac
             ∙ race_sought one.event (ap (λ (z : Place). is_body z.kind) (same_Some _ _ one.at) ∙ h e)
         sought_by false e k d one h = (λ i. is_sought (sought_of (e i)) (one.there i))
 
+-- the nodes of its events stand in the order of their segments
+pub rising_from : (a : Evaluations) (t : Opened) (ts : List Opened) → Follows (t ∷ ts) a → (at : ℕ) → base_of a.levels.items ≤ at →
+    AreRising a.segments.items a.events.items at
+rising_from a t ts f at low g h k l d e low_g less from to from_h to_h at_k at_l =
+    let x = in_segment a t ts _ f.holds f.all g k d (omega (arith, low, low_g)) from to at_k in
+    let y = in_segment a t ts _ f.holds f.all h l e (omega (arith, low, low_g, less)) from_h to_h at_l in
+    let b = beside_at a t ts f g h x.0 y.0 (omega (arith, low, low_g)) less x.1 y.1 in
+    let past = b.behind x.2.part x.2.there in
+    let high = x.2.high in
+    let next = y.2.low in
+    omega (arith, past, high, next)
+
 -- ---- of two operands of a node
 module _ (a : Evaluations) (t : Opened) (ts : List Opened) (f : Follows (t ∷ ts) a) (n : ℕ) (rule : Rule) (chosen : Bool) (tell : TellsNode t n rule chosen)
     (fresh : t.parts n ≡ false) (at : ℕ) (low : base_of a.levels.items ≤ at)
     (least : (g : ℕ) → IsOperand a.segments.items a.levels.items n g → at ≤ g)
     (behind : (g m : ℕ) → at ≤ g → node_of (slice_get a.segments.items g) ≡ Some m → n < m) where
-  pub rising : AreRising a.segments.items a.events.items at
-  rising g h k l d e low_g less from to from_h to_h at_k at_l =
-      let x = in_segment a t ts _ f.holds f.all g k d (omega (arith, low, low_g)) from to at_k in
-      let y = in_segment a t ts _ f.holds f.all h l e (omega (arith, low, low_g, less)) from_h to_h at_l in
-      let b = beside_at a t ts f g h x.0 y.0 (omega (arith, low, low_g)) less x.1 y.1 in
-      let past = b.behind x.2.part x.2.there in
-      let high = x.2.high in
-      let next = y.2.low in
-      omega (arith, past, high, next)
-
   -- a segment from there on is of an operand
   operand_here : (g k : ℕ) (e : Logged) → at ≤ g → (m : ℕ) → node_of (slice_get a.segments.items g) ≡ Some m →
       (i : ℕ) × IsOperandOf t.scope n tell.class tell.operands i m

@@ -1,4 +1,6 @@
 pub mod BelowLemmas
+pub mod BesideLemmas
+pub mod EndFirstLemmas
 pub mod EndLemmas
 pub mod EndShowLemmas
 pub mod FirstLemmas
@@ -14,6 +16,7 @@ pub mod ListedLemmas
 pub mod ListingLemmas
 pub mod LooseWholeLemmas
 pub mod NodeLemmas
+pub mod OnWayLemmas
 pub mod PartLemmas
 pub mod PendingLemmas
 pub mod ShowLemmas

@@ -33,14 +33,15 @@ pub record Shape (old cur : Evaluations) (above : List ℕ) (i c : ℕ) : Type 0
   pub own : (s : Segment) → slice_get cur.segments.items c ≡ Some s → (j : ℕ) × (i ≤ j) × (slice_get above j ≡ Some s.node)
   pub behind : (g : ℕ) → c ≤ g → g < length old.segments.items → (j m : ℕ) × (i ≤ j) × (slice_get above j ≡ Some m) ×
       IsOperand old.segments.items old.levels.items m g
+  pub front : (g j m : ℕ) → g < c → i ≤ j → slice_get above j ≡ Some m → IsOperand old.segments.items old.levels.items m g → ⊥
 
 -- none of the operands of these nodes clash
 abbrev pub NoneSoFar : List Row → Rules → List ℕ → Evaluations → ℕ → Type 0
 NoneSoFar rows rules above o i = (j n g h : ℕ) → i ≤ j → IsNearest o above j n g → is_unsequenced (rule_in rules n) ≡ true → g < h →
     NoClash Any rows (operand_has Any o.segments.items o.events.items o.items.items g) (operand_has Any o.segments.items o.events.items o.items.items h)
 
-pub shape_self : (o : Evaluations) (above : List ℕ) (i : ℕ) → Shape o o above i (length o.segments.items)
-shape_self o above i = record {
+pub shape_self : (o : Evaluations) (above : List ℕ) (i : ℕ) → length above ≤ i → Shape o o above i (length o.segments.items)
+shape_self o above i past = record {
   rest = record { events = refl; items = refl; large = refl; levels = refl };
   low = λ less. absurd (omega (arith, less));
   high = omega arith;
@@ -50,6 +51,7 @@ shape_self o above i = record {
   nodes = λ g less. refl;
   own = λ s h. absurd (let w = slice_get_within o.segments.items (length o.segments.items) s h in omega (arith, w));
   behind = λ g le less. absurd (omega (arith, le, less));
+  front = λ g j m less le at of. let w = slice_get_within above j m at in omega (arith, w, past, le);
 }
 
 pub none_so_far : (rows : List Row) (rules : Rules) (above : List ℕ) (o : Evaluations) (i : ℕ) → length above ≤ i → NoneSoFar rows rules above o i
@@ -63,13 +65,18 @@ noded : (o : Option Segment) (n : ℕ) → node_of o ≡ Some n → (s : Segment
 noded None n h = absurd (cc)
 noded (Some s) n h = (s, refl, same_Some s.node n h)
 
-node_at : (o p : Option Segment) (s : Segment) → node_of p ≡ node_of o → o ≡ Some s → (t : Segment) × (p ≡ Some t) × (t.node ≡ s.node)
+pub node_at : (o p : Option Segment) (s : Segment) → node_of p ≡ node_of o → o ≡ Some s → (t : Segment) × (p ≡ Some t) × (t.node ≡ s.node)
 node_at o p s same at = noded p s.node (same ∙ ap node_of at)
+
+segment_at : (ss : List Segment) (g : ℕ) → g < length ss → (s : Segment) × (slice_get ss g ≡ Some s)
+segment_at [] g less = absurd (omega (arith, less))
+segment_at (s ∷ ss) zero less = (s, refl)
+segment_at (s ∷ ss) (suc g) less = segment_at ss g (omega (arith, less))
 
 module _ (old cur : Evaluations) (above : List ℕ) (p c n : ℕ) (shape : Shape old cur above (suc p) c) (rising : IsRising above)
     (here : slice_get above p ≡ Some n) where
   -- what stands from the joined segment on is of nodes behind this one
-  joined_later : (k : ℕ) (s : Segment) → c ≤ k → slice_get cur.segments.items k ≡ Some s → n < s.node
+  pub joined_later : (k : ℕ) (s : Segment) → c ≤ k → slice_get cur.segments.items k ≡ Some s → n < s.node
   joined_later k s le at =
       let w = slice_get_within cur.segments.items k s at in
       let e : k ≡ c = omega (arith, w, shape.high, le) in
@@ -77,7 +84,7 @@ module _ (old cur : Evaluations) (above : List ℕ) (p c n : ℕ) (shape : Shape
       rising p o.0 n s.node (omega (arith, o.1)) here o.2
 
   -- an operand as it was is one that stands
-  stands : (g : ℕ) → IsOperand old.segments.items old.levels.items n g → g < c → IsOperand cur.segments.items cur.levels.items n g
+  pub stands : (g : ℕ) → IsOperand old.segments.items old.levels.items n g → g < c → IsOperand cur.segments.items cur.levels.items n g
   stands g of less = (
     subst (λ (ls : List Level). base_of ls ≤ g) (sym shape.rest.levels) of.0,
     λ k s le at. ⊎_elim
@@ -201,6 +208,11 @@ module _ (old cur : Evaluations) (above : List ℕ) (p c n : ℕ) (shape : Shape
                   (before_or_past k c),
             ),
           );
+          front = λ g j m under low at of. ⊎_elim
+              (λ more. shape.front g j m (omega (arith, under, le)) (omega (arith, more)) at of)
+              (λ same. let e = made.least g (stands g (moved_here j m (omega (arith, same, low)) at g of) (omega (arith, under, le))) in
+              omega (arith, e, under))
+              (before_or_past p j);
         },
       ))
       (λ few.
@@ -216,10 +228,32 @@ module _ (old cur : Evaluations) (above : List ℕ) (p c n : ℕ) (shape : Shape
           nodes = λ g under. ap (λ (xs : List Segment). node_of (slice_get xs g)) e ∙ shape.nodes g under;
           own = λ s h. let o = shape.own s (ap (λ (xs : List Segment). slice_get xs c) (sym e) ∙ h) in (o.0, omega (arith, o.1), o.2);
           behind = λ g low inside. let o = shape.behind g low inside in (o.0, o.1, omega (arith, o.2), o.3, o.4);
+          front = λ g j m under low at of. ⊎_elim
+              (λ more. shape.front g j m under (omega (arith, more)) at of)
+              (λ same.
+              let here_of = moved_here j m (omega (arith, same, low)) at g of in
+              let le = made.least g (stands g here_of under) in
+              let w = shape.within in
+              let inside = stands_within g (omega (arith, w, under)) under in
+              omega (arith, le, few, inside))
+              (before_or_past p j);
         },
       ))
       (before_or_past at (length cur.segments.items))
     where
+      -- an operand of what stands at this place is one of this node
+      moved_here : (j m : ℕ) → j ≡ p → slice_get above j ≡ Some m → (g : ℕ) → IsOperand old.segments.items old.levels.items m g →
+          IsOperand old.segments.items old.levels.items n g
+      moved_here j m same at g of =
+          subst (λ (x : ℕ). IsOperand old.segments.items old.levels.items x g)
+          (same_Some m n (sym at ∙ (ap (slice_get above) same ∙ here))) of
+
+      stands_within : (g : ℕ) → g < length old.segments.items → g < c → g < length cur.segments.items
+      stands_within g inside under =
+          let s = segment_at old.segments.items g inside in
+          let t = node_at (slice_get old.segments.items g) (slice_get cur.segments.items g) s.0 (shape.nodes g under) s.1 in
+          slice_get_within cur.segments.items g t.0 t.1
+
       rest_after : IsSameRest cur new → IsSameRest old new
       rest_after rest = record {
         events = rest.events ∙ shape.rest.events;

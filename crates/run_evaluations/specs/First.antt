@@ -1,5 +1,6 @@
 -- Which of the conflicts of evaluations that show is the first one: a race before another one, and then the lesser pair of evaluations (own; 6.5p2 for races).
-use Rattle.std.specs.Prelude.{◌≡◌, ◌<◌, ◌^◌, ℕ, Bool, true, false, ◌||◌, List, Option, Some, None, slice_get}
+use Rattle.std.specs.Prelude.{◌≡◌, ◌<◌, ◌^◌, ◌-◌, ℕ, Bool, true, false, ◌||◌, List, Option, Some, None, slice_get, length}
+use Rattle.ub_base.specs.declared.clause.Kind.{Kind}
 use Rattle.ub_base.specs.declared.names.Event.{Event}
 use Rattle.ub_base.specs.declared.names.Item.{Item}
 use Rattle.ub_base.specs.Frames.{Row as FrameRow}
@@ -16,7 +17,8 @@ use Rattle.evaluation_log.specs.Clashes.{Clash}
 use Rattle.evaluation_log.specs.Kept.{is_unsequenced}
 use Rattle.evaluation_log.specs.declared.level.Level.{Level}
 use Rattle.evaluation_search.specs.declared.log.Place.{Place as Expression}
-use Rattle.evaluation_search.specs.First.{sought_of}
+use Rattle.evaluation_search.specs.First.{sought_of, IsOfPair}
+use Rattle.run_evaluations.specs.declared.open.Evaluations.{Evaluations}
 use Rattle.run_evaluations.specs.Scopes.{Scope, part_of}
 use Rattle.run_evaluations.specs.Shows.{IsAmong, AreApart, AreOfTwo}
 use Rattle.run_evaluations.specs.Told.{Evaluation, Opened, IsUnder, has}
@@ -59,10 +61,18 @@ abbrev pub SequencesNone : Scope → ℕ → Rule → Type 0
 SequencesNone s n rule = is_unsequenced rule ≡ true → (c : Class) (ts : Trees) → part_of s n ≡ Some (node c ts) →
     (c ≡ class.Choice → ⊥) × (c ≡ class.Comma → ⊥)
 
+-- an event of a full expression by its name
+abbrev pub event_by : Expression → ℕ → Kind → Event
+event_by p n kind = record { frame = p.frame; turn = p.turn; node = n; kind = kind }
+
 -- the full expression of a frame, by the frame and its turn
 abbrev pub expression_in : Option Level → Expression
 expression_in None = record { frame = record { 0 = 0 }; turn = 0 }
 expression_in (Some l) = record { frame = l.frame; turn = l.turn }
+
+-- a conflict of two events of the log that stand so to one another, by their names in the frame on top
+abbrev pub IsTopPair : List FrameRow → List Row → Evaluations → (ℕ → ℕ → Type 0) → Found → Type 0
+IsTopPair frames rows o = IsOfPair frames rows (expression_in (slice_get o.levels.items (length o.levels.items - 1))) o.events.items o.items.items
 
 -- the full expression has this tree, of which nodes have chosen these operands by now
 pub record IsOrdered (t : Opened) (taken : Taken) (root : Tree) : Type 0 where

@@ -1,6 +1,7 @@
 pub mod Below
 pub mod Ends
 pub mod First
+pub mod FirstAtEnd
 pub mod Fitting
 pub mod Follows
 pub mod Kept

@@ -4,6 +4,7 @@ use Rattle.addr_map.specs.declared.map.Row.{Row}
 use Rattle.c_typed.specs.Tree.{Tree}
 use Rattle.evaluation_log.specs.declared.log.Logged.{Logged}
 use Rattle.evaluation_log.specs.declared.log.Segment.{Segment}
+use Rattle.evaluation_log.specs.declared.rules.Rule.{Rule}
 use Rattle.evaluation_log.specs.declared.rules.Rules.{Rules}
 use Rattle.evaluation_log.specs.declared.sought.Sought.TheVariants.{Any}
 use Rattle.evaluation_log.specs.Clashes.{NoClash, operand_has}
@@ -11,6 +12,7 @@ use Rattle.evaluation_log.specs.Kept.{IsOperand, base_of, marks, is_unsequenced}
 use Rattle.evaluation_log.specs.Touched.{start_of}
 use Rattle.evaluation_log.specs.Loose.{loose_of}
 use Rattle.evaluation_log.specs.Ways.{above_in, rule_in, node_of}
+use Rattle.evaluation_search.specs.First.{AreFrom, AreOnce, AreRising}
 use Rattle.run_evaluations.specs.declared.open.Evaluations.{Evaluations}
 use Rattle.run_evaluations.specs.Kept.{IsSameRest}
 
@@ -29,6 +31,32 @@ abbrev pub NoneAtEnd : List Row → Rules → Tree → Evaluations → Type 0
 NoneAtEnd rows rules tree o = (last : Logged) → slice_get o.events.items (length o.events.items - 1) ≡ Some last →
     NoneOnWay rows rules (above_in 0 tree last.node) o
 
+-- ---- pairs of events of operands
+-- the first event is of an operand of the node, whose operands this rule doesn't sequence, and the other one stands behind that operand's segment
+pub record AreBehindOperand (o : Evaluations) (n : ℕ) (rule : Rule) (a b : ℕ) : Type 0 where
+  pub free : is_unsequenced rule ≡ true
+  pub segment : ℕ
+  pub operand : IsOperand o.segments.items o.levels.items n segment
+  pub events : AreFrom o.segments.items o.events.items segment a b
+
+-- the same of a node on the way, from one place of the way on; the operand is of none further down
+pub record AreOnWay (rules : Rules) (above : List ℕ) (o : Evaluations) (from a b : ℕ) : Type 0 where
+  pub place : ℕ
+  pub low : from ≤ place
+  pub node : ℕ
+  pub segment : ℕ
+  pub near : IsNearest o above place node segment
+  pub free : is_unsequenced (rule_in rules node) ≡ true
+  pub events : AreFrom o.segments.items o.events.items segment a b
+
+-- the events of the frame on top are logged once each, and their nodes stand in the order of their segments
+pub record StandInOrder (o : Evaluations) : Type 0 where
+  pub from : ℕ
+  pub begins : (g : ℕ) → base_of o.levels.items ≤ g → from ≤ start_of o.segments.items o.events.items g
+  pub once : AreOnce o.events.items from
+  pub rising : AreRising o.segments.items o.events.items (base_of o.levels.items)
+
+-- ---- what changes
 -- the segments of a node's operands, which begin at this one, are made one of its own
 pub record IsGathered (old new : Evaluations) (n at : ℕ) : Type 0 where
   pub low : base_of old.levels.items ≤ at

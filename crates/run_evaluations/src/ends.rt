@@ -1,29 +1,33 @@
 // An end of the run beside evaluations that it isn't sequenced with.
-ghost use Rattle.std.specs.Prelude.{◌≡◌, ◌<◌, ◌^◌, ◌-◌, ◌∷◌, ℕ, true, List, None, Some, IfOk, IfNone, IfSome, OnOk, slice_get, length};
+ghost use Rattle.std.specs.Prelude.{◌≡◌, false, Option, ◌<◌, ◌^◌, ◌-◌, ◌∷◌, ℕ, true, List, None, Some, IfOk, IfNone, IfSome, OnOk, slice_get, length};
 ghost use Rattle.ub_base.specs.declared.names.Item.{Item};
 ghost use Rattle.c_typed.specs.Tree.{tree_of, size};
+ghost use Rattle.footprint.specs.Conflicts.{MayConflict};
 ghost use Rattle.footprint.specs.Holds.{holds};
+ghost use Rattle.evaluation_log.specs.declared.found.Found.{Found};
 ghost use Rattle.evaluation_log.specs.declared.log.Logged.{Logged};
 ghost use Rattle.evaluation_log.specs.Touched.{event_has};
-ghost use Rattle.evaluation_log.specs.FoundItems.{ItemsConflict};
+ghost use Rattle.evaluation_log.specs.FoundItems.{AreOfOne, ItemsConflict, first_found};
 ghost use Rattle.evaluation_log.specs.Kept.{is_unsequenced};
 ghost use Rattle.evaluation_log.specs.Ways.{IsRising};
-ghost use Rattle.run_evaluations.specs.Ends.{is_value, is_value_kind, events_from, IsDone, HasValue, NoneBeside};
+ghost use Rattle.evaluation_search.specs.First.{IsFirstOf};
+ghost use Rattle.run_evaluations.specs.Ends.{is_value, is_value_kind, events_from, HasValue, IsBeside, IsBesideSome, IsDone, IsInValue, NoneBeside};
+ghost use Rattle.run_evaluations.specs.First.{IsOnce, IsTopPair};
+ghost use Rattle.run_evaluations.specs.FirstAtEnd.{AllSequenceNone, IsConflictAtEnd};
 ghost use Rattle.run_evaluations.specs.Kept.{IsKept, IsSameRest, NoneOfOperands};
 ghost use Rattle.run_evaluations.specs.Loose.{IsLooseKept};
 ghost use Rattle.run_evaluations.specs.Follows.{Follows, FollowsBelow};
+ghost use Rattle.run_evaluations.specs.Scopes.{place_of};
 ghost use Rattle.run_evaluations.specs.Shows.{NoneOfWay, NonePending, TellsEnd};
 ghost use Rattle.run_evaluations.specs.Told.{Evaluation, Opened};
-ghost use Rattle.run_evaluations.specs.Ways.{IsGathered, IsSameUnder, NoneOnWay, NoneAtEnd};
+ghost use Rattle.run_evaluations.specs.Ways.{AreBehindOperand, AreOnWay, IsGathered, IsSameUnder, NoneOnWay, NoneAtEnd, StandInOrder};
 
 use crate::open::Evaluations;
 use addr_map::AddrMap;
-use c_typed::Typed;
-use evaluation_log::{
-    Found, Rule, Rules, Sought, Under, Way, dependence, first_of, least_items, way_to,
-};
+use c_typed::{Place, Typed};
+use evaluation_log::{Found, Rule, Rules, Sought, Under, Way, first_of, least_items, way_to};
 use footprint::Foot;
-use ub_base::{Frames, Item, Kind, NoMemory};
+use ub_base::{Event, Frames, Item, Kind, NoMemory};
 
 impl Evaluations {
     /// The last event of the top frame's full expression, whose tree this is, ended the run or started the frame that
@@ -45,6 +49,9 @@ impl Evaluations {
         ensures apart { (t : Opened) (ts : List Opened) (last : Evaluation) → Follows (t ∷ ts) self.old →
             TellsEnd t (tree_of root.now) rules.now last → IfOk result
             (λ r. IfNone r (NoneOfWay map.now t last.place.node × NonePending map.now t last)) }
+        ensures first { (t : Opened) (ts : List Opened) (last : Evaluation) → Follows (t ∷ ts) self.old →
+            TellsEnd t (tree_of root.now) rules.now last → AllSequenceNone t rules.now → IsOnce t → IfOk result
+            (IsFirstOf frames.now (IsConflictAtEnd frames.now map.now t last)) }
     {
         let Some(target) = self.last_node() else {
             return Ok(None);
@@ -60,8 +67,21 @@ impl Evaluations {
     fn last_node(&self) -> Option<u32>
         ensures { (last : Logged) → slice_get self.now.events.items (length self.now.events.items - 1) ≡ Some last → result ≡ Some last.node }
     {
+        match self.last_place() {
+            Some(place) => Some(place.node),
+            None => None,
+        }
+    }
+
+    // The last event: of which node, and which of its evaluations.
+    fn last_place(&self) -> Option<Place>
+        ensures { result ≡ place_of (slice_get self.now.events.items (length self.now.events.items - 1)) }
+    {
         match self.events.last() {
-            Some(event) => Some(event.node),
+            Some(event) => Some(Place {
+                node: event.node,
+                kind: event.kind,
+            }),
             None => None,
         }
     }
@@ -74,6 +94,8 @@ impl Evaluations {
     ) -> Result<Option<Found>, NoMemory>
         ensures conflict { IfOk result ItemsConflict }
         ensures none { IfOk result (λ r. IfNone r (IfSome node (NoneBeside under.entry.map.now self.now))) }
+        ensures first { (last : Logged) → slice_get self.now.events.items (length self.now.events.items - 1) ≡ Some last → IfOk result
+            (IsBesideSome under.entry.frames.now under.entry.map.now self.now last node) }
     {
         match node {
             Some(node) => self.found_beside(under, node),
@@ -85,21 +107,23 @@ impl Evaluations {
     fn found_beside(&self, under: Under<'_>, node: u32) -> Result<Option<Found>, NoMemory>
         ensures conflict { IfOk result ItemsConflict }
         ensures none { IfOk result (λ r. IfNone r (NoneBeside under.entry.map.now self.now node)) }
+        ensures first { (last : Logged) → slice_get self.now.events.items (length self.now.events.items - 1) ≡ Some last → IfOk result
+            (IsBeside under.entry.frames.now under.entry.map.now self.now last node) }
     {
         let last = self.events.len().saturating_sub(1);
-        let (from, end) = match self.events.get(last) {
-            Some(event) => (event.node, event.kind),
-            None => return Ok(None),
+        let Some(end) = self.last_place() else {
+            return Ok(None);
         };
+        let from = end.node;
         let foot = self.value_foot(node)?;
         let ending = self.event_foot(last)?;
         let place = self.place();
         let value = place.event(node, Kind::Val);
-        let body = place.event(from, end);
+        let body = place.event(from, end.kind);
         Ok(if node < from {
-            dependence(value, body, least_items(under, Sought::Any, &foot, &ending))
+            depends(value, body, least_items(under, Sought::Any, &foot, &ending))
         } else {
-            dependence(body, value, least_items(under, Sought::Any, &ending, &foot))
+            depends(body, value, least_items(under, Sought::Any, &ending, &foot))
         })
     }
 
@@ -112,9 +136,11 @@ impl Evaluations {
         Ok(foot)
     }
 
+    // What the value of this node touched, if it is done.
     fn done_foot(&self, node: u32) -> Result<Foot, NoMemory>
-        ensures { IfOk result (λ f. (k : ℕ) → IsDone self.now node k → (j : Item) →
+        ensures has { IfOk result (λ f. (k : ℕ) → IsDone self.now node k → (j : Item) →
             event_has self.now.items.items (slice_get self.now.events.items k) j ≡ true → holds f j ≡ true) }
+        ensures only { IfOk result (λ f. (j : Item) → holds f j ≡ true → IsInValue self.now node j) }
     {
         match self.done(node) {
             Some(at) => self.event_foot(at),
@@ -124,7 +150,8 @@ impl Evaluations {
 
     // The value of this node, if it is done.
     fn done(&self, node: u32) -> Option<usize>
-        ensures { (k : ℕ) → IsDone self.now node k → result ≡ Some k }
+        ensures here { IfSome result (IsDone self.now node) }
+        ensures found { (k : ℕ) → IsDone self.now node k → result ≡ Some k }
     {
         let from = self.events_from();
         for at in from..self.events.len() {
@@ -167,6 +194,8 @@ impl Evaluations {
         ensures none { IsKept self.old → IsRising way.now.above.items → IfOk result
             (λ r. IfNone r (NoneOnWay under.entry.map.now rules.now way.now.above.items self.old)) }
         ensures under { IsKept self.old → IsLooseKept self.old → IsSameUnder self.old self.new }
+        ensures first { IsKept self.old → IsRising way.now.above.items → StandInOrder self.old → IfOk result (IsFirstOf under.entry.frames.now
+            (IsTopPair under.entry.frames.now under.entry.map.now self.old (AreOnWay rules.now way.now.above.items self.old 0))) }
     {
         let mut best = None;
         for i in (0..way.above.len()).rev() {
@@ -193,6 +222,9 @@ impl Evaluations {
         ensures rest { IsSameRest self.old self.new }
         ensures made { OnOk result ((at : ℕ) × IsGathered self.old self.new node at) }
         ensures under { IsKept self.old → IsLooseKept self.old → IsSameUnder self.old self.new }
+        ensures first { IsKept self.old → StandInOrder self.old → IfOk result (λ r. (found : Option Found) ×
+            (r ≡ first_found under.entry.frames.now best found) × IsFirstOf under.entry.frames.now
+            (IsTopPair under.entry.frames.now under.entry.map.now self.old (AreBehindOperand self.old node rule)) found) }
     {
         let found = self.found_of_operands(under, node, rule)?;
         self.gather(node, rule, true);
@@ -208,6 +240,8 @@ impl Evaluations {
     ) -> Result<Option<Found>, NoMemory>
         ensures conflict { IfOk result ItemsConflict }
         ensures none { IsKept self.now → is_unsequenced rule ≡ true → IfOk result (λ r. IfNone r (NoneOfOperands under.entry.map.now self.now node)) }
+        ensures first { IsKept self.now → StandInOrder self.now → IfOk result (IsFirstOf under.entry.frames.now
+            (IsTopPair under.entry.frames.now under.entry.map.now self.now (AreBehindOperand self.now node rule))) }
     {
         let at = self.operands(node);
         if at.saturating_add(1) >= self.segments.len() {
@@ -218,6 +252,23 @@ impl Evaluations {
         }
         self.found_between(under, at)
     }
+}
+
+// A dependence of two events on their order, where items of theirs conflict.
+fn depends(event: Event, against: Event, items: Option<(Item, Item)>) -> Option<Found>
+    requires one { AreOfOne event against }
+    requires may { IfSome items (λ p. MayConflict p.0 p.1) }
+    ensures conflict { ItemsConflict result }
+    ensures none { result ≡ None → items ≡ None }
+    ensures some { IfSome result (λ f. (f.race ≡ false) × (f.event ≡ event) × (f.against ≡ against) × (items ≡ Some f.items)) }
+{
+    let items = items?;
+    Some(Found {
+        race: false,
+        event,
+        against,
+        items,
+    })
 }
 
 fn is_value_kind(kind: Kind) -> bool

@@ -10,3 +10,6 @@ returns-clause-none c = λ w e.
 
 pub returns-in_err-found-clause-under : goal.returns-in_err-found-clause-under
 returns-in_err-found-clause-under c = λ w r. under_none c.args.self.now
+
+pub returns-clause-first : goal.returns-clause-first
+returns-clause-first c = λ w order. (c.in_ok-found.found, c.first_of.ensures.first, c.in_ok-found.ensures.first w order)

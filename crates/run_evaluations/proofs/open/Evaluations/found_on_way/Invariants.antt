@@ -4,7 +4,9 @@ use Rattle.evaluation_log.specs.FoundItems.{ItemsConflict}
 use Rattle.run_evaluations.specs.Kept.{IsKept}
 use Rattle.run_evaluations.specs.Loose.{IsLooseKept}
 use Rattle.evaluation_log.specs.Ways.{IsRising}
-use Rattle.run_evaluations.specs.Ways.{IsSameUnder}
+use Rattle.evaluation_search.specs.First.{IsFirstOf}
+use Rattle.run_evaluations.specs.First.{IsTopPair}
+use Rattle.run_evaluations.specs.Ways.{AreOnWay, IsSameUnder, StandInOrder}
 use Rattle.run_evaluations.proofs.WayLemmas.{Shape, NoneSoFar}
 use Rattle.run_evaluations.proofs.open.Evaluations.found_on_way.Given as goal
 
@@ -16,4 +18,6 @@ invariant-loop-i l = record {
   under : IsKept l.fn.self → IsLooseKept l.fn.self → IsSameUnder l.fn.self l.self;
   shape : IsRising l.way.above.items → (c : ℕ) × Shape l.fn.self l.self l.way.above.items l.i c;
   none : IsKept l.fn.self → IsRising l.way.above.items → l.best ≡ None → NoneSoFar l.under.map.now l.rules l.way.above.items l.fn.self l.i;
+  first : IsKept l.fn.self → IsRising l.way.above.items → StandInOrder l.fn.self →
+      IsFirstOf l.under.frames.now (IsTopPair l.under.frames.now l.under.map.now l.fn.self (AreOnWay l.rules l.way.above.items l.fn.self l.i)) l.best;
 }

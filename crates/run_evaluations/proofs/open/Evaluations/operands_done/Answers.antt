@@ -18,7 +18,7 @@ use Rattle.evaluation_log.specs.Touched.{start_of}
 use Rattle.evaluation_search.specs.First.{AreBetween, IsFirst, IsOfPair}
 use Rattle.evaluation_search.proofs.BetweenFirst.{ok_weaker}
 use Rattle.run_evaluations.specs.First.{AreOfOperands, IsConflictIn, expression_in}
-use Rattle.run_evaluations.proofs.FirstLemmas.{begins_low, once_log, operands_first, rising}
+use Rattle.run_evaluations.proofs.FirstLemmas.{begins_low, once_log, operands_first, rising_from}
 use Rattle.run_evaluations.proofs.open.Evaluations.operands_done.Goals as goal
 
 pub returns-then-saturating_add-len-clause-kept : goal.returns-then-saturating_add-len-clause-kept
@@ -93,6 +93,5 @@ returns-then-saturating_add-len-clause-first c = λ t ts f tell fresh loose once
     (λ g m le h. node_behind a.segments.items at c.args.node o.behind g m le h) c.args.frames.now c.args.map.now r)
     (c.several_done.ensures.first
     (kept_from a.segments.items a.events.items a.items.items a.large.items a.levels.items w at)
-    (rising a t ts f c.args.node c.args.rule c.args.chosen tell fresh at o.low o.least
-    (λ g m le h. node_behind a.segments.items at c.args.node o.behind g m le h))
+    (rising_from a t ts f at o.low)
     (once_log a t ts _ f.holds f.all once (start_of a.segments.items a.events.items at) (begins_low a t ts _ f.holds f.all at o.low)))
