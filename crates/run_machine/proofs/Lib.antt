@@ -1,5 +1,7 @@
 mod Opened
 mod Parts
 mod Picked
+mod Staying
 mod Steering
+mod Still
 mod Taken

@@ -5,6 +5,7 @@ ghost use Rattle.c_model.specs.Control.{Break_here, moved_in};
 ghost use Rattle.run_control.specs.declared.links.Place.{Place};
 ghost use Rattle.run_control.specs.Links.{work_at};
 ghost use Rattle.run_control.specs.View.{Meaning, after, todo_of};
+ghost use Rattle.run_machine.specs.Answering.{AnswersControl, AnswersStep, step_of_move};
 ghost use Rattle.run_machine.specs.Moving.{GoesOn, IsGone, StepLeaves, TakesStep};
 
 use crate::frames::end_frame;
@@ -24,6 +25,7 @@ pub const MOST_CREATED: u64 = 1 << 26;
 // The control step of the top frame, in whose full expression no event is left, with the status where it ends the run.
 pub fn control_step(machine: &mut Machine) -> Result<Option<u8>, Halt>
     ensures step { OnOk result (machine.old.top.stage ≡ None → (m : Meaning) → TakesStep m machine.old.jumps.links.items machine.old.work machine.new.work) }
+    ensures answers { AnswersControl machine.old machine.new result }
 {
     match machine.top.stage {
         Some(stage) => settle(machine, stage),
@@ -35,7 +37,8 @@ pub fn control_step(machine: &mut Machine) -> Result<Option<u8>, Halt>
 }
 
 fn take_step<'c>(machine: &mut Machine<'_, 'c>, step: Step<'c>) -> Result<Option<u8>, Halt>
-    ensures { OnOk result ((m : Meaning) → StepLeaves m machine.old.jumps.links.items step.entry machine.old.work machine.new.work) }
+    ensures leaves { OnOk result ((m : Meaning) → StepLeaves m machine.old.jumps.links.items step.entry machine.old.work machine.new.work) }
+    ensures answers { AnswersStep step.entry machine.old machine.new result }
 {
     match step {
         Step::Begin(number, how) => begin(machine, number, how),
@@ -67,6 +70,7 @@ fn go_on(machine: &mut Machine) -> Result<Option<u8>, Halt>
 fn go(machine: &mut Machine, how: Move) -> Result<Option<u8>, Halt>
     ensures below { OnOk result (machine.new.work.below ≡ machine.old.work.below) }
     ensures now { OnOk result ((m : Meaning) → todo_of m machine.new.work.now ≡ moved how (todo_of m machine.old.work.now)) }
+    ensures answers { AnswersStep (step_of_move how) machine.old machine.new result }
 {
     machine.work.go(how)?;
     Ok(None)

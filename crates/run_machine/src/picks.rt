@@ -13,6 +13,7 @@ ghost use Rattle.run_code.specs.Named.{IsDueOf};
 ghost use Rattle.run_listing.specs.Along.{events_of};
 ghost use Rattle.run_state.specs.Stands.{Stands};
 ghost use Rattle.run_state.specs.declared.watch.Begun.{Begun as BegunOf};
+ghost use Rattle.run_machine.specs.Answering.{AnswersCanonical};
 ghost use Rattle.run_machine.specs.Picks.{top_of, passed_part, kept_of, at_cursor, ByOrder, ComesNext, Decides, Follows, IsPick, Permits, Refuses, Strays, Takes};
 
 use crate::control::control_step;
@@ -31,6 +32,7 @@ use ub_base::NoMemory;
 pub fn canonical(machine: &mut Machine) -> Result<Pick, Halt>
     ensures takes { (world : World) (meaning : Option ℕ → Meaning) (st : State) → Stands world meaning machine.old st
         → IfOk result (IsPick world st (canonical_pick world st.top st.top.begun)) }
+    ensures steps { AnswersCanonical machine.old machine.new result }
 {
     law_picks();
     let next = follow(machine)?;

@@ -1,6 +1,7 @@
-use Rattle.std.proofs.Common.{◌≡◌, [], subst}
+use Rattle.std.proofs.Common.{◌≡◌, [], subst, Ok}
 use Rattle.c_model.specs.Runs.{canonical_pick, chosen_pick}
 use Rattle.run_listing.specs.Along.{place_of}
+use Rattle.run_machine.proofs.Staying.{event_untold, step_told}
 use Rattle.run_machine.proofs.Taken.{event_taken, step_taken}
 use Rattle.run_machine.proofs.picks.canonical.Goals as goal
 
@@ -12,6 +13,8 @@ returns-in-Some c = record {
       event_taken c.take_event.result world meaning m (record c.follow.new.machine { items = [] }) st c.in-Some.due.now.place _ stands
       c.in_ok-next.ensures.frame.0 c.in_ok-next.ensures.frame.1
       (subst (λ o. chosen_pick world (place_of o) ≡ canonical_pick world st.top st.top.begun) c.in-Some.is picks) c.take_event.ensures.event;
+  steps = event_untold c.args.machine.now c.follow.new.machine c.take_event.new.machine c.in_ok-next.next c.in-Some.due c.take_event.result
+      c.in_ok-next.ensures.follows c.in-Some.is;
 }
 
 pub returns-in_ok-control_step-in-None : goal.returns-in_ok-control_step-in-None
@@ -21,4 +24,12 @@ returns-in_ok-control_step-in-None c = record {
       stands in
       step_taken world st c.in_ok-control_step-in-None.field-0 _
       (subst (λ o. chosen_pick world (place_of o) ≡ canonical_pick world st.top st.top.begun) c.in-None.is picks);
+  steps = step_told c.args.machine.now c.follow.new.machine c.control_step.new.machine c.in_ok-next.next
+      (Ok c.in_ok-control_step-in-None.field-0) c.in_ok-next.ensures.follows c.in_ok-control_step-in-None.ensures.answers;
 }
+
+pub returns-in_err-next-clause-steps : goal.returns-in_err-next-clause-steps
+returns-in_err-next-clause-steps c = ?next
+
+pub returns-in_err-control_step-in-None-clause-steps : goal.returns-in_err-control_step-in-None-clause-steps
+returns-in_err-control_step-in-None-clause-steps c = ?step
