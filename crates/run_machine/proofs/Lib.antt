@@ -1,3 +1,5 @@
+mod Going
+mod Lives
 mod Opened
 mod Parts
 mod Picked
@@ -5,3 +7,4 @@ mod Staying
 mod Steering
 mod Still
 mod Taken
+mod Unwriting

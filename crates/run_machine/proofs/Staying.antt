@@ -146,7 +146,7 @@ module _ (world : World) (meaning : Option ℕ → Meaning) (m : Machine) (ws : 
       (now (meaning m.top.function)) refl refl refl refl
 
 -- with this work the frames below as they were
-abbrev with_work : Machine → List (List Kept_work) → List Kept_work → Machine
+abbrev pub with_work : Machine → List (List Kept_work) → List Kept_work → Machine
 with_work m below now = record m { work = record { below = below; now = now } }
 
 pub go_answers : (how : Kept_move) (m : Machine) (below : List (List Kept_work)) (ws : List Kept_work) → below ≡ m.work.below →
@@ -181,12 +181,6 @@ enter_untold s b m n r is = by_step s (taking.Enter b) m n r is (λ world meanin
 
 pub leave_untold : (s : Step) (b : Bor Block) (m n : Machine) (r : Result (Option ℕ) Halt) → s ≡ taking.Leave b → AnswersStep s m n r
 leave_untold s b m n r is = by_step s (taking.Leave b) m n r is (λ world meaning st h. absurd h.can)
-
-pub unwrite_untold : (s : Step) (d : ℕ) (m n : Machine) (r : Result (Option ℕ) Halt) → s ≡ taking.Unwrite d → AnswersStep s m n r
-unwrite_untold s d m n r is = by_step s (taking.Unwrite d) m n r is (λ world meaning st h. absurd h.can)
-
-pub goto_untold : (s : Step) (k : ℕ) (m n : Machine) (r : Result (Option ℕ) Halt) → s ≡ taking.GoTo k → AnswersStep s m n r
-goto_untold s k m n r is = by_step s (taking.GoTo k) m n r is (λ world meaning st h. absurd h.can)
 
 -- ---- the next step, taken off
 -- the machine before it is the one that stood

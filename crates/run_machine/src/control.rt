@@ -1,8 +1,9 @@
 // The control steps (6.8).
-ghost use Rattle.std.specs.Prelude.{◌≡◌, ◌∷◌, ℤ, Bool, Option, None, OnOk};
+ghost use Rattle.std.specs.Prelude.{◌≡◌, ◌∷◌, ◌+◌, ◌-◌, ◌^◌, min, ℤ, Bool, Option, None, Some, slice_get, IfOk, OnOk};
 ghost use Rattle.run_control.specs.Moves.{moved};
 ghost use Rattle.c_model.specs.Control.{Break_here, moved_in};
 ghost use Rattle.run_control.specs.declared.links.Place.{Place};
+ghost use Rattle.run_control.specs.declared.work.Step.TheVariants as steps;
 ghost use Rattle.run_control.specs.Links.{work_at};
 ghost use Rattle.run_control.specs.View.{Meaning, after, todo_of};
 ghost use Rattle.run_machine.specs.Answering.{AnswersControl, AnswersStep, step_of_move};
@@ -77,7 +78,8 @@ fn go(machine: &mut Machine, how: Move) -> Result<Option<u8>, Halt>
 }
 
 fn go_to(machine: &mut Machine, label: u32) -> Result<Option<u8>, Halt>
-    ensures { OnOk result ((m : Meaning) → IsGone m machine.old.jumps.links.items machine.old.work machine.new.work) }
+    ensures gone { OnOk result ((m : Meaning) → IsGone m machine.old.jumps.links.items machine.old.work machine.new.work) }
+    ensures answers { AnswersStep (steps.GoTo label) machine.old machine.new result }
 {
     let Some(function) = machine.top.function else {
         return Err(Halt::NoMemory);
@@ -91,7 +93,9 @@ fn go_to(machine: &mut Machine, label: u32) -> Result<Option<u8>, Halt>
 fn block_of<'c>(
     machine: &Machine<'_, 'c>,
     number: u32,
-) -> Result<(BlockCode, &'c [ObjectCode]), NoMemory> {
+) -> Result<(BlockCode, &'c [ObjectCode]), NoMemory>
+    ensures { IfOk result (λ b. slice_get machine.now.code.now.tables.blocks.items (min (machine.now.top.blocks + number) (2 ^ 32 - 1)) ≡ Some b.0) }
+{
     let code = machine.code;
     let at = machine.top.blocks.saturating_add(number);
     match code.block(at) {
@@ -202,7 +206,8 @@ fn leave(machine: &mut Machine, number: u32) -> Result<(), NoMemory>
 
 // The bytes of an object of the innermost block become unwritten.
 fn declare(machine: &mut Machine, object: u32) -> Result<Option<u8>, Halt>
-    ensures { machine.new.work ≡ machine.old.work }
+    ensures work { machine.new.work ≡ machine.old.work }
+    ensures answers { AnswersStep (steps.Unwrite object) machine.old machine.new result }
 {
     let Some(block) = machine.work.block() else {
         return Err(Halt::NoMemory);

@@ -13,9 +13,3 @@ returns-in-Some-2 c = record {
   answers = control_answers c.take_step.result c.in_ok-step-in-None.field-0 c.in-Some-2.step c.args.machine.now c.next.new.self.below c.next.new.self.now
       c.take_step.new.machine c.in-Some-2.is c.in_ok-step-in-None.ensures.below c.in_ok-step-in-None.ensures.step c.take_step.ensures.answers;
 }
-
-pub returns-in_err-step-in-None-clause-answers : goal.returns-in_err-step-in-None-clause-answers
-returns-in_err-step-in-None-clause-answers c = ?wanted
-
-pub returns-in-None-2-clause-answers : goal.returns-in-None-2-clause-answers
-returns-in-None-2-clause-answers c = ?none

@@ -4,6 +4,3 @@ use Rattle.run_machine.proofs.control.go.Goals as goal
 pub returns-clause-answers : goal.returns-clause-answers
 returns-clause-answers c =
     go_answers c.args.how c.args.machine.now c.go.new.self.below c.go.new.self.now c.in_ok-go.ensures.below c.in_ok-go.ensures.now
-
-pub returns-in_err-go-clause-answers : goal.returns-in_err-go-clause-answers
-returns-in_err-go-clause-answers c = ?wanted

@@ -1,5 +1,5 @@
 use Rattle.run_control.specs.declared.work.Step.TheVariants as taking
-use Rattle.run_machine.proofs.Staying.{begin_untold, by_step, enter_untold, goto_untold, leave_untold, nothing_answers, unwrite_untold}
+use Rattle.run_machine.proofs.Staying.{begin_untold, by_step, enter_untold, leave_untold, nothing_answers}
 use Rattle.run_machine.proofs.Steering.{block_left, gone_back, gone_on, gone_out, label_gone}
 use Rattle.run_machine.proofs.control.take_step.Goals as goal
 
@@ -20,7 +20,9 @@ returns-in_ok-leave-in-Leave c = record {
 }
 
 pub returns-in-Unwrite-clause-answers : goal.returns-in-Unwrite-clause-answers
-returns-in-Unwrite-clause-answers c = unwrite_untold c.args.step _ c.args.machine.now _ _ c.in-Unwrite.is
+returns-in-Unwrite-clause-answers c =
+    by_step c.args.step (taking.Unwrite c.in-Unwrite.object) c.args.machine.now c.declare.new.machine c.declare.result c.in-Unwrite.is
+    c.declare.ensures.answers
 
 pub returns-in-Nothing-clause-answers : goal.returns-in-Nothing-clause-answers
 returns-in-Nothing-clause-answers c =
@@ -29,8 +31,8 @@ returns-in-Nothing-clause-answers c =
 pub returns-in-GoTo : goal.returns-in-GoTo
 returns-in-GoTo c = record {
   leaves = label_gone c.go_to.result c.args.machine.now.jumps.links.items c.args.step c.in-GoTo.label c.args.machine.now.work c.go_to.new.machine.work
-      c.in-GoTo.is c.go_to.ensures;
-  answers = goto_untold c.args.step _ c.args.machine.now _ _ c.in-GoTo.is;
+      c.in-GoTo.is c.go_to.ensures.gone;
+  answers = by_step c.args.step (taking.GoTo c.in-GoTo.label) c.args.machine.now c.go_to.new.machine c.go_to.result c.in-GoTo.is c.go_to.ensures.answers;
 }
 
 pub returns-in-GoOut : goal.returns-in-GoOut

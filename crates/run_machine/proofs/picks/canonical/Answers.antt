@@ -27,9 +27,3 @@ returns-in_ok-control_step-in-None c = record {
   steps = step_told c.args.machine.now c.follow.new.machine c.control_step.new.machine c.in_ok-next.next
       (Ok c.in_ok-control_step-in-None.field-0) c.in_ok-next.ensures.follows c.in_ok-control_step-in-None.ensures.answers;
 }
-
-pub returns-in_err-next-clause-steps : goal.returns-in_err-next-clause-steps
-returns-in_err-next-clause-steps c = ?next
-
-pub returns-in_err-control_step-in-None-clause-steps : goal.returns-in_err-control_step-in-None-clause-steps
-returns-in_err-control_step-in-None-clause-steps c = ?step
