@@ -34,21 +34,21 @@ IsFoundIn jumps n links label target =
 -- the place of its label is the one that the definitions find
 found_there : (world : World) (meaning : Option ℕ → Meaning) (p : Program) (code : Code) (jumps : Jumps) (n label : ℕ) (links : List Link) (target : Place) →
     StandsCode world p code meaning → HasLabels code jumps (Some n) → IsFoundIn jumps n links label target →
-    Some (todo_of (meaning (Some n)) (work_from links target)) ≡ found_label label (body_of world (Some n))
+    Some (todo_of (meaning (Some n)) (work_from links target)) ≡ found_label world label (body_of world (Some n))
 found_there world meaning p code jumps n label links target stands has found =
     let c = has.function in
     let mg = meaning (Some n) in
     found has.bodies has.body has.labels has.there mg (subst (λ (s : Statement). AllEqual (bodies mg s)) (sym has.same) (stands.switches n c has.at))
     ∙ ap (λ (s : Statement). find (to_label label) (stmt_of mg s)) has.same
-    ∙ ap (found_label label) (sym (stands.body n c has.at))
+    ∙ ap (found_label world label) (sym (stands.body n c has.at))
 
 found_for : (world : World) (meaning : Option ℕ → Meaning) (p : Program) (code : Code) (jumps : Jumps) (n label : ℕ) (links : List Link) (target : Place)
     (f g : Option ℕ) → f ≡ Some n → f ≡ g → StandsCode world p code meaning → HasLabels code jumps f → IsFoundIn jumps n links label target →
-    Some (todo_of (meaning f) (work_from links target)) ≡ found_label label (body_of world g)
+    Some (todo_of (meaning f) (work_from links target)) ≡ found_label world label (body_of world g)
 found_for world meaning p code jumps n label links target f g is same stands has found =
     ap (λ (x : Option ℕ). Some (todo_of (meaning x) (work_from links target))) is
     ∙ found_there world meaning p code jumps n label links target stands (subst (λ (x : Option ℕ). HasLabels code jumps x) is has) found
-    ∙ ap (λ (x : Option ℕ). found_label label (body_of world x)) (sym is ∙ same)
+    ∙ ap (λ (x : Option ℕ). found_label world label (body_of world x)) (sym is ∙ same)
 
 label_answers : (m : Machine) (n label : ℕ) (target : Place) (ws : List Kept_work) → m.top.function ≡ Some n →
     IsFoundIn m.jumps n m.jumps.links.items label target →
@@ -57,7 +57,7 @@ label_answers : (m : Machine) (n label : ℕ) (target : Place) (ws : List Kept_w
 label_answers m n label target ws is found now = λ world meaning st h.
     let mg = meaning m.top.function in
     let rest = todo_of mg m.work.now in
-    left_answers (taking.GoTo label) world meaning m ws st (gone_to rest (found_label label (body_of world st.top.function))) h
+    left_answers (taking.GoTo label) world meaning m ws st (gone_to rest (found_label world label (body_of world st.top.function))) h
     (now mg ∙ ap (gone_to rest) (found_for world meaning m.program.now m.code.now m.jumps n label m.jumps.links.items target m.top.function st.top.function is
     h.stands.frames.0.function h.stands.code h.can found))
     refl refl refl refl

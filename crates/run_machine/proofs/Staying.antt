@@ -1,14 +1,14 @@
 -- Control steps after which the frame goes on, and what the machine then stands for.
 use Rattle.std.proofs.Common.{◌≡◌, ℕ, suc, ◌+◌, Bool, true, false, refl, sym, ap, ◌∙◌, subst, List, [], ◌∷◌, length, reverse, Option, Some, None}
 use Rattle.std.specs.Borrow.{Bor}
-use Rattle.std.specs.Prelude.{is_some, if◌then◌else◌, Result, Ok, Err}
+use Rattle.std.specs.Prelude.{is_some, if◌then◌else◌, Result, Ok, Err, IfOk}
 use Rattle.ub_base.specs.declared.names.Item.{Item}
 use Rattle.c_typed.specs.declared.tree.Place.{Place}
 use Rattle.mem_spec.specs.Store.{Store}
 use Rattle.mem_spec.specs.Script.{Act, Done, run}
 use Rattle.c_model.specs.Control.{Todo, Work, ready_work, out_of, on_with, leaves}
 use Rattle.c_model.specs.Moves.{Move, Stay}
-use Rattle.c_model.specs.Steps.{Begun, Local, Scene, Control, control_act, control_move, control_next, does, move, next}
+use Rattle.c_model.specs.Steps.{Pick as Model_pick, Begun, Local, Scene, Control, control_act, control_move, control_next, does, move, next}
 use Rattle.c_model.specs.Values.{Value, Nothing}
 use Rattle.c_model.specs.World.{World}
 use Rattle.c_model.specs.Runs.{
@@ -55,10 +55,11 @@ use Rattle.run_machine.specs.Answering.{
   CanTake,
   HasTaken,
   MayGoOn,
+  TakesControl,
   as_before,
   step_of_move,
 }
-use Rattle.run_machine.specs.Picks.{Follows, FollowsIn, top_of}
+use Rattle.run_machine.specs.Picks.{Follows, FollowsIn, IsPick, IsStep, top_of}
 use Rattle.run_machine.proofs.Still.{depth_same, items_stand, left_stands}
 
 -- ---- the definitions: no full expression is open, this work comes next, and the frame stays
@@ -246,30 +247,32 @@ event_untold m n k next due r f is = λ world meaning st stands goes.
     absurd (not_both next due (followed_closed world meaning m n next st f stands goes.closed).0 is)
 
 -- a control step is taken by the machine that has touched nothing
-cleared_stands : (world : World) (meaning : Option ℕ → Meaning) (m n : Machine) (st : State) → n ≡ m → Stands world meaning m st →
-    Stands world meaning (record n { items = [] }) st
-cleared_stands world meaning m n st same s =
-    subst (λ (k : Machine). Stands world meaning (record k { items = [] }) st) (sym same) (items_stand world meaning m [] m.spare st s)
+cleared_stands : (world : World) (meaning : Option ℕ → Meaning) (m n : Machine) (is : List Item) (st : State) → n ≡ m → Stands world meaning m st →
+    Stands world meaning (record n { items = is }) st
+cleared_stands world meaning m n is st same s =
+    subst (λ (k : Machine). Stands world meaning (record k { items = is }) st) (sym same) (items_stand world meaning m is m.spare st s)
 
-cleared_goes : (world : World) (m n : Machine) (st : State) → n ≡ m → MayGoOn world m st → MayGoOn world (record n { items = [] }) st
-cleared_goes world m n st same goes =
-    subst (λ (k : Machine). MayGoOn world (record k { items = [] }) st) (sym same) (record { within = goes.within; closed = goes.closed; can = goes.can })
+cleared_goes : (world : World) (m n : Machine) (is : List Item) (st : State) → n ≡ m → MayGoOn world m st → MayGoOn world (record n { items = is }) st
+cleared_goes world m n is st same goes =
+    subst (λ (k : Machine). MayGoOn world (record k { items = is }) st) (sym same) (record { within = goes.within; closed = goes.closed; can = goes.can })
 
-abbrev picked : Result (Option ℕ) Halt → Result Pick Halt
-picked (Ok status) = Ok (pick.Step status)
-picked (Err e) = Err e
-
-picked_answers : (world : World) (meaning : Option ℕ → Meaning) (k : Machine) (o : Outcome) (r : Result (Option ℕ) Halt) → Answers world meaning r k o →
-    AnswersPick world meaning (picked r) k o
-picked_answers world meaning k o (Ok status) a = a
-picked_answers world meaning k o (Err e) a = a
-
-pub step_told : (m n k : Machine) (next : Option (Bor Due)) (r : Result (Option ℕ) Halt) → Follows m n next →
-    AnswersControl (record n { items = [] }) k r → AnswersCanonical m k (picked r)
-step_told m n k next r f does = λ world meaning st stands goes.
+pub step_told : (m n k : Machine) (next : Option (Bor Due)) (is : List Item) (r : Result Pick Halt) → Follows m n next → is ≡ [] →
+    TakesControl (record n { items = is }) k r → AnswersCanonical m k r
+step_told m n k next is r f none does = λ world meaning st stands goes.
     let same = (followed_closed world meaning m n next st f stands goes.closed).1 in
-    picked_answers world meaning k (step world st Control) r
-    (does world meaning st (cleared_stands world meaning m n st same stands) (cleared_goes world m n st same goes) refl)
+    does world meaning st (cleared_stands world meaning m n is st same stands) (cleared_goes world m n is st same goes) none
+
+pub status_told : (m n : Machine) (status : Option ℕ) → AnswersControl m n (Ok status) → TakesControl m n (Ok (pick.Step status))
+status_told m n status a = λ world meaning st stands goes items. a world meaning st stands goes items
+
+pub halt_told : (m n : Machine) (e : Halt) → AnswersControl m n (Err e) → TakesControl m n (Err e)
+halt_told m n e a = λ world meaning st stands goes items. a world meaning st stands goes items
+
+-- the control step is this pick of the definitions
+pub steps_taken : {E : Type 0} (r : Result Pick E) (world : World) (st : State) (p : Model_pick) → Control ≡ p → IfOk r IsStep →
+    IfOk r (IsPick world st p)
+steps_taken (Ok x) world st p is a = subst (λ (q : Model_pick). IsPick world st q x) is a
+steps_taken (Err e) world st p is a = tt
 
 pub canonical_wanted : (m n : Machine) (e : Halt) → e ≡ halt.NoMemory → AnswersCanonical m n (Err e)
 canonical_wanted m n e is = λ world meaning st stands goes. no_memory world meaning n (step world st Control) e is

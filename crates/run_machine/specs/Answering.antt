@@ -112,6 +112,12 @@ AnswersPick world meaning (Ok (pick.Starts event)) m o = ⊥
 AnswersPick world meaning (Ok (pick.Event event completed status)) m o = ⊥
 AnswersPick world meaning (Err e) m o = Answers world meaning (Err e) m o
 
+abbrev pub TakesControl : (old new : Machine) → Result Pick Halt → Type 0
+TakesControl old new result =
+    (world : World) (meaning : Option ℕ → Meaning) (st : State) → Stands world meaning old st → MayGoOn world old st → old.items ≡ []
+    → AnswersPick world meaning result new (step world st Control)
+
+-- .. of a machine that clears what it has touched before
 abbrev pub AnswersCanonical : (old new : Machine) → Result Pick Halt → Type 0
 AnswersCanonical old new result =
     (world : World) (meaning : Option ℕ → Meaning) (st : State) → Stands world meaning old st → MayGoOn world old st

@@ -1,3 +1,4 @@
+use Rattle.std.proofs.Common.{None, Ok}
 use Rattle.run_control.specs.declared.work.Step.TheVariants as taking
 use Rattle.run_machine.proofs.Staying.{begin_untold, by_step, enter_untold, leave_untold, nothing_answers}
 use Rattle.run_machine.proofs.Steering.{block_left, gone_back, gone_on, gone_out, label_gone}
@@ -26,7 +27,7 @@ returns-in-Unwrite-clause-answers c =
 
 pub returns-in-Nothing-clause-answers : goal.returns-in-Nothing-clause-answers
 returns-in-Nothing-clause-answers c =
-    by_step c.args.step taking.Nothing c.args.machine.now c.args.machine.now _ c.in-Nothing.is (nothing_answers c.args.machine.now)
+    by_step c.args.step taking.Nothing c.args.machine.now c.args.machine.now (Ok None) c.in-Nothing.is (nothing_answers c.args.machine.now)
 
 pub returns-in-GoTo : goal.returns-in-GoTo
 returns-in-GoTo c = record {
