@@ -1,4 +1,6 @@
 mod Going
+mod Leaving
+mod Left
 mod Lives
 mod Opened
 mod Parts

@@ -83,7 +83,7 @@ abbrev head_of : List ℕ → ℕ
 head_of [] = 0
 head_of (j ∷ js) = j
 
-block_number : (meaning : Meaning) (b : Block) → (block_of meaning b).number ≡ b.number
+pub block_number : (meaning : Meaning) (b : Block) → (block_of meaning b).number ≡ b.number
 block_number meaning b = search (rules, the_lemmas)
 
 -- it is the one that is left first
@@ -124,13 +124,13 @@ abbrev or_this : {A : Type 0} → A → Option A → A
 or_this z None = z
 or_this z (Some w) = w
 
-some_same : {A : Type 0} (x y : A) → Some x ≡ Some y → x ≡ y
+pub some_same : {A : Type 0} (x y : A) → Some x ≡ Some y → x ≡ y
 some_same x y e = ap (or_this x) e
 
-capped : (a b n : ℕ) → a + b < 2 ^ 32 → n ≡ a + b → min n (2 ^ 32 - 1) ≡ a + b
+pub capped : (a b n : ℕ) → a + b < 2 ^ 32 → n ≡ a + b → min n (2 ^ 32 - 1) ≡ a + b
 capped a b n lt e = omega (arith, lt, e)
 
-capped_wide : (a b : ℕ) → a + b < 2 ^ 64 → min (a + b) (2 ^ 64 - 1) ≡ a + b
+pub capped_wide : (a b : ℕ) → a + b < 2 ^ 64 → min (a + b) (2 ^ 64 - 1) ≡ a + b
 capped_wide a b lt = omega (arith, lt)
 
 -- what the machine names is the object of the innermost block
