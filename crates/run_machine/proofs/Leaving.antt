@@ -46,7 +46,7 @@ left_by t (Done v is s) = s
 left_by t a = t
 
 -- at first nothing has died
-nothing_more : (is : List Item) → is ≡ is ++ []
+pub nothing_more : (is : List Item) → is ≡ is ++ []
 nothing_more [] = refl
 nothing_more (i ∷ is) = ap (λ (js : List Item). i ∷ js) (nothing_more is)
 
@@ -60,16 +60,17 @@ none_died m first = record {
 }
 
 -- and then one more
-pub one_more : (old mid : Machine) (first n : ℕ) (k : Kept) (t items : List Item) (x : ObjName) → HaveDied old first n mid →
-    (l : Local) × (slice_get mid.locals.items (min (mid.top.locals + min (first + n) (2 ^ 32 - 1)) (2 ^ 64 - 1)) ≡ Some l) × (l.name ≡ x) →
+pub one_more : (old mid : Machine) (first n at : ℕ) (k : Kept) (t items : List Item) (x : ObjName) → HaveDied old first n mid →
+    at ≡ min (first + n) (2 ^ 32 - 1) →
+    (l : Local) × (slice_get mid.locals.items (min (mid.top.locals + at) (2 ^ 64 - 1)) ≡ Some l) × (l.name ≡ x) →
     Keeps mid.memory k → record k { objects = [] } ≡ record mid.memory { objects = [] } →
     ((io : Io) → run k.rows (kill x) (store_of mid.memory io) ≡ Done tt t (store_of k io)) → items ≡ mid.items ++ t →
     HaveDied old first (suc n) (record mid { memory = k; items = items; spare = t })
-one_more old mid first n k t items x d there keeps rest exact joined =
+one_more old mid first n at k t items x d is there keeps rest exact joined =
     let name = name_at old first in
     let same : name n ≡ x =
         ap (λ (m : Machine). name_in (slice_get m.locals.items (min (m.top.locals + min (first + n) (2 ^ 32 - 1)) (2 ^ 64 - 1)))) (sym d.rest)
-        ∙ ap name_in there.1 ∙ there.2 in
+        ∙ ap (λ (i : ℕ). name_in (slice_get mid.locals.items (min (mid.top.locals + i) (2 ^ 64 - 1)))) (sym is) ∙ ap name_in there.1 ∙ there.2 in
     let died : t ≡ Dies x ∷ [] = sym (ap touched_by (exact mid.streams)) in
     record {
       rest = ap (λ (m : Machine). record m { memory = k; items = items; spare = t }) d.rest;

@@ -106,7 +106,9 @@ module _ (world : World) (rows : List Row) (f : Scene) (turn : ℕ) (v : Value) 
 
 joined : (x : ℕ → ObjName) (k m n : ℕ) → m ≡ k + n → deaths x k ++ deaths_from x k n ≡ deaths x m
 joined x k m zero e = sym (nothing_more (deaths x k)) ∙ ap (deaths x) (omega (arith, e))
-joined x k m (suc n) e = simp append_assoc ∙ joined x (suc k) m n (omega (arith, e))
+joined x k m (suc n) e =
+    let along : deaths x k ++ (Dies (x k) ∷ deaths_from x (suc k) n) ≡ (deaths x k ++ (Dies (x k) ∷ [])) ++ deaths_from x (suc k) n = simp append_assoc in
+    along ∙ joined x (suc k) m n (omega (arith, e))
 
 -- by names that are the same
 deaths_same : (x y : ℕ → ObjName) (n : ℕ) → ((j : ℕ) → j < n → x j ≡ y j) → deaths x n ≡ deaths y n
@@ -272,8 +274,8 @@ left_so m os is spare b c ws block died goes = λ world meaning st h.
       after,
       control_stays world st (todo.Leave n ds) rest v (deaths own count) t h.closed ready refl
           (ap (λ (p : Script Value). run world.rows p st.store) (act_left world f n turn bs ds rest first.2)
-          ∙ killed world world.rows f.scene turn v st.store 0 (length ds) ds refl
-          ∙ ap (λ (js : List Item). Done v js (buried_first own (length ds) st.store)) (joined own 0 (length ds) (length ds) refl)
+          ∙ killed world world.rows f.scene turn v st.store 0 (length ds) ds (omega arith)
+          ∙ ap (λ (js : List Item). Done v js (buried_first own (length ds) st.store)) (joined own 0 (length ds) (length ds) (omega arith))
           ∙ ap (λ (k : ℕ). Done v (deaths own k) (buried_first own k st.store)) (sym has.count)
           ∙ ap (λ (u : Store). Done v (deaths own count) u) stored)
           (ap (λ (k : Bool). if k then End else Stay) (ends_not world (ready_work rest) h.can.goes))

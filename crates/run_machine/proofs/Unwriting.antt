@@ -211,12 +211,13 @@ unwrite_answers m d k is b c l inner block there keeps rest exact =
     (subst (λ (j : Kept). run j.rows (unwrite j.rows l.name) (store_of m.memory m.streams) ≡ Done tt is (store_of j m.streams)) e (exact m.streams)))
 
 -- .. by the name that was read
-pub unwrite_named : (m : Machine) (d : ℕ) (k : Kept) (is : List Item) (b : Bor Block) (c : BlockCode) (x : ObjName) → innermost m.work.now ≡ Some b →
-    slice_get m.code.now.tables.blocks.items (min (m.top.blocks + b.now.number) (2 ^ 32 - 1)) ≡ Some c →
-    (l : Kept_local) × (slice_get m.locals.items (min (m.top.locals + min (c.first + d) (2 ^ 32 - 1)) (2 ^ 64 - 1)) ≡ Some l) × (l.name ≡ x) →
+pub unwrite_named : (m : Machine) (d at : ℕ) (k : Kept) (is : List Item) (b : Bor Block) (c : BlockCode) (x : ObjName) → innermost m.work.now ≡ Some b →
+    slice_get m.code.now.tables.blocks.items (min (m.top.blocks + b.now.number) (2 ^ 32 - 1)) ≡ Some c → at ≡ min (c.first + d) (2 ^ 32 - 1) →
+    (l : Kept_local) × (slice_get m.locals.items (min (m.top.locals + at) (2 ^ 64 - 1)) ≡ Some l) × (l.name ≡ x) →
     Keeps m.memory k → record k { objects = [] } ≡ record m.memory { objects = [] } →
     ((io : Io) → run k.rows (unwrite k.rows x) (store_of m.memory io) ≡ Done tt is (store_of k io)) →
     AnswersStep (taking.Unwrite d) m (record m { memory = k; items = is }) (Ok None)
-unwrite_named m d k is b c x inner block there keeps rest exact =
-    unwrite_answers m d k is b c there.0 inner block there.1 keeps rest
+unwrite_named m d at k is b c x inner block same there keeps rest exact =
+    unwrite_answers m d k is b c there.0 inner block
+    (ap (λ (i : ℕ). slice_get m.locals.items (min (m.top.locals + i) (2 ^ 64 - 1))) (sym same) ∙ there.1) keeps rest
     (subst (λ (y : ObjName). (io : Io) → run k.rows (unwrite k.rows y) (store_of m.memory io) ≡ Done tt is (store_of k io)) (sym there.2) exact)
