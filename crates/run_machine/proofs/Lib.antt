@@ -1,7 +1,4 @@
 mod Going
-mod Leaving
-mod Left
-mod Lives
 mod Opened
 mod Parts
 mod Picked
@@ -9,4 +6,3 @@ mod Staying
 mod Steering
 mod Still
 mod Taken
-mod Unwriting

@@ -1,4 +1,3 @@
 pub mod Picks
 pub mod Moving
 pub mod Answering
-pub mod Leaving
