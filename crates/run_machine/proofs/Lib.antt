@@ -1,4 +1,7 @@
 mod Going
+mod Leaving
+mod Left
+mod Lives
 mod Opened
 mod Parts
 mod Picked
@@ -6,3 +9,4 @@ mod Staying
 mod Steering
 mod Still
 mod Taken
+mod Unwriting

@@ -180,12 +180,6 @@ begin_untold s k how m n r is = by_step s (taking.Begin k how) m n r is (λ worl
 pub enter_untold : (s : Step) (b : Bor Block) (m n : Machine) (r : Result (Option ℕ) Halt) → s ≡ taking.Enter b → AnswersStep s m n r
 enter_untold s b m n r is = by_step s (taking.Enter b) m n r is (λ world meaning st h. absurd h.can)
 
-pub leave_untold : (s : Step) (b : Bor Block) (m n : Machine) (r : Result (Option ℕ) Halt) → s ≡ taking.Leave b → AnswersStep s m n r
-leave_untold s b m n r is = by_step s (taking.Leave b) m n r is (λ world meaning st h. absurd h.can)
-
-pub unwrite_untold : (s : Step) (d : ℕ) (m n : Machine) (r : Result (Option ℕ) Halt) → s ≡ taking.Unwrite d → AnswersStep s m n r
-unwrite_untold s d m n r is = by_step s (taking.Unwrite d) m n r is (λ world meaning st h. absurd h.can)
-
 -- ---- the next step, taken off
 -- the machine before it is the one that stood
 before_stands : (world : World) (meaning : Option ℕ → Meaning) (m : Machine) (below : List (List Kept_work)) (now : List Kept_work) (st : State) →

@@ -1,9 +1,11 @@
 -- What control steps come to is what the control steps of the definitions come to (own).
-use Rattle.std.specs.Prelude.{◌≡◌, ℕ, List, [], ◌∷◌, slice_get, Option, Some, None, Result, Ok, Err}
+use Rattle.std.specs.Prelude.{◌≡◌, ℕ, ◌+◌, ◌<◌, ◌^◌, true, false, List, [], ◌∷◌, length, map, slice_get, is_some, Option, Some, None, Result, Ok, Err}
 use Rattle.std.specs.Borrow.{Bor}
 use Rattle.ub_base.specs.declared.names.Item.{Item}
-use Rattle.c_model.specs.Control.{Todo, Nothing_to_do, Go_to, Go_out, Go_on, Go_back, ready_work}
-use Rattle.c_model.specs.Steps.{Control}
+use Rattle.c_model.specs.Control.{Todo, Leave, Unwrite, Nothing_to_do, Go_to, Go_out, Go_on, Go_back, ready_work}
+use Rattle.c_model.specs.Program.{Decl}
+use Rattle.c_model.specs.OpenBlocks.{Closes, NoEntersBehind}
+use Rattle.c_model.specs.Steps.{Control, Local}
 use Rattle.c_model.specs.World.{World}
 use Rattle.c_model.specs.Runs.{Entry, Outcome, Raises, Over, No_row, Ends, Running, State, depth_of, limit_passed, step}
 use Rattle.run_control.specs.declared.statement.Statement.{Statement}
@@ -12,7 +14,8 @@ use Rattle.run_control.specs.declared.work.Step.TheVariants as taking
 use Rattle.run_control.specs.declared.moves.Move.{Move}
 use Rattle.run_control.specs.declared.moves.Move.TheVariants.{Out, On, Back}
 use Rattle.run_control.specs.declared.work.Work.{Work}
-use Rattle.run_control.specs.View.{Meaning, step_of, todo_of}
+use Rattle.run_control.specs.View.{Meaning, is_nothing, step_of, todo_of}
+use Rattle.run_code.specs.declared.steps.BlockCode.{BlockCode}
 use Rattle.run_code.specs.declared.steps.FunctionCode.{FunctionCode}
 use Rattle.run_code.specs.declared.whole.Code.{Code}
 use Rattle.run_statements.specs.declared.jumps.Jumps.{Jumps}
@@ -67,14 +70,42 @@ abbrev pub HasLabels : Code → Jumps → Option ℕ → Type 0
 HasLabels code jumps None = ⊥
 HasLabels code jumps (Some n) = HasLabelsOf code jumps n
 
+-- A declaration: the blocks that are open are those that what is left to do leaves, and behind the next control step none is entered; so it is in each
+-- frame of a run but behind a jump into blocks (`law_open_blocks` of c_model).
+pub record HasOpenBlocks (f : Local) : Type 0 where
+  pub closes : Closes (ready_work f.todo) (map (λ b. b.0) f.scene.blocks)
+  pub behind : NoEntersBehind (ready_work f.todo)
+
+-- the object of this number is one of the innermost open block; numbers of blocks and of objects are below 2^32, and places of objects below 2^64
+abbrev pub IsDeclared : Code → Open → ℕ → List (ℕ × ℕ) → Type 0
+IsDeclared code o d [] = ⊥
+IsDeclared code o d (b ∷ bs) =
+    (c : BlockCode) → slice_get code.tables.blocks.items (o.blocks + b.0) ≡ Some c
+    → (o.blocks + b.0 < 2 ^ 32) × (d < c.objects.count) × (c.first + d < 2 ^ 32) × (o.locals + (c.first + d) < 2 ^ 64)
+
+-- The leave of a block behind which the frame, a function's, goes on: the blocks that are open are those that what is left to do leaves; and the code has as
+-- many objects of the block as the definitions, with numbers below 2^32, and places of objects below 2^64.
+pub record HasObjects (o : Open) (b : ℕ) (c : BlockCode) (ds : List Decl) : Type 0 where
+  pub block : o.blocks + b < 2 ^ 32
+  pub count : c.objects.count ≡ length ds
+  pub within : (k : ℕ) → k < c.objects.count → (c.first + k < 2 ^ 32) × (o.locals + (c.first + k) < 2 ^ 64)
+
+pub record IsLeft (code : Code) (o : Open) (st : State) (b : ℕ) (ds : List Decl) (rest : Todo) : Type 0 where
+  pub goes : is_nothing (ready_work rest) ≡ false
+  pub function : is_some o.function ≡ true
+  pub closes : Closes (ready_work st.top.todo) (map (λ k. k.0) st.top.scene.blocks)
+  pub objects : (c : BlockCode) → slice_get code.tables.blocks.items (o.blocks + b) ≡ Some c → HasObjects o b c ds
+
 -- What is asked of a machine, and of the state that it stands for, for the control step that comes next: nothing for `break`, `continue` and `return`, and
--- where nothing is done. Of steps that enter or leave a block, reach a declaration, or begin a full expression, nothing is said yet.
+-- where nothing is done. Of steps that enter a block, end a frame, or begin a full expression, nothing is said yet.
 abbrev pub CanTake : Code → Jumps → Open → State → Todo → Type 0
 CanTake code jumps o st (Nothing_to_do ∷ rest) = Unit {0}
 CanTake code jumps o st (Go_out ∷ rest) = Unit {0}
 CanTake code jumps o st (Go_on ∷ rest) = Unit {0}
 CanTake code jumps o st (Go_back ∷ rest) = Unit {0}
 CanTake code jumps o st (Go_to k ∷ rest) = HasLabels code jumps o.function
+CanTake code jumps o st (Unwrite d ∷ rest) = HasOpenBlocks st.top × IsDeclared code o d st.top.scene.blocks
+CanTake code jumps o st (Leave b ds ∷ rest) = IsLeft code o st b ds rest
 CanTake code jumps o st _ = ⊥
 
 -- The state is within the limits, no full expression is open in its top frame, and the machine can take its next control step.

@@ -1,6 +1,7 @@
 use Rattle.std.proofs.Common.{None, Ok}
 use Rattle.run_control.specs.declared.work.Step.TheVariants as taking
-use Rattle.run_machine.proofs.Staying.{begin_untold, by_step, enter_untold, leave_untold, nothing_answers, unwrite_untold}
+use Rattle.run_machine.proofs.Left.{block_answers}
+use Rattle.run_machine.proofs.Staying.{begin_untold, by_step, enter_untold, nothing_answers}
 use Rattle.run_machine.proofs.Steering.{block_left, gone_back, gone_on, gone_out, label_gone}
 use Rattle.run_machine.proofs.control.take_step.Goals as goal
 
@@ -10,18 +11,18 @@ returns-in-Begin-clause-answers c = begin_untold c.args.step _ _ c.args.machine.
 pub returns-in-Enter-clause-answers : goal.returns-in-Enter-clause-answers
 returns-in-Enter-clause-answers c = enter_untold c.args.step _ c.args.machine.now _ _ c.in-Enter.is
 
-pub returns-in_err-leave-in-Leave-clause-answers : goal.returns-in_err-leave-in-Leave-clause-answers
-returns-in_err-leave-in-Leave-clause-answers c = leave_untold c.args.step _ c.args.machine.now _ _ c.in-Leave.is
-
 pub returns-in_ok-leave-in-Leave : goal.returns-in_ok-leave-in-Leave
 returns-in_ok-leave-in-Leave c = record {
   leaves = block_left c.go_on.result c.args.machine.now.jumps.links.items c.args.step c.in-Leave.block c.args.machine.now.work c.leave.new.machine.work
-      c.go_on.new.machine.work c.in-Leave.is c.leave.ensures c.go_on.ensures;
-  answers = leave_untold c.args.step _ c.args.machine.now _ _ c.in-Leave.is;
+      c.go_on.new.machine.work c.in-Leave.is c.leave.ensures.work c.go_on.ensures.goes;
+  answers = block_answers c.args.machine.now c.leave.new.machine c.go_on.new.machine c.in-Leave.block c.args.step c.go_on.result c.in-Leave.is
+      c.leave.ensures.work c.in_ok-leave-in-Leave.ensures.lives c.go_on.ensures.still c.go_on.ensures.goes;
 }
 
 pub returns-in-Unwrite-clause-answers : goal.returns-in-Unwrite-clause-answers
-returns-in-Unwrite-clause-answers c = unwrite_untold c.args.step _ c.args.machine.now _ _ c.in-Unwrite.is
+returns-in-Unwrite-clause-answers c =
+    by_step c.args.step (taking.Unwrite c.in-Unwrite.object) c.args.machine.now c.declare.new.machine c.declare.result c.in-Unwrite.is
+    c.declare.ensures.answers
 
 pub returns-in-Nothing-clause-answers : goal.returns-in-Nothing-clause-answers
 returns-in-Nothing-clause-answers c =
