@@ -1,5 +1,29 @@
 -- A machine stands as it stood where nothing but the objects of its memory changes, and these go on: a life ends, or bytes become unwritten.
-use Rattle.std.proofs.Common.{◌≡◌, ℕ, suc, ◌+◌, ◌≤◌, Bool, true, false, refl, sym, ap, ◌∙◌, subst, List, [], ◌∷◌, length, map, reverse, Option, Some, None, slice_get}
+use Rattle.std.proofs.Common.{
+  ◌≡◌,
+  ℕ,
+  suc,
+  ◌+◌,
+  ◌≤◌,
+  Bool,
+  true,
+  false,
+  refl,
+  sym,
+  ap,
+  ◌∙◌,
+  subst,
+  List,
+  [],
+  ◌∷◌,
+  length,
+  map,
+  reverse,
+  Option,
+  Some,
+  None,
+  slice_get,
+}
 use Rattle.std.specs.Borrow.{Bor}
 use Rattle.c_types.specs.Types.{CType, int}
 use Rattle.c_typed.specs.declared.program.Constant.{Constant}

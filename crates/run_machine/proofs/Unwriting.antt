@@ -1,5 +1,34 @@
 -- A declaration is reached again: the bytes of its object become unwritten.
-use Rattle.std.proofs.Common.{◌≡◌, ℕ, ◌+◌, ◌-◌, ◌<◌, ◌^◌, min, Bool, true, false, refl, sym, ap, ◌∙◌, subst, arith, List, [], ◌∷◌, length, map, reverse, replicate, rules, Option, Some, None, slice_get}
+use Rattle.std.proofs.Common.{
+  ◌≡◌,
+  ℕ,
+  ◌+◌,
+  ◌-◌,
+  ◌<◌,
+  ◌^◌,
+  min,
+  Bool,
+  true,
+  false,
+  refl,
+  sym,
+  ap,
+  ◌∙◌,
+  subst,
+  arith,
+  List,
+  [],
+  ◌∷◌,
+  length,
+  map,
+  reverse,
+  replicate,
+  rules,
+  Option,
+  Some,
+  None,
+  slice_get,
+}
 use Rattle.std.specs.Prelude.{is_some, if◌then◌else◌, Result, Ok, Err}
 use Rattle.std.specs.Borrow.{Bor}
 use Rattle.ub_base.specs.declared.names.Item.{Item}
@@ -138,8 +167,8 @@ pub names_own : (world : World) (m : Machine) (f : Scene) (bs : List (ℕ × ℕ
     bs ≡ (n, turn) ∷ rest → slice_get m.code.now.tables.blocks.items (min (m.top.blocks + n) (2 ^ 32 - 1)) ≡ Some c →
     slice_get m.locals.items (min (m.top.locals + min (c.first + d) (2 ^ 32 - 1)) (2 ^ 64 - 1)) ≡ Some l →
     ((code : BlockCode) → slice_get m.code.now.tables.blocks.items (m.top.blocks + n) ≡ Some code →
-    (m.top.blocks + n < 2 ^ 32) × (d < code.objects.count) × (code.first + d < 2 ^ 32) × (m.top.locals + (code.first + d) < 2 ^ 64)) → StandLocals world m m.top f bs →
-    l.name ≡ auto_name world f turn d
+    (m.top.blocks + n < 2 ^ 32) × (d < code.objects.count) × (code.first + d < 2 ^ 32) × (m.top.locals + (code.first + d) < 2 ^ 64)) →
+    StandLocals world m m.top f bs → l.name ≡ auto_name world f turn d
 names_own world m f bs n turn d rest c l first block there declared locals =
     let own = subst (λ (ds : List (ℕ × ℕ)). StandLocals world m m.top f ds) first locals in
     let code = own.0.0 in
