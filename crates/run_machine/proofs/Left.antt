@@ -105,7 +105,7 @@ module _ (world : World) (rows : List Row) (f : Scene) (turn : ℕ) (v : Value) 
   killed k n (d ∷ ds) e = ap (touched (Dies (own k))) (killed (suc k) n ds (omega (arith, e)))
 
 joined : (x : ℕ → ObjName) (k m n : ℕ) → m ≡ k + n → deaths x k ++ deaths_from x k n ≡ deaths x m
-joined x k m zero e = sym (nothing_more (deaths x k)) ∙ ap (deaths x) (omega (arith, e))
+joined x k m zero e = (let same : k ≡ m = omega (arith, e) in sym (nothing_more (deaths x k)) ∙ ap (deaths x) same)
 joined x k m (suc n) e =
     let along : deaths x k ++ (Dies (x k) ∷ deaths_from x (suc k) n) ≡ (deaths x k ++ (Dies (x k) ∷ [])) ++ deaths_from x (suc k) n = simp append_assoc in
     along ∙ joined x (suc k) m n (omega (arith, e))
