@@ -1,5 +1,12 @@
+mod Going
+mod Leaving
+mod Left
+mod Lives
 mod Opened
 mod Parts
 mod Picked
+mod Staying
 mod Steering
+mod Still
 mod Taken
+mod Unwriting

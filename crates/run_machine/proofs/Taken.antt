@@ -1,7 +1,7 @@
 -- The event that is taken, by a state that the machine stands for.
 use Rattle.std.proofs.Common.{◌≡◌, ℕ, Option, Result, Ok, Err, IfOk, ap, subst, ◌∙◌}
 use Rattle.c_typed.specs.declared.tree.Place.{Place}
-use Rattle.c_model.specs.Steps.{Control, Ev, event_of}
+use Rattle.c_model.specs.Steps.{Ev, event_of}
 use Rattle.c_model.specs.Steps as steps
 use Rattle.c_model.specs.Runs.{State}
 use Rattle.c_model.specs.World.{World}
@@ -9,7 +9,6 @@ use Rattle.run_control.specs.View.{Meaning}
 use Rattle.run_state.specs.declared.machine.Machine.{Machine}
 use Rattle.run_state.specs.Stands.{Stands}
 use Rattle.run_machine.specs.declared.pick.Pick.{Pick}
-use Rattle.run_machine.specs.declared.pick.Pick.TheVariants as pick
 use Rattle.run_machine.specs.Picks.{event_at, IsOfEvent, IsPick}
 use Rattle.run_machine.proofs.Opened.{top_frame}
 
@@ -28,6 +27,3 @@ pub event_taken : {E : Type 0} (r : Result Pick E) (world : World) (meaning : Op
 event_taken (Ok x) world meaning m n st u p stands frame turn is taken =
     subst (λ q. IsPick world st q x) is (subst (λ e. IsOfEvent e x) (event_seen world meaning m n st u stands frame turn) taken)
 event_taken (Err e) world meaning m n st u p stands frame turn is taken = tt
-
-pub step_taken : (world : World) (st : State) (status : Option ℕ) (p : steps.Pick) → Control ≡ p → IsPick world st p (pick.Step status)
-step_taken world st status p is = subst (λ q. IsPick world st q (pick.Step status)) is tt

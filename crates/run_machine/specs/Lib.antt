@@ -1,2 +1,4 @@
 pub mod Picks
 pub mod Moving
+pub mod Answering
+pub mod Leaving

@@ -1,10 +1,13 @@
 // The control steps (6.8).
-ghost use Rattle.std.specs.Prelude.{◌≡◌, ◌∷◌, ℤ, Bool, Option, None, OnOk};
+ghost use Rattle.std.specs.Prelude.{◌≡◌, ◌∷◌, ◌+◌, ◌-◌, ◌^◌, false, min, ℤ, Bool, Option, None, Some, slice_get, IfOk, OnOk};
 ghost use Rattle.run_control.specs.Moves.{moved};
-ghost use Rattle.c_model.specs.Control.{Break_here, moved_in};
+ghost use Rattle.c_model.specs.Control.{Break_here, moved_in, ready_work};
 ghost use Rattle.run_control.specs.declared.links.Place.{Place};
+ghost use Rattle.run_control.specs.declared.work.Step.TheVariants as steps;
 ghost use Rattle.run_control.specs.Links.{work_at};
-ghost use Rattle.run_control.specs.View.{Meaning, after, todo_of};
+ghost use Rattle.run_control.specs.View.{Meaning, after, is_nothing, todo_of};
+ghost use Rattle.run_machine.specs.Answering.{AnswersControl, AnswersStep, step_of_move};
+ghost use Rattle.run_machine.specs.Leaving.{GoesStill, LeavesBlock};
 ghost use Rattle.run_machine.specs.Moving.{GoesOn, IsGone, StepLeaves, TakesStep};
 
 use crate::frames::end_frame;
@@ -24,6 +27,7 @@ pub const MOST_CREATED: u64 = 1 << 26;
 // The control step of the top frame, in whose full expression no event is left, with the status where it ends the run.
 pub fn control_step(machine: &mut Machine) -> Result<Option<u8>, Halt>
     ensures step { OnOk result (machine.old.top.stage ≡ None → (m : Meaning) → TakesStep m machine.old.jumps.links.items machine.old.work machine.new.work) }
+    ensures answers { AnswersControl machine.old machine.new result }
 {
     match machine.top.stage {
         Some(stage) => settle(machine, stage),
@@ -35,7 +39,8 @@ pub fn control_step(machine: &mut Machine) -> Result<Option<u8>, Halt>
 }
 
 fn take_step<'c>(machine: &mut Machine<'_, 'c>, step: Step<'c>) -> Result<Option<u8>, Halt>
-    ensures { OnOk result ((m : Meaning) → StepLeaves m machine.old.jumps.links.items step.entry machine.old.work machine.new.work) }
+    ensures leaves { OnOk result ((m : Meaning) → StepLeaves m machine.old.jumps.links.items step.entry machine.old.work machine.new.work) }
+    ensures answers { AnswersStep step.entry machine.old machine.new result }
 {
     match step {
         Step::Begin(number, how) => begin(machine, number, how),
@@ -55,7 +60,8 @@ fn take_step<'c>(machine: &mut Machine<'_, 'c>, step: Step<'c>) -> Result<Option
 
 // The frame ends with this step where nothing is left to do in it.
 fn go_on(machine: &mut Machine) -> Result<Option<u8>, Halt>
-    ensures { OnOk result ((m : Meaning) → GoesOn m machine.old.work machine.new.work) }
+    ensures goes { OnOk result ((m : Meaning) → GoesOn m machine.old.work machine.new.work) }
+    ensures still { (m : Meaning) → is_nothing (ready_work (todo_of m machine.old.work.now)) ≡ false → GoesStill machine.old machine.new result }
 {
     if machine.work.is_over()? {
         end_frame(machine)
@@ -67,13 +73,15 @@ fn go_on(machine: &mut Machine) -> Result<Option<u8>, Halt>
 fn go(machine: &mut Machine, how: Move) -> Result<Option<u8>, Halt>
     ensures below { OnOk result (machine.new.work.below ≡ machine.old.work.below) }
     ensures now { OnOk result ((m : Meaning) → todo_of m machine.new.work.now ≡ moved how (todo_of m machine.old.work.now)) }
+    ensures answers { AnswersStep (step_of_move how) machine.old machine.new result }
 {
     machine.work.go(how)?;
     Ok(None)
 }
 
 fn go_to(machine: &mut Machine, label: u32) -> Result<Option<u8>, Halt>
-    ensures { OnOk result ((m : Meaning) → IsGone m machine.old.jumps.links.items machine.old.work machine.new.work) }
+    ensures gone { OnOk result ((m : Meaning) → IsGone m machine.old.jumps.links.items machine.old.work machine.new.work) }
+    ensures answers { AnswersStep (steps.GoTo label) machine.old machine.new result }
 {
     let Some(function) = machine.top.function else {
         return Err(Halt::NoMemory);
@@ -87,7 +95,9 @@ fn go_to(machine: &mut Machine, label: u32) -> Result<Option<u8>, Halt>
 fn block_of<'c>(
     machine: &Machine<'_, 'c>,
     number: u32,
-) -> Result<(BlockCode, &'c [ObjectCode]), NoMemory> {
+) -> Result<(BlockCode, &'c [ObjectCode]), NoMemory>
+    ensures { IfOk result (λ b. slice_get machine.now.code.now.tables.blocks.items (min (machine.now.top.blocks + number) (2 ^ 32 - 1)) ≡ Some b.0) }
+{
     let code = machine.code;
     let at = machine.top.blocks.saturating_add(number);
     match code.block(at) {
@@ -185,7 +195,8 @@ fn store_argument(
 
 // A block is left: the lives of its objects end.
 fn leave(machine: &mut Machine, number: u32) -> Result<(), NoMemory>
-    ensures { machine.new.work ≡ machine.old.work }
+    ensures work { machine.new.work ≡ machine.old.work }
+    ensures lives { OnOk result (LeavesBlock machine.old number machine.new) }
 {
     let (block, _) = block_of(machine, number)?;
     for object in 0..block.objects.count {
@@ -198,7 +209,8 @@ fn leave(machine: &mut Machine, number: u32) -> Result<(), NoMemory>
 
 // The bytes of an object of the innermost block become unwritten.
 fn declare(machine: &mut Machine, object: u32) -> Result<Option<u8>, Halt>
-    ensures { machine.new.work ≡ machine.old.work }
+    ensures work { machine.new.work ≡ machine.old.work }
+    ensures answers { AnswersStep (steps.Unwrite object) machine.old machine.new result }
 {
     let Some(block) = machine.work.block() else {
         return Err(Halt::NoMemory);

@@ -13,7 +13,8 @@ ghost use Rattle.run_code.specs.Named.{IsDueOf};
 ghost use Rattle.run_listing.specs.Along.{events_of};
 ghost use Rattle.run_state.specs.Stands.{Stands};
 ghost use Rattle.run_state.specs.declared.watch.Begun.{Begun as BegunOf};
-ghost use Rattle.run_machine.specs.Picks.{top_of, passed_part, kept_of, at_cursor, ByOrder, ComesNext, Decides, Follows, IsPick, Permits, Refuses, Strays, Takes};
+ghost use Rattle.run_machine.specs.Answering.{AnswersCanonical, TakesControl};
+ghost use Rattle.run_machine.specs.Picks.{top_of, passed_part, kept_of, at_cursor, ByOrder, ComesNext, Decides, Follows, IsPick, IsStep, Permits, Refuses, Strays, Takes};
 
 use crate::control::control_step;
 use crate::events::take_event;
@@ -31,13 +32,25 @@ use ub_base::NoMemory;
 pub fn canonical(machine: &mut Machine) -> Result<Pick, Halt>
     ensures takes { (world : World) (meaning : Option ℕ → Meaning) (st : State) → Stands world meaning machine.old st
         → IfOk result (IsPick world st (canonical_pick world st.top st.top.begun)) }
+    ensures steps { AnswersCanonical machine.old machine.new result }
 {
     law_picks();
     let next = follow(machine)?;
     machine.items.clear();
     match next {
         Some(due) => take_event(machine, due),
-        None => Ok(Pick::Step(control_step(machine)?)),
+        None => take_control(machine),
+    }
+}
+
+// The control step is taken.
+fn take_control(machine: &mut Machine) -> Result<Pick, Halt>
+    ensures step { IfOk result IsStep }
+    ensures answers { TakesControl machine.old machine.new result }
+{
+    match control_step(machine) {
+        Ok(status) => Ok(Pick::Step(status)),
+        Err(halt) => Err(halt),
     }
 }
 

@@ -1,13 +1,20 @@
-use Rattle.std.proofs.Common.{sym, ◌∙◌}
+use Rattle.std.proofs.Common.{sym, ◌∙◌, refl}
+use Rattle.run_machine.proofs.Left.{over_still}
 use Rattle.run_machine.proofs.Steering.{frame_ends, goes_further}
 use Rattle.run_machine.proofs.control.go_on.Goals as goal
 
 pub returns-then-branch : goal.returns-then-branch
-returns-then-branch c =
-    frame_ends c.end_frame.result c.args.machine.now.work c.is_over.new.self c.end_frame.new.machine.work c.in_ok-is_over.field-0 c.if-branch.true
-    c.in_ok-is_over.ensures.over c.in_ok-is_over.ensures.below c.end_frame.ensures.work
+returns-then-branch c = record {
+  goes = frame_ends c.end_frame.result c.args.machine.now.work c.is_over.new.self c.end_frame.new.machine.work c.in_ok-is_over.field-0 c.if-branch.true
+      c.in_ok-is_over.ensures.over c.in_ok-is_over.ensures.below c.end_frame.ensures.work;
+  still = over_still c.args.machine.now c.end_frame.new.machine c.in_ok-is_over.field-0 c.end_frame.result c.if-branch.true
+      c.in_ok-is_over.ensures.over;
+}
 
 pub returns-else-branch : goal.returns-else-branch
-returns-else-branch c = λ m.
-    goes_further m c.args.machine.now.work c.is_over.new.self (sym (c.in_ok-is_over.ensures.over m) ∙ c.if-branch.false) c.in_ok-is_over.ensures.below
-    (c.in_ok-is_over.ensures.now m)
+returns-else-branch c = record {
+  goes = λ m.
+      goes_further m c.args.machine.now.work c.is_over.new.self (sym (c.in_ok-is_over.ensures.over m) ∙ c.if-branch.false) c.in_ok-is_over.ensures.below
+      (c.in_ok-is_over.ensures.now m);
+  still = λ m on. (refl, refl);
+}

@@ -1,27 +1,58 @@
+use Rattle.std.proofs.Common.{None, Ok}
+use Rattle.run_control.specs.declared.work.Step.TheVariants as taking
+use Rattle.run_machine.proofs.Left.{block_answers}
+use Rattle.run_machine.proofs.Staying.{begin_untold, by_step, enter_untold, nothing_answers}
 use Rattle.run_machine.proofs.Steering.{block_left, gone_back, gone_on, gone_out, label_gone}
 use Rattle.run_machine.proofs.control.take_step.Goals as goal
 
+pub returns-in-Begin-clause-answers : goal.returns-in-Begin-clause-answers
+returns-in-Begin-clause-answers c = begin_untold c.args.step _ _ c.args.machine.now _ _ c.in-Begin.is
+
+pub returns-in-Enter-clause-answers : goal.returns-in-Enter-clause-answers
+returns-in-Enter-clause-answers c = enter_untold c.args.step _ c.args.machine.now _ _ c.in-Enter.is
+
 pub returns-in_ok-leave-in-Leave : goal.returns-in_ok-leave-in-Leave
-returns-in_ok-leave-in-Leave c =
-    block_left c.go_on.result c.args.machine.now.jumps.links.items c.args.step c.in-Leave.block c.args.machine.now.work c.leave.new.machine.work
-    c.go_on.new.machine.work c.in-Leave.is c.leave.ensures c.go_on.ensures
+returns-in_ok-leave-in-Leave c = record {
+  leaves = block_left c.go_on.result c.args.machine.now.jumps.links.items c.args.step c.in-Leave.block c.args.machine.now.work c.leave.new.machine.work
+      c.go_on.new.machine.work c.in-Leave.is c.leave.ensures.work c.go_on.ensures.goes;
+  answers = block_answers c.args.machine.now c.leave.new.machine c.go_on.new.machine c.in-Leave.block c.args.step c.go_on.result c.in-Leave.is
+      c.leave.ensures.work c.in_ok-leave-in-Leave.ensures.lives c.go_on.ensures.still c.go_on.ensures.goes;
+}
+
+pub returns-in-Unwrite-clause-answers : goal.returns-in-Unwrite-clause-answers
+returns-in-Unwrite-clause-answers c =
+    by_step c.args.step (taking.Unwrite c.in-Unwrite.object) c.args.machine.now c.declare.new.machine c.declare.result c.in-Unwrite.is
+    c.declare.ensures.answers
+
+pub returns-in-Nothing-clause-answers : goal.returns-in-Nothing-clause-answers
+returns-in-Nothing-clause-answers c =
+    by_step c.args.step taking.Nothing c.args.machine.now c.args.machine.now (Ok None) c.in-Nothing.is (nothing_answers c.args.machine.now)
 
 pub returns-in-GoTo : goal.returns-in-GoTo
-returns-in-GoTo c =
-    label_gone c.go_to.result c.args.machine.now.jumps.links.items c.args.step c.in-GoTo.label c.args.machine.now.work c.go_to.new.machine.work c.in-GoTo.is
-    c.go_to.ensures
+returns-in-GoTo c = record {
+  leaves = label_gone c.go_to.result c.args.machine.now.jumps.links.items c.args.step c.in-GoTo.label c.args.machine.now.work c.go_to.new.machine.work
+      c.in-GoTo.is c.go_to.ensures.gone;
+  answers = by_step c.args.step (taking.GoTo c.in-GoTo.label) c.args.machine.now c.go_to.new.machine c.go_to.result c.in-GoTo.is c.go_to.ensures.answers;
+}
 
 pub returns-in-GoOut : goal.returns-in-GoOut
-returns-in-GoOut c =
-    gone_out c.go.result c.args.machine.now.jumps.links.items c.args.step c.args.machine.now.work c.go.new.machine.work c.in-GoOut.is c.go.ensures.below
-    c.go.ensures.now
+returns-in-GoOut c = record {
+  leaves = gone_out c.go.result c.args.machine.now.jumps.links.items c.args.step c.args.machine.now.work c.go.new.machine.work c.in-GoOut.is
+      c.go.ensures.below c.go.ensures.now;
+  answers = by_step c.args.step taking.GoOut c.args.machine.now c.go.new.machine c.go.result c.in-GoOut.is c.go.ensures.answers;
+}
 
 pub returns-in-GoOn : goal.returns-in-GoOn
-returns-in-GoOn c =
-    gone_on c.go-in-GoOn.result c.args.machine.now.jumps.links.items c.args.step c.args.machine.now.work c.go-in-GoOn.new.machine.work c.in-GoOn.is
-    c.go-in-GoOn.ensures.below c.go-in-GoOn.ensures.now
+returns-in-GoOn c = record {
+  leaves = gone_on c.go-in-GoOn.result c.args.machine.now.jumps.links.items c.args.step c.args.machine.now.work c.go-in-GoOn.new.machine.work c.in-GoOn.is
+      c.go-in-GoOn.ensures.below c.go-in-GoOn.ensures.now;
+  answers = by_step c.args.step taking.GoOn c.args.machine.now c.go-in-GoOn.new.machine c.go-in-GoOn.result c.in-GoOn.is c.go-in-GoOn.ensures.answers;
+}
 
 pub returns-in-GoBack : goal.returns-in-GoBack
-returns-in-GoBack c =
-    gone_back c.go-in-GoBack.result c.args.machine.now.jumps.links.items c.args.step c.args.machine.now.work c.go-in-GoBack.new.machine.work c.in-GoBack.is
-    c.go-in-GoBack.ensures.below c.go-in-GoBack.ensures.now
+returns-in-GoBack c = record {
+  leaves = gone_back c.go-in-GoBack.result c.args.machine.now.jumps.links.items c.args.step c.args.machine.now.work c.go-in-GoBack.new.machine.work
+      c.in-GoBack.is c.go-in-GoBack.ensures.below c.go-in-GoBack.ensures.now;
+  answers = by_step c.args.step taking.GoBack c.args.machine.now c.go-in-GoBack.new.machine c.go-in-GoBack.result c.in-GoBack.is
+      c.go-in-GoBack.ensures.answers;
+}

@@ -1,7 +1,8 @@
 use Rattle.std.proofs.Common.{◌≡◌, [], subst}
 use Rattle.c_model.specs.Runs.{canonical_pick, chosen_pick}
 use Rattle.run_listing.specs.Along.{place_of}
-use Rattle.run_machine.proofs.Taken.{event_taken, step_taken}
+use Rattle.run_machine.proofs.Staying.{event_untold, step_told, steps_taken}
+use Rattle.run_machine.proofs.Taken.{event_taken}
 use Rattle.run_machine.proofs.picks.canonical.Goals as goal
 
 pub returns-in-Some : goal.returns-in-Some
@@ -12,13 +13,17 @@ returns-in-Some c = record {
       event_taken c.take_event.result world meaning m (record c.follow.new.machine { items = [] }) st c.in-Some.due.now.place _ stands
       c.in_ok-next.ensures.frame.0 c.in_ok-next.ensures.frame.1
       (subst (λ o. chosen_pick world (place_of o) ≡ canonical_pick world st.top st.top.begun) c.in-Some.is picks) c.take_event.ensures.event;
+  steps = event_untold c.args.machine.now c.follow.new.machine c.take_event.new.machine c.in_ok-next.next c.in-Some.due c.take_event.result
+      c.in_ok-next.ensures.follows c.in-Some.is;
 }
 
-pub returns-in_ok-control_step-in-None : goal.returns-in_ok-control_step-in-None
-returns-in_ok-control_step-in-None c = record {
+pub returns-in-None : goal.returns-in-None
+returns-in-None c = record {
   takes = λ world meaning st stands.
       let picks = c.law_picks.ensures.follows c.args.machine.now c.follow.new.machine c.in_ok-next.next c.in_ok-next.ensures.follows world meaning st
       stands in
-      step_taken world st c.in_ok-control_step-in-None.field-0 _
-      (subst (λ o. chosen_pick world (place_of o) ≡ canonical_pick world st.top st.top.begun) c.in-None.is picks);
+      steps_taken c.take_control.result world st _
+      (subst (λ o. chosen_pick world (place_of o) ≡ canonical_pick world st.top st.top.begun) c.in-None.is picks) c.take_control.ensures.step;
+  steps = step_told c.args.machine.now c.follow.new.machine c.take_control.new.machine c.in_ok-next.next c.clear.new.self c.take_control.result
+      c.in_ok-next.ensures.follows c.clear.ensures c.take_control.ensures.answers;
 }

@@ -1,0 +1,275 @@
+-- Control steps after which the frame goes on, and what the machine then stands for.
+use Rattle.std.proofs.Common.{◌≡◌, ℕ, suc, ◌+◌, Bool, true, false, refl, sym, ap, ◌∙◌, subst, List, [], ◌∷◌, length, reverse, Option, Some, None}
+use Rattle.std.specs.Borrow.{Bor}
+use Rattle.std.specs.Prelude.{is_some, if◌then◌else◌, Result, Ok, Err, IfOk}
+use Rattle.ub_base.specs.declared.names.Item.{Item}
+use Rattle.c_typed.specs.declared.tree.Place.{Place}
+use Rattle.mem_spec.specs.Store.{Store}
+use Rattle.mem_spec.specs.Script.{Act, Done, run}
+use Rattle.c_model.specs.Control.{Todo, Work, ready_work, out_of, on_with, leaves}
+use Rattle.c_model.specs.Moves.{Move, Stay}
+use Rattle.c_model.specs.Steps.{Pick as Model_pick, Begun, Local, Scene, Control, control_act, control_move, control_next, does, move, next}
+use Rattle.c_model.specs.Values.{Value, Nothing}
+use Rattle.c_model.specs.World.{World}
+use Rattle.c_model.specs.Runs.{
+  Entry,
+  Outcome,
+  Running,
+  State,
+  acted,
+  block_passes,
+  depth_of,
+  enter_passes,
+  entry_of,
+  limit_passed,
+  limited,
+  moved,
+  step,
+  within,
+}
+use Rattle.run_control.specs.declared.statement.Block.{Block}
+use Rattle.run_control.specs.declared.work.Use.{Use}
+use Rattle.run_control.specs.declared.work.Work.{Work as Kept_work}
+use Rattle.run_control.specs.declared.moves.Move.{Move as Kept_move}
+use Rattle.run_control.specs.declared.moves.Move.TheVariants.{Out, On, Back}
+use Rattle.run_control.specs.Moves.{moved as moved_by}
+use Rattle.run_control.specs.declared.work.Step.{Step}
+use Rattle.run_control.specs.declared.work.Step.TheVariants as taking
+use Rattle.run_control.specs.View.{Meaning, readied, step_of, todo_of}
+use Rattle.run_code.specs.declared.steps.Due.{Due}
+use Rattle.run_state.specs.declared.halt.Halt.{Halt}
+use Rattle.run_state.specs.declared.halt.Halt.TheVariants as halt
+use Rattle.run_state.specs.declared.machine.Machine.{Machine}
+use Rattle.run_state.specs.declared.machine.Open.{Open}
+use Rattle.run_state.specs.declared.machine.Stage.{Stage}
+use Rattle.run_state.specs.declared.watch.Begun.{Begun as Shown}
+use Rattle.run_state.specs.Stands.{Stands, StandsBegun}
+use Rattle.run_machine.specs.declared.pick.Pick.{Pick}
+use Rattle.run_machine.specs.declared.pick.Pick.TheVariants as pick
+use Rattle.run_machine.specs.Answering.{
+  Answers,
+  AnswersCanonical,
+  AnswersControl,
+  AnswersPick,
+  AnswersStep,
+  CanTake,
+  HasTaken,
+  MayGoOn,
+  TakesControl,
+  as_before,
+  step_of_move,
+}
+use Rattle.run_machine.specs.Picks.{Follows, FollowsIn, IsPick, IsStep, top_of}
+use Rattle.run_machine.proofs.Still.{depth_same, items_stand, left_stands}
+
+-- ---- the definitions: no full expression is open, this work comes next, and the frame stays
+module _ (world : World) (st : State) (w : Work) (rest : Todo) where
+  passes_none : st.top.begun ≡ None → ready_work st.top.todo ≡ w ∷ rest → block_passes world.limits st.store (w ∷ rest) ≡ None →
+      enter_passes world.limits st Control ≡ None
+  passes_none closed ready none =
+      ap (λ (b : Option Begun). if is_some b then None else block_passes world.limits st.store (ready_work st.top.todo)) closed
+      ∙ ap (λ (t : Todo). block_passes world.limits st.store t) ready ∙ none
+
+  does_so : st.top.begun ≡ None → ready_work st.top.todo ≡ w ∷ rest →
+      does world st.top st.top.begun Control ≡ control_act world st.top (w ∷ rest)
+  does_so closed ready = ap (λ (b : Option Begun). does world st.top b Control) closed ∙ ap (control_act world st.top) ready
+
+  moves_so : st.top.begun ≡ None → ready_work st.top.todo ≡ w ∷ rest → move world st.top st.top.begun Control ≡ control_move world (w ∷ rest)
+  moves_so closed ready = ap (λ (b : Option Begun). move world st.top b Control) closed ∙ ap (control_move world) ready
+
+  next_so : (v : Value) → st.top.begun ≡ None → ready_work st.top.todo ≡ w ∷ rest →
+      next world st.top st.top.begun Control v ≡ control_next world st.top (w ∷ rest)
+  next_so v closed ready = ap (λ (b : Option Begun). next world st.top b Control v) closed ∙ ap (control_next world st.top) ready
+
+  abbrev pub after_step : List Item → Store → State
+  after_step is s = record {
+    top = control_next world st.top (w ∷ rest);
+    held = st.held;
+    store = s;
+    trace = entry_of world st.top Control is ∷ st.trace;
+  }
+
+  moved_so : (v : Value) (is : List Item) (s : Store) → st.top.begun ≡ None → ready_work st.top.todo ≡ w ∷ rest → control_move world (w ∷ rest) ≡ Stay →
+      moved world st Control (move world st.top st.top.begun Control) v s (entry_of world st.top Control is ∷ st.trace) ≡ Running (after_step is s)
+  moved_so v is s closed ready stays =
+      ap (λ (k : Move Local). moved world st Control k v s (entry_of world st.top Control is ∷ st.trace)) (moves_so closed ready ∙ stays)
+      ∙ ap (λ (f : Local). Running (record { top = f; held = st.held; store = s; trace = entry_of world st.top Control is ∷ st.trace }))
+      (next_so v closed ready)
+
+  pub control_stays : (v : Value) (is : List Item) (s : Store) → st.top.begun ≡ None → ready_work st.top.todo ≡ w ∷ rest →
+      block_passes world.limits st.store (w ∷ rest) ≡ None → run world.rows (control_act world st.top (w ∷ rest)) st.store ≡ Done v is s →
+      control_move world (w ∷ rest) ≡ Stay →
+      limit_passed world.limits (depth_of (control_next world st.top (w ∷ rest)) st.held) s ≡ None →
+      step world st Control ≡ Running (after_step is s)
+  control_stays v is s closed ready passes runs stays limits =
+      ap (λ (l : Option _). within l (acted world st Control (run world.rows (does world st.top st.top.begun Control) st.store)))
+      (passes_none closed ready passes)
+      ∙ ap (acted world st Control) (ap (λ (k : _). run world.rows k st.store) (does_so closed ready) ∙ runs)
+      ∙ ap (limited world.limits) (moved_so v is s closed ready stays)
+      ∙ ap (λ (l : Option _). within l (Running (after_step is s))) limits
+
+-- ---- the machine
+-- a step that changes nothing but what is left to do
+pub left_answers : (s : Step) (world : World) (meaning : Option ℕ → Meaning) (m : Machine) (ws : List Kept_work) (st : State) (todo : Todo) →
+    HasTaken world meaning s m st → todo_of (meaning m.top.function) ws ≡ todo →
+    control_next world st.top (step_of (meaning m.top.function) s ∷ todo_of (meaning m.top.function) m.work.now) ≡ record st.top { todo = todo } →
+    block_passes world.limits st.store (step_of (meaning m.top.function) s ∷ todo_of (meaning m.top.function) m.work.now) ≡ None →
+    run world.rows (control_act world st.top (step_of (meaning m.top.function) s ∷ todo_of (meaning m.top.function) m.work.now)) st.store
+    ≡ Done Nothing [] st.store →
+    control_move world (step_of (meaning m.top.function) s ∷ todo_of (meaning m.top.function) m.work.now) ≡ Stay →
+    Answers world meaning (Ok None) (record m { work = record m.work { now = ws } }) (step world st Control)
+left_answers s world meaning m ws st todo h now leaves passes runs stays =
+    let mg = meaning m.top.function in
+    let w = step_of mg s in
+    let rest = todo_of mg m.work.now in
+    let ready = sym (h.next ∙ h.stands.frames.0.control.ready) in
+    let trace = entry_of world st.top Control [] ∷ st.trace in
+    let after : State = record { top = record st.top { todo = todo }; held = st.held; store = st.store; trace = trace } in (
+      after,
+      control_stays world st w rest Nothing [] st.store h.closed ready passes runs stays
+          (ap (λ (f : Local). limit_passed world.limits (depth_of f st.held) st.store) leaves
+          ∙ ap (λ (d : ℕ). limit_passed world.limits d st.store) (depth_same st.top (record st.top { todo = todo }) st.held refl) ∙ h.within)
+          ∙ ap (λ (f : Local). Running (record { top = f; held = st.held; store = st.store; trace = trace })) leaves,
+      sym h.items,
+      left_stands world meaning (as_before m h.before) ws m.items m.spare st todo trace (record { ready = ap ready_work now; behind = λ b. now }) h.stands,
+    )
+
+-- ---- moves
+module _ (world : World) (meaning : Option ℕ → Meaning) (m : Machine) (ws : List Kept_work) (st : State) where
+  move_answers : (how : Kept_move) → ((k : Meaning) → todo_of k ws ≡ moved_by how (todo_of k m.work.now)) →
+      HasTaken world meaning (step_of_move how) m st →
+      Answers world meaning (Ok None) (record m { work = record m.work { now = ws } }) (step world st Control)
+  move_answers Out now h = left_answers (step_of_move Out) world meaning m ws st (out_of (todo_of (meaning m.top.function) m.work.now)) h
+      (now (meaning m.top.function)) refl refl refl refl
+  move_answers On now h = left_answers (step_of_move On) world meaning m ws st (on_with (todo_of (meaning m.top.function) m.work.now)) h
+      (now (meaning m.top.function)) refl refl refl refl
+  move_answers Back now h = left_answers (step_of_move Back) world meaning m ws st (leaves (todo_of (meaning m.top.function) m.work.now)) h
+      (now (meaning m.top.function)) refl refl refl refl
+
+-- with this work the frames below as they were
+abbrev pub with_work : Machine → List (List Kept_work) → List Kept_work → Machine
+with_work m below now = record m { work = record { below = below; now = now } }
+
+pub go_answers : (how : Kept_move) (m : Machine) (below : List (List Kept_work)) (ws : List Kept_work) → below ≡ m.work.below →
+    ((k : Meaning) → todo_of k ws ≡ moved_by how (todo_of k m.work.now)) → AnswersStep (step_of_move how) m (with_work m below ws) (Ok None)
+go_answers how m below ws same now = λ world meaning st h.
+    subst (λ (bs : List (List Kept_work)). Answers world meaning (Ok None) (with_work m bs ws) (step world st Control)) (sym same)
+    (move_answers world meaning m ws st how now h)
+
+-- nothing is done
+pub nothing_answers : (m : Machine) → AnswersStep taking.Nothing m m (Ok None)
+nothing_answers m = λ world meaning st h.
+    left_answers taking.Nothing world meaning m m.work.now st (todo_of (meaning m.top.function) m.work.now) h refl refl refl refl refl
+
+-- ---- want of memory
+no_memory : (world : World) (meaning : Option ℕ → Meaning) (n : Machine) (o : Outcome) (e : Halt) → e ≡ halt.NoMemory →
+    Answers world meaning (Err e) n o
+no_memory world meaning n o e is = subst (λ (h : Halt). Answers world meaning (Err h) n o) (sym is) tt
+
+pub memory_wanted : (s : Step) (m n : Machine) (e : Halt) → e ≡ halt.NoMemory → AnswersStep s m n (Err e)
+memory_wanted s m n e is = λ world meaning st h. no_memory world meaning n (step world st Control) e is
+
+-- ---- by the step that was taken
+pub by_step : (s t : Step) (m n : Machine) (r : Result (Option ℕ) Halt) → s ≡ t → AnswersStep t m n r → AnswersStep s m n r
+by_step s t m n r is a = subst (λ (x : Step). AnswersStep x m n r) (sym is) a
+
+-- of these nothing is said
+pub begin_untold : (s : Step) (k : ℕ) (how : Use) (m n : Machine) (r : Result (Option ℕ) Halt) → s ≡ taking.Begin k how → AnswersStep s m n r
+begin_untold s k how m n r is = by_step s (taking.Begin k how) m n r is (λ world meaning st h. absurd h.can)
+
+pub enter_untold : (s : Step) (b : Bor Block) (m n : Machine) (r : Result (Option ℕ) Halt) → s ≡ taking.Enter b → AnswersStep s m n r
+enter_untold s b m n r is = by_step s (taking.Enter b) m n r is (λ world meaning st h. absurd h.can)
+
+-- ---- the next step, taken off
+-- the machine before it is the one that stood
+before_stands : (world : World) (meaning : Option ℕ → Meaning) (m : Machine) (below : List (List Kept_work)) (now : List Kept_work) (st : State) →
+    below ≡ m.work.below → Stands world meaning m st → Stands world meaning (as_before (with_work m below now) m.work.now) st
+before_stands world meaning m below now st same s =
+    subst (λ (bs : List (List Kept_work)). Stands world meaning (with_work m bs m.work.now) st) (sym same) s
+
+pub control_answers : (r : Result (Option ℕ) Halt) (o : Option Step) (s : Step) (m : Machine) (below : List (List Kept_work)) (now : List Kept_work)
+    (n : Machine) → o ≡ Some s → below ≡ m.work.below → ((k : Meaning) → readied k o (todo_of k now) ≡ ready_work (todo_of k m.work.now)) →
+    AnswersStep s (with_work m below now) n r → AnswersControl m n r
+control_answers r o s m below now n is same ready does = λ world meaning st stands goes items.
+    let mg = meaning m.top.function in
+    let next = ap (λ (p : Option Step). readied mg p (todo_of mg now)) (sym is) ∙ ready mg in
+    does world meaning st (record {
+      before = m.work.now;
+      stands = before_stands world meaning m below now st same stands;
+      next = next;
+      within = goes.within;
+      closed = goes.closed;
+      can = subst (λ (t : Todo). CanTake m.code.now m.jumps m.top st t) (sym (next ∙ stands.frames.0.control.ready)) goes.can;
+      items = items;
+    })
+
+-- where the definitions have no full expression open, the machine has none
+none_open : (world : World) (meaning : Meaning) (m : Machine) (height : ℕ) (o : Open) (f : Scene) (stage : Option Stage) (e : Option Begun)
+    (waiting : Option Place) → StandsBegun world meaning m height o stage f e waiting → e ≡ None → stage ≡ None
+none_open world meaning m height o f None e waiting b none = refl
+none_open world meaning m height o f (Some stage) None waiting b none = absurd b
+none_open world meaning m height o f (Some stage) (Some e) waiting b none = absurd (cc)
+
+pub top_closed : (world : World) (meaning : Option ℕ → Meaning) (m : Machine) (st : State) → Stands world meaning m st → st.top.begun ≡ None →
+    m.top.stage ≡ None
+top_closed world meaning m st s closed =
+    none_open world (meaning m.top.function) m (length (reverse m.below.items)) m.top st.top.scene m.top.stage st.top.begun None s.frames.0.begun closed
+
+not_both : {A : Type 0} (o : Option A) (x : A) → o ≡ None → o ≡ Some x → ⊥
+not_both None x none some = cc
+not_both (Some y) x none some = cc
+
+pub settle_untold : (r : Result (Option ℕ) Halt) (stage : Stage) (m n : Machine) → m.top.stage ≡ Some stage → AnswersControl m n r
+settle_untold r stage m n is = λ world meaning st stands goes items.
+    absurd (not_both m.top.stage stage (top_closed world meaning m st stands goes.closed) is)
+
+pub control_wanted : (m n : Machine) (e : Halt) → e ≡ halt.NoMemory → AnswersControl m n (Err e)
+control_wanted m n e is = λ world meaning st stands goes items. no_memory world meaning n (step world st Control) e is
+
+-- ---- of a pick
+-- no event is followed where no full expression is open
+followed : (m : Machine) (stage : Option Stage) (b : Option Shown) (n : Machine) (due : Option (Bor Due)) → FollowsIn m stage b n due → stage ≡ None →
+    (due ≡ None) × (n ≡ m)
+followed m None b n due f e = f
+followed m (Some s) b n due f e = absurd (cc)
+
+followed_closed : (world : World) (meaning : Option ℕ → Meaning) (m n : Machine) (due : Option (Bor Due)) (st : State) → Follows m n due →
+    Stands world meaning m st → st.top.begun ≡ None → (due ≡ None) × (n ≡ m)
+followed_closed world meaning m n due st f stands closed =
+    followed m m.top.stage (top_of m) n due f (top_closed world meaning m st stands closed)
+
+pub event_untold : (m n k : Machine) (next : Option (Bor Due)) (due : Bor Due) (r : Result Pick Halt) → Follows m n next → next ≡ Some due →
+    AnswersCanonical m k r
+event_untold m n k next due r f is = λ world meaning st stands goes.
+    absurd (not_both next due (followed_closed world meaning m n next st f stands goes.closed).0 is)
+
+-- a control step is taken by the machine that has touched nothing
+cleared_stands : (world : World) (meaning : Option ℕ → Meaning) (m n : Machine) (is : List Item) (st : State) → n ≡ m → Stands world meaning m st →
+    Stands world meaning (record n { items = is }) st
+cleared_stands world meaning m n is st same s =
+    subst (λ (k : Machine). Stands world meaning (record k { items = is }) st) (sym same) (items_stand world meaning m is m.spare st s)
+
+cleared_goes : (world : World) (m n : Machine) (is : List Item) (st : State) → n ≡ m → MayGoOn world m st → MayGoOn world (record n { items = is }) st
+cleared_goes world m n is st same goes =
+    subst (λ (k : Machine). MayGoOn world (record k { items = is }) st) (sym same) (record { within = goes.within; closed = goes.closed; can = goes.can })
+
+pub step_told : (m n k : Machine) (next : Option (Bor Due)) (is : List Item) (r : Result Pick Halt) → Follows m n next → is ≡ [] →
+    TakesControl (record n { items = is }) k r → AnswersCanonical m k r
+step_told m n k next is r f none does = λ world meaning st stands goes.
+    let same = (followed_closed world meaning m n next st f stands goes.closed).1 in
+    does world meaning st (cleared_stands world meaning m n is st same stands) (cleared_goes world m n is st same goes) none
+
+pub status_told : (m n : Machine) (status : Option ℕ) → AnswersControl m n (Ok status) → TakesControl m n (Ok (pick.Step status))
+status_told m n status a = λ world meaning st stands goes items. a world meaning st stands goes items
+
+pub halt_told : (m n : Machine) (e : Halt) → AnswersControl m n (Err e) → TakesControl m n (Err e)
+halt_told m n e a = λ world meaning st stands goes items. a world meaning st stands goes items
+
+-- the control step is this pick of the definitions
+pub steps_taken : {E : Type 0} (r : Result Pick E) (world : World) (st : State) (p : Model_pick) → Control ≡ p → IfOk r IsStep →
+    IfOk r (IsPick world st p)
+steps_taken (Ok x) world st p is a = subst (λ (q : Model_pick). IsPick world st q x) is a
+steps_taken (Err e) world st p is a = tt
+
+pub canonical_wanted : (m n : Machine) (e : Halt) → e ≡ halt.NoMemory → AnswersCanonical m n (Err e)
+canonical_wanted m n e is = λ world meaning st stands goes. no_memory world meaning n (step world st Control) e is

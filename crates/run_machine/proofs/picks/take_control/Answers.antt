@@ -1,0 +1,8 @@
+use Rattle.run_machine.proofs.Staying.{halt_told, status_told}
+use Rattle.run_machine.proofs.picks.take_control.Goals as goal
+
+pub returns-in-Ok-clause-answers : goal.returns-in-Ok-clause-answers
+returns-in-Ok-clause-answers c = status_told c.args.machine.now c.control_step.new.machine c.in-Ok.status c.in-Ok.ensures.answers
+
+pub returns-in-Err-clause-answers : goal.returns-in-Err-clause-answers
+returns-in-Err-clause-answers c = halt_told c.args.machine.now c.control_step.new.machine c.in-Err.halt c.in-Err.ensures.answers
