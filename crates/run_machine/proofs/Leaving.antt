@@ -69,8 +69,8 @@ pub one_more : (old mid : Machine) (first n at : ℕ) (k : Kept) (t items : List
 one_more old mid first n at k t items x d is there keeps rest exact joined =
     let name = name_at old first in
     let same : name n ≡ x =
-        ap (λ (m : Machine). name_in (slice_get m.locals.items (min (m.top.locals + min (first + n) (2 ^ 32 - 1)) (2 ^ 64 - 1)))) (sym d.rest)
-        ∙ ap (λ (i : ℕ). name_in (slice_get mid.locals.items (min (mid.top.locals + i) (2 ^ 64 - 1)))) (sym is) ∙ ap name_in there.1 ∙ there.2 in
+    ap (λ (m : Machine). name_in (slice_get m.locals.items (min (m.top.locals + min (first + n) (2 ^ 32 - 1)) (2 ^ 64 - 1)))) (sym d.rest)
+    ∙ ap (λ (i : ℕ). name_in (slice_get mid.locals.items (min (mid.top.locals + i) (2 ^ 64 - 1)))) (sym is) ∙ ap name_in there.1 ∙ there.2 in
     let died : t ≡ Dies x ∷ [] = sym (ap touched_by (exact mid.streams)) in
     record {
       rest = ap (λ (m : Machine). record m { memory = k; items = items; spare = t }) d.rest;

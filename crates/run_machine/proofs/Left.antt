@@ -299,7 +299,7 @@ left_answers m mid b below ws left under goes =
     let os = mid.memory.objects in
     let k : mid.memory ≡ with_objects m.memory os = ap (λ (j : Kept). record j { objects = os }) d.objects in
     let whole : mid ≡ record m { memory = with_objects m.memory os; items = mid.items; spare = mid.spare } =
-        d.rest ∙ ap (λ (j : Kept). record m { memory = j; items = mid.items; spare = mid.spare }) k in
+    d.rest ∙ ap (λ (j : Kept). record m { memory = j; items = mid.items; spare = mid.spare }) k in
     let works = ap (λ (n : Machine). n.work) whole in
     subst (λ (bs : List (List Work)). AnswersStep (taking.Leave b) m (record mid { work = record { below = bs; now = ws } }) (Ok None))
     (sym (under ∙ ap (λ (w : Stacked). w.below) works))
