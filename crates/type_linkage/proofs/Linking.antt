@@ -1,5 +1,5 @@
 -- Declarations with linkage: what is known by a state before and after them.
-use Rattle.std.proofs.Common.{◌≡◌, ◌≢◌, ℕ, Bool, true, false, List, [], ◌∷◌, ◌++◌, map, refl, sym, ap, ◌∙◌}
+use Rattle.std.proofs.Common.{◌≡◌, ◌≢◌, ℕ, Bool, true, false, List, [], ◌∷◌, ◌++◌, map, refl, sym, ap, ◌∙◌, true≢false}
 use Rattle.std.specs.Prelude.{◌==◌, not, ◌&&◌, ◌||◌, is_some, if◌then◌else◌, Option, Some, None}
 use Rattle.std.specs.Option.{option_map}
 use Rattle.std.proofs.lemmas.List.{map-append}
@@ -171,6 +171,46 @@ further_new n t s env symbol q l row e more = λ i. record (known_by n t s env) 
       (entity_is n t s env symbol ∙ ap (option_map (linked_seen n)) e)
       ∙ more_by (λ m. changed symbol m (map (with_meaning (linked_seen n)) s.linked)) (map (with_meaning (linked_seen n)) s.linked)
       (is_among q ((linked_seen n l).types)) (with_one_more q (linked_seen n l)) (linked_seen n row) more)) i;
+}
+
+-- of an object alone
+linked_then : (b : Bool) (l : Linked) → is_some (if b then Some l else None) ≡ true → (if b then Some l else None) ≡ Some l
+linked_then true l is = refl
+linked_then false l is = absurd (true≢false (sym is))
+
+linked_if : (t : Option Target) (e : Option Linked) → is_some (if_held t e) ≡ true → if_held t e ≡ e
+linked_if None e is = absurd (true≢false (sym is))
+linked_if (Some t) None is = absurd (true≢false (sym is))
+linked_if (Some t) (Some l) is = linked_then (is_target l.target t) l is
+
+none_if : {A : Type 0} (o : Option A) → is_some o ≡ false → o ≡ None
+none_if None is = refl
+none_if (Some a) is = absurd (true≢false is)
+
+of_object : (n : Naming) → IsOneToOne n → (t : TokenText) (s : State) (env : Env) (symbol number : ℕ)
+    → if_linked (Some (target.Static (n number))) (linked_symbol (known_by n t s env) symbol)
+    ≡ option_map (linked_seen n) (if_held (Some (target.Static number)) (entity_in s symbol))
+of_object n one t s env symbol number =
+    ap (if_linked (Some (target.Static (n number)))) (entity_is n t s env symbol)
+    ∙ linked_is n one (Some (target.Static number)) (entity_in s symbol)
+
+pub further_of_linked : (n : Naming) → IsOneToOne n → (t : TokenText) (s : State) (env : Env) (symbol number : ℕ) (q : Qualified)
+    → is_some (if_held (Some (target.Static number)) (entity_in s symbol)) ≡ true
+    → with_further symbol q (known_by n t s env) ≡ names.with_further_of (target.Static (n number)) symbol q (known_by n t s env)
+further_of_linked n one t s env symbol number q is = λ i. record (known_by n t s env) {
+  linked = ap (λ o. further symbol q o (known_by n t s env).linked)
+      (entity_is n t s env symbol
+      ∙ sym (of_object n one t s env symbol number
+      ∙ ap (option_map (linked_seen n)) (linked_if (Some (target.Static number)) (entity_in s symbol) is))) i;
+}
+
+pub further_of_other : (n : Naming) → IsOneToOne n → (t : TokenText) (s : State) (env : Env) (symbol number : ℕ) (q : Qualified)
+    → is_some (if_held (Some (target.Static number)) (entity_in s symbol)) ≡ false
+    → known_by n t s env ≡ names.with_further_of (target.Static (n number)) symbol q (known_by n t s env)
+further_of_other n one t s env symbol number q is = λ i. record (known_by n t s env) {
+  linked = ap (λ o. further symbol q o (known_by n t s env).linked)
+      (sym (of_object n one t s env symbol number
+      ∙ ap (option_map (linked_seen n)) (none_if (if_held (Some (target.Static number)) (entity_in s symbol)) is))) i;
 }
 
 -- a name of this scope, or a further one

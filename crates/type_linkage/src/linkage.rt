@@ -1,5 +1,5 @@
 // Declarations of objects and functions whose identifiers have linkage, and what they redeclare (6.2.2, 6.7p3, 6.9.2).
-ghost use Rattle.std.specs.Prelude.{◌≡◌, ◌+◌, ◌||◌, false, true, not, map, vec_len, slice_get, IfOk, OnOk, is_some};
+ghost use Rattle.std.specs.Prelude.{◌≡◌, ◌+◌, ◌||◌, false, true, not, map, vec_len, slice_get, Some, IfOk, OnOk, is_some};
 ghost use Rattle.std.specs.Option.{option_map, option_copied};
 ghost use Rattle.c_lex.specs.TokenText.{TokenText, text_at};
 ghost use Rattle.c_types.specs.Types.{type_of, qualified_of, signature_of, composite_qualified};
@@ -516,18 +516,45 @@ pub fn declare_object(
     object_number(state, source, at, &qual, linkage)
 }
 
-/// Gives an object with linkage the type that its initializer completes.
+// Whether the identifier with linkage that is spelled so stands for the object.
+fn is_linked_object(state: &State, symbol: u32, number: u32) -> bool
+    ensures { result ≡ is_some (if_held (Some (target.Static number)) (entity_in state.now symbol)) }
+{
+    is_known(if_linked(
+        Some(Target::Static(number)),
+        entity(state, symbol),
+    ))
+}
+
+// Notes the type of a further declaration of the identifier, where that stands for the object.
+fn note_object_type(
+    state: &mut State,
+    symbol: u32,
+    number: u32,
+    qual: &Qual,
+) -> Result<(), NoMemory>
+    ensures known { OnOk result ((n : Naming) → IsOneToOne n → (t : TokenText) (env : Env) → known_by n t state.new env ≡ names.with_further_of (target.Static (n number)) symbol (qualified_of qual.now) (known_by n t state.old env)) }
+    ensures rest { state.new ≡ record state.old { linked = state.new.linked } }
+{
+    if is_linked_object(state, symbol, number) {
+        note_type(state, symbol, qual)
+    } else {
+        Ok(())
+    }
+}
+
+/// Gives an object with static storage the type that its initializer completes, and so the identifier that declares it here.
 pub fn complete_object(
     state: &mut State,
     symbol: u32,
     number: u32,
     qual: &Qual,
 ) -> Result<(), NoMemory>
-    ensures { OnOk result ((n : Naming) (t : TokenText) (env : Env) → known_by n t state.new env ≡ names.renamed symbol (an_object (slot.Static (n number)) (qualified_of qual.now) false) (names.with_further symbol (qualified_of qual.now) (known_by n t state.old env))) }
+    ensures { OnOk result ((n : Naming) → IsOneToOne n → (t : TokenText) (env : Env) → known_by n t state.new env ≡ names.renamed symbol (an_object (slot.Static (n number)) (qualified_of qual.now) false) (names.with_further_of (target.Static (n number)) symbol (qualified_of qual.now) (known_by n t state.old env))) }
 {
     let alloc = state.alloc;
     set_object_type(state, number, copied_qual(alloc, qual)?);
-    note_type(state, symbol, qual)?;
+    note_object_type(state, symbol, number, qual)?;
     let meaning = Meaning::Object {
         slot: Slot::Static(number),
         qual: copied_qual(alloc, qual)?,

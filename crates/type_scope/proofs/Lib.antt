@@ -1,4 +1,5 @@
 pub mod Blocks
+pub mod Labels
 pub mod Nested
 pub mod Seen
 pub mod Strings

@@ -1,9 +1,10 @@
 // The function definition that is being resolved.
-ghost use Rattle.std.specs.Prelude.{◌≡◌, length, map, IfOk, OnOk, OnErr};
+ghost use Rattle.std.specs.Prelude.{◌≡◌, ℕ, ◌==◌, ◌||◌, not, is_some, slice_get, length, map, IsSome, IfSome, IfOk, OnOk, OnErr};
 ghost use Rattle.c_types.specs.Types.{type_of, qualified_of};
 ghost use Rattle.typing_env.specs.Env as env;
 ghost use Rattle.typing_env.specs.Env.{no_task};
 ghost use Rattle.typing_env.specs.Tasks.{open_block, close_block, innermost, another_object, retyped_task, one_object, retyped_object};
+ghost use Rattle.type_scope.specs.Labels.{label_symbols, is_defined_label, one_symbol, place_of, has_number, label_named, label_defined, is_undefined, labels_defined, HasLabels};
 ghost use Rattle.type_scope.specs.Working.{task_seen, blocks_seen, block_seen};
 
 use c_types::{IntKind, Qual, Ty};
@@ -12,10 +13,9 @@ use std::alloc::Global;
 use std::collections::BTreeSet;
 use ub_base::{Items, NoMemory};
 
-/// A label of the function: its number, the line where it is first named, and whether it is defined.
+/// A label of the function: the line where it is first named, or defined, and whether it is defined.
 #[derive(Clone, Copy, Debug, PartialEq, Eq)]
 pub struct Label {
-    pub number: u32,
     pub line: u32,
     pub defined: bool,
 }
@@ -63,6 +63,7 @@ impl OpenBlock {
 pub struct Task {
     /// What it returns.
     pub result: Ty,
+    /// By symbol, in the order in which the text names them.
     pub labels: IndexMap<u32, Label>,
     /// How many blocks have begun.
     pub blocks: u32,
@@ -143,38 +144,102 @@ impl Task {
         }
     }
 
-    /// The number of a label, which is first named here where it is new.
-    pub fn label(&mut self, symbol: u32, line: u32) -> Result<u32, NoMemory> {
-        if let Some(label) = self.labels.get(&symbol) {
-            return Ok(label.number);
+    // Its place among the labels, in the order in which the text names them.
+    fn place_of(&mut self, symbol: u32, line: u32) -> Result<usize, NoMemory>
+        ensures place { IfOk result (λ place. place ≡ place_of symbol 0 (label_symbols self.old)) }
+        ensures symbols { OnOk result (label_symbols self.new ≡ one_symbol symbol (label_symbols self.old)) }
+        ensures defined { OnOk result ((s : ℕ) → is_defined_label self.new s ≡ is_defined_label self.old s) }
+        ensures rest { self.new ≡ record self.old { labels = self.new.labels } }
+    {
+        if let Some(place) = self.labels.get_index_of(&symbol) {
+            return Ok(place);
         }
-        let number = u32::try_from(self.labels.len()).unwrap_or(u32::MAX);
         let label = Label {
-            number,
             line,
             defined: false,
         };
-        self.labels.insert(symbol, label)?;
+        let (place, _) = self.labels.insert_full(symbol, label)?;
+        Ok(place)
+    }
+
+    /// The number of a label, which is first named here where it is new; there are numbers for 2^32 labels.
+    pub fn label(&mut self, symbol: u32, line: u32) -> Result<u32, NoMemory>
+        ensures number { IfOk result (λ number. (was : env.Task) → HasLabels self.old was → number ≡ place_of symbol 0 was.labels) }
+        ensures named { OnOk result ((was : env.Task) → HasLabels self.old was → HasLabels self.new (label_named symbol was)) }
+        ensures rest { self.new ≡ record self.old { labels = self.new.labels } }
+    {
+        let place = self.place_of(symbol, line)?;
+        let Ok(number) = u32::try_from(place) else {
+            return Err(NoMemory);
+        };
         Ok(number)
     }
 
+    // Whether the label is defined.
+    fn is_defined(&self, symbol: u32) -> bool
+        ensures { result ≡ is_defined_label self.now symbol }
+    {
+        match self.labels.get(&symbol) {
+            Some(label) => label.defined,
+            None => false,
+        }
+    }
+
+    // Defines a label; the answer is its place among the labels.
+    fn with_label(&mut self, symbol: u32, line: u32) -> Result<usize, NoMemory>
+        ensures place { IfOk result (λ place. place ≡ place_of symbol 0 (label_symbols self.old)) }
+        ensures symbols { OnOk result (label_symbols self.new ≡ one_symbol symbol (label_symbols self.old)) }
+        ensures defined { OnOk result ((s : ℕ) → is_defined_label self.new s ≡ (is_defined_label self.old s || (symbol == s))) }
+        ensures rest { self.new ≡ record self.old { labels = self.new.labels } }
+    {
+        let label = Label {
+            line,
+            defined: true,
+        };
+        let (place, _) = self.labels.insert_full(symbol, label)?;
+        Ok(place)
+    }
+
     /// Defines a label; `None` where it is defined already (6.8.1p3).
-    pub fn define_label(&mut self, symbol: u32, line: u32) -> Result<Option<u32>, NoMemory> {
-        let number = self.label(symbol, line)?;
-        match self.labels.get_mut(&symbol) {
-            Some(label) if !label.defined => {
-                label.defined = true;
-                Ok(Some(number))
+    pub fn define_label(&mut self, symbol: u32, line: u32) -> Result<Option<u32>, NoMemory>
+        ensures twice { IfOk result (λ found. (was : env.Task) → HasLabels self.old was → is_some found ≡ not (has_number symbol was.defined)) }
+        ensures number { IfOk result (λ found. IfSome found (λ number. (was : env.Task) → HasLabels self.old was → number ≡ place_of symbol 0 was.labels)) }
+        ensures defined { IfOk result (λ found. IsSome found → (was : env.Task) → HasLabels self.old was → HasLabels self.new (label_defined symbol was)) }
+        ensures rest { self.new ≡ record self.old { labels = self.new.labels } }
+    {
+        if self.is_defined(symbol) {
+            return Ok(None);
+        }
+        let place = self.with_label(symbol, line)?;
+        let Ok(number) = u32::try_from(place) else {
+            return Err(NoMemory);
+        };
+        Ok(Some(number))
+    }
+
+    // The line of a label, by its place, where it isn't defined.
+    fn undefined_at(&self, place: usize) -> Option<u32>
+        ensures { (was : env.Task) → HasLabels self.now was → is_some result ≡ is_undefined (slice_get was.labels place) was.defined }
+    {
+        match self.labels.get_index(place) {
+            Some((_, label)) => {
+                if label.defined {
+                    None
+                } else {
+                    Some(label.line)
+                }
             }
-            _ => Ok(None),
+            None => None,
         }
     }
 
     /// The line of a label that is named and not defined (6.8.6.1p1).
-    pub fn undefined_label(&self) -> Option<u32> {
-        for label in self.labels.values() {
-            if !label.defined {
-                return Some(label.line);
+    pub fn undefined_label(&self) -> Option<u32>
+        ensures { (was : env.Task) → HasLabels self.now was → is_some result ≡ not (labels_defined was) }
+    {
+        for place in 0..self.labels.len() {
+            if let Some(line) = self.undefined_at(place) {
+                return Some(line);
             }
         }
         None

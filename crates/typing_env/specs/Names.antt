@@ -269,6 +269,11 @@ further symbol qual (Some l) ls = if is_among qual l.types then ls else changed 
 abbrev pub with_further : ℕ → Qualified → Env → Env
 with_further symbol qual env = record env { linked = further symbol qual (linked_symbol env symbol) env.linked }
 
+-- .. if it stands for this: an object of block scope that isn't `extern` has no linkage, though an identifier that has may be spelled the
+-- same (6.2.2p6)
+abbrev pub with_further_of : Target → ℕ → Qualified → Env → Env
+with_further_of t symbol qual env = record env { linked = further symbol qual (if_linked (Some t) (linked_symbol env symbol)) env.linked }
+
 -- 6. Objects with linkage.
 
 -- a function and an object aren't declared by one identifier (6.2.7p2)
@@ -329,7 +334,7 @@ unfoldable pub complete_object : ℕ → ℕ → Qualified → Typing (Unit {0})
 complete_object at name qual = do
   env ← known
   knowing (changing_object name (λ o. record o { qual = qual }))
-  knowing (with_further (symbol_of env at) qual)
+  knowing (with_further_of (target.Static name) (symbol_of env at) qual)
   knowing (renamed (symbol_of env at) (an_object (slot.Static name) qual false))
 
 abbrev pub has_initial : Option Object → Bool
