@@ -72,6 +72,7 @@ linkage = record {
   composite = refl;
   by_initializer = refl;
   completed = refl;
+  without_linkage = refl;
   one_element = refl;
   by_definition = refl;
   literals = refl;

@@ -95,6 +95,8 @@ pub record Linkage : Type 0 where
   pub by_initializer : types_in (codes "int a[]={1,2};char s[]=\"abc\";int m[][2]={{1,2},{3}};int n[]={[5]=1};")
       ≡ Some (ints 2 ∷ array false (int Char) (Some 4) ∷ array false (ints 2) (Some 2) ∷ ints 6 ∷ [])
   pub completed : types_in (codes "int a[]={1,2};extern int a[2];extern int a[];") ≡ Some (ints 2 ∷ [])
+  -- an object of block scope without linkage completes no identifier with linkage that is spelled like it (6.2.2p6)
+  pub without_linkage : types_in (codes "int x=1;int f(void){static char x=3;return x;}extern int x;") ≡ Some (int Int ∷ int Char ∷ [])
   -- an array that is still without size has one element (6.9.2p5)
   pub one_element : statics_in (codes "int a[];int main(void){extern int a[5];return 0;}")
       ≡ Some (record { object = record { constant = false; ty = ints 1 }; constants = [] } ∷ [])

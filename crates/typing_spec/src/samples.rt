@@ -6,7 +6,7 @@ ghost use Rattle.typing_spec.specs.Refused.{RefusedDeclarations, RefusedInitiali
 ghost use Rattle.typing_spec.specs.Trees.{Integers, Pointers, Statements};
 ghost use Rattle.typing_spec.specs.Wholes.{Reached, Stored, Unreached};
 
-/// What declarations declare: 52 texts.
+/// What declarations declare: 53 texts.
 pub fn law_declaration_samples()
     ensures declarators { Declarators }
     ensures specifiers { Specifiers }

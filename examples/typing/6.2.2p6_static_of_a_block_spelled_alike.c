@@ -1,0 +1,1 @@
+int x=1;int f(void){static char x=3;return x;}extern int x;int main(void){return x+f();}
