@@ -1,5 +1,5 @@
 use Rattle.run_events.proofs.Nodes.{acts_are_of_nodes}
 use Rattle.run_events.proofs.laws.law_acts.Goals as goal
 
-pub returns-clause-nodes : goal.returns-clause-nodes
-returns-clause-nodes c = acts_are_of_nodes
+pub returns : goal.returns
+returns c = acts_are_of_nodes
