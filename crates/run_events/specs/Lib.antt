@@ -1,1 +1,4 @@
 pub mod Depth
+pub mod Faults
+pub mod Acts
+pub mod Nodes

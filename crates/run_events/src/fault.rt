@@ -1,4 +1,6 @@
 // Why an act isn't done.
+ghost use Rattle.std.specs.Prelude.{◌≡◌};
+ghost use Rattle.run_events.specs.Faults.{halt_by};
 
 use prov_memory::MemFault;
 use run_state::Halt;
@@ -15,7 +17,9 @@ pub enum Fault {
 
 impl Fault {
     /// Why the pick isn't taken: the act was that of this event, of a node in this line.
-    pub fn of(self, event: Event, line: u32) -> Halt {
+    pub fn of(self, event: Event, line: u32) -> Halt
+        ensures { result ≡ halt_by event line self }
+    {
         match self {
             Fault::Raise(clause) => Halt::Raised {
                 event,
@@ -41,12 +45,22 @@ impl From<NoMemory> for Fault {
 }
 
 impl From<Clause> for Fault {
+    ghost use Rattle.std.specs.Prelude.{◌≡◌};
+    ghost use Rattle.run_events.specs.declared.fault.Fault.TheVariants.{Raise};
+
+    ghost from_gives = { λ c e. e ≡ Raise c };
+
     fn from(clause: Clause) -> Fault {
         Fault::Raise(clause)
     }
 }
 
 impl From<MemFault> for Fault {
+    ghost use Rattle.std.specs.Prelude.{◌≡◌};
+    ghost use Rattle.run_events.specs.Faults.{fault_of};
+
+    ghost from_gives = { λ f e. e ≡ fault_of f };
+
     fn from(fault: MemFault) -> Fault {
         match fault {
             MemFault::Raise(clause) => Fault::Raise(clause),

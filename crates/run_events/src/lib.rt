@@ -6,7 +6,9 @@ mod acts;
 mod choices;
 mod fault;
 mod frames;
+mod laws;
 
 pub use acts::{Outcome, perform, put_at};
 pub use choices::{choose, choose_at_once};
 pub use fault::Fault;
+pub use laws::law_acts;
