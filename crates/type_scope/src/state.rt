@@ -187,7 +187,9 @@ impl State {
     }
 
     /// Notes the first definition of an object.
-    pub fn define_object(&mut self, number: u32, line: u32) {
+    pub fn define_object(&mut self, number: u32, line: u32)
+        ensures rest { self.new ≡ record self.old { objects = self.new.objects; defined = self.new.defined } }
+    {
         let next = self.defined;
         if let Some(row) = self.objects.get_mut(number as usize)
             && row.defined.is_none()
