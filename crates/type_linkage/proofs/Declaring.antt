@@ -18,7 +18,7 @@ use Rattle.std.proofs.lemmas.Option.{none-some}
 use Rattle.type_name_space.specs.Scopes.{visible}
 use Rattle.typing_env.specs.Env.{Object, Meaning, symbol_in}
 use Rattle.typing_env.specs.Names as names
-use Rattle.typing_env.specs.Names.{meaning_in, meaning_of, linked_symbol, type_seen, changing_object, first_of, declare, meaning_here, with_declared}
+use Rattle.typing_env.specs.Names.{meaning_in, meaning_of, linked_symbol, type_seen, changing_object, first_of, define_object, declare, meaning_here, with_declared}
 use Rattle.type_scope.specs.declared.state.State.{State}
 use Rattle.type_scope.specs.Known.{Naming, known_by, meaning_seen, linked_seen, routine_seen, with_tables, IsKnown}
 use Rattle.type_scope.proofs.Seen.{symbol_is, meaning_is, declare_is}

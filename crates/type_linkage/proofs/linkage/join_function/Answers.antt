@@ -1,4 +1,5 @@
-use Rattle.std.proofs.Common.{ap, ◌∙◌, sym, refl, arith}
+use Rattle.std.proofs.Common.{ap, ◌∙◌, sym, refl}
+use Rattle.std.specs.Prelude.{is_some}
 use Rattle.std.proofs.lemmas.Result.{on_ok_weaker}
 use Rattle.c_types.specs.Types.{signature_of}
 use Rattle.typing_env.specs.Names.{further_type}
@@ -7,7 +8,14 @@ use Rattle.type_linkage.proofs.Functions.{changed_row, changed_none}
 use Rattle.type_linkage.proofs.linkage.join_function.Goals as goal
 
 pub returns-in-Some : goal.returns-in-Some
-returns-in-Some c = ?
+returns-in-Some c =
+    let rows = (c.args.state.now).functions in
+    on_ok_weaker c.join_row.result (λ e. λ n t env. λ i. record (known_by n t c.args.state.now env) {
+      functions =
+          changed_row (further_type (signature_of c.args.ty.now)) c.args.number rows.len rows.items c.in-Some.row.now c.join_row.new.row rows.ok.0
+          (c.in-Some.ensures.variant.0 refl) c.in-Some.ensures.value e i;
+    }) c.join_row.ensures
 
+-- the row isn't there: its number is no less than their count
 pub returns-in-None : goal.returns-in-None
 returns-in-None c n t env = ?

@@ -4,4 +4,4 @@ use Rattle.type_linkage.proofs.linkage.join_row.Goals as goal
 
 pub returns : goal.returns
 returns c =
-    further_is (c.args.row.now).ty c.in_ok-joined_functions.field-0 (signature_of c.args.ty.now) (c.args.row.now).definition c.in_ok-joined_functions.ensures
+    further_is (c.args.row.now).ty c.in_ok-row.field-0 (signature_of c.args.ty.now) (c.args.row.now).definition c.in_ok-row.ensures
