@@ -538,10 +538,7 @@ pub fn declare_object(
 fn is_linked_object(state: &State, symbol: u32, number: u32) -> bool
     ensures { result ≡ is_some (if_held (Some (target.Static number)) (entity_in state.now symbol)) }
 {
-    is_known(if_linked(
-        Some(Target::Static(number)),
-        entity(state, symbol),
-    ))
+    is_known(if_linked(Some(Target::Static(number)), entity(state, symbol)))
 }
 
 // Notes the type of a further declaration of the identifier, where that stands for the object.
