@@ -17,8 +17,8 @@ returns-in-Some c =
     c.copied_function.ensures
 
 -- the composite of two function types is one
-pub returns-in-None : goal.returns-in-None
-returns-in-None c =
+pub returns : goal.returns
+returns c =
     absurd (none-some (composite_signature (signature_of c.args.old.now) (signature_of c.args.new.now))
     (sym (ap (λ o. option_map signature_of (option_copied o)) c.in-None.is)
     ∙ joined_signature (signature_of c.args.old.now) (signature_of c.args.new.now) (type_of c.in_ok-first.first) (type_of c.in_ok-second.second)
