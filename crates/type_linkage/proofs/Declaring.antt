@@ -8,7 +8,7 @@ use Rattle.c_typed.specs.declared.tree.Target.TheVariants as target
 use Rattle.typing_env.specs.Env.{Env, Linked, and_then, an_object, a_function, symbol_of, spelling}
 use Rattle.typing_env.specs.Names.{Given, Redeclared, redeclared, redeclared_at, may_stand, declare_object, entity_of_object, name_of_object, new_object}
 use Rattle.typing_env.specs.Names.{with_link, with_object, with_further, file_type, bound, declare_function, entity_of_function, number_of_function}
-use Rattle.typing_env.specs.Names.{library_of, fits_library, type_of_signature, with_function, new_function, changing_function, further_type, linkage_seen}
+use Rattle.typing_env.specs.Names.{library_of, fits_library, with_function, new_function, changing_function, further_type, linkage_seen}
 use Rattle.typing_env.specs.Names.{is_internal}
 use Rattle.c_lex.specs.TokenText.{TokenText, text_at}
 use Rattle.std.specs.Prelude.{slice_get, vec_len, is_some, ◌==◌}
@@ -17,13 +17,12 @@ use Rattle.std.proofs.lemmas.List.{length-map}
 use Rattle.std.proofs.lemmas.Option.{none-some}
 use Rattle.type_name_space.specs.Scopes.{visible}
 use Rattle.typing_env.specs.Env.{Object, Meaning, symbol_in}
-use Rattle.typing_env.specs.Names as names
-use Rattle.typing_env.specs.Names.{meaning_in, meaning_of, linked_symbol, type_seen, changing_object, first_of, define_object, declare, meaning_here}
+use Rattle.typing_env.specs.Names.{meaning_in, type_seen, changing_object, first_of, define_object, declare, meaning_here}
 use Rattle.typing_env.specs.Names.{with_declared}
 use Rattle.type_scope.specs.declared.state.State.{State}
 use Rattle.type_scope.specs.Known.{Naming, known_by, meaning_seen, linked_seen, routine_seen, with_tables, IsKnown}
 use Rattle.type_scope.proofs.Seen.{symbol_is, meaning_is, declare_is}
-use Rattle.type_linkage.proofs.Linking.{entity_is, prior_is, some_seen, is_known, is_refused, is_kept}
+use Rattle.type_linkage.proofs.Linking.{entity_is, prior_is, some_seen, is_known}
 use Rattle.type_scope.specs.Objects.{IsOneToOne}
 use Rattle.type_linkage.specs.Linkage.{function_qualified, entity_in, prior_in, static_declared}
 

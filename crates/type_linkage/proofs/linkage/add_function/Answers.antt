@@ -1,4 +1,4 @@
-use Rattle.std.proofs.Common.{ap, map, refl}
+use Rattle.std.proofs.Common.{refl}
 use Rattle.type_scope.specs.Known.{known_by, routine_seen}
 use Rattle.type_linkage.proofs.Functions.{added_row}
 use Rattle.type_linkage.proofs.linkage.add_function.Goals as goal

@@ -1,4 +1,4 @@
-use Rattle.std.proofs.Common.{ap, ◌∙◌, subst, sym}
+use Rattle.std.proofs.Common.{ap, ◌∙◌, subst}
 use Rattle.std.specs.Prelude.{Some}
 use Rattle.c_types.specs.Types.{qualified_of}
 use Rattle.c_typed.specs.declared.tree.Target.TheVariants as target

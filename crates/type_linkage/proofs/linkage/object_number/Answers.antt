@@ -1,7 +1,7 @@
 use Rattle.std.proofs.Common.{ap, ◌∙◌, sym, refl}
 use Rattle.std.specs.Option.{option_map}
 use Rattle.c_types.specs.Types.{qualified_of}
-use Rattle.typing_env.specs.Names.{declare_object, name_of_object, object_named, with_further}
+use Rattle.typing_env.specs.Names.{declare_object, name_of_object, with_further}
 use Rattle.type_scope.specs.declared.rows.Linked.{Linked}
 use Rattle.type_scope.specs.Known.{known_by, linked_seen}
 use Rattle.type_linkage.specs.Linkage.{given_of, entity_in, redeclared_seen}
