@@ -1,6 +1,6 @@
 -- What stores and initializations do.
 use Rattle.std.proofs.Common.{◌≡◌, ◌∙◌, ℕ, zero, suc, refl, sym, ap, ap₂, subst, List, [], ◌∷◌, length, map, slice_get, Option, Some, None}
-use Rattle.std.specs.Prelude.{Result, Ok, Err}
+use Rattle.std.specs.Prelude.{Result, Ok, Err, option_copied}
 use Rattle.std.specs.Borrow.{Bor}
 use Rattle.ub_base.specs.declared.clause.Clause.{Clause}
 use Rattle.ub_base.specs.declared.names.Item.{Item}
@@ -43,7 +43,7 @@ use Rattle.run_events.specs.Faults.{fault_of}
 use Rattle.run_events.proofs.Doing.{Of, cell_of, copy_of, given_as, given_copy, pointer_made}
 
 -- ---- lists that go together
-each_at : {A B : Type 0} (P : A → B → Type 0) (xs : List A) (ys : List B) (n : ℕ) (x : A) (y : B) → AreEach P xs ys → slice_get xs n ≡ Some x
+pub each_at : {A B : Type 0} (P : A → B → Type 0) (xs : List A) (ys : List B) (n : ℕ) (x : A) (y : B) → AreEach P xs ys → slice_get xs n ≡ Some x
     → slice_get ys n ≡ Some y → P x y
 each_at P [] ys n x y are e f = absurd (cc)
 each_at P (w ∷ ws) [] n x y are e f = absurd are
@@ -59,6 +59,11 @@ each_first P xs [] n y are f = absurd (cc)
 each_first P [] (z ∷ zs) n y are f = absurd are
 each_first P (w ∷ ws) (z ∷ zs) zero y are f = (w, refl)
 each_first P (w ∷ ws) (z ∷ zs) (suc n) y are f = each_first P ws zs n y are.1 f
+
+-- ---- a value in a room
+pub room_copy : (o : Option (Bor Kept_value)) (v : Bor Kept_value) (x : Option Kept_value) (h : Kept_value) → option_copied o ≡ x → o ≡ Some v → x ≡ Some h
+    → v.now ≡ h
+room_copy o v x h seen is e = let t : Some v.now ≡ Some h = sym (ap option_copied is) ∙ seen ∙ e in cc
 
 -- ---- a store
 module _ (m : Machine) (number : ℕ) (s : StoreCode) (via : Via) (p : Pointer) (v : Kept_value) (o : Operand) (new : Kept) (t : List Item)

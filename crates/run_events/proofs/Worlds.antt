@@ -48,7 +48,7 @@ use Rattle.run_events.proofs.MoreRows.{shifted_more, member_more}
 use Rattle.run_events.proofs.MoreRows.{difference_more, relational_more, fill_more, put_more, update_more}
 
 -- ---- what a sound memory knows of its rows
-in_rows : (m : Kept) (p : Prov) → IsSound m → IsMade m p → AreIn m.rows p
+pub in_rows : (m : Kept) (p : Prov) → IsSound m → IsMade m p → AreIn m.rows p
 in_rows m Empty sound made = tt
 in_rows m (Whole x) sound made = sound.rowed x made
 in_rows m (Either id past start) sound made = (sound.rowed past made.1.1.0, sound.rowed start made.1.1.1)

@@ -1,5 +1,5 @@
 // The acts of events.
-ghost use Rattle.std.specs.Prelude.{◌≡◌, ◌≢◌, ◌+◌, ◌<◌, ℕ, true, false, not, List, length, slice_get, Some, IfOk};
+ghost use Rattle.std.specs.Prelude.{◌≡◌, ◌≢◌, ◌+◌, ◌<◌, ℕ, true, false, not, List, length, slice_get, option_copied, Some, IfOk};
 ghost use Rattle.addr_map.specs.declared.map.Row.{Row};
 ghost use Rattle.c_model.specs.Nodes.{bool_value};
 ghost use Rattle.c_model.specs.Values as model;
@@ -453,6 +453,13 @@ fn target_of<'p>(machine: &Machine<'p, '_>, number: u32) -> Result<(StoreCode<'p
     }
 }
 
+// The value in the room of this number, from the first one of a full expression on.
+fn in_room(values: &[Value], first: usize, room: u32) -> Option<&Value>
+    ensures { option_copied result ≡ slice_get values.now (first + room) }
+{
+    values.get(first.saturating_add(room as usize))
+}
+
 // The effect of an Assign or Update: the value goes to the place.
 fn store_value(
     machine: &mut Machine,
@@ -483,8 +490,7 @@ fn store_room(
 {
     let found = target_of(machine, number)?;
     let (target, via) = found;
-    let at = machine.top.base.saturating_add(room as usize);
-    let Some(value) = machine.values.get(at) else {
+    let Some(value) = in_room(machine.values.as_slice(), machine.top.base, room) else {
         return Err(Fault::NoMemory);
     };
     let (access, initializing) = (target.access, target.initializing);
