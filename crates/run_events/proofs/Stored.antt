@@ -1,6 +1,6 @@
 -- What stores and initializations do.
 use Rattle.std.proofs.Common.{◌≡◌, ◌∙◌, ℕ, zero, suc, refl, sym, ap, ap₂, subst, List, [], ◌∷◌, length, map, slice_get, Option, Some, None}
-use Rattle.std.specs.Prelude.{Result, Ok, Err, option_copied}
+use Rattle.std.specs.Prelude.{Result, Ok, Err}
 use Rattle.std.specs.Borrow.{Bor}
 use Rattle.ub_base.specs.declared.clause.Clause.{Clause}
 use Rattle.ub_base.specs.declared.names.Item.{Item}
@@ -61,9 +61,8 @@ each_first P (w ∷ ws) (z ∷ zs) zero y are f = (w, refl)
 each_first P (w ∷ ws) (z ∷ zs) (suc n) y are f = each_first P ws zs n y are.1 f
 
 -- ---- a value in a room
-pub room_copy : (o : Option (Bor Kept_value)) (v : Bor Kept_value) (x : Option Kept_value) (h : Kept_value) → option_copied o ≡ x → o ≡ Some v → x ≡ Some h
-    → v.now ≡ h
-room_copy o v x h seen is e = let t : Some v.now ≡ Some h = sym (ap option_copied is) ∙ seen ∙ e in cc
+pub room_copy : (v h : Kept_value) (n : ℕ) (xs : List Kept_value) → slice_get xs n ≡ Some v → slice_get xs n ≡ Some h → v ≡ h
+room_copy v h n xs there e = let t : Some v ≡ Some h = sym there ∙ e in cc
 
 -- ---- a store
 module _ (m : Machine) (number : ℕ) (s : StoreCode) (via : Via) (p : Pointer) (v : Kept_value) (o : Operand) (new : Kept) (t : List Item)

@@ -1,5 +1,5 @@
 // The acts of events.
-ghost use Rattle.std.specs.Prelude.{◌≡◌, ◌≢◌, ◌+◌, ◌<◌, ℕ, true, false, not, List, length, slice_get, option_copied, Some, IfOk};
+ghost use Rattle.std.specs.Prelude.{◌≡◌, ◌≢◌, ◌+◌, ◌<◌, ℕ, true, false, not, List, length, slice_get, Some, IfOk};
 ghost use Rattle.addr_map.specs.declared.map.Row.{Row};
 ghost use Rattle.c_model.specs.Nodes.{bool_value};
 ghost use Rattle.c_model.specs.Values as model;
@@ -22,12 +22,12 @@ use c_typed::{Access, Change, Conversion, EqOp, RelOp, UnOp};
 use c_types::{BinOp, IntKind, Ty};
 use prov_memory::{Value, Via};
 use run_acts::{
-    Pointer, answer, as_function, binary, changed, convert, distance, equal, fill, load, member,
+    Filling, Pointer, answer, as_function, binary, changed, convert, distance, equal, fill, load, member,
     moved, part, related, store, unary,
 };
 use run_code::{Act, Operand, StoreCode};
 use run_state::Machine;
-use ub_base::{Clause, Event, NoMemory};
+use ub_base::{Clause, Event, Items, NoMemory};
 
 /// What an event came to.
 #[derive(Clone, Copy, Debug, PartialEq, Eq)]
@@ -454,10 +454,13 @@ fn target_of<'p>(machine: &Machine<'p, '_>, number: u32) -> Result<(StoreCode<'p
 }
 
 // The value in the room of this number, from the first one of a full expression on.
-fn in_room(values: &[Value], first: usize, room: u32) -> Option<&Value>
-    ensures { option_copied result ≡ slice_get values.now (first + room) }
+fn in_room(values: &Vec<Value>, first: usize, room: u32) -> Result<&Value, NoMemory>
+    ensures { IfOk result (λ v. slice_get values.now.items (first + room) ≡ Some v.now) }
 {
-    values.get(first.saturating_add(room as usize))
+    match values.get(first.saturating_add(room as usize)) {
+        Some(value) => Ok(value),
+        None => Err(NoMemory),
+    }
 }
 
 // The effect of an Assign or Update: the value goes to the place.
@@ -490,9 +493,7 @@ fn store_room(
 {
     let found = target_of(machine, number)?;
     let (target, via) = found;
-    let Some(value) = in_room(machine.values.as_slice(), machine.top.base, room) else {
-        return Err(Fault::NoMemory);
-    };
+    let value = in_room(&machine.values, machine.top.base, room)?;
     let (access, initializing) = (target.access, target.initializing);
     let t = &mut machine.items;
     store(
@@ -563,6 +564,16 @@ pub fn put_at(
     ))
 }
 
+// The constant bytes of this number.
+fn fillings_of(fillings: &Vec<Items<Filling>>, number: u32) -> Result<&[Filling], NoMemory>
+    ensures { IfOk result (λ fs. slice_get fillings.now.items number ≡ Some fs.now) }
+{
+    match fillings.get(number as usize) {
+        Some(filling) => Ok(filling.as_slice()),
+        None => Err(NoMemory),
+    }
+}
+
 // The effect of a List: its constant bytes go to its object.
 #[inline(never)]
 fn fill_list(machine: &mut Machine, object: Operand, constants: u32) -> Result<Outcome, Fault>
@@ -570,10 +581,8 @@ fn fill_list(machine: &mut Machine, object: Operand, constants: u32) -> Result<O
     ensures rest { TouchesMemory machine.old machine.new }
 {
     let object = machine.pointer(object);
-    let Some(fillings) = machine.fillings.get(constants as usize) else {
-        return Err(Fault::NoMemory);
-    };
+    let fillings = fillings_of(&machine.fillings, constants)?;
     let (t, spare) = (&mut machine.items, &mut machine.spare);
-    fill(&mut machine.memory, fillings.as_slice(), object, t, spare)?;
+    fill(&mut machine.memory, fillings, object, t, spare)?;
     Ok(Outcome::Done)
 }

@@ -5,6 +5,7 @@ use Rattle.run_acts.specs.Views.{value_in}
 use Rattle.c_model.specs.Nodes.{call_value}
 use Rattle.prov_memory.proofs.KeepLemmas.{keeps_none}
 use Rattle.run_code.specs.declared.steps.Operand.TheVariants as operand
+use Rattle.run_events.specs.Acts.{given_by}
 use Rattle.run_events.specs.Performs.{store_in}
 use Rattle.run_events.proofs.Valued.{left_of_room, taken_changes, twice_rest, twice_room, twice_others, with_none}
 use Rattle.run_events.proofs.Doing.{by_script, given_value}
@@ -51,7 +52,7 @@ returns-clause-exact c = λ can given.
     c.in_ok-value.value c.in_ok-left.ensures.rest c.in_ok-left.ensures.others c.in_ok-left.ensures.count
     c.keep.ensures.rest c.keep.ensures.room c.keep.ensures.others)
     c.args.event (act.Answer c.args.discarded) refl refl
-    (with_none m _ (value_in m.memory c.in_ok-value.value) can
+    (with_none m (call_value c.args.discarded (given_by m (operand.Done c.args.event.node))) (value_in m.memory c.in_ok-value.value) can
     (by_script m (call_value c.args.discarded (value_in m.memory left)) _ _ same (c.in_ok-value.ensures.exact m.memory m.memory.rows (store_in m))))
     (c.in_ok-value.ensures.made m.memory (left_of_room m c.args.event.node left c.in_ok-left.ensures.room given)) (keeps_none m.memory)
 

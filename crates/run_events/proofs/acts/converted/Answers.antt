@@ -21,7 +21,7 @@ returns-in_err-value-clause-exact c =
     let p = err_from_is_err_and c.from_residual-in_err-value.result c.from_residual-in_err-value.ensures.1 in
     rw (p.1, p.2) (λ can given.
     let m = c.args.machine.now in
-    mem_fails m _ c.args.event (act.Convert c.args.conversion c.args.operand)
+    mem_fails m (record m { memory = c.convert.new.m; items = c.convert.new.t }) c.args.event (act.Convert c.args.conversion c.args.operand)
     (nodes.convert c.args.event c.args.conversion (value_in m.memory c.in_ok-operand.operand)) c.in_err-value.field-0.0
     (copy_same m c.args.operand c.in_ok-operand.operand (λ w. nodes.convert c.args.event c.args.conversion w) c.in_ok-operand.ensures given)
     c.in_err-value.ensures.raises)

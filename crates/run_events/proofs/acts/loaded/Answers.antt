@@ -13,7 +13,7 @@ returns-in_err-value-clause-exact c =
     let p = err_from_is_err_and c.from_residual.result c.from_residual.ensures.1 in
     rw (p.1, p.2) (λ can given.
     let m = c.args.machine.now in
-    mem_fails m _ c.args.event (act.Load c.args.access c.args.ty c.args.place)
+    mem_fails m (record m { memory = c.load.new.m; items = c.load.new.t }) c.args.event (act.Load c.args.access c.args.ty c.args.place)
     (nodes.load m.memory.rows c.args.event c.args.access (type_of c.args.ty.now) (pointer_at c.pointer-place.result)) c.in_err-value.field-0.0
     (place_same m c.args.place c.pointer-place.result (λ q. nodes.load m.memory.rows c.args.event c.args.access (type_of c.args.ty.now) q)
     c.pointer-place.ensures given)

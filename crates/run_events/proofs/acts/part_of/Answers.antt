@@ -21,7 +21,7 @@ returns-in_err-value-clause-exact c =
     let p = err_from_is_err_and c.from_residual-in_err-value.result c.from_residual-in_err-value.ensures.1 in
     rw (p.1, p.2) (λ can given.
     let m = c.args.machine.now in
-    mem_fails m _ c.args.event (act.Part c.args.offset c.args.access c.args.whole)
+    mem_fails m (record m { memory = c.part.new.m; items = c.part.new.t }) c.args.event (act.Part c.args.offset c.args.access c.args.whole)
     (nodes.part_of c.args.event c.args.offset c.args.access (value_in m.memory c.in_ok-whole.whole)) c.in_err-value.field-0.0
     (copy_same m c.args.whole c.in_ok-whole.whole (λ w. nodes.part_of c.args.event c.args.offset c.args.access w) c.in_ok-whole.ensures given)
     c.in_err-value.ensures.raises)

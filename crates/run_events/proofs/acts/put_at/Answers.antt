@@ -1,13 +1,12 @@
-use Rattle.std.proofs.Common.{refl}
-use Rattle.prov_memory.proofs.KeepLemmas.{keeps_none}
 use Rattle.std.proofs.lemmas.Result.{err_from_is_err_and}
+use Rattle.prov_memory.proofs.KeepLemmas.{keeps_none}
 use Rattle.run_events.proofs.Puts.{put_does, put_keeps}
 use Rattle.run_events.proofs.acts.put_at.Goals as goal
 
 pub returns-in_err-found-clause-exact : goal.returns-in_err-found-clause-exact
 returns-in_err-found-clause-exact c =
     let p = err_from_is_err_and c.from_residual.result c.from_residual.ensures.1 in
-    rw (p.1, p.2) (λ rows can. tt)
+    rw p.1 (λ rows can. tt)
 
 pub returns-in_err-found-clause-kept : goal.returns-in_err-found-clause-kept
 returns-in_err-found-clause-kept c = λ sound tables of. keeps_none c.args.machine.now.memory

@@ -4,6 +4,7 @@ use Rattle.c_model.specs.Nodes as nodes
 use Rattle.run_code.specs.declared.steps.Act.TheVariants as act
 use Rattle.run_acts.specs.Views.{value_in}
 use Rattle.prov_memory.proofs.KeepLemmas.{keeps_none}
+use Rattle.run_events.specs.Acts.{given_by}
 use Rattle.run_events.specs.Performs.{store_in}
 use Rattle.run_events.proofs.Valued.{int_of, unary_int, with_none}
 use Rattle.run_events.proofs.Doing.{by_script, copy_same}
@@ -38,7 +39,8 @@ returns-clause-exact c = λ can given.
     let int = unary_int m.memory.rows c.args.op (value_in m.memory c.in_ok-operand.operand) (store_in m) (store_in m) (value_in m.memory v) _ done in
     room_done m m.memory m.items m.spare c.keep.new.self c.args.event.node v c.keep.ensures.rest c.keep.ensures.room c.keep.ensures.others
     c.args.event (act.Unary c.args.op c.args.operand) refl refl
-    (with_none m _ (value_in m.memory v) can (by_script m (nodes.unary_value c.args.op (value_in m.memory c.in_ok-operand.operand)) _ _ (copy_same m
+    (with_none m (nodes.unary_value c.args.op (given_by m c.args.operand)) (value_in m.memory v) can (by_script m (nodes.unary_value c.args.op
+    (value_in m.memory c.in_ok-operand.operand)) _ _ (copy_same m
     c.args.operand c.in_ok-operand.operand (λ w. nodes.unary_value c.args.op w) c.in_ok-operand.ensures given) done))
     (int_of m.memory v int.0 int.1) (keeps_none m.memory)
 

@@ -19,7 +19,9 @@ returns-in_err-both-clause-exact c =
     update_fails m c.args.event c.args.change c.args.ty c.args.place c.args.operand c.pointer-place.result (to_z w128 (of_z w128
     c.integer-operand.result)) c.changed.new.m c.changed.new.t c.changed.new.spare
     kept.Nothing kept.Nothing c.pointer-place.ensures (λ h e k. to_z-of_z w128 c.integer-operand.result (search rules) ∙ c.integer-operand.ensures h e k)
-    can given.0 given.1 given.2 _ c.args.old c.args.room c.in_err-both.field-0.0 c.in_err-both.ensures.raises)
+    can given.0 given.1 given.2
+    (record m { memory = c.changed.new.m; items = c.changed.new.t; spare = c.changed.new.spare }) c.args.old c.args.room c.in_err-both.field-0.0
+    c.in_err-both.ensures.raises)
 
 pub returns-in_err-both-clause-changes : goal.returns-in_err-both-clause-changes
 returns-in_err-both-clause-changes c =
@@ -30,33 +32,38 @@ returns-in_err-both-clause-changes c =
 pub returns-then-old-clause-exact : goal.returns-then-old-clause-exact
 returns-then-old-clause-exact c = λ can given.
     let m = c.args.machine.now in
-    subst (λ (b : Bool). Does m c.keep-2.new.self c.args.event (act.Change c.args.change b c.args.ty c.args.place c.args.operand c.args.room) (Ok
+    subst (λ (b : Bool). Does m c.keep-then-old.new.self c.args.event (act.Change c.args.change b c.args.ty c.args.place c.args.operand c.args.room) (Ok
     outcome.Done))
     (sym c.if-old.true)
     (both_done m c.args.event c.args.change c.args.ty c.args.place c.args.operand c.pointer-place.result (to_z w128 (of_z w128
     c.integer-operand.result)) c.changed.new.m c.changed.new.t c.changed.new.spare c.in_ok-both.both.0 c.in_ok-both.both.1 c.pointer-place.ensures
     (λ h e k. to_z-of_z w128 c.integer-operand.result (search rules) ∙ c.integer-operand.ensures h e k)
-    c.keep.new.self c.keep-2.new.self c.args.room c.keep.ensures.rest c.keep.ensures.room c.keep.ensures.others c.keep-2.ensures.rest c.keep-2.ensures.room
-    c.keep-2.ensures.others given can c.in_ok-both.ensures.exact c.in_ok-both.ensures.after c.in_ok-both.ensures.made c.in_ok-both.ensures.kept)
+    c.keep.new.self c.keep-then-old.new.self c.args.room c.keep.ensures.rest c.keep.ensures.room c.keep.ensures.others c.keep-then-old.ensures.rest
+    c.keep-then-old.ensures.room
+    c.keep-then-old.ensures.others given can c.in_ok-both.ensures.exact c.in_ok-both.ensures.after c.in_ok-both.ensures.made c.in_ok-both.ensures.kept)
 
 pub returns-then-old-clause-changes : goal.returns-then-old-clause-changes
 returns-then-old-clause-changes c =
     let m = c.args.machine.now in
-    subst (λ (b : Bool). ChangesOnly m c.keep-2.new.self c.args.event.node (act.Change c.args.change b c.args.ty c.args.place c.args.operand c.args.room))
+    subst (λ (b : Bool). ChangesOnly m c.keep-then-old.new.self c.args.event.node (act.Change c.args.change b c.args.ty c.args.place c.args.operand
+    c.args.room))
     (sym c.if-old.true)
     (both_change m c.args.event c.args.change c.args.ty c.args.place c.args.operand c.pointer-place.result (to_z w128 (of_z w128
     c.integer-operand.result)) c.changed.new.m c.changed.new.t c.changed.new.spare c.in_ok-both.both.0 c.in_ok-both.both.1 c.pointer-place.ensures
     (λ h e k. to_z-of_z w128 c.integer-operand.result (search rules) ∙ c.integer-operand.ensures h e k)
-    c.keep.new.self c.keep-2.new.self c.args.room c.keep.ensures.rest c.keep.ensures.room c.keep.ensures.others c.keep-2.ensures.rest c.keep-2.ensures.room
-    c.keep-2.ensures.others)
+    c.keep.new.self c.keep-then-old.new.self c.args.room c.keep.ensures.rest c.keep.ensures.room c.keep.ensures.others c.keep-then-old.ensures.rest
+    c.keep-then-old.ensures.room
+    c.keep-then-old.ensures.others)
 
 pub returns-else-old-clause-exact : goal.returns-else-old-clause-exact
 returns-else-old-clause-exact c = λ can given.
     let m = c.args.machine.now in
-    subst (λ (b : Bool). Does m c.keep.new.self c.args.event (act.Change c.args.change b c.args.ty c.args.place c.args.operand c.args.room) (Ok outcome.Done))
+    subst (λ (b : Bool). Does m c.keep-else-old.new.self c.args.event (act.Change c.args.change b c.args.ty c.args.place c.args.operand c.args.room)
+    (Ok outcome.Done))
     (sym c.if-old.false)
-    (room_done m c.changed.new.m c.changed.new.t c.changed.new.spare c.keep.new.self c.args.event.node c.in_ok-both.both.1 c.keep.ensures.rest
-    c.keep.ensures.room c.keep.ensures.others
+    (room_done m c.changed.new.m c.changed.new.t c.changed.new.spare c.keep-else-old.new.self c.args.event.node c.in_ok-both.both.1
+    c.keep-else-old.ensures.rest
+    c.keep-else-old.ensures.room c.keep-else-old.ensures.others
     c.args.event (act.Change c.args.change false c.args.ty c.args.place c.args.operand c.args.room) refl refl
     (update_did m c.args.event c.args.change c.args.ty c.args.place c.args.operand c.pointer-place.result (to_z w128 (of_z w128
     c.integer-operand.result)) c.changed.new.m c.changed.new.t c.changed.new.spare c.in_ok-both.both.0 c.in_ok-both.both.1 c.pointer-place.ensures
@@ -67,7 +74,9 @@ returns-else-old-clause-exact c = λ can given.
 pub returns-else-old-clause-changes : goal.returns-else-old-clause-changes
 returns-else-old-clause-changes c =
     let m = c.args.machine.now in
-    subst (λ (b : Bool). ChangesOnly m c.keep.new.self c.args.event.node (act.Change c.args.change b c.args.ty c.args.place c.args.operand c.args.room))
+    subst (λ (b : Bool). ChangesOnly m c.keep-else-old.new.self c.args.event.node (act.Change c.args.change b c.args.ty c.args.place c.args.operand
+    c.args.room))
     (sym c.if-old.false)
-    (room_changes m c.changed.new.m c.changed.new.t c.changed.new.spare c.keep.new.self c.args.event.node c.in_ok-both.both.1 c.keep.ensures.rest
-    c.keep.ensures.room c.keep.ensures.others (act.Change c.args.change false c.args.ty c.args.place c.args.operand c.args.room))
+    (room_changes m c.changed.new.m c.changed.new.t c.changed.new.spare c.keep-else-old.new.self c.args.event.node c.in_ok-both.both.1
+    c.keep-else-old.ensures.rest
+    c.keep-else-old.ensures.room c.keep-else-old.ensures.others (act.Change c.args.change false c.args.ty c.args.place c.args.operand c.args.room))
