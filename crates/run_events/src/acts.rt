@@ -22,8 +22,8 @@ use c_typed::{Access, Change, Conversion, EqOp, RelOp, UnOp};
 use c_types::{BinOp, IntKind, Ty};
 use prov_memory::{Value, Via};
 use run_acts::{
-    Filling, Pointer, answer, as_function, binary, changed, convert, distance, equal, fill, load, member,
-    moved, part, related, store, unary,
+    Filling, Pointer, answer, as_function, binary, changed, convert, distance, equal, fill, load,
+    member, moved, part, related, store, unary,
 };
 use run_code::{Act, Operand, StoreCode};
 use run_state::Machine;
