@@ -1,4 +1,6 @@
 pub mod Depth
 pub mod Faults
 pub mod Acts
+pub mod Performs
 pub mod Nodes
+pub mod Takes
