@@ -1,19 +1,13 @@
 -- What `main` is given, and the labels that are kept.
 use Rattle.std.proofs.Common.{◌≡◌, ℕ, zero, suc, ◌+◌, Bool, true, false, refl, sym, ap, ◌∙◌, subst, pos, List, [], ◌∷◌, length, Option, Some, None, slice_get}
 use Rattle.std.specs.Borrow.{Bor}
-use Rattle.addr_map.specs.declared.map.Row.{Row}
-use Rattle.ub_base.specs.Frames.{Path}
-use Rattle.ub_base.specs.declared.names.ObjName.TheVariants.{Argv}
 use Rattle.c_typed.specs.declared.program.Program.{Program}
 use Rattle.prov_memory.specs.declared.value.Value.{Value as Kept_value}
 use Rattle.prov_memory.specs.Keeps.{Keeps, RowsStay}
 use Rattle.prov_memory.specs.Memory.{Kept}
-use Rattle.c_model.specs.Program.{Standing}
-use Rattle.c_model.specs.Steps.{pointer_to}
-use Rattle.c_model.specs.Values.{Int, pointer_value}
-use Rattle.c_model.specs.World.{World, Limits}
-use Rattle.program_view.specs.View.{has_parameters_in, main_values, passed_to, takes_arguments}
-use Rattle.run_acts.specs.Standing.{place_of}
+use Rattle.c_model.specs.Values.{Int}
+use Rattle.c_model.specs.World.{World}
+use Rattle.program_view.specs.View.{main_values, passed_to, takes_arguments}
 use Rattle.run_acts.specs.Views.{value_in}
 use Rattle.run_acts.proofs.Keeping.{values_stay}
 use Rattle.run_acts.proofs.Viewed.{takes_same}

@@ -1,4 +1,4 @@
-use Rattle.std.proofs.Common.{ap, ◌∙◌, map, subst, sym, string_bytes, length, ◌+◌, arith}
+use Rattle.std.proofs.Common.{ap, ◌∙◌, map, subst, sym, string_bytes, length, ◌+◌}
 use Rattle.std.specs.Borrow.{Bor}
 use Rattle.std.proofs.lemmas.List.{length-map}
 use Rattle.c_typed.specs.declared.program.Program.{Program}
