@@ -26,9 +26,9 @@ StartsIn p words rows number limits numbers input m os =
     StartIsWithin limits os m → StartsAs (world_with p words os rows number limits) (meaning_of p numbers m.code.now) input
     (main_values p (world_with p words os rows number limits) words) m
 
-prepared : (p : Program) (words : List (List ℕ)) (rows : List Row) (number : Path → ℕ) (limits : Limits) (numbers : Numbers) (input : List ℕ) (m : Machine) →
-    IsLawful p → IsCodeOfProgram p numbers m.code.now → ListsTrees m.code.now → (made : IsPrepared p words input m) → RowsStay m.memory.rows rows →
-    number [] ≡ 0 → StartsIn p words rows number limits numbers input m made.begins.0
+prepared : (p : Program) (words : List (List ℕ)) (rows : List Row) (number : Path → ℕ) (limits : Limits) (numbers : Numbers) (input : List ℕ)
+    (m : Machine) → IsLawful p → IsCodeOfProgram p numbers m.code.now → ListsTrees m.code.now → (made : IsPrepared p words input m) →
+    RowsStay m.memory.rows rows → number [] ≡ 0 → StartsIn p words rows number limits numbers input m made.begins.0
 prepared p words rows number limits numbers input m lawful code listed made stay zero within =
     let os = made.begins.0 in
     let world = world_with p words os rows number limits in
