@@ -3,7 +3,9 @@ use Rattle.std.proofs.Common.{
   ◌≡◌,
   ◌≢◌,
   ℕ,
+  zero,
   suc,
+  set,
   ◌+◌,
   ◌-◌,
   ◌<◌,
@@ -32,6 +34,7 @@ use Rattle.std.proofs.Common.{
 }
 use Rattle.std.specs.Prelude.{◌||◌, is_some, if◌then◌else◌, nat_lt, Result, Ok, Err, OnOk}
 use Rattle.std.proofs.lemmas.Bool.Decides.{nat_tests}
+use Rattle.std.specs.Option.{unwrap_or}
 use Rattle.std.proofs.lemmas.Bool.{eqb-true}
 use Rattle.std.proofs.lemmas.List.{length-reverse, reverse-append}
 use Rattle.ub_base.specs.declared.clause.Kind.TheVariants.{Val, Eff, Body}
@@ -40,6 +43,7 @@ use Rattle.c_typed.specs.declared.tree.Change.{Change}
 use Rattle.c_typed.specs.declared.tree.Place.{Place}
 use Rattle.c_typed.specs.Order.{is_due, place, same_place}
 use Rattle.c_typed.specs.Decide.{canonical}
+use Rattle.c_typed.specs.declared.program.Program.{Program}
 use Rattle.prov_memory.specs.declared.value.Value.{Value as Kept_value}
 use Rattle.prov_memory.specs.Memory.{Kept}
 use Rattle.mem_spec.specs.Store.{Store}
@@ -87,6 +91,7 @@ use Rattle.run_machine.specs.Ending.{
   EndsFrame,
   EndsRun,
   GoesBack,
+  HasGiven,
   HasNoted,
   HasRoomBelow,
   HasRoomIn,
@@ -94,6 +99,8 @@ use Rattle.run_machine.specs.Ending.{
   IsUpdateRoom,
   KeepsTo,
   KeepToRooms,
+  LeavesNone,
+  LeavesValue,
   Notes,
   NotesIn,
   NotesWay,
@@ -433,3 +440,104 @@ pub end_answers : StandsAtEnd → (m new : Machine) (r : Result (Option ℕ) Hal
 end_answers law m new (Err e) ends closes = ends
 end_answers law m new (Ok None) ends closes = goes_back law m new ends closes
 end_answers law m new (Ok (Some status)) ends closes = run_answers m new status ends
+
+-- ---- what the code does is that
+pub set_there : {A : Type 0} (xs : List A) (i : ℕ) (v : A) → i < length xs → slice_get (set xs i v) i ≡ Some v
+set_there [] i v lt = absurd (omega (arith, lt))
+set_there (x ∷ xs) zero v lt = refl
+set_there (x ∷ xs) (suc i) v lt = set_there xs i v (omega (arith, lt))
+
+pub set_other : {A : Type 0} (xs : List A) (i j : ℕ) (v : A) → j ≢ i → slice_get (set xs i v) j ≡ slice_get xs j
+set_other [] i j v ne = refl
+set_other (x ∷ xs) zero zero v ne = absurd (ne refl)
+set_other (x ∷ xs) zero (suc j) v ne = refl
+set_other (x ∷ xs) (suc i) zero v ne = refl
+set_other (x ∷ xs) (suc i) (suc j) v ne = set_other xs i j v (λ e. ne (ap suc e))
+
+abbrev pub or_this : Kept_value → Option Kept_value → Kept_value
+or_this other None = other
+or_this other (Some w) = w
+
+pub or_this_is : (other : Kept_value) (o : Option Kept_value) → unwrap_or o other ≡ or_this other o
+or_this_is other None = refl
+or_this_is other (Some w) = refl
+
+straight_not : (o : Option Stage) (s : Stage) (m n : Machine) (u : Place) → o ≡ Some s → s.straight ≡ false → HasNoted m u n → NotesIn o m u n
+straight_not None s m n u is strays h = absurd (cc)
+straight_not (Some t) s m n u is strays h =
+    let same : s ≡ t = sym (some_same t s is) in
+    let off : t.straight ≡ false = ap (λ (x : Stage). x.straight) (sym same) ∙ strays in
+    subst (λ (b : Bool). NotesWay b m u n) (sym off) h
+
+pub strayed_notes : {A E : Type 0} (r : Result A E) (o : Option Stage) (s : Stage) (m n : Machine) (u : Place) → o ≡ Some s → s.straight ≡ false →
+    OnOk r (HasNoted m u n) → OnOk r (NotesIn o m u n)
+strayed_notes (Ok x) o s m n u is strays h = straight_not o s m n u is strays h
+strayed_notes (Err e) o s m n u is strays h = tt
+
+pub noted_one : {A E : Type 0} (r : Result A E) (m n : Machine) (height : ℕ) (u : Place) (before after : List Marks) → height ≡ length m.below.items →
+    n ≡ record m { strayed = n.strayed } → slice_get m.strayed.items height ≡ Some before → slice_get n.strayed.items height ≡ Some after →
+    ((j : ℕ) → j ≢ height → slice_get n.strayed.items j ≡ slice_get m.strayed.items j) →
+    OnOk r ((w : Place) → done_in after w ≡ (same_place u w || done_in before w)) → OnOk r (HasNoted m u n)
+noted_one (Ok x) m n height u before after at rest was is others one = record {
+  rest = rest;
+  before = before;
+  after = after;
+  was = ap (slice_get m.strayed.items) (sym at) ∙ was;
+  is = ap (slice_get n.strayed.items) (sym at) ∙ is;
+  one = one;
+  others = λ j ne. others j (λ e. ne (e ∙ at));
+}
+noted_one (Err e) m n height u before after at rest was is others one = tt
+
+given_by : (p : Program) (f : Option ℕ) (left : Option Kept_value) (other v : Kept_value) → LeavesValue p f None other → v ≡ or_this other left →
+    LeavesValue p f left v
+given_by p f (Some w) other v leaves is = is
+given_by p None None other v leaves is = is ∙ leaves
+given_by p (Some n) None other v leaves is = subst (LeavesNone p n) (sym is) leaves
+
+pub has_given : (m n : Machine) (other v : Kept_value) → n ≡ record m { depth = depth_without m.top.function m.depth } →
+    LeavesValue m.program.now m.top.function None other → v ≡ or_this other n.left → HasGiven m v (record n { left = None })
+has_given m n other v rest leaves is = record {
+  rest = ap (λ (k : Machine). record k { left = None }) rest;
+  value = given_by m.program.now m.top.function m.left other v leaves (is ∙ ap (λ (k : Machine). or_this other k.left) rest);
+}
+
+pub went_back : (m : Machine) (w : Stacked) (r p mid new : Machine) (onto : Open) (node : ℕ) (v : Kept_value) → HasGiven (record m { work = w }) v r →
+    p ≡ record r { below = p.below; top = onto } → r.below.items ≡ p.below.items ++ onto ∷ [] → mid ≡ record p { values = mid.values } → node ≡ r.top.node →
+    (p.top.base + node < length p.values.items → slice_get mid.values.items (p.top.base + node) ≡ Some v) →
+    ((j : ℕ) → j ≢ p.top.base + node → slice_get mid.values.items j ≡ slice_get p.values.items j) → Notes mid (place node Body) new → GoesBack m new
+went_back m w r p mid new onto node v given top below kept at room others noted =
+    let start : r ≡ record m { work = w; depth = depth_without m.top.function m.depth; left = None } = given.rest in
+    let same : node ≡ m.top.node = at ∙ ap (λ (k : Machine). k.top.node) start in
+    let base : p.top.base ≡ onto.base = ap (λ (k : Machine). k.top.base) top in
+    let place_so : p.top.base + node ≡ onto.base + m.top.node = ap (λ (k : ℕ). k + node) base ∙ ap (λ (k : ℕ). onto.base + k) same in
+    let values : p.values.items ≡ m.values.items = ap (λ (k : Machine). k.values.items) top ∙ ap (λ (k : Machine). k.values.items) start in
+    let belows : mid.below.items ≡ p.below.items = ap (λ (k : Machine). k.below.items) kept in
+    record {
+      onto = onto;
+      value = v;
+      middle = mid;
+      below = sym (ap (λ (k : Machine). k.below.items) start) ∙ below ∙ ap (λ (os : List Open). os ++ onto ∷ []) (sym belows);
+      leaves = given.value;
+      rest = kept ∙ ap (λ (k : Machine). record k { values = mid.values }) top
+          ∙ ap (λ (k : Machine). record k { below = p.below; top = onto; values = mid.values }) start
+          ∙ (λ i. record m {
+            work = works i;
+            depth = depth_without m.top.function m.depth;
+            left = None;
+            below = lists i;
+            top = onto;
+            values = mid.values;
+          });
+      room = subst (λ (k : ℕ). k < length m.values.items → slice_get mid.values.items k ≡ Some v) place_so
+          (subst (λ (xs : List Kept_value). p.top.base + node < length xs → slice_get mid.values.items (p.top.base + node) ≡ Some v) values room);
+      others = subst (λ (k : ℕ). (j : ℕ) → j ≢ k → slice_get mid.values.items j ≡ slice_get m.values.items j) place_so
+          (λ j ne. others j ne ∙ ap (λ (xs : List Kept_value). slice_get xs j) values);
+      noted = subst (λ (k : ℕ). Notes mid (place k Body) new) same noted;
+    }
+  where
+    works : w ≡ mid.work
+    works = sym (ap (λ (k : Machine). k.work) kept ∙ ap (λ (k : Machine). k.work) top ∙ ap (λ (k : Machine). k.work) given.rest)
+
+    lists : p.below ≡ mid.below
+    lists = sym (ap (λ (k : Machine). k.below) kept)

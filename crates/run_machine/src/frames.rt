@@ -2,7 +2,7 @@
 ghost use Rattle.std.specs.Prelude.{◌≡◌, [], true, None, OnOk};
 ghost use Rattle.run_control.specs.Stacked.{Closes};
 ghost use Rattle.run_machine.specs.Ended.{AnswersEnd};
-ghost use Rattle.run_machine.specs.Ending.{EndsFrame, HasGiven};
+ghost use Rattle.run_machine.specs.Ending.{EndsFrame, HasGiven, LeavesValue, depth_without};
 
 use crate::events::note;
 use c_typed::Place;
@@ -52,12 +52,20 @@ fn close_frame(machine: &mut Machine) -> Result<Option<u8>, Halt>
 fn result_of(machine: &mut Machine) -> Value
     ensures { HasGiven machine.old result machine.new }
 {
-    let otherwise = match machine.top.function {
+    let otherwise = left_without(machine);
+    machine.left.take().unwrap_or(otherwise)
+}
+
+// What it leaves where it has no result. A function that ends isn't open any more.
+fn left_without(machine: &mut Machine) -> Value
+    ensures rest { machine.new ≡ record machine.old { depth = depth_without machine.old.top.function machine.old.depth } }
+    ensures value { LeavesValue machine.old.program.now machine.old.top.function None result }
+{
+    match machine.top.function {
         Some(function) => {
             machine.depth = machine.depth.saturating_sub(1);
             left(machine.program, function)
         }
         None => Value::Nothing,
-    };
-    machine.left.take().unwrap_or(otherwise)
+    }
 }
