@@ -1,3 +1,4 @@
+mod Given
 mod Going
 mod Leaving
 mod Left
@@ -5,6 +6,9 @@ mod Lives
 mod Opened
 mod Parts
 mod Picked
+mod Results
+mod Returning
+mod Rooms
 mod Staying
 mod Steering
 mod Still
