@@ -2,3 +2,6 @@ pub mod Depth
 pub mod Faults
 pub mod Acts
 pub mod Nodes
+pub mod Choices
+pub mod Performs
+pub mod Ways

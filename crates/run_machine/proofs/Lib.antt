@@ -1,3 +1,6 @@
+mod Behind
+mod Deciding
+mod Giving
 mod Going
 mod Leaving
 mod Left
@@ -5,6 +8,7 @@ mod Lives
 mod Opened
 mod Parts
 mod Picked
+mod Standing
 mod Staying
 mod Steering
 mod Still

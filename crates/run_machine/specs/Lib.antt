@@ -2,3 +2,5 @@ pub mod Picks
 pub mod Moving
 pub mod Answering
 pub mod Leaving
+pub mod Ending
+pub mod Taking
